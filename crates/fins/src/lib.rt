@@ -1,0 +1,136 @@
+// A set of fins, and every check of it before the strips (fins.rs, `FinSet::validate` and the checks of `single_fin`).
+//
+// Document 01, "Order": 1, 2, 3; the planform; thickness; cant, base angle; the tab with 10; body radius; 11; 12. Each check stands
+// for itself, and the first refusal is the answer.
+ghost use mathlib.Core.Path.{_≡_};
+ghost use Rattle.fins.specs.Fins.{trapezoidCheck, planformCheck, slabCheck, tabCheck, depthCheck, setCheck, areaCheck};
+use limits::check_angle;
+use limits::check_length;
+use limits::first_refusal;
+use materials::Density;
+use planforms::Planform;
+use refusals::Refusal;
+use refusals::Verdict;
+use sections::Section;
+
+// A rectangular tab below each root: its depth, its length, and how far aft of the root's leading edge it starts.
+pub enum Tab {
+    None,
+    Slab {
+        height_m: f64,
+        length_m: f64,
+        offset_m: f64,
+    },
+}
+
+// Identical fins spaced evenly around a body. An outline's points lie beside the set.
+pub struct FinSet {
+    pub count: usize,
+    pub planform: Planform,
+    pub thickness_m: f64,
+    pub cross_section: Section,
+    pub tab: Tab,
+    pub cant_rad: f64,
+    pub base_angle_rad: f64,
+    pub body_radius_m: f64,
+    pub density: Density,
+}
+
+fn check_trapezoid(root_chord_m: f64, tip_chord_m: f64, span_m: f64, sweep_m: f64) -> Verdict
+    ensures { λ r. ⌜ r ≡ trapezoidCheck «root_chord_m» «tip_chord_m» «span_m» «sweep_m» ⌝ }
+{
+    let v = check_length(limits::ROOT_CHORD, root_chord_m);
+    let v = first_refusal(v, check_length(limits::TIP_CHORD, tip_chord_m));
+    let v = first_refusal(v, check_length(limits::SPAN, span_m));
+    first_refusal(v, check_length(limits::SWEEP, sweep_m))
+}
+
+// The planform's lengths as listed, or the outline's own checks.
+fn check_planform(planform: Planform, points: &[f64]) -> Verdict
+    ensures { λ r. ⌜ r ≡ planformCheck planform (now (points .entry)) ⌝ }
+{
+    match planform {
+        Planform::Trapezoid {
+            root_chord_m,
+            tip_chord_m,
+            span_m,
+            sweep_m,
+        } => check_trapezoid(root_chord_m, tip_chord_m, span_m, sweep_m),
+        Planform::Ellipse {
+            root_chord_m,
+            span_m,
+        } => {
+            let v = check_length(limits::ROOT_CHORD, root_chord_m);
+            first_refusal(v, check_length(limits::SPAN, span_m))
+        }
+        Planform::Outline => outlines::check_outline(points),
+    }
+}
+
+// The lengths of a tab, and 10: it lies along the root chord.
+fn check_slab(height_m: f64, length_m: f64, offset_m: f64, root_chord_m: f64) -> Verdict
+    ensures { λ r. ⌜ r ≡ slabCheck «height_m» «length_m» «offset_m» «root_chord_m» ⌝ }
+{
+    let off_root = (offset_m < 0.0) | (root_chord_m * (1.0 + 1e-12) < offset_m + length_m);
+    let v = check_length(limits::TAB_HEIGHT, height_m);
+    let v = first_refusal(v, check_length(limits::TAB_LENGTH, length_m));
+    let v = first_refusal(v, check_length(limits::TAB_OFFSET, offset_m));
+    first_refusal(v, limits::refuse_when(off_root, Refusal::TabOffRoot))
+}
+
+fn check_tab(tab: Tab, root_chord_m: f64) -> Verdict
+    ensures { λ r. ⌜ r ≡ tabCheck tab «root_chord_m» ⌝ }
+{
+    match tab {
+        Tab::None => Verdict::Accepted,
+        Tab::Slab {
+            height_m,
+            length_m,
+            offset_m,
+        } => check_slab(height_m, length_m, offset_m, root_chord_m),
+    }
+}
+
+// 11: the tab reaches no deeper than the body's axis.
+fn check_depth(tab: Tab, body_radius_m: f64) -> Verdict
+    ensures { λ r. ⌜ r ≡ depthCheck tab «body_radius_m» ⌝ }
+{
+    match tab {
+        Tab::None => Verdict::Accepted,
+        Tab::Slab {
+            height_m,
+            length_m: _,
+            offset_m: _,
+        } => limits::refuse_when(body_radius_m < height_m, Refusal::TabTooDeep),
+    }
+}
+
+// The first refusal of a set before its strips, for the interval limit and the length of the lent scratch.
+pub fn check_set(set: FinSet, points: &[f64], limit: usize, scratch_len: usize) -> Verdict
+    ensures { λ r. ⌜ r ≡ setCheck set (now (points .entry)) limit «scratch_len» ⌝ }
+{
+    let planform = set.planform;
+    let tab = set.tab;
+    let density = set.density;
+    let root_chord_m = planforms::root_chord_m(planform, points);
+    let v = limits::check_limit(limit);
+    let v = first_refusal(v, limits::check_scratch(limit, scratch_len));
+    let v = first_refusal(v, limits::check_count(set.count));
+    let v = first_refusal(v, check_planform(planform, points));
+    let v = first_refusal(v, check_length(limits::THICKNESS, set.thickness_m));
+    let v = first_refusal(v, check_angle(limits::CANT, set.cant_rad));
+    let v = first_refusal(v, check_angle(limits::BASE_ANGLE, set.base_angle_rad));
+    let v = first_refusal(v, check_tab(tab, root_chord_m));
+    let v = first_refusal(v, check_length(limits::BODY_RADIUS, set.body_radius_m));
+    let v = first_refusal(v, check_depth(tab, set.body_radius_m));
+    first_refusal(v, materials::check_density(density))
+}
+
+// The first refusal of a planform of which the area alone is asked.
+pub fn check_area(planform: Planform, points: &[f64], limit: usize, scratch_len: usize) -> Verdict
+    ensures { λ r. ⌜ r ≡ areaCheck planform (now (points .entry)) limit «scratch_len» ⌝ }
+{
+    let room = limits::check_limit(limit);
+    let room = first_refusal(room, limits::check_scratch(limit, scratch_len));
+    first_refusal(room, check_planform(planform, points))
+}

@@ -1,0 +1,134 @@
+// The limits of a call and of a set's lengths and angles, by field number, and the first refusal of checks in their order.
+//
+// Document 01, "Set and planform": a length is zero or has magnitude 2^-20 to 64, an angle at most 4 rad. The Rust's
+// `check_dimension` asks only that a length is finite and not negative.
+ghost use mathlib.Core.Path.{_≡_};
+ghost use Rattle.limits.specs.Order.{refuseUnless, refuseWhen, firstRefusal};
+ghost use Rattle.limits.specs.Limits.{zeroAllowed, negativeAllowed, lengthWithin, lengthCheck, angleCheck, limitCheck, scratchCheck, countCheck};
+use refusals::Refusal;
+use refusals::Verdict;
+
+// The numbers of the fields, as a refusal 4 or 9 carries them.
+pub const ROOT_CHORD: usize = 1;
+
+pub const TIP_CHORD: usize = 2;
+
+pub const SPAN: usize = 3;
+
+pub const SWEEP: usize = 4;
+
+pub const POINT_X: usize = 5;
+
+pub const POINT_Y: usize = 6;
+
+pub const THICKNESS: usize = 7;
+
+pub const TAB_HEIGHT: usize = 8;
+
+pub const TAB_LENGTH: usize = 9;
+
+pub const TAB_OFFSET: usize = 10;
+
+pub const BODY_RADIUS: usize = 11;
+
+pub const CANT: usize = 12;
+
+pub const BASE_ANGLE: usize = 13;
+
+// The magnitude of a length other than zero: 2^-20 to 64.
+const SHORTEST_M: f64 = 9.5367431640625e-7;
+
+const LONGEST_M: f64 = 64.0;
+
+// The largest magnitude of an angle.
+const WIDEST_RAD: f64 = 4.0;
+
+// One check: the refusal where its condition does not hold.
+pub fn refuse_unless(condition: bool, refusal: Refusal) -> Verdict
+    ensures { λ r. ⌜ r ≡ refuseUnless condition refusal ⌝ }
+{
+    if condition {
+        return Verdict::Accepted;
+    }
+    Verdict::Refused(refusal)
+}
+
+// One check: the refusal where its condition holds.
+pub fn refuse_when(condition: bool, refusal: Refusal) -> Verdict
+    ensures { λ r. ⌜ r ≡ refuseWhen condition refusal ⌝ }
+{
+    refuse_unless(!condition, refusal)
+}
+
+// Two checks: the earlier one's refusal, and where that accepts, the later one's answer.
+pub fn first_refusal(earlier: Verdict, later: Verdict) -> Verdict
+    ensures { λ r. ⌜ r ≡ firstRefusal earlier later ⌝ }
+{
+    match earlier {
+        Verdict::Accepted => later,
+        Verdict::Refused(refusal) => Verdict::Refused(refusal),
+    }
+}
+
+// 1: the interval limit is 1 to 4000.
+pub fn check_limit(limit: usize) -> Verdict
+    ensures { λ r. ⌜ r ≡ limitCheck limit ⌝ }
+{
+    refuse_unless((1 <= limit) & (limit <= 4000), Refusal::Limit)
+}
+
+// 2: a scratch of `scratch_len` numbers holds the 16 of each of `limit` pieces. Written so that no product can wrap.
+pub fn check_scratch(limit: usize, scratch_len: usize) -> Verdict
+    ensures { λ r. ⌜ r ≡ scratchCheck limit «scratch_len» ⌝ }
+{
+    refuse_unless(limit <= scratch_len / 16, Refusal::Scratch)
+}
+
+// 3: fins, or bodies to be joined, are 1 to 32.
+pub fn check_count(count: usize) -> Verdict
+    ensures { λ r. ⌜ r ≡ countCheck count ⌝ }
+{
+    refuse_unless((1 <= count) & (count <= 32), Refusal::Count)
+}
+
+// Whether a length is within the limits, over whether zero passes and whether a negative length does. A NaN never is.
+pub fn length_within(zero_passes: bool, negative_passes: bool, length_m: f64) -> bool
+    ensures { λ r. ⌜ r ≡ lengthWithin «zero_passes» «negative_passes» «length_m» ⌝ }
+{
+    let magnitude_m = floats::abs(length_m);
+    (zero_passes & (length_m == 0.0))
+        | ((negative_passes | (0.0 < length_m))
+            & ((SHORTEST_M <= magnitude_m) & (magnitude_m <= LONGEST_M)))
+}
+
+fn zero_allowed(field: usize) -> bool
+    ensures { λ r. ⌜ r ≡ zeroAllowed field ⌝ }
+{
+    (field == TIP_CHORD)
+        | (field == SWEEP)
+        | (field == POINT_X)
+        | (field == POINT_Y)
+        | (field == TAB_OFFSET)
+        | (field == BODY_RADIUS)
+}
+
+fn negative_allowed(field: usize) -> bool
+    ensures { λ r. ⌜ r ≡ negativeAllowed field ⌝ }
+{
+    (field == SWEEP) | (field == POINT_X) | (field == TAB_OFFSET)
+}
+
+// 4: the length is within the limits of its field.
+pub fn check_length(field: usize, length_m: f64) -> Verdict
+    ensures { λ r. ⌜ r ≡ lengthCheck field «length_m» ⌝ }
+{
+    let within = length_within(zero_allowed(field), negative_allowed(field), length_m);
+    refuse_unless(within, Refusal::Length(field))
+}
+
+// 9: the angle is no NaN and at most 4 rad in magnitude.
+pub fn check_angle(field: usize, angle_rad: f64) -> Verdict
+    ensures { λ r. ⌜ r ≡ angleCheck field «angle_rad» ⌝ }
+{
+    refuse_unless(floats::abs(angle_rad) <= WIDEST_RAD, Refusal::Angle(field))
+}

@@ -1,0 +1,68 @@
+-- `outlines::check_edge` meets its contract: what is left to check from edge j on gives the answer. Assumes nothing.
+use Prim.Native.Nat.{_-_}
+use mathlib.Core.Path.{_≡_, refl, sym, _∙_}
+use native.Mathlib.Omega.{arith}
+use borrow.Author.Needs.{needs}
+use Rattle.planforms.specs.Planforms.{pairCount}
+use Rattle.limits.specs.Order.{firstBetween}
+use Rattle.limits.proofs.Order.{goes-on, stops, ends}
+use Rattle.outlines.specs.Outlines.{pairCheck, edgeCheck}
+use Rattle.outlines.proofs.check_edge.Statement.{statement}
+use Rattle.outlines.proofs.check_edge.Tie as tie
+
+abbrev Inv-loop : tie.InvT-loop
+Inv-loop points i n j₀ j = firstBetween j (pairCount points) (pairCheck points i) ≡ edgeCheck points i
+
+abbrev μ-loop : tie.MeasureT-loop
+μ-loop points i n j₀ j = pairCount points - j
+
+add-j : tie.Need-add-j Inv-loop μ-loop
+add-j c = omega arith
+
+loop-holds : tie.Need-loop-holds Inv-loop μ-loop
+loop-holds c = refl
+
+check-pair-requires : tie.Need-check-pair-requires Inv-loop μ-loop
+check-pair-requires c κs = search needs
+
+enum-known-refusal : tie.Need-enum-known-refusal Inv-loop μ-loop
+enum-known-refusal c = search needs
+
+returns : tie.Need-returns Inv-loop μ-loop
+returns c =
+    let turn = c .before .before .before in
+    stops _ _ _ _ (turn .before .before .loop .inv) _ (turn .before .loop-test .taken) (sym (turn .check-pair .ensures) ∙ c .before .refusal .given .1)
+
+enum-told : tie.Need-enum-told Inv-loop μ-loop
+enum-told c = search needs
+
+add-j-2 : tie.Need-add-j-2 Inv-loop μ-loop
+add-j-2 c = omega arith
+
+loop-less : tie.Need-loop-less Inv-loop μ-loop
+loop-less c = omega arith
+
+loop-again : tie.Need-loop-again Inv-loop μ-loop
+loop-again c =
+    let turn = c .before .before in
+    goes-on _ _ _ _ (turn .before .before .loop .inv) (turn .before .loop-test .taken) (sym (turn .check-pair .ensures) ∙ c .enum-told .given .1)
+
+returns-2 : tie.Need-returns-2 Inv-loop μ-loop
+returns-2 c = ends _ _ _ _ (c .before .loop .inv) (c .loop-test .left)
+
+pub check-edge-spec : {M : Type 1} → statement M
+check-edge-spec =
+    tie.close
+    (tie.spec
+    Inv-loop
+    μ-loop
+    add-j
+    loop-holds
+    check-pair-requires
+    enum-known-refusal
+    returns
+    enum-told
+    add-j-2
+    loop-less
+    loop-again
+    returns-2)

@@ -1,0 +1,68 @@
+-- `outlines::check_outline` meets its contract: past the test of 5 there is a point, and the calls are in order. Assumes nothing.
+use mathlib.Core.List.{[], _∷_}
+use native.Mathlib.Omega.{arith}
+use borrow.Author.Needs.{needs}
+use borrow.Author.Tests.{not-true, not-false}
+use Rattle.limits.proofs.Order.{after-accepted, after-refused, in-order}
+use Rattle.outlines.specs.Outlines.{arePairs, outlineCheck}
+use Rattle.outlines.proofs.Accepted.{pairs-within}
+use Rattle.outlines.proofs.check_outline.Statement.{statement}
+use Rattle.outlines.proofs.check_outline.Tie as tie
+
+returns : tie.Need-returns
+unfolding outlineCheck
+returns c = rw (not-true (arePairs (c .before .before .args .points .now)) (c .if1 .taken), after-refused)
+
+check-points-requires : tie.Need-check-points-requires
+check-points-requires c κs = search needs
+
+check-ends-requires : tie.Need-check-ends-requires
+check-ends-requires c κs =
+    let points = c .before .before .before .args .points .now in
+    omega (arith, pairs-within points (not-false (arePairs points) (c .before .if1 .left)) .0)
+
+first-refusal-requires : tie.Need-first-refusal-requires
+first-refusal-requires c κs = search needs
+
+check-edges-requires : tie.Need-check-edges-requires
+check-edges-requires c κs = search needs
+
+first-refusal-requires-2 : tie.Need-first-refusal-requires-2
+first-refusal-requires-2 c κs = search needs
+
+check-twice-area-requires : tie.Need-check-twice-area-requires
+check-twice-area-requires c κs = search needs
+
+first-refusal-requires-3 : tie.Need-first-refusal-requires-3
+first-refusal-requires-3 c κs = search needs
+
+returns-2 : tie.Need-returns-2
+unfolding outlineCheck
+returns-2 c =
+    let tested = c .before .before .before .before .before .before .before in
+    rw (
+      not-false (arePairs (tested .before .before .args .points .now)) (tested .if1 .left),
+      after-accepted,
+      c .first-refusal3 .ensures,
+      c .before .check-twice-area .ensures,
+      c .before .before .first-refusal2 .ensures,
+      c .before .before .before .check-edges .ensures,
+      c .before .before .before .before .first-refusal .ensures,
+      c .before .before .before .before .before .check-ends .ensures,
+      c .before .before .before .before .before .before .check-points .ensures,
+    )
+    (in-order _ (_ ∷ _ ∷ _ ∷ []))
+
+pub check-outline-spec : {M : Type 1} → statement M
+check-outline-spec =
+    tie.close
+    (tie.spec
+    returns
+    check-points-requires
+    check-ends-requires
+    first-refusal-requires
+    check-edges-requires
+    first-refusal-requires-2
+    check-twice-area-requires
+    first-refusal-requires-3
+    returns-2)

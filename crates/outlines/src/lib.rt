@@ -1,0 +1,163 @@
+// The checks of a drawn outline: how many points, their limits, where it starts and ends, that it touches itself nowhere, its area.
+//
+// Document 01, refusals 5, 4, 6, 7, 8 in that order (fins.rs, `validate_outline`). Of n points, each an x and a height in a flat
+// slice, edge i runs from point i to point i + 1, and edge n - 1 back to point 0.
+ghost use mathlib.Core.Path.{_≡_};
+ghost use Prim.Native.Nat.{_<_};
+ghost use Rattle.planforms.specs.Planforms.{pairCount};
+ghost use Rattle.outlines.specs.Outlines.{pointCheck, pointsCheck, endsCheck, next, pointAt, edgeAt, pairCheck, edgeCheck, edgesCheck, edgeTerm, twiceArea, twiceAreaCheck, outlineCheck};
+use limits::first_refusal;
+use refusals::Refusal;
+use refusals::Verdict;
+use segments::Point;
+use segments::Segment;
+
+fn point_at(points: &[f64], i: usize) -> Point
+    requires { ⌜ i < pairCount (now points) ⌝ }
+    ensures { λ r. ⌜ r ≡ pointAt (now (points .entry)) i ⌝ }
+{
+    Point {
+        x: points[2 * i],
+        y: points[2 * i + 1],
+    }
+}
+
+// The point at which edge i of n ends.
+fn next_point(n: usize, i: usize) -> usize
+    requires { ⌜ i < n ⌝ }
+    ensures { λ r. ⌜ (r ≡ next n i) × (r < n) ⌝ }
+{
+    if i + 1 == n { 0 } else { i + 1 }
+}
+
+fn edge_at(points: &[f64], i: usize) -> Segment
+    requires { ⌜ i < pairCount (now points) ⌝ }
+    ensures { λ r. ⌜ r ≡ edgeAt (now (points .entry)) i ⌝ }
+{
+    let n = points.len() / 2;
+    let from = point_at(points, i);
+    let to = point_at(points, next_point(n, i));
+    Segment { from, to }
+}
+
+// 7 for one pair of edges, i before j; neighbours share a point and are not compared.
+fn check_pair(points: &[f64], i: usize, j: usize) -> Verdict
+    requires { ⌜ (i < pairCount (now points)) × (j < pairCount (now points)) ⌝ }
+    ensures { λ r. ⌜ r ≡ pairCheck (now (points .entry)) i j ⌝ }
+{
+    let n = points.len() / 2;
+    if (j == i + 1) | ((i == 0) & (j + 1 == n)) {
+        return Verdict::Accepted;
+    }
+    let touch = segments::segments_touch(edge_at(points, i), edge_at(points, j));
+    limits::refuse_when(touch, Refusal::Touches(i, j))
+}
+
+// 7 for edge i against each edge behind it.
+fn check_edge(points: &[f64], i: usize) -> Verdict
+    requires { ⌜ i < pairCount (now points) ⌝ }
+    ensures { λ r. ⌜ r ≡ edgeCheck (now (points .entry)) i ⌝ }
+{
+    let n = points.len() / 2;
+    let mut j = i + 1;
+    while j < n {
+        if let Verdict::Refused(refusal) = check_pair(points, i, j) {
+            return Verdict::Refused(refusal);
+        }
+        j += 1;
+    }
+    Verdict::Accepted
+}
+
+// 7: no two edges touch.
+fn check_edges(points: &[f64]) -> Verdict
+    ensures { λ r. ⌜ r ≡ edgesCheck (now (points .entry)) ⌝ }
+{
+    let n = points.len() / 2;
+    let mut i: usize = 0;
+    while i < n {
+        if let Verdict::Refused(refusal) = check_edge(points, i) {
+            return Verdict::Refused(refusal);
+        }
+        i += 1;
+    }
+    Verdict::Accepted
+}
+
+// 4 for point i: x, then y.
+fn check_point(points: &[f64], i: usize) -> Verdict
+    requires { ⌜ i < pairCount (now points) ⌝ }
+    ensures { λ r. ⌜ r ≡ pointCheck (now (points .entry)) i ⌝ }
+{
+    let v = limits::check_length(limits::POINT_X, points[2 * i]);
+    first_refusal(v, limits::check_length(limits::POINT_Y, points[2 * i + 1]))
+}
+
+// 4: every point is within its limits.
+fn check_points(points: &[f64]) -> Verdict
+    ensures { λ r. ⌜ r ≡ pointsCheck (now (points .entry)) ⌝ }
+{
+    let n = points.len() / 2;
+    let mut i: usize = 0;
+    while i < n {
+        if let Verdict::Refused(refusal) = check_point(points, i) {
+            return Verdict::Refused(refusal);
+        }
+        i += 1;
+    }
+    Verdict::Accepted
+}
+
+// 6: the outline starts at (0, 0) and ends at (c, 0) with c > 0.
+fn check_ends(points: &[f64]) -> Verdict
+    requires { ⌜ 0 < pairCount (now points) ⌝ }
+    ensures { λ r. ⌜ r ≡ endsCheck (now (points .entry)) ⌝ }
+{
+    let n = points.len() / 2;
+    let first = point_at(points, 0);
+    let last = point_at(points, n - 1);
+    let on_root = (first.x == 0.0) & (first.y == 0.0) & (0.0 < last.x) & (last.y == 0.0);
+    limits::refuse_unless(on_root, Refusal::Ends)
+}
+
+// What an edge adds to twice the area.
+fn edge_term(edge: Segment) -> f64
+    ensures { λ r. ⌜ r ≡ edgeTerm edge ⌝ }
+{
+    edge.from.x * edge.to.y - edge.to.x * edge.from.y
+}
+
+// Twice the outline's area, negative where it runs the other way round.
+fn twice_area(points: &[f64]) -> f64
+    ensures { λ r. ⌜ r ≡ twiceArea (now (points .entry)) ⌝ }
+{
+    let n = points.len() / 2;
+    let mut sum = 0.0;
+    let mut i: usize = 0;
+    while i < n {
+        sum = sum + edge_term(edge_at(points, i));
+        i += 1;
+    }
+    sum
+}
+
+// 8: twice the area is not 0.
+fn check_twice_area(points: &[f64]) -> Verdict
+    ensures { λ r. ⌜ r ≡ twiceAreaCheck (now (points .entry)) ⌝ }
+{
+    limits::refuse_when(twice_area(points) == 0.0, Refusal::NoArea)
+}
+
+// The first refusal of an outline, whatever slice is lent. Only with 3 to 64 points is anything else looked at.
+pub fn check_outline(points: &[f64]) -> Verdict
+    ensures { λ r. ⌜ r ≡ outlineCheck (now (points .entry)) ⌝ }
+{
+    let n = points.len() / 2;
+    if !((points.len() % 2 == 0) & (3 <= n) & (n <= 64)) {
+        return Verdict::Refused(Refusal::Points);
+    }
+    let v = check_points(points);
+    let v = first_refusal(v, check_ends(points));
+    let v = first_refusal(v, check_edges(points));
+    first_refusal(v, check_twice_area(points))
+}

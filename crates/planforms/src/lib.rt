@@ -1,0 +1,81 @@
+// A fin's planform, with its root chord and span (fins.rs, `FinPlanform`).
+//
+// An outline's points lie beside the enum in a lent slice: x, then height, metres, one pair after another.
+ghost use mathlib.Core.Path.{_≡_};
+ghost use Rattle.planforms.specs.Planforms.{rootChordOf, spanOf, lastX, largestHeight, pairCount};
+
+// Lengths in metres. The sweep is the axial distance from the root's leading edge aft to the tip's.
+pub enum Planform {
+    Trapezoid {
+        root_chord_m: f64,
+        tip_chord_m: f64,
+        span_m: f64,
+        sweep_m: f64,
+    },
+    Ellipse {
+        root_chord_m: f64,
+        span_m: f64,
+    },
+    Outline,
+}
+
+// The root chord; of an outline the last point's x, and 0 with no point.
+pub fn root_chord_m(planform: Planform, points: &[f64]) -> f64
+    ensures { λ r. ⌜ r ≡ rootChordOf planform (now (points .entry)) ⌝ }
+{
+    match planform {
+        Planform::Trapezoid {
+            root_chord_m,
+            tip_chord_m: _,
+            span_m: _,
+            sweep_m: _,
+        } => root_chord_m,
+        Planform::Ellipse {
+            root_chord_m,
+            span_m: _,
+        } => root_chord_m,
+        Planform::Outline => last_x(points),
+    }
+}
+
+// The span; of an outline the largest height.
+pub fn span_m(planform: Planform, points: &[f64]) -> f64
+    ensures { λ r. ⌜ r ≡ spanOf planform (now (points .entry)) ⌝ }
+{
+    match planform {
+        Planform::Trapezoid {
+            root_chord_m: _,
+            tip_chord_m: _,
+            span_m,
+            sweep_m: _,
+        } => span_m,
+        Planform::Ellipse {
+            root_chord_m: _,
+            span_m,
+        } => span_m,
+        Planform::Outline => largest_height(points),
+    }
+}
+
+fn last_x(points: &[f64]) -> f64
+    ensures { λ r. ⌜ r ≡ lastX (now (points .entry)) (pairCount (now (points .entry))) ⌝ }
+{
+    let n = points.len() / 2;
+    if n == 0 {
+        return 0.0;
+    }
+    points[2 * (n - 1)]
+}
+
+fn largest_height(points: &[f64]) -> f64
+    ensures { λ r. ⌜ r ≡ largestHeight (now (points .entry)) (pairCount (now (points .entry))) ⌝ }
+{
+    let n = points.len() / 2;
+    let mut largest = 0.0;
+    let mut i: usize = 0;
+    while i < n {
+        largest = floats::max(largest, points[2 * i + 1]);
+        i += 1;
+    }
+    largest
+}

@@ -1,0 +1,81 @@
+// The refusals of document 01's table, one case for each number, with the values that go with it.
+//
+// The Rust's `DesignError` and `CoreError` have texts instead; the numbers are the kiosk's.
+ghost use mathlib.Core.Path.{_≡_};
+ghost use Rattle.refusals.specs.Refusals.{numberOf, caseOf};
+
+// What is wrong with a tensor: 17's cases a to e, in their order.
+pub enum TensorFault {
+    Entry,
+    Massless,
+    Asymmetric,
+    Negative,
+    Triangle,
+}
+
+// In the table's order. Length and Angle hold the field's number, Touches the two edges, NotConverged the component.
+pub enum Refusal {
+    Limit,
+    Scratch,
+    Count,
+    Length(usize),
+    Points,
+    Ends,
+    Touches(usize, usize),
+    NoArea,
+    Angle(usize),
+    TabOffRoot,
+    TabTooDeep,
+    Density,
+    NotConverged(usize),
+    NotFinite,
+    Mass,
+    Centre,
+    Tensor(TensorFault),
+    NoForm,
+}
+
+// The answer of a check.
+pub enum Verdict {
+    Accepted,
+    Refused(Refusal),
+}
+
+// The number of a refusal, as the card prints it.
+pub fn number(refusal: Refusal) -> usize
+    ensures { λ r. ⌜ r ≡ numberOf refusal ⌝ }
+{
+    match refusal {
+        Refusal::Limit => 1,
+        Refusal::Scratch => 2,
+        Refusal::Count => 3,
+        Refusal::Length(_) => 4,
+        Refusal::Points => 5,
+        Refusal::Ends => 6,
+        Refusal::Touches(_, _) => 7,
+        Refusal::NoArea => 8,
+        Refusal::Angle(_) => 9,
+        Refusal::TabOffRoot => 10,
+        Refusal::TabTooDeep => 11,
+        Refusal::Density => 12,
+        Refusal::NotConverged(_) => 13,
+        Refusal::NotFinite => 14,
+        Refusal::Mass => 15,
+        Refusal::Centre => 16,
+        Refusal::Tensor(_) => 17,
+        Refusal::NoForm => 18,
+    }
+}
+
+// The case of a refusal 17, counted from 0.
+pub fn tensor_case(fault: TensorFault) -> usize
+    ensures { λ r. ⌜ r ≡ caseOf fault ⌝ }
+{
+    match fault {
+        TensorFault::Entry => 0,
+        TensorFault::Massless => 1,
+        TensorFault::Asymmetric => 2,
+        TensorFault::Negative => 3,
+        TensorFault::Triangle => 4,
+    }
+}
