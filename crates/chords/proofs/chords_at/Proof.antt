@@ -1,0 +1,49 @@
+-- `chords::chords_at` meets its contract: each arm knows its case. Assumes nothing.
+use Rattle.chords.specs.Chords.{endsAt}
+use borrow.Author.Needs.{needs}
+use Rattle.chords.proofs.chords_at.Statement.{statement}
+use Rattle.chords.proofs.chords_at.Tie as tie
+
+enum-known-planform : tie.Need-enum-known-planform
+enum-known-planform c = search needs
+
+trapezoid-chord-requires : tie.Need-trapezoid-chord-requires
+trapezoid-chord-requires c κs = search needs
+
+enum-known-planform-2 : tie.Need-enum-known-planform-2
+enum-known-planform-2 c = search needs
+
+ellipse-chord-requires : tie.Need-ellipse-chord-requires
+ellipse-chord-requires c κs = search needs
+
+enum-told : tie.Need-enum-told
+enum-told c = search needs
+
+outline-chord-requires : tie.Need-outline-chord-requires
+outline-chord-requires c κs = search needs
+
+returns : tie.Need-returns
+unfolding endsAt
+returns c = rw (c .before .before .planform .given .1) (c .trapezoid-chord .ensures)
+
+returns-2 : tie.Need-returns-2
+unfolding endsAt
+returns-2 c = rw (c .before .before .planform2 .given .1) (c .ellipse-chord .ensures)
+
+returns-3 : tie.Need-returns-3
+unfolding endsAt
+returns-3 c = rw (c .before .enum-told .given .1) (c .outline-chord .ensures)
+
+pub chords-at-spec : {M : Type 1} → statement M
+chords-at-spec =
+    tie.close
+    (tie.spec
+    enum-known-planform
+    trapezoid-chord-requires
+    enum-known-planform-2
+    ellipse-chord-requires
+    enum-told
+    outline-chord-requires
+    returns
+    returns-2
+    returns-3)

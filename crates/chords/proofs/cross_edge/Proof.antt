@@ -1,0 +1,74 @@
+-- `chords::cross_edge` meets its contract: with no crossing nothing is written, and one is inserted. Assumes nothing.
+use mathlib.Core.Path.{sym, _∙_}
+use native.Mathlib.Omega.{arith}
+use borrow.Author.Tests.{not-true, not-false}
+use Rattle.chords.proofs.Listed.{not-crossed, is-crossed}
+use borrow.Author.Needs.{needs}
+use Rattle.chords.proofs.cross_edge.Statement.{statement}
+use Rattle.chords.proofs.cross_edge.Tie as tie
+use Rattle.chords.proofs.cross_edge.Reads as reads
+use Rattle.chords.proofs.cross_edge.Lts as lts
+use Rattle.chords.proofs.edge_crossed.Reads as edge-crossed-reads
+use Rattle.chords.proofs.edge_crossing.Reads as edge-crossing-reads
+use Rattle.chords.proofs.next_point.Reads as next-point-reads
+use Rattle.sorting.proofs.insert.Reads as insert-reads
+
+-- src/lib.rt:184:9
+next-point-requires : tie.Need-next-point-requires
+next-point-requires c κs = search needs
+
+-- src/lib.rt:185:9
+edge-crossed-requires : tie.Need-edge-crossed-requires
+edge-crossed-requires c κs = search needs
+
+-- src/lib.rt:186:9
+returns : tie.Need-returns
+returns c =
+    let pointed = c .before .before in
+    let a = pointed .before .before .before .args in
+    not-crossed (a .points .now) (a .n) (a .h) (a .i) _ (a .xs .now) (a .count) (pointed .next-point .ensures .0)
+    (sym (c .before .edge-crossed .ensures) ∙ not-true _ (c .if1 .taken))
+    (omega arith)
+
+-- src/lib.rt:188:32
+edge-crossing-requires : tie.Need-edge-crossing-requires
+edge-crossing-requires c κs = search needs
+
+-- src/lib.rt:188:5
+insert-requires : tie.Need-insert-requires
+insert-requires c κs = search needs
+
+-- src/lib.rt:189:5
+add-result : tie.Need-add-result
+add-result c = search needs
+
+-- src/lib.rt:180:1
+same-length : tie.Need-same-length
+same-length c = search needs
+
+-- src/lib.rt:180:1
+returns-2 : tie.Need-returns-2
+returns-2 c =
+    let inserted = c .before .before in
+    let made = inserted .before in
+    let left = made .before .before in
+    let pointed = left .before .before in
+    let a = pointed .before .before .before .args in
+    is-crossed (a .points .now) (a .n) (a .h) (a .i) _ (a .xs .now) (a .count) (pointed .next-point .ensures .0)
+    (sym (left .before .edge-crossed .ensures) ∙ not-false _ (left .if1 .left))
+    (omega (arith, pointed .before .before .before .pre))
+    _
+    (rw (← made .edge-crossing .ensures) (inserted .insert .ensures))
+
+pub cross-edge-spec : {M : Type 1} → statement M
+cross-edge-spec =
+    tie.close
+    (tie.spec
+    next-point-requires
+    edge-crossed-requires
+    returns
+    edge-crossing-requires
+    insert-requires
+    add-result
+    same-length
+    returns-2)

@@ -1,0 +1,18 @@
+-- `chords::trapezoid_chord` meets its contract: by whether the height is in the span. Assumes nothing.
+use borrow.Author.Tests.{not-true, not-false}
+use mathlib.Core.Path.{sym, _∙_}
+use borrow.Author.Needs.{needs}
+use Rattle.chords.proofs.trapezoid_chord.Statement.{statement}
+use Rattle.chords.proofs.trapezoid_chord.Tie as tie
+
+in-span-requires : tie.Need-in-span-requires
+in-span-requires c κs = search needs
+
+returns : tie.Need-returns
+returns c = rw (sym (c .before .in-span .ensures) ∙ not-true _ (c .if1 .taken))
+
+returns-2 : tie.Need-returns-2
+returns-2 c = rw (sym (c .before .in-span .ensures) ∙ not-false _ (c .if1 .left))
+
+pub trapezoid-chord-spec : {M : Type 1} → statement M
+trapezoid-chord-spec = tie.close (tie.spec in-span-requires returns returns-2)

@@ -1,0 +1,230 @@
+// The chords of a planform at a height h above the root, metres (fins.rs, `chords_at`; document 01, "Set and planform").
+//
+//     trapezoid, f = h / span: from sweep·f to (sweep·f + root) + (tip − root)·f
+//     ellipse: root·√(1 − f²) wide, centred on the root chord
+//     outline: the edges' crossings with the height, sorted, first to second, third to fourth, ..
+//
+// Most outlines are crossed twice: that one chord needs no list. Where there are more crossings, they are listed.
+use planforms::Planform;
+ghost use mathlib.Core.Path.{_≡_};
+ghost use Prim.Native.Nat.{_<_};
+ghost use lib.ListN.{length, take};
+ghost use lib.Ieee.{le};
+ghost use Rattle.sorting.specs.Sorted.{Written};
+ghost use Rattle.planforms.specs.Planforms.{heightAt, pairCount};
+ghost use Rattle.chords.specs.Chords.{inSpan, trapezoidEnds, ellipseEnds, next, crossed, edgeCrossed, edgeCrossing, outlineCrossings, endsAt, chordsOf};
+ghost use Rattle.chords.specs.Edges.{crossEdge, addFew, fewEdge, fewChords};
+
+// What there is at a height: no chord, one with its ends in metres aft of the root's leading edge, or an outline that is
+// crossed more than twice, whose crossings `outline_crossings` lists.
+pub enum Chords {
+    Nothing,
+    One { start_m: f64, end_m: f64 },
+    Several,
+}
+
+pub fn chords_at(planform: Planform, points: &[f64], h: f64) -> Chords
+    ensures { λ r. ⌜ r ≡ chordsOf (endsAt planform (now (points .entry)) h) ⌝ }
+{
+    match planform {
+        Planform::Trapezoid {
+            root_chord_m,
+            tip_chord_m,
+            span_m,
+            sweep_m,
+        } => trapezoid_chord(root_chord_m, tip_chord_m, span_m, sweep_m, h),
+        Planform::Ellipse {
+            root_chord_m,
+            span_m,
+        } => ellipse_chord(root_chord_m, span_m, h),
+        Planform::Outline => outline_chord(points, h),
+    }
+}
+
+// Writes the sorted crossings of an outline over the start of xs, and returns how many there are.
+pub fn outline_crossings(points: &[f64], h: f64, xs: &mut [f64; 64]) -> usize
+    ensures { λ r. ⌜ Written (outlineCrossings (now (points .entry)) h) (now (xs .entry)) (now (xs .exit)) r ⌝ }
+{
+    let n = points.len() / 2;
+    if 64 < n {
+        return 0;
+    }
+    let mut count: usize = 0;
+    let mut i: usize = 0;
+    while i < n {
+        count = cross_edge(points, h, i, n, xs, count);
+        i += 1;
+    }
+    count
+}
+
+// Whether h is from the root up to, and not at, the span: the tip is no chord.
+fn in_span(span_m: f64, h: f64) -> bool
+    ensures { λ r. ⌜ r ≡ inSpan «span_m» h ⌝ }
+{
+    0.0 <= h && h < span_m
+}
+
+fn trapezoid_chord(root_chord_m: f64, tip_chord_m: f64, span_m: f64, sweep_m: f64, h: f64) -> Chords
+    ensures { λ r. ⌜ r ≡ chordsOf (trapezoidEnds «root_chord_m» «tip_chord_m» «span_m» «sweep_m» h) ⌝ }
+{
+    if !in_span(span_m, h) {
+        return Chords::Nothing;
+    }
+    let f = h / span_m;
+    let lead = sweep_m * f;
+    Chords::One {
+        start_m: lead,
+        end_m: lead + root_chord_m + (tip_chord_m - root_chord_m) * f,
+    }
+}
+
+fn ellipse_chord(root_chord_m: f64, span_m: f64, h: f64) -> Chords
+    ensures { λ r. ⌜ r ≡ chordsOf (ellipseEnds «root_chord_m» «span_m» h) ⌝ }
+{
+    if !in_span(span_m, h) {
+        return Chords::Nothing;
+    }
+    let f = h / span_m;
+    let chord = root_chord_m * root::sqrt(floats::max(1.0 - f * f, 0.0));
+    let lead = 0.5 * (root_chord_m - chord);
+    Chords::One {
+        start_m: lead,
+        end_m: lead + chord,
+    }
+}
+
+// The crossings found so far, in order, while there are no more than two.
+enum Few {
+    Zero,
+    Single(f64),
+    Pair(f64, f64),
+    More,
+}
+
+// Edge by edge, the one that closes the outline last.
+fn outline_chord(points: &[f64], h: f64) -> Chords
+    ensures { λ r. ⌜ r ≡ chordsOf (outlineCrossings (now (points .entry)) h) ⌝ }
+{
+    let n = points.len() / 2;
+    if n == 0 {
+        return Chords::Nothing;
+    }
+    if 64 < n {
+        return Chords::Nothing;
+    }
+    let first = points[1] <= h;
+    let mut few = Few::Zero;
+    let mut here = first;
+    let mut i: usize = 1;
+    while i < n {
+        let there = points[2 * i + 1] <= h;
+        few = meet_edge(few, points, h, i - 1, i, here, there);
+        here = there;
+        i += 1;
+    }
+    few_chords(meet_edge(few, points, h, n - 1, 0, here, first))
+}
+
+// Adds the crossing of the edge from point i to point j, if there is one. `here` and `there` say whether its ends are at
+// most h: with both or neither it is not crossed, so that most edges take one comparison.
+fn meet_edge(few: Few, points: &[f64], h: f64, i: usize, j: usize, here: bool, there: bool) -> Few
+    requires { ⌜ (i < pairCount (now points)) × (j < pairCount (now points)) ⌝ }
+    requires { ⌜ (here ≡ le (heightAt (now points) i) h) × (there ≡ le (heightAt (now points) j) h) ⌝ }
+    ensures { λ r. ⌜ r ≡ fewEdge (now (points .entry)) h i j few ⌝ }
+{
+    if here == there {
+        return few;
+    }
+    if let Few::More = few {
+        return Few::More;
+    }
+    if !edge_crossed(points, h, i, j) {
+        return few;
+    }
+    add_few(few, edge_crossing(points, h, i, j))
+}
+
+fn add_few(few: Few, x: f64) -> Few
+    ensures { λ r. ⌜ r ≡ addFew few x ⌝ }
+{
+    match few {
+        Few::Zero => Few::Single(x),
+        Few::Single(a) => {
+            if x < a {
+                Few::Pair(x, a)
+            } else {
+                Few::Pair(a, x)
+            }
+        }
+        Few::Pair(_, _) => Few::More,
+        Few::More => Few::More,
+    }
+}
+
+fn few_chords(few: Few) -> Chords
+    ensures { λ r. ⌜ r ≡ fewChords few ⌝ }
+{
+    match few {
+        Few::Pair(a, b) => Chords::One {
+            start_m: a,
+            end_m: b,
+        },
+        Few::More => Chords::Several,
+        Few::Zero => Chords::Nothing,
+        Few::Single(_) => Chords::Nothing,
+    }
+}
+
+// Puts the crossing of edge i, if there is one, among the count that xs begins with.
+fn cross_edge(points: &[f64], h: f64, i: usize, n: usize, xs: &mut [f64], count: usize) -> usize
+    requires { ⌜ (i < n) × (n ≡ pairCount (now points)) × (count < length (now xs)) ⌝ }
+    ensures { λ r. ⌜ Written (crossEdge (now (points .entry)) n h i (take count (now (xs .entry)))) (now (xs .entry)) (now (xs .exit)) r ⌝ }
+{
+    let j = next_point(i, n);
+    if !edge_crossed(points, h, i, j) {
+        return count;
+    }
+    sorting::insert(xs, count, edge_crossing(points, h, i, j));
+    count + 1
+}
+
+// The point at the other end of edge i: the last edge closes the outline.
+fn next_point(i: usize, n: usize) -> usize
+    requires { ⌜ i < n ⌝ }
+    ensures { λ r. ⌜ (r ≡ next n i) × (r < n) ⌝ }
+{
+    let j = i + 1;
+    if j < n { j } else { 0 }
+}
+
+// Whether the edge from point i to point j is crossed at h.
+fn edge_crossed(points: &[f64], h: f64, i: usize, j: usize) -> bool
+    requires { ⌜ (i < pairCount (now points)) × (j < pairCount (now points)) ⌝ }
+    ensures { λ r. ⌜ r ≡ edgeCrossed (now (points .entry)) h i j ⌝ }
+{
+    between(h, points[2 * i + 1], points[2 * j + 1])
+}
+
+// Whether the lower of p and q is at most h, and h below the upper.
+fn between(h: f64, p: f64, q: f64) -> bool
+    ensures { λ r. ⌜ r ≡ crossed h p q ⌝ }
+{
+    if p <= h {
+        return h < q;
+    }
+    if q <= h {
+        return h < p;
+    }
+    false
+}
+
+// Where the edge from point i to point j is at h.
+fn edge_crossing(points: &[f64], h: f64, i: usize, j: usize) -> f64
+    requires { ⌜ (i < pairCount (now points)) × (j < pairCount (now points)) ⌝ }
+    ensures { λ r. ⌜ r ≡ edgeCrossing (now (points .entry)) h i j ⌝ }
+{
+    let x = points[2 * i];
+    let y = points[2 * i + 1];
+    x + (h - y) * (points[2 * j] - x) / (points[2 * j + 1] - y)
+}

@@ -1,0 +1,180 @@
+// The integrands of a fin's figures: seven values at a height (fins.rs, the closures of `geometry` and `fin_integrals`).
+//
+// A strip's lengths are divided by the scale, root chord plus span, and so is the height h that comes in. The chords are
+// worked in metres, at h·scale, and their ends a and b divided. Summed over the chords, from 0:
+//
+//     area:  b − a,  (b² − a²)/2,  h·(b − a), and four zeros
+//     plate: M_0, M_1, M_2 and T of each chord (`sections::chord_moments`); with r = body radius + h the values are
+//            M_0,  r·M_0,  r²·M_0,  M_1,  M_2,  r·M_1,  T
+use chords::Chords;
+use planforms::Planform;
+use sections::Section;
+ghost use mathlib.Core.Path.{_≡_};
+ghost use mathlib.Core.List.{_∷_};
+ghost use Rattle.floats.specs.Operations.{_⊗_, _⊘_};
+ghost use Rattle.chords.specs.Chords.{paired, outlineCrossings};
+ghost use Rattle.integrands.specs.Integrands.{scaleOf, areaIntegrand, plateIntegrand, termOf, plus, sumsOver, valuesOf, valuesOver, sampleOf};
+
+// What is summed over the chords. Thickness and body radius are divided by the scale.
+pub enum Kind {
+    Area,
+    Plate {
+        section: Section,
+        thickness: f64,
+        body_radius: f64,
+    },
+}
+
+// The choice among the two integrands, with the planform whose chords it takes; an outline's points lie beside it.
+pub struct Integrand {
+    pub kind: Kind,
+    pub planform: Planform,
+    pub scale: f64,
+}
+
+// Root chord plus span, metres.
+pub fn scale_m(planform: Planform, points: &[f64]) -> f64
+    ensures { λ r. ⌜ r ≡ scaleOf planform (now (points .entry)) ⌝ }
+{
+    planforms::root_chord_m(planform, points) + planforms::span_m(planform, points)
+}
+
+// The integrand of a planform's area.
+pub fn area_integrand(planform: Planform, points: &[f64]) -> Integrand
+    ensures { λ r. ⌜ r ≡ areaIntegrand planform (now (points .entry)) ⌝ }
+{
+    Integrand {
+        kind: Kind::Area,
+        planform,
+        scale: scale_m(planform, points),
+    }
+}
+
+// The integrand of a plate's volume integrals, on a body of the radius given; lengths in metres.
+pub fn plate_integrand(
+    planform: Planform,
+    points: &[f64],
+    section: Section,
+    thickness_m: f64,
+    body_radius_m: f64,
+) -> Integrand
+    ensures { λ r. ⌜ r ≡ plateIntegrand planform (now (points .entry)) section «thickness_m» «body_radius_m» ⌝ }
+{
+    let scale = scale_m(planform, points);
+    Integrand {
+        kind: Kind::Plate {
+            section,
+            thickness: thickness_m / scale,
+            body_radius: body_radius_m / scale,
+        },
+        planform,
+        scale,
+    }
+}
+
+// The seven values at the height h, which is divided by the scale.
+pub fn sample(integrand: Integrand, points: &[f64], h: f64) -> [f64; 7]
+    ensures { λ r. ⌜ r ≡ sampleOf integrand (now (points .entry)) h ⌝ }
+{
+    let kind = integrand.kind;
+    let planform = integrand.planform;
+    let scale = integrand.scale;
+    let found = chords::chords_at(planform, points, h * scale);
+    match found {
+        Chords::One { start_m, end_m } => chord_values(
+            kind,
+            scale,
+            h,
+            start_m,
+            end_m,
+            &points[..0],
+        ),
+        Chords::Nothing => values(kind, h, [0.0; 4]),
+        Chords::Several => outline_values(kind, scale, points, h),
+    }
+}
+
+// The values over the chords that an outline's crossings bound.
+fn outline_values(kind: Kind, scale: f64, points: &[f64], h: f64) -> [f64; 7]
+    ensures { λ r. ⌜ r ≡ valuesOver kind scale h (paired (outlineCrossings (now (points .entry)) (h ⊗ scale))) ⌝ }
+{
+    let mut xs = [0.0; 64];
+    let n = chords::outline_crossings(points, h * scale, &mut xs);
+    if n < 2 {
+        return values(kind, h, [0.0; 4]);
+    }
+    let start = xs[0];
+    let end = xs[1];
+    chord_values(kind, scale, h, start, end, &xs[2..n])
+}
+
+// The values over the chord from start to end and those that the rest of the ends bound.
+fn chord_values(kind: Kind, scale: f64, h: f64, start: f64, end: f64, rest: &[f64]) -> [f64; 7]
+    ensures { λ r. ⌜ r ≡ valuesOver kind scale h ((start, end) ∷ paired (now (rest .entry))) ⌝ }
+{
+    values(kind, h, chord_sums(kind, scale, h, start, end, rest))
+}
+
+// The sums over the same chords.
+fn chord_sums(kind: Kind, scale: f64, h: f64, start: f64, end: f64, rest: &[f64]) -> [f64; 4]
+    ensures { λ r. ⌜ r ≡ sumsOver kind scale h ((start, end) ∷ paired (now (rest .entry))) ⌝ }
+{
+    let mut sums = [0.0; 4];
+    let mut a = start;
+    let mut b = end;
+    let mut k: usize = 0;
+    loop {
+        let more = add_chord(sums, kind, scale, h, a, b);
+        sums = more;
+        if rest.len() / 2 <= k {
+            return sums;
+        }
+        a = rest[2 * k];
+        b = rest[2 * k + 1];
+        k += 1;
+    }
+}
+
+// One more chord, whose ends are divided by the scale.
+fn add_chord(sums: [f64; 4], kind: Kind, scale: f64, h: f64, start_m: f64, end_m: f64) -> [f64; 4]
+    ensures { λ r. ⌜ r ≡ plus sums (termOf kind h («start_m» ⊘ scale) («end_m» ⊘ scale)) ⌝ }
+{
+    let t = term(kind, h, start_m / scale, end_m / scale);
+    [
+        sums[0] + t[0],
+        sums[1] + t[1],
+        sums[2] + t[2],
+        sums[3] + t[3],
+    ]
+}
+
+// What a chord from a to b adds to the sums.
+fn term(kind: Kind, h: f64, a: f64, b: f64) -> [f64; 4]
+    ensures { λ r. ⌜ r ≡ termOf kind h a b ⌝ }
+{
+    match kind {
+        Kind::Area => [b - a, 0.5 * (b * b - a * a), h * (b - a), 0.0],
+        Kind::Plate {
+            section,
+            thickness,
+            body_radius: _,
+        } => sections::chord_moments(section, a, b, thickness),
+    }
+}
+
+// The seven values, from the sums over the chords at h.
+fn values(kind: Kind, h: f64, m: [f64; 4]) -> [f64; 7]
+    ensures { λ r. ⌜ r ≡ valuesOf kind h m ⌝ }
+{
+    match kind {
+        Kind::Area => [m[0], m[1], m[2], 0.0, 0.0, 0.0, 0.0],
+        Kind::Plate {
+            section: _,
+            thickness: _,
+            body_radius,
+        } => {
+            let r = body_radius + h;
+            [m[0], r * m[0], r * r * m[0], m[1], m[2], r * m[1], m[3]]
+        }
+    }
+}
