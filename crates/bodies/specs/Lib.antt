@@ -1,0 +1,2 @@
+pub mod Tensors
+pub mod Bodies

@@ -1,0 +1,82 @@
+-- `body_check::check_tensor` meets its contract, which goes by the same tests. Assumes nothing.
+use mathlib.Core.Path.{sym, _∙_}
+use borrow.Author.Tests.{not-true, not-false}
+use borrow.Author.Needs.{needs}
+use Rattle.body_check.specs.BodyCheck.{checkTensor}
+use Rattle.body_check.proofs.check_tensor.Statement.{statement}
+use Rattle.body_check.proofs.check_tensor.Tie as tie
+
+entries-fit-requires : tie.Need-entries-fit-requires
+entries-fit-requires c κs = search needs
+
+refused-requires : tie.Need-refused-requires
+refused-requires c κs = search needs
+
+returns : tie.Need-returns
+unfolding checkTensor
+returns c = rw (sym (c .before .before .entries-fit .ensures) ∙ not-true _ (c .before .if1 .taken)) (c .refused .ensures)
+
+largest-magnitude-requires : tie.Need-largest-magnitude-requires
+largest-magnitude-requires c κs = search needs
+
+is-massless-inertia-requires : tie.Need-is-massless-inertia-requires
+is-massless-inertia-requires c κs = search needs
+
+refused-requires-2 : tie.Need-refused-requires-2
+refused-requires-2 c κs = search needs
+
+returns-2 : tie.Need-returns-2
+unfolding checkTensor
+returns-2 c =
+    let massless = c .before in
+    let fit = massless .before .before .before in
+    rw (sym (fit .before .entries-fit .ensures) ∙ not-false _ (fit .if1 .left), ← massless .before .before .largest-magnitude .ensures, sym (massless .before .is-massless-inertia .ensures) ∙ massless .if2 .taken)
+    (c .refused2 .ensures)
+
+asymmetry-requires : tie.Need-asymmetry-requires
+asymmetry-requires c κs = search needs
+
+refused-requires-3 : tie.Need-refused-requires-3
+refused-requires-3 c κs = search needs
+
+returns-3 : tie.Need-returns-3
+unfolding checkTensor
+returns-3 c =
+    let skew = c .before in
+    let massive = skew .before .before in
+    let fit = massive .before .before .before in
+    rw (sym (fit .before .entries-fit .ensures) ∙ not-false _ (fit .if1 .left), ← massive .before .before .largest-magnitude .ensures, sym (massive .before .is-massless-inertia .ensures) ∙ massive .if2 .left, ← skew .before .asymmetry .ensures, skew .if3 .taken)
+    (c .refused3 .ensures)
+
+eigenvalues-requires : tie.Need-eigenvalues-requires
+eigenvalues-requires c κs = search needs
+
+check-moments-requires : tie.Need-check-moments-requires
+check-moments-requires c κs = search needs
+
+returns-4 : tie.Need-returns-4
+unfolding checkTensor
+returns-4 c =
+    let symmetric = c .before .before in
+    let massive = symmetric .before .before in
+    let fit = massive .before .before .before in
+    rw (sym (fit .before .entries-fit .ensures) ∙ not-false _ (fit .if1 .left), ← massive .before .before .largest-magnitude .ensures, sym (massive .before .is-massless-inertia .ensures) ∙ massive .if2 .left, ← symmetric .before .asymmetry .ensures, symmetric .if3 .left, ← c .before .eigenvalues .ensures)
+    (c .check-moments .ensures)
+
+pub check-tensor-spec : {M : Type 1} → statement M
+check-tensor-spec =
+    tie.close
+    (tie.spec
+    entries-fit-requires
+    refused-requires
+    returns
+    largest-magnitude-requires
+    is-massless-inertia-requires
+    refused-requires-2
+    returns-2
+    asymmetry-requires
+    refused-requires-3
+    returns-3
+    eigenvalues-requires
+    check-moments-requires
+    returns-4)

@@ -1,0 +1,3 @@
+pub mod InOrder
+pub mod Listed
+pub mod JoinLaws

@@ -1,0 +1,200 @@
+// Several bodies joined into one rigid body (mass.rs, `MassProperties::combine`).
+//
+// m = Σ mₖ, centre = Σ mₖ cₖ / m, I = Σ [Iₖ + mₖ (|dₖ|² E − dₖ dₖᵀ)] with dₖ = cₖ − centre, the sums in order and from +0. A total
+// mass not above 0 takes the mean of the centres, a NaN mass a NaN centre (document 01, "Body"). The bodies lie one after another
+// in a lent slice, 13 numbers each: mass, centre, the tensor's three columns.
+ghost use mathlib.Core.Path.{_≡_};
+ghost use Prim.Native.Nat.{_+_, _*_, _≤_};
+ghost use lib.ListN.{length};
+ghost use Rattle.joins.specs.Flat.{bodyAt, numbersOf, withBody};
+ghost use Rattle.joins.specs.Joins.{sumsOf, addBody, centreOf, inertiaOf, joinOf, refusedCount, combineOf};
+use bodies::Body;
+use bodies::Centre;
+use bodies::Tensor;
+use refusals::Refusal;
+use refusals::Verdict;
+
+// The joined body; with a refusal, the empty one.
+pub struct Joined {
+    pub verdict: Verdict,
+    pub body: Body,
+}
+
+// What the centre is worked from: total mass, Σ mₖ cₖ, Σ cₖ and how many.
+pub struct Sums {
+    pub mass_kg: f64,
+    pub moment: Centre,
+    pub positions: Centre,
+    pub count: f64,
+}
+
+// One to 32 bodies joined; a slice that holds another number, or no whole number, of them is refused 3.
+pub fn combine(bodies: &[f64]) -> Joined
+    ensures { λ r. ⌜ r ≡ combineOf (now (bodies .entry)) ⌝ }
+{
+    if bodies.len() % 13 != 0 {
+        return refused();
+    }
+    let count = bodies.len() / 13;
+    if count < 1 {
+        return refused();
+    }
+    if 32 < count {
+        return refused();
+    }
+    let verdict = Verdict::Accepted;
+    let body = join(bodies, count);
+    Joined { verdict, body }
+}
+
+fn refused() -> Joined
+    ensures { λ r. ⌜ r ≡ refusedCount ⌝ }
+{
+    let verdict = Verdict::Refused(Refusal::Count);
+    let body = Body::ZERO;
+    Joined { verdict, body }
+}
+
+fn join(bodies: &[f64], count: usize) -> Body
+    requires { ⌜ 13 * count ≤ length (now bodies) ⌝ }
+    ensures { λ r. ⌜ r ≡ joinOf (bodyAt (now (bodies .entry))) count ⌝ }
+{
+    let sums = sum_bodies(bodies, count);
+    let centre_m = centre(sums);
+    let inertia_kg_m2 = inertia(bodies, centre_m, count);
+    Body {
+        mass_kg: sums.mass_kg,
+        centre_m,
+        inertia_kg_m2,
+    }
+}
+
+fn body_at(bodies: &[f64], k: usize) -> Body
+    requires { ⌜ 13 * k + 13 ≤ length (now bodies) ⌝ }
+    ensures { λ r. ⌜ r ≡ bodyAt (now (bodies .entry)) k ⌝ }
+{
+    let o = 13 * k;
+    Body {
+        mass_kg: bodies[o],
+        centre_m: Centre {
+            x: bodies[o + 1],
+            y: bodies[o + 2],
+            z: bodies[o + 3],
+        },
+        inertia_kg_m2: Tensor([
+            bodies[o + 4],
+            bodies[o + 5],
+            bodies[o + 6],
+            bodies[o + 7],
+            bodies[o + 8],
+            bodies[o + 9],
+            bodies[o + 10],
+            bodies[o + 11],
+            bodies[o + 12],
+        ]),
+    }
+}
+
+// Writes `body` over body k of the slice.
+pub fn write_body(bodies: &mut [f64], k: usize, body: Body)
+    requires { ⌜ 13 * k + 13 ≤ length (now bodies) ⌝ }
+    ensures { λ r. ⌜ now (bodies .exit) ≡ withBody (now (bodies .entry)) k body ⌝ }
+{
+    let written = numbers(body);
+    let mut j = 0;
+    while j < 13 {
+        bodies[13 * k + j] = written[j];
+        j += 1;
+    }
+}
+
+fn numbers(body: Body) -> [f64; 13]
+    ensures { λ r. ⌜ r ≡ numbersOf body ⌝ }
+{
+    let centre = body.centre_m;
+    let inertia = body.inertia_kg_m2;
+    let a = inertia.0;
+    [
+        body.mass_kg,
+        centre.x,
+        centre.y,
+        centre.z,
+        a[0],
+        a[1],
+        a[2],
+        a[3],
+        a[4],
+        a[5],
+        a[6],
+        a[7],
+        a[8],
+    ]
+}
+
+fn sum_bodies(bodies: &[f64], count: usize) -> Sums
+    requires { ⌜ 13 * count ≤ length (now bodies) ⌝ }
+    ensures { λ r. ⌜ r ≡ sumsOf (bodyAt (now (bodies .entry))) count ⌝ }
+{
+    let zero = Body::ZERO;
+    let mass_kg = zero.mass_kg;
+    let origin = zero.centre_m;
+    let mut sums = Sums {
+        mass_kg,
+        moment: origin,
+        positions: origin,
+        count: 0.0,
+    };
+    let mut k = 0;
+    while k < count {
+        sums = add_body(sums, body_at(bodies, k));
+        k += 1;
+    }
+    sums
+}
+
+fn add_body(sums: Sums, body: Body) -> Sums
+    ensures { λ r. ⌜ r ≡ addBody sums body ⌝ }
+{
+    let centre_m = body.centre_m;
+    let moment = sums.moment.add(centre_m.scale(body.mass_kg));
+    let positions = sums.positions.add(centre_m);
+    Sums {
+        mass_kg: sums.mass_kg + body.mass_kg,
+        moment,
+        positions,
+        count: sums.count + 1.0,
+    }
+}
+
+fn centre(sums: Sums) -> Centre
+    ensures { λ r. ⌜ r ≡ centreOf sums ⌝ }
+{
+    let mass = sums.mass_kg;
+    if mass != mass {
+        let nan = 0.0 / 0.0;
+        return Centre {
+            x: nan,
+            y: nan,
+            z: nan,
+        };
+    }
+    if 0.0 < mass {
+        return sums.moment.divide(mass);
+    }
+    sums.positions.divide(sums.count)
+}
+
+// The tensors about `centre`, summed.
+fn inertia(bodies: &[f64], centre: Centre, count: usize) -> Tensor
+    requires { ⌜ 13 * count ≤ length (now bodies) ⌝ }
+    ensures { λ r. ⌜ r ≡ inertiaOf (bodyAt (now (bodies .entry))) centre count ⌝ }
+{
+    let zero = Body::ZERO;
+    let mut total = zero.inertia_kg_m2;
+    let mut k = 0;
+    while k < count {
+        total = total.add(body_at(bodies, k).inertia_about(centre));
+        k += 1;
+    }
+    total
+}

@@ -1,0 +1,54 @@
+-- `moments::run_sweeps` meets its contract: what is left to sweep from here gives what the whole does. Assumes nothing.
+use mathlib.Core.Path.{_≡_, refl, sym, ap, _∙_}
+use Prim.Native.Nat.{_≤_, _-_}
+use native.Mathlib.Omega.{arith}
+use borrow.Author.Needs.{needs}
+use Rattle.moments.specs.Moments.{sweeps}
+use Rattle.moments.proofs.Sweeps.{sweeps-none, sweeps-end, sweeps-more}
+use Rattle.moments.proofs.run_sweeps.Statement.{statement}
+use Rattle.moments.proofs.run_sweeps.Tie as tie
+
+abbrev Inv-loop : tie.InvT-loop
+Inv-loop tensor₀ left₀ tensor left = (sweeps left tensor ≡ sweeps 32 tensor₀) × (left ≤ 32)
+
+abbrev μ-loop : tie.MeasureT-loop
+μ-loop tensor₀ left₀ tensor left = left
+
+loop-holds : tie.Need-loop-holds Inv-loop μ-loop
+loop-holds c = (refl, omega arith)
+
+off-diagonal-requires : tie.Need-off-diagonal-requires Inv-loop μ-loop
+off-diagonal-requires c κs = search needs
+
+returns : tie.Need-returns Inv-loop μ-loop
+returns c = sweeps-end _ _ (omega arith) (c .before .off-diagonal .ensures) (c .if1 .taken) (c .before .before .before .loop .inv .0)
+
+sweep-once-requires : tie.Need-sweep-once-requires Inv-loop μ-loop
+sweep-once-requires c κs = search needs
+
+sub-left : tie.Need-sub-left Inv-loop μ-loop
+sub-left c = omega arith
+
+loop-less : tie.Need-loop-less Inv-loop μ-loop
+loop-less c = omega arith
+
+loop-again : tie.Need-loop-again Inv-loop μ-loop
+loop-again c = (sweeps-more _ _ (omega arith) (c .before .before .off-diagonal .ensures) (c .before .if1 .left) (c .sweep-once .ensures) (c .before .before .before .before .loop .inv .0), omega arith)
+
+returns-2 : tie.Need-returns-2 Inv-loop μ-loop
+returns-2 c = sweeps-none _ _ (omega arith) (c .before .loop .inv .0)
+
+pub run-sweeps-spec : {M : Type 1} → statement M
+run-sweeps-spec =
+    tie.close
+    (tie.spec
+    Inv-loop
+    μ-loop
+    loop-holds
+    off-diagonal-requires
+    returns
+    sweep-once-requires
+    sub-left
+    loop-less
+    loop-again
+    returns-2)

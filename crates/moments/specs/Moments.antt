@@ -1,0 +1,121 @@
+-- Principal moments (document 01, "Body"; mass.rs, `symmetric_eigenvalues`).
+use mathlib.Core.Bool.{Bool, true, false, not, cond, _&&_}
+use mathlib.Core.List.{List, [], _∷_}
+use Prim.Native.Nat.{ℕ, zero, suc, _+_, _*_}
+use lib.ListN.{set}
+use lib.Ieee.{Float, lt, le, eq}
+use Rattle.floats.specs.Operations.{_⊕_, _⊖_, _⊗_, _⊘_, bits}
+use Rattle.floats.specs.Floats.{isFinite, absOf}
+use Rattle.root.specs.Root.{rootOf}
+use Rattle.bodies.specs.declared.Tensor.{Tensor}
+use Rattle.bodies.specs.Tensors.{vector, number, fromColumns}
+use Rattle.refusals.specs.declared.Verdict.the-variants.{Accepted, Refused}
+use Rattle.refusals.specs.declared.Refusal.the-variants.{Tensor as TensorRefused}
+use Rattle.refusals.specs.declared.TensorFault.the-variants.{Entry}
+use Rattle.moments.specs.declared.Moments.{Moments}
+use Rattle.moments.specs.declared.Rotation.{Rotation}
+
+abbrev half : Float
+half = bits 0x3fe0_0000_0000_0000
+
+abbrev one : Float
+one = bits 0x3ff0_0000_0000_0000
+
+abbrev two : Float
+two = bits 0x4000_0000_0000_0000
+
+-- row i of column j
+abbrev pub entry : Tensor → ℕ → ℕ → Float
+entry t i j = number t (3 * j + i)
+
+-- ---- 17a
+
+-- not "an entry not finite or over 2^500 in magnitude"
+abbrev pub entryFits : Float → Bool
+entryFits x = isFinite x && not (lt (bits 0x5f30_0000_0000_0000) (absOf x))
+
+-- whether p holds of the first n numbers
+unfoldable pub every : (Float → Bool) → Tensor → ℕ → Bool
+every p t zero = true
+every p t (suc n) = every p t n && p (number t n)
+
+abbrev pub entriesFit : Tensor → Bool
+entriesFit t = every entryFits t 9
+
+-- ---- one rotation
+
+-- Golub and Van Loan, algorithm 8.5.1: τ = (a_qq − a_pp) / (2 a_pq)
+abbrev pub tangentOf : Float → Float
+tangentOf tau =
+    cond (le (bits 0) tau)
+    (one ⊘ (tau ⊕ rootOf (one ⊕ tau ⊗ tau)))
+    (one ⊘ (tau ⊖ rootOf (one ⊕ tau ⊗ tau)))
+
+abbrev pub rotationBy : Float → Rotation
+rotationBy t = record { cosine = one ⊘ rootOf (one ⊕ t ⊗ t); sine = t ⊗ (one ⊘ rootOf (one ⊕ t ⊗ t)) }
+
+unfoldable pub rotationOf : Float → Float → Float → Rotation
+rotationOf app apq aqq = rotationBy (tangentOf ((aqq ⊖ app) ⊘ (two ⊗ apq)))
+
+-- the numbers x at i and y at j become c·x − s·y and s·x + c·y
+unfoldable pub turnPair : Rotation → ℕ → ℕ → Tensor → Tensor
+turnPair r i j t =
+    record { 0 = set (set (t .0) i (r .cosine ⊗ number t i ⊖ r .sine ⊗ number t j)) j (r .sine ⊗ number t i ⊕ r .cosine ⊗ number t j) }
+
+-- A·J: in each row, the numbers in columns p and q
+unfoldable pub turnColumns : Rotation → ℕ → ℕ → Tensor → Tensor
+turnColumns r p q t = turnPair r (3 * p + 2) (3 * q + 2) (turnPair r (3 * p + 1) (3 * q + 1) (turnPair r (3 * p) (3 * q) t))
+
+-- Jᵀ·A: in each column, the numbers in rows p and q
+unfoldable pub turnRows : Rotation → ℕ → ℕ → Tensor → Tensor
+turnRows r p q t = turnPair r (6 + p) (6 + q) (turnPair r (3 + p) (3 + q) (turnPair r p q t))
+
+-- Jᵀ·A·J; a plane whose entry is 0 is left alone
+unfoldable pub rotate : ℕ → ℕ → Tensor → Tensor
+rotate p q t =
+    cond (eq (entry t p q) (bits 0)) t
+    (let r = rotationOf (entry t p p) (entry t p q) (entry t q q) in turnRows r p q (turnColumns r p q t))
+
+-- ---- the sweeps
+
+abbrev pub symmetrized : Tensor → Tensor
+symmetrized t =
+    let m01 = half ⊗ (entry t 0 1 ⊕ entry t 1 0) in
+    let m02 = half ⊗ (entry t 0 2 ⊕ entry t 2 0) in
+    let m12 = half ⊗ (entry t 1 2 ⊕ entry t 2 1) in
+    fromColumns (vector (entry t 0 0) m01 m02) (vector m01 (entry t 1 1) m12) (vector m02 m12 (entry t 2 2))
+
+abbrev pub offDiagonal : Tensor → Float
+offDiagonal t = absOf (entry t 0 1) ⊕ absOf (entry t 0 2) ⊕ absOf (entry t 1 2)
+
+unfoldable pub sweep : Tensor → Tensor
+sweep t = rotate 1 2 (rotate 0 2 (rotate 0 1 t))
+
+-- "at most 32 sweeps, ending when the off-diagonal sum is 0"
+unfoldable pub sweeps : ℕ → Tensor → Tensor
+sweeps zero t = t
+sweeps (suc n) t = cond (eq (offDiagonal t) (bits 0)) t (sweeps n (sweep t))
+
+-- ---- the moments
+
+-- ascending, by insertion: behind those not above it, so that equal ones keep their order
+unfoldable pub insert : Float → List Float → List Float
+insert x [] = x ∷ []
+insert x (y ∷ ys) = cond (lt x y) (x ∷ y ∷ ys) (y ∷ insert x ys)
+
+unfoldable pub insertAll : List Float → List Float → List Float
+insertAll sorted [] = sorted
+insertAll sorted (x ∷ xs) = insertAll (insert x sorted) xs
+
+abbrev pub ascending : List Float → List Float
+ascending xs = insertAll [] xs
+
+unfoldable pub eigenvaluesOf : Tensor → List Float
+eigenvaluesOf t = let a = sweeps 32 (symmetrized t) in ascending (entry a 0 0 ∷ entry a 1 1 ∷ entry a 2 2 ∷ [])
+
+-- "17a first"
+abbrev pub refusedEntry : Moments
+refusedEntry = record { verdict = Refused (TensorRefused Entry); «moments_kg_m2» = bits 0 ∷ bits 0 ∷ bits 0 ∷ [] }
+
+abbrev pub principalMomentsOf : Tensor → Moments
+principalMomentsOf t = cond (entriesFit t) (record { verdict = Accepted; «moments_kg_m2» = eigenvaluesOf t }) refusedEntry
