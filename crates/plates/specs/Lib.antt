@@ -1,0 +1,3 @@
+pub mod Integrals
+pub mod Plates
+pub mod Geometry

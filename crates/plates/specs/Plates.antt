@@ -1,0 +1,83 @@
+-- One fin's body from its volume integrals (document 01, "Set and planform" and "Refusal numbers"; fins.rs, `single_fin`).
+use mathlib.Core.Bool.{cond}
+use mathlib.Core.List.{List}
+use lib.Ieee.{Float, neg, eq, le}
+use Rattle.floats.specs.Operations.{_⊕_, _⊗_, _⊘_, bits}
+use Rattle.bodies.specs.declared.Body.{Body}
+use Rattle.bodies.specs.declared.Centre.{Centre}
+use Rattle.bodies.specs.declared.Tensor.{Tensor}
+use Rattle.bodies.specs.Tensors.{vector, fromColumns, zeroVector, zeroTensor, subtractTensors, scaleTensor}
+use Rattle.bodies.specs.Bodies.{emptyBody, inertiaAboutOf, translatedOf}
+use Rattle.rotations.specs.Rotations.{rotatedXOf}
+use Rattle.refusals.specs.declared.Refusal.{Refusal}
+use Rattle.refusals.specs.declared.Refusal.the-variants.{NoArea, Density as density}
+use Rattle.refusals.specs.declared.Verdict.the-variants.{Accepted, Refused}
+use Rattle.materials.specs.declared.Density.{Density}
+use Rattle.materials.specs.declared.Density.the-variants.{Bulk, Surface, Line}
+use Rattle.fins.specs.declared.FinSet.{FinSet}
+use Rattle.plates.specs.declared.Fin.{Fin}
+use Rattle.plates.specs.Integrals.{half, volume, r1, r2, x1, x2, rx, tau2, unscaledOf, tabIntegralsOf, sumOf}
+
+-- the tensor about the origin, of points at (r, τ, −x); its entries are summed first, then times the density
+abbrev pub aboutOrigin : List Float → Float → Tensor
+aboutOrigin v kgPerM3 =
+    scaleTensor
+    (fromColumns
+    (vector (tau2 v ⊕ x2 v) (bits 0) (rx v))
+    (vector (bits 0) (r2 v ⊕ x2 v) (bits 0))
+    (vector (rx v) (bits 0) (r2 v ⊕ tau2 v)))
+    kgPerM3
+
+-- the plate's mass at its centre, with no tensor of its own (the Rust's `at_origin`)
+abbrev pub atCentre : List Float → Float → Body
+atCentre v kgPerM3 =
+    record {
+      «mass_kg» = kgPerM3 ⊗ volume v;
+      «centre_m» = vector (r1 v ⊘ volume v) (bits 0) (neg (x1 v) ⊘ volume v);
+      «inertia_kg_m2» = zeroTensor;
+    }
+
+-- the tensor moved from the origin to the centre
+unfoldable pub plateOf : List Float → Float → Body
+plateOf v kgPerM3 =
+    record {
+      «mass_kg» = atCentre v kgPerM3 .«mass_kg»;
+      «centre_m» = atCentre v kgPerM3 .«centre_m»;
+      «inertia_kg_m2» = subtractTensors (aboutOrigin v kgPerM3) (inertiaAboutOf (atCentre v kgPerM3) zeroVector);
+    }
+
+abbrev pub negateVector : Centre → Centre
+negateVector u = vector (neg (u .x)) (neg (u .y)) (neg (u .z))
+
+-- the middle of the root chord, on the body's surface
+abbrev pub pivotOf : Float → Float → Centre
+pivotOf radius root = vector radius (bits 0) (neg half ⊗ root)
+
+-- turned by the cant about the span axis through the pivot; a cant of either zero moves and turns nothing
+unfoldable pub cantedOf : Body → Float → Centre → Body
+cantedOf fin cant pivot = cond (eq cant (bits 0)) fin (translatedOf (rotatedXOf (translatedOf fin (negateVector pivot)) cant) pivot)
+
+-- "Figures zero" with a refusal
+abbrev pub refusedFin : Refusal → Fin
+refusedFin refusal = record { verdict = Refused refusal; body = emptyBody }
+
+-- 8: "area or volume <= 0"
+unfoldable pub bulkFin : List Float → Float → Centre → Float → Fin
+bulkFin v cant pivot kgPerM3 =
+    cond (le (volume v) (bits 0)) (refusedFin NoArea)
+    (record { verdict = Accepted; body = cantedOf (plateOf v kgPerM3) cant pivot })
+
+-- 12: "density not bulk"
+abbrev pub ofDensity : Density → (Float → Fin) → Fin
+ofDensity (Bulk x) fin = fin x
+ofDensity (Surface x) fin = refusedFin density
+ofDensity (Line x) fin = refusedFin density
+
+-- fin and tab together
+abbrev pub integralsOf : FinSet → Float → List Float → List Float
+integralsOf set scale total = sumOf (unscaledOf total scale) (tabIntegralsOf (set .tab) (set .«thickness_m») (set .«body_radius_m»))
+
+-- one fin with its tab, at roll 0, from the strips' scaled totals and the root chord
+unfoldable pub singleFinOf : FinSet → Float → Float → List Float → Fin
+singleFinOf set root scale total =
+    ofDensity (set .density) (bulkFin (integralsOf set scale total) (set .«cant_rad») (pivotOf (set .«body_radius_m») root))

@@ -1,0 +1,220 @@
+// One fin from the integrals of its strips (fins.rs, `fin_integrals`, `tab_integrals`, `single_fin`; the end of `geometry`).
+//
+// A point of the fin lies at (r, τ, −x): r outward from the body's axis, x aft of the root's leading edge, τ across the plate. With V,
+// ∫r, ∫r², ∫x, ∫x², ∫rx, ∫τ² over the volume and a density ρ, about the origin I = ρ [τ²+x², 0, rx; 0, r²+x², 0; rx, 0, r²+τ²], and
+// I − m (|c|² E − c cᵀ) about the centre c = (∫r / V, 0, −∫x / V). Cant turns the fin about its span axis through the root's middle.
+ghost use mathlib.Core.Path.{_≡_};
+ghost use Rattle.plates.specs.Integrals.{unscaledOf, slabOf, tabIntegralsOf, sumOf};
+ghost use Rattle.plates.specs.Plates.{plateOf, cantedOf, refusedFin, bulkFin, singleFinOf};
+ghost use Rattle.plates.specs.Geometry.{geometryOf};
+use bodies::Body;
+use bodies::Centre;
+use bodies::Tensor;
+use fins::FinSet;
+use fins::Tab;
+use materials::Density;
+use refusals::Refusal;
+use refusals::Verdict;
+
+// The body of one fin; with a refusal, the empty one.
+pub struct Fin {
+    pub verdict: Verdict,
+    pub body: Body,
+}
+
+// Area of one fin and its centroid, aft of the root's leading edge and outward from the root; with a refusal, zeros.
+pub struct PlanformGeometry {
+    pub verdict: Verdict,
+    pub area_m2: f64,
+    pub centroid_x_m: f64,
+    pub centroid_span_m: f64,
+}
+
+// The strips' totals, which were worked in lengths over the scale, as volume integrals in metres.
+pub fn unscaled(total: [f64; 7], scale_m: f64) -> [f64; 7]
+    ensures { λ r. ⌜ r ≡ unscaledOf total «scale_m» ⌝ }
+{
+    let cube = floats::powi3(scale_m);
+    let fourth = floats::powi4(scale_m);
+    let fifth = floats::powi5(scale_m);
+    [
+        total[0] * cube,
+        total[1] * fourth,
+        total[2] * fifth,
+        total[3] * fourth,
+        total[4] * fifth,
+        total[5] * fifth,
+        total[6] * fifth,
+    ]
+}
+
+// The integrals of the slab from radius r0 to r1 and from x0 to x1, of thickness t, height h and length l.
+fn slab_integrals(t: f64, h: f64, l: f64, r0: f64, r1: f64, x0: f64, x1: f64) -> [f64; 7]
+    ensures { λ r. ⌜ r ≡ slabOf t h l r0 r1 x0 x1 ⌝ }
+{
+    let r_first = 0.5 * (r1 * r1 - r0 * r0);
+    let x_first = 0.5 * (x1 * x1 - x0 * x0);
+    [
+        t * l * h,
+        t * l * r_first,
+        t * l * (floats::powi3(r1) - floats::powi3(r0)) / 3.0,
+        t * h * x_first,
+        t * h * (floats::powi3(x1) - floats::powi3(x0)) / 3.0,
+        t * x_first * r_first,
+        floats::powi3(t) / 12.0 * l * h,
+    ]
+}
+
+// The integrals of the tab below the root; zeros for none.
+pub fn tab_integrals(tab: Tab, thickness_m: f64, body_radius_m: f64) -> [f64; 7]
+    ensures { λ r. ⌜ r ≡ tabIntegralsOf tab «thickness_m» «body_radius_m» ⌝ }
+{
+    match tab {
+        Tab::None => [0.0; 7],
+        Tab::Slab {
+            height_m,
+            length_m,
+            offset_m,
+        } => slab_integrals(
+            thickness_m,
+            height_m,
+            length_m,
+            body_radius_m - height_m,
+            body_radius_m,
+            offset_m,
+            offset_m + length_m,
+        ),
+    }
+}
+
+fn sum(fin: [f64; 7], tab: [f64; 7]) -> [f64; 7]
+    ensures { λ r. ⌜ r ≡ sumOf fin tab ⌝ }
+{
+    [
+        fin[0] + tab[0],
+        fin[1] + tab[1],
+        fin[2] + tab[2],
+        fin[3] + tab[3],
+        fin[4] + tab[4],
+        fin[5] + tab[5],
+        fin[6] + tab[6],
+    ]
+}
+
+// The plate with the integrals v, its tensor moved from the origin to the centre.
+fn plate(v: [f64; 7], kg_m3: f64) -> Body
+    ensures { λ r. ⌜ r ≡ plateOf v «kg_m3» ⌝ }
+{
+    let volume = v[0];
+    let r1 = v[1];
+    let r2 = v[2];
+    let x1 = v[3];
+    let x2 = v[4];
+    let rx = v[5];
+    let tau2 = v[6];
+    let xx = tau2 + x2;
+    let yy = r2 + x2;
+    let zz = r2 + tau2;
+    let about_origin = Tensor([xx, 0.0, rx, 0.0, yy, 0.0, rx, 0.0, zz]).scale(kg_m3);
+    let mass_kg = kg_m3 * volume;
+    let centre_m = Centre {
+        x: r1 / volume,
+        y: 0.0,
+        z: -x1 / volume,
+    };
+    let zero = Body::ZERO;
+    let origin = zero.centre_m;
+    let none = zero.inertia_kg_m2;
+    let at_centre = Body {
+        mass_kg,
+        centre_m,
+        inertia_kg_m2: none,
+    };
+    let inertia_kg_m2 = about_origin.subtract(at_centre.inertia_about(origin));
+    Body {
+        mass_kg,
+        centre_m,
+        inertia_kg_m2,
+    }
+}
+
+// The fin turned about the span axis through `pivot_m`; either zero leaves it bit for bit.
+fn canted(fin: Body, cant_rad: f64, pivot_m: Centre) -> Body
+    ensures { λ r. ⌜ r ≡ cantedOf fin «cant_rad» «pivot_m» ⌝ }
+{
+    if cant_rad == 0.0 {
+        return fin;
+    }
+    let back_m = Centre {
+        x: -pivot_m.x,
+        y: -pivot_m.y,
+        z: -pivot_m.z,
+    };
+    rotations::rotated_x(fin.translated(back_m), cant_rad).translated(pivot_m)
+}
+
+fn refused(refusal: Refusal) -> Fin
+    ensures { λ r. ⌜ r ≡ refusedFin refusal ⌝ }
+{
+    let verdict = Verdict::Refused(refusal);
+    let body = Body::ZERO;
+    Fin { verdict, body }
+}
+
+// The fin with the integrals v; refused 8 for a volume not above 0, but not for a NaN.
+fn bulk_fin(v: [f64; 7], cant_rad: f64, pivot_m: Centre, kg_m3: f64) -> Fin
+    ensures { λ r. ⌜ r ≡ bulkFin v «cant_rad» «pivot_m» «kg_m3» ⌝ }
+{
+    if v[0] <= 0.0 {
+        return refused(Refusal::NoArea);
+    }
+    let verdict = Verdict::Accepted;
+    let body = canted(plate(v, kg_m3), cant_rad, pivot_m);
+    Fin { verdict, body }
+}
+
+// One fin with its tab at roll angle 0, canted, from the strips' totals; `scale_m` is what every length of a strip was divided by.
+pub fn single_fin(set: FinSet, root_chord_m: f64, scale_m: f64, total: [f64; 7]) -> Fin
+    ensures { λ r. ⌜ r ≡ singleFinOf set «root_chord_m» «scale_m» total ⌝ }
+{
+    let tab = set.tab;
+    let below = tab_integrals(tab, set.thickness_m, set.body_radius_m);
+    let v = sum(unscaled(total, scale_m), below);
+    let pivot_m = Centre {
+        x: set.body_radius_m,
+        y: 0.0,
+        z: -0.5 * root_chord_m,
+    };
+    let density = set.density;
+    match density {
+        Density::Bulk { kg_m3 } => bulk_fin(v, set.cant_rad, pivot_m, kg_m3),
+        Density::Surface { kg_m2: _ } => refused(Refusal::Density),
+        Density::Line { kg_m: _ } => refused(Refusal::Density),
+    }
+}
+
+// Area and centroid from the strips' totals of an area run; refused 8 for an area not above 0, but not for a NaN.
+pub fn geometry(total: [f64; 7], scale_m: f64) -> PlanformGeometry
+    ensures { λ r. ⌜ r ≡ geometryOf total «scale_m» ⌝ }
+{
+    let area = total[0];
+    let x1 = total[1];
+    let h1 = total[2];
+    let area_m2 = area * scale_m * scale_m;
+    if area_m2 <= 0.0 {
+        let verdict = Verdict::Refused(Refusal::NoArea);
+        return PlanformGeometry {
+            verdict,
+            area_m2: 0.0,
+            centroid_x_m: 0.0,
+            centroid_span_m: 0.0,
+        };
+    }
+    let verdict = Verdict::Accepted;
+    PlanformGeometry {
+        verdict,
+        area_m2,
+        centroid_x_m: scale_m * x1 / area,
+        centroid_span_m: scale_m * h1 / area,
+    }
+}
