@@ -1,0 +1,34 @@
+-- No answer is longer than 320 bytes. Assumes nothing.
+use mathlib.Core.List.{List, [], _∷_}
+use Prim.Native.Nat.{ℕ, _≤_}
+use native.Mathlib.Omega.{arith}
+use lib.ListN.{length}
+use lib.Ieee.{Float}
+use Rattle.tokens.specs.Text.{text, codes}
+use Rattle.answers.specs.Filled.{filled, room}
+use Rattle.answers.specs.Answers.{figuresText, areaText, joinedText, momentsText, soundText, refusedText}
+use Rattle.answers.proofs.Filling.{filled-fits}
+
+pub figures-short : (figures : List Float) (intervals samples : ℕ) → length (figuresText figures intervals samples) ≤ 320
+unfolding figuresText room text codes
+figures-short figures intervals samples = let h = filled-fits (text "(figures (mass F) (centre F F F) (inertia F F F F F F F F F) (intervals N) (samples N))") figures (intervals ∷ samples ∷ []) in h
+
+pub area-short : (figures : List Float) (intervals samples : ℕ) → length (areaText figures intervals samples) ≤ 320
+unfolding areaText room text codes
+area-short figures intervals samples = let h = filled-fits (text "(area (area F) (centroid F F) (intervals N) (samples N))") figures (intervals ∷ samples ∷ []) in omega arith
+
+pub joined-short : (figures : List Float) → length (joinedText figures) ≤ 320
+unfolding joinedText room text codes
+joined-short figures = let h = filled-fits (text "(joined (mass F) (centre F F F) (inertia F F F F F F F F F))") figures [] in omega arith
+
+pub moments-short : (figures : List Float) → length (momentsText figures) ≤ 320
+unfolding momentsText room text codes
+moments-short figures = let h = filled-fits (text "(moments F F F)") figures [] in omega arith
+
+pub sound-short : length soundText ≤ 320
+unfolding soundText text codes
+sound-short = omega arith
+
+pub refused-short : (number : ℕ) → length (refusedText number) ≤ 320
+unfolding refusedText room text codes
+refused-short number = let h = filled-fits (text "(refused N)") [] (number ∷ []) in omega arith

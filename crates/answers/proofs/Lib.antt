@@ -1,0 +1,3 @@
+pub mod Pieces
+pub mod Filling
+pub mod Lengths

@@ -1,0 +1,28 @@
+-- The answers, as docs/FORMS.md writes them.
+use mathlib.Core.List.{List, [], _∷_}
+use Prim.Native.Nat.{ℕ}
+use lib.Ieee.{Float}
+use Rattle.tokens.specs.Text.{text}
+use Rattle.answers.specs.Filled.{filled}
+
+-- mass, centre and the tensor's three columns; intervals; samples
+unfoldable pub figuresText : List Float → ℕ → ℕ → List ℕ
+figuresText figures intervals samples = filled (text "(figures (mass F) (centre F F F) (inertia F F F F F F F F F) (intervals N) (samples N))") figures (intervals ∷ samples ∷ [])
+
+-- area, and the centroid's x and height; intervals; samples
+unfoldable pub areaText : List Float → ℕ → ℕ → List ℕ
+areaText figures intervals samples = filled (text "(area (area F) (centroid F F) (intervals N) (samples N))") figures (intervals ∷ samples ∷ [])
+
+unfoldable pub joinedText : List Float → List ℕ
+joinedText figures = filled (text "(joined (mass F) (centre F F F) (inertia F F F F F F F F F))") figures []
+
+-- ascending
+unfoldable pub momentsText : List Float → List ℕ
+momentsText figures = filled (text "(moments F F F)") figures []
+
+-- the body check passed
+unfoldable pub soundText : List ℕ
+soundText = text "(sound)"
+
+unfoldable pub refusedText : ℕ → List ℕ
+refusedText number = filled (text "(refused N)") [] (number ∷ [])

@@ -1,0 +1,147 @@
+// The card's answers (docs/FORMS.md), appended to a lent buffer.
+//
+// An answer is a template, filled in: `F` gives way to the next figure, `N` to the next count. None is longer than 320 bytes.
+ghost use Prim.Native.Nat.{_+_, _≤_};
+ghost use lib.ListN.{length};
+ghost use Rattle.texts.specs.Appended.{Appended};
+ghost use Rattle.answers.specs.Filled.{filled, room};
+ghost use Rattle.answers.specs.Answers.{figuresText, areaText, joinedText, momentsText, soundText, refusedText};
+ghost use Rattle.answers.specs.Places.{HasRoom, PutPiece};
+
+// Where printing stands: how many bytes are there, and how many figures and counts have been used.
+struct Place {
+    n: usize,
+    figures: usize,
+    counts: usize,
+}
+
+// One byte of a template, filled in.
+fn put_piece(out: &mut [u8], p: Place, b: u8, figures: &[f64], counts: &[u64]) -> Place
+    requires { ⌜ HasRoom (now out) p b (now figures) (now counts) ⌝ }
+    ensures { λ r. ⌜ PutPiece (now (out .entry)) (now (out .exit)) p r b (now (figures .entry)) (now (counts .entry)) ⌝ }
+{
+    let n = p.n;
+    let i = p.figures;
+    let j = p.counts;
+    if b == 70 {
+        if figures.len() <= i {
+            return p;
+        }
+        let end = hex::put_figure(out, n, figures[i]);
+        let next = i + 1;
+        return Place {
+            n: end,
+            figures: next,
+            counts: j,
+        };
+    }
+    if b == 78 {
+        if counts.len() <= j {
+            return p;
+        }
+        let end = counts::put_count(out, n, counts[j]);
+        let next = j + 1;
+        return Place {
+            n: end,
+            figures: i,
+            counts: next,
+        };
+    }
+    out[n] = b;
+    let end = n + 1;
+    Place {
+        n: end,
+        figures: i,
+        counts: j,
+    }
+}
+
+// Appends a template, filled in, to the n bytes at the start of out, and answers how many there are then.
+fn put_filled(out: &mut [u8], n: usize, template: &[u8], figures: &[f64], counts: &[u64]) -> usize
+    requires { ⌜ n + room (now template) ≤ length (now out) ⌝ }
+    ensures { λ r. ⌜ Appended (now (out .entry)) n (filled (now (template .entry)) (now (figures .entry)) (now (counts .entry))) (now (out .exit)) r ⌝ }
+{
+    let mut p = Place {
+        n,
+        figures: 0,
+        counts: 0,
+    };
+    let mut i: usize = 0;
+    while i < template.len() {
+        p = put_piece(out, p, template[i], figures, counts);
+        i += 1;
+    }
+    p.n
+}
+
+// The figures of a set: mass, centre and tensor.
+pub fn put_figures(out: &mut [u8], n: usize, figures: &[f64], intervals: u64, samples: u64) -> usize
+    requires { ⌜ n + 320 ≤ length (now out) ⌝ }
+    ensures { λ r. ⌜ Appended (now (out .entry)) n (figuresText (now (figures .entry)) intervals samples) (now (out .exit)) r ⌝ }
+{
+    let counts = [intervals, samples];
+    put_filled(
+        out,
+        n,
+        b"(figures (mass F) (centre F F F) (inertia F F F F F F F F F) (intervals N) (samples N))",
+        figures,
+        &counts,
+    )
+}
+
+// A planform's area and centroid.
+pub fn put_area(out: &mut [u8], n: usize, figures: &[f64], intervals: u64, samples: u64) -> usize
+    requires { ⌜ n + 320 ≤ length (now out) ⌝ }
+    ensures { λ r. ⌜ Appended (now (out .entry)) n (areaText (now (figures .entry)) intervals samples) (now (out .exit)) r ⌝ }
+{
+    let counts = [intervals, samples];
+    put_filled(
+        out,
+        n,
+        b"(area (area F) (centroid F F) (intervals N) (samples N))",
+        figures,
+        &counts,
+    )
+}
+
+// A joined body: mass, centre and tensor.
+pub fn put_joined(out: &mut [u8], n: usize, figures: &[f64]) -> usize
+    requires { ⌜ n + 320 ≤ length (now out) ⌝ }
+    ensures { λ r. ⌜ Appended (now (out .entry)) n (joinedText (now (figures .entry))) (now (out .exit)) r ⌝ }
+{
+    let counts: [u64; 0] = [];
+    put_filled(
+        out,
+        n,
+        b"(joined (mass F) (centre F F F) (inertia F F F F F F F F F))",
+        figures,
+        &counts,
+    )
+}
+
+// Principal moments.
+pub fn put_moments(out: &mut [u8], n: usize, figures: &[f64]) -> usize
+    requires { ⌜ n + 320 ≤ length (now out) ⌝ }
+    ensures { λ r. ⌜ Appended (now (out .entry)) n (momentsText (now (figures .entry))) (now (out .exit)) r ⌝ }
+{
+    let counts: [u64; 0] = [];
+    put_filled(out, n, b"(moments F F F)", figures, &counts)
+}
+
+// A body that passed its check.
+pub fn put_sound(out: &mut [u8], n: usize) -> usize
+    requires { ⌜ n + 320 ≤ length (now out) ⌝ }
+    ensures { λ r. ⌜ Appended (now (out .entry)) n soundText (now (out .exit)) r ⌝ }
+{
+    texts::put_bytes(out, n, b"(sound)")
+}
+
+// A refusal, with its number and nothing else.
+pub fn put_refused(out: &mut [u8], n: usize, number: u64) -> usize
+    requires { ⌜ n + 320 ≤ length (now out) ⌝ }
+    ensures { λ r. ⌜ Appended (now (out .entry)) n (refusedText number) (now (out .exit)) r ⌝ }
+{
+    let figures: [f64; 0] = [];
+    let counts = [number];
+    put_filled(out, n, b"(refused N)", &figures, &counts)
+}

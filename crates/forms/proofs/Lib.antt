@@ -1,0 +1,4 @@
+pub mod Ends
+pub mod Strict
+pub mod Whole
+pub mod Lines

@@ -1,0 +1,4 @@
+pub mod Same
+pub mod Steps
+pub mod Choices
+pub mod Repeats

@@ -1,0 +1,108 @@
+-- `templates::take_word` meets its contract: each answer by the law of its case. Assumes nothing.
+use mathlib.Core.Bool.{true}
+use mathlib.Core.Path.{_≡_, refl, sym, ap, _∙_}
+use Prim.Native.Nat.{_<_}
+use borrow.Author.Needs.{needs}
+use denote.Ref.{now}
+use lib.Ieee.{Float}
+use lib.ListN.{length}
+use Rattle.hex.specs.declared.Figure.the-variants.{Number}
+use Rattle.hex.specs.Hex.{figureOf}
+use Rattle.tokens.specs.Text.{text}
+use Rattle.tokens.specs.Found.{part}
+use Rattle.templates.specs.Matching.{sameBytes}
+use Rattle.templates.proofs.Steps.{letter-f, plain-word, no-figure, figure-room, figure-read, as-is}
+use Rattle.templates.proofs.take_word.Statement.{statement}
+use Rattle.templates.proofs.take_word.Tie as tie
+
+-- the template's word is `F`
+is-f : (c : tie.Then1) → sameBytes (now (c .before .before .before .before .before .before .before .args .wanted)) (text "F") ≡ true
+is-f c = ap (sameBytes (now (c .before .before .before .before .before .before .before .args .wanted))) letter-f ∙ sym (c .before .same-bytes .ensures) ∙ c .if1 .taken
+
+room-at : (c : tie.After-read-figure) (x : Float) → figureOf (part (now (c .before .before .before .before .before .before .before .before .args .line)) (c .before .before .before .before .before .before .before .before .args .found .from) (c .before .before .before .before .before .before .before .before .args .found .to)) ≡ Number x
+    → c .before .before .before .before .before .before .before .before .args .c .figures < length (now (c .before .before .before .before .before .before .before .before .args .values))
+room-at c x n =
+    let s = c .before .before .before .before .before .before .before .before in
+    figure-room (now (s .args .line)) (now (s .args .values)) (s .args .c) (s .args .found) (now (s .args .wanted)) (s .pre .0) (s .pre .1) x n .1
+
+sub-word : tie.Need-sub-word
+sub-word c = search needs
+
+part-word-start : tie.Need-part-word-start
+part-word-start c = search needs
+
+part-word-end : tie.Need-part-word-end
+part-word-end c = search needs
+
+slice-aggregate-same-bytes : tie.Need-slice-aggregate-same-bytes
+slice-aggregate-same-bytes c = search needs
+
+same-bytes-requires : tie.Need-same-bytes-requires
+same-bytes-requires c κs = search needs
+
+read-figure-requires : tie.Need-read-figure-requires
+read-figure-requires c κs = search needs
+
+enum-known-x : tie.Need-enum-known-x
+enum-known-x c = search needs
+
+mul-values : tie.Need-mul-values
+mul-values c = search needs
+
+slice-write-values : tie.Need-slice-write-values
+slice-write-values c = room-at (c .before .before .before) (c .before .x .given .0 .0) (sym (c .before .before .before .read-figure .ensures) ∙ c .before .x .given .1)
+
+add-more : tie.Need-add-more
+add-more c = search needs
+
+enum-told : tie.Need-enum-told
+enum-told c = search needs
+
+not-a-form-requires : tie.Need-not-a-form-requires
+not-a-form-requires c κs = search needs
+
+take-plain-requires : tie.Need-take-plain-requires
+take-plain-requires c κs = search needs
+
+same-length : tie.Need-same-length
+same-length c = search needs
+
+returns : tie.Need-returns
+returns c =
+    let a = c .before .before .before in
+    let s = a .before .before .before .before .before .before .before .before in
+    figure-read (now (s .args .line)) (now (s .args .values)) (s .args .c) (s .args .found) (now (s .args .wanted)) (s .pre .0) (s .pre .1) (c .before .x .given .0 .0) (is-f (a .before)) (sym (a .read-figure .ensures) ∙ c .before .x .given .1)
+
+returns-2 : tie.Need-returns-2
+returns-2 c =
+    let a = c .before .before .before in
+    let s = a .before .before .before .before .before .before .before .before in
+    as-is _ _ _ _ (c .not-a-form .ensures) refl (no-figure (now (s .args .line)) (now (s .args .values)) (s .args .c) (s .args .found) (now (s .args .wanted)) (s .pre .0) (s .pre .1) (is-f (a .before)) (sym (a .read-figure .ensures) ∙ c .before .enum-told .given .1))
+
+returns-3 : tie.Need-returns-3
+returns-3 c =
+    let a = c .before in
+    let s = a .before .before .before .before .before .before .before in
+    as-is _ _ _ _ (c .take-plain .ensures) refl (plain-word (now (s .args .line)) (now (s .args .values)) (s .args .c) (s .args .found) (now (s .args .wanted)) (s .pre .0) (s .pre .1) (ap (sameBytes (now (s .args .wanted))) letter-f ∙ sym (a .before .same-bytes .ensures) ∙ a .if1 .left))
+
+pub take-word-spec : {M : Type 1} → statement M
+take-word-spec =
+    tie.close
+    (tie.spec
+    sub-word
+    part-word-start
+    part-word-end
+    slice-aggregate-same-bytes
+    same-bytes-requires
+    read-figure-requires
+    enum-known-x
+    mul-values
+    slice-write-values
+    add-more
+    enum-told
+    not-a-form-requires
+    take-plain-requires
+    same-length
+    returns
+    returns-2
+    returns-3)
