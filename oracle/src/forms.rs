@@ -1,0 +1,258 @@
+//! The card program's forms, read from a line.
+
+use crate::figures;
+
+/// The most bytes that a line has, its newline not counted.
+const LONGEST: usize = 4096;
+
+pub enum Form {
+    Set(Set),
+    Area { limit: u64, planform: Planform },
+    Join(Vec<[f64; 4]>),
+    Moments([f64; 9]),
+    Check(Body),
+}
+
+pub struct Set {
+    pub limit: u64,
+    pub count: u64,
+    pub planform: Planform,
+    pub thickness: f64,
+    pub section: Section,
+    /// Height, length, offset.
+    pub tab: Option<[f64; 3]>,
+    pub cant: f64,
+    pub base: f64,
+    pub radius: f64,
+    pub density: Density,
+}
+
+#[derive(Clone)]
+pub enum Planform {
+    /// Root chord, tip chord, span, sweep.
+    Trapezoid([f64; 4]),
+    /// Root chord, span.
+    Ellipse([f64; 2]),
+    /// x, y, x, y, ..; any number of figures.
+    Outline(Vec<f64>),
+}
+
+#[derive(Clone, Copy)]
+pub enum Section {
+    Square,
+    Rounded,
+    Airfoil,
+}
+
+#[derive(Clone, Copy)]
+pub enum Density {
+    Bulk(f64),
+    Surface(f64),
+    Line(f64),
+}
+
+pub struct Body {
+    pub mass: f64,
+    pub centre: [f64; 3],
+    pub inertia: [f64; 9],
+}
+
+#[derive(Clone, Copy, PartialEq)]
+enum Token<'a> {
+    Open,
+    Close,
+    Word(&'a [u8]),
+}
+
+fn tokens(line: &[u8]) -> Vec<Token<'_>> {
+    let mut found = Vec::new();
+    let mut at = 0;
+    while at < line.len() {
+        match line[at] {
+            b' ' => at += 1,
+            b'(' => {
+                found.push(Token::Open);
+                at += 1;
+            }
+            b')' => {
+                found.push(Token::Close);
+                at += 1;
+            }
+            _ => {
+                let rest = &line[at..];
+                let end = rest.iter().position(|b| b" ()".contains(b));
+                let end = end.unwrap_or(rest.len());
+                found.push(Token::Word(&rest[..end]));
+                at += end;
+            }
+        }
+    }
+    found
+}
+
+/// The form that a line holds; none is number 18.
+pub fn read(line: &[u8]) -> Option<Form> {
+    if line.len() > LONGEST {
+        return None;
+    }
+    let found = tokens(line);
+    let mut reader = Reader { rest: &found };
+    let form = match reader.open()? {
+        b"set" => Form::Set(reader.set()?),
+        b"area" => Form::Area {
+            limit: reader.count_part(b"limit")?,
+            planform: reader.planform()?,
+        },
+        b"join" => {
+            let mut points = Vec::new();
+            while reader.rest.first() == Some(&Token::Open) {
+                points.push(reader.part(b"point")?);
+            }
+            Form::Join(points)
+        }
+        b"moments" => Form::Moments(reader.figures()?),
+        b"check" => {
+            let [mass] = reader.part(b"mass")?;
+            Form::Check(Body {
+                mass,
+                centre: reader.part(b"centre")?,
+                inertia: reader.part(b"inertia")?,
+            })
+        }
+        _ => return None,
+    };
+    reader.close()?;
+    reader.rest.is_empty().then_some(form)
+}
+
+struct Reader<'t, 'l> {
+    rest: &'t [Token<'l>],
+}
+
+impl<'l> Reader<'_, 'l> {
+    fn next(&mut self) -> Option<Token<'l>> {
+        let (first, rest) = self.rest.split_first()?;
+        self.rest = rest;
+        Some(*first)
+    }
+
+    fn word(&mut self) -> Option<&'l [u8]> {
+        match self.next()? {
+            Token::Word(word) => Some(word),
+            _ => None,
+        }
+    }
+
+    /// A bracket and the word behind it.
+    fn open(&mut self) -> Option<&'l [u8]> {
+        (self.next()? == Token::Open).then_some(())?;
+        self.word()
+    }
+
+    fn close(&mut self) -> Option<()> {
+        (self.next()? == Token::Close).then_some(())
+    }
+
+    fn figures<const N: usize>(&mut self) -> Option<[f64; N]> {
+        let mut list = [0.0; N];
+        for x in &mut list {
+            *x = figures::read(self.word()?)?;
+        }
+        Some(list)
+    }
+
+    /// `(name F ..)`
+    fn part<const N: usize>(&mut self, name: &[u8]) -> Option<[f64; N]> {
+        (self.open()? == name).then_some(())?;
+        self.figures_close()
+    }
+
+    fn figures_close<const N: usize>(&mut self) -> Option<[f64; N]> {
+        let list = self.figures()?;
+        self.close()?;
+        Some(list)
+    }
+
+    /// `(name N)`; a number past u64 reads as the largest u64, which is past every limit too.
+    fn count_part(&mut self, name: &[u8]) -> Option<u64> {
+        (self.open()? == name).then_some(())?;
+        let word = self.word()?;
+        let mut value: u64 = 0;
+        for byte in word {
+            if !byte.is_ascii_digit() {
+                return None;
+            }
+            value = value.saturating_mul(10).saturating_add(u64::from(byte - b'0'));
+        }
+        self.close()?;
+        Some(value)
+    }
+
+    fn planform(&mut self) -> Option<Planform> {
+        match self.open()? {
+            b"trapezoid" => Some(Planform::Trapezoid(self.figures_close()?)),
+            b"ellipse" => Some(Planform::Ellipse(self.figures_close()?)),
+            b"outline" => {
+                let mut list = Vec::new();
+                while let Some(Token::Word(word)) = self.rest.first() {
+                    list.push(figures::read(word)?);
+                    self.next();
+                }
+                self.close()?;
+                Some(Planform::Outline(list))
+            }
+            _ => None,
+        }
+    }
+
+    fn section(&mut self) -> Option<Section> {
+        (self.open()? == b"section").then_some(())?;
+        let section = match self.word()? {
+            b"square" => Section::Square,
+            b"rounded" => Section::Rounded,
+            b"airfoil" => Section::Airfoil,
+            _ => return None,
+        };
+        self.close()?;
+        Some(section)
+    }
+
+    fn density(&mut self) -> Option<Density> {
+        let name = self.open()?;
+        let [value] = self.figures_close()?;
+        match name {
+            b"bulk" => Some(Density::Bulk(value)),
+            b"surface" => Some(Density::Surface(value)),
+            b"line" => Some(Density::Line(value)),
+            _ => None,
+        }
+    }
+
+    fn set(&mut self) -> Option<Set> {
+        let limit = self.count_part(b"limit")?;
+        let count = self.count_part(b"count")?;
+        let planform = self.planform()?;
+        let [thickness] = self.part(b"thickness")?;
+        let section = self.section()?;
+        let tab = match self.rest {
+            [Token::Open, Token::Word(b"tab"), ..] => Some(self.part(b"tab")?),
+            _ => None,
+        };
+        let [cant] = self.part(b"cant")?;
+        let [base] = self.part(b"base")?;
+        let [radius] = self.part(b"radius")?;
+        let density = self.density()?;
+        Some(Set {
+            limit,
+            count,
+            planform,
+            thickness,
+            section,
+            tab,
+            cant,
+            base,
+            radius,
+            density,
+        })
+    }
+}

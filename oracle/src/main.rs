@@ -1,0 +1,84 @@
+//! The oracle: the original Rust's answers to card lines and to single questions, and generators for both.
+//! oracle/README.md says what each command reads and prints.
+
+mod bodies;
+mod damage;
+mod figures;
+mod forms;
+mod lines;
+mod outlines;
+mod random;
+mod refusals;
+mod values;
+mod work;
+
+use std::io::{self, BufWriter, Read, Write};
+
+/// The numbers of scratch that the card program lends.
+const LENT: usize = 8000;
+
+const USAGE: &str = "usage: oracle answer | detail [SCRATCH] | work | damage SEED | kinds
+     | lines KIND COUNT SEED | values KIND COUNT SEED";
+
+fn main() {
+    let arguments: Vec<String> = std::env::args().skip(1).collect();
+    let words: Vec<&str> = arguments.iter().map(String::as_str).collect();
+    let mut out = BufWriter::new(io::stdout().lock());
+    let done = match words[..] {
+        ["answer"] => each_line(&mut out, |line| work::work(line, LENT).answer().into_bytes()),
+        ["detail"] => each_line(&mut out, |line| work::work(line, LENT).detail().into_bytes()),
+        ["detail", scratch] => {
+            let lent = number(scratch) as usize;
+            each_line(&mut out, |line| work::work(line, lent).detail().into_bytes())
+        }
+        ["lines", kind, count, seed] => {
+            let made = lines::lines(kind, number(count), number(seed));
+            print(&mut out, made, lines::KINDS)
+        }
+        ["damage", seed] => {
+            let mut random = random::Random::new(number(seed));
+            each_line(&mut out, |line| damage::damage(&mut random, line))
+        }
+        ["values", kind, count, seed] => {
+            let made = values::values(kind, number(count), number(seed));
+            print(&mut out, made, values::KINDS)
+        }
+        ["kinds"] => lines::KINDS.iter().try_for_each(|kind| writeln!(out, "{kind}")),
+        ["work"] => each_line(&mut out, |line| values::work(line).into_bytes()),
+        _ => stop(USAGE),
+    };
+    if let Err(e) = done.and_then(|()| out.flush()) {
+        stop(&e.to_string());
+    }
+}
+
+fn stop(text: &str) -> ! {
+    eprintln!("{text}");
+    std::process::exit(2)
+}
+
+fn number(word: &str) -> u64 {
+    word.parse().unwrap_or_else(|_| stop(USAGE))
+}
+
+fn print(out: &mut impl Write, made: Option<Vec<String>>, kinds: &[&str]) -> io::Result<()> {
+    let Some(made) = made else {
+        stop(&format!("the kinds are: {}", kinds.join(", ")));
+    };
+    made.iter().try_for_each(|line| writeln!(out, "{line}"))
+}
+
+/// Writes what `f` makes of each line of standard input. A line ends at a newline or at the end of the input; an
+/// input that ends in a newline has no empty last line.
+fn each_line(out: &mut impl Write, mut f: impl FnMut(&[u8]) -> Vec<u8>) -> io::Result<()> {
+    let mut input = Vec::new();
+    io::stdin().lock().read_to_end(&mut input)?;
+    let mut rest = &input[..];
+    while !rest.is_empty() {
+        let end = rest.iter().position(|&b| b == b'\n').unwrap_or(rest.len());
+        out.write_all(&f(&rest[..end]))?;
+        out.write_all(b"\n")?;
+        rest = rest.get(end + 1..).unwrap_or_default();
+    }
+    Ok(())
+}

@@ -1,0 +1,185 @@
+//! Document 01's limits, refusal numbers and their order, before the first strip. They refuse more than the Rust.
+
+use crate::forms::{Body, Density, Planform, Set};
+
+#[derive(Debug, Clone, Copy, PartialEq)]
+pub enum Refusal {
+    Limit,
+    Scratch,
+    Count,
+    Length { field: u8 },
+    Points,
+    Ends,
+    Touching { edges: [usize; 2] },
+    NoArea,
+    Angle { field: u8 },
+    TabOffRoot,
+    TabTooDeep,
+    Density,
+    NotConverged { component: usize },
+    NotFinite,
+    Mass,
+    Centre,
+    Tensor { case: char },
+    Form,
+}
+
+impl Refusal {
+    pub fn number(self) -> u8 {
+        match self {
+            Self::Limit => 1,
+            Self::Scratch => 2,
+            Self::Count => 3,
+            Self::Length { .. } => 4,
+            Self::Points => 5,
+            Self::Ends => 6,
+            Self::Touching { .. } => 7,
+            Self::NoArea => 8,
+            Self::Angle { .. } => 9,
+            Self::TabOffRoot => 10,
+            Self::TabTooDeep => 11,
+            Self::Density => 12,
+            Self::NotConverged { .. } => 13,
+            Self::NotFinite => 14,
+            Self::Mass => 15,
+            Self::Centre => 16,
+            Self::Tensor { .. } => 17,
+            Self::Form => 18,
+        }
+    }
+
+    /// What the number carries, as a part of `oracle detail`.
+    pub fn values(self) -> String {
+        match self {
+            Self::Length { field } | Self::Angle { field } => format!(" (field {field})"),
+            Self::Touching { edges: [i, j] } => format!(" (edges {i} {j})"),
+            Self::NotConverged { component } => format!(" (component {component})"),
+            Self::Tensor { case } => format!(" (case {case})"),
+            _ => String::new(),
+        }
+    }
+}
+
+type Checked = Result<(), Refusal>;
+
+const ROOT_CHORD: u8 = 1;
+const TIP_CHORD: u8 = 2;
+const SPAN: u8 = 3;
+const SWEEP: u8 = 4;
+const X: u8 = 5;
+const Y: u8 = 6;
+const THICKNESS: u8 = 7;
+const TAB_HEIGHT: u8 = 8;
+const TAB_LENGTH: u8 = 9;
+const TAB_OFFSET: u8 = 10;
+const BODY_RADIUS: u8 = 11;
+const CANT: u8 = 12;
+const BASE_ANGLE: u8 = 13;
+
+const SHORTEST: f64 = 1.0 / 1048576.0;
+const LONGEST: f64 = 64.0;
+const WIDEST_ANGLE: f64 = 4.0;
+const LIGHTEST: f64 = 1.0 / 1024.0;
+const HEAVIEST: f64 = 32768.0;
+const LARGEST_LIMIT: u64 = 4000;
+const LARGEST_COUNT: u64 = 32;
+
+/// 2^500, the largest magnitude of a tensor's entry.
+const LARGEST_ENTRY: f64 = f64::from_bits((1023 + 500) << 52);
+
+fn refuse(refused: bool, refusal: Refusal) -> Checked {
+    if refused { Err(refusal) } else { Ok(()) }
+}
+
+/// Number 4: a length is zero or has magnitude 2^-20 to 64; which fields may be zero or negative.
+fn length(field: u8, value: f64) -> Checked {
+    let zero_allowed = [TIP_CHORD, SWEEP, X, Y, TAB_OFFSET, BODY_RADIUS].contains(&field);
+    let negative_allowed = [SWEEP, X, TAB_OFFSET].contains(&field);
+    let magnitude = if negative_allowed { value.abs() } else { value };
+    let passes = (zero_allowed && value == 0.0) || (SHORTEST <= magnitude && magnitude <= LONGEST);
+    refuse(!passes, Refusal::Length { field })
+}
+
+/// Number 9: magnitude at most 4 rad.
+fn angle(field: u8, value: f64) -> Checked {
+    let passes = value.abs() <= WIDEST_ANGLE;
+    refuse(!passes, Refusal::Angle { field })
+}
+
+/// Numbers 1 and 2.
+pub fn run(limit: u64, scratch: usize) -> Checked {
+    refuse(!(1..=LARGEST_LIMIT).contains(&limit), Refusal::Limit)?;
+    refuse((scratch as u64) < 16 * limit, Refusal::Scratch)
+}
+
+/// Number 3, of fins and of bodies joined.
+pub fn count(count: u64) -> Checked {
+    refuse(!(1..=LARGEST_COUNT).contains(&count), Refusal::Count)
+}
+
+/// The planform's lengths as listed; or 5, the points in order, x then y, and 6. Numbers 7 and 8 follow, and are the
+/// Rust's (`work::outline`).
+pub fn planform(planform: &Planform) -> Checked {
+    match planform {
+        Planform::Trapezoid([root, tip, span, sweep]) => {
+            length(ROOT_CHORD, *root)?;
+            length(TIP_CHORD, *tip)?;
+            length(SPAN, *span)?;
+            length(SWEEP, *sweep)
+        }
+        Planform::Ellipse([root, span]) => {
+            length(ROOT_CHORD, *root)?;
+            length(SPAN, *span)
+        }
+        Planform::Outline(figures) => {
+            let whole_pairs = figures.len() % 2 == 0;
+            let points = figures.len() / 2;
+            let passes = whole_pairs && (3..=64).contains(&points);
+            refuse(!passes, Refusal::Points)?;
+            for (k, &value) in figures.iter().enumerate() {
+                length(if k % 2 == 0 { X } else { Y }, value)?;
+            }
+            let first = (figures[0], figures[1]);
+            let last = (figures[2 * points - 2], figures[2 * points - 1]);
+            let passes = first == (0.0, 0.0) && last.0 > 0.0 && last.1 == 0.0;
+            refuse(!passes, Refusal::Ends)
+        }
+    }
+}
+
+/// From the thickness to the density. `root` is the root chord.
+pub fn behind_planform(set: &Set, root: f64) -> Checked {
+    length(THICKNESS, set.thickness)?;
+    angle(CANT, set.cant)?;
+    angle(BASE_ANGLE, set.base)?;
+    if let Some([tab_height, tab_length, tab_offset]) = set.tab {
+        length(TAB_HEIGHT, tab_height)?;
+        length(TAB_LENGTH, tab_length)?;
+        length(TAB_OFFSET, tab_offset)?;
+        let past_root = tab_offset + tab_length > root * (1.0 + 1e-12);
+        refuse(tab_offset < 0.0 || past_root, Refusal::TabOffRoot)?;
+    }
+    length(BODY_RADIUS, set.radius)?;
+    if let Some([tab_height, ..]) = set.tab {
+        refuse(tab_height > set.radius, Refusal::TabTooDeep)?;
+    }
+    let passes = match set.density {
+        Density::Bulk(value) => value == 0.0 || (LIGHTEST..=HEAVIEST).contains(&value),
+        Density::Surface(_) | Density::Line(_) => false,
+    };
+    refuse(!passes, Refusal::Density)
+}
+
+/// 17a, of the body check and of the principal moments.
+pub fn entries(tensor: &[f64; 9]) -> Checked {
+    let passes = tensor.iter().all(|v| v.abs() <= LARGEST_ENTRY);
+    refuse(!passes, Refusal::Tensor { case: 'a' })
+}
+
+/// 15, 16 and 17a. 17 b to e follow, and are the Rust's (`work::check`).
+pub fn body(body: &Body) -> Checked {
+    refuse(!body.mass.is_finite() || body.mass < 0.0, Refusal::Mass)?;
+    let passes = body.centre.iter().all(|v| v.is_finite());
+    refuse(!passes, Refusal::Centre)?;
+    entries(&body.inertia)
+}

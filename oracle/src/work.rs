@@ -1,0 +1,279 @@
+//! Answers to card lines: document 01's refusals first, then the Rust.
+
+use hpr_core::record::{self, Record};
+use hpr_core::{CoreError, DMat3, DVec3};
+use hpr_design::error::DesignError;
+use hpr_design::fins::{FinCrossSection, FinPlanform, FinSet, FinTab};
+use hpr_design::mass::MassProperties;
+use hpr_design::material::Material;
+
+use crate::figures::show_all;
+use crate::forms::{self, Body, Density, Form, Planform, Section, Set};
+use crate::refusals::{self, Refusal};
+
+pub enum Figures {
+    Set(MassProperties),
+    /// Area, centroid x, centroid height.
+    Area([f64; 3]),
+    Joined(MassProperties),
+    Moments([f64; 3]),
+    Sound,
+}
+
+/// What a line gives. Intervals, samples and scratch are those of lines that run strips, and else 0 and untouched.
+pub struct Worked {
+    figures: Result<Figures, Refusal>,
+    intervals: usize,
+    samples: u64,
+    /// The scratch from its start, as far as it was written.
+    wrote: Vec<f64>,
+    lent: usize,
+}
+
+impl Worked {
+    /// The line that the card program prints.
+    pub fn answer(&self) -> String {
+        let body = |b: &MassProperties| {
+            format!(
+                "(mass{}) (centre{}) (inertia{})",
+                show_all(&[b.mass_kg]),
+                show_all(&[b.cg_m.x, b.cg_m.y, b.cg_m.z]),
+                show_all(&b.inertia_kg_m2.to_cols_array())
+            )
+        };
+        let counts = format!("(intervals {}) (samples {})", self.intervals, self.samples);
+        match &self.figures {
+            Ok(Figures::Set(b)) => format!("(figures {} {counts})", body(b)),
+            Ok(Figures::Area([area, x, height])) => format!(
+                "(area (area{}) (centroid{}) {counts})",
+                show_all(&[*area]),
+                show_all(&[*x, *height])
+            ),
+            Ok(Figures::Joined(b)) => format!("(joined {})", body(b)),
+            Ok(Figures::Moments(m)) => format!("(moments{})", show_all(m)),
+            Ok(Figures::Sound) => "(sound)".to_owned(),
+            Err(refusal) => format!("(refused {})", refusal.number()),
+        }
+    }
+
+    /// The answer with all that a call returns or leaves beside it.
+    pub fn detail(&self) -> String {
+        let values = self.figures.as_ref().err().map(|r| r.values());
+        format!(
+            "(detail {}{} (intervals {}) (samples {}) (wrote{}) (left {}))",
+            self.answer(),
+            values.unwrap_or_default(),
+            self.intervals,
+            self.samples,
+            show_all(&self.wrote),
+            self.lent - self.wrote.len()
+        )
+    }
+}
+
+/// Works a line with `lent` numbers of scratch.
+pub fn work(line: &[u8], lent: usize) -> Worked {
+    let form = forms::read(line);
+    record::start(0, &[]);
+    let figures = match form {
+        None => Err(Refusal::Form),
+        Some(Form::Set(set)) => fin_set(&set, lent),
+        Some(Form::Area { limit, planform }) => area(limit, &planform, lent),
+        Some(Form::Join(points)) => join(&points),
+        Some(Form::Moments(tensor)) => moments(&tensor).map(Figures::Moments),
+        Some(Form::Check(body)) => check(&body).map(|()| Figures::Sound),
+    };
+    let run = record::finish();
+    let mut wrote: Vec<f64> = Vec::new();
+    for strip in &run.strips {
+        let pieces = strip.pieces.concat();
+        if wrote.len() < pieces.len() {
+            wrote.resize(pieces.len(), 0.0);
+        }
+        wrote[..pieces.len()].copy_from_slice(&pieces);
+    }
+    assert!(wrote.len() <= lent, "the strips wrote past the scratch");
+    Worked {
+        intervals: if figures.is_ok() { intervals(&run) } else { 0 },
+        samples: run.strips.iter().map(|s| s.samples).sum(),
+        figures,
+        wrote,
+        lent,
+    }
+}
+
+/// The pieces added up, one for a strip of equal ends. An accepted strip's samples are 15·(2·n − 1) or none.
+fn intervals(run: &Record) -> usize {
+    let mut total = 0;
+    for strip in &run.strips {
+        let pieces = strip.pieces.len();
+        if strip.lower == strip.upper {
+            assert!(pieces == 0 && strip.samples == 0);
+            total += 1;
+        } else {
+            assert_eq!(strip.samples, 15 * (2 * pieces as u64 - 1));
+            total += pieces;
+        }
+    }
+    total
+}
+
+fn fin_set(set: &Set, lent: usize) -> Result<Figures, Refusal> {
+    refusals::run(set.limit, lent)?;
+    refusals::count(set.count)?;
+    let planform = checked_planform(&set.planform)?;
+    refusals::behind_planform(set, planform.root_chord_m())?;
+    let set_of_fins = rust_set(set, planform);
+    record::start(set.limit as usize, &[]);
+    let body = set_of_fins.mass_properties(set.radius).map_err(run_refusal)?;
+    Ok(Figures::Set(body))
+}
+
+fn area(limit: u64, planform: &Planform, lent: usize) -> Result<Figures, Refusal> {
+    refusals::run(limit, lent)?;
+    let planform = checked_planform(planform)?;
+    record::start(limit as usize, &[]);
+    let found = planform.geometry().map_err(run_refusal)?;
+    Ok(Figures::Area([
+        found.area_m2,
+        found.centroid_x_m,
+        found.centroid_span_m,
+    ]))
+}
+
+fn join(points: &[[f64; 4]]) -> Result<Figures, Refusal> {
+    refusals::count(points.len() as u64)?;
+    let bodies: Vec<MassProperties> = points
+        .iter()
+        .map(|&[mass, x, y, z]| MassProperties::point(mass, DVec3::new(x, y, z)))
+        .collect();
+    Ok(Figures::Joined(MassProperties::combine(&bodies)))
+}
+
+pub fn moments(tensor: &[f64; 9]) -> Result<[f64; 3], Refusal> {
+    refusals::entries(tensor)?;
+    let body = MassProperties {
+        inertia_kg_m2: DMat3::from_cols_array(tensor),
+        ..MassProperties::ZERO
+    };
+    Ok(body.principal_moments_kg_m2())
+}
+
+pub fn check(body: &Body) -> Result<(), Refusal> {
+    refusals::body(body)?;
+    match rust_body(body).validate() {
+        Ok(()) => Ok(()),
+        Err(DesignError::UnphysicalInertia(text)) => {
+            let cases = [
+                ("a body with no mass", 'b'),
+                ("the tensor is not symmetric", 'c'),
+                ("a principal moment is negative", 'd'),
+                ("the principal moments", 'e'),
+            ];
+            let case = cases.iter().find(|(start, _)| text.starts_with(start));
+            let (_, case) = case.unwrap_or_else(|| panic!("no case of 17: {text}"));
+            Err(Refusal::Tensor { case: *case })
+        }
+        Err(other) => panic!("the Rust refuses what document 01 takes: {other:?}"),
+    }
+}
+
+/// The planform as the Rust has it, once every check of document 01 on it passed.
+pub fn checked_planform(planform: &Planform) -> Result<FinPlanform, Refusal> {
+    refusals::planform(planform)?;
+    let planform = rust_planform(planform);
+    outline(&planform)?;
+    Ok(planform)
+}
+
+/// Numbers 7 and 8 of an outline, as the Rust decides them.
+fn outline(planform: &FinPlanform) -> Result<(), Refusal> {
+    let text = match planform.validate() {
+        Ok(()) => return Ok(()),
+        Err(DesignError::Geometry(text)) => text,
+        Err(other) => panic!("the Rust refuses what document 01 takes: {other:?}"),
+    };
+    if text == "the fin has no area" {
+        return Err(Refusal::NoArea);
+    }
+    let edges: Vec<usize> = text
+        .split(|c: char| !c.is_ascii_digit())
+        .filter_map(|word| word.parse().ok())
+        .collect();
+    match edges[..] {
+        [i, j] if text.contains("crosses itself") => Err(Refusal::Touching { edges: [i, j] }),
+        _ => panic!("the Rust refuses what document 01 takes: {text}"),
+    }
+}
+
+/// 13 and 14 of a strip, and 8 behind the last.
+fn run_refusal(error: DesignError) -> Refusal {
+    match error {
+        DesignError::Numerics(CoreError::QuadratureDidNotConverge { component, .. }) => {
+            Refusal::NotConverged { component }
+        }
+        DesignError::Numerics(CoreError::QuadratureNotFinite { .. }) => Refusal::NotFinite,
+        DesignError::Geometry(text) if text == "the fin has no area" || text == "the fin has no volume" => {
+            Refusal::NoArea
+        }
+        other => panic!("the Rust refuses what document 01 takes: {other:?}"),
+    }
+}
+
+pub fn rust_planform(planform: &Planform) -> FinPlanform {
+    match *planform {
+        Planform::Trapezoid([root_chord_m, tip_chord_m, span_m, sweep_m]) => FinPlanform::Trapezoidal {
+            root_chord_m,
+            tip_chord_m,
+            span_m,
+            sweep_m,
+        },
+        Planform::Ellipse([root_chord_m, span_m]) => FinPlanform::Elliptical { root_chord_m, span_m },
+        Planform::Outline(ref figures) => FinPlanform::Freeform {
+            points_m: figures.chunks_exact(2).map(|p| [p[0], p[1]]).collect(),
+        },
+    }
+}
+
+pub fn rust_section(section: Section) -> FinCrossSection {
+    match section {
+        Section::Square => FinCrossSection::Square,
+        Section::Rounded => FinCrossSection::Rounded,
+        Section::Airfoil => FinCrossSection::Airfoil,
+    }
+}
+
+pub fn rust_tab([height_m, length_m, offset_m]: [f64; 3]) -> FinTab {
+    FinTab {
+        height_m,
+        length_m,
+        offset_m,
+    }
+}
+
+pub fn rust_set(set: &Set, planform: FinPlanform) -> FinSet {
+    FinSet {
+        count: set.count as u32,
+        planform,
+        thickness_m: set.thickness,
+        cross_section: rust_section(set.section),
+        tab: set.tab.map(rust_tab),
+        fillet: None,
+        cant_rad: set.cant,
+        base_angle_rad: set.base,
+        material: match set.density {
+            Density::Bulk(v) => Material::bulk("", v),
+            Density::Surface(v) => Material::surface("", v),
+            Density::Line(v) => Material::line("", v),
+        },
+    }
+}
+
+pub fn rust_body(body: &Body) -> MassProperties {
+    let [x, y, z] = body.centre;
+    MassProperties {
+        mass_kg: body.mass,
+        cg_m: DVec3::new(x, y, z),
+        inertia_kg_m2: DMat3::from_cols_array(&body.inertia),
+    }
+}
