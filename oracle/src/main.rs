@@ -9,6 +9,7 @@ mod lines;
 mod outlines;
 mod random;
 mod refusals;
+mod runs;
 mod values;
 mod work;
 
@@ -17,8 +18,8 @@ use std::io::{self, BufWriter, Read, Write};
 /// The numbers of scratch that the card program lends.
 const LENT: usize = 8000;
 
-const USAGE: &str = "usage: oracle answer | detail [SCRATCH] | work | damage SEED | kinds
-     | lines KIND COUNT SEED | values KIND COUNT SEED";
+const USAGE: &str = "usage: oracle answer | detail [SCRATCH] | runs | work | damage SEED | kinds
+     | lines KIND COUNT SEED | runs KIND COUNT SEED | values KIND COUNT SEED";
 
 fn main() {
     let arguments: Vec<String> = std::env::args().skip(1).collect();
@@ -30,6 +31,11 @@ fn main() {
         ["detail", scratch] => {
             let lent = number(scratch) as usize;
             each_line(&mut out, |line| work::work(line, lent).detail().into_bytes())
+        }
+        ["runs"] => each_line(&mut out, |line| runs::run(line).into_bytes()),
+        ["runs", kind, count, seed] => {
+            let made = runs::runs(kind, number(count), number(seed));
+            print(&mut out, made, lines::KINDS)
         }
         ["lines", kind, count, seed] => {
             let made = lines::lines(kind, number(count), number(seed));

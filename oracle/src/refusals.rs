@@ -48,6 +48,16 @@ impl Refusal {
         }
     }
 
+    /// What the number carries, as two numbers: 0 where it carries none.
+    pub fn numbers(self) -> [usize; 2] {
+        match self {
+            Self::Length { field } | Self::Angle { field } => [field.into(), 0],
+            Self::Touching { edges } => edges,
+            Self::NotConverged { component } => [component, 0],
+            _ => [0, 0],
+        }
+    }
+
     /// What the number carries, as a part of `oracle detail`.
     pub fn values(self) -> String {
         match self {

@@ -28,6 +28,7 @@ pub struct Worked {
     /// The scratch from its start, as far as it was written.
     wrote: Vec<f64>,
     lent: usize,
+    of_area: bool,
 }
 
 impl Worked {
@@ -71,9 +72,38 @@ impl Worked {
     }
 }
 
+impl Worked {
+    /// The refusal's number and its two values (0 where it has none), the figures (zeros with a refusal), intervals, samples, and a sum over
+    /// every number of the scratch, of which number i was i before.
+    pub fn run(&self) -> String {
+        let (number, [a, b]) = match &self.figures {
+            Ok(_) => (0, [0, 0]),
+            Err(refusal) => (refusal.number(), refusal.numbers()),
+        };
+        let figures = match &self.figures {
+            Ok(Figures::Set(b)) => [&[b.mass_kg, b.cg_m.x, b.cg_m.y, b.cg_m.z][..], &b.inertia_kg_m2.to_cols_array()[..]].concat(),
+            Ok(Figures::Area(found)) => found.to_vec(),
+            _ => vec![0.0; if self.of_area { 3 } else { 13 }],
+        };
+        let mut sum: u64 = 0;
+        for i in 0..self.lent {
+            let x = self.wrote.get(i).copied().unwrap_or(i as f64);
+            let bits = if x == 0.0 { 0 } else { x.to_bits() };
+            sum = (sum ^ bits).wrapping_mul(0x100_0000_01b3);
+        }
+        format!(
+            "(run (number {number}) (values {a} {b}) (figures{}) (intervals {}) (samples {}) (scratch {sum}))",
+            show_all(&figures),
+            self.intervals,
+            self.samples
+        )
+    }
+}
+
 /// Works a line with `lent` numbers of scratch.
 pub fn work(line: &[u8], lent: usize) -> Worked {
     let form = forms::read(line);
+    let of_area = matches!(form, Some(Form::Area { .. }));
     record::start(0, &[]);
     let figures = match form {
         None => Err(Refusal::Form),
@@ -99,6 +129,7 @@ pub fn work(line: &[u8], lent: usize) -> Worked {
         figures,
         wrote,
         lent,
+        of_area,
     }
 }
 

@@ -1,0 +1,43 @@
+-- The break heights that stand in the answer's array: its first `count` numbers are the list, and there is room for it. Assumes nothing.
+use mathlib.Core.Path.{_≡_, refl, sym, ap, _∙_}
+use mathlib.Core.Bool.{Bool, true, false, cond}
+use mathlib.Core.List.{List, [], _∷_}
+use Prim.Native.Nat.{ℕ, _≤_}
+use native.Mathlib.Omega.{arith}
+use lib.ListN.{length, take}
+use lib.Ieee.{Float, eq}
+use Rattle.planforms.specs.declared.Planform.{Planform}
+use Rattle.sorting.specs.Sorted.{sorted, Written}
+use Rattle.sorting.proofs.Sorted.{sorted-length}
+use Rattle.sorting.proofs.Over.{written-take, written-length}
+use Rattle.breaks.specs.declared.BreakHeights.{BreakHeights}
+use Rattle.breaks.specs.Breaks.{heightsOf, once, allHeights, breakHeights, listed}
+use Rattle.breaks.proofs.Kept.{zeros, at-most-64}
+
+once-length : (l : List Float) → length (once l) ≤ length l
+unfolding once
+once-length [] = omega arith
+once-length (a ∷ []) = omega arith
+once-length (a ∷ b ∷ l) = go (eq a b) (once-length (b ∷ l))
+  where
+    go : (e : Bool) → length (once (b ∷ l)) ≤ length (b ∷ l) → length (cond e (once (b ∷ l)) (a ∷ once (b ∷ l))) ≤ length (a ∷ b ∷ l)
+    go true h = omega (arith, h)
+    go false h = omega (arith, h)
+
+pub at-most-66 : (planform : Planform) (points : List Float) → length (breakHeights planform points) ≤ 66
+unfolding breakHeights
+at-most-66 planform points =
+    omega (arith, once-length (sorted (allHeights planform points)), sorted-length (allHeights planform points), at-most-64 planform points, sorted-length (heightsOf planform points))
+
+stands : (l : List Float) (b : BreakHeights) → b ≡ listed l → Written l zeros (b .heights) (b .count)
+stands l b e = record { count = ap (λ (x : BreakHeights). x .count) e; array = ap (λ (x : BreakHeights). x .heights) e }
+
+module _ (planform : Planform) (points : List Float) (b : BreakHeights) (answer : b ≡ listed (breakHeights planform points)) where
+  pub heights-taken : take (b .count) (b .heights) ≡ breakHeights planform points
+  heights-taken = written-take (stands (breakHeights planform points) b answer)
+
+  pub heights-count : b .count ≡ length (breakHeights planform points)
+  heights-count = stands (breakHeights planform points) b answer .count
+
+  pub heights-room : length (b .heights) ≡ 66
+  heights-room = written-length (stands (breakHeights planform points) b answer) (at-most-66 planform points)

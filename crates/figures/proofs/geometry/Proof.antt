@@ -1,0 +1,52 @@
+-- `figures::geometry` meets its contract: refused by a check, or worked. Assumes nothing.
+use mathlib.Core.Path.{_≡_, refl, sym, _∙_}
+use Rattle.figures.proofs.Answers.{area-worked, area-refused}
+use borrow.Author.Needs.{needs}
+use Rattle.figures.proofs.geometry.Statement.{statement}
+use Rattle.figures.proofs.geometry.Tie as tie
+
+check-area-requires : tie.Need-check-area-requires
+check-area-requires c κs = search needs
+
+enum-told : tie.Need-enum-told
+enum-told c = search needs
+
+work-area-requires : tie.Need-work-area-requires
+work-area-requires c κs = sym (c .before .before .before .check-area .ensures) ∙ c .before .enum-told .given .1
+
+enum-known-verdict : tie.Need-enum-known-verdict
+enum-known-verdict c = search needs
+
+refused-area-requires : tie.Need-refused-area-requires
+refused-area-requires c κs = search needs
+
+same-length : tie.Need-same-length
+same-length c = search needs
+
+returns : tie.Need-returns
+returns c =
+    let w = c .before .before in
+    let told = w .before .before in
+    let checked = told .before .before in
+    let a = checked .before .before .before .args in
+    area-worked (a .planform) (a .points .now) (a .limit) (a .scratch .now) _ _ (sym (checked .check-area .ensures) ∙ told .enum-told .given .1) (w .work-area .ensures .0) (w .work-area .ensures .1)
+
+returns-2 : tie.Need-returns-2
+returns-2 c =
+    let v = c .before .before in
+    let checked = v .before .before in
+    let a = checked .before .before .before .args in
+    area-refused (a .planform) (a .points .now) (a .limit) (a .scratch .now) _ _ _ (sym (checked .check-area .ensures) ∙ v .verdict .given .1) (c .refused-area .ensures) refl
+
+pub geometry-spec : {M : Type 1} → statement M
+geometry-spec =
+    tie.close
+    (tie.spec
+    check-area-requires
+    enum-told
+    work-area-requires
+    enum-known-verdict
+    refused-area-requires
+    same-length
+    returns
+    returns-2)

@@ -1,0 +1,52 @@
+-- `figures::mass_properties` meets its contract: refused by a check, or worked. Assumes nothing.
+use mathlib.Core.Path.{_≡_, refl, sym, _∙_}
+use Rattle.figures.proofs.Answers.{set-worked, set-refused}
+use borrow.Author.Needs.{needs}
+use Rattle.figures.proofs.mass_properties.Statement.{statement}
+use Rattle.figures.proofs.mass_properties.Tie as tie
+
+check-set-requires : tie.Need-check-set-requires
+check-set-requires c κs = search needs
+
+enum-told : tie.Need-enum-told
+enum-told c = search needs
+
+work-set-requires : tie.Need-work-set-requires
+work-set-requires c κs = sym (c .before .before .before .check-set .ensures) ∙ c .before .enum-told .given .1
+
+enum-known-verdict : tie.Need-enum-known-verdict
+enum-known-verdict c = search needs
+
+refused-figures-requires : tie.Need-refused-figures-requires
+refused-figures-requires c κs = search needs
+
+same-length : tie.Need-same-length
+same-length c = search needs
+
+returns : tie.Need-returns
+returns c =
+    let w = c .before .before in
+    let told = w .before .before in
+    let checked = told .before .before in
+    let a = checked .before .before .before .args in
+    set-worked (a .set) (a .points .now) (a .limit) (a .scratch .now) _ _ (sym (checked .check-set .ensures) ∙ told .enum-told .given .1) (w .work-set .ensures .0) (w .work-set .ensures .1)
+
+returns-2 : tie.Need-returns-2
+returns-2 c =
+    let v = c .before .before in
+    let checked = v .before .before in
+    let a = checked .before .before .before .args in
+    set-refused (a .set) (a .points .now) (a .limit) (a .scratch .now) _ _ _ (sym (checked .check-set .ensures) ∙ v .verdict .given .1) (c .refused-figures .ensures) refl
+
+pub mass-properties-spec : {M : Type 1} → statement M
+mass-properties-spec =
+    tie.close
+    (tie.spec
+    check-set-requires
+    enum-told
+    work-set-requires
+    enum-known-verdict
+    refused-figures-requires
+    same-length
+    returns
+    returns-2)

@@ -1,0 +1,205 @@
+// A set's figures and a planform's area: every check, then the strips over the lent scratch, then one fin's body, turned and joined
+// (fins.rs, `FinSet::mass_properties` and `FinPlanform::geometry`). Any set, points, limit and scratch may be handed in.
+ghost use mathlib.Core.Path.{_≡_};
+ghost use Prim.Native.Nat.{_*_, _≤_};
+ghost use lib.ListN.{length};
+ghost use Rattle.refusals.specs.declared.Verdict.the-variants.{Accepted};
+ghost use Rattle.planforms.specs.Planforms.{rootChordOf};
+ghost use Rattle.integrands.specs.Integrands.{scaleOf};
+ghost use Rattle.fins.specs.Fins.{setCheck, areaCheck};
+ghost use Rattle.strips.specs.Strips.{totalsOf, scratchAfter};
+ghost use Rattle.figures.specs.Figures.{refusedFigures, joinedFigures, concludedOf, setStrips};
+ghost use Rattle.figures.specs.Areas.{refusedArea, ofGeometry, concludedArea, areaStrips};
+ghost use Rattle.figures.specs.Answers.{SetAnswers, AreaAnswers};
+use bodies::Body;
+use fins::FinSet;
+use halving::Ending;
+use halving::Integral;
+use joins::Joined;
+use planforms::Planform;
+use plates::PlanformGeometry;
+use refusals::Refusal;
+use refusals::Verdict;
+
+// A set's body with the totals of intervals and samples. A refusal carries zero figures, no intervals, and the samples taken so far.
+pub struct Figures {
+    pub verdict: Verdict,
+    pub body: Body,
+    pub intervals: usize,
+    pub samples: usize,
+}
+
+// A planform's area and centroid, likewise.
+pub struct Area {
+    pub verdict: Verdict,
+    pub area_m2: f64,
+    pub centroid_x_m: f64,
+    pub centroid_span_m: f64,
+    pub intervals: usize,
+    pub samples: usize,
+}
+
+fn refused_figures(refusal: Refusal, samples: usize) -> Figures
+    ensures { λ r. ⌜ r ≡ refusedFigures refusal samples ⌝ }
+{
+    let verdict = Verdict::Refused(refusal);
+    let body = Body::ZERO;
+    Figures {
+        verdict,
+        body,
+        intervals: 0,
+        samples,
+    }
+}
+
+fn joined_figures(joined: Joined, intervals: usize, samples: usize) -> Figures
+    ensures { λ r. ⌜ r ≡ joinedFigures joined intervals samples ⌝ }
+{
+    let verdict = joined.verdict;
+    let body = joined.body;
+    match verdict {
+        Verdict::Accepted => {
+            let verdict = Verdict::Accepted;
+            Figures {
+                verdict,
+                body,
+                intervals,
+                samples,
+            }
+        }
+        Verdict::Refused(refusal) => refused_figures(refusal, samples),
+    }
+}
+
+// The answer by how the strips ended.
+fn concluded(set: FinSet, root_chord_m: f64, scale_m: f64, total: Integral) -> Figures
+    ensures { λ r. ⌜ r ≡ concludedOf set «root_chord_m» «scale_m» total ⌝ }
+{
+    let ending = total.ending;
+    let value = total.value;
+    match ending {
+        Ending::Accepted => joined_figures(
+            sets::mass_properties(set, root_chord_m, scale_m, value),
+            total.intervals,
+            total.samples,
+        ),
+        Ending::NotConverged(component) => {
+            refused_figures(Refusal::NotConverged(component), total.samples)
+        }
+        Ending::NotFinite => refused_figures(Refusal::NotFinite, total.samples),
+    }
+}
+
+// The strips of an accepted set, and its figures.
+fn work_set(set: FinSet, points: &[f64], limit: usize, scratch: &mut [f64]) -> Figures
+    requires { ⌜ setCheck set (now points) limit (length (now scratch)) ≡ Accepted ⌝ }
+    ensures { λ r. ⌜ (r ≡ concludedOf set (rootChordOf (set .planform) (now (points .entry))) (scaleOf (set .planform) (now (points .entry))) (totalsOf (setStrips set (now (points .entry)) limit))) × (now (scratch .exit) ≡ scratchAfter (setStrips set (now (points .entry)) limit) (now (scratch .entry))) ⌝ }
+{
+    let planform = set.planform;
+    let section = set.cross_section;
+    let thickness_m = set.thickness_m;
+    let body_radius_m = set.body_radius_m;
+    let integrand = integrands::plate_integrand(
+        planform,
+        points,
+        section,
+        thickness_m,
+        body_radius_m,
+    );
+    let scale_m = integrands::scale_m(planform, points);
+    let root_chord_m = planforms::root_chord_m(planform, points);
+    let breaks = breaks::break_heights(planform, points);
+    let n = breaks.count;
+    let heights = breaks.heights;
+    let total = strips::integrate(scratch, integrand, points, &heights[..n], scale_m, limit);
+    concluded(set, root_chord_m, scale_m, total)
+}
+
+// A set's figures, over a lent scratch of at least 16·limit numbers.
+pub fn mass_properties(set: FinSet, points: &[f64], limit: usize, scratch: &mut [f64]) -> Figures
+    ensures { λ r. ⌜ SetAnswers set (now (points .entry)) limit (now (scratch .entry)) r (now (scratch .exit)) ⌝ }
+{
+    let verdict = fins::check_set(set, points, limit, scratch.len());
+    match verdict {
+        Verdict::Accepted => work_set(set, points, limit, scratch),
+        Verdict::Refused(refusal) => refused_figures(refusal, 0),
+    }
+}
+
+fn refused_area(refusal: Refusal, samples: usize) -> Area
+    ensures { λ r. ⌜ r ≡ refusedArea refusal samples ⌝ }
+{
+    let verdict = Verdict::Refused(refusal);
+    Area {
+        verdict,
+        area_m2: 0.0,
+        centroid_x_m: 0.0,
+        centroid_span_m: 0.0,
+        intervals: 0,
+        samples,
+    }
+}
+
+fn area_figures(geometry: PlanformGeometry, intervals: usize, samples: usize) -> Area
+    ensures { λ r. ⌜ r ≡ ofGeometry (geometry .verdict) geometry intervals samples ⌝ }
+{
+    let verdict = geometry.verdict;
+    match verdict {
+        Verdict::Accepted => {
+            let verdict = Verdict::Accepted;
+            Area {
+                verdict,
+                area_m2: geometry.area_m2,
+                centroid_x_m: geometry.centroid_x_m,
+                centroid_span_m: geometry.centroid_span_m,
+                intervals,
+                samples,
+            }
+        }
+        Verdict::Refused(refusal) => refused_area(refusal, samples),
+    }
+}
+
+// The answer by how the strips ended.
+fn concluded_area(scale_m: f64, total: Integral) -> Area
+    ensures { λ r. ⌜ r ≡ concludedArea «scale_m» total ⌝ }
+{
+    let ending = total.ending;
+    let value = total.value;
+    match ending {
+        Ending::Accepted => area_figures(
+            plates::geometry(value, scale_m),
+            total.intervals,
+            total.samples,
+        ),
+        Ending::NotConverged(component) => {
+            refused_area(Refusal::NotConverged(component), total.samples)
+        }
+        Ending::NotFinite => refused_area(Refusal::NotFinite, total.samples),
+    }
+}
+
+// The strips of an accepted planform, and its area.
+fn work_area(planform: Planform, points: &[f64], limit: usize, scratch: &mut [f64]) -> Area
+    requires { ⌜ areaCheck planform (now points) limit (length (now scratch)) ≡ Accepted ⌝ }
+    ensures { λ r. ⌜ (r ≡ concludedArea (scaleOf planform (now (points .entry))) (totalsOf (areaStrips planform (now (points .entry)) limit))) × (now (scratch .exit) ≡ scratchAfter (areaStrips planform (now (points .entry)) limit) (now (scratch .entry))) ⌝ }
+{
+    let integrand = integrands::area_integrand(planform, points);
+    let scale_m = integrands::scale_m(planform, points);
+    let breaks = breaks::break_heights(planform, points);
+    let n = breaks.count;
+    let heights = breaks.heights;
+    let total = strips::integrate(scratch, integrand, points, &heights[..n], scale_m, limit);
+    concluded_area(scale_m, total)
+}
+
+// A planform's area and centroid, over a lent scratch of at least 16·limit numbers.
+pub fn geometry(planform: Planform, points: &[f64], limit: usize, scratch: &mut [f64]) -> Area
+    ensures { λ r. ⌜ AreaAnswers planform (now (points .entry)) limit (now (scratch .entry)) r (now (scratch .exit)) ⌝ }
+{
+    let verdict = fins::check_area(planform, points, limit, scratch.len());
+    match verdict {
+        Verdict::Accepted => work_area(planform, points, limit, scratch),
+        Verdict::Refused(refusal) => refused_area(refusal, 0),
+    }
+}
