@@ -85,11 +85,14 @@ impl Worked {
             Ok(Figures::Area(found)) => found.to_vec(),
             _ => vec![0.0; if self.of_area { 3 } else { 13 }],
         };
-        let mut sum: u64 = 0;
+        let mut sum: u64 = 1;
         for i in 0..self.lent {
             let x = self.wrote.get(i).copied().unwrap_or(i as f64);
             let bits = if x == 0.0 { 0 } else { x.to_bits() };
-            sum = (sum ^ bits).wrapping_mul(0x100_0000_01b3);
+            sum ^= bits;
+            sum ^= sum << 13;
+            sum ^= sum >> 7;
+            sum ^= sum << 17;
         }
         format!(
             "(run (number {number}) (values {a} {b}) (figures{}) (intervals {}) (samples {}) (scratch {sum}))",

@@ -11,7 +11,7 @@ use lib.ListN.{length, take, drop, getD, set, drop-of-length-le}
 use lib.Seq.{drop-cons, drop-drop}
 use lib.Ieee.{Float, nan}
 use Rattle.hex.specs.Hex.{figureText, printedBits}
-use Rattle.hex.proofs.RoundTrip.{digits-length}
+use Rattle.hex.proofs.RoundTrip.{figure-length}
 use Rattle.texts.specs.Appended.{Appended}
 use Rattle.texts.proofs.Appending.{nothing, byte-put}
 use Rattle.counts.specs.Counts.{countText}
@@ -19,10 +19,6 @@ use Rattle.counts.proofs.Printing.{twenty}
 use Rattle.answers.specs.declared.Place.{Place}
 use Rattle.answers.specs.Filled.{firstFigure, firstCount, piece, figuresAfter, countsAfter, roomFor}
 use Rattle.answers.specs.Places.{HasRoom, PutPiece}
-
-figure-length : (x : Float) → length (figureText x) ≡ 16
-unfolding figureText
-figure-length x = digits-length 16 (printedBits x)
 
 -- a byte's text has room in what is set aside for it
 pub piece-fits : (b : ℕ) (figures : List Float) (counts : List ℕ) → length (piece b figures counts) ≤ roomFor b
@@ -56,12 +52,11 @@ module _ (before : List ℕ) (p : Place) (b : ℕ) (figures : List Float) (count
         let d = drop-of-length-le figures g in
         record { put = rw (f, d) (nothing before (p .n)); next-figures = rw (f, d); next-counts = rw not-n; figures-left = m; counts-left = k }
 
-    pub figure-put : (after : List ℕ) (end : ℕ) → p .figures < length figures → end ≡ p .n + 16 → take end after ≡ take (p .n) before ++ figureText (getD figures (p .figures) nan)
+    pub figure-put : (after : List ℕ) (end : ℕ) → p .figures < length figures → Appended before (p .n) (figureText (getD figures (p .figures) nan)) after end
         → PutPiece before after p (record { n = end; figures = p .figures + 1; counts = p .counts }) b figures counts
-    figure-put after end g e t =
-        let l = figure-length (getD figures (p .figures) nan) in
+    figure-put after end g a =
         record {
-          put = rw (f, cons-left figures (p .figures) nan g) (record { ends = omega arith; holds = t });
+          put = rw (f, cons-left figures (p .figures) nan g) a;
           next-figures = rw f (next-left figures (p .figures));
           next-counts = rw not-n;
           figures-left = omega arith;

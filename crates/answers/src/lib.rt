@@ -57,7 +57,13 @@ fn put_piece(out: &mut [u8], p: Place, b: u8, figures: &[f64], counts: &[u64]) -
 }
 
 // Appends a template, filled in, to the n bytes at the start of out, and answers how many there are then.
-fn put_filled(out: &mut [u8], n: usize, template: &[u8], figures: &[f64], counts: &[u64]) -> usize
+pub fn put_filled(
+    out: &mut [u8],
+    n: usize,
+    template: &[u8],
+    figures: &[f64],
+    counts: &[u64],
+) -> usize
     requires { ⌜ n + room (now template) ≤ length (now out) ⌝ }
     ensures { λ r. ⌜ Appended (now (out .entry)) n (filled (now (template .entry)) (now (figures .entry)) (now (counts .entry))) (now (out .exit)) r ⌝ }
 {

@@ -2,7 +2,7 @@
 use mathlib.Core.Path.{_≡_, refl, sym, ap, _∙_}
 use mathlib.Core.Bool.{Bool, true, false, cond}
 use mathlib.Core.List.{List, [], _∷_}
-use Prim.Native.Nat.{ℕ, _≤_}
+use Prim.Native.Nat.{ℕ, _+_, _≤_}
 use native.Mathlib.Omega.{arith}
 use lib.ListN.{length, take}
 use lib.Ieee.{Float, eq}
@@ -24,10 +24,13 @@ once-length (a ∷ b ∷ l) = go (eq a b) (once-length (b ∷ l))
     go true h = omega (arith, h)
     go false h = omega (arith, h)
 
-pub at-most-66 : (planform : Planform) (points : List Float) → length (breakHeights planform points) ≤ 66
+-- 0 and the span beside the heights of the points
+pub at-most-two-more : (planform : Planform) (points : List Float) → length (breakHeights planform points) ≤ length (heightsOf planform points) + 2
 unfolding breakHeights
-at-most-66 planform points =
-    omega (arith, once-length (sorted (allHeights planform points)), sorted-length (allHeights planform points), at-most-64 planform points, sorted-length (heightsOf planform points))
+at-most-two-more planform points = omega (arith, once-length (sorted (allHeights planform points)), sorted-length (allHeights planform points))
+
+pub at-most-66 : (planform : Planform) (points : List Float) → length (breakHeights planform points) ≤ 66
+at-most-66 planform points = omega (arith, at-most-two-more planform points, at-most-64 planform points, sorted-length (heightsOf planform points))
 
 stands : (l : List Float) (b : BreakHeights) → b ≡ listed l → Written l zeros (b .heights) (b .count)
 stands l b e = record { count = ap (λ (x : BreakHeights). x .count) e; array = ap (λ (x : BreakHeights). x .heights) e }

@@ -1,5 +1,5 @@
 // The break heights of a planform (fins.rs, `breakpoints`; document 01, "Set and planform"): 0, the span and every height of
-// an outline's points, sorted, equal ones once. Neighbours bound a strip, in which the chords keep their form.
+// an outline's points, sorted, equal ones once. Neighbours bound a strip, within which no edge ends.
 use planforms::Planform;
 ghost use mathlib.Core.Path.{_≡_};
 ghost use Prim.Native.Nat.{_+_, _<_, _≤_};

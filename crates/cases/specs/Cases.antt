@@ -12,7 +12,7 @@ use Rattle.floats.specs.Operations.{bits}
 use Rattle.floats.specs.Floats.{absOf}
 use Rattle.root.specs.Root.{nearRoot, rootOf}
 use Rattle.trig.specs.Trig.{sinCosOf, sinOf, cosOf}
-use Rattle.gauss_kronrod.specs.Samples.{samplesOf}
+use Rattle.halving.specs.Cover.{samplesFor}
 use Rattle.refusals.specs.Refusals.{numberOf, valuesOf}
 use Rattle.refusals.specs.declared.Verdict.{Verdict}
 use Rattle.refusals.specs.declared.Verdict.the-variants.{Accepted, Refused}
@@ -66,17 +66,17 @@ isAccepted (Refused refusal) = false
 -- 17e: the number 17 with the fifth case, counted from 0
 abbrev is17e : Verdict → Bool
 is17e Accepted = false
-is17e (Refused refusal) = eqb (numberOf refusal) 17 && fourth (valuesOf refusal)
+is17e (Refused refusal) = eqb (numberOf refusal) 17 && isCaseE (valuesOf refusal)
   where
-    fourth : List ℕ → Bool
-    fourth [] = false
-    fourth (n ∷ ns) = eqb n 4
+    isCaseE : List ℕ → Bool
+    isCaseE [] = false
+    isCaseE (n ∷ ns) = eqb n 4
 
 abbrev holds : Case → Bool
 holds (root x r) = is (rootOf (bits x)) r
 holds (sine x r) = is (sinOf (bits x)) r
 holds (cosine x r) = is (cosOf (bits x)) r
-holds (pieces n samples) = eqb (samplesOf n) samples
+holds (pieces n samples) = eqb (samplesFor n) samples
 holds (chord planform h ends) = are (endsAt planform [] (bits h)) ends
 holds (square a b t begins) = are (take 2 (chordMoments Square (bits a) (bits b) (bits t))) begins
 holds (joined given answer) = are (numbers (combineOf (map bits given) .body)) answer

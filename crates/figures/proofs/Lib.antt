@@ -1,2 +1,4 @@
 pub mod Runs
+pub mod Reports
 pub mod Answers
+pub mod Few

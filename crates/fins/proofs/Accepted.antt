@@ -7,6 +7,8 @@ use Rattle.refusals.specs.declared.Verdict.the-variants.{Accepted}
 use Rattle.planforms.specs.declared.Planform.{Planform}
 use Rattle.planforms.specs.declared.Planform.the-variants.{Outline}
 use Rattle.planforms.specs.Planforms.{pairCount}
+use Rattle.limits.specs.Limits.{countCheck}
+use Rattle.materials.specs.Materials.{densityCheck}
 use Rattle.limits.proofs.Accepted.{both, limit-within, scratch-enough, count-within}
 use Rattle.outlines.proofs.Accepted.{points-within}
 use Rattle.fins.specs.declared.FinSet.{FinSet}
@@ -30,9 +32,25 @@ module _ (set : FinSet) (points : List Float) (L n : ℕ) (accepted : setCheck s
   unfolding setCheck
   set-count = count-within (set .count) (both _ _ (both _ _ (both _ _ accepted .1) .1) .0)
 
-  pub set-points : set .planform ≡ Outline → (3 ≤ pairCount points) × (pairCount points ≤ 64)
+  pub set-count-check : countCheck (set .count) ≡ Accepted
   unfolding setCheck
-  set-points = outline-within (set .planform) points (both _ _ (both _ _ (both _ _ (both _ _ accepted .1) .1) .1) .0)
+  set-count-check = both _ _ (both _ _ (both _ _ accepted .1) .1) .0
+
+  -- the last check
+  pub set-density : densityCheck (set .density) ≡ Accepted
+  unfolding setCheck
+  set-density =
+      let planform = both _ _ (both _ _ (both _ _ (both _ _ accepted .1) .1) .1) .1 in
+      let tab = both _ _ (both _ _ (both _ _ planform .1) .1) .1 in
+      let radius = both _ _ tab .1 in
+      both _ _ (both _ _ (both _ _ radius .1) .1) .0
+
+  pub set-planform : planformCheck (set .planform) points ≡ Accepted
+  unfolding setCheck
+  set-planform = both _ _ (both _ _ (both _ _ (both _ _ accepted .1) .1) .1) .0
+
+  pub set-points : set .planform ≡ Outline → (3 ≤ pairCount points) × (pairCount points ≤ 64)
+  set-points = outline-within (set .planform) points set-planform
 
 module _ (planform : Planform) (points : List Float) (L n : ℕ) (accepted : areaCheck planform points L n ≡ Accepted) where
   pub area-limit : (1 ≤ L) × (L ≤ 4000)
@@ -43,6 +61,9 @@ module _ (planform : Planform) (points : List Float) (L n : ℕ) (accepted : are
   unfolding areaCheck
   area-scratch = scratch-enough L n (both _ _ (both _ _ accepted .1) .0)
 
-  pub area-points : planform ≡ Outline → (3 ≤ pairCount points) × (pairCount points ≤ 64)
+  pub area-planform : planformCheck planform points ≡ Accepted
   unfolding areaCheck
-  area-points = outline-within planform points (both _ _ (both _ _ (both _ _ accepted .1) .1) .0)
+  area-planform = both _ _ (both _ _ (both _ _ accepted .1) .1) .0
+
+  pub area-points : planform ≡ Outline → (3 ≤ pairCount points) × (pairCount points ≤ 64)
+  area-points = outline-within planform points area-planform

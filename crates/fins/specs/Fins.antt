@@ -11,7 +11,7 @@ use Rattle.planforms.specs.declared.Planform.{Planform}
 use Rattle.planforms.specs.declared.Planform.the-variants.{Trapezoid, Ellipse, Outline}
 use Rattle.planforms.specs.Planforms.{rootChordOf}
 use Rattle.limits.specs.Order.{refuseWhen, firstOf}
-use Rattle.limits.specs.Limits.{rootChord, tipChord, span, sweep, thickness, tabHeight, tabLength, tabOffset, bodyRadius, cant, baseAngle, lengthCheck, angleCheck, limitCheck, scratchCheck, countCheck}
+use Rattle.limits.specs.Limits.{rootChordField, tipChordField, spanField, sweepField, thicknessField, tabHeightField, tabLengthField, tabOffsetField, bodyRadiusField, cantField, baseAngleField, lengthCheck, angleCheck, limitCheck, scratchCheck, countCheck}
 use Rattle.outlines.specs.Outlines.{outlineCheck}
 use Rattle.materials.specs.Materials.{densityCheck}
 use Rattle.fins.specs.declared.FinSet.{FinSet}
@@ -20,16 +20,16 @@ use Rattle.fins.specs.declared.Tab.the-variants.{None, Slab}
 
 -- "planform lengths as listed above": root chord, tip chord, span, sweep; or root chord, span
 abbrev pub trapezoidCheck : Float → Float → Float → Float → Verdict
-trapezoidCheck root tip height lead =
-    firstOf (lengthCheck rootChord root ∷ lengthCheck tipChord tip ∷ lengthCheck span height ∷ lengthCheck sweep lead ∷ [])
+trapezoidCheck root tip span sweep =
+    firstOf (lengthCheck rootChordField root ∷ lengthCheck tipChordField tip ∷ lengthCheck spanField span ∷ lengthCheck sweepField sweep ∷ [])
 
 abbrev pub ellipseCheck : Float → Float → Verdict
-ellipseCheck root height = firstOf (lengthCheck rootChord root ∷ lengthCheck span height ∷ [])
+ellipseCheck root span = firstOf (lengthCheck rootChordField root ∷ lengthCheck spanField span ∷ [])
 
 -- "or 5, points in order x then y, 6, 7, 8"
 unfoldable pub planformCheck : Planform → List Float → Verdict
-planformCheck (Trapezoid root tip height lead) points = trapezoidCheck root tip height lead
-planformCheck (Ellipse root height) points = ellipseCheck root height
+planformCheck (Trapezoid root tip span sweep) points = trapezoidCheck root tip span sweep
+planformCheck (Ellipse root span) points = ellipseCheck root span
 planformCheck Outline points = outlineCheck points
 
 -- 10: "tab offset < 0, or offset + length > root·(1+1e-12)"; the f64s nearest 1 and 1e-12
@@ -41,9 +41,9 @@ isOffRoot root length offset =
 abbrev pub slabCheck : Float → Float → Float → Float → Verdict
 slabCheck height length offset root =
     firstOf
-    (lengthCheck tabHeight height
-    ∷ lengthCheck tabLength length
-    ∷ lengthCheck tabOffset offset
+    (lengthCheck tabHeightField height
+    ∷ lengthCheck tabLengthField length
+    ∷ lengthCheck tabOffsetField offset
     ∷ refuseWhen (isOffRoot root length offset) TabOffRoot
     ∷ [])
 
@@ -64,11 +64,11 @@ setCheck set points L scratchLength =
     ∷ scratchCheck L scratchLength
     ∷ countCheck (set .count)
     ∷ planformCheck (set .planform) points
-    ∷ lengthCheck thickness (set .«thickness_m»)
-    ∷ angleCheck cant (set .«cant_rad»)
-    ∷ angleCheck baseAngle (set .«base_angle_rad»)
+    ∷ lengthCheck thicknessField (set .«thickness_m»)
+    ∷ angleCheck cantField (set .«cant_rad»)
+    ∷ angleCheck baseAngleField (set .«base_angle_rad»)
     ∷ tabCheck (set .tab) (rootChordOf (set .planform) points)
-    ∷ lengthCheck bodyRadius (set .«body_radius_m»)
+    ∷ lengthCheck bodyRadiusField (set .«body_radius_m»)
     ∷ depthCheck (set .tab) (set .«body_radius_m»)
     ∷ densityCheck (set .density)
     ∷ [])

@@ -2,7 +2,7 @@
 use mathlib.Core.Path.{_≡_}
 use mathlib.Core.Bool.{false, cond}
 use mathlib.Core.List.{List, [], _∷_, _++_, map}
-use Prim.Native.Nat.{ℕ, suc, _<_}
+use Prim.Native.Nat.{ℕ, suc, _*_, _-_, _<_}
 use lib.Dec.{eqb}
 use lib.ListN.{length}
 use lib.Ieee.{Float, eq}
@@ -10,6 +10,10 @@ use Rattle.floats.specs.Operations.{_⊕_, _⊗_}
 use Rattle.quadrature.specs.Rule.{oneHalf}
 use Rattle.quadrature.specs.declared.Piece.{Piece}
 use Rattle.halving.specs.Bounds.{pieceAt}
+
+-- the samples of a strip of n pieces: one of 15 for the whole, and two for each cut
+abbrev pub samplesFor : ℕ → ℕ
+samplesFor n = 15 * (2 * n - 1)
 
 -- how a strip was cut: a piece, by its place in storage, or two halves
 pub data Tree : Type 0 where

@@ -65,6 +65,10 @@ unfolding digits
 digits-length zero n = refl
 digits-length (suc k) n = length-append (digits k (n / 16)) (digitLetter (n % 16) ∷ []) ∙ (let h = digits-length k (n / 16) in let e : length (digits k (n / 16)) + 1 ≡ suc k = omega arith in e)
 
+pub figure-length : (x : Float) → length (figureText x) ≡ 16
+unfolding figureText
+figure-length x = digits-length 16 (printedBits x)
+
 append-nil : (l : List ℕ) → l ++ [] ≡ l
 append-nil [] = refl
 append-nil (x ∷ xs) = ap (λ (t : List ℕ). x ∷ t) (append-nil xs)

@@ -1,8 +1,8 @@
 // Figures as text: sixteen lowercase hexadecimal digits of an f64's bits, read and printed (document 01, "The card program").
-ghost use mathlib.Core.List.{_++_};
 ghost use mathlib.Core.Path.{_≡_};
 ghost use Prim.Native.Nat.{_+_, _<_, _≤_};
-ghost use lib.ListN.{length, take};
+ghost use lib.ListN.{length};
+ghost use Rattle.texts.specs.Appended.{Appended};
 ghost use Rattle.hex.specs.Hex.{digitValue, figureOf, digitLetter, printedBits, figureText};
 
 // What a word is: a figure, with its f64, or none.
@@ -69,7 +69,7 @@ fn digit_letter(d: u64) -> u8
 // Appends a figure's text to the n bytes at the start of out, and answers how many there are then.
 pub fn put_figure(out: &mut [u8], n: usize, x: f64) -> usize
     requires { ⌜ n + 16 ≤ length (now out) ⌝ }
-    ensures { λ r. ⌜ (r ≡ n + 16) × (take r (now (out .exit)) ≡ take n (now (out .entry)) ++ figureText x) ⌝ }
+    ensures { λ r. ⌜ Appended (now (out .entry)) n (figureText x) (now (out .exit)) r ⌝ }
 {
     let mut rest = printed_bits(x);
     let mut k: usize = 16;

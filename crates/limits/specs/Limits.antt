@@ -11,53 +11,53 @@ use Rattle.limits.specs.Order.{refuseUnless}
 
 -- "Field numbers: 1 root chord, 2 tip chord, 3 span, 4 sweep, 5 x, 6 y, 7 thickness, 8 tab height, 9 tab length, 10 tab offset,
 -- 11 body radius, 12 cant, 13 base angle"
-abbrev pub rootChord : ℕ
-rootChord = 1
+abbrev pub rootChordField : ℕ
+rootChordField = 1
 
-abbrev pub tipChord : ℕ
-tipChord = 2
+abbrev pub tipChordField : ℕ
+tipChordField = 2
 
-abbrev pub span : ℕ
-span = 3
+abbrev pub spanField : ℕ
+spanField = 3
 
-abbrev pub sweep : ℕ
-sweep = 4
+abbrev pub sweepField : ℕ
+sweepField = 4
 
-abbrev pub pointX : ℕ
-pointX = 5
+abbrev pub pointXField : ℕ
+pointXField = 5
 
-abbrev pub pointY : ℕ
-pointY = 6
+abbrev pub pointYField : ℕ
+pointYField = 6
 
-abbrev pub thickness : ℕ
-thickness = 7
+abbrev pub thicknessField : ℕ
+thicknessField = 7
 
-abbrev pub tabHeight : ℕ
-tabHeight = 8
+abbrev pub tabHeightField : ℕ
+tabHeightField = 8
 
-abbrev pub tabLength : ℕ
-tabLength = 9
+abbrev pub tabLengthField : ℕ
+tabLengthField = 9
 
-abbrev pub tabOffset : ℕ
-tabOffset = 10
+abbrev pub tabOffsetField : ℕ
+tabOffsetField = 10
 
-abbrev pub bodyRadius : ℕ
-bodyRadius = 11
+abbrev pub bodyRadiusField : ℕ
+bodyRadiusField = 11
 
-abbrev pub cant : ℕ
-cant = 12
+abbrev pub cantField : ℕ
+cantField = 12
 
-abbrev pub baseAngle : ℕ
-baseAngle = 13
+abbrev pub baseAngleField : ℕ
+baseAngleField = 13
 
 -- "Zero is allowed for tip chord, sweep, x, y, tab offset and body radius only."
 abbrev pub zeroAllowed : ℕ → Bool
 zeroAllowed field =
-    eqb field tipChord || eqb field sweep || eqb field pointX || eqb field pointY || eqb field tabOffset || eqb field bodyRadius
+    eqb field tipChordField || eqb field sweepField || eqb field pointXField || eqb field pointYField || eqb field tabOffsetField || eqb field bodyRadiusField
 
 -- "Only sweep, x and tab offset may pass this check negative."
 abbrev pub negativeAllowed : ℕ → Bool
-negativeAllowed field = eqb field sweep || eqb field pointX || eqb field tabOffset
+negativeAllowed field = eqb field sweepField || eqb field pointXField || eqb field tabOffsetField
 
 -- lower <= x <= upper
 abbrev pub isWithin : Float → Float → Float → Bool

@@ -1,7 +1,7 @@
 // The limits of a call and of a set's lengths and angles, by field number, and the first refusal of checks in their order.
 //
 // Document 01, "Set and planform": a length is zero or has magnitude 2^-20 to 64, an angle at most 4 rad. The Rust's
-// `check_dimension` asks only that a length is finite and not negative.
+// `check_dimension` asks only that a length is finite and above 0, or 0 where that is allowed.
 ghost use mathlib.Core.Path.{_≡_};
 ghost use Rattle.limits.specs.Order.{refuseUnless, refuseWhen, firstRefusal};
 ghost use Rattle.limits.specs.Limits.{zeroAllowed, negativeAllowed, lengthWithin, lengthCheck, angleCheck, limitCheck, scratchCheck, countCheck};

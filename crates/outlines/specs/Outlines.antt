@@ -10,7 +10,7 @@ use Rattle.refusals.specs.declared.Refusal.the-variants.{Points, Ends, Touches,
 use Rattle.refusals.specs.declared.Verdict.{Verdict}
 use Rattle.planforms.specs.Planforms.{xAt, heightAt, pairCount}
 use Rattle.limits.specs.Order.{refuseUnless, refuseWhen, firstOf, firstBetween}
-use Rattle.limits.specs.Limits.{pointX, pointY, lengthCheck}
+use Rattle.limits.specs.Limits.{pointXField, pointYField, lengthCheck}
 use Rattle.segments.specs.declared.Point.{Point}
 use Rattle.segments.specs.declared.Segment.{Segment}
 use Rattle.segments.specs.Segments.{segmentsTouch}
@@ -24,7 +24,7 @@ pairsCheck points = refuseUnless (arePairs points) Points
 
 -- 4 of point i: "points in order x then y"
 abbrev pub pointCheck : List Float → ℕ → Verdict
-pointCheck points i = firstOf (lengthCheck pointX (xAt points i) ∷ lengthCheck pointY (heightAt points i) ∷ [])
+pointCheck points i = firstOf (lengthCheck pointXField (xAt points i) ∷ lengthCheck pointYField (heightAt points i) ∷ [])
 
 abbrev pub pointsCheck : List Float → Verdict
 pointsCheck points = firstBetween 0 (pairCount points) (pointCheck points)

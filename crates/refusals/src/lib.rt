@@ -2,7 +2,7 @@
 //
 // The Rust's `DesignError` and `CoreError` have texts instead; the numbers are the kiosk's.
 ghost use mathlib.Core.Path.{_≡_};
-ghost use Rattle.refusals.specs.Refusals.{numberOf, caseOf};
+ghost use Rattle.refusals.specs.Refusals.{numberOf, caseOf, valuesOf, inTwoPlaces};
 
 // What is wrong with a tensor: 17's cases a to e, in their order.
 pub enum TensorFault {
@@ -77,5 +77,32 @@ pub fn tensor_case(fault: TensorFault) -> usize
         TensorFault::Asymmetric => 2,
         TensorFault::Negative => 3,
         TensorFault::Triangle => 4,
+    }
+}
+
+// The values that go with a refusal's number: the field of 4 and 9, the two edges of 7, the component of 13, the case of 17 counted from
+// 0; and 0 where there is none.
+pub fn values(refusal: Refusal) -> [usize; 2]
+    ensures { λ r. ⌜ r ≡ inTwoPlaces (valuesOf refusal) ⌝ }
+{
+    match refusal {
+        Refusal::Limit => [0, 0],
+        Refusal::Scratch => [0, 0],
+        Refusal::Count => [0, 0],
+        Refusal::Length(field) => [field, 0],
+        Refusal::Points => [0, 0],
+        Refusal::Ends => [0, 0],
+        Refusal::Touches(i, j) => [i, j],
+        Refusal::NoArea => [0, 0],
+        Refusal::Angle(field) => [field, 0],
+        Refusal::TabOffRoot => [0, 0],
+        Refusal::TabTooDeep => [0, 0],
+        Refusal::Density => [0, 0],
+        Refusal::NotConverged(component) => [component, 0],
+        Refusal::NotFinite => [0, 0],
+        Refusal::Mass => [0, 0],
+        Refusal::Centre => [0, 0],
+        Refusal::Tensor(fault) => [tensor_case(fault), 0],
+        Refusal::NoForm => [0, 0],
     }
 }

@@ -1,18 +1,16 @@
-// Replays answers that the oracle wrote (oracle/README.md): a line has an operation, its figures, `=` and the figures that it must give.
+// Replays answers that the oracle wrote (oracle/README.md): a line has a question, `=` and the answer that the code must give.
 // Prints how many lines agree, differ, or are none; results compare equal by ==, and a NaN matches a NaN.
-ghost use mathlib.Core.Path.{_≡_};
+mod body_lines;
+mod lines;
+mod number_lines;
+mod planform_lines;
+mod section_lines;
+
 ghost use Prim.Native.Nat.{_≤_};
 ghost use lib.ListN.{length};
+use crate::lines::Outcome;
+use libc::STDIN_FILENO;
 use libc::STDOUT_FILENO;
-use templates::Choice;
-use templates::Cursor;
-
-// What came of a line.
-enum Outcome {
-    Agrees,
-    Differs,
-    NoLine,
-}
 
 struct Tally {
     agree: u64,
@@ -20,73 +18,51 @@ struct Tally {
     none: u64,
 }
 
-fn same(a: f64, b: f64) -> bool {
-    if a == b {
-        return true;
-    }
-    if a == a {
-        return false;
-    }
-    b != b
+// The lines so far, and how many bytes of the line that has begun are kept.
+struct Progress {
+    tally: Tally,
+    kept: usize,
 }
 
-fn agrees_or_not(agrees: bool) -> Outcome {
-    if agrees {
-        Outcome::Agrees
-    } else {
-        Outcome::Differs
-    }
-}
-
-// Whether the whole line is written as the template; its figures are then at the start of values.
-fn reads(line: &[u8], template: &[u8], values: &mut [f64]) -> bool
-    requires { ⌜ (length (now line) ≤ 4096) × (256 ≤ length (now values)) ⌝ }
+// The line as one of a kind. A line has at most 256 figures, and a planform's lengths are read as four, wherever they begin.
+fn replay_as(kind: usize, line: &[u8], values: &mut [f64]) -> Outcome
+    requires { ⌜ (length (now line) ≤ 4096) × (260 ≤ length (now values)) ⌝ }
 {
-    let start = Cursor {
-        ok: true,
-        at: 0,
-        figures: 0,
-        count: 0,
-        choice: Choice::First,
-    };
-    let c = templates::take_text(line, start, template, values);
-    let ok = c.ok;
-    let at = c.at;
-    if ok { line.len() <= at } else { false }
+    match kind {
+        0 => number_lines::replay_root(line, values),
+        1 => number_lines::replay_sine(line, values),
+        2 => section_lines::replay_section(line, values),
+        3 => section_lines::replay_tab(line, values),
+        4 => section_lines::replay_touch(line, values),
+        5 => body_lines::replay_matrix(line, values),
+        6 => body_lines::replay_turn(line, values),
+        7 => body_lines::replay_about(line, values),
+        8 => body_lines::replay_check(line, values),
+        9 => body_lines::replay_moments(line, values),
+        10 => planform_lines::replay_chords(line, values),
+        11 => planform_lines::replay_breaks(line, values),
+        12 => planform_lines::replay_area(line, values),
+        13 => planform_lines::replay_plate(line, values),
+        _ => Outcome::NoLine,
+    }
 }
 
+// The kinds are tried in turn: a line is of one at most.
 fn replay_line(line: &[u8], values: &mut [f64]) -> Outcome
-    requires { ⌜ 256 ≤ length (now values) ⌝ }
+    requires { ⌜ 260 ≤ length (now values) ⌝ }
 {
     if 4096 < line.len() {
         return Outcome::NoLine;
     }
-    if reads(line, b"root F = F", values) {
-        return agrees_or_not(same(root::sqrt(values[0]), values[1]));
-    }
-    if reads(line, b"sine F = F F", values) {
-        let r = trig::sin_cos(values[0]);
-        if same(r.sin, values[1]) {
-            return agrees_or_not(same(r.cos, values[2]));
+    let mut kind: usize = 0;
+    while kind < 14 {
+        let outcome = replay_as(kind, line, values);
+        if !lines::is_none(outcome) {
+            return outcome;
         }
-        return Outcome::Differs;
+        kind += 1;
     }
     Outcome::NoLine
-}
-
-// The first newline from `at` on, or the end.
-fn line_end(text: &[u8], at: usize) -> usize
-    requires { ⌜ at ≤ length (now text) ⌝ }
-    ensures { λ r. ⌜ (at ≤ r) × (r ≤ length (now (text .entry))) ⌝ }
-{
-    let mut i = at;
-    while i < text.len() {
-        if text[i] == 10 {
-            return i;
-        }
-        i += 1;
-    }
-    i
 }
 
 fn counted(t: Tally, o: Outcome) -> Tally {
@@ -109,21 +85,84 @@ fn counted(t: Tally, o: Outcome) -> Tally {
     }
 }
 
-fn replay_all(text: &[u8], values: &mut [f64]) -> Tally
-    requires { ⌜ 256 ≤ length (now values) ⌝ }
+// Counts the line that is kept, which is at its end.
+fn end_line(line: &[u8], p: Progress, values: &mut [f64]) -> Progress
+    requires { ⌜ (p .kept ≤ length (now line)) × (260 ≤ length (now values)) ⌝ }
+    ensures { λ r. ⌜ r .kept ≤ 0 ⌝ }
 {
-    let mut t = Tally {
-        agree: 0,
-        differ: 0,
-        none: 0,
-    };
-    let mut at: usize = 0;
-    while at < text.len() {
-        let end = line_end(text, at);
-        t = counted(t, replay_line(&text[at..end], values));
-        at = end + 1;
+    let kept = p.kept;
+    let tally = p.tally;
+    let outcome = replay_line(&line[0..kept], values);
+    Progress {
+        tally: counted(tally, outcome),
+        kept: 0,
     }
-    t
+}
+
+// One byte of the lists. Of a line that the buffer can't hold the rest is dropped: it is no line already.
+fn take_byte(line: &mut [u8], p: Progress, b: u8, values: &mut [f64]) -> Progress
+    requires { ⌜ (p .kept ≤ length (now line)) × (260 ≤ length (now values)) ⌝ }
+    ensures { λ r. ⌜ r .kept ≤ length (now (line .entry)) ⌝ }
+{
+    let kept = p.kept;
+    let tally = p.tally;
+    if b == 10 {
+        return end_line(line, p, values);
+    }
+    if kept < line.len() {
+        line[kept] = b;
+        return Progress {
+            tally,
+            kept: kept + 1,
+        };
+    }
+    p
+}
+
+// The end of the input: a line without a newline is a line.
+fn finish(line: &[u8], p: Progress, values: &mut [f64]) -> Tally
+    requires { ⌜ (p .kept ≤ length (now line)) × (260 ≤ length (now values)) ⌝ }
+{
+    let tally = p.tally;
+    if p.kept == 0 {
+        return tally;
+    }
+    let end = end_line(line, p, values);
+    end.tally
+}
+
+fn take_block(line: &mut [u8], p: Progress, block: &[u8], values: &mut [f64]) -> Progress
+    requires { ⌜ (p .kept ≤ length (now line)) × (260 ≤ length (now values)) ⌝ }
+    ensures { λ r. ⌜ r .kept ≤ length (now (line .entry)) ⌝ }
+{
+    let mut progress = p;
+    let mut i: usize = 0;
+    while i < block.len() {
+        progress = take_byte(line, progress, block[i], values);
+        i += 1;
+    }
+    progress
+}
+
+// All of the input. A proved loop has to end, so it counts its turns down from a number that no input uses up.
+fn replay_all(block: &mut [u8], line: &mut [u8], values: &mut [f64]) -> Tally
+    requires { ⌜ 260 ≤ length (now values) ⌝ }
+{
+    let mut p = Progress {
+        tally: Tally {
+            agree: 0,
+            differ: 0,
+            none: 0,
+        },
+        kept: 0,
+    };
+    let mut turns = u64::MAX;
+    while turns > 0 {
+        let n = io::read_full(STDIN_FILENO, block);
+        p = take_block(line, p, &block[..n], values);
+        turns = if n < block.len() { 0 } else { turns - 1 };
+    }
+    finish(line, p, values)
 }
 
 fn print(n: u64, what: &[u8]) {
@@ -131,18 +170,12 @@ fn print(n: u64, what: &[u8]) {
     io::write_all(STDOUT_FILENO, what);
 }
 
-// Room for the lists; its length is all that lending it needs.
-fn text_buffer() -> [u8; 4194304]
-    ensures { λ r. ⌜ 4194304 ≡ length r ⌝ }
-{
-    [0; 4194304]
-}
-
+// The line's buffer holds one byte more than a line may have.
 fn main() {
-    let mut text = text_buffer();
-    let n = io::read_full(0, &mut text);
-    let mut values = [0.0; 256];
-    let t = replay_all(&text[..n], &mut values);
+    let mut block = io::large_buffer();
+    let mut line = [0; 4097];
+    let mut values = [0.0; 260];
+    let t = replay_all(&mut block, &mut line, &mut values);
     print(t.agree, b" lines agree\n");
     print(t.differ, b" lines differ\n");
     print(t.none, b" lines are none\n");

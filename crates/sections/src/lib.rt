@@ -4,7 +4,7 @@
 //     M_k = ∫ x^k·t(x) dx for k = 0, 1, 2, and T = ∫ t(x)³/12 dx
 //
 //     square:  t(x) = t
-//     rounded: a slab min(t, width) thick less what semicircular edges of half that radius take away
+//     rounded: a slab min(t, width) thick, less what semicircular edges of half that as radius take away
 //     airfoil: t(x) = 10·t·P(ξ), ξ from 0 to 1 along the chord, P the NACA four-digit thickness polynomial
 //
 //     P(x) = 0.2969·√x − 0.1260·x − 0.3516·x² + 0.2843·x³ − 0.1015·x⁴

@@ -31,7 +31,7 @@ returns-2 : tie.Need-returns-2
 returns-2 c =
     let f = c .before .before in
     let s = f .before .before .before .before .before .before .before .before in
-    figure-put (now (s .args .out)) (s .args .p) (s .args .b) (now (s .args .figures)) (now (s .args .counts)) (f .before .before .before .before .if1 .taken) (s .pre .counts-left) (f .put-figure .last .0) (f .put-figure .result) (f .before .before .before .if2 .left) (f .put-figure .ensures .0) (f .put-figure .ensures .1)
+    figure-put (now (s .args .out)) (s .args .p) (s .args .b) (now (s .args .figures)) (now (s .args .counts)) (f .before .before .before .before .if1 .taken) (s .pre .counts-left) (f .put-figure .last .0) (f .put-figure .result) (f .before .before .before .if2 .left) (f .put-figure .ensures)
 
 returns-3 : tie.Need-returns-3
 returns-3 c =

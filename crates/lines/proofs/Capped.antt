@@ -1,0 +1,191 @@
+-- A count is capped at a million when it is read (`counts`). No answer and no scratch shows it: a larger limit or count is refused, by 1
+-- or 3, as it would be uncapped. Assumes nothing.
+use mathlib.Core.Bool.{Bool, true, false, _&&_}
+use mathlib.Core.List.{List}
+use mathlib.Core.Path.{_≡_, refl, sym, ap, _∙_}
+use Prim.Native.Nat.{ℕ, _<_}
+use native.Mathlib.Omega.{arith}
+use borrow.Author.Tests.{leb-true, leb-false, lt-leb}
+use lib.Dec.{leb}
+use lib.ListN.{length}
+use lib.Ieee.{Float}
+use Rattle.refusals.specs.declared.Refusal.the-variants.{Limit, Count}
+use Rattle.refusals.specs.declared.Verdict.{Verdict}
+use Rattle.refusals.specs.declared.Verdict.the-variants.{Accepted, Refused}
+use Rattle.counts.specs.Counts.{capped}
+use Rattle.limits.specs.Order.{refuseUnless, firstRefusal}
+use Rattle.limits.specs.Limits.{limitCheck, scratchCheck, countCheck}
+use Rattle.planforms.specs.declared.Planform.{Planform}
+use Rattle.fins.specs.declared.FinSet.{FinSet}
+use Rattle.fins.specs.Fins.{setCheck, areaCheck}
+use Rattle.forms.specs.declared.Form.{Form}
+use Rattle.forms.specs.declared.Form.the-variants.{Set as SetForm, Area as AreaForm, Join as JoinForm, Moments as MomentsForm, Check as CheckForm, NoForm}
+use Rattle.forms.specs.declared.Request.{Request}
+use Rattle.requests.specs.Requests.{planformOf, pointsOf, setOf}
+use Rattle.figures.specs.declared.Figures.{Figures}
+use Rattle.figures.specs.declared.Area.{Area}
+use Rattle.figures.specs.Figures.{afterCheck, setFigures, scratchChecked, setScratch}
+use Rattle.figures.specs.Areas.{areaFigures, areaScratch}
+use Rattle.lines.specs.Lines.{printedSet, printedArea, setAnswer, areaAnswer, answerTo, scratchAfterForm}
+
+-- ---- the two checks
+
+and-false : (a : Bool) → (a && false) ≡ false
+and-false true = refl
+and-false false = refl
+
+too-long : (L : ℕ) → 4000 < L → limitCheck L ≡ Refused Limit
+too-long L h = ap (λ (t : Bool). refuseUnless (leb 1 L && t) Limit) (lt-leb L 4000 h) ∙ ap (λ (t : Bool). refuseUnless t Limit) (and-false (leb 1 L))
+
+too-many : (n : ℕ) → 32 < n → countCheck n ≡ Refused Count
+too-many n h = ap (λ (t : Bool). refuseUnless (leb 1 n && t) Count) (lt-leb n 32 h) ∙ ap (λ (t : Bool). refuseUnless t Count) (and-false (leb 1 n))
+
+-- ---- the limit
+
+module _ (set : FinSet) (points : List Float) (m : ℕ) where
+  set-limit : (L : ℕ) → 4000 < L → setCheck set points L m ≡ Refused Limit
+  unfolding setCheck firstRefusal
+  set-limit L h = rw (too-long L h)
+
+module _ (planform : Planform) (points : List Float) (m : ℕ) where
+  area-limit : (L : ℕ) → 4000 < L → areaCheck planform points L m ≡ Refused Limit
+  unfolding areaCheck firstRefusal
+  area-limit L h = rw (too-long L h)
+
+-- what is the same wherever it is refused is the same capped
+at-capped : {A : Type 0} (f : ℕ → A) (most : ℕ) → most < 1000000 → ((i j : ℕ) → most < i → most < j → f i ≡ f j) → (i : ℕ) → f (capped i) ≡ f i
+at-capped f most small same i = by (leb i most) refl
+  where
+    by : (t : Bool) → leb i most ≡ t → f (capped i) ≡ f i
+    by true e = let h = leb-true i most e in ap f (let g : capped i ≡ i = omega arith in g)
+    by false e = let h = leb-false i most e in same (capped i) i (omega arith) h
+
+module _ (set : FinSet) (points : List Float) where
+  figures-limit : (m L : ℕ) → setFigures set points (capped L) m ≡ setFigures set points L m
+  unfolding setFigures
+  figures-limit m = at-capped (λ (k : ℕ). setFigures set points k m) 4000 (omega arith) (λ i j h g. rw (set-limit set points m i h, set-limit set points m j g))
+
+  scratch-limit : (scratch : List Float) (L : ℕ) → setScratch set points (capped L) scratch ≡ setScratch set points L scratch
+  unfolding setScratch
+  scratch-limit scratch =
+      at-capped (λ (k : ℕ). setScratch set points k scratch) 4000 (omega arith) (λ i j h g. rw (set-limit set points (length scratch) i h, set-limit set points (length scratch) j g))
+
+module _ (planform : Planform) (points : List Float) where
+  area-figures-limit : (m L : ℕ) → areaFigures planform points (capped L) m ≡ areaFigures planform points L m
+  unfolding areaFigures
+  area-figures-limit m = at-capped (λ (k : ℕ). areaFigures planform points k m) 4000 (omega arith) (λ i j h g. rw (area-limit planform points m i h, area-limit planform points m j g))
+
+  area-scratch-limit : (scratch : List Float) (L : ℕ) → areaScratch planform points (capped L) scratch ≡ areaScratch planform points L scratch
+  unfolding areaScratch
+  area-scratch-limit scratch =
+      at-capped (λ (k : ℕ). areaScratch planform points k scratch) 4000 (omega arith)
+      (λ i j h g. rw (area-limit planform points (length scratch) i h, area-limit planform points (length scratch) j g))
+
+-- ---- the count
+
+abbrev withCount : FinSet → ℕ → FinSet
+withCount s n =
+    record {
+      count = n;
+      planform = s .planform;
+      «thickness_m» = s .«thickness_m»;
+      «cross_section» = s .«cross_section»;
+      tab = s .tab;
+      «cant_rad» = s .«cant_rad»;
+      «base_angle_rad» = s .«base_angle_rad»;
+      «body_radius_m» = s .«body_radius_m»;
+      density = s .density;
+    }
+
+-- 3 comes behind 1 and 2 alone
+unless : Verdict → Verdict → Verdict
+unless a b = firstRefusal a (firstRefusal b (Refused Count))
+
+module _ (set : FinSet) (points : List Float) (L m : ℕ) where
+  set-count : (n : ℕ) → 32 < n → setCheck (withCount set n) points L m ≡ unless (limitCheck L) (scratchCheck L m)
+  unfolding setCheck firstRefusal unless
+  set-count n h = rw (too-many n h)
+
+module _ (s t : FinSet) (points : List Float) (L : ℕ) where
+  same-figures : (a b : Verdict) → afterCheck (unless a b) s points L ≡ afterCheck (unless a b) t points L
+  unfolding firstRefusal unless
+  same-figures Accepted Accepted = refl
+  same-figures Accepted (Refused r) = refl
+  same-figures (Refused r) b = refl
+
+  same-scratch : (scratch : List Float) (a b : Verdict) → scratchChecked (unless a b) s points L scratch ≡ scratchChecked (unless a b) t points L scratch
+  unfolding firstRefusal unless
+  same-scratch scratch Accepted Accepted = refl
+  same-scratch scratch Accepted (Refused r) = refl
+  same-scratch scratch (Refused r) b = refl
+
+module _ (set : FinSet) (points : List Float) (L : ℕ) where
+  figures-count : (m n : ℕ) → setFigures (withCount set (capped n)) points L m ≡ setFigures (withCount set n) points L m
+  unfolding setFigures
+  figures-count m =
+      at-capped (λ (k : ℕ). setFigures (withCount set k) points L m) 32 (omega arith)
+      (λ i j h g.
+      ap (λ (v : Verdict). afterCheck v (withCount set i) points L) (set-count set points L m i h)
+      ∙ same-figures (withCount set i) (withCount set j) points L (limitCheck L) (scratchCheck L m)
+      ∙ sym (ap (λ (v : Verdict). afterCheck v (withCount set j) points L) (set-count set points L m j g)))
+
+  scratch-count : (scratch : List Float) (n : ℕ) → setScratch (withCount set (capped n)) points L scratch ≡ setScratch (withCount set n) points L scratch
+  unfolding setScratch
+  scratch-count scratch =
+      at-capped (λ (k : ℕ). setScratch (withCount set k) points L scratch) 32 (omega arith)
+      (λ i j h g.
+      ap (λ (v : Verdict). scratchChecked v (withCount set i) points L scratch) (set-count set points L (length scratch) i h)
+      ∙ same-scratch (withCount set i) (withCount set j) points L scratch (limitCheck L) (scratchCheck L (length scratch))
+      ∙ sym (ap (λ (v : Verdict). scratchChecked v (withCount set j) points L scratch) (set-count set points L (length scratch) j g)))
+
+-- ---- a line's numbers, of any size, and capped
+
+abbrev pub cappedRequest : Request → Request
+cappedRequest q =
+    record {
+      form = q .form;
+      limit = capped (q .limit);
+      count = capped (q .count);
+      planform = q .planform;
+      lengths = q .lengths;
+      section = q .section;
+      tab = q .tab;
+      density = q .density;
+      figures = q .figures;
+    }
+
+module _ (q : Request) (figures : List Float) where
+  set-capped : (m : ℕ) → setAnswer (cappedRequest q) figures m ≡ setAnswer q figures m
+  unfolding setAnswer setOf pointsOf
+  set-capped m =
+      ap (λ (f : Figures). printedSet (f .verdict) f)
+      (figures-limit (setOf (cappedRequest q) figures) (pointsOf q figures) m (q .limit) ∙ figures-count (setOf q figures) (pointsOf q figures) (q .limit) m (q .count))
+
+  set-scratch-capped : (scratch : List Float) → scratchAfterForm SetForm (cappedRequest q) figures scratch ≡ scratchAfterForm SetForm q figures scratch
+  unfolding setOf pointsOf
+  set-scratch-capped scratch =
+      scratch-limit (setOf (cappedRequest q) figures) (pointsOf q figures) scratch (q .limit) ∙ scratch-count (setOf q figures) (pointsOf q figures) (q .limit) scratch (q .count)
+
+  area-capped : (m : ℕ) → areaAnswer (cappedRequest q) figures m ≡ areaAnswer q figures m
+  unfolding areaAnswer pointsOf
+  area-capped m = ap (λ (a : Area). printedArea (a .verdict) a) (area-figures-limit (planformOf (q .planform) figures) (pointsOf q figures) m (q .limit))
+
+  area-scratch-capped : (scratch : List Float) → scratchAfterForm AreaForm (cappedRequest q) figures scratch ≡ scratchAfterForm AreaForm q figures scratch
+  unfolding pointsOf
+  area-scratch-capped scratch = area-scratch-limit (planformOf (q .planform) figures) (pointsOf q figures) scratch (q .limit)
+
+  pub answer-capped : (form : Form) (m : ℕ) → answerTo form (cappedRequest q) figures m ≡ answerTo form q figures m
+  answer-capped SetForm m = set-capped m
+  answer-capped AreaForm m = area-capped m
+  answer-capped JoinForm m = refl
+  answer-capped MomentsForm m = refl
+  answer-capped CheckForm m = refl
+  answer-capped NoForm m = refl
+
+  pub scratch-capped : (form : Form) (scratch : List Float) → scratchAfterForm form (cappedRequest q) figures scratch ≡ scratchAfterForm form q figures scratch
+  scratch-capped SetForm scratch = set-scratch-capped scratch
+  scratch-capped AreaForm scratch = area-scratch-capped scratch
+  scratch-capped JoinForm scratch = refl
+  scratch-capped MomentsForm scratch = refl
+  scratch-capped CheckForm scratch = refl
+  scratch-capped NoForm scratch = refl

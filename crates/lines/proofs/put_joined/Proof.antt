@@ -1,0 +1,54 @@
+-- `lines::put_joined` meets its contract: each arm knows its case. Assumes nothing.
+use mathlib.Core.Path.{ap}
+use Rattle.answers.specs.Answers.{joinedText}
+use Rattle.lines.proofs.Texts.{same-text}
+use borrow.Author.Needs.{needs}
+use Rattle.lines.proofs.put_joined.Statement.{statement}
+use Rattle.lines.proofs.put_joined.Tie as tie
+
+enum-told : tie.Need-enum-told
+enum-told c = search needs
+
+body-numbers-requires : tie.Need-body-numbers-requires
+body-numbers-requires c κs = search needs
+
+slice-aggregate-put-joined : tie.Need-slice-aggregate-put-joined
+slice-aggregate-put-joined c = search needs
+
+put-joined-requires : tie.Need-put-joined-requires
+put-joined-requires c κs = search needs
+
+enum-known-verdict : tie.Need-enum-known-verdict
+enum-known-verdict c = search needs
+
+put-refusal-requires : tie.Need-put-refusal-requires
+put-refusal-requires c κs = search needs
+
+same-length : tie.Need-same-length
+same-length c = search needs
+
+returns : tie.Need-returns
+returns c =
+    let b = c .before .before .before .before .before in
+    rw (b .before .enum-told .given .1) (same-text (ap joinedText (b .body-numbers .ensures)) (c .before .before .put-joined .ensures))
+
+same-length-2 : tie.Need-same-length-2
+same-length-2 c = search needs
+
+returns-2 : tie.Need-returns-2
+returns-2 c = rw (c .before .before .before .before .before .verdict .given .1) (c .before .before .put-refusal .ensures)
+
+pub put-joined-spec : {M : Type 1} → statement M
+put-joined-spec =
+    tie.close
+    (tie.spec
+    enum-told
+    body-numbers-requires
+    slice-aggregate-put-joined
+    put-joined-requires
+    enum-known-verdict
+    put-refusal-requires
+    same-length
+    returns
+    same-length-2
+    returns-2)

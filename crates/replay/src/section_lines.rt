@@ -1,0 +1,101 @@
+// Moments of chords, tabs, and segments that touch.
+ghost use Prim.Native.Nat.{_≤_};
+ghost use lib.ListN.{length};
+ghost use Rattle.templates.specs.Cursors.{Room};
+use crate::lines;
+use crate::lines::Outcome;
+use fins::Tab;
+use sections::Section;
+use segments::Point;
+use segments::Segment;
+use templates::Choice;
+use templates::Cursor;
+
+// A line's first word, its section, and what stands behind it.
+pub fn take_section(line: &[u8], word: &[u8], behind: &[u8], values: &mut [f64]) -> Cursor
+    requires { ⌜ (length (now line) ≤ 4096) × (256 ≤ length (now values)) ⌝ }
+    ensures { λ r. ⌜ Room (now (line .entry)) (now (values .exit)) r ⌝ }
+{
+    let begun = lines::begins(line, word, values);
+    let section = templates::take_one_of(line, begun, b"square", b"rounded", b"airfoil", values);
+    templates::take_text(line, section, behind, values)
+}
+
+pub fn section_of(choice: Choice) -> Section {
+    match choice {
+        Choice::First => Section::Square,
+        Choice::Second => Section::Rounded,
+        Choice::Third => Section::Airfoil,
+    }
+}
+
+fn moments_agree(section: Section, values: &[f64]) -> Outcome
+    requires { ⌜ 256 ≤ length (now values) ⌝ }
+{
+    let r = sections::chord_moments(section, values[0], values[1], values[2]);
+    lines::agrees_or_not(lines::agree(&values[3..7], &r, 4))
+}
+
+pub fn replay_section(line: &[u8], values: &mut [f64]) -> Outcome
+    requires { ⌜ (length (now line) ≤ 4096) × (256 ≤ length (now values)) ⌝ }
+{
+    let end = take_section(line, b"section", b"F F F = F F F F", values);
+    if !lines::at_end(line, end) {
+        return Outcome::NoLine;
+    }
+    let choice = end.choice;
+    moments_agree(section_of(choice), values)
+}
+
+fn tab_agrees(values: &[f64]) -> Outcome
+    requires { ⌜ 256 ≤ length (now values) ⌝ }
+{
+    let tab = Tab::Slab {
+        height_m: values[2],
+        length_m: values[3],
+        offset_m: values[4],
+    };
+    let r = plates::tab_integrals(tab, values[0], values[1]);
+    lines::agrees_or_not(lines::agree(&values[5..12], &r, 7))
+}
+
+pub fn replay_tab(line: &[u8], values: &mut [f64]) -> Outcome
+    requires { ⌜ (length (now line) ≤ 4096) × (256 ≤ length (now values)) ⌝ }
+{
+    if !lines::reads(line, b"tab F F F F F = F F F F F F F", values) {
+        return Outcome::NoLine;
+    }
+    tab_agrees(values)
+}
+
+fn segment_of(ends: &[f64]) -> Segment
+    requires { ⌜ 4 ≤ length (now ends) ⌝ }
+{
+    let from = Point {
+        x: ends[0],
+        y: ends[1],
+    };
+    let to = Point {
+        x: ends[2],
+        y: ends[3],
+    };
+    Segment { from, to }
+}
+
+fn touch(values: &[f64]) -> bool
+    requires { ⌜ 256 ≤ length (now values) ⌝ }
+{
+    segments::segments_touch(segment_of(&values[0..4]), segment_of(&values[4..8]))
+}
+
+pub fn replay_touch(line: &[u8], values: &mut [f64]) -> Outcome
+    requires { ⌜ (length (now line) ≤ 4096) × (256 ≤ length (now values)) ⌝ }
+{
+    if lines::reads(line, b"touch F F F F F F F F = yes", values) {
+        return lines::agrees_or_not(touch(values));
+    }
+    if lines::reads(line, b"touch F F F F F F F F = no", values) {
+        return lines::agrees_or_not(!touch(values));
+    }
+    Outcome::NoLine
+}

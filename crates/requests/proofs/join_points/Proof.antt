@@ -1,0 +1,60 @@
+-- `requests::join_points` meets its contract: the list holds the points, and is joined as they are. Assumes nothing.
+use mathlib.Core.Path.{sym, ap, _∙_}
+use Prim.Native.Nat.{_/_, _<_, _≤_}
+use native.Mathlib.Omega.{arith}
+use borrow.Author.Tests.{le-leb, lt-leb}
+use denote.Ref.{now}
+use lib.ListN.{length}
+use Rattle.joins.specs.Joins.{combineOf}
+use Rattle.joins.proofs.Listed.{length-listed, first-bodies}
+use Rattle.joins.proofs.JoinLaws.{combine-listed}
+use Rattle.requests.specs.Requests.{pointAt, joinedPointsOf}
+use borrow.Author.Needs.{needs}
+use Rattle.requests.proofs.join_points.Statement.{statement}
+use Rattle.requests.proofs.join_points.Tie as tie
+
+returns : tie.Need-returns
+unfolding joinedPointsOf
+returns c =
+    let h : 1 ≤ length (now (c .before .before .args .values)) / 4 = omega arith in
+    let g : 32 < length (now (c .before .before .args .values)) / 4 = omega arith in
+    simp (le-leb _ _ h, lt-leb _ _ g)
+
+slice-aggregate-write-points : tie.Need-slice-aggregate-write-points
+slice-aggregate-write-points c = search needs
+
+write-points-requires : tie.Need-write-points-requires
+write-points-requires c κs = search needs
+
+mul-end : tie.Need-mul-end
+mul-end c = search needs
+
+array-share-prefix-bodies : tie.Need-array-share-prefix-bodies
+array-share-prefix-bodies c = search needs
+
+slice-aggregate-combine : tie.Need-slice-aggregate-combine
+slice-aggregate-combine c = sym (ap length (first-bodies _ _ _ (c .before .before .write-points .ensures)) ∙ length-listed _ _)
+
+combine-requires : tie.Need-combine-requires
+combine-requires c κs = search needs
+
+returns-2 : tie.Need-returns-2
+unfolding joinedPointsOf
+returns-2 c =
+    let a = c .before .before .before .before .before .before .before .args in
+    c .combine .ensures
+    ∙ ap combineOf (first-bodies _ _ _ (c .before .before .before .write-points .ensures))
+    ∙ combine-listed (pointAt (now (a .values))) (length (now (a .values)) / 4)
+
+pub join-points-spec : {M : Type 1} → statement M
+join-points-spec =
+    tie.close
+    (tie.spec
+    returns
+    slice-aggregate-write-points
+    write-points-requires
+    mul-end
+    array-share-prefix-bodies
+    slice-aggregate-combine
+    combine-requires
+    returns-2)
