@@ -87,3 +87,9 @@ chordsOf [] = Nothing
 chordsOf (a ∷ []) = Nothing
 chordsOf (a ∷ b ∷ []) = One a b
 chordsOf (a ∷ b ∷ c ∷ l) = Several
+
+-- and the ends that an answer stands for
+abbrev pub endsOf : Chords → List Float → Float → List Float
+endsOf Nothing points h = []
+endsOf (One a b) points h = a ∷ b ∷ []
+endsOf Several points h = outlineCrossings points h

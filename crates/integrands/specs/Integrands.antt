@@ -5,7 +5,8 @@ use lib.Ieee.{Float}
 use Rattle.floats.specs.Operations.{_⊕_, _⊖_, _⊗_, _⊘_, bits, at, tabulate}
 use Rattle.planforms.specs.Planforms.{rootChordOf, spanOf}
 use Rattle.planforms.specs.declared.Planform.{Planform}
-use Rattle.chords.specs.Chords.{chordsAt}
+use Rattle.chords.specs.Chords.{endsAt, chordsAt, chordsOf}
+use Rattle.chords.specs.declared.Chords.{Chords}
 use Rattle.sections.specs.Moments.{chordMoments}
 use Rattle.sections.specs.declared.Section.{Section}
 use Rattle.integrands.specs.declared.Kind.{Kind}
@@ -61,6 +62,10 @@ valuesOver kind scale h chords = valuesOf kind h (sumsOver kind scale h chords)
 -- the chords are those at h·scale, metres
 unfoldable pub sampleOf : Integrand → List Float → Float → List Float
 sampleOf f points h = valuesOver (f .kind) (f .scale) h (chordsAt (f .planform) points (h ⊗ f .scale))
+
+-- what the code finds of them
+abbrev pub chordsFor : Integrand → List Float → Float → Chords
+chordsFor f points h = chordsOf (endsAt (f .planform) points (h ⊗ f .scale))
 
 -- ---- the integrands of a set's own numbers, which the halving is fed
 unfoldable pub areaOf : Planform → List Float → Float → List Float

@@ -10,10 +10,9 @@ use chords::Chords;
 use planforms::Planform;
 use sections::Section;
 ghost use mathlib.Core.Path.{_≡_};
-ghost use mathlib.Core.List.{_∷_};
-ghost use Rattle.floats.specs.Operations.{_⊗_, _⊘_};
-ghost use Rattle.chords.specs.Chords.{paired, outlineCrossings};
-ghost use Rattle.integrands.specs.Integrands.{scaleOf, areaIntegrand, plateIntegrand, termOf, plus, sumsOver, valuesOf, valuesOver, sampleOf};
+ghost use Rattle.floats.specs.Operations.{_⊘_};
+ghost use Rattle.chords.specs.Chords.{paired};
+ghost use Rattle.integrands.specs.Integrands.{scaleOf, areaIntegrand, plateIntegrand, termOf, plus, sumsOver, valuesOf, valuesOver, chordsFor, sampleOf};
 
 // What is summed over the chords. Thickness and body radius are divided by the scale.
 pub enum Kind {
@@ -77,62 +76,41 @@ pub fn sample(integrand: Integrand, points: &[f64], h: f64) -> [f64; 7]
     ensures { λ r. ⌜ r ≡ sampleOf integrand (now (points .entry)) h ⌝ }
 {
     let kind = integrand.kind;
+    let scale = integrand.scale;
+    let found = chords_at(integrand, points, h);
+    let mut ends = [0.0; 64];
+    let n = chords::chord_ends(found, points, h * scale, &mut ends);
+    values_between(kind, scale, h, &ends[..n])
+}
+
+// The chords that the values at the height h are summed over, in metres.
+pub fn chords_at(integrand: Integrand, points: &[f64], h: f64) -> Chords
+    ensures { λ r. ⌜ r ≡ chordsFor integrand (now (points .entry)) h ⌝ }
+{
     let planform = integrand.planform;
     let scale = integrand.scale;
-    let found = chords::chords_at(planform, points, h * scale);
-    match found {
-        Chords::One { start_m, end_m } => chord_values(
-            kind,
-            scale,
-            h,
-            start_m,
-            end_m,
-            &points[..0],
-        ),
-        Chords::Nothing => values(kind, h, [0.0; 4]),
-        Chords::Several => outline_values(kind, scale, points, h),
-    }
+    chords::chords_at(planform, points, h * scale)
 }
 
-// The values over the chords that an outline's crossings bound.
-fn outline_values(kind: Kind, scale: f64, points: &[f64], h: f64) -> [f64; 7]
-    ensures { λ r. ⌜ r ≡ valuesOver kind scale h (paired (outlineCrossings (now (points .entry)) (h ⊗ scale))) ⌝ }
+// The seven values at the height h from the ends of its chords in metres, start, end, start, end, ..
+pub fn values_between(kind: Kind, scale: f64, h: f64, ends: &[f64]) -> [f64; 7]
+    ensures { λ r. ⌜ r ≡ valuesOver kind scale h (paired (now (ends .entry))) ⌝ }
 {
-    let mut xs = [0.0; 64];
-    let n = chords::outline_crossings(points, h * scale, &mut xs);
-    if n < 2 {
-        return values(kind, h, [0.0; 4]);
-    }
-    let start = xs[0];
-    let end = xs[1];
-    chord_values(kind, scale, h, start, end, &xs[2..n])
-}
-
-// The values over the chord from start to end and those that the rest of the ends bound.
-fn chord_values(kind: Kind, scale: f64, h: f64, start: f64, end: f64, rest: &[f64]) -> [f64; 7]
-    ensures { λ r. ⌜ r ≡ valuesOver kind scale h ((start, end) ∷ paired (now (rest .entry))) ⌝ }
-{
-    values(kind, h, chord_sums(kind, scale, h, start, end, rest))
+    values(kind, h, chord_sums(kind, scale, h, ends))
 }
 
 // The sums over the same chords.
-fn chord_sums(kind: Kind, scale: f64, h: f64, start: f64, end: f64, rest: &[f64]) -> [f64; 4]
-    ensures { λ r. ⌜ r ≡ sumsOver kind scale h ((start, end) ∷ paired (now (rest .entry))) ⌝ }
+fn chord_sums(kind: Kind, scale: f64, h: f64, ends: &[f64]) -> [f64; 4]
+    ensures { λ r. ⌜ r ≡ sumsOver kind scale h (paired (now (ends .entry))) ⌝ }
 {
     let mut sums = [0.0; 4];
-    let mut a = start;
-    let mut b = end;
     let mut k: usize = 0;
-    loop {
-        let more = add_chord(sums, kind, scale, h, a, b);
+    while k < ends.len() / 2 {
+        let more = add_chord(sums, kind, scale, h, ends[2 * k], ends[2 * k + 1]);
         sums = more;
-        if rest.len() / 2 <= k {
-            return sums;
-        }
-        a = rest[2 * k];
-        b = rest[2 * k + 1];
         k += 1;
     }
+    sums
 }
 
 // One more chord, whose ends are divided by the scale.

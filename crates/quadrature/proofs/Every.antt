@@ -44,3 +44,9 @@ every-fails (suc n) p e = look (every-fails n p) (every n p) refl e
     look : (every n p ≡ false → (k : ℕ) × ((k < n) × (p k ≡ false))) → (a : Bool) → every n p ≡ a → (a && p n) ≡ false → (k : ℕ) × ((k < suc n) × (p k ≡ false))
     look i true q h = (n, (omega arith, h))
     look i false q h = let z = i q in (z .0, (omega (arith, z .1 .0), z .1 .1))
+
+-- where p holds at each place, it is true
+pub every-of-each : (n : ℕ) (p : ℕ → Bool) → ((k : ℕ) → k < n → p k ≡ true) → every n p ≡ true
+unfolding every
+every-of-each zero p e = refl
+every-of-each (suc n) p e = rw (every-of-each n p (λ k l. e k (omega arith))) (e n (omega arith))

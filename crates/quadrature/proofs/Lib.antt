@@ -1,3 +1,4 @@
 pub mod Every
 pub mod Taken
+pub mod Finite
 pub mod Tallies

@@ -3,12 +3,12 @@
 // With centre c and half-width h, K and G are the sums of the samples times the Kronrod and the Gauss weights. A component's value
 // is h*K and its error |h*(K - G)|. An integrand gives seven components; an area run uses three of them, the rest are zero.
 ghost use mathlib.Core.Path.{_≡_};
-ghost use Prim.Native.Nat.{_<_, _^_};
 ghost use Rattle.floats.specs.Operations.{_⊖_, _⊗_, at, tabulate};
 ghost use Rattle.floats.specs.Floats.{absOf};
 ghost use Rattle.integrands.specs.Integrands.{sampleOf};
-ghost use Rattle.quadrature.specs.Rule.{finiteSample, gaussWeight};
-ghost use Rattle.quadrature.specs.Tally.{plusWeighted, withSample, withSides, Gathered, measuredOf};
+ghost use Rattle.quadrature.specs.Rule.{heightsTo, kronrodWeight, gaussWeight, finiteSample};
+ghost use Rattle.quadrature.specs.Tally.{FoundTo, weightsTo, plusWeighted, looked, Gathered, measuredOf};
+use chords::Chords;
 use integrands::Integrand;
 
 // A part of a strip with its integral and that integral's error estimate.
@@ -34,17 +34,6 @@ struct Tally {
     gauss: [f64; 7],
 }
 
-// Of the even nodes 0, which is added times the sample as in the Rust.
-fn gauss_weight(i: usize) -> f64
-    ensures { λ r. ⌜ r ≡ gaussWeight i ⌝ }
-{
-    if i % 2 == 1 {
-        gauss_kronrod::gauss_weight(i / 2)
-    } else {
-        0.0
-    }
-}
-
 fn all_finite(y: [f64; 7]) -> bool
     ensures { λ r. ⌜ r ≡ finiteSample 7 y ⌝ }
 {
@@ -55,6 +44,13 @@ fn all_finite(y: [f64; 7]) -> bool
         && floats::is_finite(y[4])
         && floats::is_finite(y[5])
         && floats::is_finite(y[6])
+}
+
+// Whether a sample is finite, or is not tested.
+fn passes(tested: bool, y: [f64; 7]) -> bool
+    ensures { λ r. ⌜ r ≡ finiteSample (looked tested) y ⌝ }
+{
+    if tested { all_finite(y) } else { true }
 }
 
 fn plus_weighted(sum: [f64; 7], weight: f64, y: [f64; 7]) -> [f64; 7]
@@ -71,75 +67,144 @@ fn plus_weighted(sum: [f64; 7], weight: f64, y: [f64; 7]) -> [f64; 7]
     ]
 }
 
-// The tally with the sample at height h, with its Kronrod and Gauss weight; as it was once a sample was not finite.
-fn add(tally: Tally, integrand: Integrand, points: &[f64], h: f64, kw: f64, gw: f64) -> Tally
-    requires { ⌜ tally .samples < 2 ^ 32 ⌝ }
-    ensures { λ r. ⌜ r ≡ withSample (sampleOf integrand (now (points .entry))) kw gw h tally ⌝ }
+// Where the samples are: centre, then for each node the minus side, then the plus side.
+fn sample_heights(centre: f64, half: f64) -> [f64; 15]
+    ensures { λ r. ⌜ r ≡ heightsTo 7 centre half ⌝ }
 {
-    if !tally.finite {
-        return tally;
-    }
-    let samples = tally.samples + 1;
-    let k = tally.kronrod;
-    let g = tally.gauss;
-    let y = integrands::sample(integrand, points, h);
-    if all_finite(y) {
-        let kronrod = plus_weighted(k, kw, y);
-        let gauss = plus_weighted(g, gw, y);
-        Tally {
-            finite: true,
-            samples,
-            kronrod,
-            gauss,
-        }
-    } else {
-        Tally {
-            finite: false,
-            samples,
-            kronrod: k,
-            gauss: g,
-        }
-    }
+    let x0 = half * gauss_kronrod::node(0);
+    let x1 = half * gauss_kronrod::node(1);
+    let x2 = half * gauss_kronrod::node(2);
+    let x3 = half * gauss_kronrod::node(3);
+    let x4 = half * gauss_kronrod::node(4);
+    let x5 = half * gauss_kronrod::node(5);
+    let x6 = half * gauss_kronrod::node(6);
+    [
+        centre,
+        centre - x0,
+        centre + x0,
+        centre - x1,
+        centre + x1,
+        centre - x2,
+        centre + x2,
+        centre - x3,
+        centre + x3,
+        centre - x4,
+        centre + x4,
+        centre - x5,
+        centre + x5,
+        centre - x6,
+        centre + x6,
+    ]
 }
 
-// The samples at node i: the minus side, then the plus side.
-fn add_sides(
-    tally: Tally,
-    integrand: Integrand,
-    points: &[f64],
-    centre: f64,
-    half: f64,
-    i: usize,
-) -> Tally
-    requires { ⌜ (i < 7) × (tally .samples < 100) ⌝ }
-    ensures { λ r. ⌜ r ≡ withSides (sampleOf integrand (now (points .entry))) centre half i tally ⌝ }
+// The Kronrod weights of the same samples.
+fn kronrod_weights() -> [f64; 15]
+    ensures { λ r. ⌜ r ≡ weightsTo 7 kronrodWeight ⌝ }
 {
-    let x = half * gauss_kronrod::node(i);
-    let kw = gauss_kronrod::kronrod_weight(i);
-    let gw = gauss_weight(i);
-    let minus = add(tally, integrand, points, centre - x, kw, gw);
-    add(minus, integrand, points, centre + x, kw, gw)
+    let w0 = gauss_kronrod::kronrod_weight(0);
+    let w1 = gauss_kronrod::kronrod_weight(1);
+    let w2 = gauss_kronrod::kronrod_weight(2);
+    let w3 = gauss_kronrod::kronrod_weight(3);
+    let w4 = gauss_kronrod::kronrod_weight(4);
+    let w5 = gauss_kronrod::kronrod_weight(5);
+    let w6 = gauss_kronrod::kronrod_weight(6);
+    let w7 = gauss_kronrod::kronrod_weight(7);
+    [w7, w0, w0, w1, w1, w2, w2, w3, w3, w4, w4, w5, w5, w6, w6]
 }
 
-// All fifteen samples: centre, then the sides of the seven nodes.
-fn gather(integrand: Integrand, points: &[f64], centre: f64, half: f64) -> Tally
-    ensures { λ r. ⌜ Gathered (sampleOf integrand (now (points .entry))) 7 centre half r ⌝ }
+// Their Gauss weights: of the even nodes 0, which is added times the sample as in the Rust.
+fn gauss_weights() -> [f64; 15]
+    ensures { λ r. ⌜ r ≡ weightsTo 7 gaussWeight ⌝ }
 {
-    let none = Tally {
-        finite: true,
-        samples: 0,
-        kronrod: [0.0; 7],
-        gauss: [0.0; 7],
-    };
-    let kw = gauss_kronrod::kronrod_weight(7);
-    let gw = gauss_weight(7);
-    let mut tally = add(none, integrand, points, centre, kw, gw);
+    let w1 = gauss_kronrod::gauss_weight(0);
+    let w3 = gauss_kronrod::gauss_weight(1);
+    let w5 = gauss_kronrod::gauss_weight(2);
+    let w7 = gauss_kronrod::gauss_weight(3);
+    [
+        w7,
+        0.0,
+        0.0,
+        w1,
+        w1,
+        0.0,
+        0.0,
+        w3,
+        w3,
+        0.0,
+        0.0,
+        w5,
+        w5,
+        0.0,
+        0.0,
+    ]
+}
+
+// The chords at each of the heights. They are found before any sample is worked, so that the root and the divisions of one
+// chord go on beside those of the next.
+fn chords_found(integrand: Integrand, points: &[f64], heights: [f64; 15]) -> [Chords; 15]
+    ensures { λ r. ⌜ FoundTo 15 integrand (now (points .entry)) heights r ⌝ }
+{
+    let mut found = [Chords::Nothing; 15];
     let mut i: usize = 0;
-    while i < 7 {
-        tally = add_sides(tally, integrand, points, centre, half, i);
+    while i < 15 {
+        let one = integrands::chords_at(integrand, points, heights[i]);
+        found[i] = one;
         i += 1;
     }
-    tally
+    found
+}
+
+// The sums over the fifteen samples. Where `tested` it ends at the first that is not finite; else none is looked at.
+fn sums(integrand: Integrand, points: &[f64], centre: f64, half: f64, tested: bool) -> Tally
+    ensures { λ r. ⌜ Gathered (looked tested) (sampleOf integrand (now (points .entry))) centre half r ⌝ }
+{
+    let heights = sample_heights(centre, half);
+    let found = chords_found(integrand, points, heights);
+    let kw = kronrod_weights();
+    let gw = gauss_weights();
+    let mut ends = [0.0; 64];
+    let mut kronrod = [0.0; 7];
+    let mut gauss = [0.0; 7];
+    let mut j: usize = 0;
+    while j < 15 {
+        let kind = integrand.kind;
+        let scale = integrand.scale;
+        let h = heights[j];
+        let one = found[j];
+        let n = chords::chord_ends(one, points, h * scale, &mut ends);
+        let y = integrands::values_between(kind, scale, h, &ends[..n]);
+        if !passes(tested, y) {
+            return Tally {
+                finite: false,
+                samples: j + 1,
+                kronrod,
+                gauss,
+            };
+        }
+        let k = plus_weighted(kronrod, kw[j], y);
+        let g = plus_weighted(gauss, gw[j], y);
+        kronrod = k;
+        gauss = g;
+        j += 1;
+    }
+    Tally {
+        finite: true,
+        samples: 15,
+        kronrod,
+        gauss,
+    }
+}
+
+// All fifteen samples. A sum is finite only where each of its samples is, so that they need a test only where a sum is not.
+fn gather(integrand: Integrand, points: &[f64], centre: f64, half: f64) -> Tally
+    ensures { λ r. ⌜ Gathered 7 (sampleOf integrand (now (points .entry))) centre half r ⌝ }
+{
+    let all = sums(integrand, points, centre, half, false);
+    let k = all.kronrod;
+    if all_finite(k) {
+        return all;
+    }
+    sums(integrand, points, centre, half, true)
 }
 
 fn scaled(half: f64, k: [f64; 7]) -> [f64; 7]

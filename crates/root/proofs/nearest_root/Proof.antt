@@ -1,171 +1,194 @@
--- `root::nearest_root` meets its contract: n * 2 ^ 52 - q * q is u - v exactly, so each test says of its number that it is nearest. Assumes nothing.
-use Prim.Native.Nat.{ℕ, _+_, _-_, _*_, _/_, _%_, _^_, _≤_, _<_}
-use mathlib.Core.Path.{_≡_, ap}
-use native.Mathlib.Nat.{mul-comm, mul-right-comm, mul-mul-mul-comm, mul-le-mul, add-mul, mul-add, div-add-mod'}
+-- `root::nearest_root` meets its contract: n * 2 ^ 52 - q * q is u - v exactly, above -q and at most 3 * q + 2, so the last test says which of q and q + 1 is nearest.
+-- Assumes nothing.
+use Prim.Native.Nat.{ℕ, zero, suc, _+_, _-_, _*_, _/_, _%_, _^_, _≤_, _<_}
+use mathlib.Core.Path.{_≡_, ap, _∙_}
+use mathlib.Core.Bool.{Bool, true, false, not}
+use native.Mathlib.Nat.{mul-comm, mul-right-comm, mul-mul-mul-comm, mul-le-mul, mul-le-mul-left, mul-le-mul-right, add-mul, mul-add, div-add-mod, div-le-of-le-mul, mod-lt}
+use native.Mathlib.Decide.{decLe}
 use native.Mathlib.Omega.{arith}
 use borrow.Author.Needs.{needs}
-use borrow.Author.Tests.{ltb-true, leb-true}
+use borrow.Author.Tests.{leb-true}
+use lib.Dec.{T, ltb, ltb→lt, nltb→le}
+use mir.Syntax.{w64}
+use mir.Val.{Fits, boolByte}
 use Rattle.root.specs.Root.{nearRoot}
 use Rattle.root.proofs.Squares.{next-square, near-of}
 use Rattle.root.proofs.nearest_root.Statement.{statement}
 use Rattle.root.proofs.nearest_root.Tie as tie
 
--- ---- q in two halves, and the difference of n * 2 ^ 52 and its square
+-- ---- the division: a guess h = p + 1, at most one off, and the quotient l
 
-abbrev high : ℕ → ℕ
-high q = q / 2 ^ 26
+record Split (n p l c : ℕ) : Type 0 where
+  least : 2 ^ 52 ≤ n
+  most : n < 2 ^ 54
+  long : 2 ^ 26 ≤ p + 1
+  short : p + 1 < 2 ^ 28
+  near : p * p ≤ n + 1
+  whole : (p + 1) * l + c ≡ (n + 1 - p * p) * 2 ^ 25
+  few : l ≤ 2 ^ 27
+  less : c ≤ p
 
-abbrev low : ℕ → ℕ
-low q = q % 2 ^ 26
+-- what is divided by h
+abbrev over : ℕ → ℕ → ℕ
+over n h = (n + 2 * h - h * h) * 2 ^ 25
 
-abbrev left : ℕ → ℕ → ℕ
-left n q = (n - high q * high q) * 2 ^ 25 + 2 ^ 27
+split : (n h : ℕ) → (2 ^ 52 ≤ n) × (n < 2 ^ 54) × (2 ^ 26 ≤ h) × (h < 2 ^ 28) → h * h ≤ n + 2 * h → n + 2 * h - h * h ≤ 4 * h → Split n (h - 1) (over n h / h) (over n h % h)
+split n h b f g =
+    let p = h - 1 in
+    let t = over n h in
+    let e : p + 1 ≡ h = omega arith in
+    let r = next-square p in
+    let x = ap (λ (y : ℕ). y * y) e in
+    let w = ap (λ (y : ℕ). y * (t / h) + t % h) e ∙ div-add-mod t h in
+    record {
+      least = b .0;
+      most = b .1;
+      long = omega arith;
+      short = omega arith;
+      near = omega (arith, r, x);
+      whole = omega (arith, r, x, w);
+      few = div-le-of-le-mul h (let z : t ≤ h * 2 ^ 27 = omega arith in z);
+      less = omega (arith, mod-lt t (let z : 0 < h = omega arith in z));
+    }
 
-record Small (q : ℕ) : Type 0 where
-  hh : high q * high q ≤ (2 ^ 27 - 1) * (2 ^ 27 - 1)
-  hl : high q * low q ≤ (2 ^ 27 - 1) * (2 ^ 26 - 1)
-  ll : low q * low q ≤ (2 ^ 26 - 1) * (2 ^ 26 - 1)
+-- ---- q = p * 2 ^ 26 + l: the difference u - v of n * 2 ^ 52 and its square, and how large it can be
 
-small : (q : ℕ) → q < 2 ^ 53 → Small q
-small q b =
-    let h : high q ≤ 2 ^ 27 - 1 = omega arith in
-    let l : low q ≤ 2 ^ 26 - 1 = omega arith in
-    record { hh = mul-le-mul h h; hl = mul-le-mul h l; ll = mul-le-mul l l }
+square-of : (p l : ℕ) → (p * 2 ^ 26 + l) * (p * 2 ^ 26 + l) ≡ p * p * 2 ^ 52 + p * l * 2 ^ 27 + l * l
+square-of p l =
+    let x = p * 2 ^ 26 in
+    omega (arith, add-mul x l (x + l), mul-add x x l, mul-add l x l, mul-comm l x, mul-right-comm p (2 ^ 26) l, mul-mul-mul-comm p (2 ^ 26) p (2 ^ 26))
 
-square : (h l : ℕ) → (h * 2 ^ 26 + l) * (h * 2 ^ 26 + l) ≡ h * h * 2 ^ 52 + h * l * 2 ^ 27 + l * l
-square h l =
-    let x = h * 2 ^ 26 in
-    omega (arith, add-mul x l (x + l), mul-add x x l, mul-add l x l, mul-comm l x, mul-right-comm h (2 ^ 26) l, mul-mul-mul-comm h (2 ^ 26) h (2 ^ 26))
+-- (l - 1) * (2 ^ 27 - l) is not negative
+between : (l : ℕ) → 1 ≤ l → l ≤ 2 ^ 27 → l * l + 2 ^ 27 ≤ 2 ^ 27 * l + l
+between zero o g = absurd (let z : ⊥ = omega arith in z)
+between (suc k) o g = omega (arith, next-square k, mul-le-mul-left k (let z : k ≤ 2 ^ 27 - 1 = omega arith in z))
 
-difference : (n q : ℕ) → high q * high q ≤ n → high q * low q ≤ left n q → n * 2 ^ 52 + (low q * low q + 2 ^ 54) ≡ q * q + (left n q - high q * low q) * 2 ^ 27
-difference n q f g = omega (arith, square (high q) (low q), ap (λ (x : ℕ). x * x) (div-add-mod' q (2 ^ 26)))
+-- the last test
+abbrev test : ℕ → ℕ → ℕ → Bool
+test p l c = ltb (l * l + 2 ^ 52 + (p * 2 ^ 26 + l)) ((l + c) * 2 ^ 27)
 
--- ---- what the tests say
+module _ {n p l c : ℕ} (s : Split n p l c) where
+  difference : n * 2 ^ 52 + (l * l + 2 ^ 52) ≡ (p * 2 ^ 26 + l) * (p * 2 ^ 26 + l) + (l + c) * 2 ^ 27
+  difference = omega (arith, s, square-of p l, add-mul p 1 l)
 
-module _ (n q u v : ℕ) (o : 0 < n) (b : n < 2 ^ 54) (d : n * 2 ^ 52 + v ≡ q * q + u) where
-  same : u ≤ v + q → v < u + q → q ≡ nearRoot (n * 2 ^ 52)
-  same f g = near-of q (n * 2 ^ 52) (omega arith) (omega arith) (record { low = omega arith; high = omega arith })
+  above : Dec (1 ≤ l) → Dec (p ≤ 2 ^ 26) → l * l + 2 ^ 52 < (l + c) * 2 ^ 27 + (p * 2 ^ 26 + l)
+  above (yes i) j = omega (arith, s, between l i (s .few))
+  above (no i) (yes j) = let z : l ≤ 0 = omega arith in omega (arith, s, mul-le-mul z z, mul-le-mul-left (p + 1) z, mul-le-mul j j)
+  above (no i) (no j) = let z : l ≤ 0 = omega arith in omega (arith, s, mul-le-mul z z)
 
-  above : v + q < u → u ≤ v + 3 * q + 2 → q + 1 ≡ nearRoot (n * 2 ^ 52)
-  above f g = near-of (q + 1) (n * 2 ^ 52) (omega arith) (omega arith) (record { low = omega (arith, next-square q); high = omega (arith, next-square q) })
+  below : Dec (2 ^ 26 ≤ l) → (l + c) * 2 ^ 27 ≤ l * l + 2 ^ 52 + 3 * (p * 2 ^ 26 + l) + 2
+  below (yes i) = omega (arith, s, mul-le-mul-right l i)
+  below (no i) = omega (arith, s)
 
-  below : u + q ≤ v → v + 2 < u + 3 * q → q - 1 ≡ nearRoot (n * 2 ^ 52)
-  below f g =
-      let p = q - 1 in
-      let e : q * q ≡ (p + 1) * (p + 1) = ap (λ (x : ℕ). x * x) (let z : q ≡ p + 1 = omega arith in z) in
-      near-of p (n * 2 ^ 52) (omega arith) (omega arith) (record { low = omega (arith, next-square p); high = omega (arith, next-square p) })
+  -- q where the test fails, and else q + 1
+  nearest : (q u v : ℕ) → n * 2 ^ 52 + v ≡ q * q + u → v < u + q → u ≤ v + 3 * q + 2 → (b : Bool) → (T b → v + q < u) → (T (not b) → u ≤ v + q) → q + boolByte b ≡ nearRoot (n * 2 ^ 52)
+  nearest q u v d f g true t e = near-of (q + 1) (n * 2 ^ 52) (omega (arith, s)) (omega (arith, s)) (record { low = omega (arith, next-square q, t tt); high = omega (arith, next-square q) })
+  nearest q u v d f g false t e =
+      (let z : q + 0 ≡ q = omega arith in z) ∙ near-of q (n * 2 ^ 52) (omega (arith, s)) (omega (arith, s)) (record { low = omega arith; high = omega (arith, e tt) })
 
--- ---- the function's needs, from the start and from within the two tests of its range
+  decided : p * 2 ^ 26 + l + boolByte (test p l c) ≡ nearRoot (n * 2 ^ 52)
+  decided =
+      let q = p * 2 ^ 26 + l in
+      let u = (l + c) * 2 ^ 27 in
+      let v = l * l + 2 ^ 52 in
+      nearest q u v difference (above (decLe 1 l) (decLe p (2 ^ 26))) (below (decLe (2 ^ 26) l)) (test p l c) (ltb→lt (v + q) u) (nltb→le (v + q) u)
 
-small-at : (c : tie.Start) → Small (c .args .q)
-small-at c = small (c .args .q) (c .pre .2)
+  low-square : l * l ≤ 2 ^ 54
+  low-square = omega (arith, mul-le-mul (s .few) (s .few))
 
-abbrev within : tie.Then4 → tie.Start
-within c = c .before .before .before .before
+  fits : (b : Bool) → Fits w64 (p * 2 ^ 26 + l + boolByte b)
+  fits true = omega (arith, s)
+  fits false = omega (arith, s)
 
-narrow : (c : tie.Then4) → left (within c .args .n) (within c .args .q) - high (within c .args .q) * low (within c .args .q) < 2 ^ 29
-narrow c = ltb-true _ _ (c .if4 .taken)
+-- ---- the function's needs
+
+abbrev start : tie.Then2 → tie.Start
+start c = c .before .before
+
+split-at : (c : tie.Then2) → let n = start c .args .n in let h = start c .args .h in Split n (h - 1) (over n h / h) (over n h % h)
+split-at c = split (start c .args .n) (start c .args .h) (start c .pre) (c .before .if1 .taken) (omega (arith, leb-true))
 
 mul-square : tie.Need-mul-square
-mul-square c = omega (arith, small-at c .hh)
+mul-square c = let f : c .args .h ≤ 2 ^ 28 = omega arith in omega (arith, mul-le-mul f f)
 
-mul-left : tie.Need-mul-left
-mul-left c = omega (arith, ltb-true)
+mul-top : tie.Need-mul-top
+mul-top c = search needs
 
-add-left : tie.Need-add-left
-add-left c = omega (arith, ltb-true)
+add-top : tie.Need-add-top
+add-top c = search needs
 
-mul-cross : tie.Need-mul-cross
-mul-cross c = omega (arith, small-at (c .before .before) .hl)
+mul-if2 : tie.Need-mul-if2
+mul-if2 c = search needs
+
+mul-t : tie.Need-mul-t
+mul-t c = omega (arith, leb-true)
+
+div-l : tie.Need-div-l
+div-l c = search needs
+
+rem-c : tie.Need-rem-c
+rem-c c = search needs
+
+sub-q : tie.Need-sub-q
+sub-q c = search needs
+
+mul-q : tie.Need-mul-q
+mul-q c = search needs
+
+add-q : tie.Need-add-q
+add-q c = omega (arith, split-at c)
+
+add-u : tie.Need-add-u
+add-u c = omega (arith, split-at c)
 
 mul-u : tie.Need-mul-u
-mul-u c = omega (arith, narrow c)
+mul-u c = omega (arith, split-at c)
 
 mul-v : tie.Need-mul-v
-mul-v c = omega (arith, small-at (within c) .ll)
+mul-v c = omega (arith, low-square (split-at c))
 
 add-v : tie.Need-add-v
-add-v c = omega (arith, small-at (within c) .ll)
-
-add-if5 : tie.Need-add-if5
-add-if5 c = omega (arith, small-at (within c) .ll)
-
-add-if6 : tie.Need-add-if6
-add-if6 c = omega (arith, narrow (c .before))
-
-add-if7 : tie.Need-add-if7
-add-if7 c = omega (arith, small-at (within (c .before)) .ll)
-
-mul-if8 : tie.Need-mul-if8
-mul-if8 c = omega arith
-
-add-if8 : tie.Need-add-if8
-add-if8 c = omega (arith, small-at (within (c .before .before)) .ll)
-
-add-if8-2 : tie.Need-add-if8-2
-add-if8-2 c = omega (arith, small-at (within (c .before .before)) .ll)
+add-v c = omega (arith, low-square (split-at c))
 
 add-result : tie.Need-add-result
-add-result c = omega arith
+add-result c = omega (arith, split-at c, low-square (split-at c))
 
-add-if9 : tie.Need-add-if9
-add-if9 c = omega (arith, narrow (c .before .before))
+cast-result : tie.Need-cast-result
+cast-result c = search needs
 
-add-if10 : tie.Need-add-if10
-add-if10 c = omega (arith, small-at (within (c .before .before .before)) .ll)
-
-mul-if10 : tie.Need-mul-if10
-mul-if10 c = omega arith
-
-add-if10-2 : tie.Need-add-if10-2
-add-if10-2 c = omega (arith, narrow (c .before .before .before))
-
-sub-result : tie.Need-sub-result
-sub-result c = omega (arith, ltb-true, leb-true)
-
-exact : (c : tie.Then4) → within c .args .n * 2 ^ 52 + (low (within c .args .q) * low (within c .args .q) + 2 ^ 54) ≡ within c .args .q * within c .args .q + (left (within c .args .n) (within c .args .q) - high (within c .args .q) * low (within c .args .q)) * 2 ^ 27
-exact c = difference (within c .args .n) (within c .args .q) (c .before .before .before .if1 .taken) (c .before .if3 .taken)
+add-result-2 : tie.Need-add-result-2
+add-result-2 c = let n = start c .args .n in let h = start c .args .h in fits (split-at c) (test (h - 1) (over n h / h) (over n h % h))
 
 returns : tie.Need-returns
-returns c = let s = within (c .before .before) in same (s .args .n) (s .args .q) _ _ (s .pre .0) (s .pre .1) (exact (c .before .before)) (c .before .if5 .taken) (omega (arith, ltb-true, leb-true))
-
-returns-2 : tie.Need-returns-2
-returns-2 c = let s = within (c .before .before .before) in above (s .args .n) (s .args .q) _ _ (s .pre .0) (s .pre .1) (exact (c .before .before .before)) (c .before .if7 .taken) (omega (arith, ltb-true, leb-true))
-
-returns-3 : tie.Need-returns-3
-returns-3 c = let s = within (c .before .before .before .before) in below (s .args .n) (s .args .q) _ _ (s .pre .0) (s .pre .1) (exact (c .before .before .before .before)) (c .before .if9 .taken) (omega (arith, ltb-true, leb-true))
+returns c = decided (split-at c)
 
 digit-root-requires : tie.Need-digit-root-requires
 digit-root-requires c κs = search needs
 
-returns-4 : tie.Need-returns-4
-returns-4 c = search needs
+returns-2 : tie.Need-returns-2
+returns-2 c = search needs
 
 pub nearest-root-spec : {M : Type 1} → statement M
 nearest-root-spec =
     tie.close
     (tie.spec
     mul-square
-    mul-left
-    add-left
-    mul-cross
+    mul-top
+    add-top
+    mul-if2
+    mul-t
+    div-l
+    rem-c
+    sub-q
+    mul-q
+    add-q
+    add-u
     mul-u
     mul-v
     add-v
-    add-if5
-    add-if6
-    returns
-    add-if7
-    mul-if8
-    add-if8
-    add-if8-2
     add-result
-    returns-2
-    add-if9
-    add-if10
-    mul-if10
-    add-if10-2
-    sub-result
-    returns-3
+    cast-result
+    add-result-2
+    returns
     digit-root-requires
-    returns-4)
+    returns-2)

@@ -25,7 +25,7 @@ guess-requires : tie.Need-guess-requires
 guess-requires c κs = search needs
 
 nearest-root-requires : tie.Need-nearest-root-requires
-nearest-root-requires c κs = let b = bounds (c .before .scale .ensures .0) in (omega (arith, b .0), omega (arith, b .1), c .guess .ensures)
+nearest-root-requires c κs = let b = bounds (c .before .scale .ensures .0) in (b .0, omega (arith, b .1), c .guess .ensures .0, c .guess .ensures .1)
 
 add-result : tie.Need-add-result
 add-result c = let s = c .before .before .scale .ensures in omega (arith, digits (s .0) .most, c .nearest-root .ensures, s .1)

@@ -1,0 +1,93 @@
+-- What a call promises follows from what its parts wrote, or from a list that has no room. Assumes nothing.
+use mathlib.Core.Path.{_≡_}
+use mathlib.Core.Bool.{true, false}
+use mathlib.Core.List.{List}
+use Prim.Native.Nat.{ℕ, _≤_, _<_}
+use borrow.Author.Tests.{le-leb, lt-leb}
+use lib.ListN.{length}
+use lib.Ieee.{Float}
+use Rattle.refusals.specs.declared.Verdict.{Verdict}
+use Rattle.joins.specs.declared.Joined.{Joined}
+use Rattle.joins.specs.Flat.{withBody}
+use Rattle.joins.specs.Joins.{combineOf}
+use Rattle.moments.specs.declared.Moments.{Moments}
+use Rattle.figures.specs.declared.Area.{Area}
+use Rattle.figures.specs.declared.Figures.{Figures}
+use Rattle.exports.specs.declared.PlanformForm.{PlanformForm}
+use Rattle.exports.specs.declared.SetForm.{SetForm}
+use Rattle.exports.specs.Numbers.{numberIn, over, withValues}
+use Rattle.exports.specs.Calls.{room, formFigures, formScratch, figureCounts, SetCall, formArea, formAreaScratch, areaNumbers, areaCounts, AreaCall, JoinCall, tensorMoments, momentsNumbers, MomentsCall, bodyVerdict, CheckCall}
+
+module _ (m : ℕ) (figures : List Float) (n : ℕ) (counts : List ℕ) where
+  has-room : m ≤ length figures → n ≤ length counts → room m figures n counts ≡ true
+  has-room h k = simp (le-leb m (length figures) h, le-leb n (length counts) k)
+
+  pub few-figures : length figures < m → room m figures n counts ≡ false
+  few-figures h = simp (lt-leb m (length figures) h)
+
+  pub few-counts : m ≤ length figures → length counts < n → room m figures n counts ≡ false
+  few-counts h k = simp (le-leb m (length figures) h, lt-leb n (length counts) k)
+
+module _ (form : SetForm) (points : List Float) (L : ℕ) (scratch body : List Float) (counts : List ℕ) where
+  pub set-refused : room 13 body 4 counts ≡ false → SetCall form points L scratch body counts 18 scratch body counts
+  set-refused none = record { returned = rw none; figures = rw none; counted = rw none; lent = rw none }
+
+  -- `read` is the form as the code has it
+  pub set-written : 13 ≤ length body → 4 ≤ length counts → (read : SetForm) (f : Figures) (r : ℕ) (scratch' body' : List Float) (counts' : List ℕ) →
+      read ≡ form → f ≡ formFigures read points L (length scratch) → scratch' ≡ formScratch read points L scratch →
+      body' ≡ withBody body 0 (f .body) → counts' ≡ figureCounts f counts → r ≡ numberIn (f .verdict) →
+      SetCall form points L scratch body counts r scratch' body' counts'
+  set-written h k read f r scratch' body' counts' same e s b c n =
+      let fits = has-room 13 body 4 counts h k in
+      record {
+        returned = rw (fits, ← same, ← e) n;
+        figures = rw (fits, ← same, ← e) b;
+        counted = rw (fits, ← same, ← e) c;
+        lent = rw (fits, ← same) s;
+      }
+
+module _ (form : PlanformForm) (points : List Float) (L : ℕ) (scratch area : List Float) (counts : List ℕ) where
+  pub area-refused : room 3 area 4 counts ≡ false → AreaCall form points L scratch area counts 18 scratch area counts
+  area-refused none = record { returned = rw none; figures = rw none; counted = rw none; lent = rw none }
+
+  pub area-written : 3 ≤ length area → 4 ≤ length counts → (read : PlanformForm) (a : Area) (r : ℕ) (scratch' area' : List Float) (counts' : List ℕ) →
+      read ≡ form → a ≡ formArea read points L (length scratch) → scratch' ≡ formAreaScratch read points L scratch →
+      area' ≡ over (areaNumbers a) area → counts' ≡ areaCounts a counts → r ≡ numberIn (a .verdict) →
+      AreaCall form points L scratch area counts r scratch' area' counts'
+  area-written h k read a r scratch' area' counts' same e s b c n =
+      let fits = has-room 3 area 4 counts h k in
+      record {
+        returned = rw (fits, ← same, ← e) n;
+        figures = rw (fits, ← same, ← e) b;
+        counted = rw (fits, ← same, ← e) c;
+        lent = rw (fits, ← same) s;
+      }
+
+module _ (bodies body : List Float) where
+  pub join-refused : length body < 13 → JoinCall bodies body 18 body
+  join-refused h = let none = lt-leb 13 (length body) h in record { returned = rw none; figures = rw none }
+
+  pub join-written : 13 ≤ length body → (j : Joined) (r : ℕ) (body' : List Float) → j ≡ combineOf bodies →
+      body' ≡ withBody body 0 (j .body) → r ≡ numberIn (j .verdict) → JoinCall bodies body r body'
+  join-written h j r body' e b n =
+      let fits = le-leb 13 (length body) h in record { returned = rw (fits, ← e) n; figures = rw (fits, ← e) b }
+
+module _ (numbers moments : List Float) (values : List ℕ) where
+  pub moments-refused : room 3 moments 2 values ≡ false → MomentsCall numbers moments values 18 moments values
+  moments-refused none = record { returned = rw none; figures = rw none; counted = rw none }
+
+  pub moments-written : 3 ≤ length moments → 2 ≤ length values → (m : Moments) (r : ℕ) (moments' : List Float) (values' : List ℕ) →
+      m ≡ tensorMoments numbers → moments' ≡ over (momentsNumbers m) moments → values' ≡ withValues values (m .verdict) →
+      r ≡ numberIn (m .verdict) → MomentsCall numbers moments values r moments' values'
+  moments-written h k m r moments' values' e b c n =
+      let fits = has-room 3 moments 2 values h k in
+      record { returned = rw (fits, ← e) n; figures = rw (fits, ← e) b; counted = rw (fits, ← e) c }
+
+module _ (numbers : List Float) (values : List ℕ) where
+  pub check-refused : length values < 2 → CheckCall numbers values 18 values
+  check-refused h = let none = lt-leb 2 (length values) h in record { returned = rw none; counted = rw none }
+
+  pub check-written : 2 ≤ length values → (v : Verdict) (r : ℕ) (values' : List ℕ) → v ≡ bodyVerdict numbers →
+      values' ≡ withValues values v → r ≡ numberIn v → CheckCall numbers values r values'
+  check-written h v r values' e c n =
+      let fits = le-leb 2 (length values) h in record { returned = rw (fits, ← e) n; counted = rw (fits, ← e) c }

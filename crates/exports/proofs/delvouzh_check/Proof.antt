@@ -1,0 +1,37 @@
+-- `exports::delvouzh_check` meets its contract: there is no room, or the values are written. Assumes nothing.
+use borrow.Author.Needs.{needs}
+use Rattle.exports.proofs.Calls.{check-refused, check-written}
+use Rattle.exports.proofs.delvouzh_check.Statement.{statement}
+use Rattle.exports.proofs.delvouzh_check.Tie as tie
+
+returns : tie.Need-returns
+returns c = check-refused _ _ (c .if1 .taken)
+
+body-verdict-requires : tie.Need-body-verdict-requires
+body-verdict-requires c κs = search needs
+
+write-values-requires : tie.Need-write-values-requires
+write-values-requires c κs = search needs
+
+number-requires : tie.Need-number-requires
+number-requires c κs = search needs
+
+same-length : tie.Need-same-length
+same-length c = search needs
+
+returns-2 : tie.Need-returns-2
+returns-2 c =
+    let w = c .before .before .before in
+    let v = w .before .before in
+    check-written _ _ (v .before .if1 .left) (v .body-verdict .result) _ _ (v .body-verdict .ensures) (w .write-values .ensures) (c .number .ensures)
+
+pub delvouzh-check-spec : {M : Type 1} → statement M
+delvouzh-check-spec =
+    tie.close
+    (tie.spec
+    returns
+    body-verdict-requires
+    write-values-requires
+    number-requires
+    same-length
+    returns-2)

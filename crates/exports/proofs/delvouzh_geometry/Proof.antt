@@ -1,0 +1,65 @@
+-- `exports::delvouzh_geometry` meets its contract: there is no room, or the figures are written. Assumes nothing.
+use borrow.Author.Needs.{needs}
+use Rattle.exports.proofs.Calls.{few-figures, few-counts, area-refused, area-written}
+use Rattle.exports.proofs.delvouzh_geometry.Statement.{statement}
+use Rattle.exports.proofs.delvouzh_geometry.Tie as tie
+
+returns : tie.Need-returns
+returns c =
+    let a = c .before .before .before .before .before .args in
+    area-refused _ _ _ _ _ _ (few-figures 3 (a .area .now) 4 (a .counts .now) (c .if1 .taken))
+
+returns-2 : tie.Need-returns-2
+returns-2 c =
+    let a = c .before .before .before .before .before .before .args in
+    area-refused _ _ _ _ _ _ (few-counts 3 (a .area .now) 4 (a .counts .now) (c .before .if1 .left) (c .if2 .taken))
+
+planform-form-requires : tie.Need-planform-form-requires
+planform-form-requires c κs = search needs
+
+area-figures-requires : tie.Need-area-figures-requires
+area-figures-requires c κs = search needs
+
+write-three-requires : tie.Need-write-three-requires
+write-three-requires c κs = search needs
+
+write-counts-requires : tie.Need-write-counts-requires
+write-counts-requires c κs = search needs
+
+number-requires : tie.Need-number-requires
+number-requires c κs = search needs
+
+same-length : tie.Need-same-length
+same-length c = search needs
+
+same-length-2 : tie.Need-same-length-2
+same-length-2 c = search needs
+
+same-length-3 : tie.Need-same-length-3
+same-length-3 c = search needs
+
+returns-3 : tie.Need-returns-3
+returns-3 c =
+    let w = c .before .before .before in
+    let b = w .before .before .before .before in
+    let f = b .before .before .before .before in
+    let s = f .before .before in
+    let k = s .before in
+    let h = k .before in
+    area-written _ _ _ _ _ _ (h .if1 .left) (k .if2 .left) (s .planform-form .result) (f .area-figures .result) _ _ _ _ (s .planform-form .ensures) (f .area-figures .ensures .0) (f .area-figures .ensures .1) (b .write-three .ensures) (w .write-counts .ensures) (c .number .ensures)
+
+pub delvouzh-geometry-spec : {M : Type 1} → statement M
+delvouzh-geometry-spec =
+    tie.close
+    (tie.spec
+    returns
+    returns-2
+    planform-form-requires
+    area-figures-requires
+    write-three-requires
+    write-counts-requires
+    number-requires
+    same-length
+    same-length-2
+    same-length-3
+    returns-3)

@@ -1,0 +1,65 @@
+-- `exports::delvouzh_mass_properties` meets its contract: there is no room, or the figures are written. Assumes nothing.
+use borrow.Author.Needs.{needs}
+use Rattle.exports.proofs.Calls.{few-figures, few-counts, set-refused, set-written}
+use Rattle.exports.proofs.delvouzh_mass_properties.Statement.{statement}
+use Rattle.exports.proofs.delvouzh_mass_properties.Tie as tie
+
+returns : tie.Need-returns
+returns c =
+    let a = c .before .before .before .before .before .before .args in
+    set-refused _ _ _ _ _ _ (few-figures 13 (a .body .now) 4 (a .counts .now) (c .if1 .taken))
+
+returns-2 : tie.Need-returns-2
+returns-2 c =
+    let a = c .before .before .before .before .before .before .before .args in
+    set-refused _ _ _ _ _ _ (few-counts 13 (a .body .now) 4 (a .counts .now) (c .before .if1 .left) (c .if2 .taken))
+
+set-form-requires : tie.Need-set-form-requires
+set-form-requires c κs = search needs
+
+set-figures-requires : tie.Need-set-figures-requires
+set-figures-requires c κs = search needs
+
+write-body-requires : tie.Need-write-body-requires
+write-body-requires c κs = search needs
+
+write-counts-requires : tie.Need-write-counts-requires
+write-counts-requires c κs = search needs
+
+number-requires : tie.Need-number-requires
+number-requires c κs = search needs
+
+same-length : tie.Need-same-length
+same-length c = search needs
+
+same-length-2 : tie.Need-same-length-2
+same-length-2 c = search needs
+
+same-length-3 : tie.Need-same-length-3
+same-length-3 c = search needs
+
+returns-3 : tie.Need-returns-3
+returns-3 c =
+    let w = c .before .before .before in
+    let b = w .before .before .before .before in
+    let f = b .before .before .before .before .before in
+    let s = f .before .before in
+    let k = s .before in
+    let h = k .before in
+    set-written _ _ _ _ _ _ (h .if1 .left) (k .if2 .left) (s .set-form .result) (f .set-figures .result) _ _ _ _ (s .set-form .ensures) (f .set-figures .ensures .0) (f .set-figures .ensures .1) (b .write-body .ensures) (w .write-counts .ensures) (c .number .ensures)
+
+pub delvouzh-mass-properties-spec : {M : Type 1} → statement M
+delvouzh-mass-properties-spec =
+    tie.close
+    (tie.spec
+    returns
+    returns-2
+    set-form-requires
+    set-figures-requires
+    write-body-requires
+    write-counts-requires
+    number-requires
+    same-length
+    same-length-2
+    same-length-3
+    returns-3)

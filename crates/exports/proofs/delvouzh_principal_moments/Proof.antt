@@ -1,0 +1,68 @@
+-- `exports::delvouzh_principal_moments` meets its contract: there is no room, or the moments are written. Assumes nothing.
+use borrow.Author.Needs.{needs}
+use Rattle.exports.proofs.Calls.{few-figures, few-counts, moments-refused, moments-written}
+use Rattle.exports.proofs.delvouzh_principal_moments.Statement.{statement}
+use Rattle.exports.proofs.delvouzh_principal_moments.Tie as tie
+
+returns : tie.Need-returns
+returns c =
+    let a = c .before .before .before .before .args in
+    moments-refused _ _ _ (few-figures 3 (a .moments .now) 2 (a .values .now) (c .if1 .taken))
+
+returns-2 : tie.Need-returns-2
+returns-2 c =
+    let a = c .before .before .before .before .before .args in
+    moments-refused _ _ _ (few-counts 3 (a .moments .now) 2 (a .values .now) (c .before .if1 .left) (c .if2 .taken))
+
+tensor-moments-requires : tie.Need-tensor-moments-requires
+tensor-moments-requires c κs = search needs
+
+array-read-write-three : tie.Need-array-read-write-three
+array-read-write-three c = search needs
+
+array-read-write-three-2 : tie.Need-array-read-write-three-2
+array-read-write-three-2 c = search needs
+
+array-read-write-three-3 : tie.Need-array-read-write-three-3
+array-read-write-three-3 c = search needs
+
+write-three-requires : tie.Need-write-three-requires
+write-three-requires c κs = search needs
+
+write-values-requires : tie.Need-write-values-requires
+write-values-requires c κs = search needs
+
+number-requires : tie.Need-number-requires
+number-requires c κs = search needs
+
+same-length : tie.Need-same-length
+same-length c = search needs
+
+same-length-2 : tie.Need-same-length-2
+same-length-2 c = search needs
+
+returns-3 : tie.Need-returns-3
+returns-3 c =
+    let w = c .before .before .before in
+    let b = w .before .before .before .before in
+    let m = b .before .before .before in
+    let k = m .before in
+    let h = k .before in
+    moments-written _ _ _ (h .if1 .left) (k .if2 .left) (m .tensor-moments .result) _ _ _ (m .tensor-moments .ensures) (b .write-three .ensures) (w .write-values .ensures) (c .number .ensures)
+
+pub delvouzh-principal-moments-spec : {M : Type 1} → statement M
+delvouzh-principal-moments-spec =
+    tie.close
+    (tie.spec
+    returns
+    returns-2
+    tensor-moments-requires
+    array-read-write-three
+    array-read-write-three-2
+    array-read-write-three-3
+    write-three-requires
+    write-values-requires
+    number-requires
+    same-length
+    same-length-2
+    returns-3)

@@ -1,0 +1,24 @@
+-- `exports::density_form` meets its contract: the definition goes by the same tests. Assumes nothing.
+use borrow.Author.Tests.{eq-eqb, ne-eqb}
+use Rattle.exports.specs.Forms.{densityForm}
+use Rattle.exports.proofs.density_form.Statement.{statement}
+use Rattle.exports.proofs.density_form.Tie as tie
+
+returns : tie.Need-returns
+unfolding densityForm
+returns c = simp (eq-eqb _ _ (c .if1 .taken))
+
+returns-2 : tie.Need-returns-2
+unfolding densityForm
+returns-2 c = simp (ne-eqb _ _ (c .before .if1 .left), eq-eqb _ _ (c .if2 .taken))
+
+returns-3 : tie.Need-returns-3
+unfolding densityForm
+returns-3 c = simp (ne-eqb _ _ (c .before .before .if1 .left), ne-eqb _ _ (c .before .if2 .left), eq-eqb _ _ (c .if3 .taken))
+
+returns-4 : tie.Need-returns-4
+unfolding densityForm
+returns-4 c = simp (ne-eqb _ _ (c .before .before .if1 .left), ne-eqb _ _ (c .before .if2 .left), ne-eqb _ _ (c .if3 .left))
+
+pub density-form-spec : {M : Type 1} → statement M
+density-form-spec = tie.close (tie.spec returns returns-2 returns-3 returns-4)

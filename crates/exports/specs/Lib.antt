@@ -1,0 +1,3 @@
+pub mod Forms
+pub mod Numbers
+pub mod Calls

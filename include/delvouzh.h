@@ -1,0 +1,89 @@
+/* Fin figures that are proved: the functions of libexports.a, which `rt staticlib exports` writes (x86-64 Linux).
+ *
+ * Lengths are metres, angles radians, figures f64. Every function but delvouzh_sqrt returns 0, or the number of a refusal:
+ *
+ *      1 limit not 1 to 4000             7 outline touches itself       13 not converged
+ *      2 scratch under 16 * limit        8 no area, or no volume        14 integrand not finite
+ *      3 count not 1 to 32               9 angle outside its limits     15 body mass
+ *      4 length outside its limits      10 tab off the root chord       16 body centre
+ *      5 points not 3 to 64 pairs       11 tab deeper than the body     17 body tensor
+ *      6 first or last point            12 density                      18 no form
+ *
+ * It writes its figures and counts over the start of the lent arrays; a refusal writes zero figures. Two counts are the values of a
+ * refusal: the field of 4 and 9, the two edges of 7, the component of 13, the case of 17 (a to e as 0 to 4); else both are 0.
+ * Fields: 1 root chord, 2 tip chord, 3 span, 4 sweep, 5 x, 6 y, 7 thickness, 8 tab height, 9 tab length, 10 tab offset,
+ * 11 body radius, 12 cant, 13 base angle. Edges and components are counted from 0.
+ *
+ * 18 is an unknown number of a planform, section, tab or density, or another count of numbers than it asks for. An array that is too
+ * short for what is written over it is 18 too, and then nothing at all is written.
+ *
+ * An array goes in as a pointer and how many numbers lie there. The pointer is never null, also where there are none; arrays that
+ * are written overlap no other.
+ */
+#ifndef DELVOUZH_H
+#define DELVOUZH_H
+
+#include <stddef.h>
+
+#ifdef __cplusplus
+extern "C" {
+#endif
+
+/* A planform, and the numbers that `lengths` holds. */
+#define DELVOUZH_TRAPEZOID 1 /* 4: root chord, tip chord, span, sweep */
+#define DELVOUZH_ELLIPSE 2   /* 2: root chord, span */
+#define DELVOUZH_OUTLINE 3   /* x, y of each point; y is the height above the root */
+
+#define DELVOUZH_SQUARE 1
+#define DELVOUZH_ROUNDED 2
+#define DELVOUZH_AIRFOIL 3
+
+#define DELVOUZH_NO_TAB 0
+#define DELVOUZH_TAB 1
+
+#define DELVOUZH_BULK 1
+#define DELVOUZH_SURFACE 2
+#define DELVOUZH_LINE 3
+
+/* Numbers that a call writes: a body is its mass, centre x, y, z, and inertia tensor in three columns. */
+#define DELVOUZH_BODY 13
+#define DELVOUZH_AREA 3
+#define DELVOUZH_MOMENTS 3
+#define DELVOUZH_COUNTS 4
+#define DELVOUZH_VALUES 2
+
+/* A set's figures. `figures`: thickness, cant, base angle, body radius, density; with a tab also its height, length and offset.
+ * Writes a body, and as counts two values of a refusal, the intervals and the samples. `scratch` has at least 16 * limit numbers. */
+size_t delvouzh_mass_properties(size_t limit, size_t count, size_t planform, const double *lengths, size_t lengths_len,
+                                size_t section, size_t tab, size_t density, const double *figures, size_t figures_len,
+                                double *scratch, size_t scratch_len, double *body, size_t body_len, size_t *counts,
+                                size_t counts_len);
+
+/* A planform's area and its centroid, x, then height. Counts and scratch as above. */
+size_t delvouzh_geometry(size_t limit, size_t planform, const double *lengths, size_t lengths_len, double *scratch,
+                         size_t scratch_len, double *area, size_t area_len, size_t *counts, size_t counts_len);
+
+/* 1 to 32 bodies, one after another, joined into one. Refused 3 or 18 alone. */
+size_t delvouzh_combine(const double *bodies, size_t bodies_len, double *body, size_t body_len);
+
+/* The principal moments of a tensor, nine numbers in three columns, ascending. Writes two values of a refusal. */
+size_t delvouzh_principal_moments(const double *tensor, size_t tensor_len, double *moments, size_t moments_len,
+                                  size_t *values, size_t values_len);
+
+/* Whether a body could be a real one. Writes two values of a refusal. */
+size_t delvouzh_check(const double *body, size_t body_len, size_t *values, size_t values_len);
+
+/* The answer to a card line (docs/FORMS.md), without its newline. Returns how many bytes are written over the start of `answer`: at most
+ * DELVOUZH_ANSWER, or 0 where there is no room for so many. */
+#define DELVOUZH_ANSWER 320
+size_t delvouzh_answer_line(const unsigned char *line, size_t line_len, double *scratch, size_t scratch_len,
+                            unsigned char *answer, size_t answer_len);
+
+/* The square root: the nearest f64. */
+double delvouzh_sqrt(double x);
+
+#ifdef __cplusplus
+}
+#endif
+
+#endif

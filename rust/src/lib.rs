@@ -1,0 +1,316 @@
+//! Fin figures that are proved: safe calls of the static library `libexports.a`, whose functions include/delvouzh.h declares.
+//!
+//! The library is proved against its contracts; this crate only hands over numbers and slices, and is not proved. Lengths are metres,
+//! angles radians.
+
+mod raw;
+mod refusals;
+
+pub use refusals::{Refusal, Refused, TensorFault};
+
+/// The outline of one fin.
+#[derive(Debug, Clone, Copy, PartialEq)]
+pub enum Planform<'a> {
+    Trapezoid {
+        root_chord_m: f64,
+        tip_chord_m: f64,
+        span_m: f64,
+        sweep_m: f64,
+    },
+    Ellipse {
+        root_chord_m: f64,
+        span_m: f64,
+    },
+    /// Points (x, height), from the root's leading edge (0, 0) around to its trailing edge (c, 0).
+    Outline {
+        points_m: &'a [[f64; 2]],
+    },
+}
+
+/// The shape of a fin's section along its chord.
+#[derive(Debug, Clone, Copy, PartialEq, Eq)]
+pub enum Section {
+    Square,
+    Rounded,
+    Airfoil,
+}
+
+/// A rectangular tab below each root.
+#[derive(Debug, Clone, Copy, PartialEq)]
+pub struct Tab {
+    pub height_m: f64,
+    pub length_m: f64,
+    pub offset_m: f64,
+}
+
+/// A density, with its units in the case. Only bulk is taken.
+#[derive(Debug, Clone, Copy, PartialEq)]
+pub enum Density {
+    Bulk { kg_m3: f64 },
+    Surface { kg_m2: f64 },
+    Line { kg_m: f64 },
+}
+
+/// Identical fins spaced evenly around a body.
+#[derive(Debug, Clone, Copy, PartialEq)]
+pub struct FinSet<'a> {
+    pub count: usize,
+    pub planform: Planform<'a>,
+    pub thickness_m: f64,
+    pub section: Section,
+    pub tab: Option<Tab>,
+    pub cant_rad: f64,
+    pub base_angle_rad: f64,
+    pub body_radius_m: f64,
+    pub density: Density,
+}
+
+/// A rigid body: thirteen numbers one after another, as the library has them.
+#[derive(Debug, Clone, Copy, PartialEq)]
+#[repr(C)]
+pub struct Body {
+    pub mass_kg: f64,
+    pub centre_m: [f64; 3],
+    /// Three columns.
+    pub inertia_kg_m2: [f64; 9],
+}
+
+impl Body {
+    pub const ZERO: Self = Self {
+        mass_kg: 0.0,
+        centre_m: [0.0; 3],
+        inertia_kg_m2: [0.0; 9],
+    };
+
+    /// A point mass.
+    pub const fn point(mass_kg: f64, centre_m: [f64; 3]) -> Self {
+        Self {
+            mass_kg,
+            centre_m,
+            inertia_kg_m2: [0.0; 9],
+        }
+    }
+
+    fn from_numbers(numbers: [f64; raw::BODY]) -> Self {
+        let [mass_kg, x, y, z, inertia_kg_m2 @ ..] = numbers;
+        Self {
+            mass_kg,
+            centre_m: [x, y, z],
+            inertia_kg_m2,
+        }
+    }
+
+    fn numbers(bodies: &[Self]) -> &[f64] {
+        // Body is thirteen f64s in C's layout, without padding.
+        unsafe { std::slice::from_raw_parts(bodies.as_ptr().cast(), raw::BODY * bodies.len()) }
+    }
+}
+
+/// A set's body, with the totals of intervals and samples.
+#[derive(Debug, Clone, Copy, PartialEq)]
+pub struct Figures {
+    pub body: Body,
+    pub intervals: usize,
+    pub samples: usize,
+}
+
+/// A planform's area and centroid, likewise.
+#[derive(Debug, Clone, Copy, PartialEq)]
+pub struct Area {
+    pub area_m2: f64,
+    pub centroid_x_m: f64,
+    pub centroid_span_m: f64,
+    pub intervals: usize,
+    pub samples: usize,
+}
+
+/// The numbers of scratch that a call with this limit asks for; a limit over 4000 is refused in any case.
+pub const fn scratch_len(limit: usize) -> usize {
+    limit.saturating_mul(16)
+}
+
+/// A set's figures, with at most `limit` intervals a strip.
+pub fn mass_properties(set: &FinSet, limit: usize, scratch: &mut [f64]) -> Result<Figures, Refused> {
+    let mut short = [0.0; 4];
+    let (planform, lengths) = set.planform.crossing(&mut short);
+    let (density, value) = set.density.crossing();
+    let mut figures = [0.0; 8];
+    let (tab, figures) = set.crossing(value, &mut figures);
+    let mut body = [0.0; raw::BODY];
+    let mut counts = [0; raw::COUNTS];
+    let number = unsafe {
+        raw::delvouzh_mass_properties(
+            limit,
+            set.count,
+            planform,
+            lengths.as_ptr(),
+            lengths.len(),
+            set.section as usize + 1,
+            tab,
+            density,
+            figures.as_ptr(),
+            figures.len(),
+            scratch.as_mut_ptr(),
+            scratch.len(),
+            body.as_mut_ptr(),
+            body.len(),
+            counts.as_mut_ptr(),
+            counts.len(),
+        )
+    };
+    let [first, second, intervals, samples] = counts;
+    Refused::unless_zero(number, [first, second], samples)?;
+    let body = Body::from_numbers(body);
+    Ok(Figures {
+        body,
+        intervals,
+        samples,
+    })
+}
+
+/// A planform's area and centroid, with at most `limit` intervals a strip.
+pub fn geometry(planform: &Planform, limit: usize, scratch: &mut [f64]) -> Result<Area, Refused> {
+    let mut short = [0.0; 4];
+    let (number, lengths) = planform.crossing(&mut short);
+    let mut area = [0.0; raw::AREA];
+    let mut counts = [0; raw::COUNTS];
+    let number = unsafe {
+        raw::delvouzh_geometry(
+            limit,
+            number,
+            lengths.as_ptr(),
+            lengths.len(),
+            scratch.as_mut_ptr(),
+            scratch.len(),
+            area.as_mut_ptr(),
+            area.len(),
+            counts.as_mut_ptr(),
+            counts.len(),
+        )
+    };
+    let [first, second, intervals, samples] = counts;
+    Refused::unless_zero(number, [first, second], samples)?;
+    let [area_m2, centroid_x_m, centroid_span_m] = area;
+    Ok(Area {
+        area_m2,
+        centroid_x_m,
+        centroid_span_m,
+        intervals,
+        samples,
+    })
+}
+
+/// 1 to 32 bodies joined into one rigid body.
+pub fn combine(bodies: &[Body]) -> Result<Body, Refusal> {
+    let numbers = Body::numbers(bodies);
+    let mut body = [0.0; raw::BODY];
+    let number = unsafe { raw::delvouzh_combine(numbers.as_ptr(), numbers.len(), body.as_mut_ptr(), body.len()) };
+    Refusal::unless_zero(number, [0, 0])?;
+    Ok(Body::from_numbers(body))
+}
+
+/// The principal moments of a tensor (three columns), ascending.
+pub fn principal_moments(tensor: &[f64; 9]) -> Result<[f64; 3], Refusal> {
+    let mut moments = [0.0; raw::MOMENTS];
+    let mut values = [0; raw::VALUES];
+    let number = unsafe {
+        raw::delvouzh_principal_moments(
+            tensor.as_ptr(),
+            tensor.len(),
+            moments.as_mut_ptr(),
+            moments.len(),
+            values.as_mut_ptr(),
+            values.len(),
+        )
+    };
+    Refusal::unless_zero(number, values)?;
+    Ok(moments)
+}
+
+/// Whether a body could be a real one.
+pub fn check(body: &Body) -> Result<(), Refusal> {
+    let numbers = Body::numbers(std::slice::from_ref(body));
+    let mut values = [0; raw::VALUES];
+    let number = unsafe { raw::delvouzh_check(numbers.as_ptr(), numbers.len(), values.as_mut_ptr(), values.len()) };
+    Refusal::unless_zero(number, values)
+}
+
+/// The answer to a card line (docs/FORMS.md); neither has a newline.
+pub fn answer_line(line: &[u8], scratch: &mut [f64]) -> Vec<u8> {
+    let mut answer = vec![0; raw::ANSWER];
+    let len = unsafe {
+        raw::delvouzh_answer_line(
+            line.as_ptr(),
+            line.len(),
+            scratch.as_mut_ptr(),
+            scratch.len(),
+            answer.as_mut_ptr(),
+            answer.len(),
+        )
+    };
+    answer.truncate(len);
+    answer
+}
+
+/// The square root: the nearest f64.
+pub fn sqrt(x: f64) -> f64 {
+    unsafe { raw::delvouzh_sqrt(x) }
+}
+
+impl FinSet<'_> {
+    /// The tab's number, and the figures of the set with those of the tab.
+    fn crossing<'b>(&self, density: f64, figures: &'b mut [f64; 8]) -> (usize, &'b [f64]) {
+        let Self {
+            thickness_m,
+            cant_rad,
+            base_angle_rad,
+            body_radius_m,
+            tab,
+            ..
+        } = *self;
+        figures[..5].copy_from_slice(&[thickness_m, cant_rad, base_angle_rad, body_radius_m, density]);
+        let Some(Tab {
+            height_m,
+            length_m,
+            offset_m,
+        }) = tab
+        else {
+            return (0, &figures[..5]);
+        };
+        figures[5..].copy_from_slice(&[height_m, length_m, offset_m]);
+        (1, figures)
+    }
+}
+
+impl Planform<'_> {
+    /// The planform's number and its figures, which are written to `short` unless they are points.
+    fn crossing<'b>(&'b self, short: &'b mut [f64; 4]) -> (usize, &'b [f64]) {
+        match *self {
+            Self::Trapezoid {
+                root_chord_m,
+                tip_chord_m,
+                span_m,
+                sweep_m,
+            } => {
+                *short = [root_chord_m, tip_chord_m, span_m, sweep_m];
+                (1, short)
+            }
+            Self::Ellipse { root_chord_m, span_m } => {
+                short[..2].copy_from_slice(&[root_chord_m, span_m]);
+                (2, &short[..2])
+            }
+            Self::Outline { points_m } => (3, points_m.as_flattened()),
+        }
+    }
+}
+
+impl Density {
+    /// The density's number, and its figure.
+    fn crossing(self) -> (usize, f64) {
+        match self {
+            Self::Bulk { kg_m3 } => (1, kg_m3),
+            Self::Surface { kg_m2 } => (2, kg_m2),
+            Self::Line { kg_m } => (3, kg_m),
+        }
+    }
+}

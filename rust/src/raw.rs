@@ -1,0 +1,66 @@
+//! The functions as include/delvouzh.h declares them, and how many numbers each one writes.
+
+pub const BODY: usize = 13;
+pub const AREA: usize = 3;
+pub const MOMENTS: usize = 3;
+pub const COUNTS: usize = 4;
+pub const VALUES: usize = 2;
+pub const ANSWER: usize = 320;
+
+extern "C" {
+    pub fn delvouzh_mass_properties(
+        limit: usize,
+        count: usize,
+        planform: usize,
+        lengths: *const f64,
+        lengths_len: usize,
+        section: usize,
+        tab: usize,
+        density: usize,
+        figures: *const f64,
+        figures_len: usize,
+        scratch: *mut f64,
+        scratch_len: usize,
+        body: *mut f64,
+        body_len: usize,
+        counts: *mut usize,
+        counts_len: usize,
+    ) -> usize;
+
+    pub fn delvouzh_geometry(
+        limit: usize,
+        planform: usize,
+        lengths: *const f64,
+        lengths_len: usize,
+        scratch: *mut f64,
+        scratch_len: usize,
+        area: *mut f64,
+        area_len: usize,
+        counts: *mut usize,
+        counts_len: usize,
+    ) -> usize;
+
+    pub fn delvouzh_combine(bodies: *const f64, bodies_len: usize, body: *mut f64, body_len: usize) -> usize;
+
+    pub fn delvouzh_principal_moments(
+        tensor: *const f64,
+        tensor_len: usize,
+        moments: *mut f64,
+        moments_len: usize,
+        values: *mut usize,
+        values_len: usize,
+    ) -> usize;
+
+    pub fn delvouzh_check(body: *const f64, body_len: usize, values: *mut usize, values_len: usize) -> usize;
+
+    pub fn delvouzh_answer_line(
+        line: *const u8,
+        line_len: usize,
+        scratch: *mut f64,
+        scratch_len: usize,
+        answer: *mut u8,
+        answer_len: usize,
+    ) -> usize;
+
+    pub fn delvouzh_sqrt(x: f64) -> f64;
+}

@@ -1,0 +1,226 @@
+//! Each call, with figures and refused; the worked examples are document 01's.
+use delvouzh::{
+    answer_line, check, combine, geometry, mass_properties, principal_moments, scratch_len, sqrt, Body, Density, FinSet, Planform,
+    Refusal, Section, Tab, TensorFault,
+};
+
+const TRAPEZOID: Planform = Planform::Trapezoid {
+    root_chord_m: 0.2,
+    tip_chord_m: 0.1,
+    span_m: 0.15,
+    sweep_m: 0.05,
+};
+
+const ELLIPSE: Planform = Planform::Ellipse {
+    root_chord_m: 0.2,
+    span_m: 0.1,
+};
+
+fn set(planform: Planform) -> FinSet {
+    FinSet {
+        count: 3,
+        planform,
+        thickness_m: 0.003,
+        section: Section::Square,
+        tab: None,
+        cant_rad: 0.0,
+        base_angle_rad: 0.0,
+        body_radius_m: 0.05,
+        density: Density::Bulk { kg_m3: 680.0 },
+    }
+}
+
+fn refusal(set: FinSet) -> Refusal {
+    let mut scratch = vec![7.0; scratch_len(8)];
+    let refused = mass_properties(&set, 8, &mut scratch).unwrap_err();
+    assert_eq!(refused.samples, 0);
+    assert!(
+        scratch.iter().all(|&x| x == 7.0),
+        "a check before the strips writes no scratch"
+    );
+    refused.refusal
+}
+
+fn near(a: f64, b: f64) -> bool {
+    (a - b).abs() <= 1e-12 * b.abs()
+}
+
+#[test]
+fn a_set_has_figures() {
+    let mut scratch = vec![0.0; scratch_len(8)];
+    let figures = mass_properties(&set(TRAPEZOID), 8, &mut scratch).unwrap();
+    assert!(near(figures.body.mass_kg, 3.0 * 680.0 * 0.003 * 0.15 * 0.15));
+    assert_eq!((figures.intervals, figures.samples), (1, 15));
+    assert_eq!(
+        scratch[1],
+        0.15 / 0.35,
+        "the first piece ends at the span over root chord plus span"
+    );
+    check(&figures.body).unwrap();
+}
+
+#[test]
+fn each_section_and_tab_changes_the_mass() {
+    let mut scratch = vec![0.0; scratch_len(64)];
+    let mut mass = |set: FinSet| mass_properties(&set, 64, &mut scratch).unwrap().body.mass_kg;
+    let square = mass(set(TRAPEZOID));
+    let rounded = mass(FinSet {
+        section: Section::Rounded,
+        ..set(TRAPEZOID)
+    });
+    let airfoil = mass(FinSet {
+        section: Section::Airfoil,
+        ..set(TRAPEZOID)
+    });
+    let tab = Tab {
+        height_m: 0.01,
+        length_m: 0.1,
+        offset_m: 0.05,
+    };
+    let tabbed = mass(FinSet {
+        tab: Some(tab),
+        ..set(TRAPEZOID)
+    });
+    assert!(airfoil < rounded && rounded < square);
+    assert!(near(tabbed - square, 3.0 * 680.0 * 0.003 * 0.01 * 0.1));
+}
+
+#[test]
+fn an_outline_has_the_trapezoid_s_area() {
+    let points_m = [[0.0, 0.0], [0.05, 0.15], [0.15, 0.15], [0.2, 0.0]];
+    let mut scratch = vec![0.0; scratch_len(8)];
+    for planform in [TRAPEZOID, Planform::Outline { points_m: &points_m }] {
+        let area = geometry(&planform, 8, &mut scratch).unwrap();
+        assert!(near(area.area_m2, 0.0225));
+        assert_eq!((area.intervals, area.samples), (1, 15));
+    }
+    let area = geometry(&ELLIPSE, 64, &mut vec![0.0; scratch_len(64)]).unwrap();
+    assert!((area.area_m2 - std::f64::consts::PI * 0.2 * 0.1 / 4.0).abs() < 1e-13);
+    assert!(near(area.centroid_x_m, 0.1));
+}
+
+#[test]
+fn limits_are_refused_by_number_and_field() {
+    let mut scratch = vec![0.0; 128];
+    let refused = |limit, scratch: &mut [f64]| mass_properties(&set(ELLIPSE), limit, scratch).unwrap_err();
+    assert_eq!(refused(0, &mut scratch).refusal, Refusal::Limit);
+    assert_eq!(refused(4001, &mut scratch).refusal, Refusal::Limit);
+    assert_eq!(refused(8, &mut scratch[..127]).refusal, Refusal::Scratch);
+    let refused = refused(1, &mut scratch);
+    assert_eq!(refused.refusal.number(), 13);
+    assert_eq!(refused.samples, 15);
+    assert_eq!(
+        refusal(FinSet {
+            count: 0,
+            ..set(TRAPEZOID)
+        }),
+        Refusal::Count
+    );
+    assert_eq!(
+        refusal(FinSet {
+            count: 33,
+            ..set(TRAPEZOID)
+        }),
+        Refusal::Count
+    );
+    let thin = FinSet {
+        thickness_m: 0.0,
+        ..set(TRAPEZOID)
+    };
+    assert_eq!(refusal(thin), Refusal::Length { field: 7 });
+    let turned = FinSet {
+        cant_rad: f64::NAN,
+        ..set(TRAPEZOID)
+    };
+    assert_eq!(refusal(turned), Refusal::Angle { field: 12 });
+    let sheet = FinSet {
+        density: Density::Surface { kg_m2: 0.1 },
+        ..set(TRAPEZOID)
+    };
+    assert_eq!(refusal(sheet), Refusal::Density);
+    let tab = |height_m, offset_m| FinSet {
+        tab: Some(Tab {
+            height_m,
+            length_m: 0.1,
+            offset_m,
+        }),
+        ..set(TRAPEZOID)
+    };
+    assert_eq!(refusal(tab(0.02, -0.01)), Refusal::TabOffRoot);
+    assert_eq!(refusal(tab(0.06, 0.0)), Refusal::TabTooDeep);
+}
+
+#[test]
+fn outlines_are_refused_by_number_and_edges() {
+    let refused = |points_m: &[[f64; 2]]| refusal(set(Planform::Outline { points_m }));
+    assert_eq!(refused(&[]), Refusal::Points);
+    assert_eq!(refused(&[[0.0, 0.0], [0.1, 0.0]]), Refusal::Points);
+    assert_eq!(refused(&[[0.0, 0.0], [0.1, 0.1], [0.2, 0.1]]), Refusal::Ends);
+    let crossed = [[0.0, 0.0], [2.0, 1.0], [0.0, 1.0], [2.0, 0.0]];
+    assert_eq!(refused(&crossed), Refusal::Touches { edges: [0, 2] });
+    assert_eq!(refused(&[[0.0, 0.0], [1.0, 0.0], [2.0, 0.0]]), Refusal::NoArea);
+}
+
+#[test]
+fn points_are_joined() {
+    let joined = combine(&[Body::point(1.0, [0.0; 3]), Body::point(1.0, [2.0, 0.0, 0.0])]).unwrap();
+    let inertia_kg_m2 = [0.0, 0.0, 0.0, 0.0, 2.0, 0.0, 0.0, 0.0, 2.0];
+    let expected = Body {
+        mass_kg: 2.0,
+        centre_m: [1.0, 0.0, 0.0],
+        inertia_kg_m2,
+    };
+    assert_eq!(joined, expected);
+    assert_eq!(combine(&[]), Err(Refusal::Count));
+    assert_eq!(combine(&[Body::ZERO; 33]), Err(Refusal::Count));
+    assert_eq!(combine(&[Body::ZERO; 32]), Ok(Body::ZERO));
+}
+
+#[test]
+fn moments_ascend() {
+    let diagonal = |a, b, c| [a, 0.0, 0.0, 0.0, b, 0.0, 0.0, 0.0, c];
+    assert_eq!(principal_moments(&diagonal(2.0, 0.0, 2.0)), Ok([0.0, 2.0, 2.0]));
+    let entry = Refusal::Tensor(TensorFault::Entry);
+    assert_eq!(principal_moments(&diagonal(f64::INFINITY, 0.0, 0.0)), Err(entry));
+}
+
+#[test]
+fn bodies_are_checked() {
+    let body = |a, b, c| Body {
+        inertia_kg_m2: [a, 0.0, 0.0, 0.0, b, 0.0, 0.0, 0.0, c],
+        ..Body::point(1.0, [0.0; 3])
+    };
+    assert_eq!(check(&body(1.0, 2.0, 3.0)), Ok(()));
+    assert_eq!(check(&body(1.0, 1.0, 3.0)), Err(Refusal::Tensor(TensorFault::Triangle)));
+    assert_eq!(
+        check(&body(-1.0, 1.0, 1.0)),
+        Err(Refusal::Tensor(TensorFault::Negative))
+    );
+    let mut bent = body(1.0, 1.0, 1.0);
+    bent.inertia_kg_m2[1] = 0.5;
+    assert_eq!(check(&bent), Err(Refusal::Tensor(TensorFault::Asymmetric)));
+    assert_eq!(
+        check(&Body { mass_kg: 0.0, ..bent }),
+        Err(Refusal::Tensor(TensorFault::Massless))
+    );
+    assert_eq!(check(&Body::point(-1.0, [0.0; 3])), Err(Refusal::Mass));
+    assert_eq!(check(&Body::point(1.0, [0.0, f64::NAN, 0.0])), Err(Refusal::Centre));
+}
+
+#[test]
+fn lines_are_answered() {
+    let mut scratch = [0.0; 1024];
+    assert_eq!(answer_line(b"(join)", &mut scratch), b"(refused 3)");
+    assert_eq!(answer_line(b"(set", &mut scratch), b"(refused 18)");
+    let moments = format!("(moments {0} {1} {1} {1} {1} {1} {1} {1} {0})", "4000000000000000", "0000000000000000");
+    let answer = b"(moments 0000000000000000 4000000000000000 4000000000000000)";
+    assert_eq!(answer_line(moments.as_bytes(), &mut scratch), answer);
+}
+
+#[test]
+fn the_root_is_the_hardware_s() {
+    for x in [0.0, 2.0, 4.0, f64::MIN_POSITIVE, 5e-324, f64::MAX, f64::INFINITY] {
+        assert_eq!(sqrt(x).to_bits(), x.sqrt().to_bits());
+    }
+    assert!(sqrt(-1.0).is_nan());
+}
