@@ -1,7 +1,7 @@
 // What a line asks, as the calls take it (docs/FORMS.md): a planform, a set, points to join, a tensor, a body.
 //
-// A line's figures stand in a lent slice in the order of its form. A figure past the slice's end, which no form that was read has, is a
-// NaN, so that any request and any figures may be handed in.
+// A line's figures stand in a lent slice in the order of its form. Any request and any figures may be handed in: a figure past the slice's
+// end is a NaN.
 ghost use mathlib.Core.Path.{_≡_};
 ghost use Prim.Native.Nat.{_+_, _*_, _≤_, min};
 ghost use lib.ListN.{length};

@@ -1,8 +1,10 @@
 -- `lines::put_set` meets its contract: each arm knows its case. Assumes nothing.
 use mathlib.Core.List.{List}
-use mathlib.Core.Path.{ap}
+use mathlib.Core.Path.{sym, ap, _∙_}
 use lib.Ieee.{Float}
+use Rattle.refusals.specs.declared.Verdict.{Verdict}
 use Rattle.answers.specs.Answers.{figuresText}
+use Rattle.lines.specs.Lines.{printedSet}
 use Rattle.lines.proofs.Texts.{same-text}
 use borrow.Author.Needs.{needs}
 use Rattle.lines.proofs.put_set.Statement.{statement}
@@ -33,13 +35,18 @@ returns : tie.Need-returns
 returns c =
     let b = c .before .before .before .before .before in
     let f = b .before .before .before .before .before .args .f in
-    rw (b .before .enum-told .given .1) (same-text (ap (λ (l : List Float). figuresText l (f .intervals) (f .samples)) (b .body-numbers .ensures)) (c .before .before .put-figures .ensures))
+    same-text
+    (ap (λ (l : List Float). figuresText l (f .intervals) (f .samples)) (b .body-numbers .ensures) ∙ ap (λ (v : Verdict). printedSet v f) (sym (b .before .enum-told .given .1)))
+    (c .before .before .put-figures .ensures)
 
 same-length-2 : tie.Need-same-length-2
 same-length-2 c = search needs
 
 returns-2 : tie.Need-returns-2
-returns-2 c = rw (c .before .before .before .before .before .verdict .given .1) (c .before .before .put-refusal .ensures)
+returns-2 c =
+    let v = c .before .before .before .before .before in
+    let f = v .before .before .before .before .args .f in
+    same-text (ap (λ (x : Verdict). printedSet x f) (sym (v .verdict .given .1))) (c .before .before .put-refusal .ensures)
 
 pub put-set-spec : {M : Type 1} → statement M
 put-set-spec =
