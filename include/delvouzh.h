@@ -1,6 +1,7 @@
 /* Fin figures that are proved: the functions of libexports.a, which `rt staticlib exports` writes (x86-64 Linux).
  *
- * Lengths are metres, angles radians, figures f64. Every function but delvouzh_sqrt returns 0, or the number of a refusal:
+ * Lengths are metres, angles radians, figures f64. Every function but delvouzh_answer_line and delvouzh_sqrt returns 0, or the number of
+ * a refusal:
  *
  *      1 limit not 1 to 4000             7 outline touches itself       13 not converged
  *      2 scratch under 16 * limit        8 no area, or no volume        14 integrand not finite
@@ -14,8 +15,9 @@
  * Fields: 1 root chord, 2 tip chord, 3 span, 4 sweep, 5 x, 6 y, 7 thickness, 8 tab height, 9 tab length, 10 tab offset,
  * 11 body radius, 12 cant, 13 base angle. Edges and components are counted from 0.
  *
- * 18 is an unknown number of a planform, section, tab or density, or another count of numbers than it asks for. An array that is too
- * short for what is written over it is 18 too, and then nothing at all is written.
+ * 18 is an unknown number of a planform, section, tab or density, or another count of numbers than it asks for, with two exceptions:
+ * an outline's numbers that are not 3 to 64 whole pairs are 5, and a join's that are not 1 to 32 whole bodies are 3. An array that is
+ * too short for what is written over it is 18 too, and then nothing at all is written.
  *
  * An array goes in as a pointer and how many numbers lie there. The pointer is never null, also where there are none; arrays that
  * are written overlap no other.
@@ -63,7 +65,8 @@ size_t delvouzh_mass_properties(size_t limit, size_t count, size_t planform, con
 size_t delvouzh_geometry(size_t limit, size_t planform, const double *lengths, size_t lengths_len, double *scratch,
                          size_t scratch_len, double *area, size_t area_len, size_t *counts, size_t counts_len);
 
-/* 1 to 32 bodies, one after another, joined into one. Refused 3 or 18 alone. */
+/* 1 to 32 bodies, 13 numbers each, one after another, joined into one. Any other count of numbers is 3; a `body` that is too short is 18.
+ * No other number is given. */
 size_t delvouzh_combine(const double *bodies, size_t bodies_len, double *body, size_t body_len);
 
 /* The principal moments of a tensor, nine numbers in three columns, ascending. Writes two values of a refusal. */

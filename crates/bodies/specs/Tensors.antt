@@ -13,15 +13,15 @@ vector x y z = record { x = x; y = y; z = z }
 abbrev pub tensor : (ℕ → Float) → Tensor
 tensor f = record { 0 = tabulate 9 f }
 
-abbrev pub number : Tensor → ℕ → Float
-number t i = at (t .0) i
+abbrev pub numberAt : Tensor → ℕ → Float
+numberAt t i = at (t .0) i
 
 -- a tensor by its columns, and its columns
 abbrev pub fromColumns : Centre → Centre → Centre → Tensor
 fromColumns u v w = record { 0 = u .x ∷ u .y ∷ u .z ∷ v .x ∷ v .y ∷ v .z ∷ w .x ∷ w .y ∷ w .z ∷ [] }
 
 abbrev pub column : Tensor → ℕ → Centre
-column t j = vector (number t (3 * j)) (number t (3 * j + 1)) (number t (3 * j + 2))
+column t j = vector (numberAt t (3 * j)) (numberAt t (3 * j + 1)) (numberAt t (3 * j + 2))
 
 abbrev pub zeroVector : Centre
 zeroVector = vector (bits 0) (bits 0) (bits 0)
@@ -46,20 +46,20 @@ abbrev pub dot : Centre → Centre → Float
 dot u v = u .x ⊗ v .x ⊕ u .y ⊗ v .y ⊕ u .z ⊗ v .z
 
 abbrev pub addTensors : Tensor → Tensor → Tensor
-addTensors a b = tensor (λ i. number a i ⊕ number b i)
+addTensors a b = tensor (λ i. numberAt a i ⊕ numberAt b i)
 
 abbrev pub subtractTensors : Tensor → Tensor → Tensor
-subtractTensors a b = tensor (λ i. number a i ⊖ number b i)
+subtractTensors a b = tensor (λ i. numberAt a i ⊖ numberAt b i)
 
 abbrev pub scaleTensor : Tensor → Float → Tensor
-scaleTensor a k = tensor (λ i. number a i ⊗ k)
+scaleTensor a k = tensor (λ i. numberAt a i ⊗ k)
 
 abbrev pub transposeOf : Tensor → Tensor
 transposeOf a =
     fromColumns
-    (vector (number a 0) (number a 3) (number a 6))
-    (vector (number a 1) (number a 4) (number a 7))
-    (vector (number a 2) (number a 5) (number a 8))
+    (vector (numberAt a 0) (numberAt a 3) (numberAt a 6))
+    (vector (numberAt a 1) (numberAt a 4) (numberAt a 7))
+    (vector (numberAt a 2) (numberAt a 5) (numberAt a 8))
 
 -- "matrix times vector is column 1·x, plus column 2·y, plus column 3·z"
 abbrev pub timesVector : Tensor → Centre → Centre

@@ -142,18 +142,32 @@ impl Tensor {
     pub fn times(self, other: Tensor) -> Tensor
         ensures { λ r. ⌜ r ≡ timesTensor self other ⌝ }
     {
-        let a = self.0;
         let b = other.0;
+        let first = self.times_vector(Centre {
+            x: b[0],
+            y: b[1],
+            z: b[2],
+        });
+        let second = self.times_vector(Centre {
+            x: b[3],
+            y: b[4],
+            z: b[5],
+        });
+        let third = self.times_vector(Centre {
+            x: b[6],
+            y: b[7],
+            z: b[8],
+        });
         Tensor([
-            a[0] * b[0] + a[3] * b[1] + a[6] * b[2],
-            a[1] * b[0] + a[4] * b[1] + a[7] * b[2],
-            a[2] * b[0] + a[5] * b[1] + a[8] * b[2],
-            a[0] * b[3] + a[3] * b[4] + a[6] * b[5],
-            a[1] * b[3] + a[4] * b[4] + a[7] * b[5],
-            a[2] * b[3] + a[5] * b[4] + a[8] * b[5],
-            a[0] * b[6] + a[3] * b[7] + a[6] * b[8],
-            a[1] * b[6] + a[4] * b[7] + a[7] * b[8],
-            a[2] * b[6] + a[5] * b[7] + a[8] * b[8],
+            first.x,
+            first.y,
+            first.z,
+            second.x,
+            second.y,
+            second.z,
+            third.x,
+            third.y,
+            third.z,
         ])
     }
 

@@ -8,12 +8,11 @@ use Rattle.floats.specs.Floats.{isFinite, absOf, maxOf}
 use Rattle.bodies.specs.declared.Body.{Body}
 use Rattle.bodies.specs.declared.Centre.{Centre}
 use Rattle.bodies.specs.declared.Tensor.{Tensor}
-use Rattle.bodies.specs.Tensors.{number, subtractTensors, transposeOf}
+use Rattle.bodies.specs.Tensors.{numberAt, subtractTensors, transposeOf}
 use Rattle.moments.specs.Moments.{entriesFit, eigenvaluesOf}
 use Rattle.refusals.specs.declared.Verdict.{Verdict}
 use Rattle.refusals.specs.declared.Verdict.the-variants.{Accepted, Refused}
 use Rattle.refusals.specs.declared.Refusal.the-variants.{Mass, Centre as CentreRefused, Tensor as TensorRefused}
-use Rattle.refusals.specs.declared.TensorFault.{TensorFault}
 use Rattle.refusals.specs.declared.TensorFault.the-variants.{Entry, Massless, Asymmetric, Negative, Triangle}
 
 abbrev pub finiteVector : Centre → Bool
@@ -22,9 +21,9 @@ finiteVector v = isFinite (v .x) && (isFinite (v .y) && isFinite (v .z))
 -- the largest magnitude of the first n numbers
 unfoldable pub largestMagnitude : Tensor → ℕ → Float
 largestMagnitude t zero = bits 0
-largestMagnitude t (suc n) = maxOf (largestMagnitude t n) (absOf (number t n))
+largestMagnitude t (suc n) = maxOf (largestMagnitude t n) (absOf (numberAt t n))
 
--- to 1e-9 of the largest magnitude
+-- what c, d and e allow: 1e-9 of the largest magnitude. It is `validate`'s; document 01 writes no tolerance (docs/DECISIONS.md, "Bodies").
 abbrev pub toleranceOf : Tensor → Float
 toleranceOf t = bits 0x3e11_2e0b_e826_d695 ⊗ largestMagnitude t 9
 
@@ -36,14 +35,14 @@ asymmetryOf t = largestMagnitude (subtractTensors t (transposeOf t)) 9
 abbrev pub masslessInertia : Float → Float → Bool
 masslessInertia mass largest = eq mass (bits 0) && lt (bits 0) largest
 
--- "d negative moment, e moments break I1+I2 >= I3", for ascending moments
+-- "d negative moment, e moments break I1+I2 >= I3", for ascending moments: each by more than the tolerance
 abbrev pub checkMoments : List Float → Float → Verdict
 checkMoments moments tolerance =
     cond (lt (at moments 0) (neg tolerance)) (Refused (TensorRefused Negative))
     (cond (lt (at moments 0 ⊕ at moments 1) (at moments 2 ⊖ tolerance)) (Refused (TensorRefused Triangle))
     Accepted)
 
--- "17 tensor": a, b, c, then d and e
+-- "17 tensor": a, b, "c asymmetric" by more than the tolerance, then d and e
 unfoldable pub checkTensor : Float → Tensor → Verdict
 checkTensor mass t =
     cond (not (entriesFit t)) (Refused (TensorRefused Entry))

@@ -6,7 +6,7 @@ ghost use Prim.Native.Nat.{_+_, _<_, _≤_};
 ghost use lib.ListN.{length, take};
 ghost use Rattle.sorting.specs.Sorted.{sorted, Written};
 ghost use Rattle.planforms.specs.Planforms.{pairCount};
-ghost use Rattle.breaks.specs.Breaks.{heightsOf, outlineHeights, breakHeights, keep, once, listed};
+ghost use Rattle.breaks.specs.Breaks.{everyY, outlineHeights, oneStrip, breakHeights, keep, once, listed};
 
 // The first `count` heights, metres; zeros stand behind them. An outline of 64 points and the two others make 66 at most.
 pub struct BreakHeights {
@@ -25,9 +25,28 @@ pub fn break_heights(planform: Planform, points: &[f64]) -> BreakHeights
     distinct(&all[..], n + 2)
 }
 
+// Whether 0 and the span are the only break heights, and so need no list: a trapezoid's or an ellipse's with a span above 0.
+pub fn is_one_strip(planform: Planform) -> bool
+    ensures { λ r. ⌜ r ≡ oneStrip planform ⌝ }
+{
+    match planform {
+        Planform::Trapezoid {
+            root_chord_m: _,
+            tip_chord_m: _,
+            span_m,
+            sweep_m: _,
+        } => 0.0 < span_m,
+        Planform::Ellipse {
+            root_chord_m: _,
+            span_m,
+        } => 0.0 < span_m,
+        Planform::Outline => false,
+    }
+}
+
 // Writes the sorted heights of an outline's points over the start of xs, and returns how many there are.
 fn put_heights(planform: Planform, points: &[f64], xs: &mut [f64; 66]) -> usize
-    ensures { λ r. ⌜ Written (sorted (heightsOf planform (now (points .entry)))) (now (xs .entry)) (now (xs .exit)) r ⌝ }
+    ensures { λ r. ⌜ Written (sorted (everyY planform (now (points .entry)))) (now (xs .entry)) (now (xs .exit)) r ⌝ }
 {
     match planform {
         Planform::Outline => put_outline_heights(points, xs),

@@ -8,7 +8,7 @@ use Prim.Native.Nat.{ℕ}
 use lib.Dec.{T, eqb}
 use lib.ListN.{take}
 use lib.Ieee.{Float, add, sub, mul, div, neg, ofBits, ofInt, lt, le, eq, ne}
-use Rattle.floats.specs.Operations.{bits}
+use Rattle.floats.specs.Operations.{bits, every}
 use Rattle.floats.specs.Floats.{absOf}
 use Rattle.root.specs.Root.{nearRoot, rootOf}
 use Rattle.trig.specs.Trig.{sinCosOf, sinOf, cosOf}
@@ -26,7 +26,7 @@ use Rattle.bodies.specs.declared.Tensor.{Tensor}
 use Rattle.bodies.specs.Tensors.{vector, zeroVector}
 use Rattle.bodies.specs.Bodies.{inertiaAboutOf}
 use Rattle.joins.specs.Joins.{inOrder, sumsOf, inertiaOf, joinOf, combineOf}
-use Rattle.moments.specs.Moments.{every, rotate, sweep, sweeps, insert, insertAll, eigenvaluesOf, principalMomentsOf}
+use Rattle.moments.specs.Moments.{rotate, sweep, sweeps, insertMoment, insertAll, eigenvaluesOf, principalMomentsOf}
 use Rattle.body_check.specs.BodyCheck.{largestMagnitude, asymmetryOf, checkTensor, checkOf}
 
 -- a row: what is asked, and the answer that it must have; figures by their bits
@@ -39,6 +39,16 @@ pub data Case : Type 0 where
   moments : ℕ → ℕ → ℕ → List ℕ → Case
   sound unsound : ℕ → ℕ → ℕ → Case
 
+-- the bits of 1, 2 and 3
+abbrev one : ℕ
+one = 0x3ff0_0000_0000_0000
+
+abbrev two : ℕ
+two = 0x4000_0000_0000_0000
+
+abbrev three : ℕ
+three = 0x4008_0000_0000_0000
+
 abbrev is : Float → ℕ → Bool
 is x b = eq x (bits b)
 
@@ -48,12 +58,12 @@ are [] (b ∷ bs) = false
 are (x ∷ xs) [] = false
 are (x ∷ xs) (b ∷ bs) = is x b && are xs bs
 
-abbrev diagonal : ℕ → ℕ → ℕ → Tensor
-diagonal a b c = record { 0 = map bits (a ∷ 0 ∷ 0 ∷ 0 ∷ b ∷ 0 ∷ 0 ∷ 0 ∷ c ∷ []) }
+abbrev diagonalTensor : ℕ → ℕ → ℕ → Tensor
+diagonalTensor a b c = record { 0 = map bits (a ∷ 0 ∷ 0 ∷ 0 ∷ b ∷ 0 ∷ 0 ∷ 0 ∷ c ∷ []) }
 
 -- a body of mass 1 at the origin
 abbrev body : ℕ → ℕ → ℕ → Body
-body a b c = record { «mass_kg» = bits 0x3ff0_0000_0000_0000; «centre_m» = zeroVector; «inertia_kg_m2» = diagonal a b c }
+body a b c = record { «mass_kg» = bits one; «centre_m» = zeroVector; «inertia_kg_m2» = diagonalTensor a b c }
 
 -- the thirteen numbers of a body
 abbrev numbers : Body → List Float
@@ -80,23 +90,13 @@ holds (pieces n samples) = eqb (samplesFor n) samples
 holds (chord planform h ends) = are (endsAt planform [] (bits h)) ends
 holds (square a b t begins) = are (take 2 (chordMoments Square (bits a) (bits b) (bits t))) begins
 holds (joined given answer) = are (numbers (combineOf (map bits given) .body)) answer
-holds (moments a b c answer) = are (principalMomentsOf (diagonal a b c) .«moments_kg_m2») answer
+holds (moments a b c answer) = are (principalMomentsOf (diagonalTensor a b c) .«moments_kg_m2») answer
 holds (sound a b c) = isAccepted (checkOf (body a b c))
 holds (unsound a b c) = is17e (checkOf (body a b c))
 
 abbrev allHold : List Case → Bool
 allHold [] = true
 allHold (c ∷ cs) = holds c && allHold cs
-
--- 1, 2 and 3
-abbrev one : ℕ
-one = 0x3ff0_0000_0000_0000
-
-abbrev two : ℕ
-two = 0x4000_0000_0000_0000
-
-abbrev three : ℕ
-three = 0x4008_0000_0000_0000
 
 -- root chord 2, tip chord 1, span 3, sweep 1
 abbrev plate : Planform
@@ -125,5 +125,5 @@ cases =
     []
 
 pub cases-hold : T (allHold cases)
-unfolding ofBits ofInt add sub mul div neg lt le eq ne absOf rootOf nearRoot sinCosOf endsAt chordMoments inOrder sumsOf inertiaOf joinOf inertiaAboutOf every rotate sweep sweeps insert insertAll eigenvaluesOf largestMagnitude asymmetryOf checkTensor
+unfolding ofBits ofInt add sub mul div neg lt le eq ne absOf rootOf nearRoot sinCosOf endsAt chordMoments inOrder sumsOf inertiaOf joinOf inertiaAboutOf every rotate sweep sweeps insertMoment insertAll eigenvaluesOf largestMagnitude asymmetryOf checkTensor
 cases-hold = tt

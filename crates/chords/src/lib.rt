@@ -8,11 +8,11 @@
 use planforms::Planform;
 ghost use mathlib.Core.Path.{_≡_};
 ghost use Prim.Native.Nat.{_<_};
-ghost use lib.ListN.{length, take, set};
+ghost use lib.ListN.{length, take};
 ghost use lib.Ieee.{le};
 ghost use Rattle.sorting.specs.Sorted.{Written};
-ghost use Rattle.planforms.specs.Planforms.{heightAt, pairCount};
-ghost use Rattle.chords.specs.Chords.{inSpan, trapezoidEnds, ellipseEnds, next, crossed, edgeCrossed, edgeCrossing, outlineCrossings, endsAt, chordsOf, endsOf};
+ghost use Rattle.planforms.specs.Planforms.{heightAt, pairCount, next};
+ghost use Rattle.chords.specs.Chords.{inSpan, trapezoidEnds, ellipseEnds, crossed, edgeCrossed, edgeCrossing, outlineCrossings, endsAt, chordsOf};
 ghost use Rattle.chords.specs.Edges.{crossEdge, addFew, fewEdge, fewChords};
 
 // What there is at a height: no chord, one with its ends in metres aft of the root's leading edge, or an outline that is
@@ -39,29 +39,6 @@ pub fn chords_at(planform: Planform, points: &[f64], h: f64) -> Chords
         } => ellipse_chord(root_chord_m, span_m, h),
         Planform::Outline => outline_chord(points, h),
     }
-}
-
-// Writes where the chords found at h start and end over the start of xs, and returns how many ends there are.
-pub fn chord_ends(found: Chords, points: &[f64], h: f64, xs: &mut [f64; 64]) -> usize
-    ensures { λ r. ⌜ Written (endsOf found (now (points .entry)) h) (now (xs .entry)) (now (xs .exit)) r ⌝ }
-{
-    match found {
-        Chords::One { start_m, end_m } => {
-            put_ends(xs, start_m, end_m);
-            2
-        }
-        Chords::Nothing => 0,
-        Chords::Several => outline_crossings(points, h, xs),
-    }
-}
-
-// Writes one chord's ends over the start of xs.
-fn put_ends(xs: &mut [f64], start_m: f64, end_m: f64)
-    requires { ⌜ 1 < length (now xs) ⌝ }
-    ensures { λ r. ⌜ now (xs .exit) ≡ set (set (now (xs .entry)) 0 «start_m») 1 «end_m» ⌝ }
-{
-    xs[0] = start_m;
-    xs[1] = end_m;
 }
 
 // Writes the sorted crossings of an outline over the start of xs, and returns how many there are.

@@ -1,5 +1,5 @@
 -- What the numbers of a call stand for (include/delvouzh.h): a planform, a section, a tab and a density by their numbers, with their
--- figures in a list. An unknown number, or another count of figures, is no form.
+-- figures in a list. An unknown number, or another count of figures, is no form; an outline takes any count, and its check says 5.
 use mathlib.Core.Bool.{cond}
 use mathlib.Core.List.{List}
 use Prim.Native.Nat.{ℕ}

@@ -1,14 +1,15 @@
 // What C and Rust link (include/delvouzh.h): each function under its plain name, over numbers and slices alone.
 //
 // A call returns 0, or the number of the refusal, and writes its figures and counts over the start of lent slices; a refusal writes
-// zero figures. A planform, a section, a tab and a density cross as a number, with their figures in a slice: an unknown number, or
-// figures of another count, are 18 (no form). A lent slice that is too short is 18 too, and then nothing at all is written.
+// zero figures. Two calls return something else: a line's answer its count of bytes, the root its f64. A planform, a section, a tab and a
+// density cross as a number, with their figures in a slice: an unknown number, or figures of another count, are 18 (no form); but points
+// that are not 3 to 64 pairs are 5, and bodies that are not 1 to 32 whole ones are 3. A lent slice that is too short for what is written
+// over it is 18 too, and then nothing at all is written.
 ghost use mathlib.Core.Path.{_≡_};
 ghost use mathlib.Core.List.{[], _∷_};
 ghost use Prim.Native.Nat.{_≤_};
 ghost use lib.ListN.{length};
 ghost use Rattle.root.specs.Root.{rootOf, IsRoot};
-ghost use Rattle.joins.specs.Flat.{bodyAt};
 ghost use Rattle.figures.specs.Figures.{refusedFigures};
 ghost use Rattle.figures.specs.Areas.{refusedArea};
 ghost use Rattle.lines.specs.Lines.{Answers};
@@ -16,8 +17,6 @@ ghost use Rattle.exports.specs.Forms.{planformForm, sectionForm, tabForm
 ghost use Rattle.exports.specs.Numbers.{numberIn, valuesIn, over, withValues, withCounts};
 ghost use Rattle.exports.specs.Calls.{formFigures, formScratch, SetCall, formArea, formAreaScratch, AreaCall, JoinCall, tensorMoments, MomentsCall, bodyVerdict, CheckCall};
 use bodies::Body;
-use bodies::Centre;
-use bodies::Tensor;
 use figures::Area;
 use figures::Figures;
 use fins::FinSet;
@@ -243,42 +242,7 @@ fn tensor_moments(numbers: &[f64]) -> Moments
             moments_kg_m2,
         };
     }
-    moments::principal_moments(Tensor([
-        numbers[0],
-        numbers[1],
-        numbers[2],
-        numbers[3],
-        numbers[4],
-        numbers[5],
-        numbers[6],
-        numbers[7],
-        numbers[8],
-    ]))
-}
-
-fn body_of(numbers: &[f64]) -> Body
-    requires { ⌜ length (now numbers) ≡ 13 ⌝ }
-    ensures { λ r. ⌜ r ≡ bodyAt (now (numbers .entry)) 0 ⌝ }
-{
-    Body {
-        mass_kg: numbers[0],
-        centre_m: Centre {
-            x: numbers[1],
-            y: numbers[2],
-            z: numbers[3],
-        },
-        inertia_kg_m2: Tensor([
-            numbers[4],
-            numbers[5],
-            numbers[6],
-            numbers[7],
-            numbers[8],
-            numbers[9],
-            numbers[10],
-            numbers[11],
-            numbers[12],
-        ]),
-    }
+    moments::principal_moments(requests::asked_tensor(numbers))
 }
 
 // The check of thirteen numbers; of another count, 18.
@@ -288,7 +252,7 @@ fn body_verdict(numbers: &[f64]) -> Verdict
     if numbers.len() != 13 {
         return Verdict::Refused(Refusal::NoForm);
     }
-    body_check::check(body_of(numbers))
+    body_check::check(requests::asked_body(numbers))
 }
 
 // The number that a verdict crosses as.

@@ -15,12 +15,12 @@ use Rattle.sorting.proofs.Order.{equal-no-nan, below-nan}
 use Rattle.planforms.specs.declared.Planform.{Planform}
 use Rattle.planforms.specs.declared.Planform.the-variants.{Trapezoid, Ellipse, Outline}
 use Rattle.planforms.specs.Planforms.{xAt, heightAt, pairCount}
-use Rattle.limits.specs.Order.{firstRefusal, firstFrom}
+use Rattle.refusals.specs.Order.{firstRefusal, firstFrom}
 use Rattle.limits.specs.Limits.{shortest, longest, isWithin, lengthWithin, lengthCheck}
-use Rattle.limits.proofs.Accepted.{holds, both, both-true}
+use Rattle.refusals.proofs.Accepted.{holds, both, both-true}
 use Rattle.outlines.specs.Outlines.{arePairs, pointCheck, outlineCheck}
 use Rattle.outlines.proofs.Accepted.{points-within}
-use Rattle.breaks.specs.Breaks.{heights, heightsOf, breakHeights}
+use Rattle.breaks.specs.Breaks.{heights, everyY, breakHeights}
 use Rattle.breaks.proofs.Strips.{at-most-63}
 use Rattle.breaks.proofs.Listed.{at-most-two-more}
 use Rattle.integrands.specs.Integrands.{scaleOf, areaOf}
@@ -88,7 +88,7 @@ outline-few points h =
     at-most-63 points (omega (arith, b)) (b .1) (heights-no-nan points n each) (both-true p q (first-two .0) .1) (first-three .1)
 
 heights-few : (planform : Planform) (points : List Float) → planformCheck planform points ≡ Accepted → length (breakHeights planform points) ≤ 63
-unfolding planformCheck heightsOf
+unfolding planformCheck everyY
 heights-few (Trapezoid root tip span sweep) points h = omega (arith, at-most-two-more (Trapezoid root tip span sweep) points)
 heights-few (Ellipse root span) points h = omega (arith, at-most-two-more (Ellipse root span) points)
 heights-few Outline points h = outline-few points h

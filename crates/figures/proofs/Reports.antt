@@ -13,9 +13,9 @@ use Rattle.refusals.specs.declared.Refusal.{Refusal}
 use Rattle.refusals.specs.declared.Refusal.the-variants.{Count, NoArea}
 use Rattle.refusals.specs.declared.Verdict.{Verdict}
 use Rattle.refusals.specs.declared.Verdict.the-variants.{Accepted, Refused}
-use Rattle.limits.specs.Order.{refuseUnless, firstRefusal}
+use Rattle.refusals.specs.Order.{refuseUnless, firstRefusal}
 use Rattle.limits.specs.Limits.{countCheck}
-use Rattle.limits.proofs.Accepted.{holds}
+use Rattle.refusals.proofs.Accepted.{holds}
 use Rattle.materials.specs.Materials.{densityCheck}
 use Rattle.materials.specs.declared.Density.{Density}
 use Rattle.materials.specs.declared.Density.the-variants.{Bulk, Surface, Line}
@@ -28,7 +28,7 @@ use Rattle.joins.specs.declared.Joined.{Joined}
 use Rattle.joins.specs.Joins.{joinOf, joinedOf, refusedCount}
 use Rattle.plates.specs.declared.PlanformGeometry.{PlanformGeometry}
 use Rattle.plates.specs.Integrals.{volume}
-use Rattle.plates.specs.Geometry.{areaOf, noGeometry, geometryOf}
+use Rattle.plates.specs.Geometry.{unscaledArea, noGeometry, geometryOf}
 use Rattle.plates.specs.declared.Fin.{Fin}
 use Rattle.plates.specs.Plates.{pivotOf, refusedFin, bulkFin, ofDensity, integralsOf, singleFinOf}
 use Rattle.sets.specs.Sets.{rolledFin, joinedFinsOf, unlessRefused, massPropertiesOf}
@@ -136,7 +136,7 @@ module _ (scale : Float) (total : Integral) where
 
   geometry-or-8 : (value : List Float) → FiguresOr8 (geometryOf value scale .verdict)
   unfolding geometryOf
-  geometry-or-8 value = go (le (areaOf value scale) (bits 0)) noGeometry _ refl refl
+  geometry-or-8 value = go (le (unscaledArea value scale) (bits 0)) noGeometry _ refl refl
     where
       go : (b : Bool) (none g : PlanformGeometry) → none .verdict ≡ Refused NoArea → g .verdict ≡ Accepted → FiguresOr8 (cond b none g .verdict)
       go true none g p q = inr p

@@ -6,7 +6,7 @@ use mathlib.Core.Logic.{_⊎_}
 use Prim.Native.Nat.{ℕ}
 use lib.ListN.{length}
 use lib.Ieee.{Float}
-use Rattle.refusals.specs.declared.Refusal.the-variants.{NoArea, NotConverged, NotFinite}
+use Rattle.refusals.specs.declared.Refusal.the-variants.{NoArea}
 use Rattle.refusals.specs.declared.Verdict.{Verdict}
 use Rattle.refusals.specs.declared.Verdict.the-variants.{Accepted, Refused}
 use Rattle.planforms.specs.declared.Planform.{Planform}
@@ -16,6 +16,7 @@ use Rattle.fins.specs.declared.FinSet.{FinSet}
 use Rattle.fins.specs.Fins.{setCheck, areaCheck}
 use Rattle.halving.specs.declared.Ending.{Ending}
 use Rattle.halving.specs.declared.Ending.the-variants.{Accepted as accepted, NotConverged as notConverged, NotFinite as notFinite}
+use Rattle.halving.specs.Halving.{verdictOf}
 use Rattle.strips.specs.Claim.{Demand3}
 use Rattle.figures.specs.declared.Figures.{Figures}
 use Rattle.figures.specs.declared.Area.{Area}
@@ -25,9 +26,10 @@ use Rattle.figures.specs.Areas.{areaStrips, areaFigures, areaScratch}
 -- what a call answers by how the last strip worked ended: figures or, where area or volume is not above 0, 8; 13 with its component; 14
 abbrev pub Reported : Ending → Verdict → Type 0
 Reported accepted verdict = (verdict ≡ Accepted) ⊎ (verdict ≡ Refused NoArea)
-Reported (notConverged component) verdict = verdict ≡ Refused (NotConverged component)
-Reported notFinite verdict = verdict ≡ Refused NotFinite
+Reported (notConverged component) verdict = verdict ≡ verdictOf (notConverged component)
+Reported notFinite verdict = verdict ≡ verdictOf notFinite
 
+-- of a set ("Order: 18, 1, 2, 3; ..", `FinSet::mass_properties`): its figures, the scratch at exit, and demand 3
 pub record SetAnswers (set : FinSet) (points : List Float) (L : ℕ) (entry : List Float) (r : Figures) (exit : List Float) : Type 0 where
   pub figures : r ≡ setFigures set points L (length entry)
   pub scratch : exit ≡ setScratch set points L entry
@@ -35,8 +37,10 @@ pub record SetAnswers (set : FinSet) (points : List Float) (L : ℕ) (entry : Li
   pub demand-3 : setCheck set points L (length entry) ≡ Accepted
       → Demand3 7 (setIntegrand set points) L (scaleOf (set .planform) points) (breakHeights (set .planform) points) (setStrips set points L) (r .samples) (r .intervals) (r .verdict ≡ Accepted) (λ ending. Reported ending (r .verdict)) entry exit
 
+-- of a planform ("For area alone: 1, 2, planform, strips, 8", `FinPlanform::geometry`): area and centroid, the scratch at exit, and demand 3
 pub record AreaAnswers (planform : Planform) (points : List Float) (L : ℕ) (entry : List Float) (r : Area) (exit : List Float) : Type 0 where
   pub figures : r ≡ areaFigures planform points L (length entry)
   pub scratch : exit ≡ areaScratch planform points L entry
+  -- accepted is a planform that passes every check before the strips
   pub demand-3 : areaCheck planform points L (length entry) ≡ Accepted
       → Demand3 7 (areaOf planform points) L (scaleOf planform points) (breakHeights planform points) (areaStrips planform points L) (r .samples) (r .intervals) (r .verdict ≡ Accepted) (λ ending. Reported ending (r .verdict)) entry exit

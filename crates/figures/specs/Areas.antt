@@ -10,8 +10,7 @@ use Rattle.refusals.specs.declared.Verdict.{Verdict}
 use Rattle.refusals.specs.declared.Verdict.the-variants.{Accepted, Refused}
 use Rattle.planforms.specs.declared.Planform.{Planform}
 use Rattle.breaks.specs.Breaks.{breakHeights}
-use Rattle.integrands.specs.Integrands.{scaleOf}
-use Rattle.integrands.specs.Integrands.{areaOf as areaIntegrandOf}
+use Rattle.integrands.specs.Integrands.{scaleOf, areaOf}
 use Rattle.fins.specs.Fins.{areaCheck}
 use Rattle.halving.specs.declared.Ending.{Ending}
 use Rattle.halving.specs.declared.Ending.the-variants.{Accepted as accepted, NotConverged as notConverged, NotFinite as notFinite}
@@ -21,37 +20,46 @@ use Rattle.plates.specs.declared.PlanformGeometry.{PlanformGeometry}
 use Rattle.plates.specs.Geometry.{geometryOf}
 use Rattle.figures.specs.declared.Area.{Area}
 
+-- every strip worked with the area's integrand, between the break heights, "divided by root chord plus span" ("Set and planform")
 abbrev pub areaStrips : Planform → List Float → ℕ → List Worked
-areaStrips planform points L = workedOf 7 (areaIntegrandOf planform points) L (scaleOf planform points) (breakHeights planform points)
+areaStrips planform points L = workedOf 7 (areaOf planform points) L (scaleOf planform points) (breakHeights planform points)
 
+-- "Figures zero; intervals 0; samples taken so far" ("Refusal numbers")
 abbrev pub refusedArea : Refusal → ℕ → Area
 refusedArea refusal samples =
     record { verdict = Refused refusal; «area_m2» = bits 0; «centroid_x_m» = bits 0; «centroid_span_m» = bits 0; intervals = 0; samples = samples }
 
+-- the totals made area and centroid: "strips, 8"
 abbrev pub ofGeometry : Verdict → PlanformGeometry → ℕ → ℕ → Area
 ofGeometry Accepted g intervals samples =
     record { verdict = Accepted; «area_m2» = g .«area_m2»; «centroid_x_m» = g .«centroid_x_m»; «centroid_span_m» = g .«centroid_span_m»; intervals = intervals; samples = samples }
 ofGeometry (Refused refusal) g intervals samples = refusedArea refusal samples
 
+-- by how the run of the strips ended: area and centroid, 13 with its component, or 14
 abbrev pub areaByEnding : Ending → Float → Integral → Area
 areaByEnding accepted scale total = ofGeometry (geometryOf (total .value) scale .verdict) (geometryOf (total .value) scale) (total .intervals) (total .samples)
 areaByEnding (notConverged component) scale total = refusedArea (NotConverged component) (total .samples)
 areaByEnding notFinite scale total = refusedArea NotFinite (total .samples)
 
+-- the totals carry that ending
 unfoldable pub concludedArea : Float → Integral → Area
 concludedArea scale total = areaByEnding (total .ending) scale total
 
--- "1, 2, planform, strips, 8"
+-- "1, 2, planform, strips, 8": every check before the strips, then the strips
 abbrev pub areaAfterCheck : Verdict → Planform → List Float → ℕ → Area
 areaAfterCheck Accepted planform points L = concludedArea (scaleOf planform points) (totalsOf (areaStrips planform points L))
 areaAfterCheck (Refused refusal) planform points L = refusedArea refusal 0
 
+-- the answer: "1, 2, planform" are the checks, over a scratch of that length
 unfoldable pub areaFigures : Planform → List Float → ℕ → ℕ → Area
 areaFigures planform points L scratchLength = areaAfterCheck (areaCheck planform points L scratchLength) planform points L
 
+-- "A number given before the first strip leaves scratch untouched. Once strips have run, with figures or a refusal at the end, scratch
+-- holds, in storage order from its start, what each strip wrote over the last one's; elsewhere it is unchanged." ("Refusal numbers")
 abbrev pub areaScratchChecked : Verdict → Planform → List Float → ℕ → List Float → List Float
 areaScratchChecked Accepted planform points L scratch = scratchAfter (areaStrips planform points L) scratch
 areaScratchChecked (Refused refusal) planform points L scratch = scratch
 
+-- the scratch after the call
 unfoldable pub areaScratch : Planform → List Float → ℕ → List Float → List Float
 areaScratch planform points L scratch = areaScratchChecked (areaCheck planform points L (length scratch)) planform points L scratch

@@ -5,9 +5,10 @@ ghost use Prim.Native.Nat.{_*_, _≤_};
 ghost use lib.ListN.{length};
 ghost use Rattle.refusals.specs.declared.Verdict.the-variants.{Accepted};
 ghost use Rattle.planforms.specs.Planforms.{rootChordOf};
-ghost use Rattle.integrands.specs.Integrands.{scaleOf};
+ghost use Rattle.breaks.specs.Breaks.{breakHeights};
+ghost use Rattle.integrands.specs.Integrands.{scaleOf, sampleOf};
 ghost use Rattle.fins.specs.Fins.{setCheck, areaCheck};
-ghost use Rattle.strips.specs.Strips.{totalsOf, scratchAfter};
+ghost use Rattle.strips.specs.Strips.{totalsOf, scratchAfter, Runs};
 ghost use Rattle.figures.specs.Figures.{refusedFigures, joinedFigures, concludedOf, setStrips};
 ghost use Rattle.figures.specs.Areas.{refusedArea, ofGeometry, concludedArea, areaStrips};
 ghost use Rattle.figures.specs.Answers.{SetAnswers, AreaAnswers};
@@ -15,6 +16,7 @@ use bodies::Body;
 use fins::FinSet;
 use halving::Ending;
 use halving::Integral;
+use integrands::Integrand;
 use joins::Joined;
 use planforms::Planform;
 use plates::PlanformGeometry;
@@ -90,6 +92,28 @@ fn concluded(set: FinSet, root_chord_m: f64, scale_m: f64, total: Integral) -> F
     }
 }
 
+// The totals over the strips between the planform's break heights.
+fn integrate(
+    scratch: &mut [f64],
+    integrand: Integrand,
+    planform: Planform,
+    points: &[f64],
+    scale_m: f64,
+    limit: usize,
+) -> Integral
+    requires { ⌜ (1 ≤ limit) × (limit ≤ 4000) × (limit * 16 ≤ length (now scratch)) ⌝ }
+    ensures { λ r. ⌜ Runs (sampleOf integrand (now (points .entry))) limit «scale_m» (breakHeights planform (now (points .entry))) (now (scratch .entry)) r (now (scratch .exit)) ⌝ }
+{
+    if breaks::is_one_strip(planform) {
+        let heights = [0.0, planforms::span_m(planform, points)];
+        return strips::integrate(scratch, integrand, points, &heights, scale_m, limit);
+    }
+    let breaks = breaks::break_heights(planform, points);
+    let n = breaks.count;
+    let heights = breaks.heights;
+    strips::integrate(scratch, integrand, points, &heights[..n], scale_m, limit)
+}
+
 // The strips of an accepted set, and its figures.
 fn work_set(set: FinSet, points: &[f64], limit: usize, scratch: &mut [f64]) -> Figures
     requires { ⌜ setCheck set (now points) limit (length (now scratch)) ≡ Accepted ⌝ }
@@ -108,10 +132,7 @@ fn work_set(set: FinSet, points: &[f64], limit: usize, scratch: &mut [f64]) -> F
     );
     let scale_m = integrands::scale_m(planform, points);
     let root_chord_m = planforms::root_chord_m(planform, points);
-    let breaks = breaks::break_heights(planform, points);
-    let n = breaks.count;
-    let heights = breaks.heights;
-    let total = strips::integrate(scratch, integrand, points, &heights[..n], scale_m, limit);
+    let total = integrate(scratch, integrand, planform, points, scale_m, limit);
     concluded(set, root_chord_m, scale_m, total)
 }
 
@@ -186,10 +207,7 @@ fn work_area(planform: Planform, points: &[f64], limit: usize, scratch: &mut [f6
 {
     let integrand = integrands::area_integrand(planform, points);
     let scale_m = integrands::scale_m(planform, points);
-    let breaks = breaks::break_heights(planform, points);
-    let n = breaks.count;
-    let heights = breaks.heights;
-    let total = strips::integrate(scratch, integrand, points, &heights[..n], scale_m, limit);
+    let total = integrate(scratch, integrand, planform, points, scale_m, limit);
     concluded_area(scale_m, total)
 }
 

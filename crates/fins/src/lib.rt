@@ -3,14 +3,19 @@
 // Document 01, "Order": 1, 2, 3; the planform; thickness; cant, base angle; the tab with 10; body radius; 11; 12. Each check stands
 // for itself, and the first refusal is the answer.
 ghost use mathlib.Core.Path.{_≡_};
+ghost use mathlib.Core.List.{[], _∷_};
+ghost use Rattle.refusals.specs.Order.{firstOf};
+ghost use Rattle.limits.specs.Limits.{thicknessField, bodyRadiusField, cantField, baseAngleField, limitCheck, scratchCheck, countCheck, lengthCheck, angleCheck};
+ghost use Rattle.materials.specs.Materials.{densityCheck};
 ghost use Rattle.fins.specs.Fins.{trapezoidCheck, planformCheck, slabCheck, tabCheck, depthCheck, setCheck, areaCheck};
 use limits::check_angle;
 use limits::check_length;
-use limits::first_refusal;
 use materials::Density;
 use planforms::Planform;
 use refusals::Refusal;
 use refusals::Verdict;
+use refusals::first_refusal;
+use refusals::is_refused;
 use sections::Section;
 
 // A rectangular tab below each root: its depth, its length, and how far aft of the root's leading edge it starts.
@@ -40,9 +45,18 @@ fn check_trapezoid(root_chord_m: f64, tip_chord_m: f64, span_m: f64, sweep_m: f6
     ensures { λ r. ⌜ r ≡ trapezoidCheck «root_chord_m» «tip_chord_m» «span_m» «sweep_m» ⌝ }
 {
     let v = check_length(limits::ROOT_CHORD, root_chord_m);
-    let v = first_refusal(v, check_length(limits::TIP_CHORD, tip_chord_m));
-    let v = first_refusal(v, check_length(limits::SPAN, span_m));
-    first_refusal(v, check_length(limits::SWEEP, sweep_m))
+    if is_refused(v) {
+        return v;
+    }
+    let v = check_length(limits::TIP_CHORD, tip_chord_m);
+    if is_refused(v) {
+        return v;
+    }
+    let v = check_length(limits::SPAN, span_m);
+    if is_refused(v) {
+        return v;
+    }
+    check_length(limits::SWEEP, sweep_m)
 }
 
 // The planform's lengths as listed, or the outline's own checks.
@@ -73,9 +87,18 @@ fn check_slab(height_m: f64, length_m: f64, offset_m: f64, root_chord_m: f64) ->
 {
     let off_root = (offset_m < 0.0) | (root_chord_m * (1.0 + 1e-12) < offset_m + length_m);
     let v = check_length(limits::TAB_HEIGHT, height_m);
-    let v = first_refusal(v, check_length(limits::TAB_LENGTH, length_m));
-    let v = first_refusal(v, check_length(limits::TAB_OFFSET, offset_m));
-    first_refusal(v, limits::refuse_when(off_root, Refusal::TabOffRoot))
+    if is_refused(v) {
+        return v;
+    }
+    let v = check_length(limits::TAB_LENGTH, length_m);
+    if is_refused(v) {
+        return v;
+    }
+    let v = check_length(limits::TAB_OFFSET, offset_m);
+    if is_refused(v) {
+        return v;
+    }
+    refusals::refuse_when(off_root, Refusal::TabOffRoot)
 }
 
 fn check_tab(tab: Tab, root_chord_m: f64) -> Verdict
@@ -101,8 +124,57 @@ fn check_depth(tab: Tab, body_radius_m: f64) -> Verdict
             height_m,
             length_m: _,
             offset_m: _,
-        } => limits::refuse_when(body_radius_m < height_m, Refusal::TabTooDeep),
+        } => refusals::refuse_when(body_radius_m < height_m, Refusal::TabTooDeep),
     }
+}
+
+// 1, 2, 3: the call's limit, its scratch and the count of fins.
+fn check_call(limit: usize, scratch_len: usize, count: usize) -> Verdict
+    ensures { λ r. ⌜ r ≡ firstOf (limitCheck limit ∷ scratchCheck limit «scratch_len» ∷ countCheck count ∷ []) ⌝ }
+{
+    let v = limits::check_limit(limit);
+    if is_refused(v) {
+        return v;
+    }
+    let v = limits::check_scratch(limit, scratch_len);
+    if is_refused(v) {
+        return v;
+    }
+    limits::check_count(count)
+}
+
+// Thickness, cant and base angle.
+fn check_plate(thickness_m: f64, cant_rad: f64, base_angle_rad: f64) -> Verdict
+    ensures { λ r. ⌜ r ≡ firstOf (lengthCheck thicknessField «thickness_m» ∷ angleCheck cantField «cant_rad» ∷ angleCheck baseAngleField «base_angle_rad» ∷ []) ⌝ }
+{
+    let v = check_length(limits::THICKNESS, thickness_m);
+    if is_refused(v) {
+        return v;
+    }
+    let v = check_angle(limits::CANT, cant_rad);
+    if is_refused(v) {
+        return v;
+    }
+    check_angle(limits::BASE_ANGLE, base_angle_rad)
+}
+
+// The tab, the body radius, how deep the tab reaches, and the density.
+fn check_mount(tab: Tab, root_chord_m: f64, body_radius_m: f64, density: Density) -> Verdict
+    ensures { λ r. ⌜ r ≡ firstOf (tabCheck tab «root_chord_m» ∷ lengthCheck bodyRadiusField «body_radius_m» ∷ depthCheck tab «body_radius_m» ∷ densityCheck density ∷ []) ⌝ }
+{
+    let v = check_tab(tab, root_chord_m);
+    if is_refused(v) {
+        return v;
+    }
+    let v = check_length(limits::BODY_RADIUS, body_radius_m);
+    if is_refused(v) {
+        return v;
+    }
+    let v = check_depth(tab, body_radius_m);
+    if is_refused(v) {
+        return v;
+    }
+    materials::check_density(density)
 }
 
 // The first refusal of a set before its strips, for the interval limit and the length of the lent scratch.
@@ -112,18 +184,20 @@ pub fn check_set(set: FinSet, points: &[f64], limit: usize, scratch_len: usize) 
     let planform = set.planform;
     let tab = set.tab;
     let density = set.density;
+    let v = check_call(limit, scratch_len, set.count);
+    if is_refused(v) {
+        return v;
+    }
+    let v = check_planform(planform, points);
+    if is_refused(v) {
+        return v;
+    }
+    let v = check_plate(set.thickness_m, set.cant_rad, set.base_angle_rad);
+    if is_refused(v) {
+        return v;
+    }
     let root_chord_m = planforms::root_chord_m(planform, points);
-    let v = limits::check_limit(limit);
-    let v = first_refusal(v, limits::check_scratch(limit, scratch_len));
-    let v = first_refusal(v, limits::check_count(set.count));
-    let v = first_refusal(v, check_planform(planform, points));
-    let v = first_refusal(v, check_length(limits::THICKNESS, set.thickness_m));
-    let v = first_refusal(v, check_angle(limits::CANT, set.cant_rad));
-    let v = first_refusal(v, check_angle(limits::BASE_ANGLE, set.base_angle_rad));
-    let v = first_refusal(v, check_tab(tab, root_chord_m));
-    let v = first_refusal(v, check_length(limits::BODY_RADIUS, set.body_radius_m));
-    let v = first_refusal(v, check_depth(tab, set.body_radius_m));
-    first_refusal(v, materials::check_density(density))
+    check_mount(tab, root_chord_m, set.body_radius_m, density)
 }
 
 // The first refusal of a planform of which the area alone is asked.

@@ -15,7 +15,7 @@ use Rattle.tokens.specs.declared.Found.{Found}
 use Rattle.templates.specs.declared.Choice.{Choice}
 use Rattle.templates.specs.declared.Cursor.{Cursor}
 use Rattle.templates.specs.Matching.{Taken, Reading, failed, reading, pick}
-use Rattle.templates.specs.Cursors.{takenAt, readingAt, Room, ReadsOn}
+use Rattle.templates.specs.Cursors.{takenBefore, readingAt, Room, ReadsOn}
 use Rattle.templates.proofs.Choices.{fits, fits-at}
 use Rattle.forms.specs.declared.Form.{Form}
 use Rattle.forms.specs.declared.Form.the-variants.{NoForm}
@@ -47,8 +47,8 @@ module _ (line : List ℕ) (v : List Float) (c : Cursor) (m : Reading) (s : Stan
 
   -- what a reading that has not failed holds is the cursor's
   module _ (h : fits m ≡ true) where
-    is-reading : m ≡ reading (tokens (drop (c .at) line)) (takenAt v c)
-    is-reading = sym (s .is) ∙ ap (λ (t : Bool). pick t (reading (tokens (drop (c .at) line)) (takenAt v c)) failed) (sym ok-fits ∙ h)
+    is-reading : m ≡ reading (tokens (drop (c .at) line)) (takenBefore v c)
+    is-reading = sym (s .is) ∙ ap (λ (t : Bool). pick t (reading (tokens (drop (c .at) line)) (takenBefore v c)) failed) (sym ok-fits ∙ h)
 
     pub count-at : c .count ≡ countIn m
     count-at = sym (ap countIn is-reading)
@@ -75,24 +75,31 @@ module _ (line : List ℕ) (v : List Float) (c : Cursor) (m : Reading) (s : Stan
   -- all of the line is used
   pub whole : (q : Request) → isWhole line c ≡ true → c .figures ≡ q .figures → Reads v q (ended m q)
   whole q h n =
-      let e : ended m q ≡ asked q (take (c .figures) v) = ap (λ (r : Reading). ended r q) (sym (s .is)) ∙ whole-by q (c .ok) (tokens (drop (c .at) line)) (takenAt v c) h in
+      let e : ended m q ≡ asked q (take (c .figures) v) = ap (λ (r : Reading). ended r q) (sym (s .is)) ∙ whole-by q (c .ok) (tokens (drop (c .at) line)) (takenBefore v c) h in
       record { request = ap requestOf (sym e); figures = ap (λ (k : ℕ). take k v) (sym n) ∙ ap figuresOf (sym e) }
 
   -- it is no form, or there is more
-  pub no-form : (q x : Request) → x ≡ plainRequest NoForm 0 → isWhole line c ≡ false → Reads v x (ended m q)
+  no-form : (q x : Request) → x ≡ plainRequest NoForm 0 → isWhole line c ≡ false → Reads v x (ended m q)
   no-form q x n h =
-      let e : ended m q ≡ noForm = ap (λ (r : Reading). ended r q) (sym (s .is)) ∙ open-by q (c .ok) (tokens (drop (c .at) line)) (takenAt v c) h in
+      let e : ended m q ≡ noForm = ap (λ (r : Reading). ended r q) (sym (s .is)) ∙ open-by q (c .ok) (tokens (drop (c .at) line)) (takenBefore v c) h in
       subst (λ (y : Request). Reads v y (ended m q)) (sym n) (record { request = ap requestOf (sym e); figures = ap figuresOf (sym e) })
 
-  -- a form with figures alone
-  pub plain : (form : Form) (q : Request) → q ≡ pickRequest (isWhole line c) (plainRequest form (c .figures)) (plainRequest NoForm 0) → Reads v q (plainForm form m)
-  plain form q e = subst (λ (x : Request). Reads v x (plainForm form m)) (sym e) (by (isWhole line c) refl)
+  -- either, by whether all of it is used: x is the request p that the cursors give, and where all is used p is the reading's q
+  pub formed : (p q x : Request) → x ≡ pickRequest (isWhole line c) p (plainRequest NoForm 0) → (isWhole line c ≡ true → Reads v p (ended m q)) → Reads v x (ended m q)
+  formed p q x e w = subst (λ (y : Request). Reads v y (ended m q)) (sym e) (by (isWhole line c) refl)
     where
-      by : (t : Bool) → isWhole line c ≡ t → Reads v (pickRequest t (plainRequest form (c .figures)) (plainRequest NoForm 0)) (plainForm form m)
-      by true h =
+      by : (t : Bool) → isWhole line c ≡ t → Reads v (pickRequest t p (plainRequest NoForm 0)) (ended m q)
+      by true h = w h
+      by false h = no-form q (plainRequest NoForm 0) refl h
+
+  -- a form with figures alone
+  pub plain : (form : Form) (x : Request) → x ≡ pickRequest (isWhole line c) (plainRequest form (c .figures)) (plainRequest NoForm 0) → Reads v x (plainForm form m)
+  plain form x e = formed (plainRequest form (c .figures)) (plainRequest form (figuresIn m)) x e used
+    where
+      used : isWhole line c ≡ true → Reads v (plainRequest form (c .figures)) (plainForm form m)
+      used h =
           let n = figures-at (whole-fits h) in
           rw n (whole (plainRequest form (figuresIn m)) h n)
-      by false h = no-form (plainRequest form (figuresIn m)) (plainRequest NoForm 0) refl h
 
 -- the token found at a cursor says whether any is left
 pub end-found : (line : List ℕ) (c : Cursor) (f : Found) → IsFound line (c .at) f → c .ok ≡ true → isEnd (f .kind) ≡ isWhole line c

@@ -113,15 +113,22 @@ fn take_density(line: &[u8], c: Cursor, values: &mut [f64]) -> Cursor
     templates::take_one_of(line, c, b"(bulk F)", b"(surface F)", b"(line F)", values)
 }
 
-// The line read to its end, as a form with figures alone; or no form.
-fn plain_form(line: &[u8], end: Cursor, form: Form) -> Request
-    ensures { λ r. ⌜ r ≡ pickRequest (isWhole (now (line .entry)) end) (plainRequest form (end .figures)) (plainRequest Form.NoForm 0) ⌝ }
+// The request, where the line is read to its end; or no form.
+fn whole_form(line: &[u8], end: Cursor, request: Request) -> Request
+    ensures { λ r. ⌜ r ≡ pickRequest (isWhole (now (line .entry)) end) request (plainRequest Form.NoForm 0) ⌝ }
 {
     if at_end(line, end) {
-        plain_request(form, end.figures)
+        request
     } else {
         plain_request(Form::NoForm, 0)
     }
+}
+
+// The same, of a form with figures alone.
+fn plain_form(line: &[u8], end: Cursor, form: Form) -> Request
+    ensures { λ r. ⌜ r ≡ pickRequest (isWhole (now (line .entry)) end) (plainRequest form (end .figures)) (plainRequest Form.NoForm 0) ⌝ }
+{
+    whole_form(line, end, plain_request(form, end.figures))
 }
 
 // (set (limit N) (count N) PLANFORM (thickness F) (section SECTION) TAB (cant F) (base F) (radius F) DENSITY)
@@ -143,21 +150,18 @@ fn read_set(line: &[u8], c: Cursor, values: &mut [f64]) -> Request
     let section_choice = section.choice;
     let tab_choice = tab.choice;
     let density_choice = density.choice;
-    if at_end(line, end) {
-        Request {
-            form: Form::Set,
-            limit: limit.count,
-            count: count.count,
-            planform: planform_choice,
-            lengths: planform.figures,
-            section: section_choice,
-            tab: tab_choice,
-            density: density_choice,
-            figures: end.figures,
-        }
-    } else {
-        plain_request(Form::NoForm, 0)
-    }
+    let request = Request {
+        form: Form::Set,
+        limit: limit.count,
+        count: count.count,
+        planform: planform_choice,
+        lengths: planform.figures,
+        section: section_choice,
+        tab: tab_choice,
+        density: density_choice,
+        figures: end.figures,
+    };
+    whole_form(line, end, request)
 }
 
 // (area (limit N) PLANFORM)
@@ -169,21 +173,18 @@ fn read_area(line: &[u8], c: Cursor, values: &mut [f64]) -> Request
     let planform = take_planform(line, limit, values);
     let end = templates::take_text(line, planform, b")", values);
     let choice = planform.choice;
-    if at_end(line, end) {
-        Request {
-            form: Form::Area,
-            limit: limit.count,
-            count: 0,
-            planform: choice,
-            lengths: planform.figures,
-            section: Choice::First,
-            tab: Choice::First,
-            density: Choice::First,
-            figures: end.figures,
-        }
-    } else {
-        plain_request(Form::NoForm, 0)
-    }
+    let request = Request {
+        form: Form::Area,
+        limit: limit.count,
+        count: 0,
+        planform: choice,
+        lengths: planform.figures,
+        section: Choice::First,
+        tab: Choice::First,
+        density: Choice::First,
+        figures: end.figures,
+    };
+    whole_form(line, end, request)
 }
 
 // (join (point F F F F) ..)

@@ -53,7 +53,7 @@ pub fn kronrod_weight(i: usize) -> f64
     if i < 8 { KRONROD_WEIGHTS[i] } else { 0.0 / 0.0 }
 }
 
-// The Gauss weight of node 2·j + 1.
+// The Gauss weight of node 2·j + 1: the table's four are those of the nodes 1, 3, 5 and 7.
 pub fn gauss_weight(j: usize) -> f64
     ensures { λ r. ⌜ r ≡ at gaussWeights j ⌝ }
 {

@@ -10,7 +10,7 @@ ghost use lib.Ieee.{le, ne};
 ghost use Rattle.floats.specs.Floats.{maxOf};
 ghost use Rattle.floats.specs.Operations.{_⊕_, _⊘_, at, tabulate};
 ghost use Rattle.integrands.specs.Integrands.{sampleOf};
-ghost use Rattle.quadrature.specs.Rule.{every};
+ghost use Rattle.floats.specs.Operations.{every};
 ghost use Rattle.halving.specs.Bounds.{boundFor, scoreOf, lastHighest, middleOf, middleIsEnd};
 ghost use Rattle.halving.specs.Scratch.{numbersOf, pieceIn, readAt, piecesIn, putAt, Integrates};
 ghost use Rattle.halving.specs.Steps.{withPiece, sumsOf, higherOf, judgedOf, halvesOf, scratchHalved, Repeats};
@@ -51,6 +51,20 @@ fn load(s: &[f64]) -> Piece
     }
 }
 
+// Seven numbers over seven.
+fn store_seven(s: &mut [f64], v: [f64; 7])
+    requires { ⌜ length (now s) ≡ 7 ⌝ }
+    ensures { λ _. ⌜ now (s .exit) ≡ tabulate 7 (at v) ⌝ }
+{
+    s[0] = v[0];
+    s[1] = v[1];
+    s[2] = v[2];
+    s[3] = v[3];
+    s[4] = v[4];
+    s[5] = v[5];
+    s[6] = v[6];
+}
+
 fn store(s: &mut [f64], p: Piece)
     requires { ⌜ length (now s) ≡ 16 ⌝ }
     ensures { λ _. ⌜ now (s .exit) ≡ numbersOf p ⌝ }
@@ -59,20 +73,8 @@ fn store(s: &mut [f64], p: Piece)
     let e = p.error;
     s[0] = p.start;
     s[1] = p.end;
-    s[2] = v[0];
-    s[3] = v[1];
-    s[4] = v[2];
-    s[5] = v[3];
-    s[6] = v[4];
-    s[7] = v[5];
-    s[8] = v[6];
-    s[9] = e[0];
-    s[10] = e[1];
-    s[11] = e[2];
-    s[12] = e[3];
-    s[13] = e[4];
-    s[14] = e[5];
-    s[15] = e[6];
+    store_seven(&mut s[2..9], v);
+    store_seven(&mut s[9..16], e);
 }
 
 // The piece at place i.
@@ -356,6 +358,17 @@ fn halve(
     }
 }
 
+fn answer(ending: Ending, value: [f64; 7], intervals: usize, samples: usize) -> Integral
+    ensures { λ r. ⌜ r ≡ record { ending = ending; value = value; intervals = intervals; samples = samples } ⌝ }
+{
+    Integral {
+        ending,
+        value,
+        intervals,
+        samples,
+    }
+}
+
 // From the first piece in the scratch on, with the samples taken so far.
 fn repeat(
     scratch: &mut [f64],
@@ -375,23 +388,13 @@ fn repeat(
         let value = judged.value;
         match next {
             Next::Ended(ending) => {
-                return Integral {
-                    ending,
-                    value,
-                    intervals: n,
-                    samples,
-                };
+                return answer(ending, value, n, samples);
             }
             Next::Halve(place) => {
                 let halves = halve(scratch, integrand, points, n, place);
                 samples = samples + halves.samples;
                 if !halves.finite {
-                    return Integral {
-                        ending: Ending::NotFinite,
-                        value,
-                        intervals: n,
-                        samples,
-                    };
+                    return answer(Ending::NotFinite, value, n, samples);
                 }
                 n += 1;
             }

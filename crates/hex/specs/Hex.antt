@@ -1,4 +1,4 @@
--- Figures as text (document 01, "The card program"): "sixteen lowercase hexadecimal digits of the f64's bits; either zero prints as
+-- Figures as text (document 01, "The card program"): "16 lowercase hexadecimal digits of the f64's bits; either zero prints as
 -- all 0, a NaN as 7ff8000000000000".
 use mathlib.Core.List.{List, [], _∷_, _++_}
 use mathlib.Core.Bool.{Bool, true, false, _&&_, cond}

@@ -10,9 +10,9 @@ use chords::Chords;
 use planforms::Planform;
 use sections::Section;
 ghost use mathlib.Core.Path.{_≡_};
-ghost use Rattle.floats.specs.Operations.{_⊘_};
-ghost use Rattle.chords.specs.Chords.{paired};
-ghost use Rattle.integrands.specs.Integrands.{scaleOf, areaIntegrand, plateIntegrand, termOf, plus, sumsOver, valuesOf, valuesOver, chordsFor, sampleOf};
+ghost use Rattle.floats.specs.Operations.{_⊗_, _⊘_};
+ghost use Rattle.chords.specs.Chords.{outlineCrossings, paired, endsOf};
+ghost use Rattle.integrands.specs.Integrands.{scaleOf, areaIntegrand, plateIntegrand, termOf, plus, sumsOver, sampleValues, valuesOver, chordsFor, sampleOf};
 
 // What is summed over the chords. Thickness and body radius are divided by the scale.
 pub enum Kind {
@@ -78,9 +78,7 @@ pub fn sample(integrand: Integrand, points: &[f64], h: f64) -> [f64; 7]
     let kind = integrand.kind;
     let scale = integrand.scale;
     let found = chords_at(integrand, points, h);
-    let mut ends = [0.0; 64];
-    let n = chords::chord_ends(found, points, h * scale, &mut ends);
-    values_between(kind, scale, h, &ends[..n])
+    values_over(found, kind, scale, points, h)
 }
 
 // The chords that the values at the height h are summed over, in metres.
@@ -92,14 +90,29 @@ pub fn chords_at(integrand: Integrand, points: &[f64], h: f64) -> Chords
     chords::chords_at(planform, points, h * scale)
 }
 
-// The seven values at the height h from the ends of its chords in metres, start, end, start, end, ..
-pub fn values_between(kind: Kind, scale: f64, h: f64, ends: &[f64]) -> [f64; 7]
-    ensures { λ r. ⌜ r ≡ valuesOver kind scale h (paired (now (ends .entry))) ⌝ }
+// The seven values at the height h over the chords found there. One chord, as most heights have, needs no list of ends.
+pub fn values_over(found: Chords, kind: Kind, scale: f64, points: &[f64], h: f64) -> [f64; 7]
+    ensures { λ r. ⌜ r ≡ valuesOver kind scale h (paired (endsOf found (now (points .entry)) (h ⊗ scale))) ⌝ }
 {
-    values(kind, h, chord_sums(kind, scale, h, ends))
+    match found {
+        Chords::One { start_m, end_m } => {
+            values(kind, h, add_chord([0.0; 4], kind, scale, h, start_m, end_m))
+        }
+        Chords::Nothing => values(kind, h, [0.0; 4]),
+        Chords::Several => values_over_several(kind, scale, points, h),
+    }
 }
 
-// The sums over the same chords.
+// The same where an outline is crossed more than twice.
+fn values_over_several(kind: Kind, scale: f64, points: &[f64], h: f64) -> [f64; 7]
+    ensures { λ r. ⌜ r ≡ valuesOver kind scale h (paired (outlineCrossings (now (points .entry)) (h ⊗ scale))) ⌝ }
+{
+    let mut ends = [0.0; 64];
+    let n = chords::outline_crossings(points, h * scale, &mut ends);
+    values(kind, h, chord_sums(kind, scale, h, &ends[..n]))
+}
+
+// The sums over the chords between the ends listed, in metres: start, end, start, end, ..
 fn chord_sums(kind: Kind, scale: f64, h: f64, ends: &[f64]) -> [f64; 4]
     ensures { λ r. ⌜ r ≡ sumsOver kind scale h (paired (now (ends .entry))) ⌝ }
 {
@@ -142,7 +155,7 @@ fn term(kind: Kind, h: f64, a: f64, b: f64) -> [f64; 4]
 
 // The seven values, from the sums over the chords at h.
 fn values(kind: Kind, h: f64, m: [f64; 4]) -> [f64; 7]
-    ensures { λ r. ⌜ r ≡ valuesOf kind h m ⌝ }
+    ensures { λ r. ⌜ r ≡ sampleValues kind h m ⌝ }
 {
     match kind {
         Kind::Area => [m[0], m[1], m[2], 0.0, 0.0, 0.0, 0.0],

@@ -1,3 +1,4 @@
 pub mod InOrder
 pub mod Listed
 pub mod JoinLaws
+pub mod Parts

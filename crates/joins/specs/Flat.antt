@@ -6,7 +6,7 @@ use lib.ListN.{take, drop}
 use lib.Ieee.{Float}
 use Rattle.floats.specs.Operations.{at, tabulate}
 use Rattle.bodies.specs.declared.Body.{Body}
-use Rattle.bodies.specs.Tensors.{vector, tensor, number}
+use Rattle.bodies.specs.Tensors.{vector, tensor, numberAt}
 
 -- body k of a list
 abbrev pub bodyAt : List Float → ℕ → Body
@@ -18,7 +18,7 @@ bodyAt numbers k =
     }
 
 abbrev pub numbersOf : Body → List Float
-numbersOf b = b .«mass_kg» ∷ b .«centre_m» .x ∷ b .«centre_m» .y ∷ b .«centre_m» .z ∷ tabulate 9 (number (b .«inertia_kg_m2»))
+numbersOf b = b .«mass_kg» ∷ b .«centre_m» .x ∷ b .«centre_m» .y ∷ b .«centre_m» .z ∷ tabulate 9 (numberAt (b .«inertia_kg_m2»))
 
 -- the list of f 0 to f (n − 1)
 unfoldable pub listed : (ℕ → Body) → ℕ → List Float

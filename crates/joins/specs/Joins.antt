@@ -1,11 +1,12 @@
 -- Bodies joined into one (document 01, "Body"; mass.rs, `combine`).
-use mathlib.Core.Bool.{Bool, true, false, cond, _&&_}
+use mathlib.Core.Bool.{cond, _&&_}
 use mathlib.Core.List.{List}
 use Prim.Native.Nat.{ℕ, zero, suc, _/_, _%_}
 use lib.Dec.{eqb, leb}
 use lib.ListN.{length}
 use lib.Ieee.{Float, nan, lt, ne}
 use Rattle.floats.specs.Operations.{_⊕_, bits}
+use Rattle.floats.specs.Constants.{one}
 use Rattle.bodies.specs.declared.Body.{Body}
 use Rattle.bodies.specs.declared.Centre.{Centre}
 use Rattle.bodies.specs.declared.Tensor.{Tensor}
@@ -21,9 +22,6 @@ use Rattle.joins.specs.declared.Sums.{Sums}
 unfoldable pub inOrder : {A : Type 0} → (A → A → A) → A → (ℕ → A) → ℕ → A
 inOrder plus start f zero = start
 inOrder plus start f (suc n) = plus (inOrder plus start f n) (f n)
-
-abbrev pub one : Float
-one = bits 0x3ff0_0000_0000_0000
 
 -- over the first n bodies of f: total mass, mass times centre summed, centres summed, and how many
 unfoldable pub sumsOf : (ℕ → Body) → ℕ → Sums

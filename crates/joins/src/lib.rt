@@ -69,30 +69,38 @@ fn join(bodies: &[f64], count: usize) -> Body
     }
 }
 
+fn body_of(numbers: &[f64]) -> Body
+    requires { ⌜ length (now numbers) ≡ 13 ⌝ }
+    ensures { λ r. ⌜ r ≡ bodyAt (now (numbers .entry)) 0 ⌝ }
+{
+    Body {
+        mass_kg: numbers[0],
+        centre_m: Centre {
+            x: numbers[1],
+            y: numbers[2],
+            z: numbers[3],
+        },
+        inertia_kg_m2: Tensor([
+            numbers[4],
+            numbers[5],
+            numbers[6],
+            numbers[7],
+            numbers[8],
+            numbers[9],
+            numbers[10],
+            numbers[11],
+            numbers[12],
+        ]),
+    }
+}
+
 fn body_at(bodies: &[f64], k: usize) -> Body
     requires { ⌜ 13 * k + 13 ≤ length (now bodies) ⌝ }
     ensures { λ r. ⌜ r ≡ bodyAt (now (bodies .entry)) k ⌝ }
 {
     let o = 13 * k;
-    Body {
-        mass_kg: bodies[o],
-        centre_m: Centre {
-            x: bodies[o + 1],
-            y: bodies[o + 2],
-            z: bodies[o + 3],
-        },
-        inertia_kg_m2: Tensor([
-            bodies[o + 4],
-            bodies[o + 5],
-            bodies[o + 6],
-            bodies[o + 7],
-            bodies[o + 8],
-            bodies[o + 9],
-            bodies[o + 10],
-            bodies[o + 11],
-            bodies[o + 12],
-        ]),
-    }
+    let e = o + 13;
+    body_of(&bodies[o..e])
 }
 
 // Writes `body` over body k of the slice.

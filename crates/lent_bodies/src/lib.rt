@@ -8,7 +8,7 @@ use joins::Joined;
 use refusals::Refusal;
 use refusals::Verdict;
 
-// Up to 32 bodies, 13 numbers each; 33 counts any more.
+// Up to 32 bodies, 13 numbers each. Of more bodies the count is 33, whatever their number.
 struct BodyList {
     count: usize,
     numbers: [f64; 416],

@@ -1,12 +1,12 @@
-// The limits of a call and of a set's lengths and angles, by field number, and the first refusal of checks in their order.
+// The limits of a call and of a set's lengths and angles, by field number.
 //
 // Document 01, "Set and planform": a length is zero or has magnitude 2^-20 to 64, an angle at most 4 rad. The Rust's
 // `check_dimension` asks only that a length is finite and above 0, or 0 where that is allowed.
 ghost use mathlib.Core.Path.{_≡_};
-ghost use Rattle.limits.specs.Order.{refuseUnless, refuseWhen, firstRefusal};
 ghost use Rattle.limits.specs.Limits.{zeroAllowed, negativeAllowed, lengthWithin, lengthCheck, angleCheck, limitCheck, scratchCheck, countCheck};
 use refusals::Refusal;
 use refusals::Verdict;
+use refusals::refuse_unless;
 
 // The numbers of the fields, as a refusal 4 or 9 carries them.
 pub const ROOT_CHORD: usize = 1;
@@ -42,33 +42,6 @@ const LONGEST_M: f64 = 64.0;
 
 // The largest magnitude of an angle.
 const WIDEST_RAD: f64 = 4.0;
-
-// One check: the refusal where its condition does not hold.
-pub fn refuse_unless(condition: bool, refusal: Refusal) -> Verdict
-    ensures { λ r. ⌜ r ≡ refuseUnless condition refusal ⌝ }
-{
-    if condition {
-        return Verdict::Accepted;
-    }
-    Verdict::Refused(refusal)
-}
-
-// One check: the refusal where its condition holds.
-pub fn refuse_when(condition: bool, refusal: Refusal) -> Verdict
-    ensures { λ r. ⌜ r ≡ refuseWhen condition refusal ⌝ }
-{
-    refuse_unless(!condition, refusal)
-}
-
-// Two checks: the earlier one's refusal, and where that accepts, the later one's answer.
-pub fn first_refusal(earlier: Verdict, later: Verdict) -> Verdict
-    ensures { λ r. ⌜ r ≡ firstRefusal earlier later ⌝ }
-{
-    match earlier {
-        Verdict::Accepted => later,
-        Verdict::Refused(refusal) => Verdict::Refused(refusal),
-    }
-}
 
 // 1: the interval limit is 1 to 4000.
 pub fn check_limit(limit: usize) -> Verdict

@@ -13,7 +13,7 @@ use Rattle.refusals.specs.declared.Refusal.the-variants.{Limit, Count}
 use Rattle.refusals.specs.declared.Verdict.{Verdict}
 use Rattle.refusals.specs.declared.Verdict.the-variants.{Accepted, Refused}
 use Rattle.counts.specs.Counts.{capped}
-use Rattle.limits.specs.Order.{refuseUnless, firstRefusal}
+use Rattle.refusals.specs.Order.{refuseUnless, firstRefusal}
 use Rattle.limits.specs.Limits.{limitCheck, scratchCheck, countCheck}
 use Rattle.planforms.specs.declared.Planform.{Planform}
 use Rattle.fins.specs.declared.FinSet.{FinSet}

@@ -22,7 +22,7 @@ pub fn check_density(density: Density) -> Verdict
     match density {
         Density::Bulk { kg_m3 } => {
             let within = (kg_m3 == 0.0) | ((LIGHTEST_KG_M3 <= kg_m3) & (kg_m3 <= HEAVIEST_KG_M3));
-            limits::refuse_unless(within, Refusal::Density)
+            refusals::refuse_unless(within, Refusal::Density)
         }
         Density::Surface { kg_m2: _ } => Verdict::Refused(Refusal::Density),
         Density::Line { kg_m: _ } => Verdict::Refused(Refusal::Density),

@@ -1,46 +1,33 @@
 -- Principal moments (document 01, "Body"; mass.rs, `symmetric_eigenvalues`).
-use mathlib.Core.Bool.{Bool, true, false, not, cond, _&&_}
+use mathlib.Core.Bool.{Bool, not, cond, _&&_}
 use mathlib.Core.List.{List, [], _∷_}
 use Prim.Native.Nat.{ℕ, zero, suc, _+_, _*_}
 use lib.ListN.{set}
 use lib.Ieee.{Float, lt, le, eq}
-use Rattle.floats.specs.Operations.{_⊕_, _⊖_, _⊗_, _⊘_, bits}
+use Rattle.floats.specs.Operations.{_⊕_, _⊖_, _⊗_, _⊘_, bits, every}
+use Rattle.floats.specs.Constants.{half, one, two}
 use Rattle.floats.specs.Floats.{isFinite, absOf}
 use Rattle.root.specs.Root.{rootOf}
 use Rattle.bodies.specs.declared.Tensor.{Tensor}
-use Rattle.bodies.specs.Tensors.{vector, number, fromColumns}
+use Rattle.bodies.specs.Tensors.{vector, numberAt, fromColumns}
 use Rattle.refusals.specs.declared.Verdict.the-variants.{Accepted, Refused}
 use Rattle.refusals.specs.declared.Refusal.the-variants.{Tensor as TensorRefused}
 use Rattle.refusals.specs.declared.TensorFault.the-variants.{Entry}
 use Rattle.moments.specs.declared.Moments.{Moments}
 use Rattle.moments.specs.declared.Rotation.{Rotation}
 
-abbrev half : Float
-half = bits 0x3fe0_0000_0000_0000
-
-abbrev one : Float
-one = bits 0x3ff0_0000_0000_0000
-
-abbrev two : Float
-two = bits 0x4000_0000_0000_0000
-
 -- row i of column j
 abbrev pub entry : Tensor → ℕ → ℕ → Float
-entry t i j = number t (3 * j + i)
+entry t i j = numberAt t (3 * j + i)
 
 -- ---- 17a
 
--- not "an entry not finite or over 2^500 in magnitude"
+-- an entry that 17a takes: neither not finite nor over 2^500 in magnitude
 abbrev pub entryFits : Float → Bool
 entryFits x = isFinite x && not (lt (bits 0x5f30_0000_0000_0000) (absOf x))
 
--- whether p holds of the first n numbers
-unfoldable pub every : (Float → Bool) → Tensor → ℕ → Bool
-every p t zero = true
-every p t (suc n) = every p t n && p (number t n)
-
 abbrev pub entriesFit : Tensor → Bool
-entriesFit t = every entryFits t 9
+entriesFit t = every 9 (λ i. entryFits (numberAt t i))
 
 -- ---- one rotation
 
@@ -60,7 +47,7 @@ rotationOf app apq aqq = rotationBy (tangentOf ((aqq ⊖ app) ⊘ (two ⊗ apq))
 -- the numbers x at i and y at j become c·x − s·y and s·x + c·y
 unfoldable pub turnPair : Rotation → ℕ → ℕ → Tensor → Tensor
 turnPair r i j t =
-    record { 0 = set (set (t .0) i (r .cosine ⊗ number t i ⊖ r .sine ⊗ number t j)) j (r .sine ⊗ number t i ⊕ r .cosine ⊗ number t j) }
+    record { 0 = set (set (t .0) i (r .cosine ⊗ numberAt t i ⊖ r .sine ⊗ numberAt t j)) j (r .sine ⊗ numberAt t i ⊕ r .cosine ⊗ numberAt t j) }
 
 -- A·J: in each row, the numbers in columns p and q
 unfoldable pub turnColumns : Rotation → ℕ → ℕ → Tensor → Tensor
@@ -98,14 +85,15 @@ sweeps (suc n) t = cond (eq (offDiagonal t) (bits 0)) t (sweeps n (sweep t))
 
 -- ---- the moments
 
--- ascending, by insertion: behind those not above it, so that equal ones keep their order
-unfoldable pub insert : Float → List Float → List Float
-insert x [] = x ∷ []
-insert x (y ∷ ys) = cond (lt x y) (x ∷ y ∷ ys) (y ∷ insert x ys)
+-- ascending, by insertion: in front of the first that is above it, so that equal ones keep their order. sorting's `insert` goes in front
+-- of those that are all above it: where one is a NaN the two give other lists.
+unfoldable pub insertMoment : Float → List Float → List Float
+insertMoment x [] = x ∷ []
+insertMoment x (y ∷ ys) = cond (lt x y) (x ∷ y ∷ ys) (y ∷ insertMoment x ys)
 
 unfoldable pub insertAll : List Float → List Float → List Float
 insertAll sorted [] = sorted
-insertAll sorted (x ∷ xs) = insertAll (insert x sorted) xs
+insertAll sorted (x ∷ xs) = insertAll (insertMoment x sorted) xs
 
 abbrev pub ascending : List Float → List Float
 ascending xs = insertAll [] xs

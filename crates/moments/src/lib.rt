@@ -6,7 +6,7 @@
 ghost use mathlib.Core.Path.{_≡_};
 ghost use mathlib.Core.List.{[], _∷_};
 ghost use Prim.Native.Nat.{_<_};
-ghost use Rattle.moments.specs.Moments.{entryFits, entriesFit, symmetrized, tangentOf, rotationOf, turnPair, turnColumns, turnRows, rotate, sweep, offDiagonal, sweeps, insert, ascending, eigenvaluesOf, refusedEntry, principalMomentsOf};
+ghost use Rattle.moments.specs.Moments.{entryFits, entriesFit, symmetrized, tangentOf, rotationOf, turnPair, turnColumns, turnRows, rotate, sweep, offDiagonal, sweeps, insertMoment, ascending, eigenvaluesOf, refusedEntry, principalMomentsOf};
 use bodies::Tensor;
 use refusals::Refusal;
 use refusals::TensorFault;
@@ -200,7 +200,7 @@ fn sort(x: f64, y: f64, z: f64) -> [f64; 3]
 }
 
 fn insert_third(x: f64, y: f64, z: f64) -> [f64; 3]
-    ensures { λ r. ⌜ r ≡ insert z (x ∷ y ∷ []) ⌝ }
+    ensures { λ r. ⌜ r ≡ insertMoment z (x ∷ y ∷ []) ⌝ }
 {
     if z < x {
         return [z, x, y];

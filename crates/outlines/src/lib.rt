@@ -5,10 +5,10 @@
 ghost use mathlib.Core.Path.{_≡_};
 ghost use Prim.Native.Nat.{_<_};
 ghost use Rattle.planforms.specs.Planforms.{pairCount};
-ghost use Rattle.outlines.specs.Outlines.{pointCheck, pointsCheck, endsCheck, next, pointAt, edgeAt, pairCheck, edgeCheck, edgesCheck, edgeTerm, twiceArea, twiceAreaCheck, outlineCheck};
-use limits::first_refusal;
+ghost use Rattle.outlines.specs.Outlines.{pointCheck, pointsCheck, endsCheck, pointAt, edgeAt, pairCheck, edgeCheck, edgesCheck, edgeTerm, twiceArea, twiceAreaCheck, outlineCheck};
 use refusals::Refusal;
 use refusals::Verdict;
+use refusals::first_refusal;
 use segments::Point;
 use segments::Segment;
 
@@ -22,21 +22,13 @@ fn point_at(points: &[f64], i: usize) -> Point
     }
 }
 
-// The point at which edge i of n ends.
-fn next_point(n: usize, i: usize) -> usize
-    requires { ⌜ i < n ⌝ }
-    ensures { λ r. ⌜ (r ≡ next n i) × (r < n) ⌝ }
-{
-    if i + 1 == n { 0 } else { i + 1 }
-}
-
 fn edge_at(points: &[f64], i: usize) -> Segment
     requires { ⌜ i < pairCount (now points) ⌝ }
     ensures { λ r. ⌜ r ≡ edgeAt (now (points .entry)) i ⌝ }
 {
     let n = points.len() / 2;
     let from = point_at(points, i);
-    let to = point_at(points, next_point(n, i));
+    let to = point_at(points, planforms::next_point(n, i));
     Segment { from, to }
 }
 
@@ -50,7 +42,7 @@ fn check_pair(points: &[f64], i: usize, j: usize) -> Verdict
         return Verdict::Accepted;
     }
     let touch = segments::segments_touch(edge_at(points, i), edge_at(points, j));
-    limits::refuse_when(touch, Refusal::Touches(i, j))
+    refusals::refuse_when(touch, Refusal::Touches(i, j))
 }
 
 // 7 for edge i against each edge behind it.
@@ -117,7 +109,7 @@ fn check_ends(points: &[f64]) -> Verdict
     let first = point_at(points, 0);
     let last = point_at(points, n - 1);
     let on_root = (first.x == 0.0) & (first.y == 0.0) & (0.0 < last.x) & (last.y == 0.0);
-    limits::refuse_unless(on_root, Refusal::Ends)
+    refusals::refuse_unless(on_root, Refusal::Ends)
 }
 
 // What an edge adds to twice the area.
@@ -145,7 +137,7 @@ fn twice_area(points: &[f64]) -> f64
 fn check_twice_area(points: &[f64]) -> Verdict
     ensures { λ r. ⌜ r ≡ twiceAreaCheck (now (points .entry)) ⌝ }
 {
-    limits::refuse_when(twice_area(points) == 0.0, Refusal::NoArea)
+    refusals::refuse_when(twice_area(points) == 0.0, Refusal::NoArea)
 }
 
 // The first refusal of an outline, whatever slice is lent. Only with 3 to 64 points is anything else looked at.

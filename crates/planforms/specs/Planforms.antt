@@ -1,6 +1,6 @@
 -- The planform's root chord and span (document 01, "Set and planform"; the Rust's root_chord_m and span_m).
 use mathlib.Core.List.{List}
-use Prim.Native.Nat.{ℕ, zero, suc, _+_, _-_, _*_, _/_}
+use Prim.Native.Nat.{ℕ, zero, suc, _+_, _-_, _*_, _/_, _%_}
 use lib.ListN.{length}
 use lib.Ieee.{Float}
 use Rattle.floats.specs.Operations.{at, bits}
@@ -17,6 +17,10 @@ heightAt points i = at points (2 * i + 1)
 
 abbrev pub pairCount : List Float → ℕ
 pairCount points = length points / 2
+
+-- edge i of n goes from point i to the next; the last edge closes the outline
+abbrev pub next : ℕ → ℕ → ℕ
+next n i = (i + 1) % n
 
 -- the x of the last of n points, and 0 where there is none
 abbrev pub lastX : List Float → ℕ → Float

@@ -2,6 +2,7 @@
 use mathlib.Core.List.{List, [], _∷_}
 use lib.Ieee.{Float}
 use Rattle.floats.specs.Operations.{_⊕_, _⊖_, _⊗_, _⊘_, bits, at, tabulate}
+use Rattle.floats.specs.Constants.{half, three, twelve}
 use Rattle.floats.specs.Floats.{cube, fourth, fifth}
 use Rattle.fins.specs.declared.Tab.{Tab}
 use Rattle.fins.specs.declared.Tab.the-variants.{None, Slab}
@@ -40,18 +41,9 @@ unscaledOf total scale =
     ∷ tau2 total ⊗ fifth scale
     ∷ []
 
-abbrev pub half : Float
-half = bits 0x3fe0_0000_0000_0000
-
 -- the integral of s from a to b, as 0.5·(b·b − a·a)
 abbrev pub firstMoment : Float → Float → Float
 firstMoment a b = half ⊗ (b ⊗ b ⊖ a ⊗ a)
-
-abbrev three : Float
-three = bits 0x4008_0000_0000_0000
-
-abbrev twelve : Float
-twelve = bits 0x4028_0000_0000_0000
 
 -- a slab from radius `inner` to `outer` and from x `fore` to `aft`, of thickness t, height h and length l
 abbrev pub slabOf : Float → Float → Float → Float → Float → Float → Float → List Float
@@ -71,5 +63,5 @@ tabIntegralsOf None thickness radius = tabulate 7 (λ k. bits 0)
 tabIntegralsOf (Slab height length offset) thickness radius = slabOf thickness height length (radius ⊖ height) radius offset (offset ⊕ length)
 
 -- the sums, place by place
-abbrev pub sumOf : List Float → List Float → List Float
-sumOf fin tab = tabulate 7 (λ k. at fin k ⊕ at tab k)
+abbrev pub addIntegrals : List Float → List Float → List Float
+addIntegrals fin tab = tabulate 7 (λ k. at fin k ⊕ at tab k)

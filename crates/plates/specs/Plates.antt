@@ -3,6 +3,7 @@ use mathlib.Core.Bool.{cond}
 use mathlib.Core.List.{List}
 use lib.Ieee.{Float, neg, eq, le}
 use Rattle.floats.specs.Operations.{_⊕_, _⊗_, _⊘_, bits}
+use Rattle.floats.specs.Constants.{half}
 use Rattle.bodies.specs.declared.Body.{Body}
 use Rattle.bodies.specs.declared.Centre.{Centre}
 use Rattle.bodies.specs.declared.Tensor.{Tensor}
@@ -16,7 +17,7 @@ use Rattle.materials.specs.declared.Density.{Density}
 use Rattle.materials.specs.declared.Density.the-variants.{Bulk, Surface, Line}
 use Rattle.fins.specs.declared.FinSet.{FinSet}
 use Rattle.plates.specs.declared.Fin.{Fin}
-use Rattle.plates.specs.Integrals.{half, volume, r1, r2, x1, x2, rx, tau2, unscaledOf, tabIntegralsOf, sumOf}
+use Rattle.plates.specs.Integrals.{volume, r1, r2, x1, x2, rx, tau2, unscaledOf, tabIntegralsOf, addIntegrals}
 
 -- the tensor about the origin, of points at (r, τ, −x); its entries are summed first, then times the density
 abbrev pub aboutOrigin : List Float → Float → Tensor
@@ -38,8 +39,8 @@ atCentre v kgPerM3 =
     }
 
 -- the tensor moved from the origin to the centre
-unfoldable pub plateOf : List Float → Float → Body
-plateOf v kgPerM3 =
+unfoldable pub plateBody : List Float → Float → Body
+plateBody v kgPerM3 =
     record {
       «mass_kg» = atCentre v kgPerM3 .«mass_kg»;
       «centre_m» = atCentre v kgPerM3 .«centre_m»;
@@ -65,7 +66,7 @@ refusedFin refusal = record { verdict = Refused refusal; body = emptyBody }
 unfoldable pub bulkFin : List Float → Float → Centre → Float → Fin
 bulkFin v cant pivot kgPerM3 =
     cond (le (volume v) (bits 0)) (refusedFin NoArea)
-    (record { verdict = Accepted; body = cantedOf (plateOf v kgPerM3) cant pivot })
+    (record { verdict = Accepted; body = cantedOf (plateBody v kgPerM3) cant pivot })
 
 -- 12: "density not bulk"
 abbrev pub ofDensity : Density → (Float → Fin) → Fin
@@ -75,7 +76,7 @@ ofDensity (Line x) fin = refusedFin density
 
 -- fin and tab together
 abbrev pub integralsOf : FinSet → Float → List Float → List Float
-integralsOf set scale total = sumOf (unscaledOf total scale) (tabIntegralsOf (set .tab) (set .«thickness_m») (set .«body_radius_m»))
+integralsOf set scale total = addIntegrals (unscaledOf total scale) (tabIntegralsOf (set .tab) (set .«thickness_m») (set .«body_radius_m»))
 
 -- one fin with its tab, at roll 0, from the strips' scaled totals and the root chord
 unfoldable pub singleFinOf : FinSet → Float → Float → List Float → Fin

@@ -4,8 +4,8 @@
 // ∫r, ∫r², ∫x, ∫x², ∫rx, ∫τ² over the volume and a density ρ, about the origin I = ρ [τ²+x², 0, rx; 0, r²+x², 0; rx, 0, r²+τ²], and
 // I − m (|c|² E − c cᵀ) about the centre c = (∫r / V, 0, −∫x / V). Cant turns the fin about its span axis through the root's middle.
 ghost use mathlib.Core.Path.{_≡_};
-ghost use Rattle.plates.specs.Integrals.{unscaledOf, slabOf, tabIntegralsOf, sumOf};
-ghost use Rattle.plates.specs.Plates.{plateOf, cantedOf, refusedFin, bulkFin, singleFinOf};
+ghost use Rattle.plates.specs.Integrals.{unscaledOf, slabOf, tabIntegralsOf, addIntegrals};
+ghost use Rattle.plates.specs.Plates.{aboutOrigin, atCentre, plateBody, cantedOf, refusedFin, bulkFin, singleFinOf};
 ghost use Rattle.plates.specs.Geometry.{geometryOf};
 use bodies::Body;
 use bodies::Centre;
@@ -88,7 +88,7 @@ pub fn tab_integrals(tab: Tab, thickness_m: f64, body_radius_m: f64) -> [f64; 7]
 }
 
 fn sum(fin: [f64; 7], tab: [f64; 7]) -> [f64; 7]
-    ensures { λ r. ⌜ r ≡ sumOf fin tab ⌝ }
+    ensures { λ r. ⌜ r ≡ addIntegrals fin tab ⌝ }
 {
     [
         fin[0] + tab[0],
@@ -101,21 +101,27 @@ fn sum(fin: [f64; 7], tab: [f64; 7]) -> [f64; 7]
     ]
 }
 
-// The plate with the integrals v, its tensor moved from the origin to the centre.
-fn plate(v: [f64; 7], kg_m3: f64) -> Body
-    ensures { λ r. ⌜ r ≡ plateOf v «kg_m3» ⌝ }
+// The tensor about the origin of the plate with the integrals v.
+fn about_origin(v: [f64; 7], kg_m3: f64) -> Tensor
+    ensures { λ r. ⌜ r ≡ aboutOrigin v «kg_m3» ⌝ }
 {
-    let volume = v[0];
-    let r1 = v[1];
     let r2 = v[2];
-    let x1 = v[3];
     let x2 = v[4];
     let rx = v[5];
     let tau2 = v[6];
     let xx = tau2 + x2;
     let yy = r2 + x2;
     let zz = r2 + tau2;
-    let about_origin = Tensor([xx, 0.0, rx, 0.0, yy, 0.0, rx, 0.0, zz]).scale(kg_m3);
+    Tensor([xx, 0.0, rx, 0.0, yy, 0.0, rx, 0.0, zz]).scale(kg_m3)
+}
+
+// Its mass at its centre, with no tensor of its own.
+fn at_centre(v: [f64; 7], kg_m3: f64) -> Body
+    ensures { λ r. ⌜ r ≡ atCentre v «kg_m3» ⌝ }
+{
+    let volume = v[0];
+    let r1 = v[1];
+    let x1 = v[3];
     let mass_kg = kg_m3 * volume;
     let centre_m = Centre {
         x: r1 / volume,
@@ -123,16 +129,25 @@ fn plate(v: [f64; 7], kg_m3: f64) -> Body
         z: -x1 / volume,
     };
     let zero = Body::ZERO;
-    let origin = zero.centre_m;
-    let none = zero.inertia_kg_m2;
-    let at_centre = Body {
-        mass_kg,
-        centre_m,
-        inertia_kg_m2: none,
-    };
-    let inertia_kg_m2 = about_origin.subtract(at_centre.inertia_about(origin));
+    let inertia_kg_m2 = zero.inertia_kg_m2;
     Body {
         mass_kg,
+        centre_m,
+        inertia_kg_m2,
+    }
+}
+
+// The plate with the integrals v, its tensor moved from the origin to the centre.
+fn plate(v: [f64; 7], kg_m3: f64) -> Body
+    ensures { λ r. ⌜ r ≡ plateBody v «kg_m3» ⌝ }
+{
+    let mass = at_centre(v, kg_m3);
+    let centre_m = mass.centre_m;
+    let zero = Body::ZERO;
+    let origin = zero.centre_m;
+    let inertia_kg_m2 = about_origin(v, kg_m3).subtract(mass.inertia_about(origin));
+    Body {
+        mass_kg: mass.mass_kg,
         centre_m,
         inertia_kg_m2,
     }

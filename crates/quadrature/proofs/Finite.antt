@@ -10,7 +10,7 @@ use Rattle.floats.proofs.Nan.{no}
 use Rattle.floats.specs.Operations.{_⊕_, _⊗_, at}
 use Rattle.floats.specs.Floats.{isFinite}
 use Rattle.quadrature.specs.Rule.{minusSide, plusSide, heightsTo, weightedTo, finiteSample, finiteAt}
-use Rattle.quadrature.proofs.Every.{every-of-each}
+use Rattle.floats.proofs.Every.{every-of-each}
 use Rattle.quadrature.proofs.Taken.{finite-append}
 
 not-finite : (b s : Bool) {A : Type 0} → isFinite (cond b nan (inf s)) ≡ true → A

@@ -10,12 +10,12 @@ use lib.ListN.{length, take, drop, take-append-drop, length-append}
 use lib.Seq.{take-all, take-suc, drop-cons, length-take-le}
 use lib.Ieee.{Float, nan}
 use Rattle.floats.proofs.Nan.{no}
-use Rattle.floats.specs.Operations.{_⊖_, _⊗_, at, tabulate}
+use Rattle.floats.specs.Operations.{_⊖_, _⊗_, at, tabulate, every}
 use Rattle.floats.specs.Floats.{isFinite, absOf}
-use Rattle.quadrature.specs.Rule.{kronrodWeight, gaussWeight, centreOf, halfWidth, heightsTo, heightsOf, weightedTo, every, finiteSample, finiteAt, takenAt, pieceOf}
-use Rattle.quadrature.specs.Tally.{weightsTo, sumFirst, zeros, plusWeighted, noPiece, TallyOf, Gathered, measuredOf}
+use Rattle.quadrature.specs.Rule.{kronrodWeight, gaussWeight, halfSum, halfWidth, heightsTo, heightsOf, weightedTo, finiteSample, finiteAt, takenAt, pieceOf, zeros, noPiece}
+use Rattle.quadrature.specs.Tally.{weightsTo, sumFirst, plusWeighted, TallyOf, Gathered, measuredOf}
 use Rattle.quadrature.specs.declared.Tally.{Tally}
-use Rattle.quadrature.proofs.Every.{every-holds}
+use Rattle.floats.proofs.Every.{every-holds}
 use Rattle.quadrature.proofs.Finite.{finite-samples}
 use Rattle.quadrature.proofs.Taken.{finite-append, taken-goes-on, taken-all, heights-count}
 
@@ -106,7 +106,7 @@ none-looked f centre half t z e =
     }
 
 -- the rule's answer from the tally of all seven nodes
-module _ (f : Float → List Float) (start end : Float) (t : Tally) (z : Gathered 7 f (centreOf start end) (halfWidth start end) t) where
+module _ (f : Float → List Float) (start end : Float) (t : Tally) (z : Gathered 7 f (halfSum start end) (halfWidth start end) t) where
   pub measured-bad : t .finite ≡ false → record { finite = false; samples = t .samples; piece = noPiece start end } ≡ measuredOf f start end
   unfolding measuredOf
   measured-bad e =

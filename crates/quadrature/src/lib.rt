@@ -112,7 +112,8 @@ fn kronrod_weights() -> [f64; 15]
     [w7, w0, w0, w1, w1, w2, w2, w3, w3, w4, w4, w5, w5, w6, w6]
 }
 
-// Their Gauss weights: of the even nodes 0, which is added times the sample as in the Rust.
+// Their Gauss weights: the table's four are those of the nodes 1, 3, 5 and 7. An even node's is 0, which is added times the sample as in
+// the Rust.
 fn gauss_weights() -> [f64; 15]
     ensures { λ r. ⌜ r ≡ weightsTo 7 gaussWeight ⌝ }
 {
@@ -162,7 +163,6 @@ fn sums(integrand: Integrand, points: &[f64], centre: f64, half: f64, tested: bo
     let found = chords_found(integrand, points, heights);
     let kw = kronrod_weights();
     let gw = gauss_weights();
-    let mut ends = [0.0; 64];
     let mut kronrod = [0.0; 7];
     let mut gauss = [0.0; 7];
     let mut j: usize = 0;
@@ -171,8 +171,7 @@ fn sums(integrand: Integrand, points: &[f64], centre: f64, half: f64, tested: bo
         let scale = integrand.scale;
         let h = heights[j];
         let one = found[j];
-        let n = chords::chord_ends(one, points, h * scale, &mut ends);
-        let y = integrands::values_between(kind, scale, h, &ends[..n]);
+        let y = integrands::values_over(one, kind, scale, points, h);
         if !passes(tested, y) {
             return Tally {
                 finite: false,

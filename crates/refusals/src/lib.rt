@@ -1,7 +1,9 @@
-// The refusals of document 01's table, one case for each number, with the values that go with it.
+// The refusals of document 01's table, one case for each number, with the values that go with it, and the first refusal of checks in
+// their order.
 //
 // The Rust's `DesignError` and `CoreError` have texts instead; the numbers are the kiosk's.
 ghost use mathlib.Core.Path.{_≡_};
+ghost use Rattle.refusals.specs.Order.{refuseUnless, refuseWhen, isRefused, firstRefusal};
 ghost use Rattle.refusals.specs.Refusals.{numberOf, caseOf, valuesOf, inTwoPlaces};
 
 // What is wrong with a tensor: 17's cases a to e, in their order.
@@ -39,6 +41,43 @@ pub enum Refusal {
 pub enum Verdict {
     Accepted,
     Refused(Refusal),
+}
+
+// One check: the refusal where its condition does not hold.
+pub fn refuse_unless(condition: bool, refusal: Refusal) -> Verdict
+    ensures { λ r. ⌜ r ≡ refuseUnless condition refusal ⌝ }
+{
+    if condition {
+        return Verdict::Accepted;
+    }
+    Verdict::Refused(refusal)
+}
+
+// One check: the refusal where its condition holds.
+pub fn refuse_when(condition: bool, refusal: Refusal) -> Verdict
+    ensures { λ r. ⌜ r ≡ refuseWhen condition refusal ⌝ }
+{
+    refuse_unless(!condition, refusal)
+}
+
+// Two checks: the earlier one's refusal, and where that accepts, the later one's answer.
+pub fn first_refusal(earlier: Verdict, later: Verdict) -> Verdict
+    ensures { λ r. ⌜ r ≡ firstRefusal earlier later ⌝ }
+{
+    match earlier {
+        Verdict::Accepted => later,
+        Verdict::Refused(refusal) => Verdict::Refused(refusal),
+    }
+}
+
+// Whether a check refuses. Checks in a row return at the first that does.
+pub fn is_refused(verdict: Verdict) -> bool
+    ensures { λ r. ⌜ r ≡ isRefused verdict ⌝ }
+{
+    match verdict {
+        Verdict::Accepted => false,
+        Verdict::Refused(_) => true,
+    }
 }
 
 // The number of a refusal, as the card prints it.

@@ -92,8 +92,8 @@ setOf q figures = setWith q (planformOf (q .planform) figures) (drop (q .lengths
 -- ---- bodies
 
 -- "(point MASS X Y Z)", number k of a line: a mass at a place
-abbrev pub pointAt : List Float → ℕ → Body
-pointAt figures k =
+abbrev pub pointBodyAt : List Float → ℕ → Body
+pointBodyAt figures k =
     record {
       «mass_kg» = at figures (4 * k);
       «centre_m» = vector (at figures (4 * k + 1)) (at figures (4 * k + 2)) (at figures (4 * k + 3));
@@ -102,7 +102,7 @@ pointAt figures k =
 
 -- the points of a line, joined: "none, or more, gives 3"
 unfoldable pub joinedPointsOf : List Float → Joined
-joinedPointsOf figures = joinedOf (pointAt figures) (length figures / 4)
+joinedPointsOf figures = joinedOf (pointBodyAt figures) (length figures / 4)
 
 -- the tensor, three columns
 abbrev pub tensorOf : List Float → Tensor

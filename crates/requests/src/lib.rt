@@ -7,7 +7,7 @@ ghost use Prim.Native.Nat.{_+_, _*_, _≤_, min};
 ghost use lib.ListN.{length};
 ghost use Rattle.floats.specs.Operations.{at};
 ghost use Rattle.joins.specs.Flat.{withBodies};
-ghost use Rattle.requests.specs.Requests.{planformOf, PointsEnd, sectionOf, tabOf, tabEnd, densityOf, setWith, setOf, pointAt, joinedPointsOf, tensorOf, bodyOf};
+ghost use Rattle.requests.specs.Requests.{planformOf, PointsEnd, sectionOf, tabOf, tabEnd, densityOf, setWith, setOf, pointBodyAt, joinedPointsOf, tensorOf, bodyOf};
 use bodies::Body;
 use bodies::Centre;
 use bodies::Tensor;
@@ -152,7 +152,7 @@ pub fn asked_set(q: Request, values: &[f64]) -> FinSet
 // Point k of a line.
 fn point_body(values: &[f64], k: usize) -> Body
     requires { ⌜ 4 * k + 4 ≤ length (now values) ⌝ }
-    ensures { λ r. ⌜ r ≡ pointAt (now (values .entry)) k ⌝ }
+    ensures { λ r. ⌜ r ≡ pointBodyAt (now (values .entry)) k ⌝ }
 {
     let zero = Body::ZERO;
     let inertia_kg_m2 = zero.inertia_kg_m2;
@@ -171,7 +171,7 @@ fn point_body(values: &[f64], k: usize) -> Body
 // Writes each point as a body, one after another from the start of a lent list.
 fn write_points(bodies: &mut [f64], values: &[f64], count: usize)
     requires { ⌜ (13 * count ≤ length (now bodies)) × (4 * count ≤ length (now values)) ⌝ }
-    ensures { λ _. ⌜ now (bodies .exit) ≡ withBodies (pointAt (now (values .entry))) count (now (bodies .entry)) ⌝ }
+    ensures { λ _. ⌜ now (bodies .exit) ≡ withBodies (pointBodyAt (now (values .entry))) count (now (bodies .entry)) ⌝ }
 {
     let mut k = 0;
     while k < count {

@@ -1,18 +1,13 @@
 -- Turns about x and z as glam's quaternions and their matrices (document 01, "Stand-ins").
 use lib.Ieee.{Float}
 use Rattle.floats.specs.Operations.{_⊕_, _⊖_, _⊗_, _⊘_, bits}
+use Rattle.floats.specs.Constants.{one, two}
 use Rattle.trig.specs.Trig.{sinOf, cosOf}
 use Rattle.bodies.specs.declared.Body.{Body}
 use Rattle.bodies.specs.declared.Tensor.{Tensor}
 use Rattle.bodies.specs.Tensors.{vector, fromColumns}
 use Rattle.bodies.specs.Bodies.{rotatedOf}
 use Rattle.rotations.specs.declared.Quaternion.{Quaternion}
-
-abbrev one : Float
-one = bits 0x3ff0_0000_0000_0000
-
-abbrev two : Float
-two = bits 0x4000_0000_0000_0000
 
 -- "A turn about z by angle g is the quaternion (0, 0, sin g/2, cos g/2), about x (sin g/2, 0, 0, cos g/2)"
 abbrev pub aboutX : Float → Quaternion
@@ -33,8 +28,12 @@ matrixOf q =
     (vector (double (q .x) (q .y) ⊖ double (q .w) (q .z)) (one ⊖ (double (q .x) (q .x) ⊕ double (q .z) (q .z))) (double (q .y) (q .z) ⊕ double (q .w) (q .x)))
     (vector (double (q .x) (q .z) ⊕ double (q .w) (q .y)) (double (q .y) (q .z) ⊖ double (q .w) (q .x)) (one ⊖ (double (q .x) (q .x) ⊕ double (q .y) (q .y))))
 
+-- the body turned by a quaternion
+abbrev pub turnedOf : Body → Quaternion → Body
+turnedOf b turn = rotatedOf b (matrixOf turn)
+
 abbrev pub rotatedXOf : Body → Float → Body
-rotatedXOf b angle = rotatedOf b (matrixOf (aboutX angle))
+rotatedXOf b angle = turnedOf b (aboutX angle)
 
 abbrev pub rolledOf : Body → Float → Body
-rolledOf b angle = rotatedOf b (matrixOf (aboutZ angle))
+rolledOf b angle = turnedOf b (aboutZ angle)

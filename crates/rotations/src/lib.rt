@@ -3,7 +3,7 @@
 // The turn is glam's unit quaternion, worked into its matrix R; the centre becomes R c and the tensor R I Rᵀ (document 01,
 // "Stand-ins"). Every product is worked, those with the quaternion's zeros too.
 ghost use mathlib.Core.Path.{_≡_};
-ghost use Rattle.rotations.specs.Rotations.{aboutX, aboutZ, matrixOf, rotatedXOf, rolledOf};
+ghost use Rattle.rotations.specs.Rotations.{aboutX, aboutZ, matrixOf, turnedOf, rotatedXOf, rolledOf};
 use bodies::Body;
 use bodies::Tensor;
 
@@ -71,15 +71,22 @@ impl Quaternion {
     }
 }
 
+// The body turned by a quaternion.
+pub fn turned(body: Body, turn: Quaternion) -> Body
+    ensures { λ r. ⌜ r ≡ turnedOf body turn ⌝ }
+{
+    body.rotated(turn.matrix())
+}
+
 pub fn rotated_x(body: Body, angle_rad: f64) -> Body
     ensures { λ r. ⌜ r ≡ rotatedXOf body «angle_rad» ⌝ }
 {
-    body.rotated(Quaternion::from_rotation_x(angle_rad).matrix())
+    turned(body, Quaternion::from_rotation_x(angle_rad))
 }
 
 // The body rolled about the z axis.
 pub fn rolled(body: Body, angle_rad: f64) -> Body
     ensures { λ r. ⌜ r ≡ rolledOf body «angle_rad» ⌝ }
 {
-    body.rotated(Quaternion::from_rotation_z(angle_rad).matrix())
+    turned(body, Quaternion::from_rotation_z(angle_rad))
 }

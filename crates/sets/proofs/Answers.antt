@@ -4,9 +4,9 @@ use mathlib.Core.List.{[], _∷_}
 use Prim.Native.Nat.{ℕ}
 use lib.Ieee.{Float}
 use Rattle.refusals.specs.declared.Verdict.{Verdict}
-use Rattle.limits.specs.Order.{firstRefusal, firstOf}
+use Rattle.refusals.specs.Order.{firstRefusal, firstOf}
 use Rattle.limits.specs.Limits.{countCheck}
-use Rattle.limits.proofs.Order.{in-order}
+use Rattle.refusals.proofs.Order.{in-order}
 use Rattle.joins.specs.declared.Joined.{Joined}
 use Rattle.plates.specs.declared.Fin.{Fin}
 use Rattle.sets.specs.Sets.{joinedFinsOf, unlessRefused}

@@ -1,31 +1,34 @@
 -- A set's fins, turned about the body's axis and joined (document 01, "Set and planform" and "Body"; fins.rs, `mass_properties`).
 use mathlib.Core.List.{List, [], _∷_}
 use Prim.Native.Nat.{ℕ}
-use lib.Ieee.{Float}
-use Rattle.floats.specs.Operations.{_⊕_, _⊗_, _⊘_, bits}
-use Rattle.trig.specs.Trig.{number}
+use lib.Ieee.{Float, nan}
+use Rattle.floats.specs.Operations.{_⊕_, _⊗_, _⊘_, number, Filled}
+use Rattle.floats.specs.Constants.{two, pi}
 use Rattle.bodies.specs.declared.Body.{Body}
 use Rattle.bodies.specs.Bodies.{emptyBody}
-use Rattle.rotations.specs.Rotations.{rolledOf}
+use Rattle.rotations.specs.declared.Quaternion.{Quaternion}
+use Rattle.rotations.specs.Rotations.{aboutZ, rolledOf}
 use Rattle.refusals.specs.declared.Refusal.{Refusal}
 use Rattle.refusals.specs.declared.Verdict.{Verdict}
 use Rattle.refusals.specs.declared.Verdict.the-variants.{Accepted, Refused}
-use Rattle.limits.specs.Order.{firstOf}
+use Rattle.refusals.specs.Order.{firstOf}
 use Rattle.limits.specs.Limits.{countCheck}
 use Rattle.joins.specs.declared.Joined.{Joined}
 use Rattle.joins.specs.Joins.{joinedOf}
 use Rattle.fins.specs.declared.FinSet.{FinSet}
 use Rattle.plates.specs.Plates.{singleFinOf}
 
-abbrev two : Float
-two = bits 0x4000_0000_0000_0000
-
-abbrev pi : Float
-pi = bits 0x4009_21fb_5444_2d18
-
 -- the roll of fin k: base + ((2·π)·k)/count
 abbrev pub angleOf : Float → ℕ → ℕ → Float
 angleOf base count k = base ⊕ two ⊗ pi ⊗ number k ⊘ number count
+
+-- what the program logic has past a list's end
+abbrev pub noTurn : Quaternion
+noTurn = record { x = nan; y = nan; z = nan; w = nan }
+
+-- the turns of the first n fins stand in a list
+abbrev pub TurnsTo : ℕ → Float → ℕ → List Quaternion → Type 0
+TurnsTo n base count turns = Filled n noTurn (λ k. aboutZ (angleOf base count k)) turns
 
 abbrev pub rolledFin : Body → Float → ℕ → ℕ → Body
 rolledFin fin base count k = rolledOf fin (angleOf base count k)

@@ -10,7 +10,7 @@ use Rattle.tokens.specs.Tokens.{Token, tokens}
 use Rattle.templates.specs.declared.Choice.{Choice}
 use Rattle.templates.specs.declared.Cursor.{Cursor}
 use Rattle.templates.specs.Matching.{Taken, Reading, failed, reading, pick, orElse, chosen}
-use Rattle.templates.specs.Cursors.{takenAt, readingAt, Room, ReadsOn, choosing}
+use Rattle.templates.specs.Cursors.{takenBefore, readingAt, Room, ReadsOn, choosing}
 use Rattle.templates.proofs.Steps.{also-kept}
 
 abbrev pub fits : Reading → Bool
@@ -20,7 +20,7 @@ fits (reading ts t) = true
 pub fits-at : (line : List ℕ) (v : List Float) (c : Cursor) → fits (readingAt line v c) ≡ c .ok
 fits-at line v c = by (c .ok)
   where
-    by : (t : Bool) → fits (pick t (reading (tokens (drop (c .at) line)) (takenAt v c)) failed) ≡ t
+    by : (t : Bool) → fits (pick t (reading (tokens (drop (c .at) line)) (takenBefore v c)) failed) ≡ t
     by true = refl
     by false = refl
 
@@ -64,7 +64,7 @@ module _ (line : List ℕ) (v w : List Float) (c r : Cursor) (m : Reading) (o : 
         room = record { short = q .short; room = q .room; within = q .within; few = q .few };
       }
     where
-      by : (t : Bool) → pick t (reading (tokens (drop (r .at) line)) (takenAt w (choosing k r))) failed ≡ chosen k (pick t (reading (tokens (drop (r .at) line)) (takenAt w r)) failed)
+      by : (t : Bool) → pick t (reading (tokens (drop (r .at) line)) (takenBefore w (choosing k r))) failed ≡ chosen k (pick t (reading (tokens (drop (r .at) line)) (takenBefore w r)) failed)
       by true = refl
       by false = refl
 

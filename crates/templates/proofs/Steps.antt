@@ -23,7 +23,7 @@ use Rattle.tokens.specs.declared.Kind.the-variants.{Open, Close, Word, End}
 use Rattle.tokens.specs.declared.Found.{Found}
 use Rattle.tokens.proofs.Bytes.{at-end}
 use Rattle.templates.specs.Matching.{Taken, Reading, failed, reading, pick, sameBytes, takeFigure, takeCount, takeWord, takeToken, takeTokens}
-use Rattle.templates.specs.Cursors.{takenAt, readingAt, Room, ReadsOn, IsWordAt, isOpen, isClose, notAForm, onTo, pickCursor, counted, plainTo, takeFound, placeBehind}
+use Rattle.templates.specs.Cursors.{takenBefore, readingAt, Room, ReadsOn, IsWordAt, isOpen, isClose, notAForm, onTo, pickCursor, counted, plainTo, takeFound, placeBehind}
 use Rattle.templates.specs.declared.Cursor.{Cursor}
 
 -- ---- on a line that is no form nothing changes
@@ -37,14 +37,14 @@ failed-stays End bytes = refl
 
 pub no-form : (line : List ℕ) (v : List Float) (c : Cursor) (k : Kind) (bytes : List ℕ) → c .ok ≡ false → Room line v c → ReadsOn line v v c c (takeFound k bytes (readingAt line v c))
 no-form line v c k bytes e m =
-    let r : readingAt line v c ≡ failed = ap (λ (t : Bool). pick t (reading (tokens (drop (c .at) line)) (takenAt v c)) failed) e in
+    let r : readingAt line v c ≡ failed = ap (λ (t : Bool). pick t (reading (tokens (drop (c .at) line)) (takenBefore v c)) failed) e in
     record { is = r ∙ failed-stays k bytes ∙ ap (takeFound k bytes) (sym r); kept = refl; grows = omega arith; room = m }
 
 -- ---- a token found from c on
 
 module _ (line : List ℕ) (v : List Float) (c : Cursor) (m : Room line v c) where
   abbrev rest : ℕ → Reading
-  rest to = reading (tokens (drop to line)) (takenAt v c)
+  rest to = reading (tokens (drop to line)) (takenBefore v c)
 
   -- the cursor that stays, and one behind a token
   pub stays : (meant : Reading) → failed ≡ meant → ReadsOn line v v c (notAForm c) meant
@@ -63,19 +63,19 @@ module _ (line : List ℕ) (v : List Float) (c : Cursor) (m : Room line v c) whe
   picks false to meant a h e = stays meant e
 
   module _ (ok : c .ok ≡ true) (f : Found) (is : IsFound line (c .at) f) where
-    start : readingAt line v c ≡ reading (starting (f .kind) line (f .from) (f .to)) (takenAt v c)
+    start : readingAt line v c ≡ reading (starting (f .kind) line (f .from) (f .to)) (takenBefore v c)
     start =
-        ap (λ (t : Bool). pick t (reading (tokens (drop (c .at) line)) (takenAt v c)) failed) ok
-        ∙ ap (λ (ts : List Token). reading ts (takenAt v c)) (is .first)
+        ap (λ (t : Bool). pick t (reading (tokens (drop (c .at) line)) (takenBefore v c)) failed) ok
+        ∙ ap (λ (ts : List Token). reading ts (takenBefore v c)) (is .first)
 
-    open-by : (k : Kind) → pick (isOpen k) (rest (f .to)) failed ≡ takeToken opening (reading (starting k line (f .from) (f .to)) (takenAt v c))
+    open-by : (k : Kind) → pick (isOpen k) (rest (f .to)) failed ≡ takeToken opening (reading (starting k line (f .from) (f .to)) (takenBefore v c))
     unfolding takeToken
     open-by Open = refl
     open-by Close = refl
     open-by Word = refl
     open-by End = refl
 
-    close-by : (k : Kind) → pick (isClose k) (rest (f .to)) failed ≡ takeToken closing (reading (starting k line (f .from) (f .to)) (takenAt v c))
+    close-by : (k : Kind) → pick (isClose k) (rest (f .to)) failed ≡ takeToken closing (reading (starting k line (f .from) (f .to)) (takenBefore v c))
     unfolding takeToken
     close-by Open = refl
     close-by Close = refl
@@ -92,13 +92,13 @@ module _ (line : List ℕ) (v : List Float) (c : Cursor) (m : Room line v c) whe
     close-read = picks (isClose (f .kind)) (f .to) (takeToken closing (readingAt line v c)) at-to (is .within (m .within)) (close-by (f .kind) ∙ ap (takeToken closing) (sym start))
 
     -- a word is wanted and another token found
-    pub no-word : (p : List ℕ) (k : Kind) → f .kind ≡ k → failed ≡ takeToken (word p) (reading (starting k line (f .from) (f .to)) (takenAt v c)) → ReadsOn line v v c (notAForm c) (takeToken (word p) (readingAt line v c))
-    no-word p k e t = stays (takeToken (word p) (readingAt line v c)) (t ∙ ap (λ (j : Kind). takeToken (word p) (reading (starting j line (f .from) (f .to)) (takenAt v c))) (sym e) ∙ ap (takeToken (word p)) (sym start))
+    pub no-word : (p : List ℕ) (k : Kind) → f .kind ≡ k → failed ≡ takeToken (word p) (reading (starting k line (f .from) (f .to)) (takenBefore v c)) → ReadsOn line v v c (notAForm c) (takeToken (word p) (readingAt line v c))
+    no-word p k e t = stays (takeToken (word p) (readingAt line v c)) (t ∙ ap (λ (j : Kind). takeToken (word p) (reading (starting j line (f .from) (f .to)) (takenBefore v c))) (sym e) ∙ ap (takeToken (word p)) (sym start))
 
     -- a word is wanted and found
-    pub word-read : (p : List ℕ) → f .kind ≡ Word → takeToken (word p) (readingAt line v c) ≡ takeWord p (part line (f .from) (f .to)) (tokens (drop (f .to) line)) (takenAt v c)
+    pub word-read : (p : List ℕ) → f .kind ≡ Word → takeToken (word p) (readingAt line v c) ≡ takeWord p (part line (f .from) (f .to)) (tokens (drop (f .to) line)) (takenBefore v c)
     unfolding takeToken
-    word-read p e = ap (takeToken (word p)) start ∙ ap (λ (j : Kind). takeToken (word p) (reading (starting j line (f .from) (f .to)) (takenAt v c))) e
+    word-read p e = ap (takeToken (word p)) start ∙ ap (λ (j : Kind). takeToken (word p) (reading (starting j line (f .from) (f .to)) (takenBefore v c))) e
 
     pub word-place : f .kind ≡ Word → IsWordAt line c f
     word-place e = record { behind = is .behind; ordered = is .ordered; within = is .within (m .within) }
@@ -123,7 +123,7 @@ part-length line from to a h = simp (length-take, length-drop) (omega arith)
 
 module _ (line : List ℕ) (v : List Float) (c : Cursor) (f : Found) (p : List ℕ) (m : Room line v c) (w : IsWordAt line c f) where
   abbrev meant : Reading
-  meant = takeWord p (part line (f .from) (f .to)) (tokens (drop (f .to) line)) (takenAt v c)
+  meant = takeWord p (part line (f .from) (f .to)) (tokens (drop (f .to) line)) (takenBefore v c)
 
   later : c .at ≤ f .to
   later = let a = w .behind in let b = w .ordered in omega arith
@@ -132,10 +132,10 @@ module _ (line : List ℕ) (v : List Float) (c : Cursor) (f : Found) (p : List �
   unfolding takeWord
   plain-word e = rw e (by (sameBytes p (text "N")) (sameBytes p (part line (f .from) (f .to))) (cappedCount (countOf (part line (f .from) (f .to)))))
     where
-      by : (n s : Bool) (k : Count) → ReadsOn line v v c (pickCursor n (counted k c (f .to)) (pickCursor s (onTo c (f .to)) (notAForm c))) (pick n (takeCount k (tokens (drop (f .to) line)) (takenAt v c)) (pick s (reading (tokens (drop (f .to) line)) (takenAt v c)) failed))
-      by true s (Whole n) = moves line v c m (counted (Whole n) c (f .to)) (takeCount (Whole n) (tokens (drop (f .to) line)) (takenAt v c)) refl later (w .within) refl
+      by : (n s : Bool) (k : Count) → ReadsOn line v v c (pickCursor n (counted k c (f .to)) (pickCursor s (onTo c (f .to)) (notAForm c))) (pick n (takeCount k (tokens (drop (f .to) line)) (takenBefore v c)) (pick s (reading (tokens (drop (f .to) line)) (takenBefore v c)) failed))
+      by true s (Whole n) = moves line v c m (counted (Whole n) c (f .to)) (takeCount (Whole n) (tokens (drop (f .to) line)) (takenBefore v c)) refl later (w .within) refl
       by true s NotCount = stays line v c m failed refl
-      by false true k = passes line v c m (f .to) (reading (tokens (drop (f .to) line)) (takenAt v c)) later (w .within) refl
+      by false true k = passes line v c m (f .to) (reading (tokens (drop (f .to) line)) (takenBefore v c)) later (w .within) refl
       by false false k = stays line v c m failed refl
 
   pub no-figure : sameBytes p (text "F") ≡ true → figureOf (part line (f .from) (f .to)) ≡ NotFigure → ReadsOn line v v c (notAForm c) meant

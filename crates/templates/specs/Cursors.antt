@@ -17,11 +17,11 @@ use Rattle.templates.specs.Matching.{Taken, Reading, failed, reading, pi
 use Rattle.templates.specs.declared.Choice.{Choice}
 use Rattle.templates.specs.declared.Cursor.{Cursor}
 
-abbrev pub takenAt : List Float → Cursor → Taken
-takenAt values c = record { figures = take (c .figures) values; count = c .count; choice = c .choice }
+abbrev pub takenBefore : List Float → Cursor → Taken
+takenBefore values c = record { figures = take (c .figures) values; count = c .count; choice = c .choice }
 
 abbrev pub readingAt : List ℕ → List Float → Cursor → Reading
-readingAt line values c = pick (c .ok) (reading (tokens (drop (c .at) line)) (takenAt values c)) failed
+readingAt line values c = pick (c .ok) (reading (tokens (drop (c .at) line)) (takenBefore values c)) failed
 
 -- a line of at most 4,096 bytes has at most 256 figures: sixteen bytes each
 pub record Room (line : List ℕ) (values : List Float) (c : Cursor) : Type 0 where

@@ -58,7 +58,8 @@ abbrev pub takeCount : Count → List Token → Taken → Reading
 takeCount (Whole n) ts t = reading ts (withCount n t)
 takeCount NotCount ts t = failed
 
--- the template's word p against the line's word w: `F` takes a figure, `N` a count, any other word itself
+-- the template's word p against the line's word w: `F` takes a figure, `N` a count, any other word itself. A count is capped at a million
+-- here; no answer and no scratch shows it (`answer-capped` and `scratch-capped` of lines/proofs/Capped).
 unfoldable pub takeWord : List ℕ → List ℕ → List Token → Taken → Reading
 takeWord p w ts t =
     pick (sameBytes p (text "F")) (takeFigure (figureOf w) ts t)

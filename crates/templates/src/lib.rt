@@ -10,7 +10,7 @@ ghost use Rattle.counts.specs.Counts.{countOf, cappedCount};
 ghost use Rattle.tokens.specs.Tokens.{tokens};
 ghost use Rattle.tokens.specs.Found.{part};
 ghost use Rattle.templates.specs.Matching.{sameBytes, takeWord, takeText, chosen, eitherOf, oneOf, takeEach};
-ghost use Rattle.templates.specs.Cursors.{takenAt, readingAt, Room, ReadsOn, IsWordAt, isOpen, isClose, notAForm, onTo, pickCursor, counted, plainTo, choosing, takeFound, placeBehind};
+ghost use Rattle.templates.specs.Cursors.{takenBefore, readingAt, Room, ReadsOn, IsWordAt, isOpen, isClose, notAForm, onTo, pickCursor, counted, plainTo, choosing, takeFound, placeBehind};
 use counts::Count;
 use hex::Figure;
 use tokens::Found;
@@ -135,7 +135,7 @@ fn take_plain(c: Cursor, wanted: &[u8], word: &[u8], to: usize) -> Cursor
 // A word of the line, found at a place, against one of a template: `F` takes a figure.
 fn take_word(line: &[u8], c: Cursor, wanted: &[u8], found: Found, values: &mut [f64]) -> Cursor
     requires { ⌜ Room (now line) (now values) c × IsWordAt (now line) c found ⌝ }
-    ensures { λ r. ⌜ ReadsOn (now (line .entry)) (now (values .entry)) (now (values .exit)) c r (takeWord (now (wanted .entry)) (part (now (line .entry)) (found .from) (found .to)) (tokens (drop (found .to) (now (line .entry)))) (takenAt (now (values .entry)) c)) ⌝ }
+    ensures { λ r. ⌜ ReadsOn (now (line .entry)) (now (values .entry)) (now (values .exit)) c r (takeWord (now (wanted .entry)) (part (now (line .entry)) (found .from) (found .to)) (tokens (drop (found .to) (now (line .entry)))) (takenBefore (now (values .entry)) c)) ⌝ }
 {
     let from = found.from;
     let to = found.to;

@@ -14,7 +14,7 @@ use lib.Ieee.Fits.{down-pos}
 use lib.Ieee.Exact.{HasValue, odd-sign}
 use lib.Ieee.Bits.{ofBits-fits}
 use Rattle.floats.specs.Operations.{bits}
-use Rattle.trig.specs.Trig.{nearest, signed, wholeOf, modFour, mOf, quarterOf}
+use Rattle.trig.specs.Trig.{nearestWhole, signed, wholeOf, modFour, mOf, quarterOf}
 use Rattle.trig.proofs.Nearest.{nearest-same, nearest-halved, nearest-whole, nearest-none, nearest-some, nearest-most}
 use Rattle.trig.proofs.Modulo.{of-multiple}
 use Rattle.trig.proofs.Exact.{whole-is}
@@ -28,7 +28,7 @@ digitsOf b = 2 ^ 52 + b % 2 ^ 52
 -- ---- the whole number nearest d·2^(x − 1) / 2^1074
 
 module _ (x d : ℕ) where
-  pub halved : 1 ≤ x → x < 1075 → nearest (d * 2 ^ (x - 1)) (2 ^ 1074) ≡ (d / 2 ^ (1074 - x) + 1) / 2
+  pub halved : 1 ≤ x → x < 1075 → nearestWhole (d * 2 ^ (x - 1)) (2 ^ 1074) ≡ (d / 2 ^ (1074 - x) + 1) / 2
   halved h k =
       let e : 1074 ≡ 1 + (1074 - x) + (x - 1) = omega arith in
       nearest-halved d (2 ^ (x - 1)) (2 ^ (1074 - x)) (2 ^ 1074) (pow-pos (x - 1)) (pow-pos (1074 - x))
@@ -37,29 +37,29 @@ module _ (x d : ℕ) where
   over : 1075 ≤ x → 2 ^ (x - 1) ≡ 2 ^ (x - 1075) * 2 ^ 1074
   over h = ap (λ (i : ℕ). 2 ^ i) (let e : x - 1 ≡ (x - 1075) + 1074 = omega arith in e) ∙ pow-add 2 (x - 1075) 1074
 
-  pub shifted : 1075 ≤ x → nearest (d * 2 ^ (x - 1)) (2 ^ 1074) ≡ d * 2 ^ (x - 1075)
+  pub shifted : 1075 ≤ x → nearestWhole (d * 2 ^ (x - 1)) (2 ^ 1074) ≡ d * 2 ^ (x - 1075)
   shifted h = nearest-whole d (2 ^ (x - 1075)) (2 ^ (x - 1)) (2 ^ 1074) (pow-pos 1074) (over h)
 
-  pub not-zero : 1022 ≤ x → 2 ^ 52 ≤ d → 0 < nearest (d * 2 ^ (x - 1)) (2 ^ 1074)
+  pub not-zero : 1022 ≤ x → 2 ^ 52 ≤ d → 0 < nearestWhole (d * 2 ^ (x - 1)) (2 ^ 1074)
   not-zero h k =
       nearest-some (d * 2 ^ (x - 1)) (2 ^ 1074) (pow-pos 1074)
       (le-trans (pow-mono {i = 1074} {j = 53 + (x - 1)} (omega arith))
       (le-trans (le-of-eq (pow-add 2 53 (x - 1)))
       (le-trans (mul-le-mul-right (2 ^ (x - 1)) (let z : 2 ^ 53 ≤ 2 * d = omega arith in z)) (le-of-eq (mul-assoc 2 d (2 ^ (x - 1)))))))
 
-  pub at-most : x < 1075 → d < 2 ^ 53 → nearest (d * 2 ^ (x - 1)) (2 ^ 1074) ≤ 2 ^ 53
+  pub at-most : x < 1075 → d < 2 ^ 53 → nearestWhole (d * 2 ^ (x - 1)) (2 ^ 1074) ≤ 2 ^ 53
   at-most h k =
       nearest-most (d * 2 ^ (x - 1)) (2 ^ 1074) (pow-pos 1074) (2 ^ 53)
       (lt-of-lt-of-le (shl-lt 53 (x - 1) k) (le-trans (pow-mono {i = 53 + (x - 1)} {j = 53 + 1074} (omega arith)) (le-of-eq (pow-add 2 53 1074))))
 
 -- ---- m of a float from its sign and its magnitude n / d
 
-m-is : (y : Float) (s : Bool) (n d : ℕ) → 0 < d → HasValue y s n d → (ofInt binary64 (signed s (nearest n d)) ≡ mOf y) × (modFour (signed s (nearest n d)) ≡ quarterOf y)
+m-is : (y : Float) (s : Bool) (n d : ℕ) → 0 < d → HasValue y s n d → (ofInt binary64 (signed s (nearestWhole n d)) ≡ mOf y) × (modFour (signed s (nearestWhole n d)) ≡ quarterOf y)
 unfolding mOf quarterOf
 m-is nan s n d p v = absurd v
 m-is (inf t) s n d p v = absurd v
 m-is (fin t k e) s n d p v =
-    let w : signed s (nearest n d) ≡ wholeOf t k e = ap (λ (u : Bool). signed u (nearest n d)) (sym (v .0)) ∙ ap (signed t) (sym (nearest-same (k * up e) (down e) n d (down-pos e) p (v .1))) in
+    let w : signed s (nearestWhole n d) ≡ wholeOf t k e = ap (λ (u : Bool). signed u (nearestWhole n d)) (sym (v .0)) ∙ ap (signed t) (sym (nearest-same (k * up e) (down e) n d (down-pos e) p (v .1))) in
     (ap (ofInt binary64) w, ap modFour w)
 
 zero-float : bits 0 ≡ ofInt binary64 (pos 0)
@@ -130,7 +130,7 @@ module _ (y : Float) (b : ℕ) (e : ofBits binary64 b ≡ y) where
     digits-value : HasValue y (leb (2 ^ 63) b) (digitsOf b * 2 ^ (exponentOf b - 1)) (2 ^ 1074)
     digits-value = subst (λ (n : ℕ). HasValue y (leb (2 ^ 63) b) n (2 ^ 1074)) (units-is (exponentOf b) (b % 2 ^ 52) (omega arith)) (value k)
 
-    pub from-half : (n : ℕ) → n ≡ nearest (digitsOf b * 2 ^ (exponentOf b - 1)) (2 ^ 1074) → (ofInt binary64 (signed (leb (2 ^ 63) b) n) ≡ mOf y) × (modFour (signed (leb (2 ^ 63) b) n) ≡ quarterOf y)
+    pub from-half : (n : ℕ) → n ≡ nearestWhole (digitsOf b * 2 ^ (exponentOf b - 1)) (2 ^ 1074) → (ofInt binary64 (signed (leb (2 ^ 63) b) n) ≡ mOf y) × (modFour (signed (leb (2 ^ 63) b) n) ≡ quarterOf y)
     from-half n w =
         let s = leb (2 ^ 63) b in
         let m = m-is y s (digitsOf b * 2 ^ (exponentOf b - 1)) (2 ^ 1074) (pow-pos 1074) digits-value in

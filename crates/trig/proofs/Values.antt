@@ -4,10 +4,10 @@ use mathlib.Core.Bool.{true, false}
 use Prim.Native.Nat.{_^_}
 use lib.IntN.{negsuc}
 use lib.Ieee.{Float, nan, inf, fin, binary64, ofBits, ofInt, round, add, sub, mul, div, neg}
-use Rattle.floats.specs.Operations.{bits}
+use Rattle.floats.specs.Operations.{bits, number}
 use Rattle.floats.specs.Floats.{isFinite}
 use Rattle.floats.proofs.Nan.{no}
-use Rattle.trig.specs.Trig.{mOf, number, quarterOf, sinCosOf, sinOf, cosOf}
+use Rattle.trig.specs.Trig.{mOf, quarterOf, sinCosOf, sinOf, cosOf}
 
 -- the bits of 0.6366197723675814
 pub two-over-pi : bits 0x3fe4_5f30_6dc9_c883 ≡ round binary64 false 6366197723675814 (10 ^ 16)

@@ -4,7 +4,7 @@ use mathlib.Core.List.{List, [], _∷_, map}
 use Prim.Native.Nat.{ℕ, zero, suc, _+_, _-_, _*_, _/_, _%_}
 use lib.IntN.{ℤ, pos, negsuc, negℤ}
 use lib.Ieee.{Float, nan, inf, fin, binary64, up, down, ofInt, neg}
-use Rattle.floats.specs.Operations.{_⊖_, _⊗_, _⊘_, bits}
+use Rattle.floats.specs.Operations.{_⊖_, _⊗_, _⊘_, bits, number}
 use Rattle.trig.specs.declared.SinCos.{SinCos}
 
 -- f·0.6366197723675814, which is f in quarter turns; the constant by its bits
@@ -13,18 +13,20 @@ quarterTurns f = f ⊗ bits 0x3fe4_5f30_6dc9_c883
 
 -- the whole number nearest num / den, halves up: one half more, and the fraction cut off (`nearest-is` and `nearest-only` of proofs/: the
 -- only M with M − 1/2 ≤ num / den < M + 1/2)
-abbrev pub nearest : ℕ → ℕ → ℕ
-nearest num den = (2 * num + den) / (2 * den)
+abbrev pub nearestWhole : ℕ → ℕ → ℕ
+nearestWhole num den = (2 * num + den) / (2 * den)
 
 -- "m is the whole number nearest .., halves away from zero": the nearest to the product's magnitude k·2^e, with the product's sign
 abbrev pub signed : Bool → ℕ → ℤ
 signed s n = cond s (negℤ (pos n)) (pos n)
 
+-- `up e` is 2^e where e is at least 0, `down e` is 2^-e where it is below, and each is 1 otherwise
 abbrev pub wholeOf : Bool → ℕ → ℤ → ℤ
-wholeOf s k e = signed s (nearest (k * up e) (down e))
+wholeOf s k e = signed s (nearestWhole (k * up e) (down e))
 
--- m as an f64, which it is exactly (`m-exact`). Every finite f has a finite product, and so an m (`product-finite`). The paragraph leaves
--- open what a NaN or an infinite f gives: m is a NaN there, and with it r, both series and both answers.
+-- m as an f64 (`ofInt`: the nearest one), which it is exactly (`m-exact`). Every finite f has a finite product, and so an m
+-- (`product-finite`). The paragraph leaves open what a NaN or an infinite f gives: m is a NaN there, and with it r, both series and both
+-- answers.
 unfoldable pub mOf : Float → Float
 mOf nan = nan
 mOf (inf s) = nan
@@ -33,10 +35,6 @@ mOf (fin s k e) = ofInt binary64 (wholeOf s k e)
 -- "r = (f − m·A) − m·B, A with bits 3ff921fb54400000, B 3dd0b4611a626331"
 abbrev pub reduced : Float → Float → Float
 reduced f m = (f ⊖ m ⊗ bits 0x3ff9_21fb_5440_0000) ⊖ m ⊗ bits 0x3dd0_b461_1a62_6331
-
--- a whole number as an f64
-abbrev pub number : ℕ → Float
-number n = ofInt binary64 (pos n)
 
 -- "step v = 1 − (z/d)·v", for each d in order
 unfoldable pub steps : Float → List Float → Float → Float

@@ -5,7 +5,8 @@
 ghost use mathlib.Core.Path.{_≡_};
 ghost use Prim.Native.Nat.{_-_, _*_, _^_, _≤_, _<_};
 ghost use lib.Ieee.{binary64, ofInt};
-ghost use Rattle.trig.specs.Trig.{nearest, signed, mOf, number, steps, modFour, quarterOf, byQuarter, sinOf, cosOf};
+ghost use Rattle.floats.specs.Operations.{_⊗_, number, at};
+ghost use Rattle.trig.specs.Trig.{nearestWhole, signed, mOf, steps, sineDivisors, cosineDivisors, modFour, quarterOf, byQuarter, sinOf, cosOf};
 
 const TWO_OVER_PI: f64 = 0.6366197723675814;
 
@@ -32,34 +33,50 @@ pub fn sin_cos(f: f64) -> SinCos
     let whole = nearest_whole(f * TWO_OVER_PI);
     let m = whole.m;
     let r = f - m * HALF_PI_HIGH - m * HALF_PI_LOW;
-    let z = r * r;
-    let s = r * series(z, &SINE_DIVISORS);
-    let c = series(z, &COSINE_DIVISORS);
-    by_quarter(whole.quarter, s, c)
+    by_quarter(whole.quarter, r, series(r * r))
 }
 
-// From v = 1, v = 1 − (z/d)·v for each divisor d in order.
-fn series(z: f64, divisors: &[f64]) -> f64
-    ensures { λ v. ⌜ v ≡ steps z (now (divisors .entry)) (number 1) ⌝ }
+// From v = 1, v = 1 − (z/d)·v for each divisor d in order: the sine's, then the cosine's. The two go on side by side, so that the
+// machine divides both at once.
+fn series(z: f64) -> [f64; 2]
+    ensures { λ v. ⌜ (at v 0 ≡ steps z sineDivisors (number 1)) × (at v 1 ≡ steps z cosineDivisors (number 1)) ⌝ }
 {
-    let mut v = 1.0;
+    let mut v = [1.0, 1.0];
     let mut i = 0usize;
-    while i < divisors.len() {
-        v = 1.0 - z / divisors[i] * v;
+    while i < 8 {
+        let sine = 1.0 - z / SINE_DIVISORS[i] * v[0];
+        let cosine = 1.0 - z / COSINE_DIVISORS[i] * v[1];
+        v = [sine, cosine];
         i += 1;
     }
     v
 }
 
-// Sine and cosine from the series s and c at r, by m mod 4.
-fn by_quarter(quarter: u64, s: f64, c: f64) -> SinCos
-    ensures { λ r. ⌜ r ≡ byQuarter quarter s c ⌝ }
+// Sine and cosine from the two series at r, by m mod 4. In a turn's odd quarters the cosine's series gives the sine.
+fn by_quarter(quarter: u64, r: f64, both: [f64; 2]) -> SinCos
+    requires { ⌜ quarter < 4 ⌝ }
+    ensures { λ t. ⌜ t ≡ byQuarter quarter (r ⊗ at both 0) (at both 1) ⌝ }
 {
+    let place = (quarter % 2) as usize;
+    let of_sine = both[place];
+    let of_cosine = both[1 - place];
     match quarter {
-        0 => SinCos { sin: s, cos: c },
-        1 => SinCos { sin: c, cos: -s },
-        2 => SinCos { sin: -s, cos: -c },
-        _ => SinCos { sin: -c, cos: s },
+        0 => SinCos {
+            sin: r * of_sine,
+            cos: of_cosine,
+        },
+        1 => SinCos {
+            sin: of_sine,
+            cos: -(r * of_cosine),
+        },
+        2 => SinCos {
+            sin: -(r * of_sine),
+            cos: -of_cosine,
+        },
+        _ => SinCos {
+            sin: -of_sine,
+            cos: r * of_cosine,
+        },
     }
 }
 
@@ -104,7 +121,7 @@ fn nearest_whole(q: f64) -> Whole
 // The whole number nearest x = digits·2^(exponent − 1) / 2^1074, halves up. Below 2^52 it is x + 1/2, cut: twice x, cut, then 1 more, halved.
 fn nearest_magnitude(exponent: u64, digits: u64) -> u64
     requires { ⌜ (1022 ≤ exponent) × (exponent < 1077) × (digits < 2 ^ 53) ⌝ }
-    ensures { λ n. ⌜ n ≡ nearest (digits * 2 ^ (exponent - 1)) (2 ^ 1074) ⌝ }
+    ensures { λ n. ⌜ n ≡ nearestWhole (digits * 2 ^ (exponent - 1)) (2 ^ 1074) ⌝ }
 {
     if exponent < 1075 {
         return ((digits >> (1074 - exponent)) + 1) / 2;

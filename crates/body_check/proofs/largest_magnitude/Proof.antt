@@ -9,7 +9,7 @@ use lib.Ieee.{Float}
 use Rattle.floats.specs.Floats.{absOf, maxOf}
 use Rattle.floats.specs.Operations.{bits}
 use Rattle.bodies.specs.declared.Tensor.{Tensor}
-use Rattle.bodies.specs.Tensors.{number}
+use Rattle.bodies.specs.Tensors.{numberAt}
 use Rattle.body_check.specs.BodyCheck.{largestMagnitude}
 use Rattle.body_check.proofs.largest_magnitude.Statement.{statement}
 use Rattle.body_check.proofs.largest_magnitude.Tie as tie
@@ -24,7 +24,7 @@ none : (t : Tensor) → bits 0 ≡ largestMagnitude t 0
 unfolding largestMagnitude
 none t = refl
 
-one-more : (t : Tensor) (n : ℕ) {a b r : Float} → a ≡ largestMagnitude t n → b ≡ absOf (number t n) → r ≡ maxOf a b → r ≡ largestMagnitude t (n + 1)
+one-more : (t : Tensor) (n : ℕ) {a b r : Float} → a ≡ largestMagnitude t n → b ≡ absOf (numberAt t n) → r ≡ maxOf a b → r ≡ largestMagnitude t (n + 1)
 unfolding largestMagnitude
 one-more t n p q e = rw (e, p, q, add-one)
 

@@ -12,15 +12,15 @@ returns : tie.Need-returns
 unfolding bodyVerdict
 returns c = simp (ne-eqb _ _ (c .if1 .taken))
 
-body-of-requires : tie.Need-body-of-requires
-body-of-requires c κs = search needs
+asked-body-requires : tie.Need-asked-body-requires
+asked-body-requires c κs = search needs
 
 check-requires : tie.Need-check-requires
 check-requires c κs = search needs
 
 returns-2 : tie.Need-returns-2
 unfolding bodyVerdict
-returns-2 c = simp (eq-eqb _ _ (c .before .before .if1 .left)) (c .check .ensures ∙ ap (λ (b : Body). checkOf b) (c .before .body-of .ensures))
+returns-2 c = simp (eq-eqb _ _ (c .before .before .if1 .left)) (c .check .ensures ∙ ap (λ (b : Body). checkOf b) (c .before .asked-body .ensures))
 
 pub body-verdict-spec : {M : Type 1} → statement M
-body-verdict-spec = tie.close (tie.spec returns body-of-requires check-requires returns-2)
+body-verdict-spec = tie.close (tie.spec returns asked-body-requires check-requires returns-2)

@@ -1,11 +1,7 @@
 -- `figures::work_set` meets its contract: the strips are those of the set. Assumes nothing.
-use mathlib.Core.Path.{_≡_, refl, sym, ap, _∙_}
+use mathlib.Core.Path.{refl, _∙_}
 use native.Mathlib.Omega.{arith}
-use lib.ListN.{length}
-use lib.Ieee.{Float}
-use mathlib.Core.List.{List}
 use Rattle.fins.proofs.Accepted.{set-limit, set-scratch}
-use Rattle.breaks.proofs.Listed.{at-most-66, heights-taken, heights-count, heights-room}
 use Rattle.figures.proofs.Runs.{plate-sample, same-run}
 use borrow.Author.Needs.{needs}
 use Rattle.figures.proofs.work_set.Statement.{statement}
@@ -20,32 +16,12 @@ scale-m-requires c κs = search needs
 root-chord-m-requires : tie.Need-root-chord-m-requires
 root-chord-m-requires c κs = search needs
 
-break-heights-requires : tie.Need-break-heights-requires
-break-heights-requires c κs = search needs
-
-array-share-prefix-heights : tie.Need-array-share-prefix-heights
-array-share-prefix-heights c =
-    let h = c .before .before in
-    let a = h .before .before .before .before .before .before .args in
-    omega (arith, heights-count (a .set .planform) (a .points .now) (h .break-heights .result) (h .break-heights .ensures), heights-room (a .set .planform) (a .points .now) (h .break-heights .result) (h .break-heights .ensures), at-most-66 (a .set .planform) (a .points .now))
-
-slice-aggregate-integrate : tie.Need-slice-aggregate-integrate
-slice-aggregate-integrate c =
-    let h = c .before .before .before in
-    let a = h .before .before .before .before .before .before .args in
-    heights-count (a .set .planform) (a .points .now) (h .break-heights .result) (h .break-heights .ensures)
-    ∙ sym (ap (λ (l : List Float). length l) (heights-taken (a .set .planform) (a .points .now) (h .break-heights .result) (h .break-heights .ensures)))
-
 integrate-requires : tie.Need-integrate-requires
 integrate-requires c κs =
-    let h = c .before .before .before in
-    let s = h .before .before .before .before .before .before in
+    let s = c .before .before .before .before .before .before in
     let a = s .args in
     let limit = set-limit (a .set) (a .points .now) (a .limit) _ (s .pre) in
-    let enough = set-scratch (a .set) (a .points .now) (a .limit) _ (s .pre) in
-    let few = at-most-66 (a .set .planform) (a .points .now) in
-    let taken = heights-taken (a .set .planform) (a .points .now) (h .break-heights .result) (h .break-heights .ensures) in
-    (limit .0, limit .1, omega (arith, enough), rw taken (omega (arith, few)))
+    (limit .0, limit .1, omega (arith, set-scratch (a .set) (a .points .now) (a .limit) _ (s .pre)))
 
 concluded-requires : tie.Need-concluded-requires
 concluded-requires c κs = search needs
@@ -56,16 +32,15 @@ same-length c = search needs
 returns : tie.Need-returns
 returns c =
     let i = c .before .before .before in
-    let h = i .before .before .before .before in
-    let scaled = h .before .before in
-    let s = scaled .before .before .before .before in
-    let a = s .args in
+    let root = i .before .before in
+    let scaled = root .before in
+    let a = scaled .before .before .before .before .args in
     let run = same-run (a .limit) (a .scratch .now) (i .integrate .last .0) (i .integrate .result)
     (plate-sample (a .set .planform) (a .points .now) (a .set .«cross_section») (a .set .«thickness_m») (a .set .«body_radius_m») _ (scaled .before .plate-integrand .ensures))
     (scaled .scale-m .ensures)
-    (heights-taken (a .set .planform) (a .points .now) (h .break-heights .result) (h .break-heights .ensures))
+    refl
     (i .integrate .ensures) in
-    (c .concluded .ensures ∙ rw (h .before .root-chord-m .ensures, scaled .scale-m .ensures, run .answer), run .scratch)
+    (c .concluded .ensures ∙ rw (root .root-chord-m .ensures, scaled .scale-m .ensures, run .answer), run .scratch)
 
 pub work-set-spec : {M : Type 1} → statement M
 work-set-spec =
@@ -74,9 +49,6 @@ work-set-spec =
     plate-integrand-requires
     scale-m-requires
     root-chord-m-requires
-    break-heights-requires
-    array-share-prefix-heights
-    slice-aggregate-integrate
     integrate-requires
     concluded-requires
     same-length

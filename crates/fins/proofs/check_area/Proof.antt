@@ -1,6 +1,6 @@
 -- `fins::check_area` meets its contract: the calls are in order. Assumes nothing.
 use mathlib.Core.List.{[], _∷_}
-use Rattle.limits.proofs.Order.{in-order}
+use Rattle.refusals.proofs.Order.{in-order}
 use Rattle.fins.specs.Fins.{areaCheck}
 use borrow.Author.Needs.{needs}
 use Rattle.fins.proofs.check_area.Statement.{statement}

@@ -1,6 +1,6 @@
 -- `fins::check_planform` meets its contract: each arm knows its case. Assumes nothing.
 use mathlib.Core.List.{[], _∷_}
-use Rattle.limits.proofs.Order.{in-order}
+use Rattle.refusals.proofs.Order.{in-order}
 use Rattle.fins.specs.Fins.{planformCheck}
 use borrow.Author.Needs.{needs}
 use Rattle.fins.proofs.check_planform.Statement.{statement}

@@ -1,140 +1,88 @@
--- `fins::check_set` meets its contract: the calls are in order. Assumes nothing.
+-- `fins::check_set` meets its contract: it returns at the first refusal, group by group. Assumes nothing.
+use mathlib.Core.Path.{_≡_, sym, _∙_}
 use mathlib.Core.List.{[], _∷_}
-use Rattle.limits.proofs.Order.{in-order}
+use Rattle.refusals.proofs.Order.{passed, refused-here, as-one}
 use Rattle.fins.specs.Fins.{setCheck}
 use borrow.Author.Needs.{needs}
 use Rattle.fins.proofs.check_set.Statement.{statement}
 use Rattle.fins.proofs.check_set.Tie as tie
 
-root-chord-m-requires : tie.Need-root-chord-m-requires
-root-chord-m-requires c κs = search needs
+check-call-requires : tie.Need-check-call-requires
+check-call-requires c κs = search needs
 
-check-limit-requires : tie.Need-check-limit-requires
-check-limit-requires c κs = search needs
-
-check-scratch-requires : tie.Need-check-scratch-requires
-check-scratch-requires c κs = search needs
-
-first-refusal-requires : tie.Need-first-refusal-requires
-first-refusal-requires c κs = search needs
-
-check-count-requires : tie.Need-check-count-requires
-check-count-requires c κs = search needs
-
-first-refusal-requires-2 : tie.Need-first-refusal-requires-2
-first-refusal-requires-2 c κs = search needs
-
-check-planform-requires : tie.Need-check-planform-requires
-check-planform-requires c κs = search needs
-
-first-refusal-requires-3 : tie.Need-first-refusal-requires-3
-first-refusal-requires-3 c κs = search needs
-
-check-length-requires : tie.Need-check-length-requires
-check-length-requires c κs = search needs
-
-first-refusal-requires-4 : tie.Need-first-refusal-requires-4
-first-refusal-requires-4 c κs = search needs
-
-check-angle-requires : tie.Need-check-angle-requires
-check-angle-requires c κs = search needs
-
-first-refusal-requires-5 : tie.Need-first-refusal-requires-5
-first-refusal-requires-5 c κs = search needs
-
-check-angle-requires-2 : tie.Need-check-angle-requires-2
-check-angle-requires-2 c κs = search needs
-
-first-refusal-requires-6 : tie.Need-first-refusal-requires-6
-first-refusal-requires-6 c κs = search needs
-
-check-tab-requires : tie.Need-check-tab-requires
-check-tab-requires c κs = search needs
-
-first-refusal-requires-7 : tie.Need-first-refusal-requires-7
-first-refusal-requires-7 c κs = search needs
-
-check-length-requires-2 : tie.Need-check-length-requires-2
-check-length-requires-2 c κs = search needs
-
-first-refusal-requires-8 : tie.Need-first-refusal-requires-8
-first-refusal-requires-8 c κs = search needs
-
-check-depth-requires : tie.Need-check-depth-requires
-check-depth-requires c κs = search needs
-
-first-refusal-requires-9 : tie.Need-first-refusal-requires-9
-first-refusal-requires-9 c κs = search needs
-
-check-density-requires : tie.Need-check-density-requires
-check-density-requires c κs = search needs
-
-first-refusal-requires-10 : tie.Need-first-refusal-requires-10
-first-refusal-requires-10 c κs = search needs
+is-refused-requires : tie.Need-is-refused-requires
+is-refused-requires c κs = search needs
 
 returns : tie.Need-returns
 unfolding setCheck
 returns c =
-    let c9 = c .before .before in
-    let c8 = c9 .before .before in
-    let c7 = c8 .before .before in
-    let c6 = c7 .before .before in
-    let c5 = c6 .before .before in
-    let c4 = c5 .before .before in
-    let c3 = c4 .before .before in
-    let c2 = c3 .before .before in
-    let c1 = c2 .before .before in
-    let c0 = c1 .before .before in
-    rw (
-      c .first-refusal10 .ensures,
-      c .before .check-density .ensures,
-      c9 .first-refusal9 .ensures,
-      c9 .before .check-depth .ensures,
-      c8 .first-refusal8 .ensures,
-      c8 .before .check-length2 .ensures,
-      c7 .first-refusal7 .ensures,
-      c7 .before .check-tab .ensures,
-      c6 .first-refusal6 .ensures,
-      c6 .before .check-angle2 .ensures,
-      c5 .first-refusal5 .ensures,
-      c5 .before .check-angle .ensures,
-      c4 .first-refusal4 .ensures,
-      c4 .before .check-length .ensures,
-      c3 .first-refusal3 .ensures,
-      c3 .before .check-planform .ensures,
-      c2 .first-refusal2 .ensures,
-      c2 .before .check-count .ensures,
-      c1 .first-refusal .ensures,
-      c1 .before .check-scratch .ensures,
-      c0 .check-limit .ensures,
-      c0 .before .root-chord-m .ensures,
-    )
-    (in-order _ (_ ∷ _ ∷ _ ∷ _ ∷ _ ∷ _ ∷ _ ∷ _ ∷ _ ∷ _ ∷ []))
+    refused-here _ _ (c .before .before .check-call .ensures) (sym (c .before .is-refused .ensures) ∙ c .if1 .taken)
+    ∙ as-one (_ ∷ _ ∷ _ ∷ []) _
+
+check-planform-requires : tie.Need-check-planform-requires
+check-planform-requires c κs = search needs
+
+is-refused-requires-2 : tie.Need-is-refused-requires-2
+is-refused-requires-2 c κs = search needs
+
+returns-2 : tie.Need-returns-2
+unfolding setCheck
+returns-2 c =
+    let e = c .before .before .before in
+    refused-here _ _ (c .before .before .check-planform .ensures) (sym (c .before .is-refused2 .ensures) ∙ c .if2 .taken)
+    ∙ sym (passed _ _ (e .before .before .check-call .ensures) (sym (e .before .is-refused .ensures) ∙ e .if1 .left))
+    ∙ as-one (_ ∷ _ ∷ _ ∷ []) _
+
+check-plate-requires : tie.Need-check-plate-requires
+check-plate-requires c κs = search needs
+
+is-refused-requires-3 : tie.Need-is-refused-requires-3
+is-refused-requires-3 c κs = search needs
+
+returns-3 : tie.Need-returns-3
+unfolding setCheck
+returns-3 c =
+    let e = c .before .before .before in
+    let d = e .before .before .before in
+    refused-here _ _ (c .before .before .check-plate .ensures) (sym (c .before .is-refused3 .ensures) ∙ c .if3 .taken)
+    ∙ as-one (_ ∷ _ ∷ _ ∷ []) _
+    ∙ sym (passed _ _ (e .before .before .check-planform .ensures) (sym (e .before .is-refused2 .ensures) ∙ e .if2 .left))
+    ∙ sym (passed _ _ (d .before .before .check-call .ensures) (sym (d .before .is-refused .ensures) ∙ d .if1 .left))
+    ∙ as-one (_ ∷ _ ∷ _ ∷ []) _
+
+root-chord-m-requires : tie.Need-root-chord-m-requires
+root-chord-m-requires c κs = search needs
+
+check-mount-requires : tie.Need-check-mount-requires
+check-mount-requires c κs = search needs
+
+returns-4 : tie.Need-returns-4
+unfolding setCheck
+returns-4 c =
+    let f = c .before .before in
+    let e = f .before .before .before in
+    let d = e .before .before .before in
+    c .check-mount .ensures
+    ∙ rw (c .before .root-chord-m .ensures)
+    (sym (passed _ _ (f .before .before .check-plate .ensures) (sym (f .before .is-refused3 .ensures) ∙ f .if3 .left))
+    ∙ as-one (_ ∷ _ ∷ _ ∷ []) _
+    ∙ sym (passed _ _ (e .before .before .check-planform .ensures) (sym (e .before .is-refused2 .ensures) ∙ e .if2 .left))
+    ∙ sym (passed _ _ (d .before .before .check-call .ensures) (sym (d .before .is-refused .ensures) ∙ d .if1 .left))
+    ∙ as-one (_ ∷ _ ∷ _ ∷ []) _)
 
 pub check-set-spec : {M : Type 1} → statement M
 check-set-spec =
     tie.close
     (tie.spec
-    root-chord-m-requires
-    check-limit-requires
-    check-scratch-requires
-    first-refusal-requires
-    check-count-requires
-    first-refusal-requires-2
+    check-call-requires
+    is-refused-requires
+    returns
     check-planform-requires
-    first-refusal-requires-3
-    check-length-requires
-    first-refusal-requires-4
-    check-angle-requires
-    first-refusal-requires-5
-    check-angle-requires-2
-    first-refusal-requires-6
-    check-tab-requires
-    first-refusal-requires-7
-    check-length-requires-2
-    first-refusal-requires-8
-    check-depth-requires
-    first-refusal-requires-9
-    check-density-requires
-    first-refusal-requires-10
-    returns)
+    is-refused-requires-2
+    returns-2
+    check-plate-requires
+    is-refused-requires-3
+    returns-3
+    root-chord-m-requires
+    check-mount-requires
+    returns-4)

@@ -1,34 +1,16 @@
--- `forms::plain_form` meets its contract: by whether the line is at its end. Assumes nothing.
-use mathlib.Core.Path.{sym, _∙_}
+-- `forms::plain_form` meets its contract, by what its calls ensure. Assumes nothing.
 use borrow.Author.Needs.{needs}
 use Rattle.forms.proofs.plain_form.Statement.{statement}
 use Rattle.forms.proofs.plain_form.Tie as tie
 
-at-end-requires : tie.Need-at-end-requires
-at-end-requires c κs = search needs
-
 plain-request-requires : tie.Need-plain-request-requires
 plain-request-requires c κs = search needs
 
-plain-request-requires-2 : tie.Need-plain-request-requires-2
-plain-request-requires-2 c κs = search needs
+whole-form-requires : tie.Need-whole-form-requires
+whole-form-requires c κs = search needs
 
 returns : tie.Need-returns
-returns c =
-    let e = sym (c .before .before .at-end .ensures) ∙ c .before .if1 .taken in
-    rw e (c .plain-request .ensures)
-
-returns-2 : tie.Need-returns-2
-returns-2 c =
-    let e = sym (c .before .before .at-end .ensures) ∙ c .before .if1 .left in
-    rw e (c .plain-request2 .ensures)
+returns c = rw (c .whole-form .ensures, c .before .plain-request .ensures)
 
 pub plain-form-spec : {M : Type 1} → statement M
-plain-form-spec =
-    tie.close
-    (tie.spec
-    at-end-requires
-    plain-request-requires
-    plain-request-requires-2
-    returns
-    returns-2)
+plain-form-spec = tie.close (tie.spec plain-request-requires whole-form-requires returns)

@@ -1,12 +1,12 @@
 -- `forms::read_area` meets its contract: part by part, and the line's end. Assumes nothing.
-use mathlib.Core.Path.{sym, _∙_}
+use mathlib.Core.Path.{_∙_}
 use borrow.Author.Needs.{needs}
 use denote.Ref.{now}
 use Rattle.tokens.specs.Text.{text, codes}
 use Rattle.templates.specs.Matching.{Reading}
 use Rattle.templates.specs.Cursors.{readingAt}
 use Rattle.forms.specs.Forms.{_▸_, planform, areaLimit, areaPlanform, areaEnd, areaRequest}
-use Rattle.forms.proofs.Ends.{from, on, no-form}
+use Rattle.forms.proofs.Ends.{from, on, formed}
 use Rattle.forms.proofs.Whole.{area-whole}
 use Rattle.forms.proofs.read_area.Statement.{statement}
 use Rattle.forms.proofs.read_area.Tie as tie
@@ -26,15 +26,12 @@ slice-aggregate-take-text-2 c = search needs
 take-text-requires-2 : tie.Need-take-text-requires-2
 take-text-requires-2 c κs = c .before .before .before .before .take-planform .ensures .room
 
-at-end-requires : tie.Need-at-end-requires
-at-end-requires c κs = search needs
-
-plain-request-requires : tie.Need-plain-request-requires
-plain-request-requires c κs = search needs
+whole-form-requires : tie.Need-whole-form-requires
+whole-form-requires c κs = search needs
 
 same-length : tie.Need-same-length
 same-length c =
-    let d = c .before .before .before .before in
+    let d = c .before .before .before in
     let p = d .before .before .before .before .before in
     let a = p .before .before .before .before in
     d .take-text2 .kept .1 .1 .1 .0 ∙ p .take-planform .kept .1 .1 .0 ∙ a .take-text .kept .1 .1 .1 .0
@@ -42,7 +39,7 @@ same-length c =
 returns : tie.Need-returns
 unfolding areaLimit areaPlanform areaEnd _▸_ text codes
 returns c =
-    let d = c .before .before .before .before in
+    let d = c .before .before .before in
     let p = d .before .before .before .before .before in
     let a = p .before .before .before .before in
     let s = a .before .before .before .before .before in
@@ -50,27 +47,7 @@ returns c =
     let limit = on _ _ _ _ _ _ areaLimit (from _ _ _ (s .pre)) (a .take-text .ensures) in
     let planform = on _ _ _ _ _ _ planform limit (p .take-planform .ensures) in
     let end = on _ _ _ _ _ _ (λ (x : Reading). x ▸ ")") planform (d .take-text2 .ensures) in
-    area-whole _ r _ _ _ _ _ _ limit planform end (sym (c .before .at-end .ensures) ∙ c .if1 .taken)
-
-same-length-2 : tie.Need-same-length-2
-same-length-2 c =
-    let d = c .before .before .before .before .before in
-    let p = d .before .before .before .before .before in
-    let a = p .before .before .before .before in
-    d .take-text2 .kept .1 .1 .1 .0 ∙ p .take-planform .kept .1 .1 .0 ∙ a .take-text .kept .1 .1 .1 .0
-
-returns-2 : tie.Need-returns-2
-unfolding areaLimit areaPlanform areaEnd _▸_ text codes
-returns-2 c =
-    let d = c .before .before .before .before .before in
-    let p = d .before .before .before .before .before in
-    let a = p .before .before .before .before in
-    let s = a .before .before .before .before .before in
-    let r = readingAt (now (s .args .line)) (now (s .args .values)) (s .args .c) in
-    let limit = on _ _ _ _ _ _ areaLimit (from _ _ _ (s .pre)) (a .take-text .ensures) in
-    let planform = on _ _ _ _ _ _ planform limit (p .take-planform .ensures) in
-    let end = on _ _ _ _ _ _ (λ (x : Reading). x ▸ ")") planform (d .take-text2 .ensures) in
-    no-form _ _ _ _ end (areaRequest r) _ (c .plain-request .ensures) (sym (c .before .before .at-end .ensures) ∙ c .before .if1 .left)
+    formed _ _ _ _ end _ (areaRequest r) _ (c .whole-form .ensures) (area-whole _ r _ _ _ _ _ _ limit planform end)
 
 pub read-area-spec : {M : Type 1} → statement M
 read-area-spec =
@@ -81,9 +58,6 @@ read-area-spec =
     take-planform-requires
     slice-aggregate-take-text-2
     take-text-requires-2
-    at-end-requires
-    plain-request-requires
+    whole-form-requires
     same-length
-    returns
-    same-length-2
-    returns-2)
+    returns)

@@ -1,12 +1,12 @@
 -- `forms::read_set` meets its contract: part by part, and the line's end. Assumes nothing.
-use mathlib.Core.Path.{sym, _∙_}
+use mathlib.Core.Path.{_∙_}
 use borrow.Author.Needs.{needs}
 use denote.Ref.{now}
 use Rattle.tokens.specs.Text.{text, codes}
 use Rattle.templates.specs.Matching.{Reading}
 use Rattle.templates.specs.Cursors.{readingAt}
 use Rattle.forms.specs.Forms.{_▸_, planform, section, tab, density, setLimit, setCount, setPlanform, setSection, setTab, setDensity, setEnd, setRequest}
-use Rattle.forms.proofs.Ends.{from, on, no-form}
+use Rattle.forms.proofs.Ends.{from, on, formed}
 use Rattle.forms.proofs.Whole.{set-whole}
 use Rattle.forms.proofs.read_set.Statement.{statement}
 use Rattle.forms.proofs.read_set.Tie as tie
@@ -59,15 +59,12 @@ slice-aggregate-take-text-6 c = search needs
 take-text-requires-6 : tie.Need-take-text-requires-6
 take-text-requires-6 c κs = c .before .before .before .before .take-density .ensures .room
 
-at-end-requires : tie.Need-at-end-requires
-at-end-requires c κs = search needs
-
-plain-request-requires : tie.Need-plain-request-requires
-plain-request-requires c κs = search needs
+whole-form-requires : tie.Need-whole-form-requires
+whole-form-requires c κs = search needs
 
 same-length : tie.Need-same-length
 same-length c =
-    let e = c .before .before .before .before in
+    let e = c .before .before .before in
     let d = e .before .before .before .before .before in
     let n = d .before .before .before .before in
     let t = n .before .before .before .before .before in
@@ -82,7 +79,7 @@ same-length c =
 returns : tie.Need-returns
 unfolding setLimit setCount setPlanform setSection setTab setDensity setEnd _▸_ text codes
 returns c =
-    let e = c .before .before .before .before in
+    let e = c .before .before .before in
     let d = e .before .before .before .before .before in
     let n = d .before .before .before .before in
     let t = n .before .before .before .before .before in
@@ -104,48 +101,7 @@ returns c =
     let angles = on _ _ _ _ _ _ (λ (m : Reading). m ▸ "(cant F) (base F) (radius F)") tabs (n .take-text5 .ensures) in
     let dens = on _ _ _ _ _ _ density angles (d .take-density .ensures) in
     let end = on _ _ _ _ _ _ (λ (m : Reading). m ▸ ")") dens (e .take-text6 .ensures) in
-    set-whole _ r _ _ _ _ _ _ _ _ _ _ _ _ _ _ limit count shape sect tabs dens end (sym (c .before .at-end .ensures) ∙ c .if1 .taken)
-
-same-length-2 : tie.Need-same-length-2
-same-length-2 c =
-    let e = c .before .before .before .before .before in
-    let d = e .before .before .before .before .before in
-    let n = d .before .before .before .before in
-    let t = n .before .before .before .before .before in
-    let x = t .before .before .before .before in
-    let s = x .before .before .before .before .before in
-    let h = s .before .before .before .before in
-    let p = h .before .before .before .before .before in
-    let k = p .before .before .before .before in
-    let l = k .before .before .before .before .before in
-    e .take-text6 .kept .1 .1 .1 .0 ∙ d .take-density .kept .1 .1 .0 ∙ n .take-text5 .kept .1 .1 .1 .0 ∙ t .take-tab .kept .1 .1 .0 ∙ x .take-text4 .kept .1 .1 .1 .0 ∙ s .take-section .kept .1 .1 .0 ∙ h .take-text3 .kept .1 .1 .1 .0 ∙ p .take-planform .kept .1 .1 .0 ∙ k .take-text2 .kept .1 .1 .1 .0 ∙ l .take-text .kept .1 .1 .1 .0
-
-returns-2 : tie.Need-returns-2
-unfolding setLimit setCount setPlanform setSection setTab setDensity setEnd _▸_ text codes
-returns-2 c =
-    let e = c .before .before .before .before .before in
-    let d = e .before .before .before .before .before in
-    let n = d .before .before .before .before in
-    let t = n .before .before .before .before .before in
-    let x = t .before .before .before .before in
-    let s = x .before .before .before .before .before in
-    let h = s .before .before .before .before in
-    let p = h .before .before .before .before .before in
-    let k = p .before .before .before .before in
-    let l = k .before .before .before .before .before in
-    let b = l .before .before .before .before .before in
-    let r = readingAt (now (b .args .line)) (now (b .args .values)) (b .args .c) in
-    let limit = on _ _ _ _ _ _ setLimit (from _ _ _ (b .pre)) (l .take-text .ensures) in
-    let count = on _ _ _ _ _ _ (λ (m : Reading). m ▸ "(count N)") limit (k .take-text2 .ensures) in
-    let shape = on _ _ _ _ _ _ planform count (p .take-planform .ensures) in
-    let thick = on _ _ _ _ _ _ (λ (m : Reading). m ▸ "(thickness F) (section") shape (h .take-text3 .ensures) in
-    let sect = on _ _ _ _ _ _ section thick (s .take-section .ensures) in
-    let closed = on _ _ _ _ _ _ (λ (m : Reading). m ▸ ")") sect (x .take-text4 .ensures) in
-    let tabs = on _ _ _ _ _ _ tab closed (t .take-tab .ensures) in
-    let angles = on _ _ _ _ _ _ (λ (m : Reading). m ▸ "(cant F) (base F) (radius F)") tabs (n .take-text5 .ensures) in
-    let dens = on _ _ _ _ _ _ density angles (d .take-density .ensures) in
-    let end = on _ _ _ _ _ _ (λ (m : Reading). m ▸ ")") dens (e .take-text6 .ensures) in
-    no-form _ _ _ _ end (setRequest r) _ (c .plain-request .ensures) (sym (c .before .before .at-end .ensures) ∙ c .before .if1 .left)
+    formed _ _ _ _ end _ (setRequest r) _ (c .whole-form .ensures) (set-whole _ r _ _ _ _ _ _ _ _ _ _ _ _ _ _ limit count shape sect tabs dens end)
 
 pub read-set-spec : {M : Type 1} → statement M
 read-set-spec =
@@ -167,9 +123,6 @@ read-set-spec =
     take-density-requires
     slice-aggregate-take-text-6
     take-text-requires-6
-    at-end-requires
-    plain-request-requires
+    whole-form-requires
     same-length
-    returns
-    same-length-2
-    returns-2)
+    returns)

@@ -5,9 +5,8 @@ use mathlib.Core.Logic.{⊎-elim}
 use mathlib.Core.Path.{_≡_, refl}
 use Prim.Native.Nat.{ℕ}
 use lib.Ieee.{le}
-use Rattle.floats.specs.Operations.{at}
-use Rattle.quadrature.specs.Rule.{every}
-use Rattle.quadrature.proofs.Every.{every-first, every-goes-on, every-ends}
+use Rattle.floats.specs.Operations.{at, every}
+use Rattle.floats.proofs.Every.{every-first, every-goes-on, every-ends}
 use Rattle.halving.proofs.all_within.Statement.{statement}
 use Rattle.halving.proofs.all_within.Tie as tie
 

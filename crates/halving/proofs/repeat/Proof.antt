@@ -28,14 +28,18 @@ judge-requires c κs =
 enum-known-next : tie.Need-enum-known-next Inv-loop μ-loop
 enum-known-next c = search needs
 
+answer-requires : tie.Need-answer-requires Inv-loop μ-loop
+answer-requires c κs = search needs
+
 same-length : tie.Need-same-length Inv-loop μ-loop
-same-length c = c .before .before .before .before .before .before .loop .inv .long
+same-length c = c .before .before .before .before .before .before .before .loop .inv .long
 
 returns : tie.Need-returns Inv-loop μ-loop
 returns c =
-    let j = c .before .before .before .before in
+    let x = c .before .before in
+    let j = x .before .before .before in
     let l = j .before .before in
-    turn-ended _ _ _ _ _ _ _ (l .loop .inv) (l .before .before .before .pre .2) _ (j .judge .ensures) _ (c .before .next .given .1)
+    rw (c .answer .ensures) (turn-ended _ _ _ _ _ _ _ (l .loop .inv) (l .before .before .before .pre .2) _ (j .judge .ensures) _ (x .next .given .1))
 
 enum-known-next-2 : tie.Need-enum-known-next-2 Inv-loop μ-loop
 enum-known-next-2 c = search needs
@@ -70,18 +74,21 @@ add-samples c =
     let l = Loop· (h .before .before .before) in
     omega (arith, halving-few h, l .loop .inv .few, l .loop .inv .high, l .before .before .before .pre .1)
 
+answer-requires-2 : tie.Need-answer-requires-2 Inv-loop μ-loop
+answer-requires-2 c κs = search needs
+
 same-length-2 : tie.Need-same-length-2 Inv-loop μ-loop
 same-length-2 c =
-    let h = c .before .before .before .before .before in
+    let h = c .before .before .before .before .before .before in
     h .halve .kept .0 ∙ Loop· (h .before .before .before) .loop .inv .long
 
 returns-2 : tie.Need-returns-2 Inv-loop μ-loop
 returns-2 c =
-    let h = c .before .before .before .before .before in
+    let h = c .before .before .before .before .before .before in
     let x = h .before .before .before in
     let j = x .before .before .before in
     let l = Loop· x in
-    turn-not-finite _ _ _ _ _ _ _ (l .loop .inv) (l .before .before .before .pre .2) _ (j .judge .ensures) _ (x .next2 .given .1) _ _ (h .halve .ensures .0) (h .halve .ensures .1) (not-true _ (c .if1 .taken))
+    rw (c .answer2 .ensures) (turn-not-finite _ _ _ _ _ _ _ (l .loop .inv) (l .before .before .before .pre .2) _ (j .judge .ensures) _ (x .next2 .given .1) _ _ (h .halve .ensures .0) (h .halve .ensures .1) (not-true _ (c .before .if1 .taken)))
 
 add-n : tie.Need-add-n Inv-loop μ-loop
 add-n c =
@@ -112,11 +119,13 @@ repeat-spec =
     loop-holds
     judge-requires
     enum-known-next
+    answer-requires
     same-length
     returns
     enum-known-next-2
     halve-requires
     add-samples
+    answer-requires-2
     same-length-2
     returns-2
     add-n

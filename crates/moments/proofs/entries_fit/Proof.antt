@@ -1,24 +1,29 @@
 -- `moments::entries_fit` meets its contract: every entry passed fits, and one that does not settles it. Assumes nothing.
-use mathlib.Core.Bool.{true}
+use mathlib.Core.Bool.{Bool, true}
+use mathlib.Core.List.{List}
 use mathlib.Core.Path.{_≡_, refl, sym, ap, _∙_}
-use Prim.Native.Nat.{_≤_, _-_}
+use Prim.Native.Nat.{ℕ, _≤_, _-_}
+use lib.Ieee.{Float}
 use native.Mathlib.Omega.{arith}
 use borrow.Author.Needs.{needs}
 use borrow.Author.Tests.{not-true, not-false}
-use Rattle.moments.specs.Moments.{entryFits, every}
-use Rattle.bodies.specs.declared.Tensor.{Tensor}
-use Rattle.moments.proofs.Every.{every-none, every-more, every-not}
+use Rattle.floats.specs.Operations.{at, every}
+use Rattle.moments.specs.Moments.{entryFits}
+use Rattle.floats.proofs.Every.{every-none, every-more, every-not}
 use Rattle.moments.proofs.entries_fit.Statement.{statement}
 use Rattle.moments.proofs.entries_fit.Tie as tie
 
+abbrev Fits : List Float → ℕ → Bool
+Fits a i = entryFits (at a i)
+
 abbrev Inv-loop : tie.InvT-loop
-Inv-loop a k₀ k = (every entryFits (record { 0 = a }) k ≡ true) × (k ≤ 9)
+Inv-loop a k₀ k = (every k (Fits a) ≡ true) × (k ≤ 9)
 
 abbrev μ-loop : tie.MeasureT-loop
 μ-loop a k₀ k = 9 - k
 
 loop-holds : tie.Need-loop-holds Inv-loop μ-loop
-loop-holds c = (every-none _ _, omega arith)
+loop-holds c = (every-none _, omega arith)
 
 mul-entry-fits : tie.Need-mul-entry-fits Inv-loop μ-loop
 mul-entry-fits c = omega arith
@@ -32,7 +37,7 @@ entry-fits-requires c κs = search needs
 returns : tie.Need-returns Inv-loop μ-loop
 returns c =
     sym
-    (every-not entryFits _ 9 (c .before .before .before .loop .k) (omega arith) (c .before .entry-fits .ensures) (not-true _ (c .if1 .taken)))
+    (every-not 9 _ (c .before .before .before .loop .k) (omega arith) (c .before .entry-fits .ensures) (not-true _ (c .if1 .taken)))
 
 add-k : tie.Need-add-k Inv-loop μ-loop
 add-k c = omega arith
@@ -42,10 +47,10 @@ loop-less c = omega arith
 
 loop-again : tie.Need-loop-again Inv-loop μ-loop
 loop-again c =
-    (every-more _ _ _ (c .before .before .before .loop .inv .0) (c .before .entry-fits .ensures) (not-false _ (c .if1 .left)), omega arith)
+    (every-more _ _ (c .before .before .before .loop .inv .0) (c .before .entry-fits .ensures) (not-false _ (c .if1 .left)), omega arith)
 
 returns-2 : tie.Need-returns-2 Inv-loop μ-loop
-returns-2 c = sym (c .before .loop .inv .0) ∙ ap (every entryFits _) (let e : c .before .loop .k ≡ 9 = omega arith in e)
+returns-2 c = sym (c .before .loop .inv .0) ∙ ap (λ (n : ℕ). every n (Fits (c .before .before .before .args .tensor .0))) (let e : c .before .loop .k ≡ 9 = omega arith in e)
 
 pub entries-fit-spec : {M : Type 1} → statement M
 entries-fit-spec =

@@ -4,8 +4,8 @@ use mathlib.Core.Path.{_≡_, refl, sym, _∙_}
 use native.Mathlib.Omega.{arith}
 use borrow.Author.Needs.{needs}
 use Rattle.planforms.specs.Planforms.{pairCount}
-use Rattle.limits.specs.Order.{firstBetween}
-use Rattle.limits.proofs.Order.{goes-on, stops, ends}
+use Rattle.refusals.specs.Order.{firstBetween}
+use Rattle.refusals.proofs.Order.{goes-on, stops, ends}
 use Rattle.outlines.specs.Outlines.{edgeCheck, edgesCheck}
 use Rattle.outlines.proofs.check_edges.Statement.{statement}
 use Rattle.outlines.proofs.check_edges.Tie as tie

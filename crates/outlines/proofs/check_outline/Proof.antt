@@ -3,7 +3,7 @@ use mathlib.Core.List.{[], _∷_}
 use native.Mathlib.Omega.{arith}
 use borrow.Author.Needs.{needs}
 use borrow.Author.Tests.{not-true, not-false}
-use Rattle.limits.proofs.Order.{after-accepted, after-refused, in-order}
+use Rattle.refusals.proofs.Order.{after-accepted, after-refused, in-order}
 use Rattle.outlines.specs.Outlines.{arePairs, outlineCheck}
 use Rattle.outlines.proofs.Accepted.{pairs-within}
 use Rattle.outlines.proofs.check_outline.Statement.{statement}

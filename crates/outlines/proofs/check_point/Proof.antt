@@ -1,6 +1,6 @@
 -- `outlines::check_point` meets its contract, by what the calls ensure. Assumes nothing.
 use mathlib.Core.List.{[], _∷_}
-use Rattle.limits.proofs.Order.{in-order}
+use Rattle.refusals.proofs.Order.{in-order}
 use borrow.Author.Needs.{needs}
 use Rattle.outlines.proofs.check_point.Statement.{statement}
 use Rattle.outlines.proofs.check_point.Tie as tie

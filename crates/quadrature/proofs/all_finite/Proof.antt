@@ -4,10 +4,9 @@ use mathlib.Core.Logic.{⊎-elim}
 use mathlib.Core.Path.{_≡_, refl, _∙_}
 use Prim.Native.Nat.{ℕ}
 use borrow.Author.Needs.{needs}
-use Rattle.floats.specs.Operations.{at}
+use Rattle.floats.specs.Operations.{at, every}
 use Rattle.floats.specs.Floats.{isFinite}
-use Rattle.quadrature.specs.Rule.{every}
-use Rattle.quadrature.proofs.Every.{every-first, every-goes-on, every-ends}
+use Rattle.floats.proofs.Every.{every-first, every-goes-on, every-ends}
 use Rattle.quadrature.proofs.all_finite.Statement.{statement}
 use Rattle.quadrature.proofs.all_finite.Tie as tie
 

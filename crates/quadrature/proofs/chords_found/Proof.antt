@@ -1,30 +1,14 @@
 -- `quadrature::chords_found` meets its contract: after i turns the first i are found. Assumes nothing.
-use mathlib.Core.Path.{_≡_, refl, _∙_}
-use mathlib.Core.List.{List}
-use mathlib.Core.Logic.{⊎-elim}
-use Prim.Native.Nat.{ℕ, _+_, _-_, _<_, _≤_}
-use native.Mathlib.Nat.{not-suc-le-zero, eq-or-lt-of-le}
+use mathlib.Core.Path.{_≡_, refl}
+use Prim.Native.Nat.{_-_, _≤_}
+use native.Mathlib.Nat.{not-suc-le-zero}
 use native.Mathlib.Omega.{arith}
 use borrow.Author.Needs.{needs}
-use lib.ListN.{length, set, length-set}
-use lib.Seq.{getD-set-same, getD-set-other}
-use lib.Ieee.{Float}
-use Rattle.floats.specs.Operations.{at}
-use Rattle.chords.specs.declared.Chords.{Chords}
-use Rattle.chords.specs.declared.Chords.the-variants.{Nothing}
-use Rattle.integrands.specs.declared.Integrand.{Integrand}
-use Rattle.integrands.specs.Integrands.{chordsFor}
+use lib.ListN.{length, length-set}
+use Rattle.floats.proofs.Filled.{one-filled}
 use Rattle.quadrature.specs.Tally.{FoundTo}
 use Rattle.quadrature.proofs.chords_found.Statement.{statement}
 use Rattle.quadrature.proofs.chords_found.Tie as tie
-
-one-more : (f : Integrand) (points heights : List Float) (found : List Chords) (j : ℕ) (one : Chords) → j < length found → FoundTo j f points heights found
-    → one ≡ chordsFor f points (at heights j)
-    → FoundTo (j + 1) f points heights (set found j one)
-one-more f points heights found j one b first e i l =
-    ⊎-elim (λ (z : i ≡ j). rw z (getD-set-same found j one Nothing b ∙ e))
-    (λ (z : i < j). getD-set-other found j i one Nothing (λ (q : i ≡ j). omega arith) ∙ first i z)
-    (eq-or-lt-of-le (let k : i ≤ j = omega arith in k))
 
 abbrev Inv-loop : tie.InvT-loop
 Inv-loop integrand points heights found₀ i₀ found i =
@@ -60,8 +44,7 @@ loop-less c = omega arith
 loop-again : tie.Need-loop-again Inv-loop μ-loop
 loop-again c =
     let head = c .before .before .loop in
-    let a = c .before .before .before .before .args in
-    (omega arith, simp length-set (head .inv .1), one-more (a .integrand) (a .points .now) (a .t3) (head .found) (head .i) _ (omega arith) (head .inv .2) (c .chords-at .ensures))
+    (omega arith, simp length-set (head .inv .1), one-filled _ _ (head .found) (head .i) _ (omega arith) (head .inv .2) (c .chords-at .ensures))
 
 returns : tie.Need-returns Inv-loop μ-loop
 returns c j l = c .before .loop .inv .2 j (omega arith)

@@ -1,6 +1,6 @@
 -- `quadrature::passes` meets its contract, by whether the sample is tested. Assumes nothing.
 use borrow.Author.Needs.{needs}
-use Rattle.quadrature.specs.Rule.{every}
+use Rattle.floats.specs.Operations.{every}
 use Rattle.quadrature.proofs.passes.Statement.{statement}
 use Rattle.quadrature.proofs.passes.Tie as tie
 

@@ -6,12 +6,11 @@ use native.Mathlib.Omega.{arith}
 use borrow.Author.Needs.{needs}
 use borrow.Author.Tests.{not-true, not-false}
 use lib.ListN.{length, getD}
-use lib.Seq.{length-take-le}
 use lib.Ieee.{Float}
 use Rattle.floats.specs.Operations.{at}
 use Rattle.chords.specs.declared.Chords.the-variants.{Nothing}
 use Rattle.integrands.specs.Integrands.{sampleOf}
-use Rattle.integrands.proofs.Sampled.{ends-fit, sampled}
+use Rattle.integrands.proofs.Sampled.{sampled}
 use Rattle.quadrature.specs.Tally.{looked}
 use Rattle.quadrature.proofs.Taken.{heights-count}
 use Rattle.quadrature.proofs.Tallies.{Passed, none-yet, one-more, the-last, passed-all}
@@ -19,11 +18,11 @@ use Rattle.quadrature.proofs.sums.Statement.{statement}
 use Rattle.quadrature.proofs.sums.Tie as tie
 
 abbrev Inv-loop : tie.InvT-loop
-Inv-loop integrand points centre half tested heights found kw gw ends₀ kronrod₀ gauss₀ j₀ ends kronrod gauss j =
-    (j ≤ 15) × (length ends ≡ 64) × Passed (looked tested) (sampleOf integrand points) heights kw gw j kronrod gauss
+Inv-loop integrand points centre half tested heights found kw gw kronrod₀ gauss₀ j₀ kronrod gauss j =
+    (j ≤ 15) × Passed (looked tested) (sampleOf integrand points) heights kw gw j kronrod gauss
 
 abbrev μ-loop : tie.MeasureT-loop
-μ-loop integrand points centre half tested heights found kw gw ends₀ kronrod₀ gauss₀ j₀ ends kronrod gauss j =
+μ-loop integrand points centre half tested heights found kw gw kronrod₀ gauss₀ j₀ kronrod gauss j =
     15 - j
 
 sample-heights-requires : tie.Need-sample-heights-requires Inv-loop μ-loop
@@ -39,7 +38,7 @@ gauss-weights-requires : tie.Need-gauss-weights-requires Inv-loop μ-loop
 gauss-weights-requires c κs = search needs
 
 loop-holds : tie.Need-loop-holds Inv-loop μ-loop
-loop-holds c = (omega arith, refl, none-yet _ _ _ _ _)
+loop-holds c = (omega arith, none-yet _ _ _ _ _)
 
 mul-h : tie.Need-mul-h Inv-loop μ-loop
 mul-h c = omega arith
@@ -53,8 +52,8 @@ mul-one c = omega arith
 array-copy-out-one : tie.Need-array-copy-out-one Inv-loop μ-loop
 array-copy-out-one c = search needs
 
-chord-ends-requires : tie.Need-chord-ends-requires Inv-loop μ-loop
-chord-ends-requires c κs = search needs
+values-over-requires : tie.Need-values-over-requires Inv-loop μ-loop
+values-over-requires c κs = search needs
 
 -- what was made before the loop, with the arguments, and the integrand's sample
 abbrev made : tie.At-loop Inv-loop μ-loop → tie.After-chords-found Inv-loop μ-loop
@@ -66,20 +65,12 @@ sampleAt head = let a = made head .before .before .before .args in sampleOf (a .
 abbrev height : tie.At-loop Inv-loop μ-loop → Float
 height head = at (made head .before .sample-heights .result) (head .loop .j)
 
--- the ends have their place
-fit : (c : tie.After-chord-ends Inv-loop μ-loop) → (c .chord-ends .result ≤ length (c .chord-ends .last .1 .1 .1 .0)) × (length (c .chord-ends .last .1 .1 .1 .0) ≡ 64)
-fit c =
-    let head = c .before .before .before .before in
-    let a = made head .before .before .before .args in
-    ends-fit (a .integrand) (a .points .now) (height head) (getD (made head .chords-found .result) (head .loop .j) Nothing) _ _ _ (c .chord-ends .ensures) (head .loop .inv .1)
-
--- and between them lie the sample's values
-the-sample : (c : tie.After-values-between Inv-loop μ-loop) → let head = c .before .before .before .before .before .before in c .values-between .result ≡ sampleAt head (height head)
+-- over the chords found there lie the sample's values
+the-sample : (c : tie.After-values-over Inv-loop μ-loop) → let head = c .before .before .before in c .values-over .result ≡ sampleAt head (height head)
 the-sample c =
-    let listed = c .before .before in
-    let head = listed .before .before .before .before in
+    let head = c .before .before .before in
     let a = made head .before .before .before .args in
-    sampled (a .integrand) (a .points .now) (height head) (getD (made head .chords-found .result) (head .loop .j) Nothing) _ _ _ (listed .chord-ends .ensures) _ (made head .chords-found .ensures (head .loop .j) (omega arith)) (c .values-between .ensures)
+    sampled (a .integrand) (a .points .now) (height head) (getD (made head .chords-found .result) (head .loop .j) Nothing) _ (made head .chords-found .ensures (head .loop .j) (omega arith)) (c .values-over .ensures)
 
 -- there are fifteen heights
 within : (head : tie.At-loop Inv-loop μ-loop) → head .loop .j < 15 → head .loop .j < length (made head .before .sample-heights .result)
@@ -87,27 +78,18 @@ within head b =
     let a = made head .before .before .before .args in
     rw (made head .before .sample-heights .ensures) (omega (arith, heights-count 7 (a .centre) (a .half)))
 
-array-share-prefix-ends : tie.Need-array-share-prefix-ends Inv-loop μ-loop
-array-share-prefix-ends c = fit c .0
-
-slice-aggregate-values-between : tie.Need-slice-aggregate-values-between Inv-loop μ-loop
-slice-aggregate-values-between c = sym (length-take-le _ _ (array-share-prefix-ends (c .before)))
-
-values-between-requires : tie.Need-values-between-requires Inv-loop μ-loop
-values-between-requires c κs = search needs
-
 passes-requires : tie.Need-passes-requires Inv-loop μ-loop
 passes-requires c κs = search needs
 
-add-t36 : tie.Need-add-t36 Inv-loop μ-loop
-add-t36 c = omega arith
+add-t31 : tie.Need-add-t31 Inv-loop μ-loop
+add-t31 c = omega arith
 
 returns : tie.Need-returns Inv-loop μ-loop
 returns c =
     let valued = c .before .before in
-    let head = valued .before .before .before .before .before .before in
+    let head = valued .before .before .before in
     rw (← made head .before .sample-heights .ensures)
-    (the-last _ (sampleAt head) _ _ _ (head .loop .j) _ _ _ (within head (omega arith)) (head .loop .inv .2) (the-sample valued) (sym (c .before .passes .ensures) ∙ not-true _ (c .if1 .taken)) _ _)
+    (the-last _ (sampleAt head) _ _ _ (head .loop .j) _ _ _ (within head (omega arith)) (head .loop .inv .1) (the-sample valued) (sym (c .before .passes .ensures) ∙ not-true _ (c .if1 .taken)) _ _)
 
 mul-plus-weighted : tie.Need-mul-plus-weighted Inv-loop μ-loop
 mul-plus-weighted c = omega arith
@@ -137,14 +119,14 @@ loop-again : tie.Need-loop-again Inv-loop μ-loop
 loop-again c =
     let passed = c .before .before .before in
     let valued = passed .before in
-    let head = valued .before .before .before .before .before .before in
-    (omega arith, fit (valued .before .before) .1, one-more _ (sampleAt head) _ _ _ (head .loop .j) _ _ _ _ _ (within head (omega arith)) (head .loop .inv .2) (the-sample valued) (sym (passed .passes .ensures) ∙ not-false _ (c .before .before .if1 .left)) (c .before .plus-weighted .ensures) (c .plus-weighted2 .ensures))
+    let head = valued .before .before .before in
+    (omega arith, one-more _ (sampleAt head) _ _ _ (head .loop .j) _ _ _ _ _ (within head (omega arith)) (head .loop .inv .1) (the-sample valued) (sym (passed .passes .ensures) ∙ not-false _ (c .before .before .if1 .left)) (c .before .plus-weighted .ensures) (c .plus-weighted2 .ensures))
 
 returns-2 : tie.Need-returns-2 Inv-loop μ-loop
 returns-2 c =
     let head = c .before in
     let e : head .loop .j ≡ 15 = omega arith in
-    passed-all _ (sampleAt head) _ _ _ _ _ _ _ (made head .before .sample-heights .ensures) (head .before .before .kronrod-weights .ensures) (head .before .gauss-weights .ensures) (rw e at (head .loop .inv .2))
+    passed-all _ (sampleAt head) _ _ _ _ _ _ _ (made head .before .sample-heights .ensures) (head .before .before .kronrod-weights .ensures) (head .before .gauss-weights .ensures) (rw e at (head .loop .inv .1))
 
 pub sums-spec : {M : Type 1} → statement M
 sums-spec =
@@ -161,12 +143,9 @@ sums-spec =
     array-read-h
     mul-one
     array-copy-out-one
-    chord-ends-requires
-    array-share-prefix-ends
-    slice-aggregate-values-between
-    values-between-requires
+    values-over-requires
     passes-requires
-    add-t36
+    add-t31
     returns
     mul-plus-weighted
     array-read-plus-weighted

@@ -8,7 +8,7 @@ use lib.ListN.{length}
 use Rattle.joins.specs.Joins.{combineOf}
 use Rattle.joins.proofs.Listed.{length-listed, first-bodies}
 use Rattle.joins.proofs.JoinLaws.{combine-listed}
-use Rattle.requests.specs.Requests.{pointAt, joinedPointsOf}
+use Rattle.requests.specs.Requests.{pointBodyAt, joinedPointsOf}
 use borrow.Author.Needs.{needs}
 use Rattle.requests.proofs.join_points.Statement.{statement}
 use Rattle.requests.proofs.join_points.Tie as tie
@@ -44,7 +44,7 @@ returns-2 c =
     let a = c .before .before .before .before .before .before .before .args in
     c .combine .ensures
     ∙ ap combineOf (first-bodies _ _ _ (c .before .before .before .write-points .ensures))
-    ∙ combine-listed (pointAt (now (a .values))) (length (now (a .values)) / 4)
+    ∙ combine-listed (pointBodyAt (now (a .values))) (length (now (a .values)) / 4)
 
 pub join-points-spec : {M : Type 1} → statement M
 join-points-spec =

@@ -4,12 +4,12 @@ use Prim.Native.Nat.{_≤_, _-_}
 use native.Mathlib.Omega.{arith}
 use Rattle.joins.specs.Flat.{withBodies}
 use Rattle.joins.proofs.Listed.{none-written, one-written, all-written, length-written}
-use Rattle.requests.specs.Requests.{pointAt}
+use Rattle.requests.specs.Requests.{pointBodyAt}
 use Rattle.requests.proofs.write_points.Statement.{statement}
 use Rattle.requests.proofs.write_points.Tie as tie
 
 abbrev Inv-loop : tie.InvT-loop
-Inv-loop bodies₀ values count k₀ bodies k = (k ≤ count) × (bodies ≡ withBodies (pointAt values) k bodies₀)
+Inv-loop bodies₀ values count k₀ bodies k = (k ≤ count) × (bodies ≡ withBodies (pointBodyAt values) k bodies₀)
 
 abbrev μ-loop : tie.MeasureT-loop
 μ-loop bodies₀ values count k₀ bodies k = count - k

@@ -1,4 +1,4 @@
--- `rotations::rotated_x` meets its contract: the quaternion, its matrix, and the body turned by it. Assumes nothing.
+-- `rotations::rotated_x` meets its contract: the quaternion, and the body turned by it. Assumes nothing.
 use borrow.Author.Needs.{needs}
 use Rattle.rotations.proofs.rotated_x.Statement.{statement}
 use Rattle.rotations.proofs.rotated_x.Tie as tie
@@ -6,15 +6,12 @@ use Rattle.rotations.proofs.rotated_x.Tie as tie
 from-rotation-x-requires : tie.Need-from-rotation-x-requires
 from-rotation-x-requires c κs = search needs
 
-matrix-requires : tie.Need-matrix-requires
-matrix-requires c κs = search needs
-
-rotated-requires : tie.Need-rotated-requires
-rotated-requires c κs = search needs
+turned-requires : tie.Need-turned-requires
+turned-requires c κs = search needs
 
 returns : tie.Need-returns
-returns c = rw (c .rotated .ensures, c .before .matrix .ensures, c .before .before .from-rotation-x .ensures)
+returns c = rw (c .turned .ensures, c .before .from-rotation-x .ensures)
 
 pub rotated-x-spec : {M : Type 1} → statement M
 rotated-x-spec =
-    tie.close (tie.spec from-rotation-x-requires matrix-requires rotated-requires returns)
+    tie.close (tie.spec from-rotation-x-requires turned-requires returns)

@@ -1,16 +1,31 @@
 -- `trig::by_quarter` meets its contract, which goes by the same numbers. Assumes nothing.
 use mathlib.Core.Path.{_≡_, refl}
-use Prim.Native.Nat.{ℕ, zero, suc}
-use lib.Ieee.{Float}
-use Rattle.trig.specs.Trig.{byQuarter}
+use Prim.Native.Nat.{ℕ, zero, suc, _<_}
+use native.Mathlib.Omega.{arith}
+use borrow.Author.Needs.{needs}
 use Rattle.trig.proofs.by_quarter.Statement.{statement}
 use Rattle.trig.proofs.by_quarter.Tie as tie
 
-three : (k : ℕ) (s c : Float) → (k ≡ 0 → ⊥) → (k ≡ 1 → ⊥) → (k ≡ 2 → ⊥) → byQuarter 3 s c ≡ byQuarter k s c
-three zero s c a b d = absurd (a refl)
-three (suc zero) s c a b d = absurd (b refl)
-three (suc (suc zero)) s c a b d = absurd (d refl)
-three (suc (suc (suc k))) s c a b d = refl
+three : (k : ℕ) → k < 4 → (k ≡ 0 → ⊥) → (k ≡ 1 → ⊥) → (k ≡ 2 → ⊥) → k ≡ 3
+three zero h a b d = absurd (a refl)
+three (suc zero) h a b d = absurd (b refl)
+three (suc (suc zero)) h a b d = absurd (d refl)
+three (suc (suc (suc k))) h a b d = omega arith
+
+mul-of-sine : tie.Need-mul-of-sine
+mul-of-sine c = search needs
+
+array-read-of-sine : tie.Need-array-read-of-sine
+array-read-of-sine c = search needs
+
+sub-of-cosine : tie.Need-sub-of-cosine
+sub-of-cosine c = search needs
+
+mul-of-cosine : tie.Need-mul-of-cosine
+mul-of-cosine c = search needs
+
+array-read-of-cosine : tie.Need-array-read-of-cosine
+array-read-of-cosine c = search needs
 
 returns : tie.Need-returns
 returns c = rw (c .match .keys1)
@@ -22,7 +37,18 @@ returns-3 : tie.Need-returns-3
 returns-3 c = rw (c .match .keys3)
 
 returns-4 : tie.Need-returns-4
-returns-4 c = three _ _ _ (c .match .rest .0 .0 .1) (c .match .rest .0 .1) (c .match .rest .1)
+returns-4 c = rw (three _ (c .before .pre) (c .match .rest .0 .0 .1) (c .match .rest .0 .1) (c .match .rest .1))
 
 pub by-quarter-spec : {M : Type 1} → statement M
-by-quarter-spec = tie.close (tie.spec returns returns-2 returns-3 returns-4)
+by-quarter-spec =
+    tie.close
+    (tie.spec
+    mul-of-sine
+    array-read-of-sine
+    sub-of-cosine
+    mul-of-cosine
+    array-read-of-cosine
+    returns
+    returns-2
+    returns-3
+    returns-4)

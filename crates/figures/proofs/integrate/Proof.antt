@@ -1,0 +1,88 @@
+-- `figures::integrate` meets its contract: the heights handed on are the planform's break heights, two or a list of them. Assumes nothing.
+use mathlib.Core.Path.{_≡_, refl, sym, ap, _∙_}
+use mathlib.Core.List.{List, [], _∷_}
+use native.Mathlib.Omega.{arith}
+use lib.ListN.{length}
+use lib.Ieee.{Float}
+use Rattle.floats.specs.Operations.{bits}
+use Rattle.breaks.proofs.Listed.{at-most-66, two-heights, heights-taken, heights-count, heights-room}
+use Rattle.figures.proofs.Runs.{same-run}
+use borrow.Author.Needs.{needs}
+use Rattle.figures.proofs.integrate.Statement.{statement}
+use Rattle.figures.proofs.integrate.Tie as tie
+
+is-one-strip-requires : tie.Need-is-one-strip-requires
+is-one-strip-requires c κs = search needs
+
+span-m-requires : tie.Need-span-m-requires
+span-m-requires c κs = search needs
+
+slice-aggregate-integrate : tie.Need-slice-aggregate-integrate
+slice-aggregate-integrate c = search needs
+
+integrate-requires : tie.Need-integrate-requires
+integrate-requires c κs = search needs
+
+same-length : tie.Need-same-length
+same-length c = search needs
+
+returns : tie.Need-returns
+returns c =
+    let i = c .before .before in
+    let span = i .before .before .before in
+    let taken = span .before in
+    let a = taken .before .before .before .before .args in
+    let two = ap (λ (x : Float). bits 0 ∷ x ∷ []) (span .span-m .ensures) ∙ sym (two-heights (a .planform) (a .points .now) (sym (taken .before .is-one-strip .ensures) ∙ taken .if1 .taken)) in
+    same-run (a .limit) (a .scratch .now) (i .integrate .last .0) (i .integrate .result) refl refl two (i .integrate .ensures)
+
+break-heights-requires : tie.Need-break-heights-requires
+break-heights-requires c κs = search needs
+
+array-share-prefix-heights : tie.Need-array-share-prefix-heights
+array-share-prefix-heights c =
+    let h = c .before .before in
+    let a = h .before .before .before .before .before .args in
+    omega (arith, heights-count (a .planform) (a .points .now) (h .break-heights .result) (h .break-heights .ensures), heights-room (a .planform) (a .points .now) (h .break-heights .result) (h .break-heights .ensures), at-most-66 (a .planform) (a .points .now))
+
+slice-aggregate-integrate-2 : tie.Need-slice-aggregate-integrate-2
+slice-aggregate-integrate-2 c =
+    let h = c .before .before .before in
+    let a = h .before .before .before .before .before .args in
+    heights-count (a .planform) (a .points .now) (h .break-heights .result) (h .break-heights .ensures)
+    ∙ sym (ap (λ (l : List Float). length l) (heights-taken (a .planform) (a .points .now) (h .break-heights .result) (h .break-heights .ensures)))
+
+integrate-requires-2 : tie.Need-integrate-requires-2
+integrate-requires-2 c κs =
+    let h = c .before .before .before in
+    let s = h .before .before .before .before .before in
+    let a = s .args in
+    let few = at-most-66 (a .planform) (a .points .now) in
+    let taken = heights-taken (a .planform) (a .points .now) (h .break-heights .result) (h .break-heights .ensures) in
+    (s .pre .0, s .pre .1, s .pre .2, rw taken (omega (arith, few)))
+
+same-length-2 : tie.Need-same-length-2
+same-length-2 c = search needs
+
+returns-2 : tie.Need-returns-2
+returns-2 c =
+    let i = c .before .before in
+    let h = i .before .before .before .before in
+    let a = h .before .before .before .before .before .args in
+    same-run (a .limit) (a .scratch .now) (i .integrate2 .last .0) (i .integrate2 .result) refl refl (heights-taken (a .planform) (a .points .now) (h .break-heights .result) (h .break-heights .ensures)) (i .integrate2 .ensures)
+
+pub integrate-spec : {M : Type 1} → statement M
+integrate-spec =
+    tie.close
+    (tie.spec
+    is-one-strip-requires
+    span-m-requires
+    slice-aggregate-integrate
+    integrate-requires
+    same-length
+    returns
+    break-heights-requires
+    array-share-prefix-heights
+    slice-aggregate-integrate-2
+    integrate-requires-2
+    same-length-2
+    returns-2)

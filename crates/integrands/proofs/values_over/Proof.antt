@@ -1,0 +1,56 @@
+-- `integrands::values_over` meets its contract: each arm knows its case. Assumes nothing.
+use mathlib.Core.Path.{_∙_}
+use Rattle.chords.specs.Chords.{paired}
+use Rattle.integrands.specs.Integrands.{sumsFrom}
+use borrow.Author.Needs.{needs}
+use Rattle.integrands.proofs.values_over.Statement.{statement}
+use Rattle.integrands.proofs.values_over.Tie as tie
+
+enum-known-found : tie.Need-enum-known-found
+enum-known-found c = search needs
+
+add-chord-requires : tie.Need-add-chord-requires
+add-chord-requires c κs = search needs
+
+values-requires : tie.Need-values-requires
+values-requires c κs = search needs
+
+enum-told : tie.Need-enum-told
+enum-told c = search needs
+
+values-requires-2 : tie.Need-values-requires-2
+values-requires-2 c κs = search needs
+
+enum-told-2 : tie.Need-enum-told-2
+enum-told-2 c = search needs
+
+values-over-several-requires : tie.Need-values-over-several-requires
+values-over-several-requires c κs = search needs
+
+returns : tie.Need-returns
+unfolding sumsFrom paired
+returns c =
+    let added = c .before in
+    rw (added .before .before .found .given .1) (c .values .ensures ∙ rw (added .add-chord .ensures))
+
+returns-2 : tie.Need-returns-2
+unfolding sumsFrom paired
+returns-2 c = rw (c .before .enum-told .given .1) (c .values2 .ensures)
+
+returns-3 : tie.Need-returns-3
+returns-3 c = rw (c .before .enum-told2 .given .1) (c .values-over-several .ensures)
+
+pub values-over-spec : {M : Type 1} → statement M
+values-over-spec =
+    tie.close
+    (tie.spec
+    enum-known-found
+    add-chord-requires
+    values-requires
+    enum-told
+    values-requires-2
+    enum-told-2
+    values-over-several-requires
+    returns
+    returns-2
+    returns-3)

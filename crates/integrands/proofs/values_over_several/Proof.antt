@@ -1,0 +1,56 @@
+-- `integrands::values_over_several` meets its contract: the crossings are listed, and the values worked between them. Assumes nothing.
+use mathlib.Core.Path.{_≡_, sym, ap, _∙_}
+use mathlib.Core.List.{List}
+use Prim.Native.Nat.{_≤_}
+use native.Mathlib.Omega.{arith}
+use lib.ListN.{length}
+use lib.Seq.{length-take-le}
+use lib.Ieee.{Float}
+use Rattle.floats.specs.Operations.{_⊗_}
+use Rattle.sorting.proofs.Over.{written-take, written-length}
+use Rattle.chords.specs.Chords.{paired}
+use Rattle.chords.proofs.Listed.{at-most-64}
+use Rattle.integrands.specs.Integrands.{sampleValues, valuesOver}
+use borrow.Author.Needs.{needs}
+use Rattle.integrands.proofs.values_over_several.Statement.{statement}
+use Rattle.integrands.proofs.values_over_several.Tie as tie
+
+outline-crossings-requires : tie.Need-outline-crossings-requires
+outline-crossings-requires c κs = search needs
+
+array-share-prefix-ends : tie.Need-array-share-prefix-ends
+array-share-prefix-ends c =
+    let a = c .before .before .before .args in
+    let w = c .outline-crossings .ensures in
+    let few = at-most-64 (a .points .now) (a .h ⊗ a .scale) in
+    let same = written-length w (omega arith) in
+    omega (arith, w .count)
+
+slice-aggregate-chord-sums : tie.Need-slice-aggregate-chord-sums
+slice-aggregate-chord-sums c = sym (length-take-le _ _ (array-share-prefix-ends (c .before)))
+
+chord-sums-requires : tie.Need-chord-sums-requires
+chord-sums-requires c κs = search needs
+
+values-requires : tie.Need-values-requires
+values-requires c κs = search needs
+
+returns : tie.Need-returns
+returns c =
+    let summed = c .before in
+    let listed = summed .before .before in
+    let a = listed .before .before .before .args in
+    c .values .ensures
+    ∙ ap (λ (sums : List Float). sampleValues (a .kind) (a .h) sums) (summed .chord-sums .ensures)
+    ∙ ap (λ (l : List Float). valuesOver (a .kind) (a .scale) (a .h) (paired l)) (written-take (listed .outline-crossings .ensures))
+
+pub values-over-several-spec : {M : Type 1} → statement M
+values-over-several-spec =
+    tie.close
+    (tie.spec
+    outline-crossings-requires
+    array-share-prefix-ends
+    slice-aggregate-chord-sums
+    chord-sums-requires
+    values-requires
+    returns)
