@@ -5,7 +5,7 @@ use native.Mathlib.Omega.{arith}
 use lib.ListN.{length}
 use lib.Ieee.{Float}
 use Rattle.tokens.specs.Text.{text, codes}
-use Rattle.answers.specs.Filled.{filled, room}
+use Rattle.answers.specs.Filled.{room}
 use Rattle.answers.specs.Answers.{figuresText, areaText, joinedText, momentsText, soundText, refusedText}
 use Rattle.answers.proofs.Filling.{filled-fits}
 

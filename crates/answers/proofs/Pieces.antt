@@ -1,23 +1,22 @@
 -- One byte of a template: what each of its cases appends and uses up. Assumes nothing.
-use mathlib.Core.List.{List, [], _∷_, _++_}
+use mathlib.Core.List.{List, [], _∷_}
 use mathlib.Core.Bool.{Bool, true, false, cond}
-use mathlib.Core.Path.{_≡_, refl, sym, ap, _∙_}
+use mathlib.Core.Path.{_≡_, sym}
 use Prim.Native.Nat.{ℕ, suc, _+_, _<_, _≤_}
-use native.Mathlib.Numerals.{add-one}
 use native.Mathlib.Omega.{arith}
 use borrow.Author.Tests.{eq-eqb, ne-eqb}
 use lib.Dec.{eqb}
-use lib.ListN.{length, take, drop, getD, set, drop-of-length-le}
+use lib.ListN.{length, drop, getD, set, drop-of-length-le}
 use lib.Seq.{drop-cons, drop-drop}
 use lib.Ieee.{Float, nan}
-use Rattle.hex.specs.Hex.{figureText, printedBits}
+use Rattle.hex.specs.Hex.{figureText}
 use Rattle.hex.proofs.RoundTrip.{figure-length}
 use Rattle.texts.specs.Appended.{Appended}
 use Rattle.texts.proofs.Appending.{nothing, byte-put}
 use Rattle.counts.specs.Counts.{countText}
 use Rattle.counts.proofs.Printing.{twenty}
 use Rattle.answers.specs.declared.Place.{Place}
-use Rattle.answers.specs.Filled.{firstFigure, firstCount, piece, figuresAfter, countsAfter, roomFor}
+use Rattle.answers.specs.Filled.{firstFigure, firstCount, piece, roomFor}
 use Rattle.answers.specs.Places.{HasRoom, PutPiece}
 
 -- a byte's text has room in what is set aside for it

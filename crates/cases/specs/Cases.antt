@@ -23,7 +23,7 @@ use Rattle.sections.specs.declared.Section.the-variants.{Square}
 use Rattle.sections.specs.Moments.{chordMoments}
 use Rattle.bodies.specs.declared.Body.{Body}
 use Rattle.bodies.specs.declared.Tensor.{Tensor}
-use Rattle.bodies.specs.Tensors.{vector, zeroVector}
+use Rattle.bodies.specs.Tensors.{zeroVector}
 use Rattle.bodies.specs.Bodies.{inertiaAboutOf}
 use Rattle.joins.specs.Joins.{inOrder, sumsOf, inertiaOf, joinOf, combineOf}
 use Rattle.moments.specs.Moments.{rotate, sweep, sweeps, insertMoment, insertAll, eigenvaluesOf, principalMomentsOf}

@@ -1,6 +1,6 @@
 -- "at most 62 strips" (document 01, "Set and planform"): of every accepted set and planform. Assumes nothing.
-use mathlib.Core.Path.{_≡_, refl, sym, _∙_}
-use mathlib.Core.Bool.{Bool, true, false, cond, _&&_, _||_, false≢true}
+use mathlib.Core.Path.{_≡_, refl}
+use mathlib.Core.Bool.{Bool, true, false, cond, _&&_, false≢true}
 use mathlib.Core.List.{List, [], _∷_}
 use Prim.Native.Nat.{ℕ, zero, suc, _+_, _-_, _<_, _≤_}
 use native.Mathlib.Omega.{arith}
@@ -15,10 +15,10 @@ use Rattle.sorting.proofs.Order.{equal-no-nan, below-nan}
 use Rattle.planforms.specs.declared.Planform.{Planform}
 use Rattle.planforms.specs.declared.Planform.the-variants.{Trapezoid, Ellipse, Outline}
 use Rattle.planforms.specs.Planforms.{xAt, heightAt, pairCount}
-use Rattle.refusals.specs.Order.{firstRefusal, firstFrom}
-use Rattle.limits.specs.Limits.{shortest, longest, isWithin, lengthWithin, lengthCheck}
+use Rattle.refusals.specs.Order.{firstFrom}
+use Rattle.limits.specs.Limits.{lengthWithin, lengthCheck}
 use Rattle.refusals.proofs.Accepted.{holds, both, both-true}
-use Rattle.outlines.specs.Outlines.{arePairs, pointCheck, outlineCheck}
+use Rattle.outlines.specs.Outlines.{pointCheck, outlineCheck}
 use Rattle.outlines.proofs.Accepted.{points-within}
 use Rattle.breaks.specs.Breaks.{heights, everyY, breakHeights}
 use Rattle.breaks.proofs.Strips.{at-most-63}
@@ -28,7 +28,7 @@ use Rattle.fins.specs.declared.FinSet.{FinSet}
 use Rattle.fins.specs.Fins.{planformCheck, setCheck, areaCheck}
 use Rattle.fins.proofs.Accepted.{set-planform, area-planform}
 use Rattle.halving.specs.Halving.{halving}
-use Rattle.strips.specs.Strips.{Worked, isAccepted, stripOf, workedOf}
+use Rattle.strips.specs.Strips.{Worked, isAccepted, workedOf}
 use Rattle.figures.specs.Figures.{setIntegrand, setStrips}
 use Rattle.figures.specs.Areas.{areaStrips}
 

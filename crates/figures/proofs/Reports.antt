@@ -25,7 +25,7 @@ use Rattle.halving.specs.declared.Ending.{Ending}
 use Rattle.halving.specs.declared.Ending.the-variants.{Accepted as accepted, NotConverged as notConverged, NotFinite as notFinite}
 use Rattle.halving.specs.declared.Integral.{Integral}
 use Rattle.joins.specs.declared.Joined.{Joined}
-use Rattle.joins.specs.Joins.{joinOf, joinedOf, refusedCount}
+use Rattle.joins.specs.Joins.{joinOf, refusedCount}
 use Rattle.plates.specs.declared.PlanformGeometry.{PlanformGeometry}
 use Rattle.plates.specs.Integrals.{volume}
 use Rattle.plates.specs.Geometry.{unscaledArea, noGeometry, geometryOf}

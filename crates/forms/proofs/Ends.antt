@@ -12,7 +12,6 @@ use Rattle.tokens.specs.Found.{starting, IsFound}
 use Rattle.tokens.specs.declared.Kind.{Kind}
 use Rattle.tokens.specs.declared.Kind.the-variants.{Open, Close, Word, End}
 use Rattle.tokens.specs.declared.Found.{Found}
-use Rattle.templates.specs.declared.Choice.{Choice}
 use Rattle.templates.specs.declared.Cursor.{Cursor}
 use Rattle.templates.specs.Matching.{Taken, Reading, failed, reading, pick}
 use Rattle.templates.specs.Cursors.{takenBefore, readingAt, Room, ReadsOn}
@@ -20,7 +19,7 @@ use Rattle.templates.proofs.Choices.{fits, fits-at}
 use Rattle.forms.specs.declared.Form.{Form}
 use Rattle.forms.specs.declared.Form.the-variants.{NoForm}
 use Rattle.forms.specs.declared.Request.{Request}
-use Rattle.forms.specs.Forms.{countIn, choiceIn, figuresIn, plainRequest, Asked, noForm, asked, ended, plainForm, requestOf, figuresOf}
+use Rattle.forms.specs.Forms.{countIn, choiceIn, figuresIn, plainRequest, noForm, asked, ended, plainForm, requestOf, figuresOf}
 use Rattle.forms.specs.Reads.{Reads, isEnd, noTokens, isWhole, pickRequest}
 
 -- the cursor's reading is the one meant, and there is room

@@ -1,7 +1,7 @@
 -- A set's and an area's request: what each part's cursor holds is what its reading does. Assumes nothing.
 use mathlib.Core.List.{List}
 use mathlib.Core.Bool.{true}
-use mathlib.Core.Path.{_≡_, refl}
+use mathlib.Core.Path.{_≡_}
 use Prim.Native.Nat.{ℕ}
 use lib.Ieee.{Float}
 use Rattle.templates.specs.declared.Choice.the-variants.{First}
@@ -9,7 +9,7 @@ use Rattle.templates.specs.declared.Cursor.{Cursor}
 use Rattle.templates.specs.Matching.{Reading}
 use Rattle.templates.proofs.Choices.{fits}
 use Rattle.forms.specs.declared.Form.the-variants.{Set, Area}
-use Rattle.forms.specs.Forms.{_▸_, setLimit, setCount, setPlanform, setSection, setTab, setDensity, setEnd, setRequest, setForm, areaLimit, areaPlanform, areaEnd, areaRequest, areaForm}
+use Rattle.forms.specs.Forms.{setLimit, setCount, setPlanform, setSection, setTab, setDensity, setEnd, setRequest, setForm, areaLimit, areaPlanform, areaEnd, areaRequest, areaForm}
 use Rattle.forms.specs.Reads.{Reads, isWhole}
 use Rattle.forms.proofs.Ends.{Stands, count-at, choice-at, figures-at, whole-fits, whole}
 use Rattle.forms.proofs.Strict.{before-template, before-planform, before-section, before-tab, before-density}

@@ -7,10 +7,10 @@ use lib.Dec.{leb}
 use lib.ListN.{length}
 use lib.Ieee.{Float}
 use Rattle.tokens.specs.Text.{text}
-use Rattle.tokens.specs.Tokens.{Token, tokens}
+use Rattle.tokens.specs.Tokens.{tokens}
 use Rattle.templates.specs.declared.Choice.{Choice}
 use Rattle.templates.specs.declared.Choice.the-variants.{First}
-use Rattle.templates.specs.Matching.{Taken, Reading, failed, reading, takeText, eitherOf, oneOf, takeEach}
+use Rattle.templates.specs.Matching.{Reading, failed, reading, takeText, eitherOf, oneOf, takeEach}
 use Rattle.forms.specs.declared.Form.{Form}
 use Rattle.forms.specs.declared.Form.the-variants.{Set, Area, Join, Moments, Check, NoForm}
 use Rattle.forms.specs.declared.Request.{Request}

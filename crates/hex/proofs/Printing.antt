@@ -1,10 +1,9 @@
 -- Printing from the last digit on: what stands behind the place reached, with the digits still to come, is the whole text. Assumes nothing.
 use mathlib.Core.List.{List, [], _∷_, _++_, append-assoc}
 use mathlib.Core.Path.{_≡_, refl, sym, ap, _∙_}
-use Prim.Native.Nat.{ℕ, zero, suc, _+_, _-_, _/_, _%_, _<_, _≤_}
-use native.Mathlib.Numerals.{add-one}
+use Prim.Native.Nat.{ℕ, suc, _+_, _-_, _/_, _%_, _<_, _≤_}
 use native.Mathlib.Omega.{arith}
-use lib.ListN.{length, take, drop, getD, set, length-set}
+use lib.ListN.{length, take, drop, set, length-set}
 use lib.Seq.{drop-cons, drop-set-lt, getD-set-same, take-add, take-set-le}
 use Rattle.hex.specs.Hex.{digits, digitLetter}
 

@@ -2,7 +2,7 @@
 use mathlib.Core.List.{List, _∷_}
 use mathlib.Core.Bool.{Bool, true, false}
 use mathlib.Core.Path.{_≡_, refl, sym, ap, _∙_}
-use Prim.Native.Nat.{ℕ, zero, suc, _+_, _*_, _^_, _<_, _≤_}
+use Prim.Native.Nat.{ℕ, _+_, _*_, _^_, _<_, _≤_}
 use native.Mathlib.Nat.{pow-suc, pow-le-pow-right}
 use native.Mathlib.Numerals.{add-one}
 use native.Mathlib.Omega.{arith}
@@ -12,7 +12,6 @@ use lib.ListN.{length, drop, getD, drop-of-length-le}
 use lib.Seq.{drop-cons}
 use lib.Ieee.{Float}
 use Rattle.floats.specs.Operations.{bits}
-use Rattle.hex.specs.declared.Figure.{Figure}
 use Rattle.hex.specs.declared.Figure.the-variants.{Number, NotFigure}
 use Rattle.hex.specs.Hex.{digitValue, pick, readDigits, figureOf}
 

@@ -1,20 +1,19 @@
 -- What is printed reads back as the same figure. Assumes nothing.
 use mathlib.Core.List.{List, [], _∷_, _++_, append-assoc}
-use mathlib.Core.Bool.{Bool, true, false, cond, not}
-use mathlib.Core.Path.{_≡_, refl, sym, ap, subst, _∙_}
+use mathlib.Core.Bool.{Bool, true, false, cond}
+use mathlib.Core.Path.{_≡_, refl, sym, ap, _∙_}
 use Prim.Native.Nat.{ℕ, zero, suc, _+_, _-_, _*_, _/_, _%_, _^_, _<_, _≤_}
-use native.Mathlib.Nat.{mod-lt, mod-eq-of-lt, mod-one, mul-one, pow-suc, mul-assoc, mul-pos}
+use native.Mathlib.Nat.{mod-eq-of-lt, mod-one, mul-one, pow-suc, mul-assoc, mul-pos}
 use native.Mathlib.Omega.{arith}
-use borrow.Author.Tests.{lt-ltb, le-ltb, le-leb, lt-leb, eq-eqb, ltb-true, ltb-false}
+use borrow.Author.Tests.{lt-ltb, le-leb, lt-leb, ltb-true, ltb-false}
 use lib.Arith.{mod-mul}
-use lib.Dec.{T, ltb, leb, eqb}
+use lib.Dec.{T, ltb}
 use lib.ListN.{length, length-append}
-use lib.Ieee.{Float, binary64, fits, eq, toBits, ofBits}
+use lib.Ieee.{Float, binary64, fits, eq, toBits}
 use lib.Ieee.Bits.{ofBits-toBits, toBits-lt}
 use Rattle.floats.specs.Operations.{bits}
-use Rattle.hex.specs.declared.Figure.{Figure}
-use Rattle.hex.specs.declared.Figure.the-variants.{Number, NotFigure}
-use Rattle.hex.specs.Hex.{digitValue, digitLetter, pick, readDigits, figureOf, digits, printedBits, printedValue, figureText}
+use Rattle.hex.specs.declared.Figure.the-variants.{Number}
+use Rattle.hex.specs.Hex.{digitValue, digitLetter, readDigits, figureOf, digits, printedBits, printedValue, figureText}
 
 low-letter : (d : ℕ) → d < 10 → digitValue (d + 48) ≡ d
 low-letter d h =

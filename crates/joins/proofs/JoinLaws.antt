@@ -1,7 +1,7 @@
 -- Joins over a family of bodies: families alike are joined alike, a join of one, and a join's mass and centre. Assumes nothing.
 use mathlib.Core.Bool.{Bool, true, false, true≢false}
 use mathlib.Core.Path.{_≡_, refl, sym, ap, subst, _∙_}
-use Prim.Native.Nat.{ℕ, zero, suc, _*_, _/_, _%_, _<_}
+use Prim.Native.Nat.{ℕ, zero, suc, _/_, _%_, _<_}
 use native.Mathlib.Nat.{lt-suc-self}
 use native.Mathlib.Omega.{arith}
 use borrow.Author.Tests.{eq-eqb}

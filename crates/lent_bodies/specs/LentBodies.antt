@@ -1,7 +1,7 @@
 -- A lent slice of bodies, joined (document 01, "Body").
 use mathlib.Core.Bool.{cond}
 use mathlib.Core.List.{List}
-use Prim.Native.Nat.{ℕ, _+_, _*_}
+use Prim.Native.Nat.{_+_, _*_}
 use lib.Dec.{ltb, leb}
 use lib.ListN.{length, getD, take, replicate}
 use Rattle.floats.specs.Operations.{bits}

@@ -53,7 +53,7 @@ fn matrix_agrees(turn: Quaternion, values: &[f64]) -> Outcome
     tensor_agrees(&values[1..10], turn.matrix())
 }
 
-pub fn replay_matrix(line: &[u8], values: &mut [f64]) -> Outcome
+pub(crate) fn replay_matrix(line: &[u8], values: &mut [f64]) -> Outcome
     requires { ⌜ (length (now line) ≤ 4096) × (256 ≤ length (now values)) ⌝ }
 {
     if lines::reads(line, b"matrix x F = F F F F F F F F F", values) {
@@ -91,7 +91,7 @@ fn turn_agrees(turned: Body, values: &[f64]) -> Outcome
     tensor_agrees(&values[18..27], tensor)
 }
 
-pub fn replay_turn(line: &[u8], values: &mut [f64]) -> Outcome
+pub(crate) fn replay_turn(line: &[u8], values: &mut [f64]) -> Outcome
     requires { ⌜ (length (now line) ≤ 4096) × (256 ≤ length (now values)) ⌝ }
 {
     if lines::reads(
@@ -119,7 +119,7 @@ fn about_agrees(values: &[f64]) -> Outcome
     tensor_agrees(&values[16..25], r)
 }
 
-pub fn replay_about(line: &[u8], values: &mut [f64]) -> Outcome
+pub(crate) fn replay_about(line: &[u8], values: &mut [f64]) -> Outcome
     requires { ⌜ (length (now line) ≤ 4096) × (256 ≤ length (now values)) ⌝ }
 {
     if !lines::reads(
@@ -177,7 +177,7 @@ fn says_case(line: &[u8], c: Cursor, case: usize, values: &mut [f64]) -> bool
     }
 }
 
-pub fn replay_check(line: &[u8], values: &mut [f64]) -> Outcome
+pub(crate) fn replay_check(line: &[u8], values: &mut [f64]) -> Outcome
     requires { ⌜ (length (now line) ≤ 4096) × (256 ≤ length (now values)) ⌝ }
 {
     let asked = lines::begins(line, b"check F F F F F F F F F F F F F =", values);
@@ -202,7 +202,7 @@ fn moments_agree(line: &[u8], asked: Cursor, found: Moments, values: &mut [f64])
     lines::agree(&values[9..12], &moments, 3)
 }
 
-pub fn replay_moments(line: &[u8], values: &mut [f64]) -> Outcome
+pub(crate) fn replay_moments(line: &[u8], values: &mut [f64]) -> Outcome
     requires { ⌜ (length (now line) ≤ 4096) × (256 ≤ length (now values)) ⌝ }
 {
     let asked = lines::begins(line, b"moments F F F F F F F F F =", values);

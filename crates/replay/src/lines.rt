@@ -13,7 +13,7 @@ pub enum Outcome {
     NoLine,
 }
 
-pub fn is_none(outcome: Outcome) -> bool {
+pub(crate) fn is_none(outcome: Outcome) -> bool {
     match outcome {
         Outcome::Agrees => false,
         Outcome::Differs => false,
@@ -21,7 +21,7 @@ pub fn is_none(outcome: Outcome) -> bool {
     }
 }
 
-pub fn agrees_or_not(agrees: bool) -> Outcome {
+pub(crate) fn agrees_or_not(agrees: bool) -> Outcome {
     if agrees {
         Outcome::Agrees
     } else {
@@ -30,7 +30,7 @@ pub fn agrees_or_not(agrees: bool) -> Outcome {
 }
 
 // By ==, and a NaN matches a NaN.
-pub fn same(a: f64, b: f64) -> bool {
+pub(crate) fn same(a: f64, b: f64) -> bool {
     if a == b {
         return true;
     }
@@ -41,7 +41,7 @@ pub fn same(a: f64, b: f64) -> bool {
 }
 
 // Whether the answers are `count` figures, and the results begin with them.
-pub fn agree(answers: &[f64], results: &[f64], count: usize) -> bool {
+pub(crate) fn agree(answers: &[f64], results: &[f64], count: usize) -> bool {
     if answers.len() != count {
         return false;
     }
@@ -72,7 +72,7 @@ fn start() -> Cursor
 }
 
 // A template from the line's beginning on; its figures go to the start of values.
-pub fn begins(line: &[u8], template: &[u8], values: &mut [f64]) -> Cursor
+pub(crate) fn begins(line: &[u8], template: &[u8], values: &mut [f64]) -> Cursor
     requires { ⌜ (length (now line) ≤ 4096) × (256 ≤ length (now values)) ⌝ }
     ensures { λ r. ⌜ Room (now (line .entry)) (now (values .exit)) r ⌝ }
 {
@@ -80,7 +80,7 @@ pub fn begins(line: &[u8], template: &[u8], values: &mut [f64]) -> Cursor
 }
 
 // Figures, as many as there are.
-pub fn take_figures(line: &[u8], c: Cursor, values: &mut [f64]) -> Cursor
+pub(crate) fn take_figures(line: &[u8], c: Cursor, values: &mut [f64]) -> Cursor
     requires { ⌜ Room (now line) (now values) c ⌝ }
     ensures { λ r. ⌜ Room (now (line .entry)) (now (values .exit)) r × (c .figures ≤ r .figures) ⌝ }
 {
@@ -88,13 +88,13 @@ pub fn take_figures(line: &[u8], c: Cursor, values: &mut [f64]) -> Cursor
 }
 
 // Whether all templates so far fit, and the line ends there.
-pub fn at_end(line: &[u8], c: Cursor) -> bool {
+pub(crate) fn at_end(line: &[u8], c: Cursor) -> bool {
     let at = c.at;
     if c.ok { line.len() <= at } else { false }
 }
 
 // Whether the rest of the line is written as the template.
-pub fn ends(line: &[u8], c: Cursor, template: &[u8], values: &mut [f64]) -> bool
+pub(crate) fn ends(line: &[u8], c: Cursor, template: &[u8], values: &mut [f64]) -> bool
     requires { ⌜ Room (now line) (now values) c ⌝ }
 {
     let end = templates::take_text(line, c, template, values);
@@ -102,7 +102,7 @@ pub fn ends(line: &[u8], c: Cursor, template: &[u8], values: &mut [f64]) -> bool
 }
 
 // Whether the whole line is written as the template.
-pub fn reads(line: &[u8], template: &[u8], values: &mut [f64]) -> bool
+pub(crate) fn reads(line: &[u8], template: &[u8], values: &mut [f64]) -> bool
     requires { ⌜ (length (now line) ≤ 4096) × (256 ≤ length (now values)) ⌝ }
 {
     ends(line, start(), template, values)

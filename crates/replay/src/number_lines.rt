@@ -4,7 +4,7 @@ ghost use lib.ListN.{length};
 use crate::lines;
 use crate::lines::Outcome;
 
-pub fn replay_root(line: &[u8], values: &mut [f64]) -> Outcome
+pub(crate) fn replay_root(line: &[u8], values: &mut [f64]) -> Outcome
     requires { ⌜ (length (now line) ≤ 4096) × (256 ≤ length (now values)) ⌝ }
 {
     if !lines::reads(line, b"root F = F", values) {
@@ -22,7 +22,7 @@ fn sine_agrees(values: &[f64]) -> Outcome
     lines::agrees_or_not(lines::agree(&values[1..3], &results, 2))
 }
 
-pub fn replay_sine(line: &[u8], values: &mut [f64]) -> Outcome
+pub(crate) fn replay_sine(line: &[u8], values: &mut [f64]) -> Outcome
     requires { ⌜ (length (now line) ≤ 4096) × (256 ≤ length (now values)) ⌝ }
 {
     if !lines::reads(line, b"sine F = F F", values) {

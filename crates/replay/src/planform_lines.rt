@@ -135,7 +135,7 @@ fn chords_agree(p: Parts, values: &[f64]) -> Outcome
     ))
 }
 
-pub fn replay_chords(line: &[u8], values: &mut [f64]) -> Outcome
+pub(crate) fn replay_chords(line: &[u8], values: &mut [f64]) -> Outcome
     requires { ⌜ (length (now line) ≤ 4096) × (260 ≤ length (now values)) ⌝ }
 {
     let begun = lines::begins(line, b"chords", values);
@@ -154,7 +154,7 @@ fn breaks_agree(p: Parts, values: &[f64]) -> Outcome
     lines::agrees_or_not(lines::agree(p.answers(values), &heights, r.count))
 }
 
-pub fn replay_breaks(line: &[u8], values: &mut [f64]) -> Outcome
+pub(crate) fn replay_breaks(line: &[u8], values: &mut [f64]) -> Outcome
     requires { ⌜ (length (now line) ≤ 4096) × (260 ≤ length (now values)) ⌝ }
 {
     let begun = lines::begins(line, b"breaks", values);
@@ -180,7 +180,7 @@ fn area_agrees(p: Parts, values: &[f64]) -> Outcome
     sample_agrees(integrand, p, values, 3)
 }
 
-pub fn replay_area(line: &[u8], values: &mut [f64]) -> Outcome
+pub(crate) fn replay_area(line: &[u8], values: &mut [f64]) -> Outcome
     requires { ⌜ (length (now line) ≤ 4096) × (260 ≤ length (now values)) ⌝ }
 {
     let begun = lines::begins(line, b"area", values);
@@ -205,7 +205,7 @@ fn plate_agrees(section: Section, p: Parts, values: &[f64]) -> Outcome
     sample_agrees(integrand, p, values, 7)
 }
 
-pub fn replay_plate(line: &[u8], values: &mut [f64]) -> Outcome
+pub(crate) fn replay_plate(line: &[u8], values: &mut [f64]) -> Outcome
     requires { ⌜ (length (now line) ≤ 4096) × (260 ≤ length (now values)) ⌝ }
 {
     let begun = section_lines::take_section(line, b"plate", b"F F", values);

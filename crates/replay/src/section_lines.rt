@@ -12,7 +12,7 @@ use templates::Choice;
 use templates::Cursor;
 
 // A line's first word, its section, and what stands behind it.
-pub fn take_section(line: &[u8], word: &[u8], behind: &[u8], values: &mut [f64]) -> Cursor
+pub(crate) fn take_section(line: &[u8], word: &[u8], behind: &[u8], values: &mut [f64]) -> Cursor
     requires { ⌜ (length (now line) ≤ 4096) × (256 ≤ length (now values)) ⌝ }
     ensures { λ r. ⌜ Room (now (line .entry)) (now (values .exit)) r ⌝ }
 {
@@ -21,7 +21,7 @@ pub fn take_section(line: &[u8], word: &[u8], behind: &[u8], values: &mut [f64])
     templates::take_text(line, section, behind, values)
 }
 
-pub fn section_of(choice: Choice) -> Section {
+pub(crate) fn section_of(choice: Choice) -> Section {
     match choice {
         Choice::First => Section::Square,
         Choice::Second => Section::Rounded,
@@ -36,7 +36,7 @@ fn moments_agree(section: Section, values: &[f64]) -> Outcome
     lines::agrees_or_not(lines::agree(&values[3..7], &r, 4))
 }
 
-pub fn replay_section(line: &[u8], values: &mut [f64]) -> Outcome
+pub(crate) fn replay_section(line: &[u8], values: &mut [f64]) -> Outcome
     requires { ⌜ (length (now line) ≤ 4096) × (256 ≤ length (now values)) ⌝ }
 {
     let end = take_section(line, b"section", b"F F F = F F F F", values);
@@ -59,7 +59,7 @@ fn tab_agrees(values: &[f64]) -> Outcome
     lines::agrees_or_not(lines::agree(&values[5..12], &r, 7))
 }
 
-pub fn replay_tab(line: &[u8], values: &mut [f64]) -> Outcome
+pub(crate) fn replay_tab(line: &[u8], values: &mut [f64]) -> Outcome
     requires { ⌜ (length (now line) ≤ 4096) × (256 ≤ length (now values)) ⌝ }
 {
     if !lines::reads(line, b"tab F F F F F = F F F F F F F", values) {
@@ -88,7 +88,7 @@ fn touch(values: &[f64]) -> bool
     segments::segments_touch(segment_of(&values[0..4]), segment_of(&values[4..8]))
 }
 
-pub fn replay_touch(line: &[u8], values: &mut [f64]) -> Outcome
+pub(crate) fn replay_touch(line: &[u8], values: &mut [f64]) -> Outcome
     requires { ⌜ (length (now line) ≤ 4096) × (256 ≤ length (now values)) ⌝ }
 {
     if lines::reads(line, b"touch F F F F F F F F = yes", values) {

@@ -4,12 +4,12 @@ use mathlib.Core.Bool.{Bool, true, false}
 use mathlib.Core.Path.{_≡_, refl, sym, ap, _∙_}
 use Prim.Native.Nat.{ℕ}
 use native.Mathlib.Omega.{arith}
-use lib.ListN.{length, take, drop}
+use lib.ListN.{take, drop}
 use lib.Ieee.{Float}
-use Rattle.tokens.specs.Tokens.{Token, tokens}
+use Rattle.tokens.specs.Tokens.{tokens}
 use Rattle.templates.specs.declared.Choice.{Choice}
 use Rattle.templates.specs.declared.Cursor.{Cursor}
-use Rattle.templates.specs.Matching.{Taken, Reading, failed, reading, pick, orElse, chosen}
+use Rattle.templates.specs.Matching.{Reading, failed, reading, pick, orElse, chosen}
 use Rattle.templates.specs.Cursors.{takenBefore, readingAt, Room, ReadsOn, choosing}
 use Rattle.templates.proofs.Steps.{also-kept}
 

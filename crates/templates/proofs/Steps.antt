@@ -2,13 +2,12 @@
 use mathlib.Core.List.{List, [], _∷_, _++_}
 use mathlib.Core.Bool.{Bool, true, false}
 use mathlib.Core.Path.{_≡_, refl, sym, ap, subst, _∙_}
-use Prim.Native.Nat.{ℕ, suc, _+_, _-_, _*_, _<_, _≤_}
+use Prim.Native.Nat.{ℕ, _+_, _-_, _*_, _<_, _≤_}
 use native.Mathlib.Numerals.{add-one}
 use native.Mathlib.Omega.{arith}
 use lib.ListN.{length, take, drop, set, length-set, length-take, length-drop}
 use lib.Seq.{take-suc-set, take-set-le, take-take}
 use lib.Ieee.{Float}
-use Rattle.hex.specs.declared.Figure.{Figure}
 use Rattle.hex.specs.declared.Figure.the-variants.{Number, NotFigure}
 use Rattle.hex.specs.Hex.{figureOf}
 use Rattle.hex.proofs.Reading.{number-length}
@@ -22,7 +21,7 @@ use Rattle.tokens.specs.declared.Kind.{Kind}
 use Rattle.tokens.specs.declared.Kind.the-variants.{Open, Close, Word, End}
 use Rattle.tokens.specs.declared.Found.{Found}
 use Rattle.tokens.proofs.Bytes.{at-end}
-use Rattle.templates.specs.Matching.{Taken, Reading, failed, reading, pick, sameBytes, takeFigure, takeCount, takeWord, takeToken, takeTokens}
+use Rattle.templates.specs.Matching.{Taken, Reading, failed, reading, pick, sameBytes, takeCount, takeWord, takeToken, takeTokens}
 use Rattle.templates.specs.Cursors.{takenBefore, readingAt, Room, ReadsOn, IsWordAt, isOpen, isClose, notAForm, onTo, pickCursor, counted, plainTo, takeFound, placeBehind}
 use Rattle.templates.specs.declared.Cursor.{Cursor}
 

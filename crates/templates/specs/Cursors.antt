@@ -9,7 +9,7 @@ use Rattle.counts.specs.declared.Count.{Count}
 use Rattle.counts.specs.declared.Count.the-variants.{Whole, NotCount}
 use Rattle.counts.specs.Counts.{countOf, cappedCount}
 use Rattle.tokens.specs.Text.{text}
-use Rattle.tokens.specs.Tokens.{Token, opening, closing, word, tokens}
+use Rattle.tokens.specs.Tokens.{opening, closing, word, tokens}
 use Rattle.tokens.specs.declared.Kind.{Kind}
 use Rattle.tokens.specs.declared.Kind.the-variants.{Open, Close, Word, End}
 use Rattle.tokens.specs.declared.Found.{Found}
@@ -17,6 +17,7 @@ use Rattle.templates.specs.Matching.{Taken, Reading, failed, reading, pi
 use Rattle.templates.specs.declared.Choice.{Choice}
 use Rattle.templates.specs.declared.Cursor.{Cursor}
 
+-- what was taken before a cursor
 abbrev pub takenBefore : List Float → Cursor → Taken
 takenBefore values c = record { figures = take (c .figures) values; count = c .count; choice = c .choice }
 

@@ -1,9 +1,8 @@
 -- Reading a line by templates (docs/FORMS.md). A template is written as the form is, `F` standing for a figure and `N` for a count: its
 -- tokens are held against the line's, one by one.
 use mathlib.Core.List.{List, [], _∷_, _++_}
-use mathlib.Core.Bool.{Bool, true, false, _&&_, cond}
+use mathlib.Core.Bool.{Bool, true, false, _&&_}
 use Prim.Native.Nat.{ℕ, zero, suc}
-use Prim.Native.String.{String}
 use lib.Dec.{eqb}
 use lib.ListN.{length}
 use lib.Ieee.{Float}

@@ -1,6 +1,6 @@
 -- A line's tokens (docs/FORMS.md): "Words are separated by one or more spaces; spaces beside a bracket are free".
 use mathlib.Core.List.{List, [], _∷_, _++_}
-use mathlib.Core.Bool.{Bool, true, false, _||_, cond}
+use mathlib.Core.Bool.{Bool, _||_, cond}
 use Prim.Native.Nat.{ℕ}
 use lib.Dec.{eqb}
 

@@ -1,7 +1,6 @@
 -- `answers::put_filled` meets its contract: what is there with what is still to come is the whole. Assumes nothing.
 use Prim.Native.Nat.{_-_}
 use native.Mathlib.Omega.{arith}
-use borrow.Author.Needs.{needs}
 use denote.Ref.{now}
 use lib.ListN.{length}
 use Rattle.answers.proofs.Filling.{SoFar, start, has-room-at, next, ends}

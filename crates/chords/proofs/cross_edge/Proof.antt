@@ -6,22 +6,13 @@ use Rattle.chords.proofs.Listed.{not-crossed, is-crossed}
 use borrow.Author.Needs.{needs}
 use Rattle.chords.proofs.cross_edge.Statement.{statement}
 use Rattle.chords.proofs.cross_edge.Tie as tie
-use Rattle.chords.proofs.cross_edge.Reads as reads
-use Rattle.chords.proofs.cross_edge.Lts as lts
-use Rattle.chords.proofs.edge_crossed.Reads as edge-crossed-reads
-use Rattle.chords.proofs.edge_crossing.Reads as edge-crossing-reads
-use Rattle.chords.proofs.next_point.Reads as next-point-reads
-use Rattle.sorting.proofs.insert.Reads as insert-reads
 
--- src/lib.rt:184:9
 next-point-requires : tie.Need-next-point-requires
 next-point-requires c κs = search needs
 
--- src/lib.rt:185:9
 edge-crossed-requires : tie.Need-edge-crossed-requires
 edge-crossed-requires c κs = search needs
 
--- src/lib.rt:186:9
 returns : tie.Need-returns
 returns c =
     let pointed = c .before .before in
@@ -30,23 +21,18 @@ returns c =
     (sym (c .before .edge-crossed .ensures) ∙ not-true _ (c .if1 .taken))
     (omega arith)
 
--- src/lib.rt:188:32
 edge-crossing-requires : tie.Need-edge-crossing-requires
 edge-crossing-requires c κs = search needs
 
--- src/lib.rt:188:5
 insert-requires : tie.Need-insert-requires
 insert-requires c κs = search needs
 
--- src/lib.rt:189:5
 add-result : tie.Need-add-result
 add-result c = search needs
 
--- src/lib.rt:180:1
 same-length : tie.Need-same-length
 same-length c = search needs
 
--- src/lib.rt:180:1
 returns-2 : tie.Need-returns-2
 returns-2 c =
     let inserted = c .before .before in

@@ -1,5 +1,5 @@
 -- `figures::concluded` meets its contract: each arm knows its case. Assumes nothing.
-use mathlib.Core.Path.{_≡_, refl, sym, ap, _∙_}
+use mathlib.Core.Path.{ap, _∙_}
 use Rattle.joins.specs.declared.Joined.{Joined}
 use Rattle.figures.specs.Figures.{joinedFigures, concludedOf}
 use borrow.Author.Needs.{needs}

@@ -1,5 +1,5 @@
 -- `figures::concluded_area` meets its contract: each arm knows its case. Assumes nothing.
-use mathlib.Core.Path.{_≡_, refl, sym, ap, _∙_}
+use mathlib.Core.Path.{ap, _∙_}
 use Rattle.plates.specs.declared.PlanformGeometry.{PlanformGeometry}
 use Rattle.figures.specs.Areas.{ofGeometry, concludedArea}
 use borrow.Author.Needs.{needs}

@@ -1,5 +1,5 @@
 -- `figures::geometry` meets its contract: refused by a check, or worked. Assumes nothing.
-use mathlib.Core.Path.{_≡_, refl, sym, _∙_}
+use mathlib.Core.Path.{refl, sym, _∙_}
 use Rattle.figures.proofs.Answers.{area-worked, area-refused}
 use borrow.Author.Needs.{needs}
 use Rattle.figures.proofs.geometry.Statement.{statement}

@@ -1,5 +1,5 @@
 -- `figures::mass_properties` meets its contract: refused by a check, or worked. Assumes nothing.
-use mathlib.Core.Path.{_≡_, refl, sym, _∙_}
+use mathlib.Core.Path.{refl, sym, _∙_}
 use Rattle.figures.proofs.Answers.{set-worked, set-refused}
 use borrow.Author.Needs.{needs}
 use Rattle.figures.proofs.mass_properties.Statement.{statement}

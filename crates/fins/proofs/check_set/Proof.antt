@@ -1,5 +1,5 @@
 -- `fins::check_set` meets its contract: it returns at the first refusal, group by group. Assumes nothing.
-use mathlib.Core.Path.{_≡_, sym, _∙_}
+use mathlib.Core.Path.{sym, _∙_}
 use mathlib.Core.List.{[], _∷_}
 use Rattle.refusals.proofs.Order.{passed, refused-here, as-one}
 use Rattle.fins.specs.Fins.{setCheck}

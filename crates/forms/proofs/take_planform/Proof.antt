@@ -7,7 +7,7 @@ use Rattle.tokens.specs.Tokens.{tokensAfter}
 use Rattle.templates.specs.declared.Choice.the-variants.{Third}
 use Rattle.templates.specs.Matching.{Reading, takeEach, chosen, oneOf}
 use Rattle.templates.proofs.Steps.{as-is}
-use Rattle.templates.proofs.Choices.{also, room-again, note, first-fits, next-tried}
+use Rattle.templates.proofs.Choices.{also, note, first-fits, next-tried}
 use Rattle.forms.specs.Forms.{_▸_, planform}
 use Rattle.forms.proofs.take_planform.Statement.{statement}
 use Rattle.forms.proofs.take_planform.Tie as tie

@@ -1,9 +1,7 @@
 -- `integrands::values_over_several` meets its contract: the crossings are listed, and the values worked between them. Assumes nothing.
-use mathlib.Core.Path.{_≡_, sym, ap, _∙_}
+use mathlib.Core.Path.{sym, ap, _∙_}
 use mathlib.Core.List.{List}
-use Prim.Native.Nat.{_≤_}
 use native.Mathlib.Omega.{arith}
-use lib.ListN.{length}
 use lib.Seq.{length-take-le}
 use lib.Ieee.{Float}
 use Rattle.floats.specs.Operations.{_⊗_}

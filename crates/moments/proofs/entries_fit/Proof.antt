@@ -1,7 +1,7 @@
 -- `moments::entries_fit` meets its contract: every entry passed fits, and one that does not settles it. Assumes nothing.
 use mathlib.Core.Bool.{Bool, true}
 use mathlib.Core.List.{List}
-use mathlib.Core.Path.{_≡_, refl, sym, ap, _∙_}
+use mathlib.Core.Path.{_≡_, sym, ap, _∙_}
 use Prim.Native.Nat.{ℕ, _≤_, _-_}
 use lib.Ieee.{Float}
 use native.Mathlib.Omega.{arith}

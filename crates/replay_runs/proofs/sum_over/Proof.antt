@@ -1,5 +1,4 @@
 -- `replay_runs::sum_over` meets its contract: i runs up to the end. Assumes nothing.
-use mathlib.Core.Path.{_≡_, refl}
 use Prim.Native.Nat.{_-_, _≤_}
 use native.Mathlib.Omega.{arith}
 use borrow.Author.Needs.{needs}

@@ -1,5 +1,5 @@
 -- `templates::same_bytes` meets its contract: as long as all bytes passed agree, the rests decide. Assumes nothing.
-use mathlib.Core.Path.{_≡_, refl, sym}
+use mathlib.Core.Path.{_≡_, refl}
 use Prim.Native.Nat.{_-_, _≤_}
 use native.Mathlib.Omega.{arith}
 use denote.Ref.{now}

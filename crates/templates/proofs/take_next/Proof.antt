@@ -1,12 +1,12 @@
 -- `templates::take_next` meets its contract: each pair of tokens by its law. Assumes nothing.
 use mathlib.Core.Bool.{Bool}
-use mathlib.Core.Path.{_≡_, refl, sym, ap, _∙_}
+use mathlib.Core.Path.{refl, ap, _∙_}
 use native.Mathlib.Omega.{arith}
 use borrow.Author.Needs.{needs}
 use denote.Ref.{now}
 use Rattle.tokens.specs.Found.{part}
 use Rattle.tokens.specs.declared.Kind.{Kind}
-use Rattle.tokens.specs.declared.Kind.the-variants.{Open, Close, Word, End}
+use Rattle.tokens.specs.declared.Kind.the-variants.{Open, Close, End}
 use Rattle.templates.specs.Cursors.{readingAt, notAForm, onTo, pickCursor, takeFound}
 use Rattle.templates.proofs.Steps.{open-read, close-read, no-word, word-read, word-place, bracket-no-word, as-is}
 use Rattle.templates.proofs.take_next.Statement.{statement}

@@ -1,13 +1,13 @@
 -- `tokens::word_end` meets its contract: from a byte of a word on, the part passed is the word so far. Assumes nothing.
 use mathlib.Core.List.{List, _∷_}
 use mathlib.Core.Bool.{true, false, true≢false}
-use mathlib.Core.Path.{_≡_, refl, sym, ap, _∙_}
+use mathlib.Core.Path.{_≡_, sym, ap, _∙_}
 use Prim.Native.Nat.{ℕ, _+_, _-_, _<_, _≤_}
 use native.Mathlib.Omega.{arith}
 use borrow.Author.Needs.{needs}
 use denote.Ref.{now}
 use lib.ListN.{length, drop, getD}
-use Rattle.tokens.specs.Tokens.{Token, word, endsWord, tokensAfter, tokens}
+use Rattle.tokens.specs.Tokens.{word, endsWord, tokensAfter, tokens}
 use Rattle.tokens.specs.Found.{part, IsWordEnd}
 use Rattle.tokens.proofs.Bytes.{longer-at, word-before, word-at-end, part-longer, part-none, part-first}
 use Rattle.tokens.proofs.word_end.Statement.{statement}

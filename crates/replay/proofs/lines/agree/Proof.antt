@@ -1,5 +1,4 @@
 -- `replay::lines::agree` meets its contract: i runs up to the count, which both lists have. Assumes nothing.
-use mathlib.Core.Path.{_≡_}
 use Prim.Native.Nat.{_-_, _≤_}
 use native.Mathlib.Omega.{arith}
 use borrow.Author.Needs.{needs}
