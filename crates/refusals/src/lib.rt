@@ -5,6 +5,7 @@
 ghost use mathlib.Core.Path.{_≡_};
 ghost use Rattle.refusals.specs.Order.{refuseUnless, refuseWhen, isRefused, firstRefusal};
 ghost use Rattle.refusals.specs.Refusals.{numberOf, caseOf, valuesOf, inTwoPlaces};
+ghost use Rattle.refusals.specs.Rows.{IsRow};
 
 // What is wrong with a tensor: 17's cases a to e, in their order.
 pub enum TensorFault {
@@ -80,32 +81,6 @@ pub fn is_refused(verdict: Verdict) -> bool
     }
 }
 
-// The number of a refusal, as the card prints it.
-pub fn number(refusal: Refusal) -> usize
-    ensures { λ r. ⌜ r ≡ numberOf refusal ⌝ }
-{
-    match refusal {
-        Refusal::Limit => 1,
-        Refusal::Scratch => 2,
-        Refusal::Count => 3,
-        Refusal::Length(_) => 4,
-        Refusal::Points => 5,
-        Refusal::Ends => 6,
-        Refusal::Touches(_, _) => 7,
-        Refusal::NoArea => 8,
-        Refusal::Angle(_) => 9,
-        Refusal::TabOffRoot => 10,
-        Refusal::TabTooDeep => 11,
-        Refusal::Density => 12,
-        Refusal::NotConverged(_) => 13,
-        Refusal::NotFinite => 14,
-        Refusal::Mass => 15,
-        Refusal::Centre => 16,
-        Refusal::Tensor(_) => 17,
-        Refusal::NoForm => 18,
-    }
-}
-
 // The case of a refusal 17, counted from 0.
 pub fn tensor_case(fault: TensorFault) -> usize
     ensures { λ r. ⌜ r ≡ caseOf fault ⌝ }
@@ -119,29 +94,45 @@ pub fn tensor_case(fault: TensorFault) -> usize
     }
 }
 
-// The values that go with a refusal's number: the field of 4 and 9, the two edges of 7, the component of 13, the case of 17 counted from
-// 0; and 0 where there is none.
+// A row of the table: a refusal's number, and the values that go with it in two places, 0 where there is none.
+struct Row(usize, [usize; 2]);
+
+// The table. The values: the field of 4 and 9, the two edges of 7, the component of 13, the case of 17.
+fn row_of(refusal: Refusal) -> Row
+    ensures { λ r. ⌜ IsRow refusal (r .0) (r .1) ⌝ }
+{
+    match refusal {
+        Refusal::Limit => Row(1, [0, 0]),
+        Refusal::Scratch => Row(2, [0, 0]),
+        Refusal::Count => Row(3, [0, 0]),
+        Refusal::Length(field) => Row(4, [field, 0]),
+        Refusal::Points => Row(5, [0, 0]),
+        Refusal::Ends => Row(6, [0, 0]),
+        Refusal::Touches(i, j) => Row(7, [i, j]),
+        Refusal::NoArea => Row(8, [0, 0]),
+        Refusal::Angle(field) => Row(9, [field, 0]),
+        Refusal::TabOffRoot => Row(10, [0, 0]),
+        Refusal::TabTooDeep => Row(11, [0, 0]),
+        Refusal::Density => Row(12, [0, 0]),
+        Refusal::NotConverged(component) => Row(13, [component, 0]),
+        Refusal::NotFinite => Row(14, [0, 0]),
+        Refusal::Mass => Row(15, [0, 0]),
+        Refusal::Centre => Row(16, [0, 0]),
+        Refusal::Tensor(fault) => Row(17, [tensor_case(fault), 0]),
+        Refusal::NoForm => Row(18, [0, 0]),
+    }
+}
+
+// The number of a refusal, as the card prints it.
+pub fn number(refusal: Refusal) -> usize
+    ensures { λ r. ⌜ r ≡ numberOf refusal ⌝ }
+{
+    row_of(refusal).0
+}
+
+// The values that go with a refusal's number.
 pub fn values(refusal: Refusal) -> [usize; 2]
     ensures { λ r. ⌜ r ≡ inTwoPlaces (valuesOf refusal) ⌝ }
 {
-    match refusal {
-        Refusal::Limit => [0, 0],
-        Refusal::Scratch => [0, 0],
-        Refusal::Count => [0, 0],
-        Refusal::Length(field) => [field, 0],
-        Refusal::Points => [0, 0],
-        Refusal::Ends => [0, 0],
-        Refusal::Touches(i, j) => [i, j],
-        Refusal::NoArea => [0, 0],
-        Refusal::Angle(field) => [field, 0],
-        Refusal::TabOffRoot => [0, 0],
-        Refusal::TabTooDeep => [0, 0],
-        Refusal::Density => [0, 0],
-        Refusal::NotConverged(component) => [component, 0],
-        Refusal::NotFinite => [0, 0],
-        Refusal::Mass => [0, 0],
-        Refusal::Centre => [0, 0],
-        Refusal::Tensor(fault) => [tensor_case(fault), 0],
-        Refusal::NoForm => [0, 0],
-    }
+    row_of(refusal).1
 }

@@ -1,10 +1,9 @@
 -- `refusals::refuse_unless` meets its contract, by its test. Assumes nothing.
-use borrow.Author.Needs.{needs}
 use Rattle.refusals.proofs.refuse_unless.Statement.{statement}
 use Rattle.refusals.proofs.refuse_unless.Tie as tie
 
 returns : tie.Need-returns
-returns c = search needs
+returns c = rw (c .if1 .taken)
 
 returns-2 : tie.Need-returns-2
 returns-2 c = rw (c .if1 .left)
