@@ -1,7 +1,6 @@
 /* Fin figures that are proved: the functions of libexports.a, which `rt staticlib exports` writes (x86-64 Linux).
  *
- * Lengths are metres, angles radians, figures f64. Every function but delvouzh_answer_line and delvouzh_sqrt returns 0, or the number of
- * a refusal:
+ * Lengths are metres, angles radians, figures f64. Every function but delvouzh_sqrt returns 0, or the number of a refusal:
  *
  *      1 limit not 1 to 4000             7 outline touches itself       13 not converged
  *      2 scratch under 16 * limit        8 no area, or no volume        14 integrand not finite
@@ -19,8 +18,14 @@
  * an outline's numbers that are not 3 to 64 whole pairs are 5, and a join's that are not 1 to 32 whole bodies are 3. An array that is
  * too short for what is written over it is 18 too, and then nothing at all is written.
  *
- * An array goes in as a pointer and how many numbers lie there. The pointer is never null, also where there are none; arrays that
- * are written overlap no other.
+ * What a caller owes, and nothing checks:
+ *  - An array goes in as a pointer and how many numbers lie there. The pointer is never null, also where there are none; arrays that are
+ *    written overlap no other. What they hold on entry, the scratch too, does not matter to an answer.
+ *  - The floating-point environment is the one that a process starts with: rounding to nearest, subnormal numbers kept (no flushing to
+ *    zero), exceptions masked. Linking with -ffast-math changes it before main; some libraries change it for their thread.
+ *  - DELVOUZH_STACK bytes of stack for a call.
+ * A call keeps no pointer and nothing between calls: any number of threads may call at the same time, each with arrays of its own. It
+ * takes no memory but its stack, and calls nothing but memcpy and memset.
  */
 #ifndef DELVOUZH_H
 #define DELVOUZH_H
@@ -53,9 +58,17 @@ extern "C" {
 #define DELVOUZH_MOMENTS 3
 #define DELVOUZH_COUNTS 4
 #define DELVOUZH_VALUES 2
+#define DELVOUZH_WRITTEN 1
+
+/* The bytes of an answer to a line: no answer has more. */
+#define DELVOUZH_ANSWER 320
+
+/* The bytes of stack that are enough for any call. The longest chain of frames in the library's code takes half of them: tests/header. */
+#define DELVOUZH_STACK 32768
 
 /* A set's figures. `figures`: thickness, cant, base angle, body radius, density; with a tab also its height, length and offset.
- * Writes a body, and as counts two values of a refusal, the intervals and the samples. `scratch` has at least 16 * limit numbers. */
+ * Writes a body, and as counts two values of a refusal, the intervals and the samples. `scratch` has at least 16 * limit numbers; the
+ * pieces of the strips are left in it, 16 numbers each from its start, and the rest of it is as it was. */
 size_t delvouzh_mass_properties(size_t limit, size_t count, size_t planform, const double *lengths, size_t lengths_len,
                                 size_t section, size_t tab, size_t density, const double *figures, size_t figures_len,
                                 double *scratch, size_t scratch_len, double *body, size_t body_len, size_t *counts,
@@ -76,11 +89,11 @@ size_t delvouzh_principal_moments(const double *tensor, size_t tensor_len, doubl
 /* Whether a body could be a real one. Writes two values of a refusal. */
 size_t delvouzh_check(const double *body, size_t body_len, size_t *values, size_t values_len);
 
-/* The answer to a card line (docs/FORMS.md), without its newline. Returns how many bytes are written over the start of `answer`: at most
- * DELVOUZH_ANSWER, or 0 where there is no room for so many. */
-#define DELVOUZH_ANSWER 320
+/* The answer to a card line (docs/FORMS.md); neither has a newline. Writes the answer's bytes, and as `written` how many they are. Every
+ * line is answered, and returns 0, also where its answer is "(refused N)". 18 is an `answer` without room for DELVOUZH_ANSWER bytes, or a
+ * `written` without room for a number, and then nothing at all is written, as above. */
 size_t delvouzh_answer_line(const unsigned char *line, size_t line_len, double *scratch, size_t scratch_len,
-                            unsigned char *answer, size_t answer_len);
+                            unsigned char *answer, size_t answer_len, size_t *written, size_t written_len);
 
 /* The square root: the nearest f64. */
 double delvouzh_sqrt(double x);

@@ -10,7 +10,7 @@ pub enum Refusal {
     Length { field: u8 },
     Points,
     Ends,
-    Touching { edges: [usize; 2] },
+    Touches { edges: [usize; 2] },
     NoArea,
     Angle { field: u8 },
     TabOffRoot,
@@ -21,7 +21,7 @@ pub enum Refusal {
     Mass,
     Centre,
     Tensor { case: char },
-    Form,
+    NoForm,
 }
 
 impl Refusal {
@@ -33,7 +33,7 @@ impl Refusal {
             Self::Length { .. } => 4,
             Self::Points => 5,
             Self::Ends => 6,
-            Self::Touching { .. } => 7,
+            Self::Touches { .. } => 7,
             Self::NoArea => 8,
             Self::Angle { .. } => 9,
             Self::TabOffRoot => 10,
@@ -44,7 +44,7 @@ impl Refusal {
             Self::Mass => 15,
             Self::Centre => 16,
             Self::Tensor { .. } => 17,
-            Self::Form => 18,
+            Self::NoForm => 18,
         }
     }
 
@@ -52,8 +52,9 @@ impl Refusal {
     pub fn numbers(self) -> [usize; 2] {
         match self {
             Self::Length { field } | Self::Angle { field } => [field.into(), 0],
-            Self::Touching { edges } => edges,
+            Self::Touches { edges } => edges,
             Self::NotConverged { component } => [component, 0],
+            Self::Tensor { case } => [case as usize - 'a' as usize, 0],
             _ => [0, 0],
         }
     }
@@ -62,7 +63,7 @@ impl Refusal {
     pub fn values(self) -> String {
         match self {
             Self::Length { field } | Self::Angle { field } => format!(" (field {field})"),
-            Self::Touching { edges: [i, j] } => format!(" (edges {i} {j})"),
+            Self::Touches { edges: [i, j] } => format!(" (edges {i} {j})"),
             Self::NotConverged { component } => format!(" (component {component})"),
             Self::Tensor { case } => format!(" (case {case})"),
             _ => String::new(),

@@ -109,7 +109,7 @@ pub fn work(line: &[u8], lent: usize) -> Worked {
     let of_area = matches!(form, Some(Form::Area { .. }));
     record::start(0, &[]);
     let figures = match form {
-        None => Err(Refusal::Form),
+        None => Err(Refusal::NoForm),
         Some(Form::Set(set)) => fin_set(&set, lent),
         Some(Form::Area { limit, planform }) => area(limit, &planform, lent),
         Some(Form::Join(points)) => join(&points),
@@ -235,7 +235,7 @@ fn outline(planform: &FinPlanform) -> Result<(), Refusal> {
         .filter_map(|word| word.parse().ok())
         .collect();
     match edges[..] {
-        [i, j] if text.contains("crosses itself") => Err(Refusal::Touching { edges: [i, j] }),
+        [i, j] if text.contains("crosses itself") => Err(Refusal::Touches { edges: [i, j] }),
         _ => panic!("the Rust refuses what document 01 takes: {text}"),
     }
 }

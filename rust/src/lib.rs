@@ -1,12 +1,13 @@
 //! Fin figures that are proved: safe calls of the static library `libexports.a`, whose functions include/delvouzh.h declares.
 //!
 //! The library is proved against its contracts; this crate only hands over numbers and slices, and is not proved. Lengths are metres,
-//! angles radians.
+//! angles radians. Calls keep nothing, and may run on several threads; the floating-point environment has to be the one that a process
+//! starts with (rounding to nearest, no flushing to zero), and a call takes up to 32 kB of stack.
 
 mod raw;
 mod refusals;
 
-pub use refusals::{Refusal, Refused, TensorFault};
+pub use refusals::{Error, Refusal, RunError, TensorFault};
 
 /// The outline of one fin.
 #[derive(Debug, Clone, Copy, PartialEq)]
@@ -75,6 +76,9 @@ pub struct Body {
     pub inertia_kg_m2: [f64; 9],
 }
 
+// A body's numbers are handed over as they lie.
+const _: () = assert!(std::mem::size_of::<Body>() == raw::BODY * std::mem::size_of::<f64>());
+
 impl Body {
     pub const ZERO: Self = Self {
         mass_kg: 0.0,
@@ -130,7 +134,7 @@ pub const fn scratch_len(limit: usize) -> usize {
 }
 
 /// A set's figures, with at most `limit` intervals a strip.
-pub fn mass_properties(set: &FinSet, limit: usize, scratch: &mut [f64]) -> Result<Figures, Refused> {
+pub fn mass_properties(set: &FinSet, limit: usize, scratch: &mut [f64]) -> Result<Figures, RunError> {
     let mut short = [0.0; 4];
     let (planform, lengths) = set.planform.crossing(&mut short);
     let (density, value) = set.density.crossing();
@@ -145,7 +149,7 @@ pub fn mass_properties(set: &FinSet, limit: usize, scratch: &mut [f64]) -> Resul
             planform,
             lengths.as_ptr(),
             lengths.len(),
-            set.section as usize + 1,
+            set.section.crossing(),
             tab,
             density,
             figures.as_ptr(),
@@ -159,7 +163,7 @@ pub fn mass_properties(set: &FinSet, limit: usize, scratch: &mut [f64]) -> Resul
         )
     };
     let [first, second, intervals, samples] = counts;
-    Refused::unless_zero(number, [first, second], samples)?;
+    RunError::unless_zero(number, [first, second], samples)?;
     let body = Body::from_numbers(body);
     Ok(Figures {
         body,
@@ -169,7 +173,7 @@ pub fn mass_properties(set: &FinSet, limit: usize, scratch: &mut [f64]) -> Resul
 }
 
 /// A planform's area and centroid, with at most `limit` intervals a strip.
-pub fn geometry(planform: &Planform, limit: usize, scratch: &mut [f64]) -> Result<Area, Refused> {
+pub fn geometry(planform: &Planform, limit: usize, scratch: &mut [f64]) -> Result<Area, RunError> {
     let mut short = [0.0; 4];
     let (number, lengths) = planform.crossing(&mut short);
     let mut area = [0.0; raw::AREA];
@@ -189,7 +193,7 @@ pub fn geometry(planform: &Planform, limit: usize, scratch: &mut [f64]) -> Resul
         )
     };
     let [first, second, intervals, samples] = counts;
-    Refused::unless_zero(number, [first, second], samples)?;
+    RunError::unless_zero(number, [first, second], samples)?;
     let [area_m2, centroid_x_m, centroid_span_m] = area;
     Ok(Area {
         area_m2,
@@ -201,16 +205,16 @@ pub fn geometry(planform: &Planform, limit: usize, scratch: &mut [f64]) -> Resul
 }
 
 /// 1 to 32 bodies joined into one rigid body.
-pub fn combine(bodies: &[Body]) -> Result<Body, Refusal> {
+pub fn combine(bodies: &[Body]) -> Result<Body, Error> {
     let numbers = Body::numbers(bodies);
     let mut body = [0.0; raw::BODY];
     let number = unsafe { raw::delvouzh_combine(numbers.as_ptr(), numbers.len(), body.as_mut_ptr(), body.len()) };
-    Refusal::unless_zero(number, [0, 0])?;
+    Error::unless_zero(number, [0, 0])?;
     Ok(Body::from_numbers(body))
 }
 
 /// The principal moments of a tensor (three columns), ascending.
-pub fn principal_moments(tensor: &[f64; 9]) -> Result<[f64; 3], Refusal> {
+pub fn principal_moments(tensor: &[f64; 9]) -> Result<[f64; 3], Error> {
     let mut moments = [0.0; raw::MOMENTS];
     let mut values = [0; raw::VALUES];
     let number = unsafe {
@@ -223,22 +227,23 @@ pub fn principal_moments(tensor: &[f64; 9]) -> Result<[f64; 3], Refusal> {
             values.len(),
         )
     };
-    Refusal::unless_zero(number, values)?;
+    Error::unless_zero(number, values)?;
     Ok(moments)
 }
 
 /// Whether a body could be a real one.
-pub fn check(body: &Body) -> Result<(), Refusal> {
+pub fn check(body: &Body) -> Result<(), Error> {
     let numbers = Body::numbers(std::slice::from_ref(body));
     let mut values = [0; raw::VALUES];
     let number = unsafe { raw::delvouzh_check(numbers.as_ptr(), numbers.len(), values.as_mut_ptr(), values.len()) };
-    Refusal::unless_zero(number, values)
+    Error::unless_zero(number, values)
 }
 
-/// The answer to a card line (docs/FORMS.md); neither has a newline.
-pub fn answer_line(line: &[u8], scratch: &mut [f64]) -> Vec<u8> {
+/// The answer to a card line (docs/FORMS.md), a refusal's text too; neither has a newline.
+pub fn answer_line(line: &[u8], scratch: &mut [f64]) -> Result<Vec<u8>, Error> {
     let mut answer = vec![0; raw::ANSWER];
-    let len = unsafe {
+    let mut written = [0; raw::WRITTEN];
+    let number = unsafe {
         raw::delvouzh_answer_line(
             line.as_ptr(),
             line.len(),
@@ -246,10 +251,14 @@ pub fn answer_line(line: &[u8], scratch: &mut [f64]) -> Vec<u8> {
             scratch.len(),
             answer.as_mut_ptr(),
             answer.len(),
+            written.as_mut_ptr(),
+            written.len(),
         )
     };
+    Error::unless_zero(number, [0, 0])?;
+    let [len] = written;
     answer.truncate(len);
-    answer
+    Ok(answer)
 }
 
 /// The square root: the nearest f64.
@@ -275,10 +284,10 @@ impl FinSet<'_> {
             offset_m,
         }) = tab
         else {
-            return (0, &figures[..5]);
+            return (raw::NO_TAB, &figures[..5]);
         };
         figures[5..].copy_from_slice(&[height_m, length_m, offset_m]);
-        (1, figures)
+        (raw::TAB, figures)
     }
 }
 
@@ -293,13 +302,23 @@ impl Planform<'_> {
                 sweep_m,
             } => {
                 *short = [root_chord_m, tip_chord_m, span_m, sweep_m];
-                (1, short)
+                (raw::TRAPEZOID, short)
             }
             Self::Ellipse { root_chord_m, span_m } => {
                 short[..2].copy_from_slice(&[root_chord_m, span_m]);
-                (2, &short[..2])
+                (raw::ELLIPSE, &short[..2])
             }
-            Self::Outline { points_m } => (3, points_m.as_flattened()),
+            Self::Outline { points_m } => (raw::OUTLINE, points_m.as_flattened()),
+        }
+    }
+}
+
+impl Section {
+    fn crossing(self) -> usize {
+        match self {
+            Self::Square => raw::SQUARE,
+            Self::Rounded => raw::ROUNDED,
+            Self::Airfoil => raw::AIRFOIL,
         }
     }
 }
@@ -308,9 +327,9 @@ impl Density {
     /// The density's number, and its figure.
     fn crossing(self) -> (usize, f64) {
         match self {
-            Self::Bulk { kg_m3 } => (1, kg_m3),
-            Self::Surface { kg_m2 } => (2, kg_m2),
-            Self::Line { kg_m } => (3, kg_m),
+            Self::Bulk { kg_m3 } => (raw::BULK, kg_m3),
+            Self::Surface { kg_m2 } => (raw::SURFACE, kg_m2),
+            Self::Line { kg_m } => (raw::LINE, kg_m),
         }
     }
 }

@@ -1,10 +1,26 @@
-//! The functions as include/delvouzh.h declares them, and how many numbers each one writes.
+//! The functions and numbers as include/delvouzh.h declares them.
+
+pub const TRAPEZOID: usize = 1;
+pub const ELLIPSE: usize = 2;
+pub const OUTLINE: usize = 3;
+
+pub const SQUARE: usize = 1;
+pub const ROUNDED: usize = 2;
+pub const AIRFOIL: usize = 3;
+
+pub const NO_TAB: usize = 0;
+pub const TAB: usize = 1;
+
+pub const BULK: usize = 1;
+pub const SURFACE: usize = 2;
+pub const LINE: usize = 3;
 
 pub const BODY: usize = 13;
 pub const AREA: usize = 3;
 pub const MOMENTS: usize = 3;
 pub const COUNTS: usize = 4;
 pub const VALUES: usize = 2;
+pub const WRITTEN: usize = 1;
 pub const ANSWER: usize = 320;
 
 extern "C" {
@@ -60,6 +76,8 @@ extern "C" {
         scratch_len: usize,
         answer: *mut u8,
         answer_len: usize,
+        written: *mut usize,
+        written_len: usize,
     ) -> usize;
 
     pub fn delvouzh_sqrt(x: f64) -> f64;

@@ -1,4 +1,4 @@
-//! The refusals, by number.
+//! The refusals by number, and the errors of the calls.
 
 use std::fmt;
 
@@ -12,7 +12,21 @@ pub enum TensorFault {
     Triangle,
 }
 
-/// Why a call has no figures: one case for each number from 1 to 18, with its values.
+impl TensorFault {
+    /// The case as the library counts it.
+    fn from_case(case: usize) -> Option<Self> {
+        Some(match case {
+            0 => Self::Entry,
+            1 => Self::Massless,
+            2 => Self::Asymmetric,
+            3 => Self::Negative,
+            4 => Self::Triangle,
+            _ => return None,
+        })
+    }
+}
+
+/// A row of the table of refusals, with its values. Fields have the numbers of include/delvouzh.h; edges and components count from 0.
 #[derive(Debug, Clone, Copy, PartialEq, Eq)]
 pub enum Refusal {
     Limit,
@@ -60,9 +74,9 @@ impl Refusal {
         }
     }
 
-    /// The refusal with a number of 1 to 18 and its two values. The library returns no other number.
-    fn from_number(number: usize, [first, second]: [usize; 2]) -> Self {
-        match number {
+    /// The refusal with a number and its two values, if there is one.
+    fn from_number(number: usize, [first, second]: [usize; 2]) -> Option<Self> {
+        Some(match number {
             1 => Self::Limit,
             2 => Self::Scratch,
             3 => Self::Count,
@@ -79,22 +93,10 @@ impl Refusal {
             14 => Self::NotFinite,
             15 => Self::Mass,
             16 => Self::Centre,
-            17 => Self::Tensor(match first {
-                0 => TensorFault::Entry,
-                1 => TensorFault::Massless,
-                2 => TensorFault::Asymmetric,
-                3 => TensorFault::Negative,
-                _ => TensorFault::Triangle,
-            }),
-            _ => Self::NoForm,
-        }
-    }
-
-    pub(crate) fn unless_zero(number: usize, values: [usize; 2]) -> Result<(), Self> {
-        match number {
-            0 => Ok(()),
-            _ => Err(Self::from_number(number, values)),
-        }
+            17 => Self::Tensor(TensorFault::from_case(first)?),
+            18 => Self::NoForm,
+            _ => return None,
+        })
     }
 }
 
@@ -104,25 +106,100 @@ impl fmt::Display for Refusal {
     }
 }
 
-impl std::error::Error for Refusal {}
-
-/// A refusal of a call that works strips, with the samples taken so far.
+/// Why a call has no figures.
 #[derive(Debug, Clone, Copy, PartialEq, Eq)]
-pub struct Refused {
-    pub refusal: Refusal,
+pub enum Error {
+    Refused(Refusal),
+    /// A number, or a case of 17, that this crate does not know: the library that was linked is not the crate's.
+    Unknown {
+        number: usize,
+        values: [usize; 2],
+    },
+}
+
+impl Error {
+    /// What a call returned, with the values that it wrote: 0 is no error.
+    pub(crate) fn unless_zero(number: usize, values: [usize; 2]) -> Result<(), Self> {
+        if number == 0 {
+            return Ok(());
+        }
+        Err(Refusal::from_number(number, values).map_or(Self::Unknown { number, values }, Self::Refused))
+    }
+}
+
+impl fmt::Display for Error {
+    fn fmt(&self, f: &mut fmt::Formatter) -> fmt::Result {
+        match self {
+            Self::Refused(refusal) => refusal.fmt(f),
+            Self::Unknown { number, values } => {
+                write!(f, "refused {number} with {values:?}, which this crate does not know")
+            }
+        }
+    }
+}
+
+impl std::error::Error for Error {}
+
+/// The error of a call that works strips, with the samples taken so far.
+#[derive(Debug, Clone, Copy, PartialEq, Eq)]
+pub struct RunError {
+    pub error: Error,
     pub samples: usize,
 }
 
-impl Refused {
+impl RunError {
     pub(crate) fn unless_zero(number: usize, values: [usize; 2], samples: usize) -> Result<(), Self> {
-        Refusal::unless_zero(number, values).map_err(|refusal| Self { refusal, samples })
+        Error::unless_zero(number, values).map_err(|error| Self { error, samples })
     }
 }
 
-impl fmt::Display for Refused {
+impl fmt::Display for RunError {
     fn fmt(&self, f: &mut fmt::Formatter) -> fmt::Result {
-        write!(f, "{}, after {} samples", self.refusal, self.samples)
+        write!(f, "{}, after {} samples", self.error, self.samples)
     }
 }
 
-impl std::error::Error for Refused {}
+impl std::error::Error for RunError {}
+
+#[cfg(test)]
+mod tests {
+    use super::*;
+
+    #[test]
+    fn every_number_of_the_table_is_known() {
+        for number in 1..=18 {
+            let refusal = Refusal::from_number(number, [0, 0]).unwrap();
+            assert_eq!(refusal.number(), number);
+            assert_eq!(Error::unless_zero(number, [0, 0]), Err(Error::Refused(refusal)));
+        }
+        assert_eq!(Error::unless_zero(0, [0, 0]), Ok(()));
+    }
+
+    #[test]
+    fn values_are_carried() {
+        assert_eq!(Refusal::from_number(4, [3, 0]), Some(Refusal::Length { field: 3 }));
+        assert_eq!(Refusal::from_number(9, [12, 0]), Some(Refusal::Angle { field: 12 }));
+        assert_eq!(
+            Refusal::from_number(7, [1, 5]),
+            Some(Refusal::Touches { edges: [1, 5] })
+        );
+        assert_eq!(
+            Refusal::from_number(13, [6, 0]),
+            Some(Refusal::NotConverged { component: 6 })
+        );
+        assert_eq!(
+            Refusal::from_number(17, [4, 0]),
+            Some(Refusal::Tensor(TensorFault::Triangle))
+        );
+    }
+
+    #[test]
+    fn what_is_not_known_is_no_refusal() {
+        for (number, values) in [(19, [0, 0]), (usize::MAX, [1, 2]), (17, [5, 0])] {
+            assert_eq!(
+                Error::unless_zero(number, values),
+                Err(Error::Unknown { number, values })
+            );
+        }
+    }
+}

@@ -1,7 +1,7 @@
 //! Each call, with figures and refused; the worked examples are document 01's.
 use delvouzh::{
-    answer_line, check, combine, geometry, mass_properties, principal_moments, scratch_len, sqrt, Body, Density, FinSet, Planform,
-    Refusal, Section, Tab, TensorFault,
+    answer_line, check, combine, geometry, mass_properties, principal_moments, scratch_len, sqrt, Body, Density, Error,
+    FinSet, Planform, Refusal, Section, Tab, TensorFault,
 };
 
 const TRAPEZOID: Planform = Planform::Trapezoid {
@@ -32,13 +32,21 @@ fn set(planform: Planform) -> FinSet {
 
 fn refusal(set: FinSet) -> Refusal {
     let mut scratch = vec![7.0; scratch_len(8)];
-    let refused = mass_properties(&set, 8, &mut scratch).unwrap_err();
-    assert_eq!(refused.samples, 0);
+    let failed = mass_properties(&set, 8, &mut scratch).unwrap_err();
+    assert_eq!(failed.samples, 0);
     assert!(
         scratch.iter().all(|&x| x == 7.0),
         "a check before the strips writes no scratch"
     );
-    refused.refusal
+    table(failed.error)
+}
+
+/// The row of the table that a call was refused with.
+fn table(error: Error) -> Refusal {
+    match error {
+        Error::Refused(refusal) => refusal,
+        Error::Unknown { .. } => panic!("{error}"),
+    }
 }
 
 fn near(a: f64, b: f64) -> bool {
@@ -102,13 +110,13 @@ fn an_outline_has_the_trapezoid_s_area() {
 #[test]
 fn limits_are_refused_by_number_and_field() {
     let mut scratch = vec![0.0; 128];
-    let refused = |limit, scratch: &mut [f64]| mass_properties(&set(ELLIPSE), limit, scratch).unwrap_err();
-    assert_eq!(refused(0, &mut scratch).refusal, Refusal::Limit);
-    assert_eq!(refused(4001, &mut scratch).refusal, Refusal::Limit);
-    assert_eq!(refused(8, &mut scratch[..127]).refusal, Refusal::Scratch);
-    let refused = refused(1, &mut scratch);
-    assert_eq!(refused.refusal.number(), 13);
-    assert_eq!(refused.samples, 15);
+    let failed = |limit, scratch: &mut [f64]| mass_properties(&set(ELLIPSE), limit, scratch).unwrap_err();
+    assert_eq!(failed(0, &mut scratch).error, Error::Refused(Refusal::Limit));
+    assert_eq!(failed(4001, &mut scratch).error, Error::Refused(Refusal::Limit));
+    assert_eq!(failed(8, &mut scratch[..127]).error, Error::Refused(Refusal::Scratch));
+    let failed = failed(1, &mut scratch);
+    assert_eq!(table(failed.error).number(), 13);
+    assert_eq!(failed.samples, 15);
     assert_eq!(
         refusal(FinSet {
             count: 0,
@@ -171,8 +179,8 @@ fn points_are_joined() {
         inertia_kg_m2,
     };
     assert_eq!(joined, expected);
-    assert_eq!(combine(&[]), Err(Refusal::Count));
-    assert_eq!(combine(&[Body::ZERO; 33]), Err(Refusal::Count));
+    assert_eq!(combine(&[]), Err(Error::Refused(Refusal::Count)));
+    assert_eq!(combine(&[Body::ZERO; 33]), Err(Error::Refused(Refusal::Count)));
     assert_eq!(combine(&[Body::ZERO; 32]), Ok(Body::ZERO));
 }
 
@@ -180,7 +188,7 @@ fn points_are_joined() {
 fn moments_ascend() {
     let diagonal = |a, b, c| [a, 0.0, 0.0, 0.0, b, 0.0, 0.0, 0.0, c];
     assert_eq!(principal_moments(&diagonal(2.0, 0.0, 2.0)), Ok([0.0, 2.0, 2.0]));
-    let entry = Refusal::Tensor(TensorFault::Entry);
+    let entry = Error::Refused(Refusal::Tensor(TensorFault::Entry));
     assert_eq!(principal_moments(&diagonal(f64::INFINITY, 0.0, 0.0)), Err(entry));
 }
 
@@ -190,31 +198,55 @@ fn bodies_are_checked() {
         inertia_kg_m2: [a, 0.0, 0.0, 0.0, b, 0.0, 0.0, 0.0, c],
         ..Body::point(1.0, [0.0; 3])
     };
+    let tensor = |fault| Error::Refused(Refusal::Tensor(fault));
     assert_eq!(check(&body(1.0, 2.0, 3.0)), Ok(()));
-    assert_eq!(check(&body(1.0, 1.0, 3.0)), Err(Refusal::Tensor(TensorFault::Triangle)));
-    assert_eq!(
-        check(&body(-1.0, 1.0, 1.0)),
-        Err(Refusal::Tensor(TensorFault::Negative))
-    );
+    assert_eq!(check(&body(1.0, 1.0, 3.0)), Err(tensor(TensorFault::Triangle)));
+    assert_eq!(check(&body(-1.0, 1.0, 1.0)), Err(tensor(TensorFault::Negative)));
     let mut bent = body(1.0, 1.0, 1.0);
     bent.inertia_kg_m2[1] = 0.5;
-    assert_eq!(check(&bent), Err(Refusal::Tensor(TensorFault::Asymmetric)));
+    assert_eq!(check(&bent), Err(tensor(TensorFault::Asymmetric)));
     assert_eq!(
         check(&Body { mass_kg: 0.0, ..bent }),
-        Err(Refusal::Tensor(TensorFault::Massless))
+        Err(tensor(TensorFault::Massless))
     );
-    assert_eq!(check(&Body::point(-1.0, [0.0; 3])), Err(Refusal::Mass));
-    assert_eq!(check(&Body::point(1.0, [0.0, f64::NAN, 0.0])), Err(Refusal::Centre));
+    assert_eq!(check(&Body::point(-1.0, [0.0; 3])), Err(Error::Refused(Refusal::Mass)));
+    assert_eq!(
+        check(&Body::point(1.0, [0.0, f64::NAN, 0.0])),
+        Err(Error::Refused(Refusal::Centre))
+    );
 }
 
 #[test]
 fn lines_are_answered() {
     let mut scratch = [0.0; 1024];
-    assert_eq!(answer_line(b"(join)", &mut scratch), b"(refused 3)");
-    assert_eq!(answer_line(b"(set", &mut scratch), b"(refused 18)");
-    let moments = format!("(moments {0} {1} {1} {1} {1} {1} {1} {1} {0})", "4000000000000000", "0000000000000000");
-    let answer = b"(moments 0000000000000000 4000000000000000 4000000000000000)";
-    assert_eq!(answer_line(moments.as_bytes(), &mut scratch), answer);
+    let mut answer = |line: &str| String::from_utf8(answer_line(line.as_bytes(), &mut scratch).unwrap()).unwrap();
+    assert_eq!(answer("(join)"), "(refused 3)");
+    assert_eq!(answer("(set"), "(refused 18)");
+    assert_eq!(answer(""), "(refused 18)");
+    let (two, zero) = ("4000000000000000", "0000000000000000");
+    let moments = format!("(moments {two} {zero} {zero} {zero} {zero} {zero} {zero} {zero} {two})");
+    assert_eq!(answer(&moments), format!("(moments {zero} {two} {two})"));
+}
+
+#[test]
+fn the_scratch_s_numbers_do_not_matter() {
+    let figures = [0.0, f64::NAN, f64::INFINITY, -1e300].map(|x| {
+        let mut scratch = vec![x; scratch_len(64)];
+        mass_properties(&set(ELLIPSE), 64, &mut scratch).unwrap()
+    });
+    assert!(figures.iter().all(|f| *f == figures[0]));
+}
+
+#[test]
+fn threads_get_the_same_figures() {
+    let work = || mass_properties(&set(ELLIPSE), 64, &mut vec![0.0; scratch_len(64)]).unwrap();
+    let alone = work();
+    std::thread::scope(|scope| {
+        let threads: Vec<_> = (0..8).map(|_| scope.spawn(|| [0; 50].map(|_| work()))).collect();
+        for thread in threads {
+            assert!(thread.join().unwrap().iter().all(|f| *f == alone));
+        }
+    });
 }
 
 #[test]

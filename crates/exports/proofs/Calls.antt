@@ -1,10 +1,11 @@
 -- What a call promises follows from what its parts wrote, or from a list that has no room. Assumes nothing.
-use mathlib.Core.Path.{_≡_}
+use mathlib.Core.Path.{_≡_, sym, _∙_}
 use mathlib.Core.Bool.{true, false}
-use mathlib.Core.List.{List}
+use mathlib.Core.List.{List, [], _∷_}
 use Prim.Native.Nat.{ℕ, _≤_, _<_}
+use native.Mathlib.Omega.{arith}
 use borrow.Author.Tests.{le-leb, lt-leb}
-use lib.ListN.{length}
+use lib.ListN.{length, take, drop, take-append-drop}
 use lib.Ieee.{Float}
 use Rattle.refusals.specs.declared.Verdict.{Verdict}
 use Rattle.joins.specs.declared.Joined.{Joined}
@@ -13,12 +14,13 @@ use Rattle.joins.specs.Joins.{combineOf}
 use Rattle.moments.specs.declared.Moments.{Moments}
 use Rattle.figures.specs.declared.Area.{Area}
 use Rattle.figures.specs.declared.Figures.{Figures}
+use Rattle.lines.specs.Lines.{answerOf, Answers}
 use Rattle.exports.specs.declared.PlanformForm.{PlanformForm}
 use Rattle.exports.specs.declared.SetForm.{SetForm}
 use Rattle.exports.specs.Numbers.{numberIn, over, withValues}
-use Rattle.exports.specs.Calls.{room, formFigures, formScratch, figureCounts, SetCall, formArea, formAreaScratch, areaNumbers, areaCounts, AreaCall, JoinCall, tensorMoments, momentsNumbers, MomentsCall, bodyVerdict, CheckCall}
+use Rattle.exports.specs.Calls.{room, formFigures, formScratch, figureCounts, SetCall, formArea, formAreaScratch, areaNumbers, areaCounts, AreaCall, JoinCall, tensorMoments, momentsNumbers, MomentsCall, bodyVerdict, CheckCall, LineCall}
 
-module _ (m : ℕ) (figures : List Float) (n : ℕ) (counts : List ℕ) where
+module _ {A : Type 0} (m : ℕ) (figures : List A) (n : ℕ) (counts : List ℕ) where
   has-room : m ≤ length figures → n ≤ length counts → room m figures n counts ≡ true
   has-room h k = simp (le-leb m (length figures) h, le-leb n (length counts) k)
 
@@ -91,3 +93,25 @@ module _ (numbers : List Float) (values : List ℕ) where
       values' ≡ withValues values v → r ≡ numberIn v → CheckCall numbers values r values'
   check-written h v r values' e c n =
       let fits = le-leb 2 (length values) h in record { returned = rw (fits, ← e) n; counted = rw (fits, ← e) c }
+
+-- a text of r bytes that stands at the start, with the rest as it was
+over-start : (before text after : List ℕ) (r : ℕ) → take r after ≡ text → drop r after ≡ drop r before → r ≡ length text → after ≡ over text before
+over-start before text after r holds rest ends = sym (take-append-drop r after) ∙ rw (holds, rest, ends)
+
+module _ (line : List ℕ) (scratch : List Float) (answer written : List ℕ) where
+  pub line-refused : room 320 answer 1 written ≡ false → LineCall line scratch answer written 18 scratch answer written
+  line-refused none = record { returned = rw none; answered = rw none; counted = rw none; lent = rw none }
+
+  pub line-written : 320 ≤ length answer → 1 ≤ length written → (n : ℕ) (scratch' : List Float) (answer' written' : List ℕ) →
+      Answers line scratch scratch' answer 0 answer' n → written' ≡ over (n ∷ []) written →
+      LineCall line scratch answer written 0 scratch' answer' written'
+  line-written h k n scratch' answer' written' a w =
+      let fits = has-room 320 answer 1 written h k in
+      let text = a .answer h in
+      let long : n ≡ length (answerOf line (length scratch)) = omega (arith, text .ends) in
+      record {
+        returned = rw fits;
+        answered = rw fits (over-start answer _ answer' n (text .holds) (text .rest) long);
+        counted = rw (fits, ← long) w;
+        lent = rw fits (a .scratch-left h);
+      }

@@ -7,6 +7,10 @@ use lib.ListN.{length, set}
 use Rattle.exports.specs.Numbers.{over}
 
 module _ {A : Type 0} where
+  pub one-written : (list : List A) (a : A) → 1 ≤ length list → set list 0 a ≡ over (a ∷ []) list
+  one-written [] a h = absurd (omega arith)
+  one-written (x ∷ rest) a h = refl
+
   pub two-written : (list : List A) (a b : A) → 2 ≤ length list → set (set list 0 a) 1 b ≡ over (a ∷ b ∷ []) list
   two-written [] a b h = absurd (omega arith)
   two-written (x ∷ []) a b h = absurd (omega arith)

@@ -21,14 +21,15 @@ use Rattle.figures.specs.declared.Area.{Area}
 use Rattle.figures.specs.declared.Figures.{Figures}
 use Rattle.figures.specs.Figures.{refusedFigures, setFigures, setScratch}
 use Rattle.figures.specs.Areas.{refusedArea, areaFigures, areaScratch}
+use Rattle.lines.specs.Lines.{answerOf, scratchAfterLine}
 use Rattle.exports.specs.declared.PlanformForm.{PlanformForm}
 use Rattle.exports.specs.declared.PlanformForm.the-variants.{Known as planformKnown, NoForm as noPlanform}
 use Rattle.exports.specs.declared.SetForm.{SetForm}
 use Rattle.exports.specs.declared.SetForm.the-variants.{Known as setKnown, NoForm as noSet}
 use Rattle.exports.specs.Numbers.{numberIn, over, withValues, withCounts}
 
--- room for m figures and n counts
-abbrev pub room : ℕ → List Float → ℕ → List ℕ → Bool
+-- room for m figures, or bytes, and n counts
+abbrev pub room : {A : Type 0} → ℕ → List A → ℕ → List ℕ → Bool
 room m figures n counts = leb m (length figures) && leb n (length counts)
 
 -- ---- a set's figures
@@ -102,3 +103,11 @@ bodyVerdict numbers = cond (eqb (length numbers) 13) (checkOf (bodyAt numbers 0)
 pub record CheckCall (numbers : List Float) (values : List ℕ) (r : ℕ) (values' : List ℕ) : Type 0 where
   pub returned : r ≡ cond (leb 2 (length values)) (numberIn (bodyVerdict numbers)) 18
   pub counted : values' ≡ cond (leb 2 (length values)) (withValues values (bodyVerdict numbers)) values
+
+-- ---- a line's answer: at most 320 bytes
+
+pub record LineCall (line : List ℕ) (scratch : List Float) (answer written : List ℕ) (r : ℕ) (scratch' : List Float) (answer' written' : List ℕ) : Type 0 where
+  pub returned : r ≡ cond (room 320 answer 1 written) 0 18
+  pub answered : answer' ≡ cond (room 320 answer 1 written) (over (answerOf line (length scratch)) answer) answer
+  pub counted : written' ≡ cond (room 320 answer 1 written) (over (length (answerOf line (length scratch)) ∷ []) written) written
+  pub lent : scratch' ≡ cond (room 320 answer 1 written) (scratchAfterLine line scratch) scratch

@@ -1,10 +1,10 @@
 // What C and Rust link (include/delvouzh.h): each function under its plain name, over numbers and slices alone.
 //
 // A call returns 0, or the number of the refusal, and writes its figures and counts over the start of lent slices; a refusal writes
-// zero figures. Two calls return something else: a line's answer its count of bytes, the root its f64. A planform, a section, a tab and a
-// density cross as a number, with their figures in a slice: an unknown number, or figures of another count, are 18 (no form); but points
-// that are not 3 to 64 pairs are 5, and bodies that are not 1 to 32 whole ones are 3. A lent slice that is too short for what is written
-// over it is 18 too, and then nothing at all is written.
+// zero figures. Only the root returns its f64, and a line is answered, by 0, also where the answer's text is a refusal. A planform, a
+// section, a tab and a density cross as a number, with their figures in a slice: an unknown number, or figures of another count, are 18
+// (no form); but points that are not 3 to 64 pairs are 5, and bodies that are not 1 to 32 whole ones are 3. A lent slice that is too short
+// for what is written over it is 18 too, and then nothing at all is written.
 ghost use mathlib.Core.Path.{_≡_};
 ghost use mathlib.Core.List.{[], _∷_};
 ghost use Prim.Native.Nat.{_≤_};
@@ -12,10 +12,9 @@ ghost use lib.ListN.{length};
 ghost use Rattle.root.specs.Root.{rootOf, IsRoot};
 ghost use Rattle.figures.specs.Figures.{refusedFigures};
 ghost use Rattle.figures.specs.Areas.{refusedArea};
-ghost use Rattle.lines.specs.Lines.{Answers};
 ghost use Rattle.exports.specs.Forms.{planformForm, sectionForm, tabForm, densityForm, setForm};
 ghost use Rattle.exports.specs.Numbers.{numberIn, valuesIn, over, withValues, withCounts};
-ghost use Rattle.exports.specs.Calls.{formFigures, formScratch, SetCall, formArea, formAreaScratch, AreaCall, JoinCall, tensorMoments, MomentsCall, bodyVerdict, CheckCall};
+ghost use Rattle.exports.specs.Calls.{formFigures, formScratch, SetCall, formArea, formAreaScratch, AreaCall, JoinCall, tensorMoments, MomentsCall, bodyVerdict, CheckCall, LineCall};
 use bodies::Body;
 use figures::Area;
 use figures::Figures;
@@ -30,6 +29,9 @@ use sections::Section;
 
 // The number of "no form", with which a slice that is too short is refused as well.
 const NO_FORM: usize = 18;
+
+// How many bytes the answer to a line may have.
+const ANSWER: usize = 320;
 
 pub enum PlanformForm {
     Known(Planform),
@@ -430,10 +432,22 @@ pub extern "C" fn delvouzh_check(body: &[f64], values: &mut [usize]) -> usize
     number(verdict)
 }
 
-// The answer to a line of docs/FORMS.md, over the start of `answer`: returns how many bytes it has, or 0 where there is no room for 320.
+// The answer to a line of docs/FORMS.md, a refusal's text too: writes its bytes, and how many they are.
 #[no_mangle]
-pub extern "C" fn delvouzh_answer_line(line: &[u8], scratch: &mut [f64], answer: &mut [u8]) -> usize
-    ensures { λ r. ⌜ Answers (now (line .entry)) (now (scratch .entry)) (now (scratch .exit)) (now (answer .entry)) 0 (now (answer .exit)) r ⌝ }
+pub extern "C" fn delvouzh_answer_line(
+    line: &[u8],
+    scratch: &mut [f64],
+    answer: &mut [u8],
+    written: &mut [usize],
+) -> usize
+    ensures { λ r. ⌜ LineCall (now (line .entry)) (now (scratch .entry)) (now (answer .entry)) (now (written .entry)) r (now (scratch .exit)) (now (answer .exit)) (now (written .exit)) ⌝ }
 {
-    lines::answer_line(line, scratch, answer, 0)
+    if answer.len() < ANSWER {
+        return NO_FORM;
+    }
+    if written.len() < 1 {
+        return NO_FORM;
+    }
+    written[0] = lines::answer_line(line, scratch, answer, 0);
+    0
 }

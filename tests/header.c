@@ -1,0 +1,235 @@
+/* What a C program gets from the static library: each call with figures and refused, what is left alone where there is no room, the
+ * scratch, threads, and the stack. tests/header compiles it, as C and as C++; it prints what does not hold, and exits with 1 then. */
+#define _XOPEN_SOURCE 700
+#include <fenv.h>
+#include <math.h>
+#include <pthread.h>
+#include <stdint.h>
+#include <stdio.h>
+#include <string.h>
+#include <ucontext.h>
+
+#include "delvouzh.h"
+
+enum { LIMIT = 64, SCRATCH = 16 * LIMIT, THREADS = 4, TURNS = 200 };
+
+/* 0.2 m root chord, 3 mm of plywood, a body of 50 mm radius: the examples of docs/FORMS.md */
+static const double TRAPEZOID[4] = {0.2, 0.1, 0.15, 0.05};
+static const double ELLIPSE[2] = {0.2, 0.1};
+static const double FIGURES[5] = {0.003, 0.0, 0.0, 0.05, 680.0};
+
+/* what a call is lent, and what it returned */
+struct lent {
+    double scratch[SCRATCH], numbers[DELVOUZH_BODY];
+    size_t counts[DELVOUZH_COUNTS], number;
+    unsigned char answer[DELVOUZH_ANSWER];
+};
+
+static struct lent at;
+static int failed;
+
+static void holds(const char *what, int good) {
+    if (!good) {
+        failed++;
+        printf("FAILED: %s\n", what);
+    }
+}
+
+static uint64_t bits(double x) {
+    uint64_t b;
+    memcpy(&b, &x, sizeof b);
+    return b;
+}
+
+/* Lends `filling` everywhere. */
+static void lend(struct lent *l, double filling) {
+    for (int i = 0; i < SCRATCH; i++) l->scratch[i] = filling;
+    for (int i = 0; i < DELVOUZH_BODY; i++) l->numbers[i] = filling;
+    for (int i = 0; i < DELVOUZH_COUNTS; i++) l->counts[i] = 99;
+    memset(l->answer, '?', sizeof l->answer);
+}
+
+static void set_of(struct lent *l, size_t limit, size_t planform, const double *lengths, size_t len, const double *figures) {
+    l->number = delvouzh_mass_properties(limit, 3, planform, lengths, len, DELVOUZH_SQUARE, DELVOUZH_NO_TAB, DELVOUZH_BULK, figures, 5,
+                                         l->scratch, SCRATCH, l->numbers, DELVOUZH_BODY, l->counts, DELVOUZH_COUNTS);
+}
+
+static void area_of(struct lent *l, size_t planform, const double *lengths, size_t len) {
+    l->number = delvouzh_geometry(LIMIT, planform, lengths, len, l->scratch, SCRATCH, l->numbers, DELVOUZH_AREA, l->counts,
+                                  DELVOUZH_COUNTS);
+}
+
+static void answer_to(struct lent *l, const char *line) {
+    l->number = delvouzh_answer_line((const unsigned char *)line, strlen(line), l->scratch, SCRATCH, l->answer, DELVOUZH_ANSWER,
+                                     l->counts, DELVOUZH_WRITTEN);
+}
+
+static int refused(size_t number, size_t first, size_t second) {
+    return at.number == number && at.counts[0] == first && at.counts[1] == second;
+}
+
+static int answered(const char *text) {
+    return at.number == 0 && at.counts[0] == strlen(text) && memcmp(at.answer, text, strlen(text)) == 0;
+}
+
+static int left_alone(void) {
+    struct lent as_lent;
+    lend(&as_lent, 7.0);
+    return memcmp(as_lent.scratch, at.scratch, sizeof at.scratch) == 0 && memcmp(as_lent.numbers, at.numbers, sizeof at.numbers) == 0 &&
+           memcmp(as_lent.counts, at.counts, sizeof at.counts) == 0 && memcmp(as_lent.answer, at.answer, sizeof at.answer) == 0;
+}
+
+static void figures(void) {
+    set_of(&at, LIMIT, DELVOUZH_TRAPEZOID, TRAPEZOID, 4, FIGURES);
+    holds("a set's mass", at.number == 0 && bits(at.numbers[0]) == 0x3fc1a027525460ab);
+    holds("a set's centre", bits(at.numbers[3]) == 0xbfb9999999999999);
+    holds("a set's tensor", bits(at.numbers[4]) == 0x3f561772f7ea12f8 && bits(at.numbers[12]) == 0x3f616435485c1b52);
+    holds("a set's counts", refused(0, 0, 0) && at.counts[2] == 1 && at.counts[3] == 15);
+    area_of(&at, DELVOUZH_ELLIPSE, ELLIPSE, 2);
+    holds("an area", at.number == 0 && bits(at.numbers[0]) == 0x3f9015bf9217273e);
+    holds("a centroid", bits(at.numbers[1]) == 0x3fb999999999999b && bits(at.numbers[2]) == 0x3fa5bade52f95eaa);
+    holds("an area's counts", refused(0, 0, 0) && at.counts[2] == 22 && at.counts[3] == 645);
+    const double outline[8] = {0.0, 0.0, 0.05, 0.15, 0.15, 0.15, 0.2, 0.0};
+    area_of(&at, DELVOUZH_OUTLINE, outline, 8);
+    holds("an outline's area", at.number == 0 && fabs(at.numbers[0] - 0.0225) < 1e-15);
+    const double bodies[26] = {1, 0, 0, 0, 0, 0, 0, 0, 0, 0, 0, 0, 0, 1, 2, 0, 0, 0, 0, 0, 0, 0, 0, 0, 0, 0};
+    at.number = delvouzh_combine(bodies, 26, at.numbers, DELVOUZH_BODY);
+    holds("a join", at.number == 0 && at.numbers[0] == 2.0 && at.numbers[1] == 1.0 && at.numbers[8] == 2.0 && at.numbers[12] == 2.0);
+    const double tensor[9] = {2, 0, 0, 0, 0, 0, 0, 0, 2};
+    at.number = delvouzh_principal_moments(tensor, 9, at.numbers, DELVOUZH_MOMENTS, at.counts, DELVOUZH_VALUES);
+    holds("moments", refused(0, 0, 0) && at.numbers[0] == 0.0 && at.numbers[1] == 2.0 && at.numbers[2] == 2.0);
+    holds("the root of 2", bits(delvouzh_sqrt(2.0)) == 0x3ff6a09e667f3bcd);
+    answer_to(&at, "(join (point 3ff0000000000000 4000000000000000 0000000000000000 0000000000000000))");
+    holds("a line", answered("(joined (mass 3ff0000000000000) (centre 4000000000000000 0000000000000000 0000000000000000) (inertia"
+                             " 0000000000000000 0000000000000000 0000000000000000 0000000000000000 0000000000000000 0000000000000000"
+                             " 0000000000000000 0000000000000000 0000000000000000))"));
+}
+
+static void refusals(void) {
+    const double tip[4] = {0.2, -0.01, 0.15, 0.05}, cant[5] = {0.003, NAN, 0.0, 0.05, 680.0};
+    const double crossed[8] = {0, 0, 2, 1, 0, 1, 2, 0};
+    double body[DELVOUZH_BODY] = {1, 0, 0, 0, 1, 0, 0, 0, 1, 0, 0, 0, 3};
+    set_of(&at, 0, DELVOUZH_TRAPEZOID, TRAPEZOID, 4, FIGURES);
+    holds("1", refused(1, 0, 0));
+    set_of(&at, LIMIT + 1, DELVOUZH_TRAPEZOID, TRAPEZOID, 4, FIGURES);
+    holds("2", refused(2, 0, 0));
+    set_of(&at, LIMIT, DELVOUZH_TRAPEZOID, tip, 4, FIGURES);
+    holds("4 with its field", refused(4, 2, 0) && at.numbers[0] == 0.0);
+    area_of(&at, DELVOUZH_OUTLINE, crossed, 8);
+    holds("7 with its edges", refused(7, 0, 2));
+    set_of(&at, LIMIT, DELVOUZH_TRAPEZOID, TRAPEZOID, 4, cant);
+    holds("9 with its field", refused(9, 12, 0));
+    set_of(&at, 1, DELVOUZH_ELLIPSE, ELLIPSE, 2, FIGURES);
+    holds("13 with its samples", at.number == 13 && at.counts[0] < 7 && at.counts[2] == 0 && at.counts[3] == 15);
+    at.number = delvouzh_check(body, DELVOUZH_BODY, at.counts, DELVOUZH_VALUES);
+    holds("17 with its case", refused(17, 4, 0));
+    at.number = delvouzh_combine(body, DELVOUZH_BODY - 1, at.numbers, DELVOUZH_BODY);
+    holds("3", at.number == 3);
+    area_of(&at, 4, TRAPEZOID, 4);
+    holds("18 of an unknown planform", refused(18, 0, 0));
+    answer_to(&at, "(join)");
+    holds("a refused line is answered", answered("(refused 3)"));
+    answer_to(&at, "");
+    holds("an empty line is answered", answered("(refused 18)"));
+}
+
+/* No room: 18, and nothing at all is written. */
+static void no_room(void) {
+    const unsigned char line[] = "(area (limit 8) (ellipse 3fc999999999999a 3fb999999999999a))";
+    const double body[DELVOUZH_BODY] = {0};
+    lend(&at, 7.0);
+    at.number = delvouzh_mass_properties(LIMIT, 3, DELVOUZH_TRAPEZOID, TRAPEZOID, 4, DELVOUZH_SQUARE, DELVOUZH_NO_TAB, DELVOUZH_BULK,
+                                         FIGURES, 5, at.scratch, SCRATCH, at.numbers, DELVOUZH_BODY - 1, at.counts, DELVOUZH_COUNTS);
+    holds("no room for a body", at.number == 18 && left_alone());
+    at.number = delvouzh_geometry(LIMIT, DELVOUZH_ELLIPSE, ELLIPSE, 2, at.scratch, SCRATCH, at.numbers, DELVOUZH_AREA, at.counts,
+                                  DELVOUZH_COUNTS - 1);
+    holds("no room for counts", at.number == 18 && left_alone());
+    at.number = delvouzh_check(body, DELVOUZH_BODY, at.counts, DELVOUZH_VALUES - 1);
+    holds("no room for values", at.number == 18 && left_alone());
+    at.number = delvouzh_answer_line(line, sizeof line - 1, at.scratch, SCRATCH, at.answer, DELVOUZH_ANSWER - 1, at.counts, 1);
+    holds("no room for an answer", at.number == 18 && left_alone());
+    at.number = delvouzh_answer_line(line, sizeof line - 1, at.scratch, SCRATCH, at.answer, DELVOUZH_ANSWER, at.counts, 0);
+    holds("no room for an answer's length", at.number == 18 && left_alone());
+}
+
+/* The scratch: what it holds on entry does not matter, and behind the pieces it is left as it was. */
+static void scratches(void) {
+    double mass[2];
+    for (int k = 0; k < 2; k++) {
+        lend(&at, k == 0 ? NAN : 7.0);
+        set_of(&at, LIMIT, DELVOUZH_ELLIPSE, ELLIPSE, 2, FIGURES);
+        mass[k] = at.numbers[0];
+    }
+    holds("the scratch on entry does not matter", at.number == 0 && bits(mass[0]) == bits(mass[1]));
+    holds("a strip's pieces are in the scratch", at.scratch[0] == 0.0 && at.scratch[16 * at.counts[2] - 1] != 7.0);
+    holds("the rest of the scratch is left", at.scratch[16 * at.counts[2]] == 7.0 && at.scratch[SCRATCH - 1] == 7.0);
+}
+
+static void *turns(void *same) {
+    struct lent own;
+    *(int *)same = 1;
+    for (int k = 0; k < TURNS; k++) {
+        lend(&own, (double)k);
+        set_of(&own, LIMIT, DELVOUZH_ELLIPSE, ELLIPSE, 2, FIGURES);
+        if (own.number != 0 || bits(own.numbers[0]) != bits(at.numbers[0]) || own.counts[3] != at.counts[3]) *(int *)same = 0;
+    }
+    return NULL;
+}
+
+static void threads(void) {
+    pthread_t thread[THREADS];
+    int same[THREADS];
+    set_of(&at, LIMIT, DELVOUZH_ELLIPSE, ELLIPSE, 2, FIGURES);
+    for (int k = 0; k < THREADS; k++) holds("a thread", pthread_create(&thread[k], NULL, turns, &same[k]) == 0);
+    for (int k = 0; k < THREADS; k++) holds("the same figures on every thread", pthread_join(thread[k], NULL) == 0 && same[k]);
+}
+
+/* Each call on a stack of its own, which is filled before: how much of it is written then. */
+static unsigned char stack[4 * DELVOUZH_STACK];
+static ucontext_t here, there;
+
+static void call_set(void) { set_of(&at, LIMIT, DELVOUZH_ELLIPSE, ELLIPSE, 2, FIGURES); }
+static void call_area(void) { area_of(&at, DELVOUZH_ELLIPSE, ELLIPSE, 2); }
+static void call_join(void) { at.number = delvouzh_combine(at.scratch, 32 * DELVOUZH_BODY, at.numbers, DELVOUZH_BODY); }
+static void call_check(void) { at.number = delvouzh_check(at.scratch, DELVOUZH_BODY, at.counts, DELVOUZH_VALUES); }
+static void call_line(void) {
+    answer_to(&at, "(set (limit 64) (count 3) (ellipse 3fc999999999999a 3fb999999999999a) (thickness 3f689374bc6a7efa) (section rounded)"
+                   " (cant 3f947ae147ae147b) (base 0000000000000000) (radius 3fa999999999999a) (bulk 4085400000000000))");
+}
+
+static size_t stack_of(void (*call)(void)) {
+    size_t free_bytes = 0;
+    memset(stack, 0xa5, sizeof stack);
+    getcontext(&there);
+    there.uc_stack.ss_sp = stack;
+    there.uc_stack.ss_size = sizeof stack;
+    there.uc_link = &here;
+    makecontext(&there, call, 0);
+    swapcontext(&here, &there);
+    while (free_bytes < sizeof stack && stack[free_bytes] == 0xa5) free_bytes++;
+    return sizeof stack - free_bytes;
+}
+
+static void stacks(void) {
+    void (*const calls[])(void) = {call_set, call_area, call_join, call_check, call_line};
+    size_t most = 0;
+    lend(&at, 1.0);
+    for (size_t k = 0; k < sizeof calls / sizeof *calls; k++) {
+        size_t used = stack_of(calls[k]);
+        most = used > most ? used : most;
+    }
+    holds("a set's line was answered", at.number == 0 && at.counts[0] > 100);
+    holds("DELVOUZH_STACK is enough", most <= DELVOUZH_STACK);
+    printf("stack: at most %zu bytes in use, of %d\n", most, DELVOUZH_STACK);
+}
+
+int main(void) {
+    holds("the rounding mode of a process's start", fegetround() == FE_TONEAREST);
+    figures();
+    refusals();
+    no_room();
+    scratches();
+    threads();
+    stacks();
+    return failed != 0;
+}
