@@ -13,29 +13,29 @@ use Rattle.inputs.proofs.Lines.{begun-twice, lines-twice, replies-append}
 use Rattle.inputs.proofs.Taking as taking
 use Rattle.card.specs.Program.{scratchLength, cardAnswer, Due, HandsOn}
 
-pub none : (buffer : List ℕ) (s : State) (scratch : List Float) (handed : ℕ) → HandsOn buffer buffer s s [] scratch scratch handed handed
-none buffer s scratch handed = record { text = []; takes = taking.none buffer s scratch; counts = omega arith }
+pub none : {buffer : List ℕ} {s : State} {scratch : List Float} {handed : ℕ} → HandsOn buffer buffer s s [] scratch scratch handed handed
+none = record { text = []; takes = taking.none; counts = omega arith }
 
-pub fed : (buffer after : List ℕ) (s r : State) (bytes : List ℕ) (scratch left : List Float) (out written : List ℕ) (w handed : ℕ) → TakesInto buffer after s r bytes scratch left out written 0 w
+pub fed : {buffer after : List ℕ} {s r : State} {bytes : List ℕ} {scratch left : List Float} {out written : List ℕ} {w handed : ℕ} → TakesInto buffer after s r bytes scratch left out written 0 w
     → HandsOn buffer after s r bytes scratch left handed (handed + w)
-fed buffer after s r bytes scratch left out written w handed t = let e = t .appended .ends in record { text = t .text; takes = t .takes; counts = omega arith }
+fed t = let e = t .appended .ends in record { text = t .text; takes = t .takes; counts = omega arith }
 
-pub also : (buffer between after : List ℕ) (s t r : State) (a b : List ℕ) (scratch first left : List Float) (n m w : ℕ) → HandsOn buffer between s t a scratch first n m → HandsOn between after t r b first left m w
+pub also : {buffer between after : List ℕ} {s t r : State} {a b : List ℕ} {scratch first left : List Float} {n m w : ℕ} → HandsOn buffer between s t a scratch first n m → HandsOn between after t r b first left m w
     → HandsOn buffer after s r (a ++ b) scratch left n w
-also buffer between after s t r a b scratch first left n m w p q =
+also p q =
     let e = p .counts in let f = q .counts in let l = length-append (p .text) (q .text) in
     record {
       text = p .text ++ q .text;
-      takes = taking.also buffer between after s t r a b (p .text) (q .text) scratch first left (p .takes) (q .takes);
+      takes = taking.also (p .takes) (q .takes);
       counts = omega arith;
     }
 
 -- lines answered over as many numbers as the program lends
-pub card-replied : (scratch left : List Float) (lines : List (List ℕ)) (text : List ℕ) → length scratch ≡ scratchLength → Answered scratch lines text left → text ≡ replies cardAnswer lines
-card-replied scratch left lines text e a = a .replied ∙ ap (λ (m : ℕ). replies (answerOver m) lines) e
+pub card-replied : {scratch left : List Float} {lines : List (List ℕ)} {text : List ℕ} → length scratch ≡ scratchLength → Answered scratch lines text left → text ≡ replies cardAnswer lines
+card-replied {lines = lines} e a = a .replied ∙ ap (λ (m : ℕ). replies (answerOver m) lines) e
 
 -- bytes behind those that were taken before
-module _ (buffer after : List ℕ) (s r : State) (taken bytes : List ℕ) (scratch left : List Float) (handed total : ℕ) (k : Keeps buffer s (begunAfter [] taken)) (h : HandsOn buffer after s r bytes scratch left handed total) where
+module _ {buffer after : List ℕ} {s r : State} (taken : List ℕ) {bytes : List ℕ} {scratch left : List Float} {handed total : ℕ} (k : Keeps buffer s (begunAfter [] taken)) (h : HandsOn buffer after s r bytes scratch left handed total) where
   pub keeps-on : Keeps after r (begunAfter [] (taken ++ bytes))
   keeps-on = rw (begun-twice [] taken bytes) (h .takes .keeps (begunAfter [] taken) k)
 
@@ -43,7 +43,7 @@ module _ (buffer after : List ℕ) (s r : State) (taken bytes : List ℕ) (scrat
   counts-on n c =
       let first = replies cardAnswer (linesWithin [] taken) in
       let next = replies cardAnswer (linesWithin (begunAfter [] taken) bytes) in
-      let e : length (h .text) ≡ length next = ap length (card-replied scratch left (linesWithin (begunAfter [] taken) bytes) (h .text) n (h .takes .answers (begunAfter [] taken) k)) in
+      let e : length (h .text) ≡ length next = ap length (card-replied n (h .takes .answers (begunAfter [] taken) k)) in
       let f : length (replies cardAnswer (linesWithin [] (taken ++ bytes))) ≡ length first + length next = ap (λ (l : List (List ℕ)). length (replies cardAnswer l)) (lines-twice [] taken bytes) ∙ ap length (replies-append cardAnswer (linesWithin [] taken) (linesWithin (begunAfter [] taken) bytes)) ∙ length-append first next in
       let t = h .counts in
       omega arith

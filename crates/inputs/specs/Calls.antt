@@ -18,7 +18,7 @@ pub data Calls (scratch₀ : List Float) : List ℕ → List ℕ → State → L
   -- `no_line` gave the state
   begins : (buffer : List ℕ) (s : State) → ((b : List ℕ) → Keeps b s []) → Calls scratch₀ [] buffer s scratch₀ [] []
   -- another chunk, where nothing is left of the one before
-  chunk : (bytes buffer : List ℕ) (s : State) (scratch : List Float) (input replied : List ℕ)
+  reads : (bytes buffer : List ℕ) (s : State) (scratch : List Float) (input replied : List ℕ)
       → Calls scratch₀ [] buffer s scratch input replied
       → Calls scratch₀ bytes buffer s scratch (input ++ bytes) replied
   -- a call of `feed` with what is left of the chunk

@@ -41,7 +41,7 @@ record Top : Type 0 where
   handed : ℕ
   s : State
   lends : Lends buffer₀ chunk scratch₀ out₀
-  stands : TakenSoFar buffer₀ s handed
+  earlier : TakenSoFar buffer₀ s handed
   buffer : List ℕ
   scratch : List Float
   out : List ℕ
@@ -61,7 +61,7 @@ top a =
       handed = s .args .handed;
       s = s .args .s;
       lends = s .pre .0;
-      stands = s .pre .1;
+      earlier = s .pre .1;
       buffer = a .loop .buffer;
       scratch = a .loop .scratch;
       out = a .loop .out;
@@ -71,19 +71,19 @@ top a =
       so-far = a .loop .inv;
     }
 
-start : (buffer chunk : List ℕ) (scratch : List Float) (out : List ℕ) (handed : ℕ) (s : State) → SoFar buffer chunk scratch out handed s buffer scratch out s 0 handed
-start buffer chunk scratch out handed s = record { hands = none buffer s scratch handed; some = omega arith; buffers = refl; bytes = refl }
+start : {buffer chunk : List ℕ} {scratch : List Float} {out : List ℕ} {handed : ℕ} {s : State} → SoFar buffer chunk scratch out handed s buffer scratch out s 0 handed
+start = record { hands = none; some = omega arith; buffers = refl; bytes = refl }
 
 module _ (x : Top) where
   -- the bytes that were taken since the program began
   abbrev Taken : List ℕ
-  Taken = x .stands .taken ++ take (x .at) (x .chunk)
+  Taken = x .earlier .taken ++ take (x .at) (x .chunk)
 
   keeps : Keeps (x .buffer) (x .state) (begunAfter [] Taken)
-  keeps = keeps-on (x .buffer₀) (x .buffer) (x .s) (x .state) (x .stands .taken) (take (x .at) (x .chunk)) (x .scratch₀) (x .scratch) (x .handed) (x .total) (x .stands .keeps) (x .so-far .hands)
+  keeps = keeps-on (x .earlier .taken) (x .earlier .keeps) (x .so-far .hands)
 
   counts : x .total ≡ length (replies cardAnswer (linesWithin [] Taken))
-  counts = counts-on (x .buffer₀) (x .buffer) (x .s) (x .state) (x .stands .taken) (take (x .at) (x .chunk)) (x .scratch₀) (x .scratch) (x .handed) (x .total) (x .stands .keeps) (x .so-far .hands) (x .lends .numbers) (x .stands .counts)
+  counts = counts-on (x .earlier .taken) (x .earlier .keeps) (x .so-far .hands) (x .lends .numbers) (x .earlier .counts)
 
   lent : Lent (x .buffer) (x .state)
   lent = let a = x .lends .line in let e = x .so-far .buffers in let k = keeps .count in record { bytes = omega arith; within = omega arith }
@@ -148,16 +148,16 @@ module _ (y : Step) where
   text : Text ≡ replies cardAnswer (linesWithin (begunAfter [] (Taken X)) (take (y .r .taken) (Rest X)))
   text =
       y .feeds .into .appended .holds
-      ∙ card-replied (X .scratch) (y .left) (linesWithin (begunAfter [] (Taken X)) (take (y .r .taken) (Rest X))) (y .feeds .into .text) (X .so-far .hands .takes .numbers ∙ X .lends .numbers) (y .feeds .into .takes .answers (begunAfter [] (Taken X)) (keeps X))
+      ∙ card-replied (X .so-far .hands .takes .numbers ∙ X .lends .numbers) (y .feeds .into .takes .answers (begunAfter [] (Taken X)) (keeps X))
 
   is-due : Due (X .total) Text
   is-due =
       let c = counts X in let t = ap length text in
       let a = within-short scratchLength [] (Taken X) in
       let b = within-short scratchLength (begunAfter [] (Taken X)) (take (y .r .taken) (Rest X)) in
-      let l = length-append (X .stands .taken) (take (X .at) (X .chunk)) in
+      let l = length-append (X .earlier .taken) (take (X .at) (X .chunk)) in
       let m = length-take (X .at) (X .chunk) in let n = length-take (y .r .taken) (Rest X) in let o = rest-length X in
-      let f = X .stands .few in let g = X .lends .most in
+      let f = X .earlier .few in let g = X .lends .most in
       due-next (Taken X) (X .total) Text c (omega arith) (take (y .r .taken) (Rest X)) text
 
   next : (h : ℕ) → h ≡ X .total + length Text → SoFar (X .buffer₀) (X .chunk) (X .scratch₀) (X .out₀) (X .handed) (X .s) (y .after) (y .left) (y .written) (y .r .state) (X .at + y .r .taken) h
@@ -168,15 +168,14 @@ module _ (y : Step) where
       record {
         hands =
             rw (t, u)
-            (also (X .buffer₀) (X .buffer) (y .after) (X .s) (X .state) (y .r .state) (take (X .at) (X .chunk)) (take (y .r .taken) (Rest X)) (X .scratch₀) (X .scratch) (y .left) (X .handed) (X .total) (X .total + y .r .written) (X .so-far .hands)
-            (fed (X .buffer) (y .after) (X .state) (y .r .state) (take (y .r .taken) (Rest X)) (X .scratch) (y .left) (X .out) (y .written) (y .r .written) (X .total) (y .feeds .into)));
+            (also (X .so-far .hands) (fed (y .feeds .into)));
         some = taken-fits;
         buffers = omega arith;
         bytes = omega arith;
       }
 
 loop-holds : tie.Need-loop-holds Inv-loop μ-loop
-loop-holds c = let s = c .before .before .before .before in start (now (s .args .buffer)) (now (s .args .chunk)) (now (s .args .scratch)) (now (s .args .out)) (s .args .handed) (s .args .s)
+loop-holds c = start
 
 sub-feed : tie.Need-sub-feed Inv-loop μ-loop
 sub-feed c = c .before .before .before .loop .inv .some

@@ -45,13 +45,13 @@ less : (read n : ℕ) (more again : Bool) → more ≡ true → read < mostRead 
 less read n more true m l h = let k = h refl in rw m (omega arith)
 less read n more false m l h = rw m (omega arith)
 
-start : (buffer chunk : List ℕ) (scratch : List Float) (out : List ℕ) (s : State) → Keeps buffer s [] → SoFar buffer chunk scratch out s buffer chunk scratch out s 0 0 true false
-start buffer chunk scratch out s k =
+start : {buffer chunk : List ℕ} {scratch : List Float} {out : List ℕ} {s : State} → Keeps buffer s [] → SoFar buffer chunk scratch out s buffer chunk scratch out s 0 0 true false
+start k =
     record {
       begins = k;
       taken = [];
       rest = [];
-      hands = none buffer s scratch 0;
+      hands = none;
       reads = refl;
       most = omega arith;
       goes = λ _. refl;
@@ -115,7 +115,7 @@ module _ (x : Top) where
   counts : x .handed ≡ length (replies cardAnswer (linesWithin [] Taken))
   counts =
       let h = x .so-far .hands in let c = h .counts in
-      let e = ap length (card-replied (x .scratch₀) (x .scratch) (linesWithin [] Taken) (h .text) (x .lends .numbers) (h .takes .answers [] (x .so-far .begins))) in
+      let e = ap length (card-replied (x .lends .numbers) (h .takes .answers [] (x .so-far .begins))) in
       omega arith
 
   lends-on : Lends (x .buffer) (x .chunk) (x .scratch) (x .out)
@@ -203,7 +203,7 @@ module _ (y : Step) where
         begins = X .so-far .begins;
         taken = X .so-far .taken ++ Now;
         rest = Rest;
-        hands = also (X .buffer₀) (X .buffer) (y .buffer) (X .s) (X .state) (y .r .state) (X .so-far .taken) Now (X .scratch₀) (X .scratch) (y .left) 0 (X .handed) (y .r .handed) (X .so-far .hands) (y .turns .hands);
+        hands = also (X .so-far .hands) (y .turns .hands);
         reads = reads;
         most = most;
         goes = λ g. no-rest (y .turns .goes g .1);
@@ -238,7 +238,7 @@ module _ (y : Last) where
   is-due =
       let x = y .top in
       let begun = begunAfter [] (Taken x) in
-      let t : Text ≡ replies cardAnswer (lastLine begun) = text ∙ card-replied (x .scratch) (y .left) (lastLine begun) (y .finishes .text) (numbers x) (y .finishes .answers begun (keeps x)) in
+      let t : Text ≡ replies cardAnswer (lastLine begun) = text ∙ card-replied (numbers x) (y .finishes .answers begun (keeps x)) in
       let c = counts x in let n = ap length t in
       let a = within-short scratchLength [] (Taken x) in let b = last-short scratchLength begun in
       let r = x .so-far .reads in let m = x .so-far .most in
@@ -257,7 +257,7 @@ module _ (y : Last) where
         all = x .so-far .stops;
         answers =
             subst (UpTo x (h .text ++ y .finishes .text) (y .left)) (sym g)
-            (joining.finished (x .buffer₀) (x .buffer) (x .s) (x .state) (Taken x) (h .text) (x .scratch₀) (x .scratch) (x .so-far .begins) (h .takes) (y .left) (x .out) (y .written) 0 (y .w) (y .finishes));
+            (joining.finished (x .so-far .begins) (h .takes) (y .finishes));
         told = λ _. g;
       }
 
@@ -281,8 +281,7 @@ no-line-requires c κs = search needs
 
 loop-holds : tie.Need-loop-holds Inv-loop μ-loop
 loop-holds c =
-    let s = c .before .before .before .before .before in
-    start (now (s .args .buffer)) (now (s .args .chunk)) (now (s .args .scratch)) (now (s .args .out)) (c .no-line .result) (c .no-line .ensures (now (s .args .buffer)))
+    start (c .no-line .ensures (now (c .before .before .before .before .before .args .buffer)))
 
 take-turn-requires : tie.Need-take-turn-requires Inv-loop μ-loop
 take-turn-requires c κs =

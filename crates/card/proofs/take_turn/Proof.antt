@@ -19,7 +19,7 @@ use Rattle.card.proofs.take_turn.Tie as tie
 module _ (buffer : List ℕ) (s : State) (chunk : List ℕ) (scratch : List Float) (handed : ℕ) where
   nothing-read : (ended : Bool) → Turns buffer buffer s chunk scratch scratch handed (record { more = false; ended = ended; read = 0; handed = handed; state = s })
   nothing-read ended =
-      record { taken = 0; hands = none buffer s scratch handed; some = omega arith; most = omega arith; goes = λ e. absurd (true≢false (sym e)); ends = λ _. refl }
+      record { taken = 0; hands = none; some = omega arith; most = omega arith; goes = λ e. absurd (true≢false (sym e)); ends = λ _. refl }
 
   -- n bytes were read
   module _ (n : ℕ) (h : n ≤ length chunk) (e : n ≡ length (take n chunk)) (z : n ≡ 0 → ⊥) where
