@@ -1,17 +1,32 @@
 // The card program: lines of standard input, a reply printed for each (document 01, "The card program").
 //
 // It only reads, feeds and writes: what is replied is `inputs`' to say. The replies to what was read are written before it reads on. A read
-// that fails, or a reply that nobody takes, ends it without a reply to the line that had begun. The scratch that it lends has 8,000 numbers.
-ghost use Prim.Native.Nat.{_≤_};
+// that fails, or a reply that nobody takes, ends it without a reply to the line that had begun, and with a line on standard error.
+//
+// `read` counts the bytes that were read, `handed` those of replies that were handed to write: the contracts say by them what was answered.
+ghost use mathlib.Core.Path.{_≡_};
+ghost use Prim.Native.Nat.{_+_};
 ghost use lib.ListN.{length};
-ghost use Rattle.inputs.specs.States.{Lent};
+ghost use Rattle.card.specs.Program.{Lends, TakenSoFar, Due, Replies, Turns, Runs};
 use inputs::State;
+use libc::STDERR_FILENO;
 use libc::STDIN_FILENO;
 use libc::STDOUT_FILENO;
 
-// Whether every reply was written, and the line that has begun.
+// A proved loop has to end: with so many bytes read, which no run comes to, nothing more is.
+const MOST_READ: usize = 18014398509481984;
+
+// Whether every byte was written, and how many bytes were handed to write, since the program began.
+struct Handed {
+    all: bool,
+    handed: usize,
+}
+
+// Whether every reply was written; how many bytes of the chunk were taken; and the line that has begun.
 struct Replied {
     all: bool,
+    taken: usize,
+    handed: usize,
     state: State,
 }
 
@@ -19,7 +34,29 @@ struct Replied {
 struct Turn {
     more: bool,
     ended: bool,
+    read: usize,
+    handed: usize,
     state: State,
+}
+
+// Whether the input came to its end, and whether every reply was written then.
+struct Ran {
+    ended: bool,
+    answered: bool,
+    read: usize,
+    handed: usize,
+}
+
+// Writes replies, behind those that were handed to write before: the only place where the program writes any.
+fn write_replies(replies: &[u8], handed: usize) -> Handed
+    requires { ⌜ Due handed (now replies) ⌝ }
+    ensures { λ r. ⌜ r .handed ≡ handed + length (now (replies .entry)) ⌝ }
+{
+    let all = io::write_all(STDOUT_FILENO, replies);
+    Handed {
+        all,
+        handed: handed + replies.len(),
+    }
 }
 
 // The bytes of a chunk. The replies are written as often as out is full, and at the chunk's end.
@@ -29,23 +66,31 @@ fn reply_to(
     chunk: &[u8],
     scratch: &mut [f64],
     out: &mut [u8],
+    handed: usize,
 ) -> Replied
-    requires { ⌜ Lent (now buffer) s × (321 ≤ length (now out)) ⌝ }
-    ensures { λ r. ⌜ r .state .kept ≤ 4096 ⌝ }
+    requires { ⌜ Lends (now buffer) (now chunk) (now scratch) (now out) × TakenSoFar (now buffer) s handed ⌝ }
+    ensures { λ r. ⌜ Replies (now (buffer .entry)) (now (buffer .exit)) s (now (chunk .entry)) (now (scratch .entry)) (now (scratch .exit)) handed r ⌝ }
 {
     let mut state = s;
     let mut at: usize = 0;
-    while at < chunk.len() {
+    let mut total = handed;
+    let mut all = true;
+    while all && at < chunk.len() {
         let fed = inputs::feed(buffer, state, &chunk[at..], scratch, out, 0);
         let written = fed.written;
         let taken = fed.taken;
         state = fed.state;
         at += taken;
-        if !io::write_all(STDOUT_FILENO, &out[..written]) {
-            return Replied { all: false, state };
-        }
+        let h = write_replies(&out[..written], total);
+        total = h.handed;
+        all = h.all;
     }
-    Replied { all: true, state }
+    Replied {
+        all,
+        taken: at,
+        handed: total,
+        state,
+    }
 }
 
 // One read, and its bytes. A read that gives nothing ends the input.
@@ -55,9 +100,10 @@ fn take_turn(
     chunk: &mut [u8],
     scratch: &mut [f64],
     out: &mut [u8],
+    handed: usize,
 ) -> Turn
-    requires { ⌜ Lent (now buffer) s × (321 ≤ length (now out)) ⌝ }
-    ensures { λ r. ⌜ r .state .kept ≤ 4096 ⌝ }
+    requires { ⌜ Lends (now buffer) (now chunk) (now scratch) (now out) × TakenSoFar (now buffer) s handed ⌝ }
+    ensures { λ r. ⌜ Turns (now (buffer .entry)) (now (buffer .exit)) s (now (chunk .exit)) (now (scratch .entry)) (now (scratch .exit)) handed r ⌝ }
 {
     let got = libc::read(STDIN_FILENO, chunk);
     let n = io::count(got, chunk);
@@ -65,36 +111,55 @@ fn take_turn(
         return Turn {
             more: false,
             ended: got == 0,
+            read: 0,
+            handed,
             state: s,
         };
     }
-    let replied = reply_to(buffer, s, &chunk[..n], scratch, out);
+    let replied = reply_to(buffer, s, &chunk[..n], scratch, out, handed);
     let state = replied.state;
     Turn {
         more: replied.all,
         ended: false,
+        read: n,
+        handed: replied.handed,
         state,
     }
 }
 
-// All of the input. A proved loop has to end, so it counts its turns down from a number that no run uses up.
-fn run(buffer: &mut [u8], chunk: &mut [u8], scratch: &mut [f64], out: &mut [u8])
-    requires { ⌜ (4096 ≤ length (now buffer)) × (321 ≤ length (now out)) ⌝ }
+// All of the input.
+fn run(buffer: &mut [u8], chunk: &mut [u8], scratch: &mut [f64], out: &mut [u8]) -> Ran
+    requires { ⌜ Lends (now buffer) (now chunk) (now scratch) (now out) ⌝ }
+    ensures { λ r. ⌜ Runs (now (scratch .entry)) (now (scratch .exit)) r ⌝ }
 {
     let mut state = inputs::no_line();
-    let mut turns = u64::MAX;
+    let mut read: usize = 0;
+    let mut handed: usize = 0;
     let mut more = true;
     let mut ended = false;
-    while turns > 0 && more {
-        let t = take_turn(buffer, state, chunk, scratch, out);
+    while more && read < MOST_READ {
+        let t = take_turn(buffer, state, chunk, scratch, out, handed);
         state = t.state;
+        read += t.read;
+        handed = t.handed;
         more = t.more;
         ended = t.ended;
-        turns -= 1;
     }
     if ended {
-        let written = inputs::finish(buffer, state, scratch, out, 0);
-        io::write_all(STDOUT_FILENO, &out[..written]);
+        let last = inputs::finish(buffer, state, scratch, out, 0);
+        let h = write_replies(&out[..last], handed);
+        return Ran {
+            ended,
+            answered: h.all,
+            read,
+            handed: h.handed,
+        };
+    }
+    Ran {
+        ended,
+        answered: false,
+        read,
+        handed,
     }
 }
 
@@ -103,5 +168,11 @@ fn main() {
     let mut chunk = io::large_buffer();
     let mut scratch = [0.0; 8000];
     let mut out = io::large_buffer();
-    run(&mut buffer, &mut chunk, &mut scratch, &mut out);
+    let ran = run(&mut buffer, &mut chunk, &mut scratch, &mut out);
+    if !ran.answered {
+        io::write_all(
+            STDERR_FILENO,
+            b"card: a read or a write failed; send the lines without an answer again\n",
+        );
+    }
 }

@@ -1,3 +1,5 @@
-pub mod Chunks
+pub mod Joining
 pub mod Keeping
+pub mod Lengths
+pub mod Lines
 pub mod Taking

@@ -1,127 +1,235 @@
--- `card::reply_to` meets its contract: each turn takes a byte at least, and what is lent keeps its size. Assumes nothing.
-use mathlib.Core.List.{List}
-use mathlib.Core.Path.{_≡_, refl, _∙_}
+-- `card::reply_to` meets its contract: what was taken of the chunk so far, more of it each time. Assumes nothing.
+use mathlib.Core.List.{List, [], _++_}
+use mathlib.Core.Bool.{Bool, true, false, true≢false}
+use mathlib.Core.Path.{_≡_, refl, sym, ap, _∙_}
 use Prim.Native.Nat.{ℕ, _+_, _-_, _<_, _≤_}
 use native.Mathlib.Omega.{arith}
 use borrow.Author.Needs.{needs}
+use borrow.Author.Tests.{ltb-true, ltb-false}
 use denote.Ref.{now}
-use lib.ListN.{length, take, drop, length-take, length-drop}
+use lib.ListN.{length, take, drop, length-append, length-take, length-drop}
+use lib.Seq.{length-take-le, take-all, take-add}
 use lib.Ieee.{Float}
 use Rattle.inputs.specs.declared.State.{State}
 use Rattle.inputs.specs.declared.Fed.{Fed}
-use Rattle.inputs.specs.States.{Lent, Feeds}
+use Rattle.inputs.specs.Inputs.{linesWithin, begunAfter, replies}
+use Rattle.inputs.specs.States.{Lent, Keeps, Feeds}
+use Rattle.inputs.proofs.Lengths.{within-short}
+use Rattle.card.specs.Program.{scratchLength, cardAnswer, Lends, TakenSoFar, Due, HandsOn, Replies}
+use Rattle.card.proofs.Handing.{none, fed, also, card-replied, keeps-on, counts-on, due-next}
 use Rattle.card.proofs.reply_to.Statement.{statement}
 use Rattle.card.proofs.reply_to.Tie as tie
 
-record SoFar (buffer₀ chunk : List ℕ) (scratch₀ : List Float) (out₀ buffer : List ℕ) (scratch : List Float) (out : List ℕ) (state : State) (at : ℕ) : Type 0 where
-  within : state .kept ≤ 4096
+record SoFar (buffer₀ chunk : List ℕ) (scratch₀ : List Float) (out₀ : List ℕ) (handed : ℕ) (s : State) (buffer : List ℕ) (scratch : List Float) (out : List ℕ) (state : State) (at total : ℕ) : Type 0 where
+  hands : HandsOn buffer₀ buffer s state (take at chunk) scratch₀ scratch handed total
   some : at ≤ length chunk
   buffers : length buffer ≡ length buffer₀
-  numbers : length scratch ≡ length scratch₀
   bytes : length out ≡ length out₀
 
 abbrev Inv-loop : tie.InvT-loop
-Inv-loop buffer₀ chunk scratch₀ out₀ state₀ at₀ buffer scratch out state at = SoFar buffer₀ chunk scratch₀ out₀ buffer scratch out state at
+Inv-loop buffer₀ chunk scratch₀ out₀ handed state₀ at₀ total₀ all₀ buffer scratch out state at total all = SoFar buffer₀ chunk scratch₀ out₀ handed state₀ buffer scratch out state at total
 
 abbrev μ-loop : tie.MeasureT-loop
-μ-loop buffer₀ chunk scratch₀ out₀ state₀ at₀ buffer scratch out state at = length chunk - at
+μ-loop buffer₀ chunk scratch₀ out₀ handed state₀ at₀ total₀ all₀ buffer scratch out state at total all = length chunk - at
 
-module _ (buffer₀ chunk : List ℕ) (scratch₀ : List Float) (out₀ buffer : List ℕ) (scratch : List Float) (out : List ℕ) (state : State) (at : ℕ) (v : SoFar buffer₀ chunk scratch₀ out₀ buffer scratch out state at) where
-  lent : (s : State) → Lent buffer₀ s → Lent buffer state
-  lent s l = let a = l .bytes in let e = v .buffers in record { bytes = omega arith; within = v .within }
+-- at the top of the loop
+record Top : Type 0 where
+  buffer₀ : List ℕ
+  chunk : List ℕ
+  scratch₀ : List Float
+  out₀ : List ℕ
+  handed : ℕ
+  s : State
+  lends : Lends buffer₀ chunk scratch₀ out₀
+  earlier : TakenSoFar buffer₀ s handed
+  buffer : List ℕ
+  scratch : List Float
+  out : List ℕ
+  state : State
+  at : ℕ
+  total : ℕ
+  so-far : SoFar buffer₀ chunk scratch₀ out₀ handed s buffer scratch out state at total
 
-  abbrev rest : List ℕ
-  rest = take (length chunk - at) (drop at chunk)
+abbrev top : tie.At-loop Inv-loop μ-loop → Top
+top a =
+    let s = a .before .before .before .before .before in
+    record {
+      buffer₀ = now (s .args .buffer);
+      chunk = now (s .args .chunk);
+      scratch₀ = now (s .args .scratch);
+      out₀ = now (s .args .out);
+      handed = s .args .handed;
+      s = s .args .s;
+      lends = s .pre .0;
+      earlier = s .pre .1;
+      buffer = a .loop .buffer;
+      scratch = a .loop .scratch;
+      out = a .loop .out;
+      state = a .loop .state;
+      at = a .loop .at;
+      total = a .loop .total;
+      so-far = a .loop .inv;
+    }
 
-  rest-length : length rest ≡ length chunk - at
+start : {buffer chunk : List ℕ} {scratch : List Float} {out : List ℕ} {handed : ℕ} {s : State} → SoFar buffer chunk scratch out handed s buffer scratch out s 0 handed
+start = record { hands = none; some = omega arith; buffers = refl; bytes = refl }
+
+module _ (x : Top) where
+  -- the bytes that were taken since the program began
+  abbrev Taken : List ℕ
+  Taken = x .earlier .taken ++ take (x .at) (x .chunk)
+
+  keeps : Keeps (x .buffer) (x .state) (begunAfter [] Taken)
+  keeps = keeps-on (x .earlier .taken) (x .earlier .keeps) (x .so-far .hands)
+
+  counts : x .total ≡ length (replies cardAnswer (linesWithin [] Taken))
+  counts = counts-on (x .earlier .taken) (x .earlier .keeps) (x .so-far .hands) (x .lends .numbers) (x .earlier .counts)
+
+  lent : Lent (x .buffer) (x .state)
+  lent = let a = x .lends .line in let e = x .so-far .buffers in let k = keeps .count in record { bytes = omega arith; within = omega arith }
+
+  abbrev Rest : List ℕ
+  Rest = take (length (x .chunk) - x .at) (drop (x .at) (x .chunk))
+
+  rest-length : length Rest ≡ length (x .chunk) - x .at
   rest-length = simp (length-take, length-drop) (omega arith)
 
-  module _ (after : List ℕ) (left : List Float) (written : List ℕ) (r : Fed) (f : Feeds buffer after state rest scratch left out written 0 r) where
-    taken-fits : at + r .taken ≤ length chunk
-    taken-fits = let s = f .some in let l = rest-length in let m = v .some in omega arith
+  rest-all : Rest ≡ drop (x .at) (x .chunk)
+  rest-all = take-all (length (x .chunk) - x .at) (drop (x .at) (x .chunk)) (simp length-drop (omega arith))
 
-    takes-some : at < length chunk → 321 ≤ length out₀ → 0 < r .taken
-    takes-some h g = let l = rest-length in let e = v .bytes in f .moves (omega arith) (omega arith)
+  -- the loop's end: nothing is left, or a write failed
+  ends : (all : Bool) → (all ≡ true → length (x .chunk) ≤ x .at) → Replies (x .buffer₀) (x .buffer) (x .s) (x .chunk) (x .scratch₀) (x .scratch) (x .handed) (record { all = all; taken = x .at; handed = x .total; state = x .state })
+  ends all h = let m = x .so-far .some in record { hands = x .so-far .hands; some = m; all = λ e. (let l = h e in omega arith) }
 
-    next : length after ≡ length buffer → length left ≡ length scratch → length written ≡ length out → SoFar buffer₀ chunk scratch₀ out₀ after left written (r .state) (at + r .taken)
-    next a d e =
-        let i = v .buffers in let k = v .numbers in let l = v .bytes in
-        record { within = f .takes .within; some = taken-fits; buffers = omega arith; numbers = omega arith; bytes = omega arith }
+-- after `feed`
+record Step : Type 0 where
+  top : Top
+  more : top .at < length (top .chunk)
+  after : List ℕ
+  left : List Float
+  written : List ℕ
+  r : Fed
+  feeds : Feeds (top .buffer) after (top .state) (Rest top) (top .scratch) left (top .out) written 0 r
+  buffers : length after ≡ length (top .buffer)
+  bytes : length written ≡ length (top .out)
+
+abbrev step : tie.After-feed Inv-loop μ-loop → Step
+step f =
+    let a = f .before .before .before .before .before .before .before in
+    record {
+      top = top a;
+      more = ltb-true (a .loop .at) _ (f .before .before .before .before .before .if1 .taken);
+      after = f .feed .last .0;
+      left = f .feed .last .1 .1 .1 .0;
+      written = f .feed .last .1 .1 .1 .1 .0;
+      r = f .feed .result;
+      feeds = f .feed .ensures;
+      buffers = f .feed .kept .0;
+      bytes = f .feed .kept .1 .1 .1 .1 .0;
+    }
+
+module _ (y : Step) where
+  abbrev X : Top
+  X = y .top
+
+  taken-fits : X .at + y .r .taken ≤ length (X .chunk)
+  taken-fits = let i = y .feeds .some in let l = rest-length X in let m = y .more in omega arith
+
+  takes-some : 0 < y .r .taken
+  takes-some = let l = rest-length X in let e = X .so-far .bytes in let g = X .lends .reply in let m = y .more in y .feeds .moves (omega arith) (omega arith)
+
+  written-length : length (take (y .r .written) (y .written)) ≡ y .r .written
+  written-length = length-take-le (y .r .written) (y .written) (y .feeds .into .room)
+
+  abbrev Text : List ℕ
+  Text = take (y .r .written) (y .written)
+
+  -- what is written are the replies to the bytes that were taken
+  text : Text ≡ replies cardAnswer (linesWithin (begunAfter [] (Taken X)) (take (y .r .taken) (Rest X)))
+  text =
+      y .feeds .into .appended .holds
+      ∙ card-replied (X .so-far .hands .takes .numbers ∙ X .lends .numbers) (y .feeds .into .takes .answers (begunAfter [] (Taken X)) (keeps X))
+
+  is-due : Due (X .total) Text
+  is-due =
+      let c = counts X in let t = ap length text in
+      let a = within-short scratchLength [] (Taken X) in
+      let b = within-short scratchLength (begunAfter [] (Taken X)) (take (y .r .taken) (Rest X)) in
+      let l = length-append (X .earlier .taken) (take (X .at) (X .chunk)) in
+      let m = length-take (X .at) (X .chunk) in let n = length-take (y .r .taken) (Rest X) in let o = rest-length X in
+      let f = X .earlier .few in let g = X .lends .most in
+      due-next (Taken X) (X .total) Text c (omega arith) (take (y .r .taken) (Rest X)) text
+
+  next : (h : ℕ) → h ≡ X .total + length Text → SoFar (X .buffer₀) (X .chunk) (X .scratch₀) (X .out₀) (X .handed) (X .s) (y .after) (y .left) (y .written) (y .r .state) (X .at + y .r .taken) h
+  next h q =
+      let i = X .so-far .buffers in let j = y .buffers in let k = X .so-far .bytes in let l = y .bytes in let n = written-length in
+      let u : h ≡ X .total + y .r .written = omega arith in
+      let t : take (X .at + y .r .taken) (X .chunk) ≡ take (X .at) (X .chunk) ++ take (y .r .taken) (Rest X) = take-add (X .at) (y .r .taken) (X .chunk) ∙ ap (λ (z : List ℕ). take (X .at) (X .chunk) ++ take (y .r .taken) z) (sym (rest-all X)) in
+      record {
+        hands =
+            rw (t, u)
+            (also (X .so-far .hands) (fed (y .feeds .into)));
+        some = taken-fits;
+        buffers = omega arith;
+        bytes = omega arith;
+      }
 
 loop-holds : tie.Need-loop-holds Inv-loop μ-loop
-loop-holds c = let s = c .before .before .before .before in record { within = s .pre .0 .within; some = omega arith; buffers = refl; numbers = refl; bytes = refl }
+loop-holds c = start
 
 sub-feed : tie.Need-sub-feed Inv-loop μ-loop
-sub-feed c = c .before .before .loop .inv .some
+sub-feed c = c .before .before .before .loop .inv .some
 
 part-feed-start : tie.Need-part-feed-start Inv-loop μ-loop
-part-feed-start c = c .before .before .loop .inv .some
+part-feed-start c = c .before .before .before .loop .inv .some
 
 part-feed-end : tie.Need-part-feed-end Inv-loop μ-loop
 part-feed-end c = search needs
 
 feed-requires : tie.Need-feed-requires Inv-loop μ-loop
-feed-requires c κs =
-    let a = c .before .before .before .before .before in
-    let s = a .before .before .before .before .before in
-    (lent (now (s .args .buffer)) (now (s .args .chunk)) (now (s .args .scratch)) (now (s .args .out)) (a .loop .buffer) (a .loop .scratch) (a .loop .out) (a .loop .state) (a .loop .at) (a .loop .inv) (s .args .s) (s .pre .0), omega arith)
+feed-requires c κs = (lent (top (c .before .before .before .before .before .before)), omega arith)
 
 add-at : tie.Need-add-at Inv-loop μ-loop
-add-at c =
-    let f = c .before .before .before .before .before .before .before in
-    let a = f .before .before .before .before .before .before in
-    let s = a .before .before .before .before .before in
-    let t = taken-fits (now (s .args .buffer)) (now (s .args .chunk)) (now (s .args .scratch)) (now (s .args .out)) (a .loop .buffer) (a .loop .scratch) (a .loop .out) (a .loop .state) (a .loop .at) (a .loop .inv) (f .feed .last .0) (f .feed .last .1 .1 .1 .0) (f .feed .last .1 .1 .1 .1 .0) (f .feed .result) (f .feed .ensures) in
-    omega arith
+add-at c = let y = step (c .before .before .before .before .before .before .before) in let t = taken-fits y in let m = y .top .lends .most in omega arith
 
-slice-reshare-prefix-write-all : tie.Need-slice-reshare-prefix-write-all Inv-loop μ-loop
-slice-reshare-prefix-write-all c = c .before .before .before .before .before .before .before .feed .ensures .takes .room
+slice-reshare-prefix-write-replies : tie.Need-slice-reshare-prefix-write-replies Inv-loop μ-loop
+slice-reshare-prefix-write-replies c = step (c .before .before .before .before .before .before .before) .feeds .into .room
 
-slice-aggregate-write-all : tie.Need-slice-aggregate-write-all Inv-loop μ-loop
-slice-aggregate-write-all c = let r = c .before .before .before .before .before .before .before .before .feed .ensures .takes .room in simp length-take (omega arith)
+slice-aggregate-write-replies : tie.Need-slice-aggregate-write-replies Inv-loop μ-loop
+slice-aggregate-write-replies c = sym (written-length (step (c .before .before .before .before .before .before .before .before)))
 
-write-all-requires : tie.Need-write-all-requires Inv-loop μ-loop
-write-all-requires c κs = search needs
-
-same-length : tie.Need-same-length Inv-loop μ-loop
-same-length c = let f = c .before .before .before .before .before .before .before .before .before .before in f .feed .kept .0 ∙ f .before .before .before .before .before .before .loop .inv .buffers
-
-same-length-2 : tie.Need-same-length-2 Inv-loop μ-loop
-same-length-2 c = let f = c .before .before .before .before .before .before .before .before .before .before in f .feed .kept .1 .1 .1 .0 ∙ f .before .before .before .before .before .before .loop .inv .numbers
-
-same-length-3 : tie.Need-same-length-3 Inv-loop μ-loop
-same-length-3 c = let f = c .before .before .before .before .before .before .before .before .before .before in f .feed .kept .1 .1 .1 .1 .0 ∙ f .before .before .before .before .before .before .loop .inv .bytes
-
-returns : tie.Need-returns Inv-loop μ-loop
-returns c = c .before .before .before .before .before .before .before .before .before .before .feed .ensures .takes .within
+write-replies-requires : tie.Need-write-replies-requires Inv-loop μ-loop
+write-replies-requires c κs = is-due (step (c .before .before .before .before .before .before .before .before))
 
 loop-less : tie.Need-loop-less Inv-loop μ-loop
-loop-less c =
-    let f = c .before .before .before .before .before .before .before .before .before .before in
-    let a = f .before .before .before .before .before .before in
-    let s = a .before .before .before .before .before in
-    let t = taken-fits (now (s .args .buffer)) (now (s .args .chunk)) (now (s .args .scratch)) (now (s .args .out)) (a .loop .buffer) (a .loop .scratch) (a .loop .out) (a .loop .state) (a .loop .at) (a .loop .inv) (f .feed .last .0) (f .feed .last .1 .1 .1 .0) (f .feed .last .1 .1 .1 .1 .0) (f .feed .result) (f .feed .ensures) in
-    let m = takes-some (now (s .args .buffer)) (now (s .args .chunk)) (now (s .args .scratch)) (now (s .args .out)) (a .loop .buffer) (a .loop .scratch) (a .loop .out) (a .loop .state) (a .loop .at) (a .loop .inv) (f .feed .last .0) (f .feed .last .1 .1 .1 .0) (f .feed .last .1 .1 .1 .1 .0) (f .feed .result) (f .feed .ensures) (f .before .before .before .before .before .loop-test .taken) (s .pre .1) in
-    omega arith
+loop-less c = let y = step (c .before .before .before .before .before .before .before .before .before) in let t = taken-fits y in let m = takes-some y in omega arith
 
 loop-again : tie.Need-loop-again Inv-loop μ-loop
-loop-again c =
-    let f = c .before .before .before .before .before .before .before .before .before .before in
-    let a = f .before .before .before .before .before .before in
-    let s = a .before .before .before .before .before in
-    next (now (s .args .buffer)) (now (s .args .chunk)) (now (s .args .scratch)) (now (s .args .out)) (a .loop .buffer) (a .loop .scratch) (a .loop .out) (a .loop .state) (a .loop .at) (a .loop .inv) (f .feed .last .0) (f .feed .last .1 .1 .1 .0) (f .feed .last .1 .1 .1 .1 .0) (f .feed .result) (f .feed .ensures) (f .feed .kept .0) (f .feed .kept .1 .1 .1 .0) (f .feed .kept .1 .1 .1 .1 .0)
+loop-again c = next (step (c .before .before .before .before .before .before .before .before .before)) (c .write-replies .result .handed) (c .write-replies .ensures)
+
+same-length : tie.Need-same-length Inv-loop μ-loop
+same-length c = c .before .before .loop .inv .buffers
+
+same-length-2 : tie.Need-same-length-2 Inv-loop μ-loop
+same-length-2 c = c .before .before .loop .inv .hands .takes .numbers
+
+same-length-3 : tie.Need-same-length-3 Inv-loop μ-loop
+same-length-3 c = c .before .before .loop .inv .bytes
+
+returns : tie.Need-returns Inv-loop μ-loop
+returns c = let a = c .before .before in ends (top a) (a .loop .all) (λ _. ltb-false (a .loop .at) _ (c .if1 .left))
 
 same-length-4 : tie.Need-same-length-4 Inv-loop μ-loop
 same-length-4 c = c .before .loop .inv .buffers
 
 same-length-5 : tie.Need-same-length-5 Inv-loop μ-loop
-same-length-5 c = c .before .loop .inv .numbers
+same-length-5 c = c .before .loop .inv .hands .takes .numbers
 
 same-length-6 : tie.Need-same-length-6 Inv-loop μ-loop
 same-length-6 c = c .before .loop .inv .bytes
 
 returns-2 : tie.Need-returns-2 Inv-loop μ-loop
-returns-2 c = c .before .loop .inv .within
+returns-2 c = let a = c .before in ends (top a) (a .loop .all) (λ e. absurd (true≢false (sym e ∙ c .loop-test .left)))
 
 pub reply-to-spec : {M : Type 1} → statement M
 reply-to-spec =
@@ -135,15 +243,15 @@ reply-to-spec =
     part-feed-end
     feed-requires
     add-at
-    slice-reshare-prefix-write-all
-    slice-aggregate-write-all
-    write-all-requires
+    slice-reshare-prefix-write-replies
+    slice-aggregate-write-replies
+    write-replies-requires
+    loop-less
+    loop-again
     same-length
     same-length-2
     same-length-3
     returns
-    loop-less
-    loop-again
     same-length-4
     same-length-5
     same-length-6

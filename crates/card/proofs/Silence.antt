@@ -1,0 +1,22 @@
+-- The contract of `run` can't be met in silence: where a byte was read and the input came to its end, a byte was handed to write, whichever
+-- bytes are said to have been taken. So a program that drops a last line without a newline does not meet it. Assumes nothing.
+use mathlib.Core.List.{List, []}
+use mathlib.Core.Bool.{Bool, true, cond}
+use mathlib.Core.Path.{_≡_, ap, subst}
+use Prim.Native.Nat.{_<_}
+use native.Mathlib.Omega.{arith}
+use lib.ListN.{length}
+use lib.Ieee.{Float}
+use Rattle.inputs.specs.Inputs.{linesWithin, linesOf}
+use Rattle.inputs.specs.States.{answerOver, Answered}
+use Rattle.inputs.proofs.Lengths.{some-replied}
+use Rattle.card.specs.declared.Ran.{Ran}
+use Rattle.card.specs.Program.{Runs}
+
+pub some-handed : (scratch left : List Float) (r : Ran) → Runs scratch left r → r .ended ≡ true → 0 < r .read → 0 < r .handed
+some-handed scratch left r p e h =
+    let a = p .reads in let u = ap length (p .all e) in let c = p .hands in
+    let answered : Answered scratch (linesOf (p .taken)) (p .text) left = subst (λ (t : Bool). Answered scratch (cond t (linesOf (p .taken)) (linesWithin [] (p .taken))) (p .text) left) e (p .answers) in
+    let t = ap length (answered .replied) in
+    let s = some-replied (answerOver (length scratch)) (p .taken) (omega arith) in
+    omega arith

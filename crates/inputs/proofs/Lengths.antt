@@ -1,0 +1,87 @@
+-- How long replies are: no more than 321 bytes for each byte of an input, and one at least where there is a byte. Assumes nothing.
+use mathlib.Core.List.{List, [], _∷_, _++_}
+use mathlib.Core.Bool.{Bool, true, false, cond}
+use mathlib.Core.Path.{_≡_, refl}
+use Prim.Native.Nat.{ℕ, _+_, _*_, _<_, _≤_}
+use native.Mathlib.Omega.{arith}
+use lib.Dec.{eqb, leb}
+use lib.ListN.{length, length-append}
+use Rattle.refusals.specs.declared.Refusal.the-variants.{NoForm}
+use Rattle.refusals.specs.Refusals.{numberOf}
+use Rattle.answers.specs.Answers.{refusedText}
+use Rattle.answers.proofs.Lengths.{refused-short}
+use Rattle.lines.specs.Lines.{answerOf}
+use Rattle.lines.proofs.Short.{answer-short}
+use Rattle.inputs.specs.Inputs.{linesWithin, begunAfter, lastLine, linesOf, reply, replies, repliesTo}
+use Rattle.inputs.specs.States.{answerOver}
+
+one-short : (m : ℕ) (line : List ℕ) → length (reply (answerOver m) line) ≤ 321
+unfolding reply
+one-short m line =
+    let e = length-append (cond (leb (length line) 4096) (answerOf line m) (refusedText (numberOf NoForm))) (10 ∷ []) in
+    let h = by (leb (length line) 4096) in
+    omega arith
+  where
+    by : (t : Bool) → length (cond t (answerOf line m) (refusedText (numberOf NoForm))) ≤ 320
+    by true = answer-short line m
+    by false = refused-short (numberOf NoForm)
+
+all-short : (m : ℕ) (lines : List (List ℕ)) → length (replies (answerOver m) lines) ≤ 321 * length lines
+unfolding replies
+all-short m [] = omega arith
+all-short m (line ∷ lines) =
+    let e = length-append (reply (answerOver m) line) (replies (answerOver m) lines) in let h = one-short m line in let i = all-short m lines in
+    omega arith
+
+-- a line has a byte at least, its newline
+abbrev Few : List ℕ → List ℕ → Type 0
+Few begun bytes = length (linesWithin begun bytes) ≤ length bytes
+
+few : (begun bytes : List ℕ) → Few begun bytes
+unfolding linesWithin
+few begun [] = omega arith
+few begun (b ∷ bs) = by (eqb b 10) refl (few [] bs) (few (begun ++ (b ∷ [])) bs)
+  where
+    by : (t : Bool) → eqb b 10 ≡ t → Few [] bs → Few (begun ++ (b ∷ [])) bs → Few begun (b ∷ bs)
+    by true e i j = rw e (omega arith)
+    by false e i j = rw e (omega arith)
+
+few-last : (begun : List ℕ) → length (lastLine begun) ≤ 1
+few-last [] = omega arith
+few-last (b ∷ bs) = omega arith
+
+pub within-short : (m : ℕ) (begun bytes : List ℕ) → length (replies (answerOver m) (linesWithin begun bytes)) ≤ 321 * length bytes
+within-short m begun bytes = let a = all-short m (linesWithin begun bytes) in let f = few begun bytes in omega arith
+
+pub last-short : (m : ℕ) (begun : List ℕ) → length (replies (answerOver m) (lastLine begun)) ≤ 321
+last-short m begun = let a = all-short m (lastLine begun) in let f = few-last begun in omega arith
+
+-- a line that has begun, or another byte, is a line at the end
+abbrev Some : List ℕ → List ℕ → Type 0
+Some begun bytes = 0 < length begun + length bytes → 0 < length (linesWithin begun bytes ++ lastLine (begunAfter begun bytes))
+
+some-lines : (begun bytes : List ℕ) → Some begun bytes
+unfolding linesWithin begunAfter
+some-lines [] [] h = absurd (let z : ⊥ = omega arith in z)
+some-lines (c ∷ begun) [] h = omega arith
+some-lines begun (b ∷ bs) h = by (eqb b 10) refl (some-lines (begun ++ (b ∷ [])) bs)
+  where
+    by : (t : Bool) → eqb b 10 ≡ t → Some (begun ++ (b ∷ [])) bs → 0 < length (linesWithin begun (b ∷ bs) ++ lastLine (begunAfter begun (b ∷ bs)))
+    by true e i = rw e (omega arith)
+    by false e i = let l = length-append begun (b ∷ []) in rw e (i (omega arith))
+
+-- a reply has a byte, its newline
+some-reply : (answer : List ℕ → List ℕ) (line : List ℕ) → 0 < length (reply answer line)
+unfolding reply
+some-reply answer line = by (cond (leb (length line) 4096) (answer line) (refusedText (numberOf NoForm)))
+  where
+    by : (text : List ℕ) → 0 < length (text ++ (10 ∷ []))
+    by text = let e = length-append text (10 ∷ []) in omega arith
+
+some-replies : (answer : List ℕ → List ℕ) (lines : List (List ℕ)) → 0 < length lines → 0 < length (replies answer lines)
+unfolding replies
+some-replies answer [] h = absurd (let z : ⊥ = omega arith in z)
+some-replies answer (line ∷ lines) h = let e = length-append (reply answer line) (replies answer lines) in let f = some-reply answer line in omega arith
+
+pub some-replied : (answer : List ℕ → List ℕ) (input : List ℕ) → 0 < length input → 0 < length (repliesTo answer input)
+some-replied answer input h = some-replies answer (linesOf input) (some-lines [] input (omega arith))
