@@ -11,13 +11,13 @@ use Rattle.refusals.specs.declared.Refusal.the-variants.{Ends}
 use Rattle.refusals.specs.declared.Verdict.{Verdict}
 use Rattle.refusals.specs.declared.Verdict.the-variants.{Accepted}
 use Rattle.sorting.specs.Sorted.{NoNan}
-use Rattle.sorting.proofs.Order.{equal-no-nan, below-nan}
+use Rattle.floats.proofs.Order.{equal-no-nan, below-nan}
 use Rattle.planforms.specs.declared.Planform.{Planform}
 use Rattle.planforms.specs.declared.Planform.the-variants.{Trapezoid, Ellipse, Outline}
 use Rattle.planforms.specs.Planforms.{xAt, heightAt, pairCount}
 use Rattle.refusals.specs.Order.{firstFrom}
 use Rattle.limits.specs.Limits.{lengthWithin, lengthCheck}
-use Rattle.refusals.proofs.Accepted.{holds, both, both-true}
+use Rattle.refusals.proofs.Accepted.{holds, both, both-true, each-accepted}
 use Rattle.outlines.specs.Outlines.{pointCheck, outlineCheck}
 use Rattle.outlines.proofs.Accepted.{points-within}
 use Rattle.breaks.specs.Breaks.{heights, everyY, breakHeights}
@@ -44,13 +44,6 @@ worked-few w f limit scale (h ∷ k ∷ l) = go (isAccepted (halving w f (h ⊘ 
     go false rest few = omega arith
 
 -- ---- an accepted outline: its heights are numbers, and the first and the last lie on the root
-each-accepted : (check : ℕ → Verdict) (i n : ℕ) → firstFrom i n check ≡ Accepted → (k : ℕ) → k < n → check (i + k) ≡ Accepted
-unfolding firstFrom
-each-accepted check i zero h k b = absurd (let z : ⊥ = omega arith in z)
-each-accepted check i (suc n) h zero b = rw (let e : i + 0 ≡ i = omega arith in e) (both _ _ h .0)
-each-accepted check i (suc n) h (suc k) b =
-    rw (let e : i + suc k ≡ suc i + k = omega arith in e) (each-accepted check (suc i) n (both _ _ h .1) k (omega arith))
-
 no-nan : (y : Float) → lengthWithin true false y ≡ true → isNan y ≡ false
 unfolding lengthWithin
 no-nan y h = go (eq y (bits 0)) (lt (bits 0) y) (isNan y) refl refl refl

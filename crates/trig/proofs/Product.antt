@@ -10,7 +10,7 @@ use lib.Ieee.{Float, nan, inf, fin, binary64, up, down, odd, units, round, mul, 
 use lib.Ieee.Fits.{down-pos, round-is}
 use lib.Ieee.Order.{drop, kept, round-mono}
 use Rattle.floats.specs.Floats.{isFinite}
-use Rattle.floats.proofs.Nan.{no}
+use Rattle.floats.proofs.Bools.{no}
 use Rattle.trig.specs.Trig.{quarterTurns}
 use Rattle.trig.proofs.Exact.{bounds}
 

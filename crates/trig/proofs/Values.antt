@@ -6,7 +6,7 @@ use lib.IntN.{negsuc}
 use lib.Ieee.{Float, nan, inf, fin, binary64, ofBits, ofInt, round, add, sub, mul, div, neg}
 use Rattle.floats.specs.Operations.{bits, number}
 use Rattle.floats.specs.Floats.{isFinite}
-use Rattle.floats.proofs.Nan.{no}
+use Rattle.floats.proofs.Bools.{no}
 use Rattle.trig.specs.Trig.{mOf, quarterOf, sinCosOf, sinOf, cosOf}
 
 -- the bits of 0.6366197723675814

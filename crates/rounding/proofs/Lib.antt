@@ -1,0 +1,14 @@
+pub mod Signs
+pub mod Signed
+pub mod Ordered
+pub mod Exact
+pub mod Rounding
+pub mod Operations
+pub mod Sizes
+pub mod Terms
+pub mod Roots
+pub mod Monotone
+pub mod Halves
+pub mod Gaps
+pub mod Tests
+pub mod Zeros

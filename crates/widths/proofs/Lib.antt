@@ -1,0 +1,7 @@
+pub mod Rule
+pub mod Bounds
+pub mod Sums
+pub mod Pieces
+pub mod Halvings
+pub mod Ends
+pub mod Strips
