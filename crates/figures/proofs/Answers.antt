@@ -1,10 +1,11 @@
 -- What the two calls promise follows from what their parts do. Assumes nothing.
-use mathlib.Core.Path.{_≡_, sym, _∙_}
+use mathlib.Core.Path.{_≡_, refl, sym, ap, subst, _∙_}
 use mathlib.Core.List.{List}
 use Prim.Native.Nat.{ℕ}
 use lib.ListN.{length}
 use lib.Ieee.{Float}
 use Rattle.refusals.specs.declared.Refusal.{Refusal}
+use Rattle.refusals.specs.declared.Verdict.{Verdict}
 use Rattle.refusals.specs.declared.Verdict.the-variants.{Accepted, Refused}
 use Rattle.planforms.specs.declared.Planform.{Planform}
 use Rattle.planforms.specs.Planforms.{rootChordOf}
@@ -20,7 +21,7 @@ use Rattle.figures.specs.declared.Area.{Area}
 use Rattle.figures.specs.Figures.{setIntegrand, setStrips, refusedFigures, concludedOf, setFigures, setScratch}
 use Rattle.figures.specs.Areas.{areaStrips, refusedArea, concludedArea, areaFigures, areaScratch}
 use Rattle.figures.specs.Answers.{Reported, SetAnswers, AreaAnswers}
-use Rattle.figures.proofs.Reports.{no-refusal, concluded-samples, concluded-intervals, concluded-verdict, concluded-area-samples, concluded-area-intervals, concluded-area-verdict}
+use Rattle.figures.proofs.Reports.{ZeroFigures, ZeroArea, no-refusal, gives-refusal, concluded-samples, concluded-intervals, concluded-verdict, concluded-zeros, concluded-area-samples, concluded-area-intervals, concluded-area-verdict, concluded-area-zeros}
 
 -- ---- an accepted set, and a refused one
 module _ (set : FinSet) (points : List Float) (L : ℕ) (entry : List Float) (r : Figures) (exit : List Float) where
@@ -35,6 +36,8 @@ module _ (set : FinSet) (points : List Float) (L : ℕ) (entry : List Float) (r 
       record {
         figures = rw accepts e;
         scratch = rw accepts s;
+        given-before-strips = λ refusal h. no-refusal refusal (sym h ∙ accepts);
+        zero-figures = concluded-zeros set root scale total r e;
         demand-3 = λ h. demand-3 7 (setIntegrand set points) L (set-limit set points L (length entry) accepts .0) scale (breakHeights (set .planform) points)
             (r .samples) (r .intervals) (r .verdict ≡ Accepted) (λ ending. Reported ending (r .verdict)) entry exit
             (concluded-samples set root scale total r e)
@@ -50,6 +53,8 @@ module _ (set : FinSet) (points : List Float) (L : ℕ) (entry : List Float) (r 
       record {
         figures = rw refuses e;
         scratch = rw refuses s;
+        given-before-strips = λ other h. (gives-refusal (r .verdict) other (ap (λ (x : Figures). x .verdict) e ∙ sym refuses ∙ h), ap (λ (x : Figures). x .samples) e, s);
+        zero-figures = subst ZeroFigures (sym e) (λ number values g. (refl, refl));
         demand-3 = λ h. no-refusal refusal (sym refuses ∙ h);
       }
 
@@ -63,6 +68,8 @@ module _ (planform : Planform) (points : List Float) (L : ℕ) (entry : List Flo
       record {
         figures = rw accepts e;
         scratch = rw accepts s;
+        given-before-strips = λ refusal h. no-refusal refusal (sym h ∙ accepts);
+        zero-figures = concluded-area-zeros scale total r e;
         demand-3 = λ h. demand-3 7 (areaOf planform points) L (area-limit planform points L (length entry) accepts .0) scale (breakHeights planform points)
             (r .samples) (r .intervals) (r .verdict ≡ Accepted) (λ ending. Reported ending (r .verdict)) entry exit
             (concluded-area-samples scale total r e)
@@ -78,5 +85,7 @@ module _ (planform : Planform) (points : List Float) (L : ℕ) (entry : List Flo
       record {
         figures = rw refuses e;
         scratch = rw refuses s;
+        given-before-strips = λ other h. (gives-refusal (r .verdict) other (ap (λ (x : Area). x .verdict) e ∙ sym refuses ∙ h), ap (λ (x : Area). x .samples) e, s);
+        zero-figures = subst ZeroArea (sym e) (λ number values g. (refl, refl, refl, refl));
         demand-3 = λ h. no-refusal refusal (sym refuses ∙ h);
       }

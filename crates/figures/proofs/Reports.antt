@@ -1,8 +1,8 @@
 -- What is reported once the strips of an accepted set, or planform, are worked: figures or 8, 13 or 14, by the ending of the last strip.
 -- Assumes nothing.
-use mathlib.Core.Path.{_≡_, refl, sym, ap, _∙_}
+use mathlib.Core.Path.{_≡_, refl, sym, ap, subst, _∙_}
 use mathlib.Core.Bool.{Bool, true, false, cond, _&&_, false≢true}
-use mathlib.Core.List.{List}
+use mathlib.Core.List.{List, []}
 use mathlib.Core.Logic.{_⊎_, inl, inr}
 use Prim.Native.Nat.{ℕ}
 use native.Mathlib.Omega.{arith}
@@ -14,16 +14,19 @@ use Rattle.refusals.specs.declared.Refusal.the-variants.{Count, NoArea}
 use Rattle.refusals.specs.declared.Verdict.{Verdict}
 use Rattle.refusals.specs.declared.Verdict.the-variants.{Accepted, Refused}
 use Rattle.refusals.specs.Order.{refuseUnless, firstRefusal}
+use Rattle.refusals.specs.Refusals.{numberOf, valuesOf}
 use Rattle.limits.specs.Limits.{countCheck}
 use Rattle.refusals.proofs.Accepted.{holds}
 use Rattle.materials.specs.Materials.{densityCheck}
 use Rattle.materials.specs.declared.Density.{Density}
 use Rattle.materials.specs.declared.Density.the-variants.{Bulk, Surface, Line}
+use Rattle.bodies.specs.Bodies.{emptyBody}
 use Rattle.bodies.specs.declared.Centre.{Centre}
 use Rattle.fins.specs.declared.FinSet.{FinSet}
 use Rattle.halving.specs.declared.Ending.{Ending}
 use Rattle.halving.specs.declared.Ending.the-variants.{Accepted as accepted, NotConverged as notConverged, NotFinite as notFinite}
 use Rattle.halving.specs.declared.Integral.{Integral}
+use Rattle.halving.specs.Halving.{verdictOf}
 use Rattle.joins.specs.declared.Joined.{Joined}
 use Rattle.joins.specs.Joins.{joinOf, refusedCount}
 use Rattle.plates.specs.declared.PlanformGeometry.{PlanformGeometry}
@@ -34,15 +37,23 @@ use Rattle.plates.specs.Plates.{pivotOf, refusedFin, bulkFin, ofDensity, integr
 use Rattle.sets.specs.Sets.{rolledFin, joinedFinsOf, unlessRefused, massPropertiesOf}
 use Rattle.figures.specs.declared.Figures.{Figures}
 use Rattle.figures.specs.declared.Area.{Area}
-use Rattle.figures.specs.Figures.{ofJoined, byEnding, concludedOf}
-use Rattle.figures.specs.Areas.{ofGeometry, areaByEnding, concludedArea}
-use Rattle.figures.specs.Answers.{Reported}
+use Rattle.figures.specs.Figures.{ofJoined, byVerdict, concludedOf}
+use Rattle.figures.specs.Areas.{ofGeometry, areaByVerdict, concludedArea}
+use Rattle.figures.specs.Answers.{Gives, Reported}
 
 pub no-refusal : {A : Type 0} (refusal : Refusal) → Refused refusal ≡ Accepted → A
 no-refusal refusal e = absurd (let z : _≡_ {A = ℕ} 0 1 = cc in let none : ⊥ = omega arith in none)
 
 abbrev FiguresOr8 : Verdict → Type 0
 FiguresOr8 verdict = (verdict ≡ Accepted) ⊎ (verdict ≡ Refused NoArea)
+
+given-8 : (verdict : Verdict) → FiguresOr8 verdict → Reported accepted verdict
+given-8 verdict (inl e) = inl e
+given-8 verdict (inr e) = inr (subst (λ (v : Verdict). Gives v 8 []) (sym e) (refl, refl))
+
+-- what a check refused is given by its number and values
+pub gives-refusal : (verdict : Verdict) (refusal : Refusal) → verdict ≡ Refused refusal → Gives verdict (numberOf refusal) (valuesOf refusal)
+gives-refusal verdict refusal e = subst (λ (v : Verdict). Gives v (numberOf refusal) (valuesOf refusal)) (sym e) (refl, refl)
 
 -- ---- one fin of bulk density, and the fins joined
 bulk-fin : (v : List Float) (cant : Float) (pivot : Centre) (x : Float) → FiguresOr8 (bulkFin v cant pivot x .verdict)
@@ -76,7 +87,15 @@ fins-joined set root scale total c d =
     go false e fin f joined j = absurd (false≢true e)
 
 -- ---- a set
+
+-- where a number is given, all is zero
+abbrev pub ZeroFigures : Figures → Type 0
+ZeroFigures r = (number : ℕ) (values : List ℕ) → Gives (r .verdict) number values → (r .body ≡ emptyBody) × (r .intervals ≡ 0)
+
 module _ (set : FinSet) (root scale : Float) (total : Integral) where
+  abbrev Joined· : Joined
+  Joined· = massPropertiesOf set root scale (total .value)
+
   joined-samples : (verdict : Verdict) (joined : Joined) → ofJoined verdict joined (total .intervals) (total .samples) .samples ≡ total .samples
   joined-samples Accepted joined = refl
   joined-samples (Refused refusal) joined = refl
@@ -90,37 +109,54 @@ module _ (set : FinSet) (root scale : Float) (total : Integral) where
   joined-verdict Accepted joined f = inl refl
   joined-verdict (Refused refusal) joined f = f
 
-  ended-samples : (ending : Ending) → byEnding ending set root scale total .samples ≡ total .samples
-  ended-samples accepted = joined-samples (massPropertiesOf set root scale (total .value) .verdict) (massPropertiesOf set root scale (total .value))
-  ended-samples (notConverged component) = refl
-  ended-samples notFinite = refl
+  joined-zeros : (verdict : Verdict) (joined : Joined) → ZeroFigures (ofJoined verdict joined (total .intervals) (total .samples))
+  joined-zeros Accepted joined number values g = absurd g
+  joined-zeros (Refused refusal) joined number values g = (refl, refl)
 
-  ended-intervals : (ending : Ending) → byEnding ending set root scale total .verdict ≡ Accepted → byEnding ending set root scale total .intervals ≡ total .intervals
-  ended-intervals accepted h = joined-intervals (massPropertiesOf set root scale (total .value) .verdict) (massPropertiesOf set root scale (total .value)) h
-  ended-intervals (notConverged component) h = no-refusal _ h
-  ended-intervals notFinite h = no-refusal _ h
+  ended-samples : (verdict : Verdict) → byVerdict verdict set root scale total .samples ≡ total .samples
+  ended-samples Accepted = joined-samples (Joined· .verdict) Joined·
+  ended-samples (Refused refusal) = refl
 
-  ended-verdict : countCheck (set .count) ≡ Accepted → densityCheck (set .density) ≡ Accepted → (ending : Ending) → Reported ending (byEnding ending set root scale total .verdict)
-  ended-verdict c d accepted =
-      joined-verdict (massPropertiesOf set root scale (total .value) .verdict) (massPropertiesOf set root scale (total .value)) (fins-joined set root scale (total .value) c d)
-  ended-verdict c d (notConverged component) = refl
-  ended-verdict c d notFinite = refl
+  ended-intervals : (verdict : Verdict) → byVerdict verdict set root scale total .verdict ≡ Accepted → byVerdict verdict set root scale total .intervals ≡ total .intervals
+  ended-intervals Accepted h = joined-intervals (Joined· .verdict) Joined· h
+  ended-intervals (Refused refusal) h = no-refusal refusal h
+
+  ended-zeros : (verdict : Verdict) → ZeroFigures (byVerdict verdict set root scale total)
+  ended-zeros Accepted = joined-zeros (Joined· .verdict) Joined·
+  ended-zeros (Refused refusal) = λ number values g. (refl, refl)
+
+  ended-verdict : countCheck (set .count) ≡ Accepted → densityCheck (set .density) ≡ Accepted → (ending : Ending) → Reported ending (byVerdict (verdictOf ending) set root scale total .verdict)
+  ended-verdict c d accepted = given-8 _ (joined-verdict (Joined· .verdict) Joined· (fins-joined set root scale (total .value) c d))
+  ended-verdict c d (notConverged component) = (refl, refl)
+  ended-verdict c d notFinite = (refl, refl)
 
   module _ (r : Figures) (answer : r ≡ concludedOf set root scale total) where
     pub concluded-samples : r .samples ≡ total .samples
     unfolding concludedOf
-    concluded-samples = ap (λ (x : Figures). x .samples) answer ∙ ended-samples (total .ending)
+    concluded-samples = ap (λ (x : Figures). x .samples) answer ∙ ended-samples (verdictOf (total .ending))
 
     pub concluded-intervals : r .verdict ≡ Accepted → r .intervals ≡ total .intervals
     unfolding concludedOf
-    concluded-intervals h = ap (λ (x : Figures). x .intervals) answer ∙ ended-intervals (total .ending) (sym (ap (λ (x : Figures). x .verdict) answer) ∙ h)
+    concluded-intervals h = ap (λ (x : Figures). x .intervals) answer ∙ ended-intervals (verdictOf (total .ending)) (sym (ap (λ (x : Figures). x .verdict) answer) ∙ h)
 
     pub concluded-verdict : countCheck (set .count) ≡ Accepted → densityCheck (set .density) ≡ Accepted → Reported (total .ending) (r .verdict)
     unfolding concludedOf
     concluded-verdict c d = rw answer (ended-verdict c d (total .ending))
 
+    pub concluded-zeros : ZeroFigures r
+    unfolding concludedOf
+    concluded-zeros = subst ZeroFigures (sym answer) (ended-zeros (verdictOf (total .ending)))
+
 -- ---- a planform
+
+abbrev pub ZeroArea : Area → Type 0
+ZeroArea r = (number : ℕ) (values : List ℕ) → Gives (r .verdict) number values
+    → (r .«area_m2» ≡ bits 0) × (r .«centroid_x_m» ≡ bits 0) × (r .«centroid_span_m» ≡ bits 0) × (r .intervals ≡ 0)
+
 module _ (scale : Float) (total : Integral) where
+  abbrev Geometry· : PlanformGeometry
+  Geometry· = geometryOf (total .value) scale
+
   geometry-samples : (verdict : Verdict) (g : PlanformGeometry) → ofGeometry verdict g (total .intervals) (total .samples) .samples ≡ total .samples
   geometry-samples Accepted g = refl
   geometry-samples (Refused refusal) g = refl
@@ -134,6 +170,10 @@ module _ (scale : Float) (total : Integral) where
   geometry-verdict Accepted g f = inl refl
   geometry-verdict (Refused refusal) g f = f
 
+  geometry-zeros : (verdict : Verdict) (g : PlanformGeometry) → ZeroArea (ofGeometry verdict g (total .intervals) (total .samples))
+  geometry-zeros Accepted g number values n = absurd n
+  geometry-zeros (Refused refusal) g number values n = (refl, refl, refl, refl)
+
   geometry-or-8 : (value : List Float) → FiguresOr8 (geometryOf value scale .verdict)
   unfolding geometryOf
   geometry-or-8 value = go (le (unscaledArea value scale) (bits 0)) noGeometry _ refl refl
@@ -142,30 +182,36 @@ module _ (scale : Float) (total : Integral) where
       go true none g p q = inr p
       go false none g p q = inl q
 
-  area-samples : (ending : Ending) → areaByEnding ending scale total .samples ≡ total .samples
-  area-samples accepted = geometry-samples (geometryOf (total .value) scale .verdict) (geometryOf (total .value) scale)
-  area-samples (notConverged component) = refl
-  area-samples notFinite = refl
+  area-samples : (verdict : Verdict) → areaByVerdict verdict scale total .samples ≡ total .samples
+  area-samples Accepted = geometry-samples (Geometry· .verdict) Geometry·
+  area-samples (Refused refusal) = refl
 
-  area-intervals : (ending : Ending) → areaByEnding ending scale total .verdict ≡ Accepted → areaByEnding ending scale total .intervals ≡ total .intervals
-  area-intervals accepted h = geometry-intervals (geometryOf (total .value) scale .verdict) (geometryOf (total .value) scale) h
-  area-intervals (notConverged component) h = no-refusal _ h
-  area-intervals notFinite h = no-refusal _ h
+  area-intervals : (verdict : Verdict) → areaByVerdict verdict scale total .verdict ≡ Accepted → areaByVerdict verdict scale total .intervals ≡ total .intervals
+  area-intervals Accepted h = geometry-intervals (Geometry· .verdict) Geometry· h
+  area-intervals (Refused refusal) h = no-refusal refusal h
 
-  area-verdict : (ending : Ending) → Reported ending (areaByEnding ending scale total .verdict)
-  area-verdict accepted = geometry-verdict (geometryOf (total .value) scale .verdict) (geometryOf (total .value) scale) (geometry-or-8 (total .value))
-  area-verdict (notConverged component) = refl
-  area-verdict notFinite = refl
+  area-zeros : (verdict : Verdict) → ZeroArea (areaByVerdict verdict scale total)
+  area-zeros Accepted = geometry-zeros (Geometry· .verdict) Geometry·
+  area-zeros (Refused refusal) = λ number values n. (refl, refl, refl, refl)
+
+  area-verdict : (ending : Ending) → Reported ending (areaByVerdict (verdictOf ending) scale total .verdict)
+  area-verdict accepted = given-8 _ (geometry-verdict (Geometry· .verdict) Geometry· (geometry-or-8 (total .value)))
+  area-verdict (notConverged component) = (refl, refl)
+  area-verdict notFinite = (refl, refl)
 
   module _ (r : Area) (answer : r ≡ concludedArea scale total) where
     pub concluded-area-samples : r .samples ≡ total .samples
     unfolding concludedArea
-    concluded-area-samples = ap (λ (x : Area). x .samples) answer ∙ area-samples (total .ending)
+    concluded-area-samples = ap (λ (x : Area). x .samples) answer ∙ area-samples (verdictOf (total .ending))
 
     pub concluded-area-intervals : r .verdict ≡ Accepted → r .intervals ≡ total .intervals
     unfolding concludedArea
-    concluded-area-intervals h = ap (λ (x : Area). x .intervals) answer ∙ area-intervals (total .ending) (sym (ap (λ (x : Area). x .verdict) answer) ∙ h)
+    concluded-area-intervals h = ap (λ (x : Area). x .intervals) answer ∙ area-intervals (verdictOf (total .ending)) (sym (ap (λ (x : Area). x .verdict) answer) ∙ h)
 
     pub concluded-area-verdict : Reported (total .ending) (r .verdict)
     unfolding concludedArea
     concluded-area-verdict = rw answer (area-verdict (total .ending))
+
+    pub concluded-area-zeros : ZeroArea r
+    unfolding concludedArea
+    concluded-area-zeros = subst ZeroArea (sym answer) (area-zeros (verdictOf (total .ending)))

@@ -5,15 +5,13 @@ use lib.ListN.{length}
 use lib.Ieee.{Float}
 use Rattle.floats.specs.Operations.{bits}
 use Rattle.refusals.specs.declared.Refusal.{Refusal}
-use Rattle.refusals.specs.declared.Refusal.the-variants.{NotConverged, NotFinite}
 use Rattle.refusals.specs.declared.Verdict.{Verdict}
 use Rattle.refusals.specs.declared.Verdict.the-variants.{Accepted, Refused}
 use Rattle.planforms.specs.declared.Planform.{Planform}
 use Rattle.breaks.specs.Breaks.{breakHeights}
 use Rattle.integrands.specs.Integrands.{scaleOf, areaOf}
 use Rattle.fins.specs.Fins.{areaCheck}
-use Rattle.halving.specs.declared.Ending.{Ending}
-use Rattle.halving.specs.declared.Ending.the-variants.{Accepted as accepted, NotConverged as notConverged, NotFinite as notFinite}
+use Rattle.halving.specs.Halving.{verdictOf}
 use Rattle.halving.specs.declared.Integral.{Integral}
 use Rattle.strips.specs.Strips.{Worked, workedOf, totalsOf, scratchAfter}
 use Rattle.plates.specs.declared.PlanformGeometry.{PlanformGeometry}
@@ -35,15 +33,13 @@ ofGeometry Accepted g intervals samples =
     record { verdict = Accepted; «area_m2» = g .«area_m2»; «centroid_x_m» = g .«centroid_x_m»; «centroid_span_m» = g .«centroid_span_m»; intervals = intervals; samples = samples }
 ofGeometry (Refused refusal) g intervals samples = refusedArea refusal samples
 
--- by how the run of the strips ended: area and centroid, 13 with its component, or 14
-abbrev pub areaByEnding : Ending → Float → Integral → Area
-areaByEnding accepted scale total = ofGeometry (geometryOf (total .value) scale .verdict) (geometryOf (total .value) scale) (total .intervals) (total .samples)
-areaByEnding (notConverged component) scale total = refusedArea (NotConverged component) (total .samples)
-areaByEnding notFinite scale total = refusedArea NotFinite (total .samples)
+-- by how the run of the strips ended: area and centroid, or 13 or 14
+abbrev pub areaByVerdict : Verdict → Float → Integral → Area
+areaByVerdict Accepted scale total = ofGeometry (geometryOf (total .value) scale .verdict) (geometryOf (total .value) scale) (total .intervals) (total .samples)
+areaByVerdict (Refused refusal) scale total = refusedArea refusal (total .samples)
 
--- the totals carry that ending
 unfoldable pub concludedArea : Float → Integral → Area
-concludedArea scale total = areaByEnding (total .ending) scale total
+concludedArea scale total = areaByVerdict (verdictOf (total .ending)) scale total
 
 -- "1, 2, planform, strips, 8": every check before the strips, then the strips
 abbrev pub areaAfterCheck : Verdict → Planform → List Float → ℕ → Area

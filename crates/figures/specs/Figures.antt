@@ -5,7 +5,6 @@ use lib.ListN.{length}
 use lib.Ieee.{Float}
 use Rattle.bodies.specs.Bodies.{emptyBody}
 use Rattle.refusals.specs.declared.Refusal.{Refusal}
-use Rattle.refusals.specs.declared.Refusal.the-variants.{NotConverged, NotFinite}
 use Rattle.refusals.specs.declared.Verdict.{Verdict}
 use Rattle.refusals.specs.declared.Verdict.the-variants.{Accepted, Refused}
 use Rattle.planforms.specs.Planforms.{rootChordOf}
@@ -13,8 +12,7 @@ use Rattle.breaks.specs.Breaks.{breakHeights}
 use Rattle.integrands.specs.Integrands.{scaleOf, plateOf}
 use Rattle.fins.specs.declared.FinSet.{FinSet}
 use Rattle.fins.specs.Fins.{setCheck}
-use Rattle.halving.specs.declared.Ending.{Ending}
-use Rattle.halving.specs.declared.Ending.the-variants.{Accepted as accepted, NotConverged as notConverged, NotFinite as notFinite}
+use Rattle.halving.specs.Halving.{verdictOf}
 use Rattle.halving.specs.declared.Integral.{Integral}
 use Rattle.strips.specs.Strips.{Worked, workedOf, totalsOf, scratchAfter}
 use Rattle.joins.specs.declared.Joined.{Joined}
@@ -41,14 +39,13 @@ ofJoined (Refused refusal) joined intervals samples = refusedFigures refusal sam
 abbrev pub joinedFigures : Joined → ℕ → ℕ → Figures
 joinedFigures joined intervals samples = ofJoined (joined .verdict) joined intervals samples
 
--- by how the run of the strips ended: 13 with its component, 14, or figures
-abbrev pub byEnding : Ending → FinSet → Float → Float → Integral → Figures
-byEnding accepted set root scale total = joinedFigures (massPropertiesOf set root scale (total .value)) (total .intervals) (total .samples)
-byEnding (notConverged component) set root scale total = refusedFigures (NotConverged component) (total .samples)
-byEnding notFinite set root scale total = refusedFigures NotFinite (total .samples)
+-- by how the run of the strips ended: figures, or 13 or 14
+abbrev pub byVerdict : Verdict → FinSet → Float → Float → Integral → Figures
+byVerdict Accepted set root scale total = joinedFigures (massPropertiesOf set root scale (total .value)) (total .intervals) (total .samples)
+byVerdict (Refused refusal) set root scale total = refusedFigures refusal (total .samples)
 
 unfoldable pub concludedOf : FinSet → Float → Float → Integral → Figures
-concludedOf set root scale total = byEnding (total .ending) set root scale total
+concludedOf set root scale total = byVerdict (verdictOf (total .ending)) set root scale total
 
 -- every check before the strips, then the strips
 abbrev pub afterCheck : Verdict → FinSet → List Float → ℕ → Figures

@@ -14,7 +14,6 @@ ghost use Rattle.figures.specs.Areas.{refusedArea, ofGeometry, concluded
 ghost use Rattle.figures.specs.Answers.{SetAnswers, AreaAnswers};
 use bodies::Body;
 use fins::FinSet;
-use halving::Ending;
 use halving::Integral;
 use integrands::Integrand;
 use joins::Joined;
@@ -79,16 +78,14 @@ fn concluded(set: FinSet, root_chord_m: f64, scale_m: f64, total: Integral) -> F
 {
     let ending = total.ending;
     let value = total.value;
-    match ending {
-        Ending::Accepted => joined_figures(
+    let verdict = halving::verdict_of(ending);
+    match verdict {
+        Verdict::Accepted => joined_figures(
             sets::mass_properties(set, root_chord_m, scale_m, value),
             total.intervals,
             total.samples,
         ),
-        Ending::NotConverged(component) => {
-            refused_figures(Refusal::NotConverged(component), total.samples)
-        }
-        Ending::NotFinite => refused_figures(Refusal::NotFinite, total.samples),
+        Verdict::Refused(refusal) => refused_figures(refusal, total.samples),
     }
 }
 
@@ -187,16 +184,14 @@ fn concluded_area(scale_m: f64, total: Integral) -> Area
 {
     let ending = total.ending;
     let value = total.value;
-    match ending {
-        Ending::Accepted => area_figures(
+    let verdict = halving::verdict_of(ending);
+    match verdict {
+        Verdict::Accepted => area_figures(
             plates::geometry(value, scale_m),
             total.intervals,
             total.samples,
         ),
-        Ending::NotConverged(component) => {
-            refused_area(Refusal::NotConverged(component), total.samples)
-        }
-        Ending::NotFinite => refused_area(Refusal::NotFinite, total.samples),
+        Verdict::Refused(refusal) => refused_area(refusal, total.samples),
     }
 }
 

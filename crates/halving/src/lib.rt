@@ -12,10 +12,13 @@ ghost use Rattle.floats.specs.Operations.{_⊕_, _⊘_, at, tabulate};
 ghost use Rattle.integrands.specs.Integrands.{sampleOf};
 ghost use Rattle.floats.specs.Operations.{every};
 ghost use Rattle.halving.specs.Bounds.{boundFor, scoreOf, lastHighest, middleOf, middleIsEnd};
+ghost use Rattle.halving.specs.Halving.{verdictOf};
 ghost use Rattle.halving.specs.Scratch.{numbersOf, pieceIn, readAt, piecesIn, putAt, Integrates};
 ghost use Rattle.halving.specs.Steps.{withPiece, sumsOf, higherOf, judgedOf, halvesOf, scratchHalved, Repeats};
 use integrands::Integrand;
 use quadrature::Piece;
+use refusals::Refusal;
+use refusals::Verdict;
 
 const ABSOLUTE: f64 = 1e-16;
 
@@ -26,6 +29,17 @@ pub enum Ending {
     Accepted,
     NotConverged(usize),
     NotFinite,
+}
+
+// How an ending stands in the refusal table.
+pub fn verdict_of(ending: Ending) -> Verdict
+    ensures { λ r. ⌜ r ≡ verdictOf ending ⌝ }
+{
+    match ending {
+        Ending::Accepted => Verdict::Accepted,
+        Ending::NotConverged(component) => Verdict::Refused(Refusal::NotConverged(component)),
+        Ending::NotFinite => Verdict::Refused(Refusal::NotFinite),
+    }
 }
 
 // The answer for one strip, and for the strips of a set: the ending, the integral of each component, the intervals and the samples.

@@ -1,10 +1,13 @@
 -- `figures::concluded` meets its contract: each arm knows its case. Assumes nothing.
-use mathlib.Core.Path.{ap, _∙_}
+use mathlib.Core.Path.{sym, ap, _∙_}
 use Rattle.joins.specs.declared.Joined.{Joined}
 use Rattle.figures.specs.Figures.{joinedFigures, concludedOf}
 use borrow.Author.Needs.{needs}
 use Rattle.figures.proofs.concluded.Statement.{statement}
 use Rattle.figures.proofs.concluded.Tie as tie
+
+verdict-of-requires : tie.Need-verdict-of-requires
+verdict-of-requires c κs = search needs
 
 enum-told : tie.Need-enum-told
 enum-told c = search needs
@@ -15,43 +18,35 @@ mass-properties-requires c κs = search needs
 joined-figures-requires : tie.Need-joined-figures-requires
 joined-figures-requires c κs = search needs
 
-enum-known-ending : tie.Need-enum-known-ending
-enum-known-ending c = search needs
+enum-known-verdict : tie.Need-enum-known-verdict
+enum-known-verdict c = search needs
 
 refused-figures-requires : tie.Need-refused-figures-requires
 refused-figures-requires c κs = search needs
 
-enum-told-2 : tie.Need-enum-told-2
-enum-told-2 c = search needs
-
-refused-figures-requires-2 : tie.Need-refused-figures-requires-2
-refused-figures-requires-2 c κs = search needs
-
 returns : tie.Need-returns
 unfolding concludedOf
 returns c =
-    let total = c .before .before .before .before .before .args .total in
-    rw (c .before .before .enum-told .given .1) (c .joined-figures .ensures ∙ ap (λ (j : Joined). joinedFigures j (total .intervals) (total .samples)) (c .before .mass-properties .ensures))
+    let told = c .before .before in
+    let given = told .before .before in
+    let total = given .before .before .args .total in
+    rw (sym (given .verdict-of .ensures) ∙ told .enum-told .given .1) (c .joined-figures .ensures ∙ ap (λ (j : Joined). joinedFigures j (total .intervals) (total .samples)) (c .before .mass-properties .ensures))
 
 returns-2 : tie.Need-returns-2
 unfolding concludedOf
-returns-2 c = rw (c .before .before .ending .given .1) (c .refused-figures .ensures)
-
-returns-3 : tie.Need-returns-3
-unfolding concludedOf
-returns-3 c = rw (c .before .enum-told2 .given .1) (c .refused-figures2 .ensures)
+returns-2 c =
+    let told = c .before .before in
+    rw (sym (told .before .before .verdict-of .ensures) ∙ told .verdict .given .1) (c .refused-figures .ensures)
 
 pub concluded-spec : {M : Type 1} → statement M
 concluded-spec =
     tie.close
     (tie.spec
+    verdict-of-requires
     enum-told
     mass-properties-requires
     joined-figures-requires
-    enum-known-ending
+    enum-known-verdict
     refused-figures-requires
-    enum-told-2
-    refused-figures-requires-2
     returns
-    returns-2
-    returns-3)
+    returns-2)
