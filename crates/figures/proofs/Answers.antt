@@ -10,16 +10,18 @@ use Rattle.refusals.specs.declared.Verdict.the-variants.{Accepted, Refused}
 use Rattle.planforms.specs.declared.Planform.{Planform}
 use Rattle.planforms.specs.Planforms.{rootChordOf}
 use Rattle.breaks.specs.Breaks.{breakHeights}
-use Rattle.integrands.specs.Integrands.{scaleOf, areaOf}
+use Rattle.integrands.specs.Integrands.{scaleOf, areaThree}
 use Rattle.fins.specs.declared.FinSet.{FinSet}
 use Rattle.fins.specs.Fins.{setCheck, areaCheck}
 use Rattle.fins.proofs.Accepted.{set-limit, set-count-check, set-density, area-limit}
-use Rattle.strips.specs.Strips.{totalsOf, scratchAfter}
-use Rattle.strips.proofs.Claims.{demand-3}
+use Rattle.halving.specs.declared.Ending.{Ending}
+use Rattle.strips.specs.Strips.{Worked, totalsOf, scratchAfter}
+use Rattle.strips.proofs.Claims.{demand-3, none-behind}
+use Rattle.widths.proofs.Strips.{samples-same, intervals-same, ending-same}
 use Rattle.figures.specs.declared.Figures.{Figures}
 use Rattle.figures.specs.declared.Area.{Area}
 use Rattle.figures.specs.Figures.{setIntegrand, setStrips, refusedFigures, concludedOf, setFigures, setScratch}
-use Rattle.figures.specs.Areas.{areaStrips, refusedArea, concludedArea, areaFigures, areaScratch}
+use Rattle.figures.specs.Areas.{areaStrips, areaSeven, refusedArea, concludedArea, areaFigures, areaScratch}
 use Rattle.figures.specs.Answers.{Reported, SetAnswers, AreaAnswers}
 use Rattle.figures.proofs.Reports.{ZeroFigures, ZeroArea, no-refusal, gives-refusal, concluded-samples, concluded-intervals, concluded-verdict, concluded-zeros, concluded-area-samples, concluded-area-intervals, concluded-area-verdict, concluded-area-zeros}
 
@@ -43,7 +45,7 @@ module _ (set : FinSet) (points : List Float) (L : ℕ) (entry : List Float) (r 
             (concluded-samples set root scale total r e)
             (concluded-intervals set root scale total r e)
             (concluded-verdict set root scale total r e (set-count-check set points L (length entry) accepts) (set-density set points L (length entry) accepts))
-            s;
+            (s ∙ ap (λ (strips : List Worked). scratchAfter strips entry) (sym (none-behind (setStrips set points L))));
       }
 
   pub set-refused : (refusal : Refusal) → setCheck set points L (length entry) ≡ Refused refusal → r ≡ refusedFigures refusal 0 → exit ≡ entry →
@@ -59,22 +61,22 @@ module _ (set : FinSet) (points : List Float) (L : ℕ) (entry : List Float) (r 
       }
 
 module _ (planform : Planform) (points : List Float) (L : ℕ) (entry : List Float) (r : Area) (exit : List Float) where
-  pub area-worked : areaCheck planform points L (length entry) ≡ Accepted → r ≡ concludedArea (scaleOf planform points) (totalsOf (areaStrips planform points L)) →
-      exit ≡ scratchAfter (areaStrips planform points L) entry → AreaAnswers planform points L entry r exit
+  pub area-worked : areaCheck planform points L (length entry) ≡ Accepted → r ≡ concludedArea (scaleOf planform points) (totalsOf (areaSeven planform points L)) →
+      exit ≡ scratchAfter (areaSeven planform points L) entry → AreaAnswers planform points L entry r exit
   unfolding areaFigures areaScratch
   area-worked accepts e s =
       let scale = scaleOf planform points in
-      let total = totalsOf (areaStrips planform points L) in
+      let total = totalsOf (areaSeven planform points L) in
       record {
         figures = rw accepts e;
         scratch = rw accepts s;
         given-before-strips = λ refusal h. no-refusal refusal (sym h ∙ accepts);
         zero-figures = concluded-area-zeros scale total r e;
-        demand-3 = λ h. demand-3 7 (areaOf planform points) L (area-limit planform points L (length entry) accepts .0) scale (breakHeights planform points)
+        demand-3 = λ h. demand-3 3 (areaThree planform points) L (area-limit planform points L (length entry) accepts .0) scale (breakHeights planform points)
             (r .samples) (r .intervals) (r .verdict ≡ Accepted) (λ ending. Reported ending (r .verdict)) entry exit
-            (concluded-area-samples scale total r e)
-            (concluded-area-intervals scale total r e)
-            (concluded-area-verdict scale total r e)
+            (concluded-area-samples scale total r e ∙ samples-same 4 (areaStrips planform points L))
+            (λ given. concluded-area-intervals scale total r e given ∙ intervals-same 4 (areaStrips planform points L))
+            (subst (λ (ending : Ending). Reported ending (r .verdict)) (ending-same 4 (areaStrips planform points L)) (concluded-area-verdict scale total r e))
             s;
       }
 

@@ -8,14 +8,12 @@ use lib.ListN.{length}
 use lib.Ieee.{Float, eq, lt, isNan}
 use Rattle.floats.specs.Operations.{_⊘_, bits}
 use Rattle.refusals.specs.declared.Refusal.the-variants.{Ends}
-use Rattle.refusals.specs.declared.Verdict.{Verdict}
 use Rattle.refusals.specs.declared.Verdict.the-variants.{Accepted}
 use Rattle.sorting.specs.Sorted.{NoNan}
 use Rattle.floats.proofs.Order.{equal-no-nan, below-nan}
 use Rattle.planforms.specs.declared.Planform.{Planform}
 use Rattle.planforms.specs.declared.Planform.the-variants.{Trapezoid, Ellipse, Outline}
 use Rattle.planforms.specs.Planforms.{xAt, heightAt, pairCount}
-use Rattle.refusals.specs.Order.{firstFrom}
 use Rattle.limits.specs.Limits.{lengthWithin, lengthCheck}
 use Rattle.refusals.proofs.Accepted.{holds, both, both-true, each-accepted}
 use Rattle.outlines.specs.Outlines.{pointCheck, outlineCheck}
@@ -23,7 +21,7 @@ use Rattle.outlines.proofs.Accepted.{points-within}
 use Rattle.breaks.specs.Breaks.{heights, everyY, breakHeights}
 use Rattle.breaks.proofs.Strips.{at-most-63}
 use Rattle.breaks.proofs.Listed.{at-most-two-more}
-use Rattle.integrands.specs.Integrands.{scaleOf, areaOf}
+use Rattle.integrands.specs.Integrands.{scaleOf, areaThree}
 use Rattle.fins.specs.declared.FinSet.{FinSet}
 use Rattle.fins.specs.Fins.{planformCheck, setCheck, areaCheck}
 use Rattle.fins.proofs.Accepted.{set-planform, area-planform}
@@ -92,4 +90,4 @@ few-strips set points L n accepted =
 
 pub few-area-strips : (planform : Planform) (points : List Float) (L n : ℕ) → areaCheck planform points L n ≡ Accepted → length (areaStrips planform points L) ≤ 62
 few-area-strips planform points L n accepted =
-    omega (arith, worked-few 7 (areaOf planform points) L (scaleOf planform points) (breakHeights planform points), heights-few planform points (area-planform planform points L n accepted))
+    omega (arith, worked-few 3 (areaThree planform points) L (scaleOf planform points) (breakHeights planform points), heights-few planform points (area-planform planform points L n accepted))

@@ -13,7 +13,7 @@ use Rattle.refusals.specs.declared.Verdict.{Verdict}
 use Rattle.refusals.specs.declared.Verdict.the-variants.{Accepted, Refused}
 use Rattle.planforms.specs.declared.Planform.{Planform}
 use Rattle.breaks.specs.Breaks.{breakHeights}
-use Rattle.integrands.specs.Integrands.{scaleOf, areaOf}
+use Rattle.integrands.specs.Integrands.{scaleOf, areaThree}
 use Rattle.fins.specs.declared.FinSet.{FinSet}
 use Rattle.fins.specs.Fins.{setCheck, areaCheck}
 use Rattle.halving.specs.declared.Ending.{Ending}
@@ -59,4 +59,4 @@ pub record AreaAnswers (planform : Planform) (points : List Float) (L : ℕ) (en
       → (r .«area_m2» ≡ bits 0) × (r .«centroid_x_m» ≡ bits 0) × (r .«centroid_span_m» ≡ bits 0) × (r .intervals ≡ 0)
   -- accepted is a planform that passes every check before the strips
   pub demand-3 : areaCheck planform points L (length entry) ≡ Accepted
-      → Demand3 7 (areaOf planform points) L (scaleOf planform points) (breakHeights planform points) (areaStrips planform points L) (r .samples) (r .intervals) (r .verdict ≡ Accepted) (λ ending. Reported ending (r .verdict)) entry exit
+      → Demand3 3 (areaThree planform points) L (scaleOf planform points) (breakHeights planform points) (areaStrips planform points L) (r .samples) (r .intervals) (r .verdict ≡ Accepted) (λ ending. Reported ending (r .verdict)) entry exit

@@ -9,18 +9,23 @@ use Rattle.refusals.specs.declared.Verdict.{Verdict}
 use Rattle.refusals.specs.declared.Verdict.the-variants.{Accepted, Refused}
 use Rattle.planforms.specs.declared.Planform.{Planform}
 use Rattle.breaks.specs.Breaks.{breakHeights}
-use Rattle.integrands.specs.Integrands.{scaleOf, areaOf}
+use Rattle.integrands.specs.Integrands.{scaleOf, areaThree}
 use Rattle.fins.specs.Fins.{areaCheck}
 use Rattle.halving.specs.Halving.{verdictOf}
 use Rattle.halving.specs.declared.Integral.{Integral}
-use Rattle.strips.specs.Strips.{Worked, workedOf, totalsOf, scratchAfter}
+use Rattle.strips.specs.Strips.{Worked, workedOf, sevenWide, totalsOf, scratchAfter}
 use Rattle.plates.specs.declared.PlanformGeometry.{PlanformGeometry}
 use Rattle.plates.specs.Geometry.{geometryOf}
 use Rattle.figures.specs.declared.Area.{Area}
 
--- every strip worked with the area's integrand, between the break heights, "divided by root chord plus span" ("Set and planform")
+-- every strip worked with the area's integrand of three components, between the break heights, "divided by root chord plus span" ("Set and
+-- planform"; "Const generics become two widths")
 abbrev pub areaStrips : Planform → List Float → ℕ → List Worked
-areaStrips planform points L = workedOf 7 (areaOf planform points) L (scaleOf planform points) (breakHeights planform points)
+areaStrips planform points L = workedOf 3 (areaThree planform points) L (scaleOf planform points) (breakHeights planform points)
+
+-- as the scratch and the totals hold them: "an area run uses three of the seven, the rest zero" ("Piece and tally")
+abbrev pub areaSeven : Planform → List Float → ℕ → List Worked
+areaSeven planform points L = sevenWide 3 (areaStrips planform points L)
 
 -- "Figures zero; intervals 0; samples taken so far" ("Refusal numbers")
 abbrev pub refusedArea : Refusal → ℕ → Area
@@ -43,7 +48,7 @@ concludedArea scale total = areaByVerdict (verdictOf (total .ending)) scale tota
 
 -- "1, 2, planform, strips, 8": every check before the strips, then the strips
 abbrev pub areaAfterCheck : Verdict → Planform → List Float → ℕ → Area
-areaAfterCheck Accepted planform points L = concludedArea (scaleOf planform points) (totalsOf (areaStrips planform points L))
+areaAfterCheck Accepted planform points L = concludedArea (scaleOf planform points) (totalsOf (areaSeven planform points L))
 areaAfterCheck (Refused refusal) planform points L = refusedArea refusal 0
 
 -- the answer: "1, 2, planform" are the checks, over a scratch of that length
@@ -53,7 +58,7 @@ areaFigures planform points L scratchLength = areaAfterCheck (areaCheck planform
 -- "A number given before the first strip leaves scratch untouched. Once strips have run, with figures or a refusal at the end, scratch
 -- holds, in storage order from its start, what each strip wrote over the last one's; elsewhere it is unchanged." ("Refusal numbers")
 abbrev pub areaScratchChecked : Verdict → Planform → List Float → ℕ → List Float → List Float
-areaScratchChecked Accepted planform points L scratch = scratchAfter (areaStrips planform points L) scratch
+areaScratchChecked Accepted planform points L scratch = scratchAfter (areaSeven planform points L) scratch
 areaScratchChecked (Refused refusal) planform points L scratch = scratch
 
 -- the scratch after the call

@@ -10,7 +10,7 @@ ghost use Rattle.integrands.specs.Integrands.{scaleOf, sampleOf};
 ghost use Rattle.fins.specs.Fins.{setCheck, areaCheck};
 ghost use Rattle.strips.specs.Strips.{totalsOf, scratchAfter, Runs};
 ghost use Rattle.figures.specs.Figures.{refusedFigures, joinedFigures, concludedOf, setStrips};
-ghost use Rattle.figures.specs.Areas.{refusedArea, ofGeometry, concludedArea, areaStrips};
+ghost use Rattle.figures.specs.Areas.{refusedArea, ofGeometry, concludedArea, areaSeven};
 ghost use Rattle.figures.specs.Answers.{SetAnswers, AreaAnswers};
 use bodies::Body;
 use fins::FinSet;
@@ -198,7 +198,7 @@ fn concluded_area(scale_m: f64, total: Integral) -> Area
 // The strips of an accepted planform, and its area.
 fn work_area(planform: Planform, points: &[f64], limit: usize, scratch: &mut [f64]) -> Area
     requires { ⌜ areaCheck planform (now points) limit (length (now scratch)) ≡ Accepted ⌝ }
-    ensures { λ r. ⌜ (r ≡ concludedArea (scaleOf planform (now (points .entry))) (totalsOf (areaStrips planform (now (points .entry)) limit))) × (now (scratch .exit) ≡ scratchAfter (areaStrips planform (now (points .entry)) limit) (now (scratch .entry))) ⌝ }
+    ensures { λ r. ⌜ (r ≡ concludedArea (scaleOf planform (now (points .entry))) (totalsOf (areaSeven planform (now (points .entry)) limit))) × (now (scratch .exit) ≡ scratchAfter (areaSeven planform (now (points .entry)) limit) (now (scratch .entry))) ⌝ }
 {
     let integrand = integrands::area_integrand(planform, points);
     let scale_m = integrands::scale_m(planform, points);

@@ -2,7 +2,7 @@
 use mathlib.Core.Path.{_≡_, refl, sym, ap, _∙_, subst}
 use mathlib.Core.Logic.{inl, inr}
 use mathlib.Core.Bool.{Bool, true, false, _&&_, _||_}
-use Prim.Native.Nat.{ℕ, zero, suc, _+_, _*_, _^_, _≤_, _<_, zero-le}
+use Prim.Native.Nat.{ℕ, zero, suc, _*_, _^_, zero-le}
 use native.Mathlib.Nat.{le-trans, le-of-eq, one-mul, zero-mul, mul-pos, zero-lt-suc}
 use native.Mathlib.Omega.{arith}
 use mir.Facts.{or-yes}

@@ -1,6 +1,6 @@
 -- The points of an accepted outline are within their limits, and so is its root chord. Assumes nothing.
 use mathlib.Core.Path.{_≡_, refl, subst}
-use mathlib.Core.List.{List, [], _∷_}
+use mathlib.Core.List.{List}
 use mathlib.Core.Bool.{Bool, true, _&&_}
 use Prim.Native.Nat.{ℕ, zero, suc, _+_, _-_, _*_, _≤_, _<_}
 use native.Mathlib.Nat.{sub-zero}
@@ -10,14 +10,13 @@ use lib.Ieee.{Float, binary64, fits, lt, eq}
 use Rattle.floats.specs.Operations.{bits, at}
 use Rattle.refusals.specs.declared.Refusal.the-variants.{Ends}
 use Rattle.refusals.specs.declared.Verdict.the-variants.{Accepted}
-use Rattle.refusals.specs.Order.{firstOf}
 use Rattle.refusals.proofs.Accepted.{holds, both, both-true, each-accepted}
 use Rattle.limits.specs.Limits.{pointXField, pointYField, lengthCheck}
 use Rattle.limits.proofs.Lengths.{Length, Height, LengthAbove0, length-checked, above-checked, height-checked}
 use Rattle.planforms.specs.Planforms.{xAt, heightAt, pairCount, lastX}
 use Rattle.planforms.specs.declared.Planform.the-variants.{Outline}
 use Rattle.planforms.proofs.Sized.{Sized}
-use Rattle.outlines.specs.Outlines.{pointsCheck, pointCheck, endsCheck, outlineCheck}
+use Rattle.outlines.specs.Outlines.{pointCheck, outlineCheck}
 use Rattle.outlines.proofs.Accepted.{points-within}
 
 module _ (points : List Float) (f : (i : ℕ) → T (fits binary64 (at points i))) where

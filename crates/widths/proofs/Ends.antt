@@ -1,5 +1,5 @@
 -- The ends of every strip are in order and bounded, where the break heights are bounded and rise and the scale is above 0. Assumes nothing.
-use mathlib.Core.Path.{_≡_, sym, _∙_}
+use mathlib.Core.Path.{_≡_, sym}
 use mathlib.Core.Bool.{Bool, true, false, _&&_, _||_, cond}
 use mathlib.Core.List.{List, [], _∷_}
 use Prim.Native.Nat.{ℕ, _+_, _≤_}
@@ -14,7 +14,7 @@ use Rattle.rounding.proofs.Sizes.{div-below}
 use Rattle.rounding.proofs.Monotone.{div-mono}
 use Rattle.sorting.specs.Sorted.{belowAll, Rising, Each as EachHeight}
 use Rattle.halving.specs.Halving.{halving}
-use Rattle.strips.specs.Strips.{Worked, isAccepted, workedOf}
+use Rattle.strips.specs.Strips.{isAccepted, workedOf}
 use Rattle.strips.specs.Claim.{Each}
 
 next-le : (x y : Float) (l : List Float) → Rising (x ∷ y ∷ l) → T (le x y)

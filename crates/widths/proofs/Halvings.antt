@@ -1,7 +1,7 @@
 -- The halving at width w is the halving at width v with zeros behind each piece's values and errors, where the components between are
 -- zero in every sample: the same pieces, the same heights, the same ending. Every piece is walked to by cuts that keep its ends in order,
 -- so that no zero turns into −0 or a NaN. Assumes nothing.
-use mathlib.Core.Path.{_≡_, refl, sym, ap, _∙_, subst}
+use mathlib.Core.Path.{_≡_, refl, sym, ap, _∙_}
 use mathlib.Core.Bool.{Bool, true, false, _||_, cond}
 use mathlib.Core.List.{List, [], _∷_, _++_, map}
 use Prim.Native.Nat.{ℕ, zero, suc, _-_, _≤_}

@@ -8,7 +8,7 @@ use lib.Dec.{lit≤}
 use lib.IntN.{pos, negsuc}
 use lib.Ieee.{Float, nan, inf, fin, mul, sub, le, eq, ofBits}
 use lib.Ieee.Bits.{is-true}
-use Rattle.floats.specs.Operations.{_⊕_, _⊖_, _⊗_, bits, every}
+use Rattle.floats.specs.Operations.{_⊖_, _⊗_, bits, every}
 use Rattle.floats.specs.Constants.{half, one}
 use Rattle.floats.proofs.Bools.{no}
 use Rattle.floats.proofs.Zeros.{zero-is}

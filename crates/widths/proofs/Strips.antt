@@ -1,16 +1,13 @@
 -- The strips of a run at width w are those at width v with zeros behind, where the components between are zero in every sample and each
 -- strip's ends are in order; and so are the samples, intervals and ending that are reported, and the totals. Assumes nothing.
 use mathlib.Core.Path.{_≡_, refl, ap, _∙_, subst}
-use mathlib.Core.Bool.{Bool, true, false, _&&_, _||_, cond}
+use mathlib.Core.Bool.{Bool, true, false, cond}
 use mathlib.Core.List.{List, [], _∷_, map}
 use Prim.Native.Nat.{ℕ, _+_, _-_}
-use lib.Dec.{T, lit≤}
 use lib.ListN.{length, length-map}
-use lib.Ieee.{Float, binary64, lt, eq, le}
-use lib.Ieee.Fits.{div-fits}
-use lib.Ieee.Positive.{positive}
+use lib.Ieee.{Float}
 use Rattle.floats.specs.Operations.{_⊘_}
-use Rattle.rounding.specs.Sizes.{Below, InOrder}
+use Rattle.rounding.specs.Sizes.{InOrder}
 use Rattle.halving.specs.Halving.{Halved, halving}
 use Rattle.halving.specs.Scratch.{widened, widenedHalved}
 use Rattle.halving.specs.declared.Ending.{Ending}

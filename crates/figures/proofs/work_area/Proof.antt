@@ -1,8 +1,15 @@
--- `figures::work_area` meets its contract: the strips are those of the planform. Assumes nothing.
-use mathlib.Core.Path.{refl, _∙_}
+-- `figures::work_area` meets its contract: the strips are those of the planform, three components of seven used. Assumes nothing.
+use mathlib.Core.Path.{refl, ap, _∙_}
+use mathlib.Core.List.{List}
 use native.Mathlib.Omega.{arith}
+use lib.Ieee.{Float}
+use Rattle.integrands.specs.Integrands.{scaleOf}
 use Rattle.fins.proofs.Accepted.{area-limit, area-scratch}
+use Rattle.strips.specs.Strips.{Worked, totalsOf, scratchAfter}
+use Rattle.figures.specs.Areas.{concludedArea}
 use Rattle.figures.proofs.Runs.{area-sample, same-run}
+use Rattle.figures.proofs.Widths.{area-at-three}
+use Rattle.figures.proofs.Owned.{planform-f64}
 use borrow.Author.Needs.{needs}
 use Rattle.figures.proofs.work_area.Statement.{statement}
 use Rattle.figures.proofs.work_area.Tie as tie
@@ -30,13 +37,21 @@ returns : tie.Need-returns
 returns c =
     let i = c .before .before .before in
     let scaled = i .before .before in
-    let a = scaled .before .before .before .before .args in
+    let known = scaled .before .before .before in
+    let start = known .before in
+    let a = start .args in
     let run = same-run (a .limit) (a .scratch .now) (i .integrate .last .0) (i .integrate .result)
     (area-sample (a .planform) (a .points .now) _ (scaled .before .area-integrand .ensures))
     (scaled .scale-m .ensures)
     refl
     (i .integrate .ensures) in
-    (c .concluded-area .ensures ∙ rw (scaled .scale-m .ensures, run .answer), run .scratch)
+    let f64s = planform-f64 (a .planform) _ _ (start .good .0) (known .shared-slice-known .given) in
+    let three = area-at-three (a .planform) (a .points .now) (a .limit) _ f64s (start .pre) in (
+      c .concluded-area .ensures
+          ∙ ap (λ (scale : Float). concludedArea scale (i .integrate .result)) (scaled .scale-m .ensures)
+          ∙ ap (concludedArea (scaleOf (a .planform) (a .points .now))) (run .answer ∙ ap totalsOf three),
+      run .scratch ∙ ap (λ (l : List Worked). scratchAfter l (a .scratch .now)) three,
+    )
 
 pub work-area-spec : {M : Type 1} → statement M
 work-area-spec =
