@@ -1,14 +1,14 @@
 -- The break heights of a planform within its limits are at most 2^6 and strictly rise. Assumes nothing.
-use mathlib.Core.Path.{_≡_, refl}
 use mathlib.Core.List.{List, [], _∷_}
 use mathlib.Core.Bool.{Bool, true, false, cond}
 use Prim.Native.Nat.{ℕ, zero, suc, _<_}
 use native.Mathlib.Nat.{le-refl, le-trans, le-suc}
-use lib.Dec.{leb, T, lit≤}
-use lib.Ieee.{Float, nan, inf, fin, isNan}
+use lib.Dec.{leb, lit≤}
+use lib.Ieee.{Float}
 use lib.Ieee.Scale.{finite}
 use Rattle.floats.specs.Operations.{bits}
 use Rattle.rounding.specs.Sizes.{Below}
+use Rattle.rounding.proofs.Signs.{finite-no-nan}
 use Rattle.rounding.proofs.Sizes.{zero-below, weaker}
 use Rattle.sorting.specs.Sorted.{Each, sorted, Rising, NoNan}
 use Rattle.sorting.proofs.Sorted.{sorted-each}
@@ -38,16 +38,10 @@ every-y Outline points s = go (leb (pairCount points) 64)
 all-bounded : (planform : Planform) (points : List Float) → Sized planform points → Each (Below 6) (allHeights planform points)
 all-bounded planform points s = (weaker (bits 0) 0 6 (lit≤ tt) zero-below, (span-sized planform points s .below, every-y planform points s))
 
-no-nan : (x : Float) → T (finite x) → isNan x ≡ false
-unfolding isNan
-no-nan nan i = absurd i
-no-nan (inf s) i = absurd i
-no-nan (fin s m e) i = refl
-
 none-nan : (l : List Float) → Each (Below 6) l → NoNan l
 unfolding NoNan
 none-nan [] b = tt
-none-nan (x ∷ l) b = (no-nan x (b .0 .finite), none-nan l (b .1))
+none-nan (x ∷ l) b = (finite-no-nan x (b .0 .finite), none-nan l (b .1))
 
 pub breaks-bounded : (planform : Planform) (points : List Float) → Sized planform points → Each (Below 6) (breakHeights planform points)
 unfolding breakHeights

@@ -7,6 +7,7 @@ use native.Mathlib.Omega.{arith}
 use lib.ListN.{length, take, drop}
 use lib.Seq.{length-take-le}
 use lib.Ieee.{Float}
+use Rattle.floats.proofs.Bools.{and-left}
 use Rattle.tokens.specs.Tokens.{Token, tokens}
 use Rattle.tokens.specs.Found.{starting, IsFound}
 use Rattle.tokens.specs.declared.Kind.{Kind}
@@ -33,10 +34,6 @@ from line v c m = record { is = refl; room = m }
 pub on : (line : List ℕ) (v w : List Float) (c r : Cursor) (m : Reading) (p : Reading → Reading) → Stands line v c m → ReadsOn line v w c r (p (readingAt line v c)) → Stands line w r (p m)
 on line v w c r m p s o = record { is = o .is ∙ ap p (s .is); room = o .room }
 
-and-first : (a b : Bool) → (a && b) ≡ true → a ≡ true
-and-first true b h = refl
-and-first false b h = h
-
 module _ (line : List ℕ) (v : List Float) (c : Cursor) (m : Reading) (s : Stands line v c m) where
   ok-fits : fits m ≡ c .ok
   ok-fits = ap fits (sym (s .is)) ∙ fits-at line v c
@@ -59,7 +56,7 @@ module _ (line : List ℕ) (v : List Float) (c : Cursor) (m : Reading) (s : Stan
     figures-at = sym (ap figuresIn is-reading ∙ length-take-le (c .figures) v few)
 
   pub whole-fits : isWhole line c ≡ true → fits m ≡ true
-  whole-fits h = ok-fits ∙ and-first (c .ok) (noTokens (tokens (drop (c .at) line))) h
+  whole-fits h = ok-fits ∙ and-left (c .ok) (noTokens (tokens (drop (c .at) line))) h
 
   whole-by : (q : Request) (ok : Bool) (ts : List Token) (t : Taken) → (ok && noTokens ts) ≡ true → ended (pick ok (reading ts t) failed) q ≡ asked q (t .figures)
   whole-by q true [] t h = refl

@@ -35,7 +35,7 @@ pub record Height (x : Float) : Type 0 where
   pub not-under : lt x (bits 0) ≡ false
 
 -- a length above 0
-pub record LengthAbove0 (x : Float) : Type 0 where
+pub record PositiveLength (x : Float) : Type 0 where
   pub length : Length x
   pub above : Above 20 x
   pub not-minus : minus x ≡ false
@@ -91,7 +91,7 @@ above-plus (inf s) i h = absurd i
 above-plus (fin false m e) i h = refl
 above-plus (fin true m e) i h = no (sym h ∙ ap (λ (z : Float). lt z (fin true m e)) zero-is)
 
-above-within : (z n : Bool) (x : Float) → T (fits binary64 x) → T (lengthWithin z n x) → lt (bits 0) x ≡ true → LengthAbove0 x
+above-within : (z n : Bool) (x : Float) → T (fits binary64 x) → T (lengthWithin z n x) → lt (bits 0) x ≡ true → PositiveLength x
 unfolding lengthWithin
 above-within z n x t h p =
     let l = length-within z n x t h in
@@ -126,13 +126,13 @@ module _ (field : ℕ) (x : Float) (f : T (fits binary64 x)) (h : lengthCheck fi
   pub length-checked : Length x
   length-checked = length-within (zeroAllowed field) (negativeAllowed field) x f (of-true _ (within field x h))
 
-  pub above-checked : lt (bits 0) x ≡ true → LengthAbove0 x
+  pub above-checked : lt (bits 0) x ≡ true → PositiveLength x
   above-checked p = above-within (zeroAllowed field) (negativeAllowed field) x f (of-true _ (within field x h)) p
 
   by-tests : (z n : Bool) → zeroAllowed field ≡ z → negativeAllowed field ≡ n → lengthWithin z n x ≡ true
   by-tests z n p q = subst (λ (b : Bool). lengthWithin b n x ≡ true) p (subst (λ (b : Bool). lengthWithin (zeroAllowed field) b x ≡ true) q (within field x h))
 
-  pub field-above : zeroAllowed field ≡ false → negativeAllowed field ≡ false → LengthAbove0 x
+  pub field-above : zeroAllowed field ≡ false → negativeAllowed field ≡ false → PositiveLength x
   field-above p q = above-checked (is-above x (by-tests false false p q))
 
   pub height-checked : zeroAllowed field ≡ true → negativeAllowed field ≡ false → Height x

@@ -17,6 +17,7 @@ use Rattle.refusals.specs.Order.{refuseUnless, firstRefusal}
 use Rattle.limits.specs.Limits.{limitCheck, scratchCheck, countCheck}
 use Rattle.planforms.specs.declared.Planform.{Planform}
 use Rattle.fins.specs.declared.FinSet.{FinSet}
+use Rattle.floats.proofs.Bools.{and-false}
 use Rattle.fins.specs.Fins.{setCheck, areaCheck}
 use Rattle.forms.specs.declared.Form.{Form}
 use Rattle.forms.specs.declared.Form.the-variants.{Set as SetForm, Area as AreaForm, Join as JoinForm, Moments as MomentsForm, Check as CheckForm, NoForm}
@@ -29,10 +30,6 @@ use Rattle.figures.specs.Areas.{areaFigures, areaScratch}
 use Rattle.lines.specs.Lines.{printedSet, printedArea, setAnswer, areaAnswer, answerTo, scratchAfterForm}
 
 -- ---- the two checks
-
-and-false : (a : Bool) → (a && false) ≡ false
-and-false true = refl
-and-false false = refl
 
 too-long : (L : ℕ) → 4000 < L → limitCheck L ≡ Refused Limit
 too-long L h = ap (λ (t : Bool). refuseUnless (leb 1 L && t) Limit) (lt-leb L 4000 h) ∙ ap (λ (t : Bool). refuseUnless t Limit) (and-false (leb 1 L))

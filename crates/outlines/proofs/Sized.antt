@@ -12,7 +12,7 @@ use Rattle.refusals.specs.declared.Refusal.the-variants.{Ends}
 use Rattle.refusals.specs.declared.Verdict.the-variants.{Accepted}
 use Rattle.refusals.proofs.Accepted.{holds, both, both-true, each-accepted}
 use Rattle.limits.specs.Limits.{pointXField, pointYField, lengthCheck}
-use Rattle.limits.proofs.Lengths.{Length, Height, LengthAbove0, length-checked, above-checked, height-checked}
+use Rattle.limits.proofs.Lengths.{Length, Height, PositiveLength, length-checked, above-checked, height-checked}
 use Rattle.planforms.specs.Planforms.{xAt, heightAt, pairCount, lastX}
 use Rattle.planforms.specs.declared.Planform.the-variants.{Outline}
 use Rattle.planforms.proofs.Sized.{Sized}
@@ -26,7 +26,7 @@ module _ (points : List Float) (f : (i : ℕ) → T (fits binary64 (at points i)
       let ys = both (lengthCheck pointYField (heightAt points i)) Accepted (xs .1) in
       (length-checked pointXField (xAt points i) (f (2 * i)) (xs .0), height-checked pointYField (heightAt points i) (f (2 * i + 1)) (ys .0) refl refl)
 
-  last-sized : (n : ℕ) → 3 ≤ n → pointCheck points (n - 1) ≡ Accepted → lt (bits 0) (xAt points (n - 1)) ≡ true → LengthAbove0 (lastX points n)
+  last-sized : (n : ℕ) → 3 ≤ n → pointCheck points (n - 1) ≡ Accepted → lt (bits 0) (xAt points (n - 1)) ≡ true → PositiveLength (lastX points n)
   last-sized zero l h p = absurd (let z : ⊥ = omega arith in z)
   last-sized (suc n) l h p =
       let e : suc n - 1 ≡ n = omega arith in

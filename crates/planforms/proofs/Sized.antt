@@ -11,7 +11,7 @@ use Rattle.floats.specs.Floats.{maxOf}
 use Rattle.rounding.specs.Sizes.{Below}
 use Rattle.rounding.proofs.Signs.{finite-plus, plus-not-below-zero}
 use Rattle.rounding.proofs.Sizes.{zero-below, max-below, weaker}
-use Rattle.limits.proofs.Lengths.{Length, Height, LengthAbove0}
+use Rattle.limits.proofs.Lengths.{Length, Height, PositiveLength}
 use Rattle.planforms.specs.Planforms.{xAt, heightAt, pairCount, lastX, largestHeight, rootChordOf, spanOf}
 use Rattle.planforms.specs.declared.Planform.{Planform}
 use Rattle.planforms.specs.declared.Planform.the-variants.{Trapezoid, Ellipse, Outline}
@@ -24,11 +24,11 @@ PlanformF64 Outline points = (i : ℕ) → T (fits binary64 (at points i))
 
 -- the lengths are within their limits
 abbrev pub Sized : Planform → List Float → Type 0
-Sized (Trapezoid root tip span sweep) points = LengthAbove0 root × (Length tip × (LengthAbove0 span × Length sweep))
-Sized (Ellipse root span) points = LengthAbove0 root × LengthAbove0 span
-Sized Outline points = ((i : ℕ) → i < pairCount points → Length (xAt points i) × Height (heightAt points i)) × LengthAbove0 (lastX points (pairCount points))
+Sized (Trapezoid root tip span sweep) points = PositiveLength root × (Length tip × (PositiveLength span × Length sweep))
+Sized (Ellipse root span) points = PositiveLength root × PositiveLength span
+Sized Outline points = ((i : ℕ) → i < pairCount points → Length (xAt points i) × Height (heightAt points i)) × PositiveLength (lastX points (pairCount points))
 
-pub root-sized : (planform : Planform) (points : List Float) → Sized planform points → LengthAbove0 (rootChordOf planform points)
+pub root-sized : (planform : Planform) (points : List Float) → Sized planform points → PositiveLength (rootChordOf planform points)
 unfolding rootChordOf
 root-sized (Trapezoid root tip span sweep) points s = s .0
 root-sized (Ellipse root span) points s = s .0
@@ -58,7 +58,7 @@ largest points (suc n) p =
     max-span (largestHeight points n) (heightAt points n) (largest points n (λ i l. p i (le-trans l (le-suc n))))
     (let y = p n (le-refl (suc n)) .1 in record { below = y .length .below; not-under = y .not-under })
 
-span-above : (x : Float) → LengthAbove0 x → Span x
+span-above : (x : Float) → PositiveLength x → Span x
 span-above x l = record { below = l .length .below; not-under = plus-not-below-zero x (finite-plus x (l .above .finite) (l .not-minus)) }
 
 pub span-sized : (planform : Planform) (points : List Float) → Sized planform points → Span (spanOf planform points)

@@ -76,12 +76,19 @@ count-exact n p h l =
     far p h = omega arith
 
 -- ---- an f64 times 2^j, unless it overflows
-pub pow-le-back : (a b : ℕ) → 2 ^ a ≤ 2 ^ b → a ≤ b
+pow-le-back : (a b : ℕ) → 2 ^ a ≤ 2 ^ b → a ≤ b
 pow-le-back a b h = go (leb a b) (leb→le a b) (nleb→lt a b)
   where
     go : (c : Bool) → (T c → a ≤ b) → (T (not c) → b < a) → a ≤ b
     go true p q = p tt
     go false p q = absurd (not-le-of-lt (pow-lt (q tt)) h)
+
+pub pow-lt-back : (a b : ℕ) → 2 ^ a < 2 ^ b → a < b
+pow-lt-back a b h = go (leb b a) (leb→le b a) (nleb→lt b a)
+  where
+    go : (t : Bool) → (T t → b ≤ a) → (T (not t) → a < b) → a < b
+    go true p q = absurd (not-le-of-lt h (pow-mono (p tt)))
+    go false p q = q tt
 
 shifted-exact : (f : Format) (m : ℕ) (e : ℤ) (j : ℕ) → m < 2 ^ prec f → down e ≤ 2 ^ low f → m * up e * 2 ^ j < 2 ^ suc (emax f) * down e → Exact f (m * up e * 2 ^ j) (down e)
 shifted-exact f m (pos k) j a b h =

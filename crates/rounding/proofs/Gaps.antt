@@ -4,7 +4,7 @@ use mathlib.Core.Path.{_≡_, refl, sym, ap, _∙_, subst}
 use mathlib.Core.Logic.{_⊎_, inl, inr}
 use mathlib.Core.Bool.{Bool, true, false, not, _&&_, true≢false}
 use Prim.Native.Nat.{ℕ, zero, suc, _+_, _-_, _*_, _%_, _^_, _≤_, _<_}
-use native.Mathlib.Nat.{le-trans, le-of-eq, le-of-lt, lt-of-le-of-lt, not-le-of-lt, mul-one, one-mul, zero-mul, mul-comm, mul-assoc, add-mul, mul-le-mul, mul-le-mul-right, mul-pos, mul-lt-mul-of-pos-right, zero-lt-suc}
+use native.Mathlib.Nat.{le-trans, le-of-eq, le-of-lt, lt-of-le-of-lt, mul-one, one-mul, zero-mul, mul-comm, mul-assoc, add-mul, mul-le-mul, mul-le-mul-right, mul-pos, mul-lt-mul-of-pos-right, zero-lt-suc}
 use native.Mathlib.Omega.{arith}
 use lib.Dec.{T, leb, ltb, eqb, leb→le, nleb→lt, ltb→lt}
 use lib.IntN.{pos, negsuc}
@@ -18,7 +18,7 @@ use lib.Ieee.Positive.{den}
 use Rattle.floats.specs.Operations.{_⊖_}
 use Rattle.rounding.specs.Sizes.{AtLeast, Above, OnGrid}
 use Rattle.rounding.proofs.Signed.{Adds}
-use Rattle.rounding.proofs.Exact.{small-exact}
+use Rattle.rounding.proofs.Exact.{small-exact, pow-lt-back}
 use Rattle.rounding.proofs.Rounding.{round-least}
 use Rattle.rounding.proofs.Operations.{add-is}
 
@@ -129,13 +129,6 @@ sub-above (fin s m e) (fin t n g) k r p q d i =
     ]
 
 -- ---- an f64 of 2^-s at least is a multiple of 2^-(52 + s)
-lower : (a b : ℕ) → 2 ^ a < 2 ^ b → a < b
-lower a b h = go (leb b a) (leb→le b a) (nleb→lt b a)
-  where
-    go : (t : Bool) → (T t → b ≤ a) → (T (not t) → a < b) → a < b
-    go true p q = absurd (not-le-of-lt h (pow-mono (p tt)))
-    go false p q = q tt
-
 last : (k s : ℕ) → k < 53 + s → k ≤ 52 + s
 last k s h = omega arith
 
@@ -152,4 +145,4 @@ grid-of-above (fin u (suc m) (negsuc k)) s t h =
     let d : Bool = ltb (suc m * 1) (2 ^ 1024 * 2 ^ suc k) in
     let small : suc m < 2 ^ 53 = ltb→lt (suc m) (2 ^ 53) (and-r a b (and-l (a && b) c (and-l (a && b && c) d t))) in
     let size : 2 ^ suc k ≤ suc m * 2 ^ s = rw (one-mul (2 ^ suc k)) at (rw (mul-one (suc m)) at (h .size)) in
-    (tt, pow-mono (last (suc k) s (lower (suc k) (53 + s) (lt-of-le-of-lt size (rw (pow-add 2 53 s) (mul-lt-mul-of-pos-right small (pow-pos s)))))))
+    (tt, pow-mono (last (suc k) s (pow-lt-back (suc k) (53 + s) (lt-of-le-of-lt size (rw (pow-add 2 53 s) (mul-lt-mul-of-pos-right small (pow-pos s)))))))

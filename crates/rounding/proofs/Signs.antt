@@ -41,6 +41,12 @@ finite-plus (inf s) i h = absurd i
 finite-plus (fin true m e) i h = no h
 finite-plus (fin false m e) i h = tt
 
+pub finite-no-nan : (x : Float) → T (finite x) → isNan x ≡ false
+unfolding isNan
+finite-no-nan nan i = absurd i
+finite-no-nan (inf s) i = absurd i
+finite-no-nan (fin s m e) i = refl
+
 pub plus-no-nan : (x : Float) → T (plus x) → isNan x ≡ false
 unfolding isNan
 plus-no-nan nan t = absurd t

@@ -55,16 +55,16 @@ mul-below x y p q r h k =
     (rw (pow-add 2 p q) (product (num x) (num y) (den x) (den y) (2 ^ p) (2 ^ q) (h .size) (k .size)))
 
 -- ---- the sum and the difference
-total : (nx ny dx dy a : ℕ) → nx * 1 ≤ a * dx → ny * 1 ≤ a * dy → (nx * dy + ny * dx) * 1 ≤ (a + a) * (dx * dy)
-total nx ny dx dy a h k =
+total : (nx ny dx dy a b : ℕ) → nx * 1 ≤ a * dx → ny * 1 ≤ b * dy → (nx * dy + ny * dx) * 1 ≤ (a + b) * (dx * dy)
+total nx ny dx dy a b h k =
     let u : nx * dy ≤ a * (dx * dy) = le-trans (mul-le-mul-right dy (rw (mul-one nx) at h)) (le-of-eq (mul-assoc a dx dy)) in
-    let w : ny * dx ≤ a * (dx * dy) = le-trans (mul-le-mul-right dx (rw (mul-one ny) at k)) (le-of-eq (mul-assoc a dy dx ∙ ap (λ (z : ℕ). a * z) (mul-comm dy dx))) in
-    rw (mul-one (nx * dy + ny * dx), add-mul a a (dx * dy)) (add-le-add u w)
+    let w : ny * dx ≤ b * (dx * dy) = le-trans (mul-le-mul-right dx (rw (mul-one ny) at k)) (le-of-eq (mul-assoc b dy dx ∙ ap (λ (z : ℕ). b * z) (mul-comm dy dx))) in
+    rw (mul-one (nx * dy + ny * dx), add-mul a b (dx * dy)) (add-le-add u w)
 
 pub add-below : (x y : Float) (p : ℕ) → p < 1023 → Below p x → Below p y → Below (suc p) (x ⊕ y)
 add-below x y p r h k =
     add-most binary64 x y (2 ^ suc p) 1 (zero-lt-suc 0) (pow-exact binary64 (suc p) r) (h .finite) (k .finite)
-    (rw (two-pow-succ p) (total (num x) (num y) (den x) (den y) (2 ^ p) (h .size) (k .size)))
+    (rw (two-pow-succ p) (total (num x) (num y) (den x) (den y) (2 ^ p) (2 ^ p) (h .size) (k .size)))
 
 pub neg-below : (x : Float) (p : ℕ) → Below p x → Below p (neg x)
 neg-below x p h = neg-most x (2 ^ p) 1 h
@@ -112,17 +112,10 @@ pub max-below : (x y : Float) (p : ℕ) → Below p x → Below p y → Below p 
 max-below x y p h k = cond-below (ne x x) y (cond (lt x y) y x) p k (cond-below (lt x y) y x p k h)
 
 -- ---- n terms of 2^p at most, added up from 0
-total-of : (nx ny dx dy n a : ℕ) → nx * 1 ≤ n * a * dx → ny * 1 ≤ a * dy → (nx * dy + ny * dx) * 1 ≤ suc n * a * (dx * dy)
-total-of nx ny dx dy n a h k =
-    let u : nx * dy ≤ n * a * (dx * dy) = le-trans (mul-le-mul-right dy (rw (mul-one nx) at h)) (le-of-eq (mul-assoc (n * a) dx dy)) in
-    let w : ny * dx ≤ a * (dx * dy) = le-trans (mul-le-mul-right dx (rw (mul-one ny) at k)) (le-of-eq (mul-assoc a dy dx ∙ ap (λ (z : ℕ). a * z) (mul-comm dy dx))) in
-    let e : suc n * a * (dx * dy) ≡ n * a * (dx * dy) + a * (dx * dy) = ap (λ (z : ℕ). z * (dx * dy)) (suc-mul n a) ∙ add-mul (n * a) a (dx * dy) in
-    rw (mul-one (nx * dy + ny * dx), e) (add-le-add u w)
-
 pub sum-step : (x y : Float) (n p : ℕ) → suc n < 2 ^ 53 → p ≤ 970 → AtMost (n * 2 ^ p) 1 x → Below p y → AtMost (suc n * 2 ^ p) 1 (x ⊕ y)
 sum-step x y n p r l h k =
     add-most binary64 x y (suc n * 2 ^ p) 1 (zero-lt-suc 0) (count-exact (suc n) p r l) (h .finite) (k .finite)
-    (total-of (num x) (num y) (den x) (den y) n (2 ^ p) (h .size) (k .size))
+    (rw (suc-mul n (2 ^ p)) (total (num x) (num y) (den x) (den y) (n * 2 ^ p) (2 ^ p) (h .size) (k .size)))
 
 -- ---- the product of two that are not small
 grown : (nx ny dx dy a c : ℕ) → 1 * dx ≤ nx * a → 1 * dy ≤ ny * c → 1 * (dx * dy) ≤ nx * ny * (a * c)

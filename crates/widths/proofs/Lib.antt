@@ -5,3 +5,4 @@ pub mod Pieces
 pub mod Halvings
 pub mod Ends
 pub mod Strips
+pub mod Totals
