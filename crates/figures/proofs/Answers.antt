@@ -32,17 +32,17 @@ module _ (set : FinSet) (points : List Float) (L : ℕ) (entry : List Float) (r 
   set-worked accepts e s =
       let root = rootChordOf (set .planform) points in
       let scale = scaleOf (set .planform) points in
-      let total = totalsOf (setStrips set points L) in
+      let strips = setStrips set points L in
       record {
         figures = rw accepts e;
         scratch = rw accepts s;
         given-before-strips = λ refusal h. no-refusal refusal (sym h ∙ accepts);
-        zero-figures = concluded-zeros set root scale total r e;
+        zero-figures = concluded-zeros set root scale strips r e;
         demand-3 = λ h. demand-3 7 (setIntegrand set points) L (set-limit set points L (length entry) accepts .0) scale (breakHeights (set .planform) points)
             (r .samples) (r .intervals) (r .verdict ≡ Accepted) (λ ending. Reported ending (r .verdict)) entry exit
-            (concluded-samples set root scale total r e)
-            (concluded-intervals set root scale total r e)
-            (concluded-verdict set root scale total r e (set-count-check set points L (length entry) accepts) (set-density set points L (length entry) accepts))
+            (concluded-samples set root scale strips r e)
+            (concluded-intervals set root scale strips r e)
+            (concluded-verdict set root scale strips r e (set-count-check set points L (length entry) accepts) (set-density set points L (length entry) accepts))
             s;
       }
 
@@ -64,17 +64,17 @@ module _ (planform : Planform) (points : List Float) (L : ℕ) (entry : List Flo
   unfolding areaFigures areaScratch
   area-worked accepts e s =
       let scale = scaleOf planform points in
-      let total = totalsOf (areaStrips planform points L) in
+      let strips = areaStrips planform points L in
       record {
         figures = rw accepts e;
         scratch = rw accepts s;
         given-before-strips = λ refusal h. no-refusal refusal (sym h ∙ accepts);
-        zero-figures = concluded-area-zeros scale total r e;
+        zero-figures = concluded-area-zeros scale strips r e;
         demand-3 = λ h. demand-3 7 (areaOf planform points) L (area-limit planform points L (length entry) accepts .0) scale (breakHeights planform points)
             (r .samples) (r .intervals) (r .verdict ≡ Accepted) (λ ending. Reported ending (r .verdict)) entry exit
-            (concluded-area-samples scale total r e)
-            (concluded-area-intervals scale total r e)
-            (concluded-area-verdict scale total r e)
+            (concluded-area-samples scale strips r e)
+            (concluded-area-intervals scale strips r e)
+            (concluded-area-verdict scale strips r e)
             s;
       }
 

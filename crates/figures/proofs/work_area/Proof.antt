@@ -1,8 +1,6 @@
 -- `figures::work_area` meets its contract: the strips are those of the planform. Assumes nothing.
-use mathlib.Core.Path.{refl, _∙_}
-use native.Mathlib.Omega.{arith}
-use Rattle.fins.proofs.Accepted.{area-limit, area-scratch}
-use Rattle.figures.proofs.Runs.{area-sample, same-run}
+use mathlib.Core.Path.{_∙_}
+use Rattle.figures.proofs.Runs.{area-strips, area-run, run-of}
 use borrow.Author.Needs.{needs}
 use Rattle.figures.proofs.work_area.Statement.{statement}
 use Rattle.figures.proofs.work_area.Tie as tie
@@ -13,12 +11,8 @@ area-integrand-requires c κs = search needs
 scale-m-requires : tie.Need-scale-m-requires
 scale-m-requires c κs = search needs
 
-integrate-requires : tie.Need-integrate-requires
-integrate-requires c κs =
-    let s = c .before .before .before .before .before in
-    let a = s .args in
-    let limit = area-limit (a .planform) (a .points .now) (a .limit) _ (s .pre) in
-    (limit .0, limit .1, omega (arith, area-scratch (a .planform) (a .points .now) (a .limit) _ (s .pre)))
+work-strips-requires : tie.Need-work-strips-requires
+work-strips-requires c κs = search needs
 
 concluded-area-requires : tie.Need-concluded-area-requires
 concluded-area-requires c κs = search needs
@@ -30,13 +24,13 @@ returns : tie.Need-returns
 returns c =
     let i = c .before .before .before in
     let scaled = i .before .before in
-    let a = scaled .before .before .before .before .args in
-    let run = same-run (a .limit) (a .scratch .now) (i .integrate .last .0) (i .integrate .result)
-    (area-sample (a .planform) (a .points .now) _ (scaled .before .area-integrand .ensures))
-    (scaled .scale-m .ensures)
-    refl
-    (i .integrate .ensures) in
-    (c .concluded-area .ensures ∙ rw (scaled .scale-m .ensures, run .answer), run .scratch)
+    let s = scaled .before .before .before .before in
+    let a = s .args in
+    let run = run-of _ (a .points .now) (a .limit) (a .scratch .now) _ _
+    (area-run (a .planform) (a .points .now) (a .limit) _ (s .pre))
+    (area-strips (a .planform) (a .points .now) (a .limit) _ (scaled .before .area-integrand .ensures))
+    (i .work-strips .ensures) in
+    (c .concluded-area .ensures ∙ rw (scaled .scale-m .ensures, run .0), run .1)
 
 pub work-area-spec : {M : Type 1} → statement M
 work-area-spec =
@@ -44,7 +38,7 @@ work-area-spec =
     (tie.spec
     area-integrand-requires
     scale-m-requires
-    integrate-requires
+    work-strips-requires
     concluded-area-requires
     same-length
     returns)
