@@ -34,18 +34,18 @@ module _ (set : FinSet) (points : List Float) (L : ℕ) (entry : List Float) (r 
   set-worked accepts e s =
       let root = rootChordOf (set .planform) points in
       let scale = scaleOf (set .planform) points in
-      let total = totalsOf (setStrips set points L) in
+      let strips = setStrips set points L in
       record {
         figures = rw accepts e;
         scratch = rw accepts s;
         given-before-strips = λ refusal h. no-refusal refusal (sym h ∙ accepts);
-        zero-figures = concluded-zeros set root scale total r e;
+        zero-figures = concluded-zeros set root scale strips r e;
         demand-3 = λ h. demand-3 7 (setIntegrand set points) L (set-limit set points L (length entry) accepts .0) scale (breakHeights (set .planform) points)
             (r .samples) (r .intervals) (r .verdict ≡ Accepted) (λ ending. Reported ending (r .verdict)) entry exit
-            (concluded-samples set root scale total r e)
-            (concluded-intervals set root scale total r e)
-            (concluded-verdict set root scale total r e (set-count-check set points L (length entry) accepts) (set-density set points L (length entry) accepts))
-            (s ∙ ap (λ (strips : List Worked). scratchAfter strips entry) (sym (none-behind (setStrips set points L))));
+            (concluded-samples set root scale strips r e)
+            (concluded-intervals set root scale strips r e)
+            (concluded-verdict set root scale strips r e (set-count-check set points L (length entry) accepts) (set-density set points L (length entry) accepts))
+            (s ∙ ap (λ (l : List Worked). scratchAfter l entry) (sym (none-behind strips)));
       }
 
   pub set-refused : (refusal : Refusal) → setCheck set points L (length entry) ≡ Refused refusal → r ≡ refusedFigures refusal 0 → exit ≡ entry →
@@ -66,17 +66,18 @@ module _ (planform : Planform) (points : List Float) (L : ℕ) (entry : List Flo
   unfolding areaFigures areaScratch
   area-worked accepts e s =
       let scale = scaleOf planform points in
-      let total = totalsOf (areaSeven planform points L) in
+      let strips = areaStrips planform points L in
+      let seven = areaSeven planform points L in
       record {
         figures = rw accepts e;
         scratch = rw accepts s;
         given-before-strips = λ refusal h. no-refusal refusal (sym h ∙ accepts);
-        zero-figures = concluded-area-zeros scale total r e;
+        zero-figures = concluded-area-zeros scale seven r e;
         demand-3 = λ h. demand-3 3 (areaThree planform points) L (area-limit planform points L (length entry) accepts .0) scale (breakHeights planform points)
             (r .samples) (r .intervals) (r .verdict ≡ Accepted) (λ ending. Reported ending (r .verdict)) entry exit
-            (concluded-area-samples scale total r e ∙ samples-same 4 (areaStrips planform points L))
-            (λ given. concluded-area-intervals scale total r e given ∙ intervals-same 4 (areaStrips planform points L))
-            (subst (λ (ending : Ending). Reported ending (r .verdict)) (ending-same 4 (areaStrips planform points L)) (concluded-area-verdict scale total r e))
+            (concluded-area-samples scale seven r e ∙ samples-same 4 strips)
+            (λ given. concluded-area-intervals scale seven r e given ∙ intervals-same 4 strips)
+            (subst (λ (ending : Ending). Reported ending (r .verdict)) (ending-same 4 strips) (concluded-area-verdict scale seven r e))
             s;
       }
 

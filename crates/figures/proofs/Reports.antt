@@ -25,8 +25,10 @@ use Rattle.bodies.specs.declared.Centre.{Centre}
 use Rattle.fins.specs.declared.FinSet.{FinSet}
 use Rattle.halving.specs.declared.Ending.{Ending}
 use Rattle.halving.specs.declared.Ending.the-variants.{Accepted as accepted, NotConverged as notConverged, NotFinite as notFinite}
-use Rattle.halving.specs.declared.Integral.{Integral}
 use Rattle.halving.specs.Halving.{verdictOf}
+use Rattle.strips.specs.declared.Totals.{Totals}
+use Rattle.strips.specs.Strips.{Worked, samplesIn, intervalsIn, endingOf, totalsOf}
+use Rattle.strips.proofs.Reported.{totals-samples, totals-intervals, totals-verdict}
 use Rattle.joins.specs.declared.Joined.{Joined}
 use Rattle.joins.specs.Joins.{joinOf, refusedCount}
 use Rattle.plates.specs.declared.PlanformGeometry.{PlanformGeometry}
@@ -92,7 +94,7 @@ fins-joined set root scale total c d =
 abbrev pub ZeroFigures : Figures → Type 0
 ZeroFigures r = (number : ℕ) (values : List ℕ) → Gives (r .verdict) number values → (r .body ≡ emptyBody) × (r .intervals ≡ 0)
 
-module _ (set : FinSet) (root scale : Float) (total : Integral) where
+module _ (set : FinSet) (root scale : Float) (total : Totals) where
   abbrev Joined· : Joined
   Joined· = massPropertiesOf set root scale (total .value)
 
@@ -117,8 +119,9 @@ module _ (set : FinSet) (root scale : Float) (total : Integral) where
   ended-samples Accepted = joined-samples (Joined· .verdict) Joined·
   ended-samples (Refused refusal) = refl
 
-  ended-intervals : (verdict : Verdict) → byVerdict verdict set root scale total .verdict ≡ Accepted → byVerdict verdict set root scale total .intervals ≡ total .intervals
-  ended-intervals Accepted h = joined-intervals (Joined· .verdict) Joined· h
+  ended-intervals : (verdict : Verdict) → byVerdict verdict set root scale total .verdict ≡ Accepted
+      → (verdict ≡ Accepted) × (byVerdict verdict set root scale total .intervals ≡ total .intervals)
+  ended-intervals Accepted h = (refl, joined-intervals (Joined· .verdict) Joined· h)
   ended-intervals (Refused refusal) h = no-refusal refusal h
 
   ended-zeros : (verdict : Verdict) → ZeroFigures (byVerdict verdict set root scale total)
@@ -130,22 +133,30 @@ module _ (set : FinSet) (root scale : Float) (total : Integral) where
   ended-verdict c d (notConverged component) = (refl, refl)
   ended-verdict c d notFinite = (refl, refl)
 
-  module _ (r : Figures) (answer : r ≡ concludedOf set root scale total) where
-    pub concluded-samples : r .samples ≡ total .samples
-    unfolding concludedOf
-    concluded-samples = ap (λ (x : Figures). x .samples) answer ∙ ended-samples (verdictOf (total .ending))
+-- of the strips worked
+module _ (set : FinSet) (root scale : Float) (strips : List Worked) (r : Figures) (answer : r ≡ concludedOf set root scale (totalsOf strips)) where
+  abbrev Total· : Totals
+  Total· = totalsOf strips
 
-    pub concluded-intervals : r .verdict ≡ Accepted → r .intervals ≡ total .intervals
-    unfolding concludedOf
-    concluded-intervals h = ap (λ (x : Figures). x .intervals) answer ∙ ended-intervals (verdictOf (total .ending)) (sym (ap (λ (x : Figures). x .verdict) answer) ∙ h)
+  pub concluded-samples : r .samples ≡ samplesIn strips
+  unfolding concludedOf
+  concluded-samples = ap (λ (x : Figures). x .samples) answer ∙ ended-samples set root scale Total· (Total· .verdict) ∙ totals-samples strips
 
-    pub concluded-verdict : countCheck (set .count) ≡ Accepted → densityCheck (set .density) ≡ Accepted → Reported (total .ending) (r .verdict)
-    unfolding concludedOf
-    concluded-verdict c d = rw answer (ended-verdict c d (total .ending))
+  pub concluded-intervals : r .verdict ≡ Accepted → r .intervals ≡ intervalsIn strips
+  unfolding concludedOf
+  concluded-intervals h =
+      let given = ended-intervals set root scale Total· (Total· .verdict) (sym (ap (λ (x : Figures). x .verdict) answer) ∙ h) in
+      ap (λ (x : Figures). x .intervals) answer ∙ given .1 ∙ totals-intervals strips (given .0)
 
-    pub concluded-zeros : ZeroFigures r
-    unfolding concludedOf
-    concluded-zeros = subst ZeroFigures (sym answer) (ended-zeros (verdictOf (total .ending)))
+  pub concluded-verdict : countCheck (set .count) ≡ Accepted → densityCheck (set .density) ≡ Accepted → Reported (endingOf strips) (r .verdict)
+  unfolding concludedOf
+  concluded-verdict c d =
+      subst (Reported (endingOf strips)) (sym (ap (λ (x : Figures). x .verdict) answer ∙ ap (λ (v : Verdict). byVerdict v set root scale Total· .verdict) (totals-verdict strips)))
+      (ended-verdict set root scale Total· c d (endingOf strips))
+
+  pub concluded-zeros : ZeroFigures r
+  unfolding concludedOf
+  concluded-zeros = subst ZeroFigures (sym answer) (ended-zeros set root scale Total· (Total· .verdict))
 
 -- ---- a planform
 
@@ -153,7 +164,7 @@ abbrev pub ZeroArea : Area → Type 0
 ZeroArea r = (number : ℕ) (values : List ℕ) → Gives (r .verdict) number values
     → (r .«area_m2» ≡ bits 0) × (r .«centroid_x_m» ≡ bits 0) × (r .«centroid_span_m» ≡ bits 0) × (r .intervals ≡ 0)
 
-module _ (scale : Float) (total : Integral) where
+module _ (scale : Float) (total : Totals) where
   abbrev Geometry· : PlanformGeometry
   Geometry· = geometryOf (total .value) scale
 
@@ -186,8 +197,9 @@ module _ (scale : Float) (total : Integral) where
   area-samples Accepted = geometry-samples (Geometry· .verdict) Geometry·
   area-samples (Refused refusal) = refl
 
-  area-intervals : (verdict : Verdict) → areaByVerdict verdict scale total .verdict ≡ Accepted → areaByVerdict verdict scale total .intervals ≡ total .intervals
-  area-intervals Accepted h = geometry-intervals (Geometry· .verdict) Geometry· h
+  area-intervals : (verdict : Verdict) → areaByVerdict verdict scale total .verdict ≡ Accepted
+      → (verdict ≡ Accepted) × (areaByVerdict verdict scale total .intervals ≡ total .intervals)
+  area-intervals Accepted h = (refl, geometry-intervals (Geometry· .verdict) Geometry· h)
   area-intervals (Refused refusal) h = no-refusal refusal h
 
   area-zeros : (verdict : Verdict) → ZeroArea (areaByVerdict verdict scale total)
@@ -199,19 +211,26 @@ module _ (scale : Float) (total : Integral) where
   area-verdict (notConverged component) = (refl, refl)
   area-verdict notFinite = (refl, refl)
 
-  module _ (r : Area) (answer : r ≡ concludedArea scale total) where
-    pub concluded-area-samples : r .samples ≡ total .samples
-    unfolding concludedArea
-    concluded-area-samples = ap (λ (x : Area). x .samples) answer ∙ area-samples (verdictOf (total .ending))
+module _ (scale : Float) (strips : List Worked) (r : Area) (answer : r ≡ concludedArea scale (totalsOf strips)) where
+  abbrev AreaTotal· : Totals
+  AreaTotal· = totalsOf strips
 
-    pub concluded-area-intervals : r .verdict ≡ Accepted → r .intervals ≡ total .intervals
-    unfolding concludedArea
-    concluded-area-intervals h = ap (λ (x : Area). x .intervals) answer ∙ area-intervals (verdictOf (total .ending)) (sym (ap (λ (x : Area). x .verdict) answer) ∙ h)
+  pub concluded-area-samples : r .samples ≡ samplesIn strips
+  unfolding concludedArea
+  concluded-area-samples = ap (λ (x : Area). x .samples) answer ∙ area-samples scale AreaTotal· (AreaTotal· .verdict) ∙ totals-samples strips
 
-    pub concluded-area-verdict : Reported (total .ending) (r .verdict)
-    unfolding concludedArea
-    concluded-area-verdict = rw answer (area-verdict (total .ending))
+  pub concluded-area-intervals : r .verdict ≡ Accepted → r .intervals ≡ intervalsIn strips
+  unfolding concludedArea
+  concluded-area-intervals h =
+      let given = area-intervals scale AreaTotal· (AreaTotal· .verdict) (sym (ap (λ (x : Area). x .verdict) answer) ∙ h) in
+      ap (λ (x : Area). x .intervals) answer ∙ given .1 ∙ totals-intervals strips (given .0)
 
-    pub concluded-area-zeros : ZeroArea r
-    unfolding concludedArea
-    concluded-area-zeros = subst ZeroArea (sym answer) (area-zeros (verdictOf (total .ending)))
+  pub concluded-area-verdict : Reported (endingOf strips) (r .verdict)
+  unfolding concludedArea
+  concluded-area-verdict =
+      subst (Reported (endingOf strips)) (sym (ap (λ (x : Area). x .verdict) answer ∙ ap (λ (v : Verdict). areaByVerdict v scale AreaTotal· .verdict) (totals-verdict strips)))
+      (area-verdict scale AreaTotal· (endingOf strips))
+
+  pub concluded-area-zeros : ZeroArea r
+  unfolding concludedArea
+  concluded-area-zeros = subst ZeroArea (sym answer) (area-zeros scale AreaTotal· (AreaTotal· .verdict))

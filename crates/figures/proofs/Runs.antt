@@ -1,25 +1,50 @@
--- The strips that the code is handed are those of the set, or of the planform: integrand, scale and break heights. Assumes nothing.
-use mathlib.Core.Path.{_≡_, sym, ap}
+-- The strips that the code works are those of the set, or of the planform: integrand, scale and break heights. Assumes nothing.
+use mathlib.Core.Path.{_≡_, refl, ap, _∙_}
 use mathlib.Core.List.{List}
 use Prim.Native.Nat.{ℕ}
+use lib.ListN.{length}
 use lib.Ieee.{Float}
+use Rattle.refusals.specs.declared.Verdict.{Verdict}
+use Rattle.refusals.specs.declared.Verdict.the-variants.{Accepted, Refused}
+use Rattle.refusals.specs.Order.{firstRefusal}
 use Rattle.planforms.specs.declared.Planform.{Planform}
-use Rattle.sections.specs.declared.Section.{Section}
+use Rattle.breaks.specs.Breaks.{breakHeights}
 use Rattle.integrands.specs.declared.Integrand.{Integrand}
-use Rattle.integrands.specs.Integrands.{sampleOf, areaIntegrand, plateIntegrand, areaOf, plateOf}
-use Rattle.halving.specs.declared.Integral.{Integral}
-use Rattle.strips.specs.Strips.{Runs}
+use Rattle.integrands.specs.Integrands.{scaleOf, areaIntegrand, plateIntegrand, areaOf, plateOf}
+use Rattle.fins.specs.declared.FinSet.{FinSet}
+use Rattle.fins.specs.Fins.{setCheck, areaCheck}
+use Rattle.strips.specs.declared.Totals.{Totals}
+use Rattle.strips.specs.Strips.{Worked, workedOf, totalsOf, scratchAfter, stripsOf, runCheck, WorksStrips}
+use Rattle.figures.specs.Figures.{setStrips}
 
-pub plate-sample : (planform : Planform) (points : List Float) (section : Section) (thickness radius : Float) (integrand : Integrand) →
-    integrand ≡ plateIntegrand planform points section thickness radius → sampleOf integrand points ≡ plateOf planform points section thickness radius
+pub plate-strips : (set : FinSet) (points : List Float) (L : ℕ) (integrand : Integrand)
+    → integrand ≡ plateIntegrand (set .planform) points (set .«cross_section») (set .«thickness_m») (set .«body_radius_m»)
+    → stripsOf integrand points L ≡ setStrips set points L
 unfolding plateOf
-plate-sample planform points section thickness radius integrand e = ap (λ (f : Integrand). sampleOf f points) e
+plate-strips set points L integrand e = ap (λ (f : Integrand). stripsOf f points L) e
 
-pub area-sample : (planform : Planform) (points : List Float) (integrand : Integrand) → integrand ≡ areaIntegrand planform points →
-    sampleOf integrand points ≡ areaOf planform points
+pub area-strips : (planform : Planform) (points : List Float) (L : ℕ) (integrand : Integrand) → integrand ≡ areaIntegrand planform points
+    → stripsOf integrand points L ≡ workedOf 7 (areaOf planform points) L (scaleOf planform points) (breakHeights planform points)
 unfolding areaOf
-area-sample planform points integrand e = ap (λ (f : Integrand). sampleOf f points) e
+area-strips planform points L integrand e = ap (λ (f : Integrand). stripsOf f points L) e
 
-pub same-run : {f g : Float → List Float} {scale s : Float} {heights h : List Float} (L : ℕ) (entry exit : List Float) (r : Integral) →
-    f ≡ g → scale ≡ s → heights ≡ h → Runs f L scale heights entry r exit → Runs g L s h entry r exit
-same-run L entry exit r e p q z = rw (sym e, sym p, sym q) z
+-- 1 and 2 are the first checks of both
+first-two : (a b later : Verdict) → firstRefusal a (firstRefusal b later) ≡ Accepted → firstRefusal a b ≡ Accepted
+unfolding firstRefusal
+first-two Accepted Accepted later h = refl
+first-two Accepted (Refused refusal) later h = h
+first-two (Refused refusal) b later h = h
+
+pub set-run : (set : FinSet) (points : List Float) (L n : ℕ) → setCheck set points L n ≡ Accepted → runCheck L n ≡ Accepted
+unfolding setCheck
+set-run set points L n h = first-two _ _ _ h
+
+pub area-run : (planform : Planform) (points : List Float) (L n : ℕ) → areaCheck planform points L n ≡ Accepted → runCheck L n ≡ Accepted
+unfolding areaCheck
+area-run planform points L n h = first-two _ _ _ h
+
+pub run-of : (integrand : Integrand) (points : List Float) (L : ℕ) (entry : List Float) (r : Totals) (exit : List Float) {strips : List Worked}
+    → runCheck L (length entry) ≡ Accepted → stripsOf integrand points L ≡ strips → WorksStrips integrand points L entry r exit
+    → (r ≡ totalsOf strips) × (exit ≡ scratchAfter strips entry)
+run-of integrand points L entry r exit accepts same z =
+    ((rw accepts at (z .totals)) ∙ ap totalsOf same, (rw accepts at (z .scratch)) ∙ ap (λ (l : List Worked). scratchAfter l entry) same)

@@ -11,8 +11,7 @@ use Rattle.planforms.specs.declared.Planform.{Planform}
 use Rattle.breaks.specs.Breaks.{breakHeights}
 use Rattle.integrands.specs.Integrands.{scaleOf, areaThree}
 use Rattle.fins.specs.Fins.{areaCheck}
-use Rattle.halving.specs.Halving.{verdictOf}
-use Rattle.halving.specs.declared.Integral.{Integral}
+use Rattle.strips.specs.declared.Totals.{Totals}
 use Rattle.strips.specs.Strips.{Worked, workedOf, sevenWide, totalsOf, scratchAfter}
 use Rattle.plates.specs.declared.PlanformGeometry.{PlanformGeometry}
 use Rattle.plates.specs.Geometry.{geometryOf}
@@ -39,12 +38,12 @@ ofGeometry Accepted g intervals samples =
 ofGeometry (Refused refusal) g intervals samples = refusedArea refusal samples
 
 -- by how the run of the strips ended: area and centroid, or 13 or 14
-abbrev pub areaByVerdict : Verdict → Float → Integral → Area
+abbrev pub areaByVerdict : Verdict → Float → Totals → Area
 areaByVerdict Accepted scale total = ofGeometry (geometryOf (total .value) scale .verdict) (geometryOf (total .value) scale) (total .intervals) (total .samples)
 areaByVerdict (Refused refusal) scale total = refusedArea refusal (total .samples)
 
-unfoldable pub concludedArea : Float → Integral → Area
-concludedArea scale total = areaByVerdict (verdictOf (total .ending)) scale total
+unfoldable pub concludedArea : Float → Totals → Area
+concludedArea scale total = areaByVerdict (total .verdict) scale total
 
 -- "1, 2, planform, strips, 8": every check before the strips, then the strips
 abbrev pub areaAfterCheck : Verdict → Planform → List Float → ℕ → Area

@@ -12,8 +12,7 @@ use Rattle.breaks.specs.Breaks.{breakHeights}
 use Rattle.integrands.specs.Integrands.{scaleOf, plateOf}
 use Rattle.fins.specs.declared.FinSet.{FinSet}
 use Rattle.fins.specs.Fins.{setCheck}
-use Rattle.halving.specs.Halving.{verdictOf}
-use Rattle.halving.specs.declared.Integral.{Integral}
+use Rattle.strips.specs.declared.Totals.{Totals}
 use Rattle.strips.specs.Strips.{Worked, workedOf, totalsOf, scratchAfter}
 use Rattle.joins.specs.declared.Joined.{Joined}
 use Rattle.sets.specs.Sets.{massPropertiesOf}
@@ -40,12 +39,12 @@ abbrev pub joinedFigures : Joined → ℕ → ℕ → Figures
 joinedFigures joined intervals samples = ofJoined (joined .verdict) joined intervals samples
 
 -- by how the run of the strips ended: figures, or 13 or 14
-abbrev pub byVerdict : Verdict → FinSet → Float → Float → Integral → Figures
+abbrev pub byVerdict : Verdict → FinSet → Float → Float → Totals → Figures
 byVerdict Accepted set root scale total = joinedFigures (massPropertiesOf set root scale (total .value)) (total .intervals) (total .samples)
 byVerdict (Refused refusal) set root scale total = refusedFigures refusal (total .samples)
 
-unfoldable pub concludedOf : FinSet → Float → Float → Integral → Figures
-concludedOf set root scale total = byVerdict (verdictOf (total .ending)) set root scale total
+unfoldable pub concludedOf : FinSet → Float → Float → Totals → Figures
+concludedOf set root scale total = byVerdict (total .verdict) set root scale total
 
 -- every check before the strips, then the strips
 abbrev pub afterCheck : Verdict → FinSet → List Float → ℕ → Figures

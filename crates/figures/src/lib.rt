@@ -1,26 +1,23 @@
 // A set's figures and a planform's area: every check, then the strips over the lent scratch, then one fin's body, turned and joined
 // (fins.rs, `FinSet::mass_properties` and `FinPlanform::geometry`). Any set, points, limit and scratch may be handed in.
 ghost use mathlib.Core.Path.{_≡_};
-ghost use Prim.Native.Nat.{_*_, _≤_};
 ghost use lib.ListN.{length};
 ghost use Rattle.refusals.specs.declared.Verdict.the-variants.{Accepted};
 ghost use Rattle.planforms.specs.Planforms.{rootChordOf};
-ghost use Rattle.breaks.specs.Breaks.{breakHeights};
-ghost use Rattle.integrands.specs.Integrands.{scaleOf, sampleOf};
+ghost use Rattle.integrands.specs.Integrands.{scaleOf};
 ghost use Rattle.fins.specs.Fins.{setCheck, areaCheck};
-ghost use Rattle.strips.specs.Strips.{totalsOf, scratchAfter, Runs};
+ghost use Rattle.strips.specs.Strips.{totalsOf, scratchAfter};
 ghost use Rattle.figures.specs.Figures.{refusedFigures, joinedFigures, concludedOf, setStrips};
 ghost use Rattle.figures.specs.Areas.{refusedArea, ofGeometry, concludedArea, areaSeven};
 ghost use Rattle.figures.specs.Answers.{SetAnswers, AreaAnswers};
 use bodies::Body;
 use fins::FinSet;
-use halving::Integral;
-use integrands::Integrand;
 use joins::Joined;
 use planforms::Planform;
 use plates::PlanformGeometry;
 use refusals::Refusal;
 use refusals::Verdict;
+use strips::Totals;
 
 // A set's body with the totals of intervals and samples. A refusal carries zero figures, no intervals, and the samples taken so far.
 pub struct Figures {
@@ -73,12 +70,11 @@ fn joined_figures(joined: Joined, intervals: usize, samples: usize) -> Figures
 }
 
 // The answer by how the strips ended.
-fn concluded(set: FinSet, root_chord_m: f64, scale_m: f64, total: Integral) -> Figures
+fn concluded(set: FinSet, root_chord_m: f64, scale_m: f64, total: Totals) -> Figures
     ensures { λ r. ⌜ r ≡ concludedOf set «root_chord_m» «scale_m» total ⌝ }
 {
-    let ending = total.ending;
+    let verdict = total.verdict;
     let value = total.value;
-    let verdict = halving::verdict_of(ending);
     match verdict {
         Verdict::Accepted => joined_figures(
             sets::mass_properties(set, root_chord_m, scale_m, value),
@@ -87,28 +83,6 @@ fn concluded(set: FinSet, root_chord_m: f64, scale_m: f64, total: Integral) -> F
         ),
         Verdict::Refused(refusal) => refused_figures(refusal, total.samples),
     }
-}
-
-// The totals over the strips between the planform's break heights.
-fn integrate(
-    scratch: &mut [f64],
-    integrand: Integrand,
-    planform: Planform,
-    points: &[f64],
-    scale_m: f64,
-    limit: usize,
-) -> Integral
-    requires { ⌜ (1 ≤ limit) × (limit ≤ 4000) × (limit * 16 ≤ length (now scratch)) ⌝ }
-    ensures { λ r. ⌜ Runs (sampleOf integrand (now (points .entry))) limit «scale_m» (breakHeights planform (now (points .entry))) (now (scratch .entry)) r (now (scratch .exit)) ⌝ }
-{
-    if breaks::is_one_strip(planform) {
-        let heights = [0.0, planforms::span_m(planform, points)];
-        return strips::integrate(scratch, integrand, points, &heights, scale_m, limit);
-    }
-    let breaks = breaks::break_heights(planform, points);
-    let n = breaks.count;
-    let heights = breaks.heights;
-    strips::integrate(scratch, integrand, points, &heights[..n], scale_m, limit)
 }
 
 // The strips of an accepted set, and its figures.
@@ -129,7 +103,7 @@ fn work_set(set: FinSet, points: &[f64], limit: usize, scratch: &mut [f64]) -> F
     );
     let scale_m = integrands::scale_m(planform, points);
     let root_chord_m = planforms::root_chord_m(planform, points);
-    let total = integrate(scratch, integrand, planform, points, scale_m, limit);
+    let total = strips::work_strips(integrand, points, limit, scratch);
     concluded(set, root_chord_m, scale_m, total)
 }
 
@@ -179,12 +153,11 @@ fn area_figures(geometry: PlanformGeometry, intervals: usize, samples: usize) ->
 }
 
 // The answer by how the strips ended.
-fn concluded_area(scale_m: f64, total: Integral) -> Area
+fn concluded_area(scale_m: f64, total: Totals) -> Area
     ensures { λ r. ⌜ r ≡ concludedArea «scale_m» total ⌝ }
 {
-    let ending = total.ending;
+    let verdict = total.verdict;
     let value = total.value;
-    let verdict = halving::verdict_of(ending);
     match verdict {
         Verdict::Accepted => area_figures(
             plates::geometry(value, scale_m),
@@ -202,7 +175,7 @@ fn work_area(planform: Planform, points: &[f64], limit: usize, scratch: &mut [f6
 {
     let integrand = integrands::area_integrand(planform, points);
     let scale_m = integrands::scale_m(planform, points);
-    let total = integrate(scratch, integrand, planform, points, scale_m, limit);
+    let total = strips::work_strips(integrand, points, limit, scratch);
     concluded_area(scale_m, total)
 }
 

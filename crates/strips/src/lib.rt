@@ -2,14 +2,28 @@
 //
 // Neighbouring break heights bound a strip, and its ends are divided by the scale. Strips are worked upward, to the last or the first
 // that is not accepted, each over the scratch as the one before left it. Values, intervals and samples are added up from zero.
+// Refused are a limit that is not 1 to 4000 (1), a scratch under 16·limit numbers (2) and, by the strips, 13 and 14.
 ghost use Prim.Native.Nat.{_+_, _*_, _<_, _≤_, _^_};
 ghost use mathlib.Core.Path.{_≡_};
 ghost use lib.ListN.{length};
 ghost use Rattle.integrands.specs.Integrands.{sampleOf};
-ghost use Rattle.strips.specs.Strips.{isAccepted, withStrip, Runs};
+ghost use Rattle.breaks.specs.Breaks.{breakHeights};
+ghost use Rattle.strips.specs.Strips.{isAccepted, withStrip, Runs, refusedTotals, concludedOf, WorksStrips};
 use halving::Ending;
 use halving::Integral;
 use integrands::Integrand;
+use refusals::Refusal;
+use refusals::Verdict;
+use refusals::first_refusal;
+
+// The integral of each component over the strips, with the totals of intervals and samples. A refusal carries zeros, no intervals, and
+// the samples taken so far.
+pub struct Totals {
+    pub verdict: Verdict,
+    pub value: [f64; 7],
+    pub intervals: usize,
+    pub samples: usize,
+}
 
 fn is_accepted(ending: Ending) -> bool
     ensures { λ r. ⌜ r ≡ isAccepted ending ⌝ }
@@ -38,8 +52,8 @@ fn add_strip(total: Integral, strip: Integral) -> Integral
     }
 }
 
-// The totals over the strips between the break heights, with at most limit pieces to a strip.
-pub fn integrate(
+// The strips between the break heights, worked upward, with at most limit pieces to a strip.
+fn work_upward(
     scratch: &mut [f64],
     integrand: Integrand,
     points: &[f64],
@@ -69,4 +83,82 @@ pub fn integrate(
         i += 1;
     }
     total
+}
+
+// The strips between the break heights of the integrand's planform.
+fn work_planform(
+    scratch: &mut [f64],
+    integrand: Integrand,
+    points: &[f64],
+    limit: usize,
+) -> Integral
+    requires { ⌜ (1 ≤ limit) × (limit ≤ 4000) × (limit * 16 ≤ length (now scratch)) ⌝ }
+    ensures { λ r. ⌜ Runs (sampleOf integrand (now (points .entry))) limit (integrand .scale) (breakHeights (integrand .planform) (now (points .entry))) (now (scratch .entry)) r (now (scratch .exit)) ⌝ }
+{
+    let planform = integrand.planform;
+    let scale = integrand.scale;
+    if breaks::is_one_strip(planform) {
+        let heights = [0.0, planforms::span_m(planform, points)];
+        return work_upward(scratch, integrand, points, &heights, scale, limit);
+    }
+    let breaks = breaks::break_heights(planform, points);
+    let n = breaks.count;
+    let heights = breaks.heights;
+    work_upward(scratch, integrand, points, &heights[..n], scale, limit)
+}
+
+fn refused_totals(refusal: Refusal, samples: usize) -> Totals
+    ensures { λ r. ⌜ r ≡ refusedTotals refusal samples ⌝ }
+{
+    let verdict = Verdict::Refused(refusal);
+    Totals {
+        verdict,
+        value: [0.0; 7],
+        intervals: 0,
+        samples,
+    }
+}
+
+// The totals by how the last strip worked ended.
+fn concluded(summed: Integral) -> Totals
+    ensures { λ r. ⌜ r ≡ concludedOf summed ⌝ }
+{
+    let ending = summed.ending;
+    let verdict = halving::verdict_of(ending);
+    match verdict {
+        Verdict::Accepted => {
+            let verdict = Verdict::Accepted;
+            let value = summed.value;
+            Totals {
+                verdict,
+                value,
+                intervals: summed.intervals,
+                samples: summed.samples,
+            }
+        }
+        Verdict::Refused(refusal) => refused_totals(refusal, summed.samples),
+    }
+}
+
+// The totals over the strips of the integrand's planform, over a lent scratch of at least 16·limit numbers. Any integrand, points, limit
+// and scratch may be handed in.
+pub fn work_strips(
+    integrand: Integrand,
+    points: &[f64],
+    limit: usize,
+    scratch: &mut [f64],
+) -> Totals
+    ensures { λ r. ⌜ WorksStrips integrand (now (points .entry)) limit (now (scratch .entry)) r (now (scratch .exit)) ⌝ }
+{
+    let verdict = first_refusal(
+        limits::check_limit(limit),
+        limits::check_scratch(limit, scratch.len()),
+    );
+    match verdict {
+        Verdict::Accepted => {
+            let summed = work_planform(scratch, integrand, points, limit);
+            concluded(summed)
+        }
+        Verdict::Refused(refusal) => refused_totals(refusal, 0),
+    }
 }

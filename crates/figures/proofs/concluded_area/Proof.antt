@@ -1,13 +1,10 @@
 -- `figures::concluded_area` meets its contract: each arm knows its case. Assumes nothing.
-use mathlib.Core.Path.{sym, ap, _∙_}
+use mathlib.Core.Path.{ap, _∙_}
 use Rattle.plates.specs.declared.PlanformGeometry.{PlanformGeometry}
 use Rattle.figures.specs.Areas.{ofGeometry, concludedArea}
 use borrow.Author.Needs.{needs}
 use Rattle.figures.proofs.concluded_area.Statement.{statement}
 use Rattle.figures.proofs.concluded_area.Tie as tie
-
-verdict-of-requires : tie.Need-verdict-of-requires
-verdict-of-requires c κs = search needs
 
 enum-told : tie.Need-enum-told
 enum-told c = search needs
@@ -28,21 +25,17 @@ returns : tie.Need-returns
 unfolding concludedArea
 returns c =
     let told = c .before .before in
-    let given = told .before .before in
-    let total = given .before .before .args .total in
-    rw (sym (given .verdict-of .ensures) ∙ told .enum-told .given .1) (c .area-figures .ensures ∙ ap (λ (g : PlanformGeometry). ofGeometry (g .verdict) g (total .intervals) (total .samples)) (c .before .geometry .ensures))
+    let total = told .before .before .before .args .total in
+    rw (told .enum-told .given .1) (c .area-figures .ensures ∙ ap (λ (g : PlanformGeometry). ofGeometry (g .verdict) g (total .intervals) (total .samples)) (c .before .geometry .ensures))
 
 returns-2 : tie.Need-returns-2
 unfolding concludedArea
-returns-2 c =
-    let told = c .before .before in
-    rw (sym (told .before .before .verdict-of .ensures) ∙ told .verdict .given .1) (c .refused-area .ensures)
+returns-2 c = rw (c .before .before .verdict .given .1) (c .refused-area .ensures)
 
 pub concluded-area-spec : {M : Type 1} → statement M
 concluded-area-spec =
     tie.close
     (tie.spec
-    verdict-of-requires
     enum-told
     geometry-requires
     area-figures-requires

@@ -1,8 +1,6 @@
 -- `figures::work_set` meets its contract: the strips are those of the set. Assumes nothing.
-use mathlib.Core.Path.{refl, _∙_}
-use native.Mathlib.Omega.{arith}
-use Rattle.fins.proofs.Accepted.{set-limit, set-scratch}
-use Rattle.figures.proofs.Runs.{plate-sample, same-run}
+use mathlib.Core.Path.{_∙_}
+use Rattle.figures.proofs.Runs.{plate-strips, set-run, run-of}
 use borrow.Author.Needs.{needs}
 use Rattle.figures.proofs.work_set.Statement.{statement}
 use Rattle.figures.proofs.work_set.Tie as tie
@@ -16,12 +14,8 @@ scale-m-requires c κs = search needs
 root-chord-m-requires : tie.Need-root-chord-m-requires
 root-chord-m-requires c κs = search needs
 
-integrate-requires : tie.Need-integrate-requires
-integrate-requires c κs =
-    let s = c .before .before .before .before .before .before in
-    let a = s .args in
-    let limit = set-limit (a .set) (a .points .now) (a .limit) _ (s .pre) in
-    (limit .0, limit .1, omega (arith, set-scratch (a .set) (a .points .now) (a .limit) _ (s .pre)))
+work-strips-requires : tie.Need-work-strips-requires
+work-strips-requires c κs = search needs
 
 concluded-requires : tie.Need-concluded-requires
 concluded-requires c κs = search needs
@@ -34,13 +28,13 @@ returns c =
     let i = c .before .before .before in
     let root = i .before .before in
     let scaled = root .before in
-    let a = scaled .before .before .before .before .args in
-    let run = same-run (a .limit) (a .scratch .now) (i .integrate .last .0) (i .integrate .result)
-    (plate-sample (a .set .planform) (a .points .now) (a .set .«cross_section») (a .set .«thickness_m») (a .set .«body_radius_m») _ (scaled .before .plate-integrand .ensures))
-    (scaled .scale-m .ensures)
-    refl
-    (i .integrate .ensures) in
-    (c .concluded .ensures ∙ rw (root .root-chord-m .ensures, scaled .scale-m .ensures, run .answer), run .scratch)
+    let s = scaled .before .before .before .before in
+    let a = s .args in
+    let run = run-of _ (a .points .now) (a .limit) (a .scratch .now) _ _
+    (set-run (a .set) (a .points .now) (a .limit) _ (s .pre))
+    (plate-strips (a .set) (a .points .now) (a .limit) _ (scaled .before .plate-integrand .ensures))
+    (i .work-strips .ensures) in
+    (c .concluded .ensures ∙ rw (root .root-chord-m .ensures, scaled .scale-m .ensures, run .0), run .1)
 
 pub work-set-spec : {M : Type 1} → statement M
 work-set-spec =
@@ -49,7 +43,7 @@ work-set-spec =
     plate-integrand-requires
     scale-m-requires
     root-chord-m-requires
-    integrate-requires
+    work-strips-requires
     concluded-requires
     same-length
     returns)

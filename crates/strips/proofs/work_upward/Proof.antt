@@ -1,4 +1,4 @@
--- `strips::integrate` meets its contract: the strips left from each break height on make up the run. Assumes nothing.
+-- `strips::work_upward` meets its contract: the strips left from each break height on make up the run. Assumes nothing.
 use mathlib.Core.Path.{sym, _∙_}
 use Prim.Native.Nat.{_-_}
 use native.Mathlib.Omega.{arith}
@@ -7,8 +7,8 @@ use borrow.Author.Tests.{not-true, not-false}
 use lib.ListN.{length}
 use Rattle.integrands.specs.Integrands.{sampleOf}
 use Rattle.strips.proofs.Upward.{State, begin, end, fits, goes-on, ends-here}
-use Rattle.strips.proofs.integrate.Statement.{statement}
-use Rattle.strips.proofs.integrate.Tie as tie
+use Rattle.strips.proofs.work_upward.Statement.{statement}
+use Rattle.strips.proofs.work_upward.Tie as tie
 
 abbrev Inv-loop : tie.InvT-loop
 Inv-loop scratch₀ integrand points heights scale limit total₀ i₀ scratch total i = State (sampleOf integrand points) limit scale heights scratch₀ scratch total i
@@ -102,8 +102,8 @@ same-length-2 c = c .before .loop .inv .long
 returns-2 : tie.Need-returns-2 Inv-loop μ-loop
 returns-2 c = end _ _ _ _ _ _ _ _ (c .before .loop .inv) (c .loop-test .left)
 
-pub integrate-spec : {M : Type 1} → statement M
-integrate-spec =
+pub work-upward-spec : {M : Type 1} → statement M
+work-upward-spec =
     tie.close
     (tie.spec
     Inv-loop

@@ -1,0 +1,88 @@
+-- `strips::work_planform` meets its contract: the heights handed on are the planform's break heights, two or a list of them. Assumes nothing.
+use mathlib.Core.Path.{refl, sym, ap, _∙_}
+use mathlib.Core.List.{List, [], _∷_}
+use native.Mathlib.Omega.{arith}
+use lib.ListN.{length}
+use lib.Ieee.{Float}
+use Rattle.floats.specs.Operations.{bits}
+use Rattle.strips.proofs.Upward.{same-heights}
+use Rattle.breaks.proofs.Listed.{at-most-66, two-heights, heights-taken, heights-count, heights-room}
+use borrow.Author.Needs.{needs}
+use Rattle.strips.proofs.work_planform.Statement.{statement}
+use Rattle.strips.proofs.work_planform.Tie as tie
+
+is-one-strip-requires : tie.Need-is-one-strip-requires
+is-one-strip-requires c κs = search needs
+
+span-m-requires : tie.Need-span-m-requires
+span-m-requires c κs = search needs
+
+slice-aggregate-work-upward : tie.Need-slice-aggregate-work-upward
+slice-aggregate-work-upward c = search needs
+
+work-upward-requires : tie.Need-work-upward-requires
+work-upward-requires c κs = search needs
+
+same-length : tie.Need-same-length
+same-length c = search needs
+
+returns : tie.Need-returns
+returns c =
+    let i = c .before .before in
+    let span = i .before .before .before in
+    let taken = span .before in
+    let a = taken .before .before .before .before .args in
+    let two = ap (λ (x : Float). bits 0 ∷ x ∷ []) (span .span-m .ensures) ∙ sym (two-heights (a .integrand .planform) (a .points .now) (sym (taken .before .is-one-strip .ensures) ∙ taken .if1 .taken)) in
+    same-heights _ _ _ _ _ _ two (i .work-upward .ensures)
+
+break-heights-requires : tie.Need-break-heights-requires
+break-heights-requires c κs = search needs
+
+array-share-prefix-heights : tie.Need-array-share-prefix-heights
+array-share-prefix-heights c =
+    let h = c .before .before in
+    let a = h .before .before .before .before .before .args in
+    omega (arith, heights-count (a .integrand .planform) (a .points .now) (h .break-heights .result) (h .break-heights .ensures), heights-room (a .integrand .planform) (a .points .now) (h .break-heights .result) (h .break-heights .ensures), at-most-66 (a .integrand .planform) (a .points .now))
+
+slice-aggregate-work-upward-2 : tie.Need-slice-aggregate-work-upward-2
+slice-aggregate-work-upward-2 c =
+    let h = c .before .before .before in
+    let a = h .before .before .before .before .before .args in
+    heights-count (a .integrand .planform) (a .points .now) (h .break-heights .result) (h .break-heights .ensures)
+    ∙ sym (ap (λ (l : List Float). length l) (heights-taken (a .integrand .planform) (a .points .now) (h .break-heights .result) (h .break-heights .ensures)))
+
+work-upward-requires-2 : tie.Need-work-upward-requires-2
+work-upward-requires-2 c κs =
+    let h = c .before .before .before in
+    let s = h .before .before .before .before .before in
+    let a = s .args in
+    let few = at-most-66 (a .integrand .planform) (a .points .now) in
+    let taken = heights-taken (a .integrand .planform) (a .points .now) (h .break-heights .result) (h .break-heights .ensures) in
+    (s .pre .0, s .pre .1, s .pre .2, rw taken (omega (arith, few)))
+
+same-length-2 : tie.Need-same-length-2
+same-length-2 c = search needs
+
+returns-2 : tie.Need-returns-2
+returns-2 c =
+    let i = c .before .before in
+    let h = i .before .before .before .before in
+    let a = h .before .before .before .before .before .args in
+    same-heights _ _ _ _ _ _ (heights-taken (a .integrand .planform) (a .points .now) (h .break-heights .result) (h .break-heights .ensures)) (i .work-upward2 .ensures)
+
+pub work-planform-spec : {M : Type 1} → statement M
+work-planform-spec =
+    tie.close
+    (tie.spec
+    is-one-strip-requires
+    span-m-requires
+    slice-aggregate-work-upward
+    work-upward-requires
+    same-length
+    returns
+    break-heights-requires
+    array-share-prefix-heights
+    slice-aggregate-work-upward-2
+    work-upward-requires-2
+    same-length-2
+    returns-2)
