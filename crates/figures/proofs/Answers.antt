@@ -21,6 +21,7 @@ use Rattle.figures.specs.declared.Area.{Area}
 use Rattle.figures.specs.Figures.{setIntegrand, setStrips, refusedFigures, concludedOf, setFigures, setScratch}
 use Rattle.figures.specs.Areas.{areaStrips, refusedArea, concludedArea, areaFigures, areaScratch}
 use Rattle.figures.specs.Answers.{Reported, SetAnswers, AreaAnswers}
+use Rattle.figures.proofs.StripCount.{set-strips-counted, area-strips-counted}
 use Rattle.figures.proofs.Reports.{ZeroFigures, ZeroArea, no-refusal, gives-refusal, concluded-samples, concluded-intervals, concluded-verdict, concluded-zeros, concluded-area-samples, concluded-area-intervals, concluded-area-verdict, concluded-area-zeros}
 
 -- ---- an accepted set, and a refused one
@@ -38,6 +39,7 @@ module _ (set : FinSet) (points : List Float) (L : ℕ) (entry : List Float) (r 
         scratch = rw accepts s;
         given-before-strips = λ refusal h. no-refusal refusal (sym h ∙ accepts);
         zero-figures = concluded-zeros set root scale strips r e;
+        strip-count = set-strips-counted set points L (length entry);
         demand-3 = λ h. demand-3 7 (setIntegrand set points) L (set-limit set points L (length entry) accepts .0) scale (breakHeights (set .planform) points)
             (r .samples) (r .intervals) (r .verdict ≡ Accepted) (λ ending. Reported ending (r .verdict)) entry exit
             (concluded-samples set root scale strips r e)
@@ -55,6 +57,7 @@ module _ (set : FinSet) (points : List Float) (L : ℕ) (entry : List Float) (r 
         scratch = rw refuses s;
         given-before-strips = λ other h. (gives-refusal (r .verdict) other (ap (λ (x : Figures). x .verdict) e ∙ sym refuses ∙ h), ap (λ (x : Figures). x .samples) e, s);
         zero-figures = subst ZeroFigures (sym e) (λ number values g. (refl, refl));
+        strip-count = set-strips-counted set points L (length entry);
         demand-3 = λ h. no-refusal refusal (sym refuses ∙ h);
       }
 
@@ -70,6 +73,7 @@ module _ (planform : Planform) (points : List Float) (L : ℕ) (entry : List Flo
         scratch = rw accepts s;
         given-before-strips = λ refusal h. no-refusal refusal (sym h ∙ accepts);
         zero-figures = concluded-area-zeros scale strips r e;
+        strip-count = area-strips-counted planform points L (length entry);
         demand-3 = λ h. demand-3 7 (areaOf planform points) L (area-limit planform points L (length entry) accepts .0) scale (breakHeights planform points)
             (r .samples) (r .intervals) (r .verdict ≡ Accepted) (λ ending. Reported ending (r .verdict)) entry exit
             (concluded-area-samples scale strips r e)
@@ -87,5 +91,6 @@ module _ (planform : Planform) (points : List Float) (L : ℕ) (entry : List Flo
         scratch = rw refuses s;
         given-before-strips = λ other h. (gives-refusal (r .verdict) other (ap (λ (x : Area). x .verdict) e ∙ sym refuses ∙ h), ap (λ (x : Area). x .samples) e, s);
         zero-figures = subst ZeroArea (sym e) (λ number values g. (refl, refl, refl, refl));
+        strip-count = area-strips-counted planform points L (length entry);
         demand-3 = λ h. no-refusal refusal (sym refuses ∙ h);
       }

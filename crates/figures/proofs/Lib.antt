@@ -1,4 +1,5 @@
 pub mod Runs
+pub mod Flat
+pub mod StripCount
 pub mod Reports
 pub mod Answers
-pub mod Few

@@ -3,7 +3,7 @@
 use mathlib.Core.Path.{_≡_}
 use mathlib.Core.List.{List, [], _∷_}
 use mathlib.Core.Logic.{_⊎_}
-use Prim.Native.Nat.{ℕ}
+use Prim.Native.Nat.{ℕ, _≤_}
 use lib.ListN.{length}
 use lib.Ieee.{Float}
 use Rattle.floats.specs.Operations.{bits}
@@ -45,7 +45,8 @@ pub record SetAnswers (set : FinSet) (points : List Float) (L : ℕ) (entry : Li
       → Gives (r .verdict) (numberOf refusal) (valuesOf refusal) × (r .samples ≡ 0) × (exit ≡ entry)
   -- "A refusal carries zero figures" (demand 1); "intervals 0"
   pub zero-figures : (number : ℕ) (values : List ℕ) → Gives (r .verdict) number values → (r .body ≡ emptyBody) × (r .intervals ≡ 0)
-  -- "A set is accepted when it passes every check before the strips"
+  -- "A set is accepted when it passes every check before the strips": it has a strip, so that demand 3 is about something, and "at most 62 strips"
+  pub strip-count : setCheck set points L (length entry) ≡ Accepted → (1 ≤ length (setStrips set points L)) × (length (setStrips set points L) ≤ 62)
   pub demand-3 : setCheck set points L (length entry) ≡ Accepted
       → Demand3 7 (setIntegrand set points) L (scaleOf (set .planform) points) (breakHeights (set .planform) points) (setStrips set points L) (r .samples) (r .intervals) (r .verdict ≡ Accepted) (λ ending. Reported ending (r .verdict)) entry exit
 
@@ -58,5 +59,6 @@ pub record AreaAnswers (planform : Planform) (points : List Float) (L : ℕ) (en
   pub zero-figures : (number : ℕ) (values : List ℕ) → Gives (r .verdict) number values
       → (r .«area_m2» ≡ bits 0) × (r .«centroid_x_m» ≡ bits 0) × (r .«centroid_span_m» ≡ bits 0) × (r .intervals ≡ 0)
   -- accepted is a planform that passes every check before the strips
+  pub strip-count : areaCheck planform points L (length entry) ≡ Accepted → (1 ≤ length (areaStrips planform points L)) × (length (areaStrips planform points L) ≤ 62)
   pub demand-3 : areaCheck planform points L (length entry) ≡ Accepted
       → Demand3 7 (areaOf planform points) L (scaleOf planform points) (breakHeights planform points) (areaStrips planform points L) (r .samples) (r .intervals) (r .verdict ≡ Accepted) (λ ending. Reported ending (r .verdict)) entry exit
