@@ -20,7 +20,7 @@ use Rattle.figures.specs.declared.Figures.{Figures}
 use Rattle.figures.specs.declared.Area.{Area}
 use Rattle.figures.specs.Figures.{setIntegrand, setStrips, refusedFigures, concludedOf, setFigures, setScratch}
 use Rattle.figures.specs.Areas.{areaStrips, refusedArea, concludedArea, areaFigures, areaScratch}
-use Rattle.figures.specs.Answers.{Reported, SetAnswers, AreaAnswers}
+use Rattle.figures.specs.Answers.{setReport, areaReport, SetAnswers, AreaAnswers}
 use Rattle.figures.proofs.StripCount.{set-strips-counted, area-strips-counted}
 use Rattle.figures.proofs.Reports.{ZeroFigures, ZeroArea, no-refusal, gives-refusal, concluded-samples, concluded-intervals, concluded-verdict, concluded-zeros, concluded-area-samples, concluded-area-intervals, concluded-area-verdict, concluded-area-zeros}
 
@@ -40,8 +40,7 @@ module _ (set : FinSet) (points : List Float) (L : ℕ) (entry : List Float) (r 
         given-before-strips = λ refusal h. no-refusal refusal (sym h ∙ accepts);
         zero-figures = concluded-zeros set root scale strips r e;
         strip-count = set-strips-counted set points L (length entry);
-        demand-3 = λ h. demand-3 7 (setIntegrand set points) L (set-limit set points L (length entry) accepts .0) scale (breakHeights (set .planform) points)
-            (r .samples) (r .intervals) (r .verdict ≡ Accepted) (λ ending. Reported ending (r .verdict)) entry exit
+        demand-3 = λ h. demand-3 7 (setIntegrand set points) L (set-limit set points L (length entry) accepts .0) scale (breakHeights (set .planform) points) (setReport r) entry exit
             (concluded-samples set root scale strips r e)
             (concluded-intervals set root scale strips r e)
             (concluded-verdict set root scale strips r e (set-count-check set points L (length entry) accepts) (set-density set points L (length entry) accepts))
@@ -74,8 +73,7 @@ module _ (planform : Planform) (points : List Float) (L : ℕ) (entry : List Flo
         given-before-strips = λ refusal h. no-refusal refusal (sym h ∙ accepts);
         zero-figures = concluded-area-zeros scale strips r e;
         strip-count = area-strips-counted planform points L (length entry);
-        demand-3 = λ h. demand-3 7 (areaOf planform points) L (area-limit planform points L (length entry) accepts .0) scale (breakHeights planform points)
-            (r .samples) (r .intervals) (r .verdict ≡ Accepted) (λ ending. Reported ending (r .verdict)) entry exit
+        demand-3 = λ h. demand-3 7 (areaOf planform points) L (area-limit planform points L (length entry) accepts .0) scale (breakHeights planform points) (areaReport r) entry exit
             (concluded-area-samples scale strips r e)
             (concluded-area-intervals scale strips r e)
             (concluded-area-verdict scale strips r e)
