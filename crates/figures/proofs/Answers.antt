@@ -16,13 +16,15 @@ use Rattle.fins.specs.Fins.{setCheck, areaCheck}
 use Rattle.fins.proofs.Accepted.{set-limit, set-count-check, set-density, area-limit}
 use Rattle.halving.specs.declared.Ending.{Ending}
 use Rattle.strips.specs.Strips.{Worked, totalsOf, scratchAfter}
+use Rattle.strips.specs.Claim.{Reported}
 use Rattle.strips.proofs.Claims.{demand-3, none-behind}
 use Rattle.widths.proofs.Strips.{samples-same, intervals-same, ending-same}
 use Rattle.figures.specs.declared.Figures.{Figures}
 use Rattle.figures.specs.declared.Area.{Area}
 use Rattle.figures.specs.Figures.{setIntegrand, setStrips, refusedFigures, concludedOf, setFigures, setScratch}
 use Rattle.figures.specs.Areas.{areaStrips, areaSeven, refusedArea, concludedArea, areaFigures, areaScratch}
-use Rattle.figures.specs.Answers.{Reported, SetAnswers, AreaAnswers}
+use Rattle.figures.specs.Answers.{setReport, areaReport, SetAnswers, AreaAnswers}
+use Rattle.figures.proofs.StripCount.{set-strips-counted, area-strips-counted}
 use Rattle.figures.proofs.Reports.{ZeroFigures, ZeroArea, no-refusal, gives-refusal, concluded-samples, concluded-intervals, concluded-verdict, concluded-zeros, concluded-area-samples, concluded-area-intervals, concluded-area-verdict, concluded-area-zeros}
 
 -- ---- an accepted set, and a refused one
@@ -40,8 +42,8 @@ module _ (set : FinSet) (points : List Float) (L : ℕ) (entry : List Float) (r 
         scratch = rw accepts s;
         given-before-strips = λ refusal h. no-refusal refusal (sym h ∙ accepts);
         zero-figures = concluded-zeros set root scale strips r e;
-        demand-3 = λ h. demand-3 7 (setIntegrand set points) L (set-limit set points L (length entry) accepts .0) scale (breakHeights (set .planform) points)
-            (r .samples) (r .intervals) (r .verdict ≡ Accepted) (λ ending. Reported ending (r .verdict)) entry exit
+        strip-count = set-strips-counted set points L (length entry);
+        demand-3 = λ h. demand-3 7 (setIntegrand set points) L (set-limit set points L (length entry) accepts .0) scale (breakHeights (set .planform) points) (setReport r) entry exit
             (concluded-samples set root scale strips r e)
             (concluded-intervals set root scale strips r e)
             (concluded-verdict set root scale strips r e (set-count-check set points L (length entry) accepts) (set-density set points L (length entry) accepts))
@@ -57,6 +59,7 @@ module _ (set : FinSet) (points : List Float) (L : ℕ) (entry : List Float) (r 
         scratch = rw refuses s;
         given-before-strips = λ other h. (gives-refusal (r .verdict) other (ap (λ (x : Figures). x .verdict) e ∙ sym refuses ∙ h), ap (λ (x : Figures). x .samples) e, s);
         zero-figures = subst ZeroFigures (sym e) (λ number values g. (refl, refl));
+        strip-count = set-strips-counted set points L (length entry);
         demand-3 = λ h. no-refusal refusal (sym refuses ∙ h);
       }
 
@@ -73,8 +76,8 @@ module _ (planform : Planform) (points : List Float) (L : ℕ) (entry : List Flo
         scratch = rw accepts s;
         given-before-strips = λ refusal h. no-refusal refusal (sym h ∙ accepts);
         zero-figures = concluded-area-zeros scale seven r e;
-        demand-3 = λ h. demand-3 3 (areaThree planform points) L (area-limit planform points L (length entry) accepts .0) scale (breakHeights planform points)
-            (r .samples) (r .intervals) (r .verdict ≡ Accepted) (λ ending. Reported ending (r .verdict)) entry exit
+        strip-count = area-strips-counted planform points L (length entry);
+        demand-3 = λ h. demand-3 3 (areaThree planform points) L (area-limit planform points L (length entry) accepts .0) scale (breakHeights planform points) (areaReport r) entry exit
             (concluded-area-samples scale seven r e ∙ samples-same 4 strips)
             (λ given. concluded-area-intervals scale seven r e given ∙ intervals-same 4 strips)
             (subst (λ (ending : Ending). Reported ending (r .verdict)) (ending-same 4 strips) (concluded-area-verdict scale seven r e))
@@ -90,5 +93,6 @@ module _ (planform : Planform) (points : List Float) (L : ℕ) (entry : List Flo
         scratch = rw refuses s;
         given-before-strips = λ other h. (gives-refusal (r .verdict) other (ap (λ (x : Area). x .verdict) e ∙ sym refuses ∙ h), ap (λ (x : Area). x .samples) e, s);
         zero-figures = subst ZeroArea (sym e) (λ number values g. (refl, refl, refl, refl));
+        strip-count = area-strips-counted planform points L (length entry);
         demand-3 = λ h. no-refusal refusal (sym refuses ∙ h);
       }

@@ -1,6 +1,7 @@
 pub mod Runs
+pub mod Flat
+pub mod StripCount
 pub mod Reports
 pub mod Answers
-pub mod Few
 pub mod Widths
 pub mod Owned

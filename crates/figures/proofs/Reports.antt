@@ -41,7 +41,7 @@ use Rattle.figures.specs.declared.Figures.{Figures}
 use Rattle.figures.specs.declared.Area.{Area}
 use Rattle.figures.specs.Figures.{ofJoined, byVerdict, concludedOf}
 use Rattle.figures.specs.Areas.{ofGeometry, areaByVerdict, concludedArea}
-use Rattle.figures.specs.Answers.{Gives, Reported}
+use Rattle.strips.specs.Claim.{Gives, Reported}
 
 pub no-refusal : {A : Type 0} (refusal : Refusal) → Refused refusal ≡ Accepted → A
 no-refusal refusal e = absurd (let z : _≡_ {A = ℕ} 0 1 = cc in let none : ⊥ = omega arith in none)

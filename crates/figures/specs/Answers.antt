@@ -1,40 +1,40 @@
 -- What the two calls promise: the answer and the scratch, whatever is handed in, and demand 3's one claim about the whole run of an
 -- accepted set.
 use mathlib.Core.Path.{_≡_}
-use mathlib.Core.List.{List, [], _∷_}
-use mathlib.Core.Logic.{_⊎_}
-use Prim.Native.Nat.{ℕ}
+use mathlib.Core.List.{List}
+use Prim.Native.Nat.{ℕ, _≤_}
 use lib.ListN.{length}
 use lib.Ieee.{Float}
 use Rattle.floats.specs.Operations.{bits}
 use Rattle.refusals.specs.Refusals.{numberOf, valuesOf}
 use Rattle.refusals.specs.declared.Refusal.{Refusal}
-use Rattle.refusals.specs.declared.Verdict.{Verdict}
 use Rattle.refusals.specs.declared.Verdict.the-variants.{Accepted, Refused}
 use Rattle.planforms.specs.declared.Planform.{Planform}
 use Rattle.breaks.specs.Breaks.{breakHeights}
 use Rattle.integrands.specs.Integrands.{scaleOf, areaThree}
 use Rattle.fins.specs.declared.FinSet.{FinSet}
 use Rattle.fins.specs.Fins.{setCheck, areaCheck}
-use Rattle.halving.specs.declared.Ending.{Ending}
-use Rattle.halving.specs.declared.Ending.the-variants.{Accepted as accepted, NotConverged as notConverged, NotFinite as notFinite}
 use Rattle.bodies.specs.Bodies.{emptyBody}
-use Rattle.strips.specs.Claim.{Demand3}
+use Rattle.strips.specs.Claim.{Run, Report, Gives, Demand3}
 use Rattle.figures.specs.declared.Figures.{Figures}
 use Rattle.figures.specs.declared.Area.{Area}
 use Rattle.figures.specs.Figures.{setIntegrand, setStrips, setFigures, setScratch}
 use Rattle.figures.specs.Areas.{areaStrips, areaFigures, areaScratch}
 
--- a verdict gives this number of the table, with these values ("Refusal numbers")
-abbrev pub Gives : Verdict → ℕ → List ℕ → Type 0
-Gives Accepted number values = ⊥
-Gives (Refused refusal) number values = (numberOf refusal ≡ number) × (valuesOf refusal ≡ values)
+-- what the strips of a set, and of a planform, are worked from
+abbrev pub setRun : FinSet → List Float → ℕ → Run
+setRun set points L =
+    record { width = 7; integrand = setIntegrand set points; limit = L; scale = scaleOf (set .planform) points; heights = breakHeights (set .planform) points }
 
--- what a call answers by how the last strip worked ended: figures or, where area or volume is not above 0, 8; 13 with its component; 14
-abbrev pub Reported : Ending → Verdict → Type 0
-Reported accepted verdict = (verdict ≡ Accepted) ⊎ Gives verdict 8 []
-Reported (notConverged component) verdict = Gives verdict 13 (component ∷ [])
-Reported notFinite verdict = Gives verdict 14 []
+abbrev pub areaRun : Planform → List Float → ℕ → Run
+areaRun planform points L =
+    record { width = 3; integrand = areaThree planform points; limit = L; scale = scaleOf planform points; heights = breakHeights planform points }
+
+abbrev pub setReport : Figures → Report
+setReport r = record { verdict = r .verdict; samples = r .samples; intervals = r .intervals }
+
+abbrev pub areaReport : Area → Report
+areaReport r = record { verdict = r .verdict; samples = r .samples; intervals = r .intervals }
 
 -- of a set ("Order: 18, 1, 2, 3; ..", `FinSet::mass_properties`): its figures, the scratch at exit, and demand 3
 pub record SetAnswers (set : FinSet) (points : List Float) (L : ℕ) (entry : List Float) (r : Figures) (exit : List Float) : Type 0 where
@@ -45,9 +45,10 @@ pub record SetAnswers (set : FinSet) (points : List Float) (L : ℕ) (entry : Li
       → Gives (r .verdict) (numberOf refusal) (valuesOf refusal) × (r .samples ≡ 0) × (exit ≡ entry)
   -- "A refusal carries zero figures" (demand 1); "intervals 0"
   pub zero-figures : (number : ℕ) (values : List ℕ) → Gives (r .verdict) number values → (r .body ≡ emptyBody) × (r .intervals ≡ 0)
-  -- "A set is accepted when it passes every check before the strips"
+  -- "A set is accepted when it passes every check before the strips": it has a strip, so that demand 3 is about something, and "at most 62 strips"
+  pub strip-count : setCheck set points L (length entry) ≡ Accepted → (1 ≤ length (setStrips set points L)) × (length (setStrips set points L) ≤ 62)
   pub demand-3 : setCheck set points L (length entry) ≡ Accepted
-      → Demand3 7 (setIntegrand set points) L (scaleOf (set .planform) points) (breakHeights (set .planform) points) (setStrips set points L) (r .samples) (r .intervals) (r .verdict ≡ Accepted) (λ ending. Reported ending (r .verdict)) entry exit
+      → Demand3 (setRun set points L) (setStrips set points L) (setReport r) entry exit
 
 -- of a planform ("For area alone: 1, 2, planform, strips, 8", `FinPlanform::geometry`): area and centroid, the scratch at exit, and demand 3
 pub record AreaAnswers (planform : Planform) (points : List Float) (L : ℕ) (entry : List Float) (r : Area) (exit : List Float) : Type 0 where
@@ -58,5 +59,6 @@ pub record AreaAnswers (planform : Planform) (points : List Float) (L : ℕ) (en
   pub zero-figures : (number : ℕ) (values : List ℕ) → Gives (r .verdict) number values
       → (r .«area_m2» ≡ bits 0) × (r .«centroid_x_m» ≡ bits 0) × (r .«centroid_span_m» ≡ bits 0) × (r .intervals ≡ 0)
   -- accepted is a planform that passes every check before the strips
+  pub strip-count : areaCheck planform points L (length entry) ≡ Accepted → (1 ≤ length (areaStrips planform points L)) × (length (areaStrips planform points L) ≤ 62)
   pub demand-3 : areaCheck planform points L (length entry) ≡ Accepted
-      → Demand3 3 (areaThree planform points) L (scaleOf planform points) (breakHeights planform points) (areaStrips planform points L) (r .samples) (r .intervals) (r .verdict ≡ Accepted) (λ ending. Reported ending (r .verdict)) entry exit
+      → Demand3 (areaRun planform points L) (areaStrips planform points L) (areaReport r) entry exit
