@@ -43,7 +43,7 @@ fn add_strip(total: Integral, strip: Integral) -> Integral
     let x = total.value;
     let y = strip.value;
     let ending = strip.ending;
-    let value = halving::plus(x, y);
+    let value = pieces::plus(x, y);
     Integral {
         ending,
         value,

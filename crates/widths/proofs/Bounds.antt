@@ -15,7 +15,7 @@ use Rattle.floats.specs.Floats.{absOf}
 use Rattle.floats.proofs.Bools.{no, of-true}
 use Rattle.floats.proofs.Order.{not-lt-through, le-not-below, le-no-nan, le-false, le-of-not, le-through, ne-itself}
 use Rattle.rounding.proofs.Monotone.{at-least-one}
-use Rattle.halving.specs.Bounds.{absolute, relative, boundFor}
+use Rattle.tolerance.specs.Bounds.{absolute, relative, boundFor}
 
 -- ---- of a value 0: the bound is 1e-16, an error +0 is within it, and over it makes +0
 pub bound-zero : boundFor (bits 0) ≡ absolute

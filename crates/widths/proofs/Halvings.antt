@@ -15,11 +15,12 @@ use Rattle.rounding.specs.Sizes.{InOrder}
 use Rattle.rounding.proofs.Halves.{left-half, right-half}
 use Rattle.quadrature.specs.Rule.{halfSum, heightsOf, finiteAt, takenAt, pieceOf}
 use Rattle.quadrature.specs.declared.Piece.{Piece}
-use Rattle.halving.specs.Bounds.{converged, worstPlace, worstPiece, componentOf, middleOf, middleIsEnd, pieceAt}
+use Rattle.tolerance.specs.Bounds.{converged, worstPlace, worstPiece, componentOf, middleOf, middleIsEnd, pieceAt}
 use Rattle.halving.specs.Halving.{Halved, ended, measure, repeat, halving}
 use Rattle.halving.specs.declared.Ending.the-variants.{NotConverged}
-use Rattle.halving.proofs.Places.{worst-below}
-use Rattle.halving.specs.Scratch.{widened, widenedHalved}
+use Rattle.tolerance.proofs.Places.{worst-below}
+use Rattle.pieces.specs.Stored.{widened}
+use Rattle.halving.specs.Scratch.{widenedHalved}
 use Rattle.widths.specs.Widths.{ZerosBehind}
 use Rattle.widths.proofs.Rule.{half-width-zero}
 use Rattle.widths.proofs.Sums.{Wide, All, all-at, converged-same, component-same, wider-at, worst-same}

@@ -9,7 +9,7 @@ use lib.Ieee.{Float}
 use Rattle.floats.specs.Operations.{_⊖_, _⊗_, bits, at, tabulateFrom, tabulate}
 use Rattle.floats.specs.Floats.{isFinite, absOf}
 use Rattle.quadrature.specs.Rule.{halfSum, halfWidth, weightedTo, kronrodWeight, gaussWeight, sumOf, pieceOf, finiteSample, finiteAt, takenAt}
-use Rattle.halving.specs.Scratch.{widened}
+use Rattle.pieces.specs.Stored.{widened}
 use Rattle.widths.specs.Widths.{ZerosBehind}
 use Rattle.rounding.proofs.Zeros.{zero-less-zero, abs-zero, finite-zero}
 use Rattle.widths.proofs.Rule.{kronrod-zero, gauss-zero}

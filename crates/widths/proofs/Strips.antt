@@ -9,7 +9,8 @@ use lib.Ieee.{Float}
 use Rattle.floats.specs.Operations.{_⊘_}
 use Rattle.rounding.specs.Sizes.{InOrder}
 use Rattle.halving.specs.Halving.{Halved, halving}
-use Rattle.halving.specs.Scratch.{widened, widenedHalved}
+use Rattle.pieces.specs.Stored.{widened}
+use Rattle.halving.specs.Scratch.{widenedHalved}
 use Rattle.halving.specs.declared.Ending.{Ending}
 use Rattle.strips.specs.Strips.{Worked, isAccepted, workedOf, samplesIn, intervalsIn, endingFrom, endingOf, widenedStrip}
 use Rattle.strips.specs.Claim.{Each}

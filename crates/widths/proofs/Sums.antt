@@ -15,11 +15,11 @@ use Rattle.floats.specs.Operations.{_⊕_, _⊘_, bits, at, every}
 use Rattle.floats.proofs.Bools.{and-true}
 use Rattle.floats.proofs.Every.{every-fails}
 use Rattle.quadrature.specs.declared.Piece.{Piece}
-use Rattle.halving.specs.Bounds.{sumFrom, totalOf, errorOf, absolute, boundFor, boundOf, errorWithin, converged, scoreOf, lastHighest, pieceAt, worstPlace, componentOf}
-use Rattle.halving.proofs.Places.{highest-same, highest-below}
+use Rattle.tolerance.specs.Bounds.{sumFrom, totalOf, errorOf, absolute, boundFor, boundOf, errorWithin, converged, scoreOf, lastHighest, pieceAt, worstPlace, componentOf}
+use Rattle.tolerance.proofs.Places.{highest-same, highest-below}
 use Rattle.rounding.proofs.Signs.{plus, max-plus, max-zero, zero-plus}
 use Rattle.rounding.proofs.Zeros.{zero-plus-zero}
-use Rattle.halving.specs.Scratch.{widened}
+use Rattle.pieces.specs.Stored.{widened}
 use Rattle.widths.proofs.Bounds.{bound-zero, zero-within, zero-over-absolute, Over0, over-up, over-beyond, nan-over, error-over}
 
 -- ---- from v to w

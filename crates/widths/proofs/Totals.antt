@@ -10,7 +10,7 @@ use Rattle.floats.specs.Operations.{_⊕_, _⊘_, bits}
 use Rattle.rounding.proofs.Zeros.{zero-plus-zero}
 use Rattle.quadrature.specs.Rule.{heightsOf, finiteAt, pieceOf}
 use Rattle.quadrature.specs.declared.Piece.{Piece}
-use Rattle.halving.specs.Bounds.{totalOf, converged, worstPlace, worstPiece, middleOf, middleIsEnd}
+use Rattle.tolerance.specs.Bounds.{totalOf, converged, worstPlace, worstPiece, middleOf, middleIsEnd}
 use Rattle.halving.specs.Halving.{Halved, measure, repeat, halving}
 use Rattle.strips.specs.Strips.{Worked, piecesOf, isAccepted, workedOf, valueFrom, widenedStrip}
 use Rattle.strips.specs.Claim.{Each}

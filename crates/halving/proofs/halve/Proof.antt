@@ -7,9 +7,9 @@ use borrow.Author.Tests.{not-true, not-false}
 use denote.Ref.{now}
 use lib.Ieee.{Float}
 use Rattle.quadrature.proofs.Taken.{measured-few}
-use Rattle.halving.specs.Scratch.{piecesIn, putAt}
+use Rattle.pieces.specs.Stored.{piecesIn, putAt}
 use Rattle.halving.proofs.Halvings.{left-not-finite, right-not-finite, both-finite}
-use Rattle.halving.proofs.Pieces.{halves-stored}
+use Rattle.pieces.proofs.Storage.{halves-stored}
 use Rattle.halving.proofs.halve.Statement.{statement}
 use Rattle.halving.proofs.halve.Tie as tie
 

@@ -1,0 +1,163 @@
+// How pieces stand against the tolerance (quadrature.rs, the middle of `integrate`; document 01, "Piece and tally").
+//
+// The summed error of each component is held against its bound, max(1e-16, 1e-12 |summed value|). A piece's score is its largest error
+// over bound; the worst piece, and the worst component, is the last with the highest.
+ghost use mathlib.Core.Path.{_≡_};
+ghost use Prim.Native.Nat.{_*_, _-_, _<_, _≤_};
+ghost use lib.ListN.{length};
+ghost use mathlib.Core.Bool.{false};
+ghost use lib.Ieee.{le, ne};
+ghost use Rattle.floats.specs.Floats.{maxOf};
+ghost use Rattle.floats.specs.Operations.{_⊘_, at, tabulate, every};
+ghost use Rattle.pieces.specs.Stored.{readAt, piecesIn};
+ghost use Rattle.tolerance.specs.Bounds.{boundFor, scoreOf, lastHighest};
+ghost use Rattle.tolerance.specs.Steps.{withPiece, sumsOf, higherOf};
+use quadrature::Piece;
+
+const ABSOLUTE: f64 = 1e-16;
+
+const RELATIVE: f64 = 1e-12;
+
+// The summed values and errors of each component.
+pub struct Sums {
+    pub value: [f64; 7],
+    pub error: [f64; 7],
+}
+
+fn add_piece(sums: Sums, p: Piece) -> Sums
+    ensures { λ r. ⌜ r ≡ withPiece sums p ⌝ }
+{
+    let v = sums.value;
+    let e = sums.error;
+    let pv = p.value;
+    let pe = p.error;
+    let value = pieces::plus(v, pv);
+    let error = pieces::plus(e, pe);
+    Sums { value, error }
+}
+
+// Over the first n pieces, in storage order.
+pub fn total(scratch: &[f64], n: usize) -> Sums
+    requires { ⌜ n * 16 ≤ length (now scratch) ⌝ }
+    ensures { λ r. ⌜ r ≡ sumsOf (piecesIn n (now (scratch .entry))) ⌝ }
+{
+    let mut sums = Sums {
+        value: [0.0; 7],
+        error: [0.0; 7],
+    };
+    let mut i: usize = 0;
+    while i < n {
+        sums = add_piece(sums, pieces::read(scratch, i));
+        i += 1;
+    }
+    sums
+}
+
+fn bound(total: f64) -> f64
+    ensures { λ r. ⌜ r ≡ boundFor total ⌝ }
+{
+    floats::max(ABSOLUTE, RELATIVE * floats::abs(total))
+}
+
+pub fn bounds(total: [f64; 7]) -> [f64; 7]
+    ensures { λ r. ⌜ r ≡ tabulate 7 (λ k. boundFor (at total k)) ⌝ }
+{
+    [
+        bound(total[0]),
+        bound(total[1]),
+        bound(total[2]),
+        bound(total[3]),
+        bound(total[4]),
+        bound(total[5]),
+        bound(total[6]),
+    ]
+}
+
+pub fn all_within(e: [f64; 7], b: [f64; 7]) -> bool
+    ensures { λ r. ⌜ r ≡ every 7 (λ k. le (at e k) (at b k)) ⌝ }
+{
+    e[0] <= b[0]
+        && e[1] <= b[1]
+        && e[2] <= b[2]
+        && e[3] <= b[3]
+        && e[4] <= b[4]
+        && e[5] <= b[5]
+        && e[6] <= b[6]
+}
+
+// The larger of a piece's score so far and its next error over bound.
+fn larger(score: f64, e: f64, b: f64) -> f64
+    requires { ⌜ ne score score ≡ false ⌝ }
+    ensures { λ r. ⌜ (r ≡ maxOf score (e ⊘ b)) × (ne r r ≡ false) ⌝ }
+{
+    let ratio = e / b;
+    if score < ratio { ratio } else { score }
+}
+
+// A piece's largest error over bound.
+fn score(p: Piece, b: [f64; 7]) -> f64
+    ensures { λ r. ⌜ r ≡ scoreOf 7 (at b) p ⌝ }
+{
+    let e = p.error;
+    let s0 = larger(0.0, e[0], b[0]);
+    let s1 = larger(s0, e[1], b[1]);
+    let s2 = larger(s1, e[2], b[2]);
+    let s3 = larger(s2, e[3], b[3]);
+    let s4 = larger(s3, e[4], b[4]);
+    let s5 = larger(s4, e[5], b[5]);
+    larger(s5, e[6], b[6])
+}
+
+// The highest number so far and its place.
+struct Highest {
+    number: f64,
+    place: usize,
+}
+
+// On equal numbers the later place; a NaN is below nothing.
+fn higher(highest: Highest, number: f64, place: usize) -> Highest
+    ensures { λ r. ⌜ r ≡ higherOf highest number place ⌝ }
+{
+    if number != number {
+        return Highest { number, place };
+    }
+    if highest.number <= number {
+        Highest { number, place }
+    } else {
+        highest
+    }
+}
+
+// The place of the worst of n pieces.
+pub fn worst(scratch: &[f64], n: usize, b: [f64; 7]) -> usize
+    requires { ⌜ (1 ≤ n) × (n * 16 ≤ length (now scratch)) ⌝ }
+    ensures { λ r. ⌜ (r ≡ lastHighest (λ i. scoreOf 7 (at b) (readAt (now (scratch .entry)) i)) (n - 1)) × (r < n) ⌝ }
+{
+    let mut highest = Highest {
+        number: score(pieces::read(scratch, 0), b),
+        place: 0,
+    };
+    let mut i: usize = 1;
+    while i < n {
+        highest = higher(highest, score(pieces::read(scratch, i), b), i);
+        i += 1;
+    }
+    highest.place
+}
+
+// The last component with the largest error over bound.
+pub fn component(e: [f64; 7], b: [f64; 7]) -> usize
+    ensures { λ r. ⌜ r ≡ lastHighest (λ k. at e k ⊘ at b k) 6 ⌝ }
+{
+    let h0 = Highest {
+        number: e[0] / b[0],
+        place: 0,
+    };
+    let h1 = higher(h0, e[1] / b[1], 1);
+    let h2 = higher(h1, e[2] / b[2], 2);
+    let h3 = higher(h2, e[3] / b[3], 3);
+    let h4 = higher(h3, e[4] / b[4], 4);
+    let h5 = higher(h4, e[5] / b[5], 5);
+    let h6 = higher(h5, e[6] / b[6], 6);
+    h6.place
+}
