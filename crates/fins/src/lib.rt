@@ -45,22 +45,13 @@ fn check_trapezoid(root_chord_m: f64, tip_chord_m: f64, span_m: f64, sweep_m: f6
     ensures { λ r. ⌜ r ≡ trapezoidCheck «root_chord_m» «tip_chord_m» «span_m» «sweep_m» ⌝ }
 {
     let v = check_length(limits::ROOT_CHORD, root_chord_m);
-    if is_refused(v) {
-        return v;
-    }
-    let v = check_length(limits::TIP_CHORD, tip_chord_m);
-    if is_refused(v) {
-        return v;
-    }
-    let v = check_length(limits::SPAN, span_m);
-    if is_refused(v) {
-        return v;
-    }
-    check_length(limits::SWEEP, sweep_m)
+    let v = first_refusal(v, check_length(limits::TIP_CHORD, tip_chord_m));
+    let v = first_refusal(v, check_length(limits::SPAN, span_m));
+    first_refusal(v, check_length(limits::SWEEP, sweep_m))
 }
 
-// The planform's lengths as listed, or the outline's own checks.
-fn check_planform(planform: Planform, points: &[f64]) -> Verdict
+// The first refusal of a planform: of its lengths as listed, or of the outline's own checks.
+pub fn check_planform(planform: Planform, points: &[f64]) -> Verdict
     ensures { λ r. ⌜ r ≡ planformCheck planform (now (points .entry)) ⌝ }
 {
     match planform {
@@ -87,18 +78,9 @@ fn check_slab(height_m: f64, length_m: f64, offset_m: f64, root_chord_m: f64) ->
 {
     let off_root = (offset_m < 0.0) | (root_chord_m * (1.0 + 1e-12) < offset_m + length_m);
     let v = check_length(limits::TAB_HEIGHT, height_m);
-    if is_refused(v) {
-        return v;
-    }
-    let v = check_length(limits::TAB_LENGTH, length_m);
-    if is_refused(v) {
-        return v;
-    }
-    let v = check_length(limits::TAB_OFFSET, offset_m);
-    if is_refused(v) {
-        return v;
-    }
-    refusals::refuse_when(off_root, Refusal::TabOffRoot)
+    let v = first_refusal(v, check_length(limits::TAB_LENGTH, length_m));
+    let v = first_refusal(v, check_length(limits::TAB_OFFSET, offset_m));
+    first_refusal(v, refusals::refuse_when(off_root, Refusal::TabOffRoot))
 }
 
 fn check_tab(tab: Tab, root_chord_m: f64) -> Verdict
@@ -133,14 +115,8 @@ fn check_call(limit: usize, scratch_len: usize, count: usize) -> Verdict
     ensures { λ r. ⌜ r ≡ firstOf (limitCheck limit ∷ scratchCheck limit «scratch_len» ∷ countCheck count ∷ []) ⌝ }
 {
     let v = limits::check_limit(limit);
-    if is_refused(v) {
-        return v;
-    }
-    let v = limits::check_scratch(limit, scratch_len);
-    if is_refused(v) {
-        return v;
-    }
-    limits::check_count(count)
+    let v = first_refusal(v, limits::check_scratch(limit, scratch_len));
+    first_refusal(v, limits::check_count(count))
 }
 
 // Thickness, cant and base angle.
@@ -148,14 +124,8 @@ fn check_plate(thickness_m: f64, cant_rad: f64, base_angle_rad: f64) -> Verdict
     ensures { λ r. ⌜ r ≡ firstOf (lengthCheck thicknessField «thickness_m» ∷ angleCheck cantField «cant_rad» ∷ angleCheck baseAngleField «base_angle_rad» ∷ []) ⌝ }
 {
     let v = check_length(limits::THICKNESS, thickness_m);
-    if is_refused(v) {
-        return v;
-    }
-    let v = check_angle(limits::CANT, cant_rad);
-    if is_refused(v) {
-        return v;
-    }
-    check_angle(limits::BASE_ANGLE, base_angle_rad)
+    let v = first_refusal(v, check_angle(limits::CANT, cant_rad));
+    first_refusal(v, check_angle(limits::BASE_ANGLE, base_angle_rad))
 }
 
 // The tab, the body radius, how deep the tab reaches, and the density.
@@ -163,18 +133,9 @@ fn check_mount(tab: Tab, root_chord_m: f64, body_radius_m: f64, density: Density
     ensures { λ r. ⌜ r ≡ firstOf (tabCheck tab «root_chord_m» ∷ lengthCheck bodyRadiusField «body_radius_m» ∷ depthCheck tab «body_radius_m» ∷ densityCheck density ∷ []) ⌝ }
 {
     let v = check_tab(tab, root_chord_m);
-    if is_refused(v) {
-        return v;
-    }
-    let v = check_length(limits::BODY_RADIUS, body_radius_m);
-    if is_refused(v) {
-        return v;
-    }
-    let v = check_depth(tab, body_radius_m);
-    if is_refused(v) {
-        return v;
-    }
-    materials::check_density(density)
+    let v = first_refusal(v, check_length(limits::BODY_RADIUS, body_radius_m));
+    let v = first_refusal(v, check_depth(tab, body_radius_m));
+    first_refusal(v, materials::check_density(density))
 }
 
 // The first refusal of a set before its strips, for the interval limit and the length of the lent scratch.

@@ -4,8 +4,9 @@
 // itself, negative or NaN gives NaN". A unit is 2^-1074, the smallest positive f64. A positive x of m units has the root
 // √(m * 2^1074) units; that radicand is n * 2^52 * 4^k with an n of 53 or 54 binary digits, and the root is q * 2^k units,
 // where q is the whole number nearest to √(n * 2^52): q * q - q < n * 2^52 <= q * q + q. The first half of its digits is
-// guessed in f64 and the other half worked from it by an exact division. Nothing is proved of the guess: where a test of it
-// fails, q is worked digit by digit.
+// guessed by a cubic in fixed point and the other half worked from it by an exact division. Nothing is proved of the guess:
+// where a test of it fails, q is worked digit by digit. Of f64 operations only comparisons are used, and the divisions that
+// write infinity and NaN.
 ghost use mathlib.Core.Path.{_≡_};
 ghost use Prim.Native.Nat.{_*_, _^_, _≤_, _<_};
 ghost use lib.Dec.{T};
@@ -19,6 +20,9 @@ const LEADING: u64 = 0x10_0000_0000_0000;
 
 // 2^26: half of the 53 digits.
 const HALF: u64 = 0x400_0000;
+
+// 2^28: the x of a cubic is u / 2^28.
+const UNIT: u64 = 0x1000_0000;
 
 // The whole number nearest to √(n * 2^52), one binary digit a turn from two digits of n * 2^52: s * s + rest is the part of
 // it that has come in.
@@ -46,58 +50,65 @@ fn digit_root(n: u64) -> u64
     if rest <= s { s } else { s + 1 }
 }
 
-// The cubic .0 + .1 * y + .2 * y² + .3 * y³.
-struct Cubic(f64, f64, f64, f64);
+// The cubic .0 - (.1 * x + .2 * x² + .3 * x³), in units of 1/32.
+struct Cubic(u32, u32, u32, u32);
 
-// The cubic that lies above √y by less than 2^-25 in part i of 4 <= y < 16: sixteen parts of 4 <= y < 8, then sixteen of
-// 8 <= y < 16. A match is compiled to a table, where a constant array would be copied at each call.
+// The cubic that is √n - 2^26 + 1/2 to within 0.43, in part i of 2^52 <= n < 2^54: sixteen parts up to 2^53, then sixteen of the
+// rest. x falls from 1 to 0 along a part. A match is compiled to a table, where a constant array would be copied at each call.
 fn cubic_at(i: u64) -> Cubic {
     match i {
-        0 => Cubic(0.634_541_139, 0.461_684_077, -0.037_318_227, 0.001_809_597),
-        1 => Cubic(0.653_503_854, 0.448_289_298, -0.034_163_862, 0.001_561_952),
-        2 => Cubic(0.671_930_844, 0.435_997_004, -0.031_430_192, 0.001_359_280),
-        3 => Cubic(0.689_865_077, 0.424_663_804, -0.029_042_649, 0.001_191_601),
-        4 => Cubic(0.707_344_056, 0.414_171_133, -0.026_942_839, 0.001_051_514),
-        5 => Cubic(0.724_401_097, 0.404_419_805, -0.025_084_420, 0.000_933_443),
-        6 => Cubic(0.741_065_090, 0.395_326_579, -0.023_430_277, 0.000_833_133),
-        7 => Cubic(0.757_362_200, 0.386_820_506, -0.021_950_281, 0.000_747_290),
-        8 => Cubic(0.773_315_402, 0.378_841_115, -0.020_619_821, 0.000_673_339),
-        9 => Cubic(0.788_946_116, 0.371_335_960, -0.019_418_530, 0.000_609_241),
-        10 => Cubic(0.804_272_859, 0.364_259_968, -0.018_329_524, 0.000_553_371),
-        11 => Cubic(0.819_312_594, 0.357_573_803, -0.017_338_652, 0.000_504_420),
-        12 => Cubic(0.834_081_159, 0.351_242_798, -0.016_433_943, 0.000_461_323),
-        13 => Cubic(0.848_592_195, 0.345_236_789, -0.015_605_288, 0.000_423_211),
-        14 => Cubic(0.862_859_460, 0.339_528_612, -0.014_843_993, 0.000_389_365),
-        15 => Cubic(0.876_894_357, 0.334_094_614, -0.014_142_655, 0.000_359_191),
-        16 => Cubic(0.897_376_447, 0.326_460_026, -0.013_193_996, 0.000_319_895),
-        17 => Cubic(0.924_193_801, 0.316_988_472, -0.012_078_757, 0.000_276_117),
-        18 => Cubic(0.950_253_749, 0.308_296_427, -0.011_112_250, 0.000_240_289),
-        19 => Cubic(0.975_616_772, 0.300_282_581, -0.010_268_119, 0.000_210_647),
-        20 => Cubic(1.000_335_721, 0.292_863_166, -0.009_525_727, 0.000_185_883),
-        21 => Cubic(1.024_457_779, 0.285_968_003, -0.008_868_683, 0.000_165_011),
-        22 => Cubic(1.048_023_551, 0.279_538_300, -0.008_283_871, 0.000_147_279),
-        23 => Cubic(1.071_070_933, 0.273_523_641, -0.007_760_616, 0.000_132_104),
-        24 => Cubic(1.093_632_433, 0.267_881_288, -0.007_290_221, 0.000_119_031),
-        25 => Cubic(1.115_737_486, 0.262_574_365, -0.006_865_502, 0.000_107_700),
-        26 => Cubic(1.137_413_894, 0.257_570_629, -0.006_480_461, 0.000_097_823),
-        27 => Cubic(1.158_682_114, 0.252_843_043, -0.006_130_152, 0.000_089_170),
-        28 => Cubic(1.179_569_245, 0.248_366_081, -0.005_810_270, 0.000_081_551),
-        29 => Cubic(1.200_090_178, 0.244_119_364, -0.005_517_309, 0.000_074_814),
-        30 => Cubic(1.220_266_273, 0.240_083_231, -0.005_248_160, 0.000_068_831),
-        _ => Cubic(1.240_114_224, 0.236_240_878, -0.005_000_203, 0.000_063_497),
+        0 => Cubic(66_091_854, 65_105_445, 956_024, 30_360),
+        1 => Cubic(130_266_751, 63_271_076, 877_617, 26_205),
+        2 => Cubic(192_682_425, 61_583_508, 809_363, 22_805),
+        3 => Cubic(253_476_082, 60_024_152, 749_514, 19_992),
+        4 => Cubic(312_767_965, 58_577_552, 696_691, 17_641),
+        5 => Cubic(370_664_158, 57_230_745, 649_788, 15_661),
+        6 => Cubic(427_258_815, 55_972_758, 607_921, 13_978),
+        7 => Cubic(482_635_955, 54_794_241, 570_363, 12_537),
+        8 => Cubic(536_870_930, 53_687_163, 536_516, 11_297),
+        9 => Cubic(590_031_627, 52_644_587, 505_889, 10_221),
+        10 => Cubic(642_179_460, 51_660_481, 478_068, 9_284),
+        11 => Cubic(693_370_208, 50_729_581, 452_705, 8_463),
+        12 => Cubic(743_654_711, 49_847_255, 429_508, 7_740),
+        13 => Cubic(793_079_459, 49_009_423, 408_226, 7_100),
+        14 => Cubic(841_687_101, 48_212_465, 388_645, 6_532),
+        15 => Cubic(889_516_869, 47_453_163, 370_580, 6_026),
+        16 => Cubic(982_984_843, 92_073_005, 1_352_021, 42_936),
+        17 => Cubic(1_073_741_850, 89_478_814, 1_241_137, 37_060),
+        18 => Cubic(1_162_010_944, 87_092_232, 1_144_613, 32_251),
+        19 => Cubic(1_247_986_158, 84_886_969, 1_059_973, 28_273),
+        20 => Cubic(1_331_837_543, 82_841_168, 985_269, 24_949),
+        21 => Cubic(1_413_715_125, 80_936_495, 918_941, 22_147),
+        22 => Cubic(1_493_752_056, 79_157_434, 859_731, 19_767),
+        23 => Cubic(1_572_067_158, 77_490_758, 806_614, 17_731),
+        24 => Cubic(1_648_766_996, 75_925_113, 758_749, 15_976),
+        25 => Cubic(1_723_947_574, 74_450_688, 715_435, 14_455),
+        26 => Cubic(1_797_695_747, 73_058_954, 676_089, 13_130),
+        27 => Cubic(1_870_090_397, 71_742_461, 640_222, 11_968),
+        28 => Cubic(1_941_203_423, 70_494_664, 607_416, 10_946),
+        29 => Cubic(2_011_100_572, 69_309_790, 577_319, 10_041),
+        30 => Cubic(2_079_842_158, 68_182_721, 549_627, 9_238),
+        _ => Cubic(2_147_483_666, 67_108_906, 524_080, 8_522),
     }
 }
 
-// A guess at √(w * (1 + odd)), which has 27 binary digits before its point: y is w * (1 + odd) scaled to 4 <= y < 16, and the
-// cubic's value is cut to 27 digits. That is at most one off, but nothing is claimed of it except its range.
+// What a cubic takes off at x = u / 2^28: .1 * x + .2 * x² + .3 * x³, times 2^28.
+fn decrease(p: Cubic, u: u64) -> u64
+    requires { ⌜ u < 2 ^ 28 ⌝ }
+    ensures { λ r. ⌜ r < 2 ^ 62 ⌝ }
+{
+    p.1 as u64 * u + u * u / UNIT * (p.2 as u64 + p.3 as u64 * u / UNIT)
+}
+
+// A guess at √(w * (1 + odd)), which has 27 binary digits before its point: the cubic's value, cut to these. That is at most one
+// off, but nothing is claimed of it except its range. 2^62 keeps the difference from falling below 0, and the remainder drops it.
 fn guess(w: u64, odd: u64) -> u64
     requires { ⌜ (w < 2 ^ 53) × (odd < 2) ⌝ }
     ensures { λ r. ⌜ (2 ^ 26 ≤ r) × (r < 2 ^ 28) ⌝ }
 {
-    let y = f64::from_bits(w + (1024 + odd) * LEADING);
     let p = cubic_at(w / 0x1_0000_0000_0000 % 16 + 16 * odd);
-    let s = (p.0 + p.1 * y) + y * y * (p.2 + p.3 * y);
-    floats::to_bits(s) / HALF % (2 * HALF) + HALF
+    let below = decrease(p, UNIT - 1 - w / 0x10_0000 % UNIT);
+    (p.0 as u64 * UNIT + 0x4000_0000_0000_0000 - below) / (32 * UNIT) % (2 * HALF) + HALF
 }
 
 // The whole number nearest to √(n * 2^52), from a guess h at √n. Where (n - h * h) * 2^25 is h * m + c and q is h * 2^26 + m,

@@ -1,0 +1,4 @@
+pub mod Rows
+pub mod Numbers
+pub mod Shapes
+pub mod Checks
