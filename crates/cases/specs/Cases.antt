@@ -20,7 +20,7 @@ use Rattle.planforms.specs.declared.Planform.{Planform}
 use Rattle.planforms.specs.declared.Planform.the-variants.{Trapezoid}
 use Rattle.chords.specs.Chords.{endsAt}
 use Rattle.sections.specs.declared.Section.the-variants.{Square}
-use Rattle.sections.specs.Moments.{chordMoments}
+use Rattle.sections.specs.ChordMoments.{chordMoments}
 use Rattle.bodies.specs.declared.Body.{Body}
 use Rattle.bodies.specs.declared.Tensor.{Tensor}
 use Rattle.bodies.specs.Tensors.{zeroVector}

@@ -41,7 +41,7 @@ digits zero n = []
 digits (suc k) n = digits k (n / 16) ++ (digitLetter (n % 16) ∷ [])
 
 -- the bits that are printed: 0 for either zero, else x's own. The logic has one NaN, whose bits `toBits` gives as 7ff8000000000000 (a row of
--- definition_cases/Numbers, `printed-figures`, computes its digits); so does `floats::to_bits`, whatever pattern a NaN has in the machine.
+-- test_definitions/Numbers, `printed-figures`, computes its digits); so does `floats::to_bits`, whatever pattern a NaN has in the machine.
 abbrev pub printedBits : Float → ℕ
 printedBits x = cond (eq x (bits 0)) 0 (toBits binary64 x)
 

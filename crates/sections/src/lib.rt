@@ -13,7 +13,7 @@
 // written, so that it is a few last bits off the nearest f64; PSI is the nearest f64 to its fraction.
 ghost use mathlib.Core.Path.{_≡_};
 ghost use Rattle.sections.specs.Airfoil.{naca, airfoilPhi, airfoilPsi};
-ghost use Rattle.sections.specs.Moments.{chordMoments, squareMoments, roundedMoments, airfoilMoments};
+ghost use Rattle.sections.specs.ChordMoments.{chordMoments, squareMoments, roundedMoments, airfoilMoments};
 
 // The shape of a fin's section along its chord (fins.rs, `FinCrossSection`).
 pub enum Section {

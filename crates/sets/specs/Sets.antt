@@ -2,7 +2,7 @@
 use mathlib.Core.List.{List, [], _∷_}
 use Prim.Native.Nat.{ℕ}
 use lib.Ieee.{Float, nan}
-use Rattle.floats.specs.Operations.{_⊕_, _⊗_, _⊘_, number, Filled}
+use Rattle.floats.specs.Operations.{_⊕_, _⊗_, _⊘_, whole, Filled}
 use Rattle.floats.specs.Constants.{two, pi}
 use Rattle.bodies.specs.declared.Body.{Body}
 use Rattle.bodies.specs.Bodies.{emptyBody}
@@ -20,7 +20,7 @@ use Rattle.plates.specs.Plates.{singleFinOf}
 
 -- the roll of fin k: base + ((2·π)·k)/count
 abbrev pub angleOf : Float → ℕ → ℕ → Float
-angleOf base count k = base ⊕ two ⊗ pi ⊗ number k ⊘ number count
+angleOf base count k = base ⊕ two ⊗ pi ⊗ whole k ⊘ whole count
 
 -- what the program logic has past a list's end
 abbrev pub noTurn : Quaternion

@@ -4,7 +4,7 @@ use mathlib.Core.Bool.{true, false}
 use Prim.Native.Nat.{_^_}
 use lib.IntN.{negsuc}
 use lib.Ieee.{Float, nan, inf, fin, binary64, ofBits, ofInt, round, add, sub, mul, div, neg}
-use Rattle.floats.specs.Operations.{bits, number}
+use Rattle.floats.specs.Operations.{bits, whole}
 use Rattle.floats.specs.Floats.{isFinite}
 use Rattle.floats.proofs.Bools.{no}
 use Rattle.trig.specs.Trig.{mOf, quarterOf, sinCosOf, sinOf, cosOf}
@@ -15,11 +15,11 @@ unfolding ofBits round
 two-over-pi = refl
 
 -- 0.49999999999999994 gives 0, 5/2 gives 3, −5/2 gives −3, which is 1 mod 4
-pub below-half : mOf (bits 0x3fdf_ffff_ffff_ffff) ≡ number 0
+pub below-half : mOf (bits 0x3fdf_ffff_ffff_ffff) ≡ whole 0
 unfolding mOf ofBits ofInt
 below-half = refl
 
-pub half-up : mOf (bits 0x4004_0000_0000_0000) ≡ number 3
+pub half-up : mOf (bits 0x4004_0000_0000_0000) ≡ whole 3
 unfolding mOf ofBits ofInt
 half-up = refl
 
@@ -36,7 +36,7 @@ pub sine-zero : sinOf (bits 0) ≡ bits 0
 unfolding sinCosOf ofBits ofInt add sub mul div neg
 sine-zero = refl
 
-pub cosine-zero : cosOf (bits 0) ≡ number 1
+pub cosine-zero : cosOf (bits 0) ≡ whole 1
 unfolding sinCosOf ofBits ofInt add sub mul div neg
 cosine-zero = refl
 

@@ -4,7 +4,7 @@ use mathlib.Core.List.{List, [], _∷_, map}
 use Prim.Native.Nat.{ℕ, zero, suc, _+_, _-_, _*_, _/_, _%_}
 use lib.IntN.{ℤ, pos, negsuc, negℤ}
 use lib.Ieee.{Float, nan, inf, fin, binary64, up, down, ofInt, neg}
-use Rattle.floats.specs.Operations.{_⊖_, _⊗_, _⊘_, bits, number}
+use Rattle.floats.specs.Operations.{_⊖_, _⊗_, _⊘_, bits, whole}
 use Rattle.trig.specs.declared.SinCos.{SinCos}
 
 -- f·0.6366197723675814, which is f in quarter turns; the constant by its bits
@@ -39,21 +39,21 @@ reduced f m = (f ⊖ m ⊗ bits 0x3ff9_21fb_5440_0000) ⊖ m ⊗ bits 0x3dd0_b46
 -- "step v = 1 − (z/d)·v", for each d in order
 unfoldable pub steps : Float → List Float → Float → Float
 steps z [] v = v
-steps z (d ∷ ds) v = steps z ds (number 1 ⊖ (z ⊘ d) ⊗ v)
+steps z (d ∷ ds) v = steps z ds (whole 1 ⊖ (z ⊘ d) ⊗ v)
 
 -- "z = r·r. From v = 1 .. Sine's d: .., then r·v"
 abbrev pub sineDivisors : List Float
-sineDivisors = map number (272 ∷ 210 ∷ 156 ∷ 110 ∷ 72 ∷ 42 ∷ 20 ∷ 6 ∷ [])
+sineDivisors = map whole (272 ∷ 210 ∷ 156 ∷ 110 ∷ 72 ∷ 42 ∷ 20 ∷ 6 ∷ [])
 
 abbrev pub sineSeries : Float → Float
-sineSeries r = r ⊗ steps (r ⊗ r) sineDivisors (number 1)
+sineSeries r = r ⊗ steps (r ⊗ r) sineDivisors (whole 1)
 
 -- "Cosine's d: .., then v"
 abbrev pub cosineDivisors : List Float
-cosineDivisors = map number (240 ∷ 182 ∷ 132 ∷ 90 ∷ 56 ∷ 30 ∷ 12 ∷ 2 ∷ [])
+cosineDivisors = map whole (240 ∷ 182 ∷ 132 ∷ 90 ∷ 56 ∷ 30 ∷ 12 ∷ 2 ∷ [])
 
 abbrev pub cosineSeries : Float → Float
-cosineSeries r = steps (r ⊗ r) cosineDivisors (number 1)
+cosineSeries r = steps (r ⊗ r) cosineDivisors (whole 1)
 
 -- "m mod 4 (never negative)"; where m is a NaN the table's lines are all alike, and 0 picks one
 abbrev pub modFour : ℤ → ℕ

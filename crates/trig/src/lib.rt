@@ -5,7 +5,7 @@
 ghost use mathlib.Core.Path.{_≡_};
 ghost use Prim.Native.Nat.{_-_, _*_, _^_, _≤_, _<_};
 ghost use lib.Ieee.{binary64, ofInt};
-ghost use Rattle.floats.specs.Operations.{_⊗_, number, at};
+ghost use Rattle.floats.specs.Operations.{_⊗_, whole, at};
 ghost use Rattle.trig.specs.Trig.{nearestWhole, signed, mOf, steps, sineDivisors, cosineDivisors, modFour, quarterOf, byQuarter, sinOf, cosOf};
 
 const TWO_OVER_PI: f64 = 0.6366197723675814;
@@ -39,7 +39,7 @@ pub fn sin_cos(f: f64) -> SinCos
 // From v = 1, v = 1 − (z/d)·v for each divisor d in order: the sine's, then the cosine's. The two go on side by side, so that the
 // machine divides both at once.
 fn series(z: f64) -> [f64; 2]
-    ensures { λ v. ⌜ (at v 0 ≡ steps z sineDivisors (number 1)) × (at v 1 ≡ steps z cosineDivisors (number 1)) ⌝ }
+    ensures { λ v. ⌜ (at v 0 ≡ steps z sineDivisors (whole 1)) × (at v 1 ≡ steps z cosineDivisors (whole 1)) ⌝ }
 {
     let mut v = [1.0, 1.0];
     let mut i = 0usize;

@@ -1,5 +1,5 @@
 -- `sections::chord_moments` meets its contract: zeros by the test of the width, else by the section. Assumes nothing.
-use Rattle.sections.specs.Moments.{chordMoments}
+use Rattle.sections.specs.ChordMoments.{chordMoments}
 use borrow.Author.Needs.{needs}
 use Rattle.sections.proofs.chord_moments.Statement.{statement}
 use Rattle.sections.proofs.chord_moments.Tie as tie

@@ -9,19 +9,19 @@ use native.Mathlib.Omega.{arith}
 use lib.ListN.{length, drop}
 use lib.Seq.{drop-cons, drop-length}
 use lib.Ieee.{Float, nan, ofBits, ofInt, round}
-use Rattle.floats.specs.Operations.{_⊖_, _⊗_, _⊘_, bits, number, at}
+use Rattle.floats.specs.Operations.{_⊖_, _⊗_, _⊘_, bits, whole, at}
 use Rattle.trig.specs.Trig.{steps, sineDivisors, cosineDivisors}
 use Rattle.trig.proofs.series.Statement.{statement}
 use Rattle.trig.proofs.series.Tie as tie
 
 -- the code's 1.0
-one : bits 0x3ff0_0000_0000_0000 ≡ number 1
+one : bits 0x3ff0_0000_0000_0000 ≡ whole 1
 unfolding ofBits ofInt round
 one = refl
 
 -- i of the divisors are taken, and v stands
 abbrev Left : Float → List Float → Float → ℕ → Type 0
-Left z ds v i = steps z (drop i ds) v ≡ steps z ds (number 1)
+Left z ds v i = steps z (drop i ds) v ≡ steps z ds (whole 1)
 
 none-taken : (z : Float) (ds : List Float) → Left z ds (bits 0x3ff0_0000_0000_0000) 0
 none-taken z ds = ap (steps z ds) one
@@ -33,7 +33,7 @@ one-more z ds v i h e = step h ∙ e
     step : i < length ds → steps z (drop (i + 1) ds) (bits 0x3ff0_0000_0000_0000 ⊖ (z ⊘ at ds i) ⊗ v) ≡ steps z (drop i ds) v
     step h = rw (add-one, one, drop-cons ds i nan)
 
-none-left : (z : Float) (ds : List Float) (v : Float) (i : ℕ) → i ≤ length ds → length ds ≤ i → Left z ds v i → v ≡ steps z ds (number 1)
+none-left : (z : Float) (ds : List Float) (v : Float) (i : ℕ) → i ≤ length ds → length ds ≤ i → Left z ds v i → v ≡ steps z ds (whole 1)
 unfolding steps
 none-left z ds v i h k e = last h k ∙ e
   where

@@ -4,7 +4,7 @@ use Prim.Native.Nat.{ℕ, _<_}
 use native.Mathlib.Omega.{arith}
 use lib.Ieee.{Float, nan, inf, fin}
 use borrow.Author.Needs.{needs}
-use Rattle.floats.specs.Operations.{_⊗_, number}
+use Rattle.floats.specs.Operations.{_⊗_, whole}
 use Rattle.trig.specs.declared.SinCos.{SinCos}
 use Rattle.trig.specs.Trig.{quarterTurns, mOf, wholeOf, quarterOf, reduced, steps, sineDivisors, cosineDivisors, byQuarter, sinCosOf}
 use Rattle.trig.proofs.Modulo.{below-four}
@@ -18,7 +18,7 @@ quarter-below-four (inf s) = omega arith
 quarter-below-four (fin s k e) = below-four (wholeOf s k e)
 
 together : (f m p c : Float) (k : ℕ) (t : SinCos) → m ≡ mOf (quarterTurns f) → k ≡ quarterOf (quarterTurns f)
-    → p ≡ steps (reduced f m ⊗ reduced f m) sineDivisors (number 1) → c ≡ steps (reduced f m ⊗ reduced f m) cosineDivisors (number 1)
+    → p ≡ steps (reduced f m ⊗ reduced f m) sineDivisors (whole 1) → c ≡ steps (reduced f m ⊗ reduced f m) cosineDivisors (whole 1)
     → t ≡ byQuarter k (reduced f m ⊗ p) c → t ≡ sinCosOf f
 unfolding sinCosOf
 together f m p c k t em ek ep ec et = rw (et, ep, ec, em, ek)

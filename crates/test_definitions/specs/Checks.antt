@@ -32,7 +32,7 @@ use Rattle.bodies.specs.Tensors.{vector}
 use Rattle.moments.specs.Moments.{rotationOf, rotate, sweep, sweeps, insertMoment, insertAll, entriesFit, eigenvaluesOf, principalMomentsOf}
 use Rattle.root.specs.Root.{nearRoot, rootOf}
 use Rattle.body_check.specs.BodyCheck.{largestMagnitude, asymmetryOf, checkTensor, checkOf}
-use Rattle.definition_cases.specs.Rows.{is, are, accepted, refused}
+use Rattle.test_definitions.specs.Rows.{is, are, accepted, refused}
 
 -- the bits of 0.01, 0.02, 0.03, 0.2, 1, 2, 3 and 65, of a NaN and of infinity
 abbrev d01 : ℕ

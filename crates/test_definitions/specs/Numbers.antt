@@ -16,7 +16,7 @@ use Rattle.hex.specs.Hex as hex
 use Rattle.counts.specs.declared.Count.{Count}
 use Rattle.counts.specs.declared.Count.the-variants.{Whole, NotCount}
 use Rattle.counts.specs.Counts as counts
-use Rattle.definition_cases.specs.Rows.{is, are, same}
+use Rattle.test_definitions.specs.Rows.{is, are, same}
 
 abbrev tenth : Float
 tenth = bits 0x3fb9_9999_9999_999a

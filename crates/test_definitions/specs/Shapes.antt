@@ -17,9 +17,9 @@ use Rattle.segments.specs.declared.Segment.{Segment}
 use Rattle.segments.specs.Segments.{isInBox, segmentsTouch}
 use Rattle.sections.specs.declared.Section.the-variants.{Square, Rounded, Airfoil}
 use Rattle.sections.specs.Airfoil.{phi, airfoilPhi, airfoilPsi}
-use Rattle.sections.specs.Moments.{chordMoments}
+use Rattle.sections.specs.ChordMoments.{chordMoments}
 use Rattle.integrands.specs.Integrands.{scaleOf, sumsFrom, sampleOf, areaOf, plateOf}
-use Rattle.definition_cases.specs.Rows.{is, are}
+use Rattle.test_definitions.specs.Rows.{is, are}
 
 -- the bits of some lengths: 0.03, 0.05, and 0.1 to 0.4
 abbrev d03 : ℕ
