@@ -1,37 +1,36 @@
 -- What is reported once the strips of an accepted set, or planform, are worked: figures or 8, 13 or 14, by the ending of the last strip.
 -- Assumes nothing.
 use mathlib.Core.Path.{_≡_, refl, sym, ap, _∙_}
-use mathlib.Core.Bool.{Bool, true, false, cond, _&&_, false≢true}
+use mathlib.Core.Bool.{Bool, true, false, cond}
 use mathlib.Core.List.{List}
 use mathlib.Core.Logic.{_⊎_, inl, inr}
 use Prim.Native.Nat.{ℕ}
 use native.Mathlib.Omega.{arith}
-use lib.Dec.{leb}
 use lib.Ieee.{Float, le}
 use Rattle.floats.specs.Operations.{bits}
 use Rattle.refusals.specs.declared.Refusal.{Refusal}
-use Rattle.refusals.specs.declared.Refusal.the-variants.{Count, NoArea}
+use Rattle.refusals.specs.declared.Refusal.the-variants.{NoArea}
 use Rattle.refusals.specs.declared.Verdict.{Verdict}
 use Rattle.refusals.specs.declared.Verdict.the-variants.{Accepted, Refused}
-use Rattle.refusals.specs.Order.{refuseUnless, firstRefusal}
+use Rattle.refusals.specs.Order.{firstRefusal}
 use Rattle.limits.specs.Limits.{countCheck}
-use Rattle.refusals.proofs.Accepted.{holds}
 use Rattle.materials.specs.Materials.{densityCheck}
 use Rattle.materials.specs.declared.Density.{Density}
 use Rattle.materials.specs.declared.Density.the-variants.{Bulk, Surface, Line}
+use Rattle.bodies.specs.declared.Body.{Body}
 use Rattle.bodies.specs.declared.Centre.{Centre}
 use Rattle.fins.specs.declared.FinSet.{FinSet}
 use Rattle.halving.specs.declared.Ending.{Ending}
 use Rattle.halving.specs.declared.Ending.the-variants.{Accepted as accepted, NotConverged as notConverged, NotFinite as notFinite}
 use Rattle.halving.specs.declared.Integral.{Integral}
 use Rattle.joins.specs.declared.Joined.{Joined}
-use Rattle.joins.specs.Joins.{joinOf, refusedCount}
+use Rattle.joins.specs.Joins.{refusedBody, unlessRefused}
 use Rattle.plates.specs.declared.PlanformGeometry.{PlanformGeometry}
 use Rattle.plates.specs.Integrals.{volume}
 use Rattle.plates.specs.Geometry.{unscaledArea, noGeometry, geometryOf}
-use Rattle.plates.specs.declared.Fin.{Fin}
-use Rattle.plates.specs.Plates.{pivotOf, refusedFin, bulkFin, ofDensity, integralsOf, singleFinOf}
-use Rattle.sets.specs.Sets.{rolledFin, joinedFinsOf, unlessRefused, massPropertiesOf}
+use Rattle.plates.specs.Plates.{pivotOf, bulkFin, ofDensity, integralsOf, singleFinOf}
+use Rattle.rings.specs.Rings.{joinedCopies, ringOf}
+use Rattle.sets.specs.Sets.{joinedFinsOf}
 use Rattle.figures.specs.declared.Figures.{Figures}
 use Rattle.figures.specs.declared.Area.{Area}
 use Rattle.figures.specs.Figures.{ofJoined, byEnding, concludedOf}
@@ -47,9 +46,9 @@ FiguresOr8 verdict = (verdict ≡ Accepted) ⊎ (verdict ≡ Refused NoArea)
 -- ---- one fin of bulk density, and the fins joined
 bulk-fin : (v : List Float) (cant : Float) (pivot : Centre) (x : Float) → FiguresOr8 (bulkFin v cant pivot x .verdict)
 unfolding bulkFin
-bulk-fin v cant pivot x = go (le (volume v) (bits 0)) (refusedFin NoArea) _ refl refl
+bulk-fin v cant pivot x = go (le (volume v) (bits 0)) (refusedBody NoArea) _ refl refl
   where
-    go : (b : Bool) (none fin : Fin) → none .verdict ≡ Refused NoArea → fin .verdict ≡ Accepted → FiguresOr8 (cond b none fin .verdict)
+    go : (b : Bool) (none fin : Joined) → none .verdict ≡ Refused NoArea → fin .verdict ≡ Accepted → FiguresOr8 (cond b none fin .verdict)
     go true none fin p q = inr p
     go false none fin p q = inl q
 
@@ -61,19 +60,17 @@ of-density (Line x) v cant pivot h = no-refusal _ h
 
 -- the count's check accepts, and so does the fin's: the first refusal of the two is the fin's
 fins-joined : (set : FinSet) (root scale : Float) (total : List Float) → countCheck (set .count) ≡ Accepted → densityCheck (set .density) ≡ Accepted
-    → FiguresOr8 (massPropertiesOf set root scale total .verdict)
-unfolding massPropertiesOf joinedFinsOf singleFinOf firstRefusal
+    → FiguresOr8 (joinedFinsOf set root scale total .verdict)
+unfolding ringOf singleFinOf firstRefusal
 fins-joined set root scale total c d =
-    go (leb 1 (set .count) && leb (set .count) 32) (holds _ _ c) (ofDensity (set .density) (bulkFin (integralsOf set scale total) (set .«cant_rad») (pivotOf (set .«body_radius_m») root)) .verdict)
+    go (countCheck (set .count)) c (ofDensity (set .density) (bulkFin (integralsOf set scale total) (set .«cant_rad») (pivotOf (set .«body_radius_m») root)) .verdict)
     (of-density (set .density) (integralsOf set scale total) (set .«cant_rad») (pivotOf (set .«body_radius_m») root) d)
-    (record { verdict = Accepted; body = joinOf (rolledFin (singleFinOf set root scale total .body) (set .«base_angle_rad») (set .count)) (set .count) })
-    refl
+    (joinedCopies (singleFinOf set root scale total .body) (set .«base_angle_rad») (set .count))
   where
-    go : (b : Bool) → b ≡ true → (fin : Verdict) → FiguresOr8 fin → (joined : Joined) → joined .verdict ≡ Accepted
-        → FiguresOr8 (unlessRefused (firstRefusal (refuseUnless b Count) (firstRefusal fin Accepted)) (cond b joined refusedCount) .verdict)
-    go true e Accepted f joined j = inl j
-    go true e (Refused refusal) f joined j = f
-    go false e fin f joined j = absurd (false≢true e)
+    go : (count : Verdict) → count ≡ Accepted → (fin : Verdict) → FiguresOr8 fin → (body : Body) → FiguresOr8 (unlessRefused (firstRefusal count (firstRefusal fin Accepted)) body .verdict)
+    go Accepted e Accepted f body = inl refl
+    go Accepted e (Refused refusal) f body = f
+    go (Refused refusal) e fin f body = no-refusal refusal e
 
 -- ---- a set
 module _ (set : FinSet) (root scale : Float) (total : Integral) where
@@ -91,18 +88,18 @@ module _ (set : FinSet) (root scale : Float) (total : Integral) where
   joined-verdict (Refused refusal) joined f = f
 
   ended-samples : (ending : Ending) → byEnding ending set root scale total .samples ≡ total .samples
-  ended-samples accepted = joined-samples (massPropertiesOf set root scale (total .value) .verdict) (massPropertiesOf set root scale (total .value))
+  ended-samples accepted = joined-samples (joinedFinsOf set root scale (total .value) .verdict) (joinedFinsOf set root scale (total .value))
   ended-samples (notConverged component) = refl
   ended-samples notFinite = refl
 
   ended-intervals : (ending : Ending) → byEnding ending set root scale total .verdict ≡ Accepted → byEnding ending set root scale total .intervals ≡ total .intervals
-  ended-intervals accepted h = joined-intervals (massPropertiesOf set root scale (total .value) .verdict) (massPropertiesOf set root scale (total .value)) h
+  ended-intervals accepted h = joined-intervals (joinedFinsOf set root scale (total .value) .verdict) (joinedFinsOf set root scale (total .value)) h
   ended-intervals (notConverged component) h = no-refusal _ h
   ended-intervals notFinite h = no-refusal _ h
 
   ended-verdict : countCheck (set .count) ≡ Accepted → densityCheck (set .density) ≡ Accepted → (ending : Ending) → Reported ending (byEnding ending set root scale total .verdict)
   ended-verdict c d accepted =
-      joined-verdict (massPropertiesOf set root scale (total .value) .verdict) (massPropertiesOf set root scale (total .value)) (fins-joined set root scale (total .value) c d)
+      joined-verdict (joinedFinsOf set root scale (total .value) .verdict) (joinedFinsOf set root scale (total .value)) (fins-joined set root scale (total .value) c d)
   ended-verdict c d (notConverged component) = refl
   ended-verdict c d notFinite = refl
 

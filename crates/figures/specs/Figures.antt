@@ -18,7 +18,7 @@ use Rattle.halving.specs.declared.Ending.the-variants.{Accepted as accepted, No
 use Rattle.halving.specs.declared.Integral.{Integral}
 use Rattle.strips.specs.Strips.{Worked, workedOf, totalsOf, scratchAfter}
 use Rattle.joins.specs.declared.Joined.{Joined}
-use Rattle.sets.specs.Sets.{massPropertiesOf}
+use Rattle.sets.specs.Sets.{joinedFinsOf}
 use Rattle.figures.specs.declared.Figures.{Figures}
 
 -- the plate's integrand, which the halving is fed: worked from the set alone
@@ -43,7 +43,7 @@ joinedFigures joined intervals samples = ofJoined (joined .verdict) joined inter
 
 -- by how the run of the strips ended: 13 with its component, 14, or figures
 abbrev pub byEnding : Ending → FinSet → Float → Float → Integral → Figures
-byEnding accepted set root scale total = joinedFigures (massPropertiesOf set root scale (total .value)) (total .intervals) (total .samples)
+byEnding accepted set root scale total = joinedFigures (joinedFinsOf set root scale (total .value)) (total .intervals) (total .samples)
 byEnding (notConverged component) set root scale total = refusedFigures (NotConverged component) (total .samples)
 byEnding notFinite set root scale total = refusedFigures NotFinite (total .samples)
 

@@ -81,7 +81,7 @@ fn concluded(set: FinSet, root_chord_m: f64, scale_m: f64, total: Integral) -> F
     let value = total.value;
     match ending {
         Ending::Accepted => joined_figures(
-            sets::mass_properties(set, root_chord_m, scale_m, value),
+            sets::joined_fins(set, root_chord_m, scale_m, value),
             total.intervals,
             total.samples,
         ),
