@@ -1,25 +1,24 @@
 -- What is reported once the strips of an accepted set, or planform, are worked: figures or 8, 13 or 14, by the ending of the last strip.
 -- Assumes nothing.
 use mathlib.Core.Path.{_≡_, refl, sym, ap, subst, _∙_}
-use mathlib.Core.Bool.{Bool, true, false, cond, _&&_, false≢true}
-use mathlib.Core.List.{List, []}
+use mathlib.Core.Bool.{Bool, true, false, cond}
+use mathlib.Core.List.{List}
 use mathlib.Core.Logic.{_⊎_, inl, inr}
 use Prim.Native.Nat.{ℕ}
 use native.Mathlib.Omega.{arith}
-use lib.Dec.{leb}
 use lib.Ieee.{Float, le}
 use Rattle.floats.specs.Operations.{bits}
 use Rattle.refusals.specs.declared.Refusal.{Refusal}
-use Rattle.refusals.specs.declared.Refusal.the-variants.{Count, NoArea}
+use Rattle.refusals.specs.declared.Refusal.the-variants.{NoArea}
 use Rattle.refusals.specs.declared.Verdict.{Verdict}
 use Rattle.refusals.specs.declared.Verdict.the-variants.{Accepted, Refused}
-use Rattle.refusals.specs.Order.{refuseUnless, firstRefusal}
+use Rattle.refusals.specs.Order.{firstRefusal}
 use Rattle.refusals.specs.Refusals.{numberOf, valuesOf}
 use Rattle.limits.specs.Limits.{countCheck}
-use Rattle.refusals.proofs.Accepted.{holds}
 use Rattle.materials.specs.Materials.{densityCheck}
 use Rattle.materials.specs.declared.Density.{Density}
 use Rattle.materials.specs.declared.Density.the-variants.{Bulk, Surface, Line}
+use Rattle.bodies.specs.declared.Body.{Body}
 use Rattle.bodies.specs.Bodies.{emptyBody}
 use Rattle.bodies.specs.declared.Centre.{Centre}
 use Rattle.fins.specs.declared.FinSet.{FinSet}
@@ -30,13 +29,13 @@ use Rattle.strips.specs.declared.Totals.{Totals}
 use Rattle.strips.specs.Strips.{Worked, samplesIn, intervalsIn, endingOf, totalsOf}
 use Rattle.strips.proofs.Reported.{totals-samples, totals-intervals, totals-verdict}
 use Rattle.joins.specs.declared.Joined.{Joined}
-use Rattle.joins.specs.Joins.{joinOf, refusedCount}
+use Rattle.joins.specs.Joins.{refusedBody, unlessRefused}
 use Rattle.plates.specs.declared.PlanformGeometry.{PlanformGeometry}
 use Rattle.plates.specs.Integrals.{volume}
 use Rattle.plates.specs.Geometry.{unscaledArea, noGeometry, geometryOf}
-use Rattle.plates.specs.declared.Fin.{Fin}
-use Rattle.plates.specs.Plates.{pivotOf, refusedFin, bulkFin, ofDensity, integralsOf, singleFinOf}
-use Rattle.sets.specs.Sets.{rolledFin, joinedFinsOf, unlessRefused, massPropertiesOf}
+use Rattle.plates.specs.Plates.{pivotOf, bulkFin, ofDensity, integralsOf, singleFinOf}
+use Rattle.rings.specs.Rings.{joinedCopies, ringOf}
+use Rattle.sets.specs.Sets.{joinedFinsOf}
 use Rattle.figures.specs.declared.Figures.{Figures}
 use Rattle.figures.specs.declared.Area.{Area}
 use Rattle.figures.specs.Figures.{ofJoined, byVerdict, concludedOf}
@@ -60,9 +59,9 @@ gives-refusal verdict refusal e = subst (λ (v : Verdict). Gives v (numberOf ref
 -- ---- one fin of bulk density, and the fins joined
 bulk-fin : (v : List Float) (cant : Float) (pivot : Centre) (x : Float) → FiguresOr8 (bulkFin v cant pivot x .verdict)
 unfolding bulkFin
-bulk-fin v cant pivot x = go (le (volume v) (bits 0)) (refusedFin NoArea) _ refl refl
+bulk-fin v cant pivot x = go (le (volume v) (bits 0)) (refusedBody NoArea) _ refl refl
   where
-    go : (b : Bool) (none fin : Fin) → none .verdict ≡ Refused NoArea → fin .verdict ≡ Accepted → FiguresOr8 (cond b none fin .verdict)
+    go : (b : Bool) (none fin : Joined) → none .verdict ≡ Refused NoArea → fin .verdict ≡ Accepted → FiguresOr8 (cond b none fin .verdict)
     go true none fin p q = inr p
     go false none fin p q = inl q
 
@@ -74,19 +73,17 @@ of-density (Line x) v cant pivot h = no-refusal _ h
 
 -- the count's check accepts, and so does the fin's: the first refusal of the two is the fin's
 fins-joined : (set : FinSet) (root scale : Float) (total : List Float) → countCheck (set .count) ≡ Accepted → densityCheck (set .density) ≡ Accepted
-    → FiguresOr8 (massPropertiesOf set root scale total .verdict)
-unfolding massPropertiesOf joinedFinsOf singleFinOf firstRefusal
+    → FiguresOr8 (joinedFinsOf set root scale total .verdict)
+unfolding ringOf singleFinOf firstRefusal
 fins-joined set root scale total c d =
-    go (leb 1 (set .count) && leb (set .count) 32) (holds _ _ c) (ofDensity (set .density) (bulkFin (integralsOf set scale total) (set .«cant_rad») (pivotOf (set .«body_radius_m») root)) .verdict)
+    go (countCheck (set .count)) c (ofDensity (set .density) (bulkFin (integralsOf set scale total) (set .«cant_rad») (pivotOf (set .«body_radius_m») root)) .verdict)
     (of-density (set .density) (integralsOf set scale total) (set .«cant_rad») (pivotOf (set .«body_radius_m») root) d)
-    (record { verdict = Accepted; body = joinOf (rolledFin (singleFinOf set root scale total .body) (set .«base_angle_rad») (set .count)) (set .count) })
-    refl
+    (joinedCopies (singleFinOf set root scale total .body) (set .«base_angle_rad») (set .count))
   where
-    go : (b : Bool) → b ≡ true → (fin : Verdict) → FiguresOr8 fin → (joined : Joined) → joined .verdict ≡ Accepted
-        → FiguresOr8 (unlessRefused (firstRefusal (refuseUnless b Count) (firstRefusal fin Accepted)) (cond b joined refusedCount) .verdict)
-    go true e Accepted f joined j = inl j
-    go true e (Refused refusal) f joined j = f
-    go false e fin f joined j = absurd (false≢true e)
+    go : (count : Verdict) → count ≡ Accepted → (fin : Verdict) → FiguresOr8 fin → (body : Body) → FiguresOr8 (unlessRefused (firstRefusal count (firstRefusal fin Accepted)) body .verdict)
+    go Accepted e Accepted f body = inl refl
+    go Accepted e (Refused refusal) f body = f
+    go (Refused refusal) e fin f body = no-refusal refusal e
 
 -- ---- a set
 
@@ -96,7 +93,7 @@ ZeroFigures r = (number : ℕ) (values : List ℕ) → Gives (r .verdict) number
 
 module _ (set : FinSet) (root scale : Float) (total : Totals) where
   abbrev Joined· : Joined
-  Joined· = massPropertiesOf set root scale (total .value)
+  Joined· = joinedFinsOf set root scale (total .value)
 
   joined-samples : (verdict : Verdict) (joined : Joined) → ofJoined verdict joined (total .intervals) (total .samples) .samples ≡ total .samples
   joined-samples Accepted joined = refl

@@ -15,7 +15,7 @@ use Rattle.fins.specs.Fins.{setCheck}
 use Rattle.strips.specs.declared.Totals.{Totals}
 use Rattle.strips.specs.Strips.{Worked, workedOf, totalsOf, scratchAfter}
 use Rattle.joins.specs.declared.Joined.{Joined}
-use Rattle.sets.specs.Sets.{massPropertiesOf}
+use Rattle.sets.specs.Sets.{joinedFinsOf}
 use Rattle.figures.specs.declared.Figures.{Figures}
 
 -- the plate's integrand, which the halving is fed: worked from the set alone
@@ -40,7 +40,7 @@ joinedFigures joined intervals samples = ofJoined (joined .verdict) joined inter
 
 -- by how the run of the strips ended: figures, or 13 or 14
 abbrev pub byVerdict : Verdict → FinSet → Float → Float → Totals → Figures
-byVerdict Accepted set root scale total = joinedFigures (massPropertiesOf set root scale (total .value)) (total .intervals) (total .samples)
+byVerdict Accepted set root scale total = joinedFigures (joinedFinsOf set root scale (total .value)) (total .intervals) (total .samples)
 byVerdict (Refused refusal) set root scale total = refusedFigures refusal (total .samples)
 
 unfoldable pub concludedOf : FinSet → Float → Float → Totals → Figures

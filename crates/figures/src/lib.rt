@@ -77,7 +77,7 @@ fn concluded(set: FinSet, root_chord_m: f64, scale_m: f64, total: Totals) -> Fig
     let value = total.value;
     match verdict {
         Verdict::Accepted => joined_figures(
-            sets::mass_properties(set, root_chord_m, scale_m, value),
+            sets::joined_fins(set, root_chord_m, scale_m, value),
             total.intervals,
             total.samples,
         ),

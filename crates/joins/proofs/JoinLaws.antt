@@ -1,54 +1,68 @@
 -- Joins over a family of bodies: families alike are joined alike, a join of one, and a join's mass and centre. Assumes nothing.
 use mathlib.Core.Bool.{Bool, true, false, true≢false}
 use mathlib.Core.Path.{_≡_, refl, sym, ap, subst, _∙_}
-use Prim.Native.Nat.{ℕ, zero, suc, _/_, _%_, _<_}
+use Prim.Native.Nat.{ℕ, zero, suc, _/_, _%_, _≤_, _<_}
 use native.Mathlib.Nat.{lt-suc-self}
 use native.Mathlib.Omega.{arith}
 use borrow.Author.Tests.{eq-eqb}
 use lib.Dec.{T}
 use lib.ListN.{length}
-use lib.Ieee.{Float, nan, lt, ne, ofBits}
+use lib.Ieee.{Float, nan, lt, ne, ofBits, add}
 use lib.Ieee.Compare.{differs-from-itself, nan-differs}
-use Rattle.floats.specs.Operations.{_⊕_, bits}
+use Rattle.floats.specs.Operations.{_⊕_, bits, every}
+use Rattle.floats.specs.Constants.{one}
+use Rattle.floats.proofs.Every.{every-holds}
 use Rattle.bodies.specs.declared.Body.{Body}
 use Rattle.bodies.specs.declared.Centre.{Centre}
 use Rattle.bodies.specs.Tensors.{vector, zeroTensor, divideVector, addTensors}
 use Rattle.bodies.specs.Bodies.{inertiaAboutOf}
+use Rattle.refusals.specs.declared.Verdict.{Verdict}
+use Rattle.joins.specs.declared.Joined.{Joined}
 use Rattle.joins.specs.Flat.{bodyAt, listed}
-use Rattle.joins.specs.Joins.{inOrder, noSums, sumsOf, addBody, centreOf, inertiaOf, joinOf, joinedOf, combineOf}
-use Rattle.joins.proofs.InOrder.{sums-suc, inertia-suc}
+use Rattle.joins.specs.Joins.{inOrder, noSums, sumsOf, addBody, centreOf, inertiaOf, joinOf, unlessRefused, joinedOf, combineOf}
+use Rattle.joins.proofs.InOrder.{no-sums, sums-suc, inertia-suc}
 use Rattle.joins.proofs.Listed.{readBack, length-listed, read-back}
 
-about-read-back : (b : Body) (centre : Centre) → inertiaAboutOf (readBack b) centre ≡ inertiaAboutOf b centre
+-- bodies that a join takes alike: it reads no more of a body than this
+abbrev Alike : Body → Body → Type 0
+Alike a b = (a .«mass_kg» ≡ b .«mass_kg») × (a .«centre_m» ≡ b .«centre_m») × ((point : Centre) → inertiaAboutOf a point ≡ inertiaAboutOf b point)
+
+the-same : {a b : Body} → a ≡ b → Alike a b
+the-same e = (ap (λ (x : Body). x .«mass_kg») e, ap (λ (x : Body). x .«centre_m») e, λ point. ap (λ (x : Body). inertiaAboutOf x point) e)
+
+as-read-back : {a : Body} (b : Body) → a ≡ readBack b → Alike a b
 unfolding inertiaAboutOf
-about-read-back b centre = refl
+as-read-back b e = the-same e
 
 lt-suc : {k n : ℕ} → k < n → k < suc n
 lt-suc l = omega arith
 
 module _ (f g : ℕ → Body) where
-  -- the first n bodies of f are those of g, read back
-  abbrev pub Alike : ℕ → Type 0
-  Alike n = (k : ℕ) → k < n → f k ≡ readBack (g k)
+  sums-alike : (n : ℕ) → ((k : ℕ) → k < n → Alike (f k) (g k)) → sumsOf f n ≡ sumsOf g n
+  sums-alike zero alike = sym (no-sums f) ∙ no-sums g
+  sums-alike (suc n) alike =
+      let a = alike n (lt-suc-self n) in
+      sums-suc f n ∙ rw (sums-alike n (λ k l. alike k (lt-suc l)), a .0, a .1) (sym (sums-suc g n))
 
-  pub sums-same : (n : ℕ) → Alike n → sumsOf f n ≡ sumsOf g n
-  unfolding inOrder sumsOf
-  sums-same zero alike = refl
-  sums-same (suc n) alike =
-      let e : sumsOf f n ≡ sumsOf g n = sums-same n (λ k l. alike k (lt-suc l)) in
-      sums-suc f n ∙ ap (λ (s : _). addBody s (f n)) e ∙ ap (addBody (sumsOf g n)) (alike n (lt-suc-self n)) ∙ sym (sums-suc g n)
-
-  pub inertia-same : (centre : Centre) (n : ℕ) → Alike n → inertiaOf f centre n ≡ inertiaOf g centre n
+  inertia-alike : (centre : Centre) (n : ℕ) → ((k : ℕ) → k < n → Alike (f k) (g k)) → inertiaOf f centre n ≡ inertiaOf g centre n
   unfolding inOrder inertiaOf
-  inertia-same centre zero alike = refl
-  inertia-same centre (suc n) alike =
-      let e : inertiaOf f centre n ≡ inertiaOf g centre n = inertia-same centre n (λ k l. alike k (lt-suc l)) in
-      let a : inertiaAboutOf (f n) centre ≡ inertiaAboutOf (g n) centre = ap (λ (b : Body). inertiaAboutOf b centre) (alike n (lt-suc-self n)) ∙ about-read-back (g n) centre in
-      inertia-suc f centre n ∙ rw (e, a) (sym (inertia-suc g centre n))
+  inertia-alike centre zero alike = refl
+  inertia-alike centre (suc n) alike =
+      inertia-suc f centre n ∙ rw (inertia-alike centre n (λ k l. alike k (lt-suc l)), alike n (lt-suc-self n) .2 centre) (sym (inertia-suc g centre n))
 
-  pub join-same : (n : ℕ) → Alike n → joinOf f n ≡ joinOf g n
+  join-alike : (n : ℕ) → ((k : ℕ) → k < n → Alike (f k) (g k)) → joinOf f n ≡ joinOf g n
   unfolding joinOf
-  join-same n alike = rw (sums-same n alike, inertia-same (centreOf (sumsOf g n)) n alike)
+  join-alike n alike = rw (sums-alike n alike, inertia-alike (centreOf (sumsOf g n)) n alike)
+
+  pub join-same : (n : ℕ) → ((k : ℕ) → k < n → f k ≡ g k) → joinOf f n ≡ joinOf g n
+  join-same n same = join-alike n (λ k l. the-same (same k l))
+
+  pub join-read-back : (n : ℕ) → ((k : ℕ) → k < n → f k ≡ readBack (g k)) → joinOf f n ≡ joinOf g n
+  join-read-back n back = join-alike n (λ k l. as-read-back (g k) (back k l))
+
+-- `got` is what a check gave, which is `known`: the answer for that is the check's
+pub by-verdict : (body : Body) {check got known : Verdict} {r : Joined} → got ≡ check → got ≡ known → r ≡ unlessRefused known body → r ≡ unlessRefused check body
+by-verdict body p t a = a ∙ ap (λ (v : Verdict). unlessRefused v body) (sym t ∙ p)
 
 -- the list of n bodies is joined as they are
 pub combine-listed : (f : ℕ → Body) (n : ℕ) → combineOf (listed f n) ≡ joinedOf f n
@@ -56,7 +70,7 @@ combine-listed f n =
     let long = length-listed f n in
     let whole : length (listed f n) % 13 ≡ 0 = omega arith in
     let count : length (listed f n) / 13 ≡ n = omega arith in
-    rw (eq-eqb _ _ whole, count, join-same (bodyAt (listed f n)) f n (read-back f n))
+    rw (eq-eqb _ _ whole, count, join-read-back (bodyAt (listed f n)) f n (read-back f n))
 
 decide : (b : Bool) → (T b → ⊥) → b ≡ false
 decide true never = absurd (never tt)
@@ -70,6 +84,18 @@ nan-not-above e = true≢false (sym e)
 above-differs : (x : Float) → lt (bits 0) x ≡ true → ne x x ≡ false
 above-differs x h =
     decide (ne x x) (λ (t : T (ne x x)). nan-not-above (subst (λ (y : Float). lt (bits 0) y ≡ true) (differs-from-itself x t) h))
+
+-- a count of 1 to 32 is above 0
+abbrev above : ℕ → Bool
+above k = lt (bits 0) (inOrder (λ x y. x ⊕ y) (bits 0) (λ k. one) (suc k))
+
+all-above : every 32 above ≡ true
+unfolding every inOrder lt ofBits add
+all-above = refl
+
+counted : (n : ℕ) → 1 ≤ n → n ≤ 32 → lt (bits 0) (inOrder (λ x y. x ⊕ y) (bits 0) (λ k. one) n) ≡ true
+counted zero l h = absurd (let z : ⊥ = omega arith in z)
+counted (suc k) l h = every-holds 32 above all-above k (omega arith)
 
 module _ (f : ℕ → Body) where
   -- one body is joined like any other: its centre is its moment over its mass, rounded, and not the centre that it came with
@@ -91,9 +117,9 @@ module _ (f : ℕ → Body) where
   unfolding joinOf
   centre-nan n h = rw (h, nan-differs)
 
-  pub centre-mean : (n : ℕ) → ne (joinOf f n .«mass_kg») (joinOf f n .«mass_kg») ≡ false → lt (bits 0) (joinOf f n .«mass_kg») ≡ false → joinOf f n .«centre_m» ≡ divideVector (sumsOf f n .positions) (sumsOf f n .count)
-  unfolding joinOf
-  centre-mean n p q = rw (p, q)
+  pub centre-mean : (n : ℕ) → 1 ≤ n → n ≤ 32 → ne (joinOf f n .«mass_kg») (joinOf f n .«mass_kg») ≡ false → lt (bits 0) (joinOf f n .«mass_kg») ≡ false → joinOf f n .«centre_m» ≡ divideVector (sumsOf f n .positions) (sumsOf f n .count)
+  unfolding joinOf sumsOf
+  centre-mean n l h p q = rw (p, q, counted n l h)
 
   pub centre-above : (n : ℕ) → lt (bits 0) (joinOf f n .«mass_kg») ≡ true → joinOf f n .«centre_m» ≡ divideVector (sumsOf f n .moment) (joinOf f n .«mass_kg»)
   unfolding joinOf

@@ -1,8 +1,8 @@
 -- Bodies joined into one (document 01, "Body"; mass.rs, `combine`).
-use mathlib.Core.Bool.{cond, _&&_}
+use mathlib.Core.Bool.{cond}
 use mathlib.Core.List.{List}
 use Prim.Native.Nat.{ℕ, zero, suc, _/_, _%_}
-use lib.Dec.{eqb, leb}
+use lib.Dec.{eqb}
 use lib.ListN.{length}
 use lib.Ieee.{Float, nan, lt, ne}
 use Rattle.floats.specs.Operations.{_⊕_, bits}
@@ -12,14 +12,17 @@ use Rattle.bodies.specs.declared.Centre.{Centre}
 use Rattle.bodies.specs.declared.Tensor.{Tensor}
 use Rattle.bodies.specs.Tensors.{vector, zeroVector, zeroTensor, addVectors, scaleVector, divideVector, addTensors}
 use Rattle.bodies.specs.Bodies.{emptyBody, inertiaAboutOf}
-use Rattle.refusals.specs.declared.Verdict.the-variants.{Accepted, Refused}
+use Rattle.refusals.specs.declared.Refusal.{Refusal}
 use Rattle.refusals.specs.declared.Refusal.the-variants.{Count}
+use Rattle.refusals.specs.declared.Verdict.{Verdict}
+use Rattle.refusals.specs.declared.Verdict.the-variants.{Accepted, Refused}
+use Rattle.limits.specs.Limits.{countCheck}
 use Rattle.joins.specs.Flat.{bodyAt}
 use Rattle.joins.specs.declared.Joined.{Joined}
 use Rattle.joins.specs.declared.Sums.{Sums}
 
--- the sum of f 0 to f (n − 1), in order and from a start
-unfoldable pub inOrder : {A : Type 0} → (A → A → A) → A → (ℕ → A) → ℕ → A
+-- terms f 0 to f (n − 1) added to a start, in order
+unfoldable pub inOrder : {A B : Type 0} → (A → B → A) → A → (ℕ → B) → ℕ → A
 inOrder plus start f zero = start
 inOrder plus start f (suc n) = plus (inOrder plus start f n) (f n)
 
@@ -33,23 +36,12 @@ sumsOf f n =
       count = inOrder (λ x y. x ⊕ y) (bits 0) (λ k. one) n;
     }
 
-abbrev pub noSums : Sums
-noSums = record { «mass_kg» = bits 0; moment = zeroVector; positions = zeroVector; count = bits 0 }
-
-abbrev pub addBody : Sums → Body → Sums
-addBody s b =
-    record {
-      «mass_kg» = s .«mass_kg» ⊕ b .«mass_kg»;
-      moment = addVectors (s .moment) (scaleVector (b .«centre_m») (b .«mass_kg»));
-      positions = addVectors (s .positions) (b .«centre_m»);
-      count = s .count ⊕ one;
-    }
-
--- "a total mass not above 0 takes the mean position; with NaN mass, a NaN centre"
+-- "a total mass not above 0 takes the mean position; with NaN mass, a NaN centre"; the origin for no bodies (the Rust's)
 abbrev pub centreOf : Sums → Centre
 centreOf s =
     cond (ne (s .«mass_kg») (s .«mass_kg»)) (vector nan nan nan)
-    (cond (lt (bits 0) (s .«mass_kg»)) (divideVector (s .moment) (s .«mass_kg»)) (divideVector (s .positions) (s .count)))
+    (cond (lt (bits 0) (s .«mass_kg»)) (divideVector (s .moment) (s .«mass_kg»))
+    (cond (lt (bits 0) (s .count)) (divideVector (s .positions) (s .count)) zeroVector))
 
 -- the tensors about one centre, summed
 unfoldable pub inertiaOf : (ℕ → Body) → Centre → ℕ → Tensor
@@ -64,13 +56,46 @@ joinOf f n =
       «inertia_kg_m2» = inertiaOf f (centreOf (sumsOf f n)) n;
     }
 
--- refusal 3: the count of bodies joined is not 1 to 32
-abbrev pub refusedCount : Joined
-refusedCount = record { verdict = Refused Count; body = emptyBody }
+abbrev pub acceptedBody : Body → Joined
+acceptedBody body = record { verdict = Accepted; body = body }
 
+-- "Figures zero" with a refusal
+abbrev pub refusedBody : Refusal → Joined
+refusedBody refusal = record { verdict = Refused refusal; body = emptyBody }
+
+abbrev pub unlessRefused : Verdict → Body → Joined
+unlessRefused Accepted body = acceptedBody body
+unlessRefused (Refused refusal) body = refusedBody refusal
+
+-- 3: "count of .. bodies joined, not 1 to 32"
 abbrev pub joinedOf : (ℕ → Body) → ℕ → Joined
-joinedOf f n = cond (leb 1 n && leb n 32) (record { verdict = Accepted; body = joinOf f n }) refusedCount
+joinedOf f n = unlessRefused (countCheck n) (joinOf f n)
 
 -- a list that is no whole number of bodies is refused 3 too
 abbrev pub combineOf : List Float → Joined
-combineOf numbers = cond (eqb (length numbers % 13) 0) (joinedOf (bodyAt numbers) (length numbers / 13)) refusedCount
+combineOf numbers = cond (eqb (length numbers % 13) 0) (joinedOf (bodyAt numbers) (length numbers / 13)) (refusedBody Count)
+
+-- ---- what the steps do
+
+abbrev pub noSums : Sums
+noSums = record { «mass_kg» = bits 0; moment = zeroVector; positions = zeroVector; count = bits 0 }
+
+abbrev pub addBody : Sums → Body → Sums
+addBody s b =
+    record {
+      «mass_kg» = s .«mass_kg» ⊕ b .«mass_kg»;
+      moment = addVectors (s .moment) (scaleVector (b .«centre_m») (b .«mass_kg»));
+      positions = addVectors (s .positions) (b .«centre_m»);
+      count = s .count ⊕ one;
+    }
+
+abbrev pub atCentre : Sums → Body
+atCentre s = record { «mass_kg» = s .«mass_kg»; «centre_m» = centreOf s; «inertia_kg_m2» = zeroTensor }
+
+abbrev pub addInertia : Body → Body → Body
+addInertia joined b =
+    record {
+      «mass_kg» = joined .«mass_kg»;
+      «centre_m» = joined .«centre_m»;
+      «inertia_kg_m2» = addTensors (joined .«inertia_kg_m2») (inertiaAboutOf b (joined .«centre_m»));
+    }

@@ -1,20 +1,20 @@
 // Several bodies joined into one rigid body (mass.rs, `MassProperties::combine`).
 //
 // m = Σ mₖ, centre = Σ mₖ cₖ / m, I = Σ [Iₖ + mₖ (|dₖ|² E − dₖ dₖᵀ)] with dₖ = cₖ − centre, the sums in order and from +0. A total
-// mass not above 0 takes the mean of the centres, a NaN mass a NaN centre (document 01, "Body"). The bodies lie one after another
-// in a lent slice, 13 numbers each: mass, centre, the tensor's three columns.
+// mass not above 0 takes the mean of the centres, a NaN mass a NaN centre (document 01, "Body"). The steps are by value, for a list of
+// any form; here the bodies lie one after another in a flat slice, 13 numbers each: mass, centre, the tensor's three columns.
 ghost use mathlib.Core.Path.{_≡_};
 ghost use Prim.Native.Nat.{_+_, _*_, _≤_};
 ghost use lib.ListN.{length};
 ghost use Rattle.joins.specs.Flat.{bodyAt, numbersOf, withBody};
-ghost use Rattle.joins.specs.Joins.{sumsOf, addBody, centreOf, inertiaOf, joinOf, refusedCount, combineOf};
+ghost use Rattle.joins.specs.Joins.{sumsOf, noSums, addBody, centreOf, atCentre, addInertia, joinOf, acceptedBody, refusedBody, combineOf};
 use bodies::Body;
 use bodies::Centre;
 use bodies::Tensor;
 use refusals::Refusal;
 use refusals::Verdict;
 
-// The joined body; with a refusal, the empty one.
+// A body, as of one fin or of joined ones; with a refusal, the empty one.
 pub struct Joined {
     pub verdict: Verdict,
     pub body: Body,
@@ -28,45 +28,47 @@ pub struct Sums {
     pub count: f64,
 }
 
+pub fn accepted(body: Body) -> Joined
+    ensures { λ r. ⌜ r ≡ acceptedBody body ⌝ }
+{
+    let verdict = Verdict::Accepted;
+    Joined { verdict, body }
+}
+
+pub fn refused(refusal: Refusal) -> Joined
+    ensures { λ r. ⌜ r ≡ refusedBody refusal ⌝ }
+{
+    let verdict = Verdict::Refused(refusal);
+    let body = Body::ZERO;
+    Joined { verdict, body }
+}
+
 // One to 32 bodies joined; a slice that holds another number, or no whole number, of them is refused 3.
 pub fn combine(bodies: &[f64]) -> Joined
     ensures { λ r. ⌜ r ≡ combineOf (now (bodies .entry)) ⌝ }
 {
     if bodies.len() % 13 != 0 {
-        return refused();
+        return refused(Refusal::Count);
     }
     let count = bodies.len() / 13;
-    if count < 1 {
-        return refused();
+    let verdict = limits::check_count(count);
+    match verdict {
+        Verdict::Accepted => accepted(join(bodies, count)),
+        Verdict::Refused(refusal) => refused(refusal),
     }
-    if 32 < count {
-        return refused();
-    }
-    let verdict = Verdict::Accepted;
-    let body = join(bodies, count);
-    Joined { verdict, body }
-}
-
-fn refused() -> Joined
-    ensures { λ r. ⌜ r ≡ refusedCount ⌝ }
-{
-    let verdict = Verdict::Refused(Refusal::Count);
-    let body = Body::ZERO;
-    Joined { verdict, body }
 }
 
 fn join(bodies: &[f64], count: usize) -> Body
     requires { ⌜ 13 * count ≤ length (now bodies) ⌝ }
     ensures { λ r. ⌜ r ≡ joinOf (bodyAt (now (bodies .entry))) count ⌝ }
 {
-    let sums = sum_bodies(bodies, count);
-    let centre_m = centre(sums);
-    let inertia_kg_m2 = inertia(bodies, centre_m, count);
-    Body {
-        mass_kg: sums.mass_kg,
-        centre_m,
-        inertia_kg_m2,
+    let mut joined = at_centre(sum_bodies(bodies, count));
+    let mut k = 0;
+    while k < count {
+        joined = add_inertia(joined, body_at(bodies, k));
+        k += 1;
     }
+    joined
 }
 
 fn body_of(numbers: &[f64]) -> Body
@@ -143,15 +145,7 @@ fn sum_bodies(bodies: &[f64], count: usize) -> Sums
     requires { ⌜ 13 * count ≤ length (now bodies) ⌝ }
     ensures { λ r. ⌜ r ≡ sumsOf (bodyAt (now (bodies .entry))) count ⌝ }
 {
-    let zero = Body::ZERO;
-    let mass_kg = zero.mass_kg;
-    let origin = zero.centre_m;
-    let mut sums = Sums {
-        mass_kg,
-        moment: origin,
-        positions: origin,
-        count: 0.0,
-    };
+    let mut sums = no_sums();
     let mut k = 0;
     while k < count {
         sums = add_body(sums, body_at(bodies, k));
@@ -160,7 +154,23 @@ fn sum_bodies(bodies: &[f64], count: usize) -> Sums
     sums
 }
 
-fn add_body(sums: Sums, body: Body) -> Sums
+// The sums over no bodies, which every join starts from.
+pub fn no_sums() -> Sums
+    ensures { λ r. ⌜ r ≡ noSums ⌝ }
+{
+    let zero = Body::ZERO;
+    let mass_kg = zero.mass_kg;
+    let origin = zero.centre_m;
+    Sums {
+        mass_kg,
+        moment: origin,
+        positions: origin,
+        count: 0.0,
+    }
+}
+
+// The sums with one body more.
+pub fn add_body(sums: Sums, body: Body) -> Sums
     ensures { λ r. ⌜ r ≡ addBody sums body ⌝ }
 {
     let centre_m = body.centre_m;
@@ -174,6 +184,7 @@ fn add_body(sums: Sums, body: Body) -> Sums
     }
 }
 
+// The origin for no bodies, as in the Rust.
 fn centre(sums: Sums) -> Centre
     ensures { λ r. ⌜ r ≡ centreOf sums ⌝ }
 {
@@ -189,20 +200,36 @@ fn centre(sums: Sums) -> Centre
     if 0.0 < mass {
         return sums.moment.divide(mass);
     }
-    sums.positions.divide(sums.count)
+    if 0.0 < sums.count {
+        return sums.positions.divide(sums.count);
+    }
+    let zero = Body::ZERO;
+    zero.centre_m
 }
 
-// The tensors about `centre`, summed.
-fn inertia(bodies: &[f64], centre: Centre, count: usize) -> Tensor
-    requires { ⌜ 13 * count ≤ length (now bodies) ⌝ }
-    ensures { λ r. ⌜ r ≡ inertiaOf (bodyAt (now (bodies .entry))) centre count ⌝ }
+// The sums' mass at their centre: the joined body before any tensor is added.
+pub fn at_centre(sums: Sums) -> Body
+    ensures { λ r. ⌜ r ≡ atCentre sums ⌝ }
 {
     let zero = Body::ZERO;
-    let mut total = zero.inertia_kg_m2;
-    let mut k = 0;
-    while k < count {
-        total = total.add(body_at(bodies, k).inertia_about(centre));
-        k += 1;
+    let centre_m = centre(sums);
+    let inertia_kg_m2 = zero.inertia_kg_m2;
+    Body {
+        mass_kg: sums.mass_kg,
+        centre_m,
+        inertia_kg_m2,
     }
-    total
+}
+
+// The joined body with the tensor of one body more, about the joined centre.
+pub fn add_inertia(joined: Body, body: Body) -> Body
+    ensures { λ r. ⌜ r ≡ addInertia joined body ⌝ }
+{
+    let centre_m = joined.centre_m;
+    let inertia_kg_m2 = joined.inertia_kg_m2.add(body.inertia_about(centre_m));
+    Body {
+        mass_kg: joined.mass_kg,
+        centre_m,
+        inertia_kg_m2,
+    }
 }

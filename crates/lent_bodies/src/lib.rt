@@ -1,66 +1,43 @@
 // Bodies in a lent slice of structs, joined into one (mass.rs, `MassProperties::combine`).
 //
-// Thin: each body is written into a list of numbers by value, and `joins::combine` does the work (document 01, "Places and their forms").
+// Thin: the list is read twice, body by body, and the steps of `joins` do the work by value (document 01, "Places and their forms"). Any
+// number of bodies is joined; how many may be is the caller's rule.
 ghost use mathlib.Core.Path.{_≡_};
-ghost use Rattle.lent_bodies.specs.LentBodies.{emptyList, putOf, finishOf, combineOf};
+ghost use Rattle.joins.specs.Joins.{addBody, addInertia};
+ghost use Rattle.lent_bodies.specs.LentBodies.{joinList, addEach};
 use bodies::Body;
-use joins::Joined;
-use refusals::Refusal;
-use refusals::Verdict;
+use joins::Sums;
 
-// Up to 32 bodies, 13 numbers each. Of more bodies the count is 33, whatever their number.
-struct BodyList {
-    count: usize,
-    numbers: [f64; 416],
+// The bodies of the list, joined; none are the empty body.
+pub fn join(bodies: &[Body]) -> Body
+    ensures { λ r. ⌜ r ≡ joinList (now (bodies .entry)) ⌝ }
+{
+    let sums = add_bodies(joins::no_sums(), bodies);
+    add_inertias(joins::at_centre(sums), bodies)
 }
 
-// One to 32 bodies joined; any other number of them is refused 3.
-pub fn combine(bodies: &[Body]) -> Joined
-    ensures { λ r. ⌜ r ≡ combineOf (now (bodies .entry)) ⌝ }
+// The sums with every body of the list, in order.
+fn add_bodies(start: Sums, bodies: &[Body]) -> Sums
+    ensures { λ r. ⌜ r ≡ addEach addBody start (now (bodies .entry)) ⌝ }
 {
-    let mut list = start();
+    let mut sums = start;
     let mut k = 0;
     while k < bodies.len() {
-        list = put(list, bodies[k]);
+        sums = joins::add_body(sums, bodies[k]);
         k += 1;
     }
-    finish(list)
+    sums
 }
 
-fn start() -> BodyList
-    ensures { λ r. ⌜ r ≡ emptyList ⌝ }
+// The joined body with the tensor of every body of the list, in order.
+fn add_inertias(start: Body, bodies: &[Body]) -> Body
+    ensures { λ r. ⌜ r ≡ addEach addInertia start (now (bodies .entry)) ⌝ }
 {
-    BodyList {
-        count: 0,
-        numbers: [0.0; 416],
+    let mut joined = start;
+    let mut k = 0;
+    while k < bodies.len() {
+        joined = joins::add_inertia(joined, bodies[k]);
+        k += 1;
     }
-}
-
-fn put(list: BodyList, body: Body) -> BodyList
-    ensures { λ r. ⌜ r ≡ putOf list body ⌝ }
-{
-    let count = list.count;
-    let mut numbers = list.numbers;
-    if count < 32 {
-        joins::write_body(&mut numbers, count, body);
-        let more = count + 1;
-        return BodyList {
-            count: more,
-            numbers,
-        };
-    }
-    BodyList { count: 33, numbers }
-}
-
-fn finish(list: BodyList) -> Joined
-    ensures { λ r. ⌜ r ≡ finishOf list ⌝ }
-{
-    let count = list.count;
-    let numbers = list.numbers;
-    if count <= 32 {
-        return joins::combine(&numbers[..13 * count]);
-    }
-    let verdict = Verdict::Refused(Refusal::Count);
-    let body = Body::ZERO;
-    Joined { verdict, body }
+    joined
 }

@@ -8,15 +8,14 @@ use Rattle.bodies.specs.declared.Body.{Body}
 use Rattle.bodies.specs.declared.Centre.{Centre}
 use Rattle.bodies.specs.declared.Tensor.{Tensor}
 use Rattle.bodies.specs.Tensors.{vector, fromColumns, zeroVector, zeroTensor, subtractTensors, scaleTensor}
-use Rattle.bodies.specs.Bodies.{emptyBody, inertiaAboutOf, translatedOf}
+use Rattle.bodies.specs.Bodies.{inertiaAboutOf, translatedOf}
 use Rattle.rotations.specs.Rotations.{rotatedXOf}
-use Rattle.refusals.specs.declared.Refusal.{Refusal}
 use Rattle.refusals.specs.declared.Refusal.the-variants.{NoArea, Density as density}
-use Rattle.refusals.specs.declared.Verdict.the-variants.{Accepted, Refused}
 use Rattle.materials.specs.declared.Density.{Density}
 use Rattle.materials.specs.declared.Density.the-variants.{Bulk, Surface, Line}
 use Rattle.fins.specs.declared.FinSet.{FinSet}
-use Rattle.plates.specs.declared.Fin.{Fin}
+use Rattle.joins.specs.declared.Joined.{Joined}
+use Rattle.joins.specs.Joins.{acceptedBody, refusedBody}
 use Rattle.plates.specs.Integrals.{volume, r1, r2, x1, x2, rx, tau2, unscaledOf, tabIntegralsOf, addIntegrals}
 
 -- the tensor about the origin, of points at (r, τ, −x); its entries are summed first, then times the density
@@ -58,27 +57,23 @@ pivotOf radius root = vector radius (bits 0) (neg half ⊗ root)
 unfoldable pub cantedOf : Body → Float → Centre → Body
 cantedOf fin cant pivot = cond (eq cant (bits 0)) fin (translatedOf (rotatedXOf (translatedOf fin (negateVector pivot)) cant) pivot)
 
--- "Figures zero" with a refusal
-abbrev pub refusedFin : Refusal → Fin
-refusedFin refusal = record { verdict = Refused refusal; body = emptyBody }
-
 -- 8: "area or volume <= 0"
-unfoldable pub bulkFin : List Float → Float → Centre → Float → Fin
+unfoldable pub bulkFin : List Float → Float → Centre → Float → Joined
 bulkFin v cant pivot kgPerM3 =
-    cond (le (volume v) (bits 0)) (refusedFin NoArea)
-    (record { verdict = Accepted; body = cantedOf (plateBody v kgPerM3) cant pivot })
+    cond (le (volume v) (bits 0)) (refusedBody NoArea)
+    (acceptedBody (cantedOf (plateBody v kgPerM3) cant pivot))
 
 -- 12: "density not bulk"
-abbrev pub ofDensity : Density → (Float → Fin) → Fin
+abbrev pub ofDensity : Density → (Float → Joined) → Joined
 ofDensity (Bulk x) fin = fin x
-ofDensity (Surface x) fin = refusedFin density
-ofDensity (Line x) fin = refusedFin density
+ofDensity (Surface x) fin = refusedBody density
+ofDensity (Line x) fin = refusedBody density
 
 -- fin and tab together
 abbrev pub integralsOf : FinSet → Float → List Float → List Float
 integralsOf set scale total = addIntegrals (unscaledOf total scale) (tabIntegralsOf (set .tab) (set .«thickness_m») (set .«body_radius_m»))
 
 -- one fin with its tab, at roll 0, from the strips' scaled totals and the root chord
-unfoldable pub singleFinOf : FinSet → Float → Float → List Float → Fin
+unfoldable pub singleFinOf : FinSet → Float → Float → List Float → Joined
 singleFinOf set root scale total =
     ofDensity (set .density) (bulkFin (integralsOf set scale total) (set .«cant_rad») (pivotOf (set .«body_radius_m») root))

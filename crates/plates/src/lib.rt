@@ -5,22 +5,17 @@
 // I − m (|c|² E − c cᵀ) about the centre c = (∫r / V, 0, −∫x / V). Cant turns the fin about its span axis through the root's middle.
 ghost use mathlib.Core.Path.{_≡_};
 ghost use Rattle.plates.specs.Integrals.{unscaledOf, slabOf, tabIntegralsOf, addIntegrals};
-ghost use Rattle.plates.specs.Plates.{aboutOrigin, atCentre, plateBody, cantedOf, refusedFin, bulkFin, singleFinOf};
+ghost use Rattle.plates.specs.Plates.{aboutOrigin, atCentre, plateBody, cantedOf, bulkFin, singleFinOf};
 ghost use Rattle.plates.specs.Geometry.{geometryOf};
 use bodies::Body;
 use bodies::Centre;
 use bodies::Tensor;
 use fins::FinSet;
 use fins::Tab;
+use joins::Joined;
 use materials::Density;
 use refusals::Refusal;
 use refusals::Verdict;
-
-// The body of one fin; with a refusal, the empty one.
-pub struct Fin {
-    pub verdict: Verdict,
-    pub body: Body,
-}
 
 // Area of one fin and its centroid, aft of the root's leading edge and outward from the root; with a refusal, zeros.
 pub struct PlanformGeometry {
@@ -168,28 +163,18 @@ fn canted(fin: Body, cant_rad: f64, pivot_m: Centre) -> Body
     rotations::rotated_x(fin.translated(back_m), cant_rad).translated(pivot_m)
 }
 
-fn refused(refusal: Refusal) -> Fin
-    ensures { λ r. ⌜ r ≡ refusedFin refusal ⌝ }
-{
-    let verdict = Verdict::Refused(refusal);
-    let body = Body::ZERO;
-    Fin { verdict, body }
-}
-
 // The fin with the integrals v; refused 8 for a volume not above 0, but not for a NaN.
-fn bulk_fin(v: [f64; 7], cant_rad: f64, pivot_m: Centre, kg_m3: f64) -> Fin
+fn bulk_fin(v: [f64; 7], cant_rad: f64, pivot_m: Centre, kg_m3: f64) -> Joined
     ensures { λ r. ⌜ r ≡ bulkFin v «cant_rad» «pivot_m» «kg_m3» ⌝ }
 {
     if v[0] <= 0.0 {
-        return refused(Refusal::NoArea);
+        return joins::refused(Refusal::NoArea);
     }
-    let verdict = Verdict::Accepted;
-    let body = canted(plate(v, kg_m3), cant_rad, pivot_m);
-    Fin { verdict, body }
+    joins::accepted(canted(plate(v, kg_m3), cant_rad, pivot_m))
 }
 
 // One fin with its tab at roll angle 0, canted, from the strips' totals; `scale_m` is what every length of a strip was divided by.
-pub fn single_fin(set: FinSet, root_chord_m: f64, scale_m: f64, total: [f64; 7]) -> Fin
+pub fn single_fin(set: FinSet, root_chord_m: f64, scale_m: f64, total: [f64; 7]) -> Joined
     ensures { λ r. ⌜ r ≡ singleFinOf set «root_chord_m» «scale_m» total ⌝ }
 {
     let tab = set.tab;
@@ -203,8 +188,8 @@ pub fn single_fin(set: FinSet, root_chord_m: f64, scale_m: f64, total: [f64; 7])
     let density = set.density;
     match density {
         Density::Bulk { kg_m3 } => bulk_fin(v, set.cant_rad, pivot_m, kg_m3),
-        Density::Surface { kg_m2: _ } => refused(Refusal::Density),
-        Density::Line { kg_m: _ } => refused(Refusal::Density),
+        Density::Surface { kg_m2: _ } => joins::refused(Refusal::Density),
+        Density::Line { kg_m: _ } => joins::refused(Refusal::Density),
     }
 }
 

@@ -9,8 +9,8 @@ use Rattle.figures.proofs.concluded.Tie as tie
 enum-told : tie.Need-enum-told
 enum-told c = search needs
 
-mass-properties-requires : tie.Need-mass-properties-requires
-mass-properties-requires c κs = search needs
+joined-fins-requires : tie.Need-joined-fins-requires
+joined-fins-requires c κs = search needs
 
 joined-figures-requires : tie.Need-joined-figures-requires
 joined-figures-requires c κs = search needs
@@ -26,7 +26,7 @@ unfolding concludedOf
 returns c =
     let told = c .before .before in
     let total = told .before .before .before .args .total in
-    rw (told .enum-told .given .1) (c .joined-figures .ensures ∙ ap (λ (j : Joined). joinedFigures j (total .intervals) (total .samples)) (c .before .mass-properties .ensures))
+    rw (told .enum-told .given .1) (c .joined-figures .ensures ∙ ap (λ (j : Joined). joinedFigures j (total .intervals) (total .samples)) (c .before .joined-fins .ensures))
 
 returns-2 : tie.Need-returns-2
 unfolding concludedOf
@@ -37,7 +37,7 @@ concluded-spec =
     tie.close
     (tie.spec
     enum-told
-    mass-properties-requires
+    joined-fins-requires
     joined-figures-requires
     enum-known-verdict
     refused-figures-requires

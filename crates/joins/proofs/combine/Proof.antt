@@ -1,6 +1,9 @@
--- `joins::combine` meets its contract: the definition goes by the same tests. Assumes nothing.
+-- `joins::combine` meets its contract: the definition goes by the same test and by the count's check. Assumes nothing.
+use mathlib.Core.Path.{ap, _∙_}
 use borrow.Author.Needs.{needs}
-use borrow.Author.Tests.{eq-eqb, ne-eqb, le-leb, lt-leb}
+use borrow.Author.Tests.{eq-eqb, ne-eqb}
+use Rattle.joins.specs.Joins.{acceptedBody}
+use Rattle.joins.proofs.JoinLaws.{by-verdict}
 use Rattle.joins.proofs.combine.Statement.{statement}
 use Rattle.joins.proofs.combine.Tie as tie
 
@@ -10,25 +13,29 @@ refused-requires c κs = search needs
 returns : tie.Need-returns
 returns c = simp (ne-eqb _ _ (c .before .if1 .taken)) (c .refused .ensures)
 
-refused-requires-2 : tie.Need-refused-requires-2
-refused-requires-2 c κs = search needs
+check-count-requires : tie.Need-check-count-requires
+check-count-requires c κs = search needs
 
-returns-2 : tie.Need-returns-2
-returns-2 c = simp (eq-eqb _ _ (c .before .before .if1 .left), lt-leb _ _ (c .before .if2 .taken)) (c .refused2 .ensures)
-
-refused-requires-3 : tie.Need-refused-requires-3
-refused-requires-3 c κs = search needs
-
-returns-3 : tie.Need-returns-3
-returns-3 c = simp (eq-eqb _ _ (c .before .before .before .if1 .left), le-leb _ _ (c .before .before .if2 .left), lt-leb _ _ (c .before .if3 .taken)) (c .refused3 .ensures)
+enum-told : tie.Need-enum-told
+enum-told c = search needs
 
 join-requires : tie.Need-join-requires
 join-requires c κs = search needs
 
-returns-4 : tie.Need-returns-4
-returns-4 c =
-    simp (eq-eqb _ _ (c .before .before .before .if1 .left), le-leb _ _ (c .before .before .if2 .left), le-leb _ _ (c .before .if3 .left))
-    (rw (c .join .ensures))
+accepted-requires : tie.Need-accepted-requires
+accepted-requires c κs = search needs
+
+enum-known-verdict : tie.Need-enum-known-verdict
+enum-known-verdict c = search needs
+
+refused-requires-2 : tie.Need-refused-requires-2
+refused-requires-2 c κs = search needs
+
+returns-2 : tie.Need-returns-2
+returns-2 c = rw (eq-eqb _ _ (c .before .before .before .before .before .if1 .left)) (by-verdict _ (c .before .before .before .before .check-count .ensures) (c .before .before .enum-told .given .1) (c .accepted .ensures ∙ ap acceptedBody (c .before .join .ensures)))
+
+returns-3 : tie.Need-returns-3
+returns-3 c = rw (eq-eqb _ _ (c .before .before .before .before .before .if1 .left)) (by-verdict _ (c .before .before .before .before .check-count .ensures) (c .before .before .verdict .given .1) (c .refused2 .ensures))
 
 pub combine-spec : {M : Type 1} → statement M
 combine-spec =
@@ -36,9 +43,11 @@ combine-spec =
     (tie.spec
     refused-requires
     returns
+    check-count-requires
+    enum-told
+    join-requires
+    accepted-requires
+    enum-known-verdict
     refused-requires-2
     returns-2
-    refused-requires-3
-    returns-3
-    join-requires
-    returns-4)
+    returns-3)

@@ -1,21 +1,59 @@
--- `joins::join` meets its contract: the sums, the centre they give, and the tensors about it. Assumes nothing.
+-- `joins::join` meets its contract: after k turns the tensors of the first k bodies are added. Assumes nothing.
+use mathlib.Core.Path.{_≡_, ap, _∙_}
+use Prim.Native.Nat.{_≤_, _-_}
+use native.Mathlib.Nat.{le-antisymm}
+use native.Mathlib.Omega.{arith}
 use borrow.Author.Needs.{needs}
-use Rattle.joins.specs.Joins.{joinOf}
+use Rattle.joins.specs.Flat.{bodyAt}
+use Rattle.joins.proofs.InOrder.{joinedTo, none-joined, join-next, all-joined}
 use Rattle.joins.proofs.join.Statement.{statement}
 use Rattle.joins.proofs.join.Tie as tie
 
-sum-bodies-requires : tie.Need-sum-bodies-requires
+abbrev Inv-loop : tie.InvT-loop
+Inv-loop bodies count joined₀ k₀ joined k = (k ≤ count) × (joined ≡ joinedTo (bodyAt bodies) count k)
+
+abbrev μ-loop : tie.MeasureT-loop
+μ-loop bodies count joined₀ k₀ joined k = count - k
+
+sum-bodies-requires : tie.Need-sum-bodies-requires Inv-loop μ-loop
 sum-bodies-requires c κs = search needs
 
-centre-requires : tie.Need-centre-requires
-centre-requires c κs = search needs
+at-centre-requires : tie.Need-at-centre-requires Inv-loop μ-loop
+at-centre-requires c κs = search needs
 
-inertia-requires : tie.Need-inertia-requires
-inertia-requires c κs = search needs
+loop-holds : tie.Need-loop-holds Inv-loop μ-loop
+loop-holds c = (omega arith, none-joined _ _ (c .before .sum-bodies .ensures) (c .at-centre .ensures))
 
-returns : tie.Need-returns
-unfolding joinOf
-returns c = rw (c .inertia .ensures, c .before .centre .ensures, c .before .before .sum-bodies .ensures)
+body-at-requires : tie.Need-body-at-requires Inv-loop μ-loop
+body-at-requires c κs = omega arith
+
+add-inertia-requires : tie.Need-add-inertia-requires Inv-loop μ-loop
+add-inertia-requires c κs = search needs
+
+add-k : tie.Need-add-k Inv-loop μ-loop
+add-k c = omega arith
+
+loop-less : tie.Need-loop-less Inv-loop μ-loop
+loop-less c = omega arith
+
+loop-again : tie.Need-loop-again Inv-loop μ-loop
+loop-again c = (omega arith, join-next _ _ _ (c .before .before .before .loop .inv .1) (c .before .body-at .ensures) (c .add-inertia .ensures))
+
+returns : tie.Need-returns Inv-loop μ-loop
+returns c = c .before .loop .inv .1 ∙ ap (joinedTo _ _) (le-antisymm (c .before .loop .inv .0) (c .loop-test .left)) ∙ all-joined _ _
 
 pub join-spec : {M : Type 1} → statement M
-join-spec = tie.close (tie.spec sum-bodies-requires centre-requires inertia-requires returns)
+join-spec =
+    tie.close
+    (tie.spec
+    Inv-loop
+    μ-loop
+    sum-bodies-requires
+    at-centre-requires
+    loop-holds
+    body-at-requires
+    add-inertia-requires
+    add-k
+    loop-less
+    loop-again
+    returns)

@@ -11,13 +11,16 @@ use Rattle.joins.proofs.sum_bodies.Statement.{statement}
 use Rattle.joins.proofs.sum_bodies.Tie as tie
 
 abbrev Inv-loop : tie.InvT-loop
-Inv-loop bodies count mass_kg sums₀ k₀ sums k = (k ≤ count) × (sums ≡ sumsOf (bodyAt bodies) k)
+Inv-loop bodies count sums₀ k₀ sums k = (k ≤ count) × (sums ≡ sumsOf (bodyAt bodies) k)
 
 abbrev μ-loop : tie.MeasureT-loop
-μ-loop bodies count mass_kg sums₀ k₀ sums k = count - k
+μ-loop bodies count sums₀ k₀ sums k = count - k
+
+no-sums-requires : tie.Need-no-sums-requires Inv-loop μ-loop
+no-sums-requires c κs = search needs
 
 loop-holds : tie.Need-loop-holds Inv-loop μ-loop
-loop-holds c = (omega arith, no-sums _)
+loop-holds c = (omega arith, c .no-sums .ensures ∙ no-sums _)
 
 body-at-requires : tie.Need-body-at-requires Inv-loop μ-loop
 body-at-requires c κs = omega arith
@@ -43,6 +46,7 @@ sum-bodies-spec =
     (tie.spec
     Inv-loop
     μ-loop
+    no-sums-requires
     loop-holds
     body-at-requires
     add-body-requires

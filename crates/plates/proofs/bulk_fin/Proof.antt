@@ -20,11 +20,21 @@ plate-requires c κs = search needs
 canted-requires : tie.Need-canted-requires
 canted-requires c κs = search needs
 
+accepted-requires : tie.Need-accepted-requires
+accepted-requires c κs = search needs
+
 returns-2 : tie.Need-returns-2
 unfolding bulkFin
-returns-2 c = rw (c .before .before .if1 .left, c .canted .ensures, c .before .plate .ensures)
+returns-2 c = rw (c .before .before .before .if1 .left, c .accepted .ensures, c .before .canted .ensures, c .before .before .plate .ensures)
 
 pub bulk-fin-spec : {M : Type 1} → statement M
 bulk-fin-spec =
     tie.close
-    (tie.spec array-read-if1 refused-requires returns plate-requires canted-requires returns-2)
+    (tie.spec
+    array-read-if1
+    refused-requires
+    returns
+    plate-requires
+    canted-requires
+    accepted-requires
+    returns-2)
