@@ -3,11 +3,8 @@
 // Document 01, "Order": 1, 2, 3; the planform; thickness; cant, base angle; the tab with 10; body radius; 11; 12. Each check stands
 // for itself, and the first refusal is the answer.
 ghost use mathlib.Core.Path.{_≡_};
-ghost use mathlib.Core.List.{[], _∷_};
 ghost use Rattle.refusals.specs.Order.{firstOf};
-ghost use Rattle.limits.specs.Limits.{thicknessField, bodyRadiusField, cantField, baseAngleField, limitCheck, scratchCheck, countCheck, lengthCheck, angleCheck};
-ghost use Rattle.materials.specs.Materials.{densityCheck};
-ghost use Rattle.fins.specs.Fins.{trapezoidCheck, planformCheck, slabCheck, tabCheck, depthCheck, setCheck, areaCheck};
+ghost use Rattle.fins.specs.Fins.{trapezoidCheck, planformCheck, slabCheck, tabCheck, depthCheck, callChecks, plateChecks, mountChecks, setCheck, areaCheck};
 use limits::check_angle;
 use limits::check_length;
 use materials::Density;
@@ -112,7 +109,7 @@ fn check_depth(tab: Tab, body_radius_m: f64) -> Verdict
 
 // 1, 2, 3: the call's limit, its scratch and the count of fins.
 fn check_call(limit: usize, scratch_len: usize, count: usize) -> Verdict
-    ensures { λ r. ⌜ r ≡ firstOf (limitCheck limit ∷ scratchCheck limit «scratch_len» ∷ countCheck count ∷ []) ⌝ }
+    ensures { λ r. ⌜ r ≡ firstOf (callChecks limit «scratch_len» count) ⌝ }
 {
     let v = limits::check_limit(limit);
     let v = first_refusal(v, limits::check_scratch(limit, scratch_len));
@@ -121,7 +118,7 @@ fn check_call(limit: usize, scratch_len: usize, count: usize) -> Verdict
 
 // Thickness, cant and base angle.
 fn check_plate(thickness_m: f64, cant_rad: f64, base_angle_rad: f64) -> Verdict
-    ensures { λ r. ⌜ r ≡ firstOf (lengthCheck thicknessField «thickness_m» ∷ angleCheck cantField «cant_rad» ∷ angleCheck baseAngleField «base_angle_rad» ∷ []) ⌝ }
+    ensures { λ r. ⌜ r ≡ firstOf (plateChecks «thickness_m» «cant_rad» «base_angle_rad») ⌝ }
 {
     let v = check_length(limits::THICKNESS, thickness_m);
     let v = first_refusal(v, check_angle(limits::CANT, cant_rad));
@@ -130,7 +127,7 @@ fn check_plate(thickness_m: f64, cant_rad: f64, base_angle_rad: f64) -> Verdict
 
 // The tab, the body radius, how deep the tab reaches, and the density.
 fn check_mount(tab: Tab, root_chord_m: f64, body_radius_m: f64, density: Density) -> Verdict
-    ensures { λ r. ⌜ r ≡ firstOf (tabCheck tab «root_chord_m» ∷ lengthCheck bodyRadiusField «body_radius_m» ∷ depthCheck tab «body_radius_m» ∷ densityCheck density ∷ []) ⌝ }
+    ensures { λ r. ⌜ r ≡ firstOf (mountChecks tab «root_chord_m» «body_radius_m» density) ⌝ }
 {
     let v = check_tab(tab, root_chord_m);
     let v = first_refusal(v, check_length(limits::BODY_RADIUS, body_radius_m));

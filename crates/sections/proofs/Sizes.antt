@@ -9,7 +9,7 @@ use Rattle.floats.specs.Constants.{half, two, three, twelve, pi}
 use Rattle.floats.specs.Floats.{minOf}
 use Rattle.sections.specs.Airfoil.{naca, airfoilPhi, phi, airfoilPsi}
 use lib.Count.{trailingZeros}
-use Rattle.sections.specs.Moments.{squareMoments, slabMoments, roundedMoments, naca4Moments, sectionMoments, chordMoments}
+use Rattle.sections.specs.ChordMoments.{squareMoments, slabMoments, roundedMoments, naca4Moments, sectionMoments, chordMoments}
 use Rattle.sections.specs.declared.Section.{Section}
 use Rattle.sections.specs.declared.Section.the-variants.{Square, Rounded, Airfoil}
 use Rattle.rounding.specs.Sizes.{Below, Above}

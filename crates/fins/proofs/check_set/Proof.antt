@@ -1,11 +1,30 @@
 -- `fins::check_set` meets its contract: it returns at the first refusal, group by group. Assumes nothing.
-use mathlib.Core.Path.{sym, _∙_}
-use mathlib.Core.List.{[], _∷_}
-use Rattle.refusals.proofs.Order.{passed, refused-here, as-one}
-use Rattle.fins.specs.Fins.{setCheck}
+use mathlib.Core.Path.{_≡_, sym, ap, _∙_}
+use mathlib.Core.List.{List, _∷_, _++_}
+use Prim.Native.Nat.{ℕ}
+use lib.Ieee.{Float}
+use Rattle.refusals.specs.Order.{firstRefusal, firstOf}
+use Rattle.refusals.proofs.Order.{passed, refused-here, in-two}
+use Rattle.planforms.specs.Planforms.{rootChordOf}
+use Rattle.fins.specs.declared.FinSet.{FinSet}
+use Rattle.fins.specs.Fins.{planformCheck, callChecks, plateChecks, mountChecks, setCheck}
 use borrow.Author.Needs.{needs}
 use Rattle.fins.proofs.check_set.Statement.{statement}
 use Rattle.fins.proofs.check_set.Tie as tie
+
+-- the list of checks as its four groups
+by-group : (set : FinSet) (points : List Float) (L n : ℕ) →
+    firstRefusal (firstOf (callChecks L n (set .count)))
+    (firstRefusal (planformCheck (set .planform) points)
+    (firstRefusal (firstOf (plateChecks (set .«thickness_m») (set .«cant_rad») (set .«base_angle_rad»)))
+    (firstOf (mountChecks (set .tab) (rootChordOf (set .planform) points) (set .«body_radius_m») (set .density)))))
+    ≡ setCheck set points L n
+unfolding setCheck
+by-group set points L n =
+    let plate = plateChecks (set .«thickness_m») (set .«cant_rad») (set .«base_angle_rad») in
+    let mount = mountChecks (set .tab) (rootChordOf (set .planform) points) (set .«body_radius_m») (set .density) in
+    ap (λ v. firstRefusal (firstOf (callChecks L n (set .count))) (firstRefusal (planformCheck (set .planform) points) v)) (in-two plate mount)
+    ∙ in-two (callChecks L n (set .count)) (planformCheck (set .planform) points ∷ (plate ++ mount))
 
 check-call-requires : tie.Need-check-call-requires
 check-call-requires c κs = search needs
@@ -14,10 +33,7 @@ is-refused-requires : tie.Need-is-refused-requires
 is-refused-requires c κs = search needs
 
 returns : tie.Need-returns
-unfolding setCheck
-returns c =
-    refused-here _ _ (c .before .before .check-call .ensures) (sym (c .before .is-refused .ensures) ∙ c .if1 .taken)
-    ∙ as-one (_ ∷ _ ∷ _ ∷ []) _
+returns c = refused-here _ _ (c .before .before .check-call .ensures) (sym (c .before .is-refused .ensures) ∙ c .if1 .taken) ∙ by-group _ _ _ _
 
 check-planform-requires : tie.Need-check-planform-requires
 check-planform-requires c κs = search needs
@@ -26,12 +42,11 @@ is-refused-requires-2 : tie.Need-is-refused-requires-2
 is-refused-requires-2 c κs = search needs
 
 returns-2 : tie.Need-returns-2
-unfolding setCheck
 returns-2 c =
     let e = c .before .before .before in
     refused-here _ _ (c .before .before .check-planform .ensures) (sym (c .before .is-refused2 .ensures) ∙ c .if2 .taken)
     ∙ sym (passed _ _ (e .before .before .check-call .ensures) (sym (e .before .is-refused .ensures) ∙ e .if1 .left))
-    ∙ as-one (_ ∷ _ ∷ _ ∷ []) _
+    ∙ by-group _ _ _ _
 
 check-plate-requires : tie.Need-check-plate-requires
 check-plate-requires c κs = search needs
@@ -40,15 +55,13 @@ is-refused-requires-3 : tie.Need-is-refused-requires-3
 is-refused-requires-3 c κs = search needs
 
 returns-3 : tie.Need-returns-3
-unfolding setCheck
 returns-3 c =
     let e = c .before .before .before in
     let d = e .before .before .before in
     refused-here _ _ (c .before .before .check-plate .ensures) (sym (c .before .is-refused3 .ensures) ∙ c .if3 .taken)
-    ∙ as-one (_ ∷ _ ∷ _ ∷ []) _
     ∙ sym (passed _ _ (e .before .before .check-planform .ensures) (sym (e .before .is-refused2 .ensures) ∙ e .if2 .left))
     ∙ sym (passed _ _ (d .before .before .check-call .ensures) (sym (d .before .is-refused .ensures) ∙ d .if1 .left))
-    ∙ as-one (_ ∷ _ ∷ _ ∷ []) _
+    ∙ by-group _ _ _ _
 
 root-chord-m-requires : tie.Need-root-chord-m-requires
 root-chord-m-requires c κs = search needs
@@ -57,7 +70,6 @@ check-mount-requires : tie.Need-check-mount-requires
 check-mount-requires c κs = search needs
 
 returns-4 : tie.Need-returns-4
-unfolding setCheck
 returns-4 c =
     let f = c .before .before in
     let e = f .before .before .before in
@@ -65,10 +77,9 @@ returns-4 c =
     c .check-mount .ensures
     ∙ rw (c .before .root-chord-m .ensures)
     (sym (passed _ _ (f .before .before .check-plate .ensures) (sym (f .before .is-refused3 .ensures) ∙ f .if3 .left))
-    ∙ as-one (_ ∷ _ ∷ _ ∷ []) _
     ∙ sym (passed _ _ (e .before .before .check-planform .ensures) (sym (e .before .is-refused2 .ensures) ∙ e .if2 .left))
     ∙ sym (passed _ _ (d .before .before .check-call .ensures) (sym (d .before .is-refused .ensures) ∙ d .if1 .left))
-    ∙ as-one (_ ∷ _ ∷ _ ∷ []) _)
+    ∙ by-group _ _ _ _)
 
 pub check-set-spec : {M : Type 1} → statement M
 check-set-spec =
