@@ -60,7 +60,7 @@ fn check_trapezoid(root_chord_m: f64, tip_chord_m: f64, span_m: f64, sweep_m: f6
 }
 
 // The planform's lengths as listed, or the outline's own checks.
-fn check_planform(planform: Planform, points: &[f64]) -> Verdict
+pub fn check_planform(planform: Planform, points: &[f64]) -> Verdict
     ensures { λ r. ⌜ r ≡ planformCheck planform (now (points .entry)) ⌝ }
 {
     match planform {
