@@ -11,7 +11,8 @@ use Rattle.floats.specs.Operations.{bits}
 use Rattle.floats.specs.Units.{unitsOf}
 use Rattle.root.specs.Root.{radicand}
 use Rattle.root.specs.Scaled.{ScaledTo}
-use Rattle.root.proofs.Places.{Lifted, lifted, scaled}
+use Rattle.floats.proofs.Lifted.{Lifted, lifted}
+use Rattle.root.proofs.Places.{scaled}
 use Rattle.floats.proofs.Units.{units-pos}
 use Rattle.root.proofs.Patterns.{field, subnormal-units, normal-units, not-all-ones}
 use Rattle.root.proofs.scale.Statement.{statement}
