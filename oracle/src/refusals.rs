@@ -22,6 +22,8 @@ pub enum Refusal {
     Centre,
     Tensor { case: char },
     NoForm,
+    #[allow(dead_code)] // no line gives it yet
+    NoFigure,
 }
 
 impl Refusal {
@@ -45,6 +47,7 @@ impl Refusal {
             Self::Centre => 16,
             Self::Tensor { .. } => 17,
             Self::NoForm => 18,
+            Self::NoFigure => 19,
         }
     }
 

@@ -400,9 +400,14 @@ fn legal_planform(r: &mut Random) -> (Planform, Vec<f64>, f64) {
     }
 }
 
+/// One in five at the span itself, where trapezoid and ellipse have their tip chord.
 fn chords(r: &mut Random) -> String {
     let (planform, breaks, _) = legal_planform(r);
-    let at = height(r, &breaks, 1.0);
+    let at = if r.once_in(5) {
+        breaks[breaks.len() - 1]
+    } else {
+        height(r, &breaks, 1.0)
+    };
     format!("chords {} at {}", planform_words(&planform), raw(at))
 }
 

@@ -47,6 +47,7 @@ pub enum Refusal {
     Centre,
     Tensor(TensorFault),
     NoForm,
+    NoFigure,
 }
 
 impl Refusal {
@@ -71,6 +72,7 @@ impl Refusal {
             Self::Centre => 16,
             Self::Tensor(_) => 17,
             Self::NoForm => 18,
+            Self::NoFigure => 19,
         }
     }
 
@@ -95,6 +97,7 @@ impl Refusal {
             16 => Self::Centre,
             17 => Self::Tensor(TensorFault::from_case(first)?),
             18 => Self::NoForm,
+            19 => Self::NoFigure,
             _ => return None,
         })
     }
@@ -167,7 +170,7 @@ mod tests {
 
     #[test]
     fn every_number_of_the_table_is_known() {
-        for number in 1..=18 {
+        for number in 1..=19 {
             let refusal = Refusal::from_number(number, [0, 0]).unwrap();
             assert_eq!(refusal.number(), number);
             assert_eq!(Error::unless_zero(number, [0, 0]), Err(Error::Refused(refusal)));

@@ -1,7 +1,7 @@
 -- "P: root of 0, 4; root of 2 is 3ff6a09e667f3bcd; trapezoid at 0 gives the root chord, at the span none; square a=0, b=2, t=1 begins 2, 2;
 -- 1, 2, 8 pieces mean 15, 45, 225 samples; sine 0 is 0, cosine 0 is 1; joined points above; moments of diagonal 2, 0, 2 are 0, 2, 2; diagonal
 -- 1, 2, 3 passes, 1, 1, 3 gives 17e." (document 01, "Reviewer's checklist"): one table, and one theorem that computes every row.
--- Figures compare by ==.
+-- Figures compare by ==. Since document 02, Paper 1, "the tip case in document 01 changes": at the span stands the tip chord.
 use mathlib.Core.Bool.{Bool, true, false, _&&_}
 use mathlib.Core.List.{List, [], _∷_, _++_, map}
 use Prim.Native.Nat.{ℕ}
@@ -111,7 +111,7 @@ cases =
     root 0x4010_0000_0000_0000 two ∷
     root two 0x3ff6_a09e_667f_3bcd ∷
     chord plate 0 (0 ∷ two ∷ []) ∷
-    chord plate three [] ∷
+    chord plate three (one ∷ two ∷ []) ∷
     square 0 two one (two ∷ two ∷ []) ∷
     pieces 1 15 ∷
     pieces 2 45 ∷

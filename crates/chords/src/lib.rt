@@ -58,11 +58,11 @@ pub fn outline_crossings(points: &[f64], h: f64, xs: &mut [f64; 64]) -> usize
     count
 }
 
-// Whether h is from the root up to, and not at, the span: the tip is no chord.
+// Whether h is from the root up to the span: root and tip are chords too.
 fn in_span(span_m: f64, h: f64) -> bool
     ensures { λ r. ⌜ r ≡ inSpan «span_m» h ⌝ }
 {
-    0.0 <= h && h < span_m
+    0.0 <= h && h <= span_m
 }
 
 fn trapezoid_chord(root_chord_m: f64, tip_chord_m: f64, span_m: f64, sweep_m: f64, h: f64) -> Chords

@@ -12,7 +12,7 @@ pub enum Count {
 }
 
 // The value of a decimal digit, 0 to 9, and 10 for any other byte.
-fn digit_value(b: u8) -> u64
+pub fn digit_value(b: u8) -> u64
     ensures { λ r. ⌜ r ≡ digitValue b ⌝ }
 {
     if 48 <= b {

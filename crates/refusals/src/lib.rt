@@ -1,5 +1,5 @@
-// The refusals of document 01's table, one case for each number, with the values that go with it, and the first refusal of checks in
-// their order.
+// The refusals of document 01's table and of document 02, one case for each number, with the values that go with it, and the first
+// refusal of checks in their order.
 //
 // The Rust's `DesignError` and `CoreError` have texts instead; the numbers are the kiosk's.
 ghost use mathlib.Core.Path.{_≡_};
@@ -36,6 +36,7 @@ pub enum Refusal {
     Centre,
     Tensor(TensorFault),
     NoForm,
+    NoFigure,
 }
 
 // The answer of a check.
@@ -120,6 +121,7 @@ fn row_of(refusal: Refusal) -> Row
         Refusal::Centre => Row(16, [0, 0]),
         Refusal::Tensor(fault) => Row(17, [tensor_case(fault), 0]),
         Refusal::NoForm => Row(18, [0, 0]),
+        Refusal::NoFigure => Row(19, [0, 0]),
     }
 }
 

@@ -8,10 +8,12 @@ use lib.Count.{leadingZeros}
 use lib.Ieee.{binary64}
 use lib.Ieee.Bits.{ofBits-fits}
 use Rattle.floats.specs.Operations.{bits}
-use Rattle.root.specs.Root.{unitsOf, radicand}
+use Rattle.floats.specs.Units.{unitsOf}
+use Rattle.root.specs.Root.{radicand}
 use Rattle.root.specs.Scaled.{ScaledTo}
-use Rattle.root.proofs.Places.{Lifted, lifted, scaled}
-use Rattle.root.proofs.Units.{units-pos}
+use Rattle.floats.proofs.Lifted.{Lifted, lifted}
+use Rattle.root.proofs.Places.{scaled}
+use Rattle.floats.proofs.Units.{units-pos}
 use Rattle.root.proofs.Patterns.{field, subnormal-units, normal-units, not-all-ones}
 use Rattle.root.proofs.scale.Statement.{statement}
 use Rattle.root.proofs.scale.Tie as tie

@@ -8,7 +8,7 @@ use lib.Ieee.Positive.{positive}
 use Rattle.floats.specs.Operations.{bits}
 use Rattle.floats.proofs.Nan.{zero-over-zero}
 use Rattle.root.specs.Root.{rootOf, IsRoot}
-use Rattle.root.proofs.Units.{for-positive}
+use Rattle.floats.proofs.Units.{for-positive}
 use Rattle.root.proofs.Nearest.{is-root, root-positive}
 use Rattle.root.proofs.Signs.{is-positive, root-of-top, root-of-negative, root-of-rest}
 use Rattle.root.proofs.sqrt.Statement.{statement}

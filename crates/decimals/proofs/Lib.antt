@@ -1,0 +1,4 @@
+pub mod Powers
+pub mod Signs
+pub mod Long
+pub mod Steps

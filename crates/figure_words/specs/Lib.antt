@@ -1,0 +1,2 @@
+pub mod FigureWords
+pub mod Runs

@@ -1,0 +1,61 @@
+-- The list and the count by how the call ends: no room, a refusal of the planform, or its chords. Assumes nothing.
+use mathlib.Core.Path.{_≡_, refl, sym, ap, _∙_}
+use mathlib.Core.List.{List, [], _∷_}
+use Prim.Native.Nat.{ℕ, _*_, _/_, _≤_, _<_}
+use native.Mathlib.Omega.{arith}
+use borrow.Author.Tests.{le-leb, lt-leb}
+use lib.ListN.{length, take, set}
+use lib.Seq.{take-take}
+use lib.Ieee.{Float}
+use Rattle.sorting.specs.Sorted.{over, Written}
+use Rattle.sorting.proofs.Over.{written-take, written-nothing, written-put}
+use Rattle.refusals.specs.declared.Refusal.{Refusal}
+use Rattle.refusals.specs.declared.Refusal.the-variants.{NoForm}
+use Rattle.refusals.specs.declared.Verdict.the-variants.{Accepted, Refused}
+use Rattle.planforms.specs.declared.Planform.{Planform}
+use Rattle.fins.specs.Fins.{planformCheck}
+use Rattle.chords.specs.declared.Chords.{Chords}
+use Rattle.chords.specs.Chords.{endsAt, paired, chordsAt, chordsOf, endsOf}
+use Rattle.chords.proofs.Answer.{answered}
+use Rattle.planform_chords.specs.declared.ChordList.{ChordList}
+use Rattle.planform_chords.specs.PlanformChords.{endsIn, Listed, verdictOf, chordList, endsAfter}
+use Rattle.planform_chords.proofs.Pairs.{pairs-count, pairs-ends}
+
+-- ---- the chords written
+
+pub none-listed : (s : List Float) → Listed [] s s 0
+unfolding endsIn
+none-listed s = record { count = refl; list = refl }
+
+pub one-listed : (a b : Float) (s : List Float) → 2 ≤ length s → Listed ((a, b) ∷ []) s (set (set s 0 a) 1 b) 1
+unfolding endsIn
+one-listed a b s h = record { count = refl; list = written-put b (written-put a (written-nothing s) (omega arith)) (omega arith) .array }
+
+-- the whole pairs of the n that stand over the start of an array
+pub several-listed : (l xs₀ xs s t : List Float) (n : ℕ) → Written l xs₀ xs n → t ≡ over (take (2 * (n / 2)) xs) s → Listed (paired l) s t (n / 2)
+several-listed l xs₀ xs s t n w e =
+    let all : take n xs ≡ l = written-take w in
+    let first : take (2 * (length l / 2)) l ≡ take (2 * (n / 2)) xs = rw (← w .count, ← all) (take-take (2 * (n / 2)) n xs (omega arith)) in
+    record { count = ap (λ (k : ℕ). k / 2) (w .count) ∙ sym (pairs-count l); list = e ∙ ap (λ (k : List Float). over k s) (sym (pairs-ends l ∙ first)) }
+
+-- ---- the answer
+
+module _ (planform : Planform) (points : List Float) (h : Float) (ends ends' : List Float) (r : ChordList) where
+  abbrev pub Answered : Type 0
+  Answered = (r ≡ chordList planform points h (length ends)) × (ends' ≡ endsAfter planform points h ends)
+
+  pub no-room : length ends < 64 → ends' ≡ ends → r ≡ record { verdict = Refused NoForm; count = 0 } → Answered
+  unfolding chordList endsAfter verdictOf
+  no-room b e f = let t = lt-leb 64 (length ends) b in (rw t f, rw t e)
+
+  pub refused-so : 64 ≤ length ends → (refusal : Refusal) → planformCheck planform points ≡ Refused refusal → ends' ≡ ends → r ≡ record { verdict = Refused refusal; count = 0 } → Answered
+  unfolding chordList endsAfter verdictOf
+  refused-so b refusal v e f = let t = le-leb 64 (length ends) b in (rw (t, v) f, rw (t, v) e)
+
+  pub listed-so : 64 ≤ length ends → planformCheck planform points ≡ Accepted → (found : Chords) (count : ℕ) → found ≡ chordsOf (endsAt planform points h)
+      → Listed (paired (endsOf found points h)) ends ends' count → r ≡ record { verdict = Accepted; count = count } → Answered
+  unfolding chordList endsAfter verdictOf
+  listed-so b v found count g w f =
+      let t = le-leb 64 (length ends) b in
+      let all : paired (endsOf found points h) ≡ chordsAt planform points h = ap (λ (x : Chords). paired (endsOf x points h)) g ∙ answered planform points h in
+      (rw (t, v) (f ∙ ap (λ (n : ℕ). record { verdict = Accepted; count = n }) (w .count ∙ ap length all)), rw (t, v) (w .list ∙ ap (λ (l : List (Float × Float)). over (endsIn l) ends) all))

@@ -1,0 +1,4 @@
+pub mod Pairs
+pub mod Start
+pub mod Answer
+pub mod Tip
