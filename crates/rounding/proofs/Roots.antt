@@ -14,8 +14,9 @@ use lib.Ieee.Digits.{Equals, odd-val}
 use lib.Ieee.Fits.{and-i, up-pos, down-pos}
 use lib.Ieee.Nearest.{div-mono}
 use lib.Ieee.Scale.{finite}
-use Rattle.root.specs.Root.{unitsOf, radicand, rootOf, kept, dropped}
-use Rattle.root.proofs.Units.{units-are}
+use Rattle.floats.specs.Units.{unitsOf}
+use Rattle.root.specs.Root.{radicand, rootOf, kept, dropped}
+use Rattle.floats.proofs.Units.{units-are}
 use Rattle.root.proofs.Nearest.{is-root}
 use Rattle.root.proofs.Squares.{even-square}
 use Rattle.rounding.specs.Sizes.{Below}
