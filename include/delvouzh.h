@@ -8,12 +8,12 @@
  *      4 length outside its limits      10 tab off the root chord       16 body centre
  *      5 points not 3 to 64 pairs       11 tab deeper than the body     17 body tensor
  *      6 first or last point            12 density                      18 no form
- *     19 a word that is no figure
+ *     19 a word that is no figure      20 wall over the outer radius
  *
  * It writes its figures and counts over the start of the lent arrays; a refusal writes zero figures. Two counts are the values of a
  * refusal: the field of 4 and 9, the two edges of 7, the component of 13, the case of 17 (a to e as 0 to 4); else both are 0.
  * Fields: 1 root chord, 2 tip chord, 3 span, 4 sweep, 5 x, 6 y, 7 thickness, 8 tab height, 9 tab length, 10 tab offset,
- * 11 body radius, 12 cant, 13 base angle. Edges and components are counted from 0.
+ * 11 body radius, 12 cant, 13 base angle, 14 tube length, 15 outer radius. Edges and components are counted from 0.
  *
  * 18 is an unknown number of a planform, section, tab or density, or another count of numbers than it asks for, with two exceptions:
  * an outline's numbers that are not 3 to 64 whole pairs are 5, and a join's that are not 1 to 32 whole bodies are 3. An array that is

@@ -24,6 +24,7 @@ pub enum Refusal {
     NoForm,
     #[allow(dead_code)] // no line gives it yet
     NoFigure,
+    WallOverRadius,
 }
 
 impl Refusal {
@@ -48,6 +49,7 @@ impl Refusal {
             Self::Tensor { .. } => 17,
             Self::NoForm => 18,
             Self::NoFigure => 19,
+            Self::WallOverRadius => 20,
         }
     }
 
@@ -89,6 +91,8 @@ const TAB_OFFSET: u8 = 10;
 const BODY_RADIUS: u8 = 11;
 const CANT: u8 = 12;
 const BASE_ANGLE: u8 = 13;
+const TUBE_LENGTH: u8 = 14;
+const OUTER_RADIUS: u8 = 15;
 
 const SHORTEST: f64 = 1.0 / 1048576.0;
 const LONGEST: f64 = 64.0;

@@ -48,6 +48,7 @@ pub enum Refusal {
     Tensor(TensorFault),
     NoForm,
     NoFigure,
+    WallOverRadius,
 }
 
 impl Refusal {
@@ -73,6 +74,7 @@ impl Refusal {
             Self::Tensor(_) => 17,
             Self::NoForm => 18,
             Self::NoFigure => 19,
+            Self::WallOverRadius => 20,
         }
     }
 
@@ -98,6 +100,7 @@ impl Refusal {
             17 => Self::Tensor(TensorFault::from_case(first)?),
             18 => Self::NoForm,
             19 => Self::NoFigure,
+            20 => Self::WallOverRadius,
             _ => return None,
         })
     }
@@ -170,7 +173,7 @@ mod tests {
 
     #[test]
     fn every_number_of_the_table_is_known() {
-        for number in 1..=19 {
+        for number in 1..=20 {
             let refusal = Refusal::from_number(number, [0, 0]).unwrap();
             assert_eq!(refusal.number(), number);
             assert_eq!(Error::unless_zero(number, [0, 0]), Err(Error::Refused(refusal)));

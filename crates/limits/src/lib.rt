@@ -35,6 +35,10 @@ pub const CANT: usize = 12;
 
 pub const BASE_ANGLE: usize = 13;
 
+pub const TUBE_LENGTH: usize = 14;
+
+pub const OUTER_RADIUS: usize = 15;
+
 // The magnitude of a length other than zero: 2^-20 to 64.
 const SHORTEST_M: f64 = 9.5367431640625e-7;
 

@@ -37,6 +37,7 @@ pub enum Refusal {
     Tensor(TensorFault),
     NoForm,
     NoFigure,
+    WallOverRadius,
 }
 
 // The answer of a check.
@@ -122,6 +123,7 @@ fn row_of(refusal: Refusal) -> Row
         Refusal::Tensor(fault) => Row(17, [tensor_case(fault), 0]),
         Refusal::NoForm => Row(18, [0, 0]),
         Refusal::NoFigure => Row(19, [0, 0]),
+        Refusal::WallOverRadius => Row(20, [0, 0]),
     }
 }
 

@@ -1,0 +1,2 @@
+pub mod Tubes
+pub mod Closing
