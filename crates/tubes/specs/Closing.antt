@@ -4,7 +4,7 @@ use mathlib.Core.List.{[], _∷_}
 use Prim.Native.Nat.{ℕ}
 use lib.Dec.{ltb}
 use lib.Ieee.{Float}
-use Rattle.floats.specs.Operations.{_⊖_, _⊗_, _⊘_, bits, number}
+use Rattle.floats.specs.Operations.{_⊖_, _⊗_, _⊘_, bits, whole}
 use Rattle.floats.specs.Constants.{one, pi}
 use Rattle.trig.specs.Trig.{sinOf}
 use Rattle.refusals.specs.declared.Refusal.{Refusal}
@@ -20,7 +20,7 @@ closingWith radius s = radius ⊗ s ⊘ (one ⊖ s)
 
 -- "Fewer than three tubes close at the body radius."
 unfoldable pub closingValue : Float → ℕ → Float
-closingValue radius count = cond (ltb count 3) radius (closingWith radius (sinOf (pi ⊘ number count)))
+closingValue radius count = cond (ltb count 3) radius (closingWith radius (sinOf (pi ⊘ whole count)))
 
 abbrev pub closedAt : Float → ClosingRadius
 closedAt radius = record { verdict = Accepted; «radius_m» = radius }

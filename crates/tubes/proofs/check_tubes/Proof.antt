@@ -2,7 +2,7 @@
 use borrow.Author.Needs.{needs}
 use mathlib.Core.List.{[], _∷_}
 use mathlib.Core.Path.{_∙_}
-use Rattle.refusals.proofs.Order.{as-one, in-order}
+use Rattle.refusals.proofs.Order.{in-order, in-two}
 use Rattle.tubes.specs.Tubes.{mountCheck, tubeCheck}
 use Rattle.tubes.proofs.check_tubes.Statement.{statement}
 use Rattle.tubes.proofs.check_tubes.Tie as tie
@@ -47,7 +47,7 @@ returns c = rw (
   c .before .before .before .before .before .before .before .before .check-length .ensures,
   c .before .before .before .before .before .before .before .before .before .check-mount .ensures,
 )
-    (in-order _ (_ ∷ _ ∷ _ ∷ _ ∷ []) ∙ as-one (_ ∷ _ ∷ _ ∷ _ ∷ []) _)
+    (in-order _ (_ ∷ _ ∷ _ ∷ _ ∷ []) ∙ in-two (_ ∷ _ ∷ _ ∷ _ ∷ []) (_ ∷ _ ∷ _ ∷ _ ∷ []))
 
 pub check-tubes-spec : {M : Type 1} → statement M
 check-tubes-spec =
