@@ -4,7 +4,10 @@
 // I = ∫ (|r|² E − r rᵀ) dm with r = position − p; about another point it is I + m (|d|² E − d dᵀ), d the centre less that point.
 // Vectors and tensors work by component as glam's do (document 01, "Stand-ins").
 ghost use mathlib.Core.Path.{_≡_};
-ghost use Rattle.bodies.specs.Tensors.{addVectors, subtractVectors, scaleVector, divideVector, addTensors, subtractTensors, scaleTensor, timesVector, timesTensor, transposeOf, turnTensor, offsetTensorOf};
+ghost use Prim.Native.Nat.{_≤_};
+ghost use lib.ListN.{length};
+ghost use Rattle.floats.specs.Operations.{at};
+ghost use Rattle.bodies.specs.Tensors.{tensor, addVectors, subtractVectors, scaleVector, divideVector, addTensors, subtractTensors, scaleTensor, timesVector, timesTensor, transposeOf, turnTensor, offsetTensorOf};
 ghost use Rattle.bodies.specs.Bodies.{inertiaAboutOf, translatedOf, rotatedOf};
 
 // Three numbers along x, y and z: a centre in metres, an offset, or a column of a tensor.
@@ -21,6 +24,24 @@ pub struct Body {
     pub mass_kg: f64,
     pub centre_m: Centre,
     pub inertia_kg_m2: Tensor,
+}
+
+// The tensor of nine numbers in columns.
+pub fn tensor_of(numbers: &[f64]) -> Tensor
+    requires { ⌜ 9 ≤ length (now numbers) ⌝ }
+    ensures { λ r. ⌜ r ≡ tensor (at (now (numbers .entry))) ⌝ }
+{
+    Tensor([
+        numbers[0],
+        numbers[1],
+        numbers[2],
+        numbers[3],
+        numbers[4],
+        numbers[5],
+        numbers[6],
+        numbers[7],
+        numbers[8],
+    ])
 }
 
 impl Centre {

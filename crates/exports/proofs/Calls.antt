@@ -15,10 +15,11 @@ use Rattle.moments.specs.declared.Moments.{Moments}
 use Rattle.figures.specs.declared.Area.{Area}
 use Rattle.figures.specs.declared.Figures.{Figures}
 use Rattle.lines.specs.Lines.{answerOf, Answers}
-use Rattle.exports.specs.declared.PlanformForm.{PlanformForm}
-use Rattle.exports.specs.declared.SetForm.{SetForm}
+use Rattle.planforms.specs.declared.NumberedPlanform.{NumberedPlanform}
+use Rattle.fins.specs.declared.NumberedSet.{NumberedSet}
+use Rattle.requests.specs.Calls.{numberedFigures, numberedScratch, numberedArea, numberedAreaScratch, tensorMoments, bodyVerdict}
 use Rattle.exports.specs.Numbers.{numberIn, over, withValues}
-use Rattle.exports.specs.Calls.{room, formFigures, formScratch, figureCounts, SetCall, formArea, formAreaScratch, areaNumbers, areaCounts, AreaCall, JoinCall, tensorMoments, momentsNumbers, MomentsCall, bodyVerdict, CheckCall, LineCall}
+use Rattle.exports.specs.Calls.{room, figureCounts, SetCall, areaNumbers, areaCounts, AreaCall, JoinCall, momentsNumbers, MomentsCall, CheckCall, LineCall}
 
 module _ {A : Type 0} (m : ℕ) (figures : List A) (n : ℕ) (counts : List ℕ) where
   has-room : m ≤ length figures → n ≤ length counts → room m figures n counts ≡ true
@@ -30,15 +31,15 @@ module _ {A : Type 0} (m : ℕ) (figures : List A) (n : ℕ) (counts : List ℕ)
   pub few-counts : m ≤ length figures → length counts < n → room m figures n counts ≡ false
   few-counts h k = simp (le-leb m (length figures) h, lt-leb n (length counts) k)
 
-module _ (form : SetForm) (points : List Float) (L : ℕ) (scratch body : List Float) (counts : List ℕ) where
-  pub set-refused : room 13 body 4 counts ≡ false → SetCall form points L scratch body counts 18 scratch body counts
+module _ (set : NumberedSet) (points : List Float) (L : ℕ) (scratch body : List Float) (counts : List ℕ) where
+  pub set-refused : room 13 body 4 counts ≡ false → SetCall set points L scratch body counts 18 scratch body counts
   set-refused none = record { returned = rw none; figures = rw none; counted = rw none; lent = rw none }
 
-  -- `read` is the form as the code has it
-  pub set-written : 13 ≤ length body → 4 ≤ length counts → (read : SetForm) (f : Figures) (r : ℕ) (scratch' body' : List Float) (counts' : List ℕ) →
-      read ≡ form → f ≡ formFigures read points L (length scratch) → scratch' ≡ formScratch read points L scratch →
+  -- `read` is the set as the code has it
+  pub set-written : 13 ≤ length body → 4 ≤ length counts → (read : NumberedSet) (f : Figures) (r : ℕ) (scratch' body' : List Float) (counts' : List ℕ) →
+      read ≡ set → f ≡ numberedFigures read points L (length scratch) → scratch' ≡ numberedScratch read points L scratch →
       body' ≡ withBody body 0 (f .body) → counts' ≡ figureCounts f counts → r ≡ numberIn (f .verdict) →
-      SetCall form points L scratch body counts r scratch' body' counts'
+      SetCall set points L scratch body counts r scratch' body' counts'
   set-written h k read f r scratch' body' counts' same e s b c n =
       let fits = has-room 13 body 4 counts h k in
       record {
@@ -48,14 +49,14 @@ module _ (form : SetForm) (points : List Float) (L : ℕ) (scratch body : List F
         lent = rw (fits, ← same) s;
       }
 
-module _ (form : PlanformForm) (points : List Float) (L : ℕ) (scratch area : List Float) (counts : List ℕ) where
-  pub area-refused : room 3 area 4 counts ≡ false → AreaCall form points L scratch area counts 18 scratch area counts
+module _ (planform : NumberedPlanform) (points : List Float) (L : ℕ) (scratch area : List Float) (counts : List ℕ) where
+  pub area-refused : room 3 area 4 counts ≡ false → AreaCall planform points L scratch area counts 18 scratch area counts
   area-refused none = record { returned = rw none; figures = rw none; counted = rw none; lent = rw none }
 
-  pub area-written : 3 ≤ length area → 4 ≤ length counts → (read : PlanformForm) (a : Area) (r : ℕ) (scratch' area' : List Float) (counts' : List ℕ) →
-      read ≡ form → a ≡ formArea read points L (length scratch) → scratch' ≡ formAreaScratch read points L scratch →
+  pub area-written : 3 ≤ length area → 4 ≤ length counts → (read : NumberedPlanform) (a : Area) (r : ℕ) (scratch' area' : List Float) (counts' : List ℕ) →
+      read ≡ planform → a ≡ numberedArea read points L (length scratch) → scratch' ≡ numberedAreaScratch read points L scratch →
       area' ≡ over (areaNumbers a) area → counts' ≡ areaCounts a counts → r ≡ numberIn (a .verdict) →
-      AreaCall form points L scratch area counts r scratch' area' counts'
+      AreaCall planform points L scratch area counts r scratch' area' counts'
   area-written h k read a r scratch' area' counts' same e s b c n =
       let fits = has-room 3 area 4 counts h k in
       record {

@@ -1,31 +1,24 @@
 -- What a call returns and leaves in the lent lists (include/delvouzh.h). Where a list has no room for what is written over its start, the
--- call returns 18 and leaves every list as it was.
+-- call returns 18 (no form) and leaves every list as it was.
 use mathlib.Core.Path.{_≡_}
 use mathlib.Core.Bool.{Bool, cond, _&&_}
 use mathlib.Core.List.{List, [], _∷_}
 use Prim.Native.Nat.{ℕ}
-use lib.Dec.{leb, eqb}
+use lib.Dec.{leb}
 use lib.ListN.{length}
 use lib.Ieee.{Float}
-use Rattle.floats.specs.Operations.{bits, at}
+use Rattle.floats.specs.Operations.{at}
 use Rattle.refusals.specs.declared.Refusal.the-variants.{NoForm}
-use Rattle.refusals.specs.declared.Verdict.{Verdict}
-use Rattle.refusals.specs.declared.Verdict.the-variants.{Refused}
-use Rattle.bodies.specs.Tensors.{tensor}
-use Rattle.joins.specs.Flat.{bodyAt, withBody}
+use Rattle.refusals.specs.Refusals.{numberOf}
+use Rattle.planforms.specs.declared.NumberedPlanform.{NumberedPlanform}
+use Rattle.fins.specs.declared.NumberedSet.{NumberedSet}
+use Rattle.joins.specs.Flat.{withBody}
 use Rattle.joins.specs.Joins.{combineOf}
 use Rattle.moments.specs.declared.Moments.{Moments}
-use Rattle.moments.specs.Moments.{principalMomentsOf}
-use Rattle.body_check.specs.BodyCheck.{checkOf}
 use Rattle.figures.specs.declared.Area.{Area}
 use Rattle.figures.specs.declared.Figures.{Figures}
-use Rattle.figures.specs.Figures.{refusedFigures, setFigures, setScratch}
-use Rattle.figures.specs.Areas.{refusedArea, areaFigures, areaScratch}
+use Rattle.requests.specs.Calls.{numberedFigures, numberedScratch, numberedArea, numberedAreaScratch, tensorMoments, bodyVerdict}
 use Rattle.lines.specs.Lines.{answerOf, scratchAfterLine}
-use Rattle.exports.specs.declared.PlanformForm.{PlanformForm}
-use Rattle.exports.specs.declared.PlanformForm.the-variants.{Known as planformKnown, NoForm as noPlanform}
-use Rattle.exports.specs.declared.SetForm.{SetForm}
-use Rattle.exports.specs.declared.SetForm.the-variants.{Known as setKnown, NoForm as noSet}
 use Rattle.exports.specs.Numbers.{numberIn, over, withValues, withCounts}
 
 -- room for m figures, or bytes, and n counts
@@ -34,32 +27,16 @@ room m figures n counts = leb m (length figures) && leb n (length counts)
 
 -- ---- a set's figures
 
-unfoldable pub formFigures : SetForm → List Float → ℕ → ℕ → Figures
-formFigures (setKnown set) points L scratchLength = setFigures set points L scratchLength
-formFigures noSet points L scratchLength = refusedFigures NoForm 0
-
-unfoldable pub formScratch : SetForm → List Float → ℕ → List Float → List Float
-formScratch (setKnown set) points L scratch = setScratch set points L scratch
-formScratch noSet points L scratch = scratch
-
 abbrev pub figureCounts : Figures → List ℕ → List ℕ
 figureCounts f counts = withCounts counts (f .verdict) (f .intervals) (f .samples)
 
-pub record SetCall (form : SetForm) (points : List Float) (L : ℕ) (scratch body : List Float) (counts : List ℕ) (r : ℕ) (scratch' body' : List Float) (counts' : List ℕ) : Type 0 where
-  pub returned : r ≡ cond (room 13 body 4 counts) (numberIn (formFigures form points L (length scratch) .verdict)) 18
-  pub figures : body' ≡ cond (room 13 body 4 counts) (withBody body 0 (formFigures form points L (length scratch) .body)) body
-  pub counted : counts' ≡ cond (room 13 body 4 counts) (figureCounts (formFigures form points L (length scratch)) counts) counts
-  pub lent : scratch' ≡ cond (room 13 body 4 counts) (formScratch form points L scratch) scratch
+pub record SetCall (set : NumberedSet) (points : List Float) (L : ℕ) (scratch body : List Float) (counts : List ℕ) (r : ℕ) (scratch' body' : List Float) (counts' : List ℕ) : Type 0 where
+  pub returned : r ≡ cond (room 13 body 4 counts) (numberIn (numberedFigures set points L (length scratch) .verdict)) (numberOf NoForm)
+  pub figures : body' ≡ cond (room 13 body 4 counts) (withBody body 0 (numberedFigures set points L (length scratch) .body)) body
+  pub counted : counts' ≡ cond (room 13 body 4 counts) (figureCounts (numberedFigures set points L (length scratch)) counts) counts
+  pub lent : scratch' ≡ cond (room 13 body 4 counts) (numberedScratch set points L scratch) scratch
 
 -- ---- a planform's area
-
-unfoldable pub formArea : PlanformForm → List Float → ℕ → ℕ → Area
-formArea (planformKnown planform) points L scratchLength = areaFigures planform points L scratchLength
-formArea noPlanform points L scratchLength = refusedArea NoForm 0
-
-unfoldable pub formAreaScratch : PlanformForm → List Float → ℕ → List Float → List Float
-formAreaScratch (planformKnown planform) points L scratch = areaScratch planform points L scratch
-formAreaScratch noPlanform points L scratch = scratch
 
 abbrev pub areaNumbers : Area → List Float
 areaNumbers a = a .«area_m2» ∷ a .«centroid_x_m» ∷ a .«centroid_span_m» ∷ []
@@ -67,47 +44,38 @@ areaNumbers a = a .«area_m2» ∷ a .«centroid_x_m» ∷ a .«centroid_span_m�
 abbrev pub areaCounts : Area → List ℕ → List ℕ
 areaCounts a counts = withCounts counts (a .verdict) (a .intervals) (a .samples)
 
-pub record AreaCall (form : PlanformForm) (points : List Float) (L : ℕ) (scratch area : List Float) (counts : List ℕ) (r : ℕ) (scratch' area' : List Float) (counts' : List ℕ) : Type 0 where
-  pub returned : r ≡ cond (room 3 area 4 counts) (numberIn (formArea form points L (length scratch) .verdict)) 18
-  pub figures : area' ≡ cond (room 3 area 4 counts) (over (areaNumbers (formArea form points L (length scratch))) area) area
-  pub counted : counts' ≡ cond (room 3 area 4 counts) (areaCounts (formArea form points L (length scratch)) counts) counts
-  pub lent : scratch' ≡ cond (room 3 area 4 counts) (formAreaScratch form points L scratch) scratch
+pub record AreaCall (planform : NumberedPlanform) (points : List Float) (L : ℕ) (scratch area : List Float) (counts : List ℕ) (r : ℕ) (scratch' area' : List Float) (counts' : List ℕ) : Type 0 where
+  pub returned : r ≡ cond (room 3 area 4 counts) (numberIn (numberedArea planform points L (length scratch) .verdict)) (numberOf NoForm)
+  pub figures : area' ≡ cond (room 3 area 4 counts) (over (areaNumbers (numberedArea planform points L (length scratch))) area) area
+  pub counted : counts' ≡ cond (room 3 area 4 counts) (areaCounts (numberedArea planform points L (length scratch)) counts) counts
+  pub lent : scratch' ≡ cond (room 3 area 4 counts) (numberedAreaScratch planform points L scratch) scratch
 
 -- ---- a join
 
 pub record JoinCall (bodies body : List Float) (r : ℕ) (body' : List Float) : Type 0 where
-  pub returned : r ≡ cond (leb 13 (length body)) (numberIn (combineOf bodies .verdict)) 18
+  pub returned : r ≡ cond (leb 13 (length body)) (numberIn (combineOf bodies .verdict)) (numberOf NoForm)
   pub figures : body' ≡ cond (leb 13 (length body)) (withBody body 0 (combineOf bodies .body)) body
 
 -- ---- principal moments: of nine numbers in columns
-
-abbrev pub noMoments : Moments
-noMoments = record { verdict = Refused NoForm; «moments_kg_m2» = bits 0 ∷ bits 0 ∷ bits 0 ∷ [] }
-
-unfoldable pub tensorMoments : List Float → Moments
-tensorMoments numbers = cond (eqb (length numbers) 9) (principalMomentsOf (tensor (at numbers))) noMoments
 
 abbrev pub momentsNumbers : Moments → List Float
 momentsNumbers m = at (m .«moments_kg_m2») 0 ∷ at (m .«moments_kg_m2») 1 ∷ at (m .«moments_kg_m2») 2 ∷ []
 
 pub record MomentsCall (numbers moments : List Float) (values : List ℕ) (r : ℕ) (moments' : List Float) (values' : List ℕ) : Type 0 where
-  pub returned : r ≡ cond (room 3 moments 2 values) (numberIn (tensorMoments numbers .verdict)) 18
+  pub returned : r ≡ cond (room 3 moments 2 values) (numberIn (tensorMoments numbers .verdict)) (numberOf NoForm)
   pub figures : moments' ≡ cond (room 3 moments 2 values) (over (momentsNumbers (tensorMoments numbers)) moments) moments
   pub counted : values' ≡ cond (room 3 moments 2 values) (withValues values (tensorMoments numbers .verdict)) values
 
 -- ---- the body check: of thirteen numbers
 
-unfoldable pub bodyVerdict : List Float → Verdict
-bodyVerdict numbers = cond (eqb (length numbers) 13) (checkOf (bodyAt numbers 0)) (Refused NoForm)
-
 pub record CheckCall (numbers : List Float) (values : List ℕ) (r : ℕ) (values' : List ℕ) : Type 0 where
-  pub returned : r ≡ cond (leb 2 (length values)) (numberIn (bodyVerdict numbers)) 18
+  pub returned : r ≡ cond (leb 2 (length values)) (numberIn (bodyVerdict numbers)) (numberOf NoForm)
   pub counted : values' ≡ cond (leb 2 (length values)) (withValues values (bodyVerdict numbers)) values
 
 -- ---- a line's answer: at most 320 bytes
 
 pub record LineCall (line : List ℕ) (scratch : List Float) (answer written : List ℕ) (r : ℕ) (scratch' : List Float) (answer' written' : List ℕ) : Type 0 where
-  pub returned : r ≡ cond (room 320 answer 1 written) 0 18
+  pub returned : r ≡ cond (room 320 answer 1 written) 0 (numberOf NoForm)
   pub answered : answer' ≡ cond (room 320 answer 1 written) (over (answerOf line (length scratch)) answer) answer
   pub counted : written' ≡ cond (room 320 answer 1 written) (over (length (answerOf line (length scratch)) ∷ []) written) written
   pub lent : scratch' ≡ cond (room 320 answer 1 written) (scratchAfterLine line scratch) scratch

@@ -1,3 +1,3 @@
-pub mod Forms
+pub mod Sets
 pub mod Numbers
 pub mod Calls

@@ -5,14 +5,18 @@
 ghost use mathlib.Core.Path.{_≡_};
 ghost use Rattle.refusals.specs.Order.{firstOf};
 ghost use Rattle.fins.specs.Fins.{trapezoidCheck, planformCheck, slabCheck, tabCheck, depthCheck, callChecks, plateChecks, mountChecks, setCheck, areaCheck};
+ghost use Rattle.fins.specs.Numbered.{numberedTab, numberedSet};
 use limits::check_angle;
 use limits::check_length;
 use materials::Density;
+use materials::NumberedDensity;
+use planforms::NumberedPlanform;
 use planforms::Planform;
 use refusals::Refusal;
 use refusals::Verdict;
 use refusals::first_refusal;
 use refusals::is_refused;
+use sections::NumberedSection;
 use sections::Section;
 
 // A rectangular tab below each root: its depth, its length, and how far aft of the root's leading edge it starts.
@@ -36,6 +40,79 @@ pub struct FinSet {
     pub base_angle_rad: f64,
     pub body_radius_m: f64,
     pub density: Density,
+}
+
+// A tab by its number, where there is one; the next likewise.
+pub enum NumberedTab {
+    Known(Tab),
+    Unknown,
+}
+
+pub enum NumberedSet {
+    Known(FinSet),
+    Unknown,
+}
+
+// 0 none; 1 a slab (height, length, offset).
+pub fn numbered_tab(number: usize, figures: &[f64]) -> NumberedTab
+    ensures { λ r. ⌜ r ≡ numberedTab number (now (figures .entry)) ⌝ }
+{
+    if number == 0 {
+        if figures.len() == 0 {
+            return NumberedTab::Known(Tab::None);
+        }
+        return NumberedTab::Unknown;
+    }
+    if number == 1 {
+        if figures.len() == 3 {
+            return NumberedTab::Known(Tab::Slab {
+                height_m: figures[0],
+                length_m: figures[1],
+                offset_m: figures[2],
+            });
+        }
+        return NumberedTab::Unknown;
+    }
+    NumberedTab::Unknown
+}
+
+// The set of parts that are all known.
+pub fn numbered_set(
+    count: usize,
+    planform: NumberedPlanform,
+    thickness_m: f64,
+    section: NumberedSection,
+    tab: NumberedTab,
+    cant_rad: f64,
+    base_angle_rad: f64,
+    body_radius_m: f64,
+    density: NumberedDensity,
+) -> NumberedSet
+    ensures { λ r. ⌜ r ≡ numberedSet count planform «thickness_m» section tab «cant_rad» «base_angle_rad» «body_radius_m» density ⌝ }
+{
+    let NumberedPlanform::Known(planform) = planform else {
+        return NumberedSet::Unknown;
+    };
+    let NumberedSection::Known(cross_section) = section else {
+        return NumberedSet::Unknown;
+    };
+    let NumberedTab::Known(tab) = tab else {
+        return NumberedSet::Unknown;
+    };
+    let NumberedDensity::Known(density) = density else {
+        return NumberedSet::Unknown;
+    };
+    NumberedSet::Known(FinSet {
+        count,
+        planform,
+        thickness_m,
+        cross_section,
+        tab,
+        cant_rad,
+        base_angle_rad,
+        body_radius_m,
+        density,
+    })
 }
 
 fn check_trapezoid(root_chord_m: f64, tip_chord_m: f64, span_m: f64, sweep_m: f64) -> Verdict

@@ -1,4 +1,1 @@
-pub mod Ends
-pub mod Strict
-pub mod Whole
-pub mod Lines
+pub mod NoForms

@@ -1,186 +1,126 @@
--- The card program's forms (docs/FORMS.md), each as it is written there: a template behind another, alternatives, repetitions.
+-- The card program's forms (docs/FORMS.md), each as it is written there. A word of a form in capitals is a part, with alternatives of its own.
 use mathlib.Core.List.{List, [], _∷_}
-use mathlib.Core.Bool.{Bool, true, false}
+use mathlib.Core.Bool.{Bool, true, false, _&&_, not, cond}
 use Prim.Native.Nat.{ℕ}
 use Prim.Native.String.{String}
 use lib.Dec.{leb}
-use lib.ListN.{length}
+use lib.ListN.{length, getD}
 use lib.Ieee.{Float}
+use Rattle.refusals.specs.declared.Refusal.{Refusal}
+use Rattle.refusals.specs.declared.Refusal.the-variants.{NoForm as noForm}
 use Rattle.tokens.specs.Text.{text}
-use Rattle.tokens.specs.Tokens.{tokens}
-use Rattle.templates.specs.declared.Choice.{Choice}
-use Rattle.templates.specs.declared.Choice.the-variants.{First}
-use Rattle.templates.specs.Matching.{Reading, failed, reading, takeText, eitherOf, oneOf, takeEach}
+use Rattle.tokens.specs.Tokens.{lineBytes, tokens}
+use Rattle.templates.specs.Matching.{Reading, failed, reading, pick, sameBytes, takeOne, takeText, takeEach, oneOf, optional}
 use Rattle.forms.specs.declared.Form.{Form}
-use Rattle.forms.specs.declared.Form.the-variants.{Set, Area, Join, Moments, Check, NoForm}
-use Rattle.forms.specs.declared.Request.{Request}
+use Rattle.forms.specs.declared.Form.the-variants.{Set, Area, Join, Moments, Check}
 
--- a template behind what has been read
-infixl 60 _▸_
-unfoldable pub _▸_ : Reading → String → Reading
-r ▸ template = takeText (text template) r
+-- ---- parts, numbered by their places in the list, from 1 on; a part that is left out is 0
 
--- ---- parts
-
--- (trapezoid F F F F), (ellipse F F) or (outline F ..)
 unfoldable pub planform : Reading → Reading
-planform r = oneOf (r ▸ "(trapezoid F F F F)") (r ▸ "(ellipse F F)") (takeEach (text "F") (r ▸ "(outline") ▸ ")")
+planform r = oneOf (text "(trapezoid F F F F)" ∷ text "(ellipse F F)" ∷ text "(outline F..)" ∷ []) r
 
--- square, rounded or airfoil
 unfoldable pub section : Reading → Reading
-section r = oneOf (r ▸ "square") (r ▸ "rounded") (r ▸ "airfoil")
+section r = oneOf (text "square" ∷ text "rounded" ∷ text "airfoil" ∷ []) r
 
--- (tab F F F), or the part is left out
 unfoldable pub tab : Reading → Reading
-tab r = eitherOf (r ▸ "(tab F F F)") r
+tab r = optional (text "(tab F F F)" ∷ []) r
 
--- (bulk F), (surface F) or (line F)
 unfoldable pub density : Reading → Reading
-density r = oneOf (r ▸ "(bulk F)") (r ▸ "(surface F)") (r ▸ "(line F)")
+density r = oneOf (text "(bulk F)" ∷ text "(surface F)" ∷ text "(line F)" ∷ []) r
 
--- ---- forms, each up to the part that it is named after
+unfoldable pub points : Reading → Reading
+points r = takeEach (takeText (text "(point F F F F)")) r
 
--- (set (limit N) (count N) PLANFORM (thickness F) (section SECTION) TAB (cant F) (base F) (radius F) DENSITY)
-unfoldable pub setLimit : Reading → Reading
-setLimit r = r ▸ "(set (limit N)"
+-- a part by its name; `N` stands for itself
+unfoldable pub part : List ℕ → Reading → Reading
+part name r =
+    pick (sameBytes name (text "PLANFORM")) (planform r)
+    (pick (sameBytes name (text "SECTION")) (section r)
+    (pick (sameBytes name (text "TAB")) (tab r)
+    (pick (sameBytes name (text "DENSITY")) (density r)
+    (pick (sameBytes name (text "POINTS")) (points r)
+    (takeOne name r)))))
 
-unfoldable pub setCount : Reading → Reading
-setCount r = setLimit r ▸ "(count N)"
+-- ---- a form
 
-unfoldable pub setPlanform : Reading → Reading
-setPlanform r = planform (setCount r)
+-- a word in capitals other than `F`: a count or a part
+abbrev pub isNumbered : List ℕ → Bool
+isNumbered name = leb 65 (getD name 0 0) && leb (getD name 0 0) 90 && not (sameBytes name (text "F"))
 
-unfoldable pub setSection : Reading → Reading
-setSection r = section (setPlanform r ▸ "(thickness F) (section")
+-- one token of a form
+abbrev pub item : List ℕ → Reading → Reading
+item name r = pick (isNumbered name) (part name r) (takeOne name r)
 
-unfoldable pub setTab : Reading → Reading
-setTab r = tab (setSection r ▸ ")")
-
-unfoldable pub setDensity : Reading → Reading
-setDensity r = density (setTab r ▸ "(cant F) (base F) (radius F)")
-
-unfoldable pub setEnd : Reading → Reading
-setEnd r = setDensity r ▸ ")"
-
--- (area (limit N) PLANFORM)
-unfoldable pub areaLimit : Reading → Reading
-areaLimit r = r ▸ "(area (limit N)"
-
-unfoldable pub areaPlanform : Reading → Reading
-areaPlanform r = planform (areaLimit r)
-
-unfoldable pub areaEnd : Reading → Reading
-areaEnd r = areaPlanform r ▸ ")"
-
--- (join (point F F F F) ..)
-unfoldable pub joinEnd : Reading → Reading
-joinEnd r = takeEach (text "(point F F F F)") (r ▸ "(join") ▸ ")"
-
-unfoldable pub momentsEnd : Reading → Reading
-momentsEnd r = r ▸ "(moments F F F F F F F F F)"
-
-unfoldable pub checkEnd : Reading → Reading
-checkEnd r = r ▸ "(check (mass F) (centre F F F) (inertia F F F F F F F F F))"
-
--- ---- what a line asks
-
-abbrev pub countIn : Reading → ℕ
-countIn failed = 0
-countIn (reading ts t) = t .count
-
-abbrev pub choiceIn : Reading → Choice
-choiceIn failed = First
-choiceIn (reading ts t) = t .choice
-
--- how many figures
+-- how many figures have been taken, and the last number
 abbrev pub figuresIn : Reading → ℕ
 figuresIn failed = 0
 figuresIn (reading ts t) = length (t .figures)
 
--- a form with figures alone
-abbrev pub plainRequest : Form → ℕ → Request
-plainRequest form n = record { form = form; limit = 0; count = 0; planform = First; lengths = 0; section = First; tab = First; density = First; figures = n }
+abbrev pub numberIn : Reading → ℕ
+numberIn failed = 0
+numberIn (reading ts t) = t .number
 
-unfoldable pub setRequest : Reading → Request
-setRequest r =
-    record {
-      form = Set;
-      limit = countIn (setLimit r);
-      count = countIn (setCount r);
-      planform = choiceIn (setPlanform r);
-      lengths = figuresIn (setPlanform r);
-      section = choiceIn (setSection r);
-      tab = choiceIn (setTab r);
-      density = choiceIn (setDensity r);
-      figures = figuresIn (setEnd r);
-    }
+-- The counts and parts of a form, the last first: of each how many figures stand up to its end, and its number. No form has more than six.
+abbrev pub noNumbers : List ℕ
+noNumbers = 0 ∷ 0 ∷ 0 ∷ 0 ∷ 0 ∷ 0 ∷ 0 ∷ 0 ∷ 0 ∷ 0 ∷ 0 ∷ 0 ∷ []
 
-unfoldable pub areaRequest : Reading → Request
-areaRequest r =
-    record {
-      form = Area;
-      limit = countIn (areaLimit r);
-      count = 0;
-      planform = choiceIn (areaPlanform r);
-      lengths = figuresIn (areaPlanform r);
-      section = First;
-      tab = First;
-      density = First;
-      figures = figuresIn (areaEnd r);
-    }
+abbrev pub withItem : ℕ → ℕ → List ℕ → List ℕ
+withItem end number ns =
+    end ∷ number ∷ getD ns 0 0 ∷ getD ns 1 0 ∷ getD ns 2 0 ∷ getD ns 3 0 ∷ getD ns 4 0 ∷ getD ns 5 0 ∷ getD ns 6 0 ∷ getD ns 7 0 ∷ getD ns 8 0 ∷ getD ns 9 0 ∷ []
 
--- a request with its figures, or that the line is no form
+abbrev pub numbersAfter : List ℕ → ℕ → ℕ → List ℕ → List ℕ
+numbersAfter name end number ns = cond (isNumbered name) (withItem end number ns) ns
+
+-- what a line asks: its form, the form's counts and parts, and its figures in their order; or why it is refused
 pub data Asked : Type 0 where
-  noForm : Asked
-  asked : Request → List Float → Asked
+  refused : Refusal → Asked
+  asked : Form → List ℕ → List Float → Asked
+
+-- on with g where a token fitted
+abbrev pub ifFits : Reading → (Reading → Asked) → Asked
+ifFits failed g = refused noForm
+ifFits (reading ts t) g = g (reading ts t)
 
 -- a form ends where the line's tokens do
-abbrev pub ended : Reading → Request → Asked
-ended failed q = noForm
-ended (reading [] t) q = asked q (t .figures)
-ended (reading (x ∷ ts) t) q = noForm
+abbrev pub ended : Form → List ℕ → Reading → Asked
+ended form ns failed = refused noForm
+ended form ns (reading [] t) = asked form ns (t .figures)
+ended form ns (reading (w ∷ ts) t) = refused noForm
 
-abbrev pub orForm : Asked → Asked → Asked
-orForm noForm b = b
-orForm (asked q figures) b = asked q figures
-
-abbrev pub setForm : Reading → Asked
-setForm r = ended (setEnd r) (setRequest r)
-
-abbrev pub areaForm : Reading → Asked
-areaForm r = ended (areaEnd r) (areaRequest r)
-
-abbrev pub plainForm : Form → Reading → Asked
-plainForm form end = ended end (plainRequest form (figuresIn end))
-
-abbrev pub joinForm : Reading → Asked
-joinForm r = plainForm Join (joinEnd r)
-
-abbrev pub momentsForm : Reading → Asked
-momentsForm r = plainForm Moments (momentsEnd r)
-
-abbrev pub checkForm : Reading → Asked
-checkForm r = plainForm Check (checkEnd r)
-
-abbrev pub anyForm : Reading → Asked
-anyForm r = orForm (setForm r) (orForm (areaForm r) (orForm (joinForm r) (orForm (momentsForm r) (checkForm r))))
-
-abbrev pub pick : Bool → Asked → Asked → Asked
-pick true a b = a
-pick false a b = b
+-- a form's tokens, one after another
+unfoldable pub readItems : Form → List (List ℕ) → List ℕ → Reading → Asked
+readItems form [] ns r = ended form ns r
+readItems form (name ∷ names) ns r = ifFits (item name r) (λ x. readItems form names (numbersAfter name (figuresIn x) (numberIn x) ns) x)
 
 -- nothing of the line read yet
 abbrev pub start : List ℕ → Reading
-start line = reading (tokens line) (record { figures = []; count = 0; choice = First })
+start line = reading (tokens line) (record { figures = []; number = 0 })
 
--- "up to 4,096 bytes (a longer line is 18)" (document 01, "The card program")
-unfoldable pub lineForm : List ℕ → Asked
-lineForm line = pick (leb (length line) 4096) (anyForm (start line)) noForm
+abbrev pub readAs : Form → List ℕ → List ℕ → Asked
+readAs form template line = readItems form (tokens template) noNumbers (start line)
 
-abbrev pub requestOf : Asked → Request
-requestOf noForm = plainRequest NoForm 0
-requestOf (asked q figures) = q
+-- ---- the forms, by the word behind the first bracket
 
-abbrev pub figuresOf : Asked → List Float
-figuresOf noForm = []
-figuresOf (asked q figures) = figures
+abbrev pub wordOf : List ℕ → List ℕ
+wordOf line = getD (tokens line) 1 []
+
+abbrev pub pickAsked : Bool → Asked → Asked → Asked
+pickAsked true a b = a
+pickAsked false a b = b
+
+-- the form of this word, or the others
+abbrev pub row : List ℕ → String → Form → String → Asked → Asked
+row line word form template others = pickAsked (sameBytes (wordOf line) (text word)) (readAs form (text template) line) others
+
+unfoldable pub anyForm : List ℕ → Asked
+anyForm line =
+    row line "set" Set "(set (limit N) (count N) PLANFORM (thickness F) (section SECTION) TAB (cant F) (base F) (radius F) DENSITY)"
+    (row line "area" Area "(area (limit N) PLANFORM)"
+    (row line "join" Join "(join POINTS)"
+    (row line "moments" Moments "(moments F F F F F F F F F)"
+    (row line "check" Check "(check (mass F) (centre F F F) (inertia F F F F F F F F F))"
+    (refused noForm)))))
+
+-- "a longer line is 18"
+unfoldable pub lineAsked : List ℕ → Asked
+lineAsked line = pickAsked (leb (length line) lineBytes) (anyForm line) (refused noForm)

@@ -1,15 +1,20 @@
 // The card program's forms (docs/FORMS.md): what a line asks, and its figures.
 //
-// Each form is read from the line's start by its templates; a line that fits none, or goes on behind the last bracket, is no form.
+// The word behind the first bracket says which form a line is, and the form is read by its template; a line that does not fit, or goes on
+// behind the last bracket, is no form.
 ghost use mathlib.Core.Path.{_≡_};
 ghost use Prim.Native.Nat.{_≤_};
 ghost use lib.ListN.{length};
-ghost use Rattle.templates.specs.Cursors.{readingAt, Room, ReadsOn};
-ghost use Rattle.forms.specs.Forms.{planform, section, tab, density, plainRequest, setForm, areaForm, joinForm, momentsForm, checkForm, lineForm};
-ghost use Rattle.forms.specs.Reads.{Reads, isEnd, isWhole, pickRequest, isForm};
-use templates::Choice;
+ghost use Rattle.tokens.specs.Tokens.{lineBytes};
+ghost use Rattle.templates.specs.Cursors.{lineFigures, Room, Takes};
+ghost use Rattle.forms.specs.Forms.{part, isNumbered, withItem, readAs, lineAsked};
+ghost use Rattle.forms.specs.Reads.{refusedRequest, Reads, endOf, IsWordOf};
+use refusals::Refusal;
+use refusals::Verdict;
 use templates::Cursor;
-use tokens::Kind;
+use templates::same_bytes;
+use tokens::Found;
+use tokens::LINE_BYTES;
 
 pub enum Form {
     Set,
@@ -20,252 +25,197 @@ pub enum Form {
     NoForm,
 }
 
-// What a line asks. `lengths` is how many figures its planform has, `figures` how many the line has; a choice is by its place in
-// docs/FORMS.md (a tab: First, left out: Second). What a form does not have is 0 or First.
+// What a line asks, or why it is refused: how many figures the line has; and its counts and parts, the last first, of each how many figures
+// stand up to its end, and its number.
 pub struct Request {
     pub form: Form,
-    pub limit: u64,
-    pub count: u64,
-    pub planform: Choice,
-    pub lengths: usize,
-    pub section: Choice,
-    pub tab: Choice,
-    pub density: Choice,
+    pub verdict: Verdict,
     pub figures: usize,
+    pub numbers: [usize; 12],
 }
 
-fn plain_request(form: Form, figures: usize) -> Request
-    ensures { λ r. ⌜ r ≡ plainRequest form figures ⌝ }
+// The counts and parts of a form so far.
+struct Items {
+    numbers: [usize; 12],
+}
+
+fn refused(refusal: Refusal) -> Request
+    ensures { λ r. ⌜ r ≡ refusedRequest refusal ⌝ }
 {
+    let verdict = Verdict::Refused(refusal);
     Request {
-        form,
-        limit: 0,
-        count: 0,
-        planform: Choice::First,
-        lengths: 0,
-        section: Choice::First,
-        tab: Choice::First,
-        density: Choice::First,
-        figures,
+        form: Form::NoForm,
+        verdict,
+        figures: 0,
+        numbers: [0; 12],
     }
 }
 
-fn is_end(kind: Kind) -> bool
-    ensures { λ r. ⌜ r ≡ isEnd kind ⌝ }
+// A part of a form, by its name; a count.
+fn take_part(line: &[u8], c: Cursor, name: &[u8], values: &mut [f64]) -> Cursor
+    requires { ⌜ Room (now line) (now values) c ⌝ }
+    ensures { λ r. ⌜ Takes (part (now (name .entry))) (now (line .entry)) (now (values .entry)) (now (values .exit)) c r ⌝ }
 {
-    match kind {
-        Kind::Open => false,
-        Kind::Close => false,
-        Kind::Word => false,
-        Kind::End => true,
+    if same_bytes(name, b"PLANFORM") {
+        return templates::take_one_of(
+            line,
+            c,
+            b"(trapezoid F F F F)|(ellipse F F)|(outline F..)",
+            values,
+        );
     }
+    if same_bytes(name, b"SECTION") {
+        return templates::take_one_of(line, c, b"square|rounded|airfoil", values);
+    }
+    if same_bytes(name, b"TAB") {
+        return templates::take_optional(line, c, b"(tab F F F)", values);
+    }
+    if same_bytes(name, b"DENSITY") {
+        return templates::take_one_of(line, c, b"(bulk F)|(surface F)|(line F)", values);
+    }
+    if same_bytes(name, b"POINTS") {
+        return templates::take_each(line, c, b"(point F F F F)", values);
+    }
+    templates::take_one(line, c, name, values)
 }
 
-// Whether the line may be a form and no token is left.
-fn at_end(line: &[u8], c: Cursor) -> bool
-    ensures { λ r. ⌜ r ≡ isWhole (now (line .entry)) c ⌝ }
+// Whether a word of a template is a count or a part: it is in capitals, and not `F`.
+fn is_numbered(name: &[u8]) -> bool
+    ensures { λ r. ⌜ r ≡ isNumbered (now (name .entry)) ⌝ }
 {
-    let at = c.at;
-    if !c.ok {
+    if name.len() == 0 {
         return false;
     }
+    if name[0] < 65 {
+        return false;
+    }
+    if 90 < name[0] {
+        return false;
+    }
+    !same_bytes(name, b"F")
+}
+
+// The counts and parts with one more in front.
+fn with_item(end: usize, number: usize, items: Items) -> Items
+    ensures { λ r. ⌜ r .numbers ≡ withItem end number (items .numbers) ⌝ }
+{
+    let a = items.numbers;
+    Items {
+        numbers: [
+            end,
+            number,
+            a[0],
+            a[1],
+            a[2],
+            a[3],
+            a[4],
+            a[5],
+            a[6],
+            a[7],
+            a[8],
+            a[9],
+        ],
+    }
+}
+
+// The request, where no token of the line is left.
+fn end_form(line: &[u8], form: Form, c: Cursor, items: Items) -> Request
+    ensures { λ r. ⌜ r ≡ endOf (now (line .entry)) form c (items .numbers) ⌝ }
+{
+    let numbers = items.numbers;
+    let at = c.at;
     let found = tokens::next_token(line, at);
-    let kind = found.kind;
-    is_end(kind)
-}
-
-fn take_planform(line: &[u8], c: Cursor, values: &mut [f64]) -> Cursor
-    requires { ⌜ Room (now line) (now values) c ⌝ }
-    ensures { λ r. ⌜ ReadsOn (now (line .entry)) (now (values .entry)) (now (values .exit)) c r (planform (readingAt (now (line .entry)) (now (values .entry)) c)) ⌝ }
-{
-    let plain = templates::take_either(line, c, b"(trapezoid F F F F)", b"(ellipse F F)", values);
-    if plain.ok {
-        return plain;
+    if found.from < found.to {
+        return refused(Refusal::NoForm);
     }
-    let outline = templates::take_text(line, c, b"(outline", values);
-    let points = templates::take_each(line, outline, b"F", values);
-    let end = templates::take_text(line, points, b")", values);
-    templates::choose(end, Choice::Third)
-}
-
-fn take_section(line: &[u8], c: Cursor, values: &mut [f64]) -> Cursor
-    requires { ⌜ Room (now line) (now values) c ⌝ }
-    ensures { λ r. ⌜ ReadsOn (now (line .entry)) (now (values .entry)) (now (values .exit)) c r (section (readingAt (now (line .entry)) (now (values .entry)) c)) ⌝ }
-{
-    templates::take_one_of(line, c, b"square", b"rounded", b"airfoil", values)
-}
-
-fn take_tab(line: &[u8], c: Cursor, values: &mut [f64]) -> Cursor
-    requires { ⌜ Room (now line) (now values) c ⌝ }
-    ensures { λ r. ⌜ ReadsOn (now (line .entry)) (now (values .entry)) (now (values .exit)) c r (tab (readingAt (now (line .entry)) (now (values .entry)) c)) ⌝ }
-{
-    let a = templates::take_text(line, c, b"(tab F F F)", values);
-    if a.ok {
-        return templates::choose(a, Choice::First);
-    }
-    templates::choose(c, Choice::Second)
-}
-
-fn take_density(line: &[u8], c: Cursor, values: &mut [f64]) -> Cursor
-    requires { ⌜ Room (now line) (now values) c ⌝ }
-    ensures { λ r. ⌜ ReadsOn (now (line .entry)) (now (values .entry)) (now (values .exit)) c r (density (readingAt (now (line .entry)) (now (values .entry)) c)) ⌝ }
-{
-    templates::take_one_of(line, c, b"(bulk F)", b"(surface F)", b"(line F)", values)
-}
-
-// The request, where the line is read to its end; or no form.
-fn whole_form(line: &[u8], end: Cursor, request: Request) -> Request
-    ensures { λ r. ⌜ r ≡ pickRequest (isWhole (now (line .entry)) end) request (plainRequest Form.NoForm 0) ⌝ }
-{
-    if at_end(line, end) {
-        request
-    } else {
-        plain_request(Form::NoForm, 0)
+    let verdict = Verdict::Accepted;
+    Request {
+        form,
+        verdict,
+        figures: c.figures,
+        numbers,
     }
 }
 
-// The same, of a form with figures alone.
-fn plain_form(line: &[u8], end: Cursor, form: Form) -> Request
-    ensures { λ r. ⌜ r ≡ pickRequest (isWhole (now (line .entry)) end) (plainRequest form (end .figures)) (plainRequest Form.NoForm 0) ⌝ }
+// A line read by the template of a form.
+fn read_form(line: &[u8], form: Form, template: &[u8], values: &mut [f64]) -> Request
+    requires { ⌜ (length (now line) ≤ lineBytes) × (lineFigures ≤ length (now values)) ⌝ }
+    ensures { λ r. ⌜ Reads (now (values .exit)) r (readAs form (now (template .entry)) (now (line .entry))) ⌝ }
 {
-    whole_form(line, end, plain_request(form, end.figures))
-}
-
-// (set (limit N) (count N) PLANFORM (thickness F) (section SECTION) TAB (cant F) (base F) (radius F) DENSITY)
-fn read_set(line: &[u8], c: Cursor, values: &mut [f64]) -> Request
-    requires { ⌜ Room (now line) (now values) c ⌝ }
-    ensures { λ r. ⌜ Reads (now (values .exit)) r (setForm (readingAt (now (line .entry)) (now (values .entry)) c)) ⌝ }
-{
-    let limit = templates::take_text(line, c, b"(set (limit N)", values);
-    let count = templates::take_text(line, limit, b"(count N)", values);
-    let planform = take_planform(line, count, values);
-    let thickness = templates::take_text(line, planform, b"(thickness F) (section", values);
-    let section = take_section(line, thickness, values);
-    let closed = templates::take_text(line, section, b")", values);
-    let tab = take_tab(line, closed, values);
-    let angles = templates::take_text(line, tab, b"(cant F) (base F) (radius F)", values);
-    let density = take_density(line, angles, values);
-    let end = templates::take_text(line, density, b")", values);
-    let planform_choice = planform.choice;
-    let section_choice = section.choice;
-    let tab_choice = tab.choice;
-    let density_choice = density.choice;
-    let request = Request {
-        form: Form::Set,
-        limit: limit.count,
-        count: count.count,
-        planform: planform_choice,
-        lengths: planform.figures,
-        section: section_choice,
-        tab: tab_choice,
-        density: density_choice,
-        figures: end.figures,
-    };
-    whole_form(line, end, request)
-}
-
-// (area (limit N) PLANFORM)
-fn read_area(line: &[u8], c: Cursor, values: &mut [f64]) -> Request
-    requires { ⌜ Room (now line) (now values) c ⌝ }
-    ensures { λ r. ⌜ Reads (now (values .exit)) r (areaForm (readingAt (now (line .entry)) (now (values .entry)) c)) ⌝ }
-{
-    let limit = templates::take_text(line, c, b"(area (limit N)", values);
-    let planform = take_planform(line, limit, values);
-    let end = templates::take_text(line, planform, b")", values);
-    let choice = planform.choice;
-    let request = Request {
-        form: Form::Area,
-        limit: limit.count,
-        count: 0,
-        planform: choice,
-        lengths: planform.figures,
-        section: Choice::First,
-        tab: Choice::First,
-        density: Choice::First,
-        figures: end.figures,
-    };
-    whole_form(line, end, request)
-}
-
-// (join (point F F F F) ..)
-fn read_join(line: &[u8], c: Cursor, values: &mut [f64]) -> Request
-    requires { ⌜ Room (now line) (now values) c ⌝ }
-    ensures { λ r. ⌜ Reads (now (values .exit)) r (joinForm (readingAt (now (line .entry)) (now (values .entry)) c)) ⌝ }
-{
-    let head = templates::take_text(line, c, b"(join", values);
-    let points = templates::take_each(line, head, b"(point F F F F)", values);
-    let end = templates::take_text(line, points, b")", values);
-    plain_form(line, end, Form::Join)
-}
-
-// (moments F F F F F F F F F)
-fn read_moments(line: &[u8], c: Cursor, values: &mut [f64]) -> Request
-    requires { ⌜ Room (now line) (now values) c ⌝ }
-    ensures { λ r. ⌜ Reads (now (values .exit)) r (momentsForm (readingAt (now (line .entry)) (now (values .entry)) c)) ⌝ }
-{
-    let end = templates::take_text(line, c, b"(moments F F F F F F F F F)", values);
-    plain_form(line, end, Form::Moments)
-}
-
-// (check (mass F) (centre F F F) (inertia F F F F F F F F F))
-fn read_check(line: &[u8], c: Cursor, values: &mut [f64]) -> Request
-    requires { ⌜ Room (now line) (now values) c ⌝ }
-    ensures { λ r. ⌜ Reads (now (values .exit)) r (checkForm (readingAt (now (line .entry)) (now (values .entry)) c)) ⌝ }
-{
-    let end = templates::take_text(
-        line,
-        c,
-        b"(check (mass F) (centre F F F) (inertia F F F F F F F F F))",
-        values,
-    );
-    plain_form(line, end, Form::Check)
-}
-
-// Whether a line is a form.
-pub fn is_form(q: Request) -> bool
-    ensures { λ r. ⌜ r ≡ isForm (q .form) ⌝ }
-{
-    let form = q.form;
-    match form {
-        Form::Set => true,
-        Form::Area => true,
-        Form::Join => true,
-        Form::Moments => true,
-        Form::Check => true,
-        Form::NoForm => false,
+    let mut s = templates::line_start();
+    let mut items = Items { numbers: [0; 12] };
+    let mut i: usize = 0;
+    while i < template.len() {
+        let wanted = tokens::next_token(template, i);
+        let from = wanted.from;
+        let to = wanted.to;
+        if to <= from {
+            return end_form(line, form, s, items);
+        }
+        i = to;
+        if is_numbered(&template[from..to]) {
+            s = take_part(line, s, &template[from..to], values);
+            if !s.ok {
+                return refused(Refusal::NoForm);
+            }
+            items = with_item(s.figures, s.number, items);
+            continue;
+        }
+        s = templates::take_one(line, s, &template[from..to], values);
+        if !s.ok {
+            return refused(Refusal::NoForm);
+        }
     }
+    end_form(line, form, s, items)
+}
+
+// The word behind the line's first bracket.
+fn word_of(line: &[u8]) -> Found
+    ensures { λ r. ⌜ IsWordOf (now (line .entry)) r ⌝ }
+{
+    let bracket = tokens::next_token(line, 0);
+    if bracket.to <= bracket.from {
+        return bracket;
+    }
+    tokens::next_token(line, bracket.to)
 }
 
 // What a line asks; its figures go to the start of values.
 pub fn read_line(line: &[u8], values: &mut [f64]) -> Request
-    requires { ⌜ 256 ≤ length (now values) ⌝ }
-    ensures { λ r. ⌜ Reads (now (values .exit)) r (lineForm (now (line .entry))) ⌝ }
+    requires { ⌜ lineFigures ≤ length (now values) ⌝ }
+    ensures { λ r. ⌜ Reads (now (values .exit)) r (lineAsked (now (line .entry))) ⌝ }
 {
-    if 4096 < line.len() {
-        return plain_request(Form::NoForm, 0);
+    if LINE_BYTES < line.len() {
+        return refused(Refusal::NoForm);
     }
-    let start = Cursor {
-        ok: true,
-        at: 0,
-        figures: 0,
-        count: 0,
-        choice: Choice::First,
-    };
-    let set = read_set(line, start, values);
-    if is_form(set) {
-        return set;
+    let found = word_of(line);
+    let from = found.from;
+    let to = found.to;
+    let word = &line[from..to];
+    if same_bytes(word, b"set") {
+        return read_form(
+            line,
+            Form::Set,
+            b"(set (limit N) (count N) PLANFORM (thickness F) (section SECTION) TAB (cant F) (base F) (radius F) DENSITY)",
+            values,
+        );
     }
-    let area = read_area(line, start, values);
-    if is_form(area) {
-        return area;
+    if same_bytes(word, b"area") {
+        return read_form(line, Form::Area, b"(area (limit N) PLANFORM)", values);
     }
-    let join = read_join(line, start, values);
-    if is_form(join) {
-        return join;
+    if same_bytes(word, b"join") {
+        return read_form(line, Form::Join, b"(join POINTS)", values);
     }
-    let moments = read_moments(line, start, values);
-    if is_form(moments) {
-        return moments;
+    if same_bytes(word, b"moments") {
+        return read_form(line, Form::Moments, b"(moments F F F F F F F F F)", values);
     }
-    read_check(line, start, values)
+    if same_bytes(word, b"check") {
+        return read_form(
+            line,
+            Form::Check,
+            b"(check (mass F) (centre F F F) (inertia F F F F F F F F F))",
+            values,
+        );
+    }
+    refused(Refusal::NoForm)
 }

@@ -71,7 +71,8 @@ fn join(bodies: &[f64], count: usize) -> Body
     joined
 }
 
-fn body_of(numbers: &[f64]) -> Body
+// The body of thirteen numbers.
+pub fn body_of(numbers: &[f64]) -> Body
     requires { ⌜ length (now numbers) ≡ 13 ⌝ }
     ensures { λ r. ⌜ r ≡ bodyAt (now (numbers .entry)) 0 ⌝ }
 {
@@ -118,7 +119,8 @@ pub fn write_body(bodies: &mut [f64], k: usize, body: Body)
     }
 }
 
-fn numbers(body: Body) -> [f64; 13]
+// The thirteen numbers of a body.
+pub fn numbers(body: Body) -> [f64; 13]
     ensures { λ r. ⌜ r ≡ numbersOf body ⌝ }
 {
     let centre = body.centre_m;

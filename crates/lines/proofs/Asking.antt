@@ -1,67 +1,46 @@
 -- A line that was read: its request counts its figures, and the answer to the request is the line's. Assumes nothing.
-use mathlib.Core.Bool.{Bool, true, false}
-use mathlib.Core.List.{List, [], _∷_}
+use mathlib.Core.List.{List}
 use mathlib.Core.Path.{_≡_, refl, sym, ap, ap₂, _∙_}
 use Prim.Native.Nat.{ℕ}
-use lib.Dec.{leb}
 use lib.ListN.{length, take}
 use lib.Ieee.{Float}
-use Rattle.templates.specs.Matching.{Reading, failed, reading}
+use Rattle.forms.specs.declared.Form.{Form}
+use Rattle.forms.specs.declared.Form.the-variants.{Set as SetForm, Area as AreaForm, Join as JoinForm, Moments as MomentsForm, Check as CheckForm, NoForm}
 use Rattle.forms.specs.declared.Request.{Request}
-use Rattle.forms.specs.Forms.{Asked, noForm, asked, figuresIn, setEnd, areaEnd, joinEnd, momentsEnd, checkEnd, setRequest, areaRequest, ended, orForm, setForm, areaForm, joinForm, momentsForm, anyForm, pick, start, lineForm, requestOf, figuresOf}
-use Rattle.forms.specs.Reads.{Reads}
-use Rattle.lines.specs.Lines.{answerTo, askedAnswer, answerOf, scratchAfterForm, scratchAfterAsked, scratchAfterLine}
+use Rattle.forms.specs.Forms.{Asked, refused, asked, lineAsked}
+use Rattle.forms.specs.Reads.{Reads, requestOf, figuresOf}
+use Rattle.refusals.specs.declared.Verdict.the-variants.{Accepted}
+use Rattle.lines.specs.Lines.{answerTo, askedAnswer, answerOf, scratchAfterForm, scratchAfterAsked, scratchAfterLine, requestAnswer}
 
--- ---- a request counts its figures
+counted : (a : Asked) → requestOf a .figures ≡ length (figuresOf a)
+counted (refused refusal) = refl
+counted (asked form ns figures) = refl
 
-abbrev Counted : Asked → Type 0
-Counted a = requestOf a .figures ≡ length (figuresOf a)
+accepted : (form : Form) (ns : List ℕ) (figures : List Float) (n : ℕ) → requestAnswer form Accepted ns figures n ≡ answerTo form ns figures n
+accepted SetForm ns figures n = refl
+accepted AreaForm ns figures n = refl
+accepted JoinForm ns figures n = refl
+accepted MomentsForm ns figures n = refl
+accepted CheckForm ns figures n = refl
+accepted NoForm ns figures n = refl
 
-ended-counted : (r : Reading) (q : Request) → q .figures ≡ figuresIn r → Counted (ended r q)
-ended-counted failed q e = refl
-ended-counted (reading [] t) q e = e
-ended-counted (reading (x ∷ ts) t) q e = refl
-
-or-counted : (a b : Asked) → Counted a → Counted b → Counted (orForm a b)
-or-counted noForm b p q = q
-or-counted (asked x figures) b p q = p
-
-any-counted : (r : Reading) → Counted (anyForm r)
-unfolding setRequest areaRequest
-any-counted r =
-    or-counted (setForm r) _ (ended-counted (setEnd r) (setRequest r) refl)
-    (or-counted (areaForm r) _ (ended-counted (areaEnd r) (areaRequest r) refl)
-    (or-counted (joinForm r) _ (ended-counted (joinEnd r) _ refl)
-    (or-counted (momentsForm r) _ (ended-counted (momentsEnd r) _ refl)
-    (ended-counted (checkEnd r) _ refl))))
-
-line-counted : (line : List ℕ) → Counted (lineForm line)
-unfolding lineForm
-line-counted line = by (leb (length line) 4096)
-  where
-    by : (t : Bool) → Counted (pick t (anyForm (start line)) noForm)
-    by true = any-counted (start line)
-    by false = refl
-
-module _ (line : List ℕ) (values : List Float) (q : Request) (r : Reads values q (lineForm line)) where
-  -- so all of them were there to take
+module _ (line : List ℕ) (values : List Float) (q : Request) (r : Reads values q (lineAsked line)) where
+  -- all of its figures were there to take
   pub all-there : length (take (q .figures) values) ≡ q .figures
-  all-there = ap length (r .figures) ∙ sym (line-counted line) ∙ sym (ap (λ (x : Request). x .figures) (r .request))
+  all-there = ap length (r .figures) ∙ sym (counted (lineAsked line)) ∙ sym (ap (λ (x : Request). x .figures) (r .request))
 
-  -- ---- the request's answer is the line's
-
-  pub answer-is : (n : ℕ) → answerTo (q .form) q (take (q .figures) values) n ≡ answerOf line n
+  pub answer-is : (n : ℕ) → requestAnswer (q .form) (q .verdict) (q .numbers) (take (q .figures) values) n ≡ answerOf line n
   unfolding answerOf
-  answer-is n = ap₂ (λ (x : Request) (l : List Float). answerTo (x .form) x l n) (r .request) (r .figures) ∙ by (lineForm line)
+  answer-is n = ap₂ (λ (x : Request) (l : List Float). requestAnswer (x .form) (x .verdict) (x .numbers) l n) (r .request) (r .figures) ∙ by (lineAsked line)
     where
-      by : (a : Asked) → answerTo (requestOf a .form) (requestOf a) (figuresOf a) n ≡ askedAnswer a n
-      by noForm = refl
-      by (asked x figures) = refl
+      by : (a : Asked) → requestAnswer (requestOf a .form) (requestOf a .verdict) (requestOf a .numbers) (figuresOf a) n ≡ askedAnswer a n
+      by (refused refusal) = refl
+      by (asked form ns figures) = accepted form ns figures n
 
-  pub scratch-is : (scratch : List Float) → scratchAfterForm (q .form) q (take (q .figures) values) scratch ≡ scratchAfterLine line scratch
+  pub scratch-is : (scratch : List Float) → scratchAfterForm (q .form) (q .numbers) (take (q .figures) values) scratch ≡ scratchAfterLine line scratch
   unfolding scratchAfterLine
-  scratch-is scratch = ap₂ (λ (x : Request) (l : List Float). scratchAfterForm (x .form) x l scratch) (r .request) (r .figures) ∙ by (lineForm line)
+  scratch-is scratch = ap₂ (λ (x : Request) (l : List Float). scratchAfterForm (x .form) (x .numbers) l scratch) (r .request) (r .figures) ∙ by (lineAsked line)
     where
-      by : (a : Asked) → scratchAfterForm (requestOf a .form) (requestOf a) (figuresOf a) scratch ≡ scratchAfterAsked a scratch
-      by noForm = refl
-      by (asked x figures) = refl
+      by : (a : Asked) → scratchAfterForm (requestOf a .form) (requestOf a .numbers) (figuresOf a) scratch ≡ scratchAfterAsked a scratch
+      by (refused refusal) = refl
+      by (asked form ns figures) = refl

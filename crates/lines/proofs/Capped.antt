@@ -19,15 +19,19 @@ use Rattle.planforms.specs.declared.Planform.{Planform}
 use Rattle.fins.specs.declared.FinSet.{FinSet}
 use Rattle.floats.proofs.Bools.{and-false}
 use Rattle.fins.specs.Fins.{setCheck, areaCheck}
-use Rattle.forms.specs.declared.Form.{Form}
-use Rattle.forms.specs.declared.Form.the-variants.{Set as SetForm, Area as AreaForm, Join as JoinForm, Moments as MomentsForm, Check as CheckForm, NoForm}
-use Rattle.forms.specs.declared.Request.{Request}
-use Rattle.requests.specs.Requests.{planformOf, pointsOf, setOf}
+use Rattle.planforms.specs.declared.NumberedPlanform.{NumberedPlanform}
+use Rattle.planforms.specs.declared.NumberedPlanform.the-variants.{Known as planformKnown, Unknown as noPlanform}
+use Rattle.fins.specs.declared.NumberedSet.{NumberedSet}
+use Rattle.fins.specs.declared.NumberedSet.the-variants.{Known as setKnown, Unknown as noSet}
+use Rattle.requests.specs.declared.AreaRequest.{AreaRequest}
+use Rattle.requests.specs.declared.SetRequest.{SetRequest}
+use Rattle.requests.specs.Calls.{numberedFigures, numberedScratch, numberedArea, numberedAreaScratch}
+use Rattle.requests.specs.Requests.{between, askedFigures, askedScratch, askedArea, askedAreaScratch}
 use Rattle.figures.specs.declared.Figures.{Figures}
 use Rattle.figures.specs.declared.Area.{Area}
 use Rattle.figures.specs.Figures.{afterCheck, setFigures, scratchChecked, setScratch}
 use Rattle.figures.specs.Areas.{areaFigures, areaScratch}
-use Rattle.lines.specs.Lines.{printedSet, printedArea, setAnswer, areaAnswer, answerTo, scratchAfterForm}
+use Rattle.lines.specs.Lines.{printedSet, printedArea, setAnswer, areaAnswer}
 
 -- ---- the two checks
 
@@ -135,54 +139,51 @@ module _ (set : FinSet) (points : List Float) (L : ℕ) where
       ∙ same-scratch (withCount set i) (withCount set j) points L scratch (limitCheck L) (scratchCheck L (length scratch))
       ∙ sym (ap (λ (v : Verdict). scratchChecked v (withCount set j) points L scratch) (set-count set points L (length scratch) j g)))
 
--- ---- a line's numbers, of any size, and capped
+-- ---- what a line asks, with numbers of any size, and capped
 
-abbrev pub cappedRequest : Request → Request
-cappedRequest q =
-    record {
-      form = q .form;
-      limit = capped (q .limit);
-      count = capped (q .count);
-      planform = q .planform;
-      lengths = q .lengths;
-      section = q .section;
-      tab = q .tab;
-      density = q .density;
-      figures = q .figures;
-    }
+abbrev pub cappedSet : NumberedSet → NumberedSet
+cappedSet (setKnown set) = setKnown (withCount set (capped (set .count)))
+cappedSet noSet = noSet
 
-module _ (q : Request) (figures : List Float) where
-  set-capped : (m : ℕ) → setAnswer (cappedRequest q) figures m ≡ setAnswer q figures m
-  unfolding setAnswer setOf pointsOf
-  set-capped m =
-      ap (λ (f : Figures). printedSet (f .verdict) f)
-      (figures-limit (setOf (cappedRequest q) figures) (pointsOf q figures) m (q .limit) ∙ figures-count (setOf q figures) (pointsOf q figures) (q .limit) m (q .count))
+abbrev pub cappedSetRequest : SetRequest → SetRequest
+cappedSetRequest q = record { limit = capped (q .limit); set = cappedSet (q .set); points = q .points }
 
-  set-scratch-capped : (scratch : List Float) → scratchAfterForm SetForm (cappedRequest q) figures scratch ≡ scratchAfterForm SetForm q figures scratch
-  unfolding setOf pointsOf
-  set-scratch-capped scratch =
-      scratch-limit (setOf (cappedRequest q) figures) (pointsOf q figures) scratch (q .limit) ∙ scratch-count (setOf q figures) (pointsOf q figures) (q .limit) scratch (q .count)
+abbrev pub cappedAreaRequest : AreaRequest → AreaRequest
+cappedAreaRequest q = record { limit = capped (q .limit); planform = q .planform; points = q .points }
 
-  area-capped : (m : ℕ) → areaAnswer (cappedRequest q) figures m ≡ areaAnswer q figures m
-  unfolding areaAnswer pointsOf
-  area-capped m = ap (λ (a : Area). printedArea (a .verdict) a) (area-figures-limit (planformOf (q .planform) figures) (pointsOf q figures) m (q .limit))
+set-figures-capped : (set : NumberedSet) (points : List Float) (L m : ℕ) → numberedFigures (cappedSet set) points (capped L) m ≡ numberedFigures set points L m
+unfolding numberedFigures
+set-figures-capped (setKnown set) points L m = figures-limit (withCount set (capped (set .count))) points m L ∙ figures-count set points L m (set .count)
+set-figures-capped noSet points L m = refl
 
-  area-scratch-capped : (scratch : List Float) → scratchAfterForm AreaForm (cappedRequest q) figures scratch ≡ scratchAfterForm AreaForm q figures scratch
-  unfolding pointsOf
-  area-scratch-capped scratch = area-scratch-limit (planformOf (q .planform) figures) (pointsOf q figures) scratch (q .limit)
+set-scratch-capped : (set : NumberedSet) (points : List Float) (L : ℕ) (scratch : List Float) → numberedScratch (cappedSet set) points (capped L) scratch ≡ numberedScratch set points L scratch
+unfolding numberedScratch
+set-scratch-capped (setKnown set) points L scratch = scratch-limit (withCount set (capped (set .count))) points scratch L ∙ scratch-count set points L scratch (set .count)
+set-scratch-capped noSet points L scratch = refl
 
-  pub answer-capped : (form : Form) (m : ℕ) → answerTo form (cappedRequest q) figures m ≡ answerTo form q figures m
-  answer-capped SetForm m = set-capped m
-  answer-capped AreaForm m = area-capped m
-  answer-capped JoinForm m = refl
-  answer-capped MomentsForm m = refl
-  answer-capped CheckForm m = refl
-  answer-capped NoForm m = refl
+area-capped : (planform : NumberedPlanform) (points : List Float) (L m : ℕ) → numberedArea planform points (capped L) m ≡ numberedArea planform points L m
+unfolding numberedArea
+area-capped (planformKnown planform) points L m = area-figures-limit planform points m L
+area-capped noPlanform points L m = refl
 
-  pub scratch-capped : (form : Form) (scratch : List Float) → scratchAfterForm form (cappedRequest q) figures scratch ≡ scratchAfterForm form q figures scratch
-  scratch-capped SetForm scratch = set-scratch-capped scratch
-  scratch-capped AreaForm scratch = area-scratch-capped scratch
-  scratch-capped JoinForm scratch = refl
-  scratch-capped MomentsForm scratch = refl
-  scratch-capped CheckForm scratch = refl
-  scratch-capped NoForm scratch = refl
+area-left-capped : (planform : NumberedPlanform) (points : List Float) (L : ℕ) (scratch : List Float) → numberedAreaScratch planform points (capped L) scratch ≡ numberedAreaScratch planform points L scratch
+unfolding numberedAreaScratch
+area-left-capped (planformKnown planform) points L scratch = area-scratch-limit planform points scratch L
+area-left-capped noPlanform points L scratch = refl
+
+module _ (figures : List Float) where
+  pub answer-capped : (q : SetRequest) (m : ℕ) → setAnswer (cappedSetRequest q) figures m ≡ setAnswer q figures m
+  unfolding setAnswer askedFigures
+  answer-capped q m = ap (λ (f : Figures). printedSet (f .verdict) f) (set-figures-capped (q .set) (between 0 (q .points) figures) (q .limit) m)
+
+  pub scratch-capped : (q : SetRequest) (scratch : List Float) → askedScratch (cappedSetRequest q) figures scratch ≡ askedScratch q figures scratch
+  unfolding askedScratch
+  scratch-capped q scratch = set-scratch-capped (q .set) (between 0 (q .points) figures) (q .limit) scratch
+
+  pub area-answer-capped : (q : AreaRequest) (m : ℕ) → areaAnswer (cappedAreaRequest q) figures m ≡ areaAnswer q figures m
+  unfolding areaAnswer askedArea
+  area-answer-capped q m = ap (λ (a : Area). printedArea (a .verdict) a) (area-capped (q .planform) (between 0 (q .points) figures) (q .limit) m)
+
+  pub area-scratch-capped : (q : AreaRequest) (scratch : List Float) → askedAreaScratch (cappedAreaRequest q) figures scratch ≡ askedAreaScratch q figures scratch
+  unfolding askedAreaScratch
+  area-scratch-capped q scratch = area-left-capped (q .planform) (between 0 (q .points) figures) (q .limit) scratch

@@ -4,25 +4,25 @@ use mathlib.Core.Path.{_≡_}
 use Prim.Native.Nat.{ℕ, _+_, _<_, _≤_}
 use lib.ListN.{length}
 use lib.Ieee.{Float}
+use Rattle.refusals.specs.declared.Refusal.{Refusal}
+use Rattle.refusals.specs.declared.Refusal.the-variants.{NoForm as noForm}
 use Rattle.refusals.specs.declared.Verdict.{Verdict}
 use Rattle.refusals.specs.declared.Verdict.the-variants.{Accepted, Refused}
 use Rattle.refusals.specs.Refusals.{numberOf}
 use Rattle.joins.specs.declared.Joined.{Joined}
 use Rattle.joins.specs.Flat.{numbersOf}
 use Rattle.moments.specs.declared.Moments.{Moments}
-use Rattle.moments.specs.Moments.{principalMomentsOf}
-use Rattle.body_check.specs.BodyCheck.{checkOf}
 use Rattle.texts.specs.Appended.{Appended}
 use Rattle.answers.specs.Answers.{figuresText, areaText, joinedText, momentsText, soundText, refusedText}
 use Rattle.forms.specs.declared.Form.{Form}
 use Rattle.forms.specs.declared.Form.the-variants.{Set as SetForm, Area as AreaForm, Join as JoinForm, Moments as MomentsForm, Check as CheckForm, NoForm}
-use Rattle.forms.specs.declared.Request.{Request}
-use Rattle.forms.specs.Forms.{Asked, noForm, asked, lineForm}
-use Rattle.requests.specs.Requests.{planformOf, pointsOf, setOf, joinedPointsOf, tensorOf, bodyOf}
+use Rattle.forms.specs.Forms.{Asked, refused, asked, lineAsked}
+use Rattle.requests.specs.declared.AreaRequest.{AreaRequest}
+use Rattle.requests.specs.declared.SetRequest.{SetRequest}
+use Rattle.requests.specs.Calls.{joinedPointsOf, tensorMoments, bodyVerdict}
+use Rattle.requests.specs.Requests.{setRequestOf, areaRequestOf, askedFigures, askedScratch, askedArea, askedAreaScratch}
 use Rattle.figures.specs.declared.Figures.{Figures}
 use Rattle.figures.specs.declared.Area.{Area}
-use Rattle.figures.specs.Figures.{setFigures, setScratch}
-use Rattle.figures.specs.Areas.{areaFigures, areaScratch}
 
 -- ---- what is printed: the figures, or "A refused line prints `(refused N)`"
 
@@ -49,60 +49,73 @@ abbrev pub printedCheck : Verdict → List ℕ
 printedCheck Accepted = soundText
 printedCheck (Refused refusal) = refusedText (numberOf refusal)
 
--- ---- the call for each form, over a scratch of the length that is lent
+-- "18: line is no form"
+abbrev pub printedRefusal : Refusal → List ℕ
+printedRefusal refusal = refusedText (numberOf refusal)
 
--- `limit` and `count` are capped at a million when a line is read; no answer shows it (proofs/Capped.antt, `answer-capped`)
-unfoldable pub setAnswer : Request → List Float → ℕ → List ℕ
-setAnswer q figures scratchLength =
-    let f = setFigures (setOf q figures) (pointsOf q figures) (q .limit) scratchLength in
-    printedSet (f .verdict) f
+-- ---- the call for each form, over a scratch of the length that is lent: of a form's counts and parts, and of its figures
 
-unfoldable pub areaAnswer : Request → List Float → ℕ → List ℕ
-areaAnswer q figures scratchLength =
-    let a = areaFigures (planformOf (q .planform) figures) (pointsOf q figures) (q .limit) scratchLength in
-    printedArea (a .verdict) a
+-- a limit and a count are capped at a million when a line is read; no answer shows it (proofs/Capped.antt, `answer-capped`)
+unfoldable pub setAnswer : SetRequest → List Float → ℕ → List ℕ
+setAnswer q figures scratchLength = let f = askedFigures q figures scratchLength in printedSet (f .verdict) f
+
+unfoldable pub areaAnswer : AreaRequest → List Float → ℕ → List ℕ
+areaAnswer q figures scratchLength = let a = askedArea q figures scratchLength in printedArea (a .verdict) a
 
 unfoldable pub joinAnswer : List Float → List ℕ
 joinAnswer figures = let j = joinedPointsOf figures in printedJoin (j .verdict) j
 
 unfoldable pub momentsAnswer : List Float → List ℕ
-momentsAnswer figures = let m = principalMomentsOf (tensorOf figures) in printedMoments (m .verdict) m
+momentsAnswer figures = let m = tensorMoments figures in printedMoments (m .verdict) m
 
 unfoldable pub checkAnswer : List Float → List ℕ
-checkAnswer figures = printedCheck (checkOf (bodyOf figures))
+checkAnswer figures = printedCheck (bodyVerdict figures)
 
-abbrev pub answerTo : Form → Request → List Float → ℕ → List ℕ
-answerTo SetForm q figures scratchLength = setAnswer q figures scratchLength
-answerTo AreaForm q figures scratchLength = areaAnswer q figures scratchLength
-answerTo JoinForm q figures scratchLength = joinAnswer figures
-answerTo MomentsForm q figures scratchLength = momentsAnswer figures
-answerTo CheckForm q figures scratchLength = checkAnswer figures
-answerTo NoForm q figures scratchLength = refusedText 18
+abbrev pub answerTo : Form → List ℕ → List Float → ℕ → List ℕ
+answerTo SetForm ns figures scratchLength = setAnswer (setRequestOf ns figures) figures scratchLength
+answerTo AreaForm ns figures scratchLength = areaAnswer (areaRequestOf ns figures) figures scratchLength
+answerTo JoinForm ns figures scratchLength = joinAnswer figures
+answerTo MomentsForm ns figures scratchLength = momentsAnswer figures
+answerTo CheckForm ns figures scratchLength = checkAnswer figures
+answerTo NoForm ns figures scratchLength = printedRefusal noForm
 
--- "18: line is no form"
 abbrev pub askedAnswer : Asked → ℕ → List ℕ
-askedAnswer noForm scratchLength = refusedText 18
-askedAnswer (asked q figures) scratchLength = answerTo (q .form) q figures scratchLength
+askedAnswer (refused refusal) scratchLength = printedRefusal refusal
+askedAnswer (asked form ns figures) scratchLength = answerTo form ns figures scratchLength
 
 unfoldable pub answerOf : List ℕ → ℕ → List ℕ
-answerOf line scratchLength = askedAnswer (lineForm line) scratchLength
+answerOf line scratchLength = askedAnswer (lineAsked line) scratchLength
 
 -- ---- the scratch, which only the strips of a set or an area write to ("Refusal numbers")
 
-abbrev pub scratchAfterForm : Form → Request → List Float → List Float → List Float
-scratchAfterForm SetForm q figures scratch = setScratch (setOf q figures) (pointsOf q figures) (q .limit) scratch
-scratchAfterForm AreaForm q figures scratch = areaScratch (planformOf (q .planform) figures) (pointsOf q figures) (q .limit) scratch
-scratchAfterForm JoinForm q figures scratch = scratch
-scratchAfterForm MomentsForm q figures scratch = scratch
-scratchAfterForm CheckForm q figures scratch = scratch
-scratchAfterForm NoForm q figures scratch = scratch
+abbrev pub scratchAfterForm : Form → List ℕ → List Float → List Float → List Float
+scratchAfterForm SetForm ns figures scratch = askedScratch (setRequestOf ns figures) figures scratch
+scratchAfterForm AreaForm ns figures scratch = askedAreaScratch (areaRequestOf ns figures) figures scratch
+scratchAfterForm JoinForm ns figures scratch = scratch
+scratchAfterForm MomentsForm ns figures scratch = scratch
+scratchAfterForm CheckForm ns figures scratch = scratch
+scratchAfterForm NoForm ns figures scratch = scratch
 
 abbrev pub scratchAfterAsked : Asked → List Float → List Float
-scratchAfterAsked noForm scratch = scratch
-scratchAfterAsked (asked q figures) scratch = scratchAfterForm (q .form) q figures scratch
+scratchAfterAsked (refused refusal) scratch = scratch
+scratchAfterAsked (asked form ns figures) scratch = scratchAfterForm form ns figures scratch
 
 unfoldable pub scratchAfterLine : List ℕ → List Float → List Float
-scratchAfterLine line scratch = scratchAfterAsked (lineForm line) scratch
+scratchAfterLine line scratch = scratchAfterAsked (lineAsked line) scratch
+
+-- ---- what the code does with a request and its figures
+
+abbrev pub whyRefused : Verdict → Refusal
+whyRefused Accepted = noForm
+whyRefused (Refused refusal) = refusal
+
+abbrev pub requestAnswer : Form → Verdict → List ℕ → List Float → ℕ → List ℕ
+requestAnswer SetForm verdict ns figures scratchLength = answerTo SetForm ns figures scratchLength
+requestAnswer AreaForm verdict ns figures scratchLength = answerTo AreaForm ns figures scratchLength
+requestAnswer JoinForm verdict ns figures scratchLength = answerTo JoinForm ns figures scratchLength
+requestAnswer MomentsForm verdict ns figures scratchLength = answerTo MomentsForm ns figures scratchLength
+requestAnswer CheckForm verdict ns figures scratchLength = answerTo CheckForm ns figures scratchLength
+requestAnswer NoForm verdict ns figures scratchLength = printedRefusal (whyRefused verdict)
 
 -- ---- what answering a line does, behind the n bytes at the start of `out`: where 320 more do not fit, nothing
 

@@ -5,15 +5,8 @@ ghost use mathlib.Core.Path.{_≡_};
 ghost use Prim.Native.Nat.{_+_, _≤_};
 ghost use lib.Dec.{leb};
 ghost use lib.ListN.{length};
-ghost use Rattle.refusals.specs.Refusals.{numberOf};
-ghost use Rattle.joins.specs.Flat.{numbersOf};
 ghost use Rattle.texts.specs.Appended.{Appended};
-ghost use Rattle.answers.specs.Answers.{refusedText};
-ghost use Rattle.requests.specs.Requests.{planformOf, pointsOf, setOf};
-ghost use Rattle.figures.specs.Figures.{setScratch};
-ghost use Rattle.figures.specs.Areas.{areaScratch};
-ghost use Rattle.lines.specs.Lines.{printedSet, printedArea, printedJoin, printedMoments, printedCheck, setAnswer, areaAnswer, joinAnswer, momentsAnswer, checkAnswer, answerTo, scratchAfterForm, Answers};
-use bodies::Body;
+ghost use Rattle.lines.specs.Lines.{printedSet, printedArea, printedJoin, printedMoments, printedCheck, printedRefusal, scratchAfterForm, whyRefused, requestAnswer, Answers};
 use figures::Area;
 use figures::Figures;
 use forms::Form;
@@ -22,21 +15,13 @@ use joins::Joined;
 use moments::Moments;
 use refusals::Refusal;
 use refusals::Verdict;
+use templates::LINE_FIGURES;
 
 fn put_refusal(out: &mut [u8], n: usize, refusal: Refusal) -> usize
     requires { ⌜ n + 320 ≤ length (now out) ⌝ }
-    ensures { λ r. ⌜ Appended (now (out .entry)) n (refusedText (numberOf refusal)) (now (out .exit)) r ⌝ }
+    ensures { λ r. ⌜ Appended (now (out .entry)) n (printedRefusal refusal) (now (out .exit)) r ⌝ }
 {
     answers::put_refused(out, n, refusals::number(refusal) as u64)
-}
-
-// Mass, centre and the tensor's columns.
-fn body_numbers(body: Body) -> [f64; 13]
-    ensures { λ r. ⌜ r ≡ numbersOf body ⌝ }
-{
-    let mut numbers = [0.0; 13];
-    joins::write_body(&mut numbers, 0, body);
-    numbers
 }
 
 // The answer to a set, by its verdict; the next four likewise.
@@ -48,7 +33,7 @@ fn put_set(out: &mut [u8], n: usize, f: Figures) -> usize
     let body = f.body;
     match verdict {
         Verdict::Accepted => {
-            let numbers = body_numbers(body);
+            let numbers = joins::numbers(body);
             answers::put_figures(out, n, &numbers, f.intervals as u64, f.samples as u64)
         }
         Verdict::Refused(refusal) => put_refusal(out, n, refusal),
@@ -77,7 +62,7 @@ fn put_joined(out: &mut [u8], n: usize, joined: Joined) -> usize
     let body = joined.body;
     match verdict {
         Verdict::Accepted => {
-            let numbers = body_numbers(body);
+            let numbers = joins::numbers(body);
             answers::put_joined(out, n, &numbers)
         }
         Verdict::Refused(refusal) => put_refusal(out, n, refusal),
@@ -106,56 +91,13 @@ fn put_checked(out: &mut [u8], n: usize, verdict: Verdict) -> usize
     }
 }
 
-// A set's figures, over the lent scratch.
-fn answer_set(q: Request, values: &[f64], scratch: &mut [f64], out: &mut [u8], n: usize) -> usize
-    requires { ⌜ n + 320 ≤ length (now out) ⌝ }
-    ensures { λ r. ⌜ Appended (now (out .entry)) n (setAnswer q (now (values .entry)) (length (now (scratch .entry)))) (now (out .exit)) r ⌝ }
-    ensures { λ _. ⌜ now (scratch .exit) ≡ setScratch (setOf q (now (values .entry))) (pointsOf q (now (values .entry))) (q .limit) (now (scratch .entry)) ⌝ }
+fn why_refused(verdict: Verdict) -> Refusal
+    ensures { λ r. ⌜ r ≡ whyRefused verdict ⌝ }
 {
-    let set = requests::asked_set(q, values);
-    let end = requests::points_end(q, values);
-    let limit = q.limit as usize;
-    let f = figures::mass_properties(set, &values[..end], limit, scratch);
-    put_set(out, n, f)
-}
-
-// A planform's area, over the lent scratch.
-fn answer_area(q: Request, values: &[f64], scratch: &mut [f64], out: &mut [u8], n: usize) -> usize
-    requires { ⌜ n + 320 ≤ length (now out) ⌝ }
-    ensures { λ r. ⌜ Appended (now (out .entry)) n (areaAnswer q (now (values .entry)) (length (now (scratch .entry)))) (now (out .exit)) r ⌝ }
-    ensures { λ _. ⌜ now (scratch .exit) ≡ areaScratch (planformOf (q .planform) (now (values .entry))) (pointsOf q (now (values .entry))) (q .limit) (now (scratch .entry)) ⌝ }
-{
-    let planform = requests::asked_planform(q, values);
-    let end = requests::points_end(q, values);
-    let limit = q.limit as usize;
-    let a = figures::geometry(planform, &values[..end], limit, scratch);
-    put_area(out, n, a)
-}
-
-fn answer_join(values: &[f64], out: &mut [u8], n: usize) -> usize
-    requires { ⌜ n + 320 ≤ length (now out) ⌝ }
-    ensures { λ r. ⌜ Appended (now (out .entry)) n (joinAnswer (now (values .entry))) (now (out .exit)) r ⌝ }
-{
-    let joined = requests::join_points(values);
-    put_joined(out, n, joined)
-}
-
-fn answer_moments(values: &[f64], out: &mut [u8], n: usize) -> usize
-    requires { ⌜ n + 320 ≤ length (now out) ⌝ }
-    ensures { λ r. ⌜ Appended (now (out .entry)) n (momentsAnswer (now (values .entry))) (now (out .exit)) r ⌝ }
-{
-    let tensor = requests::asked_tensor(values);
-    let m = moments::principal_moments(tensor);
-    put_moments(out, n, m)
-}
-
-fn answer_check(values: &[f64], out: &mut [u8], n: usize) -> usize
-    requires { ⌜ n + 320 ≤ length (now out) ⌝ }
-    ensures { λ r. ⌜ Appended (now (out .entry)) n (checkAnswer (now (values .entry))) (now (out .exit)) r ⌝ }
-{
-    let body = requests::asked_body(values);
-    let verdict = body_check::check(body);
-    put_checked(out, n, verdict)
+    match verdict {
+        Verdict::Accepted => Refusal::NoForm,
+        Verdict::Refused(refusal) => refusal,
+    }
 }
 
 // The answer to a request and its figures.
@@ -167,17 +109,18 @@ fn answer_request(
     n: usize,
 ) -> usize
     requires { ⌜ n + 320 ≤ length (now out) ⌝ }
-    ensures { λ r. ⌜ Appended (now (out .entry)) n (answerTo (q .form) q (now (values .entry)) (length (now (scratch .entry)))) (now (out .exit)) r ⌝ }
-    ensures { λ _. ⌜ now (scratch .exit) ≡ scratchAfterForm (q .form) q (now (values .entry)) (now (scratch .entry)) ⌝ }
+    ensures { λ r. ⌜ Appended (now (out .entry)) n (requestAnswer (q .form) (q .verdict) (q .numbers) (now (values .entry)) (length (now (scratch .entry)))) (now (out .exit)) r ⌝ }
+    ensures { λ _. ⌜ now (scratch .exit) ≡ scratchAfterForm (q .form) (q .numbers) (now (values .entry)) (now (scratch .entry)) ⌝ }
 {
     let form = q.form;
+    let verdict = q.verdict;
     match form {
-        Form::Set => answer_set(q, values, scratch, out, n),
-        Form::Area => answer_area(q, values, scratch, out, n),
-        Form::Join => answer_join(values, out, n),
-        Form::Moments => answer_moments(values, out, n),
-        Form::Check => answer_check(values, out, n),
-        Form::NoForm => answers::put_refused(out, n, 18),
+        Form::Set => put_set(out, n, requests::asked_figures(q, values, scratch)),
+        Form::Area => put_area(out, n, requests::asked_area(q, values, scratch)),
+        Form::Join => put_joined(out, n, requests::join_points(values)),
+        Form::Moments => put_moments(out, n, requests::tensor_moments(values)),
+        Form::Check => put_checked(out, n, requests::body_verdict(values)),
+        Form::NoForm => put_refusal(out, n, why_refused(verdict)),
     }
 }
 
@@ -195,7 +138,7 @@ pub fn answer_line(line: &[u8], scratch: &mut [f64], out: &mut [u8], n: usize) -
     if !has_room(out.len(), n) {
         return n;
     }
-    let mut values = [0.0; 256];
+    let mut values = [0.0; LINE_FIGURES];
     let q = forms::read_line(line, &mut values);
     let end = q.figures;
     answer_request(q, &values[..end], scratch, out, n)

@@ -1,6 +1,7 @@
 // A material's density, with its units in the case (material.rs, `Density`), and its check. Only bulk is taken.
 ghost use mathlib.Core.Path.{_≡_};
 ghost use Rattle.materials.specs.Materials.{densityCheck};
+ghost use Rattle.materials.specs.Numbered.{numberedDensity};
 use refusals::Refusal;
 use refusals::Verdict;
 
@@ -8,6 +9,28 @@ pub enum Density {
     Bulk { kg_m3: f64 },
     Surface { kg_m2: f64 },
     Line { kg_m: f64 },
+}
+
+// A density by its number, where there is one.
+pub enum NumberedDensity {
+    Known(Density),
+    Unknown,
+}
+
+// 1 bulk, 2 surface, 3 line.
+pub fn numbered_density(number: usize, density: f64) -> NumberedDensity
+    ensures { λ r. ⌜ r ≡ numberedDensity number density ⌝ }
+{
+    if number == 1 {
+        return NumberedDensity::Known(Density::Bulk { kg_m3: density });
+    }
+    if number == 2 {
+        return NumberedDensity::Known(Density::Surface { kg_m2: density });
+    }
+    if number == 3 {
+        return NumberedDensity::Known(Density::Line { kg_m: density });
+    }
+    NumberedDensity::Unknown
 }
 
 // A bulk density other than zero is 2^-10 to 2^15.

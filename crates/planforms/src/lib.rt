@@ -4,6 +4,7 @@
 ghost use mathlib.Core.Path.{_≡_};
 ghost use Prim.Native.Nat.{_<_};
 ghost use Rattle.planforms.specs.Planforms.{rootChordOf, spanOf, lastX, largestHeight, pairCount, next};
+ghost use Rattle.planforms.specs.Numbered.{numberedPlanform};
 
 // Lengths in metres. The sweep is the axial distance from the root's leading edge aft to the tip's.
 pub enum Planform {
@@ -18,6 +19,42 @@ pub enum Planform {
         span_m: f64,
     },
     Outline,
+}
+
+// A planform by its number, where there is one.
+pub enum NumberedPlanform {
+    Known(Planform),
+    Unknown,
+}
+
+// 1 a trapezoid (root chord, tip chord, span, sweep), 2 an ellipse (root chord, span), 3 an outline (its points).
+pub fn numbered_planform(number: usize, lengths: &[f64]) -> NumberedPlanform
+    ensures { λ r. ⌜ r ≡ numberedPlanform number (now (lengths .entry)) ⌝ }
+{
+    if number == 1 {
+        if lengths.len() == 4 {
+            return NumberedPlanform::Known(Planform::Trapezoid {
+                root_chord_m: lengths[0],
+                tip_chord_m: lengths[1],
+                span_m: lengths[2],
+                sweep_m: lengths[3],
+            });
+        }
+        return NumberedPlanform::Unknown;
+    }
+    if number == 2 {
+        if lengths.len() == 2 {
+            return NumberedPlanform::Known(Planform::Ellipse {
+                root_chord_m: lengths[0],
+                span_m: lengths[1],
+            });
+        }
+        return NumberedPlanform::Unknown;
+    }
+    if number == 3 {
+        return NumberedPlanform::Known(Planform::Outline);
+    }
+    NumberedPlanform::Unknown
 }
 
 // The root chord; of an outline the last point's x, and 0 with no point.

@@ -1,113 +1,65 @@
--- What a line asks, as the calls take it (docs/FORMS.md). A line's figures stand in the order in which its form names them.
-use mathlib.Core.List.{List, []}
-use mathlib.Core.Path.{_≡_}
-use Prim.Native.Nat.{ℕ, _+_, _*_, _/_, _≤_}
-use lib.ListN.{length, take, drop}
+-- What a set's and an area's line asks (docs/FORMS.md), of the line's counts and parts and of its figures, which stand in the order in which
+-- the form names them.
+use mathlib.Core.List.{List}
+use Prim.Native.Nat.{ℕ, _+_, _-_, _*_}
+use lib.ListN.{take, drop, getD}
 use lib.Ieee.{Float}
 use Rattle.floats.specs.Operations.{at}
-use Rattle.templates.specs.declared.Choice.{Choice}
-use Rattle.templates.specs.declared.Choice.the-variants.{First, Second, Third}
-use Rattle.forms.specs.declared.Request.{Request}
-use Rattle.planforms.specs.declared.Planform.{Planform}
-use Rattle.planforms.specs.declared.Planform.the-variants.{Trapezoid, Ellipse, Outline}
-use Rattle.sections.specs.declared.Section.{Section}
-use Rattle.sections.specs.declared.Section.the-variants.{Square, Rounded, Airfoil}
-use Rattle.materials.specs.declared.Density.{Density}
-use Rattle.materials.specs.declared.Density.the-variants.{Bulk, Surface, Line}
-use Rattle.fins.specs.declared.FinSet.{FinSet}
-use Rattle.fins.specs.declared.Tab.{Tab}
-use Rattle.fins.specs.declared.Tab.the-variants.{None, Slab}
-use Rattle.bodies.specs.declared.Body.{Body}
-use Rattle.bodies.specs.declared.Tensor.{Tensor}
-use Rattle.bodies.specs.Tensors.{vector, zeroTensor, tensor}
-use Rattle.joins.specs.declared.Joined.{Joined}
-use Rattle.joins.specs.Flat.{bodyAt}
-use Rattle.joins.specs.Joins.{joinedOf}
+use Rattle.planforms.specs.Numbered.{numberedPlanform}
+use Rattle.sections.specs.Numbered.{numberedSection}
+use Rattle.materials.specs.Numbered.{numberedDensity}
+use Rattle.fins.specs.Numbered.{numberedTab, numberedSet}
+use Rattle.figures.specs.declared.Area.{Area}
+use Rattle.figures.specs.declared.Figures.{Figures}
+use Rattle.requests.specs.declared.AreaRequest.{AreaRequest}
+use Rattle.requests.specs.declared.SetRequest.{SetRequest}
+use Rattle.requests.specs.Calls.{numberedFigures, numberedScratch, numberedArea, numberedAreaScratch}
 
--- ---- a planform
+-- of the count or part k, counted from the form's last: its number, and how many figures stand up to its end
+abbrev pub number : List ℕ → ℕ → ℕ
+number ns k = getD ns (2 * k + 1) 0
 
--- "(trapezoid F F F F) root chord, tip chord, span, sweep", "(ellipse F F) root chord, span", "(outline F ..)"
-abbrev pub planformOf : Choice → List Float → Planform
-planformOf First figures = Trapezoid (at figures 0) (at figures 1) (at figures 2) (at figures 3)
-planformOf Second figures = Ellipse (at figures 0) (at figures 1)
-planformOf Third figures = Outline
+abbrev pub end : List ℕ → ℕ → ℕ
+end ns k = getD ns (2 * k) 0
 
--- the points of an outline, "x, y, x, y, ..": the first figures of the line, as many as its planform has
-abbrev pub outlinePoints : Choice → ℕ → List Float → List Float
-outlinePoints First lengths figures = []
-outlinePoints Second lengths figures = []
-outlinePoints Third lengths figures = take lengths figures
+-- the figures from one place up to another
+abbrev pub between : ℕ → ℕ → List Float → List Float
+between from to figures = take (to - from) (drop from figures)
 
-unfoldable pub pointsOf : Request → List Float → List Float
-pointsOf q figures = outlinePoints (q .planform) (q .lengths) figures
-
--- the same as a part of the line's figures: its end
-pub record PointsEnd (q : Request) (figures : List Float) (end : ℕ) : Type 0 where
-  pub within : end ≤ length figures
-  pub points : take end figures ≡ pointsOf q figures
-
--- ---- a set; `rest` is the figures behind the planform's: thickness, TAB, cant, base, radius, DENSITY
-
--- "square, rounded or airfoil"
-abbrev pub sectionOf : Choice → Section
-sectionOf First = Square
-sectionOf Second = Rounded
-sectionOf Third = Airfoil
-
--- "(tab F F F) height, length, offset; or the part is left out"
-abbrev pub tabOf : Choice → List Float → Tab
-tabOf First rest = Slab (at rest 1) (at rest 2) (at rest 3)
-tabOf Second rest = None
-tabOf Third rest = None
-
--- how many figures the thickness and the tab have
-abbrev pub tabEnd : Choice → ℕ
-tabEnd First = 4
-tabEnd Second = 1
-tabEnd Third = 1
-
--- "(bulk F), (surface F) or (line F)"
-abbrev pub densityOf : Choice → Float → Density
-densityOf First number = Bulk number
-densityOf Second number = Surface number
-densityOf Third number = Line number
-
-abbrev pub setWith : Request → Planform → List Float → FinSet
-setWith q planform rest =
+-- "(set (limit N) (count N) PLANFORM (thickness F) (section SECTION) TAB (cant F) (base F) (radius F) DENSITY)": limit 5, count 4, planform 3,
+-- section 2, tab 1, density 0
+unfoldable pub setRequestOf : List ℕ → List Float → SetRequest
+setRequestOf ns figures =
+    let behindTab = drop (end ns 1) figures in
     record {
-      count = q .count;
-      planform = planform;
-      «thickness_m» = at rest 0;
-      «cross_section» = sectionOf (q .section);
-      tab = tabOf (q .tab) rest;
-      «cant_rad» = at rest (tabEnd (q .tab));
-      «base_angle_rad» = at rest (tabEnd (q .tab) + 1);
-      «body_radius_m» = at rest (tabEnd (q .tab) + 2);
-      density = densityOf (q .density) (at rest (tabEnd (q .tab) + 3));
+      limit = number ns 5;
+      set =
+          numberedSet (number ns 4)
+          (numberedPlanform (number ns 3) (between 0 (end ns 3) figures))
+          (at figures (end ns 3))
+          (numberedSection (number ns 2))
+          (numberedTab (number ns 1) (between (end ns 2) (end ns 1) figures))
+          (at behindTab 0)
+          (at behindTab 1)
+          (at behindTab 2)
+          (numberedDensity (number ns 0) (at behindTab 3));
+      points = end ns 3;
     }
 
-unfoldable pub setOf : Request → List Float → FinSet
-setOf q figures = setWith q (planformOf (q .planform) figures) (drop (q .lengths) figures)
+-- "(area (limit N) PLANFORM)": limit 1, planform 0
+unfoldable pub areaRequestOf : List ℕ → List Float → AreaRequest
+areaRequestOf ns figures = record { limit = number ns 1; planform = numberedPlanform (number ns 0) (between 0 (end ns 0) figures); points = end ns 0 }
 
--- ---- bodies
+-- ---- the call for each; an outline's points are the planform's figures
 
--- "(point MASS X Y Z)", number k of a line: a mass at a place
-abbrev pub pointBodyAt : List Float → ℕ → Body
-pointBodyAt figures k =
-    record {
-      «mass_kg» = at figures (4 * k);
-      «centre_m» = vector (at figures (4 * k + 1)) (at figures (4 * k + 2)) (at figures (4 * k + 3));
-      «inertia_kg_m2» = zeroTensor;
-    }
+unfoldable pub askedFigures : SetRequest → List Float → ℕ → Figures
+askedFigures q figures scratchLength = numberedFigures (q .set) (between 0 (q .points) figures) (q .limit) scratchLength
 
--- the points of a line, joined: "none, or more, gives 3"
-unfoldable pub joinedPointsOf : List Float → Joined
-joinedPointsOf figures = joinedOf (pointBodyAt figures) (length figures / 4)
+unfoldable pub askedScratch : SetRequest → List Float → List Float → List Float
+askedScratch q figures scratch = numberedScratch (q .set) (between 0 (q .points) figures) (q .limit) scratch
 
--- the tensor, three columns
-abbrev pub tensorOf : List Float → Tensor
-tensorOf figures = tensor (λ i. at figures i)
+unfoldable pub askedArea : AreaRequest → List Float → ℕ → Area
+askedArea q figures scratchLength = numberedArea (q .planform) (between 0 (q .points) figures) (q .limit) scratchLength
 
--- "(mass F) (centre F F F) (inertia F F F F F F F F F)"
-abbrev pub bodyOf : List Float → Body
-bodyOf figures = bodyAt figures 0
+unfoldable pub askedAreaScratch : AreaRequest → List Float → List Float → List Float
+askedAreaScratch q figures scratch = numberedAreaScratch (q .planform) (between 0 (q .points) figures) (q .limit) scratch

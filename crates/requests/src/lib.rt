@@ -1,26 +1,42 @@
-// What a line asks, as the calls take it (docs/FORMS.md): a planform, a set, points to join, a tensor, a body.
+// What a line or a call asks by numbers, as the calls take it (docs/FORMS.md; include/delvouzh.h): a set, a planform, points to join, a
+// tensor, a body.
 //
-// A line's figures stand in a lent slice in the order of its form. Any request and any figures may be handed in: a figure past the slice's
-// end is a NaN.
+// A line's figures stand in a lent slice in the order of its form. Any numbers and any figures may be handed in: what they do not make up
+// is no form.
 ghost use mathlib.Core.Path.{_≡_};
 ghost use Prim.Native.Nat.{_+_, _*_, _≤_, min};
-ghost use lib.ListN.{length};
+ghost use lib.ListN.{length, drop};
 ghost use Rattle.floats.specs.Operations.{at};
 ghost use Rattle.joins.specs.Flat.{withBodies};
-ghost use Rattle.requests.specs.Requests.{planformOf, PointsEnd, sectionOf, tabOf, tabEnd, densityOf, setWith, setOf, pointBodyAt, joinedPointsOf, tensorOf, bodyOf};
+ghost use Rattle.figures.specs.Figures.{refusedFigures};
+ghost use Rattle.figures.specs.Areas.{refusedArea};
+ghost use Rattle.requests.specs.Calls.{numberedFigures, numberedScratch, numberedArea, numberedAreaScratch, pointBodyAt, joinedPointsOf, tensorMoments, bodyVerdict};
+ghost use Rattle.requests.specs.Requests.{between, setRequestOf, areaRequestOf, askedFigures, askedScratch, askedArea, askedAreaScratch};
 use bodies::Body;
 use bodies::Centre;
-use bodies::Tensor;
-use fins::FinSet;
-use fins::Tab;
+use figures::Area;
+use figures::Figures;
+use fins::NumberedSet;
 use forms::Request;
 use joins::Joined;
-use materials::Density;
-use planforms::Planform;
+use moments::Moments;
+use planforms::NumberedPlanform;
 use refusals::Refusal;
 use refusals::Verdict;
-use sections::Section;
-use templates::Choice;
+
+// A set's limit, the set, and how many of the line's first figures are its planform's: an outline's points.
+pub struct SetRequest {
+    pub limit: usize,
+    pub set: NumberedSet,
+    pub points: usize,
+}
+
+// The same of a planform.
+pub struct AreaRequest {
+    pub limit: usize,
+    pub planform: NumberedPlanform,
+    pub points: usize,
+}
 
 // Figure i, and a NaN past the end.
 fn figure(values: &[f64], i: usize) -> f64
@@ -38,115 +54,161 @@ fn least(a: usize, b: usize) -> usize
     if a < b { a } else { b }
 }
 
-// The planform that a line asks; an outline's points lie beside it.
-pub fn asked_planform(q: Request, values: &[f64]) -> Planform
-    ensures { λ r. ⌜ r ≡ planformOf (q .planform) (now (values .entry)) ⌝ }
+// The figures from one place up to another, as far as there are any.
+fn between(values: &[f64], from: usize, to: usize) -> &[f64]
+    ensures { λ r. ⌜ now r ≡ between from to (now (values .entry)) ⌝ }
 {
-    let choice = q.planform;
-    match choice {
-        Choice::First => Planform::Trapezoid {
-            root_chord_m: figure(values, 0),
-            tip_chord_m: figure(values, 1),
-            span_m: figure(values, 2),
-            sweep_m: figure(values, 3),
-        },
-        Choice::Second => Planform::Ellipse {
-            root_chord_m: figure(values, 0),
-            span_m: figure(values, 1),
-        },
-        Choice::Third => Planform::Outline,
-    }
+    let last = least(to, values.len());
+    let first = least(from, last);
+    &values[first..last]
 }
 
-// How many of the line's first figures are an outline's points.
-pub fn points_end(q: Request, values: &[f64]) -> usize
-    ensures { λ r. ⌜ PointsEnd q (now (values .entry)) r ⌝ }
+// The figures from one place on.
+fn behind(values: &[f64], from: usize) -> &[f64]
+    ensures { λ r. ⌜ now r ≡ drop from (now (values .entry)) ⌝ }
 {
-    let choice = q.planform;
-    match choice {
-        Choice::First => 0,
-        Choice::Second => 0,
-        Choice::Third => least(q.lengths, values.len()),
-    }
+    let first = least(from, values.len());
+    &values[first..]
 }
 
-fn asked_section(choice: Choice) -> Section
-    ensures { λ r. ⌜ r ≡ sectionOf choice ⌝ }
+// What a set's line asks.
+fn set_request(q: Request, values: &[f64]) -> SetRequest
+    ensures { λ r. ⌜ r ≡ setRequestOf (q .numbers) (now (values .entry)) ⌝ }
 {
-    match choice {
-        Choice::First => Section::Square,
-        Choice::Second => Section::Rounded,
-        Choice::Third => Section::Airfoil,
-    }
-}
-
-fn asked_tab(choice: Choice, rest: &[f64]) -> Tab
-    ensures { λ r. ⌜ r ≡ tabOf choice (now (rest .entry)) ⌝ }
-{
-    match choice {
-        Choice::First => Tab::Slab {
-            height_m: figure(rest, 1),
-            length_m: figure(rest, 2),
-            offset_m: figure(rest, 3),
-        },
-        Choice::Second => Tab::None,
-        Choice::Third => Tab::None,
-    }
-}
-
-// How many figures the thickness and the tab have.
-fn tab_end(choice: Choice) -> usize
-    ensures { λ r. ⌜ r ≡ tabEnd choice ⌝ }
-    ensures { λ r. ⌜ r ≤ 4 ⌝ }
-{
-    match choice {
-        Choice::First => 4,
-        Choice::Second => 1,
-        Choice::Third => 1,
-    }
-}
-
-fn asked_density(choice: Choice, number: f64) -> Density
-    ensures { λ r. ⌜ r ≡ densityOf choice number ⌝ }
-{
-    match choice {
-        Choice::First => Density::Bulk { kg_m3: number },
-        Choice::Second => Density::Surface { kg_m2: number },
-        Choice::Third => Density::Line { kg_m: number },
-    }
-}
-
-// The set of a planform and the figures behind it.
-fn set_with(q: Request, planform: Planform, rest: &[f64]) -> FinSet
-    ensures { λ r. ⌜ r ≡ setWith q planform (now (rest .entry)) ⌝ }
-{
-    let section = q.section;
-    let has_tab = q.tab;
-    let units = q.density;
-    let cross_section = asked_section(section);
-    let tab = asked_tab(has_tab, rest);
-    let end = tab_end(has_tab);
-    let density = asked_density(units, figure(rest, end + 3));
-    FinSet {
-        count: q.count as usize,
+    let n = q.numbers;
+    let planform = planforms::numbered_planform(n[7], between(values, 0, n[6]));
+    let section = sections::numbered_section(n[5]);
+    let tab = fins::numbered_tab(n[3], between(values, n[4], n[2]));
+    let rest = behind(values, n[2]);
+    let density = materials::numbered_density(n[1], figure(rest, 3));
+    let set = fins::numbered_set(
+        n[9],
         planform,
-        thickness_m: figure(rest, 0),
-        cross_section,
+        figure(values, n[6]),
+        section,
         tab,
-        cant_rad: figure(rest, end),
-        base_angle_rad: figure(rest, end + 1),
-        body_radius_m: figure(rest, end + 2),
+        figure(rest, 0),
+        figure(rest, 1),
+        figure(rest, 2),
         density,
+    );
+    SetRequest {
+        limit: n[11],
+        set,
+        points: n[6],
     }
 }
 
-// The set that a line asks.
-pub fn asked_set(q: Request, values: &[f64]) -> FinSet
-    ensures { λ r. ⌜ r ≡ setOf q (now (values .entry)) ⌝ }
+// What an area's line asks.
+fn area_request(q: Request, values: &[f64]) -> AreaRequest
+    ensures { λ r. ⌜ r ≡ areaRequestOf (q .numbers) (now (values .entry)) ⌝ }
 {
-    let planform = asked_planform(q, values);
-    let start = least(q.lengths, values.len());
-    set_with(q, planform, &values[start..])
+    let n = q.numbers;
+    let planform = planforms::numbered_planform(n[1], between(values, 0, n[0]));
+    AreaRequest {
+        limit: n[3],
+        planform,
+        points: n[0],
+    }
+}
+
+fn no_figures() -> Figures
+    ensures { λ r. ⌜ r ≡ refusedFigures Refusal.NoForm 0 ⌝ }
+{
+    let verdict = Verdict::Refused(Refusal::NoForm);
+    let body = Body::ZERO;
+    Figures {
+        verdict,
+        body,
+        intervals: 0,
+        samples: 0,
+    }
+}
+
+// A set's figures over a lent scratch.
+pub fn set_figures(set: NumberedSet, points: &[f64], limit: usize, scratch: &mut [f64]) -> Figures
+    ensures { λ r. ⌜ (r ≡ numberedFigures set (now (points .entry)) limit (length (now (scratch .entry)))) × (now (scratch .exit) ≡ numberedScratch set (now (points .entry)) limit (now (scratch .entry))) ⌝ }
+{
+    match set {
+        NumberedSet::Known(set) => figures::mass_properties(set, points, limit, scratch),
+        NumberedSet::Unknown => no_figures(),
+    }
+}
+
+fn no_area() -> Area
+    ensures { λ r. ⌜ r ≡ refusedArea Refusal.NoForm 0 ⌝ }
+{
+    let verdict = Verdict::Refused(Refusal::NoForm);
+    Area {
+        verdict,
+        area_m2: 0.0,
+        centroid_x_m: 0.0,
+        centroid_span_m: 0.0,
+        intervals: 0,
+        samples: 0,
+    }
+}
+
+// A planform's area over a lent scratch.
+pub fn area_figures(
+    planform: NumberedPlanform,
+    points: &[f64],
+    limit: usize,
+    scratch: &mut [f64],
+) -> Area
+    ensures { λ r. ⌜ (r ≡ numberedArea planform (now (points .entry)) limit (length (now (scratch .entry)))) × (now (scratch .exit) ≡ numberedAreaScratch planform (now (points .entry)) limit (now (scratch .entry))) ⌝ }
+{
+    match planform {
+        NumberedPlanform::Known(planform) => figures::geometry(planform, points, limit, scratch),
+        NumberedPlanform::Unknown => no_area(),
+    }
+}
+
+// The principal moments of nine numbers; of another count, 18.
+pub fn tensor_moments(numbers: &[f64]) -> Moments
+    ensures { λ r. ⌜ r ≡ tensorMoments (now (numbers .entry)) ⌝ }
+{
+    if numbers.len() != 9 {
+        let verdict = Verdict::Refused(Refusal::NoForm);
+        let moments_kg_m2 = [0.0, 0.0, 0.0];
+        return Moments {
+            verdict,
+            moments_kg_m2,
+        };
+    }
+    moments::principal_moments(bodies::tensor_of(numbers))
+}
+
+// The check of thirteen numbers; of another count, 18.
+pub fn body_verdict(numbers: &[f64]) -> Verdict
+    ensures { λ r. ⌜ r ≡ bodyVerdict (now (numbers .entry)) ⌝ }
+{
+    if numbers.len() != 13 {
+        return Verdict::Refused(Refusal::NoForm);
+    }
+    body_check::check(joins::body_of(numbers))
+}
+
+// The figures of a set that a line asks, over a lent scratch.
+pub fn asked_figures(q: Request, values: &[f64], scratch: &mut [f64]) -> Figures
+    ensures { λ r. ⌜ r ≡ askedFigures (setRequestOf (q .numbers) (now (values .entry))) (now (values .entry)) (length (now (scratch .entry))) ⌝ }
+    ensures { λ _. ⌜ now (scratch .exit) ≡ askedScratch (setRequestOf (q .numbers) (now (values .entry))) (now (values .entry)) (now (scratch .entry)) ⌝ }
+{
+    let asked = set_request(q, values);
+    let set = asked.set;
+    let points = between(values, 0, asked.points);
+    set_figures(set, points, asked.limit, scratch)
+}
+
+// The area of a planform that a line asks, likewise.
+pub fn asked_area(q: Request, values: &[f64], scratch: &mut [f64]) -> Area
+    ensures { λ r. ⌜ r ≡ askedArea (areaRequestOf (q .numbers) (now (values .entry))) (now (values .entry)) (length (now (scratch .entry))) ⌝ }
+    ensures { λ _. ⌜ now (scratch .exit) ≡ askedAreaScratch (areaRequestOf (q .numbers) (now (values .entry))) (now (values .entry)) (now (scratch .entry)) ⌝ }
+{
+    let asked = area_request(q, values);
+    let planform = asked.planform;
+    let points = between(values, 0, asked.points);
+    area_figures(planform, points, asked.limit, scratch)
 }
 
 // Point k of a line.
@@ -195,47 +257,4 @@ pub fn join_points(values: &[f64]) -> Joined
     write_points(&mut bodies, values, count);
     let end = 13 * count;
     joins::combine(&bodies[..end])
-}
-
-// The tensor of nine figures.
-pub fn asked_tensor(values: &[f64]) -> Tensor
-    ensures { λ r. ⌜ r ≡ tensorOf (now (values .entry)) ⌝ }
-{
-    Tensor([
-        figure(values, 0),
-        figure(values, 1),
-        figure(values, 2),
-        figure(values, 3),
-        figure(values, 4),
-        figure(values, 5),
-        figure(values, 6),
-        figure(values, 7),
-        figure(values, 8),
-    ])
-}
-
-// The body of thirteen figures: mass, centre and tensor.
-pub fn asked_body(values: &[f64]) -> Body
-    ensures { λ r. ⌜ r ≡ bodyOf (now (values .entry)) ⌝ }
-{
-    let inertia_kg_m2 = Tensor([
-        figure(values, 4),
-        figure(values, 5),
-        figure(values, 6),
-        figure(values, 7),
-        figure(values, 8),
-        figure(values, 9),
-        figure(values, 10),
-        figure(values, 11),
-        figure(values, 12),
-    ]);
-    Body {
-        mass_kg: figure(values, 0),
-        centre_m: Centre {
-            x: figure(values, 1),
-            y: figure(values, 2),
-            z: figure(values, 3),
-        },
-        inertia_kg_m2,
-    }
 }

@@ -14,12 +14,35 @@
 ghost use mathlib.Core.Path.{_≡_};
 ghost use Rattle.sections.specs.Airfoil.{naca, airfoilPhi, airfoilPsi};
 ghost use Rattle.sections.specs.ChordMoments.{chordMoments, squareMoments, roundedMoments, airfoilMoments};
+ghost use Rattle.sections.specs.Numbered.{numberedSection};
 
 // The shape of a fin's section along its chord (fins.rs, `FinCrossSection`).
 pub enum Section {
     Square,
     Rounded,
     Airfoil,
+}
+
+// A section by its number, where there is one.
+pub enum NumberedSection {
+    Known(Section),
+    Unknown,
+}
+
+// 1 square, 2 rounded, 3 airfoil.
+pub fn numbered_section(number: usize) -> NumberedSection
+    ensures { λ r. ⌜ r ≡ numberedSection number ⌝ }
+{
+    if number == 1 {
+        return NumberedSection::Known(Section::Square);
+    }
+    if number == 2 {
+        return NumberedSection::Known(Section::Rounded);
+    }
+    if number == 3 {
+        return NumberedSection::Known(Section::Airfoil);
+    }
+    NumberedSection::Unknown
 }
 
 const PI: f64 = 3.14159265358979323846264338327950288;

@@ -7,10 +7,9 @@ use native.Mathlib.Omega.{arith}
 use lib.ListN.{take, drop}
 use lib.Ieee.{Float}
 use Rattle.tokens.specs.Tokens.{tokens}
-use Rattle.templates.specs.declared.Choice.{Choice}
 use Rattle.templates.specs.declared.Cursor.{Cursor}
-use Rattle.templates.specs.Matching.{Reading, failed, reading, pick, orElse, chosen}
-use Rattle.templates.specs.Cursors.{takenBefore, readingAt, Room, ReadsOn, choosing}
+use Rattle.templates.specs.Matching.{Reading, failed, reading, pick, orElse, numbered}
+use Rattle.templates.specs.Cursors.{takenBefore, readingAt, Room, ReadsOn, numberedCursor}
 use Rattle.templates.proofs.Steps.{also-kept}
 
 abbrev pub fits : Reading → Bool
@@ -34,7 +33,7 @@ else-second (reading ts t) b h = let z : _≡_ {A = ℕ} 0 1 = cc in absurd (let
 
 -- the same reading where the figures taken are the same
 pub same-reading : (line : List ℕ) (v w : List Float) (c : Cursor) → take (c .figures) w ≡ take (c .figures) v → readingAt line w c ≡ readingAt line v c
-same-reading line v w c k = ap (λ (l : List Float). pick (c .ok) (reading (tokens (drop (c .at) line)) (record { figures = l; count = c .count; choice = c .choice })) failed) k
+same-reading line v w c k = ap (λ (l : List Float). pick (c .ok) (reading (tokens (drop (c .at) line)) (record { figures = l; number = c .number })) failed) k
 
 -- nothing taken
 pub here : (line : List ℕ) (v : List Float) (c : Cursor) → Room line v c → ReadsOn line v v c c (readingAt line v c)
@@ -54,17 +53,17 @@ module _ (line : List ℕ) (v w : List Float) (c r : Cursor) (m : Reading) (o : 
   pub room-again : Room line v c → Room line w c
   room-again q = record { short = q .short; room = o .room .room; within = q .within; few = q .few }
 
-  pub note : (k : Choice) → ReadsOn line v w c (choosing k r) (chosen k m)
+  pub note : (k : ℕ) → ReadsOn line v w c (numberedCursor k r) (numbered k m)
   note k =
       let q = o .room in
       record {
-        is = by (r .ok) ∙ ap (chosen k) (o .is);
+        is = by (r .ok) ∙ ap (numbered k) (o .is);
         kept = o .kept;
         grows = o .grows;
         room = record { short = q .short; room = q .room; within = q .within; few = q .few };
       }
     where
-      by : (t : Bool) → pick t (reading (tokens (drop (r .at) line)) (takenBefore w (choosing k r))) failed ≡ chosen k (pick t (reading (tokens (drop (r .at) line)) (takenBefore w r)) failed)
+      by : (t : Bool) → pick t (reading (tokens (drop (r .at) line)) (takenBefore w (numberedCursor k r))) failed ≡ numbered k (pick t (reading (tokens (drop (r .at) line)) (takenBefore w r)) failed)
       by true = refl
       by false = refl
 

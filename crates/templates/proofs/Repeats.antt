@@ -1,117 +1,98 @@
--- A template taken as often as it fits: each time leaves fewer tokens, so the bound on how often is never met. Assumes nothing.
+-- A step taken as often as it fits: what is left to take from where reading stands is the whole. Assumes nothing.
 use mathlib.Core.List.{List, [], _∷_}
 use mathlib.Core.Bool.{Bool, true, false}
 use mathlib.Core.Path.{_≡_, refl, sym, ap, _∙_}
 use Prim.Native.Nat.{ℕ, zero, suc, _-_, _<_, _≤_}
 use native.Mathlib.Omega.{arith}
-use lib.ListN.{length}
-use Rattle.hex.specs.declared.Figure.{Figure}
-use Rattle.hex.specs.declared.Figure.the-variants.{Number, NotFigure}
-use Rattle.hex.specs.Hex.{figureOf}
-use Rattle.counts.specs.declared.Count.{Count}
-use Rattle.counts.specs.declared.Count.the-variants.{Whole, NotCount}
-use Rattle.counts.specs.Counts.{countOf, cappedCount}
+use lib.ListN.{length, take}
+use lib.Ieee.{Float}
 use Rattle.tokens.specs.Text.{text}
-use Rattle.tokens.specs.Tokens.{Token, opening, closing, word, tokens}
-use Rattle.templates.specs.Matching.{Taken, Reading, failed, reading, pick, sameBytes, takeFigure, takeCount, takeWord, takeToken, takeTokens, takeText, orElse, left, takeTimes}
-use Rattle.templates.proofs.Choices.{fits, else-first}
+use Rattle.tokens.specs.Tokens.{lineBytes}
+use Rattle.templates.specs.declared.Cursor.{Cursor}
+use Rattle.templates.specs.Matching.{Reading, failed, reading, pick, sameBytes, takeOne, whileFits, takeTimes, takeEach, takeFigures, takeToken, takeTokens}
+use Rattle.templates.specs.Cursors.{readingAt, Room, ReadsOn}
+use Rattle.templates.proofs.Steps.{also-kept}
+use Rattle.templates.proofs.Choices.{fits, same-reading, meant-fits, room-again}
+
+on-fits : (a r : Reading) (g : Reading → Reading) → fits a ≡ true → whileFits a r g ≡ g a
+on-fits failed r g h = let z : _≡_ {A = ℕ} 0 1 = cc in absurd (let y : ⊥ = omega arith in y)
+on-fits (reading ts t) r g h = refl
+
+on-failed : (a r : Reading) (g : Reading → Reading) → fits a ≡ false → whileFits a r g ≡ r
+on-failed failed r g h = refl
+on-failed (reading ts t) r g h = let z : _≡_ {A = ℕ} 0 1 = cc in absurd (let y : ⊥ = omega arith in y)
+
+once-more : (n : ℕ) (step : Reading → Reading) (r : Reading) → 0 < n → fits (step r) ≡ true → takeTimes n step r ≡ takeTimes (n - 1) step (step r)
+unfolding takeTimes
+once-more zero step r z h = absurd (let y : ⊥ = omega arith in y)
+once-more (suc n) step r z h = on-fits (step r) r (takeTimes n step) h ∙ ap (λ (k : ℕ). takeTimes k step (step r)) (let e : n ≡ suc n - 1 = omega arith in e)
+
+no-more : (n : ℕ) (step : Reading → Reading) (r : Reading) → fits (step r) ≡ false → takeTimes n step r ≡ r
+unfolding takeTimes
+no-more zero step r h = refl
+no-more (suc n) step r h = on-failed (step r) r (takeTimes n step) h
+
+none-left : (n : ℕ) (step : Reading → Reading) (r : Reading) → n ≤ 0 → takeTimes n step r ≡ r
+unfolding takeTimes
+none-left zero step r h = refl
+none-left (suc n) step r h = absurd (let y : ⊥ = omega arith in y)
 
 -- ---- a reading that failed stays so
 
-tokens-failed : (ps : List Token) → takeTokens ps failed ≡ failed
-unfolding takeTokens takeToken
+one-failed : (p : List ℕ) → takeOne p failed ≡ failed
+unfolding takeOne
+one-failed p = refl
+
+token-failed : (p : List ℕ) → takeToken p failed ≡ failed
+unfolding takeToken
+token-failed p = by (sameBytes p (text "F.."))
+  where
+    by : (t : Bool) → pick t (takeFigures failed) (takeOne p failed) ≡ failed
+    by true = no-more lineBytes (takeOne (text "F")) failed (ap fits (one-failed (text "F")))
+    by false = one-failed p
+
+pub tokens-failed : (ps : List (List ℕ)) → takeTokens ps failed ≡ failed
+unfolding takeTokens
 tokens-failed [] = refl
-tokens-failed (p ∷ ps) = tokens-failed ps
+tokens-failed (p ∷ ps) = ap (takeTokens ps) (token-failed p) ∙ tokens-failed ps
 
-pub text-failed : (template : List ℕ) → takeText template failed ≡ failed
-unfolding takeText
-text-failed template = tokens-failed (tokens template)
+-- ---- turn by turn
 
-times-failed : (n : ℕ) (template : List ℕ) → takeTimes n template failed ≡ failed
-unfolding takeTimes
-times-failed zero template = refl
-times-failed (suc n) template = ap (λ (r : Reading). orElse (takeTimes n template r) failed) (text-failed template) ∙ ap (λ (r : Reading). orElse r failed) (times-failed n template)
+pub record Repeating (line : List ℕ) (step : Reading → Reading) (before after : List Float) (c s : Cursor) (turns : ℕ) : Type 0 where
+  pub whole : takeEach step (readingAt line before c) ≡ takeTimes turns step (readingAt line after s)
+  pub kept : take (c .figures) after ≡ take (c .figures) before
+  pub grows : c .figures ≤ s .figures
+  pub room : Room line after s
+  pub same : length after ≡ length before
 
--- ---- tokens used
+module _ (line : List ℕ) (step : Reading → Reading) (before : List Float) (c : Cursor) where
+  pub begins : Room line before c → Repeating line step before before c c lineBytes
+  begins m = record { whole = refl; kept = refl; grows = omega arith; room = m; same = refl }
 
-word-uses : (p w : List ℕ) (ts : List Token) (t : Taken) → left (takeWord p w ts t) ≤ length ts
-unfolding takeWord
-word-uses p w ts t = by (sameBytes p (text "F")) (sameBytes p (text "N")) (sameBytes p w) (figureOf w) (cappedCount (countOf w))
-  where
-    by : (a b d : Bool) (x : Figure) (k : Count) → left (pick a (takeFigure x ts t) (pick b (takeCount k ts t) (pick d (reading ts t) failed))) ≤ length ts
-    by true b d (Number x) k = omega arith
-    by true b d NotFigure k = omega arith
-    by false true d x (Whole n) = omega arith
-    by false true d x NotCount = omega arith
-    by false false true x k = omega arith
-    by false false false x k = omega arith
+  module _ (between : List Float) (s : Cursor) (turns : ℕ) (v : Repeating line step before between c s turns) where
+    pub all-turns : turns ≤ 0 → ReadsOn line before between c s (takeEach step (readingAt line before c))
+    all-turns h = record { is = sym (v .whole ∙ none-left turns step (readingAt line between s) h); kept = v .kept; grows = v .grows; room = v .room }
 
-token-uses : (p : Token) (r : Reading) → left (takeToken p r) ≤ left r - 1
-unfolding takeToken
-token-uses p failed = omega arith
-token-uses p (reading [] t) = omega arith
-token-uses opening (reading (opening ∷ ts) t) = omega arith
-token-uses opening (reading (closing ∷ ts) t) = omega arith
-token-uses opening (reading (word w ∷ ts) t) = omega arith
-token-uses closing (reading (opening ∷ ts) t) = omega arith
-token-uses closing (reading (closing ∷ ts) t) = omega arith
-token-uses closing (reading (word w ∷ ts) t) = omega arith
-token-uses (word p) (reading (opening ∷ ts) t) = omega arith
-token-uses (word p) (reading (closing ∷ ts) t) = omega arith
-token-uses (word p) (reading (word w ∷ ts) t) = let h = word-uses p w ts t in omega arith
+    module _ (after : List Float) (next : Cursor) (o : ReadsOn line between after s next (step (readingAt line between s))) where
+      kept-on : take (c .figures) after ≡ take (c .figures) before
+      kept-on = also-kept before between after (c .figures) (s .figures) (v .grows) (v .kept) (o .kept)
 
-tokens-use : (ps : List Token) (r : Reading) → left (takeTokens ps r) ≤ left r
-unfolding takeTokens
-tokens-use [] r = omega arith
-tokens-use (p ∷ ps) r = let h = tokens-use ps (takeToken p r) in let g = token-uses p r in omega arith
+      pub again : 0 < turns → next .ok ≡ true → length after ≡ length between → Repeating line step before after c next (turns - 1)
+      again z h l =
+          let g = v .grows in let k = o .grows in let q = v .same in
+          record {
+            whole = v .whole ∙ once-more turns step (readingAt line between s) z (meant-fits line between after s next _ o ∙ h) ∙ ap (takeTimes (turns - 1) step) (sym (o .is));
+            kept = kept-on;
+            grows = omega arith;
+            room = o .room;
+            same = omega arith;
+          }
 
--- where no token is left none can be taken
-none-left : (p : Token) (r : Reading) → left r ≡ 0 → takeToken p r ≡ failed
-unfolding takeToken
-none-left p failed h = refl
-none-left p (reading [] t) h = refl
-none-left p (reading (x ∷ ts) t) h = absurd (let z : ⊥ = omega arith in z)
-
-tokens-less : (ps : List Token) (r : Reading) → 0 < length ps → fits (takeTokens ps r) ≡ true → left (takeTokens ps r) < left r
-unfolding takeTokens
-tokens-less [] r h f = absurd (let z : ⊥ = omega arith in z)
-tokens-less (p ∷ ps) r h f =
-    let a = tokens-use ps (takeToken p r) in
-    let b = token-uses p r in
-    let o = some (left r) refl in
-    omega arith
-  where
-    some : (n : ℕ) → left r ≡ n → 0 < left r
-    some zero e =
-        let g : takeTokens ps (takeToken p r) ≡ failed = ap (takeTokens ps) (none-left p r e) ∙ tokens-failed ps in
-        let z : _≡_ {A = ℕ} 0 1 = cc (ap fits g) in
-        absurd (let y : ⊥ = omega arith in y)
-    some (suc n) e = omega arith
-
-pub less-left : (template : List ℕ) (r : Reading) → 0 < length (tokens template) → fits (takeText template r) ≡ true → left (takeText template r) < left r
-unfolding takeText
-less-left template r h f = tokens-less (tokens template) r h f
-
--- ---- once more, and the end
-
-times-fit : (n : ℕ) (template : List ℕ) (r : Reading) → fits r ≡ true → fits (takeTimes n template r) ≡ true
-unfolding takeTimes
-times-fit zero template r h = h
-times-fit (suc n) template r h = by (takeTimes n template (takeText template r))
-  where
-    by : (a : Reading) → fits (orElse a r) ≡ true
-    by failed = h
-    by (reading ts t) = refl
-
-pub once-more : (n : ℕ) (template : List ℕ) (r : Reading) → fits (takeText template r) ≡ true → takeTimes (suc n) template r ≡ takeTimes n template (takeText template r)
-unfolding takeTimes
-once-more n template r h = sym (else-first (takeTimes n template (takeText template r)) r (times-fit n template (takeText template r) h))
-
-pub no-more : (n : ℕ) (template : List ℕ) (r : Reading) → fits (takeText template r) ≡ false → takeTimes n template r ≡ r
-unfolding takeTimes
-no-more zero template r h = refl
-no-more (suc n) template r h = by (takeText template r) h
-  where
-    by : (x : Reading) → fits x ≡ false → orElse (takeTimes n template x) r ≡ r
-    by failed e = ap (λ (x : Reading). orElse x r) (times-failed n template)
-    by (reading ts t) e = let z : _≡_ {A = ℕ} 0 1 = cc in absurd (let y : ⊥ = omega arith in y)
+      pub ends : next .ok ≡ false → ReadsOn line before after c s (takeEach step (readingAt line before c))
+      ends h =
+          record {
+            is = same-reading line between after s (o .kept) ∙ sym (v .whole ∙ no-more turns step (readingAt line between s) (meant-fits line between after s next _ o ∙ h));
+            kept = kept-on;
+            grows = v .grows;
+            room = room-again line between after s next _ o (v .room);
+          }

@@ -1,10 +1,9 @@
--- Reading a line by templates (docs/FORMS.md). A template is written as the form is, `F` standing for a figure and `N` for a count: its
--- tokens are held against the line's, one by one.
+-- Reading a line by templates (docs/FORMS.md). A template is written as the form is: its tokens are held against the line's, one by one. `F`
+-- stands for a figure, `F..` for figures, as many as there are, and `N` for a count.
 use mathlib.Core.List.{List, [], _∷_, _++_}
-use mathlib.Core.Bool.{Bool, true, false, _&&_}
+use mathlib.Core.Bool.{Bool, true, false, _&&_, cond}
 use Prim.Native.Nat.{ℕ, zero, suc}
 use lib.Dec.{eqb}
-use lib.ListN.{length}
 use lib.Ieee.{Float}
 use Rattle.hex.specs.declared.Figure.{Figure}
 use Rattle.hex.specs.declared.Figure.the-variants.{Number, NotFigure}
@@ -13,35 +12,29 @@ use Rattle.counts.specs.declared.Count.{Count}
 use Rattle.counts.specs.declared.Count.the-variants.{Whole, NotCount}
 use Rattle.counts.specs.Counts.{countOf, cappedCount}
 use Rattle.tokens.specs.Text.{text}
-use Rattle.tokens.specs.Tokens.{Token, opening, closing, word, tokens}
-use Rattle.templates.specs.declared.Choice.{Choice}
-use Rattle.templates.specs.declared.Choice.the-variants.{First, Second, Third}
+use Rattle.tokens.specs.Tokens.{lineBytes, tokens}
 
--- what has been taken from a line: its figures in their order, the last count, and which alternative the last choice was
+-- what has been taken from a line: its figures in their order, and the last number, which is a count or an alternative's
 pub record Taken : Type 0 where
   pub figures : List Float
-  pub count : ℕ
-  pub choice : Choice
+  pub number : ℕ
 
 abbrev pub withFigure : Float → Taken → Taken
-withFigure x t = record { figures = t .figures ++ (x ∷ []); count = t .count; choice = t .choice }
+withFigure x t = record { figures = t .figures ++ (x ∷ []); number = t .number }
 
-abbrev pub withCount : ℕ → Taken → Taken
-withCount n t = record { figures = t .figures; count = n; choice = t .choice }
-
-abbrev pub withChoice : Choice → Taken → Taken
-withChoice k t = record { figures = t .figures; count = t .count; choice = k }
+abbrev pub withNumber : ℕ → Taken → Taken
+withNumber n t = record { figures = t .figures; number = n }
 
 -- the tokens still to come and what has been taken; or that the line is no form
 pub data Reading : Type 0 where
   failed : Reading
-  reading : List Token → Taken → Reading
-
--- ---- one template
+  reading : List (List ℕ) → Taken → Reading
 
 abbrev pub pick : Bool → Reading → Reading → Reading
 pick true a b = a
 pick false a b = b
+
+-- ---- one token
 
 abbrev pub sameBytes : List ℕ → List ℕ → Bool
 sameBytes [] [] = true
@@ -49,38 +42,53 @@ sameBytes [] (y ∷ ys) = false
 sameBytes (x ∷ xs) [] = false
 sameBytes (x ∷ xs) (y ∷ ys) = eqb x y && sameBytes xs ys
 
-abbrev pub takeFigure : Figure → List Token → Taken → Reading
+abbrev pub takeFigure : Figure → List (List ℕ) → Taken → Reading
 takeFigure (Number x) ts t = reading ts (withFigure x t)
 takeFigure NotFigure ts t = failed
 
-abbrev pub takeCount : Count → List Token → Taken → Reading
-takeCount (Whole n) ts t = reading ts (withCount n t)
+abbrev pub takeCount : Count → List (List ℕ) → Taken → Reading
+takeCount (Whole n) ts t = reading ts (withNumber n t)
 takeCount NotCount ts t = failed
 
--- the template's word p against the line's word w: `F` takes a figure, `N` a count, any other word itself. A count is capped at a million
--- here; no answer and no scratch shows it (`answer-capped` and `scratch-capped` of lines/proofs/Capped).
-unfoldable pub takeWord : List ℕ → List ℕ → List Token → Taken → Reading
+-- the template's token p against the line's token w: `F` takes a figure, `N` a count, any other token itself. A count is capped at a million
+-- here; no answer and no scratch shows it (lines/proofs/Capped).
+unfoldable pub takeWord : List ℕ → List ℕ → List (List ℕ) → Taken → Reading
 takeWord p w ts t =
     pick (sameBytes p (text "F")) (takeFigure (figureOf w) ts t)
     (pick (sameBytes p (text "N")) (takeCount (cappedCount (countOf w)) ts t)
     (pick (sameBytes p w) (reading ts t) failed))
 
--- one token of a template
-unfoldable pub takeToken : Token → Reading → Reading
-takeToken p failed = failed
-takeToken p (reading [] t) = failed
-takeToken opening (reading (opening ∷ ts) t) = reading ts t
-takeToken opening (reading (closing ∷ ts) t) = failed
-takeToken opening (reading (word w ∷ ts) t) = failed
-takeToken closing (reading (opening ∷ ts) t) = failed
-takeToken closing (reading (closing ∷ ts) t) = reading ts t
-takeToken closing (reading (word w ∷ ts) t) = failed
-takeToken (word p) (reading (opening ∷ ts) t) = failed
-takeToken (word p) (reading (closing ∷ ts) t) = failed
-takeToken (word p) (reading (word w ∷ ts) t) = takeWord p w ts t
+unfoldable pub takeOne : List ℕ → Reading → Reading
+takeOne p failed = failed
+takeOne p (reading [] t) = failed
+takeOne p (reading (w ∷ ts) t) = takeWord p w ts t
+
+-- ---- repetitions
+
+-- on with g where a step fitted, else what was read before it
+abbrev pub whileFits : Reading → Reading → (Reading → Reading) → Reading
+whileFits failed before g = before
+whileFits (reading ts t) before g = g (reading ts t)
+
+-- a step as often as it fits, at most n times
+unfoldable pub takeTimes : ℕ → (Reading → Reading) → Reading → Reading
+takeTimes zero step r = r
+takeTimes (suc n) step r = whileFits (step r) r (takeTimes n step)
+
+-- a step as often as it fits: a line has no more tokens than bytes
+abbrev pub takeEach : (Reading → Reading) → Reading → Reading
+takeEach step r = takeTimes lineBytes step r
+
+-- ---- a template
+
+abbrev pub takeFigures : Reading → Reading
+takeFigures r = takeEach (takeOne (text "F")) r
+
+unfoldable pub takeToken : List ℕ → Reading → Reading
+takeToken p r = pick (sameBytes p (text "F..")) (takeFigures r) (takeOne p r)
 
 -- a template's tokens, one after another
-unfoldable pub takeTokens : List Token → Reading → Reading
+unfoldable pub takeTokens : List (List ℕ) → Reading → Reading
 takeTokens [] r = r
 takeTokens (p ∷ ps) r = takeTokens ps (takeToken p r)
 
@@ -88,37 +96,35 @@ takeTokens (p ∷ ps) r = takeTokens ps (takeToken p r)
 unfoldable pub takeText : List ℕ → Reading → Reading
 takeText template r = takeTokens (tokens template) r
 
--- ---- choices
+-- ---- alternatives
 
 -- the first of two readings that has not failed
 abbrev pub orElse : Reading → Reading → Reading
 orElse failed b = b
 orElse (reading ts t) b = reading ts t
 
--- the alternative that was taken, noted
-abbrev pub chosen : Choice → Reading → Reading
-chosen k failed = failed
-chosen k (reading ts t) = reading ts (withChoice k t)
+-- the number of the alternative that was taken, noted
+abbrev pub numbered : ℕ → Reading → Reading
+numbered k failed = failed
+numbered k (reading ts t) = reading ts (withNumber k t)
 
--- the first that fits of two alternatives, and of three
-unfoldable pub eitherOf : Reading → Reading → Reading
-eitherOf a b = orElse (chosen First a) (chosen Second b)
+-- the first template that fits, numbered by its place in the list, from k on
+unfoldable pub firstOf : ℕ → List (List ℕ) → Reading → Reading
+firstOf k [] r = failed
+firstOf k (template ∷ templates) r = orElse (numbered k (takeText template r)) (firstOf (suc k) templates r)
 
-unfoldable pub oneOf : Reading → Reading → Reading → Reading
-oneOf a b c = orElse (eitherOf a b) (chosen Third c)
+-- from 1 on
+abbrev pub oneOf : List (List ℕ) → Reading → Reading
+oneOf templates r = firstOf 1 templates r
 
--- ---- repetitions
+-- or none of them: 0
+abbrev pub optional : List (List ℕ) → Reading → Reading
+optional templates r = orElse (oneOf templates r) (numbered 0 r)
 
--- how many tokens are still to come
-abbrev pub left : Reading → ℕ
-left failed = 0
-left (reading ts t) = length ts
+-- a list of templates as one text, a bar (124) between each two
+unfoldable pub cutAfter : List ℕ → List ℕ → List (List ℕ)
+cutAfter template [] = template ∷ []
+cutAfter template (b ∷ bs) = cond (eqb b 124) (template ∷ cutAfter [] bs) (cutAfter (template ++ (b ∷ [])) bs)
 
--- a template as often as it fits, at most n times
-unfoldable pub takeTimes : ℕ → List ℕ → Reading → Reading
-takeTimes zero template r = r
-takeTimes (suc n) template r = orElse (takeTimes n template (takeText template r)) r
-
--- a template as often as it fits: it takes a token or more each time, so not more often than there are tokens
-unfoldable pub takeEach : List ℕ → Reading → Reading
-takeEach template r = takeTimes (left r) template r
+abbrev pub cutAtBars : List ℕ → List (List ℕ)
+cutAtBars alternatives = cutAfter [] alternatives

@@ -1,39 +1,48 @@
 // A line's bytes read by templates (docs/FORMS.md).
 //
-// A template is written as a form is, `F` standing for a figure and `N` for a count. Its tokens are held against the line's; the figures
-// go into a lent slice, in order. Of alternatives the first that fits is taken, and a template can be taken as often as it fits.
+// A template is written as a form is, `F` standing for a figure, `F..` for figures and `N` for a count. Its tokens are held against the
+// line's; the figures go into a lent slice, in order. Of alternatives the first that fits is taken, and a template can be taken as often as
+// it fits.
 ghost use mathlib.Core.Bool.{true};
 ghost use mathlib.Core.Path.{_≡_};
-ghost use Prim.Native.Nat.{_+_, _*_, _<_, _≤_};
+ghost use Prim.Native.Nat.{_≤_};
 ghost use lib.ListN.{length, drop};
 ghost use Rattle.counts.specs.Counts.{countOf, cappedCount};
-ghost use Rattle.tokens.specs.Tokens.{tokens};
+ghost use Rattle.tokens.specs.Tokens.{lineBytes, tokens};
 ghost use Rattle.tokens.specs.Found.{part};
-ghost use Rattle.templates.specs.Matching.{sameBytes, takeWord, takeText, chosen, eitherOf, oneOf, takeEach};
-ghost use Rattle.templates.specs.Cursors.{takenBefore, readingAt, Room, ReadsOn, IsWordAt, isOpen, isClose, notAForm, onTo, pickCursor, counted, plainTo, choosing, takeFound, placeBehind};
+ghost use Rattle.templates.specs.Matching.{sameBytes, takeWord, takeOne, takeFigures, takeText, takeEach, oneOf, optional, cutAtBars};
+ghost use Rattle.templates.specs.Cursors.{takenBefore, Room, ReadsOn, Takes, IsWordAt, lineStart, notAForm, onTo, pickCursor, counted, plainTo, numberedCursor, IsBarEnd};
 use counts::Count;
 use hex::Figure;
 use tokens::Found;
-use tokens::Kind;
+use tokens::LINE_BYTES;
 
-// Which of the alternatives of a part was taken, in the order in which they are written.
-pub enum Choice {
-    First,
-    Second,
-    Third,
-}
+// How many figures a line may have: a figure has sixteen bytes.
+pub const LINE_FIGURES: usize = 256;
 
-// Where reading stands: whether the line may still be a form, the next byte, how many figures have been read, the last count and the
-// last choice.
+// Where reading stands: whether the line may still be a form, the next byte, how many figures have been read, and the last number: a count,
+// or an alternative's place among the others, from 1 on.
 pub struct Cursor {
     pub ok: bool,
     pub at: usize,
     pub figures: usize,
-    pub count: u64,
-    pub choice: Choice,
+    pub number: usize,
 }
 
-fn same_bytes(a: &[u8], b: &[u8]) -> bool
+// The beginning of a line.
+pub fn line_start() -> Cursor
+    ensures { λ r. ⌜ r ≡ lineStart ⌝ }
+{
+    Cursor {
+        ok: true,
+        at: 0,
+        figures: 0,
+        number: 0,
+    }
+}
+
+// Whether two slices have the same bytes.
+pub fn same_bytes(a: &[u8], b: &[u8]) -> bool
     ensures { λ r. ⌜ r ≡ sameBytes (now (a .entry)) (now (b .entry)) ⌝ }
 {
     if a.len() != b.len() {
@@ -53,35 +62,11 @@ fn same_bytes(a: &[u8], b: &[u8]) -> bool
 fn not_a_form(c: Cursor) -> Cursor
     ensures { λ r. ⌜ r ≡ notAForm c ⌝ }
 {
-    let choice = c.choice;
     Cursor {
         ok: false,
         at: c.at,
         figures: c.figures,
-        count: c.count,
-        choice,
-    }
-}
-
-fn is_open(kind: Kind) -> bool
-    ensures { λ r. ⌜ r ≡ isOpen kind ⌝ }
-{
-    match kind {
-        Kind::Open => true,
-        Kind::Close => false,
-        Kind::Word => false,
-        Kind::End => false,
-    }
-}
-
-fn is_close(kind: Kind) -> bool
-    ensures { λ r. ⌜ r ≡ isClose kind ⌝ }
-{
-    match kind {
-        Kind::Open => false,
-        Kind::Close => true,
-        Kind::Word => false,
-        Kind::End => false,
+        number: c.number,
     }
 }
 
@@ -89,38 +74,34 @@ fn is_close(kind: Kind) -> bool
 fn behind(hit: bool, c: Cursor, to: usize) -> Cursor
     ensures { λ r. ⌜ r ≡ pickCursor hit (onTo c to) (notAForm c) ⌝ }
 {
-    let choice = c.choice;
     if hit {
         Cursor {
             ok: true,
             at: to,
             figures: c.figures,
-            count: c.count,
-            choice,
+            number: c.number,
         }
     } else {
         not_a_form(c)
     }
 }
 
-// A word of the line as a count.
+// A token of the line as a count.
 fn take_count(c: Cursor, word: &[u8], to: usize) -> Cursor
     ensures { λ r. ⌜ r ≡ counted (cappedCount (countOf (now (word .entry)))) c to ⌝ }
 {
-    let choice = c.choice;
     match counts::read_count(word) {
         Count::Whole(n) => Cursor {
             ok: true,
             at: to,
             figures: c.figures,
-            count: n,
-            choice,
+            number: n as usize,
         },
         Count::NotCount => not_a_form(c),
     }
 }
 
-// A word of the line that is no figure, against one of a template: `N` takes a count.
+// A token of the line that is no figure, against one of a template: `N` takes a count.
 fn take_plain(c: Cursor, wanted: &[u8], word: &[u8], to: usize) -> Cursor
     ensures { λ r. ⌜ r ≡ plainTo (now (wanted .entry)) (now (word .entry)) c to ⌝ }
 {
@@ -132,7 +113,7 @@ fn take_plain(c: Cursor, wanted: &[u8], word: &[u8], to: usize) -> Cursor
     }
 }
 
-// A word of the line, found at a place, against one of a template: `F` takes a figure.
+// A token of the line, found at a place, against one of a template: `F` takes a figure.
 fn take_word(line: &[u8], c: Cursor, wanted: &[u8], found: Found, values: &mut [f64]) -> Cursor
     requires { ⌜ Room (now line) (now values) c × IsWordAt (now line) c found ⌝ }
     ensures { λ r. ⌜ ReadsOn (now (line .entry)) (now (values .entry)) (now (values .exit)) c r (takeWord (now (wanted .entry)) (part (now (line .entry)) (found .from) (found .to)) (tokens (drop (found .to) (now (line .entry)))) (takenBefore (now (values .entry)) c)) ⌝ }
@@ -140,7 +121,6 @@ fn take_word(line: &[u8], c: Cursor, wanted: &[u8], found: Found, values: &mut [
     let from = found.from;
     let to = found.to;
     let figures = c.figures;
-    let choice = c.choice;
     let word = &line[from..to];
     let figure = same_bytes(wanted, b"F");
     if figure {
@@ -152,8 +132,7 @@ fn take_word(line: &[u8], c: Cursor, wanted: &[u8], found: Found, values: &mut [
                     ok: true,
                     at: to,
                     figures: more,
-                    count: c.count,
-                    choice,
+                    number: c.number,
                 }
             }
             Figure::NotFigure => not_a_form(c),
@@ -163,135 +142,142 @@ fn take_word(line: &[u8], c: Cursor, wanted: &[u8], found: Found, values: &mut [
     }
 }
 
-// One token of a template, of a line that may be a form.
-fn take_next(line: &[u8], c: Cursor, template: &[u8], wanted: Found, values: &mut [f64]) -> Cursor
-    requires { ⌜ (c .ok ≡ true) × Room (now line) (now values) c × (wanted .from ≤ wanted .to) × (wanted .to ≤ length (now template)) ⌝ }
-    ensures { λ r. ⌜ ReadsOn (now (line .entry)) (now (values .entry)) (now (values .exit)) c r (takeFound (wanted .kind) (part (now (template .entry)) (wanted .from) (wanted .to)) (readingAt (now (line .entry)) (now (values .entry)) c)) ⌝ }
+// One token of the line.
+pub fn take_one(line: &[u8], c: Cursor, wanted: &[u8], values: &mut [f64]) -> Cursor
+    requires { ⌜ Room (now line) (now values) c ⌝ }
+    ensures { λ r. ⌜ Takes (takeOne (now (wanted .entry))) (now (line .entry)) (now (values .entry)) (now (values .exit)) c r ⌝ }
 {
     let at = c.at;
+    if !c.ok {
+        return c;
+    }
     let found = tokens::next_token(line, at);
-    let kind = found.kind;
-    let to = found.to;
-    let from = wanted.from;
-    let end = wanted.to;
-    let want = wanted.kind;
-    match want {
-        Kind::Open => behind(is_open(kind), c, to),
-        Kind::Close => behind(is_close(kind), c, to),
-        Kind::Word => match kind {
-            Kind::Word => take_word(line, c, &template[from..end], found, values),
-            Kind::Open => not_a_form(c),
-            Kind::Close => not_a_form(c),
-            Kind::End => not_a_form(c),
-        },
-        Kind::End => c,
+    if found.to <= found.from {
+        return not_a_form(c);
     }
+    take_word(line, c, wanted, found, values)
 }
 
-// One token of a template.
-fn take_token(line: &[u8], c: Cursor, template: &[u8], wanted: Found, values: &mut [f64]) -> Cursor
-    requires { ⌜ Room (now line) (now values) c × (wanted .from ≤ wanted .to) × (wanted .to ≤ length (now template)) ⌝ }
-    ensures { λ r. ⌜ ReadsOn (now (line .entry)) (now (values .entry)) (now (values .exit)) c r (takeFound (wanted .kind) (part (now (template .entry)) (wanted .from) (wanted .to)) (readingAt (now (line .entry)) (now (values .entry)) c)) ⌝ }
-{
-    let ok = c.ok;
-    if ok {
-        take_next(line, c, template, wanted, values)
-    } else {
-        c
-    }
-}
-
-// The place behind a token of a template, and the template's end where none is left.
-fn place_behind(wanted: Found, end: usize) -> usize
-    ensures { λ r. ⌜ r ≡ placeBehind (wanted .kind) (wanted .to) end ⌝ }
-{
-    let kind = wanted.kind;
-    match kind {
-        Kind::End => end,
-        Kind::Open => wanted.to,
-        Kind::Close => wanted.to,
-        Kind::Word => wanted.to,
-    }
-}
-
-// A template: its tokens, one after another.
-pub fn take_text(line: &[u8], c: Cursor, template: &[u8], values: &mut [f64]) -> Cursor
+// Figures, as many as there are.
+fn take_figures(line: &[u8], c: Cursor, values: &mut [f64]) -> Cursor
     requires { ⌜ Room (now line) (now values) c ⌝ }
-    ensures { λ r. ⌜ ReadsOn (now (line .entry)) (now (values .entry)) (now (values .exit)) c r (takeText (now (template .entry)) (readingAt (now (line .entry)) (now (values .entry)) c)) ⌝ }
+    ensures { λ r. ⌜ Takes takeFigures (now (line .entry)) (now (values .entry)) (now (values .exit)) c r ⌝ }
 {
     let mut s = c;
-    let mut i: usize = 0;
-    while i < template.len() {
-        let wanted = tokens::next_token(template, i);
-        s = take_token(line, s, template, wanted, values);
-        i = place_behind(wanted, template.len());
+    let mut turns = LINE_BYTES;
+    while 0 < turns {
+        let next = take_one(line, s, b"F", values);
+        if !next.ok {
+            return s;
+        }
+        s = next;
+        turns -= 1;
     }
     s
 }
 
-// Notes which alternative was taken.
-pub fn choose(c: Cursor, choice: Choice) -> Cursor
-    ensures { λ r. ⌜ r ≡ choosing choice c ⌝ }
-{
-    Cursor {
-        ok: c.ok,
-        at: c.at,
-        figures: c.figures,
-        count: c.count,
-        choice,
-    }
-}
-
-// The first of two templates that fits.
-pub fn take_either(
-    line: &[u8],
-    c: Cursor,
-    first: &[u8],
-    second: &[u8],
-    values: &mut [f64],
-) -> Cursor
+// A template: its tokens, one after another, as long as they fit.
+pub fn take_text(line: &[u8], c: Cursor, template: &[u8], values: &mut [f64]) -> Cursor
     requires { ⌜ Room (now line) (now values) c ⌝ }
-    ensures { λ r. ⌜ ReadsOn (now (line .entry)) (now (values .entry)) (now (values .exit)) c r (eitherOf (takeText (now (first .entry)) (readingAt (now (line .entry)) (now (values .entry)) c)) (takeText (now (second .entry)) (readingAt (now (line .entry)) (now (values .entry)) c))) ⌝ }
-{
-    let a = take_text(line, c, first, values);
-    if a.ok {
-        return choose(a, Choice::First);
-    }
-    let b = take_text(line, c, second, values);
-    choose(b, Choice::Second)
-}
-
-// The first of three templates that fits.
-pub fn take_one_of(
-    line: &[u8],
-    c: Cursor,
-    first: &[u8],
-    second: &[u8],
-    third: &[u8],
-    values: &mut [f64],
-) -> Cursor
-    requires { ⌜ Room (now line) (now values) c ⌝ }
-    ensures { λ r. ⌜ ReadsOn (now (line .entry)) (now (values .entry)) (now (values .exit)) c r (oneOf (takeText (now (first .entry)) (readingAt (now (line .entry)) (now (values .entry)) c)) (takeText (now (second .entry)) (readingAt (now (line .entry)) (now (values .entry)) c)) (takeText (now (third .entry)) (readingAt (now (line .entry)) (now (values .entry)) c))) ⌝ }
-{
-    let a = take_either(line, c, first, second, values);
-    if a.ok {
-        return a;
-    }
-    let b = take_text(line, c, third, values);
-    choose(b, Choice::Third)
-}
-
-// A template of one token or more, as often as it fits.
-pub fn take_each(line: &[u8], c: Cursor, template: &[u8], values: &mut [f64]) -> Cursor
-    requires { ⌜ Room (now line) (now values) c × (0 < length (tokens (now template))) ⌝ }
-    ensures { λ r. ⌜ ReadsOn (now (line .entry)) (now (values .entry)) (now (values .exit)) c r (takeEach (now (template .entry)) (readingAt (now (line .entry)) (now (values .entry)) c)) ⌝ }
+    ensures { λ r. ⌜ Takes (takeText (now (template .entry))) (now (line .entry)) (now (values .entry)) (now (values .exit)) c r ⌝ }
 {
     let mut s = c;
-    loop {
+    let mut i: usize = 0;
+    while i < template.len() {
+        if !s.ok {
+            return s;
+        }
+        let wanted = tokens::next_token(template, i);
+        let from = wanted.from;
+        let to = wanted.to;
+        if to <= from {
+            return s;
+        }
+        i = to;
+        let figures = same_bytes(&template[from..to], b"F..");
+        if figures {
+            s = take_figures(line, s, values);
+            continue;
+        }
+        s = take_one(line, s, &template[from..to], values);
+    }
+    s
+}
+
+// A template as often as it fits.
+pub fn take_each(line: &[u8], c: Cursor, template: &[u8], values: &mut [f64]) -> Cursor
+    requires { ⌜ Room (now line) (now values) c ⌝ }
+    ensures { λ r. ⌜ Takes (takeEach (takeText (now (template .entry)))) (now (line .entry)) (now (values .entry)) (now (values .exit)) c r ⌝ }
+{
+    let mut s = c;
+    let mut turns = LINE_BYTES;
+    while 0 < turns {
         let next = take_text(line, s, template, values);
         if !next.ok {
             return s;
         }
         s = next;
+        turns -= 1;
     }
+    s
+}
+
+// Notes the number of an alternative.
+fn with_number(c: Cursor, number: usize) -> Cursor
+    ensures { λ r. ⌜ r ≡ numberedCursor number c ⌝ }
+{
+    Cursor {
+        ok: c.ok,
+        at: c.at,
+        figures: c.figures,
+        number,
+    }
+}
+
+// The first bar from i on, or the end.
+fn bar_end(alternatives: &[u8], i: usize) -> usize
+    requires { ⌜ i ≤ length (now alternatives) ⌝ }
+    ensures { λ r. ⌜ IsBarEnd (now (alternatives .entry)) i r ⌝ }
+{
+    let mut end = i;
+    while end < alternatives.len() {
+        if alternatives[end] == 124 {
+            return end;
+        }
+        end += 1;
+    }
+    end
+}
+
+// The first of the alternatives that fits, a bar between each two.
+pub fn take_one_of(line: &[u8], c: Cursor, alternatives: &[u8], values: &mut [f64]) -> Cursor
+    requires { ⌜ Room (now line) (now values) c × (length (now alternatives) ≤ lineBytes) ⌝ }
+    ensures { λ r. ⌜ Takes (oneOf (cutAtBars (now (alternatives .entry)))) (now (line .entry)) (now (values .entry)) (now (values .exit)) c r ⌝ }
+{
+    let mut i: usize = 0;
+    let mut number: usize = 1;
+    loop {
+        let end = bar_end(alternatives, i);
+        let r = take_text(line, c, &alternatives[i..end], values);
+        if r.ok {
+            return with_number(r, number);
+        }
+        if alternatives.len() <= end {
+            return not_a_form(c);
+        }
+        i = end + 1;
+        number += 1;
+    }
+}
+
+// The same, or nothing: number 0.
+pub fn take_optional(line: &[u8], c: Cursor, alternatives: &[u8], values: &mut [f64]) -> Cursor
+    requires { ⌜ Room (now line) (now values) c × (length (now alternatives) ≤ lineBytes) ⌝ }
+    ensures { λ r. ⌜ Takes (optional (cutAtBars (now (alternatives .entry)))) (now (line .entry)) (now (values .entry)) (now (values .exit)) c r ⌝ }
+{
+    let r = take_one_of(line, c, alternatives, values);
+    if r.ok {
+        return r;
+    }
+    with_number(c, 0)
 }

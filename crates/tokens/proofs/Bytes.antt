@@ -6,13 +6,14 @@ use Prim.Native.Nat.{ℕ, suc, _+_, _-_, _<_, _≤_}
 use native.Mathlib.Nat.{sub-self}
 use native.Mathlib.Numerals.{add-one}
 use native.Mathlib.Omega.{arith}
+use borrow.Author.Tests.{ne-eqb}
 use lib.ListN.{length, take, drop, getD, drop-of-length-le, length-drop}
 use lib.Seq.{drop-cons, take-suc, getD-drop}
-use Rattle.tokens.specs.Tokens.{Token, opening, closing, word, endsWord, done, mark, tokensAfter, tokens}
+use Rattle.tokens.specs.Tokens.{endsWord, done, mark, tokensAfter, tokens}
 use Rattle.tokens.specs.Found.{part}
 
 module _ (l : List ℕ) (i : ℕ) (h : i < length l) where
-  cons-at : drop i l ≡ getD l i 0 ∷ drop (i + 1) l
+  pub cons-at : drop i l ≡ getD l i 0 ∷ drop (i + 1) l
   cons-at = drop-cons l i 0 h ∙ ap (λ (k : ℕ). getD l i 0 ∷ drop k l) (sym (add-one i))
 
   -- a byte that ends a word
@@ -25,29 +26,23 @@ module _ (l : List ℕ) (i : ℕ) (h : i < length l) where
   unfolding tokensAfter
   longer-at w e = ap (tokensAfter w) cons-at ∙ ap (λ (t : Bool). cond t (done w (mark (getD l i 0) (tokens (drop (i + 1) l)))) (tokensAfter (w ++ (getD l i 0 ∷ [])) (drop (i + 1) l))) e
 
-  marked : (b : ℕ) → getD l i 0 ≡ b → endsWord b ≡ true → tokens (drop i l) ≡ mark b (tokens (drop (i + 1) l))
-  marked b e t = ends-at [] (ap endsWord e ∙ t) ∙ ap (λ (x : ℕ). mark x (tokens (drop (i + 1) l))) e
-
   pub space-at : getD l i 0 ≡ 32 → tokens (drop i l) ≡ tokens (drop (i + 1) l)
-  space-at e = marked 32 e refl
+  space-at e = ends-at [] (ap endsWord e) ∙ ap (λ (b : ℕ). mark b (tokens (drop (i + 1) l))) e
 
-  pub open-at : getD l i 0 ≡ 40 → tokens (drop i l) ≡ opening ∷ tokens (drop (i + 1) l)
-  open-at e = marked 40 e refl
-
-  pub close-at : getD l i 0 ≡ 41 → tokens (drop i l) ≡ closing ∷ tokens (drop (i + 1) l)
-  close-at e = marked 41 e refl
+  pub bracket-at : endsWord (getD l i 0) ≡ true → (getD l i 0 ≡ 32 → ⊥) → tokens (drop i l) ≡ (getD l i 0 ∷ []) ∷ tokens (drop (i + 1) l)
+  bracket-at e n = ends-at [] e ∙ rw (ne-eqb (getD l i 0) 32 n)
 
   -- a word ends before a byte that ends words
-  pub word-before : (b : ℕ) (w : List ℕ) → endsWord (getD l i 0) ≡ true → tokensAfter (b ∷ w) (drop i l) ≡ word (b ∷ w) ∷ tokens (drop i l)
-  word-before b w e = ends-at (b ∷ w) e ∙ ap (λ (ts : List Token). word (b ∷ w) ∷ ts) (sym (ends-at [] e))
+  pub word-before : (b : ℕ) (w : List ℕ) → endsWord (getD l i 0) ≡ true → tokensAfter (b ∷ w) (drop i l) ≡ (b ∷ w) ∷ tokens (drop i l)
+  word-before b w e = ends-at (b ∷ w) e ∙ ap (λ (ts : List (List ℕ)). (b ∷ w) ∷ ts) (sym (ends-at [] e))
 
 pub at-end : (l : List ℕ) (i : ℕ) → length l ≤ i → tokens (drop i l) ≡ []
 unfolding tokensAfter
 at-end l i h = ap tokens (drop-of-length-le l h)
 
-pub word-at-end : (l : List ℕ) (i b : ℕ) (w : List ℕ) → length l ≤ i → tokensAfter (b ∷ w) (drop i l) ≡ word (b ∷ w) ∷ tokens (drop i l)
+pub word-at-end : (l : List ℕ) (i b : ℕ) (w : List ℕ) → length l ≤ i → tokensAfter (b ∷ w) (drop i l) ≡ (b ∷ w) ∷ tokens (drop i l)
 unfolding tokensAfter
-word-at-end l i b w h = ap (tokensAfter (b ∷ w)) (drop-of-length-le l h) ∙ ap (λ (ts : List Token). word (b ∷ w) ∷ ts) (sym (at-end l i h))
+word-at-end l i b w h = ap (tokensAfter (b ∷ w)) (drop-of-length-le l h) ∙ ap (λ (ts : List (List ℕ)). (b ∷ w) ∷ ts) (sym (at-end l i h))
 
 -- the part of a line grows by a byte
 pub part-longer : (l : List ℕ) (at i : ℕ) → at ≤ i → i < length l → part l at (i + 1) ≡ part l at i ++ (getD l i 0 ∷ [])

@@ -1,31 +1,31 @@
--- A line's tokens (docs/FORMS.md): "Words are separated by one or more spaces; spaces beside a bracket are free".
+-- A line's tokens (docs/FORMS.md): "Words are separated by one or more spaces; spaces beside a bracket are free". A token is its bytes: a
+-- bracket, or a word.
 use mathlib.Core.List.{List, [], _∷_, _++_}
 use mathlib.Core.Bool.{Bool, _||_, cond}
 use Prim.Native.Nat.{ℕ}
 use lib.Dec.{eqb}
 
--- a bracket, or a word's bytes
-pub data Token : Type 0 where
-  opening closing : Token
-  word : List ℕ → Token
+-- "up to 4,096 bytes" (document 01, "The card program")
+abbrev pub lineBytes : ℕ
+lineBytes = 4096
 
 -- a byte that ends a word: a space, `(` or `)`
 abbrev pub endsWord : ℕ → Bool
 endsWord b = eqb b 32 || eqb b 40 || eqb b 41
 
 -- the word that is done, unless it has no byte, before the tokens behind it
-abbrev pub done : List ℕ → List Token → List Token
+abbrev pub done : List ℕ → List (List ℕ) → List (List ℕ)
 done [] ts = ts
-done (b ∷ bs) ts = word (b ∷ bs) ∷ ts
+done (b ∷ bs) ts = (b ∷ bs) ∷ ts
 
--- what a byte that ends a word is itself: a bracket, or nothing
-abbrev pub mark : ℕ → List Token → List Token
-mark b ts = cond (eqb b 40) (opening ∷ ts) (cond (eqb b 41) (closing ∷ ts) ts)
+-- what a byte that ends a word is itself: nothing, or a bracket
+abbrev pub mark : ℕ → List (List ℕ) → List (List ℕ)
+mark b ts = cond (eqb b 32) ts ((b ∷ []) ∷ ts)
 
 -- byte by byte, with the word that is being read
-unfoldable pub tokensAfter : List ℕ → List ℕ → List Token
+unfoldable pub tokensAfter : List ℕ → List ℕ → List (List ℕ)
 tokensAfter w [] = done w []
 tokensAfter w (b ∷ bs) = cond (endsWord b) (done w (mark b (tokensAfter [] bs))) (tokensAfter (w ++ (b ∷ [])) bs)
 
-abbrev pub tokens : List ℕ → List Token
+abbrev pub tokens : List ℕ → List (List ℕ)
 tokens line = tokensAfter [] line

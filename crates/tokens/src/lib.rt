@@ -5,16 +5,11 @@ ghost use lib.ListN.{length};
 ghost use Rattle.tokens.specs.Tokens.{endsWord, tokens};
 ghost use Rattle.tokens.specs.Found.{IsFound, IsWordEnd, IsPastSpaces};
 
-pub enum Kind {
-    Open,
-    Close,
-    Word,
-    End,
-}
+// How many bytes a line may have.
+pub const LINE_BYTES: usize = 4096;
 
-// A token, where its bytes begin and where they end. At the line's end it is End.
+// Where a token's bytes begin and end: at one place where no token is left.
 pub struct Found {
-    pub kind: Kind,
     pub from: usize,
     pub to: usize,
 }
@@ -61,44 +56,20 @@ fn word_end(line: &[u8], at: usize) -> usize
     i
 }
 
-// The first token of the line from `at` on.
+// The first token of the line from `at` on. A byte there that ends a word and is no space is a bracket.
 pub fn next_token(line: &[u8], at: usize) -> Found
     ensures { λ r. ⌜ IsFound (now (line .entry)) at r ⌝ }
 {
     if line.len() <= at {
-        return Found {
-            kind: Kind::End,
-            from: at,
-            to: at,
-        };
+        return Found { from: at, to: at };
     }
     let from = past_spaces(line, at);
     if line.len() <= from {
-        return Found {
-            kind: Kind::End,
-            from,
-            to: from,
-        };
+        return Found { from, to: from };
     }
-    let b = line[from];
-    if b == 40 {
-        return Found {
-            kind: Kind::Open,
-            from,
-            to: from + 1,
-        };
-    }
-    if b == 41 {
-        return Found {
-            kind: Kind::Close,
-            from,
-            to: from + 1,
-        };
+    if ends_word(line[from]) {
+        return Found { from, to: from + 1 };
     }
     let to = word_end(line, from);
-    Found {
-        kind: Kind::Word,
-        from,
-        to,
-    }
+    Found { from, to }
 }

@@ -14,8 +14,8 @@ returns-2 c =
     let a = c .before .before .before .before .before .before .args in
     area-refused _ _ _ _ _ _ (few-counts 3 (a .area .now) 4 (a .counts .now) (c .before .if1 .left) (c .if2 .taken))
 
-planform-form-requires : tie.Need-planform-form-requires
-planform-form-requires c κs = search needs
+numbered-planform-requires : tie.Need-numbered-planform-requires
+numbered-planform-requires c κs = search needs
 
 area-figures-requires : tie.Need-area-figures-requires
 area-figures-requires c κs = search needs
@@ -46,7 +46,7 @@ returns-3 c =
     let s = f .before .before in
     let k = s .before in
     let h = k .before in
-    area-written _ _ _ _ _ _ (h .if1 .left) (k .if2 .left) (s .planform-form .result) (f .area-figures .result) _ _ _ _ (s .planform-form .ensures) (f .area-figures .ensures .0) (f .area-figures .ensures .1) (b .write-three .ensures) (w .write-counts .ensures) (c .number .ensures)
+    area-written _ _ _ _ _ _ (h .if1 .left) (k .if2 .left) (s .numbered-planform .result) (f .area-figures .result) _ _ _ _ (s .numbered-planform .ensures) (f .area-figures .ensures .0) (f .area-figures .ensures .1) (b .write-three .ensures) (w .write-counts .ensures) (c .number .ensures)
 
 pub delvouzh-geometry-spec : {M : Type 1} → statement M
 delvouzh-geometry-spec =
@@ -54,7 +54,7 @@ delvouzh-geometry-spec =
     (tie.spec
     returns
     returns-2
-    planform-form-requires
+    numbered-planform-requires
     area-figures-requires
     write-three-requires
     write-counts-requires

@@ -14,8 +14,8 @@ returns-2 c =
     let a = c .before .before .before .before .before .before .before .args in
     set-refused _ _ _ _ _ _ (few-counts 13 (a .body .now) 4 (a .counts .now) (c .before .if1 .left) (c .if2 .taken))
 
-set-form-requires : tie.Need-set-form-requires
-set-form-requires c κs = search needs
+crossed-set-requires : tie.Need-crossed-set-requires
+crossed-set-requires c κs = search needs
 
 set-figures-requires : tie.Need-set-figures-requires
 set-figures-requires c κs = search needs
@@ -46,7 +46,7 @@ returns-3 c =
     let s = f .before .before in
     let k = s .before in
     let h = k .before in
-    set-written _ _ _ _ _ _ (h .if1 .left) (k .if2 .left) (s .set-form .result) (f .set-figures .result) _ _ _ _ (s .set-form .ensures) (f .set-figures .ensures .0) (f .set-figures .ensures .1) (b .write-body .ensures) (w .write-counts .ensures) (c .number .ensures)
+    set-written _ _ _ _ _ _ (h .if1 .left) (k .if2 .left) (s .crossed-set .result) (f .set-figures .result) _ _ _ _ (s .crossed-set .ensures) (f .set-figures .ensures .0) (f .set-figures .ensures .1) (b .write-body .ensures) (w .write-counts .ensures) (c .number .ensures)
 
 pub delvouzh-mass-properties-spec : {M : Type 1} → statement M
 delvouzh-mass-properties-spec =
@@ -54,7 +54,7 @@ delvouzh-mass-properties-spec =
     (tie.spec
     returns
     returns-2
-    set-form-requires
+    crossed-set-requires
     set-figures-requires
     write-body-requires
     write-counts-requires

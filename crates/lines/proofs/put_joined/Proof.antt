@@ -9,8 +9,8 @@ use Rattle.lines.proofs.put_joined.Tie as tie
 enum-told : tie.Need-enum-told
 enum-told c = search needs
 
-body-numbers-requires : tie.Need-body-numbers-requires
-body-numbers-requires c κs = search needs
+numbers-requires : tie.Need-numbers-requires
+numbers-requires c κs = search needs
 
 slice-aggregate-put-joined : tie.Need-slice-aggregate-put-joined
 slice-aggregate-put-joined c = search needs
@@ -30,7 +30,7 @@ same-length c = search needs
 returns : tie.Need-returns
 returns c =
     let b = c .before .before .before .before .before in
-    rw (b .before .enum-told .given .1) (same-text (ap joinedText (b .body-numbers .ensures)) (c .before .before .put-joined .ensures))
+    rw (b .before .enum-told .given .1) (same-text (ap joinedText (b .numbers .ensures)) (c .before .before .put-joined .ensures))
 
 same-length-2 : tie.Need-same-length-2
 same-length-2 c = search needs
@@ -43,7 +43,7 @@ put-joined-spec =
     tie.close
     (tie.spec
     enum-told
-    body-numbers-requires
+    numbers-requires
     slice-aggregate-put-joined
     put-joined-requires
     enum-known-verdict

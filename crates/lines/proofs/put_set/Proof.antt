@@ -13,8 +13,8 @@ use Rattle.lines.proofs.put_set.Tie as tie
 enum-told : tie.Need-enum-told
 enum-told c = search needs
 
-body-numbers-requires : tie.Need-body-numbers-requires
-body-numbers-requires c κs = search needs
+numbers-requires : tie.Need-numbers-requires
+numbers-requires c κs = search needs
 
 slice-aggregate-put-figures : tie.Need-slice-aggregate-put-figures
 slice-aggregate-put-figures c = search needs
@@ -36,7 +36,7 @@ returns c =
     let b = c .before .before .before .before .before in
     let f = b .before .before .before .before .before .args .f in
     same-text
-    (ap (λ (l : List Float). figuresText l (f .intervals) (f .samples)) (b .body-numbers .ensures) ∙ ap (λ (v : Verdict). printedSet v f) (sym (b .before .enum-told .given .1)))
+    (ap (λ (l : List Float). figuresText l (f .intervals) (f .samples)) (b .numbers .ensures) ∙ ap (λ (v : Verdict). printedSet v f) (sym (b .before .enum-told .given .1)))
     (c .before .before .put-figures .ensures)
 
 same-length-2 : tie.Need-same-length-2
@@ -53,7 +53,7 @@ put-set-spec =
     tie.close
     (tie.spec
     enum-told
-    body-numbers-requires
+    numbers-requires
     slice-aggregate-put-figures
     put-figures-requires
     enum-known-verdict

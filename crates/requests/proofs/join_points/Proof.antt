@@ -8,7 +8,7 @@ use lib.ListN.{length}
 use Rattle.joins.specs.Joins.{combineOf}
 use Rattle.joins.proofs.Listed.{length-listed, first-bodies}
 use Rattle.joins.proofs.JoinLaws.{combine-listed}
-use Rattle.requests.specs.Requests.{pointBodyAt, joinedPointsOf}
+use Rattle.requests.specs.Calls.{pointBodyAt, joinedPointsOf}
 use borrow.Author.Needs.{needs}
 use Rattle.requests.proofs.join_points.Statement.{statement}
 use Rattle.requests.proofs.join_points.Tie as tie

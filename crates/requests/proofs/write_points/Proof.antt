@@ -4,7 +4,7 @@ use Prim.Native.Nat.{_≤_, _-_}
 use native.Mathlib.Omega.{arith}
 use Rattle.joins.specs.Flat.{withBodies}
 use Rattle.joins.proofs.Listed.{none-written, one-written, all-written, length-written}
-use Rattle.requests.specs.Requests.{pointBodyAt}
+use Rattle.requests.specs.Calls.{pointBodyAt}
 use Rattle.requests.proofs.write_points.Statement.{statement}
 use Rattle.requests.proofs.write_points.Tie as tie
 

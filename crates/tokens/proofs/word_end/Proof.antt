@@ -7,7 +7,7 @@ use native.Mathlib.Omega.{arith}
 use borrow.Author.Needs.{needs}
 use denote.Ref.{now}
 use lib.ListN.{length, drop, getD}
-use Rattle.tokens.specs.Tokens.{word, endsWord, tokensAfter, tokens}
+use Rattle.tokens.specs.Tokens.{endsWord, tokensAfter, tokens}
 use Rattle.tokens.specs.Found.{part, IsWordEnd}
 use Rattle.tokens.proofs.Bytes.{longer-at, word-before, word-at-end, part-longer, part-none, part-first}
 use Rattle.tokens.proofs.word_end.Statement.{statement}
@@ -29,11 +29,11 @@ module _ (line : List ℕ) (at i : ℕ) where
       t ∙ longer-at line i h (part line at i) e ∙ ap (λ (w : List ℕ). tokensAfter w (drop (i + 1) line)) (sym (part-longer line at i a h))
 
   -- where the word is done, it is the part passed
-  word-is : at < i → at < length line → ((b : ℕ) (w : List ℕ) → tokensAfter (b ∷ w) (drop i line) ≡ word (b ∷ w) ∷ tokens (drop i line))
-      → tokensAfter (part line at i) (drop i line) ≡ word (part line at i) ∷ tokens (drop i line)
+  word-is : at < i → at < length line → ((b : ℕ) (w : List ℕ) → tokensAfter (b ∷ w) (drop i line) ≡ (b ∷ w) ∷ tokens (drop i line))
+      → tokensAfter (part line at i) (drop i line) ≡ part line at i ∷ tokens (drop i line)
   word-is a h f =
       let p = part-first line at i a h in
-      ap (λ (w : List ℕ). tokensAfter w (drop i line)) p ∙ f _ _ ∙ ap (λ (w : List ℕ). word w ∷ tokens (drop i line)) (sym p)
+      ap (λ (w : List ℕ). tokensAfter w (drop i line)) p ∙ f _ _ ∙ ap (λ (w : List ℕ). w ∷ tokens (drop i line)) (sym p)
 
   -- a byte that ends a word stands at i
   stopped : at ≤ i → i < length line → endsWord (getD line i 0) ≡ true → tokens (drop at line) ≡ tokensAfter (part line at i) (drop i line) → IsWordEnd line at i

@@ -1,9 +1,0 @@
--- Where the parts of a line with a planform lie among its figures, of which a line has at most 256.
-use Prim.Native.Nat.{_≤_}
-use Rattle.replay.specs.declared.planform_lines.Parts.{Parts}
-
-pub record InOrder (p : Parts) : Type 0 where
-  pub planform : p .begin ≤ p .end
-  pub height : p .end ≤ p .answers
-  pub answers : p .answers ≤ p .all
-  pub few : p .all ≤ 256

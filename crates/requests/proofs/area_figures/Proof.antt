@@ -1,0 +1,45 @@
+-- `requests::area_figures` meets its contract: each arm knows its case. Assumes nothing.
+use borrow.Author.Needs.{needs}
+use Rattle.requests.specs.Calls.{numberedArea, numberedAreaScratch}
+use Rattle.requests.proofs.area_figures.Statement.{statement}
+use Rattle.requests.proofs.area_figures.Tie as tie
+
+enum-known-planform : tie.Need-enum-known-planform
+enum-known-planform c = search needs
+
+geometry-requires : tie.Need-geometry-requires
+geometry-requires c κs = search needs
+
+enum-told : tie.Need-enum-told
+enum-told c = search needs
+
+no-area-requires : tie.Need-no-area-requires
+no-area-requires c κs = search needs
+
+same-length : tie.Need-same-length
+same-length c = search needs
+
+returns : tie.Need-returns
+unfolding numberedArea numberedAreaScratch
+returns c =
+    let w = c .before .before in
+    let told = w .before .before .before .planform .given .1 in
+    (rw told (w .geometry .ensures .figures), rw told (w .geometry .ensures .scratch))
+
+returns-2 : tie.Need-returns-2
+unfolding numberedArea numberedAreaScratch
+returns-2 c =
+    let told = c .before .enum-told .given .1 in
+    (rw told (c .no-area .ensures), rw told)
+
+pub area-figures-spec : {M : Type 1} → statement M
+area-figures-spec =
+    tie.close
+    (tie.spec
+    enum-known-planform
+    geometry-requires
+    enum-told
+    no-area-requires
+    same-length
+    returns
+    returns-2)

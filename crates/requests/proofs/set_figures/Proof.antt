@@ -1,0 +1,45 @@
+-- `requests::set_figures` meets its contract: each arm knows its case. Assumes nothing.
+use borrow.Author.Needs.{needs}
+use Rattle.requests.specs.Calls.{numberedFigures, numberedScratch}
+use Rattle.requests.proofs.set_figures.Statement.{statement}
+use Rattle.requests.proofs.set_figures.Tie as tie
+
+enum-known-set : tie.Need-enum-known-set
+enum-known-set c = search needs
+
+mass-properties-requires : tie.Need-mass-properties-requires
+mass-properties-requires c κs = search needs
+
+enum-told : tie.Need-enum-told
+enum-told c = search needs
+
+no-figures-requires : tie.Need-no-figures-requires
+no-figures-requires c κs = search needs
+
+same-length : tie.Need-same-length
+same-length c = search needs
+
+returns : tie.Need-returns
+unfolding numberedFigures numberedScratch
+returns c =
+    let w = c .before .before in
+    let told = w .before .before .before .set .given .1 in
+    (rw told (w .mass-properties .ensures .figures), rw told (w .mass-properties .ensures .scratch))
+
+returns-2 : tie.Need-returns-2
+unfolding numberedFigures numberedScratch
+returns-2 c =
+    let told = c .before .enum-told .given .1 in
+    (rw told (c .no-figures .ensures), rw told)
+
+pub set-figures-spec : {M : Type 1} → statement M
+set-figures-spec =
+    tie.close
+    (tie.spec
+    enum-known-set
+    mass-properties-requires
+    enum-told
+    no-figures-requires
+    same-length
+    returns
+    returns-2)

@@ -1,0 +1,75 @@
+-- The calls on what is given by numbers (docs/FORMS.md; include/delvouzh.h): an unknown number, or another count of numbers, is no form.
+use mathlib.Core.Bool.{cond}
+use mathlib.Core.List.{List, [], _∷_}
+use Prim.Native.Nat.{ℕ, _+_, _*_, _/_}
+use lib.Dec.{eqb}
+use lib.ListN.{length}
+use lib.Ieee.{Float}
+use Rattle.floats.specs.Operations.{bits, at}
+use Rattle.refusals.specs.declared.Refusal.the-variants.{NoForm}
+use Rattle.refusals.specs.declared.Verdict.{Verdict}
+use Rattle.refusals.specs.declared.Verdict.the-variants.{Refused}
+use Rattle.planforms.specs.declared.NumberedPlanform.{NumberedPlanform}
+use Rattle.planforms.specs.declared.NumberedPlanform.the-variants.{Known as planformKnown, Unknown as noPlanform}
+use Rattle.fins.specs.declared.NumberedSet.{NumberedSet}
+use Rattle.fins.specs.declared.NumberedSet.the-variants.{Known as setKnown, Unknown as noSet}
+use Rattle.bodies.specs.declared.Body.{Body}
+use Rattle.bodies.specs.Tensors.{vector, zeroTensor, tensor}
+use Rattle.joins.specs.declared.Joined.{Joined}
+use Rattle.joins.specs.Flat.{bodyAt}
+use Rattle.joins.specs.Joins.{joinedOf}
+use Rattle.moments.specs.declared.Moments.{Moments}
+use Rattle.moments.specs.Moments.{principalMomentsOf}
+use Rattle.body_check.specs.BodyCheck.{checkOf}
+use Rattle.figures.specs.declared.Area.{Area}
+use Rattle.figures.specs.declared.Figures.{Figures}
+use Rattle.figures.specs.Figures.{refusedFigures, setFigures, setScratch}
+use Rattle.figures.specs.Areas.{refusedArea, areaFigures, areaScratch}
+
+-- ---- a set's figures, and what is left in the scratch
+
+unfoldable pub numberedFigures : NumberedSet → List Float → ℕ → ℕ → Figures
+numberedFigures (setKnown set) points L scratchLength = setFigures set points L scratchLength
+numberedFigures noSet points L scratchLength = refusedFigures NoForm 0
+
+unfoldable pub numberedScratch : NumberedSet → List Float → ℕ → List Float → List Float
+numberedScratch (setKnown set) points L scratch = setScratch set points L scratch
+numberedScratch noSet points L scratch = scratch
+
+-- ---- a planform's area, likewise
+
+unfoldable pub numberedArea : NumberedPlanform → List Float → ℕ → ℕ → Area
+numberedArea (planformKnown planform) points L scratchLength = areaFigures planform points L scratchLength
+numberedArea noPlanform points L scratchLength = refusedArea NoForm 0
+
+unfoldable pub numberedAreaScratch : NumberedPlanform → List Float → ℕ → List Float → List Float
+numberedAreaScratch (planformKnown planform) points L scratch = areaScratch planform points L scratch
+numberedAreaScratch noPlanform points L scratch = scratch
+
+-- ---- points joined
+
+-- "(point MASS X Y Z)", number k of a line: a mass at a place
+abbrev pub pointBodyAt : List Float → ℕ → Body
+pointBodyAt figures k =
+    record {
+      «mass_kg» = at figures (4 * k);
+      «centre_m» = vector (at figures (4 * k + 1)) (at figures (4 * k + 2)) (at figures (4 * k + 3));
+      «inertia_kg_m2» = zeroTensor;
+    }
+
+-- "none, or more, gives 3"
+unfoldable pub joinedPointsOf : List Float → Joined
+joinedPointsOf figures = joinedOf (pointBodyAt figures) (length figures / 4)
+
+-- ---- principal moments: of nine numbers in columns
+
+abbrev pub noMoments : Moments
+noMoments = record { verdict = Refused NoForm; «moments_kg_m2» = bits 0 ∷ bits 0 ∷ bits 0 ∷ [] }
+
+unfoldable pub tensorMoments : List Float → Moments
+tensorMoments numbers = cond (eqb (length numbers) 9) (principalMomentsOf (tensor (at numbers))) noMoments
+
+-- ---- the body check: of thirteen numbers
+
+unfoldable pub bodyVerdict : List Float → Verdict
+bodyVerdict numbers = cond (eqb (length numbers) 13) (checkOf (bodyAt numbers 0)) (Refused NoForm)

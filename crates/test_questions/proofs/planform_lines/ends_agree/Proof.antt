@@ -1,0 +1,63 @@
+-- `test_questions::planform_lines::ends_agree` meets its contract: the crossings are written over an array's start. Assumes nothing.
+use native.Mathlib.Omega.{arith}
+use borrow.Author.Needs.{needs}
+use Rattle.sorting.proofs.Over.{written-length}
+use Rattle.chords.proofs.Listed.{at-most-64}
+use Rattle.test_questions.proofs.planform_lines.ends_agree.Statement.{statement}
+use Rattle.test_questions.proofs.planform_lines.ends_agree.Tie as tie
+
+chords-at-requires : tie.Need-chords-at-requires
+chords-at-requires c κs = search needs
+
+enum-told : tie.Need-enum-told
+enum-told c = search needs
+
+enum-known-start-m : tie.Need-enum-known-start-m
+enum-known-start-m c = search needs
+
+slice-aggregate-agree : tie.Need-slice-aggregate-agree
+slice-aggregate-agree c = search needs
+
+agree-requires : tie.Need-agree-requires
+agree-requires c κs = search needs
+
+enum-told-2 : tie.Need-enum-told-2
+enum-told-2 c = search needs
+
+outline-crossings-requires : tie.Need-outline-crossings-requires
+outline-crossings-requires c κs = search needs
+
+slice-aggregate-agree-2 : tie.Need-slice-aggregate-agree-2
+slice-aggregate-agree-2 c =
+    let listed = c .before in
+    let a = listed .before .before .before .before .before .before .before .args in
+    omega (arith, written-length (listed .outline-crossings .ensures) (at-most-64 (a .points .now) (a .h)))
+
+agree-requires-2 : tie.Need-agree-requires-2
+agree-requires-2 c κs = search needs
+
+returns : tie.Need-returns
+returns c = search needs
+
+returns-2 : tie.Need-returns-2
+returns-2 c = search needs
+
+returns-3 : tie.Need-returns-3
+returns-3 c = search needs
+
+pub ends-agree-spec : {M : Type 1} → statement M
+ends-agree-spec =
+    tie.close
+    (tie.spec
+    chords-at-requires
+    enum-told
+    enum-known-start-m
+    slice-aggregate-agree
+    agree-requires
+    enum-told-2
+    outline-crossings-requires
+    slice-aggregate-agree-2
+    agree-requires-2
+    returns
+    returns-2
+    returns-3)

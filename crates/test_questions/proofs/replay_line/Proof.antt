@@ -1,0 +1,65 @@
+-- `test_questions::replay_line` meets its contract: the kinds are tried one after another. Assumes nothing.
+use mathlib.Core.Path.{_≡_}
+use Prim.Native.Nat.{_-_, _≤_}
+use native.Mathlib.Omega.{arith}
+use borrow.Author.Needs.{needs}
+use lib.ListN.{length}
+use Rattle.test_questions.proofs.replay_line.Statement.{statement}
+use Rattle.test_questions.proofs.replay_line.Tie as tie
+
+abbrev Inv-loop : tie.InvT-loop
+Inv-loop line values₀ kind₀ values kind = (length line ≤ 4096) × (length values ≡ length values₀)
+
+abbrev μ-loop : tie.MeasureT-loop
+μ-loop line values₀ kind₀ values kind = 14 - kind
+
+returns : tie.Need-returns Inv-loop μ-loop
+returns c = search needs
+
+loop-holds : tie.Need-loop-holds Inv-loop μ-loop
+loop-holds c = omega arith
+
+replay-as-requires : tie.Need-replay-as-requires Inv-loop μ-loop
+replay-as-requires c κs = omega arith
+
+is-none-requires : tie.Need-is-none-requires Inv-loop μ-loop
+is-none-requires c κs = search needs
+
+same-length : tie.Need-same-length Inv-loop μ-loop
+same-length c = omega arith
+
+returns-2 : tie.Need-returns-2 Inv-loop μ-loop
+returns-2 c = search needs
+
+add-kind : tie.Need-add-kind Inv-loop μ-loop
+add-kind c = omega arith
+
+loop-less : tie.Need-loop-less Inv-loop μ-loop
+loop-less c = omega arith
+
+loop-again : tie.Need-loop-again Inv-loop μ-loop
+loop-again c = omega arith
+
+same-length-2 : tie.Need-same-length-2 Inv-loop μ-loop
+same-length-2 c = omega arith
+
+returns-3 : tie.Need-returns-3 Inv-loop μ-loop
+returns-3 c = search needs
+
+pub replay-line-spec : {M : Type 1} → statement M
+replay-line-spec =
+    tie.close
+    (tie.spec
+    Inv-loop
+    μ-loop
+    returns
+    loop-holds
+    replay-as-requires
+    is-none-requires
+    same-length
+    returns-2
+    add-kind
+    loop-less
+    loop-again
+    same-length-2
+    returns-3)
