@@ -1,34 +1,58 @@
-//! The proved reading of figure words, as Rust links it, beside `str::parse::<f64>`: equal bits, the same words taken, and time a word.
+//! The proved reader of figures beside the loop over digits that stood there before and a Rust reader that goes digit by digit: equal
+//! answers and time a figure, on the figures of 64-point outlines; then what reading takes of a whole line.
 //!
-//! A word's shape is tested here apart from both, as Rust takes more (`1e3`, `.5`, `inf`). Each time is the best of 200 rounds in which the
-//! two take turns, so that other work on the machine counts least.
+//! Each time is the best of many rounds in which the readers take turns, so that other work on the machine counts least.
 use std::hint::black_box;
 use std::time::Instant;
 
 extern "C" {
-    fn read_word(word: *const u8, length: usize) -> f64;
+    fn read_by_words(word: *const u8, word_len: usize) -> u64;
+    fn read_by_loop(word: *const u8, word_len: usize) -> u64;
+    fn delvouzh_answer_line(
+        line: *const u8,
+        line_len: usize,
+        scratch: *mut f64,
+        scratch_len: usize,
+        answer: *mut u8,
+        answer_len: usize,
+        written: *mut usize,
+        written_len: usize,
+    ) -> usize;
 }
 
-#[inline(always)]
-fn proved(word: &str) -> f64 {
-    unsafe { read_word(word.as_ptr(), word.len()) }
+/// The bits of a figure, every NaN as one, and 1 for a word that is none.
+type Reader = fn(&[u8]) -> u64;
+
+#[inline(never)]
+fn by_words(word: &[u8]) -> u64 {
+    unsafe { read_by_words(word.as_ptr(), word.len()) }
 }
 
-#[inline(always)]
-fn rust(word: &str) -> f64 {
-    word.parse().unwrap_or(f64::NAN)
+#[inline(never)]
+fn by_loop(word: &[u8]) -> u64 {
+    unsafe { read_by_loop(word.as_ptr(), word.len()) }
 }
 
-/// An optional sign, 1 to 19 digits in all, one optional point with a digit on each side; and not sixteen digits alone.
-fn is_decimal(word: &str) -> bool {
-    let bare = word.strip_prefix(['+', '-']).unwrap_or(word);
-    let (whole, fraction) = bare.split_once('.').unwrap_or((bare, "0"));
-    let digits = bare.bytes().filter(u8::is_ascii_digit).count();
-    let all = |part: &str| !part.is_empty() && part.bytes().all(|b| b.is_ascii_digit());
-    all(whole) && all(fraction) && digits <= 19 && !(word.len() == 16 && digits == 16)
+#[inline(never)]
+fn by_rust(word: &[u8]) -> u64 {
+    if word.len() != 16 {
+        return 1;
+    }
+    let mut bits = 0;
+    for &byte in word {
+        let digit = match byte {
+            b'0'..=b'9' => byte - b'0',
+            b'a'..=b'f' => byte - b'a' + 10,
+            _ => return 1,
+        };
+        bits = bits * 16 + u64::from(digit);
+    }
+    if f64::from_bits(bits).is_nan() { 0x7ff8_0000_0000_0000 } else { bits }
 }
 
-/// Marsaglia's xorshift, from a fixed seed: every run has the same words.
+const READERS: [(&str, Reader); 3] = [("Rust, digit by digit", by_rust), ("the loop over digits", by_loop), ("two words", by_words)];
+
+/// Marsaglia's xorshift, from a fixed seed: every run has the same inputs.
 struct Random(u64);
 
 impl Random {
@@ -39,149 +63,191 @@ impl Random {
         self.0
     }
 
-    fn below(&mut self, n: u64) -> u64 {
-        self.bits() % n
+    /// Between 0 and 1.
+    fn part(&mut self) -> f64 {
+        (self.bits() >> 11) as f64 / (1u64 << 53) as f64
     }
 }
 
-/// Digits with a sign at times, and a point somewhere between them or none.
-fn pointed(r: &mut Random, digits: &str) -> String {
-    let sign = ["", "", "", "-", "+"][r.below(5) as usize];
-    let at = r.below(digits.len() as u64) as usize;
-    if at == 0 {
-        format!("{sign}{digits}")
-    } else {
-        format!("{sign}{}.{}", &digits[..at], &digits[at..])
+fn figure(x: f64) -> [u8; 16] {
+    format!("{:016x}", x.to_bits()).into_bytes().try_into().unwrap()
+}
+
+/// x, y of the points of an outline: up one side of an arch and down the other, none at the same height.
+fn outline(r: &mut Random, points: usize) -> Vec<f64> {
+    let last = (points - 1) as f64;
+    let mut all = vec![0.0, 0.0];
+    for i in 1..points - 1 {
+        let t = (i as f64 + 0.3 * r.part()) / last;
+        all.extend([0.3 * t, 0.1 * (std::f64::consts::PI * t).sin()]);
     }
+    all.extend([0.3, 0.0]);
+    all
 }
 
-fn some_digits(r: &mut Random, count: usize) -> String {
-    (0..count).map(|_| char::from(b'0' + r.below(10) as u8)).collect()
+// ---- equal answers
+
+struct Tally {
+    compared: u64,
+    differ: u64,
 }
 
-/// As people type lengths in metres: 0.0032, 0.15, 12.5.
-fn typed(r: &mut Random) -> String {
-    let places = 1 + r.below(4) as usize;
-    let whole = if r.below(3) == 0 { r.below(64) } else { 0 };
-    format!("{whole}.{}", some_digits(r, places))
-}
-
-fn any(r: &mut Random) -> String {
-    let count = 1 + r.below(19) as usize;
-    let digits = some_digits(r, count);
-    pointed(r, &digits)
-}
-
-fn fifteen(r: &mut Random) -> String {
-    let digits = some_digits(r, 15);
-    pointed(r, &digits)
-}
-
-fn sixteen_up(r: &mut Random) -> String {
-    let count = 16 + r.below(4) as usize;
-    let digits = some_digits(r, count);
-    pointed(r, &digits)
-}
-
-fn nineteen_behind(r: &mut Random) -> String {
-    format!("{}.{}", r.below(10), some_digits(r, 18))
-}
-
-/// A number halfway between two f64s, exactly, or one last digit off: whole, or with places where twice as much is whole.
-fn halfway(r: &mut Random) -> String {
-    let leading = 1u64 << 52;
-    let twice = 2 * (leading + r.below(leading)) + 1;
-    let (n, zeros) = match r.below(3) {
-        0 => (twice * [1, 2, 4, 8, 16, 32, 64, 128][r.below(8) as usize], 0),
-        1 => (twice / 2 * 10 + 5, 1),
-        _ => (twice / 4 * 100 + twice % 4 * 25, 2),
-    };
-    let n = n + [0, 0, 1][r.below(3) as usize] - [0, 0, 1][r.below(3) as usize];
-    let digits = n.to_string();
-    if zeros == 0 {
-        return format!("+{digits}");
-    }
-    let at = digits.len() - zeros;
-    format!("{}.{}", &digits[..at], &digits[at..])
-}
-
-/// A word with one to three bytes put in, cut or changed.
-fn damaged(r: &mut Random) -> String {
-    let mut word = any(r).into_bytes();
-    for _ in 0..1 + r.below(3) {
-        let byte = b"0123456789..+-eE#xinfa "[r.below(23) as usize];
-        let at = r.below(word.len() as u64 + 1) as usize;
-        match r.below(3) {
-            0 => word.insert(at, byte),
-            1 if at < word.len() => word[at] = byte,
-            _ if at < word.len() => {
-                word.remove(at);
-            }
-            _ => {}
+fn compare(tally: &mut Tally, word: &[u8]) {
+    let answers = READERS.map(|(_, read)| read(word));
+    tally.compared += 1;
+    if answers != [answers[0]; 3] {
+        tally.differ += 1;
+        if tally.differ <= 8 {
+            println!("differ at {word:?}: {answers:x?}");
         }
     }
-    String::from_utf8(word).unwrap()
 }
 
-fn family(name: &str, count: usize, make: fn(&mut Random) -> String) -> u64 {
-    let mut r = Random(0x2545_f491_4f6c_dd1d);
-    let (mut taken, mut differ) = (0, 0);
-    for _ in 0..count {
-        let word = make(&mut r);
-        let (got, want) = (proved(&word), if is_decimal(&word) { rust(&word) } else { f64::NAN });
-        taken += u64::from(!want.is_nan());
-        if got.to_bits() != want.to_bits() && !(got.is_nan() && want.is_nan()) {
-            differ += 1;
-            if differ <= 8 {
-                println!("differ at {word}: {:016x}, Rust {:016x}", got.to_bits(), want.to_bits());
+/// Figures, each with every two of its bytes replaced by any two; words of any bytes; words of other lengths.
+fn compare_all(figures: &[[u8; 16]]) -> u64 {
+    let mut tally = Tally { compared: 0, differ: 0 };
+    for word in figures {
+        compare(&mut tally, word);
+    }
+    for first in 0..16 {
+        for second in 0..first {
+            for both in 0..65536u32 {
+                let mut word = figures[(first * 16 + second) % figures.len()];
+                word[first] = both as u8;
+                word[second] = (both >> 8) as u8;
+                compare(&mut tally, &word);
             }
         }
     }
-    println!("{name:<34}{count:>10}{taken:>10}{differ:>10}");
-    differ
+    let mut random = Random(0x2545_f491_4f6c_dd1d);
+    for _ in 0..2_000_000 {
+        let bits = random.bits();
+        compare(&mut tally, format!("{bits:016x}").as_bytes());
+        let halves = [bits.to_be_bytes(), random.bits().to_be_bytes()].concat();
+        compare(&mut tally, &halves);
+        compare(&mut tally, &figures[0][..(bits % 16) as usize]);
+    }
+    println!("{} words read by all three, {} differ\n", tally.compared, tally.differ);
+    tally.differ
 }
 
-fn timed(words: &[String], read: impl Fn(&str) -> f64) -> f64 {
+// ---- time a figure
+
+fn time(read: Reader, words: &[[u8; 16]]) -> f64 {
+    let passes = 4096 / words.len();
     let start = Instant::now();
-    let mut sum = 0;
-    for word in words {
-        sum ^= read(black_box(word)).to_bits();
+    let mut all = 0;
+    for _ in 0..passes {
+        for word in words {
+            all ^= read(black_box(word));
+        }
     }
-    black_box(sum);
-    start.elapsed().as_secs_f64() * 1e9 / words.len() as f64
+    black_box(all);
+    start.elapsed().as_nanos() as f64 / (passes * words.len()) as f64
 }
 
-/// Nanoseconds a word: ours and Rust's.
-fn race(name: &str, make: fn(&mut Random) -> String) -> bool {
-    let mut r = Random(0x9e37_79b9_7f4a_7c15);
-    let words: Vec<String> = std::iter::repeat_with(|| make(&mut r)).filter(|w| is_decimal(w)).take(4096).collect();
-    let (mut ours, mut theirs) = (f64::MAX, f64::MAX);
-    for _ in 0..200 {
-        ours = ours.min(timed(&words, proved));
-        theirs = theirs.min(timed(&words, rust));
+/// Prints the best times of the three and returns them.
+fn times(name: &str, words: &[[u8; 16]]) -> [f64; 3] {
+    let mut best = [f64::MAX; 3];
+    for _ in 0..500 {
+        for (best, (_, read)) in best.iter_mut().zip(READERS) {
+            *best = best.min(time(read, words));
+        }
     }
-    println!("{name:<34}{ours:>10.1}{theirs:>10.1}{:>10.2}", ours / theirs);
-    ours <= 2.0 * theirs
+    println!("{name:<34}{:>8.2}{:>8.2}{:>8.2}{:>12.1}", best[0], best[1], best[2], best[1] / best[2]);
+    best
 }
 
-type Family = (&'static str, usize, fn(&mut Random) -> String);
+fn damaged(figures: &[[u8; 16]], place: usize) -> Vec<[u8; 16]> {
+    let mut words = figures.to_vec();
+    for word in &mut words {
+        word[place] = b'G';
+    }
+    words
+}
+
+// ---- reading's share of a line
+
+fn answer(line: &str) -> String {
+    let mut scratch = [0.0; 1024];
+    let mut text = [0; 320];
+    let mut written = [0];
+    let number = unsafe {
+        delvouzh_answer_line(line.as_ptr(), line.len(), scratch.as_mut_ptr(), scratch.len(), text.as_mut_ptr(), text.len(), written.as_mut_ptr(), 1)
+    };
+    assert_eq!(number, 0);
+    String::from_utf8(text[..written[0]].to_vec()).unwrap()
+}
+
+fn time_line(line: &str) -> f64 {
+    let mut best = f64::MAX;
+    for _ in 0..300 {
+        let start = Instant::now();
+        black_box(answer(black_box(line)));
+        best = best.min(start.elapsed().as_nanos() as f64);
+    }
+    best
+}
+
+/// A line and the same line that is refused once it is read, its time with the loop in place of the words worked out from `saved`, the
+/// nanoseconds that a figure takes less.
+fn share(name: &str, figures: usize, saved: f64, whole: &str, refused: &str) {
+    assert!(!answer(whole).contains("refused") && answer(refused).contains("refused"), "{name}");
+    let (line, reading) = (time_line(whole), time_line(refused));
+    let more = figures as f64 * saved;
+    println!(
+        "{name:<34}{figures:>8}{:>10.2}{:>10.2}{:>8.1} %{:>10.2}{:>10.2}{:>8.1} %",
+        (reading + more) / 1000.0,
+        (line + more) / 1000.0,
+        100.0 * (reading + more) / (line + more),
+        reading / 1000.0,
+        line / 1000.0,
+        100.0 * reading / line
+    );
+}
+
+fn lines(saved: f64) {
+    // sixteen digits are marked where the library asks for it
+    let mark = if answer("(join (point 0 0 0 0))").contains("refused") { "" } else { "#" };
+    let f = |x: f64| format!("{mark}{}", String::from_utf8(figure(x).to_vec()).unwrap());
+    let all = |xs: &[f64]| xs.iter().map(|x| f(*x)).collect::<Vec<_>>().join(" ");
+    let set = |count: usize, planform: &str| {
+        format!(
+            "(set (limit 64) (count {count}) {planform} (thickness {}) (section square) (cant {}) (base {}) (radius {}) (bulk {}))",
+            f(0.003),
+            f(0.0),
+            f(0.0),
+            f(0.03),
+            f(680.0)
+        )
+    };
+    let mut random = Random(0x9e37_79b9_7f4a_7c15);
+    println!("\n{:<42}{:>30}{:>30}", "µs a line", "with the loop", "with two words");
+    println!("{:<34}{:>8}{:>10}{:>10}{:>10}{:>10}{:>10}{:>10}", "", "figures", "reading", "line", "share", "reading", "line", "share");
+    for points in [64, 12, 3] {
+        let planform = format!("(outline {})", all(&outline(&mut random, points)));
+        let name = format!("set, outline of {points} points");
+        share(&name, 2 * points + 5, saved, &set(4, &planform), &set(33, &planform));
+        let area = |limit| format!("(area (limit {limit}) {planform})");
+        share(&format!("area, outline of {points} points"), 2 * points, saved, &area(64), &area(0));
+    }
+    let planform = format!("(trapezoid {})", all(&[0.3, 0.1, 0.15, 0.1]));
+    share("set, trapezoid", 9, saved, &set(4, &planform), &set(33, &planform));
+    let area = |limit| format!("(area (limit {limit}) {planform})");
+    share("area, trapezoid", 4, saved, &area(64), &area(0));
+}
 
 fn main() {
-    let families: [Family; 7] = [
-        ("typed lengths", 100_000, typed),
-        ("1 to 19 digits", 300_000, any),
-        ("15 digits", 50_000, fifteen),
-        ("16 to 19 digits", 250_000, sixteen_up),
-        ("19 digits, 18 behind the point", 50_000, nineteen_behind),
-        ("halfway, or a last digit off", 150_000, halfway),
-        ("damaged", 100_000, damaged),
-    ];
-    println!("{:<34}{:>10}{:>10}{:>10}", "words", "compared", "figures", "differ");
-    let differ: u64 = families.iter().map(|(name, count, make)| family(name, *count, *make)).sum();
-    println!("\n{:<34}{:>10}{:>10}{:>10}", "nanoseconds a word", "here", "Rust", "times");
-    let slow = families[..6].iter().filter(|(name, _, make)| !race(name, *make)).count();
-    if differ > 0 || slow > 0 {
-        println!("{differ} words differ, {slow} families take over twice the time");
+    let mut random = Random(0x9e37_79b9_7f4a_7c15);
+    let figures: Vec<[u8; 16]> = (0..32).flat_map(|_| outline(&mut random, 64)).map(figure).collect();
+    let differ = compare_all(&figures);
+    println!("{:<34}{:>8}{:>8}{:>8}{:>12}", "ns a figure", "Rust", "loop", "words", "loop/words");
+    let best = times("outlines of 64 points", &figures);
+    times("the same 9 again and again", &figures[2..11]);
+    times("no figure: first digit wrong", &damaged(&figures, 0));
+    times("no figure: last digit wrong", &damaged(&figures, 15));
+    lines(best[1] - best[2]);
+    if differ != 0 || best[1] < 3.0 * best[2] {
         std::process::exit(1);
     }
 }

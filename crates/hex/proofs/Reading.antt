@@ -1,54 +1,68 @@
--- Reading digit by digit: one digit more, and the number's bound. Assumes nothing.
-use mathlib.Core.List.{List, _∷_}
-use mathlib.Core.Bool.{Bool, true, false}
-use mathlib.Core.Path.{_≡_, refl, sym, ap, _∙_}
-use Prim.Native.Nat.{ℕ, _+_, _*_, _^_, _<_, _≤_}
-use native.Mathlib.Nat.{pow-suc, pow-le-pow-right}
-use native.Mathlib.Numerals.{add-one}
+-- Reading by eights is reading digit by digit. Assumes nothing.
+use mathlib.Core.List.{List, [], _∷_, _++_}
+use mathlib.Core.Bool.{Bool, true, false, _&&_}
+use mathlib.Core.Path.{_≡_, refl, sym, ap, ap₂, _∙_}
+use Prim.Native.Nat.{ℕ, _+_, _*_, _≤_}
 use native.Mathlib.Omega.{arith}
-use borrow.Author.Tests.{lt-ltb, le-ltb, eq-eqb, ne-eqb, eqb-true}
+use borrow.Author.Tests.{eq-eqb, ne-eqb, eqb-true}
 use lib.Dec.{ltb, eqb}
-use lib.ListN.{length, drop, getD, drop-of-length-le}
-use lib.Seq.{drop-cons}
+use lib.ListN.{length, take, drop, take-append-drop, drop-of-length-le, length-drop}
 use lib.Ieee.{Float}
 use Rattle.floats.specs.Operations.{bits}
+use Rattle.hex.specs.declared.Figure.{Figure}
 use Rattle.hex.specs.declared.Figure.the-variants.{Number, NotFigure}
 use Rattle.hex.specs.Hex.{digitValue, pick, readDigits, figureOf}
+use Rattle.hex.specs.Words.{bytesOf, lanes, allDigits}
+use Rattle.hex.proofs.Words.{lanes-behind}
 
 pub other-length : (w : List ℕ) → (length w ≡ 16 → ⊥) → NotFigure ≡ figureOf w
 unfolding figureOf
 other-length w h = sym (rw (ne-eqb (length w) 16 h))
 
-pub sixteen : (w : List ℕ) → length w ≡ 16 → figureOf w ≡ readDigits (drop 0 w) 0
+sixteen : (w : List ℕ) → length w ≡ 16 → figureOf w ≡ readDigits w 0
 unfolding figureOf
 sixteen w h = rw (eq-eqb (length w) 16 h)
 
-step : (w : List ℕ) (i n : ℕ) → i < length w → readDigits (drop i w) n ≡ pick (ltb (digitValue (getD w i 0)) 16) (readDigits (drop (i + 1) w) (n * 16 + digitValue (getD w i 0))) NotFigure
-unfolding readDigits
-step w i n h = ap (λ (l : List ℕ). readDigits l n) (drop-cons w i 0 h ∙ ap (λ (k : ℕ). getD w i 0 ∷ drop k w) (sym (add-one i)))
+-- the digits of l, and then the rest
+part-read : (l rest : List ℕ) (n : ℕ) → readDigits (l ++ rest) n ≡ pick (allDigits l) (readDigits rest (lanes 4 n digitValue l)) NotFigure
+unfolding readDigits lanes allDigits
+part-read [] rest n = refl
+part-read (b ∷ l) rest n = go (ltb (digitValue b) 16) (part-read l rest (n * 16 + digitValue b))
+  where
+    go : (t : Bool) → readDigits (l ++ rest) (n * 16 + digitValue b) ≡ pick (allDigits l) (readDigits rest (lanes 4 (n * 16 + digitValue b) digitValue l)) NotFigure
+        → pick t (readDigits (l ++ rest) (n * 16 + digitValue b)) NotFigure ≡ pick (t && allDigits l) (readDigits rest (lanes 4 (n * 16 + digitValue b) digitValue l)) NotFigure
+    go true e = e
+    go false e = refl
 
-pub bad-digit : (w : List ℕ) (i n d : ℕ) → i < length w → figureOf w ≡ readDigits (drop i w) n → d ≡ digitValue (getD w i 0) → 16 ≤ d → NotFigure ≡ figureOf w
-bad-digit w i n d h e q b =
-    let g : 16 ≤ digitValue (getD w i 0) = rw q at b in
-    sym (e ∙ step w i n h ∙ rw (le-ltb (digitValue (getD w i 0)) 16 g))
+module _ (w : List ℕ) (len : length w ≡ 16) (first second : ℕ) (A : bytesOf first ≡ take 8 (drop 0 w)) (B : bytesOf second ≡ take 8 (drop 8 w)) where
+  -- sixteen bytes are the two words'
+  two-words : w ≡ bytesOf first ++ (bytesOf second ++ [])
+  two-words =
+      let e : drop 8 (drop 8 w) ≡ [] = drop-of-length-le (drop 8 w) (let z = length-drop 8 w in let y : length (drop 8 w) ≤ 8 = omega arith in y) in
+      sym (ap₂ (λ (x y : List ℕ). x ++ y) A (ap₂ (λ (x y : List ℕ). x ++ y) B (sym e) ∙ take-append-drop 8 (drop 8 w)) ∙ take-append-drop 8 w)
 
-pub good-digit : (w : List ℕ) (i n d : ℕ) → i < length w → figureOf w ≡ readDigits (drop i w) n → d ≡ digitValue (getD w i 0) → d < 16 → figureOf w ≡ readDigits (drop (i + 1) w) (n * 16 + d)
-good-digit w i n d h e q b =
-    let g : digitValue (getD w i 0) < 16 = rw q at b in
-    e ∙ step w i n h ∙ rw (lt-ltb (digitValue (getD w i 0)) 16 g, q)
+  abbrev number : ℕ
+  number = lanes 4 0 digitValue (bytesOf first) * 0x1_0000_0000 + lanes 4 0 digitValue (bytesOf second)
 
-pub all-read : (w : List ℕ) (i n : ℕ) → length w ≤ i → figureOf w ≡ readDigits (drop i w) n → Number (bits n) ≡ figureOf w
-unfolding readDigits
-all-read w i n h e = sym (e ∙ ap (λ (l : List ℕ). readDigits l n) (drop-of-length-le w h))
+  by-words : figureOf w ≡ pick (allDigits (bytesOf first)) (pick (allDigits (bytesOf second)) (Number (bits number)) NotFigure) NotFigure
+  unfolding readDigits
+  by-words =
+      sixteen w len
+      ∙ ap (λ (l : List ℕ). readDigits l 0) two-words
+      ∙ part-read (bytesOf first) (bytesOf second ++ []) 0
+      ∙ ap (λ (f : Figure). pick (allDigits (bytesOf first)) f NotFigure)
+      (part-read (bytesOf second) [] (lanes 4 0 digitValue (bytesOf first))
+      ∙ ap (λ (n : ℕ). pick (allDigits (bytesOf second)) (Number (bits n)) NotFigure) (lanes-behind (lanes 4 0 digitValue (bytesOf first)) second digitValue))
 
--- sixteen digits fit in 64 bits
-pub fits-next : (n i d : ℕ) → n < 16 ^ i → i < 16 → d < 16 → (n * 16 + d < 16 ^ (i + 1)) × (n * 16 + d < 2 ^ 64)
-fits-next n i d a b c =
-    let e : 16 ^ (i + 1) ≡ 16 ^ i * 16 = ap (λ (k : ℕ). 16 ^ k) (add-one i) ∙ pow-suc 16 i in
-    let l : 16 ^ (i + 1) ≤ 16 ^ 16 = let z : 0 < 16 = omega arith in let k : i + 1 ≤ 16 = omega arith in pow-le-pow-right z k in
-    let m : 16 ^ 16 ≡ 2 ^ 64 = refl in
-    let r : n * 16 + d < 16 ^ i * 16 = omega arith in
-    (omega arith, omega arith)
+  pub first-bad : allDigits (bytesOf first) ≡ false → NotFigure ≡ figureOf w
+  first-bad a = sym (by-words ∙ rw a)
+
+  pub second-bad : allDigits (bytesOf first) ≡ true → allDigits (bytesOf second) ≡ false → NotFigure ≡ figureOf w
+  second-bad a b = sym (by-words ∙ rw (a, b))
+
+  pub both-good : allDigits (bytesOf first) ≡ true → allDigits (bytesOf second) ≡ true → {m n : ℕ} → m ≡ lanes 4 0 digitValue (bytesOf first) → n ≡ lanes 4 0 digitValue (bytesOf second)
+      → Number (bits (m * 0x1_0000_0000 + n)) ≡ figureOf w
+  both-good a b p q = ap₂ (λ (m n : ℕ). Number (bits (m * 0x1_0000_0000 + n))) p q ∙ sym (by-words ∙ rw (a, b))
 
 -- only sixteen bytes are a figure
 pub number-length : (w : List ℕ) (x : Float) → figureOf w ≡ Number x → length w ≡ 16

@@ -1,78 +1,83 @@
--- `hex::read_figure` meets its contract: after i digits, what is left to read from the number in hand is the whole. Assumes nothing.
-use mathlib.Core.Path.{_≡_, ap, _∙_}
-use Prim.Native.Nat.{ℕ, _+_, _*_, _-_, _^_, _<_, _≤_}
-use native.Mathlib.Omega.{arith}
+-- `hex::read_figure` meets its contract: the two words hold the sixteen bytes, and eight digits read at once are read digit by digit. Assumes nothing.
+use mathlib.Core.Bool.{true}
+use mathlib.Core.Path.{_≡_, sym, ap, _∙_}
 use borrow.Author.Needs.{needs}
-use lib.ListN.{length, drop}
+use borrow.Author.Tests.{not-true, not-false}
 use Rattle.hex.specs.declared.Figure.the-variants.{Number}
-use Rattle.hex.specs.Hex.{readDigits, figureOf}
-use Rattle.hex.proofs.Reading.{other-length, sixteen, bad-digit, good-digit, all-read, fits-next}
+use Rattle.hex.specs.Words.{bytesOf, allDigits}
+use Rattle.hex.proofs.Reading.{other-length, first-bad, second-bad, both-good}
 use Rattle.hex.proofs.read_figure.Statement.{statement}
 use Rattle.hex.proofs.read_figure.Tie as tie
 
-abbrev Inv-loop : tie.InvT-loop
-Inv-loop word n₀ i₀ n i = (i ≤ 16) × (length word ≡ 16) × (n < 16 ^ i) × (figureOf word ≡ readDigits (drop i word) n)
-
-abbrev μ-loop : tie.MeasureT-loop
-μ-loop word n₀ i₀ n i = 16 - i
-
-returns : tie.Need-returns Inv-loop μ-loop
+returns : tie.Need-returns
 returns c = other-length _ (c .if1 .taken)
 
-loop-holds : tie.Need-loop-holds Inv-loop μ-loop
-loop-holds c = (omega arith, c .if1 .left, omega arith, sixteen _ (c .if1 .left))
+load-requires : tie.Need-load-requires
+load-requires c κs = search needs
 
-shared-slice-read-digit-value : tie.Need-shared-slice-read-digit-value Inv-loop μ-loop
-shared-slice-read-digit-value c = omega arith
+load-requires-2 : tie.Need-load-requires-2
+load-requires-2 c κs = search needs
 
-digit-value-requires : tie.Need-digit-value-requires Inv-loop μ-loop
-digit-value-requires c κs = search needs
+all-digits-requires : tie.Need-all-digits-requires
+all-digits-requires c κs = search needs
 
-returns-2 : tie.Need-returns-2 Inv-loop μ-loop
-returns-2 c = let a = c .before .before .before .before in bad-digit _ (a .loop .i) (a .loop .n) (c .before .digit-value .result) (omega arith) (a .loop .inv .3) (c .before .digit-value .ensures) (c .if2 .taken)
+returns-2 : tie.Need-returns-2
+returns-2 c =
+    let second = c .before .before in let first = second .before in
+    first-bad _ (first .before .if1 .left) (first .load .result) (second .load2 .result) (first .load .ensures) (second .load2 .ensures)
+    (sym (c .before .all-digits .ensures) ∙ not-true _ (c .if2 .taken))
 
-abbrev next : tie.Else2 Inv-loop μ-loop → ℕ
-next c = c .before .before .before .before .loop .n * 16 + c .before .digit-value .result
+all-digits-requires-2 : tie.Need-all-digits-requires-2
+all-digits-requires-2 c κs = search needs
 
-bound : (c : tie.Else2 Inv-loop μ-loop) → (next c < 16 ^ (c .before .before .before .before .loop .i + 1)) × (next c < 2 ^ 64)
-bound c = let a = c .before .before .before .before in fits-next (a .loop .n) (a .loop .i) (c .before .digit-value .result) (a .loop .inv .2) (omega arith) (c .if2 .left)
+first-good : (c : tie.Else2) → allDigits (bytesOf (c .before .before .before .load .result)) ≡ true
+first-good c = sym (c .before .all-digits .ensures) ∙ not-false _ (c .if2 .left)
 
-mul-n : tie.Need-mul-n Inv-loop μ-loop
-mul-n c = omega (arith, bound c .1)
+returns-3 : tie.Need-returns-3
+returns-3 c =
+    let good = c .before .before in let second = good .before .before in let first = second .before in
+    second-bad _ (first .before .if1 .left) (first .load .result) (second .load2 .result) (first .load .ensures) (second .load2 .ensures)
+    (first-good good) (sym (c .before .all-digits2 .ensures) ∙ not-true _ (c .if3 .taken))
 
-add-n : tie.Need-add-n Inv-loop μ-loop
-add-n c = omega (arith, bound c .1)
+second-good : (c : tie.Else3) → allDigits (bytesOf (c .before .before .before .before .load2 .result)) ≡ true
+second-good c = sym (c .before .all-digits2 .ensures) ∙ not-false _ (c .if3 .left)
 
-add-i : tie.Need-add-i Inv-loop μ-loop
-add-i c = omega arith
+number-requires : tie.Need-number-requires
+number-requires c κs = first-good (c .before .before)
 
-loop-less : tie.Need-loop-less Inv-loop μ-loop
-loop-less c = omega arith
+mul-from-bits : tie.Need-mul-from-bits
+mul-from-bits c = search needs
 
-loop-again : tie.Need-loop-again Inv-loop μ-loop
-loop-again c = let a = c .before .before .before .before in (omega arith, a .loop .inv .1, bound c .0, good-digit _ (a .loop .i) (a .loop .n) (c .before .digit-value .result) (omega arith) (a .loop .inv .3) (c .before .digit-value .ensures) (c .if2 .left))
+number-requires-2 : tie.Need-number-requires-2
+number-requires-2 c κs = second-good (c .before)
 
-from-bits-requires : tie.Need-from-bits-requires Inv-loop μ-loop
+add-from-bits : tie.Need-add-from-bits
+add-from-bits c = search needs
+
+from-bits-requires : tie.Need-from-bits-requires
 from-bits-requires c κs = search needs
 
-returns-3 : tie.Need-returns-3 Inv-loop μ-loop
-returns-3 c = ap Number (c .from-bits .ensures) ∙ all-read _ (c .before .before .loop .i) (c .before .before .loop .n) (omega arith) (c .before .before .loop .inv .3)
+returns-4 : tie.Need-returns-4
+returns-4 c =
+    let both = c .before .before .before in let good = both .before .before in let second = good .before .before in let first = second .before in
+    ap Number (c .from-bits .ensures)
+    ∙ both-good _ (first .before .if1 .left) (first .load .result) (second .load2 .result) (first .load .ensures) (second .load2 .ensures)
+    (first-good good) (second-good both) (c .before .before .number .ensures .0) (c .before .number2 .ensures .0)
 
 pub read-figure-spec : {M : Type 1} → statement M
 read-figure-spec =
     tie.close
     (tie.spec
-    Inv-loop
-    μ-loop
     returns
-    loop-holds
-    shared-slice-read-digit-value
-    digit-value-requires
+    load-requires
+    load-requires-2
+    all-digits-requires
     returns-2
-    mul-n
-    add-n
-    add-i
-    loop-less
-    loop-again
+    all-digits-requires-2
+    returns-3
+    number-requires
+    mul-from-bits
+    number-requires-2
+    add-from-bits
     from-bits-requires
-    returns-3)
+    returns-4)
