@@ -1,0 +1,19 @@
+-- `lines::why_refused` meets its contract: each arm knows its case. Assumes nothing.
+use borrow.Author.Needs.{needs}
+use Rattle.lines.proofs.why_refused.Statement.{statement}
+use Rattle.lines.proofs.why_refused.Tie as tie
+
+enum-told : tie.Need-enum-told
+enum-told c = search needs
+
+enum-known-verdict : tie.Need-enum-known-verdict
+enum-known-verdict c = search needs
+
+returns : tie.Need-returns
+returns c = rw (c .enum-told .given .1)
+
+returns-2 : tie.Need-returns-2
+returns-2 c = rw (c .before .verdict .given .1)
+
+pub why-refused-spec : {M : Type 1} → statement M
+why-refused-spec = tie.close (tie.spec enum-told enum-known-verdict returns returns-2)
