@@ -8,7 +8,7 @@ use borrow.Author.Tests.{eqb-true}
 use lib.Dec.{eqb, ltb}
 use Rattle.floats.specs.Operations.{every}
 use Rattle.floats.proofs.Every.{every-holds}
-use Rattle.floats.proofs.Nan.{no}
+use Rattle.floats.proofs.Bools.{no}
 use Rattle.hex.specs.Hex.{digitValue, digitLetter}
 use Rattle.hex.specs.Words.{taken}
 

@@ -12,7 +12,7 @@ use lib.ListN.{length, getD, take, drop}
 use lib.Seq.{drop-cons}
 use lib.Arith.{digits-div, digits-mod}
 use lib.Bits.{bitAnd, and-high, and-mask}
-use Rattle.floats.proofs.Nan.{no}
+use Rattle.floats.proofs.Bools.{no}
 use Rattle.hex.specs.Hex.{digitValue, digitLetter}
 use Rattle.hex.specs.Words.{Each, bytesBefore, bytesOf, lanes, taken, allDigits}
 use Rattle.hex.proofs.Lanes.{each, zipped, each-map, lanes-ext, lanes-map, and-lanes, add-lanes, mul-lanes, div-lanes, lanes-le, lanes-inj, bytes-small, bytes-make-up, lanes-bytes}
