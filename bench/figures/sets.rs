@@ -46,7 +46,7 @@ fn on(r: &mut Random, section: usize, number: usize, lengths: Vec<f64>, planform
     let radius = r.between(0.02, 0.08);
     let density = r.between(100.0, 2700.0);
     let mut figures = vec![
-        r.between(0.002, 0.006),
+        r.between(0.002, 0.006).min(root),
         r.between(-0.05, 0.05),
         r.between(-3.0, 3.0),
         radius,

@@ -224,6 +224,15 @@ fn tab(r: &mut Random, root: f64, radius: f64) -> [f64; 3] {
     [height, length, offset]
 }
 
+/// A thickness that is over the root chord is made one within it, at times the root chord itself: number 21 is for limits and faults.
+fn within_root(r: &mut Random, thickness: f64, root: f64) -> f64 {
+    let shortest = power_of_two(-20);
+    if !(shortest <= root && root < thickness) {
+        return thickness;
+    }
+    if r.once_in(8) { root } else { (root * r.unit()).max(shortest) }
+}
+
 fn on(r: &mut Random, planform: Planform, wild: bool) -> Draft {
     let radius = if r.once_in(6) {
         r.pick(&[0.0, -0.0])
@@ -246,6 +255,7 @@ fn on(r: &mut Random, planform: Planform, wild: bool) -> Draft {
         radius,
         density: Density::Bulk(density(r)),
     };
+    draft.thickness = within_root(r, draft.thickness, draft.root());
     if radius != 0.0 && r.once_in(3) {
         draft.tab = Some(tab(r, draft.root(), radius));
     }
@@ -282,11 +292,11 @@ fn narrow(r: &mut Random, heights: Heights) -> String {
     }
     let mut draft = on(r, outline, wild);
     if r.once_in(2) {
-        draft.thickness = r.scaled(-8, 5);
+        draft.thickness = draft.root();
     }
     if r.once_in(3) {
         draft.limit = r.range(1, 3).to_string();
-        draft.thickness = r.scaled(2, 5);
+        draft.thickness = draft.root();
         draft.tab = None;
         draft.radius = draft.root();
     }
@@ -317,7 +327,8 @@ fn noise(r: &mut Random) -> String {
     }
     let mut draft = on(r, planform, false);
     draft.limit = r.pick(&["1", "7", "64", "200", "500"]).to_owned();
-    draft.thickness = r.scaled(-20, -4);
+    let thickness = r.scaled(-20, -14);
+    draft.thickness = within_root(r, thickness, draft.root());
     draft.line()
 }
 
@@ -430,6 +441,7 @@ fn limits(r: &mut Random) -> Vec<String> {
             break found;
         }
     };
+    base.thickness = within_root(r, base.thickness, base.root());
     base.radius = length(r, wild);
     base.tab = Some(tab(r, base.root(), base.radius));
     let mut list = Vec::new();
@@ -445,10 +457,12 @@ fn limits(r: &mut Random) -> Vec<String> {
         with(&|d| d.count = text.clone());
     }
     for value in lengths() {
+        // the shortest root chord passes with the shortest thickness
         for k in 0..4 {
             with(&|d| {
                 let mut lengths = [0.2, 0.1, 0.15, 0.05];
                 lengths[k] = value;
+                d.thickness = power_of_two(-20);
                 d.tab = None;
                 d.planform = Planform::Trapezoid(lengths);
             });
@@ -457,6 +471,7 @@ fn limits(r: &mut Random) -> Vec<String> {
             with(&|d| {
                 let mut lengths = [0.2, 0.15];
                 lengths[k] = value;
+                d.thickness = power_of_two(-20);
                 d.tab = None;
                 d.planform = Planform::Ellipse(lengths);
             });
@@ -465,6 +480,7 @@ fn limits(r: &mut Random) -> Vec<String> {
             with(&|d| {
                 let mut drawn = vec![0.0, 0.0, 0.05, 0.1, 0.2, 0.12, 0.25, 0.0];
                 drawn[k] = value;
+                d.thickness = power_of_two(-20);
                 d.tab = None;
                 d.planform = Planform::Outline(drawn);
             });
@@ -492,6 +508,7 @@ fn limits(r: &mut Random) -> Vec<String> {
             with(&|d| d.tab = Some([d.radius, moved(0.75 * end, steps), 0.25 * end]));
         }
         with(&|d| d.tab.as_mut().expect("a tab")[0] = moved(d.radius, steps));
+        with(&|d| d.thickness = moved(root, steps));
     }
     list
 }
@@ -524,7 +541,7 @@ fn faults(r: &mut Random) -> String {
                 d.planform = figures(&outlines::touching(r, wild));
             }
             6 => d.planform = Planform::Outline(vec![0.0, 0.0, 1.0, 0.0, 2.0, r.pick(&[0.0, 0.5])]),
-            7 => d.thickness = bad,
+            7 => d.thickness = r.pick(&[bad, bad, moved(d.root(), 1), 2.0 * d.root()]),
             8 => d.cant = r.pick(&[f64::NAN, 4.5, -5.0, f64::INFINITY]),
             9 => d.base = r.pick(&[f64::NAN, 4.5, -5.0, f64::INFINITY]),
             10 | 11 => {
@@ -540,7 +557,8 @@ fn faults(r: &mut Random) -> String {
     d.line()
 }
 
-/// The examples of document 01's refusal table, its join, and the cases named P that a line can show.
+/// The examples of document 01's refusal table, its join, the cases named P that a line can show; thickness and root chord swapped (21),
+/// and equal, which passes.
 fn table() -> Vec<String> {
     let legal = Draft {
         limit: "64".to_owned(),
@@ -580,6 +598,11 @@ fn table() -> Vec<String> {
         outline(&[[0.0, 0.0], [0.1, 0.1], [0.2, 0.1]]),
         outline(&[[0.0, 0.0], [2.0, 1.0], [0.0, 1.0], [2.0, 0.0]]),
         outline(&[[0.0, 0.0], [1.0, 0.0], [2.0, 0.0]]),
+        with(&|d| {
+            d.planform = Planform::Trapezoid([0.003, 0.1, 0.15, 0.05]);
+            d.thickness = 0.2;
+        }),
+        with(&|d| d.thickness = 0.2),
         with(&|d| d.cant = f64::NAN),
         with(&|d| d.tab = Some([0.01, 0.1, -0.01])),
         with(&|d| d.tab = Some([0.01, 0.2, 0.0])),

@@ -1,4 +1,4 @@
-//! Document 01's limits, refusal numbers and their order, before the first strip. They refuse more than the Rust.
+//! Document 01's limits, refusal numbers and their order, before the first strip, with document 02's. They refuse more than the Rust.
 
 use crate::forms::{Body, Density, Planform, Set};
 
@@ -25,6 +25,7 @@ pub enum Refusal {
     #[allow(dead_code)] // no line gives it yet
     NoFigure,
     WallOverRadius,
+    ThicknessOverRoot,
 }
 
 impl Refusal {
@@ -50,6 +51,7 @@ impl Refusal {
             Self::NoForm => 18,
             Self::NoFigure => 19,
             Self::WallOverRadius => 20,
+            Self::ThicknessOverRoot => 21,
         }
     }
 
@@ -168,6 +170,7 @@ pub fn planform(planform: &Planform) -> Checked {
 /// From the thickness to the density. `root` is the root chord.
 pub fn behind_planform(set: &Set, root: f64) -> Checked {
     length(THICKNESS, set.thickness)?;
+    refuse(set.thickness > root, Refusal::ThicknessOverRoot)?;
     angle(CANT, set.cant)?;
     angle(BASE_ANGLE, set.base)?;
     if let Some([tab_height, tab_length, tab_offset]) = set.tab {

@@ -49,6 +49,7 @@ pub enum Refusal {
     NoForm,
     NoFigure,
     WallOverRadius,
+    ThicknessOverRoot,
 }
 
 impl Refusal {
@@ -75,6 +76,7 @@ impl Refusal {
             Self::NoForm => 18,
             Self::NoFigure => 19,
             Self::WallOverRadius => 20,
+            Self::ThicknessOverRoot => 21,
         }
     }
 
@@ -101,6 +103,7 @@ impl Refusal {
             18 => Self::NoForm,
             19 => Self::NoFigure,
             20 => Self::WallOverRadius,
+            21 => Self::ThicknessOverRoot,
             _ => return None,
         })
     }
@@ -173,7 +176,7 @@ mod tests {
 
     #[test]
     fn every_number_of_the_table_is_known() {
-        for number in 1..=20 {
+        for number in 1..=21 {
             let refusal = Refusal::from_number(number, [0, 0]).unwrap();
             assert_eq!(refusal.number(), number);
             assert_eq!(Error::unless_zero(number, [0, 0]), Err(Error::Refused(refusal)));
@@ -201,7 +204,7 @@ mod tests {
 
     #[test]
     fn what_is_not_known_is_no_refusal() {
-        for (number, values) in [(19, [0, 0]), (usize::MAX, [1, 2]), (17, [5, 0])] {
+        for (number, values) in [(22, [0, 0]), (usize::MAX, [1, 2]), (17, [5, 0])] {
             assert_eq!(
                 Error::unless_zero(number, values),
                 Err(Error::Unknown { number, values })

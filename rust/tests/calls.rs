@@ -136,6 +136,11 @@ fn limits_are_refused_by_number_and_field() {
         ..set(TRAPEZOID)
     };
     assert_eq!(refusal(thin), Refusal::Length { field: 7 });
+    let thick = FinSet {
+        thickness_m: 0.21,
+        ..set(TRAPEZOID)
+    };
+    assert_eq!(refusal(thick), Refusal::ThicknessOverRoot);
     let turned = FinSet {
         cant_rad: f64::NAN,
         ..set(TRAPEZOID)

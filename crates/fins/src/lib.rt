@@ -1,7 +1,7 @@
 // A set of fins, and every check of it before the strips (fins.rs, `FinSet::validate` and the checks of `single_fin`).
 //
-// Document 01, "Order": 1, 2, 3; the planform; thickness; cant, base angle; the tab with 10; body radius; 11; 12. Each check stands
-// for itself, and the first refusal is the answer.
+// Document 01, "Order": 1, 2, 3; the planform; thickness; cant, base angle; the tab with 10; body radius; 11; 12; and document 02's 21
+// directly after the thickness. Each check stands for itself, and the first refusal is the answer.
 ghost use mathlib.Core.Path.{_≡_};
 ghost use Rattle.refusals.specs.Order.{firstOf};
 ghost use Rattle.fins.specs.Fins.{trapezoidCheck, planformCheck, slabCheck, tabCheck, depthCheck, callChecks, plateChecks, mountChecks, setCheck, areaCheck};
@@ -193,11 +193,16 @@ fn check_call(limit: usize, scratch_len: usize, count: usize) -> Verdict
     first_refusal(v, limits::check_count(count))
 }
 
-// Thickness, cant and base angle.
-fn check_plate(thickness_m: f64, cant_rad: f64, base_angle_rad: f64) -> Verdict
-    ensures { λ r. ⌜ r ≡ firstOf (plateChecks «thickness_m» «cant_rad» «base_angle_rad») ⌝ }
+// Thickness with 21, cant and base angle.
+fn check_plate(root_chord_m: f64, thickness_m: f64, cant_rad: f64, base_angle_rad: f64) -> Verdict
+    ensures { λ r. ⌜ r ≡ firstOf (plateChecks «root_chord_m» «thickness_m» «cant_rad» «base_angle_rad») ⌝ }
 {
+    let over_root = root_chord_m < thickness_m;
     let v = check_length(limits::THICKNESS, thickness_m);
+    let v = first_refusal(
+        v,
+        refusals::refuse_when(over_root, Refusal::ThicknessOverRoot),
+    );
     let v = first_refusal(v, check_angle(limits::CANT, cant_rad));
     first_refusal(v, check_angle(limits::BASE_ANGLE, base_angle_rad))
 }
@@ -227,11 +232,16 @@ pub fn check_set(set: FinSet, points: &[f64], limit: usize, scratch_len: usize) 
     if is_refused(v) {
         return v;
     }
-    let v = check_plate(set.thickness_m, set.cant_rad, set.base_angle_rad);
+    let root_chord_m = planforms::root_chord_m(planform, points);
+    let v = check_plate(
+        root_chord_m,
+        set.thickness_m,
+        set.cant_rad,
+        set.base_angle_rad,
+    );
     if is_refused(v) {
         return v;
     }
-    let root_chord_m = planforms::root_chord_m(planform, points);
     check_mount(tab, root_chord_m, set.body_radius_m, density)
 }
 

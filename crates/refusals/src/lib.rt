@@ -38,6 +38,7 @@ pub enum Refusal {
     NoForm,
     NoFigure,
     WallOverRadius,
+    ThicknessOverRoot,
 }
 
 // The answer of a check.
@@ -124,6 +125,7 @@ fn row_of(refusal: Refusal) -> Row
         Refusal::NoForm => Row(18, [0, 0]),
         Refusal::NoFigure => Row(19, [0, 0]),
         Refusal::WallOverRadius => Row(20, [0, 0]),
+        Refusal::ThicknessOverRoot => Row(21, [0, 0]),
     }
 }
 

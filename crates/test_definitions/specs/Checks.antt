@@ -80,7 +80,7 @@ first-of-two =
     && isRefused (Refused refusal.Ends)
     && not (isRefused Accepted)
 
--- document 01's table, the column "No.", with the values that go with a number
+-- document 01's table, the column "No.", with the values that go with a number, and document 02's numbers
 abbrev pub refusal-table : Bool
 refusal-table =
     refused 1 [] (Refused refusal.Limit)
@@ -105,6 +105,9 @@ refusal-table =
     && refused 17 (3 ∷ []) (Refused (refusal.Tensor fault.Negative))
     && refused 17 (4 ∷ []) (Refused (refusal.Tensor fault.Triangle))
     && refused 18 [] (Refused refusal.NoForm)
+    && refused 19 [] (Refused refusal.NoFigure)
+    && refused 20 [] (Refused refusal.WallOverRadius)
+    && refused 21 [] (Refused refusal.ThicknessOverRoot)
 
 -- ---- limits, one step inside and outside
 
@@ -207,26 +210,27 @@ planformAt k =
 
 abbrev tabAt : ℕ → Tab
 tabAt k =
-    Slab (bits (unlessMended k 10 large d03)) (bits (unlessMended k 11 large d2)) (bits (unlessMended k 12 large (unlessMended k 13 d01 0)))
+    Slab (bits (unlessMended k 11 large d03)) (bits (unlessMended k 12 large d2)) (bits (unlessMended k 13 large (unlessMended k 14 d01 0)))
 
 abbrev densityAt : ℕ → Density
-densityAt k = cond (leb k 16) (Surface (bits one)) (Bulk (bits one))
+densityAt k = cond (leb k 17) (Surface (bits one)) (Bulk (bits one))
 
 abbrev setAt : ℕ → FinSet
 setAt k =
     record {
       count = unlessMended k 2 33 3;
       planform = planformAt k;
-      «thickness_m» = bits (unlessMended k 7 large d03);
+      «thickness_m» = bits (unlessMended k 7 large (unlessMended k 8 one d2));
       «cross_section» = Square;
       tab = tabAt k;
-      «cant_rad» = bits (unlessMended k 8 notNumber 0);
-      «base_angle_rad» = bits (unlessMended k 9 notNumber 0);
-      «body_radius_m» = bits (unlessMended k 14 (minus d01) (unlessMended k 15 d02 one));
+      «cant_rad» = bits (unlessMended k 9 notNumber 0);
+      «base_angle_rad» = bits (unlessMended k 10 notNumber 0);
+      «body_radius_m» = bits (unlessMended k 15 (minus d01) (unlessMended k 16 d02 one));
       density = densityAt k;
     }
 
--- "Order: 18, 1, 2, 3; planform lengths as listed above ..; thickness; cant, base angle; tab height, length, offset, 10; body radius; 11; 12"
+-- "Order: 18, 1, 2, 3; planform lengths as listed above ..; thickness; cant, base angle; tab height, length, offset, 10; body radius; 11; 12";
+-- and 21 "directly after the thickness limits; equality passes": thickness 65, then 1, then 0.2 over the root chord 0.2
 abbrev pub set-order : Bool
 set-order =
     refusedFrom (λ k. setCheck (setAt k) [] (unlessMended k 0 0 8) (unlessMended k 1 127 128)) 0
@@ -238,6 +242,7 @@ set-order =
     ∷ (4, 3 ∷ [])
     ∷ (4, 4 ∷ [])
     ∷ (4, 7 ∷ [])
+    ∷ (21, [])
     ∷ (9, 12 ∷ [])
     ∷ (9, 13 ∷ [])
     ∷ (4, 8 ∷ [])
@@ -248,6 +253,34 @@ set-order =
     ∷ (11, [])
     ∷ (12, [])
     ∷ [])
+
+-- a set without fault but for what 21 is asked of: planform, points and thickness
+abbrev thickSet : Planform → List ℕ → ℕ → Verdict
+thickSet planform points thickness =
+    setCheck
+    (record {
+      count = 3;
+      planform = planform;
+      «thickness_m» = bits thickness;
+      «cross_section» = Square;
+      tab = None;
+      «cant_rad» = bits 0;
+      «base_angle_rad» = bits 0;
+      «body_radius_m» = bits one;
+      density = Bulk (bits one);
+    })
+    (map bits points)
+    8
+    128
+
+-- 21 from both sides, against the root chord and not the span; of an outline against the last point's x, though the edge there is longer
+abbrev pub thickness-over-root : Bool
+thickness-over-root =
+    accepted (thickSet (Ellipse (bits d2) (bits d03)) [] d2)
+    && refused 21 [] (thickSet (Ellipse (bits d2) (bits d03)) [] (suc d2))
+    && refused 21 [] (thickSet (Trapezoid (bits d03) (bits d2) (bits d2) (bits 0)) [] d2)
+    && accepted (thickSet Outline (0 ∷ 0 ∷ minus one ∷ 0 ∷ 0 ∷ one ∷ one ∷ 0 ∷ []) one)
+    && refused 21 [] (thickSet Outline (0 ∷ 0 ∷ minus one ∷ 0 ∷ 0 ∷ one ∷ one ∷ 0 ∷ []) two)
 
 -- "For area alone: 1, 2, planform": the faults 0, 1 and 3 to 6 of the above
 abbrev pub area-order : Bool
@@ -292,6 +325,7 @@ pub checks-hold :
     && entries-refused
     && smaller-root
     && set-order
+    && thickness-over-root
     && area-order
     && body-order
     && empty-body-passes)

@@ -1,6 +1,6 @@
 -- `fins::check_set` meets its contract: it returns at the first refusal, group by group. Assumes nothing.
-use mathlib.Core.Path.{_≡_, sym, ap, _∙_}
-use mathlib.Core.List.{List, _∷_, _++_}
+use mathlib.Core.Path.{_≡_, refl, sym, ap, _∙_}
+use mathlib.Core.List.{List, [], _∷_, _++_}
 use Prim.Native.Nat.{ℕ}
 use lib.Ieee.{Float}
 use Rattle.refusals.specs.Order.{firstRefusal, firstOf}
@@ -12,19 +12,28 @@ use borrow.Author.Needs.{needs}
 use Rattle.fins.proofs.check_set.Statement.{statement}
 use Rattle.fins.proofs.check_set.Tie as tie
 
--- the list of checks as its four groups
-by-group : (set : FinSet) (points : List Float) (L n : ℕ) →
+-- the list of checks as its four groups, of which two are given the root chord
+by-group : (set : FinSet) (points : List Float) (L n : ℕ) (root : Float) → root ≡ rootChordOf (set .planform) points →
     firstRefusal (firstOf (callChecks L n (set .count)))
     (firstRefusal (planformCheck (set .planform) points)
-    (firstRefusal (firstOf (plateChecks (set .«thickness_m») (set .«cant_rad») (set .«base_angle_rad»)))
-    (firstOf (mountChecks (set .tab) (rootChordOf (set .planform) points) (set .«body_radius_m») (set .density)))))
+    (firstRefusal (firstOf (plateChecks root (set .«thickness_m») (set .«cant_rad») (set .«base_angle_rad»)))
+    (firstOf (mountChecks (set .tab) root (set .«body_radius_m») (set .density)))))
     ≡ setCheck set points L n
 unfolding setCheck
-by-group set points L n =
-    let plate = plateChecks (set .«thickness_m») (set .«cant_rad») (set .«base_angle_rad») in
-    let mount = mountChecks (set .tab) (rootChordOf (set .planform) points) (set .«body_radius_m») (set .density) in
-    ap (λ v. firstRefusal (firstOf (callChecks L n (set .count))) (firstRefusal (planformCheck (set .planform) points) v)) (in-two plate mount)
-    ∙ in-two (callChecks L n (set .count)) (planformCheck (set .planform) points ∷ (plate ++ mount))
+by-group set points L n root e =
+    let plate = plateChecks root (set .«thickness_m») (set .«cant_rad») (set .«base_angle_rad») in
+    let mount = mountChecks (set .tab) root (set .«body_radius_m») (set .density) in
+    let calls = callChecks L n (set .count) in
+    ap (λ v. firstRefusal (firstOf calls) (firstRefusal (planformCheck (set .planform) points) v)) (in-two plate mount)
+    ∙ in-two calls (planformCheck (set .planform) points ∷ (plate ++ mount))
+    ∙ ap
+    (λ (r : Float).
+    firstOf
+    (calls
+    ++ (planformCheck (set .planform) points ∷ [])
+    ++ plateChecks r (set .«thickness_m») (set .«cant_rad») (set .«base_angle_rad»)
+    ++ mountChecks (set .tab) r (set .«body_radius_m») (set .density)))
+    e
 
 check-call-requires : tie.Need-check-call-requires
 check-call-requires c κs = search needs
@@ -33,7 +42,7 @@ is-refused-requires : tie.Need-is-refused-requires
 is-refused-requires c κs = search needs
 
 returns : tie.Need-returns
-returns c = refused-here _ _ (c .before .before .check-call .ensures) (sym (c .before .is-refused .ensures) ∙ c .if1 .taken) ∙ by-group _ _ _ _
+returns c = refused-here _ _ (c .before .before .check-call .ensures) (sym (c .before .is-refused .ensures) ∙ c .if1 .taken) ∙ by-group _ _ _ _ _ refl
 
 check-planform-requires : tie.Need-check-planform-requires
 check-planform-requires c κs = search needs
@@ -46,7 +55,10 @@ returns-2 c =
     let e = c .before .before .before in
     refused-here _ _ (c .before .before .check-planform .ensures) (sym (c .before .is-refused2 .ensures) ∙ c .if2 .taken)
     ∙ sym (passed _ _ (e .before .before .check-call .ensures) (sym (e .before .is-refused .ensures) ∙ e .if1 .left))
-    ∙ by-group _ _ _ _
+    ∙ by-group _ _ _ _ _ refl
+
+root-chord-m-requires : tie.Need-root-chord-m-requires
+root-chord-m-requires c κs = search needs
 
 check-plate-requires : tie.Need-check-plate-requires
 check-plate-requires c κs = search needs
@@ -56,30 +68,28 @@ is-refused-requires-3 c κs = search needs
 
 returns-3 : tie.Need-returns-3
 returns-3 c =
-    let e = c .before .before .before in
+    let root = c .before .before .before in
+    let e = root .before in
     let d = e .before .before .before in
     refused-here _ _ (c .before .before .check-plate .ensures) (sym (c .before .is-refused3 .ensures) ∙ c .if3 .taken)
     ∙ sym (passed _ _ (e .before .before .check-planform .ensures) (sym (e .before .is-refused2 .ensures) ∙ e .if2 .left))
     ∙ sym (passed _ _ (d .before .before .check-call .ensures) (sym (d .before .is-refused .ensures) ∙ d .if1 .left))
-    ∙ by-group _ _ _ _
-
-root-chord-m-requires : tie.Need-root-chord-m-requires
-root-chord-m-requires c κs = search needs
+    ∙ by-group _ _ _ _ _ (root .root-chord-m .ensures)
 
 check-mount-requires : tie.Need-check-mount-requires
 check-mount-requires c κs = search needs
 
 returns-4 : tie.Need-returns-4
 returns-4 c =
-    let f = c .before .before in
-    let e = f .before .before .before in
+    let f = c .before in
+    let root = f .before .before .before in
+    let e = root .before in
     let d = e .before .before .before in
     c .check-mount .ensures
-    ∙ rw (c .before .root-chord-m .ensures)
-    (sym (passed _ _ (f .before .before .check-plate .ensures) (sym (f .before .is-refused3 .ensures) ∙ f .if3 .left))
+    ∙ sym (passed _ _ (f .before .before .check-plate .ensures) (sym (f .before .is-refused3 .ensures) ∙ f .if3 .left))
     ∙ sym (passed _ _ (e .before .before .check-planform .ensures) (sym (e .before .is-refused2 .ensures) ∙ e .if2 .left))
     ∙ sym (passed _ _ (d .before .before .check-call .ensures) (sym (d .before .is-refused .ensures) ∙ d .if1 .left))
-    ∙ by-group _ _ _ _)
+    ∙ by-group _ _ _ _ _ (root .root-chord-m .ensures)
 
 pub check-set-spec : {M : Type 1} → statement M
 check-set-spec =
@@ -91,9 +101,9 @@ check-set-spec =
     check-planform-requires
     is-refused-requires-2
     returns-2
+    root-chord-m-requires
     check-plate-requires
     is-refused-requires-3
     returns-3
-    root-chord-m-requires
     check-mount-requires
     returns-4)
