@@ -10,7 +10,7 @@
  *      6 first or last point            12 density                      18 no form
  *     19 a word that is no figure      20 wall over the outer radius     21 thickness over the root chord
  *
- * It writes its figures and counts over the start of the lent arrays; a refusal writes zero figures. Two counts are the values of a
+ * It writes its figures and counts over the start of the lent arrays; a refusal writes zero figures, but of chords none. Two counts are the values of a
  * refusal: the field of 4 and 9, the two edges of 7, the component of 13, the case of 17 (a to e as 0 to 4); else both are 0.
  * Fields: 1 root chord, 2 tip chord, 3 span, 4 sweep, 5 x, 6 y, 7 thickness, 8 tab height, 9 tab length, 10 tab offset,
  * 11 body radius, 12 cant, 13 base angle, 14 tube length, 15 outer radius. Edges and components are counted from 0.
@@ -56,6 +56,8 @@ extern "C" {
 /* Numbers that a call writes: a body is its mass, centre x, y, z, and inertia tensor in three columns. */
 #define DELVOUZH_BODY 13
 #define DELVOUZH_AREA 3
+#define DELVOUZH_CHORDS 64 /* the ends of 32 chords: an outline of 64 points has no more */
+#define DELVOUZH_CHORD_COUNTS 3
 #define DELVOUZH_MOMENTS 3
 #define DELVOUZH_COUNTS 4
 #define DELVOUZH_VALUES 2
@@ -78,6 +80,12 @@ size_t delvouzh_mass_properties(size_t limit, size_t count, size_t planform, con
 /* A planform's area and its centroid, x, then height. Counts and scratch as above. */
 size_t delvouzh_geometry(size_t limit, size_t planform, const double *lengths, size_t lengths_len, double *scratch,
                          size_t scratch_len, double *area, size_t area_len, size_t *counts, size_t counts_len);
+
+/* A planform's chords at a height in metres, which may be any number: the planform is checked as for its area. Writes start and end of each
+ * chord over `ends`, which has room for DELVOUZH_CHORDS numbers, and leaves the rest of it, and with a refusal all of it, as it was; as
+ * counts two values of a refusal, and how many chords there are. */
+size_t delvouzh_chords_at(size_t planform, const double *lengths, size_t lengths_len, double height_m, double *ends,
+                          size_t ends_len, size_t *counts, size_t counts_len);
 
 /* 1 to 32 bodies, 13 numbers each, one after another, joined into one. Any other count of numbers is 3; a `body` that is too short is 18.
  * No other number is given. */

@@ -92,6 +92,8 @@ static void figures(void) {
     const double outline[8] = {0.0, 0.0, 0.05, 0.15, 0.15, 0.15, 0.2, 0.0};
     area_of(&at, DELVOUZH_OUTLINE, outline, 8);
     holds("an outline's area", at.number == 0 && fabs(at.numbers[0] - 0.0225) < 1e-15);
+    at.number = delvouzh_chords_at(DELVOUZH_TRAPEZOID, TRAPEZOID, 4, 0.15, at.scratch, SCRATCH, at.counts, DELVOUZH_CHORD_COUNTS);
+    holds("the chord at the span", refused(0, 0, 0) && at.counts[2] == 1 && at.scratch[0] == 0.05 && at.scratch[1] == (0.05 + 0.2) + (0.1 - 0.2));
     const double bodies[26] = {1, 0, 0, 0, 0, 0, 0, 0, 0, 0, 0, 0, 0, 1, 2, 0, 0, 0, 0, 0, 0, 0, 0, 0, 0, 0};
     at.number = delvouzh_combine(bodies, 26, at.numbers, DELVOUZH_BODY);
     holds("a join", at.number == 0 && at.numbers[0] == 2.0 && at.numbers[1] == 1.0 && at.numbers[8] == 2.0 && at.numbers[12] == 2.0);
@@ -117,6 +119,9 @@ static void refusals(void) {
     holds("4 with its field", refused(4, 2, 0) && at.numbers[0] == 0.0);
     area_of(&at, DELVOUZH_OUTLINE, crossed, 8);
     holds("7 with its edges", refused(7, 0, 2));
+    at.scratch[0] = 7.0;
+    at.number = delvouzh_chords_at(DELVOUZH_OUTLINE, crossed, 8, 0.5, at.scratch, SCRATCH, at.counts, DELVOUZH_CHORD_COUNTS);
+    holds("no chords of a refused planform", refused(7, 0, 2) && at.counts[2] == 0 && at.scratch[0] == 7.0);
     set_of(&at, LIMIT, DELVOUZH_TRAPEZOID, TRAPEZOID, 4, cant);
     holds("9 with its field", refused(9, 12, 0));
     set_of(&at, 1, DELVOUZH_ELLIPSE, ELLIPSE, 2, FIGURES);
@@ -144,6 +149,8 @@ static void no_room(void) {
     at.number = delvouzh_geometry(LIMIT, DELVOUZH_ELLIPSE, ELLIPSE, 2, at.scratch, SCRATCH, at.numbers, DELVOUZH_AREA, at.counts,
                                   DELVOUZH_COUNTS - 1);
     holds("no room for counts", at.number == 18 && left_alone());
+    at.number = delvouzh_chords_at(DELVOUZH_ELLIPSE, ELLIPSE, 2, 0.1, at.scratch, DELVOUZH_CHORDS - 1, at.counts, DELVOUZH_CHORD_COUNTS);
+    holds("no room for chords", at.number == 18 && left_alone());
     at.number = delvouzh_check(body, DELVOUZH_BODY, at.counts, DELVOUZH_VALUES - 1);
     holds("no room for values", at.number == 18 && left_alone());
     at.number = delvouzh_answer_line(line, sizeof line - 1, at.scratch, SCRATCH, at.answer, DELVOUZH_ANSWER - 1, at.counts, 1);

@@ -204,6 +204,29 @@ pub fn geometry(planform: &Planform, limit: usize, scratch: &mut [f64]) -> Resul
     })
 }
 
+/// A planform's chords at a height: start and end of each, in order. The planform is checked as for its area.
+pub fn chords_at(planform: &Planform, height_m: f64) -> Result<Vec<[f64; 2]>, Error> {
+    let mut short = [0.0; 4];
+    let (number, lengths) = planform.crossing(&mut short);
+    let mut ends = [0.0; raw::CHORDS];
+    let mut counts = [0; raw::CHORD_COUNTS];
+    let number = unsafe {
+        raw::delvouzh_chords_at(
+            number,
+            lengths.as_ptr(),
+            lengths.len(),
+            height_m,
+            ends.as_mut_ptr(),
+            ends.len(),
+            counts.as_mut_ptr(),
+            counts.len(),
+        )
+    };
+    let [first, second, count] = counts;
+    Error::unless_zero(number, [first, second])?;
+    Ok(ends.chunks_exact(2).take(count).map(|chord| [chord[0], chord[1]]).collect())
+}
+
 /// 1 to 32 bodies joined into one rigid body.
 pub fn combine(bodies: &[Body]) -> Result<Body, Error> {
     let numbers = Body::numbers(bodies);

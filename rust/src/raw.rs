@@ -17,6 +17,8 @@ pub const LINE: usize = 3;
 
 pub const BODY: usize = 13;
 pub const AREA: usize = 3;
+pub const CHORDS: usize = 64;
+pub const CHORD_COUNTS: usize = 3;
 pub const MOMENTS: usize = 3;
 pub const COUNTS: usize = 4;
 pub const VALUES: usize = 2;
@@ -52,6 +54,17 @@ extern "C" {
         scratch_len: usize,
         area: *mut f64,
         area_len: usize,
+        counts: *mut usize,
+        counts_len: usize,
+    ) -> usize;
+
+    pub fn delvouzh_chords_at(
+        planform: usize,
+        lengths: *const f64,
+        lengths_len: usize,
+        height_m: f64,
+        ends: *mut f64,
+        ends_len: usize,
         counts: *mut usize,
         counts_len: usize,
     ) -> usize;

@@ -1,6 +1,6 @@
 //! Each call, with figures and refused; the worked examples are document 01's.
 use delvouzh::{
-    answer_line, check, combine, geometry, mass_properties, principal_moments, scratch_len, sqrt, Body, Density, Error,
+    answer_line, check, chords_at, combine, geometry, mass_properties, principal_moments, scratch_len, sqrt, Body, Density, Error,
     FinSet, Planform, Refusal, Section, Tab, TensorFault,
 };
 
@@ -105,6 +105,29 @@ fn an_outline_has_the_trapezoid_s_area() {
     let area = geometry(&ELLIPSE, 64, &mut vec![0.0; scratch_len(64)]).unwrap();
     assert!((area.area_m2 - std::f64::consts::PI * 0.2 * 0.1 / 4.0).abs() < 1e-13);
     assert!(near(area.centroid_x_m, 0.1));
+}
+
+#[test]
+fn chords_are_listed_up_to_the_tip() {
+    assert_eq!(chords_at(&TRAPEZOID, 0.0), Ok(vec![[0.0, 0.2]]));
+    assert_eq!(chords_at(&TRAPEZOID, 0.15), Ok(vec![[0.05, (0.05 + 0.2) + (0.1 - 0.2)]]));
+    assert_eq!(chords_at(&ELLIPSE, 0.1), Ok(vec![[0.1, 0.1]]));
+    for height_m in [-0.01, 0.15f64.next_up(), f64::NAN, f64::INFINITY] {
+        assert_eq!(chords_at(&TRAPEZOID, height_m), Ok(vec![]));
+    }
+    let points_m = [[0.0, 0.0], [0.0, 0.2], [0.1, 0.1], [0.2, 0.2], [0.2, 0.0]];
+    let teeth = Planform::Outline { points_m: &points_m };
+    assert_eq!(chords_at(&teeth, 0.05), Ok(vec![[0.0, 0.2]]));
+    assert_eq!(chords_at(&teeth, 0.15).unwrap().len(), 2);
+    assert_eq!(chords_at(&teeth, 0.2), Ok(vec![]), "an outline's edges are half-open");
+    let flat = Planform::Ellipse {
+        root_chord_m: 0.2,
+        span_m: 0.0,
+    };
+    assert_eq!(chords_at(&flat, 0.0), Err(Error::Refused(Refusal::Length { field: 3 })));
+    let points_m: Vec<_> = (0..64).map(|k| [f64::from(k) / 64.0, f64::from(k % 2) / 8.0]).collect();
+    let saw = [&points_m[..63], &[[1.0, 0.0]]].concat();
+    assert_eq!(chords_at(&Planform::Outline { points_m: &saw }, 0.0625).unwrap().len(), 31);
 }
 
 #[test]

@@ -15,11 +15,12 @@ use Rattle.moments.specs.declared.Moments.{Moments}
 use Rattle.figures.specs.declared.Area.{Area}
 use Rattle.figures.specs.declared.Figures.{Figures}
 use Rattle.lines.specs.Lines.{answerOf, Answers}
+use Rattle.planform_chords.specs.declared.ChordList.{ChordList}
 use Rattle.planforms.specs.declared.NumberedPlanform.{NumberedPlanform}
 use Rattle.fins.specs.declared.NumberedSet.{NumberedSet}
-use Rattle.requests.specs.Calls.{numberedFigures, numberedScratch, numberedArea, numberedAreaScratch, tensorMoments, bodyVerdict}
+use Rattle.requests.specs.Calls.{numberedFigures, numberedScratch, numberedArea, numberedAreaScratch, numberedChords, numberedEnds, tensorMoments, bodyVerdict}
 use Rattle.exports.specs.Numbers.{numberIn, over, withValues}
-use Rattle.exports.specs.Calls.{room, figureCounts, SetCall, areaNumbers, areaCounts, AreaCall, JoinCall, momentsNumbers, MomentsCall, CheckCall, LineCall}
+use Rattle.exports.specs.Calls.{room, figureCounts, SetCall, areaNumbers, areaCounts, AreaCall, chordCounts, ChordsCall, JoinCall, momentsNumbers, MomentsCall, CheckCall, LineCall}
 
 module _ {A : Type 0} (m : ℕ) (figures : List A) (n : ℕ) (counts : List ℕ) where
   has-room : m ≤ length figures → n ≤ length counts → room m figures n counts ≡ true
@@ -64,6 +65,22 @@ module _ (planform : NumberedPlanform) (points : List Float) (L : ℕ) (scratch 
         figures = rw (fits, ← same, ← e) b;
         counted = rw (fits, ← same, ← e) c;
         lent = rw (fits, ← same) s;
+      }
+
+module _ (planform : NumberedPlanform) (points : List Float) (h : Float) (ends : List Float) (counts : List ℕ) where
+  pub chords-refused : room 64 ends 3 counts ≡ false → ChordsCall planform points h ends counts 18 ends counts
+  chords-refused none = record { returned = rw none; listed = rw none; counted = rw none }
+
+  pub chords-written : 64 ≤ length ends → 3 ≤ length counts → (read : NumberedPlanform) (l : ChordList) (r : ℕ) (ends' : List Float) (counts' : List ℕ) →
+      read ≡ planform → l ≡ numberedChords read points h (length ends) → ends' ≡ numberedEnds read points h ends →
+      counts' ≡ chordCounts l counts → r ≡ numberIn (l .verdict) →
+      ChordsCall planform points h ends counts r ends' counts'
+  chords-written k j read l r ends' counts' same e s c n =
+      let fits = has-room 64 ends 3 counts k j in
+      record {
+        returned = rw (fits, ← same, ← e) n;
+        listed = rw (fits, ← same) s;
+        counted = rw (fits, ← same, ← e) c;
       }
 
 module _ (bodies body : List Float) where

@@ -11,15 +11,16 @@ use Rattle.floats.specs.Operations.{at}
 use Rattle.refusals.specs.declared.Refusal.the-variants.{NoForm}
 use Rattle.refusals.specs.Refusals.{numberOf}
 use Rattle.planforms.specs.declared.NumberedPlanform.{NumberedPlanform}
+use Rattle.planform_chords.specs.declared.ChordList.{ChordList}
 use Rattle.fins.specs.declared.NumberedSet.{NumberedSet}
 use Rattle.joins.specs.Flat.{withBody}
 use Rattle.joins.specs.Joins.{combineOf}
 use Rattle.moments.specs.declared.Moments.{Moments}
 use Rattle.figures.specs.declared.Area.{Area}
 use Rattle.figures.specs.declared.Figures.{Figures}
-use Rattle.requests.specs.Calls.{numberedFigures, numberedScratch, numberedArea, numberedAreaScratch, tensorMoments, bodyVerdict}
+use Rattle.requests.specs.Calls.{numberedFigures, numberedScratch, numberedArea, numberedAreaScratch, numberedChords, numberedEnds, tensorMoments, bodyVerdict}
 use Rattle.lines.specs.Lines.{answerOf, scratchAfterLine}
-use Rattle.exports.specs.Numbers.{numberIn, over, withValues, withCounts}
+use Rattle.exports.specs.Numbers.{numberIn, over, withValues, withCount, withCounts}
 
 -- room for m figures, or bytes, and n counts
 abbrev pub room : {A : Type 0} → ℕ → List A → ℕ → List ℕ → Bool
@@ -49,6 +50,16 @@ pub record AreaCall (planform : NumberedPlanform) (points : List Float) (L : ℕ
   pub figures : area' ≡ cond (room 3 area 4 counts) (over (areaNumbers (numberedArea planform points L (length scratch))) area) area
   pub counted : counts' ≡ cond (room 3 area 4 counts) (areaCounts (numberedArea planform points L (length scratch)) counts) counts
   pub lent : scratch' ≡ cond (room 3 area 4 counts) (numberedAreaScratch planform points L scratch) scratch
+
+-- ---- a planform's chords at a height (document 02, Paper 1): an outline of 64 points has at most 32, of two ends each
+
+abbrev pub chordCounts : ChordList → List ℕ → List ℕ
+chordCounts l counts = withCount counts (l .verdict) (l .count)
+
+pub record ChordsCall (planform : NumberedPlanform) (points : List Float) (h : Float) (ends : List Float) (counts : List ℕ) (r : ℕ) (ends' : List Float) (counts' : List ℕ) : Type 0 where
+  pub returned : r ≡ cond (room 64 ends 3 counts) (numberIn (numberedChords planform points h (length ends) .verdict)) (numberOf NoForm)
+  pub listed : ends' ≡ cond (room 64 ends 3 counts) (numberedEnds planform points h ends) ends
+  pub counted : counts' ≡ cond (room 64 ends 3 counts) (chordCounts (numberedChords planform points h (length ends)) counts) counts
 
 -- ---- a join
 

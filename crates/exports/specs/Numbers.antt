@@ -31,5 +31,8 @@ secondIn verdict = getD (valuesIn verdict) 1 0
 unfoldable pub withValues : List ℕ → Verdict → List ℕ
 withValues list verdict = over (firstIn verdict ∷ secondIn verdict ∷ []) list
 
+unfoldable pub withCount : List ℕ → Verdict → ℕ → List ℕ
+withCount list verdict count = over (firstIn verdict ∷ secondIn verdict ∷ count ∷ []) list
+
 unfoldable pub withCounts : List ℕ → Verdict → ℕ → ℕ → List ℕ
 withCounts list verdict intervals samples = over (firstIn verdict ∷ secondIn verdict ∷ intervals ∷ samples ∷ []) list

@@ -1,7 +1,7 @@
 // What C and Rust link (include/delvouzh.h): each function under its plain name, over numbers and slices alone.
 //
 // A call returns 0, or the number of the refusal, and writes its figures and counts over the start of lent slices; a refusal writes
-// zero figures. Only the root returns its f64, and a line is answered, by 0, also where the answer's text is a refusal. A planform, a
+// zero figures, but of chords none. Only the root returns its f64, and a line is answered, by 0, also where the answer's text is a refusal. A planform, a
 // section, a tab and a density cross as a number, with their figures in a slice: an unknown number, or figures of another count, are 18
 // (no form); but points that are not 3 to 64 pairs are 5, and bodies that are not 1 to 32 whole ones are 3. A lent slice that is too short
 // for what is written over it is 18 too, and then nothing at all is written.
@@ -12,8 +12,8 @@ ghost use lib.ListN.{length};
 ghost use Rattle.root.specs.Root.{rootOf, IsRoot};
 ghost use Rattle.planforms.specs.Numbered.{numberedPlanform};
 ghost use Rattle.exports.specs.Sets.{crossedSet};
-ghost use Rattle.exports.specs.Numbers.{numberIn, valuesIn, over, withValues, withCounts};
-ghost use Rattle.exports.specs.Calls.{SetCall, AreaCall, JoinCall, MomentsCall, CheckCall, LineCall};
+ghost use Rattle.exports.specs.Numbers.{numberIn, valuesIn, over, withValues, withCount, withCounts};
+ghost use Rattle.exports.specs.Calls.{SetCall, AreaCall, ChordsCall, JoinCall, MomentsCall, CheckCall, LineCall};
 use fins::NumberedSet;
 use refusals::Verdict;
 
@@ -79,6 +79,17 @@ fn write_values(values: &mut [usize], verdict: Verdict)
     let found = verdict_values(verdict);
     values[0] = found[0];
     values[1] = found[1];
+}
+
+// Writes a verdict's values and a count over the first three numbers.
+fn write_count(counts: &mut [usize], verdict: Verdict, count: usize)
+    requires { ⌜ 3 ≤ length (now counts) ⌝ }
+    ensures { λ _. ⌜ now (counts .exit) ≡ withCount (now (counts .entry)) verdict count ⌝ }
+{
+    let found = verdict_values(verdict);
+    counts[0] = found[0];
+    counts[1] = found[1];
+    counts[2] = count;
 }
 
 // Writes a verdict's values, the intervals and the samples over the first four numbers.
@@ -172,6 +183,31 @@ pub extern "C" fn delvouzh_geometry(
         found.centroid_span_m,
     );
     write_counts(counts, verdict, found.intervals, found.samples);
+    number(verdict)
+}
+
+// A planform's chords at a height in metres: writes start and end of each over a list with room for 32 chords, and as counts two values of
+// a refusal and how many chords there are. A refusal leaves the list as it was.
+#[no_mangle]
+pub extern "C" fn delvouzh_chords_at(
+    planform: usize,
+    lengths: &[f64],
+    height_m: f64,
+    ends: &mut [f64],
+    counts: &mut [usize],
+) -> usize
+    ensures { λ r. ⌜ ChordsCall (numberedPlanform planform (now (lengths .entry))) (now (lengths .entry)) «height_m» (now (ends .entry)) (now (counts .entry)) r (now (ends .exit)) (now (counts .exit)) ⌝ }
+{
+    if ends.len() < planform_chords::ROOM {
+        return NO_FORM;
+    }
+    if counts.len() < 3 {
+        return NO_FORM;
+    }
+    let asked = planforms::numbered_planform(planform, lengths);
+    let found = requests::listed_chords(asked, lengths, height_m, ends);
+    let verdict = found.verdict;
+    write_count(counts, verdict, found.count);
     number(verdict)
 }
 

@@ -11,6 +11,8 @@ use Rattle.refusals.specs.declared.Verdict.{Verdict}
 use Rattle.refusals.specs.declared.Verdict.the-variants.{Refused}
 use Rattle.planforms.specs.declared.NumberedPlanform.{NumberedPlanform}
 use Rattle.planforms.specs.declared.NumberedPlanform.the-variants.{Known as planformKnown, Unknown as noPlanform}
+use Rattle.planform_chords.specs.declared.ChordList.{ChordList}
+use Rattle.planform_chords.specs.PlanformChords.{chordList, endsAfter}
 use Rattle.fins.specs.declared.NumberedSet.{NumberedSet}
 use Rattle.fins.specs.declared.NumberedSet.the-variants.{Known as setKnown, Unknown as noSet}
 use Rattle.bodies.specs.declared.Body.{Body}
@@ -45,6 +47,16 @@ numberedArea noPlanform points L scratchLength = refusedArea NoForm 0
 unfoldable pub numberedAreaScratch : NumberedPlanform → List Float → ℕ → List Float → List Float
 numberedAreaScratch (planformKnown planform) points L scratch = areaScratch planform points L scratch
 numberedAreaScratch noPlanform points L scratch = scratch
+
+-- ---- a planform's chords at a height, and the list that they are written over (document 02, Paper 1)
+
+unfoldable pub numberedChords : NumberedPlanform → List Float → Float → ℕ → ChordList
+numberedChords (planformKnown planform) points h listLength = chordList planform points h listLength
+numberedChords noPlanform points h listLength = record { verdict = Refused NoForm; count = 0 }
+
+unfoldable pub numberedEnds : NumberedPlanform → List Float → Float → List Float → List Float
+numberedEnds (planformKnown planform) points h ends = endsAfter planform points h ends
+numberedEnds noPlanform points h ends = ends
 
 -- ---- points joined
 

@@ -1,5 +1,5 @@
-// What a line or a call asks by numbers, as the calls take it (docs/FORMS.md; include/delvouzh.h): a set, a planform, points to join, a
-// tensor, a body.
+// What a line or a call asks by numbers, as the calls take it (docs/FORMS.md; include/delvouzh.h): a set, a planform, a planform's chords,
+// points to join, a tensor, a body.
 //
 // A line's figures stand in a lent slice in the order of its form. Any numbers and any figures may be handed in: what they do not make up
 // is no form.
@@ -10,7 +10,7 @@ ghost use Rattle.floats.specs.Operations.{at};
 ghost use Rattle.joins.specs.Flat.{withBodies};
 ghost use Rattle.figures.specs.Figures.{refusedFigures};
 ghost use Rattle.figures.specs.Areas.{refusedArea};
-ghost use Rattle.requests.specs.Calls.{numberedFigures, numberedScratch, numberedArea, numberedAreaScratch, pointBodyAt, joinedPointsOf, tensorMoments, bodyVerdict};
+ghost use Rattle.requests.specs.Calls.{numberedFigures, numberedScratch, numberedArea, numberedAreaScratch, numberedChords, numberedEnds, pointBodyAt, joinedPointsOf, tensorMoments, bodyVerdict};
 ghost use Rattle.requests.specs.Requests.{between, setRequestOf, areaRequestOf, askedFigures, askedScratch, askedArea, askedAreaScratch};
 use bodies::Body;
 use bodies::Centre;
@@ -20,6 +20,7 @@ use fins::NumberedSet;
 use forms::Request;
 use joins::Joined;
 use moments::Moments;
+use planform_chords::ChordList;
 use planforms::NumberedPlanform;
 use refusals::Refusal;
 use refusals::Verdict;
@@ -161,6 +162,28 @@ pub fn area_figures(
     match planform {
         NumberedPlanform::Known(planform) => figures::geometry(planform, points, limit, scratch),
         NumberedPlanform::Unknown => no_area(),
+    }
+}
+
+fn no_chords() -> ChordList
+    ensures { λ r. ⌜ r ≡ record { verdict = Verdict.Refused Refusal.NoForm; count = 0 } ⌝ }
+{
+    let verdict = Verdict::Refused(Refusal::NoForm);
+    ChordList { verdict, count: 0 }
+}
+
+// A planform's chords at a height in metres, listed over the start of a lent list.
+pub fn listed_chords(
+    planform: NumberedPlanform,
+    points: &[f64],
+    h: f64,
+    ends: &mut [f64],
+) -> ChordList
+    ensures { λ r. ⌜ (r ≡ numberedChords planform (now (points .entry)) h (length (now (ends .entry)))) × (now (ends .exit) ≡ numberedEnds planform (now (points .entry)) h (now (ends .entry))) ⌝ }
+{
+    match planform {
+        NumberedPlanform::Known(planform) => planform_chords::chords_at(planform, points, h, ends),
+        NumberedPlanform::Unknown => no_chords(),
     }
 }
 

@@ -1,0 +1,45 @@
+-- `requests::listed_chords` meets its contract: each arm knows its case. Assumes nothing.
+use borrow.Author.Needs.{needs}
+use Rattle.requests.specs.Calls.{numberedChords, numberedEnds}
+use Rattle.requests.proofs.listed_chords.Statement.{statement}
+use Rattle.requests.proofs.listed_chords.Tie as tie
+
+enum-known-planform : tie.Need-enum-known-planform
+enum-known-planform c = search needs
+
+chords-at-requires : tie.Need-chords-at-requires
+chords-at-requires c κs = search needs
+
+enum-told : tie.Need-enum-told
+enum-told c = search needs
+
+no-chords-requires : tie.Need-no-chords-requires
+no-chords-requires c κs = search needs
+
+same-length : tie.Need-same-length
+same-length c = search needs
+
+returns : tie.Need-returns
+unfolding numberedChords numberedEnds
+returns c =
+    let w = c .before .before in
+    let told = w .before .before .before .planform .given .1 in
+    (rw told (w .chords-at .ensures .0), rw told (w .chords-at .ensures .1))
+
+returns-2 : tie.Need-returns-2
+unfolding numberedChords numberedEnds
+returns-2 c =
+    let told = c .before .enum-told .given .1 in
+    (rw told (c .no-chords .ensures), rw told)
+
+pub listed-chords-spec : {M : Type 1} → statement M
+listed-chords-spec =
+    tie.close
+    (tie.spec
+    enum-known-planform
+    chords-at-requires
+    enum-told
+    no-chords-requires
+    same-length
+    returns
+    returns-2)
