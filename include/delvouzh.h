@@ -67,7 +67,7 @@ extern "C" {
 #define DELVOUZH_ANSWER 320
 
 /* The bytes of stack that are enough for any call. The longest chain of frames in the library's code takes half of them: tests/header. */
-#define DELVOUZH_STACK 32768
+#define DELVOUZH_STACK 98304
 
 /* A set's figures. `figures`: thickness, cant, base angle, body radius, density; with a tab also its height, length and offset.
  * Writes a body, and as counts two values of a refusal, the intervals and the samples. `scratch` has at least 16 * limit numbers; the

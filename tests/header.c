@@ -101,7 +101,7 @@ static void figures(void) {
     at.number = delvouzh_principal_moments(tensor, 9, at.numbers, DELVOUZH_MOMENTS, at.counts, DELVOUZH_VALUES);
     holds("moments", refused(0, 0, 0) && at.numbers[0] == 0.0 && at.numbers[1] == 2.0 && at.numbers[2] == 2.0);
     holds("the root of 2", bits(delvouzh_sqrt(2.0)) == 0x3ff6a09e667f3bcd);
-    answer_to(&at, "(join (point 3ff0000000000000 4000000000000000 0000000000000000 0000000000000000))");
+    answer_to(&at, "(join (point 1.0 #4000000000000000 0 -0))");
     holds("a line", answered("(joined (mass 3ff0000000000000) (centre 4000000000000000 0000000000000000 0000000000000000) (inertia"
                              " 0000000000000000 0000000000000000 0000000000000000 0000000000000000 0000000000000000 0000000000000000"
                              " 0000000000000000 0000000000000000 0000000000000000))"));
@@ -199,10 +199,12 @@ static void call_set(void) { set_of(&at, LIMIT, DELVOUZH_ELLIPSE, ELLIPSE, 2, FI
 static void call_area(void) { area_of(&at, DELVOUZH_ELLIPSE, ELLIPSE, 2); }
 static void call_join(void) { at.number = delvouzh_combine(at.scratch, 32 * DELVOUZH_BODY, at.numbers, DELVOUZH_BODY); }
 static void call_check(void) { at.number = delvouzh_check(at.scratch, DELVOUZH_BODY, at.counts, DELVOUZH_VALUES); }
-static void call_line(void) {
-    answer_to(&at, "(set (limit 64) (count 3) (ellipse 3fc999999999999a 3fb999999999999a) (thickness 3f689374bc6a7efa) (section rounded)"
-                   " (cant 3f947ae147ae147b) (base 0000000000000000) (radius 3fa999999999999a) (bulk 4085400000000000))");
-}
+
+/* A set's line, short and with spaces behind it: a long line needs more. */
+static const char SET[] = "(set (limit 64) (count 3) (ellipse 0.2 0.1) (thickness 0.003) (section rounded) (cant 0.02) (base 0) (radius 0.05) (bulk 680))";
+static char long_set[4097];
+static void call_line(void) { answer_to(&at, SET); }
+static void call_long_line(void) { answer_to(&at, long_set); }
 
 static size_t stack_of(void (*call)(void)) {
     size_t free_bytes = 0;
@@ -218,8 +220,10 @@ static size_t stack_of(void (*call)(void)) {
 }
 
 static void stacks(void) {
-    void (*const calls[])(void) = {call_set, call_area, call_join, call_check, call_line};
+    void (*const calls[])(void) = {call_set, call_area, call_join, call_check, call_line, call_long_line};
     size_t most = 0;
+    memset(long_set, ' ', sizeof long_set - 1);
+    memcpy(long_set, SET, sizeof SET - 1);
     lend(&at, 1.0);
     for (size_t k = 0; k < sizeof calls / sizeof *calls; k++) {
         size_t used = stack_of(calls[k]);

@@ -1,6 +1,7 @@
 //! The card program's forms, read from a line.
 
 use crate::figures;
+use crate::refusals::Refusal;
 
 /// The most bytes that a line has, its newline not counted.
 const LONGEST: usize = 4096;
@@ -90,46 +91,60 @@ fn tokens(line: &[u8]) -> Vec<Token<'_>> {
     found
 }
 
-/// The form that a line holds; none is number 18.
-pub fn read(line: &[u8]) -> Option<Form> {
+/// The form that a line holds: 18 where it is none, else 19 where a word is no figure and one belongs there.
+pub fn read(line: &[u8]) -> Result<Form, Refusal> {
     if line.len() > LONGEST {
-        return None;
+        return Err(Refusal::NoForm);
     }
     let found = tokens(line);
-    let mut reader = Reader { rest: &found };
-    let form = match reader.open()? {
-        b"set" => Form::Set(reader.set()?),
-        b"area" => Form::Area {
-            limit: reader.count_part(b"limit")?,
-            planform: reader.planform()?,
-        },
-        b"join" => {
-            let mut points = Vec::new();
-            while reader.rest.first() == Some(&Token::Open) {
-                points.push(reader.part(b"point")?);
-            }
-            Form::Join(points)
-        }
-        b"moments" => Form::Moments(reader.figures()?),
-        b"check" => {
-            let [mass] = reader.part(b"mass")?;
-            Form::Check(Body {
-                mass,
-                centre: reader.part(b"centre")?,
-                inertia: reader.part(b"inertia")?,
-            })
-        }
-        _ => return None,
+    let mut reader = Reader {
+        rest: &found,
+        spoiled: false,
     };
-    reader.close()?;
-    reader.rest.is_empty().then_some(form)
+    let form = reader.form().ok_or(Refusal::NoForm)?;
+    if reader.spoiled {
+        return Err(Refusal::NoFigure);
+    }
+    Ok(form)
 }
 
 struct Reader<'t, 'l> {
     rest: &'t [Token<'l>],
+    /// A word that is no figure stood where one belongs.
+    spoiled: bool,
 }
 
 impl<'l> Reader<'_, 'l> {
+    /// The whole line.
+    fn form(&mut self) -> Option<Form> {
+        let form = match self.open()? {
+            b"set" => Form::Set(self.set()?),
+            b"area" => Form::Area {
+                limit: self.count_part(b"limit")?,
+                planform: self.planform()?,
+            },
+            b"join" => {
+                let mut points = Vec::new();
+                while self.rest.first() == Some(&Token::Open) {
+                    points.push(self.part(b"point")?);
+                }
+                Form::Join(points)
+            }
+            b"moments" => Form::Moments(self.figures()?),
+            b"check" => {
+                let [mass] = self.part(b"mass")?;
+                Form::Check(Body {
+                    mass,
+                    centre: self.part(b"centre")?,
+                    inertia: self.part(b"inertia")?,
+                })
+            }
+            _ => return None,
+        };
+        self.close()?;
+        self.rest.is_empty().then_some(form)
+    }
+
     fn next(&mut self) -> Option<Token<'l>> {
         let (first, rest) = self.rest.split_first()?;
         self.rest = rest;
@@ -153,10 +168,18 @@ impl<'l> Reader<'_, 'l> {
         (self.next()? == Token::Close).then_some(())
     }
 
+    /// Where a figure belongs any word is a form, and the line's end tells; a byte that no form has is none.
+    fn figure(&mut self) -> Option<f64> {
+        let word = self.word()?;
+        let figure = figures::read(word);
+        self.spoiled |= figure.is_none();
+        word.iter().all(u8::is_ascii_graphic).then_some(figure.unwrap_or(0.0))
+    }
+
     fn figures<const N: usize>(&mut self) -> Option<[f64; N]> {
         let mut list = [0.0; N];
         for x in &mut list {
-            *x = figures::read(self.word()?)?;
+            *x = self.figure()?;
         }
         Some(list)
     }
@@ -194,9 +217,8 @@ impl<'l> Reader<'_, 'l> {
             b"ellipse" => Some(Planform::Ellipse(self.figures_close()?)),
             b"outline" => {
                 let mut list = Vec::new();
-                while let Some(Token::Word(word)) = self.rest.first() {
-                    list.push(figures::read(word)?);
-                    self.next();
+                while let Some(Token::Word(_)) = self.rest.first() {
+                    list.push(self.figure()?);
                 }
                 self.close()?;
                 Some(Planform::Outline(list))

@@ -1,15 +1,19 @@
 //! Card lines of every kind.
 
 use crate::bodies;
-use crate::figures::{raw, raw_all};
+use crate::figures::{marked, marked_all};
 use crate::forms::{Density, Planform, Section};
 use crate::outlines::{self, Heights, Point, length};
 use crate::random::{Random, moved, power_of_two};
+use crate::words;
 
 pub const KINDS: &[&str] = &[
     "set", "area", "outline", "narrow", "merging", "noise", "touch", "points", "limits", "faults", "table", "join",
-    "moments", "check", "spaces", "mixed",
+    "moments", "check", "decimals", "words", "spaces", "mixed",
 ];
+
+/// How many of them are made figure by figure; the others are such lines, written otherwise.
+const MADE: usize = 14;
 
 /// `count` lines of one kind; none if there is no such kind.
 pub fn lines(kind: &str, count: u64, seed: u64) -> Option<Vec<String>> {
@@ -56,8 +60,16 @@ fn one(r: &mut Random, kind: &str) -> String {
         "faults" => faults(r),
         "table" => pick(r, |_| table()),
         "join" => join(r),
-        "moments" => format!("(moments{})", raw_all(&bodies::tensor(r))),
+        "moments" => moments_line(&bodies::tensor(r)),
         "check" => check(r),
+        "decimals" => {
+            let line = mixed(r);
+            words::decimals(r, &line)
+        }
+        "words" => {
+            let line = mixed(r);
+            words::mistyped(r, &line)
+        }
         "spaces" => {
             let line = mixed(r);
             spaced(r, &line)
@@ -66,9 +78,9 @@ fn one(r: &mut Random, kind: &str) -> String {
     }
 }
 
-/// Any kind but spaces and mixed, the last two.
+/// Any kind that is made figure by figure.
 fn mixed(r: &mut Random) -> String {
-    let kind = r.pick(&KINDS[..KINDS.len() - 2]);
+    let kind = r.pick(&KINDS[..MADE]);
     one(r, kind)
 }
 
@@ -94,7 +106,7 @@ struct Draft {
 
 impl Draft {
     fn line(&self) -> String {
-        let tab = self.tab.map(|t| format!(" (tab{})", raw_all(&t)));
+        let tab = self.tab.map(|t| format!(" (tab{})", marked_all(&t)));
         let (kind, value) = match self.density {
             Density::Bulk(v) => ("bulk", v),
             Density::Surface(v) => ("surface", v),
@@ -104,14 +116,14 @@ impl Draft {
             "(set (limit {}) (count {}) ({}) (thickness {}) (section {}){} (cant {}) (base {}) (radius {}) ({kind} {}))",
             self.limit,
             self.count,
-            planform_words(&self.planform),
-            raw(self.thickness),
+            planform_words(&self.planform, marked_all),
+            marked(self.thickness),
             section_word(self.section),
             tab.unwrap_or_default(),
-            raw(self.cant),
-            raw(self.base),
-            raw(self.radius),
-            raw(value)
+            marked(self.cant),
+            marked(self.base),
+            marked(self.radius),
+            marked(value)
         )
     }
 
@@ -123,12 +135,12 @@ impl Draft {
     }
 }
 
-/// The planform's word and figures, without brackets.
-pub fn planform_words(planform: &Planform) -> String {
+/// The planform's word and figures, without brackets; a line's are marked, a question's are not.
+pub fn planform_words(planform: &Planform, written: fn(&[f64]) -> String) -> String {
     match planform {
-        Planform::Trapezoid(f) => format!("trapezoid{}", raw_all(f)),
-        Planform::Ellipse(f) => format!("ellipse{}", raw_all(f)),
-        Planform::Outline(f) => format!("outline{}", raw_all(f)),
+        Planform::Trapezoid(f) => format!("trapezoid{}", written(f)),
+        Planform::Ellipse(f) => format!("ellipse{}", written(f)),
+        Planform::Outline(f) => format!("outline{}", written(f)),
     }
 }
 
@@ -270,7 +282,7 @@ fn set(r: &mut Random) -> Draft {
 
 fn area(r: &mut Random, planform: impl Fn(&mut Random) -> Planform) -> String {
     let limit = limit(r);
-    format!("(area (limit {limit}) ({}))", planform_words(&planform(r)))
+    format!("(area (limit {limit}) ({}))", planform_words(&planform(r), marked_all))
 }
 
 /// A set or an area with the outline.
@@ -626,13 +638,17 @@ fn table() -> Vec<String> {
         "(set".to_owned(),
         "(join)".to_owned(),
         join_line(&[[1.0, 0.0, 0.0, 0.0], [1.0, 2.0, 0.0, 0.0]]),
-        format!("(moments{})", raw_all(&[2.0, 0.0, 0.0, 0.0, 0.0, 0.0, 0.0, 0.0, 2.0])),
+        moments_line(&[2.0, 0.0, 0.0, 0.0, 0.0, 0.0, 0.0, 0.0, 2.0]),
     ]
 }
 
 fn join_line(points: &[[f64; 4]]) -> String {
-    let points: String = points.iter().map(|p| format!(" (point{})", raw_all(p))).collect();
+    let points: String = points.iter().map(|p| format!(" (point{})", marked_all(p))).collect();
     format!("(join{points})")
+}
+
+fn moments_line(tensor: &[f64; 9]) -> String {
+    format!("(moments{})", marked_all(tensor))
 }
 
 fn join(r: &mut Random) -> String {
@@ -640,7 +656,7 @@ fn join(r: &mut Random) -> String {
 }
 
 fn check_line(mass: f64, centre: [f64; 3], inertia: &[f64; 9]) -> String {
-    let parts = [raw_all(&[mass]), raw_all(&centre), raw_all(inertia)];
+    let parts = [marked_all(&[mass]), marked_all(&centre), marked_all(inertia)];
     format!("(check (mass{}) (centre{}) (inertia{}))", parts[0], parts[1], parts[2])
 }
 

@@ -11,6 +11,7 @@ mod random;
 mod refusals;
 mod runs;
 mod values;
+mod words;
 mod work;
 
 use std::io::{self, BufWriter, Read, Write};

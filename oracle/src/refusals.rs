@@ -22,8 +22,8 @@ pub enum Refusal {
     Centre,
     Tensor { case: char },
     NoForm,
-    #[allow(dead_code)] // no line gives it yet
     NoFigure,
+    #[allow(dead_code)] // no line gives it yet
     WallOverRadius,
     ThicknessOverRoot,
 }

@@ -69,7 +69,7 @@ impl<'a> Words<'a> {
     }
 
     fn figure(&mut self) -> Option<f64> {
-        figures::read(self.word()?.as_bytes())
+        figures::read_bits(self.word()?.as_bytes())
     }
 
     fn figures<const N: usize>(&mut self) -> Option<[f64; N]> {
@@ -408,12 +408,12 @@ fn chords(r: &mut Random) -> String {
     } else {
         height(r, &breaks, 1.0)
     };
-    format!("chords {} at {}", planform_words(&planform), raw(at))
+    format!("chords {} at {}", planform_words(&planform, raw_all), raw(at))
 }
 
 fn breaks(r: &mut Random) -> String {
     let (planform, ..) = legal_planform(r);
-    format!("breaks {}", planform_words(&planform))
+    format!("breaks {}", planform_words(&planform, raw_all))
 }
 
 /// A pointed trapezoid just under its tip, where the trailing edge can round to before the leading edge: the area integrand
@@ -422,7 +422,7 @@ fn pointed(r: &mut Random) -> String {
     let (root, span) = (r.scaled(-16, -12), r.scaled(-6, -2));
     let sweep = moved(power_of_two(r.range(-3, 3)), r.range(-2, 2));
     let at = r.near(span / (root + span), 1000);
-    let words = planform_words(&Planform::Trapezoid([root, 0.0, span, sweep]));
+    let words = planform_words(&Planform::Trapezoid([root, 0.0, span, sweep]), raw_all);
     format!("area {words} at {}", raw(at))
 }
 
@@ -431,7 +431,7 @@ fn integrand(r: &mut Random) -> String {
         return pointed(r);
     }
     let (planform, breaks, scale) = legal_planform(r);
-    let words = planform_words(&planform);
+    let words = planform_words(&planform, raw_all);
     let at = raw(height(r, &breaks, scale));
     if r.once_in(3) {
         return format!("area {words} at {at}");

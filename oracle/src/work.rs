@@ -106,15 +106,15 @@ impl Worked {
 /// Works a line with `lent` numbers of scratch.
 pub fn work(line: &[u8], lent: usize) -> Worked {
     let form = forms::read(line);
-    let of_area = matches!(form, Some(Form::Area { .. }));
+    let of_area = matches!(form, Ok(Form::Area { .. }));
     record::start(0, &[]);
     let figures = match form {
-        None => Err(Refusal::NoForm),
-        Some(Form::Set(set)) => fin_set(&set, lent),
-        Some(Form::Area { limit, planform }) => area(limit, &planform, lent),
-        Some(Form::Join(points)) => join(&points),
-        Some(Form::Moments(tensor)) => moments(&tensor).map(Figures::Moments),
-        Some(Form::Check(body)) => check(&body).map(|()| Figures::Sound),
+        Err(refusal) => Err(refusal),
+        Ok(Form::Set(set)) => fin_set(&set, lent),
+        Ok(Form::Area { limit, planform }) => area(limit, &planform, lent),
+        Ok(Form::Join(points)) => join(&points),
+        Ok(Form::Moments(tensor)) => moments(&tensor).map(Figures::Moments),
+        Ok(Form::Check(body)) => check(&body).map(|()| Figures::Sound),
     };
     let run = record::finish();
     let mut wrote: Vec<f64> = Vec::new();

@@ -7,7 +7,7 @@ use lib.Dec.{leb}
 use lib.ListN.{length, getD}
 use lib.Ieee.{Float}
 use Rattle.refusals.specs.declared.Refusal.{Refusal}
-use Rattle.refusals.specs.declared.Refusal.the-variants.{NoForm as noForm}
+use Rattle.refusals.specs.declared.Refusal.the-variants.{NoForm as noForm, NoFigure as noFigure}
 use Rattle.tokens.specs.Text.{text}
 use Rattle.tokens.specs.Tokens.{lineBytes, tokens}
 use Rattle.templates.specs.Matching.{Reading, failed, reading, pick, sameBytes, takeOne, takeText, takeEach, oneOf, optional}
@@ -81,10 +81,15 @@ abbrev pub ifFits : Reading → (Reading → Asked) → Asked
 ifFits failed g = refused noForm
 ifFits (reading ts t) g = g (reading ts t)
 
--- a form ends where the line's tokens do
+abbrev pub pickAsked : Bool → Asked → Asked → Asked
+pickAsked true a b = a
+pickAsked false a b = b
+
+-- a form ends where the line's tokens do. "Turned away: 19, a word of neither shape where a figure belongs, or sixteen bare digits ..; after 18 and
+-- before 1" (document 02, Paper 2): so the line is a form, and nothing of it is asked
 abbrev pub ended : Form → List ℕ → Reading → Asked
 ended form ns failed = refused noForm
-ended form ns (reading [] t) = asked form ns (t .figures)
+ended form ns (reading [] t) = pickAsked (t .spoiled) (refused noFigure) (asked form ns (t .figures))
 ended form ns (reading (w ∷ ts) t) = refused noForm
 
 -- a form's tokens, one after another
@@ -94,7 +99,7 @@ readItems form (name ∷ names) ns r = ifFits (item name r) (λ x. readItems for
 
 -- nothing of the line read yet
 abbrev pub start : List ℕ → Reading
-start line = reading (tokens line) (record { figures = []; number = 0 })
+start line = reading (tokens line) (record { figures = []; number = 0; spoiled = false })
 
 abbrev pub readAs : Form → List ℕ → List ℕ → Asked
 readAs form template line = readItems form (tokens template) noNumbers (start line)
@@ -103,10 +108,6 @@ readAs form template line = readItems form (tokens template) noNumbers (start li
 
 abbrev pub wordOf : List ℕ → List ℕ
 wordOf line = getD (tokens line) 1 []
-
-abbrev pub pickAsked : Bool → Asked → Asked → Asked
-pickAsked true a b = a
-pickAsked false a b = b
 
 -- the form of this word, or the others
 abbrev pub row : List ℕ → String → Form → String → Asked → Asked

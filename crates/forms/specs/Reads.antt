@@ -1,11 +1,12 @@
 -- How the code keeps what a line asks: its figures are at the start of a lent slice.
+use mathlib.Core.Bool.{Bool, true, false}
 use mathlib.Core.List.{List, [], _∷_}
 use mathlib.Core.Path.{_≡_}
 use Prim.Native.Nat.{ℕ, _≤_}
 use lib.ListN.{length, take, drop}
 use lib.Ieee.{Float}
 use Rattle.refusals.specs.declared.Refusal.{Refusal}
-use Rattle.refusals.specs.declared.Refusal.the-variants.{NoForm as noForm}
+use Rattle.refusals.specs.declared.Refusal.the-variants.{NoForm as noForm, NoFigure as noFigure}
 use Rattle.refusals.specs.declared.Verdict.the-variants.{Accepted, Refused}
 use Rattle.tokens.specs.Tokens.{tokens}
 use Rattle.tokens.specs.Found.{part}
@@ -36,8 +37,13 @@ abbrev pub atEnd : List (List ℕ) → Request → Request
 atEnd [] q = q
 atEnd (w ∷ ts) q = refusedRequest noForm
 
+-- where a word that is no figure stood in a figure's place, that is why
+abbrev pub unlessSpoiled : Bool → Request → Request
+unlessSpoiled true q = refusedRequest noFigure
+unlessSpoiled false q = q
+
 abbrev pub endOf : List ℕ → Form → Cursor → List ℕ → Request
-endOf line form c ns = atEnd (tokens (drop (c .at) line)) (record { form = form; verdict = Accepted; figures = c .figures; numbers = ns })
+endOf line form c ns = atEnd (tokens (drop (c .at) line)) (unlessSpoiled (c .spoiled) (record { form = form; verdict = Accepted; figures = c .figures; numbers = ns }))
 
 -- where the word of a line's form stands; nowhere, and then it has no byte
 pub record IsWordOf (line : List ℕ) (r : Found) : Type 0 where

@@ -6,7 +6,7 @@ ghost use mathlib.Core.Path.{_≡_};
 ghost use Prim.Native.Nat.{_≤_};
 ghost use lib.ListN.{length};
 ghost use Rattle.tokens.specs.Tokens.{lineBytes};
-ghost use Rattle.templates.specs.Cursors.{lineFigures, Room, Takes};
+ghost use Rattle.templates.specs.Cursors.{Room, Takes};
 ghost use Rattle.forms.specs.Forms.{part, isNumbered, withItem, readAs, lineAsked};
 ghost use Rattle.forms.specs.Reads.{refusedRequest, Reads, endOf, IsWordOf};
 use refusals::Refusal;
@@ -118,7 +118,7 @@ fn with_item(end: usize, number: usize, items: Items) -> Items
     }
 }
 
-// The request, where no token of the line is left.
+// The request, where no token of the line is left and each figure was one.
 fn end_form(line: &[u8], form: Form, c: Cursor, items: Items) -> Request
     ensures { λ r. ⌜ r ≡ endOf (now (line .entry)) form c (items .numbers) ⌝ }
 {
@@ -127,6 +127,9 @@ fn end_form(line: &[u8], form: Form, c: Cursor, items: Items) -> Request
     let found = tokens::next_token(line, at);
     if found.from < found.to {
         return refused(Refusal::NoForm);
+    }
+    if c.spoiled {
+        return refused(Refusal::NoFigure);
     }
     let verdict = Verdict::Accepted;
     Request {
@@ -139,7 +142,7 @@ fn end_form(line: &[u8], form: Form, c: Cursor, items: Items) -> Request
 
 // A line read by the template of a form.
 fn read_form(line: &[u8], form: Form, template: &[u8], values: &mut [f64]) -> Request
-    requires { ⌜ (length (now line) ≤ lineBytes) × (lineFigures ≤ length (now values)) ⌝ }
+    requires { ⌜ (length (now line) ≤ lineBytes) × (length (now line) ≤ length (now values)) ⌝ }
     ensures { λ r. ⌜ Reads (now (values .exit)) r (readAs form (now (template .entry)) (now (line .entry))) ⌝ }
 {
     let mut s = templates::line_start();
@@ -180,9 +183,9 @@ fn word_of(line: &[u8]) -> Found
     tokens::next_token(line, bracket.to)
 }
 
-// What a line asks; its figures go to the start of values.
+// What a line asks; its figures go to the start of values, which has room for one of each byte of a line that is not too long.
 pub fn read_line(line: &[u8], values: &mut [f64]) -> Request
-    requires { ⌜ lineFigures ≤ length (now values) ⌝ }
+    requires { ⌜ (length (now line) ≤ lineBytes → length (now line) ≤ length (now values)) ⌝ }
     ensures { λ r. ⌜ Reads (now (values .exit)) r (lineAsked (now (line .entry))) ⌝ }
 {
     if LINE_BYTES < line.len() {

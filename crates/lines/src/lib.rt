@@ -6,7 +6,8 @@ ghost use Prim.Native.Nat.{_+_, _≤_};
 ghost use lib.Dec.{leb};
 ghost use lib.ListN.{length};
 ghost use Rattle.texts.specs.Appended.{Appended};
-ghost use Rattle.lines.specs.Lines.{printedSet, printedArea, printedJoin, printedMoments, printedCheck, printedRefusal, scratchAfterForm, whyRefused, requestAnswer, Answers};
+ghost use Rattle.tokens.specs.Tokens.{lineBytes};
+ghost use Rattle.lines.specs.Lines.{printedSet, printedArea, printedJoin, printedMoments, printedCheck, printedRefusal, answerOf, scratchAfterForm, scratchAfterLine, whyRefused, requestAnswer, Answers};
 use figures::Area;
 use figures::Figures;
 use forms::Form;
@@ -16,6 +17,9 @@ use moments::Moments;
 use refusals::Refusal;
 use refusals::Verdict;
 use templates::LINE_FIGURES;
+
+// Most lines have no more bytes than this, and so no more figures: room for these is cleared in less time.
+const SHORT_LINE: usize = 512;
 
 fn put_refusal(out: &mut [u8], n: usize, refusal: Refusal) -> usize
     requires { ⌜ n + 320 ≤ length (now out) ⌝ }
@@ -131,6 +135,23 @@ fn has_room(len: usize, n: usize) -> bool
     320 <= len && n <= len - 320
 }
 
+// The answer to a line, whose figures go to the start of values.
+fn answer_read(
+    line: &[u8],
+    values: &mut [f64],
+    scratch: &mut [f64],
+    out: &mut [u8],
+    n: usize,
+) -> usize
+    requires { ⌜ (n + 320 ≤ length (now out)) × (length (now line) ≤ lineBytes → length (now line) ≤ length (now values)) ⌝ }
+    ensures { λ r. ⌜ Appended (now (out .entry)) n (answerOf (now (line .entry)) (length (now (scratch .entry)))) (now (out .exit)) r ⌝ }
+    ensures { λ _. ⌜ now (scratch .exit) ≡ scratchAfterLine (now (line .entry)) (now (scratch .entry)) ⌝ }
+{
+    let q = forms::read_line(line, values);
+    let end = q.figures;
+    answer_request(q, &values[..end], scratch, out, n)
+}
+
 // Appends the answer to a line to the n bytes at the start of out, and answers how many there are then.
 pub fn answer_line(line: &[u8], scratch: &mut [f64], out: &mut [u8], n: usize) -> usize
     ensures { λ r. ⌜ Answers (now (line .entry)) (now (scratch .entry)) (now (scratch .exit)) (now (out .entry)) n (now (out .exit)) r ⌝ }
@@ -138,8 +159,10 @@ pub fn answer_line(line: &[u8], scratch: &mut [f64], out: &mut [u8], n: usize) -
     if !has_room(out.len(), n) {
         return n;
     }
+    if line.len() <= SHORT_LINE {
+        let mut values = [0.0; SHORT_LINE];
+        return answer_read(line, &mut values, scratch, out, n);
+    }
     let mut values = [0.0; LINE_FIGURES];
-    let q = forms::read_line(line, &mut values);
-    let end = q.figures;
-    answer_request(q, &values[..end], scratch, out, n)
+    answer_read(line, &mut values, scratch, out, n)
 }

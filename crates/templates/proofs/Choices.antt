@@ -33,7 +33,7 @@ else-second (reading ts t) b h = let z : _≡_ {A = ℕ} 0 1 = cc in absurd (let
 
 -- the same reading where the figures taken are the same
 pub same-reading : (line : List ℕ) (v w : List Float) (c : Cursor) → take (c .figures) w ≡ take (c .figures) v → readingAt line w c ≡ readingAt line v c
-same-reading line v w c k = ap (λ (l : List Float). pick (c .ok) (reading (tokens (drop (c .at) line)) (record { figures = l; number = c .number })) failed) k
+same-reading line v w c k = ap (λ (l : List Float). pick (c .ok) (reading (tokens (drop (c .at) line)) (record { figures = l; number = c .number; spoiled = c .spoiled })) failed) k
 
 -- nothing taken
 pub here : (line : List ℕ) (v : List Float) (c : Cursor) → Room line v c → ReadsOn line v v c c (readingAt line v c)

@@ -2,15 +2,13 @@
 use mathlib.Core.List.{List, [], _∷_, _++_}
 use mathlib.Core.Bool.{Bool, true, false}
 use mathlib.Core.Path.{_≡_, refl, sym, ap, subst, _∙_}
-use Prim.Native.Nat.{ℕ, _+_, _-_, _*_, _<_, _≤_}
+use Prim.Native.Nat.{ℕ, _+_, _-_, _<_, _≤_}
 use native.Mathlib.Numerals.{add-one}
 use native.Mathlib.Omega.{arith}
 use lib.ListN.{length, take, drop, set, length-set, length-take, length-drop}
 use lib.Seq.{take-suc-set, take-set-le, take-take}
 use lib.Ieee.{Float}
 use Rattle.hex.specs.declared.Figure.the-variants.{Number, NotFigure}
-use Rattle.hex.specs.Hex.{figureOf}
-use Rattle.hex.proofs.Reading.{number-length}
 use Rattle.counts.specs.declared.Count.{Count}
 use Rattle.counts.specs.declared.Count.the-variants.{Whole, NotCount}
 use Rattle.counts.specs.Counts.{countOf, cappedCount}
@@ -18,8 +16,10 @@ use Rattle.tokens.specs.Text.{text, codes}
 use Rattle.tokens.specs.Tokens.{tokens}
 use Rattle.tokens.specs.Found.{part, IsFound}
 use Rattle.tokens.specs.declared.Found.{Found}
-use Rattle.templates.specs.Matching.{Reading, failed, reading, pick, sameBytes, takeCount, takeWord, takeOne}
-use Rattle.templates.specs.Cursors.{takenBefore, readingAt, Room, ReadsOn, IsWordAt, notAForm, onTo, pickCursor, counted, plainTo}
+use Rattle.figure_words.specs.FigureWords.{figureWord}
+use Rattle.figure_words.proofs.RoundTrip.{figure-has-a-byte}
+use Rattle.templates.specs.Matching.{Reading, failed, reading, pick, sameBytes, spoil, isWord, takeCount, takeWord, takeOne}
+use Rattle.templates.specs.Cursors.{takenBefore, readingAt, Room, ReadsOn, IsWordAt, notAForm, onTo, spoiledTo, pickCursor, counted, plainTo}
 use Rattle.templates.specs.declared.Cursor.{Cursor}
 
 module _ (line : List ℕ) (v : List Float) (c : Cursor) (m : Room line v c) where
@@ -95,26 +95,31 @@ module _ (line : List ℕ) (v : List Float) (c : Cursor) (f : Found) (p : List �
       by false true k = passes line v c m (f .to) (reading (tokens (drop (f .to) line)) (takenBefore v c)) later (w .within) refl
       by false false k = stays line v c m failed refl
 
-  pub no-figure : sameBytes p (text "F") ≡ true → figureOf (part line (f .from) (f .to)) ≡ NotFigure → ReadsOn line v v c (notAForm c) meant
+  pub no-figure : sameBytes p (text "F") ≡ true → figureWord (part line (f .from) (f .to)) ≡ NotFigure
+      → ReadsOn line v v c (pickCursor (isWord (part line (f .from) (f .to))) (spoiledTo c (f .to)) (notAForm c)) meant
   unfolding takeWord
-  no-figure e n = stays line v c m meant (rw (e, n))
+  no-figure e n = rw (e, n) (by (isWord (part line (f .from) (f .to))))
+    where
+      by : (t : Bool) → ReadsOn line v v c (pickCursor t (spoiledTo c (f .to)) (notAForm c)) (pick t (reading (tokens (drop (f .to) line)) (spoil (takenBefore v c))) failed)
+      by true = moves line v c m (spoiledTo c (f .to)) (reading (tokens (drop (f .to) line)) (spoil (takenBefore v c))) refl later (w .within) refl
+      by false = stays line v c m failed refl
 
   -- there is room for one more figure
-  pub figure-room : (x : Float) → figureOf (part line (f .from) (f .to)) ≡ Number x → (c .figures * 16 + 16 ≤ f .to) × (c .figures < length v)
+  pub figure-room : (x : Float) → figureWord (part line (f .from) (f .to)) ≡ Number x → (c .figures + 1 ≤ f .to) × (c .figures < length v)
   figure-room x n =
-      let l = number-length (part line (f .from) (f .to)) x n in
+      let l = figure-has-a-byte (part line (f .from) (f .to)) x n in
       let k = part-length line (f .from) (f .to) (w .ordered) (w .within) in
       let a = w .behind in let b = w .ordered in let g = w .within in let s = m .short in let q = m .room in let r = m .few in
       (omega arith, omega arith)
 
-  pub figure-read : (x : Float) → sameBytes p (text "F") ≡ true → figureOf (part line (f .from) (f .to)) ≡ Number x
-      → ReadsOn line v (set v (c .figures) x) c (record { ok = true; at = f .to; figures = c .figures + 1; number = c .number }) meant
+  pub figure-read : (x : Float) → sameBytes p (text "F") ≡ true → figureWord (part line (f .from) (f .to)) ≡ Number x
+      → ReadsOn line v (set v (c .figures) x) c (record { ok = true; at = f .to; figures = c .figures + 1; number = c .number; spoiled = c .spoiled }) meant
   unfolding takeWord
   figure-read x e n =
       let h = figure-room x n in let i = h .0 in let j = h .1 in let q = m .room in
       let t : take (c .figures + 1) (set v (c .figures) x) ≡ take (c .figures) v ++ (x ∷ []) = ap (λ (k : ℕ). take k (set v (c .figures) x)) (add-one (c .figures)) ∙ take-suc-set v (c .figures) x j in
       record {
-        is = rw (e, n) (ap (λ (l : List Float). reading (tokens (drop (f .to) line)) (record { figures = l; number = c .number })) t);
+        is = rw (e, n) (ap (λ (l : List Float). reading (tokens (drop (f .to) line)) (record { figures = l; number = c .number; spoiled = c .spoiled })) t);
         kept = take-set-le (c .figures) v (c .figures) x (omega arith);
         grows = omega arith;
         room = record { short = m .short; room = simp length-set q; within = w .within; few = omega arith };

@@ -2,7 +2,7 @@
 use mathlib.Core.Bool.{Bool, true, false, cond}
 use mathlib.Core.List.{List, [], _∷_}
 use mathlib.Core.Path.{_≡_}
-use Prim.Native.Nat.{ℕ, _+_, _*_, _≤_}
+use Prim.Native.Nat.{ℕ, _+_, _≤_}
 use lib.Dec.{ltb}
 use lib.ListN.{length, take, drop}
 use lib.Ieee.{Float}
@@ -18,23 +18,20 @@ use Rattle.templates.specs.declared.Cursor.{Cursor}
 
 -- what was taken before a cursor
 abbrev pub takenBefore : List Float → Cursor → Taken
-takenBefore values c = record { figures = take (c .figures) values; number = c .number }
+takenBefore values c = record { figures = take (c .figures) values; number = c .number; spoiled = c .spoiled }
 
 abbrev pub readingAt : List ℕ → List Float → Cursor → Reading
 readingAt line values c = pick (c .ok) (reading (tokens (drop (c .at) line)) (takenBefore values c)) failed
 
--- how many bytes a figure has at least, and how many figures a line may have
-abbrev pub figureBytes : ℕ
-figureBytes = 16
-
+-- how many figures a line may have: a figure has a byte at least
 abbrev pub lineFigures : ℕ
-lineFigures = 256
+lineFigures = lineBytes
 
 pub record Room (line : List ℕ) (values : List Float) (c : Cursor) : Type 0 where
   pub short : length line ≤ lineBytes
-  pub room : lineFigures ≤ length values
+  pub room : length line ≤ length values
   pub within : c .at ≤ length line
-  pub few : c .figures * figureBytes ≤ c .at
+  pub few : c .figures ≤ c .at
 
 -- reading on from c gave r: its reading is the one meant, the figures before it are kept, and there is room still
 pub record ReadsOn (line : List ℕ) (before after : List Float) (c r : Cursor) (meant : Reading) : Type 0 where
@@ -55,13 +52,16 @@ pub record IsWordAt (line : List ℕ) (c : Cursor) (found : Found) : Type 0 wher
 
 -- nothing of a line read yet
 abbrev pub lineStart : Cursor
-lineStart = record { ok = true; at = 0; figures = 0; number = 0 }
+lineStart = record { ok = true; at = 0; figures = 0; number = 0; spoiled = false }
 
 abbrev pub notAForm : Cursor → Cursor
-notAForm c = record { ok = false; at = c .at; figures = c .figures; number = c .number }
+notAForm c = record { ok = false; at = c .at; figures = c .figures; number = c .number; spoiled = c .spoiled }
 
 abbrev pub onTo : Cursor → ℕ → Cursor
-onTo c to = record { ok = true; at = to; figures = c .figures; number = c .number }
+onTo c to = record { ok = true; at = to; figures = c .figures; number = c .number; spoiled = c .spoiled }
+
+abbrev pub spoiledTo : Cursor → ℕ → Cursor
+spoiledTo c to = record { ok = true; at = to; figures = c .figures; number = c .number; spoiled = true }
 
 abbrev pub pickCursor : Bool → Cursor → Cursor → Cursor
 pickCursor true a b = a
@@ -69,7 +69,7 @@ pickCursor false a b = b
 
 -- behind a word that is a count, or not
 abbrev pub counted : Count → Cursor → ℕ → Cursor
-counted (Whole n) c to = record { ok = true; at = to; figures = c .figures; number = n }
+counted (Whole n) c to = record { ok = true; at = to; figures = c .figures; number = n; spoiled = c .spoiled }
 counted NotCount c to = notAForm c
 
 -- behind a word that is no figure, held against a template's
@@ -77,7 +77,7 @@ abbrev pub plainTo : List ℕ → List ℕ → Cursor → ℕ → Cursor
 plainTo wanted w c to = pickCursor (sameBytes wanted (text "N")) (counted (cappedCount (countOf w)) c to) (pickCursor (sameBytes wanted w) (onTo c to) (notAForm c))
 
 abbrev pub numberedCursor : ℕ → Cursor → Cursor
-numberedCursor k c = record { ok = c .ok; at = c .at; figures = c .figures; number = k }
+numberedCursor k c = record { ok = c .ok; at = c .at; figures = c .figures; number = k; spoiled = c .spoiled }
 
 -- the first bar from a place on, or the end
 pub record IsBarEnd (alternatives : List ℕ) (i end : ℕ) : Type 0 where

@@ -1,29 +1,34 @@
 -- Reading a line by templates (docs/FORMS.md). A template is written as the form is: its tokens are held against the line's, one by one. `F`
 -- stands for a figure, `F..` for figures, as many as there are, and `N` for a count.
 use mathlib.Core.List.{List, [], _∷_, _++_}
-use mathlib.Core.Bool.{Bool, true, false, _&&_, cond}
+use mathlib.Core.Bool.{Bool, true, false, _&&_, not, cond}
 use Prim.Native.Nat.{ℕ, zero, suc}
-use lib.Dec.{eqb}
+use lib.Dec.{leb, eqb}
 use lib.Ieee.{Float}
 use Rattle.hex.specs.declared.Figure.{Figure}
 use Rattle.hex.specs.declared.Figure.the-variants.{Number, NotFigure}
-use Rattle.hex.specs.Hex.{figureOf}
 use Rattle.counts.specs.declared.Count.{Count}
 use Rattle.counts.specs.declared.Count.the-variants.{Whole, NotCount}
 use Rattle.counts.specs.Counts.{countOf, cappedCount}
 use Rattle.tokens.specs.Text.{text}
 use Rattle.tokens.specs.Tokens.{lineBytes, tokens}
+use Rattle.figure_words.specs.FigureWords.{figureWord}
 
--- what has been taken from a line: its figures in their order, and the last number, which is a count or an alternative's
+-- what has been taken from a line: its figures in their order; the last number, which is a count or an alternative's; and whether it is spoiled:
+-- whether a word of neither shape of a figure stood where one belongs
 pub record Taken : Type 0 where
   pub figures : List Float
   pub number : ℕ
+  pub spoiled : Bool
 
 abbrev pub withFigure : Float → Taken → Taken
-withFigure x t = record { figures = t .figures ++ (x ∷ []); number = t .number }
+withFigure x t = record { figures = t .figures ++ (x ∷ []); number = t .number; spoiled = t .spoiled }
 
 abbrev pub withNumber : ℕ → Taken → Taken
-withNumber n t = record { figures = t .figures; number = n }
+withNumber n t = record { figures = t .figures; number = n; spoiled = t .spoiled }
+
+abbrev pub spoil : Taken → Taken
+spoil t = record { figures = t .figures; number = t .number; spoiled = true }
 
 -- the tokens still to come and what has been taken; or that the line is no form
 pub data Reading : Type 0 where
@@ -42,9 +47,18 @@ sameBytes [] (y ∷ ys) = false
 sameBytes (x ∷ xs) [] = false
 sameBytes (x ∷ xs) (y ∷ ys) = eqb x y && sameBytes xs ys
 
-abbrev pub takeFigure : Figure → List (List ℕ) → Taken → Reading
-takeFigure (Number x) ts t = reading ts (withFigure x t)
-takeFigure NotFigure ts t = failed
+-- "A word is a run of the bytes 33 to 126 other than brackets; any other byte but the space is in no form"
+abbrev pub isWordByte : ℕ → Bool
+isWordByte b = leb 33 b && leb b 126 && not (eqb b 40) && not (eqb b 41)
+
+unfoldable pub isWord : List ℕ → Bool
+isWord [] = true
+isWord (b ∷ w) = isWordByte b && isWord w
+
+-- "Where a figure belongs any word is a form": reading goes on behind a word that is no figure, and the line's end tells
+abbrev pub takeFigure : Figure → List ℕ → List (List ℕ) → Taken → Reading
+takeFigure (Number x) w ts t = reading ts (withFigure x t)
+takeFigure NotFigure w ts t = pick (isWord w) (reading ts (spoil t)) failed
 
 abbrev pub takeCount : Count → List (List ℕ) → Taken → Reading
 takeCount (Whole n) ts t = reading ts (withNumber n t)
@@ -54,7 +68,7 @@ takeCount NotCount ts t = failed
 -- here; no answer and no scratch shows it (lines/proofs/Capped).
 unfoldable pub takeWord : List ℕ → List ℕ → List (List ℕ) → Taken → Reading
 takeWord p w ts t =
-    pick (sameBytes p (text "F")) (takeFigure (figureOf w) ts t)
+    pick (sameBytes p (text "F")) (takeFigure (figureWord w) w ts t)
     (pick (sameBytes p (text "N")) (takeCount (cappedCount (countOf w)) ts t)
     (pick (sameBytes p w) (reading ts t) failed))
 

@@ -10,23 +10,24 @@ ghost use lib.ListN.{length, drop};
 ghost use Rattle.counts.specs.Counts.{countOf, cappedCount};
 ghost use Rattle.tokens.specs.Tokens.{lineBytes, tokens};
 ghost use Rattle.tokens.specs.Found.{part};
-ghost use Rattle.templates.specs.Matching.{sameBytes, takeWord, takeOne, takeFigures, takeText, takeEach, oneOf, optional, cutAtBars};
-ghost use Rattle.templates.specs.Cursors.{takenBefore, Room, ReadsOn, Takes, IsWordAt, lineStart, notAForm, onTo, pickCursor, counted, plainTo, numberedCursor, IsBarEnd};
+ghost use Rattle.templates.specs.Matching.{sameBytes, isWordByte, isWord, takeWord, takeOne, takeFigures, takeText, takeEach, oneOf, optional, cutAtBars};
+ghost use Rattle.templates.specs.Cursors.{takenBefore, Room, ReadsOn, Takes, IsWordAt, lineStart, notAForm, onTo, spoiledTo, pickCursor, counted, plainTo, numberedCursor, IsBarEnd};
 use counts::Count;
 use hex::Figure;
 use tokens::Found;
 use tokens::LINE_BYTES;
 
-// How many figures a line may have: a figure has sixteen bytes.
-pub const LINE_FIGURES: usize = 256;
+// How many figures a line may have: a figure has a byte at least.
+pub const LINE_FIGURES: usize = 4096;
 
-// Where reading stands: whether the line may still be a form, the next byte, how many figures have been read, and the last number: a count,
-// or an alternative's place among the others, from 1 on.
+// Where reading stands: whether the line may still be a form, the next byte, how many figures have been read, the last number, which is a
+// count or an alternative's place among the others, from 1 on, and whether a word that is no figure stood where one belongs.
 pub struct Cursor {
     pub ok: bool,
     pub at: usize,
     pub figures: usize,
     pub number: usize,
+    pub spoiled: bool,
 }
 
 // The beginning of a line.
@@ -38,6 +39,7 @@ pub fn line_start() -> Cursor
         at: 0,
         figures: 0,
         number: 0,
+        spoiled: false,
     }
 }
 
@@ -67,6 +69,7 @@ fn not_a_form(c: Cursor) -> Cursor
         at: c.at,
         figures: c.figures,
         number: c.number,
+        spoiled: c.spoiled,
     }
 }
 
@@ -80,6 +83,7 @@ fn behind(hit: bool, c: Cursor, to: usize) -> Cursor
             at: to,
             figures: c.figures,
             number: c.number,
+            spoiled: c.spoiled,
         }
     } else {
         not_a_form(c)
@@ -96,6 +100,7 @@ fn take_count(c: Cursor, word: &[u8], to: usize) -> Cursor
             at: to,
             figures: c.figures,
             number: n as usize,
+            spoiled: c.spoiled,
         },
         Count::NotCount => not_a_form(c),
     }
@@ -113,6 +118,52 @@ fn take_plain(c: Cursor, wanted: &[u8], word: &[u8], to: usize) -> Cursor
     }
 }
 
+fn is_word_byte(b: u8) -> bool
+    ensures { λ r. ⌜ r ≡ isWordByte b ⌝ }
+{
+    if b < 33 {
+        return false;
+    }
+    if 126 < b {
+        return false;
+    }
+    if b == 40 {
+        return false;
+    }
+    b != 41
+}
+
+// Whether a token of the line is a word: no bracket, and no byte that no form has.
+fn is_word(token: &[u8]) -> bool
+    ensures { λ r. ⌜ r ≡ isWord (now (token .entry)) ⌝ }
+{
+    let mut i: usize = 0;
+    while i < token.len() {
+        if !is_word_byte(token[i]) {
+            return false;
+        }
+        i += 1;
+    }
+    true
+}
+
+// A token of the line that is no figure where one belongs: reading goes on behind a word.
+fn take_no_figure(c: Cursor, token: &[u8], to: usize) -> Cursor
+    ensures { λ r. ⌜ r ≡ pickCursor (isWord (now (token .entry))) (spoiledTo c to) (notAForm c) ⌝ }
+{
+    if is_word(token) {
+        Cursor {
+            ok: true,
+            at: to,
+            figures: c.figures,
+            number: c.number,
+            spoiled: true,
+        }
+    } else {
+        not_a_form(c)
+    }
+}
+
 // A token of the line, found at a place, against one of a template: `F` takes a figure.
 fn take_word(line: &[u8], c: Cursor, wanted: &[u8], found: Found, values: &mut [f64]) -> Cursor
     requires { ⌜ Room (now line) (now values) c × IsWordAt (now line) c found ⌝ }
@@ -124,7 +175,7 @@ fn take_word(line: &[u8], c: Cursor, wanted: &[u8], found: Found, values: &mut [
     let word = &line[from..to];
     let figure = same_bytes(wanted, b"F");
     if figure {
-        match hex::read_figure(word) {
+        match figure_words::read_figure(word) {
             Figure::Number(x) => {
                 values[figures] = x;
                 let more = figures + 1;
@@ -133,9 +184,10 @@ fn take_word(line: &[u8], c: Cursor, wanted: &[u8], found: Found, values: &mut [
                     at: to,
                     figures: more,
                     number: c.number,
+                    spoiled: c.spoiled,
                 }
             }
-            Figure::NotFigure => not_a_form(c),
+            Figure::NotFigure => take_no_figure(c, word, to),
         }
     } else {
         take_plain(c, wanted, word, to)
@@ -231,6 +283,7 @@ fn with_number(c: Cursor, number: usize) -> Cursor
         at: c.at,
         figures: c.figures,
         number,
+        spoiled: c.spoiled,
     }
 }
 

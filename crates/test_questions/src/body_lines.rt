@@ -2,9 +2,10 @@
 ghost use Prim.Native.Nat.{_≤_};
 ghost use lib.ListN.{length};
 ghost use Rattle.tokens.specs.Tokens.{lineBytes};
-ghost use Rattle.templates.specs.Cursors.{lineFigures, Room};
+ghost use Rattle.test_questions.specs.Parts.{lineFigures, Reached};
 use crate::lines;
 use crate::lines::Outcome;
+use crate::reading::Cursor;
 use bodies::Body;
 use bodies::Centre;
 use bodies::Tensor;
@@ -12,7 +13,6 @@ use moments::Moments;
 use refusals::Refusal;
 use refusals::Verdict;
 use rotations::Quaternion;
-use templates::Cursor;
 
 fn vector_of(parts: &[f64]) -> Centre
     requires { ⌜ 3 ≤ length (now parts) ⌝ }
@@ -135,7 +135,7 @@ fn case(verdict: Verdict) -> usize {
 
 // Whether the rest of the line is the verdict.
 fn says(line: &[u8], c: Cursor, verdict: Verdict, values: &mut [f64]) -> bool
-    requires { ⌜ Room (now line) (now values) c ⌝ }
+    requires { ⌜ Reached (now line) c × (lineFigures ≤ length (now values)) ⌝ }
 {
     match number(verdict) {
         0 => lines::ends(line, c, b"sound", values),
@@ -147,7 +147,7 @@ fn says(line: &[u8], c: Cursor, verdict: Verdict, values: &mut [f64]) -> bool
 }
 
 fn says_case(line: &[u8], c: Cursor, case: usize, values: &mut [f64]) -> bool
-    requires { ⌜ Room (now line) (now values) c ⌝ }
+    requires { ⌜ Reached (now line) c × (lineFigures ≤ length (now values)) ⌝ }
 {
     match case {
         0 => lines::ends(line, c, b"refused 17 a", values),
@@ -171,7 +171,7 @@ pub(crate) fn replay_check(line: &[u8], values: &mut [f64]) -> Outcome
 }
 
 fn moments_agree(line: &[u8], asked: Cursor, found: Moments, values: &mut [f64]) -> bool
-    requires { ⌜ Room (now line) (now values) asked ⌝ }
+    requires { ⌜ Reached (now line) asked × (lineFigures ≤ length (now values)) ⌝ }
 {
     let verdict = found.verdict;
     let moments = found.moments_kg_m2;

@@ -3,8 +3,9 @@ ghost use mathlib.Core.Path.{_≡_};
 ghost use Prim.Native.Nat.{_≤_};
 ghost use lib.ListN.{length};
 ghost use Rattle.tokens.specs.Tokens.{lineBytes};
-ghost use Rattle.templates.specs.Cursors.{lineFigures, Room};
-use templates::Cursor;
+ghost use Rattle.test_questions.specs.Parts.{lineFigures, Reached};
+use crate::reading;
+use crate::reading::Cursor;
 
 // What came of a line.
 pub enum Outcome {
@@ -58,32 +59,12 @@ pub(crate) fn agree(answers: &[f64], results: &[f64], count: usize) -> bool {
     true
 }
 
-// The beginning of a line.
-fn start() -> Cursor
-    ensures { λ r. ⌜ (r .at ≡ 0) × (r .figures ≡ 0) ⌝ }
-{
-    Cursor {
-        ok: true,
-        at: 0,
-        figures: 0,
-        number: 0,
-    }
-}
-
 // A template from the line's beginning on; its figures go to the start of values.
 pub(crate) fn begins(line: &[u8], template: &[u8], values: &mut [f64]) -> Cursor
     requires { ⌜ (length (now line) ≤ lineBytes) × (lineFigures ≤ length (now values)) ⌝ }
-    ensures { λ r. ⌜ Room (now (line .entry)) (now (values .exit)) r ⌝ }
+    ensures { λ r. ⌜ Reached (now (line .entry)) r ⌝ }
 {
-    templates::take_text(line, start(), template, values)
-}
-
-// Figures, as many as there are.
-pub(crate) fn take_figures(line: &[u8], c: Cursor, values: &mut [f64]) -> Cursor
-    requires { ⌜ Room (now line) (now values) c ⌝ }
-    ensures { λ r. ⌜ Room (now (line .entry)) (now (values .exit)) r × (c .figures ≤ r .figures) ⌝ }
-{
-    templates::take_text(line, c, b"F..", values)
+    reading::take_text(line, reading::start(line), template, values)
 }
 
 // Whether all templates so far fit, and the line ends there.
@@ -94,9 +75,9 @@ pub(crate) fn at_end(line: &[u8], c: Cursor) -> bool {
 
 // Whether the rest of the line is written as the template.
 pub(crate) fn ends(line: &[u8], c: Cursor, template: &[u8], values: &mut [f64]) -> bool
-    requires { ⌜ Room (now line) (now values) c ⌝ }
+    requires { ⌜ Reached (now line) c × (lineFigures ≤ length (now values)) ⌝ }
 {
-    let end = templates::take_text(line, c, template, values);
+    let end = reading::take_text(line, c, template, values);
     at_end(line, end)
 }
 
@@ -104,5 +85,5 @@ pub(crate) fn ends(line: &[u8], c: Cursor, template: &[u8], values: &mut [f64]) 
 pub(crate) fn reads(line: &[u8], template: &[u8], values: &mut [f64]) -> bool
     requires { ⌜ (length (now line) ≤ lineBytes) × (lineFigures ≤ length (now values)) ⌝ }
 {
-    ends(line, start(), template, values)
+    ends(line, reading::start(line), template, values)
 }

@@ -4,16 +4,17 @@ mod body_lines;
 mod lines;
 mod number_lines;
 mod planform_lines;
+mod reading;
 mod section_lines;
 
 ghost use Prim.Native.Nat.{_≤_};
 ghost use lib.ListN.{length};
 ghost use Rattle.tokens.specs.Tokens.{lineBytes};
-ghost use Rattle.templates.specs.Cursors.{lineFigures};
+ghost use Rattle.test_questions.specs.Parts.{lineFigures};
 use crate::lines::Outcome;
+use crate::reading::LINE_FIGURES;
 use libc::STDIN_FILENO;
 use libc::STDOUT_FILENO;
-use templates::LINE_FIGURES;
 use tokens::LINE_BYTES;
 
 struct Tally {

@@ -2,7 +2,7 @@
 ghost use Prim.Native.Nat.{_≤_};
 ghost use lib.ListN.{length};
 ghost use Rattle.tokens.specs.Tokens.{lineBytes};
-ghost use Rattle.templates.specs.Cursors.{lineFigures};
+ghost use Rattle.test_questions.specs.Parts.{lineFigures};
 use crate::lines;
 use crate::lines::Outcome;
 

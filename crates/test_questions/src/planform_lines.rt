@@ -2,17 +2,17 @@
 ghost use Prim.Native.Nat.{_≤_};
 ghost use lib.ListN.{length};
 ghost use Rattle.tokens.specs.Tokens.{lineBytes};
-ghost use Rattle.templates.specs.Cursors.{lineFigures, Room};
-ghost use Rattle.test_questions.specs.Parts.{InOrder};
+ghost use Rattle.test_questions.specs.Parts.{lineFigures, Reached, InOrder};
 use crate::lines;
 use crate::lines::Outcome;
+use crate::reading;
+use crate::reading::Cursor;
 use crate::section_lines;
 use chords::Chords;
 use integrands::Integrand;
 use planforms::NumberedPlanform;
 use planforms::Planform;
 use sections::Section;
-use templates::Cursor;
 
 // A line's planform, and its parts among the figures: the planform's from `begin` up to `end`, where the height stands if the line has
 // one, and the answers from `answers` up to `all`.
@@ -63,25 +63,27 @@ impl Parts {
 }
 
 fn take_planform(line: &[u8], c: Cursor, values: &mut [f64]) -> Cursor
-    requires { ⌜ Room (now line) (now values) c ⌝ }
-    ensures { λ r. ⌜ Room (now (line .entry)) (now (values .exit)) r × (c .figures ≤ r .figures) ⌝ }
+    requires { ⌜ Reached (now line) c × (lineFigures ≤ length (now values)) ⌝ }
+    ensures { λ r. ⌜ Reached (now (line .entry)) r × (c .figures ≤ r .figures) ⌝ }
 {
-    templates::take_one_of(
+    reading::take_one_of(
         line,
         c,
-        b"trapezoid F F F F|ellipse F F|outline F..",
+        b"trapezoid F F F F",
+        b"ellipse F F",
+        b"outline F..",
         values,
     )
 }
 
 // From c on a planform, what stands behind it, and the answers.
 fn read_parts(line: &[u8], c: Cursor, behind: &[u8], values: &mut [f64]) -> Parts
-    requires { ⌜ Room (now line) (now values) c ⌝ }
+    requires { ⌜ Reached (now line) c × (lineFigures ≤ length (now values)) ⌝ }
     ensures { λ r. ⌜ InOrder r ⌝ }
 {
     let planform = take_planform(line, c, values);
-    let asked = templates::take_text(line, planform, behind, values);
-    let end = lines::take_figures(line, asked, values);
+    let asked = reading::take_text(line, planform, behind, values);
+    let end = reading::take_figures(line, asked, values);
     Parts {
         fits: lines::at_end(line, end),
         number: planform.number,

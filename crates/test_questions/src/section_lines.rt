@@ -2,24 +2,25 @@
 ghost use Prim.Native.Nat.{_≤_};
 ghost use lib.ListN.{length};
 ghost use Rattle.tokens.specs.Tokens.{lineBytes};
-ghost use Rattle.templates.specs.Cursors.{lineFigures, Room};
+ghost use Rattle.test_questions.specs.Parts.{lineFigures, Reached};
 use crate::lines;
 use crate::lines::Outcome;
+use crate::reading;
+use crate::reading::Cursor;
 use fins::NumberedTab;
 use sections::NumberedSection;
 use sections::Section;
 use segments::Point;
 use segments::Segment;
-use templates::Cursor;
 
 // A line's first word, its section, and what stands behind it.
 pub(crate) fn take_section(line: &[u8], word: &[u8], behind: &[u8], values: &mut [f64]) -> Cursor
     requires { ⌜ (length (now line) ≤ lineBytes) × (lineFigures ≤ length (now values)) ⌝ }
-    ensures { λ r. ⌜ Room (now (line .entry)) (now (values .exit)) r ⌝ }
+    ensures { λ r. ⌜ Reached (now (line .entry)) r ⌝ }
 {
     let begun = lines::begins(line, word, values);
-    let section = templates::take_one_of(line, begun, b"square|rounded|airfoil", values);
-    templates::take_text(line, section, behind, values)
+    let section = reading::take_one_of(line, begun, b"square", b"rounded", b"airfoil", values);
+    reading::take_text(line, section, behind, values)
 }
 
 // The section of a number that a line has: one of the three.

@@ -144,6 +144,7 @@ fn replay_line(line: &[u8], values: &mut [f64], scratch: &mut [f64], out: &mut [
         at: 0,
         figures: 0,
         number: 0,
+        spoiled: false,
     };
     let c = templates::take_text(line, start, b"N", values);
     let lent = c.number;

@@ -10,19 +10,19 @@ use denote.Ref.{now}
 use lib.ListN.{length, take, drop}
 use lib.Seq.{length-take-le}
 use lib.Ieee.{Float}
-use Rattle.refusals.specs.declared.Refusal.the-variants.{NoForm}
+use Rattle.refusals.specs.declared.Refusal.the-variants.{NoForm, NoFigure}
 use Rattle.refusals.specs.declared.Verdict.the-variants.{Accepted}
 use Rattle.tokens.specs.Tokens.{lineBytes, tokens}
 use Rattle.tokens.specs.Found.{part as bytes, IsFound}
 use Rattle.tokens.specs.declared.Found.{Found}
 use Rattle.tokens.proofs.Bytes.{at-end}
 use Rattle.templates.specs.Matching.{Reading, failed, reading, pick, takeOne}
-use Rattle.templates.specs.Cursors.{lineFigures, takenBefore, readingAt, Room, Takes, lineStart}
+use Rattle.templates.specs.Cursors.{takenBefore, readingAt, Room, Takes, lineStart}
 use Rattle.templates.specs.declared.Cursor.{Cursor}
 use Rattle.forms.specs.declared.Form.{Form}
 use Rattle.forms.specs.declared.Request.{Request}
-use Rattle.forms.specs.Forms.{part, isNumbered, item, withItem, figuresIn, numberIn, noNumbers, numbersAfter, Asked, refused, ifFits, ended, readItems, readAs}
-use Rattle.forms.specs.Reads.{refusedRequest, Reads, atEnd, endOf}
+use Rattle.forms.specs.Forms.{part, isNumbered, item, withItem, figuresIn, numberIn, noNumbers, numbersAfter, Asked, refused, ifFits, ended, pickAsked, readItems, readAs, asked}
+use Rattle.forms.specs.Reads.{refusedRequest, Reads, unlessSpoiled, atEnd, endOf}
 use Rattle.forms.proofs.NoForms.{no-form}
 use Rattle.forms.proofs.read_form.Statement.{statement}
 use Rattle.forms.proofs.read_form.Tie as tie
@@ -54,7 +54,7 @@ goes-on : (line : List ℕ) (v : List Float) (c : Cursor) → c .ok ≡ true →
 goes-on line v c e = ap (λ (t : Bool). pick t (reading (tokens (drop (c .at) line)) (takenBefore v c)) failed) e
 
 module _ (line template : List ℕ) (form : Form) (before : List Float) where
-  start : (s : Cursor) → s ≡ lineStart → length line ≤ lineBytes → lineFigures ≤ length before → SoFar line template form before before s noNumbers 0
+  start : (s : Cursor) → s ≡ lineStart → length line ≤ lineBytes → length line ≤ length before → SoFar line template form before before s noNumbers 0
   start s e a b =
       subst (λ (x : Cursor). SoFar line template form before before x noNumbers 0) (sym e)
       (record { place = omega arith; ok = refl; whole = refl; room = record { short = a; room = b; within = omega arith; few = omega arith }; same = refl })
@@ -68,8 +68,12 @@ module _ (line template : List ℕ) (form : Form) (before : List Float) where
         (sym (v .whole ∙ ap (λ (ts : List (List ℕ)). readItems form ts ns (readingAt line between s)) e ∙ ap (ended form ns) (goes-on line between s (v .ok))))
         (by (tokens (drop (s .at) line))))
       where
-        by : (ts : List (List ℕ)) → Reads between (atEnd ts (record { form = form; verdict = Accepted; figures = s .figures; numbers = ns })) (ended form ns (reading ts (takenBefore between s)))
-        by [] = record { request = ap (λ (n : ℕ). record { form = form; verdict = Accepted; figures = n; numbers = ns }) (sym (few line between s (v .room))); figures = refl }
+        told : (t : Bool) → Reads between (unlessSpoiled t (record { form = form; verdict = Accepted; figures = s .figures; numbers = ns })) (pickAsked t (refused NoFigure) (asked form ns (take (s .figures) between)))
+        told true = record { request = refl; figures = refl }
+        told false = record { request = ap (λ (n : ℕ). record { form = form; verdict = Accepted; figures = n; numbers = ns }) (sym (few line between s (v .room))); figures = refl }
+
+        by : (ts : List (List ℕ)) → Reads between (atEnd ts (unlessSpoiled (s .spoiled) (record { form = form; verdict = Accepted; figures = s .figures; numbers = ns }))) (ended form ns (reading ts (takenBefore between s)))
+        by [] = told (s .spoiled)
         by (w ∷ ts) = record { request = refl; figures = refl }
 
     module _ (after : List Float) (r : Cursor) (more : List ℕ) (f : Found) (is : IsFound template i f) (h : f .from < f .to) (o : TakesItem (bytes template (f .from) (f .to)) line between after s r ns more) where

@@ -42,7 +42,10 @@ slice-aggregate-read-form : tie.Need-slice-aggregate-read-form
 slice-aggregate-read-form c = search needs
 
 read-form-requires : tie.Need-read-form-requires
-read-form-requires c κs = search needs
+read-form-requires c κs =
+    let i1 = c .before .before in
+    let w = i1 .before .before .before .before in
+    (w .before .if1 .left, w .before .before .before .before .pre (w .before .if1 .left))
 
 same-length : tie.Need-same-length
 same-length c = search needs
@@ -66,7 +69,11 @@ slice-aggregate-read-form-2 : tie.Need-slice-aggregate-read-form-2
 slice-aggregate-read-form-2 c = search needs
 
 read-form-requires-2 : tie.Need-read-form-requires-2
-read-form-requires-2 c κs = search needs
+read-form-requires-2 c κs =
+    let i2 = c .before .before in
+    let i1 = i2 .before .before .before in
+    let w = i1 .before .before .before .before in
+    (w .before .if1 .left, w .before .before .before .before .pre (w .before .if1 .left))
 
 same-length-2 : tie.Need-same-length-2
 same-length-2 c = search needs
@@ -91,7 +98,12 @@ slice-aggregate-read-form-3 : tie.Need-slice-aggregate-read-form-3
 slice-aggregate-read-form-3 c = search needs
 
 read-form-requires-3 : tie.Need-read-form-requires-3
-read-form-requires-3 c κs = search needs
+read-form-requires-3 c κs =
+    let i3 = c .before .before in
+    let i2 = i3 .before .before .before in
+    let i1 = i2 .before .before .before in
+    let w = i1 .before .before .before .before in
+    (w .before .if1 .left, w .before .before .before .before .pre (w .before .if1 .left))
 
 same-length-3 : tie.Need-same-length-3
 same-length-3 c = search needs
@@ -117,7 +129,13 @@ slice-aggregate-read-form-4 : tie.Need-slice-aggregate-read-form-4
 slice-aggregate-read-form-4 c = search needs
 
 read-form-requires-4 : tie.Need-read-form-requires-4
-read-form-requires-4 c κs = search needs
+read-form-requires-4 c κs =
+    let i4 = c .before .before in
+    let i3 = i4 .before .before .before in
+    let i2 = i3 .before .before .before in
+    let i1 = i2 .before .before .before in
+    let w = i1 .before .before .before .before in
+    (w .before .if1 .left, w .before .before .before .before .pre (w .before .if1 .left))
 
 same-length-4 : tie.Need-same-length-4
 same-length-4 c = search needs
@@ -144,7 +162,14 @@ slice-aggregate-read-form-5 : tie.Need-slice-aggregate-read-form-5
 slice-aggregate-read-form-5 c = search needs
 
 read-form-requires-5 : tie.Need-read-form-requires-5
-read-form-requires-5 c κs = search needs
+read-form-requires-5 c κs =
+    let i5 = c .before .before in
+    let i4 = i5 .before .before .before in
+    let i3 = i4 .before .before .before in
+    let i2 = i3 .before .before .before in
+    let i1 = i2 .before .before .before in
+    let w = i1 .before .before .before .before in
+    (w .before .if1 .left, w .before .before .before .before .pre (w .before .if1 .left))
 
 same-length-5 : tie.Need-same-length-5
 same-length-5 c = search needs

@@ -1,15 +1,22 @@
--- `lines::answer_line` meets its contract: where there is room the request that was read is answered. Assumes nothing.
-use mathlib.Core.Path.{refl, sym, _∙_}
-use Prim.Native.Nat.{_+_}
+-- `lines::answer_line` meets its contract: where there is room the line is answered, with room for as many figures as it has bytes. Assumes
+-- nothing.
+use mathlib.Core.List.{List}
+use mathlib.Core.Path.{_≡_, refl, sym, _∙_}
+use Prim.Native.Nat.{ℕ, _+_, _≤_}
 use native.Mathlib.Omega.{arith}
 use borrow.Author.Tests.{not-true, not-false, leb-true, leb-false}
 use denote.Ref.{now}
-use lib.ListN.{length, length-take}
-use Rattle.lines.proofs.Texts.{same-text}
-use Rattle.lines.proofs.Asking.{all-there, answer-is, scratch-is}
+use lib.ListN.{length}
+use lib.Ieee.{Float}
+use Rattle.texts.specs.Appended.{Appended}
+use Rattle.lines.specs.Lines.{answerOf, scratchAfterLine, Answers}
 use borrow.Author.Needs.{needs}
 use Rattle.lines.proofs.answer_line.Statement.{statement}
 use Rattle.lines.proofs.answer_line.Tie as tie
+
+answered : (line : List ℕ) (scratch after : List Float) (out : List ℕ) (n : ℕ) (written : List ℕ) (r : ℕ) → n + 320 ≤ length out
+    → Appended out n (answerOf line (length scratch)) written r × (after ≡ scratchAfterLine line scratch) → Answers line scratch after out n written r
+answered line scratch after out n written r h a = record { answer = λ _. a .0; scratch-left = λ _. a .1; no-room = λ g. absurd (let z : ⊥ = omega arith in z) }
 
 has-room-requires : tie.Need-has-room-requires
 has-room-requires c κs = search needs
@@ -24,31 +31,14 @@ returns c =
       no-room = λ g. (refl, refl, refl);
     }
 
-slice-aggregate-read-line : tie.Need-slice-aggregate-read-line
-slice-aggregate-read-line c = search needs
+slice-aggregate-answer-read : tie.Need-slice-aggregate-answer-read
+slice-aggregate-answer-read c = search needs
 
-read-line-requires : tie.Need-read-line-requires
-read-line-requires c κs = search needs
-
-array-share-prefix-values : tie.Need-array-share-prefix-values
-array-share-prefix-values c =
-    let r = c .before in
-    let s = r .before .before .before .before .before .before .before in
-    let e = all-there (now (s .args .line)) (r .read-line .last .1 .0) (r .read-line .result) (r .read-line .ensures) in
-    let l = length-take (r .read-line .result .figures) (r .read-line .last .1 .0) in
-    omega arith
-
-slice-aggregate-answer-request : tie.Need-slice-aggregate-answer-request
-slice-aggregate-answer-request c =
-    let r = c .before .before in
-    let s = r .before .before .before .before .before .before .before in
-    sym (all-there (now (s .args .line)) (r .read-line .last .1 .0) (r .read-line .result) (r .read-line .ensures))
-
-answer-request-requires : tie.Need-answer-request-requires
-answer-request-requires c κs =
-    let i = c .before .before .before .before .before .before in
+answer-read-requires : tie.Need-answer-read-requires
+answer-read-requires c κs =
+    let i = c .before .before .before .before in
     let s = i .before .before .before .before .before in
-    leb-true (s .args .n + 320) (length (now (s .args .out))) (sym (i .before .has-room .ensures) ∙ not-false (i .before .has-room .result) (i .if1 .left))
+    (leb-true (s .args .n + 320) (length (now (s .args .out))) (sym (i .before .has-room .ensures) ∙ not-false (i .before .has-room .result) (i .if1 .left)), λ _. c .before .before .before .if2 .taken)
 
 same-length : tie.Need-same-length
 same-length c = search needs
@@ -58,16 +48,32 @@ same-length-2 c = search needs
 
 returns-2 : tie.Need-returns-2
 returns-2 c =
-    let a = c .before .before .before .before in
-    let r = a .before .before .before .before .before in
-    let i = r .before .before in
+    let a = c .before .before .before .before .before in
+    let i = a .before .before .before .before .before in
     let s = i .before .before .before .before .before in
-    let h = leb-true (s .args .n + 320) (length (now (s .args .out))) (sym (i .before .has-room .ensures) ∙ not-false (i .before .has-room .result) (i .if1 .left)) in
-    record {
-      answer = λ _. same-text (answer-is (now (s .args .line)) (r .read-line .last .1 .0) (r .read-line .result) (r .read-line .ensures) (length (now (s .args .scratch)))) (a .answer-request .ensures .0);
-      scratch-left = λ _. a .answer-request .ensures .1 ∙ scratch-is (now (s .args .line)) (r .read-line .last .1 .0) (r .read-line .result) (r .read-line .ensures) (now (s .args .scratch));
-      no-room = λ g. absurd (let z : ⊥ = omega arith in z);
-    }
+    answered _ _ _ _ _ _ _ (leb-true (s .args .n + 320) (length (now (s .args .out))) (sym (i .before .has-room .ensures) ∙ not-false (i .before .has-room .result) (i .if1 .left))) (a .answer-read .ensures)
+
+slice-aggregate-answer-read-2 : tie.Need-slice-aggregate-answer-read-2
+slice-aggregate-answer-read-2 c = search needs
+
+answer-read-requires-2 : tie.Need-answer-read-requires-2
+answer-read-requires-2 c κs =
+    let i = c .before .before .before .before in
+    let s = i .before .before .before .before .before in
+    (leb-true (s .args .n + 320) (length (now (s .args .out))) (sym (i .before .has-room .ensures) ∙ not-false (i .before .has-room .result) (i .if1 .left)), λ h. h)
+
+same-length-3 : tie.Need-same-length-3
+same-length-3 c = search needs
+
+same-length-4 : tie.Need-same-length-4
+same-length-4 c = search needs
+
+returns-3 : tie.Need-returns-3
+returns-3 c =
+    let a = c .before .before .before .before .before in
+    let i = a .before .before .before .before .before in
+    let s = i .before .before .before .before .before in
+    answered _ _ _ _ _ _ _ (leb-true (s .args .n + 320) (length (now (s .args .out))) (sym (i .before .has-room .ensures) ∙ not-false (i .before .has-room .result) (i .if1 .left))) (a .answer-read2 .ensures)
 
 pub answer-line-spec : {M : Type 1} → statement M
 answer-line-spec =
@@ -75,11 +81,13 @@ answer-line-spec =
     (tie.spec
     has-room-requires
     returns
-    slice-aggregate-read-line
-    read-line-requires
-    array-share-prefix-values
-    slice-aggregate-answer-request
-    answer-request-requires
+    slice-aggregate-answer-read
+    answer-read-requires
     same-length
     same-length-2
-    returns-2)
+    returns-2
+    slice-aggregate-answer-read-2
+    answer-read-requires-2
+    same-length-3
+    same-length-4
+    returns-3)

@@ -7,9 +7,9 @@ use denote.Ref.{now}
 use lib.Ieee.{Float}
 use lib.ListN.{length}
 use Rattle.hex.specs.declared.Figure.the-variants.{Number}
-use Rattle.hex.specs.Hex.{figureOf}
 use Rattle.tokens.specs.Text.{text}
 use Rattle.tokens.specs.Found.{part}
+use Rattle.figure_words.specs.FigureWords.{figureWord}
 use Rattle.templates.specs.Matching.{sameBytes}
 use Rattle.templates.proofs.Steps.{letter-f, plain-word, no-figure, figure-room, figure-read, as-is}
 use Rattle.templates.proofs.take_word.Statement.{statement}
@@ -19,7 +19,7 @@ use Rattle.templates.proofs.take_word.Tie as tie
 is-f : (c : tie.Then1) → sameBytes (now (c .before .before .before .before .before .before .before .args .wanted)) (text "F") ≡ true
 is-f c = ap (sameBytes (now (c .before .before .before .before .before .before .before .args .wanted))) letter-f ∙ sym (c .before .same-bytes .ensures) ∙ c .if1 .taken
 
-room-at : (c : tie.After-read-figure) (x : Float) → figureOf (part (now (c .before .before .before .before .before .before .before .before .args .line)) (c .before .before .before .before .before .before .before .before .args .found .from) (c .before .before .before .before .before .before .before .before .args .found .to)) ≡ Number x
+room-at : (c : tie.After-read-figure) (x : Float) → figureWord (part (now (c .before .before .before .before .before .before .before .before .args .line)) (c .before .before .before .before .before .before .before .before .args .found .from) (c .before .before .before .before .before .before .before .before .args .found .to)) ≡ Number x
     → c .before .before .before .before .before .before .before .before .args .c .figures < length (now (c .before .before .before .before .before .before .before .before .args .values))
 room-at c x n =
     let s = c .before .before .before .before .before .before .before .before in
@@ -58,8 +58,8 @@ add-more c = search needs
 enum-told : tie.Need-enum-told
 enum-told c = search needs
 
-not-a-form-requires : tie.Need-not-a-form-requires
-not-a-form-requires c κs = search needs
+take-no-figure-requires : tie.Need-take-no-figure-requires
+take-no-figure-requires c κs = search needs
 
 take-plain-requires : tie.Need-take-plain-requires
 take-plain-requires c κs = search needs
@@ -77,7 +77,7 @@ returns-2 : tie.Need-returns-2
 returns-2 c =
     let a = c .before .before .before in
     let s = a .before .before .before .before .before .before .before .before in
-    as-is _ _ _ _ (c .not-a-form .ensures) refl (no-figure (now (s .args .line)) (now (s .args .values)) (s .args .c) (s .args .found) (now (s .args .wanted)) (s .pre .0) (s .pre .1) (is-f (a .before)) (sym (a .read-figure .ensures) ∙ c .before .enum-told .given .1))
+    as-is _ _ _ _ (c .take-no-figure .ensures) refl (no-figure (now (s .args .line)) (now (s .args .values)) (s .args .c) (s .args .found) (now (s .args .wanted)) (s .pre .0) (s .pre .1) (is-f (a .before)) (sym (a .read-figure .ensures) ∙ c .before .enum-told .given .1))
 
 returns-3 : tie.Need-returns-3
 returns-3 c =
@@ -100,7 +100,7 @@ take-word-spec =
     slice-write-values
     add-more
     enum-told
-    not-a-form-requires
+    take-no-figure-requires
     take-plain-requires
     same-length
     returns
