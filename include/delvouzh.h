@@ -58,6 +58,7 @@ extern "C" {
 #define DELVOUZH_AREA 3
 #define DELVOUZH_CHORDS 64 /* the ends of 32 chords: an outline of 64 points has no more */
 #define DELVOUZH_CHORD_COUNTS 3
+#define DELVOUZH_CLOSING 1
 #define DELVOUZH_MOMENTS 3
 #define DELVOUZH_COUNTS 4
 #define DELVOUZH_VALUES 2
@@ -86,6 +87,16 @@ size_t delvouzh_geometry(size_t limit, size_t planform, const double *lengths, s
  * counts two values of a refusal, and how many chords there are. */
 size_t delvouzh_chords_at(size_t planform, const double *lengths, size_t lengths_len, double height_m, double *ends,
                           size_t ends_len, size_t *counts, size_t counts_len);
+
+/* A ring of tubes around a body, 1 to 32 of them. `figures`: length, outer radius, wall, which may be 0, base angle, body radius, density.
+ * Writes a body, its origin on the axis at the tubes' forward end, and two values of a refusal. */
+size_t delvouzh_tube_mass_properties(size_t count, size_t density, const double *figures, size_t figures_len, double *body,
+                                     size_t body_len, size_t *values, size_t values_len);
+
+/* The outer radius of 1 to 32 tubes that close the ring around a body, each touching the body and its two neighbours; of one or two the body
+ * radius. Writes the radius, which is held to no limit, and two values of a refusal. */
+size_t delvouzh_closing_radius(size_t count, double body_radius_m, double *radius, size_t radius_len, size_t *values,
+                               size_t values_len);
 
 /* 1 to 32 bodies, 13 numbers each, one after another, joined into one. Any other count of numbers is 3; a `body` that is too short is 18.
  * No other number is given. */

@@ -16,6 +16,7 @@ enum { LIMIT = 64, SCRATCH = 16 * LIMIT, THREADS = 4, TURNS = 200 };
 /* 0.2 m root chord, 3 mm of plywood, a body of 50 mm radius: the examples of docs/FORMS.md */
 static const double TRAPEZOID[4] = {0.2, 0.1, 0.15, 0.05};
 static const double ELLIPSE[2] = {0.2, 0.1};
+static const double TUBES[6] = {0.2, 0.05, 0.001, 0.0, 0.05, 680.0};
 static const double FIGURES[5] = {0.003, 0.0, 0.0, 0.05, 680.0};
 
 /* what a call is lent, and what it returned */
@@ -94,6 +95,10 @@ static void figures(void) {
     holds("an outline's area", at.number == 0 && fabs(at.numbers[0] - 0.0225) < 1e-15);
     at.number = delvouzh_chords_at(DELVOUZH_TRAPEZOID, TRAPEZOID, 4, 0.15, at.scratch, SCRATCH, at.counts, DELVOUZH_CHORD_COUNTS);
     holds("the chord at the span", refused(0, 0, 0) && at.counts[2] == 1 && at.scratch[0] == 0.05 && at.scratch[1] == (0.05 + 0.2) + (0.1 - 0.2));
+    at.number = delvouzh_tube_mass_properties(6, DELVOUZH_BULK, TUBES, 6, at.numbers, DELVOUZH_BODY, at.counts, DELVOUZH_VALUES);
+    holds("a ring of tubes", refused(0, 0, 0) && fabs(at.numbers[0] - 0.2537904) < 1e-7 && fabs(at.numbers[3] + 0.1) < 1e-15);
+    at.number = delvouzh_closing_radius(2, 0.05, at.numbers, DELVOUZH_CLOSING, at.counts, DELVOUZH_VALUES);
+    holds("a closing radius", refused(0, 0, 0) && at.numbers[0] == 0.05);
     const double bodies[26] = {1, 0, 0, 0, 0, 0, 0, 0, 0, 0, 0, 0, 0, 1, 2, 0, 0, 0, 0, 0, 0, 0, 0, 0, 0, 0};
     at.number = delvouzh_combine(bodies, 26, at.numbers, DELVOUZH_BODY);
     holds("a join", at.number == 0 && at.numbers[0] == 2.0 && at.numbers[1] == 1.0 && at.numbers[8] == 2.0 && at.numbers[12] == 2.0);
@@ -130,6 +135,10 @@ static void refusals(void) {
     holds("17 with its case", refused(17, 4, 0));
     at.number = delvouzh_combine(body, DELVOUZH_BODY - 1, at.numbers, DELVOUZH_BODY);
     holds("3", at.number == 3);
+    at.number = delvouzh_closing_radius(6, NAN, at.numbers, DELVOUZH_CLOSING, at.counts, DELVOUZH_VALUES);
+    holds("4 of a closing radius", refused(4, 11, 0) && at.numbers[0] == 0.0);
+    at.number = delvouzh_tube_mass_properties(6, DELVOUZH_BULK, TUBES, 5, at.numbers, DELVOUZH_BODY, at.counts, DELVOUZH_VALUES);
+    holds("18 of five figures of a ring", refused(18, 0, 0));
     area_of(&at, 4, TRAPEZOID, 4);
     holds("18 of an unknown planform", refused(18, 0, 0));
     answer_to(&at, "(join)");
@@ -151,6 +160,10 @@ static void no_room(void) {
     holds("no room for counts", at.number == 18 && left_alone());
     at.number = delvouzh_chords_at(DELVOUZH_ELLIPSE, ELLIPSE, 2, 0.1, at.scratch, DELVOUZH_CHORDS - 1, at.counts, DELVOUZH_CHORD_COUNTS);
     holds("no room for chords", at.number == 18 && left_alone());
+    at.number = delvouzh_tube_mass_properties(6, DELVOUZH_BULK, TUBES, 6, at.numbers, DELVOUZH_BODY - 1, at.counts, DELVOUZH_VALUES);
+    holds("no room for a ring", at.number == 18 && left_alone());
+    at.number = delvouzh_closing_radius(6, 0.05, at.numbers, 0, at.counts, DELVOUZH_VALUES);
+    holds("no room for a radius", at.number == 18 && left_alone());
     at.number = delvouzh_check(body, DELVOUZH_BODY, at.counts, DELVOUZH_VALUES - 1);
     holds("no room for values", at.number == 18 && left_alone());
     at.number = delvouzh_answer_line(line, sizeof line - 1, at.scratch, SCRATCH, at.answer, DELVOUZH_ANSWER - 1, at.counts, 1);

@@ -12,6 +12,8 @@ pub enum Form {
     Join(Vec<[f64; 4]>),
     Moments([f64; 9]),
     Check(Body),
+    Tubes(Tubes),
+    Closing { count: u64, radius: f64 },
 }
 
 pub struct Set {
@@ -23,6 +25,16 @@ pub struct Set {
     /// Height, length, offset.
     pub tab: Option<[f64; 3]>,
     pub cant: f64,
+    pub base: f64,
+    pub radius: f64,
+    pub density: Density,
+}
+
+pub struct Tubes {
+    pub count: u64,
+    pub length: f64,
+    pub outer: f64,
+    pub wall: f64,
     pub base: f64,
     pub radius: f64,
     pub density: Density,
@@ -138,6 +150,12 @@ impl<'l> Reader<'_, 'l> {
                     centre: self.part(b"centre")?,
                     inertia: self.part(b"inertia")?,
                 })
+            }
+            b"tubes" => Form::Tubes(self.tubes()?),
+            b"closing" => {
+                let count = self.count_part(b"count")?;
+                let [radius] = self.part(b"radius")?;
+                Form::Closing { count, radius }
             }
             _ => return None,
         };
@@ -272,6 +290,25 @@ impl<'l> Reader<'_, 'l> {
             section,
             tab,
             cant,
+            base,
+            radius,
+            density,
+        })
+    }
+
+    fn tubes(&mut self) -> Option<Tubes> {
+        let count = self.count_part(b"count")?;
+        let [length] = self.part(b"length")?;
+        let [outer] = self.part(b"outer")?;
+        let [wall] = self.part(b"wall")?;
+        let [base] = self.part(b"base")?;
+        let [radius] = self.part(b"radius")?;
+        let density = self.density()?;
+        Some(Tubes {
+            count,
+            length,
+            outer,
+            wall,
             base,
             radius,
             density,

@@ -1,5 +1,7 @@
 //! Card lines of every kind.
 
+use hpr_design::fins::TubeFinSet;
+
 use crate::bodies;
 use crate::figures::{marked, marked_all};
 use crate::forms::{Density, Planform, Section};
@@ -9,11 +11,11 @@ use crate::words;
 
 pub const KINDS: &[&str] = &[
     "set", "area", "outline", "narrow", "merging", "noise", "touch", "points", "limits", "faults", "table", "join",
-    "moments", "check", "decimals", "words", "spaces", "mixed",
+    "moments", "check", "tubes", "closing", "decimals", "words", "spaces", "mixed",
 ];
 
 /// How many of them are made figure by figure; the others are such lines, written otherwise.
-const MADE: usize = 14;
+const MADE: usize = 16;
 
 /// `count` lines of one kind; none if there is no such kind.
 pub fn lines(kind: &str, count: u64, seed: u64) -> Option<Vec<String>> {
@@ -70,6 +72,8 @@ fn one(r: &mut Random, kind: &str) -> String {
             let line = mixed(r);
             words::mistyped(r, &line)
         }
+        "tubes" => tubes(r),
+        "closing" => closing(r),
         "spaces" => {
             let line = mixed(r);
             spaced(r, &line)
@@ -85,8 +89,8 @@ fn mixed(r: &mut Random) -> String {
 }
 
 fn pick(r: &mut Random, list: fn(&mut Random) -> Vec<String>) -> String {
-    let mut made = list(r);
-    made.swap_remove(r.below(made.len()))
+    let made = list(r);
+    one_of(r, made)
 }
 
 /// A set's line before it is written; counts are text, as they may have any number of digits.
@@ -107,13 +111,8 @@ struct Draft {
 impl Draft {
     fn line(&self) -> String {
         let tab = self.tab.map(|t| format!(" (tab{})", marked_all(&t)));
-        let (kind, value) = match self.density {
-            Density::Bulk(v) => ("bulk", v),
-            Density::Surface(v) => ("surface", v),
-            Density::Line(v) => ("line", v),
-        };
         format!(
-            "(set (limit {}) (count {}) ({}) (thickness {}) (section {}){} (cant {}) (base {}) (radius {}) ({kind} {}))",
+            "(set (limit {}) (count {}) ({}) (thickness {}) (section {}){} (cant {}) (base {}) (radius {}) {})",
             self.limit,
             self.count,
             planform_words(&self.planform, marked_all),
@@ -123,7 +122,7 @@ impl Draft {
             marked(self.cant),
             marked(self.base),
             marked(self.radius),
-            marked(value)
+            density_part(self.density)
         )
     }
 
@@ -133,6 +132,15 @@ impl Draft {
             Planform::Outline(figures) => figures.get(figures.len().wrapping_sub(2)).copied().unwrap_or(1.0),
         }
     }
+}
+
+fn density_part(density: Density) -> String {
+    let (kind, value) = match density {
+        Density::Bulk(v) => ("bulk", v),
+        Density::Surface(v) => ("surface", v),
+        Density::Line(v) => ("line", v),
+    };
+    format!("({kind} {})", marked(value))
 }
 
 /// The planform's word and figures, without brackets; a line's are marked, a question's are not.
@@ -569,8 +577,135 @@ fn faults(r: &mut Random) -> String {
     d.line()
 }
 
-/// The examples of document 01's refusal table, its join, the cases named P that a line can show; thickness and root chord swapped (21),
-/// and equal, which passes.
+/// The line of a ring of tubes before it is written.
+#[derive(Clone)]
+struct TubesDraft {
+    count: String,
+    length: f64,
+    outer: f64,
+    wall: f64,
+    base: f64,
+    radius: f64,
+    density: Density,
+}
+
+impl TubesDraft {
+    fn line(&self) -> String {
+        format!(
+            "(tubes (count {}) (length {}) (outer {}) (wall {}) (base {}) (radius {}) {})",
+            self.count,
+            marked(self.length),
+            marked(self.outer),
+            marked(self.wall),
+            marked(self.base),
+            marked(self.radius),
+            density_part(self.density)
+        )
+    }
+}
+
+/// A legal ring; its tubes at times close it, its wall is at times zero or the outer radius.
+fn legal_tubes(r: &mut Random) -> TubesDraft {
+    let wild = r.once_in(3);
+    let count = r.pick(&[1, 2, 3, 3, 4, 4, 5, 6, 6, 7, 8, 13, 31, 32]);
+    let radius = if r.once_in(6) {
+        r.pick(&[0.0, -0.0])
+    } else {
+        length(r, wild)
+    };
+    let closing = TubeFinSet::closing_radius_m(radius, count);
+    let outer = if (power_of_two(-20)..=64.0).contains(&closing) && r.once_in(3) {
+        closing
+    } else {
+        length(r, wild)
+    };
+    let wall = match r.below(6) {
+        0 => r.pick(&[0.0, -0.0]),
+        1 => outer,
+        2 => (outer * r.unit()).max(power_of_two(-20)),
+        3 => length(r, wild).min(outer),
+        _ => (outer / r.range(2, 50) as f64).max(power_of_two(-20)),
+    };
+    TubesDraft {
+        count: count.to_string(),
+        length: length(r, wild),
+        outer,
+        wall,
+        base: angle(r),
+        radius,
+        density: Density::Bulk(density(r)),
+    }
+}
+
+/// Half legal; else walls a last bit about the outer radius, a field about one of its limits, or one to four faults, so that the order
+/// of the checks shows.
+fn tubes(r: &mut Random) -> String {
+    let mut d = legal_tubes(r);
+    match r.below(8) {
+        0 => d.wall = r.near(d.outer, 2),
+        1 | 2 => tubes_limit(r, &mut d),
+        3 => {
+            for _ in 0..1 + r.below(4) {
+                tubes_fault(r, &mut d);
+            }
+        }
+        _ => {}
+    }
+    d.line()
+}
+
+fn tubes_limit(r: &mut Random, d: &mut TubesDraft) {
+    let value = r.pick(&lengths());
+    match r.below(8) {
+        0 => d.count = one_of(r, counts(&[1, 3, 32])),
+        1 => d.length = value,
+        2 => d.outer = value,
+        3 => d.wall = value,
+        4 => d.base = r.pick(&angles()),
+        5 => d.radius = value,
+        6 => d.density = Density::Bulk(r.pick(&densities())),
+        // both at the limit of lengths
+        _ => (d.outer, d.wall) = (value, r.near(value, 1)),
+    }
+}
+
+fn tubes_fault(r: &mut Random, d: &mut TubesDraft) {
+    let bad = r.pick(&[-0.01, 0.0, 65.0, f64::NAN, f64::INFINITY, f64::from_bits(1)]);
+    match r.below(9) {
+        0 => d.count = r.pick(&["0", "33", "4294967297"]).to_owned(),
+        1 => d.length = bad,
+        2 => d.outer = bad,
+        3 => d.wall = bad,
+        4 => d.wall = 2.0 * d.outer,
+        5 => d.base = r.pick(&[f64::NAN, 4.5, -5.0, f64::INFINITY]),
+        6 => d.radius = bad,
+        7 => d.density = Density::Bulk(r.pick(&[-1.0, f64::NAN, 1e9, 1e-9, f64::INFINITY])),
+        _ => d.density = r.pick(&[Density::Surface(0.1), Density::Line(1.0), Density::Surface(f64::NAN)]),
+    }
+}
+
+fn one_of(r: &mut Random, mut list: Vec<String>) -> String {
+    list.swap_remove(r.below(list.len()))
+}
+
+fn closing_line(count: &str, radius: f64) -> String {
+    format!("(closing (count {count}) (radius {}))", marked(radius))
+}
+
+fn closing(r: &mut Random) -> String {
+    let wild = r.once_in(3);
+    let count = match r.below(6) {
+        0 => one_of(r, counts(&[1, 3, 32])),
+        _ => r.range(1, 32).to_string(),
+    };
+    let radius = match r.below(6) {
+        0 => r.pick(&lengths()),
+        _ => length(r, wild),
+    };
+    closing_line(&count, radius)
+}
+
+/// The examples of document 01's refusal table, its join, the cases named P that a line can show, and document 02's rings of tubes.
 fn table() -> Vec<String> {
     let legal = Draft {
         limit: "64".to_owned(),
@@ -598,6 +733,16 @@ fn table() -> Vec<String> {
         let tensor = [a, 0.0, 0.0, 0.0, b, 0.0, 0.0, 0.0, c];
         check_line(mass, [x, 0.0, 0.0], &tensor)
     };
+    let ring = TubesDraft {
+        count: "6".to_owned(),
+        length: 0.2,
+        outer: 0.05,
+        wall: 0.001,
+        base: 0.0,
+        radius: 0.05,
+        density: Density::Bulk(680.0),
+    };
+    let with_wall = |wall: f64| TubesDraft { wall, ..ring.clone() }.line();
     vec![
         legal.line(),
         with(&|d| d.limit = "0".to_owned()),
@@ -639,6 +784,17 @@ fn table() -> Vec<String> {
         "(join)".to_owned(),
         join_line(&[[1.0, 0.0, 0.0, 0.0], [1.0, 2.0, 0.0, 0.0]]),
         moments_line(&[2.0, 0.0, 0.0, 0.0, 0.0, 0.0, 0.0, 0.0, 2.0]),
+        ring.line(),
+        with_wall(0.0),
+        with_wall(ring.outer),
+        with_wall(moved(ring.outer, 1)),
+        with_wall(65.0),
+        closing_line("6", 0.05),
+        closing_line("2", 0.05),
+        closing_line("3", 64.0),
+        closing_line("0", f64::NAN),
+        closing_line("33", 0.05),
+        closing_line("6", f64::NAN),
     ]
 }
 

@@ -1,6 +1,6 @@
 //! Document 01's limits, refusal numbers and their order, before the first strip, with document 02's. They refuse more than the Rust.
 
-use crate::forms::{Body, Density, Planform, Set};
+use crate::forms::{Body, Density, Planform, Set, Tubes};
 
 #[derive(Debug, Clone, Copy, PartialEq)]
 pub enum Refusal {
@@ -184,11 +184,35 @@ pub fn behind_planform(set: &Set, root: f64) -> Checked {
     if let Some([tab_height, ..]) = set.tab {
         refuse(tab_height > set.radius, Refusal::TabTooDeep)?;
     }
-    let passes = match set.density {
+    density(set.density)
+}
+
+/// Number 12.
+fn density(density: Density) -> Checked {
+    let passes = match density {
         Density::Bulk(value) => value == 0.0 || (LIGHTEST..=HEAVIEST).contains(&value),
         Density::Surface(_) | Density::Line(_) => false,
     };
     refuse(!passes, Refusal::Density)
+}
+
+/// Document 02, Paper 3: count, body radius, base angle, density, length, outer radius, wall, which may be zero here; 20 last.
+pub fn tubes(set: &Tubes) -> Checked {
+    closing(set.count, set.radius)?;
+    angle(BASE_ANGLE, set.base)?;
+    density(set.density)?;
+    length(TUBE_LENGTH, set.length)?;
+    length(OUTER_RADIUS, set.outer)?;
+    if set.wall != 0.0 {
+        length(THICKNESS, set.wall)?;
+    }
+    refuse(set.wall > set.outer, Refusal::WallOverRadius)
+}
+
+/// "Closing radius for count 0 or over 32 is refused 3, then a bad body radius 4."
+pub fn closing(tubes: u64, radius: f64) -> Checked {
+    count(tubes)?;
+    length(BODY_RADIUS, radius)
 }
 
 /// 17a, of the body check and of the principal moments.

@@ -3,12 +3,12 @@
 use hpr_core::record::{self, Record};
 use hpr_core::{CoreError, DMat3, DVec3};
 use hpr_design::error::DesignError;
-use hpr_design::fins::{FinCrossSection, FinPlanform, FinSet, FinTab};
+use hpr_design::fins::{FinCrossSection, FinPlanform, FinSet, FinTab, TubeFinSet};
 use hpr_design::mass::MassProperties;
 use hpr_design::material::Material;
 
 use crate::figures::show_all;
-use crate::forms::{self, Body, Density, Form, Planform, Section, Set};
+use crate::forms::{self, Body, Density, Form, Planform, Section, Set, Tubes};
 use crate::refusals::{self, Refusal};
 
 pub enum Figures {
@@ -16,6 +16,8 @@ pub enum Figures {
     /// Area, centroid x, centroid height.
     Area([f64; 3]),
     Joined(MassProperties),
+    Ring(MassProperties),
+    Closing(f64),
     Moments([f64; 3]),
     Sound,
 }
@@ -51,6 +53,8 @@ impl Worked {
                 show_all(&[*x, *height])
             ),
             Ok(Figures::Joined(b)) => format!("(joined {})", body(b)),
+            Ok(Figures::Ring(b)) => format!("(ring {})", body(b)),
+            Ok(Figures::Closing(radius)) => format!("(closing{})", show_all(&[*radius])),
             Ok(Figures::Moments(m)) => format!("(moments{})", show_all(m)),
             Ok(Figures::Sound) => "(sound)".to_owned(),
             Err(refusal) => format!("(refused {})", refusal.number()),
@@ -115,6 +119,8 @@ pub fn work(line: &[u8], lent: usize) -> Worked {
         Ok(Form::Join(points)) => join(&points),
         Ok(Form::Moments(tensor)) => moments(&tensor).map(Figures::Moments),
         Ok(Form::Check(body)) => check(&body).map(|()| Figures::Sound),
+        Ok(Form::Tubes(set)) => tubes(&set),
+        Ok(Form::Closing { count, radius }) => closing(count, radius),
     };
     let run = record::finish();
     let mut wrote: Vec<f64> = Vec::new();
@@ -182,6 +188,27 @@ fn join(points: &[[f64; 4]]) -> Result<Figures, Refusal> {
         .map(|&[mass, x, y, z]| MassProperties::point(mass, DVec3::new(x, y, z)))
         .collect();
     Ok(Figures::Joined(MassProperties::combine(&bodies)))
+}
+
+fn tubes(set: &Tubes) -> Result<Figures, Refusal> {
+    refusals::tubes(set)?;
+    let ring = TubeFinSet {
+        count: set.count as u32,
+        length_m: set.length,
+        outer_radius_m: set.outer,
+        thickness_m: set.wall,
+        base_angle_rad: set.base,
+        material: rust_material(set.density),
+    };
+    match ring.mass_properties(set.radius) {
+        Ok(body) => Ok(Figures::Ring(body)),
+        Err(other) => panic!("the Rust refuses what document 02 takes: {other:?}"),
+    }
+}
+
+fn closing(count: u64, radius: f64) -> Result<Figures, Refusal> {
+    refusals::closing(count, radius)?;
+    Ok(Figures::Closing(TubeFinSet::closing_radius_m(radius, count as u32)))
 }
 
 pub fn moments(tensor: &[f64; 9]) -> Result<[f64; 3], Refusal> {
@@ -295,11 +322,15 @@ pub fn rust_set(set: &Set, planform: FinPlanform) -> FinSet {
         fillet: None,
         cant_rad: set.cant,
         base_angle_rad: set.base,
-        material: match set.density {
-            Density::Bulk(v) => Material::bulk("", v),
-            Density::Surface(v) => Material::surface("", v),
-            Density::Line(v) => Material::line("", v),
-        },
+        material: rust_material(set.density),
+    }
+}
+
+fn rust_material(density: Density) -> Material {
+    match density {
+        Density::Bulk(v) => Material::bulk("", v),
+        Density::Surface(v) => Material::surface("", v),
+        Density::Line(v) => Material::line("", v),
     }
 }
 

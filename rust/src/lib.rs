@@ -66,6 +66,18 @@ pub struct FinSet<'a> {
     pub density: Density,
 }
 
+/// Tube fins: open tubes parallel to a body, touching it, spaced evenly around it.
+#[derive(Debug, Clone, Copy, PartialEq)]
+pub struct TubeFinSet {
+    pub count: usize,
+    pub length_m: f64,
+    pub outer_radius_m: f64,
+    /// The wall; it may be 0.
+    pub thickness_m: f64,
+    pub base_angle_rad: f64,
+    pub density: Density,
+}
+
 /// A rigid body: thirteen numbers one after another, as the library has them.
 #[derive(Debug, Clone, Copy, PartialEq)]
 #[repr(C)]
@@ -224,7 +236,59 @@ pub fn chords_at(planform: &Planform, height_m: f64) -> Result<Vec<[f64; 2]>, Er
     };
     let [first, second, count] = counts;
     Error::unless_zero(number, [first, second])?;
-    Ok(ends.chunks_exact(2).take(count).map(|chord| [chord[0], chord[1]]).collect())
+    Ok(ends
+        .chunks_exact(2)
+        .take(count)
+        .map(|chord| [chord[0], chord[1]])
+        .collect())
+}
+
+/// The body of a ring of tubes on a body of the given radius; its origin is on the axis at the tubes' forward end.
+pub fn tube_mass_properties(set: &TubeFinSet, body_radius_m: f64) -> Result<Body, Error> {
+    let (density, value) = set.density.crossing();
+    let figures = [
+        set.length_m,
+        set.outer_radius_m,
+        set.thickness_m,
+        set.base_angle_rad,
+        body_radius_m,
+        value,
+    ];
+    let mut body = [0.0; raw::BODY];
+    let mut values = [0; raw::VALUES];
+    let number = unsafe {
+        raw::delvouzh_tube_mass_properties(
+            set.count,
+            density,
+            figures.as_ptr(),
+            figures.len(),
+            body.as_mut_ptr(),
+            body.len(),
+            values.as_mut_ptr(),
+            values.len(),
+        )
+    };
+    Error::unless_zero(number, values)?;
+    Ok(Body::from_numbers(body))
+}
+
+/// The outer radius of `count` tubes that close the ring around a body; one or two have the body's.
+pub fn closing_radius_m(body_radius_m: f64, count: usize) -> Result<f64, Error> {
+    let mut radius = [0.0; raw::CLOSING];
+    let mut values = [0; raw::VALUES];
+    let number = unsafe {
+        raw::delvouzh_closing_radius(
+            count,
+            body_radius_m,
+            radius.as_mut_ptr(),
+            radius.len(),
+            values.as_mut_ptr(),
+            values.len(),
+        )
+    };
+    Error::unless_zero(number, values)?;
+    let [radius_m] = radius;
+    Ok(radius_m)
 }
 
 /// 1 to 32 bodies joined into one rigid body.

@@ -19,6 +19,7 @@ pub const BODY: usize = 13;
 pub const AREA: usize = 3;
 pub const CHORDS: usize = 64;
 pub const CHORD_COUNTS: usize = 3;
+pub const CLOSING: usize = 1;
 pub const MOMENTS: usize = 3;
 pub const COUNTS: usize = 4;
 pub const VALUES: usize = 2;
@@ -67,6 +68,26 @@ extern "C" {
         ends_len: usize,
         counts: *mut usize,
         counts_len: usize,
+    ) -> usize;
+
+    pub fn delvouzh_tube_mass_properties(
+        count: usize,
+        density: usize,
+        figures: *const f64,
+        figures_len: usize,
+        body: *mut f64,
+        body_len: usize,
+        values: *mut usize,
+        values_len: usize,
+    ) -> usize;
+
+    pub fn delvouzh_closing_radius(
+        count: usize,
+        body_radius_m: f64,
+        radius: *mut f64,
+        radius_len: usize,
+        values: *mut usize,
+        values_len: usize,
     ) -> usize;
 
     pub fn delvouzh_combine(bodies: *const f64, bodies_len: usize, body: *mut f64, body_len: usize) -> usize;

@@ -1,7 +1,8 @@
 //! Each call, with figures and refused; the worked examples are document 01's.
 use delvouzh::{
-    answer_line, check, chords_at, combine, geometry, mass_properties, principal_moments, scratch_len, sqrt, Body, Density, Error,
-    FinSet, Planform, Refusal, Section, Tab, TensorFault,
+    answer_line, check, chords_at, closing_radius_m, combine, geometry, mass_properties, principal_moments,
+    scratch_len, sqrt, tube_mass_properties, Body, Density, Error, FinSet, Planform, Refusal, Section, Tab,
+    TensorFault, TubeFinSet,
 };
 
 const TRAPEZOID: Planform = Planform::Trapezoid {
@@ -110,7 +111,10 @@ fn an_outline_has_the_trapezoid_s_area() {
 #[test]
 fn chords_are_listed_up_to_the_tip() {
     assert_eq!(chords_at(&TRAPEZOID, 0.0), Ok(vec![[0.0, 0.2]]));
-    assert_eq!(chords_at(&TRAPEZOID, 0.15), Ok(vec![[0.05, (0.05 + 0.2) + (0.1 - 0.2)]]));
+    assert_eq!(
+        chords_at(&TRAPEZOID, 0.15),
+        Ok(vec![[0.05, (0.05 + 0.2) + (0.1 - 0.2)]])
+    );
     assert_eq!(chords_at(&ELLIPSE, 0.1), Ok(vec![[0.1, 0.1]]));
     for height_m in [-0.01, 0.15f64.next_up(), f64::NAN, f64::INFINITY] {
         assert_eq!(chords_at(&TRAPEZOID, height_m), Ok(vec![]));
@@ -125,9 +129,65 @@ fn chords_are_listed_up_to_the_tip() {
         span_m: 0.0,
     };
     assert_eq!(chords_at(&flat, 0.0), Err(Error::Refused(Refusal::Length { field: 3 })));
-    let points_m: Vec<_> = (0..64).map(|k| [f64::from(k) / 64.0, f64::from(k % 2) / 8.0]).collect();
-    let saw = [&points_m[..63], &[[1.0, 0.0]]].concat();
-    assert_eq!(chords_at(&Planform::Outline { points_m: &saw }, 0.0625).unwrap().len(), 31);
+    let mut points_m = [[0.0, 0.0]; 64];
+    for (k, point) in points_m.iter_mut().enumerate().skip(1) {
+        *point = [k as f64 / 64.0, if k % 2 == 1 { 0.125 } else { 0.0625 }];
+    }
+    points_m[63] = [1.0, 0.0];
+    let saw = Planform::Outline { points_m: &points_m };
+    assert_eq!(chords_at(&saw, 0.1).unwrap().len(), 31);
+}
+
+const TUBES: TubeFinSet = TubeFinSet {
+    count: 6,
+    length_m: 0.2,
+    outer_radius_m: 0.05,
+    thickness_m: 0.001,
+    base_angle_rad: 0.0,
+    density: Density::Bulk { kg_m3: 680.0 },
+};
+
+#[test]
+fn a_ring_of_tubes_has_figures() {
+    let body = tube_mass_properties(&TUBES, 0.05).unwrap();
+    let section_m2 = std::f64::consts::PI * (0.05 * 0.05 - 0.049 * 0.049);
+    assert!(near(body.mass_kg, 6.0 * 680.0 * section_m2 * 0.2));
+    assert!(near(body.centre_m[2], -0.1));
+    check(&body).unwrap();
+    let wall = |thickness_m| tube_mass_properties(&TubeFinSet { thickness_m, ..TUBES }, 0.05);
+    assert_eq!(wall(0.0).unwrap().mass_kg, 0.0);
+    wall(0.05).unwrap();
+    assert_eq!(wall(0.05f64.next_up()), Err(Error::Refused(Refusal::WallOverRadius)));
+    assert_eq!(wall(65.0), Err(Error::Refused(Refusal::Length { field: 7 })));
+    let bent = TubeFinSet {
+        base_angle_rad: 5.0,
+        length_m: 0.0,
+        ..TUBES
+    };
+    assert_eq!(
+        tube_mass_properties(&bent, 0.05),
+        Err(Error::Refused(Refusal::Angle { field: 13 }))
+    );
+    let sheet = TubeFinSet {
+        density: Density::Surface { kg_m2: 0.1 },
+        ..TUBES
+    };
+    assert_eq!(
+        tube_mass_properties(&sheet, 0.05),
+        Err(Error::Refused(Refusal::Density))
+    );
+}
+
+#[test]
+fn tubes_close_a_ring() {
+    assert!(near(closing_radius_m(0.05, 6).unwrap(), 0.05));
+    assert_eq!(closing_radius_m(0.05, 1), Ok(0.05));
+    assert_eq!(closing_radius_m(0.05, 2), Ok(0.05));
+    assert_eq!(closing_radius_m(f64::NAN, 33), Err(Error::Refused(Refusal::Count)));
+    assert_eq!(
+        closing_radius_m(f64::NAN, 3),
+        Err(Error::Refused(Refusal::Length { field: 11 }))
+    );
 }
 
 #[test]

@@ -6,7 +6,7 @@ use lib.ListN.{length}
 use lib.Ieee.{Float}
 use Rattle.tokens.specs.Text.{text, codes}
 use Rattle.answers.specs.Filled.{room}
-use Rattle.answers.specs.Answers.{figuresText, areaText, joinedText, momentsText, soundText, refusedText}
+use Rattle.answers.specs.Answers.{figuresText, areaText, joinedText, ringText, closingText, momentsText, soundText, refusedText}
 use Rattle.answers.proofs.Filling.{filled-fits}
 
 pub figures-short : (figures : List Float) (intervals samples : ℕ) → length (figuresText figures intervals samples) ≤ 320
@@ -20,6 +20,14 @@ area-short figures intervals samples = let h = filled-fits (text "(area (area F)
 pub joined-short : (figures : List Float) → length (joinedText figures) ≤ 320
 unfolding joinedText room text codes
 joined-short figures = let h = filled-fits (text "(joined (mass F) (centre F F F) (inertia F F F F F F F F F))") figures [] in omega arith
+
+pub ring-short : (figures : List Float) → length (ringText figures) ≤ 320
+unfolding ringText room text codes
+ring-short figures = let h = filled-fits (text "(ring (mass F) (centre F F F) (inertia F F F F F F F F F))") figures [] in omega arith
+
+pub closing-short : (figures : List Float) → length (closingText figures) ≤ 320
+unfolding closingText room text codes
+closing-short figures = let h = filled-fits (text "(closing F)") figures [] in omega arith
 
 pub moments-short : (figures : List Float) → length (momentsText figures) ≤ 320
 unfolding momentsText room text codes

@@ -16,6 +16,13 @@ areaText figures intervals samples = filled (text "(area (area F) (centroid F F)
 unfoldable pub joinedText : List Float → List ℕ
 joinedText figures = filled (text "(joined (mass F) (centre F F F) (inertia F F F F F F F F F))") figures []
 
+-- a ring of tubes (document 02, Paper 3): the body, and the radius that closes one
+unfoldable pub ringText : List Float → List ℕ
+ringText figures = filled (text "(ring (mass F) (centre F F F) (inertia F F F F F F F F F))") figures []
+
+unfoldable pub closingText : List Float → List ℕ
+closingText figures = filled (text "(closing F)") figures []
+
 -- ascending
 unfoldable pub momentsText : List Float → List ℕ
 momentsText figures = filled (text "(moments F F F)") figures []

@@ -5,7 +5,7 @@ ghost use Prim.Native.Nat.{_+_, _≤_};
 ghost use lib.ListN.{length};
 ghost use Rattle.texts.specs.Appended.{Appended};
 ghost use Rattle.answers.specs.Filled.{filled, room};
-ghost use Rattle.answers.specs.Answers.{figuresText, areaText, joinedText, momentsText, soundText, refusedText};
+ghost use Rattle.answers.specs.Answers.{figuresText, areaText, joinedText, ringText, closingText, momentsText, soundText, refusedText};
 ghost use Rattle.answers.specs.Places.{HasRoom, PutPiece};
 
 // Where printing stands: how many bytes are there, and how many figures and counts have been used.
@@ -123,6 +123,30 @@ pub fn put_joined(out: &mut [u8], n: usize, figures: &[f64]) -> usize
         figures,
         &counts,
     )
+}
+
+// A ring of tubes: mass, centre and tensor.
+pub fn put_ring(out: &mut [u8], n: usize, figures: &[f64]) -> usize
+    requires { ⌜ n + 320 ≤ length (now out) ⌝ }
+    ensures { λ r. ⌜ Appended (now (out .entry)) n (ringText (now (figures .entry))) (now (out .exit)) r ⌝ }
+{
+    let counts: [u64; 0] = [];
+    put_filled(
+        out,
+        n,
+        b"(ring (mass F) (centre F F F) (inertia F F F F F F F F F))",
+        figures,
+        &counts,
+    )
+}
+
+// The radius of tubes that close a ring.
+pub fn put_closing(out: &mut [u8], n: usize, figures: &[f64]) -> usize
+    requires { ⌜ n + 320 ≤ length (now out) ⌝ }
+    ensures { λ r. ⌜ Appended (now (out .entry)) n (closingText (now (figures .entry))) (now (out .exit)) r ⌝ }
+{
+    let counts: [u64; 0] = [];
+    put_filled(out, n, b"(closing F)", figures, &counts)
 }
 
 // Principal moments.

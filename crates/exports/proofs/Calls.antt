@@ -11,6 +11,8 @@ use Rattle.refusals.specs.declared.Verdict.{Verdict}
 use Rattle.joins.specs.declared.Joined.{Joined}
 use Rattle.joins.specs.Flat.{withBody}
 use Rattle.joins.specs.Joins.{combineOf}
+use Rattle.tubes.specs.declared.ClosingRadius.{ClosingRadius}
+use Rattle.tubes.specs.Closing.{closingOf}
 use Rattle.moments.specs.declared.Moments.{Moments}
 use Rattle.figures.specs.declared.Area.{Area}
 use Rattle.figures.specs.declared.Figures.{Figures}
@@ -18,9 +20,9 @@ use Rattle.lines.specs.Lines.{answerOf, Answers}
 use Rattle.planform_chords.specs.declared.ChordList.{ChordList}
 use Rattle.planforms.specs.declared.NumberedPlanform.{NumberedPlanform}
 use Rattle.fins.specs.declared.NumberedSet.{NumberedSet}
-use Rattle.requests.specs.Calls.{numberedFigures, numberedScratch, numberedArea, numberedAreaScratch, numberedChords, numberedEnds, tensorMoments, bodyVerdict}
+use Rattle.requests.specs.Calls.{numberedFigures, numberedScratch, numberedArea, numberedAreaScratch, numberedChords, numberedEnds, ringBy, tensorMoments, bodyVerdict}
 use Rattle.exports.specs.Numbers.{numberIn, over, withValues}
-use Rattle.exports.specs.Calls.{room, figureCounts, SetCall, areaNumbers, areaCounts, AreaCall, chordCounts, ChordsCall, JoinCall, momentsNumbers, MomentsCall, CheckCall, LineCall}
+use Rattle.exports.specs.Calls.{room, figureCounts, SetCall, areaNumbers, areaCounts, AreaCall, chordCounts, ChordsCall, RingCall, ClosingCall, JoinCall, momentsNumbers, MomentsCall, CheckCall, LineCall}
 
 module _ {A : Type 0} (m : ℕ) (figures : List A) (n : ℕ) (counts : List ℕ) where
   has-room : m ≤ length figures → n ≤ length counts → room m figures n counts ≡ true
@@ -82,6 +84,28 @@ module _ (planform : NumberedPlanform) (points : List Float) (h : Float) (ends :
         listed = rw (fits, ← same) s;
         counted = rw (fits, ← same, ← e) c;
       }
+
+module _ (count density : ℕ) (numbers body : List Float) (values : List ℕ) where
+  pub ring-refused : room 13 body 2 values ≡ false → RingCall count density numbers body values 18 body values
+  ring-refused none = record { returned = rw none; figures = rw none; counted = rw none }
+
+  pub ring-written : 13 ≤ length body → 2 ≤ length values → (j : Joined) (r : ℕ) (body' : List Float) (values' : List ℕ) →
+      j ≡ ringBy count density numbers → body' ≡ withBody body 0 (j .body) → values' ≡ withValues values (j .verdict) →
+      r ≡ numberIn (j .verdict) → RingCall count density numbers body values r body' values'
+  ring-written h k j r body' values' e b c n =
+      let fits = has-room 13 body 2 values h k in
+      record { returned = rw (fits, ← e) n; figures = rw (fits, ← e) b; counted = rw (fits, ← e) c }
+
+module _ (count : ℕ) (bodyRadius : Float) (radius : List Float) (values : List ℕ) where
+  pub closing-refused : room 1 radius 2 values ≡ false → ClosingCall count bodyRadius radius values 18 radius values
+  closing-refused none = record { returned = rw none; figures = rw none; counted = rw none }
+
+  pub closing-written : 1 ≤ length radius → 2 ≤ length values → (f : ClosingRadius) (r : ℕ) (radius' : List Float) (values' : List ℕ) →
+      f ≡ closingOf bodyRadius count → radius' ≡ over (f .«radius_m» ∷ []) radius → values' ≡ withValues values (f .verdict) →
+      r ≡ numberIn (f .verdict) → ClosingCall count bodyRadius radius values r radius' values'
+  closing-written h k f r radius' values' e b c n =
+      let fits = has-room 1 radius 2 values h k in
+      record { returned = rw (fits, ← e) n; figures = rw (fits, ← e) b; counted = rw (fits, ← e) c }
 
 module _ (bodies body : List Float) where
   pub join-refused : length body < 13 → JoinCall bodies body 18 body

@@ -15,10 +15,11 @@ use Rattle.planform_chords.specs.declared.ChordList.{ChordList}
 use Rattle.fins.specs.declared.NumberedSet.{NumberedSet}
 use Rattle.joins.specs.Flat.{withBody}
 use Rattle.joins.specs.Joins.{combineOf}
+use Rattle.tubes.specs.Closing.{closingOf}
 use Rattle.moments.specs.declared.Moments.{Moments}
 use Rattle.figures.specs.declared.Area.{Area}
 use Rattle.figures.specs.declared.Figures.{Figures}
-use Rattle.requests.specs.Calls.{numberedFigures, numberedScratch, numberedArea, numberedAreaScratch, numberedChords, numberedEnds, tensorMoments, bodyVerdict}
+use Rattle.requests.specs.Calls.{numberedFigures, numberedScratch, numberedArea, numberedAreaScratch, numberedChords, numberedEnds, ringBy, tensorMoments, bodyVerdict}
 use Rattle.lines.specs.Lines.{answerOf, scratchAfterLine}
 use Rattle.exports.specs.Numbers.{numberIn, over, withValues, withCount, withCounts}
 
@@ -60,6 +61,18 @@ pub record ChordsCall (planform : NumberedPlanform) (points : List Float) (h : F
   pub returned : r ≡ cond (room 64 ends 3 counts) (numberIn (numberedChords planform points h (length ends) .verdict)) (numberOf NoForm)
   pub listed : ends' ≡ cond (room 64 ends 3 counts) (numberedEnds planform points h ends) ends
   pub counted : counts' ≡ cond (room 64 ends 3 counts) (chordCounts (numberedChords planform points h (length ends)) counts) counts
+
+-- ---- a ring of tubes, and the radius that closes one (document 02, Paper 3)
+
+pub record RingCall (count density : ℕ) (numbers body : List Float) (values : List ℕ) (r : ℕ) (body' : List Float) (values' : List ℕ) : Type 0 where
+  pub returned : r ≡ cond (room 13 body 2 values) (numberIn (ringBy count density numbers .verdict)) (numberOf NoForm)
+  pub figures : body' ≡ cond (room 13 body 2 values) (withBody body 0 (ringBy count density numbers .body)) body
+  pub counted : values' ≡ cond (room 13 body 2 values) (withValues values (ringBy count density numbers .verdict)) values
+
+pub record ClosingCall (count : ℕ) (bodyRadius : Float) (radius : List Float) (values : List ℕ) (r : ℕ) (radius' : List Float) (values' : List ℕ) : Type 0 where
+  pub returned : r ≡ cond (room 1 radius 2 values) (numberIn (closingOf bodyRadius count .verdict)) (numberOf NoForm)
+  pub figures : radius' ≡ cond (room 1 radius 2 values) (over (closingOf bodyRadius count .«radius_m» ∷ []) radius) radius
+  pub counted : values' ≡ cond (room 1 radius 2 values) (withValues values (closingOf bodyRadius count .verdict)) values
 
 -- ---- a join
 

@@ -13,7 +13,7 @@ ghost use Rattle.root.specs.Root.{rootOf, IsRoot};
 ghost use Rattle.planforms.specs.Numbered.{numberedPlanform};
 ghost use Rattle.exports.specs.Sets.{crossedSet};
 ghost use Rattle.exports.specs.Numbers.{numberIn, valuesIn, over, withValues, withCount, withCounts};
-ghost use Rattle.exports.specs.Calls.{SetCall, AreaCall, ChordsCall, JoinCall, MomentsCall, CheckCall, LineCall};
+ghost use Rattle.exports.specs.Calls.{SetCall, AreaCall, ChordsCall, RingCall, ClosingCall, JoinCall, MomentsCall, CheckCall, LineCall};
 use fins::NumberedSet;
 use refusals::Verdict;
 
@@ -208,6 +208,55 @@ pub extern "C" fn delvouzh_chords_at(
     let found = requests::listed_chords(asked, lengths, height_m, ends);
     let verdict = found.verdict;
     write_count(counts, verdict, found.count);
+    number(verdict)
+}
+
+// A ring of tubes; the figures: length, outer radius, wall, base angle, body radius, density. Writes the body's thirteen numbers, and two
+// values of a refusal.
+#[no_mangle]
+pub extern "C" fn delvouzh_tube_mass_properties(
+    count: usize,
+    density: usize,
+    figures: &[f64],
+    body: &mut [f64],
+    values: &mut [usize],
+) -> usize
+    ensures { λ r. ⌜ RingCall count density (now (figures .entry)) (now (body .entry)) (now (values .entry)) r (now (body .exit)) (now (values .exit)) ⌝ }
+{
+    if body.len() < 13 {
+        return NO_FORM;
+    }
+    if values.len() < 2 {
+        return NO_FORM;
+    }
+    let joined = requests::ring_figures(count, density, figures);
+    let verdict = joined.verdict;
+    let found = joined.body;
+    joins::write_body(body, 0, found);
+    write_values(values, verdict);
+    number(verdict)
+}
+
+// The outer radius of tubes that close the ring around a body: writes it, and two values of a refusal.
+#[no_mangle]
+pub extern "C" fn delvouzh_closing_radius(
+    count: usize,
+    body_radius_m: f64,
+    radius: &mut [f64],
+    values: &mut [usize],
+) -> usize
+    ensures { λ r. ⌜ ClosingCall count «body_radius_m» (now (radius .entry)) (now (values .entry)) r (now (radius .exit)) (now (values .exit)) ⌝ }
+{
+    if radius.len() < 1 {
+        return NO_FORM;
+    }
+    if values.len() < 2 {
+        return NO_FORM;
+    }
+    let found = tubes::closing_radius_m(body_radius_m, count);
+    let verdict = found.verdict;
+    radius[0] = found.radius_m;
+    write_values(values, verdict);
     number(verdict)
 }
 

@@ -7,7 +7,7 @@ ghost use Prim.Native.Nat.{_≤_};
 ghost use lib.ListN.{length};
 ghost use Rattle.tokens.specs.Tokens.{lineBytes};
 ghost use Rattle.templates.specs.Cursors.{Room, Takes};
-ghost use Rattle.forms.specs.Forms.{part, isNumbered, withItem, readAs, lineAsked};
+ghost use Rattle.forms.specs.Forms.{part, isNumbered, withItem, readAs, wordOf, tubeForm, lineAsked};
 ghost use Rattle.forms.specs.Reads.{refusedRequest, Reads, endOf, IsWordOf};
 use refusals::Refusal;
 use refusals::Verdict;
@@ -22,6 +22,8 @@ pub enum Form {
     Join,
     Moments,
     Check,
+    Tubes,
+    Closing,
     NoForm,
 }
 
@@ -183,6 +185,30 @@ fn word_of(line: &[u8]) -> Found
     tokens::next_token(line, bracket.to)
 }
 
+// What a line of a ring of tubes, or of the radius that closes one, asks.
+fn read_tube_form(line: &[u8], word: &[u8], values: &mut [f64]) -> Request
+    requires { ⌜ (length (now line) ≤ lineBytes) × (length (now line) ≤ length (now values)) × (now word ≡ wordOf (now line)) ⌝ }
+    ensures { λ r. ⌜ Reads (now (values .exit)) r (tubeForm (now (line .entry))) ⌝ }
+{
+    if same_bytes(word, b"tubes") {
+        return read_form(
+            line,
+            Form::Tubes,
+            b"(tubes (count N) (length F) (outer F) (wall F) (base F) (radius F) DENSITY)",
+            values,
+        );
+    }
+    if same_bytes(word, b"closing") {
+        return read_form(
+            line,
+            Form::Closing,
+            b"(closing (count N) (radius F))",
+            values,
+        );
+    }
+    refused(Refusal::NoForm)
+}
+
 // What a line asks; its figures go to the start of values, which has room for one of each byte of a line that is not too long.
 pub fn read_line(line: &[u8], values: &mut [f64]) -> Request
     requires { ⌜ (length (now line) ≤ lineBytes → length (now line) ≤ length (now values)) ⌝ }
@@ -220,5 +246,5 @@ pub fn read_line(line: &[u8], values: &mut [f64]) -> Request
             values,
         );
     }
-    refused(Refusal::NoForm)
+    read_tube_form(line, word, values)
 }

@@ -23,9 +23,17 @@ use Rattle.planforms.specs.declared.NumberedPlanform.{NumberedPlanform}
 use Rattle.planforms.specs.declared.NumberedPlanform.the-variants.{Known as planformKnown, Unknown as noPlanform}
 use Rattle.fins.specs.declared.NumberedSet.{NumberedSet}
 use Rattle.fins.specs.declared.NumberedSet.the-variants.{Known as setKnown, Unknown as noSet}
+use Rattle.materials.specs.declared.NumberedDensity.{NumberedDensity}
+use Rattle.materials.specs.declared.NumberedDensity.the-variants.{Known as densityKnown, Unknown as noDensity}
+use Rattle.materials.specs.Numbered.{numberedDensity}
+use Rattle.joins.specs.declared.Joined.{Joined}
+use Rattle.joins.specs.Joins.{refusedBody}
+use Rattle.rings.specs.Rings.{ringOf}
+use Rattle.tubes.specs.Closing.{closingOf}
+use Rattle.floats.specs.Operations.{at}
 use Rattle.requests.specs.declared.AreaRequest.{AreaRequest}
 use Rattle.requests.specs.declared.SetRequest.{SetRequest}
-use Rattle.requests.specs.Calls.{numberedFigures, numberedScratch, numberedArea, numberedAreaScratch}
+use Rattle.requests.specs.Calls.{numberedFigures, numberedScratch, numberedArea, numberedAreaScratch, ringOfKnown, ringBy}
 use Rattle.requests.specs.Requests.{between, askedFigures, askedScratch, askedArea, askedAreaScratch}
 use Rattle.figures.specs.declared.Figures.{Figures}
 use Rattle.figures.specs.declared.Area.{Area}
@@ -138,6 +146,26 @@ module _ (set : FinSet) (points : List Float) (L : ℕ) where
       ap (λ (v : Verdict). scratchChecked v (withCount set i) points L scratch) (set-count set points L (length scratch) i h)
       ∙ same-scratch (withCount set i) (withCount set j) points L scratch (limitCheck L) (scratchCheck L (length scratch))
       ∙ sym (ap (λ (v : Verdict). scratchChecked v (withCount set j) points L scratch) (set-count set points L (length scratch) j g)))
+
+-- ---- the count of tubes
+
+module _ (base : Float) (one : Joined) where
+  ring-many : (n : ℕ) → 32 < n → ringOf one base n ≡ refusedBody Count
+  unfolding ringOf firstRefusal
+  ring-many n h = rw (too-many n h)
+
+module _ (figures : List Float) where
+  same-ring : (i j : ℕ) → 32 < i → 32 < j → (density : NumberedDensity) → ringOfKnown i density figures ≡ ringOfKnown j density figures
+  same-ring i j h g (densityKnown density) = ring-many _ _ i h ∙ sym (ring-many _ _ j g)
+  same-ring i j h g noDensity = refl
+
+  pub ring-capped : (density count : ℕ) → ringBy (capped count) density figures ≡ ringBy count density figures
+  unfolding ringBy
+  ring-capped density = at-capped (λ (k : ℕ). ringBy k density figures) 32 (omega arith) (λ i j h g. rw (same-ring i j h g (numberedDensity density (at figures 5))))
+
+pub closing-capped : (radius : Float) (count : ℕ) → closingOf radius (capped count) ≡ closingOf radius count
+unfolding closingOf firstRefusal
+closing-capped radius = at-capped (closingOf radius) 32 (omega arith) (λ i j h g. rw (too-many i h, too-many j g))
 
 -- ---- what a line asks, with numbers of any size, and capped
 

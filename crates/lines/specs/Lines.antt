@@ -11,16 +11,17 @@ use Rattle.refusals.specs.declared.Verdict.the-variants.{Accepted, Refused}
 use Rattle.refusals.specs.Refusals.{numberOf}
 use Rattle.joins.specs.declared.Joined.{Joined}
 use Rattle.joins.specs.Flat.{numbersOf}
+use Rattle.tubes.specs.declared.ClosingRadius.{ClosingRadius}
 use Rattle.moments.specs.declared.Moments.{Moments}
 use Rattle.texts.specs.Appended.{Appended}
-use Rattle.answers.specs.Answers.{figuresText, areaText, joinedText, momentsText, soundText, refusedText}
+use Rattle.answers.specs.Answers.{figuresText, areaText, joinedText, ringText, closingText, momentsText, soundText, refusedText}
 use Rattle.forms.specs.declared.Form.{Form}
-use Rattle.forms.specs.declared.Form.the-variants.{Set as SetForm, Area as AreaForm, Join as JoinForm, Moments as MomentsForm, Check as CheckForm, NoForm}
+use Rattle.forms.specs.declared.Form.the-variants.{Set as SetForm, Area as AreaForm, Join as JoinForm, Moments as MomentsForm, Check as CheckForm, Tubes as TubesForm, Closing as ClosingForm, NoForm}
 use Rattle.forms.specs.Forms.{Asked, refused, asked, lineAsked}
 use Rattle.requests.specs.declared.AreaRequest.{AreaRequest}
 use Rattle.requests.specs.declared.SetRequest.{SetRequest}
 use Rattle.requests.specs.Calls.{joinedPointsOf, tensorMoments, bodyVerdict}
-use Rattle.requests.specs.Requests.{setRequestOf, areaRequestOf, askedFigures, askedScratch, askedArea, askedAreaScratch}
+use Rattle.requests.specs.Requests.{setRequestOf, areaRequestOf, askedFigures, askedScratch, askedArea, askedAreaScratch, askedRing, askedClosing}
 use Rattle.figures.specs.declared.Figures.{Figures}
 use Rattle.figures.specs.declared.Area.{Area}
 
@@ -39,6 +40,14 @@ printedArea (Refused refusal) a = refusedText (numberOf refusal)
 abbrev pub printedJoin : Verdict → Joined → List ℕ
 printedJoin Accepted j = joinedText (numbersOf (j .body))
 printedJoin (Refused refusal) j = refusedText (numberOf refusal)
+
+abbrev pub printedRing : Verdict → Joined → List ℕ
+printedRing Accepted j = ringText (numbersOf (j .body))
+printedRing (Refused refusal) j = refusedText (numberOf refusal)
+
+abbrev pub printedClosing : Verdict → ClosingRadius → List ℕ
+printedClosing Accepted c = closingText (c .«radius_m» ∷ [])
+printedClosing (Refused refusal) c = refusedText (numberOf refusal)
 
 abbrev pub printedMoments : Verdict → Moments → List ℕ
 printedMoments Accepted m = momentsText (m .«moments_kg_m2»)
@@ -71,12 +80,20 @@ momentsAnswer figures = let m = tensorMoments figures in printedMoments (m .verd
 unfoldable pub checkAnswer : List Float → List ℕ
 checkAnswer figures = printedCheck (bodyVerdict figures)
 
+unfoldable pub ringAnswer : List ℕ → List Float → List ℕ
+ringAnswer ns figures = let j = askedRing ns figures in printedRing (j .verdict) j
+
+unfoldable pub closingAnswer : List ℕ → List Float → List ℕ
+closingAnswer ns figures = let c = askedClosing ns figures in printedClosing (c .verdict) c
+
 abbrev pub answerTo : Form → List ℕ → List Float → ℕ → List ℕ
 answerTo SetForm ns figures scratchLength = setAnswer (setRequestOf ns figures) figures scratchLength
 answerTo AreaForm ns figures scratchLength = areaAnswer (areaRequestOf ns figures) figures scratchLength
 answerTo JoinForm ns figures scratchLength = joinAnswer figures
 answerTo MomentsForm ns figures scratchLength = momentsAnswer figures
 answerTo CheckForm ns figures scratchLength = checkAnswer figures
+answerTo TubesForm ns figures scratchLength = ringAnswer ns figures
+answerTo ClosingForm ns figures scratchLength = closingAnswer ns figures
 answerTo NoForm ns figures scratchLength = printedRefusal noForm
 
 abbrev pub askedAnswer : Asked → ℕ → List ℕ
@@ -94,6 +111,8 @@ scratchAfterForm AreaForm ns figures scratch = askedAreaScratch (areaRequestOf n
 scratchAfterForm JoinForm ns figures scratch = scratch
 scratchAfterForm MomentsForm ns figures scratch = scratch
 scratchAfterForm CheckForm ns figures scratch = scratch
+scratchAfterForm TubesForm ns figures scratch = scratch
+scratchAfterForm ClosingForm ns figures scratch = scratch
 scratchAfterForm NoForm ns figures scratch = scratch
 
 abbrev pub scratchAfterAsked : Asked → List Float → List Float
@@ -115,6 +134,8 @@ requestAnswer AreaForm verdict ns figures scratchLength = answerTo AreaForm ns f
 requestAnswer JoinForm verdict ns figures scratchLength = answerTo JoinForm ns figures scratchLength
 requestAnswer MomentsForm verdict ns figures scratchLength = answerTo MomentsForm ns figures scratchLength
 requestAnswer CheckForm verdict ns figures scratchLength = answerTo CheckForm ns figures scratchLength
+requestAnswer TubesForm verdict ns figures scratchLength = answerTo TubesForm ns figures scratchLength
+requestAnswer ClosingForm verdict ns figures scratchLength = answerTo ClosingForm ns figures scratchLength
 requestAnswer NoForm verdict ns figures scratchLength = printedRefusal (whyRefused verdict)
 
 -- ---- what answering a line does, behind the n bytes at the start of `out`: where 320 more do not fit, nothing

@@ -7,7 +7,7 @@ ghost use lib.Dec.{leb};
 ghost use lib.ListN.{length};
 ghost use Rattle.texts.specs.Appended.{Appended};
 ghost use Rattle.tokens.specs.Tokens.{lineBytes};
-ghost use Rattle.lines.specs.Lines.{printedSet, printedArea, printedJoin, printedMoments, printedCheck, printedRefusal, answerOf, scratchAfterForm, scratchAfterLine, whyRefused, requestAnswer, Answers};
+ghost use Rattle.lines.specs.Lines.{printedSet, printedArea, printedJoin, printedRing, printedClosing, printedMoments, printedCheck, printedRefusal, answerOf, scratchAfterForm, scratchAfterLine, whyRefused, requestAnswer, Answers};
 use figures::Area;
 use figures::Figures;
 use forms::Form;
@@ -17,6 +17,7 @@ use moments::Moments;
 use refusals::Refusal;
 use refusals::Verdict;
 use templates::LINE_FIGURES;
+use tubes::ClosingRadius;
 
 // Most lines have no more bytes than this, and so no more figures: room for these is cleared in less time.
 const SHORT_LINE: usize = 512;
@@ -28,7 +29,7 @@ fn put_refusal(out: &mut [u8], n: usize, refusal: Refusal) -> usize
     answers::put_refused(out, n, refusals::number(refusal) as u64)
 }
 
-// The answer to a set, by its verdict; the next four likewise.
+// The answer to a set, by its verdict; the next six likewise.
 fn put_set(out: &mut [u8], n: usize, f: Figures) -> usize
     requires { ⌜ n + 320 ≤ length (now out) ⌝ }
     ensures { λ r. ⌜ Appended (now (out .entry)) n (printedSet (f .verdict) f) (now (out .exit)) r ⌝ }
@@ -68,6 +69,35 @@ fn put_joined(out: &mut [u8], n: usize, joined: Joined) -> usize
         Verdict::Accepted => {
             let numbers = joins::numbers(body);
             answers::put_joined(out, n, &numbers)
+        }
+        Verdict::Refused(refusal) => put_refusal(out, n, refusal),
+    }
+}
+
+fn put_ring(out: &mut [u8], n: usize, joined: Joined) -> usize
+    requires { ⌜ n + 320 ≤ length (now out) ⌝ }
+    ensures { λ r. ⌜ Appended (now (out .entry)) n (printedRing (joined .verdict) joined) (now (out .exit)) r ⌝ }
+{
+    let verdict = joined.verdict;
+    let body = joined.body;
+    match verdict {
+        Verdict::Accepted => {
+            let numbers = joins::numbers(body);
+            answers::put_ring(out, n, &numbers)
+        }
+        Verdict::Refused(refusal) => put_refusal(out, n, refusal),
+    }
+}
+
+fn put_closing(out: &mut [u8], n: usize, found: ClosingRadius) -> usize
+    requires { ⌜ n + 320 ≤ length (now out) ⌝ }
+    ensures { λ r. ⌜ Appended (now (out .entry)) n (printedClosing (found .verdict) found) (now (out .exit)) r ⌝ }
+{
+    let verdict = found.verdict;
+    match verdict {
+        Verdict::Accepted => {
+            let numbers = [found.radius_m];
+            answers::put_closing(out, n, &numbers)
         }
         Verdict::Refused(refusal) => put_refusal(out, n, refusal),
     }
@@ -124,6 +154,8 @@ fn answer_request(
         Form::Join => put_joined(out, n, requests::join_points(values)),
         Form::Moments => put_moments(out, n, requests::tensor_moments(values)),
         Form::Check => put_checked(out, n, requests::body_verdict(values)),
+        Form::Tubes => put_ring(out, n, requests::asked_ring(q, values)),
+        Form::Closing => put_closing(out, n, requests::asked_closing(q, values)),
         Form::NoForm => put_refusal(out, n, why_refused(verdict)),
     }
 }

@@ -15,11 +15,15 @@ use Rattle.planform_chords.specs.declared.ChordList.{ChordList}
 use Rattle.planform_chords.specs.PlanformChords.{chordList, endsAfter}
 use Rattle.fins.specs.declared.NumberedSet.{NumberedSet}
 use Rattle.fins.specs.declared.NumberedSet.the-variants.{Known as setKnown, Unknown as noSet}
+use Rattle.materials.specs.declared.NumberedDensity.{NumberedDensity}
+use Rattle.materials.specs.declared.NumberedDensity.the-variants.{Known as densityKnown, Unknown as noDensity}
+use Rattle.materials.specs.Numbered.{numberedDensity}
+use Rattle.tubes.specs.Tubes.{tubesOf}
 use Rattle.bodies.specs.declared.Body.{Body}
 use Rattle.bodies.specs.Tensors.{vector, zeroTensor, tensor}
 use Rattle.joins.specs.declared.Joined.{Joined}
 use Rattle.joins.specs.Flat.{bodyAt}
-use Rattle.joins.specs.Joins.{joinedOf}
+use Rattle.joins.specs.Joins.{joinedOf, refusedBody}
 use Rattle.moments.specs.declared.Moments.{Moments}
 use Rattle.moments.specs.Moments.{principalMomentsOf}
 use Rattle.body_check.specs.BodyCheck.{checkOf}
@@ -57,6 +61,25 @@ numberedChords noPlanform points h listLength = record { verdict = Refused NoFor
 unfoldable pub numberedEnds : NumberedPlanform → List Float → Float → List Float → List Float
 numberedEnds (planformKnown planform) points h ends = endsAfter planform points h ends
 numberedEnds noPlanform points h ends = ends
+
+-- ---- a ring of tubes (document 02, Paper 3): of length, outer radius, wall, base angle, body radius, density
+
+abbrev pub ringOfKnown : ℕ → NumberedDensity → List Float → Joined
+ringOfKnown count (densityKnown density) figures =
+    tubesOf
+    (record {
+      count = count;
+      «length_m» = at figures 0;
+      «outer_radius_m» = at figures 1;
+      «thickness_m» = at figures 2;
+      «base_angle_rad» = at figures 3;
+      density = density;
+    })
+    (at figures 4)
+ringOfKnown count noDensity figures = refusedBody NoForm
+
+unfoldable pub ringBy : ℕ → ℕ → List Float → Joined
+ringBy count density figures = cond (eqb (length figures) 6) (ringOfKnown count (numberedDensity density (at figures 5)) figures) (refusedBody NoForm)
 
 -- ---- points joined
 

@@ -1,4 +1,4 @@
--- What a set's and an area's line asks (docs/FORMS.md), of the line's counts and parts and of its figures, which stand in the order in which
+-- What a line asks (docs/FORMS.md), of its counts and parts and of its figures, which stand in the order in which
 -- the form names them.
 use mathlib.Core.List.{List}
 use Prim.Native.Nat.{ℕ, _+_, _-_, _*_}
@@ -9,11 +9,14 @@ use Rattle.planforms.specs.Numbered.{numberedPlanform}
 use Rattle.sections.specs.Numbered.{numberedSection}
 use Rattle.materials.specs.Numbered.{numberedDensity}
 use Rattle.fins.specs.Numbered.{numberedTab, numberedSet}
+use Rattle.joins.specs.declared.Joined.{Joined}
+use Rattle.tubes.specs.declared.ClosingRadius.{ClosingRadius}
+use Rattle.tubes.specs.Closing.{closingOf}
 use Rattle.figures.specs.declared.Area.{Area}
 use Rattle.figures.specs.declared.Figures.{Figures}
 use Rattle.requests.specs.declared.AreaRequest.{AreaRequest}
 use Rattle.requests.specs.declared.SetRequest.{SetRequest}
-use Rattle.requests.specs.Calls.{numberedFigures, numberedScratch, numberedArea, numberedAreaScratch}
+use Rattle.requests.specs.Calls.{numberedFigures, numberedScratch, numberedArea, numberedAreaScratch, ringBy}
 
 -- of the count or part k, counted from the form's last: its number, and how many figures stand up to its end
 abbrev pub number : List ℕ → ℕ → ℕ
@@ -63,3 +66,11 @@ askedArea q figures scratchLength = numberedArea (q .planform) (between 0 (q .po
 
 unfoldable pub askedAreaScratch : AreaRequest → List Float → List Float → List Float
 askedAreaScratch q figures scratch = numberedAreaScratch (q .planform) (between 0 (q .points) figures) (q .limit) scratch
+
+-- "(tubes (count N) (length F) (outer F) (wall F) (base F) (radius F) DENSITY)": count 1, density 0
+unfoldable pub askedRing : List ℕ → List Float → Joined
+askedRing ns figures = ringBy (number ns 1) (number ns 0) figures
+
+-- "(closing (count N) (radius F))": count 0
+unfoldable pub askedClosing : List ℕ → List Float → ClosingRadius
+askedClosing ns figures = closingOf (at figures 0) (number ns 0)

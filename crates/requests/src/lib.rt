@@ -1,5 +1,5 @@
 // What a line or a call asks by numbers, as the calls take it (docs/FORMS.md; include/delvouzh.h): a set, a planform, a planform's chords,
-// points to join, a tensor, a body.
+// a ring of tubes, points to join, a tensor, a body.
 //
 // A line's figures stand in a lent slice in the order of its form. Any numbers and any figures may be handed in: what they do not make up
 // is no form.
@@ -10,8 +10,8 @@ ghost use Rattle.floats.specs.Operations.{at};
 ghost use Rattle.joins.specs.Flat.{withBodies};
 ghost use Rattle.figures.specs.Figures.{refusedFigures};
 ghost use Rattle.figures.specs.Areas.{refusedArea};
-ghost use Rattle.requests.specs.Calls.{numberedFigures, numberedScratch, numberedArea, numberedAreaScratch, numberedChords, numberedEnds, pointBodyAt, joinedPointsOf, tensorMoments, bodyVerdict};
-ghost use Rattle.requests.specs.Requests.{between, setRequestOf, areaRequestOf, askedFigures, askedScratch, askedArea, askedAreaScratch};
+ghost use Rattle.requests.specs.Calls.{numberedFigures, numberedScratch, numberedArea, numberedAreaScratch, numberedChords, numberedEnds, ringBy, pointBodyAt, joinedPointsOf, tensorMoments, bodyVerdict};
+ghost use Rattle.requests.specs.Requests.{between, setRequestOf, areaRequestOf, askedRing, askedClosing, askedFigures, askedScratch, askedArea, askedAreaScratch};
 use bodies::Body;
 use bodies::Centre;
 use figures::Area;
@@ -19,11 +19,14 @@ use figures::Figures;
 use fins::NumberedSet;
 use forms::Request;
 use joins::Joined;
+use materials::NumberedDensity;
 use moments::Moments;
 use planform_chords::ChordList;
 use planforms::NumberedPlanform;
 use refusals::Refusal;
 use refusals::Verdict;
+use tubes::ClosingRadius;
+use tubes::TubeFinSet;
 
 // A set's limit, the set, and how many of the line's first figures are its planform's: an outline's points.
 pub struct SetRequest {
@@ -187,6 +190,30 @@ pub fn listed_chords(
     }
 }
 
+// A ring of tubes by six numbers: length, outer radius, wall, base angle, body radius, density; of another count, 18.
+pub fn ring_figures(count: usize, density: usize, numbers: &[f64]) -> Joined
+    ensures { λ r. ⌜ r ≡ ringBy count density (now (numbers .entry)) ⌝ }
+{
+    if numbers.len() != 6 {
+        return joins::refused(Refusal::NoForm);
+    }
+    let found = materials::numbered_density(density, numbers[5]);
+    match found {
+        NumberedDensity::Known(density) => tubes::mass_properties(
+            TubeFinSet {
+                count,
+                length_m: numbers[0],
+                outer_radius_m: numbers[1],
+                thickness_m: numbers[2],
+                base_angle_rad: numbers[3],
+                density,
+            },
+            numbers[4],
+        ),
+        NumberedDensity::Unknown => joins::refused(Refusal::NoForm),
+    }
+}
+
 // The principal moments of nine numbers; of another count, 18.
 pub fn tensor_moments(numbers: &[f64]) -> Moments
     ensures { λ r. ⌜ r ≡ tensorMoments (now (numbers .entry)) ⌝ }
@@ -232,6 +259,22 @@ pub fn asked_area(q: Request, values: &[f64], scratch: &mut [f64]) -> Area
     let planform = asked.planform;
     let points = between(values, 0, asked.points);
     area_figures(planform, points, asked.limit, scratch)
+}
+
+// The ring of tubes that a line asks.
+pub fn asked_ring(q: Request, values: &[f64]) -> Joined
+    ensures { λ r. ⌜ r ≡ askedRing (q .numbers) (now (values .entry)) ⌝ }
+{
+    let n = q.numbers;
+    ring_figures(n[3], n[1], values)
+}
+
+// The closing radius that a line asks.
+pub fn asked_closing(q: Request, values: &[f64]) -> ClosingRadius
+    ensures { λ r. ⌜ r ≡ askedClosing (q .numbers) (now (values .entry)) ⌝ }
+{
+    let n = q.numbers;
+    tubes::closing_radius_m(figure(values, 0), n[1])
 }
 
 // Point k of a line.

@@ -1,9 +1,10 @@
-//! hpr-design as far as fins, bodies and densities reach: the original files, and `reach` beside fins.rs.
+//! hpr-design as far as fins, tube fins, bodies and densities reach: the original files, and `reach` beside fins.rs.
 
 pub mod error;
 pub mod fins;
 pub mod mass;
 pub mod material;
+pub mod parts;
 pub mod shapes;
 
 /// What thiserror's `#[from]` writes.

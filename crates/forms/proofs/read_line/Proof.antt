@@ -187,20 +187,31 @@ returns-6 c =
     let s = w .before .before .before .before in
     rw (le-leb (length (now (s .args .line))) 4096 (w .before .if1 .left), ← w .word-of .ensures .word, sym (i1 .before .same-bytes .ensures) ∙ i1 .if2 .left, sym (i2 .before .same-bytes2 .ensures) ∙ i2 .if3 .left, sym (i3 .before .same-bytes3 .ensures) ∙ i3 .if4 .left, sym (i4 .before .same-bytes4 .ensures) ∙ i4 .if5 .left, sym (i5 .before .same-bytes5 .ensures) ∙ i5 .if6 .taken) (t .read-form5 .ensures)
 
-refused-requires-2 : tie.Need-refused-requires-2
-refused-requires-2 c κs = search needs
-
-returns-7 : tie.Need-returns-7
-unfolding lineAsked anyForm text codes
-returns-7 c =
+read-tube-form-requires : tie.Need-read-tube-form-requires
+read-tube-form-requires c κs =
     let i5 = c .before in
     let i4 = i5 .before .before .before in
     let i3 = i4 .before .before .before in
     let i2 = i3 .before .before .before in
     let i1 = i2 .before .before .before in
     let w = i1 .before .before .before .before in
+    (w .before .if1 .left, w .before .before .before .before .pre, w .word-of .ensures .word)
+
+same-length-6 : tie.Need-same-length-6
+same-length-6 c = search needs
+
+returns-7 : tie.Need-returns-7
+unfolding lineAsked anyForm text codes
+returns-7 c =
+    let t = c .before .before in
+    let i5 = t .before .before in
+    let i4 = i5 .before .before .before in
+    let i3 = i4 .before .before .before in
+    let i2 = i3 .before .before .before in
+    let i1 = i2 .before .before .before in
+    let w = i1 .before .before .before .before in
     let s = w .before .before .before .before in
-    no-form _ _ _ (c .refused2 .ensures) (rw (le-leb (length (now (s .args .line))) 4096 (w .before .if1 .left), ← w .word-of .ensures .word, sym (i1 .before .same-bytes .ensures) ∙ i1 .if2 .left, sym (i2 .before .same-bytes2 .ensures) ∙ i2 .if3 .left, sym (i3 .before .same-bytes3 .ensures) ∙ i3 .if4 .left, sym (i4 .before .same-bytes4 .ensures) ∙ i4 .if5 .left, sym (i5 .before .same-bytes5 .ensures) ∙ i5 .if6 .left))
+    rw (le-leb (length (now (s .args .line))) 4096 (w .before .if1 .left), ← w .word-of .ensures .word, sym (i1 .before .same-bytes .ensures) ∙ i1 .if2 .left, sym (i2 .before .same-bytes2 .ensures) ∙ i2 .if3 .left, sym (i3 .before .same-bytes3 .ensures) ∙ i3 .if4 .left, sym (i4 .before .same-bytes4 .ensures) ∙ i4 .if5 .left, sym (i5 .before .same-bytes5 .ensures) ∙ i5 .if6 .left) (t .read-tube-form .ensures)
 
 pub read-line-spec : {M : Type 1} → statement M
 read-line-spec =
@@ -242,5 +253,6 @@ read-line-spec =
     read-form-requires-5
     same-length-5
     returns-6
-    refused-requires-2
+    read-tube-form-requires
+    same-length-6
     returns-7)

@@ -3,10 +3,11 @@ use mathlib.Core.Path.{refl, sym, ap, _∙_}
 use Rattle.refusals.specs.declared.Refusal.{Refusal}
 use Rattle.refusals.specs.declared.Verdict.{Verdict}
 use Rattle.joins.specs.declared.Joined.{Joined}
+use Rattle.tubes.specs.declared.ClosingRadius.{ClosingRadius}
 use Rattle.moments.specs.declared.Moments.{Moments}
 use Rattle.figures.specs.declared.Figures.{Figures}
 use Rattle.figures.specs.declared.Area.{Area}
-use Rattle.lines.specs.Lines.{printedSet, printedArea, printedJoin, printedMoments, printedCheck, printedRefusal, setAnswer, areaAnswer, joinAnswer, momentsAnswer, checkAnswer}
+use Rattle.lines.specs.Lines.{printedSet, printedArea, printedJoin, printedRing, printedClosing, printedMoments, printedCheck, printedRefusal, setAnswer, areaAnswer, joinAnswer, ringAnswer, closingAnswer, momentsAnswer, checkAnswer}
 use Rattle.lines.proofs.Texts.{same-text}
 use borrow.Author.Needs.{needs}
 use Rattle.lines.proofs.answer_request.Statement.{statement}
@@ -59,6 +60,24 @@ put-checked-requires c κs = search needs
 
 enum-told-6 : tie.Need-enum-told-6
 enum-told-6 c = search needs
+
+asked-ring-requires : tie.Need-asked-ring-requires
+asked-ring-requires c κs = search needs
+
+put-ring-requires : tie.Need-put-ring-requires
+put-ring-requires c κs = search needs
+
+enum-told-7 : tie.Need-enum-told-7
+enum-told-7 c = search needs
+
+asked-closing-requires : tie.Need-asked-closing-requires
+asked-closing-requires c κs = search needs
+
+put-closing-requires : tie.Need-put-closing-requires
+put-closing-requires c κs = search needs
+
+enum-told-8 : tie.Need-enum-told-8
+enum-told-8 c = search needs
 
 why-refused-requires : tie.Need-why-refused-requires
 why-refused-requires c κs = search needs
@@ -128,9 +147,29 @@ same-length-8 : tie.Need-same-length-8
 same-length-8 c = search needs
 
 returns-6 : tie.Need-returns-6
+unfolding ringAnswer
 returns-6 c =
     let p = c .before .before in
     let e = p .before .before .before .enum-told6 .given .1 in
+    (rw e (same-text (ap (λ (j : Joined). printedRing (j .verdict) j) (p .before .asked-ring .ensures)) (p .put-ring .ensures)), rw e refl)
+
+same-length-9 : tie.Need-same-length-9
+same-length-9 c = search needs
+
+returns-7 : tie.Need-returns-7
+unfolding closingAnswer
+returns-7 c =
+    let p = c .before .before in
+    let e = p .before .before .before .enum-told7 .given .1 in
+    (rw e (same-text (ap (λ (r : ClosingRadius). printedClosing (r .verdict) r) (p .before .asked-closing .ensures)) (p .put-closing .ensures)), rw e refl)
+
+same-length-10 : tie.Need-same-length-10
+same-length-10 c = search needs
+
+returns-8 : tie.Need-returns-8
+returns-8 c =
+    let p = c .before .before in
+    let e = p .before .before .before .enum-told8 .given .1 in
     (rw e (same-text (ap printedRefusal (p .before .why-refused .ensures)) (p .put-refusal .ensures)), rw e refl)
 
 pub answer-request-spec : {M : Type 1} → statement M
@@ -153,6 +192,12 @@ answer-request-spec =
     body-verdict-requires
     put-checked-requires
     enum-told-6
+    asked-ring-requires
+    put-ring-requires
+    enum-told-7
+    asked-closing-requires
+    put-closing-requires
+    enum-told-8
     why-refused-requires
     put-refusal-requires
     same-length
@@ -168,4 +213,8 @@ answer-request-spec =
     same-length-7
     returns-5
     same-length-8
-    returns-6)
+    returns-6
+    same-length-9
+    returns-7
+    same-length-10
+    returns-8)

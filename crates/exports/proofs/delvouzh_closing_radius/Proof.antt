@@ -1,0 +1,57 @@
+-- `exports::delvouzh_closing_radius` meets its contract: there is no room, or the radius is written. Assumes nothing.
+use borrow.Author.Needs.{needs}
+use Rattle.exports.proofs.Lists.{one-written}
+use Rattle.exports.proofs.Calls.{few-figures, few-counts, closing-refused, closing-written}
+use Rattle.exports.proofs.delvouzh_closing_radius.Statement.{statement}
+use Rattle.exports.proofs.delvouzh_closing_radius.Tie as tie
+
+returns : tie.Need-returns
+returns c =
+    let a = c .before .before .before .args in
+    closing-refused _ _ _ _ (few-figures 1 (a .radius .now) 2 (a .values .now) (c .if1 .taken))
+
+returns-2 : tie.Need-returns-2
+returns-2 c =
+    let a = c .before .before .before .before .args in
+    closing-refused _ _ _ _ (few-counts 1 (a .radius .now) 2 (a .values .now) (c .before .if1 .left) (c .if2 .taken))
+
+closing-radius-m-requires : tie.Need-closing-radius-m-requires
+closing-radius-m-requires c κs = search needs
+
+slice-write-radius : tie.Need-slice-write-radius
+slice-write-radius c = search needs
+
+write-values-requires : tie.Need-write-values-requires
+write-values-requires c κs = search needs
+
+number-requires : tie.Need-number-requires
+number-requires c κs = search needs
+
+same-length : tie.Need-same-length
+same-length c = search needs
+
+same-length-2 : tie.Need-same-length-2
+same-length-2 c = search needs
+
+returns-3 : tie.Need-returns-3
+returns-3 c =
+    let w = c .before .before .before in
+    let f = w .before .before in
+    let k = f .before in
+    let h = k .before in
+    let a = h .before .before .before .args in
+    closing-written _ _ (a .radius .now) _ (h .if1 .left) (k .if2 .left) (f .closing-radius-m .result) _ _ _ (f .closing-radius-m .ensures) (one-written (a .radius .now) _ (h .if1 .left)) (w .write-values .ensures) (c .number .ensures)
+
+pub delvouzh-closing-radius-spec : {M : Type 1} → statement M
+delvouzh-closing-radius-spec =
+    tie.close
+    (tie.spec
+    returns
+    returns-2
+    closing-radius-m-requires
+    slice-write-radius
+    write-values-requires
+    number-requires
+    same-length
+    same-length-2
+    returns-3)

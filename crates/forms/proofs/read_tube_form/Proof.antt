@@ -1,0 +1,85 @@
+-- `forms::read_tube_form` meets its contract: the first row whose word is the line's. Assumes nothing.
+use mathlib.Core.Path.{sym, _∙_}
+use Rattle.tokens.specs.Text.{text, codes}
+use Rattle.forms.specs.Forms.{tubeForm}
+use Rattle.forms.proofs.NoForms.{no-form}
+use borrow.Author.Needs.{needs}
+use Rattle.forms.proofs.read_tube_form.Statement.{statement}
+use Rattle.forms.proofs.read_tube_form.Tie as tie
+
+slice-aggregate-same-bytes : tie.Need-slice-aggregate-same-bytes
+slice-aggregate-same-bytes c = search needs
+
+same-bytes-requires : tie.Need-same-bytes-requires
+same-bytes-requires c κs = search needs
+
+slice-aggregate-read-form : tie.Need-slice-aggregate-read-form
+slice-aggregate-read-form c = search needs
+
+read-form-requires : tie.Need-read-form-requires
+read-form-requires c κs = search needs
+
+same-length : tie.Need-same-length
+same-length c = search needs
+
+returns : tie.Need-returns
+unfolding tubeForm text codes
+returns c =
+    let t = c .before .before in
+    let i1 = t .before .before .before in
+    let s = i1 .before .before .before .before .before .before in
+    rw (← s .pre .2, sym (i1 .before .same-bytes .ensures) ∙ i1 .if1 .taken) (t .read-form .ensures)
+
+slice-aggregate-same-bytes-2 : tie.Need-slice-aggregate-same-bytes-2
+slice-aggregate-same-bytes-2 c = search needs
+
+same-bytes-requires-2 : tie.Need-same-bytes-requires-2
+same-bytes-requires-2 c κs = search needs
+
+slice-aggregate-read-form-2 : tie.Need-slice-aggregate-read-form-2
+slice-aggregate-read-form-2 c = search needs
+
+read-form-requires-2 : tie.Need-read-form-requires-2
+read-form-requires-2 c κs = search needs
+
+same-length-2 : tie.Need-same-length-2
+same-length-2 c = search needs
+
+returns-2 : tie.Need-returns-2
+unfolding tubeForm text codes
+returns-2 c =
+    let t = c .before .before in
+    let i2 = t .before .before .before in
+    let i1 = i2 .before .before .before in
+    let s = i1 .before .before .before .before .before .before in
+    rw (← s .pre .2, sym (i1 .before .same-bytes .ensures) ∙ i1 .if1 .left, sym (i2 .before .same-bytes2 .ensures) ∙ i2 .if2 .taken) (t .read-form2 .ensures)
+
+refused-requires : tie.Need-refused-requires
+refused-requires c κs = search needs
+
+returns-3 : tie.Need-returns-3
+unfolding tubeForm text codes
+returns-3 c =
+    let i2 = c .before in
+    let i1 = i2 .before .before .before in
+    let s = i1 .before .before .before .before .before .before in
+    no-form _ _ _ (c .refused .ensures) (rw (← s .pre .2, sym (i1 .before .same-bytes .ensures) ∙ i1 .if1 .left, sym (i2 .before .same-bytes2 .ensures) ∙ i2 .if2 .left))
+
+pub read-tube-form-spec : {M : Type 1} → statement M
+read-tube-form-spec =
+    tie.close
+    (tie.spec
+    slice-aggregate-same-bytes
+    same-bytes-requires
+    slice-aggregate-read-form
+    read-form-requires
+    same-length
+    returns
+    slice-aggregate-same-bytes-2
+    same-bytes-requires-2
+    slice-aggregate-read-form-2
+    read-form-requires-2
+    same-length-2
+    returns-2
+    refused-requires
+    returns-3)
