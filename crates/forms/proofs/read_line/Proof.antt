@@ -195,7 +195,7 @@ read-tube-form-requires c κs =
     let i2 = i3 .before .before .before in
     let i1 = i2 .before .before .before in
     let w = i1 .before .before .before .before in
-    (w .before .if1 .left, w .before .before .before .before .pre, w .word-of .ensures .word)
+    (w .before .if1 .left, w .before .before .before .before .pre (w .before .if1 .left), w .word-of .ensures .word)
 
 same-length-6 : tie.Need-same-length-6
 same-length-6 c = search needs
