@@ -44,7 +44,8 @@ extern "C" {
 
 #define DELVOUZH_SQUARE 1
 #define DELVOUZH_ROUNDED 2
-#define DELVOUZH_AIRFOIL 3
+#define DELVOUZH_AIRFOIL 3      /* its tail ends in a point */
+#define DELVOUZH_AIRFOIL_OPEN 4 /* its tail is open */
 
 #define DELVOUZH_NO_TAB 0
 #define DELVOUZH_TAB 1

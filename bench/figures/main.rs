@@ -170,7 +170,7 @@ fn heading(what: &str) {
     );
 }
 
-const SECTIONS: [&str; 3] = ["square", "rounded", "airfoil"];
+const SECTIONS: [&str; 4] = ["square", "rounded", "airfoil", "airfoil-open"];
 
 /// The limit of every table but the last; enough for all these sets.
 const LIMIT: usize = 500;

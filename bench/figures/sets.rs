@@ -60,6 +60,7 @@ fn on(r: &mut Random, section: usize, number: usize, lengths: Vec<f64>, planform
         FinCrossSection::Square,
         FinCrossSection::Rounded,
         FinCrossSection::Airfoil,
+        FinCrossSection::AirfoilOpen,
     ];
     let rust = FinSet {
         count: 3 + r.below(4) as u32,

@@ -55,6 +55,7 @@ pub enum Section {
     Square,
     Rounded,
     Airfoil,
+    AirfoilOpen,
 }
 
 #[derive(Clone, Copy)]
@@ -251,6 +252,7 @@ impl<'l> Reader<'_, 'l> {
             b"square" => Section::Square,
             b"rounded" => Section::Rounded,
             b"airfoil" => Section::Airfoil,
+            b"airfoil-open" => Section::AirfoilOpen,
             _ => return None,
         };
         self.close()?;

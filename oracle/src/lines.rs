@@ -157,11 +157,12 @@ pub fn section_word(section: Section) -> &'static str {
         Section::Square => "square",
         Section::Rounded => "rounded",
         Section::Airfoil => "airfoil",
+        Section::AirfoilOpen => "airfoil-open",
     }
 }
 
 pub fn section(r: &mut Random) -> Section {
-    r.pick(&[Section::Square, Section::Rounded, Section::Airfoil])
+    r.pick(&[Section::Square, Section::Rounded, Section::Airfoil, Section::AirfoilOpen])
 }
 
 fn limit(r: &mut Random) -> String {

@@ -82,7 +82,7 @@ impl<'a> Words<'a> {
 
     fn section(&mut self) -> Option<Section> {
         let word = self.word()?;
-        [Section::Square, Section::Rounded, Section::Airfoil]
+        [Section::Square, Section::Rounded, Section::Airfoil, Section::AirfoilOpen]
             .into_iter()
             .find(|&s| section_word(s) == word)
     }

@@ -301,6 +301,7 @@ pub fn rust_section(section: Section) -> FinCrossSection {
         Section::Square => FinCrossSection::Square,
         Section::Rounded => FinCrossSection::Rounded,
         Section::Airfoil => FinCrossSection::Airfoil,
+        Section::AirfoilOpen => FinCrossSection::AirfoilOpen,
     }
 }
 

@@ -33,7 +33,10 @@ pub enum Planform<'a> {
 pub enum Section {
     Square,
     Rounded,
+    /// NACA's four-digit thickness with a closed tail, which ends in a point.
     Airfoil,
+    /// The same with an open tail.
+    AirfoilOpen,
 }
 
 /// A rectangular tab below each root.
@@ -406,6 +409,7 @@ impl Section {
             Self::Square => raw::SQUARE,
             Self::Rounded => raw::ROUNDED,
             Self::Airfoil => raw::AIRFOIL,
+            Self::AirfoilOpen => raw::AIRFOIL_OPEN,
         }
     }
 }

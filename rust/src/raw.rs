@@ -7,6 +7,7 @@ pub const OUTLINE: usize = 3;
 pub const SQUARE: usize = 1;
 pub const ROUNDED: usize = 2;
 pub const AIRFOIL: usize = 3;
+pub const AIRFOIL_OPEN: usize = 4;
 
 pub const NO_TAB: usize = 0;
 pub const TAB: usize = 1;

@@ -81,6 +81,10 @@ fn each_section_and_tab_changes_the_mass() {
         section: Section::Airfoil,
         ..set(TRAPEZOID)
     });
+    let open = mass(FinSet {
+        section: Section::AirfoilOpen,
+        ..set(TRAPEZOID)
+    });
     let tab = Tab {
         height_m: 0.01,
         length_m: 0.1,
@@ -90,7 +94,10 @@ fn each_section_and_tab_changes_the_mass() {
         tab: Some(tab),
         ..set(TRAPEZOID)
     });
-    assert!(airfoil < rounded && rounded < square);
+    assert!(rounded < square);
+    // a chord's share of the slab: PHI of the closed and of the open tail
+    assert!(near(airfoil, square * 40853.0 / 60000.0));
+    assert!(near(open, square * 8221.0 / 12000.0));
     assert!(near(tabbed - square, 3.0 * 680.0 * 0.003 * 0.01 * 0.1));
 }
 

@@ -20,7 +20,7 @@ unfoldable pub planform : Reading → Reading
 planform r = oneOf (text "(trapezoid F F F F)" ∷ text "(ellipse F F)" ∷ text "(outline F..)" ∷ []) r
 
 unfoldable pub section : Reading → Reading
-section r = oneOf (text "square" ∷ text "rounded" ∷ text "airfoil" ∷ []) r
+section r = oneOf (text "square" ∷ text "rounded" ∷ text "airfoil" ∷ text "airfoil-open" ∷ []) r
 
 unfoldable pub tab : Reading → Reading
 tab r = optional (text "(tab F F F)" ∷ []) r

@@ -67,7 +67,7 @@ fn take_part(line: &[u8], c: Cursor, name: &[u8], values: &mut [f64]) -> Cursor
         );
     }
     if same_bytes(name, b"SECTION") {
-        return templates::take_one_of(line, c, b"square|rounded|airfoil", values);
+        return templates::take_one_of(line, c, b"square|rounded|airfoil|airfoil-open", values);
     }
     if same_bytes(name, b"TAB") {
         return templates::take_optional(line, c, b"(tab F F F)", values);

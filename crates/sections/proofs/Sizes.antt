@@ -3,15 +3,15 @@ use mathlib.Core.List.{List, [], _∷_}
 use mathlib.Core.Bool.{Bool, true, false, cond}
 use Prim.Native.Nat.{ℕ}
 use lib.Dec.{lit≤}
-use lib.Ieee.{Float, ofBits, le, round, ofInt, add, sub, mul, div, neg, sum, size, units, odd, span, climb}
+use lib.Ieee.{Float, ofBits, le, round, size, units, odd, span, climb}
 use Rattle.floats.specs.Operations.{_⊖_, _⊗_, bits, at, tabulate}
 use Rattle.floats.specs.Constants.{half, two, three, twelve, pi}
 use Rattle.floats.specs.Floats.{minOf}
-use Rattle.sections.specs.Airfoil.{naca, airfoilPhi, phi, airfoilPsi}
+use Rattle.sections.specs.Airfoil.{closedTail, openTail, airfoilConstants}
 use lib.Count.{trailingZeros}
 use Rattle.sections.specs.ChordMoments.{squareMoments, slabMoments, roundedMoments, naca4Moments, sectionMoments, chordMoments}
 use Rattle.sections.specs.declared.Section.{Section}
-use Rattle.sections.specs.declared.Section.the-variants.{Square, Rounded, Airfoil}
+use Rattle.sections.specs.declared.Section.the-variants.{Square, Rounded, Airfoil, AirfoilOpen}
 use Rattle.rounding.specs.Sizes.{Below, Above}
 use Rattle.rounding.proofs.Sizes.{zero-below, half-below, mul-below, sub-below, min-below, weaker}
 use Rattle.rounding.proofs.Terms.{Term, given, _plus_, _less_, _times_, _over_, within}
@@ -109,10 +109,10 @@ rounded-below a b c t ha hb hc ht =
     let m = min-below t c 137 (weaker t 26 137 (lit≤ tt) ht) hc in
     slab-below a b c (minOf t c) (half ⊗ minOf t c) ha hb hc m (mul-below half (minOf t c) 0 137 (lit≤ tt) half-below m)
 
--- ---- the airfoil: operands a, c, t, p0, p1, p2, psi, two
-naca-below : (a c t p0 p1 p2 psi : Float) → Below 136 a → Below 137 c → Below 26 t → Below 0 p0 → Below 0 p1 → Below 0 p2 → Below 0 psi → FourBelow 556 (naca4Moments a c t p0 p1 p2 psi)
-naca-below a c t p0 p1 p2 psi ha hc ht h0 h1 h2 hs =
-    let up-to = within (136 ∷ 137 ∷ 26 ∷ 0 ∷ 0 ∷ 0 ∷ 0 ∷ 1 ∷ []) (0 ∷ []) (a ∷ c ∷ t ∷ p0 ∷ p1 ∷ p2 ∷ psi ∷ two ∷ []) (twelve ∷ []) (ha, (hc, (ht, (h0, (h1, (h2, (hs, (two-below, tt)))))))) (twelve-above, tt) in (
+-- ---- the airfoils, of any four constants k at most 1: operands a, c, t, PHI, PSI, two
+naca-below : (k : List Float) (a c t : Float) → FourBelow 0 k → Below 136 a → Below 137 c → Below 26 t → FourBelow 556 (naca4Moments k a c t)
+naca-below k a c t (h0, (h1, (h2, hs))) ha hc ht =
+    let up-to = within (136 ∷ 137 ∷ 26 ∷ 0 ∷ 0 ∷ 0 ∷ 0 ∷ 1 ∷ []) (0 ∷ []) (a ∷ c ∷ t ∷ at k 0 ∷ at k 1 ∷ at k 2 ∷ at k 3 ∷ two ∷ []) (twelve ∷ []) (ha, (hc, (ht, (h0, (h1, (h2, (hs, (two-below, tt)))))))) (twelve-above, tt) in (
       up-to (given 2 times given 1 times given 3) 556 tt,
       (
         up-to (given 2 times (given 0 times given 1 times given 3 plus given 1 times given 1 times given 4)) 556 tt,
@@ -123,22 +123,14 @@ naca-below a c t p0 p1 p2 psi ha hc ht h0 h1 h2 hs =
       ),
     )
 
--- ---- the constants of the airfoil
-phi-zero-below : Below 0 (at (airfoilPhi naca) 0)
-unfolding airfoilPhi phi airfoilPsi ofInt round size units odd add sub mul div neg sum trailingZeros span climb
-phi-zero-below = record { finite = tt; size = lit≤ tt }
+-- ---- the constants of either tail
+closed-below : FourBelow 0 (airfoilConstants closedTail)
+unfolding airfoilConstants round size units odd trailingZeros span climb
+closed-below = (record { finite = tt; size = lit≤ tt }, (record { finite = tt; size = lit≤ tt }, (record { finite = tt; size = lit≤ tt }, record { finite = tt; size = lit≤ tt })))
 
-phi-one-below : Below 0 (at (airfoilPhi naca) 1)
-unfolding airfoilPhi phi airfoilPsi ofInt round size units odd add sub mul div neg sum trailingZeros span climb
-phi-one-below = record { finite = tt; size = lit≤ tt }
-
-phi-two-below : Below 0 (at (airfoilPhi naca) 2)
-unfolding airfoilPhi phi airfoilPsi ofInt round size units odd add sub mul div neg sum trailingZeros span climb
-phi-two-below = record { finite = tt; size = lit≤ tt }
-
-psi-below : Below 0 (airfoilPsi naca)
-unfolding airfoilPhi phi airfoilPsi ofInt round size units odd add sub mul div neg sum trailingZeros span climb
-psi-below = record { finite = tt; size = lit≤ tt }
+open-below : FourBelow 0 (airfoilConstants openTail)
+unfolding airfoilConstants round size units odd trailingZeros span climb
+open-below = (record { finite = tt; size = lit≤ tt }, (record { finite = tt; size = lit≤ tt }, (record { finite = tt; size = lit≤ tt }, record { finite = tt; size = lit≤ tt })))
 
 -- ---- any section
 pub chord-moments-below : (section : Section) (a b t : Float) → Below 136 a → Below 136 b → Below 26 t → FourBelow 556 (chordMoments section a b t)
@@ -158,4 +150,5 @@ chord-moments-below section a b t ha hb ht = either (le (b ⊖ a) (bits 0)) (sec
     of : (section : Section) → FourBelow 556 (sectionMoments section a b (b ⊖ a) t)
     of Square = square-below a b (b ⊖ a) t ha hb hc ht
     of Rounded = rounded-below a b (b ⊖ a) t ha hb hc ht
-    of Airfoil = naca-below a (b ⊖ a) t _ _ _ _ ha hc ht phi-zero-below phi-one-below phi-two-below psi-below
+    of Airfoil = naca-below (airfoilConstants closedTail) a (b ⊖ a) t closed-below ha hc ht
+    of AirfoilOpen = naca-below (airfoilConstants openTail) a (b ⊖ a) t open-below ha hc ht

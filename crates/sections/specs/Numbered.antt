@@ -1,10 +1,14 @@
--- A section by its number: its place in docs/FORMS.md, "square, rounded or airfoil" (include/delvouzh.h).
+-- A section by its number: its place in docs/FORMS.md, "square, rounded, airfoil or airfoil-open" (include/delvouzh.h).
 use mathlib.Core.Bool.{cond}
 use Prim.Native.Nat.{ℕ}
 use lib.Dec.{eqb}
-use Rattle.sections.specs.declared.Section.the-variants.{Square, Rounded, Airfoil}
+use Rattle.sections.specs.declared.Section.the-variants.{Square, Rounded, Airfoil, AirfoilOpen}
 use Rattle.sections.specs.declared.NumberedSection.{NumberedSection}
 use Rattle.sections.specs.declared.NumberedSection.the-variants.{Known, Unknown}
 
 unfoldable pub numberedSection : ℕ → NumberedSection
-numberedSection number = cond (eqb number 1) (Known Square) (cond (eqb number 2) (Known Rounded) (cond (eqb number 3) (Known Airfoil) Unknown))
+numberedSection number =
+    cond (eqb number 1) (Known Square)
+    (cond (eqb number 2) (Known Rounded)
+    (cond (eqb number 3) (Known Airfoil)
+    (cond (eqb number 4) (Known AirfoilOpen) Unknown)))

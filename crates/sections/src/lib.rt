@@ -7,20 +7,21 @@
 //     rounded: a slab min(t, width) thick, less what semicircular edges of half that as radius take away
 //     airfoil: t(x) = 10·t·P(ξ), ξ from 0 to 1 along the chord, P the NACA four-digit thickness polynomial
 //
-//     P(x) = 0.2969·√x − 0.1260·x − 0.3516·x² + 0.2843·x³ − 0.1015·x⁴
+//     P(x) = 0.2969·√x − 0.1260·x − 0.3516·x² + 0.2843·x³ − e·x⁴
 //
-// PHI is 10·∫₀¹ x^j·P dx for j = 0, 1, 2, and PSI is 1000·∫₀¹ P³ dx. Document 01, "Stand-ins": PHI is worked in the order
-// written, so that it is a few last bits off the nearest f64; PSI is the nearest f64 to its fraction.
+// The tail is closed with e = 0.1036, where P(1) = 0, and open with document 01's e = 0.1015 (document 02, Paper 7). PHI is
+// 10·∫₀¹ x^j·P dx for j = 0, 1, 2, and PSI is 1000·∫₀¹ P³ dx, each the f64 nearest to its fraction.
 ghost use mathlib.Core.Path.{_≡_};
-ghost use Rattle.sections.specs.Airfoil.{naca, airfoilPhi, airfoilPsi};
-ghost use Rattle.sections.specs.ChordMoments.{chordMoments, squareMoments, roundedMoments, airfoilMoments};
+ghost use Rattle.sections.specs.Airfoil.{closedTail, openTail, airfoilConstants};
+ghost use Rattle.sections.specs.ChordMoments.{chordMoments, squareMoments, roundedMoments, naca4Moments, tailOf};
 ghost use Rattle.sections.specs.Numbered.{numberedSection};
 
-// The shape of a fin's section along its chord (fins.rs, `FinCrossSection`).
+// The shape of a fin's section along its chord (fins.rs, `FinCrossSection`), the airfoil's tail closed or open.
 pub enum Section {
     Square,
     Rounded,
     Airfoil,
+    AirfoilOpen,
 }
 
 // A section by its number, where there is one.
@@ -29,7 +30,7 @@ pub enum NumberedSection {
     Unknown,
 }
 
-// 1 square, 2 rounded, 3 airfoil.
+// 1 square, 2 rounded, 3 airfoil, 4 airfoil-open.
 pub fn numbered_section(number: usize) -> NumberedSection
     ensures { λ r. ⌜ r ≡ numberedSection number ⌝ }
 {
@@ -41,6 +42,9 @@ pub fn numbered_section(number: usize) -> NumberedSection
     }
     if number == 3 {
         return NumberedSection::Known(Section::Airfoil);
+    }
+    if number == 4 {
+        return NumberedSection::Known(Section::AirfoilOpen);
     }
     NumberedSection::Unknown
 }
@@ -58,7 +62,7 @@ pub fn chord_moments(section: Section, a: f64, b: f64, t: f64) -> [f64; 4]
     match section {
         Section::Square => square_moments(a, b, c, t),
         Section::Rounded => rounded_moments(a, b, c, t),
-        Section::Airfoil => airfoil_moments(a, c, t),
+        Section::Airfoil | Section::AirfoilOpen => airfoil_moments(tail(section), a, c, t),
     }
 }
 
@@ -95,39 +99,53 @@ fn rounded_moments(a: f64, b: f64, c: f64, t: f64) -> [f64; 4]
     ]
 }
 
-fn airfoil_moments(a: f64, c: f64, t: f64) -> [f64; 4]
-    ensures { λ r. ⌜ r ≡ airfoilMoments a c t ⌝ }
+// k holds the section's constants, PHI and then PSI.
+fn airfoil_moments(k: [f64; 4], a: f64, c: f64, t: f64) -> [f64; 4]
+    ensures { λ r. ⌜ r ≡ naca4Moments k a c t ⌝ }
 {
-    let phi = airfoil_phi();
-    let p0 = phi[0];
-    let p1 = phi[1];
-    let p2 = phi[2];
+    let p0 = k[0];
+    let p1 = k[1];
+    let p2 = k[2];
+    let psi = k[3];
     [
         t * c * p0,
         t * (a * c * p0 + c * c * p1),
         t * (a * a * c * p0 + 2.0 * a * c * c * p1 + floats::powi3(c) * p2),
-        floats::powi3(t) * c * airfoil_psi() / 12.0,
+        floats::powi3(t) * c * psi / 12.0,
     ]
 }
 
-const AIRFOIL_PHI: [f64; 3] = [
-    10.0 * (0.2969 * 2.0 / 3.0 - 0.1260 / 2.0 - 0.3516 / 3.0 + 0.2843 / 4.0 - 0.1015 / 5.0),
-    10.0 * (0.2969 * 2.0 / 5.0 - 0.1260 / 3.0 - 0.3516 / 4.0 + 0.2843 / 5.0 - 0.1015 / 6.0),
-    10.0 * (0.2969 * 2.0 / 7.0 - 0.1260 / 4.0 - 0.3516 / 5.0 + 0.2843 / 6.0 - 0.1015 / 7.0),
-];
-
-const AIRFOIL_PSI: f64 = 0.472_889_488_894_451_523_708_489_652_762;
-
-// The thickness moments of the airfoil section, by the power of x.
-pub fn airfoil_phi() -> [f64; 3]
-    ensures { λ r. ⌜ r ≡ airfoilPhi naca ⌝ }
+// The constants of a section's tail. One call serves both airfoils, so that the code of a chord stays short enough to stand in the rule's
+// loop; no other section asks.
+fn tail(section: Section) -> [f64; 4]
+    ensures { λ r. ⌜ r ≡ airfoilConstants (tailOf section) ⌝ }
 {
-    AIRFOIL_PHI
+    match section {
+        Section::Square | Section::Rounded | Section::Airfoil => closed_tail(),
+        Section::AirfoilOpen => open_tail(),
+    }
 }
 
-// The moment of the airfoil section's cubed thickness.
-pub fn airfoil_psi() -> f64
-    ensures { λ r. ⌜ r ≡ airfoilPsi naca ⌝ }
+// The constants of the closed tail. Both sides of each fraction are whole numbers below 2^53, so that one division rounds it to the nearest.
+pub fn closed_tail() -> [f64; 4]
+    ensures { λ r. ⌜ r ≡ airfoilConstants closedTail ⌝ }
 {
-    AIRFOIL_PSI
+    [
+        40853.0 / 60000.0,
+        1067.0 / 3750.0,
+        32743.0 / 210000.0,
+        152164422844893.0 / 323323000000000.0,
+    ]
+}
+
+// The constants of the open tail.
+pub fn open_tail() -> [f64; 4]
+    ensures { λ r. ⌜ r ≡ airfoilConstants openTail ⌝ }
+{
+    [
+        8221.0 / 12000.0,
+        8641.0 / 30000.0,
+        33373.0 / 210000.0,
+        611584192871283.0 / 1293292000000000.0,
+    ]
 }

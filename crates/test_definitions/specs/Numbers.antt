@@ -9,7 +9,7 @@ use Rattle.floats.specs.Constants.{one, two}
 use Rattle.floats.specs.Floats.{isFinite, absOf, minOf, maxOf, square, cube, fourth, fifth}
 use Rattle.root.specs.Root.{nearRoot, rootOf}
 use Rattle.trig.specs.Trig.{mOf, quarterTurns, sinCosOf, sinOf, cosOf}
-use Rattle.sections.specs.Airfoil.{naca, phi, airfoilPhi, airfoilPsi}
+use Rattle.sections.specs.Airfoil.{closedTail, openTail, airfoilConstants}
 use Rattle.hex.specs.declared.Figure.{Figure}
 use Rattle.hex.specs.declared.Figure.the-variants.{Number, NotFigure}
 use Rattle.hex.specs.Hex as hex
@@ -93,14 +93,13 @@ four-quarters =
     && are (sinOf (bits 0x4014_0000_0000_0000) ∷ cosOf (bits 0x4014_0000_0000_0000) ∷ []) (0xbfee_af81_f5e0_9933 ∷ 0x3fd2_2785_706b_4ada ∷ [])
     && are (sinOf (neg one) ∷ cosOf (neg one) ∷ []) (0xbfea_ed54_8f09_0cee ∷ 0x3fe1_4a28_0fb5_068c ∷ [])
 
--- ---- the airfoil's constants
+-- ---- the airfoils' constants
 
--- the open tail's 0.1015, in the order written; with 0.1036 the first is 3fe5c9cbd821dc38
-abbrev pub phi-as-written : Bool
-phi-as-written = are (airfoilPhi naca) (0x3fe5_ec33_e1f6_7150 ∷ 0x3fd2_6f23_5cb4_c526 ∷ 0x3fc4_5775_981e_1d87 ∷ [])
-
-abbrev pub psi-nearest : Bool
-psi-nearest = is (airfoilPsi naca) 0x3fde_43d2_465b_1ff1
+-- 0.1036, the closed tail, and 0.1015, the open one, each rounded once; in document 01's rounded steps the first three end in 38, 53, 8b and 50, 26, 87
+abbrev pub airfoil-constants : Bool
+airfoil-constants =
+    are (airfoilConstants closedTail) (0x3fe5_c9cb_d821_dc3a ∷ 0x3fd2_35cb_4c52_7755 ∷ 0x3fc3_f527_c52c_738c ∷ 0x3fde_1ebf_45da_60e0 ∷ [])
+    && are (airfoilConstants openTail) (0x3fe5_ec33_e1f6_7153 ∷ 0x3fd2_6f23_5cb4_c527 ∷ 0x3fc4_5775_981e_1d88 ∷ 0x3fde_43d2_465b_1ff1 ∷ [])
 
 -- ---- texts
 
@@ -154,10 +153,9 @@ pub numbers-hold :
     && root-rounded
     && halves-away-from-zero
     && four-quarters
-    && phi-as-written
-    && psi-nearest
+    && airfoil-constants
     && lowercase-digits
     && printed-figures
     && decimal-counts)
-unfolding ofBits toBits ofInt round add sub mul div neg lt le eq ne isNan absOf rootOf nearRoot mOf sinCosOf phi airfoilPhi airfoilPsi hex.figureOf hex.readDigits hex.digits hex.figureText counts.countOf counts.readDigits counts.digits counts.countText
+unfolding ofBits toBits ofInt round add sub mul div neg lt le eq ne isNan absOf rootOf nearRoot mOf sinCosOf airfoilConstants hex.figureOf hex.readDigits hex.digits hex.figureText counts.countOf counts.readDigits counts.digits counts.countText
 numbers-hold = tt

@@ -15,8 +15,8 @@ use Rattle.chords.specs.Chords.{crossed, crossings, outlineCrossings, endsAt, p
 use Rattle.segments.specs.declared.Point.{Point}
 use Rattle.segments.specs.declared.Segment.{Segment}
 use Rattle.segments.specs.Segments.{isInBox, segmentsTouch}
-use Rattle.sections.specs.declared.Section.the-variants.{Square, Rounded, Airfoil}
-use Rattle.sections.specs.Airfoil.{phi, airfoilPhi, airfoilPsi}
+use Rattle.sections.specs.declared.Section.the-variants.{Square, Rounded, Airfoil, AirfoilOpen}
+use Rattle.sections.specs.Airfoil.{airfoilConstants}
 use Rattle.sections.specs.ChordMoments.{chordMoments}
 use Rattle.integrands.specs.Integrands.{scaleOf, sumsFrom, sampleOf, areaOf, plateOf}
 use Rattle.test_definitions.specs.Rows.{is, are}
@@ -104,7 +104,8 @@ abbrev pub section-moments : Bool
 section-moments =
     are (chordMoments Square (bits d1) (bits d4) (bits d05)) (0x3f8e_b851_eb85_1eba ∷ 0x3f6e_b851_eb85_1eba ∷ 0x3f51_3404_ea4a_8c17 ∷ 0x3eca_36e2_eb1c_4330 ∷ [])
     && are (chordMoments Rounded (bits d1) (bits d4) (bits d05)) (0x3f8d_9f09_7e1f_6362 ∷ 0x3f6d_9f09_7e1f_6362 ∷ 0x3f50_7865_9ff1_bca4 ∷ 0x3ec8_6b3e_bc94_6e08 ∷ [])
-    && are (chordMoments Airfoil (bits d1) (bits d4) (bits d05)) (0x3f85_0bb6_ed67_7706 ∷ 0x3f63_094f_341a_b9bf ∷ 0x3f42_e44f_a673_fedc ∷ 0x3eb8_cb03_e95a_9fb5 ∷ [])
+    && are (chordMoments Airfoil (bits d1) (bits d4) (bits d05)) (0x3f84_eaaf_35e3_10dd ∷ 0x3f62_db11_332e_2ab7 ∷ 0x3f42_a2a0_da6e_2c60 ∷ 0x3eb8_aca4_e1fa_935d ∷ [])
+    && are (chordMoments AirfoilOpen (bits d1) (bits d4) (bits d05)) (0x3f85_0bb6_ed67_7709 ∷ 0x3f63_094f_341a_b9c1 ∷ 0x3f42_e44f_a673_fedd ∷ 0x3eb8_cb03_e95a_9fb5 ∷ [])
     && are (chordMoments Square (bits d4) (bits d1) (bits d05)) (0 ∷ 0 ∷ 0 ∷ 0 ∷ [])
 
 -- at the scaled height 0.25, with one chord and with two: "an area run uses three of the seven, the rest zero"
@@ -122,5 +123,5 @@ plate-values =
     (0x3f8a_1f58_d0fa_c68a ∷ 0x3f70_cb02_3d33_7fa2 ∷ 0x3f55_974c_058b_5af6 ∷ 0x3f6d_daae_a5b0_e2e7 ∷ 0x3f54_de2b_4dee_d67a ∷ 0x3f53_3127_215f_6d4c ∷ 0x3ec0_608e_9e2f_4c33 ∷ [])
 
 pub shapes-hold : T (sorted-lists && outline-lengths && break-heights && touching-segments && section-moments && area-values && plate-values)
-unfolding ofBits toBits ofInt round add sub mul div neg lt le eq ne absOf belowAll insert sorted largestHeight rootChordOf spanOf heights everyY once breakHeights oneStrip crossed crossings outlineCrossings endsAt paired isInBox segmentsTouch phi airfoilPhi airfoilPsi chordMoments scaleOf sumsFrom sampleOf areaOf plateOf
+unfolding ofBits toBits ofInt round add sub mul div neg lt le eq ne absOf belowAll insert sorted largestHeight rootChordOf spanOf heights everyY once breakHeights oneStrip crossed crossings outlineCrossings endsAt paired isInBox segmentsTouch airfoilConstants chordMoments scaleOf sumsFrom sampleOf areaOf plateOf
 shapes-hold = tt

@@ -124,7 +124,8 @@ pub(crate) fn take_text(line: &[u8], c: Cursor, template: &[u8], values: &mut [f
     s
 }
 
-fn with_number(c: Cursor, number: usize) -> Cursor
+// The same place, with a number.
+pub(crate) fn with_number(c: Cursor, number: usize) -> Cursor
     ensures { λ r. ⌜ (r .at ≡ c .at) × (r .figures ≡ c .figures) ⌝ }
 {
     Cursor {

@@ -13,17 +13,30 @@ use sections::Section;
 use segments::Point;
 use segments::Segment;
 
+// The section's word, and its number.
+fn take_word(line: &[u8], c: Cursor, values: &mut [f64]) -> Cursor
+    requires { ⌜ Reached (now line) c × (lineFigures ≤ length (now values)) ⌝ }
+    ensures { λ r. ⌜ Reached (now (line .entry)) r × (c .figures ≤ r .figures) ⌝ }
+{
+    let three = reading::take_one_of(line, c, b"square", b"rounded", b"airfoil", values);
+    if three.ok {
+        return three;
+    }
+    let open = reading::take_text(line, c, b"airfoil-open", values);
+    reading::with_number(open, 4)
+}
+
 // A line's first word, its section, and what stands behind it.
 pub(crate) fn take_section(line: &[u8], word: &[u8], behind: &[u8], values: &mut [f64]) -> Cursor
     requires { ⌜ (length (now line) ≤ lineBytes) × (lineFigures ≤ length (now values)) ⌝ }
     ensures { λ r. ⌜ Reached (now (line .entry)) r ⌝ }
 {
     let begun = lines::begins(line, word, values);
-    let section = reading::take_one_of(line, begun, b"square", b"rounded", b"airfoil", values);
+    let section = take_word(line, begun, values);
     reading::take_text(line, section, behind, values)
 }
 
-// The section of a number that a line has: one of the three.
+// The section of a number that a line has: one of the four.
 pub(crate) fn section_of(number: usize) -> Section {
     match sections::numbered_section(number) {
         NumberedSection::Known(section) => section,
