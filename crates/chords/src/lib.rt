@@ -65,7 +65,13 @@ fn in_span(span_m: f64, h: f64) -> bool
     0.0 <= h && h <= span_m
 }
 
-fn trapezoid_chord(root_chord_m: f64, tip_chord_m: f64, span_m: f64, sweep_m: f64, h: f64) -> Chords
+pub fn trapezoid_chord(
+    root_chord_m: f64,
+    tip_chord_m: f64,
+    span_m: f64,
+    sweep_m: f64,
+    h: f64,
+) -> Chords
     ensures { λ r. ⌜ r ≡ chordsOf (trapezoidEnds «root_chord_m» «tip_chord_m» «span_m» «sweep_m» h) ⌝ }
 {
     if !in_span(span_m, h) {
@@ -79,7 +85,7 @@ fn trapezoid_chord(root_chord_m: f64, tip_chord_m: f64, span_m: f64, sweep_m: f6
     }
 }
 
-fn ellipse_chord(root_chord_m: f64, span_m: f64, h: f64) -> Chords
+pub fn ellipse_chord(root_chord_m: f64, span_m: f64, h: f64) -> Chords
     ensures { λ r. ⌜ r ≡ chordsOf (ellipseEnds «root_chord_m» «span_m» h) ⌝ }
 {
     if !in_span(span_m, h) {

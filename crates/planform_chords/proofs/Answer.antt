@@ -15,8 +15,7 @@ use Rattle.refusals.specs.declared.Verdict.the-variants.{Accepted, Refused}
 use Rattle.planforms.specs.declared.Planform.{Planform}
 use Rattle.fins.specs.Fins.{planformCheck}
 use Rattle.chords.specs.declared.Chords.{Chords}
-use Rattle.chords.specs.Chords.{endsAt, paired, chordsAt, chordsOf, endsOf}
-use Rattle.chords.proofs.Answer.{answered}
+use Rattle.chords.specs.Chords.{paired, chordsAt, endsOf}
 use Rattle.planform_chords.specs.declared.ChordList.{ChordList}
 use Rattle.planform_chords.specs.PlanformChords.{endsIn, Listed, verdictOf, chordList, endsAfter}
 use Rattle.planform_chords.proofs.Pairs.{pairs-count, pairs-ends}
@@ -52,10 +51,9 @@ module _ (planform : Planform) (points : List Float) (h : Float) (ends ends' : L
   unfolding chordList endsAfter verdictOf
   refused-so b refusal v e f = let t = le-leb 64 (length ends) b in (rw (t, v) f, rw (t, v) e)
 
-  pub listed-so : 64 ≤ length ends → planformCheck planform points ≡ Accepted → (found : Chords) (count : ℕ) → found ≡ chordsOf (endsAt planform points h)
+  pub listed-so : 64 ≤ length ends → planformCheck planform points ≡ Accepted → (found : Chords) (count : ℕ) → paired (endsOf found points h) ≡ chordsAt planform points h
       → Listed (paired (endsOf found points h)) ends ends' count → r ≡ record { verdict = Accepted; count = count } → Answered
   unfolding chordList endsAfter verdictOf
-  listed-so b v found count g w f =
+  listed-so b v found count all w f =
       let t = le-leb 64 (length ends) b in
-      let all : paired (endsOf found points h) ≡ chordsAt planform points h = ap (λ (x : Chords). paired (endsOf x points h)) g ∙ answered planform points h in
       (rw (t, v) (f ∙ ap (λ (n : ℕ). record { verdict = Accepted; count = n }) (w .count ∙ ap length all)), rw (t, v) (w .list ∙ ap (λ (l : List (Float × Float)). over (endsIn l) ends) all))

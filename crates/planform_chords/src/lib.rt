@@ -4,7 +4,7 @@ ghost use mathlib.Core.Path.{_≡_};
 ghost use Prim.Native.Nat.{_≤_};
 ghost use lib.ListN.{length, take};
 ghost use Rattle.sorting.specs.Sorted.{over};
-ghost use Rattle.chords.specs.Chords.{outlineCrossings, endsOf, paired};
+ghost use Rattle.chords.specs.Chords.{outlineCrossings, endsOf, paired, chordsAt};
 ghost use Rattle.planform_chords.specs.PlanformChords.{Listed, chordList, endsAfter};
 use chords::Chords;
 use planforms::Planform;
@@ -31,12 +31,32 @@ pub fn chords_at(planform: Planform, points: &[f64], h: f64, ends: &mut [f64]) -
     let verdict = fins::check_planform(planform, points);
     match verdict {
         Verdict::Accepted => listed(write_chords(
-            chords::chords_at(planform, points, h),
+            chords_found(planform, points, h),
             points,
             h,
             ends,
         )),
         Verdict::Refused(refusal) => refused(refusal),
+    }
+}
+
+// The chords of any planform; an outline's crossings are always listed. `chords::chords_at`, which finds the one chord of most heights
+// with no list, has no other caller than the loop over the samples, so that the compiler puts it there.
+fn chords_found(planform: Planform, points: &[f64], h: f64) -> Chords
+    ensures { λ r. ⌜ paired (endsOf r (now (points .entry)) h) ≡ chordsAt planform (now (points .entry)) h ⌝ }
+{
+    match planform {
+        Planform::Trapezoid {
+            root_chord_m,
+            tip_chord_m,
+            span_m,
+            sweep_m,
+        } => chords::trapezoid_chord(root_chord_m, tip_chord_m, span_m, sweep_m, h),
+        Planform::Ellipse {
+            root_chord_m,
+            span_m,
+        } => chords::ellipse_chord(root_chord_m, span_m, h),
+        Planform::Outline => Chords::Several,
     }
 }
 

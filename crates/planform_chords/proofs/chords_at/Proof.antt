@@ -17,8 +17,8 @@ check-planform-requires c κs = search needs
 enum-told : tie.Need-enum-told
 enum-told c = search needs
 
-chords-at-requires : tie.Need-chords-at-requires
-chords-at-requires c κs = search needs
+chords-found-requires : tie.Need-chords-found-requires
+chords-found-requires c κs = search needs
 
 write-chords-requires : tie.Need-write-chords-requires
 write-chords-requires c κs = search needs
@@ -43,7 +43,7 @@ returns-2 c =
     let checked = told .before .before in
     let a = checked .before .before .before .before .args in
     listed-so (a .planform) (a .points .now) (a .h) (a .ends .now) _ _ (checked .before .if1 .left) (sym (checked .check-planform .ensures) ∙ told .enum-told .given .1)
-    _ _ (found .chords-at .ensures) (wrote .write-chords .ensures) (c .listed .ensures)
+    (found .chords-found .result) _ (found .chords-found .ensures) (wrote .write-chords .ensures) (c .listed .ensures)
 
 returns-3 : tie.Need-returns-3
 returns-3 c =
@@ -60,7 +60,7 @@ chords-at-spec =
     returns
     check-planform-requires
     enum-told
-    chords-at-requires
+    chords-found-requires
     write-chords-requires
     listed-requires
     enum-known-verdict
