@@ -1,2 +1,5 @@
+pub mod Vectors
+pub mod Matrices
 pub mod Tensors
 pub mod Bodies
+pub mod Layout

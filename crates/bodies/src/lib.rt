@@ -2,33 +2,45 @@
 //
 // Axes are the body's: z along the axis toward the nose, x the zero radial direction, y = z × x. The tensor about a point p is
 // I = ∫ (|r|² E − r rᵀ) dm with r = position − p; about another point it is I + m (|d|² E − d dᵀ), d the centre less that point.
-// Vectors and tensors work by component as glam's do (document 01, "Stand-ins").
+// Vectors, matrices and tensors work by component as glam's do (document 01, "Stand-ins"). As numbers, in lists of bodies, on lines and in the
+// library, a body is its mass, its centre and its tensor's numbers, in that order.
 ghost use mathlib.Core.Path.{_≡_};
 ghost use Prim.Native.Nat.{_≤_};
 ghost use lib.ListN.{length};
 ghost use Rattle.floats.specs.Operations.{at};
-ghost use Rattle.bodies.specs.Tensors.{tensor, addVectors, subtractVectors, scaleVector, divideVector, addTensors, subtractTensors, scaleTensor, timesVector, timesTensor, transposeOf, turnTensor, offsetTensorOf};
+ghost use Rattle.bodies.specs.Vectors.{addVectors, subtractVectors, scaleVector, divideVector};
+ghost use Rattle.bodies.specs.Matrices.{timesVector, timesMatrix, transposeOf};
+ghost use Rattle.bodies.specs.Tensors.{tensor, tensorOf, asMatrix, symmetric, addTensors, subtractTensors, scaleTensor, turnTensor, offsetTensorOf};
 ghost use Rattle.bodies.specs.Bodies.{inertiaAboutOf, translatedOf, rotatedOf};
+ghost use Rattle.bodies.specs.Layout.{tensorNumbers, bodyNumbers, bodyOf, numbersOf};
 
-// Three numbers along x, y and z: a centre in metres, an offset, or a column of a tensor.
-pub struct Centre {
+// Three numbers along x, y and z: a place in metres, an offset, or a column of a matrix.
+pub struct Vector {
     pub x: f64,
     pub y: f64,
     pub z: f64,
 }
 
-// Nine numbers in columns; as an inertia tensor in kg·m².
+// Nine numbers in columns: a rotation, or what is worked from one.
+pub struct Matrix(pub [f64; 9]);
+
+// An inertia tensor in kg·m²: nine numbers in columns.
 pub struct Tensor(pub [f64; 9]);
 
 pub struct Body {
     pub mass_kg: f64,
-    pub centre_m: Centre,
+    pub centre_m: Vector,
     pub inertia_kg_m2: Tensor,
 }
 
-// The tensor of nine numbers in columns.
+// How many numbers a tensor has, and a body.
+pub const TENSOR_NUMBERS: usize = 9;
+
+pub const BODY_NUMBERS: usize = 13;
+
+// The tensor of its numbers.
 pub fn tensor_of(numbers: &[f64]) -> Tensor
-    requires { ⌜ 9 ≤ length (now numbers) ⌝ }
+    requires { ⌜ tensorNumbers ≤ length (now numbers) ⌝ }
     ensures { λ r. ⌜ r ≡ tensor (at (now (numbers .entry))) ⌝ }
 {
     Tensor([
@@ -44,41 +56,67 @@ pub fn tensor_of(numbers: &[f64]) -> Tensor
     ])
 }
 
-impl Centre {
-    pub fn add(self, other: Centre) -> Centre
+// The body of its numbers.
+pub fn body_of(numbers: &[f64]) -> Body
+    requires { ⌜ bodyNumbers ≤ length (now numbers) ⌝ }
+    ensures { λ r. ⌜ r ≡ bodyOf (at (now (numbers .entry))) ⌝ }
+{
+    Body {
+        mass_kg: numbers[0],
+        centre_m: Vector {
+            x: numbers[1],
+            y: numbers[2],
+            z: numbers[3],
+        },
+        inertia_kg_m2: Tensor([
+            numbers[4],
+            numbers[5],
+            numbers[6],
+            numbers[7],
+            numbers[8],
+            numbers[9],
+            numbers[10],
+            numbers[11],
+            numbers[12],
+        ]),
+    }
+}
+
+impl Vector {
+    pub fn add(self, other: Vector) -> Vector
         ensures { λ r. ⌜ r ≡ addVectors self other ⌝ }
     {
-        Centre {
+        Vector {
             x: self.x + other.x,
             y: self.y + other.y,
             z: self.z + other.z,
         }
     }
 
-    pub fn subtract(self, other: Centre) -> Centre
+    pub fn subtract(self, other: Vector) -> Vector
         ensures { λ r. ⌜ r ≡ subtractVectors self other ⌝ }
     {
-        Centre {
+        Vector {
             x: self.x - other.x,
             y: self.y - other.y,
             z: self.z - other.z,
         }
     }
 
-    pub fn scale(self, factor: f64) -> Centre
+    pub fn scale(self, factor: f64) -> Vector
         ensures { λ r. ⌜ r ≡ scaleVector self factor ⌝ }
     {
-        Centre {
+        Vector {
             x: self.x * factor,
             y: self.y * factor,
             z: self.z * factor,
         }
     }
 
-    pub fn divide(self, divisor: f64) -> Centre
+    pub fn divide(self, divisor: f64) -> Vector
         ensures { λ r. ⌜ r ≡ divideVector self divisor ⌝ }
     {
-        Centre {
+        Vector {
             x: self.x / divisor,
             y: self.y / divisor,
             z: self.z / divisor,
@@ -86,7 +124,68 @@ impl Centre {
     }
 }
 
+impl Matrix {
+    pub fn transpose(self) -> Matrix
+        ensures { λ r. ⌜ r ≡ transposeOf self ⌝ }
+    {
+        let a = self.0;
+        Matrix([a[0], a[3], a[6], a[1], a[4], a[7], a[2], a[5], a[8]])
+    }
+
+    // Column 1 times x, plus column 2 times y, plus column 3 times z.
+    pub fn times_vector(self, v: Vector) -> Vector
+        ensures { λ r. ⌜ r ≡ timesVector self v ⌝ }
+    {
+        let a = self.0;
+        Vector {
+            x: a[0] * v.x + a[3] * v.y + a[6] * v.z,
+            y: a[1] * v.x + a[4] * v.y + a[7] * v.z,
+            z: a[2] * v.x + a[5] * v.y + a[8] * v.z,
+        }
+    }
+
+    // The product by columns: each column of `other` is taken through this matrix.
+    pub fn times(self, other: Matrix) -> Matrix
+        ensures { λ r. ⌜ r ≡ timesMatrix self other ⌝ }
+    {
+        let b = other.0;
+        let first = self.times_vector(Vector {
+            x: b[0],
+            y: b[1],
+            z: b[2],
+        });
+        let second = self.times_vector(Vector {
+            x: b[3],
+            y: b[4],
+            z: b[5],
+        });
+        let third = self.times_vector(Vector {
+            x: b[6],
+            y: b[7],
+            z: b[8],
+        });
+        Matrix([
+            first.x,
+            first.y,
+            first.z,
+            second.x,
+            second.y,
+            second.z,
+            third.x,
+            third.y,
+            third.z,
+        ])
+    }
+}
+
 impl Tensor {
+    // The tensor of its diagonal and its mixed entries.
+    pub fn symmetric(xx: f64, yy: f64, zz: f64, xy: f64, xz: f64, yz: f64) -> Tensor
+        ensures { λ r. ⌜ r ≡ symmetric xx yy zz xy xz yz ⌝ }
+    {
+        Tensor([xx, xy, xz, xy, yy, yz, xz, yz, zz])
+    }
+
     pub fn add(self, other: Tensor) -> Tensor
         ensures { λ r. ⌜ r ≡ addTensors self other ⌝ }
     {
@@ -140,68 +239,33 @@ impl Tensor {
         ])
     }
 
-    pub fn transpose(self) -> Tensor
-        ensures { λ r. ⌜ r ≡ transposeOf self ⌝ }
+    // The tensor as a matrix.
+    pub fn as_matrix(self) -> Matrix
+        ensures { λ r. ⌜ r ≡ asMatrix self ⌝ }
     {
         let a = self.0;
-        Tensor([a[0], a[3], a[6], a[1], a[4], a[7], a[2], a[5], a[8]])
+        Matrix([a[0], a[1], a[2], a[3], a[4], a[5], a[6], a[7], a[8]])
     }
 
-    // Column 1 times x, plus column 2 times y, plus column 3 times z.
-    pub fn times_vector(self, v: Centre) -> Centre
-        ensures { λ r. ⌜ r ≡ timesVector self v ⌝ }
+    // The tensor that a matrix is.
+    pub fn of_matrix(matrix: Matrix) -> Tensor
+        ensures { λ r. ⌜ r ≡ tensorOf matrix ⌝ }
     {
-        let a = self.0;
-        Centre {
-            x: a[0] * v.x + a[3] * v.y + a[6] * v.z,
-            y: a[1] * v.x + a[4] * v.y + a[7] * v.z,
-            z: a[2] * v.x + a[5] * v.y + a[8] * v.z,
-        }
-    }
-
-    // The product by columns: each column of `other` is taken through this tensor.
-    pub fn times(self, other: Tensor) -> Tensor
-        ensures { λ r. ⌜ r ≡ timesTensor self other ⌝ }
-    {
-        let b = other.0;
-        let first = self.times_vector(Centre {
-            x: b[0],
-            y: b[1],
-            z: b[2],
-        });
-        let second = self.times_vector(Centre {
-            x: b[3],
-            y: b[4],
-            z: b[5],
-        });
-        let third = self.times_vector(Centre {
-            x: b[6],
-            y: b[7],
-            z: b[8],
-        });
-        Tensor([
-            first.x,
-            first.y,
-            first.z,
-            second.x,
-            second.y,
-            second.z,
-            third.x,
-            third.y,
-            third.z,
-        ])
+        let a = matrix.0;
+        Tensor([a[0], a[1], a[2], a[3], a[4], a[5], a[6], a[7], a[8]])
     }
 
     // R I Rᵀ.
-    pub fn turn(self, rotation: Tensor) -> Tensor
+    pub fn turn(self, rotation: Matrix) -> Tensor
         ensures { λ r. ⌜ r ≡ turnTensor self rotation ⌝ }
     {
-        rotation.times(self).times(rotation.transpose())
+        let product = rotation.times(self.as_matrix());
+        Tensor::of_matrix(product.times(rotation.transpose()))
     }
 }
 
 // |d|² E − d dᵀ: the parallel-axis term for unit mass at the offset d.
-fn offset_tensor(d: Centre) -> Tensor
+fn offset_tensor(d: Vector) -> Tensor
     ensures { λ r. ⌜ r ≡ offsetTensorOf d ⌝ }
 {
     let square = d.x * d.x + d.y * d.y + d.z * d.z;
@@ -222,7 +286,7 @@ impl Body {
     // No mass, at the origin.
     pub const ZERO: Body = Body {
         mass_kg: 0.0,
-        centre_m: Centre {
+        centre_m: Vector {
             x: 0.0,
             y: 0.0,
             z: 0.0,
@@ -231,7 +295,7 @@ impl Body {
     };
 
     // The tensor about `point_m` instead of the centre.
-    pub fn inertia_about(self, point_m: Centre) -> Tensor
+    pub fn inertia_about(self, point_m: Vector) -> Tensor
         ensures { λ r. ⌜ r ≡ inertiaAboutOf self «point_m» ⌝ }
     {
         let offset = self.centre_m.subtract(point_m);
@@ -240,7 +304,7 @@ impl Body {
     }
 
     // The body moved by `offset_m`.
-    pub fn translated(self, offset_m: Centre) -> Body
+    pub fn translated(self, offset_m: Vector) -> Body
         ensures { λ r. ⌜ r ≡ translatedOf self «offset_m» ⌝ }
     {
         let centre_m = self.centre_m.add(offset_m);
@@ -253,7 +317,7 @@ impl Body {
     }
 
     // The body turned about the origin by the matrix `rotation`.
-    pub fn rotated(self, rotation: Tensor) -> Body
+    pub fn rotated(self, rotation: Matrix) -> Body
         ensures { λ r. ⌜ r ≡ rotatedOf self rotation ⌝ }
     {
         let centre_m = rotation.times_vector(self.centre_m);
@@ -263,5 +327,29 @@ impl Body {
             centre_m,
             inertia_kg_m2,
         }
+    }
+
+    // The numbers of the body.
+    pub fn numbers(self) -> [f64; BODY_NUMBERS]
+        ensures { λ r. ⌜ r ≡ numbersOf self ⌝ }
+    {
+        let centre = self.centre_m;
+        let inertia = self.inertia_kg_m2;
+        let a = inertia.0;
+        [
+            self.mass_kg,
+            centre.x,
+            centre.y,
+            centre.z,
+            a[0],
+            a[1],
+            a[2],
+            a[3],
+            a[4],
+            a[5],
+            a[6],
+            a[7],
+            a[8],
+        ]
     }
 }

@@ -6,16 +6,17 @@ use lib.Ieee.{Float, lt, eq, neg}
 use Rattle.floats.specs.Operations.{_⊕_, _⊖_, _⊗_, bits, at}
 use Rattle.floats.specs.Floats.{isFinite, absOf, maxOf}
 use Rattle.bodies.specs.declared.Body.{Body}
-use Rattle.bodies.specs.declared.Centre.{Centre}
 use Rattle.bodies.specs.declared.Tensor.{Tensor}
-use Rattle.bodies.specs.Tensors.{numberAt, subtractTensors, transposeOf}
+use Rattle.bodies.specs.declared.Vector.{Vector}
+use Rattle.bodies.specs.Matrices.{transposeOf}
+use Rattle.bodies.specs.Tensors.{numberAt, tensorOf, asMatrix, subtractTensors}
 use Rattle.moments.specs.Moments.{entriesFit, eigenvaluesOf}
 use Rattle.refusals.specs.declared.Verdict.{Verdict}
 use Rattle.refusals.specs.declared.Verdict.the-variants.{Accepted, Refused}
 use Rattle.refusals.specs.declared.Refusal.the-variants.{Mass, Centre as CentreRefused, Tensor as TensorRefused}
 use Rattle.refusals.specs.declared.TensorFault.the-variants.{Entry, Massless, Asymmetric, Negative, Triangle}
 
-abbrev pub finiteVector : Centre → Bool
+abbrev pub finiteVector : Vector → Bool
 finiteVector v = isFinite (v .x) && (isFinite (v .y) && isFinite (v .z))
 
 -- the largest magnitude of the first n numbers
@@ -29,7 +30,7 @@ toleranceOf t = bits 0x3e11_2e0b_e826_d695 ⊗ largestMagnitude t 9
 
 -- the largest difference of opposite entries
 unfoldable pub asymmetryOf : Tensor → Float
-asymmetryOf t = largestMagnitude (subtractTensors t (transposeOf t)) 9
+asymmetryOf t = largestMagnitude (subtractTensors t (tensorOf (transposeOf (asMatrix t)))) 9
 
 -- "b no mass but an entry not zero": then the largest magnitude is above 0
 abbrev pub masslessInertia : Float → Float → Bool

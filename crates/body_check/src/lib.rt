@@ -5,8 +5,8 @@
 ghost use mathlib.Core.Path.{_≡_};
 ghost use Rattle.body_check.specs.BodyCheck.{finiteVector, largestMagnitude, asymmetryOf, masslessInertia, checkMoments, checkTensor, checkOf};
 use bodies::Body;
-use bodies::Centre;
 use bodies::Tensor;
+use bodies::Vector;
 use refusals::Refusal;
 use refusals::TensorFault;
 use refusals::Verdict;
@@ -29,7 +29,7 @@ pub fn check(body: Body) -> Verdict
     check_tensor(mass, tensor)
 }
 
-fn is_finite(v: Centre) -> bool
+fn is_finite(v: Vector) -> bool
     ensures { λ r. ⌜ r ≡ finiteVector v ⌝ }
 {
     if !floats::is_finite(v.x) {
@@ -63,7 +63,7 @@ fn check_tensor(mass: f64, tensor: Tensor) -> Verdict
 fn asymmetry(tensor: Tensor) -> f64
     ensures { λ r. ⌜ r ≡ asymmetryOf tensor ⌝ }
 {
-    largest_magnitude(tensor.subtract(tensor.transpose()))
+    largest_magnitude(tensor.subtract(Tensor::of_matrix(tensor.as_matrix().transpose())))
 }
 
 fn is_massless_inertia(mass: f64, largest: f64) -> bool

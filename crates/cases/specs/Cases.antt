@@ -23,8 +23,9 @@ use Rattle.sections.specs.declared.Section.the-variants.{Square}
 use Rattle.sections.specs.ChordMoments.{chordMoments}
 use Rattle.bodies.specs.declared.Body.{Body}
 use Rattle.bodies.specs.declared.Tensor.{Tensor}
-use Rattle.bodies.specs.Tensors.{zeroVector}
+use Rattle.bodies.specs.Vectors.{zeroVector}
 use Rattle.bodies.specs.Bodies.{inertiaAboutOf}
+use Rattle.bodies.specs.Layout.{numbersOf}
 use Rattle.joins.specs.Joins.{inOrder, sumsOf, inertiaOf, joinOf, combineOf}
 use Rattle.moments.specs.Moments.{rotate, sweep, sweeps, insertMoment, insertAll, eigenvaluesOf, principalMomentsOf}
 use Rattle.body_check.specs.BodyCheck.{largestMagnitude, asymmetryOf, checkTensor, checkOf}
@@ -65,10 +66,6 @@ diagonalTensor a b c = record { 0 = map bits (a ∷ 0 ∷ 0 ∷ 0 ∷ b ∷ 0 �
 abbrev body : ℕ → ℕ → ℕ → Body
 body a b c = record { «mass_kg» = bits one; «centre_m» = zeroVector; «inertia_kg_m2» = diagonalTensor a b c }
 
--- the thirteen numbers of a body
-abbrev numbers : Body → List Float
-numbers b = b .«mass_kg» ∷ b .«centre_m» .x ∷ b .«centre_m» .y ∷ b .«centre_m» .z ∷ (b .«inertia_kg_m2» .0)
-
 abbrev isAccepted : Verdict → Bool
 isAccepted Accepted = true
 isAccepted (Refused refusal) = false
@@ -89,7 +86,7 @@ holds (cosine x r) = is (cosOf (bits x)) r
 holds (pieces n samples) = eqb (samplesFor n) samples
 holds (chord planform h ends) = are (endsAt planform [] (bits h)) ends
 holds (square a b t begins) = are (take 2 (chordMoments Square (bits a) (bits b) (bits t))) begins
-holds (joined given answer) = are (numbers (combineOf (map bits given) .body)) answer
+holds (joined given answer) = are (numbersOf (combineOf (map bits given) .body)) answer
 holds (moments a b c answer) = are (principalMomentsOf (diagonalTensor a b c) .«moments_kg_m2») answer
 holds (sound a b c) = isAccepted (checkOf (body a b c))
 holds (unsound a b c) = is17e (checkOf (body a b c))

@@ -8,6 +8,7 @@ use borrow.Author.Tests.{le-leb, lt-leb}
 use lib.ListN.{length, take, drop, take-append-drop}
 use lib.Ieee.{Float}
 use Rattle.refusals.specs.declared.Verdict.{Verdict}
+use Rattle.bodies.specs.Layout.{bodyNumbers}
 use Rattle.joins.specs.declared.Joined.{Joined}
 use Rattle.joins.specs.Flat.{withBody}
 use Rattle.joins.specs.Joins.{combineOf}
@@ -35,16 +36,16 @@ module _ {A : Type 0} (m : ℕ) (figures : List A) (n : ℕ) (counts : List ℕ)
   few-counts h k = simp (le-leb m (length figures) h, lt-leb n (length counts) k)
 
 module _ (set : NumberedSet) (points : List Float) (L : ℕ) (scratch body : List Float) (counts : List ℕ) where
-  pub set-refused : room 13 body 4 counts ≡ false → SetCall set points L scratch body counts 18 scratch body counts
+  pub set-refused : room bodyNumbers body 4 counts ≡ false → SetCall set points L scratch body counts 18 scratch body counts
   set-refused none = record { returned = rw none; figures = rw none; counted = rw none; lent = rw none }
 
   -- `read` is the set as the code has it
-  pub set-written : 13 ≤ length body → 4 ≤ length counts → (read : NumberedSet) (f : Figures) (r : ℕ) (scratch' body' : List Float) (counts' : List ℕ) →
+  pub set-written : bodyNumbers ≤ length body → 4 ≤ length counts → (read : NumberedSet) (f : Figures) (r : ℕ) (scratch' body' : List Float) (counts' : List ℕ) →
       read ≡ set → f ≡ numberedFigures read points L (length scratch) → scratch' ≡ numberedScratch read points L scratch →
       body' ≡ withBody body 0 (f .body) → counts' ≡ figureCounts f counts → r ≡ numberIn (f .verdict) →
       SetCall set points L scratch body counts r scratch' body' counts'
   set-written h k read f r scratch' body' counts' same e s b c n =
-      let fits = has-room 13 body 4 counts h k in
+      let fits = has-room bodyNumbers body 4 counts h k in
       record {
         returned = rw (fits, ← same, ← e) n;
         figures = rw (fits, ← same, ← e) b;
@@ -86,14 +87,14 @@ module _ (planform : NumberedPlanform) (points : List Float) (h : Float) (ends :
       }
 
 module _ (count density : ℕ) (numbers body : List Float) (values : List ℕ) where
-  pub ring-refused : room 13 body 2 values ≡ false → RingCall count density numbers body values 18 body values
+  pub ring-refused : room bodyNumbers body 2 values ≡ false → RingCall count density numbers body values 18 body values
   ring-refused none = record { returned = rw none; figures = rw none; counted = rw none }
 
-  pub ring-written : 13 ≤ length body → 2 ≤ length values → (j : Joined) (r : ℕ) (body' : List Float) (values' : List ℕ) →
+  pub ring-written : bodyNumbers ≤ length body → 2 ≤ length values → (j : Joined) (r : ℕ) (body' : List Float) (values' : List ℕ) →
       j ≡ ringBy count density numbers → body' ≡ withBody body 0 (j .body) → values' ≡ withValues values (j .verdict) →
       r ≡ numberIn (j .verdict) → RingCall count density numbers body values r body' values'
   ring-written h k j r body' values' e b c n =
-      let fits = has-room 13 body 2 values h k in
+      let fits = has-room bodyNumbers body 2 values h k in
       record { returned = rw (fits, ← e) n; figures = rw (fits, ← e) b; counted = rw (fits, ← e) c }
 
 module _ (count : ℕ) (bodyRadius : Float) (radius : List Float) (values : List ℕ) where
@@ -108,13 +109,13 @@ module _ (count : ℕ) (bodyRadius : Float) (radius : List Float) (values : List
       record { returned = rw (fits, ← e) n; figures = rw (fits, ← e) b; counted = rw (fits, ← e) c }
 
 module _ (bodies body : List Float) where
-  pub join-refused : length body < 13 → JoinCall bodies body 18 body
-  join-refused h = let none = lt-leb 13 (length body) h in record { returned = rw none; figures = rw none }
+  pub join-refused : length body < bodyNumbers → JoinCall bodies body 18 body
+  join-refused h = let none = lt-leb bodyNumbers (length body) h in record { returned = rw none; figures = rw none }
 
-  pub join-written : 13 ≤ length body → (j : Joined) (r : ℕ) (body' : List Float) → j ≡ combineOf bodies →
+  pub join-written : bodyNumbers ≤ length body → (j : Joined) (r : ℕ) (body' : List Float) → j ≡ combineOf bodies →
       body' ≡ withBody body 0 (j .body) → r ≡ numberIn (j .verdict) → JoinCall bodies body r body'
   join-written h j r body' e b n =
-      let fits = le-leb 13 (length body) h in record { returned = rw (fits, ← e) n; figures = rw (fits, ← e) b }
+      let fits = le-leb bodyNumbers (length body) h in record { returned = rw (fits, ← e) n; figures = rw (fits, ← e) b }
 
 module _ (numbers moments : List Float) (values : List ℕ) where
   pub moments-refused : room 3 moments 2 values ≡ false → MomentsCall numbers moments values 18 moments values

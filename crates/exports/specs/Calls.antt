@@ -13,6 +13,7 @@ use Rattle.refusals.specs.Refusals.{numberOf}
 use Rattle.planforms.specs.declared.NumberedPlanform.{NumberedPlanform}
 use Rattle.planform_chords.specs.declared.ChordList.{ChordList}
 use Rattle.fins.specs.declared.NumberedSet.{NumberedSet}
+use Rattle.bodies.specs.Layout.{bodyNumbers}
 use Rattle.joins.specs.Flat.{withBody}
 use Rattle.joins.specs.Joins.{combineOf}
 use Rattle.tubes.specs.Closing.{closingOf}
@@ -33,10 +34,10 @@ abbrev pub figureCounts : Figures → List ℕ → List ℕ
 figureCounts f counts = withCounts counts (f .verdict) (f .intervals) (f .samples)
 
 pub record SetCall (set : NumberedSet) (points : List Float) (L : ℕ) (scratch body : List Float) (counts : List ℕ) (r : ℕ) (scratch' body' : List Float) (counts' : List ℕ) : Type 0 where
-  pub returned : r ≡ cond (room 13 body 4 counts) (numberIn (numberedFigures set points L (length scratch) .verdict)) (numberOf NoForm)
-  pub figures : body' ≡ cond (room 13 body 4 counts) (withBody body 0 (numberedFigures set points L (length scratch) .body)) body
-  pub counted : counts' ≡ cond (room 13 body 4 counts) (figureCounts (numberedFigures set points L (length scratch)) counts) counts
-  pub lent : scratch' ≡ cond (room 13 body 4 counts) (numberedScratch set points L scratch) scratch
+  pub returned : r ≡ cond (room bodyNumbers body 4 counts) (numberIn (numberedFigures set points L (length scratch) .verdict)) (numberOf NoForm)
+  pub figures : body' ≡ cond (room bodyNumbers body 4 counts) (withBody body 0 (numberedFigures set points L (length scratch) .body)) body
+  pub counted : counts' ≡ cond (room bodyNumbers body 4 counts) (figureCounts (numberedFigures set points L (length scratch)) counts) counts
+  pub lent : scratch' ≡ cond (room bodyNumbers body 4 counts) (numberedScratch set points L scratch) scratch
 
 -- ---- a planform's area
 
@@ -65,9 +66,9 @@ pub record ChordsCall (planform : NumberedPlanform) (points : List Float) (h : F
 -- ---- a ring of tubes, and the radius that closes one (document 02, Paper 3)
 
 pub record RingCall (count density : ℕ) (numbers body : List Float) (values : List ℕ) (r : ℕ) (body' : List Float) (values' : List ℕ) : Type 0 where
-  pub returned : r ≡ cond (room 13 body 2 values) (numberIn (ringBy count density numbers .verdict)) (numberOf NoForm)
-  pub figures : body' ≡ cond (room 13 body 2 values) (withBody body 0 (ringBy count density numbers .body)) body
-  pub counted : values' ≡ cond (room 13 body 2 values) (withValues values (ringBy count density numbers .verdict)) values
+  pub returned : r ≡ cond (room bodyNumbers body 2 values) (numberIn (ringBy count density numbers .verdict)) (numberOf NoForm)
+  pub figures : body' ≡ cond (room bodyNumbers body 2 values) (withBody body 0 (ringBy count density numbers .body)) body
+  pub counted : values' ≡ cond (room bodyNumbers body 2 values) (withValues values (ringBy count density numbers .verdict)) values
 
 pub record ClosingCall (count : ℕ) (bodyRadius : Float) (radius : List Float) (values : List ℕ) (r : ℕ) (radius' : List Float) (values' : List ℕ) : Type 0 where
   pub returned : r ≡ cond (room 1 radius 2 values) (numberIn (closingOf bodyRadius count .verdict)) (numberOf NoForm)
@@ -77,10 +78,10 @@ pub record ClosingCall (count : ℕ) (bodyRadius : Float) (radius : List Float) 
 -- ---- a join
 
 pub record JoinCall (bodies body : List Float) (r : ℕ) (body' : List Float) : Type 0 where
-  pub returned : r ≡ cond (leb 13 (length body)) (numberIn (combineOf bodies .verdict)) (numberOf NoForm)
-  pub figures : body' ≡ cond (leb 13 (length body)) (withBody body 0 (combineOf bodies .body)) body
+  pub returned : r ≡ cond (leb bodyNumbers (length body)) (numberIn (combineOf bodies .verdict)) (numberOf NoForm)
+  pub figures : body' ≡ cond (leb bodyNumbers (length body)) (withBody body 0 (combineOf bodies .body)) body
 
--- ---- principal moments: of nine numbers in columns
+-- ---- principal moments: of a tensor's numbers
 
 abbrev pub momentsNumbers : Moments → List Float
 momentsNumbers m = at (m .«moments_kg_m2») 0 ∷ at (m .«moments_kg_m2») 1 ∷ at (m .«moments_kg_m2») 2 ∷ []
@@ -90,7 +91,7 @@ pub record MomentsCall (numbers moments : List Float) (values : List ℕ) (r : �
   pub figures : moments' ≡ cond (room 3 moments 2 values) (over (momentsNumbers (tensorMoments numbers)) moments) moments
   pub counted : values' ≡ cond (room 3 moments 2 values) (withValues values (tensorMoments numbers .verdict)) values
 
--- ---- the body check: of thirteen numbers
+-- ---- the body check: of a body's numbers
 
 pub record CheckCall (numbers : List Float) (values : List ℕ) (r : ℕ) (values' : List ℕ) : Type 0 where
   pub returned : r ≡ cond (leb 2 (length values)) (numberIn (bodyVerdict numbers)) (numberOf NoForm)

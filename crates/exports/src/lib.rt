@@ -14,6 +14,7 @@ ghost use Rattle.planforms.specs.Numbered.{numberedPlanform};
 ghost use Rattle.exports.specs.Sets.{crossedSet};
 ghost use Rattle.exports.specs.Numbers.{numberIn, valuesIn, over, withValues, withCount, withCounts};
 ghost use Rattle.exports.specs.Calls.{SetCall, AreaCall, ChordsCall, RingCall, ClosingCall, JoinCall, MomentsCall, CheckCall, LineCall};
+use bodies::BODY_NUMBERS;
 use fins::NumberedSet;
 use refusals::Verdict;
 
@@ -122,7 +123,7 @@ pub extern "C" fn delvouzh_sqrt(x: f64) -> f64
     root::sqrt(x)
 }
 
-// A set's figures over a lent scratch of at least 16·limit numbers: writes the body's thirteen numbers, and as counts two values of a
+// A set's figures over a lent scratch of at least 16·limit numbers: writes the body's numbers, and as counts two values of a
 // refusal, the intervals and the samples.
 #[no_mangle]
 pub extern "C" fn delvouzh_mass_properties(
@@ -140,7 +141,7 @@ pub extern "C" fn delvouzh_mass_properties(
 ) -> usize
     ensures { λ r. ⌜ SetCall (crossedSet count planform (now (lengths .entry)) section tab density (now (figures .entry))) (now (lengths .entry)) limit (now (scratch .entry)) (now (body .entry)) (now (counts .entry)) r (now (scratch .exit)) (now (body .exit)) (now (counts .exit)) ⌝ }
 {
-    if body.len() < 13 {
+    if body.len() < BODY_NUMBERS {
         return NO_FORM;
     }
     if counts.len() < 4 {
@@ -211,7 +212,7 @@ pub extern "C" fn delvouzh_chords_at(
     number(verdict)
 }
 
-// A ring of tubes; the figures: length, outer radius, wall, base angle, body radius, density. Writes the body's thirteen numbers, and two
+// A ring of tubes; the figures: length, outer radius, wall, base angle, body radius, density. Writes the body's numbers, and two
 // values of a refusal.
 #[no_mangle]
 pub extern "C" fn delvouzh_tube_mass_properties(
@@ -223,7 +224,7 @@ pub extern "C" fn delvouzh_tube_mass_properties(
 ) -> usize
     ensures { λ r. ⌜ RingCall count density (now (figures .entry)) (now (body .entry)) (now (values .entry)) r (now (body .exit)) (now (values .exit)) ⌝ }
 {
-    if body.len() < 13 {
+    if body.len() < BODY_NUMBERS {
         return NO_FORM;
     }
     if values.len() < 2 {
@@ -260,12 +261,12 @@ pub extern "C" fn delvouzh_closing_radius(
     number(verdict)
 }
 
-// One to 32 bodies, thirteen numbers each, joined: writes the thirteen numbers of the body.
+// One to 32 bodies by their numbers, joined: writes the numbers of the body.
 #[no_mangle]
 pub extern "C" fn delvouzh_combine(bodies: &[f64], body: &mut [f64]) -> usize
     ensures { λ r. ⌜ JoinCall (now (bodies .entry)) (now (body .entry)) r (now (body .exit)) ⌝ }
 {
-    if body.len() < 13 {
+    if body.len() < BODY_NUMBERS {
         return NO_FORM;
     }
     let joined = joins::combine(bodies);
@@ -275,7 +276,7 @@ pub extern "C" fn delvouzh_combine(bodies: &[f64], body: &mut [f64]) -> usize
     number(verdict)
 }
 
-// The principal moments of a tensor, nine numbers in columns: writes three moments, ascending, and two values of a refusal.
+// The principal moments of a tensor by its numbers: writes three moments, ascending, and two values of a refusal.
 #[no_mangle]
 pub extern "C" fn delvouzh_principal_moments(
     tensor: &[f64],
@@ -298,7 +299,7 @@ pub extern "C" fn delvouzh_principal_moments(
     number(verdict)
 }
 
-// The check of a body, thirteen numbers: writes two values of a refusal.
+// The check of a body by its numbers: writes two values of a refusal.
 #[no_mangle]
 pub extern "C" fn delvouzh_check(body: &[f64], values: &mut [usize]) -> usize
     ensures { λ r. ⌜ CheckCall (now (body .entry)) (now (values .entry)) r (now (values .exit)) ⌝ }

@@ -20,7 +20,7 @@ use Rattle.materials.specs.declared.Density.{Density}
 use Rattle.materials.specs.declared.Density.the-variants.{Bulk, Surface, Line}
 use Rattle.bodies.specs.declared.Body.{Body}
 use Rattle.bodies.specs.Bodies.{emptyBody}
-use Rattle.bodies.specs.declared.Centre.{Centre}
+use Rattle.bodies.specs.declared.Vector.{Vector}
 use Rattle.fins.specs.declared.FinSet.{FinSet}
 use Rattle.halving.specs.declared.Ending.{Ending}
 use Rattle.halving.specs.declared.Ending.the-variants.{Accepted as accepted, NotConverged as notConverged, NotFinite as notFinite}
@@ -57,7 +57,7 @@ pub gives-refusal : (verdict : Verdict) (refusal : Refusal) → verdict ≡ Refu
 gives-refusal verdict refusal e = subst (λ (v : Verdict). Gives v (numberOf refusal) (valuesOf refusal)) (sym e) (refl, refl)
 
 -- ---- one fin of bulk density, and the fins joined
-bulk-fin : (v : List Float) (cant : Float) (pivot : Centre) (x : Float) → FiguresOr8 (bulkFin v cant pivot x .verdict)
+bulk-fin : (v : List Float) (cant : Float) (pivot : Vector) (x : Float) → FiguresOr8 (bulkFin v cant pivot x .verdict)
 unfolding bulkFin
 bulk-fin v cant pivot x = go (le (volume v) (bits 0)) (refusedBody NoArea) _ refl refl
   where
@@ -65,7 +65,7 @@ bulk-fin v cant pivot x = go (le (volume v) (bits 0)) (refusedBody NoArea) _ ref
     go true none fin p q = inr p
     go false none fin p q = inl q
 
-of-density : (density : Density) (v : List Float) (cant : Float) (pivot : Centre) → densityCheck density ≡ Accepted → FiguresOr8 (ofDensity density (bulkFin v cant pivot) .verdict)
+of-density : (density : Density) (v : List Float) (cant : Float) (pivot : Vector) → densityCheck density ≡ Accepted → FiguresOr8 (ofDensity density (bulkFin v cant pivot) .verdict)
 unfolding densityCheck
 of-density (Bulk x) v cant pivot h = bulk-fin v cant pivot x
 of-density (Surface x) v cant pivot h = no-refusal _ h

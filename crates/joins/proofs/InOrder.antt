@@ -3,7 +3,7 @@ use mathlib.Core.Path.{_≡_, refl, sym, _∙_}
 use Prim.Native.Nat.{ℕ, zero, suc, _+_}
 use native.Mathlib.Numerals.{add-one}
 use Rattle.bodies.specs.declared.Body.{Body}
-use Rattle.bodies.specs.declared.Centre.{Centre}
+use Rattle.bodies.specs.declared.Vector.{Vector}
 use Rattle.bodies.specs.Tensors.{zeroTensor, addTensors}
 use Rattle.bodies.specs.Bodies.{inertiaAboutOf}
 use Rattle.joins.specs.declared.Sums.{Sums}
@@ -21,7 +21,7 @@ module _ (f : ℕ → Body) where
   pub sums-next : (n : ℕ) {s r : Sums} {b : Body} → s ≡ sumsOf f n → b ≡ f n → r ≡ addBody s b → r ≡ sumsOf f (n + 1)
   sums-next n p q e = rw (e, p, q, add-one) (sym (sums-suc n))
 
-  module _ (centre : Centre) where
+  module _ (centre : Vector) where
     no-inertia : zeroTensor ≡ inertiaOf f centre 0
     unfolding inOrder inertiaOf
     no-inertia = refl

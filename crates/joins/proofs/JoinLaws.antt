@@ -13,9 +13,11 @@ use Rattle.floats.specs.Operations.{_⊕_, bits, every}
 use Rattle.floats.specs.Constants.{one}
 use Rattle.floats.proofs.Every.{every-holds}
 use Rattle.bodies.specs.declared.Body.{Body}
-use Rattle.bodies.specs.declared.Centre.{Centre}
-use Rattle.bodies.specs.Tensors.{vector, zeroTensor, divideVector, addTensors}
+use Rattle.bodies.specs.declared.Vector.{Vector}
+use Rattle.bodies.specs.Vectors.{vector, divideVector}
+use Rattle.bodies.specs.Tensors.{zeroTensor, addTensors}
 use Rattle.bodies.specs.Bodies.{inertiaAboutOf}
+use Rattle.bodies.specs.Layout.{bodyNumbers}
 use Rattle.refusals.specs.declared.Verdict.{Verdict}
 use Rattle.joins.specs.declared.Joined.{Joined}
 use Rattle.joins.specs.Flat.{bodyAt, listed}
@@ -25,7 +27,7 @@ use Rattle.joins.proofs.Listed.{readBack, length-listed, read-back}
 
 -- bodies that a join takes alike: it reads no more of a body than this
 abbrev Alike : Body → Body → Type 0
-Alike a b = (a .«mass_kg» ≡ b .«mass_kg») × (a .«centre_m» ≡ b .«centre_m») × ((point : Centre) → inertiaAboutOf a point ≡ inertiaAboutOf b point)
+Alike a b = (a .«mass_kg» ≡ b .«mass_kg») × (a .«centre_m» ≡ b .«centre_m») × ((point : Vector) → inertiaAboutOf a point ≡ inertiaAboutOf b point)
 
 the-same : {a b : Body} → a ≡ b → Alike a b
 the-same e = (ap (λ (x : Body). x .«mass_kg») e, ap (λ (x : Body). x .«centre_m») e, λ point. ap (λ (x : Body). inertiaAboutOf x point) e)
@@ -44,7 +46,7 @@ module _ (f g : ℕ → Body) where
       let a = alike n (lt-suc-self n) in
       sums-suc f n ∙ rw (sums-alike n (λ k l. alike k (lt-suc l)), a .0, a .1) (sym (sums-suc g n))
 
-  inertia-alike : (centre : Centre) (n : ℕ) → ((k : ℕ) → k < n → Alike (f k) (g k)) → inertiaOf f centre n ≡ inertiaOf g centre n
+  inertia-alike : (centre : Vector) (n : ℕ) → ((k : ℕ) → k < n → Alike (f k) (g k)) → inertiaOf f centre n ≡ inertiaOf g centre n
   unfolding inOrder inertiaOf
   inertia-alike centre zero alike = refl
   inertia-alike centre (suc n) alike =
@@ -68,8 +70,8 @@ by-verdict body p t a = a ∙ ap (λ (v : Verdict). unlessRefused v body) (sym t
 pub combine-listed : (f : ℕ → Body) (n : ℕ) → combineOf (listed f n) ≡ joinedOf f n
 combine-listed f n =
     let long = length-listed f n in
-    let whole : length (listed f n) % 13 ≡ 0 = omega arith in
-    let count : length (listed f n) / 13 ≡ n = omega arith in
+    let whole : length (listed f n) % bodyNumbers ≡ 0 = omega arith in
+    let count : length (listed f n) / bodyNumbers ≡ n = omega arith in
     rw (eq-eqb _ _ whole, count, join-read-back (bodyAt (listed f n)) f n (read-back f n))
 
 decide : (b : Bool) → (T b → ⊥) → b ≡ false

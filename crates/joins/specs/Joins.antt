@@ -8,10 +8,12 @@ use lib.Ieee.{Float, nan, lt, ne}
 use Rattle.floats.specs.Operations.{_⊕_, bits}
 use Rattle.floats.specs.Constants.{one}
 use Rattle.bodies.specs.declared.Body.{Body}
-use Rattle.bodies.specs.declared.Centre.{Centre}
 use Rattle.bodies.specs.declared.Tensor.{Tensor}
-use Rattle.bodies.specs.Tensors.{vector, zeroVector, zeroTensor, addVectors, scaleVector, divideVector, addTensors}
+use Rattle.bodies.specs.declared.Vector.{Vector}
+use Rattle.bodies.specs.Vectors.{vector, zeroVector, addVectors, scaleVector, divideVector}
+use Rattle.bodies.specs.Tensors.{zeroTensor, addTensors}
 use Rattle.bodies.specs.Bodies.{emptyBody, inertiaAboutOf}
+use Rattle.bodies.specs.Layout.{bodyNumbers}
 use Rattle.refusals.specs.declared.Refusal.{Refusal}
 use Rattle.refusals.specs.declared.Refusal.the-variants.{Count}
 use Rattle.refusals.specs.declared.Verdict.{Verdict}
@@ -37,14 +39,14 @@ sumsOf f n =
     }
 
 -- "a total mass not above 0 takes the mean position; with NaN mass, a NaN centre"; the origin for no bodies (the Rust's)
-abbrev pub centreOf : Sums → Centre
+abbrev pub centreOf : Sums → Vector
 centreOf s =
     cond (ne (s .«mass_kg») (s .«mass_kg»)) (vector nan nan nan)
     (cond (lt (bits 0) (s .«mass_kg»)) (divideVector (s .moment) (s .«mass_kg»))
     (cond (lt (bits 0) (s .count)) (divideVector (s .positions) (s .count)) zeroVector))
 
 -- the tensors about one centre, summed
-unfoldable pub inertiaOf : (ℕ → Body) → Centre → ℕ → Tensor
+unfoldable pub inertiaOf : (ℕ → Body) → Vector → ℕ → Tensor
 inertiaOf f centre n = inOrder addTensors zeroTensor (λ k. inertiaAboutOf (f k) centre) n
 
 -- the first n bodies of f, joined
@@ -73,7 +75,7 @@ joinedOf f n = unlessRefused (countCheck n) (joinOf f n)
 
 -- a list that is no whole number of bodies is refused 3 too
 abbrev pub combineOf : List Float → Joined
-combineOf numbers = cond (eqb (length numbers % 13) 0) (joinedOf (bodyAt numbers) (length numbers / 13)) (refusedBody Count)
+combineOf numbers = cond (eqb (length numbers % bodyNumbers) 0) (joinedOf (bodyAt numbers) (length numbers / bodyNumbers)) (refusedBody Count)
 
 -- ---- what the steps do
 

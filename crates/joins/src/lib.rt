@@ -2,15 +2,16 @@
 //
 // m = Σ mₖ, centre = Σ mₖ cₖ / m, I = Σ [Iₖ + mₖ (|dₖ|² E − dₖ dₖᵀ)] with dₖ = cₖ − centre, the sums in order and from +0. A total
 // mass not above 0 takes the mean of the centres, a NaN mass a NaN centre (document 01, "Body"). The steps are by value, for a list of
-// any form; here the bodies lie one after another in a flat slice, 13 numbers each: mass, centre, the tensor's three columns.
+// any form; here the bodies lie one after another in a flat slice, as their numbers.
 ghost use mathlib.Core.Path.{_≡_};
 ghost use Prim.Native.Nat.{_+_, _*_, _≤_};
 ghost use lib.ListN.{length};
-ghost use Rattle.joins.specs.Flat.{bodyAt, numbersOf, withBody};
+ghost use Rattle.bodies.specs.Layout.{bodyNumbers};
+ghost use Rattle.joins.specs.Flat.{bodyAt, withBody};
 ghost use Rattle.joins.specs.Joins.{sumsOf, noSums, addBody, centreOf, atCentre, addInertia, joinOf, acceptedBody, refusedBody, combineOf};
+use bodies::BODY_NUMBERS;
 use bodies::Body;
-use bodies::Centre;
-use bodies::Tensor;
+use bodies::Vector;
 use refusals::Refusal;
 use refusals::Verdict;
 
@@ -23,8 +24,8 @@ pub struct Joined {
 // What the centre is worked from: total mass, Σ mₖ cₖ, Σ cₖ and how many.
 pub struct Sums {
     pub mass_kg: f64,
-    pub moment: Centre,
-    pub positions: Centre,
+    pub moment: Vector,
+    pub positions: Vector,
     pub count: f64,
 }
 
@@ -47,10 +48,10 @@ pub fn refused(refusal: Refusal) -> Joined
 pub fn combine(bodies: &[f64]) -> Joined
     ensures { λ r. ⌜ r ≡ combineOf (now (bodies .entry)) ⌝ }
 {
-    if bodies.len() % 13 != 0 {
+    if bodies.len() % BODY_NUMBERS != 0 {
         return refused(Refusal::Count);
     }
-    let count = bodies.len() / 13;
+    let count = bodies.len() / BODY_NUMBERS;
     let verdict = limits::check_count(count);
     match verdict {
         Verdict::Accepted => accepted(join(bodies, count)),
@@ -59,7 +60,7 @@ pub fn combine(bodies: &[f64]) -> Joined
 }
 
 fn join(bodies: &[f64], count: usize) -> Body
-    requires { ⌜ 13 * count ≤ length (now bodies) ⌝ }
+    requires { ⌜ bodyNumbers * count ≤ length (now bodies) ⌝ }
     ensures { λ r. ⌜ r ≡ joinOf (bodyAt (now (bodies .entry))) count ⌝ }
 {
     let mut joined = at_centre(sum_bodies(bodies, count));
@@ -71,80 +72,30 @@ fn join(bodies: &[f64], count: usize) -> Body
     joined
 }
 
-// The body of thirteen numbers.
-pub fn body_of(numbers: &[f64]) -> Body
-    requires { ⌜ length (now numbers) ≡ 13 ⌝ }
-    ensures { λ r. ⌜ r ≡ bodyAt (now (numbers .entry)) 0 ⌝ }
-{
-    Body {
-        mass_kg: numbers[0],
-        centre_m: Centre {
-            x: numbers[1],
-            y: numbers[2],
-            z: numbers[3],
-        },
-        inertia_kg_m2: Tensor([
-            numbers[4],
-            numbers[5],
-            numbers[6],
-            numbers[7],
-            numbers[8],
-            numbers[9],
-            numbers[10],
-            numbers[11],
-            numbers[12],
-        ]),
-    }
-}
-
 fn body_at(bodies: &[f64], k: usize) -> Body
-    requires { ⌜ 13 * k + 13 ≤ length (now bodies) ⌝ }
+    requires { ⌜ bodyNumbers * k + bodyNumbers ≤ length (now bodies) ⌝ }
     ensures { λ r. ⌜ r ≡ bodyAt (now (bodies .entry)) k ⌝ }
 {
-    let o = 13 * k;
-    let e = o + 13;
-    body_of(&bodies[o..e])
+    let o = BODY_NUMBERS * k;
+    let e = o + BODY_NUMBERS;
+    bodies::body_of(&bodies[o..e])
 }
 
 // Writes `body` over body k of the slice.
 pub fn write_body(bodies: &mut [f64], k: usize, body: Body)
-    requires { ⌜ 13 * k + 13 ≤ length (now bodies) ⌝ }
+    requires { ⌜ bodyNumbers * k + bodyNumbers ≤ length (now bodies) ⌝ }
     ensures { λ r. ⌜ now (bodies .exit) ≡ withBody (now (bodies .entry)) k body ⌝ }
 {
-    let written = numbers(body);
+    let written = body.numbers();
     let mut j = 0;
-    while j < 13 {
-        bodies[13 * k + j] = written[j];
+    while j < BODY_NUMBERS {
+        bodies[BODY_NUMBERS * k + j] = written[j];
         j += 1;
     }
 }
 
-// The thirteen numbers of a body.
-pub fn numbers(body: Body) -> [f64; 13]
-    ensures { λ r. ⌜ r ≡ numbersOf body ⌝ }
-{
-    let centre = body.centre_m;
-    let inertia = body.inertia_kg_m2;
-    let a = inertia.0;
-    [
-        body.mass_kg,
-        centre.x,
-        centre.y,
-        centre.z,
-        a[0],
-        a[1],
-        a[2],
-        a[3],
-        a[4],
-        a[5],
-        a[6],
-        a[7],
-        a[8],
-    ]
-}
-
 fn sum_bodies(bodies: &[f64], count: usize) -> Sums
-    requires { ⌜ 13 * count ≤ length (now bodies) ⌝ }
+    requires { ⌜ bodyNumbers * count ≤ length (now bodies) ⌝ }
     ensures { λ r. ⌜ r ≡ sumsOf (bodyAt (now (bodies .entry))) count ⌝ }
 {
     let mut sums = no_sums();
@@ -187,13 +138,13 @@ pub fn add_body(sums: Sums, body: Body) -> Sums
 }
 
 // The origin for no bodies, as in the Rust.
-fn centre(sums: Sums) -> Centre
+fn centre(sums: Sums) -> Vector
     ensures { λ r. ⌜ r ≡ centreOf sums ⌝ }
 {
     let mass = sums.mass_kg;
     if mass != mass {
         let nan = 0.0 / 0.0;
-        return Centre {
+        return Vector {
             x: nan,
             y: nan,
             z: nan,

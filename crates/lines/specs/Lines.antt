@@ -9,8 +9,8 @@ use Rattle.refusals.specs.declared.Refusal.the-variants.{NoForm as noForm}
 use Rattle.refusals.specs.declared.Verdict.{Verdict}
 use Rattle.refusals.specs.declared.Verdict.the-variants.{Accepted, Refused}
 use Rattle.refusals.specs.Refusals.{numberOf}
+use Rattle.bodies.specs.Layout.{numbersOf}
 use Rattle.joins.specs.declared.Joined.{Joined}
-use Rattle.joins.specs.Flat.{numbersOf}
 use Rattle.tubes.specs.declared.ClosingRadius.{ClosingRadius}
 use Rattle.moments.specs.declared.Moments.{Moments}
 use Rattle.texts.specs.Appended.{Appended}

@@ -38,7 +38,7 @@ fn put_set(out: &mut [u8], n: usize, f: Figures) -> usize
     let body = f.body;
     match verdict {
         Verdict::Accepted => {
-            let numbers = joins::numbers(body);
+            let numbers = body.numbers();
             answers::put_figures(out, n, &numbers, f.intervals as u64, f.samples as u64)
         }
         Verdict::Refused(refusal) => put_refusal(out, n, refusal),
@@ -67,7 +67,7 @@ fn put_joined(out: &mut [u8], n: usize, joined: Joined) -> usize
     let body = joined.body;
     match verdict {
         Verdict::Accepted => {
-            let numbers = joins::numbers(body);
+            let numbers = body.numbers();
             answers::put_joined(out, n, &numbers)
         }
         Verdict::Refused(refusal) => put_refusal(out, n, refusal),
@@ -82,7 +82,7 @@ fn put_ring(out: &mut [u8], n: usize, joined: Joined) -> usize
     let body = joined.body;
     match verdict {
         Verdict::Accepted => {
-            let numbers = joins::numbers(body);
+            let numbers = body.numbers();
             answers::put_ring(out, n, &numbers)
         }
         Verdict::Refused(refusal) => put_refusal(out, n, refusal),

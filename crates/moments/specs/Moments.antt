@@ -8,17 +8,16 @@ use Rattle.floats.specs.Operations.{_⊕_, _⊖_, _⊗_, _⊘_, bits, every}
 use Rattle.floats.specs.Constants.{half, one, two}
 use Rattle.floats.specs.Floats.{isFinite, absOf}
 use Rattle.root.specs.Root.{rootOf}
+use Rattle.bodies.specs.declared.Matrix.{Matrix}
 use Rattle.bodies.specs.declared.Tensor.{Tensor}
-use Rattle.bodies.specs.Tensors.{vector, numberAt, fromColumns}
+use Rattle.bodies.specs.Vectors.{vector}
+use Rattle.bodies.specs.Matrices.{placeAt, entry, fromColumns}
+use Rattle.bodies.specs.Tensors.{numberAt, asMatrix}
 use Rattle.refusals.specs.declared.Verdict.the-variants.{Accepted, Refused}
 use Rattle.refusals.specs.declared.Refusal.the-variants.{Tensor as TensorRefused}
 use Rattle.refusals.specs.declared.TensorFault.the-variants.{Entry}
 use Rattle.moments.specs.declared.Moments.{Moments}
 use Rattle.moments.specs.declared.Rotation.{Rotation}
-
--- row i of column j
-abbrev pub entry : Tensor → ℕ → ℕ → Float
-entry t i j = numberAt t (3 * j + i)
 
 -- ---- 17a
 
@@ -45,43 +44,44 @@ unfoldable pub rotationOf : Float → Float → Float → Rotation
 rotationOf app apq aqq = rotationBy (tangentOf ((aqq ⊖ app) ⊘ (two ⊗ apq)))
 
 -- the numbers x at i and y at j become c·x − s·y and s·x + c·y
-unfoldable pub turnPair : Rotation → ℕ → ℕ → Tensor → Tensor
-turnPair r i j t =
-    record { 0 = set (set (t .0) i (r .cosine ⊗ numberAt t i ⊖ r .sine ⊗ numberAt t j)) j (r .sine ⊗ numberAt t i ⊕ r .cosine ⊗ numberAt t j) }
+unfoldable pub turnPair : Rotation → ℕ → ℕ → Matrix → Matrix
+turnPair r i j a =
+    record { 0 = set (set (a .0) i (r .cosine ⊗ placeAt a i ⊖ r .sine ⊗ placeAt a j)) j (r .sine ⊗ placeAt a i ⊕ r .cosine ⊗ placeAt a j) }
 
 -- A·J: in each row, the numbers in columns p and q
-unfoldable pub turnColumns : Rotation → ℕ → ℕ → Tensor → Tensor
-turnColumns r p q t = turnPair r (3 * p + 2) (3 * q + 2) (turnPair r (3 * p + 1) (3 * q + 1) (turnPair r (3 * p) (3 * q) t))
+unfoldable pub turnColumns : Rotation → ℕ → ℕ → Matrix → Matrix
+turnColumns r p q a = turnPair r (3 * p + 2) (3 * q + 2) (turnPair r (3 * p + 1) (3 * q + 1) (turnPair r (3 * p) (3 * q) a))
 
 -- Jᵀ·A: in each column, the numbers in rows p and q
-unfoldable pub turnRows : Rotation → ℕ → ℕ → Tensor → Tensor
-turnRows r p q t = turnPair r (6 + p) (6 + q) (turnPair r (3 + p) (3 + q) (turnPair r p q t))
+unfoldable pub turnRows : Rotation → ℕ → ℕ → Matrix → Matrix
+turnRows r p q a = turnPair r (6 + p) (6 + q) (turnPair r (3 + p) (3 + q) (turnPair r p q a))
 
 -- Jᵀ·A·J; a plane whose entry is 0 is left alone
-unfoldable pub rotate : ℕ → ℕ → Tensor → Tensor
-rotate p q t =
-    cond (eq (entry t p q) (bits 0)) t
-    (let r = rotationOf (entry t p p) (entry t p q) (entry t q q) in turnRows r p q (turnColumns r p q t))
+unfoldable pub rotate : ℕ → ℕ → Matrix → Matrix
+rotate p q a =
+    cond (eq (entry a p q) (bits 0)) a
+    (let r = rotationOf (entry a p p) (entry a p q) (entry a q q) in turnRows r p q (turnColumns r p q a))
 
 -- ---- the sweeps
 
-abbrev pub symmetrized : Tensor → Tensor
-symmetrized t =
-    let m01 = half ⊗ (entry t 0 1 ⊕ entry t 1 0) in
-    let m02 = half ⊗ (entry t 0 2 ⊕ entry t 2 0) in
-    let m12 = half ⊗ (entry t 1 2 ⊕ entry t 2 1) in
-    fromColumns (vector (entry t 0 0) m01 m02) (vector m01 (entry t 1 1) m12) (vector m02 m12 (entry t 2 2))
+-- the means of opposite entries
+abbrev pub symmetrized : Matrix → Matrix
+symmetrized a =
+    let m01 = half ⊗ (entry a 0 1 ⊕ entry a 1 0) in
+    let m02 = half ⊗ (entry a 0 2 ⊕ entry a 2 0) in
+    let m12 = half ⊗ (entry a 1 2 ⊕ entry a 2 1) in
+    fromColumns (vector (entry a 0 0) m01 m02) (vector m01 (entry a 1 1) m12) (vector m02 m12 (entry a 2 2))
 
-abbrev pub offDiagonal : Tensor → Float
-offDiagonal t = absOf (entry t 0 1) ⊕ absOf (entry t 0 2) ⊕ absOf (entry t 1 2)
+abbrev pub offDiagonal : Matrix → Float
+offDiagonal a = absOf (entry a 0 1) ⊕ absOf (entry a 0 2) ⊕ absOf (entry a 1 2)
 
-unfoldable pub sweep : Tensor → Tensor
-sweep t = rotate 1 2 (rotate 0 2 (rotate 0 1 t))
+unfoldable pub sweep : Matrix → Matrix
+sweep a = rotate 1 2 (rotate 0 2 (rotate 0 1 a))
 
 -- "at most 32 sweeps, ending when the off-diagonal sum is 0"
-unfoldable pub sweeps : ℕ → Tensor → Tensor
-sweeps zero t = t
-sweeps (suc n) t = cond (eq (offDiagonal t) (bits 0)) t (sweeps n (sweep t))
+unfoldable pub sweeps : ℕ → Matrix → Matrix
+sweeps zero a = a
+sweeps (suc n) a = cond (eq (offDiagonal a) (bits 0)) a (sweeps n (sweep a))
 
 -- ---- the moments
 
@@ -99,7 +99,7 @@ abbrev pub ascending : List Float → List Float
 ascending xs = insertAll [] xs
 
 unfoldable pub eigenvaluesOf : Tensor → List Float
-eigenvaluesOf t = let a = sweeps 32 (symmetrized t) in ascending (entry a 0 0 ∷ entry a 1 1 ∷ entry a 2 2 ∷ [])
+eigenvaluesOf t = let a = sweeps 32 (symmetrized (asMatrix t)) in ascending (entry a 0 0 ∷ entry a 1 1 ∷ entry a 2 2 ∷ [])
 
 -- "17a first"
 abbrev pub refusedEntry : Moments

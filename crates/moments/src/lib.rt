@@ -7,6 +7,7 @@ ghost use mathlib.Core.Path.{_≡_};
 ghost use mathlib.Core.List.{[], _∷_};
 ghost use Prim.Native.Nat.{_<_};
 ghost use Rattle.moments.specs.Moments.{entryFits, entriesFit, symmetrized, tangentOf, rotationOf, turnPair, turnColumns, turnRows, rotate, sweep, offDiagonal, sweeps, insertMoment, ascending, eigenvaluesOf, refusedEntry, principalMomentsOf};
+use bodies::Matrix;
 use bodies::Tensor;
 use refusals::Refusal;
 use refusals::TensorFault;
@@ -73,97 +74,97 @@ fn entry_fits(x: f64) -> bool
 pub fn eigenvalues(tensor: Tensor) -> [f64; 3]
     ensures { λ r. ⌜ r ≡ eigenvaluesOf tensor ⌝ }
 {
-    let diagonal = run_sweeps(symmetrize(tensor));
+    let diagonal = run_sweeps(symmetrize(tensor.as_matrix()));
     let a = diagonal.0;
     sort(a[0], a[4], a[8])
 }
 
 // Each pair of opposite entries becomes its mean.
-fn symmetrize(tensor: Tensor) -> Tensor
-    ensures { λ r. ⌜ r ≡ symmetrized tensor ⌝ }
+fn symmetrize(matrix: Matrix) -> Matrix
+    ensures { λ r. ⌜ r ≡ symmetrized matrix ⌝ }
 {
-    let a = tensor.0;
+    let a = matrix.0;
     let m01 = 0.5 * (a[3] + a[1]);
     let m02 = 0.5 * (a[6] + a[2]);
     let m12 = 0.5 * (a[7] + a[5]);
-    Tensor([a[0], m01, m02, m01, a[4], m12, m02, m12, a[8]])
+    Matrix([a[0], m01, m02, m01, a[4], m12, m02, m12, a[8]])
 }
 
 // Sweeps until the off-diagonal sum is 0, at most 32.
-fn run_sweeps(start: Tensor) -> Tensor
+fn run_sweeps(start: Matrix) -> Matrix
     ensures { λ r. ⌜ r ≡ sweeps 32 start ⌝ }
 {
-    let mut tensor = start;
+    let mut matrix = start;
     let mut left = SWEEPS;
     while 0 < left {
-        if off_diagonal(tensor) == 0.0 {
-            return tensor;
+        if off_diagonal(matrix) == 0.0 {
+            return matrix;
         }
-        tensor = sweep_once(tensor);
+        matrix = sweep_once(matrix);
         left -= 1;
     }
-    tensor
+    matrix
 }
 
-fn off_diagonal(tensor: Tensor) -> f64
-    ensures { λ r. ⌜ r ≡ offDiagonal tensor ⌝ }
+fn off_diagonal(matrix: Matrix) -> f64
+    ensures { λ r. ⌜ r ≡ offDiagonal matrix ⌝ }
 {
-    let a = tensor.0;
+    let a = matrix.0;
     floats::abs(a[3]) + floats::abs(a[6]) + floats::abs(a[7])
 }
 
-fn sweep_once(tensor: Tensor) -> Tensor
-    ensures { λ r. ⌜ r ≡ sweep tensor ⌝ }
+fn sweep_once(matrix: Matrix) -> Matrix
+    ensures { λ r. ⌜ r ≡ sweep matrix ⌝ }
 {
-    rotate_plane(rotate_plane(rotate_plane(tensor, 0, 1), 0, 2), 1, 2)
+    rotate_plane(rotate_plane(rotate_plane(matrix, 0, 1), 0, 2), 1, 2)
 }
 
 // Jᵀ A J in the plane (p, q); a plane whose entry is 0 is left alone.
-fn rotate_plane(tensor: Tensor, p: usize, q: usize) -> Tensor
+fn rotate_plane(matrix: Matrix, p: usize, q: usize) -> Matrix
     requires { ⌜ (p < 3) × (q < 3) ⌝ }
-    ensures { λ r. ⌜ r ≡ rotate p q tensor ⌝ }
+    ensures { λ r. ⌜ r ≡ rotate p q matrix ⌝ }
 {
-    let a = tensor.0;
+    let a = matrix.0;
     let apq = a[3 * q + p];
     if apq == 0.0 {
-        return tensor;
+        return matrix;
     }
     let turn = symmetric_schur(a[3 * p + p], apq, a[3 * q + q]);
-    turn_rows(turn_columns(tensor, p, q, turn), p, q, turn)
+    turn_rows(turn_columns(matrix, p, q, turn), p, q, turn)
 }
 
 // A J: in each row, the numbers in columns p and q.
-fn turn_columns(tensor: Tensor, p: usize, q: usize, turn: Rotation) -> Tensor
+fn turn_columns(matrix: Matrix, p: usize, q: usize, turn: Rotation) -> Matrix
     requires { ⌜ (p < 3) × (q < 3) ⌝ }
-    ensures { λ r. ⌜ r ≡ turnColumns turn p q tensor ⌝ }
+    ensures { λ r. ⌜ r ≡ turnColumns turn p q matrix ⌝ }
 {
-    let row0 = turn_pair(tensor, 3 * p, 3 * q, turn);
+    let row0 = turn_pair(matrix, 3 * p, 3 * q, turn);
     let row1 = turn_pair(row0, 3 * p + 1, 3 * q + 1, turn);
     turn_pair(row1, 3 * p + 2, 3 * q + 2, turn)
 }
 
 // Jᵀ A: in each column, the numbers in rows p and q.
-fn turn_rows(tensor: Tensor, p: usize, q: usize, turn: Rotation) -> Tensor
+fn turn_rows(matrix: Matrix, p: usize, q: usize, turn: Rotation) -> Matrix
     requires { ⌜ (p < 3) × (q < 3) ⌝ }
-    ensures { λ r. ⌜ r ≡ turnRows turn p q tensor ⌝ }
+    ensures { λ r. ⌜ r ≡ turnRows turn p q matrix ⌝ }
 {
-    let column0 = turn_pair(tensor, p, q, turn);
+    let column0 = turn_pair(matrix, p, q, turn);
     let column1 = turn_pair(column0, 3 + p, 3 + q, turn);
     turn_pair(column1, 6 + p, 6 + q, turn)
 }
 
 // The numbers x at i and y at j become c x − s y and s x + c y.
-fn turn_pair(tensor: Tensor, i: usize, j: usize, turn: Rotation) -> Tensor
+fn turn_pair(matrix: Matrix, i: usize, j: usize, turn: Rotation) -> Matrix
     requires { ⌜ (i < 9) × (j < 9) ⌝ }
-    ensures { λ r. ⌜ r ≡ turnPair turn i j tensor ⌝ }
+    ensures { λ r. ⌜ r ≡ turnPair turn i j matrix ⌝ }
 {
-    let a = tensor.0;
+    let a = matrix.0;
     let x = a[i];
     let y = a[j];
     let mut b = a;
     b[i] = turn.cosine * x - turn.sine * y;
     b[j] = turn.sine * x + turn.cosine * y;
-    Tensor(b)
+    Matrix(b)
 }
 
 // The rotation for the entries app, apq, aqq of a plane.

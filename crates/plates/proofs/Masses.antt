@@ -4,7 +4,8 @@ use mathlib.Core.List.{List}
 use lib.Ieee.{Float}
 use Rattle.bodies.specs.declared.Body.{Body}
 use Rattle.bodies.specs.declared.Tensor.{Tensor}
-use Rattle.bodies.specs.Tensors.{zeroVector, subtractTensors}
+use Rattle.bodies.specs.Vectors.{zeroVector}
+use Rattle.bodies.specs.Tensors.{subtractTensors}
 use Rattle.bodies.specs.Bodies.{inertiaAboutOf}
 use Rattle.plates.specs.Plates.{aboutOrigin, atCentre, plateBody}
 

@@ -5,9 +5,10 @@ use lib.Ieee.{Float, neg, eq, le}
 use Rattle.floats.specs.Operations.{_⊕_, _⊗_, _⊘_, bits}
 use Rattle.floats.specs.Constants.{half}
 use Rattle.bodies.specs.declared.Body.{Body}
-use Rattle.bodies.specs.declared.Centre.{Centre}
 use Rattle.bodies.specs.declared.Tensor.{Tensor}
-use Rattle.bodies.specs.Tensors.{vector, fromColumns, zeroVector, zeroTensor, subtractTensors, scaleTensor}
+use Rattle.bodies.specs.declared.Vector.{Vector}
+use Rattle.bodies.specs.Vectors.{vector, zeroVector}
+use Rattle.bodies.specs.Tensors.{symmetric, zeroTensor, subtractTensors, scaleTensor}
 use Rattle.bodies.specs.Bodies.{inertiaAboutOf, translatedOf}
 use Rattle.rotations.specs.Rotations.{rotatedXOf}
 use Rattle.refusals.specs.declared.Refusal.the-variants.{NoArea, Density as density}
@@ -21,12 +22,7 @@ use Rattle.plates.specs.Integrals.{volume, r1, r2, x1, x2, rx, tau2, uns
 -- the tensor about the origin, of points at (r, τ, −x); its entries are summed first, then times the density
 abbrev pub aboutOrigin : List Float → Float → Tensor
 aboutOrigin v kgPerM3 =
-    scaleTensor
-    (fromColumns
-    (vector (tau2 v ⊕ x2 v) (bits 0) (rx v))
-    (vector (bits 0) (r2 v ⊕ x2 v) (bits 0))
-    (vector (rx v) (bits 0) (r2 v ⊕ tau2 v)))
-    kgPerM3
+    scaleTensor (symmetric (tau2 v ⊕ x2 v) (r2 v ⊕ x2 v) (r2 v ⊕ tau2 v) (bits 0) (rx v) (bits 0)) kgPerM3
 
 -- the plate's mass at its centre, with no tensor of its own (the Rust's `at_origin`)
 abbrev pub atCentre : List Float → Float → Body
@@ -46,19 +42,19 @@ plateBody v kgPerM3 =
       «inertia_kg_m2» = subtractTensors (aboutOrigin v kgPerM3) (inertiaAboutOf (atCentre v kgPerM3) zeroVector);
     }
 
-abbrev pub negateVector : Centre → Centre
+abbrev pub negateVector : Vector → Vector
 negateVector u = vector (neg (u .x)) (neg (u .y)) (neg (u .z))
 
 -- the middle of the root chord, on the body's surface
-abbrev pub pivotOf : Float → Float → Centre
+abbrev pub pivotOf : Float → Float → Vector
 pivotOf radius root = vector radius (bits 0) (neg half ⊗ root)
 
 -- turned by the cant about the span axis through the pivot; a cant of either zero moves and turns nothing
-unfoldable pub cantedOf : Body → Float → Centre → Body
+unfoldable pub cantedOf : Body → Float → Vector → Body
 cantedOf fin cant pivot = cond (eq cant (bits 0)) fin (translatedOf (rotatedXOf (translatedOf fin (negateVector pivot)) cant) pivot)
 
 -- 8: "area or volume <= 0"
-unfoldable pub bulkFin : List Float → Float → Centre → Float → Joined
+unfoldable pub bulkFin : List Float → Float → Vector → Float → Joined
 bulkFin v cant pivot kgPerM3 =
     cond (le (volume v) (bits 0)) (refusedBody NoArea)
     (acceptedBody (cantedOf (plateBody v kgPerM3) cant pivot))

@@ -8,8 +8,8 @@ ghost use Rattle.plates.specs.Integrals.{unscaledOf, slabOf, tabIntegral
 ghost use Rattle.plates.specs.Plates.{aboutOrigin, atCentre, plateBody, cantedOf, bulkFin, singleFinOf};
 ghost use Rattle.plates.specs.Geometry.{geometryOf};
 use bodies::Body;
-use bodies::Centre;
 use bodies::Tensor;
+use bodies::Vector;
 use fins::FinSet;
 use fins::Tab;
 use joins::Joined;
@@ -107,7 +107,7 @@ fn about_origin(v: [f64; 7], kg_m3: f64) -> Tensor
     let xx = tau2 + x2;
     let yy = r2 + x2;
     let zz = r2 + tau2;
-    Tensor([xx, 0.0, rx, 0.0, yy, 0.0, rx, 0.0, zz]).scale(kg_m3)
+    Tensor::symmetric(xx, yy, zz, 0.0, rx, 0.0).scale(kg_m3)
 }
 
 // Its mass at its centre, with no tensor of its own.
@@ -118,7 +118,7 @@ fn at_centre(v: [f64; 7], kg_m3: f64) -> Body
     let r1 = v[1];
     let x1 = v[3];
     let mass_kg = kg_m3 * volume;
-    let centre_m = Centre {
+    let centre_m = Vector {
         x: r1 / volume,
         y: 0.0,
         z: -x1 / volume,
@@ -149,13 +149,13 @@ fn plate(v: [f64; 7], kg_m3: f64) -> Body
 }
 
 // The fin turned about the span axis through `pivot_m`; either zero leaves it bit for bit.
-fn canted(fin: Body, cant_rad: f64, pivot_m: Centre) -> Body
+fn canted(fin: Body, cant_rad: f64, pivot_m: Vector) -> Body
     ensures { λ r. ⌜ r ≡ cantedOf fin «cant_rad» «pivot_m» ⌝ }
 {
     if cant_rad == 0.0 {
         return fin;
     }
-    let back_m = Centre {
+    let back_m = Vector {
         x: -pivot_m.x,
         y: -pivot_m.y,
         z: -pivot_m.z,
@@ -164,7 +164,7 @@ fn canted(fin: Body, cant_rad: f64, pivot_m: Centre) -> Body
 }
 
 // The fin with the integrals v; refused 8 for a volume not above 0, but not for a NaN.
-fn bulk_fin(v: [f64; 7], cant_rad: f64, pivot_m: Centre, kg_m3: f64) -> Joined
+fn bulk_fin(v: [f64; 7], cant_rad: f64, pivot_m: Vector, kg_m3: f64) -> Joined
     ensures { λ r. ⌜ r ≡ bulkFin v «cant_rad» «pivot_m» «kg_m3» ⌝ }
 {
     if v[0] <= 0.0 {
@@ -180,7 +180,7 @@ pub fn single_fin(set: FinSet, root_chord_m: f64, scale_m: f64, total: [f64; 7])
     let tab = set.tab;
     let below = tab_integrals(tab, set.thickness_m, set.body_radius_m);
     let v = sum(unscaled(total, scale_m), below);
-    let pivot_m = Centre {
+    let pivot_m = Vector {
         x: set.body_radius_m,
         y: 0.0,
         z: -0.5 * root_chord_m,

@@ -20,9 +20,10 @@ use Rattle.materials.specs.declared.NumberedDensity.the-variants.{Known as dens
 use Rattle.materials.specs.Numbered.{numberedDensity}
 use Rattle.tubes.specs.Tubes.{tubesOf}
 use Rattle.bodies.specs.declared.Body.{Body}
-use Rattle.bodies.specs.Tensors.{vector, zeroTensor, tensor}
+use Rattle.bodies.specs.Vectors.{vector}
+use Rattle.bodies.specs.Tensors.{zeroTensor, tensor}
+use Rattle.bodies.specs.Layout.{tensorNumbers, bodyNumbers, bodyOf}
 use Rattle.joins.specs.declared.Joined.{Joined}
-use Rattle.joins.specs.Flat.{bodyAt}
 use Rattle.joins.specs.Joins.{joinedOf, refusedBody}
 use Rattle.moments.specs.declared.Moments.{Moments}
 use Rattle.moments.specs.Moments.{principalMomentsOf}
@@ -96,15 +97,15 @@ pointBodyAt figures k =
 unfoldable pub joinedPointsOf : List Float → Joined
 joinedPointsOf figures = joinedOf (pointBodyAt figures) (length figures / 4)
 
--- ---- principal moments: of nine numbers in columns
+-- ---- principal moments: of a tensor's numbers
 
 abbrev pub noMoments : Moments
 noMoments = record { verdict = Refused NoForm; «moments_kg_m2» = bits 0 ∷ bits 0 ∷ bits 0 ∷ [] }
 
 unfoldable pub tensorMoments : List Float → Moments
-tensorMoments numbers = cond (eqb (length numbers) 9) (principalMomentsOf (tensor (at numbers))) noMoments
+tensorMoments numbers = cond (eqb (length numbers) tensorNumbers) (principalMomentsOf (tensor (at numbers))) noMoments
 
--- ---- the body check: of thirteen numbers
+-- ---- the body check: of a body's numbers
 
 unfoldable pub bodyVerdict : List Float → Verdict
-bodyVerdict numbers = cond (eqb (length numbers) 13) (checkOf (bodyAt numbers 0)) (Refused NoForm)
+bodyVerdict numbers = cond (eqb (length numbers) bodyNumbers) (checkOf (bodyOf (at numbers))) (Refused NoForm)

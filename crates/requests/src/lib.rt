@@ -7,13 +7,16 @@ ghost use mathlib.Core.Path.{_≡_};
 ghost use Prim.Native.Nat.{_+_, _*_, _≤_, min};
 ghost use lib.ListN.{length, drop};
 ghost use Rattle.floats.specs.Operations.{at};
+ghost use Rattle.bodies.specs.Layout.{bodyNumbers};
 ghost use Rattle.joins.specs.Flat.{withBodies};
 ghost use Rattle.figures.specs.Figures.{refusedFigures};
 ghost use Rattle.figures.specs.Areas.{refusedArea};
 ghost use Rattle.requests.specs.Calls.{numberedFigures, numberedScratch, numberedArea, numberedAreaScratch, numberedChords, numberedEnds, ringBy, pointBodyAt, joinedPointsOf, tensorMoments, bodyVerdict};
 ghost use Rattle.requests.specs.Requests.{between, setRequestOf, areaRequestOf, askedRing, askedClosing, askedFigures, askedScratch, askedArea, askedAreaScratch};
+use bodies::BODY_NUMBERS;
 use bodies::Body;
-use bodies::Centre;
+use bodies::TENSOR_NUMBERS;
+use bodies::Vector;
 use figures::Area;
 use figures::Figures;
 use fins::NumberedSet;
@@ -27,6 +30,9 @@ use refusals::Refusal;
 use refusals::Verdict;
 use tubes::ClosingRadius;
 use tubes::TubeFinSet;
+
+// Room for as many points as a line may join, each written as a body.
+const POINTS_NUMBERS: usize = 32 * BODY_NUMBERS;
 
 // A set's limit, the set, and how many of the line's first figures are its planform's: an outline's points.
 pub struct SetRequest {
@@ -214,11 +220,11 @@ pub fn ring_figures(count: usize, density: usize, numbers: &[f64]) -> Joined
     }
 }
 
-// The principal moments of nine numbers; of another count, 18.
+// The principal moments of a tensor's numbers; of another count, 18.
 pub fn tensor_moments(numbers: &[f64]) -> Moments
     ensures { λ r. ⌜ r ≡ tensorMoments (now (numbers .entry)) ⌝ }
 {
-    if numbers.len() != 9 {
+    if numbers.len() != TENSOR_NUMBERS {
         let verdict = Verdict::Refused(Refusal::NoForm);
         let moments_kg_m2 = [0.0, 0.0, 0.0];
         return Moments {
@@ -229,14 +235,14 @@ pub fn tensor_moments(numbers: &[f64]) -> Moments
     moments::principal_moments(bodies::tensor_of(numbers))
 }
 
-// The check of thirteen numbers; of another count, 18.
+// The check of a body's numbers; of another count, 18.
 pub fn body_verdict(numbers: &[f64]) -> Verdict
     ensures { λ r. ⌜ r ≡ bodyVerdict (now (numbers .entry)) ⌝ }
 {
-    if numbers.len() != 13 {
+    if numbers.len() != BODY_NUMBERS {
         return Verdict::Refused(Refusal::NoForm);
     }
-    body_check::check(joins::body_of(numbers))
+    body_check::check(bodies::body_of(numbers))
 }
 
 // The figures of a set that a line asks, over a lent scratch.
@@ -287,7 +293,7 @@ fn point_body(values: &[f64], k: usize) -> Body
     let o = 4 * k;
     Body {
         mass_kg: values[o],
-        centre_m: Centre {
+        centre_m: Vector {
             x: values[o + 1],
             y: values[o + 2],
             z: values[o + 3],
@@ -298,7 +304,7 @@ fn point_body(values: &[f64], k: usize) -> Body
 
 // Writes each point as a body, one after another from the start of a lent list.
 fn write_points(bodies: &mut [f64], values: &[f64], count: usize)
-    requires { ⌜ (13 * count ≤ length (now bodies)) × (4 * count ≤ length (now values)) ⌝ }
+    requires { ⌜ (bodyNumbers * count ≤ length (now bodies)) × (4 * count ≤ length (now values)) ⌝ }
     ensures { λ _. ⌜ now (bodies .exit) ≡ withBodies (pointBodyAt (now (values .entry))) count (now (bodies .entry)) ⌝ }
 {
     let mut k = 0;
@@ -319,8 +325,8 @@ pub fn join_points(values: &[f64]) -> Joined
         let body = Body::ZERO;
         return Joined { verdict, body };
     }
-    let mut bodies = [0.0; 416];
+    let mut bodies = [0.0; POINTS_NUMBERS];
     write_points(&mut bodies, values, count);
-    let end = 13 * count;
+    let end = BODY_NUMBERS * count;
     joins::combine(&bodies[..end])
 }

@@ -4,8 +4,9 @@ use Rattle.floats.specs.Operations.{_⊕_, _⊖_, _⊗_, _⊘_, bits}
 use Rattle.floats.specs.Constants.{one, two}
 use Rattle.trig.specs.Trig.{sinOf, cosOf}
 use Rattle.bodies.specs.declared.Body.{Body}
-use Rattle.bodies.specs.declared.Tensor.{Tensor}
-use Rattle.bodies.specs.Tensors.{vector, fromColumns}
+use Rattle.bodies.specs.declared.Matrix.{Matrix}
+use Rattle.bodies.specs.Vectors.{vector}
+use Rattle.bodies.specs.Matrices.{fromColumns}
 use Rattle.bodies.specs.Bodies.{rotatedOf}
 use Rattle.rotations.specs.declared.Quaternion.{Quaternion}
 
@@ -21,7 +22,7 @@ abbrev pub double : Float → Float → Float
 double p q = p ⊗ (q ⊕ q)
 
 -- "columns (1−(yy2+zz2), xy2+wz2, xz2−wy2), (xy2−wz2, 1−(xx2+zz2), yz2+wx2), (xz2+wy2, yz2−wx2, 1−(xx2+yy2))"
-abbrev pub matrixOf : Quaternion → Tensor
+abbrev pub matrixOf : Quaternion → Matrix
 matrixOf q =
     fromColumns
     (vector (one ⊖ (double (q .y) (q .y) ⊕ double (q .z) (q .z))) (double (q .x) (q .y) ⊕ double (q .w) (q .z)) (double (q .x) (q .z) ⊖ double (q .w) (q .y)))

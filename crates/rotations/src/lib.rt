@@ -5,7 +5,7 @@
 ghost use mathlib.Core.Path.{_≡_};
 ghost use Rattle.rotations.specs.Rotations.{aboutX, aboutZ, matrixOf, turnedOf, rotatedXOf, rolledOf};
 use bodies::Body;
-use bodies::Tensor;
+use bodies::Matrix;
 
 pub struct Quaternion {
     pub x: f64,
@@ -42,7 +42,7 @@ impl Quaternion {
     }
 
     // The matrix of the turn (glam's `from_quat`).
-    pub fn matrix(self) -> Tensor
+    pub fn matrix(self) -> Matrix
         ensures { λ r. ⌜ r ≡ matrixOf self ⌝ }
     {
         let x2 = self.x + self.x;
@@ -57,7 +57,7 @@ impl Quaternion {
         let wx2 = self.w * x2;
         let wy2 = self.w * y2;
         let wz2 = self.w * z2;
-        Tensor([
+        Matrix([
             1.0 - (yy2 + zz2),
             xy2 + wz2,
             xz2 - wy2,

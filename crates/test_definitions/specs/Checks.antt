@@ -28,7 +28,7 @@ use Rattle.fins.specs.declared.Tab.the-variants.{None, Slab}
 use Rattle.fins.specs.Fins.{planformCheck, tabCheck, depthCheck, setCheck, areaCheck}
 use Rattle.bodies.specs.declared.Body.{Body}
 use Rattle.bodies.specs.declared.Tensor.{Tensor}
-use Rattle.bodies.specs.Tensors.{vector}
+use Rattle.bodies.specs.Vectors.{vector}
 use Rattle.moments.specs.Moments.{rotationOf, rotate, sweep, sweeps, insertMoment, insertAll, entriesFit, eigenvaluesOf, principalMomentsOf}
 use Rattle.root.specs.Root.{nearRoot, rootOf}
 use Rattle.body_check.specs.BodyCheck.{largestMagnitude, asymmetryOf, checkTensor, checkOf}

@@ -6,18 +6,20 @@ ghost use Rattle.test_questions.specs.Parts.{lineFigures, Reached};
 use crate::lines;
 use crate::lines::Outcome;
 use crate::reading::Cursor;
+use bodies::BODY_NUMBERS;
 use bodies::Body;
-use bodies::Centre;
+use bodies::TENSOR_NUMBERS;
 use bodies::Tensor;
+use bodies::Vector;
 use moments::Moments;
 use refusals::Refusal;
 use refusals::Verdict;
 use rotations::Quaternion;
 
-fn vector_of(parts: &[f64]) -> Centre
+fn vector_of(parts: &[f64]) -> Vector
     requires { ⌜ 3 ≤ length (now parts) ⌝ }
 {
-    Centre {
+    Vector {
         x: parts[0],
         y: parts[1],
         z: parts[2],
@@ -26,13 +28,15 @@ fn vector_of(parts: &[f64]) -> Centre
 
 fn tensor_agrees(answers: &[f64], tensor: Tensor) -> Outcome {
     let t = tensor.0;
-    lines::agrees_or_not(lines::agree(answers, &t, 9))
+    lines::agrees_or_not(lines::agree(answers, &t, TENSOR_NUMBERS))
 }
 
 fn matrix_agrees(turn: Quaternion, values: &[f64]) -> Outcome
     requires { ⌜ lineFigures ≤ length (now values) ⌝ }
 {
-    tensor_agrees(&values[1..10], turn.matrix())
+    let matrix = turn.matrix();
+    let m = matrix.0;
+    lines::agrees_or_not(lines::agree(&values[1..10], &m, 9))
 }
 
 pub(crate) fn replay_matrix(line: &[u8], values: &mut [f64]) -> Outcome
@@ -51,26 +55,22 @@ pub(crate) fn replay_matrix(line: &[u8], values: &mut [f64]) -> Outcome
 fn turned_x(values: &[f64]) -> Body
     requires { ⌜ lineFigures ≤ length (now values) ⌝ }
 {
-    rotations::rotated_x(joins::body_of(&values[1..14]), values[0])
+    rotations::rotated_x(bodies::body_of(&values[1..1 + BODY_NUMBERS]), values[0])
 }
 
 fn turned_z(values: &[f64]) -> Body
     requires { ⌜ lineFigures ≤ length (now values) ⌝ }
 {
-    rotations::rolled(joins::body_of(&values[1..14]), values[0])
+    rotations::rolled(bodies::body_of(&values[1..1 + BODY_NUMBERS]), values[0])
 }
 
 // The answer stands behind the angle and the body.
 fn turn_agrees(turned: Body, values: &[f64]) -> Outcome
     requires { ⌜ lineFigures ≤ length (now values) ⌝ }
 {
-    let centre = turned.centre_m;
-    let begin = [turned.mass_kg, centre.x, centre.y, centre.z];
-    let tensor = turned.inertia_kg_m2;
-    if !lines::agree(&values[14..18], &begin, 4) {
-        return Outcome::Differs;
-    }
-    tensor_agrees(&values[18..27], tensor)
+    let found = turned.numbers();
+    let answer = &values[1 + BODY_NUMBERS..1 + 2 * BODY_NUMBERS];
+    lines::agrees_or_not(lines::agree(answer, &found, BODY_NUMBERS))
 }
 
 pub(crate) fn replay_turn(line: &[u8], values: &mut [f64]) -> Outcome
@@ -97,8 +97,11 @@ pub(crate) fn replay_turn(line: &[u8], values: &mut [f64]) -> Outcome
 fn about_agrees(values: &[f64]) -> Outcome
     requires { ⌜ lineFigures ≤ length (now values) ⌝ }
 {
-    let r = joins::body_of(&values[3..16]).inertia_about(vector_of(values));
-    tensor_agrees(&values[16..25], r)
+    let r = bodies::body_of(&values[3..3 + BODY_NUMBERS]).inertia_about(vector_of(values));
+    tensor_agrees(
+        &values[3 + BODY_NUMBERS..3 + BODY_NUMBERS + TENSOR_NUMBERS],
+        r,
+    )
 }
 
 pub(crate) fn replay_about(line: &[u8], values: &mut [f64]) -> Outcome
@@ -166,7 +169,7 @@ pub(crate) fn replay_check(line: &[u8], values: &mut [f64]) -> Outcome
     if !asked.ok {
         return Outcome::NoLine;
     }
-    let verdict = body_check::check(joins::body_of(&values[0..13]));
+    let verdict = body_check::check(bodies::body_of(&values[..BODY_NUMBERS]));
     lines::agrees_or_not(says(line, asked, verdict, values))
 }
 
@@ -181,7 +184,7 @@ fn moments_agree(line: &[u8], asked: Cursor, found: Moments, values: &mut [f64])
     if !lines::ends(line, asked, b"F F F", values) {
         return false;
     }
-    lines::agree(&values[9..12], &moments, 3)
+    lines::agree(&values[TENSOR_NUMBERS..TENSOR_NUMBERS + 3], &moments, 3)
 }
 
 pub(crate) fn replay_moments(line: &[u8], values: &mut [f64]) -> Outcome

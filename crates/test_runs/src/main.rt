@@ -74,7 +74,7 @@ fn print_set(q: Request, values: &[f64], scratch: &mut [f64], out: &mut [u8]) ->
     let verdict = r.verdict;
     let body = r.body;
     let why = reason_of(verdict);
-    let figures = joins::numbers(body);
+    let figures = body.numbers();
     let counts = [
         why.number,
         why.first,

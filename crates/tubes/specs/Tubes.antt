@@ -5,7 +5,8 @@ use mathlib.Core.Bool.{true, false}
 use Rattle.floats.specs.Operations.{_⊕_, _⊖_, _⊗_, _⊘_, bits}
 use Rattle.floats.specs.Constants.{half, twelve, pi}
 use Rattle.bodies.specs.declared.Body.{Body}
-use Rattle.bodies.specs.Tensors.{vector, fromColumns}
+use Rattle.bodies.specs.Vectors.{vector}
+use Rattle.bodies.specs.Tensors.{diagonal}
 use Rattle.bodies.specs.Bodies.{emptyBody, translatedOf}
 use Rattle.refusals.specs.declared.Refusal.the-variants.{Length, WallOverRadius}
 use Rattle.refusals.specs.declared.Verdict.{Verdict}
@@ -42,7 +43,7 @@ symmetricBody mass z axial transverse =
     record {
       «mass_kg» = mass;
       «centre_m» = vector (bits 0) (bits 0) z;
-      «inertia_kg_m2» = fromColumns (vector transverse (bits 0) (bits 0)) (vector (bits 0) transverse (bits 0)) (vector (bits 0) (bits 0) axial);
+      «inertia_kg_m2» = diagonal transverse transverse axial;
     }
 
 -- its forward end at the origin; r is R less the wall

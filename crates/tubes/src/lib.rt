@@ -8,8 +8,8 @@ ghost use Prim.Native.Nat.{_≤_};
 ghost use Rattle.tubes.specs.Tubes.{hollowCylinder, tubeAt, wallCheck, mountCheck, tubeCheck, oneTube, tubesOf};
 ghost use Rattle.tubes.specs.Closing.{closingValue, closedAt, refusedRadius, closingOf};
 use bodies::Body;
-use bodies::Centre;
 use bodies::Tensor;
+use bodies::Vector;
 use joins::Joined;
 use materials::Density;
 use refusals::Refusal;
@@ -43,14 +43,15 @@ pub fn hollow_cylinder(kg_m3: f64, length_m: f64, outer_radius_m: f64, thickness
     let radii = big * big + small * small;
     let axial = 0.5 * mass_kg * radii;
     let transverse = mass_kg * (0.25 * radii + length_m * length_m / 12.0);
+    let inertia_kg_m2 = Tensor::symmetric(transverse, transverse, axial, 0.0, 0.0, 0.0);
     Body {
         mass_kg,
-        centre_m: Centre {
+        centre_m: Vector {
             x: 0.0,
             y: 0.0,
             z: -0.5 * length_m,
         },
-        inertia_kg_m2: Tensor([transverse, 0.0, 0.0, 0.0, transverse, 0.0, 0.0, 0.0, axial]),
+        inertia_kg_m2,
     }
 }
 
@@ -58,7 +59,7 @@ pub fn hollow_cylinder(kg_m3: f64, length_m: f64, outer_radius_m: f64, thickness
 fn tube_at(set: TubeFinSet, body_radius_m: f64) -> Body
     ensures { λ r. ⌜ r ≡ tubeAt set «body_radius_m» ⌝ }
 {
-    let axis_m = Centre {
+    let axis_m = Vector {
         x: body_radius_m + set.outer_radius_m,
         y: 0.0,
         z: 0.0,

@@ -1,5 +1,6 @@
 -- `exports::delvouzh_mass_properties` meets its contract: there is no room, or the figures are written. Assumes nothing.
 use borrow.Author.Needs.{needs}
+use Rattle.bodies.specs.Layout.{bodyNumbers}
 use Rattle.exports.proofs.Calls.{few-figures, few-counts, set-refused, set-written}
 use Rattle.exports.proofs.delvouzh_mass_properties.Statement.{statement}
 use Rattle.exports.proofs.delvouzh_mass_properties.Tie as tie
@@ -7,12 +8,12 @@ use Rattle.exports.proofs.delvouzh_mass_properties.Tie as tie
 returns : tie.Need-returns
 returns c =
     let a = c .before .before .before .before .before .before .args in
-    set-refused _ _ _ _ _ _ (few-figures 13 (a .body .now) 4 (a .counts .now) (c .if1 .taken))
+    set-refused _ _ _ _ _ _ (few-figures bodyNumbers (a .body .now) 4 (a .counts .now) (c .if1 .taken))
 
 returns-2 : tie.Need-returns-2
 returns-2 c =
     let a = c .before .before .before .before .before .before .before .args in
-    set-refused _ _ _ _ _ _ (few-counts 13 (a .body .now) 4 (a .counts .now) (c .before .if1 .left) (c .if2 .taken))
+    set-refused _ _ _ _ _ _ (few-counts bodyNumbers (a .body .now) 4 (a .counts .now) (c .before .if1 .left) (c .if2 .taken))
 
 crossed-set-requires : tie.Need-crossed-set-requires
 crossed-set-requires c κs = search needs

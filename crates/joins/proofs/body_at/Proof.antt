@@ -1,4 +1,4 @@
--- `joins::body_at` meets its contract: a part of thirteen numbers. Assumes nothing.
+-- `joins::body_at` meets its contract: a part of as many numbers as a body has. Assumes nothing.
 use mathlib.Core.Path.{_∙_}
 use borrow.Author.Needs.{needs}
 use denote.Ref.{now}

@@ -4,6 +4,9 @@ use Rattle.moments.specs.Moments.{eigenvaluesOf}
 use Rattle.moments.proofs.eigenvalues.Statement.{statement}
 use Rattle.moments.proofs.eigenvalues.Tie as tie
 
+as-matrix-requires : tie.Need-as-matrix-requires
+as-matrix-requires c κs = search needs
+
 symmetrize-requires : tie.Need-symmetrize-requires
 symmetrize-requires c κs = search needs
 
@@ -24,12 +27,15 @@ sort-requires c κs = search needs
 
 returns : tie.Need-returns
 unfolding eigenvaluesOf
-returns c = rw (c .sort .ensures, c .before .before .run-sweeps .ensures, c .before .before .before .symmetrize .ensures)
+returns c =
+    let start = c .before .before .before in
+    rw (c .sort .ensures, c .before .before .run-sweeps .ensures, start .symmetrize .ensures, start .before .as-matrix .ensures)
 
 pub eigenvalues-spec : {M : Type 1} → statement M
 eigenvalues-spec =
     tie.close
     (tie.spec
+    as-matrix-requires
     symmetrize-requires
     run-sweeps-requires
     array-read-sort

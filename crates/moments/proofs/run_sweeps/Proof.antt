@@ -9,10 +9,10 @@ use Rattle.moments.proofs.run_sweeps.Statement.{statement}
 use Rattle.moments.proofs.run_sweeps.Tie as tie
 
 abbrev Inv-loop : tie.InvT-loop
-Inv-loop tensor₀ left₀ tensor left = (sweeps left tensor ≡ sweeps 32 tensor₀) × (left ≤ 32)
+Inv-loop matrix₀ left₀ matrix left = (sweeps left matrix ≡ sweeps 32 matrix₀) × (left ≤ 32)
 
 abbrev μ-loop : tie.MeasureT-loop
-μ-loop tensor₀ left₀ tensor left = left
+μ-loop matrix₀ left₀ matrix left = left
 
 loop-holds : tie.Need-loop-holds Inv-loop μ-loop
 loop-holds c = (refl, omega arith)

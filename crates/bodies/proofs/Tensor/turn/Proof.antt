@@ -4,6 +4,9 @@ use Rattle.bodies.specs.Tensors.{turnTensor}
 use Rattle.bodies.proofs.Tensor.turn.Statement.{statement}
 use Rattle.bodies.proofs.Tensor.turn.Tie as tie
 
+as-matrix-requires : tie.Need-as-matrix-requires
+as-matrix-requires c κs = search needs
+
 times-requires : tie.Need-times-requires
 times-requires c κs = search needs
 
@@ -13,9 +16,15 @@ transpose-requires c κs = search needs
 times-requires-2 : tie.Need-times-requires-2
 times-requires-2 c κs = search needs
 
+of-matrix-requires : tie.Need-of-matrix-requires
+of-matrix-requires c κs = search needs
+
 returns : tie.Need-returns
 unfolding turnTensor
-returns c = rw (c .times2 .ensures, c .before .transpose .ensures, c .before .before .times .ensures)
+returns c =
+    let product = c .before in
+    let first = product .before .before in
+    rw (c .of-matrix .ensures, product .times2 .ensures, product .before .transpose .ensures, first .times .ensures, first .before .as-matrix .ensures)
 
 pub turn-spec : {M : Type 1} → statement M
-turn-spec = tie.close (tie.spec times-requires transpose-requires times-requires-2 returns)
+turn-spec = tie.close (tie.spec as-matrix-requires times-requires transpose-requires times-requires-2 of-matrix-requires returns)

@@ -1,7 +1,7 @@
--- `bodies::Tensor::times` meets its contract: the three columns, put together. Assumes nothing.
+-- `bodies::Matrix::times` meets its contract: the three columns, put together. Assumes nothing.
 use borrow.Author.Needs.{needs}
-use Rattle.bodies.proofs.Tensor.times.Statement.{statement}
-use Rattle.bodies.proofs.Tensor.times.Tie as tie
+use Rattle.bodies.proofs.Matrix.times.Statement.{statement}
+use Rattle.bodies.proofs.Matrix.times.Tie as tie
 
 array-read-t9 : tie.Need-array-read-t9
 array-read-t9 c = search needs

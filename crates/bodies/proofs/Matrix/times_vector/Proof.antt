@@ -1,7 +1,7 @@
--- `bodies::Tensor::times_vector` meets its contract: what the search finds. Assumes nothing.
+-- `bodies::Matrix::times_vector` meets its contract: what the search finds. Assumes nothing.
 use borrow.Author.Needs.{needs}
-use Rattle.bodies.proofs.Tensor.times_vector.Statement.{statement}
-use Rattle.bodies.proofs.Tensor.times_vector.Tie as tie
+use Rattle.bodies.proofs.Matrix.times_vector.Statement.{statement}
+use Rattle.bodies.proofs.Matrix.times_vector.Tie as tie
 
 array-read-t6 : tie.Need-array-read-t6
 array-read-t6 c = search needs
