@@ -1,8 +1,8 @@
 /* Fin figures that are proved: the functions of libexports.a, which `rt staticlib exports` writes (x86-64 Linux).
  *
- * Lengths are metres, angles radians, figures f64. Every function but delvouzh_sqrt returns 0, or the number of a refusal:
+ * Lengths are metres, angles radians, figures f64. Every function but delvouzh_sqrt and delvouzh_most_samples returns 0, or the number of a refusal:
  *
- *      1 limit not 1 to 4000             7 outline touches itself       13 not converged
+ *      1 limit not 1 to 64               7 outline touches itself       13 not converged
  *      2 scratch under 16 * limit        8 no area, or no volume        14 integrand not finite
  *      3 count not 1 to 32               9 angle outside its limits     15 body mass
  *      4 length outside its limits      10 tab off the root chord       16 body centre
@@ -82,6 +82,9 @@ size_t delvouzh_mass_properties(size_t limit, size_t count, size_t planform, con
 /* A planform's area and its centroid, x, then height. Counts and scratch as above. */
 size_t delvouzh_geometry(size_t limit, size_t planform, const double *lengths, size_t lengths_len, double *scratch,
                          size_t scratch_len, double *area, size_t area_len, size_t *counts, size_t counts_len);
+
+/* 118,110: no call of the two above reports more samples, with figures or refused. */
+size_t delvouzh_most_samples(void);
 
 /* A planform's chords at a height in metres, which may be any number: the planform is checked as for its area. Writes start and end of each
  * chord over `ends`, which has room for DELVOUZH_CHORDS numbers, and leaves the rest of it, and with a refusal all of it, as it was; as

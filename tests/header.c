@@ -105,6 +105,7 @@ static void figures(void) {
     const double tensor[9] = {2, 0, 0, 0, 0, 0, 0, 0, 2};
     at.number = delvouzh_principal_moments(tensor, 9, at.numbers, DELVOUZH_MOMENTS, at.counts, DELVOUZH_VALUES);
     holds("moments", refused(0, 0, 0) && at.numbers[0] == 0.0 && at.numbers[1] == 2.0 && at.numbers[2] == 2.0);
+    holds("the most samples", delvouzh_most_samples() == 62 * 15 * 127);
     holds("the root of 2", bits(delvouzh_sqrt(2.0)) == 0x3ff6a09e667f3bcd);
     answer_to(&at, "(join (point 1.0 #4000000000000000 0 -0))");
     holds("a line", answered("(joined (mass 3ff0000000000000) (centre 4000000000000000 0000000000000000 0000000000000000) (inertia"
@@ -119,6 +120,9 @@ static void refusals(void) {
     set_of(&at, 0, DELVOUZH_TRAPEZOID, TRAPEZOID, 4, FIGURES);
     holds("1", refused(1, 0, 0));
     set_of(&at, LIMIT + 1, DELVOUZH_TRAPEZOID, TRAPEZOID, 4, FIGURES);
+    holds("1 of 65 pieces", refused(1, 0, 0));
+    at.number = delvouzh_geometry(LIMIT, DELVOUZH_ELLIPSE, ELLIPSE, 2, at.scratch, SCRATCH - 1, at.numbers, DELVOUZH_AREA, at.counts,
+                                  DELVOUZH_COUNTS);
     holds("2", refused(2, 0, 0));
     set_of(&at, LIMIT, DELVOUZH_TRAPEZOID, tip, 4, FIGURES);
     holds("4 with its field", refused(4, 2, 0) && at.numbers[0] == 0.0);

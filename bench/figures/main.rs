@@ -173,7 +173,7 @@ fn heading(what: &str) {
 const SECTIONS: [&str; 4] = ["square", "rounded", "airfoil", "airfoil-open"];
 
 /// The limit of every table but the last; enough for all these sets.
-const LIMIT: usize = 500;
+const LIMIT: usize = 64;
 
 /// Each section of a planform; whether one is below `wanted` times the Rust's speed.
 fn sections(name: &str, wanted: f64, make: impl Fn(&mut Random, usize) -> Set) -> bool {
@@ -205,7 +205,7 @@ fn main() {
     }
 
     heading("against pieces");
-    for limit in [1, 2, 4, 8, 16, 32, 64, 128, 256, 512, 1024, 2048, 4000] {
+    for limit in [1, 2, 4, 8, 16, 32, 64] {
         line(&format!("L = {limit}"), "square", &[sets::never_converging()], limit);
     }
 

@@ -168,8 +168,7 @@ pub fn section(r: &mut Random) -> Section {
 fn limit(r: &mut Random) -> String {
     let limit = match r.below(8) {
         0 => r.range(1, 8),
-        1 => r.range(1, 100),
-        2 => 500,
+        1 => r.range(1, 64),
         _ => 64,
     };
     limit.to_string()
@@ -347,7 +346,7 @@ fn noise(r: &mut Random) -> String {
         return area(r, |_| planform.clone());
     }
     let mut draft = on(r, planform, false);
-    draft.limit = r.pick(&["1", "7", "64", "200", "500"]).to_owned();
+    draft.limit = r.pick(&["1", "7", "32", "63", "64"]).to_owned();
     let thickness = r.scaled(-20, -14);
     draft.thickness = within_root(r, thickness, draft.root());
     draft.line()
@@ -471,7 +470,7 @@ fn limits(r: &mut Random) -> Vec<String> {
         change(&mut draft);
         list.push(draft.line());
     };
-    for text in counts(&[1, 500, 4000]) {
+    for text in counts(&[1, 64]) {
         with(&|d| d.limit = text.clone());
     }
     for text in counts(&[1, 32]) {
@@ -544,7 +543,7 @@ fn faults(r: &mut Random) -> String {
     for _ in 0..1 + r.below(4) {
         let bad = r.pick(&bad_lengths);
         match r.below(15) {
-            0 => d.limit = r.pick(&["0", "4001", "501", "4000", "99999999999999999999"]).to_owned(),
+            0 => d.limit = r.pick(&["0", "65", "501", "4000", "99999999999999999999"]).to_owned(),
             1 => d.count = r.pick(&["0", "33", "4294967297"]).to_owned(),
             2..=4 => match &mut d.planform {
                 Planform::Trapezoid(f) => f[r.below(4)] = bad,
@@ -747,9 +746,9 @@ fn table() -> Vec<String> {
     vec![
         legal.line(),
         with(&|d| d.limit = "0".to_owned()),
+        with(&|d| d.limit = "65".to_owned()),
         with(&|d| d.limit = "501".to_owned()),
         with(&|d| d.limit = "4000".to_owned()),
-        with(&|d| d.limit = "4001".to_owned()),
         with(&|d| d.count = "0".to_owned()),
         with(&|d| d.planform = Planform::Trapezoid([0.2, -0.01, 0.15, 0.05])),
         outline(&[[0.0, 0.0], [0.2, 0.0]]),
@@ -773,6 +772,12 @@ fn table() -> Vec<String> {
             d.limit = "1".to_owned();
             d.planform = Planform::Ellipse([0.2, 0.1]);
         }),
+        with(&|d| {
+            d.planform = Planform::Trapezoid([0.000005, 0.0, 0.05, 0.8]);
+            d.thickness = 0.000005;
+            d.radius = 9.0;
+        }),
+        "(area (limit 64) (trapezoid 0.0004 0 1 31))".to_owned(),
         body(-1.0, 0.0, [1.0, 1.0, 1.0]),
         body(1.0, f64::NAN, [1.0, 1.0, 1.0]),
         body(1.0, 0.0, [1.0, 1.0, f64::INFINITY]),

@@ -17,7 +17,7 @@ mod work;
 use std::io::{self, BufWriter, Read, Write};
 
 /// The numbers of scratch that the card program lends.
-const LENT: usize = 8000;
+const LENT: usize = 1024;
 
 const USAGE: &str = "usage: oracle answer | detail [SCRATCH] | runs | work | damage SEED | kinds
      | lines KIND COUNT SEED | runs KIND COUNT SEED | values KIND COUNT SEED";

@@ -101,7 +101,7 @@ const LONGEST: f64 = 64.0;
 const WIDEST_ANGLE: f64 = 4.0;
 const LIGHTEST: f64 = 1.0 / 1024.0;
 const HEAVIEST: f64 = 32768.0;
-const LARGEST_LIMIT: u64 = 4000;
+const LARGEST_LIMIT: u64 = 64;
 const LARGEST_COUNT: u64 = 32;
 
 /// 2^500, the largest magnitude of a tensor's entry.

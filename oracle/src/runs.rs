@@ -14,11 +14,11 @@ pub fn runs(kind: &str, count: u64, seed: u64) -> Option<Vec<String>> {
 /// Enough for the line's limit, mostly exactly; the limit is the first count of a line.
 fn lent(r: &mut Random, line: &str) -> usize {
     let digits: String = line.chars().skip_while(|c| !c.is_ascii_digit()).take_while(char::is_ascii_digit).collect();
-    let enough = digits.parse::<usize>().map_or(0, |limit| 16 * limit.min(4000));
+    let enough = digits.parse::<usize>().map_or(0, |limit| 16 * limit.min(64));
     if r.once_in(12) {
         enough.saturating_sub(1 + r.below(16))
     } else {
-        (enough + r.below(2) * r.below(64)).min(64000)
+        enough + r.below(2) * r.below(64)
     }
 }
 

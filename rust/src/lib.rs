@@ -143,7 +143,12 @@ pub struct Area {
     pub samples: usize,
 }
 
-/// The numbers of scratch that a call with this limit asks for; a limit over 4000 is refused in any case.
+/// 118,110: no set's figures and no planform's area report more samples, nor does their refusal.
+pub fn most_samples() -> usize {
+    unsafe { raw::delvouzh_most_samples() }
+}
+
+/// The numbers of scratch that a call with this limit asks for; a limit over 64 is refused in any case.
 pub const fn scratch_len(limit: usize) -> usize {
     limit.saturating_mul(16)
 }

@@ -115,5 +115,7 @@ extern "C" {
         written_len: usize,
     ) -> usize;
 
+    pub fn delvouzh_most_samples() -> usize;
+
     pub fn delvouzh_sqrt(x: f64) -> f64;
 }

@@ -202,8 +202,12 @@ fn limits_are_refused_by_number_and_field() {
     let mut scratch = vec![0.0; 128];
     let failed = |limit, scratch: &mut [f64]| mass_properties(&set(ELLIPSE), limit, scratch).unwrap_err();
     assert_eq!(failed(0, &mut scratch).error, Error::Refused(Refusal::Limit));
-    assert_eq!(failed(4001, &mut scratch).error, Error::Refused(Refusal::Limit));
+    assert_eq!(failed(65, &mut scratch).error, Error::Refused(Refusal::Limit));
     assert_eq!(failed(8, &mut scratch[..127]).error, Error::Refused(Refusal::Scratch));
+    let mut all = vec![0.0; scratch_len(64)];
+    assert_eq!(failed(64, &mut all[..1023]).error, Error::Refused(Refusal::Scratch));
+    assert!(mass_properties(&set(ELLIPSE), 64, &mut all).is_ok());
+    assert_eq!(most_samples(), 118_110);
     let failed = failed(1, &mut scratch);
     assert_eq!(table(failed.error).number(), 13);
     assert_eq!(failed.samples, 15);

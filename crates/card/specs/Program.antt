@@ -14,9 +14,9 @@ use Rattle.card.specs.declared.Replied.{Replied}
 use Rattle.card.specs.declared.Turn.{Turn}
 use Rattle.card.specs.declared.Ran.{Ran}
 
--- "The program lends 8,000 numbers of scratch"
+-- "no run needs more than 1,024 numbers of scratch; .. the program lends just that many" (document 02, Paper 8)
 abbrev pub scratchLength : ℕ
-scratchLength = 8000
+scratchLength = 1024
 
 abbrev pub cardAnswer : List ℕ → List ℕ
 cardAnswer = answerOver scratchLength

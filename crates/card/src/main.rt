@@ -166,7 +166,7 @@ fn run(buffer: &mut [u8], chunk: &mut [u8], scratch: &mut [f64], out: &mut [u8])
 fn main() {
     let mut buffer = io::buffer();
     let mut chunk = io::large_buffer();
-    let mut scratch = [0.0; 8000];
+    let mut scratch = [0.0; 1024];
     let mut out = io::large_buffer();
     let ran = run(&mut buffer, &mut chunk, &mut scratch, &mut out);
     if !ran.answered {

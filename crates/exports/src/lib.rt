@@ -1,7 +1,7 @@
 // What C and Rust link (include/delvouzh.h): each function under its plain name, over numbers and slices alone.
 //
 // A call returns 0, or the number of the refusal, and writes its figures and counts over the start of lent slices; a refusal writes
-// zero figures, but of chords none. Only the root returns its f64, and a line is answered, by 0, also where the answer's text is a refusal. A planform, a
+// zero figures, but of chords none. Only the root returns its f64, and the most samples their number, and a line is answered, by 0, also where the answer's text is a refusal. A planform, a
 // section, a tab and a density cross as a number, with their figures in a slice: an unknown number, or figures of another count, are 18
 // (no form); but points that are not 3 to 64 pairs are 5, and bodies that are not 1 to 32 whole ones are 3. A lent slice that is too short
 // for what is written over it is 18 too, and then nothing at all is written.
@@ -11,6 +11,7 @@ ghost use Prim.Native.Nat.{_≤_};
 ghost use lib.ListN.{length};
 ghost use Rattle.root.specs.Root.{rootOf, IsRoot};
 ghost use Rattle.planforms.specs.Numbered.{numberedPlanform};
+ghost use Rattle.figures.specs.Answers.{mostSamples};
 ghost use Rattle.exports.specs.Sets.{crossedSet};
 ghost use Rattle.exports.specs.Numbers.{numberIn, valuesIn, over, withValues, withCount, withCounts};
 ghost use Rattle.exports.specs.Calls.{SetCall, AreaCall, ChordsCall, RingCall, ClosingCall, JoinCall, MomentsCall, CheckCall, LineCall};
@@ -121,6 +122,14 @@ pub extern "C" fn delvouzh_sqrt(x: f64) -> f64
     ensures { λ r. ⌜ (r ≡ rootOf x) × IsRoot x r ⌝ }
 {
     root::sqrt(x)
+}
+
+// No set's figures and no planform's area report more samples: the screen scales its bar by this number.
+#[no_mangle]
+pub extern "C" fn delvouzh_most_samples() -> usize
+    ensures { λ r. ⌜ r ≡ mostSamples ⌝ }
+{
+    62 * 15 * 127
 }
 
 // A set's figures over a lent scratch of at least 16·limit numbers: writes the body's numbers, and as counts two values of a

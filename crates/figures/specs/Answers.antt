@@ -2,7 +2,7 @@
 -- accepted set.
 use mathlib.Core.Path.{_≡_}
 use mathlib.Core.List.{List}
-use Prim.Native.Nat.{ℕ, _≤_}
+use Prim.Native.Nat.{ℕ, _*_, _≤_}
 use lib.ListN.{length}
 use lib.Ieee.{Float}
 use Rattle.floats.specs.Operations.{bits}
@@ -36,6 +36,10 @@ setReport r = record { verdict = r .verdict; samples = r .samples; intervals = r
 abbrev pub areaReport : Area → Report
 areaReport r = record { verdict = r .verdict; samples = r .samples; intervals = r .intervals }
 
+-- "A whole outline can take no more than 62·15·127 = 118,110 samples" (document 02, Paper 8)
+abbrev pub mostSamples : ℕ
+mostSamples = 62 * 15 * 127
+
 -- of a set ("Order: 18, 1, 2, 3; ..", `FinSet::mass_properties`): its figures, the scratch at exit, and demand 3
 pub record SetAnswers (set : FinSet) (points : List Float) (L : ℕ) (entry : List Float) (r : Figures) (exit : List Float) : Type 0 where
   pub figures : r ≡ setFigures set points L (length entry)
@@ -49,6 +53,8 @@ pub record SetAnswers (set : FinSet) (points : List Float) (L : ℕ) (entry : Li
   pub strip-count : setCheck set points L (length entry) ≡ Accepted → (1 ≤ length (setStrips set points L)) × (length (setStrips set points L) ≤ 62)
   pub demand-3 : setCheck set points L (length entry) ≡ Accepted
       → Demand3 (setRun set points L) (setStrips set points L) (setReport r) entry exit
+  -- whatever is handed in
+  pub samples-at-most : r .samples ≤ mostSamples
 
 -- of a planform ("For area alone: 1, 2, planform, strips, 8", `FinPlanform::geometry`): area and centroid, the scratch at exit, and demand 3
 pub record AreaAnswers (planform : Planform) (points : List Float) (L : ℕ) (entry : List Float) (r : Area) (exit : List Float) : Type 0 where
@@ -62,3 +68,4 @@ pub record AreaAnswers (planform : Planform) (points : List Float) (L : ℕ) (en
   pub strip-count : areaCheck planform points L (length entry) ≡ Accepted → (1 ≤ length (areaStrips planform points L)) × (length (areaStrips planform points L) ≤ 62)
   pub demand-3 : areaCheck planform points L (length entry) ≡ Accepted
       → Demand3 (areaRun planform points L) (areaStrips planform points L) (areaReport r) entry exit
+  pub samples-at-most : r .samples ≤ mostSamples

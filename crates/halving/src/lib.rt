@@ -164,7 +164,7 @@ fn repeat(
     limit: usize,
     taken: usize,
 ) -> Integral
-    requires { ⌜ (1 ≤ limit) × (limit ≤ 4000) × (limit * 16 ≤ length (now scratch)) × (taken ≤ 15) ⌝ }
+    requires { ⌜ (1 ≤ limit) × (limit ≤ 64) × (limit * 16 ≤ length (now scratch)) × (taken ≤ 15) ⌝ }
     ensures { λ r. ⌜ Repeats (sampleOf integrand (now (points .entry))) limit taken (now (scratch .entry)) r (now (scratch .exit)) ⌝ }
 {
     let mut n: usize = 1;
@@ -198,7 +198,7 @@ pub fn integrate(
     upper: f64,
     limit: usize,
 ) -> Integral
-    requires { ⌜ (1 ≤ limit) × (limit ≤ 4000) × (limit * 16 ≤ length (now scratch)) ⌝ }
+    requires { ⌜ (1 ≤ limit) × (limit ≤ 64) × (limit * 16 ≤ length (now scratch)) ⌝ }
     ensures { λ r. ⌜ Integrates (sampleOf integrand (now (points .entry))) lower upper limit (now (scratch .entry)) r (now (scratch .exit)) ⌝ }
 {
     if lower == upper {

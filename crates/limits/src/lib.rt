@@ -47,11 +47,11 @@ const LONGEST_M: f64 = 64.0;
 // The largest magnitude of an angle.
 const WIDEST_RAD: f64 = 4.0;
 
-// 1: the interval limit is 1 to 4000.
+// 1: the interval limit is 1 to 64.
 pub fn check_limit(limit: usize) -> Verdict
     ensures { λ r. ⌜ r ≡ limitCheck limit ⌝ }
 {
-    refuse_unless((1 <= limit) & (limit <= 4000), Refusal::Limit)
+    refuse_unless((1 <= limit) & (limit <= 64), Refusal::Limit)
 }
 
 // 2: a scratch of `scratch_len` numbers holds the 16 of each of `limit` pieces. Written so that no product can wrap.

@@ -43,8 +43,8 @@ use Rattle.lines.specs.Lines.{printedSet, printedArea, setAnswer, areaAn
 
 -- ---- the two checks
 
-too-long : (L : ℕ) → 4000 < L → limitCheck L ≡ Refused Limit
-too-long L h = ap (λ (t : Bool). refuseUnless (leb 1 L && t) Limit) (lt-leb L 4000 h) ∙ ap (λ (t : Bool). refuseUnless t Limit) (and-false (leb 1 L))
+too-long : (L : ℕ) → 64 < L → limitCheck L ≡ Refused Limit
+too-long L h = ap (λ (t : Bool). refuseUnless (leb 1 L && t) Limit) (lt-leb L 64 h) ∙ ap (λ (t : Bool). refuseUnless t Limit) (and-false (leb 1 L))
 
 too-many : (n : ℕ) → 32 < n → countCheck n ≡ Refused Count
 too-many n h = ap (λ (t : Bool). refuseUnless (leb 1 n && t) Count) (lt-leb n 32 h) ∙ ap (λ (t : Bool). refuseUnless t Count) (and-false (leb 1 n))
@@ -52,12 +52,12 @@ too-many n h = ap (λ (t : Bool). refuseUnless (leb 1 n && t) Count) (lt-leb n 3
 -- ---- the limit
 
 module _ (set : FinSet) (points : List Float) (m : ℕ) where
-  set-limit : (L : ℕ) → 4000 < L → setCheck set points L m ≡ Refused Limit
+  set-limit : (L : ℕ) → 64 < L → setCheck set points L m ≡ Refused Limit
   unfolding setCheck firstRefusal
   set-limit L h = rw (too-long L h)
 
 module _ (planform : Planform) (points : List Float) (m : ℕ) where
-  area-limit : (L : ℕ) → 4000 < L → areaCheck planform points L m ≡ Refused Limit
+  area-limit : (L : ℕ) → 64 < L → areaCheck planform points L m ≡ Refused Limit
   unfolding areaCheck firstRefusal
   area-limit L h = rw (too-long L h)
 
@@ -72,22 +72,22 @@ at-capped f most small same i = by (leb i most) refl
 module _ (set : FinSet) (points : List Float) where
   figures-limit : (m L : ℕ) → setFigures set points (capped L) m ≡ setFigures set points L m
   unfolding setFigures
-  figures-limit m = at-capped (λ (k : ℕ). setFigures set points k m) 4000 (omega arith) (λ i j h g. rw (set-limit set points m i h, set-limit set points m j g))
+  figures-limit m = at-capped (λ (k : ℕ). setFigures set points k m) 64 (omega arith) (λ i j h g. rw (set-limit set points m i h, set-limit set points m j g))
 
   scratch-limit : (scratch : List Float) (L : ℕ) → setScratch set points (capped L) scratch ≡ setScratch set points L scratch
   unfolding setScratch
   scratch-limit scratch =
-      at-capped (λ (k : ℕ). setScratch set points k scratch) 4000 (omega arith) (λ i j h g. rw (set-limit set points (length scratch) i h, set-limit set points (length scratch) j g))
+      at-capped (λ (k : ℕ). setScratch set points k scratch) 64 (omega arith) (λ i j h g. rw (set-limit set points (length scratch) i h, set-limit set points (length scratch) j g))
 
 module _ (planform : Planform) (points : List Float) where
   area-figures-limit : (m L : ℕ) → areaFigures planform points (capped L) m ≡ areaFigures planform points L m
   unfolding areaFigures
-  area-figures-limit m = at-capped (λ (k : ℕ). areaFigures planform points k m) 4000 (omega arith) (λ i j h g. rw (area-limit planform points m i h, area-limit planform points m j g))
+  area-figures-limit m = at-capped (λ (k : ℕ). areaFigures planform points k m) 64 (omega arith) (λ i j h g. rw (area-limit planform points m i h, area-limit planform points m j g))
 
   area-scratch-limit : (scratch : List Float) (L : ℕ) → areaScratch planform points (capped L) scratch ≡ areaScratch planform points L scratch
   unfolding areaScratch
   area-scratch-limit scratch =
-      at-capped (λ (k : ℕ). areaScratch planform points k scratch) 4000 (omega arith)
+      at-capped (λ (k : ℕ). areaScratch planform points k scratch) 64 (omega arith)
       (λ i j h g. rw (area-limit planform points (length scratch) i h, area-limit planform points (length scratch) j g))
 
 -- ---- the count

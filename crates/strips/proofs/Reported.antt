@@ -21,7 +21,7 @@ use Rattle.strips.specs.declared.Totals.{Totals}
 
 -- ---- the call
 
-pub run-within : (L n : ℕ) → runCheck L n ≡ Accepted → (1 ≤ L) × (L ≤ 4000) × (L * 16 ≤ n)
+pub run-within : (L n : ℕ) → runCheck L n ≡ Accepted → (1 ≤ L) × (L ≤ 64) × (L * 16 ≤ n)
 run-within L n h =
     let checks = both _ _ h in
     let limit = limit-within L (checks .0) in

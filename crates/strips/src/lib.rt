@@ -2,7 +2,7 @@
 //
 // Neighbouring break heights bound a strip, and its ends are divided by the scale. Strips are worked upward, to the last or the first
 // that is not accepted, each over the scratch as the one before left it. Values, intervals and samples are added up from zero.
-// Refused are a limit that is not 1 to 4000 (1), a scratch under 16·limit numbers (2) and, by the strips, 13 and 14.
+// Refused are a limit that is not 1 to 64 (1), a scratch under 16·limit numbers (2) and, by the strips, 13 and 14.
 ghost use Prim.Native.Nat.{_+_, _*_, _<_, _≤_, _^_};
 ghost use mathlib.Core.Path.{_≡_};
 ghost use lib.ListN.{length};
@@ -61,7 +61,7 @@ fn work_upward(
     scale: f64,
     limit: usize,
 ) -> Integral
-    requires { ⌜ (1 ≤ limit) × (limit ≤ 4000) × (limit * 16 ≤ length (now scratch)) × (length (now heights) < 2 ^ 32) ⌝ }
+    requires { ⌜ (1 ≤ limit) × (limit ≤ 64) × (limit * 16 ≤ length (now scratch)) × (length (now heights) < 2 ^ 32) ⌝ }
     ensures { λ r. ⌜ Runs (sampleOf integrand (now (points .entry))) limit scale (now (heights .entry)) (now (scratch .entry)) r (now (scratch .exit)) ⌝ }
 {
     let mut total = Integral {
@@ -92,7 +92,7 @@ fn work_planform(
     points: &[f64],
     limit: usize,
 ) -> Integral
-    requires { ⌜ (1 ≤ limit) × (limit ≤ 4000) × (limit * 16 ≤ length (now scratch)) ⌝ }
+    requires { ⌜ (1 ≤ limit) × (limit ≤ 64) × (limit * 16 ≤ length (now scratch)) ⌝ }
     ensures { λ r. ⌜ Runs (sampleOf integrand (now (points .entry))) limit (integrand .scale) (breakHeights (integrand .planform) (now (points .entry))) (now (scratch .entry)) r (now (scratch .exit)) ⌝ }
 {
     let planform = integrand.planform;

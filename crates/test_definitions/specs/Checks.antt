@@ -111,14 +111,17 @@ refusal-table =
 
 -- ---- limits, one step inside and outside
 
--- "L 4000 passes, 4001 gives 1"; "128 numbers pass for L = 8"; "count 1 to 32"
+-- "L is now 1 to 64 .. 1,024 numbers of scratch; more is still accepted" (document 02, Paper 8); "128 numbers pass for L = 8"; "count 1 to 32"
 abbrev pub limits-of-counts : Bool
 limits-of-counts =
-    accepted (limitCheck 4000)
-    && refused 1 [] (limitCheck 4001)
+    accepted (limitCheck 64)
+    && refused 1 [] (limitCheck 65)
     && refused 1 [] (limitCheck 0)
     && accepted (scratchCheck 8 128)
     && refused 2 [] (scratchCheck 8 127)
+    && accepted (scratchCheck 64 1024)
+    && refused 2 [] (scratchCheck 64 1023)
+    && accepted (scratchCheck 64 1025)
     && accepted (countCheck 32)
     && refused 3 [] (countCheck 33)
     && refused 3 [] (countCheck 0)
