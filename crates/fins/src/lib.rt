@@ -4,7 +4,7 @@
 // directly after the thickness. Each check stands for itself, and the first refusal is the answer.
 ghost use mathlib.Core.Path.{_≡_};
 ghost use Rattle.refusals.specs.Order.{firstOf};
-ghost use Rattle.fins.specs.Fins.{trapezoidCheck, planformCheck, slabCheck, tabCheck, depthCheck, callChecks, plateChecks, mountChecks, setCheck, areaCheck};
+ghost use Rattle.fins.specs.Fins.{trapezoidCheck, planformCheck, slabCheck, tabCheck, depthCheck, plateChecks, mountChecks, ownCheck, setCheck, areaCheck};
 ghost use Rattle.fins.specs.Numbered.{numberedTab, numberedSet};
 use limits::check_angle;
 use limits::check_length;
@@ -184,15 +184,6 @@ fn check_depth(tab: Tab, body_radius_m: f64) -> Verdict
     }
 }
 
-// 1, 2, 3: the call's limit, its scratch and the count of fins.
-fn check_call(limit: usize, scratch_len: usize, count: usize) -> Verdict
-    ensures { λ r. ⌜ r ≡ firstOf (callChecks limit «scratch_len» count) ⌝ }
-{
-    let v = limits::check_limit(limit);
-    let v = first_refusal(v, limits::check_scratch(limit, scratch_len));
-    first_refusal(v, limits::check_count(count))
-}
-
 // Thickness with 21, cant and base angle.
 fn check_plate(root_chord_m: f64, thickness_m: f64, cant_rad: f64, base_angle_rad: f64) -> Verdict
     ensures { λ r. ⌜ r ≡ firstOf (plateChecks «root_chord_m» «thickness_m» «cant_rad» «base_angle_rad») ⌝ }
@@ -217,14 +208,14 @@ fn check_mount(tab: Tab, root_chord_m: f64, body_radius_m: f64, density: Density
     first_refusal(v, materials::check_density(density))
 }
 
-// The first refusal of a set before its strips, for the interval limit and the length of the lent scratch.
-pub fn check_set(set: FinSet, points: &[f64], limit: usize, scratch_len: usize) -> Verdict
-    ensures { λ r. ⌜ r ≡ setCheck set (now (points .entry)) limit «scratch_len» ⌝ }
+// The first refusal of the set itself, whatever the interval limit and the scratch: 3, the planform, and so on to 12.
+pub fn check_own(set: FinSet, points: &[f64]) -> Verdict
+    ensures { λ r. ⌜ r ≡ ownCheck set (now (points .entry)) ⌝ }
 {
     let planform = set.planform;
     let tab = set.tab;
     let density = set.density;
-    let v = check_call(limit, scratch_len, set.count);
+    let v = limits::check_count(set.count);
     if is_refused(v) {
         return v;
     }
@@ -243,6 +234,18 @@ pub fn check_set(set: FinSet, points: &[f64], limit: usize, scratch_len: usize) 
         return v;
     }
     check_mount(tab, root_chord_m, set.body_radius_m, density)
+}
+
+// The first refusal of a set before its strips: of the interval limit, of the length of the lent scratch, of the set itself.
+pub fn check_set(set: FinSet, points: &[f64], limit: usize, scratch_len: usize) -> Verdict
+    ensures { λ r. ⌜ r ≡ setCheck set (now (points .entry)) limit «scratch_len» ⌝ }
+{
+    let v = limits::check_limit(limit);
+    let v = first_refusal(v, limits::check_scratch(limit, scratch_len));
+    if is_refused(v) {
+        return v;
+    }
+    check_own(set, points)
 }
 
 // The first refusal of a planform of which the area alone is asked.

@@ -1,109 +1,59 @@
--- `fins::check_set` meets its contract: it returns at the first refusal, group by group. Assumes nothing.
-use mathlib.Core.Path.{_≡_, refl, sym, ap, _∙_}
-use mathlib.Core.List.{List, [], _∷_, _++_}
-use Prim.Native.Nat.{ℕ}
-use lib.Ieee.{Float}
-use Rattle.refusals.specs.Order.{firstRefusal, firstOf}
-use Rattle.refusals.proofs.Order.{passed, refused-here, in-two}
-use Rattle.planforms.specs.Planforms.{rootChordOf}
-use Rattle.fins.specs.declared.FinSet.{FinSet}
-use Rattle.fins.specs.Fins.{planformCheck, callChecks, plateChecks, mountChecks, setCheck}
+-- `fins::check_set` meets its contract: refused by 1 or 2, or by the set's own checks. Assumes nothing.
+use mathlib.Core.Path.{_≡_, refl, sym, ap₂, _∙_}
+use Rattle.refusals.specs.declared.Verdict.{Verdict}
+use Rattle.refusals.specs.declared.Verdict.the-variants.{Accepted, Refused}
+use Rattle.refusals.specs.Order.{firstRefusal}
+use Rattle.refusals.proofs.Order.{passed, refused-here}
+use Rattle.fins.specs.Fins.{ownCheck, setCheck}
 use borrow.Author.Needs.{needs}
 use Rattle.fins.proofs.check_set.Statement.{statement}
 use Rattle.fins.proofs.check_set.Tie as tie
 
--- the list of checks as its four groups, of which two are given the root chord
-by-group : (set : FinSet) (points : List Float) (L n : ℕ) (root : Float) → root ≡ rootChordOf (set .planform) points →
-    firstRefusal (firstOf (callChecks L n (set .count)))
-    (firstRefusal (planformCheck (set .planform) points)
-    (firstRefusal (firstOf (plateChecks root (set .«thickness_m») (set .«cant_rad») (set .«base_angle_rad»)))
-    (firstOf (mountChecks (set .tab) root (set .«body_radius_m») (set .density)))))
-    ≡ setCheck set points L n
-unfolding setCheck
-by-group set points L n root e =
-    let plate = plateChecks root (set .«thickness_m») (set .«cant_rad») (set .«base_angle_rad») in
-    let mount = mountChecks (set .tab) root (set .«body_radius_m») (set .density) in
-    let calls = callChecks L n (set .count) in
-    ap (λ v. firstRefusal (firstOf calls) (firstRefusal (planformCheck (set .planform) points) v)) (in-two plate mount)
-    ∙ in-two calls (planformCheck (set .planform) points ∷ (plate ++ mount))
-    ∙ ap
-    (λ (r : Float).
-    firstOf
-    (calls
-    ++ (planformCheck (set .planform) points ∷ [])
-    ++ plateChecks r (set .«thickness_m») (set .«cant_rad») (set .«base_angle_rad»)
-    ++ mountChecks (set .tab) r (set .«body_radius_m») (set .density)))
-    e
+-- two checks in one, then the later ones
+in-a-row : (limit scratch later : Verdict) → firstRefusal (firstRefusal limit scratch) later ≡ firstRefusal limit (firstRefusal scratch later)
+unfolding firstRefusal
+in-a-row Accepted scratch later = refl
+in-a-row (Refused refusal) scratch later = refl
 
-check-call-requires : tie.Need-check-call-requires
-check-call-requires c κs = search needs
+check-limit-requires : tie.Need-check-limit-requires
+check-limit-requires c κs = search needs
+
+check-scratch-requires : tie.Need-check-scratch-requires
+check-scratch-requires c κs = search needs
+
+first-refusal-requires : tie.Need-first-refusal-requires
+first-refusal-requires c κs = search needs
 
 is-refused-requires : tie.Need-is-refused-requires
 is-refused-requires c κs = search needs
 
 returns : tie.Need-returns
-returns c = refused-here _ _ (c .before .before .check-call .ensures) (sym (c .before .is-refused .ensures) ∙ c .if1 .taken) ∙ by-group _ _ _ _ _ refl
+unfolding setCheck ownCheck
+returns c =
+    let v = c .before .before in
+    refused-here _ _ (v .first-refusal .ensures ∙ ap₂ firstRefusal (v .before .before .check-limit .ensures) (v .before .check-scratch .ensures)) (sym (c .before .is-refused .ensures) ∙ c .if1 .taken)
+    ∙ in-a-row _ _ _
 
-check-planform-requires : tie.Need-check-planform-requires
-check-planform-requires c κs = search needs
-
-is-refused-requires-2 : tie.Need-is-refused-requires-2
-is-refused-requires-2 c κs = search needs
+check-own-requires : tie.Need-check-own-requires
+check-own-requires c κs = search needs
 
 returns-2 : tie.Need-returns-2
+unfolding setCheck ownCheck
 returns-2 c =
-    let e = c .before .before .before in
-    refused-here _ _ (c .before .before .check-planform .ensures) (sym (c .before .is-refused2 .ensures) ∙ c .if2 .taken)
-    ∙ sym (passed _ _ (e .before .before .check-call .ensures) (sym (e .before .is-refused .ensures) ∙ e .if1 .left))
-    ∙ by-group _ _ _ _ _ refl
-
-root-chord-m-requires : tie.Need-root-chord-m-requires
-root-chord-m-requires c κs = search needs
-
-check-plate-requires : tie.Need-check-plate-requires
-check-plate-requires c κs = search needs
-
-is-refused-requires-3 : tie.Need-is-refused-requires-3
-is-refused-requires-3 c κs = search needs
-
-returns-3 : tie.Need-returns-3
-returns-3 c =
-    let root = c .before .before .before in
-    let e = root .before in
-    let d = e .before .before .before in
-    refused-here _ _ (c .before .before .check-plate .ensures) (sym (c .before .is-refused3 .ensures) ∙ c .if3 .taken)
-    ∙ sym (passed _ _ (e .before .before .check-planform .ensures) (sym (e .before .is-refused2 .ensures) ∙ e .if2 .left))
-    ∙ sym (passed _ _ (d .before .before .check-call .ensures) (sym (d .before .is-refused .ensures) ∙ d .if1 .left))
-    ∙ by-group _ _ _ _ _ (root .root-chord-m .ensures)
-
-check-mount-requires : tie.Need-check-mount-requires
-check-mount-requires c κs = search needs
-
-returns-4 : tie.Need-returns-4
-returns-4 c =
-    let f = c .before in
-    let root = f .before .before .before in
-    let e = root .before in
-    let d = e .before .before .before in
-    c .check-mount .ensures
-    ∙ sym (passed _ _ (f .before .before .check-plate .ensures) (sym (f .before .is-refused3 .ensures) ∙ f .if3 .left))
-    ∙ sym (passed _ _ (e .before .before .check-planform .ensures) (sym (e .before .is-refused2 .ensures) ∙ e .if2 .left))
-    ∙ sym (passed _ _ (d .before .before .check-call .ensures) (sym (d .before .is-refused .ensures) ∙ d .if1 .left))
-    ∙ by-group _ _ _ _ _ (root .root-chord-m .ensures)
+    let k = c .before in
+    let v = k .before .before in
+    c .check-own .ensures
+    ∙ sym (passed _ _ (v .first-refusal .ensures ∙ ap₂ firstRefusal (v .before .before .check-limit .ensures) (v .before .check-scratch .ensures)) (sym (k .before .is-refused .ensures) ∙ k .if1 .left))
+    ∙ in-a-row _ _ _
 
 pub check-set-spec : {M : Type 1} → statement M
 check-set-spec =
     tie.close
     (tie.spec
-    check-call-requires
+    check-limit-requires
+    check-scratch-requires
+    first-refusal-requires
     is-refused-requires
     returns
-    check-planform-requires
-    is-refused-requires-2
-    returns-2
-    root-chord-m-requires
-    check-plate-requires
-    is-refused-requires-3
-    returns-3
-    check-mount-requires
-    returns-4)
+    check-own-requires
+    returns-2)

@@ -1,0 +1,106 @@
+-- `fins::check_own` meets its contract: it returns at the first refusal, group by group. Assumes nothing.
+use mathlib.Core.Path.{_≡_, refl, sym, ap, _∙_}
+use mathlib.Core.List.{List, _++_}
+use lib.Ieee.{Float}
+use Rattle.refusals.specs.Order.{firstRefusal, firstOf}
+use Rattle.refusals.proofs.Order.{passed, refused-here, in-two}
+use Rattle.planforms.specs.Planforms.{rootChordOf}
+use Rattle.fins.specs.declared.FinSet.{FinSet}
+use Rattle.limits.specs.Limits.{countCheck}
+use Rattle.fins.specs.Fins.{planformCheck, plateChecks, mountChecks, ownCheck}
+use borrow.Author.Needs.{needs}
+use Rattle.fins.proofs.check_own.Statement.{statement}
+use Rattle.fins.proofs.check_own.Tie as tie
+
+-- the list of checks as its groups, of which two are given the root chord
+by-group : (set : FinSet) (points : List Float) (root : Float) → root ≡ rootChordOf (set .planform) points →
+    firstRefusal (countCheck (set .count))
+    (firstRefusal (planformCheck (set .planform) points)
+    (firstRefusal (firstOf (plateChecks root (set .«thickness_m») (set .«cant_rad») (set .«base_angle_rad»)))
+    (firstOf (mountChecks (set .tab) root (set .«body_radius_m») (set .density)))))
+    ≡ ownCheck set points
+unfolding ownCheck
+by-group set points root e =
+    ap (λ v. firstRefusal (countCheck (set .count)) (firstRefusal (planformCheck (set .planform) points) v))
+    (in-two
+    (plateChecks root (set .«thickness_m») (set .«cant_rad») (set .«base_angle_rad»))
+    (mountChecks (set .tab) root (set .«body_radius_m») (set .density))
+    ∙ ap
+    (λ (r : Float).
+    firstOf
+    (plateChecks r (set .«thickness_m») (set .«cant_rad») (set .«base_angle_rad»)
+    ++ mountChecks (set .tab) r (set .«body_radius_m») (set .density)))
+    e)
+
+check-count-requires : tie.Need-check-count-requires
+check-count-requires c κs = search needs
+
+is-refused-requires : tie.Need-is-refused-requires
+is-refused-requires c κs = search needs
+
+returns : tie.Need-returns
+returns c = refused-here _ _ (c .before .before .check-count .ensures) (sym (c .before .is-refused .ensures) ∙ c .if1 .taken) ∙ by-group _ _ _ refl
+
+check-planform-requires : tie.Need-check-planform-requires
+check-planform-requires c κs = search needs
+
+is-refused-requires-2 : tie.Need-is-refused-requires-2
+is-refused-requires-2 c κs = search needs
+
+returns-2 : tie.Need-returns-2
+returns-2 c =
+    let e = c .before .before .before in
+    refused-here _ _ (c .before .before .check-planform .ensures) (sym (c .before .is-refused2 .ensures) ∙ c .if2 .taken)
+    ∙ sym (passed _ _ (e .before .before .check-count .ensures) (sym (e .before .is-refused .ensures) ∙ e .if1 .left))
+    ∙ by-group _ _ _ refl
+
+root-chord-m-requires : tie.Need-root-chord-m-requires
+root-chord-m-requires c κs = search needs
+
+check-plate-requires : tie.Need-check-plate-requires
+check-plate-requires c κs = search needs
+
+is-refused-requires-3 : tie.Need-is-refused-requires-3
+is-refused-requires-3 c κs = search needs
+
+returns-3 : tie.Need-returns-3
+returns-3 c =
+    let root = c .before .before .before in
+    let e = root .before in
+    let d = e .before .before .before in
+    refused-here _ _ (c .before .before .check-plate .ensures) (sym (c .before .is-refused3 .ensures) ∙ c .if3 .taken)
+    ∙ sym (passed _ _ (e .before .before .check-planform .ensures) (sym (e .before .is-refused2 .ensures) ∙ e .if2 .left))
+    ∙ sym (passed _ _ (d .before .before .check-count .ensures) (sym (d .before .is-refused .ensures) ∙ d .if1 .left))
+    ∙ by-group _ _ _ (root .root-chord-m .ensures)
+
+check-mount-requires : tie.Need-check-mount-requires
+check-mount-requires c κs = search needs
+
+returns-4 : tie.Need-returns-4
+returns-4 c =
+    let f = c .before in
+    let root = f .before .before .before in
+    let e = root .before in
+    let d = e .before .before .before in
+    c .check-mount .ensures
+    ∙ sym (passed _ _ (f .before .before .check-plate .ensures) (sym (f .before .is-refused3 .ensures) ∙ f .if3 .left))
+    ∙ sym (passed _ _ (e .before .before .check-planform .ensures) (sym (e .before .is-refused2 .ensures) ∙ e .if2 .left))
+    ∙ sym (passed _ _ (d .before .before .check-count .ensures) (sym (d .before .is-refused .ensures) ∙ d .if1 .left))
+    ∙ by-group _ _ _ (root .root-chord-m .ensures)
+
+pub check-own-spec : {M : Type 1} → statement M
+check-own-spec =
+    tie.close
+    (tie.spec
+    check-count-requires
+    is-refused-requires
+    returns
+    check-planform-requires
+    is-refused-requires-2
+    returns-2
+    root-chord-m-requires
+    check-plate-requires
+    is-refused-requires-3
+    returns-3
+    check-mount-requires
+    returns-4)
