@@ -6,11 +6,11 @@ ghost use mathlib.Core.Path.{_≡_};
 ghost use Prim.Native.Nat.{_+_, _*_, _<_, _≤_};
 ghost use lib.ListN.{length};
 ghost use Rattle.integrands.specs.Integrands.{sampleOf};
-ghost use Rattle.pieces.specs.Stored.{readAt, piecesIn};
+ghost use Rattle.pieces.specs.Stored.{piecesIn};
 ghost use Rattle.tolerance.specs.Bounds.{middleOf, middleIsEnd};
 ghost use Rattle.halving.specs.Halving.{verdictOf};
 ghost use Rattle.halving.specs.Scratch.{Integrates};
-ghost use Rattle.halving.specs.Steps.{judgedOf, halvesOf, scratchHalved, Repeats};
+ghost use Rattle.halving.specs.Steps.{judgedOf, HalvesPiece, Repeats};
 use integrands::Integrand;
 use quadrature::Piece;
 use refusals::Refusal;
@@ -116,7 +116,7 @@ fn halve(
     place: usize,
 ) -> Halves
     requires { ⌜ (place < n) × (n * 16 + 16 ≤ length (now scratch)) ⌝ }
-    ensures { λ r. ⌜ (r ≡ halvesOf (sampleOf integrand (now (points .entry))) (readAt (now (scratch .entry)) place)) × (now (scratch .exit) ≡ scratchHalved (sampleOf integrand (now (points .entry))) (piecesIn n (now (scratch .entry))) place (readAt (now (scratch .entry)) place) (now (scratch .entry))) ⌝ }
+    ensures { λ r. ⌜ HalvesPiece (sampleOf integrand (now (points .entry))) n place (now (scratch .entry)) r (now (scratch .exit)) ⌝ }
 {
     let p = pieces::read(scratch, place);
     let m = middle(p);
