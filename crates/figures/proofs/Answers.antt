@@ -10,48 +10,51 @@ use Rattle.refusals.specs.declared.Verdict.{Verdict}
 use Rattle.refusals.specs.declared.Verdict.the-variants.{Accepted, Refused}
 use Rattle.planforms.specs.declared.Planform.{Planform}
 use Rattle.planforms.specs.Planforms.{rootChordOf}
-use Rattle.breaks.specs.Breaks.{breakHeights}
-use Rattle.integrands.specs.Integrands.{scaleOf, areaThree}
+use Rattle.integrands.specs.Integrands.{scaleOf}
 use Rattle.fins.specs.declared.FinSet.{FinSet}
 use Rattle.fins.specs.Fins.{setCheck, areaCheck}
 use Rattle.fins.proofs.Accepted.{set-limit, set-count-check, set-density, area-limit}
 use Rattle.halving.specs.declared.Ending.{Ending}
-use Rattle.strips.specs.Strips.{Worked, totalsOf, scratchAfter}
-use Rattle.strips.specs.Claim.{Reported}
+use Rattle.strips.specs.Strips.{Worked, scratchAfter}
+use Rattle.strips.specs.Claim.{Reported, AreReported}
 use Rattle.strips.proofs.Claims.{demand-3, none-behind}
 use Rattle.strips.proofs.SampleCount.{samples-at-most}
 use Rattle.widths.proofs.Strips.{samples-same, intervals-same, ending-same}
 use Rattle.figures.specs.declared.Figures.{Figures}
 use Rattle.figures.specs.declared.Area.{Area}
-use Rattle.figures.specs.Figures.{setIntegrand, setStrips, refusedFigures, concludedOf, setFigures, setScratch}
-use Rattle.figures.specs.Areas.{areaStrips, areaSeven, refusedArea, concludedArea, areaFigures, areaScratch}
-use Rattle.figures.specs.Answers.{setRun, areaRun, setReport, areaReport, SetAnswers, AreaAnswers}
+use Rattle.figures.specs.Figures.{setRun, setStrips, refusedFigures, workedFigures, setFigures, setScratch}
+use Rattle.figures.specs.Areas.{areaRun, areaStrips, areaSeven, refusedArea, workedArea, areaFigures, areaScratch}
+use Rattle.figures.specs.Answers.{setReport, areaReport, SetWorked, SetAnswers, AreaWorked, AreaAnswers}
 use Rattle.figures.proofs.StripCount.{set-strips-counted, area-strips-counted}
 use Rattle.figures.proofs.Reports.{ZeroFigures, ZeroArea, no-refusal, gives-refusal, concluded-samples, concluded-intervals, concluded-verdict, concluded-zeros, concluded-area-samples, concluded-area-intervals, concluded-area-verdict, concluded-area-zeros}
 
 -- ---- an accepted set, and a refused one
 module _ (set : FinSet) (points : List Float) (L : ℕ) (entry : List Float) (r : Figures) (exit : List Float) where
-  pub set-worked : setCheck set points L (length entry) ≡ Accepted →
-      r ≡ concludedOf set (rootChordOf (set .planform) points) (scaleOf (set .planform) points) (totalsOf (setStrips set points L)) →
-      exit ≡ scratchAfter (setStrips set points L) entry → SetAnswers set points L entry r exit
-  unfolding setFigures setScratch
-  set-worked accepts e s =
+  set-reported : setCheck set points L (length entry) ≡ Accepted → r ≡ workedFigures set points L → AreReported (setStrips set points L) (setReport r)
+  set-reported accepts e =
       let root = rootChordOf (set .planform) points in
       let scale = scaleOf (set .planform) points in
       let strips = setStrips set points L in
-      let claim = demand-3 7 (setIntegrand set points) L (set-limit set points L (length entry) accepts .0) scale (breakHeights (set .planform) points) (setReport r) entry exit
-      (concluded-samples set root scale strips r e)
-      (concluded-intervals set root scale strips r e)
-      (concluded-verdict set root scale strips r e (set-count-check set points L (length entry) accepts) (set-density set points L (length entry) accepts))
-      (s ∙ ap (λ (l : List Worked). scratchAfter l entry) (sym (none-behind strips))) in
       record {
-        figures = rw accepts e;
-        scratch = rw accepts s;
+        samples-reported = concluded-samples set root scale strips r e;
+        intervals-reported = concluded-intervals set root scale strips r e;
+        ending-reported = concluded-verdict set root scale strips r e (set-count-check set points L (length entry) accepts) (set-density set points L (length entry) accepts);
+      }
+
+  pub set-worked : setCheck set points L (length entry) ≡ Accepted → SetWorked set points L entry r exit → SetAnswers set points L entry r exit
+  unfolding setFigures setScratch
+  set-worked accepts w =
+      let claim = demand-3 (setRun set points L) (set-limit set points L (length entry) accepts .0) (setReport r) entry exit (set-reported accepts (w .figures))
+      (w .scratch ∙ ap (λ (l : List Worked). scratchAfter l entry) (sym (none-behind (setStrips set points L)))) in
+      record {
+        figures = rw accepts (w .figures);
+        scratch = rw accepts (w .scratch);
         given-before-strips = λ refusal h. no-refusal refusal (sym h ∙ accepts);
-        zero-figures = concluded-zeros set root scale strips r e;
+        zero-figures = concluded-zeros set (rootChordOf (set .planform) points) (scaleOf (set .planform) points) (setStrips set points L) r (w .figures);
         strip-count = set-strips-counted set points L (length entry);
         demand-3 = λ h. claim;
-        samples-at-most = samples-at-most (setRun set points L) strips (setReport r) entry exit 62 (set-limit set points L (length entry) accepts .1) (set-strips-counted set points L (length entry) accepts .1) claim;
+        samples-at-most = samples-at-most (setRun set points L) (setStrips set points L) (setReport r) entry exit 62 (set-limit set points L (length entry) accepts .1)
+            (set-strips-counted set points L (length entry) accepts .1) claim;
       }
 
   pub set-refused : (refusal : Refusal) → setCheck set points L (length entry) ≡ Refused refusal → r ≡ refusedFigures refusal 0 → exit ≡ entry →
@@ -69,26 +72,30 @@ module _ (set : FinSet) (points : List Float) (L : ℕ) (entry : List Float) (r 
       }
 
 module _ (planform : Planform) (points : List Float) (L : ℕ) (entry : List Float) (r : Area) (exit : List Float) where
-  pub area-worked : areaCheck planform points L (length entry) ≡ Accepted → r ≡ concludedArea (scaleOf planform points) (totalsOf (areaSeven planform points L)) →
-      exit ≡ scratchAfter (areaSeven planform points L) entry → AreaAnswers planform points L entry r exit
-  unfolding areaFigures areaScratch
-  area-worked accepts e s =
+  area-reported : r ≡ workedArea planform points L → AreReported (areaStrips planform points L) (areaReport r)
+  area-reported e =
       let scale = scaleOf planform points in
       let strips = areaStrips planform points L in
       let seven = areaSeven planform points L in
-      let claim = demand-3 3 (areaThree planform points) L (area-limit planform points L (length entry) accepts .0) scale (breakHeights planform points) (areaReport r) entry exit
-      (concluded-area-samples scale seven r e ∙ samples-same 4 strips)
-      (λ given. concluded-area-intervals scale seven r e given ∙ intervals-same 4 strips)
-      (subst (λ (ending : Ending). Reported ending (r .verdict)) (ending-same 4 strips) (concluded-area-verdict scale seven r e))
-      s in
       record {
-        figures = rw accepts e;
-        scratch = rw accepts s;
+        samples-reported = concluded-area-samples scale seven r e ∙ samples-same 4 strips;
+        intervals-reported = λ given. concluded-area-intervals scale seven r e given ∙ intervals-same 4 strips;
+        ending-reported = subst (λ (ending : Ending). Reported ending (r .verdict)) (ending-same 4 strips) (concluded-area-verdict scale seven r e);
+      }
+
+  pub area-worked : areaCheck planform points L (length entry) ≡ Accepted → AreaWorked planform points L entry r exit → AreaAnswers planform points L entry r exit
+  unfolding areaFigures areaScratch
+  area-worked accepts w =
+      let claim = demand-3 (areaRun planform points L) (area-limit planform points L (length entry) accepts .0) (areaReport r) entry exit (area-reported (w .figures)) (w .scratch) in
+      record {
+        figures = rw accepts (w .figures);
+        scratch = rw accepts (w .scratch);
         given-before-strips = λ refusal h. no-refusal refusal (sym h ∙ accepts);
-        zero-figures = concluded-area-zeros scale seven r e;
+        zero-figures = concluded-area-zeros (scaleOf planform points) (areaSeven planform points L) r (w .figures);
         strip-count = area-strips-counted planform points L (length entry);
         demand-3 = λ h. claim;
-        samples-at-most = samples-at-most (areaRun planform points L) strips (areaReport r) entry exit 62 (area-limit planform points L (length entry) accepts .1) (area-strips-counted planform points L (length entry) accepts .1) claim;
+        samples-at-most = samples-at-most (areaRun planform points L) (areaStrips planform points L) (areaReport r) entry exit 62 (area-limit planform points L (length entry) accepts .1)
+            (area-strips-counted planform points L (length entry) accepts .1) claim;
       }
 
   pub area-refused : (refusal : Refusal) → areaCheck planform points L (length entry) ≡ Refused refusal → r ≡ refusedArea refusal 0 → exit ≡ entry →

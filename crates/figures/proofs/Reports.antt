@@ -38,8 +38,8 @@ use Rattle.rings.specs.Rings.{joinedCopies, ringOf}
 use Rattle.sets.specs.Sets.{joinedFinsOf}
 use Rattle.figures.specs.declared.Figures.{Figures}
 use Rattle.figures.specs.declared.Area.{Area}
-use Rattle.figures.specs.Figures.{ofJoined, byVerdict, concludedOf}
-use Rattle.figures.specs.Areas.{ofGeometry, areaByVerdict, concludedArea}
+use Rattle.figures.specs.Figures.{ofJoined, endedFigures, concludedSet}
+use Rattle.figures.specs.Areas.{ofGeometry, endedArea, concludedArea}
 use Rattle.strips.specs.Claim.{Gives, Reported}
 
 pub no-refusal : {A : Type 0} (refusal : Refusal) → Refused refusal ≡ Accepted → A
@@ -112,47 +112,47 @@ module _ (set : FinSet) (root scale : Float) (total : Totals) where
   joined-zeros Accepted joined number values g = absurd g
   joined-zeros (Refused refusal) joined number values g = (refl, refl)
 
-  ended-samples : (verdict : Verdict) → byVerdict verdict set root scale total .samples ≡ total .samples
+  ended-samples : (verdict : Verdict) → endedFigures verdict set root scale total .samples ≡ total .samples
   ended-samples Accepted = joined-samples (Joined· .verdict) Joined·
   ended-samples (Refused refusal) = refl
 
-  ended-intervals : (verdict : Verdict) → byVerdict verdict set root scale total .verdict ≡ Accepted
-      → (verdict ≡ Accepted) × (byVerdict verdict set root scale total .intervals ≡ total .intervals)
+  ended-intervals : (verdict : Verdict) → endedFigures verdict set root scale total .verdict ≡ Accepted
+      → (verdict ≡ Accepted) × (endedFigures verdict set root scale total .intervals ≡ total .intervals)
   ended-intervals Accepted h = (refl, joined-intervals (Joined· .verdict) Joined· h)
   ended-intervals (Refused refusal) h = no-refusal refusal h
 
-  ended-zeros : (verdict : Verdict) → ZeroFigures (byVerdict verdict set root scale total)
+  ended-zeros : (verdict : Verdict) → ZeroFigures (endedFigures verdict set root scale total)
   ended-zeros Accepted = joined-zeros (Joined· .verdict) Joined·
   ended-zeros (Refused refusal) = λ number values g. (refl, refl)
 
-  ended-verdict : countCheck (set .count) ≡ Accepted → densityCheck (set .density) ≡ Accepted → (ending : Ending) → Reported ending (byVerdict (verdictOf ending) set root scale total .verdict)
+  ended-verdict : countCheck (set .count) ≡ Accepted → densityCheck (set .density) ≡ Accepted → (ending : Ending) → Reported ending (endedFigures (verdictOf ending) set root scale total .verdict)
   ended-verdict c d accepted = given-8 _ (joined-verdict (Joined· .verdict) Joined· (fins-joined set root scale (total .value) c d))
   ended-verdict c d (notConverged component) = (refl, refl)
   ended-verdict c d notFinite = (refl, refl)
 
 -- of the strips worked
-module _ (set : FinSet) (root scale : Float) (strips : List Worked) (r : Figures) (answer : r ≡ concludedOf set root scale (totalsOf strips)) where
+module _ (set : FinSet) (root scale : Float) (strips : List Worked) (r : Figures) (answer : r ≡ concludedSet set root scale (totalsOf strips)) where
   abbrev Total· : Totals
   Total· = totalsOf strips
 
   pub concluded-samples : r .samples ≡ samplesIn strips
-  unfolding concludedOf
+  unfolding concludedSet
   concluded-samples = ap (λ (x : Figures). x .samples) answer ∙ ended-samples set root scale Total· (Total· .verdict) ∙ totals-samples strips
 
   pub concluded-intervals : r .verdict ≡ Accepted → r .intervals ≡ intervalsIn strips
-  unfolding concludedOf
+  unfolding concludedSet
   concluded-intervals h =
       let given = ended-intervals set root scale Total· (Total· .verdict) (sym (ap (λ (x : Figures). x .verdict) answer) ∙ h) in
       ap (λ (x : Figures). x .intervals) answer ∙ given .1 ∙ totals-intervals strips (given .0)
 
   pub concluded-verdict : countCheck (set .count) ≡ Accepted → densityCheck (set .density) ≡ Accepted → Reported (endingOf strips) (r .verdict)
-  unfolding concludedOf
+  unfolding concludedSet
   concluded-verdict c d =
-      subst (Reported (endingOf strips)) (sym (ap (λ (x : Figures). x .verdict) answer ∙ ap (λ (v : Verdict). byVerdict v set root scale Total· .verdict) (totals-verdict strips)))
+      subst (Reported (endingOf strips)) (sym (ap (λ (x : Figures). x .verdict) answer ∙ ap (λ (v : Verdict). endedFigures v set root scale Total· .verdict) (totals-verdict strips)))
       (ended-verdict set root scale Total· c d (endingOf strips))
 
   pub concluded-zeros : ZeroFigures r
-  unfolding concludedOf
+  unfolding concludedSet
   concluded-zeros = subst ZeroFigures (sym answer) (ended-zeros set root scale Total· (Total· .verdict))
 
 -- ---- a planform
@@ -190,20 +190,20 @@ module _ (scale : Float) (total : Totals) where
       go true none g p q = inr p
       go false none g p q = inl q
 
-  area-samples : (verdict : Verdict) → areaByVerdict verdict scale total .samples ≡ total .samples
+  area-samples : (verdict : Verdict) → endedArea verdict scale total .samples ≡ total .samples
   area-samples Accepted = geometry-samples (Geometry· .verdict) Geometry·
   area-samples (Refused refusal) = refl
 
-  area-intervals : (verdict : Verdict) → areaByVerdict verdict scale total .verdict ≡ Accepted
-      → (verdict ≡ Accepted) × (areaByVerdict verdict scale total .intervals ≡ total .intervals)
+  area-intervals : (verdict : Verdict) → endedArea verdict scale total .verdict ≡ Accepted
+      → (verdict ≡ Accepted) × (endedArea verdict scale total .intervals ≡ total .intervals)
   area-intervals Accepted h = (refl, geometry-intervals (Geometry· .verdict) Geometry· h)
   area-intervals (Refused refusal) h = no-refusal refusal h
 
-  area-zeros : (verdict : Verdict) → ZeroArea (areaByVerdict verdict scale total)
+  area-zeros : (verdict : Verdict) → ZeroArea (endedArea verdict scale total)
   area-zeros Accepted = geometry-zeros (Geometry· .verdict) Geometry·
   area-zeros (Refused refusal) = λ number values n. (refl, refl, refl, refl)
 
-  area-verdict : (ending : Ending) → Reported ending (areaByVerdict (verdictOf ending) scale total .verdict)
+  area-verdict : (ending : Ending) → Reported ending (endedArea (verdictOf ending) scale total .verdict)
   area-verdict accepted = given-8 _ (geometry-verdict (Geometry· .verdict) Geometry· (geometry-or-8 (total .value)))
   area-verdict (notConverged component) = (refl, refl)
   area-verdict notFinite = (refl, refl)
@@ -225,7 +225,7 @@ module _ (scale : Float) (strips : List Worked) (r : Area) (answer : r ≡ concl
   pub concluded-area-verdict : Reported (endingOf strips) (r .verdict)
   unfolding concludedArea
   concluded-area-verdict =
-      subst (Reported (endingOf strips)) (sym (ap (λ (x : Area). x .verdict) answer ∙ ap (λ (v : Verdict). areaByVerdict v scale AreaTotal· .verdict) (totals-verdict strips)))
+      subst (Reported (endingOf strips)) (sym (ap (λ (x : Area). x .verdict) answer ∙ ap (λ (v : Verdict). endedArea v scale AreaTotal· .verdict) (totals-verdict strips)))
       (area-verdict scale AreaTotal· (endingOf strips))
 
   pub concluded-area-zeros : ZeroArea r

@@ -10,25 +10,15 @@ use Rattle.refusals.specs.Refusals.{numberOf, valuesOf}
 use Rattle.refusals.specs.declared.Refusal.{Refusal}
 use Rattle.refusals.specs.declared.Verdict.the-variants.{Accepted, Refused}
 use Rattle.planforms.specs.declared.Planform.{Planform}
-use Rattle.breaks.specs.Breaks.{breakHeights}
-use Rattle.integrands.specs.Integrands.{scaleOf, areaThree}
 use Rattle.fins.specs.declared.FinSet.{FinSet}
 use Rattle.fins.specs.Fins.{setCheck, areaCheck}
 use Rattle.bodies.specs.Bodies.{emptyBody}
-use Rattle.strips.specs.Claim.{Run, Report, Gives, Demand3}
+use Rattle.strips.specs.Strips.{scratchAfter}
+use Rattle.strips.specs.Claim.{Report, Gives, Demand3}
 use Rattle.figures.specs.declared.Figures.{Figures}
 use Rattle.figures.specs.declared.Area.{Area}
-use Rattle.figures.specs.Figures.{setIntegrand, setStrips, setFigures, setScratch}
-use Rattle.figures.specs.Areas.{areaStrips, areaFigures, areaScratch}
-
--- what the strips of a set, and of a planform, are worked from
-abbrev pub setRun : FinSet → List Float → ℕ → Run
-setRun set points L =
-    record { width = 7; integrand = setIntegrand set points; limit = L; scale = scaleOf (set .planform) points; heights = breakHeights (set .planform) points }
-
-abbrev pub areaRun : Planform → List Float → ℕ → Run
-areaRun planform points L =
-    record { width = 3; integrand = areaThree planform points; limit = L; scale = scaleOf planform points; heights = breakHeights planform points }
+use Rattle.figures.specs.Figures.{setRun, setStrips, workedFigures, setFigures, setScratch}
+use Rattle.figures.specs.Areas.{areaRun, areaStrips, areaSeven, workedArea, areaFigures, areaScratch}
 
 abbrev pub setReport : Figures → Report
 setReport r = record { verdict = r .verdict; samples = r .samples; intervals = r .intervals }
@@ -39,6 +29,15 @@ areaReport r = record { verdict = r .verdict; samples = r .samples; intervals = 
 -- "A whole outline can take no more than 62·15·127 = 118,110 samples" (document 02, Paper 8)
 abbrev pub mostSamples : ℕ
 mostSamples = 62 * 15 * 127
+
+-- of a set, and of a planform, that is accepted: the answer, and the scratch at exit
+pub record SetWorked (set : FinSet) (points : List Float) (L : ℕ) (entry : List Float) (r : Figures) (exit : List Float) : Type 0 where
+  pub figures : r ≡ workedFigures set points L
+  pub scratch : exit ≡ scratchAfter (setStrips set points L) entry
+
+pub record AreaWorked (planform : Planform) (points : List Float) (L : ℕ) (entry : List Float) (r : Area) (exit : List Float) : Type 0 where
+  pub figures : r ≡ workedArea planform points L
+  pub scratch : exit ≡ scratchAfter (areaSeven planform points L) entry
 
 -- of a set ("Order: 18, 1, 2, 3; ..", `FinSet::mass_properties`): its figures, the scratch at exit, and demand 3
 pub record SetAnswers (set : FinSet) (points : List Float) (L : ℕ) (entry : List Float) (r : Figures) (exit : List Float) : Type 0 where

@@ -12,15 +12,19 @@ use Rattle.breaks.specs.Breaks.{breakHeights}
 use Rattle.integrands.specs.Integrands.{scaleOf, areaThree}
 use Rattle.fins.specs.Fins.{areaCheck}
 use Rattle.strips.specs.declared.Totals.{Totals}
-use Rattle.strips.specs.Strips.{Worked, workedOf, sevenWide, totalsOf, scratchAfter}
+use Rattle.strips.specs.Strips.{Run, Worked, byVerdict, stripsIn, sevenWide, totalsOf, scratchChecked}
 use Rattle.plates.specs.declared.PlanformGeometry.{PlanformGeometry}
 use Rattle.plates.specs.Geometry.{geometryOf}
 use Rattle.figures.specs.declared.Area.{Area}
 
--- every strip worked with the area's integrand of three components, between the break heights, "divided by root chord plus span" ("Set and
--- planform"; "Const generics become two widths")
+-- what the strips are worked from, with the area's integrand of three components, between the break heights, "divided by root chord plus span"
+-- ("Set and planform"; "Const generics become two widths"); and every strip worked
+abbrev pub areaRun : Planform → List Float → ℕ → Run
+areaRun planform points L =
+    record { width = 3; integrand = areaThree planform points; limit = L; scale = scaleOf planform points; heights = breakHeights planform points }
+
 abbrev pub areaStrips : Planform → List Float → ℕ → List Worked
-areaStrips planform points L = workedOf 3 (areaThree planform points) L (scaleOf planform points) (breakHeights planform points)
+areaStrips planform points L = stripsIn (areaRun planform points L)
 
 -- as the scratch and the totals hold them: "an area run uses three of the seven, the rest zero" ("Piece and tally")
 abbrev pub areaSeven : Planform → List Float → ℕ → List Worked
@@ -32,34 +36,32 @@ refusedArea refusal samples =
     record { verdict = Refused refusal; «area_m2» = bits 0; «centroid_x_m» = bits 0; «centroid_span_m» = bits 0; intervals = 0; samples = samples }
 
 -- the totals made area and centroid: "strips, 8"
-abbrev pub ofGeometry : Verdict → PlanformGeometry → ℕ → ℕ → Area
-ofGeometry Accepted g intervals samples =
+abbrev pub givenArea : PlanformGeometry → ℕ → ℕ → Area
+givenArea g intervals samples =
     record { verdict = Accepted; «area_m2» = g .«area_m2»; «centroid_x_m» = g .«centroid_x_m»; «centroid_span_m» = g .«centroid_span_m»; intervals = intervals; samples = samples }
-ofGeometry (Refused refusal) g intervals samples = refusedArea refusal samples
+
+abbrev pub ofGeometry : Verdict → PlanformGeometry → ℕ → ℕ → Area
+ofGeometry verdict g intervals samples = byVerdict verdict (givenArea g intervals samples) (λ refusal. refusedArea refusal samples)
+
+abbrev pub geometryArea : PlanformGeometry → ℕ → ℕ → Area
+geometryArea g intervals samples = ofGeometry (g .verdict) g intervals samples
 
 -- by how the run of the strips ended: area and centroid, or 13 or 14
-abbrev pub areaByVerdict : Verdict → Float → Totals → Area
-areaByVerdict Accepted scale total = ofGeometry (geometryOf (total .value) scale .verdict) (geometryOf (total .value) scale) (total .intervals) (total .samples)
-areaByVerdict (Refused refusal) scale total = refusedArea refusal (total .samples)
+abbrev pub endedArea : Verdict → Float → Totals → Area
+endedArea verdict scale total =
+    byVerdict verdict (geometryArea (geometryOf (total .value) scale) (total .intervals) (total .samples)) (λ refusal. refusedArea refusal (total .samples))
 
 unfoldable pub concludedArea : Float → Totals → Area
-concludedArea scale total = areaByVerdict (total .verdict) scale total
+concludedArea scale total = endedArea (total .verdict) scale total
+
+-- the answer of a planform that is accepted
+abbrev pub workedArea : Planform → List Float → ℕ → Area
+workedArea planform points L = concludedArea (scaleOf planform points) (totalsOf (areaSeven planform points L))
 
 -- "1, 2, planform, strips, 8": every check before the strips, then the strips
-abbrev pub areaAfterCheck : Verdict → Planform → List Float → ℕ → Area
-areaAfterCheck Accepted planform points L = concludedArea (scaleOf planform points) (totalsOf (areaSeven planform points L))
-areaAfterCheck (Refused refusal) planform points L = refusedArea refusal 0
-
--- the answer: "1, 2, planform" are the checks, over a scratch of that length
 unfoldable pub areaFigures : Planform → List Float → ℕ → ℕ → Area
-areaFigures planform points L scratchLength = areaAfterCheck (areaCheck planform points L scratchLength) planform points L
-
--- "A number given before the first strip leaves scratch untouched. Once strips have run, with figures or a refusal at the end, scratch
--- holds, in storage order from its start, what each strip wrote over the last one's; elsewhere it is unchanged." ("Refusal numbers")
-abbrev pub areaScratchChecked : Verdict → Planform → List Float → ℕ → List Float → List Float
-areaScratchChecked Accepted planform points L scratch = scratchAfter (areaSeven planform points L) scratch
-areaScratchChecked (Refused refusal) planform points L scratch = scratch
+areaFigures planform points L scratchLength = byVerdict (areaCheck planform points L scratchLength) (workedArea planform points L) (λ refusal. refusedArea refusal 0)
 
 -- the scratch after the call
 unfoldable pub areaScratch : Planform → List Float → ℕ → List Float → List Float
-areaScratch planform points L scratch = areaScratchChecked (areaCheck planform points L (length scratch)) planform points L scratch
+areaScratch planform points L scratch = scratchChecked (areaCheck planform points L (length scratch)) (areaSeven planform points L) scratch

@@ -3,13 +3,10 @@
 ghost use mathlib.Core.Path.{_≡_};
 ghost use lib.ListN.{length};
 ghost use Rattle.refusals.specs.declared.Verdict.the-variants.{Accepted};
-ghost use Rattle.planforms.specs.Planforms.{rootChordOf};
-ghost use Rattle.integrands.specs.Integrands.{scaleOf};
 ghost use Rattle.fins.specs.Fins.{setCheck, areaCheck};
-ghost use Rattle.strips.specs.Strips.{totalsOf, scratchAfter};
-ghost use Rattle.figures.specs.Figures.{refusedFigures, joinedFigures, concludedOf, setStrips};
-ghost use Rattle.figures.specs.Areas.{refusedArea, ofGeometry, concludedArea, areaSeven};
-ghost use Rattle.figures.specs.Answers.{SetAnswers, AreaAnswers};
+ghost use Rattle.figures.specs.Figures.{refusedFigures, joinedFigures, concludedSet};
+ghost use Rattle.figures.specs.Areas.{refusedArea, geometryArea, concludedArea};
+ghost use Rattle.figures.specs.Answers.{SetWorked, SetAnswers, AreaWorked, AreaAnswers};
 use bodies::Body;
 use fins::FinSet;
 use joins::Joined;
@@ -71,7 +68,7 @@ fn joined_figures(joined: Joined, intervals: usize, samples: usize) -> Figures
 
 // The answer by how the strips ended.
 fn concluded(set: FinSet, root_chord_m: f64, scale_m: f64, total: Totals) -> Figures
-    ensures { λ r. ⌜ r ≡ concludedOf set «root_chord_m» «scale_m» total ⌝ }
+    ensures { λ r. ⌜ r ≡ concludedSet set «root_chord_m» «scale_m» total ⌝ }
 {
     let verdict = total.verdict;
     let value = total.value;
@@ -88,7 +85,7 @@ fn concluded(set: FinSet, root_chord_m: f64, scale_m: f64, total: Totals) -> Fig
 // The strips of an accepted set, and its figures.
 fn work_set(set: FinSet, points: &[f64], limit: usize, scratch: &mut [f64]) -> Figures
     requires { ⌜ setCheck set (now points) limit (length (now scratch)) ≡ Accepted ⌝ }
-    ensures { λ r. ⌜ (r ≡ concludedOf set (rootChordOf (set .planform) (now (points .entry))) (scaleOf (set .planform) (now (points .entry))) (totalsOf (setStrips set (now (points .entry)) limit))) × (now (scratch .exit) ≡ scratchAfter (setStrips set (now (points .entry)) limit) (now (scratch .entry))) ⌝ }
+    ensures { λ r. ⌜ SetWorked set (now (points .entry)) limit (now (scratch .entry)) r (now (scratch .exit)) ⌝ }
 {
     let planform = set.planform;
     let section = set.cross_section;
@@ -133,7 +130,7 @@ fn refused_area(refusal: Refusal, samples: usize) -> Area
 }
 
 fn area_figures(geometry: PlanformGeometry, intervals: usize, samples: usize) -> Area
-    ensures { λ r. ⌜ r ≡ ofGeometry (geometry .verdict) geometry intervals samples ⌝ }
+    ensures { λ r. ⌜ r ≡ geometryArea geometry intervals samples ⌝ }
 {
     let verdict = geometry.verdict;
     match verdict {
@@ -171,7 +168,7 @@ fn concluded_area(scale_m: f64, total: Totals) -> Area
 // The strips of an accepted planform, and its area.
 fn work_area(planform: Planform, points: &[f64], limit: usize, scratch: &mut [f64]) -> Area
     requires { ⌜ areaCheck planform (now points) limit (length (now scratch)) ≡ Accepted ⌝ }
-    ensures { λ r. ⌜ (r ≡ concludedArea (scaleOf planform (now (points .entry))) (totalsOf (areaSeven planform (now (points .entry)) limit))) × (now (scratch .exit) ≡ scratchAfter (areaSeven planform (now (points .entry)) limit) (now (scratch .entry))) ⌝ }
+    ensures { λ r. ⌜ AreaWorked planform (now (points .entry)) limit (now (scratch .entry)) r (now (scratch .exit)) ⌝ }
 {
     let integrand = integrands::area_integrand(planform, points);
     let scale_m = integrands::scale_m(planform, points);

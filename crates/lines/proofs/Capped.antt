@@ -9,6 +9,7 @@ use borrow.Author.Tests.{leb-true, leb-false, lt-leb}
 use lib.Dec.{leb}
 use lib.ListN.{length}
 use lib.Ieee.{Float}
+use Rattle.refusals.specs.declared.Refusal.{Refusal}
 use Rattle.refusals.specs.declared.Refusal.the-variants.{Limit, Count}
 use Rattle.refusals.specs.declared.Verdict.{Verdict}
 use Rattle.refusals.specs.declared.Verdict.the-variants.{Accepted, Refused}
@@ -37,7 +38,8 @@ use Rattle.requests.specs.Calls.{numberedFigures, numberedScratch, numberedArea
 use Rattle.requests.specs.Requests.{between, askedFigures, askedScratch, askedArea, askedAreaScratch}
 use Rattle.figures.specs.declared.Figures.{Figures}
 use Rattle.figures.specs.declared.Area.{Area}
-use Rattle.figures.specs.Figures.{afterCheck, setFigures, scratchChecked, setScratch}
+use Rattle.strips.specs.Strips.{byVerdict, scratchAfter}
+use Rattle.figures.specs.Figures.{setStrips, refusedFigures, workedFigures, setFigures, setScratch}
 use Rattle.figures.specs.Areas.{areaFigures, areaScratch}
 use Rattle.lines.specs.Lines.{printedSet, printedArea, setAnswer, areaAnswer}
 
@@ -115,37 +117,31 @@ module _ (set : FinSet) (points : List Float) (L m : ℕ) where
   unfolding setCheck firstRefusal unless
   set-count n h = rw (too-many n h)
 
-module _ (s t : FinSet) (points : List Float) (L : ℕ) where
-  same-figures : (a b : Verdict) → afterCheck (unless a b) s points L ≡ afterCheck (unless a b) t points L
-  unfolding firstRefusal unless
-  same-figures Accepted Accepted = refl
-  same-figures Accepted (Refused r) = refl
-  same-figures (Refused r) b = refl
-
-  same-scratch : (scratch : List Float) (a b : Verdict) → scratchChecked (unless a b) s points L scratch ≡ scratchChecked (unless a b) t points L scratch
-  unfolding firstRefusal unless
-  same-scratch scratch Accepted Accepted = refl
-  same-scratch scratch Accepted (Refused r) = refl
-  same-scratch scratch (Refused r) b = refl
+-- so what the strips would give does not matter
+refused-alike : {A : Type 0} (x y : A) (withheld : Refusal → A) (a b : Verdict) → byVerdict (unless a b) x withheld ≡ byVerdict (unless a b) y withheld
+unfolding firstRefusal unless
+refused-alike x y withheld Accepted Accepted = refl
+refused-alike x y withheld Accepted (Refused r) = refl
+refused-alike x y withheld (Refused r) b = refl
 
 module _ (set : FinSet) (points : List Float) (L : ℕ) where
+  -- an answer by the checks, over the count of fins
+  by-count : {A : Type 0} (m : ℕ) (given : ℕ → A) (withheld : Refusal → A) (n : ℕ)
+      → byVerdict (setCheck (withCount set (capped n)) points L m) (given (capped n)) withheld ≡ byVerdict (setCheck (withCount set n) points L m) (given n) withheld
+  by-count {A} m given withheld =
+      at-capped (λ (k : ℕ). byVerdict (setCheck (withCount set k) points L m) (given k) withheld) 32 (omega arith)
+      (λ i j h g.
+      ap (λ (v : Verdict). byVerdict v (given i) withheld) (set-count set points L m i h)
+      ∙ refused-alike (given i) (given j) withheld (limitCheck L) (scratchCheck L m)
+      ∙ sym (ap (λ (v : Verdict). byVerdict v (given j) withheld) (set-count set points L m j g)))
+
   figures-count : (m n : ℕ) → setFigures (withCount set (capped n)) points L m ≡ setFigures (withCount set n) points L m
   unfolding setFigures
-  figures-count m =
-      at-capped (λ (k : ℕ). setFigures (withCount set k) points L m) 32 (omega arith)
-      (λ i j h g.
-      ap (λ (v : Verdict). afterCheck v (withCount set i) points L) (set-count set points L m i h)
-      ∙ same-figures (withCount set i) (withCount set j) points L (limitCheck L) (scratchCheck L m)
-      ∙ sym (ap (λ (v : Verdict). afterCheck v (withCount set j) points L) (set-count set points L m j g)))
+  figures-count m = by-count m (λ (k : ℕ). workedFigures (withCount set k) points L) (λ refusal. refusedFigures refusal 0)
 
   scratch-count : (scratch : List Float) (n : ℕ) → setScratch (withCount set (capped n)) points L scratch ≡ setScratch (withCount set n) points L scratch
   unfolding setScratch
-  scratch-count scratch =
-      at-capped (λ (k : ℕ). setScratch (withCount set k) points L scratch) 32 (omega arith)
-      (λ i j h g.
-      ap (λ (v : Verdict). scratchChecked v (withCount set i) points L scratch) (set-count set points L (length scratch) i h)
-      ∙ same-scratch (withCount set i) (withCount set j) points L scratch (limitCheck L) (scratchCheck L (length scratch))
-      ∙ sym (ap (λ (v : Verdict). scratchChecked v (withCount set j) points L scratch) (set-count set points L (length scratch) j g)))
+  scratch-count scratch = by-count (length scratch) (λ (k : ℕ). scratchAfter (setStrips (withCount set k) points L) scratch) (λ refusal. scratch)
 
 -- ---- the count of tubes
 

@@ -2,7 +2,7 @@
 use mathlib.Core.Path.{_≡_, refl, ap, _∙_}
 use mathlib.Core.Bool.{false, false≢true}
 use mathlib.Core.List.{List}
-use Prim.Native.Nat.{ℕ, _*_, _≤_}
+use Prim.Native.Nat.{ℕ}
 use native.Mathlib.Omega.{arith}
 use lib.ListN.{length}
 use lib.Ieee.{Float}
@@ -11,17 +11,15 @@ use Rattle.refusals.specs.declared.Verdict.{Verdict}
 use Rattle.refusals.specs.declared.Verdict.the-variants.{Accepted, Refused}
 use Rattle.refusals.proofs.Accepted.{holds, both}
 use Rattle.limits.proofs.Accepted.{limit-within, scratch-enough}
-use Rattle.breaks.specs.Breaks.{breakHeights}
-use Rattle.integrands.specs.Integrands.{sampleOf}
 use Rattle.integrands.specs.declared.Integrand.{Integrand}
 use Rattle.halving.specs.Halving.{verdictOf}
 use Rattle.halving.specs.declared.Integral.{Integral}
-use Rattle.strips.specs.Strips.{Worked, samplesIn, intervalsIn, endingOf, summedOf, Runs, refusedTotals, byVerdict, concludedOf, totalsOf, stripsOf, runCheck, WorksStrips}
+use Rattle.strips.specs.Strips.{Worked, samplesIn, intervalsIn, endingOf, summedOf, Room, runOf, Runs, refusedTotals, endedTotals, concludedOf, totalsOf, stripsOf, runCheck, WorksStrips}
 use Rattle.strips.specs.declared.Totals.{Totals}
 
 -- ---- the call
 
-pub run-within : (L n : ℕ) → runCheck L n ≡ Accepted → (1 ≤ L) × (L ≤ 64) × (L * 16 ≤ n)
+pub run-within : (L n : ℕ) → runCheck L n ≡ Accepted → Room L n
 run-within L n h =
     let checks = both _ _ h in
     let limit = limit-within L (checks .0) in
@@ -29,7 +27,7 @@ run-within L n h =
 
 module _ (integrand : Integrand) (points : List Float) (L : ℕ) (entry : List Float) (r : Totals) (exit : List Float) where
   pub worked : runCheck L (length entry) ≡ Accepted → (summed : Integral)
-      → Runs (sampleOf integrand points) L (integrand .scale) (breakHeights (integrand .planform) points) entry summed exit
+      → Runs (runOf integrand points L) entry summed exit
       → r ≡ concludedOf summed → WorksStrips integrand points L entry r exit
   worked accepts summed z e = record { totals = rw accepts (e ∙ ap concludedOf (z .answer)); scratch = rw accepts (z .scratch) }
 
@@ -39,15 +37,15 @@ module _ (integrand : Integrand) (points : List Float) (L : ℕ) (entry : List F
 
 -- ---- what the totals carry
 
-by-samples : (verdict : Verdict) (summed : Integral) → byVerdict verdict summed .samples ≡ summed .samples
+by-samples : (verdict : Verdict) (summed : Integral) → endedTotals verdict summed .samples ≡ summed .samples
 by-samples Accepted summed = refl
 by-samples (Refused refusal) summed = refl
 
-by-intervals : (verdict : Verdict) (summed : Integral) → byVerdict verdict summed .verdict ≡ Accepted → byVerdict verdict summed .intervals ≡ summed .intervals
+by-intervals : (verdict : Verdict) (summed : Integral) → endedTotals verdict summed .verdict ≡ Accepted → endedTotals verdict summed .intervals ≡ summed .intervals
 by-intervals Accepted summed h = refl
 by-intervals (Refused refusal) summed h = absurd (false≢true (holds false refusal h))
 
-by-verdict : (verdict : Verdict) (summed : Integral) → byVerdict verdict summed .verdict ≡ verdict
+by-verdict : (verdict : Verdict) (summed : Integral) → endedTotals verdict summed .verdict ≡ verdict
 by-verdict Accepted summed = refl
 by-verdict (Refused refusal) summed = refl
 

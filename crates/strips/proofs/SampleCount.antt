@@ -27,4 +27,4 @@ module _ (limit : ℕ) (few : limit ≤ 64) where
 pub samples-at-most : (run : Run) (strips : List Worked) (report : Report) (entry exit : List Float) (n : ℕ) → run .limit ≤ 64 → length strips ≤ n →
     Demand3 run strips report entry exit → report .samples ≤ 1905 * n
 samples-at-most run strips report entry exit n few counted claim =
-    rw (claim .samples-reported) (omega (arith, counted, strips-at-most (run .limit) few strips (claim .equal-ends-take-none) (claim .others-take-at-most)))
+    rw (claim .reported .samples-reported) (omega (arith, counted, strips-at-most (run .limit) few strips (claim .worked .equal-ends-take-none) (claim .worked .others-take-at-most)))

@@ -3,18 +3,17 @@
 // Neighbouring break heights bound a strip, and its ends are divided by the scale. Strips are worked upward, to the last or the first
 // that is not accepted, each over the scratch as the one before left it. Values, intervals and samples are added up from zero.
 // Refused are a limit that is not 1 to 64 (1), a scratch under 16·limit numbers (2) and, by the strips, 13 and 14.
-ghost use Prim.Native.Nat.{_+_, _*_, _<_, _≤_, _^_};
+ghost use Prim.Native.Nat.{_+_, _<_, _^_};
 ghost use mathlib.Core.Path.{_≡_};
 ghost use lib.ListN.{length};
-ghost use Rattle.integrands.specs.Integrands.{sampleOf};
-ghost use Rattle.breaks.specs.Breaks.{breakHeights};
-ghost use Rattle.strips.specs.Strips.{isAccepted, withStrip, Runs, refusedTotals, concludedOf, WorksStrips};
+ghost use Rattle.strips.specs.Strips.{isAccepted, withStrip, inWords, stripBetween, WorksStrip, Room, runBetween, runOf, Runs, refusedTotals, concludedOf, WorksStrips};
 use halving::Ending;
 use halving::Integral;
 use integrands::Integrand;
 use refusals::Refusal;
 use refusals::Verdict;
 use refusals::first_refusal;
+use std::num::wrapping_add_usize;
 
 // The integral of each component over the strips, with the totals of intervals and samples. A refusal carries zeros, no intervals, and
 // the samples taken so far.
@@ -35,10 +34,9 @@ fn is_accepted(ending: Ending) -> bool
     }
 }
 
-// The totals with one strip more; the ending is that strip's.
+// The totals with one strip more; the ending is that strip's. The counts wrap, so that any totals may be handed in.
 fn add_strip(total: Integral, strip: Integral) -> Integral
-    requires { ⌜ (total .intervals + strip .intervals < 2 ^ 60) × (total .samples + strip .samples < 2 ^ 60) ⌝ }
-    ensures { λ r. ⌜ r ≡ withStrip total strip ⌝ }
+    ensures { λ r. ⌜ r ≡ inWords (withStrip total strip) ⌝ }
 {
     let x = total.value;
     let y = strip.value;
@@ -47,9 +45,29 @@ fn add_strip(total: Integral, strip: Integral) -> Integral
     Integral {
         ending,
         value,
-        intervals: total.intervals + strip.intervals,
-        samples: total.samples + strip.samples,
+        intervals: wrapping_add_usize(total.intervals, strip.intervals),
+        samples: wrapping_add_usize(total.samples, strip.samples),
     }
+}
+
+// One strip, between the break heights i and i + 1: what it makes of the totals so far.
+pub fn work_strip(
+    scratch: &mut [f64],
+    integrand: Integrand,
+    points: &[f64],
+    heights: &[f64],
+    i: usize,
+    limit: usize,
+    total: Integral,
+) -> Integral
+    requires { ⌜ Room limit (length (now scratch)) × (i + 1 < length (now heights)) × (length (now heights) < 2 ^ 32) ⌝ }
+    ensures { λ r. ⌜ WorksStrip (stripBetween integrand (now (points .entry)) limit (now (heights .entry)) i) total (now (scratch .entry)) r (now (scratch .exit)) ⌝ }
+{
+    let scale = integrand.scale;
+    let lower = heights[i] / scale;
+    let upper = heights[i + 1] / scale;
+    let strip = halving::integrate(scratch, integrand, points, lower, upper, limit);
+    add_strip(total, strip)
 }
 
 // The strips between the break heights, worked upward, with at most limit pieces to a strip.
@@ -58,11 +76,10 @@ fn work_upward(
     integrand: Integrand,
     points: &[f64],
     heights: &[f64],
-    scale: f64,
     limit: usize,
 ) -> Integral
-    requires { ⌜ (1 ≤ limit) × (limit ≤ 64) × (limit * 16 ≤ length (now scratch)) × (length (now heights) < 2 ^ 32) ⌝ }
-    ensures { λ r. ⌜ Runs (sampleOf integrand (now (points .entry))) limit scale (now (heights .entry)) (now (scratch .entry)) r (now (scratch .exit)) ⌝ }
+    requires { ⌜ Room limit (length (now scratch)) × (length (now heights) < 2 ^ 32) ⌝ }
+    ensures { λ r. ⌜ Runs (runBetween integrand (now (points .entry)) limit (now (heights .entry))) (now (scratch .entry)) r (now (scratch .exit)) ⌝ }
 {
     let mut total = Integral {
         ending: Ending::Accepted,
@@ -72,11 +89,8 @@ fn work_upward(
     };
     let mut i: usize = 0;
     while i + 1 < heights.len() {
-        let lower = heights[i] / scale;
-        let upper = heights[i + 1] / scale;
-        let strip = halving::integrate(scratch, integrand, points, lower, upper, limit);
-        let ending = strip.ending;
-        total = add_strip(total, strip);
+        total = work_strip(scratch, integrand, points, heights, i, limit, total);
+        let ending = total.ending;
         if !is_accepted(ending) {
             return total;
         }
@@ -92,19 +106,18 @@ fn work_planform(
     points: &[f64],
     limit: usize,
 ) -> Integral
-    requires { ⌜ (1 ≤ limit) × (limit ≤ 64) × (limit * 16 ≤ length (now scratch)) ⌝ }
-    ensures { λ r. ⌜ Runs (sampleOf integrand (now (points .entry))) limit (integrand .scale) (breakHeights (integrand .planform) (now (points .entry))) (now (scratch .entry)) r (now (scratch .exit)) ⌝ }
+    requires { ⌜ Room limit (length (now scratch)) ⌝ }
+    ensures { λ r. ⌜ Runs (runOf integrand (now (points .entry)) limit) (now (scratch .entry)) r (now (scratch .exit)) ⌝ }
 {
     let planform = integrand.planform;
-    let scale = integrand.scale;
     if breaks::is_one_strip(planform) {
         let heights = [0.0, planforms::span_m(planform, points)];
-        return work_upward(scratch, integrand, points, &heights, scale, limit);
+        return work_upward(scratch, integrand, points, &heights, limit);
     }
     let breaks = breaks::break_heights(planform, points);
     let n = breaks.count;
     let heights = breaks.heights;
-    work_upward(scratch, integrand, points, &heights[..n], scale, limit)
+    work_upward(scratch, integrand, points, &heights[..n], limit)
 }
 
 fn refused_totals(refusal: Refusal, samples: usize) -> Totals

@@ -1,7 +1,7 @@
 -- `figures::concluded` meets its contract: each arm knows its case. Assumes nothing.
 use mathlib.Core.Path.{ap, _∙_}
 use Rattle.joins.specs.declared.Joined.{Joined}
-use Rattle.figures.specs.Figures.{joinedFigures, concludedOf}
+use Rattle.figures.specs.Figures.{joinedFigures, concludedSet}
 use borrow.Author.Needs.{needs}
 use Rattle.figures.proofs.concluded.Statement.{statement}
 use Rattle.figures.proofs.concluded.Tie as tie
@@ -22,14 +22,14 @@ refused-figures-requires : tie.Need-refused-figures-requires
 refused-figures-requires c κs = search needs
 
 returns : tie.Need-returns
-unfolding concludedOf
+unfolding concludedSet
 returns c =
     let told = c .before .before in
     let total = told .before .before .before .args .total in
     rw (told .enum-told .given .1) (c .joined-figures .ensures ∙ ap (λ (j : Joined). joinedFigures j (total .intervals) (total .samples)) (c .before .joined-fins .ensures))
 
 returns-2 : tie.Need-returns-2
-unfolding concludedOf
+unfolding concludedSet
 returns-2 c = rw (c .before .before .verdict .given .1) (c .refused-figures .ensures)
 
 pub concluded-spec : {M : Type 1} → statement M

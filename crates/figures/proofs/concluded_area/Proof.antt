@@ -1,7 +1,7 @@
 -- `figures::concluded_area` meets its contract: each arm knows its case. Assumes nothing.
 use mathlib.Core.Path.{ap, _∙_}
 use Rattle.plates.specs.declared.PlanformGeometry.{PlanformGeometry}
-use Rattle.figures.specs.Areas.{ofGeometry, concludedArea}
+use Rattle.figures.specs.Areas.{geometryArea, concludedArea}
 use borrow.Author.Needs.{needs}
 use Rattle.figures.proofs.concluded_area.Statement.{statement}
 use Rattle.figures.proofs.concluded_area.Tie as tie
@@ -26,7 +26,7 @@ unfolding concludedArea
 returns c =
     let told = c .before .before in
     let total = told .before .before .before .args .total in
-    rw (told .enum-told .given .1) (c .area-figures .ensures ∙ ap (λ (g : PlanformGeometry). ofGeometry (g .verdict) g (total .intervals) (total .samples)) (c .before .geometry .ensures))
+    rw (told .enum-told .given .1) (c .area-figures .ensures ∙ ap (λ (g : PlanformGeometry). geometryArea g (total .intervals) (total .samples)) (c .before .geometry .ensures))
 
 returns-2 : tie.Need-returns-2
 unfolding concludedArea

@@ -29,7 +29,7 @@ returns c =
     let told = w .before .before in
     let checked = told .before .before in
     let a = checked .before .before .before .args in
-    area-worked (a .planform) (a .points .now) (a .limit) (a .scratch .now) _ _ (sym (checked .check-area .ensures) ∙ told .enum-told .given .1) (w .work-area .ensures .0) (w .work-area .ensures .1)
+    area-worked (a .planform) (a .points .now) (a .limit) (a .scratch .now) _ _ (sym (checked .check-area .ensures) ∙ told .enum-told .given .1) (w .work-area .ensures)
 
 returns-2 : tie.Need-returns-2
 returns-2 c =

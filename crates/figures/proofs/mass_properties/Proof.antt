@@ -29,7 +29,7 @@ returns c =
     let told = w .before .before in
     let checked = told .before .before in
     let a = checked .before .before .before .args in
-    set-worked (a .set) (a .points .now) (a .limit) (a .scratch .now) _ _ (sym (checked .check-set .ensures) ∙ told .enum-told .given .1) (w .work-set .ensures .0) (w .work-set .ensures .1)
+    set-worked (a .set) (a .points .now) (a .limit) (a .scratch .now) _ _ (sym (checked .check-set .ensures) ∙ told .enum-told .given .1) (w .work-set .ensures)
 
 returns-2 : tie.Need-returns-2
 returns-2 c =

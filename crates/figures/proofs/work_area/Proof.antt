@@ -34,7 +34,7 @@ returns c =
     (area-run (a .planform) (a .points .now) (a .limit) _ (s .pre))
     (area-strips (a .planform) (a .points .now) (a .limit) _ (scaled .before .area-integrand .ensures) ∙ area-at-three (a .planform) (a .points .now) (a .limit) _ f64s (s .pre))
     (i .work-strips .ensures) in
-    (c .concluded-area .ensures ∙ rw (scaled .scale-m .ensures, run .0), run .1)
+    record { figures = c .concluded-area .ensures ∙ rw (scaled .scale-m .ensures, run .0); scratch = run .1 }
 
 pub work-area-spec : {M : Type 1} → statement M
 work-area-spec =

@@ -34,7 +34,7 @@ returns c =
     (set-run (a .set) (a .points .now) (a .limit) _ (s .pre))
     (plate-strips (a .set) (a .points .now) (a .limit) _ (scaled .before .plate-integrand .ensures))
     (i .work-strips .ensures) in
-    (c .concluded .ensures ∙ rw (root .root-chord-m .ensures, scaled .scale-m .ensures, run .0), run .1)
+    record { figures = c .concluded .ensures ∙ rw (root .root-chord-m .ensures, scaled .scale-m .ensures, run .0); scratch = run .1 }
 
 pub work-set-spec : {M : Type 1} → statement M
 work-set-spec =

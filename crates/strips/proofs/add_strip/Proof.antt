@@ -7,15 +7,19 @@ use Rattle.strips.proofs.add_strip.Tie as tie
 plus-requires : tie.Need-plus-requires
 plus-requires c κs = search needs
 
-add-t7 : tie.Need-add-t7
-add-t7 c = search needs
+wrapping-add-usize-requires : tie.Need-wrapping-add-usize-requires
+wrapping-add-usize-requires c κs = search needs
 
-add-t8 : tie.Need-add-t8
-add-t8 c = search needs
+wrapping-add-usize-requires-2 : tie.Need-wrapping-add-usize-requires-2
+wrapping-add-usize-requires-2 c κs = search needs
 
 returns : tie.Need-returns
 unfolding withStrip
-returns c = rw (c .before .before .before .before .plus .ensures)
+returns c = rw (
+  c .wrapping-add-usize2 .ensures,
+  c .before .wrapping-add-usize .ensures,
+  c .before .before .plus .ensures,
+)
 
 pub add-strip-spec : {M : Type 1} → statement M
-add-strip-spec = tie.close (tie.spec plus-requires add-t7 add-t8 returns)
+add-strip-spec = tie.close (tie.spec plus-requires wrapping-add-usize-requires wrapping-add-usize-requires-2 returns)

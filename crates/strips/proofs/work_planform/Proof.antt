@@ -58,7 +58,7 @@ work-upward-requires-2 c κs =
     let a = s .args in
     let few = at-most-66 (a .integrand .planform) (a .points .now) in
     let taken = heights-taken (a .integrand .planform) (a .points .now) (h .break-heights .result) (h .break-heights .ensures) in
-    (s .pre .0, s .pre .1, s .pre .2, rw taken (omega (arith, few)))
+    (s .pre, rw taken (omega (arith, few)))
 
 same-length-2 : tie.Need-same-length-2
 same-length-2 c = search needs

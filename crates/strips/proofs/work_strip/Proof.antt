@@ -1,0 +1,56 @@
+-- `strips::work_strip` meets its contract: the strip between the two heights, halved, and added. Assumes nothing.
+use mathlib.Core.Path.{_≡_, ap, _∙_}
+use borrow.Author.Needs.{needs}
+use Rattle.halving.specs.declared.Integral.{Integral}
+use Rattle.strips.specs.Strips.{withStrip, inWords}
+use Rattle.strips.proofs.work_strip.Statement.{statement}
+use Rattle.strips.proofs.work_strip.Tie as tie
+
+added : (total r strip x : Integral) → x ≡ inWords (withStrip total r) → r ≡ strip → x ≡ inWords (withStrip total strip)
+added total r strip x sum e = sum ∙ ap (λ (y : Integral). inWords (withStrip total y)) e
+
+mul-lower : tie.Need-mul-lower
+mul-lower c = search needs
+
+shared-slice-read-lower : tie.Need-shared-slice-read-lower
+shared-slice-read-lower c = search needs
+
+add-upper : tie.Need-add-upper
+add-upper c = search needs
+
+mul-upper : tie.Need-mul-upper
+mul-upper c = search needs
+
+shared-slice-read-upper : tie.Need-shared-slice-read-upper
+shared-slice-read-upper c = search needs
+
+integrate-requires : tie.Need-integrate-requires
+integrate-requires c κs = search needs
+
+add-strip-requires : tie.Need-add-strip-requires
+add-strip-requires c κs = search needs
+
+same-length : tie.Need-same-length
+same-length c = search needs
+
+returns : tie.Need-returns
+returns c =
+    let i = c .before .before .before in
+    record {
+      totals = added _ _ _ _ (c .add-strip .ensures) (i .integrate .ensures .answer);
+      scratch = i .integrate .ensures .scratch;
+    }
+
+pub work-strip-spec : {M : Type 1} → statement M
+work-strip-spec =
+    tie.close
+    (tie.spec
+    mul-lower
+    shared-slice-read-lower
+    add-upper
+    mul-upper
+    shared-slice-read-upper
+    integrate-requires
+    add-strip-requires
+    same-length
+    returns)
