@@ -39,6 +39,10 @@ pub const TUBE_LENGTH: usize = 14;
 
 pub const OUTER_RADIUS: usize = 15;
 
+pub const DRILL_X: usize = 17;
+
+pub const DRILL_HEIGHT: usize = 18;
+
 // The magnitude of a length other than zero: 2^-20 to 64.
 const SHORTEST_M: f64 = 9.5367431640625e-7;
 
@@ -87,12 +91,18 @@ fn zero_allowed(field: usize) -> bool
         | (field == POINT_Y)
         | (field == TAB_OFFSET)
         | (field == BODY_RADIUS)
+        | (field == DRILL_X)
+        | (field == DRILL_HEIGHT)
 }
 
 fn negative_allowed(field: usize) -> bool
     ensures { λ r. ⌜ r ≡ negativeAllowed field ⌝ }
 {
-    (field == SWEEP) | (field == POINT_X) | (field == TAB_OFFSET)
+    (field == SWEEP)
+        | (field == POINT_X)
+        | (field == TAB_OFFSET)
+        | (field == DRILL_X)
+        | (field == DRILL_HEIGHT)
 }
 
 // 4: the length is within the limits of its field.

@@ -39,6 +39,8 @@ pub enum Refusal {
     NoFigure,
     WallOverRadius,
     ThicknessOverRoot,
+    NoCorners,
+    NotWholeSteps,
 }
 
 // The answer of a check.
@@ -126,6 +128,8 @@ fn row_of(refusal: Refusal) -> Row
         Refusal::NoFigure => Row(19, [0, 0]),
         Refusal::WallOverRadius => Row(20, [0, 0]),
         Refusal::ThicknessOverRoot => Row(21, [0, 0]),
+        Refusal::NoCorners => Row(24, [0, 0]),
+        Refusal::NotWholeSteps => Row(25, [0, 0]),
     }
 }
 

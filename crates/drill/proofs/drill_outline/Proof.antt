@@ -1,0 +1,104 @@
+-- `drill::drill_outline` meets its contract: the corners in steps are the array's first numbers. Assumes nothing.
+use mathlib.Core.Bool.{true, _&&_}
+use mathlib.Core.List.{_∷_, map}
+use mathlib.Core.Path.{_≡_, sym, ap, _∙_}
+use Prim.Native.Nat.{ℕ, suc, _/_, _<_}
+use native.Mathlib.Omega.{arith}
+use borrow.Author.Needs.{needs}
+use denote.Ref.{now}
+use lib.ListN.{length, length-map}
+use Rattle.polygons.specs.Polygons.{cornerCount}
+use Rattle.polygons.proofs.Sizes.{result-back}
+use Rattle.steps.specs.Steps.{exactOf, stepsOf}
+use Rattle.drill.specs.Drill.{areWhole}
+use Rattle.drill.specs.InSteps.{AreLengths, inSteps}
+use Rattle.drill.proofs.Reach.{reaches, all-reach}
+use Rattle.drill.proofs.Wholes.{two-in-front, not-true, not-false}
+use Rattle.drill.proofs.drill_outline.Statement.{statement}
+use Rattle.drill.proofs.drill_outline.Tie as tie
+
+is-whole-requires : tie.Need-is-whole-requires
+is-whole-requires c κs = c .before .pre .0 0 (omega arith)
+
+is-whole-requires-2 : tie.Need-is-whole-requires-2
+is-whole-requires-2 c κs = c .before .before .pre .0 1 (omega arith)
+
+drawn : (c : tie.Start) → AreLengths (now (c .args .points))
+drawn c k h = c .pre .0 (suc (suc k)) (omega arith)
+
+are-whole-requires : tie.Need-are-whole-requires
+are-whole-requires c κs = drawn (c .before .before .before)
+
+-- the test, whichever way it goes
+tested : (c : tie.After-are-whole) → let a = c .before .before .before .before .args in (c .before .before .is-whole .result && c .before .is-whole2 .result && c .are-whole .result) ≡ areWhole (exactOf (a .x-m) ∷ exactOf (a .height-m) ∷ map exactOf (now (a .points)))
+tested c =
+    let a = c .before .before .before .before .args in
+    rw (c .before .before .is-whole .ensures, c .before .is-whole2 .ensures, c .are-whole .ensures) (sym (two-in-front (exactOf (a .x-m)) (exactOf (a .height-m)) (map exactOf (now (a .points)))))
+
+returns : tie.Need-returns
+unfolding inSteps
+returns c = sym (rw (sym (tested (c .before)) ∙ not-true _ (c .if1 .taken)))
+
+steps-of-requires : tie.Need-steps-of-requires
+steps-of-requires c κs = (drawn (c .before .before .before .before .before), c .before .before .before .before .before .pre .1)
+
+array-share-prefix-corners : tie.Need-array-share-prefix-corners
+array-share-prefix-corners c = search needs
+
+slice-aggregate-place : tie.Need-slice-aggregate-place
+slice-aggregate-place c =
+    let points = now (c .before .before .before .before .before .before .before .args .points) in
+    sym (ap length (c .before .steps-of .ensures) ∙ length-map (map exactOf points) stepsOf ∙ length-map points exactOf)
+
+steps-requires : tie.Need-steps-requires
+steps-requires c κs = c .before .before .before .before .before .before .before .pre .0 0 (omega arith)
+
+steps-requires-2 : tie.Need-steps-requires-2
+steps-requires-2 c κs = c .before .before .before .before .before .before .before .before .pre .0 1 (omega arith)
+
+place-requires : tie.Need-place-requires
+place-requires c κs =
+    let at = c .before .before .before .before .before .before .before .before .before in
+    let points = now (at .args .points) in
+    let corners = c .before .before .before .steps-of .ensures in
+    let x = c .before .steps in
+    let height = c .steps2 in (
+      rw (corners, length-map (map exactOf points) stepsOf, length-map points exactOf) (at .pre .2),
+      record {
+        all = rw corners (all-reach points (drawn at));
+        across = rw (result-back (x .result) (x .ok), x .ensures) (reaches (at .args .x-m) (at .pre .0 0 (omega arith)));
+        up = rw (result-back (height .result) (height .ok), height .ensures) (reaches (at .args .height-m) (at .pre .0 1 (omega arith)));
+      },
+    )
+
+returns-2 : tie.Need-returns-2
+unfolding inSteps
+returns-2 c =
+    let x = c .before .before .steps in
+    let height = c .before .steps2 in
+    let past = c .before .before .before .before .before in
+    c .place .ensures
+    ∙ rw (
+      c .before .before .before .before .steps-of .ensures,
+      result-back (x .result) (x .ok),
+      x .ensures,
+      result-back (height .result) (height .ok),
+      height .ensures,
+      sym (tested (past .before)) ∙ not-false _ (past .if1 .left),
+    )
+
+pub drill-outline-spec : {M : Type 1} → statement M
+drill-outline-spec =
+    tie.close
+    (tie.spec
+    is-whole-requires
+    is-whole-requires-2
+    are-whole-requires
+    returns
+    steps-of-requires
+    array-share-prefix-corners
+    slice-aggregate-place
+    steps-requires
+    steps-requires-2
+    place-requires
+    returns-2)

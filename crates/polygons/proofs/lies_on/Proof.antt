@@ -1,0 +1,55 @@
+-- `polygons::lies_on` meets its contract: its parts are the definition's. Assumes nothing.
+use Rattle.polygons.specs.Polygons.{liesOn}
+use Rattle.polygons.proofs.Sizes.{offset-back, result-back}
+use borrow.Author.Needs.{needs}
+use Rattle.polygons.proofs.lies_on.Statement.{statement}
+use Rattle.polygons.proofs.lies_on.Tie as tie
+
+product-requires : tie.Need-product-requires
+product-requires c κs = search needs
+
+product-requires-2 : tie.Need-product-requires-2
+product-requires-2 c κs = search needs
+
+is-same-requires : tie.Need-is-same-requires
+is-same-requires c κs = search needs
+
+is-zero-between-requires : tie.Need-is-zero-between-requires
+is-zero-between-requires c κs = search needs
+
+is-zero-between-requires-2 : tie.Need-is-zero-between-requires-2
+is-zero-between-requires-2 c κs = search needs
+
+returns : tie.Need-returns
+unfolding liesOn
+returns c =
+    let second = c .before .before .before .before .before .before .before .product2 in
+    let first = c .before .before .before .before .before .before .before .before .before .before .product in
+    let at = c .before .before .before .before .before .before .before .before .before .before .before .before .before in
+    let a = at .args .a in
+    let b = at .args .b in
+    let small = at .pre in
+    rw (
+      c .is-zero-between2 .ensures,
+      c .before .before .before .is-zero-between .ensures,
+      c .before .before .before .before .before .before .is-same .ensures,
+      result-back (first .result) (first .ok),
+      result-back (second .result) (second .ok),
+      first .ensures .0,
+      second .ensures .0,
+      offset-back (a .across) (small .0 .0),
+      offset-back (a .up) (small .0 .1),
+      offset-back (b .across) (small .1 .0),
+      offset-back (b .up) (small .1 .1),
+    )
+
+pub lies-on-spec : {M : Type 1} → statement M
+lies-on-spec =
+    tie.close
+    (tie.spec
+    product-requires
+    product-requires-2
+    is-same-requires
+    is-zero-between-requires
+    is-zero-between-requires-2
+    returns)

@@ -1,0 +1,4 @@
+pub mod Fields
+pub mod Signs
+pub mod Sums
+pub mod Lengths
