@@ -9,11 +9,12 @@
  *      5 points not 3 to 64 pairs       11 tab deeper than the body     17 body tensor
  *      6 first or last point            12 density                      18 no form
  *     19 a word that is no figure      20 wall over the outer radius     21 thickness over the root chord
+ *     24 no corners: an ellipse        25 not whole steps of 2^-20 m
  *
  * It writes its figures and counts over the start of the lent arrays; a refusal writes zero figures, but of chords none. Two counts are the values of a
  * refusal: the field of 4 and 9, the two edges of 7, the component of 13, the case of 17 (a to e as 0 to 4); else both are 0.
  * Fields: 1 root chord, 2 tip chord, 3 span, 4 sweep, 5 x, 6 y, 7 thickness, 8 tab height, 9 tab length, 10 tab offset,
- * 11 body radius, 12 cant, 13 base angle, 14 tube length, 15 outer radius. Edges and components are counted from 0.
+ * 11 body radius, 12 cant, 13 base angle, 14 tube length, 15 outer radius, 17 drill x, 18 drill height. Edges and components are counted from 0.
  *
  * 18 is an unknown number of a planform, section, tab or density, or another count of numbers than it asks for, with two exceptions:
  * an outline's numbers that are not 3 to 64 whole pairs are 5, and a join's that are not 1 to 32 whole bodies are 3. An array that is
@@ -54,6 +55,11 @@ extern "C" {
 #define DELVOUZH_SURFACE 2
 #define DELVOUZH_LINE 3
 
+/* Where a point lies. */
+#define DELVOUZH_INSIDE 1
+#define DELVOUZH_EDGE 2
+#define DELVOUZH_OUTSIDE 3
+
 /* Numbers that a call writes: a body is its mass, centre x, y, z, and inertia tensor in three columns. */
 #define DELVOUZH_BODY 13
 #define DELVOUZH_AREA 3
@@ -91,6 +97,12 @@ size_t delvouzh_most_samples(void);
  * counts two values of a refusal, and how many chords there are. */
 size_t delvouzh_chords_at(size_t planform, const double *lengths, size_t lengths_len, double height_m, double *ends,
                           size_t ends_len, size_t *counts, size_t counts_len);
+
+/* Where a point lies beside a trapezoid or an outline, exactly in steps of 2^-20 m, and the nearest corner. Corners, counted from 0: an outline's
+ * points, or (0, 0), (sweep, span), (sweep + tip chord, span), (root chord, 0). Writes as counts two values of a refusal, the place, and
+ * the nearest corner's position, the lowest of equally near ones; with a refusal the last two are 0. */
+size_t delvouzh_drill(size_t planform, const double *lengths, size_t lengths_len, double x_m, double height_m, size_t *counts,
+                      size_t counts_len);
 
 /* A ring of tubes around a body, 1 to 32 of them. `figures`: length, outer radius, wall, which may be 0, base angle, body radius, density.
  * Writes a body, its origin on the axis at the tubes' forward end, and two values of a refusal. */

@@ -95,6 +95,11 @@ static void figures(void) {
     holds("an outline's area", at.number == 0 && fabs(at.numbers[0] - 0.0225) < 1e-15);
     at.number = delvouzh_chords_at(DELVOUZH_TRAPEZOID, TRAPEZOID, 4, 0.15, at.scratch, SCRATCH, at.counts, DELVOUZH_CHORD_COUNTS);
     holds("the chord at the span", refused(0, 0, 0) && at.counts[2] == 1 && at.scratch[0] == 0.05 && at.scratch[1] == (0.05 + 0.2) + (0.1 - 0.2));
+    const double drilled[4] = {1.0, 0.5, 1.0, 0.5};
+    at.number = delvouzh_drill(DELVOUZH_TRAPEZOID, drilled, 4, 0.25, 0.5, at.counts, DELVOUZH_COUNTS);
+    holds("a point on the edge", refused(0, 0, 0) && at.counts[2] == DELVOUZH_EDGE && at.counts[3] == 0);
+    at.number = delvouzh_drill(DELVOUZH_TRAPEZOID, drilled, 4, 1.25, 1.0, at.counts, DELVOUZH_COUNTS);
+    holds("a point outside", refused(0, 0, 0) && at.counts[2] == DELVOUZH_OUTSIDE && at.counts[3] == 2);
     at.number = delvouzh_tube_mass_properties(6, DELVOUZH_BULK, TUBES, 6, at.numbers, DELVOUZH_BODY, at.counts, DELVOUZH_VALUES);
     holds("a ring of tubes", refused(0, 0, 0) && fabs(at.numbers[0] - 0.2537904) < 1e-7 && fabs(at.numbers[3] + 0.1) < 1e-15);
     at.number = delvouzh_closing_radius(2, 0.05, at.numbers, DELVOUZH_CLOSING, at.counts, DELVOUZH_VALUES);
@@ -131,6 +136,10 @@ static void refusals(void) {
     at.scratch[0] = 7.0;
     at.number = delvouzh_chords_at(DELVOUZH_OUTLINE, crossed, 8, 0.5, at.scratch, SCRATCH, at.counts, DELVOUZH_CHORD_COUNTS);
     holds("no chords of a refused planform", refused(7, 0, 2) && at.counts[2] == 0 && at.scratch[0] == 7.0);
+    at.number = delvouzh_drill(DELVOUZH_ELLIPSE, ELLIPSE, 2, 0.5, 65.0, at.counts, DELVOUZH_COUNTS);
+    holds("4 of a point's height", refused(4, 18, 0) && at.counts[2] == 0 && at.counts[3] == 0);
+    at.number = delvouzh_drill(DELVOUZH_ELLIPSE, ELLIPSE, 2, 0.5, 0.5, at.counts, DELVOUZH_COUNTS);
+    holds("24", refused(24, 0, 0));
     set_of(&at, LIMIT, DELVOUZH_TRAPEZOID, TRAPEZOID, 4, cant);
     holds("9 with its field", refused(9, 12, 0));
     set_of(&at, 1, DELVOUZH_ELLIPSE, ELLIPSE, 2, FIGURES);
@@ -168,6 +177,8 @@ static void no_room(void) {
     holds("no room for a ring", at.number == 18 && left_alone());
     at.number = delvouzh_closing_radius(6, 0.05, at.numbers, 0, at.counts, DELVOUZH_VALUES);
     holds("no room for a radius", at.number == 18 && left_alone());
+    at.number = delvouzh_drill(DELVOUZH_ELLIPSE, ELLIPSE, 2, 0.5, 0.5, at.counts, DELVOUZH_COUNTS - 1);
+    holds("no room for a place", at.number == 18 && left_alone());
     at.number = delvouzh_check(body, DELVOUZH_BODY, at.counts, DELVOUZH_VALUES - 1);
     holds("no room for values", at.number == 18 && left_alone());
     at.number = delvouzh_answer_line(line, sizeof line - 1, at.scratch, SCRATCH, at.answer, DELVOUZH_ANSWER - 1, at.counts, 1);

@@ -14,6 +14,7 @@ pub enum Form {
     Check(Body),
     Tubes(Tubes),
     Closing { count: u64, radius: f64 },
+    Drill { planform: Planform, at: [f64; 2] },
 }
 
 pub struct Set {
@@ -158,6 +159,10 @@ impl<'l> Reader<'_, 'l> {
                 let [radius] = self.part(b"radius")?;
                 Form::Closing { count, radius }
             }
+            b"drill" => Form::Drill {
+                planform: self.planform()?,
+                at: self.part(b"at")?,
+            },
             _ => return None,
         };
         self.close()?;

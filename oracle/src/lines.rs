@@ -6,16 +6,17 @@ use crate::bodies;
 use crate::figures::{marked, marked_all};
 use crate::forms::{Density, Planform, Section};
 use crate::outlines::{self, Heights, Point, length};
+use crate::points::{self, drill_line};
 use crate::random::{Random, moved, power_of_two};
 use crate::words;
 
 pub const KINDS: &[&str] = &[
     "set", "area", "outline", "narrow", "merging", "noise", "touch", "points", "limits", "faults", "table", "join",
-    "moments", "check", "tubes", "closing", "decimals", "words", "spaces", "mixed",
+    "moments", "check", "tubes", "closing", "drill", "decimals", "words", "spaces", "mixed",
 ];
 
 /// How many of them are made figure by figure; the others are such lines, written otherwise.
-const MADE: usize = 16;
+const MADE: usize = 17;
 
 /// `count` lines of one kind; none if there is no such kind.
 pub fn lines(kind: &str, count: u64, seed: u64) -> Option<Vec<String>> {
@@ -74,6 +75,7 @@ fn one(r: &mut Random, kind: &str) -> String {
         }
         "tubes" => tubes(r),
         "closing" => closing(r),
+        "drill" => points::drill(r),
         "spaces" => {
             let line = mixed(r);
             spaced(r, &line)
@@ -705,7 +707,7 @@ fn closing(r: &mut Random) -> String {
     closing_line(&count, radius)
 }
 
-/// The examples of document 01's refusal table, its join, the cases named P that a line can show, and document 02's rings of tubes.
+/// The examples of document 01's refusal table, its join, the cases named P that a line can show, and document 02's rings of tubes and points.
 fn table() -> Vec<String> {
     let legal = Draft {
         limit: "64".to_owned(),
@@ -742,6 +744,7 @@ fn table() -> Vec<String> {
         radius: 0.05,
         density: Density::Bulk(680.0),
     };
+    let drilled = Planform::Trapezoid([1.0, 0.5, 1.0, 0.5]);
     let with_wall = |wall: f64| TubesDraft { wall, ..ring.clone() }.line();
     vec![
         legal.line(),
@@ -801,6 +804,21 @@ fn table() -> Vec<String> {
         closing_line("0", f64::NAN),
         closing_line("33", 0.05),
         closing_line("6", f64::NAN),
+        // inside; on an edge and at a corner; outside; at a pointed tip, whose two corners are one place
+        drill_line(&drilled, [0.5, 0.5]),
+        drill_line(&drilled, [0.25, 0.5]),
+        drill_line(&drilled, [1.0, 0.0]),
+        drill_line(&drilled, [-0.25, 0.5]),
+        drill_line(&Planform::Trapezoid([1.0, 0.0, 1.0, 0.5]), [0.5, 1.0]),
+        // a corner at 128 m, and the farthest point
+        drill_line(&Planform::Trapezoid([64.0; 4]), [-64.0, -64.0]),
+        // 25: sweep + tip, which rounds to whole steps, and the point; 24 before 25, 4 before 24, 7 before 25, 8 before 4
+        drill_line(&Planform::Trapezoid([1.0, moved(power_of_two(-20), 1), 1.0, 64.0]), [0.0, 0.0]),
+        drill_line(&drilled, [0.1, 0.5]),
+        drill_line(&Planform::Ellipse([1.0, 1.0]), [0.1, 0.5]),
+        drill_line(&Planform::Ellipse([1.0, 1.0]), [65.0, f64::NAN]),
+        drill_line(&figures(&[[0.0, 0.0], [2.0, 1.0], [0.0, 1.0], [2.0, 0.0]]), [0.1, 0.1]),
+        drill_line(&figures(&[[0.0, 0.0], [1.0, 0.0], [2.0, 0.0]]), [65.0, 0.1]),
     ]
 }
 

@@ -3,10 +3,12 @@
 
 mod bodies;
 mod damage;
+mod drill;
 mod figures;
 mod forms;
 mod lines;
 mod outlines;
+mod points;
 mod random;
 mod refusals;
 mod runs;

@@ -26,6 +26,8 @@ pub enum Refusal {
     #[allow(dead_code)] // no line gives it yet
     WallOverRadius,
     ThicknessOverRoot,
+    NoCorners,
+    NotWholeSteps,
 }
 
 impl Refusal {
@@ -52,6 +54,8 @@ impl Refusal {
             Self::NoFigure => 19,
             Self::WallOverRadius => 20,
             Self::ThicknessOverRoot => 21,
+            Self::NoCorners => 24,
+            Self::NotWholeSteps => 25,
         }
     }
 
@@ -95,6 +99,8 @@ const CANT: u8 = 12;
 const BASE_ANGLE: u8 = 13;
 const TUBE_LENGTH: u8 = 14;
 const OUTER_RADIUS: u8 = 15;
+const DRILL_X: u8 = 17;
+const DRILL_HEIGHT: u8 = 18;
 
 const SHORTEST: f64 = 1.0 / 1048576.0;
 const LONGEST: f64 = 64.0;
@@ -113,8 +119,8 @@ fn refuse(refused: bool, refusal: Refusal) -> Checked {
 
 /// Number 4: a length is zero or has magnitude 2^-20 to 64; which fields may be zero or negative.
 fn length(field: u8, value: f64) -> Checked {
-    let zero_allowed = [TIP_CHORD, SWEEP, X, Y, TAB_OFFSET, BODY_RADIUS].contains(&field);
-    let negative_allowed = [SWEEP, X, TAB_OFFSET].contains(&field);
+    let zero_allowed = [TIP_CHORD, SWEEP, X, Y, TAB_OFFSET, BODY_RADIUS, DRILL_X, DRILL_HEIGHT].contains(&field);
+    let negative_allowed = [SWEEP, X, TAB_OFFSET, DRILL_X, DRILL_HEIGHT].contains(&field);
     let magnitude = if negative_allowed { value.abs() } else { value };
     let passes = (zero_allowed && value == 0.0) || (SHORTEST <= magnitude && magnitude <= LONGEST);
     refuse(!passes, Refusal::Length { field })
@@ -213,6 +219,12 @@ pub fn tubes(set: &Tubes) -> Checked {
 pub fn closing(tubes: u64, radius: f64) -> Checked {
     count(tubes)?;
     length(BODY_RADIUS, radius)
+}
+
+/// Document 02, Paper 11: "the length limits on the point's own x and height". 24 and 25 follow (`drill`).
+pub fn point([x, height]: [f64; 2]) -> Checked {
+    length(DRILL_X, x)?;
+    length(DRILL_HEIGHT, height)
 }
 
 /// 17a, of the body check and of the principal moments.

@@ -7,6 +7,7 @@ use hpr_design::fins::{FinCrossSection, FinPlanform, FinSet, FinTab, TubeFinSet}
 use hpr_design::mass::MassProperties;
 use hpr_design::material::Material;
 
+use crate::drill::{self, Place};
 use crate::figures::show_all;
 use crate::forms::{self, Body, Density, Form, Planform, Section, Set, Tubes};
 use crate::refusals::{self, Refusal};
@@ -18,6 +19,8 @@ pub enum Figures {
     Joined(MassProperties),
     Ring(MassProperties),
     Closing(f64),
+    /// With the nearest corner's position.
+    Drilled(Place, usize),
     Moments([f64; 3]),
     Sound,
 }
@@ -55,6 +58,9 @@ impl Worked {
             Ok(Figures::Joined(b)) => format!("(joined {})", body(b)),
             Ok(Figures::Ring(b)) => format!("(ring {})", body(b)),
             Ok(Figures::Closing(radius)) => format!("(closing{})", show_all(&[*radius])),
+            Ok(Figures::Drilled(Place::Inside, nearest)) => format!("(inside {nearest})"),
+            Ok(Figures::Drilled(Place::Edge, nearest)) => format!("(edge {nearest})"),
+            Ok(Figures::Drilled(Place::Outside, nearest)) => format!("(outside {nearest})"),
             Ok(Figures::Moments(m)) => format!("(moments{})", show_all(m)),
             Ok(Figures::Sound) => "(sound)".to_owned(),
             Err(refusal) => format!("(refused {})", refusal.number()),
@@ -121,6 +127,7 @@ pub fn work(line: &[u8], lent: usize) -> Worked {
         Ok(Form::Check(body)) => check(&body).map(|()| Figures::Sound),
         Ok(Form::Tubes(set)) => tubes(&set),
         Ok(Form::Closing { count, radius }) => closing(count, radius),
+        Ok(Form::Drill { planform, at }) => drilled(&planform, at),
     };
     let run = record::finish();
     let mut wrote: Vec<f64> = Vec::new();
@@ -188,6 +195,13 @@ fn join(points: &[[f64; 4]]) -> Result<Figures, Refusal> {
         .map(|&[mass, x, y, z]| MassProperties::point(mass, DVec3::new(x, y, z)))
         .collect();
     Ok(Figures::Joined(MassProperties::combine(&bodies)))
+}
+
+fn drilled(planform: &Planform, at: [f64; 2]) -> Result<Figures, Refusal> {
+    checked_planform(planform)?;
+    refusals::point(at)?;
+    let (place, nearest) = drill::drill(planform, at)?;
+    Ok(Figures::Drilled(place, nearest))
 }
 
 fn tubes(set: &Tubes) -> Result<Figures, Refusal> {

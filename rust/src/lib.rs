@@ -148,6 +148,14 @@ pub fn most_samples() -> usize {
     unsafe { raw::delvouzh_most_samples() }
 }
 
+/// Where a point lies, with the nearest corner's position, counted from 0.
+#[derive(Debug, Clone, Copy, PartialEq, Eq)]
+pub enum Place {
+    Inside { nearest: usize },
+    Edge { nearest: usize },
+    Outside { nearest: usize },
+}
+
 /// The numbers of scratch that a call with this limit asks for; a limit over 64 is refused in any case.
 pub const fn scratch_len(limit: usize) -> usize {
     limit.saturating_mul(16)
@@ -249,6 +257,31 @@ pub fn chords_at(planform: &Planform, height_m: f64) -> Result<Vec<[f64; 2]>, Er
         .take(count)
         .map(|chord| [chord[0], chord[1]])
         .collect())
+}
+
+/// Where a point lies beside a trapezoid or an outline, exactly in steps of 2^-20 m, and the nearest corner, the lowest of equally near ones.
+pub fn drill(planform: &Planform, x_m: f64, height_m: f64) -> Result<Place, Error> {
+    let mut short = [0.0; 4];
+    let (number, lengths) = planform.crossing(&mut short);
+    let mut counts = [0; raw::COUNTS];
+    let number = unsafe {
+        raw::delvouzh_drill(
+            number,
+            lengths.as_ptr(),
+            lengths.len(),
+            x_m,
+            height_m,
+            counts.as_mut_ptr(),
+            counts.len(),
+        )
+    };
+    let [first, second, place, nearest] = counts;
+    Error::unless_zero(number, [first, second])?;
+    Ok(match place {
+        raw::INSIDE => Place::Inside { nearest },
+        raw::EDGE => Place::Edge { nearest },
+        _ => Place::Outside { nearest },
+    })
 }
 
 /// The body of a ring of tubes on a body of the given radius; its origin is on the axis at the tubes' forward end.

@@ -16,6 +16,10 @@ pub const BULK: usize = 1;
 pub const SURFACE: usize = 2;
 pub const LINE: usize = 3;
 
+pub const INSIDE: usize = 1;
+pub const EDGE: usize = 2;
+pub const OUTSIDE: usize = 3;
+
 pub const BODY: usize = 13;
 pub const AREA: usize = 3;
 pub const CHORDS: usize = 64;
@@ -67,6 +71,16 @@ extern "C" {
         height_m: f64,
         ends: *mut f64,
         ends_len: usize,
+        counts: *mut usize,
+        counts_len: usize,
+    ) -> usize;
+
+    pub fn delvouzh_drill(
+        planform: usize,
+        lengths: *const f64,
+        lengths_len: usize,
+        x_m: f64,
+        height_m: f64,
         counts: *mut usize,
         counts_len: usize,
     ) -> usize;

@@ -50,6 +50,8 @@ pub enum Refusal {
     NoFigure,
     WallOverRadius,
     ThicknessOverRoot,
+    NoCorners,
+    NotWholeSteps,
 }
 
 impl Refusal {
@@ -77,6 +79,8 @@ impl Refusal {
             Self::NoFigure => 19,
             Self::WallOverRadius => 20,
             Self::ThicknessOverRoot => 21,
+            Self::NoCorners => 24,
+            Self::NotWholeSteps => 25,
         }
     }
 
@@ -104,6 +108,8 @@ impl Refusal {
             19 => Self::NoFigure,
             20 => Self::WallOverRadius,
             21 => Self::ThicknessOverRoot,
+            24 => Self::NoCorners,
+            25 => Self::NotWholeSteps,
             _ => return None,
         })
     }

@@ -1,7 +1,7 @@
 //! Each call, with figures and refused; the worked examples are document 01's.
 use delvouzh::{
-    answer_line, check, chords_at, closing_radius_m, combine, geometry, mass_properties, principal_moments,
-    scratch_len, sqrt, tube_mass_properties, Body, Density, Error, FinSet, Planform, Refusal, Section, Tab,
+    answer_line, check, chords_at, closing_radius_m, combine, drill, geometry, mass_properties, principal_moments,
+    scratch_len, sqrt, tube_mass_properties, Body, Density, Error, FinSet, Place, Planform, Refusal, Section, Tab,
     TensorFault, TubeFinSet,
 };
 
@@ -153,6 +153,37 @@ const TUBES: TubeFinSet = TubeFinSet {
     base_angle_rad: 0.0,
     density: Density::Bulk { kg_m3: 680.0 },
 };
+
+#[test]
+fn a_point_has_its_place_and_nearest_corner() {
+    let fin = |tip_chord_m, sweep_m| Planform::Trapezoid {
+        root_chord_m: 1.0,
+        tip_chord_m,
+        span_m: 1.0,
+        sweep_m,
+    };
+    let planform = fin(0.5, 0.5);
+    assert_eq!(drill(&planform, 0.5, 0.5), Ok(Place::Inside { nearest: 1 }));
+    assert_eq!(drill(&planform, 0.25, 0.5), Ok(Place::Edge { nearest: 0 }), "of two the first");
+    assert_eq!(drill(&planform, 1.0, -0.0), Ok(Place::Edge { nearest: 3 }));
+    assert_eq!(drill(&planform, -0.25, 0.5), Ok(Place::Outside { nearest: 0 }));
+    assert_eq!(drill(&fin(0.0, 0.5), 0.5, 1.0), Ok(Place::Edge { nearest: 1 }), "a pointed tip");
+    let points_m = [[0.0, 0.0], [0.0, 2.0], [1.0, 1.0], [2.0, 2.0], [2.0, 0.0]];
+    let teeth = Planform::Outline { points_m: &points_m };
+    assert_eq!(drill(&teeth, 1.0, 1.5), Ok(Place::Outside { nearest: 2 }));
+    assert_eq!(drill(&teeth, 0.5, 1.0), Ok(Place::Inside { nearest: 2 }), "at a corner's height");
+    let refused = |planform: &Planform, x_m, height_m| table(drill(planform, x_m, height_m).unwrap_err());
+    assert_eq!(refused(&planform, f64::NAN, f64::NAN), Refusal::Length { field: 17 });
+    assert_eq!(refused(&planform, 0.0, -65.0), Refusal::Length { field: 18 });
+    assert_eq!(refused(&ELLIPSE, 0.1, 0.1), Refusal::NoCorners);
+    assert_eq!(refused(&planform, 0.1, 0.5), Refusal::NotWholeSteps);
+    let step = 1.0 / 1048576.0f64;
+    assert_eq!(refused(&fin(step.next_up(), 64.0), 0.0, 0.0), Refusal::NotWholeSteps, "sweep + tip rounds to whole steps");
+    assert_eq!(
+        drill(&fin(0.5, f64::NAN), 65.0, 65.0),
+        Err(Error::Refused(Refusal::Length { field: 4 }))
+    );
+}
 
 #[test]
 fn a_ring_of_tubes_has_figures() {

@@ -23,6 +23,16 @@ ringText figures = filled (text "(ring (mass F) (centre F F F) (inertia F F F F 
 unfoldable pub closingText : List Float → List ℕ
 closingText figures = filled (text "(closing F)") figures []
 
+-- where a point lies (document 02, Paper 11), with the nearest corner's position
+unfoldable pub insideText : ℕ → List ℕ
+insideText nearest = filled (text "(inside N)") [] (nearest ∷ [])
+
+unfoldable pub edgeText : ℕ → List ℕ
+edgeText nearest = filled (text "(edge N)") [] (nearest ∷ [])
+
+unfoldable pub outsideText : ℕ → List ℕ
+outsideText nearest = filled (text "(outside N)") [] (nearest ∷ [])
+
 -- ascending
 unfoldable pub momentsText : List Float → List ℕ
 momentsText figures = filled (text "(moments F F F)") figures []

@@ -5,7 +5,7 @@ ghost use Prim.Native.Nat.{_+_, _≤_};
 ghost use lib.ListN.{length};
 ghost use Rattle.texts.specs.Appended.{Appended};
 ghost use Rattle.answers.specs.Filled.{filled, room};
-ghost use Rattle.answers.specs.Answers.{figuresText, areaText, joinedText, ringText, closingText, momentsText, soundText, refusedText};
+ghost use Rattle.answers.specs.Answers.{figuresText, areaText, joinedText, ringText, closingText, insideText, edgeText, outsideText, momentsText, soundText, refusedText};
 ghost use Rattle.answers.specs.Places.{HasRoom, PutPiece};
 
 // Where printing stands: how many bytes are there, and how many figures and counts have been used.
@@ -147,6 +147,36 @@ pub fn put_closing(out: &mut [u8], n: usize, figures: &[f64]) -> usize
 {
     let counts: [u64; 0] = [];
     put_filled(out, n, b"(closing F)", figures, &counts)
+}
+
+// A point that lies inside, with the nearest corner's position; the next two likewise.
+pub fn put_inside(out: &mut [u8], n: usize, nearest: u64) -> usize
+    requires { ⌜ n + 320 ≤ length (now out) ⌝ }
+    ensures { λ r. ⌜ Appended (now (out .entry)) n (insideText nearest) (now (out .exit)) r ⌝ }
+{
+    let figures: [f64; 0] = [];
+    let counts = [nearest];
+    put_filled(out, n, b"(inside N)", &figures, &counts)
+}
+
+// A point on the edge.
+pub fn put_edge(out: &mut [u8], n: usize, nearest: u64) -> usize
+    requires { ⌜ n + 320 ≤ length (now out) ⌝ }
+    ensures { λ r. ⌜ Appended (now (out .entry)) n (edgeText nearest) (now (out .exit)) r ⌝ }
+{
+    let figures: [f64; 0] = [];
+    let counts = [nearest];
+    put_filled(out, n, b"(edge N)", &figures, &counts)
+}
+
+// A point outside.
+pub fn put_outside(out: &mut [u8], n: usize, nearest: u64) -> usize
+    requires { ⌜ n + 320 ≤ length (now out) ⌝ }
+    ensures { λ r. ⌜ Appended (now (out .entry)) n (outsideText nearest) (now (out .exit)) r ⌝ }
+{
+    let figures: [f64; 0] = [];
+    let counts = [nearest];
+    put_filled(out, n, b"(outside N)", &figures, &counts)
 }
 
 // Principal moments.

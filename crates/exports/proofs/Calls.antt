@@ -19,11 +19,13 @@ use Rattle.figures.specs.declared.Area.{Area}
 use Rattle.figures.specs.declared.Figures.{Figures}
 use Rattle.lines.specs.Lines.{answerOf, Answers}
 use Rattle.planform_chords.specs.declared.ChordList.{ChordList}
+use Rattle.drill.specs.declared.Answer.{Answer}
+use Rattle.drill.specs.Drill.{verdictOf, placeNumber, nearestOf}
 use Rattle.planforms.specs.declared.NumberedPlanform.{NumberedPlanform}
 use Rattle.fins.specs.declared.NumberedSet.{NumberedSet}
-use Rattle.requests.specs.Calls.{numberedFigures, numberedScratch, numberedArea, numberedAreaScratch, numberedChords, numberedEnds, ringBy, tensorMoments, bodyVerdict}
-use Rattle.exports.specs.Numbers.{numberIn, over, withValues}
-use Rattle.exports.specs.Calls.{room, figureCounts, SetCall, areaNumbers, areaCounts, AreaCall, chordCounts, ChordsCall, RingCall, ClosingCall, JoinCall, momentsNumbers, MomentsCall, CheckCall, LineCall}
+use Rattle.requests.specs.Calls.{numberedFigures, numberedScratch, numberedArea, numberedAreaScratch, numberedChords, numberedEnds, numberedDrill, ringBy, tensorMoments, bodyVerdict}
+use Rattle.exports.specs.Numbers.{numberIn, over, withValues, withCounts}
+use Rattle.exports.specs.Calls.{room, figureCounts, SetCall, areaNumbers, areaCounts, AreaCall, chordCounts, ChordsCall, DrillCall, RingCall, ClosingCall, JoinCall, momentsNumbers, MomentsCall, CheckCall, LineCall}
 
 module _ {A : Type 0} (m : ℕ) (figures : List A) (n : ℕ) (counts : List ℕ) where
   has-room : m ≤ length figures → n ≤ length counts → room m figures n counts ≡ true
@@ -85,6 +87,18 @@ module _ (planform : NumberedPlanform) (points : List Float) (h : Float) (ends :
         listed = rw (fits, ← same) s;
         counted = rw (fits, ← same, ← e) c;
       }
+
+module _ (planform : NumberedPlanform) (points : List Float) (x height : Float) (counts : List ℕ) where
+  pub drill-refused : length counts < 4 → DrillCall planform points x height counts 18 counts
+  drill-refused h = let none = lt-leb 4 (length counts) h in record { returned = rw none; counted = rw none }
+
+  -- `read` is the planform as the code has it; v, place and nearest are the answer's parts
+  pub drill-written : 4 ≤ length counts → (read : NumberedPlanform) (a : Answer) (v : Verdict) (place nearest r : ℕ) (counts' : List ℕ) →
+      read ≡ planform → a ≡ numberedDrill read points x height → v ≡ verdictOf a → place ≡ placeNumber a → nearest ≡ nearestOf a →
+      counts' ≡ withCounts counts v place nearest → r ≡ numberIn v → DrillCall planform points x height counts r counts'
+  drill-written h read a v place nearest r counts' same e f g k c n =
+      let fits = le-leb 4 (length counts) h in
+      record { returned = rw (fits, ← same, ← e, ← f) n; counted = rw (fits, ← same, ← e, ← f, ← g, ← k) c }
 
 module _ (count density : ℕ) (numbers body : List Float) (values : List ℕ) where
   pub ring-refused : room bodyNumbers body 2 values ≡ false → RingCall count density numbers body values 18 body values

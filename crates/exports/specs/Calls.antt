@@ -12,6 +12,8 @@ use Rattle.refusals.specs.declared.Refusal.the-variants.{NoForm}
 use Rattle.refusals.specs.Refusals.{numberOf}
 use Rattle.planforms.specs.declared.NumberedPlanform.{NumberedPlanform}
 use Rattle.planform_chords.specs.declared.ChordList.{ChordList}
+use Rattle.drill.specs.declared.Answer.{Answer}
+use Rattle.drill.specs.Drill.{verdictOf, placeNumber, nearestOf}
 use Rattle.fins.specs.declared.NumberedSet.{NumberedSet}
 use Rattle.bodies.specs.Layout.{bodyNumbers}
 use Rattle.joins.specs.Flat.{withBody}
@@ -20,7 +22,7 @@ use Rattle.tubes.specs.Closing.{closingOf}
 use Rattle.moments.specs.declared.Moments.{Moments}
 use Rattle.figures.specs.declared.Area.{Area}
 use Rattle.figures.specs.declared.Figures.{Figures}
-use Rattle.requests.specs.Calls.{numberedFigures, numberedScratch, numberedArea, numberedAreaScratch, numberedChords, numberedEnds, ringBy, tensorMoments, bodyVerdict}
+use Rattle.requests.specs.Calls.{numberedFigures, numberedScratch, numberedArea, numberedAreaScratch, numberedChords, numberedEnds, numberedDrill, ringBy, tensorMoments, bodyVerdict}
 use Rattle.lines.specs.Lines.{answerOf, scratchAfterLine}
 use Rattle.exports.specs.Numbers.{numberIn, over, withValues, withCount, withCounts}
 
@@ -62,6 +64,15 @@ pub record ChordsCall (planform : NumberedPlanform) (points : List Float) (h : F
   pub returned : r ≡ cond (room 64 ends 3 counts) (numberIn (numberedChords planform points h (length ends) .verdict)) (numberOf NoForm)
   pub listed : ends' ≡ cond (room 64 ends 3 counts) (numberedEnds planform points h ends) ends
   pub counted : counts' ≡ cond (room 64 ends 3 counts) (chordCounts (numberedChords planform points h (length ends)) counts) counts
+
+-- ---- where a point lies beside a planform (document 02, Paper 11): the place, 1 inside, 2 on the edge, 3 outside, and the nearest corner's position
+
+abbrev pub drillCounts : Answer → List ℕ → List ℕ
+drillCounts a counts = withCounts counts (verdictOf a) (placeNumber a) (nearestOf a)
+
+pub record DrillCall (planform : NumberedPlanform) (points : List Float) (x height : Float) (counts : List ℕ) (r : ℕ) (counts' : List ℕ) : Type 0 where
+  pub returned : r ≡ cond (leb 4 (length counts)) (numberIn (verdictOf (numberedDrill planform points x height))) (numberOf NoForm)
+  pub counted : counts' ≡ cond (leb 4 (length counts)) (drillCounts (numberedDrill planform points x height) counts) counts
 
 -- ---- a ring of tubes, and the radius that closes one (document 02, Paper 3)
 

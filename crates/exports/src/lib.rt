@@ -14,7 +14,7 @@ ghost use Rattle.planforms.specs.Numbered.{numberedPlanform};
 ghost use Rattle.figures.specs.Answers.{mostSamples};
 ghost use Rattle.exports.specs.Sets.{crossedSet};
 ghost use Rattle.exports.specs.Numbers.{numberIn, valuesIn, over, withValues, withCount, withCounts};
-ghost use Rattle.exports.specs.Calls.{SetCall, AreaCall, ChordsCall, RingCall, ClosingCall, JoinCall, MomentsCall, CheckCall, LineCall};
+ghost use Rattle.exports.specs.Calls.{SetCall, AreaCall, ChordsCall, DrillCall, RingCall, ClosingCall, JoinCall, MomentsCall, CheckCall, LineCall};
 use bodies::BODY_NUMBERS;
 use fins::NumberedSet;
 use refusals::Verdict;
@@ -218,6 +218,33 @@ pub extern "C" fn delvouzh_chords_at(
     let found = requests::listed_chords(asked, lengths, height_m, ends);
     let verdict = found.verdict;
     write_count(counts, verdict, found.count);
+    number(verdict)
+}
+
+// Where a point lies beside a planform: writes two values of a refusal, the place (1 inside, 2 on the edge, 3 outside) and the nearest
+// corner's position.
+#[no_mangle]
+pub extern "C" fn delvouzh_drill(
+    planform: usize,
+    lengths: &[f64],
+    x_m: f64,
+    height_m: f64,
+    counts: &mut [usize],
+) -> usize
+    ensures { λ r. ⌜ DrillCall (numberedPlanform planform (now (lengths .entry))) (now (lengths .entry)) «x_m» «height_m» (now (counts .entry)) r (now (counts .exit)) ⌝ }
+{
+    if counts.len() < 4 {
+        return NO_FORM;
+    }
+    let asked = planforms::numbered_planform(planform, lengths);
+    let found = requests::drilled(asked, lengths, x_m, height_m);
+    let verdict = drill::verdict(found);
+    write_counts(
+        counts,
+        verdict,
+        drill::place_number(found),
+        drill::nearest(found),
+    );
     number(verdict)
 }
 

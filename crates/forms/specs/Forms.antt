@@ -12,7 +12,7 @@ use Rattle.tokens.specs.Text.{text}
 use Rattle.tokens.specs.Tokens.{lineBytes, tokens}
 use Rattle.templates.specs.Matching.{Reading, failed, reading, pick, sameBytes, takeOne, takeText, takeEach, oneOf, optional}
 use Rattle.forms.specs.declared.Form.{Form}
-use Rattle.forms.specs.declared.Form.the-variants.{Set, Area, Join, Moments, Check, Tubes, Closing}
+use Rattle.forms.specs.declared.Form.the-variants.{Set, Area, Join, Moments, Check, Tubes, Closing, Drill}
 
 -- ---- parts, numbered by their places in the list, from 1 on; a part that is left out is 0
 
@@ -113,12 +113,13 @@ wordOf line = getD (tokens line) 1 []
 abbrev pub row : List ℕ → String → Form → String → Asked → Asked
 row line word form template others = pickAsked (sameBytes (wordOf line) (text word)) (readAs form (text template) line) others
 
--- document 02, Paper 3
-unfoldable pub tubeForm : List ℕ → Asked
-tubeForm line =
+-- document 02, Papers 3 and 11
+unfoldable pub laterForm : List ℕ → Asked
+laterForm line =
     row line "tubes" Tubes "(tubes (count N) (length F) (outer F) (wall F) (base F) (radius F) DENSITY)"
     (row line "closing" Closing "(closing (count N) (radius F))"
-    (refused noForm))
+    (row line "drill" Drill "(drill PLANFORM (at F F))"
+    (refused noForm)))
 
 unfoldable pub anyForm : List ℕ → Asked
 anyForm line =
@@ -127,7 +128,7 @@ anyForm line =
     (row line "join" Join "(join POINTS)"
     (row line "moments" Moments "(moments F F F F F F F F F)"
     (row line "check" Check "(check (mass F) (centre F F F) (inertia F F F F F F F F F))"
-    (tubeForm line)))))
+    (laterForm line)))))
 
 -- "a longer line is 18"
 unfoldable pub lineAsked : List ℕ → Asked

@@ -7,7 +7,7 @@ ghost use Prim.Native.Nat.{_≤_};
 ghost use lib.ListN.{length};
 ghost use Rattle.tokens.specs.Tokens.{lineBytes};
 ghost use Rattle.templates.specs.Cursors.{Room, Takes};
-ghost use Rattle.forms.specs.Forms.{part, isNumbered, withItem, readAs, wordOf, tubeForm, lineAsked};
+ghost use Rattle.forms.specs.Forms.{part, isNumbered, withItem, readAs, wordOf, laterForm, lineAsked};
 ghost use Rattle.forms.specs.Reads.{refusedRequest, Reads, endOf, IsWordOf};
 use refusals::Refusal;
 use refusals::Verdict;
@@ -24,6 +24,7 @@ pub enum Form {
     Check,
     Tubes,
     Closing,
+    Drill,
     NoForm,
 }
 
@@ -185,10 +186,10 @@ fn word_of(line: &[u8]) -> Found
     tokens::next_token(line, bracket.to)
 }
 
-// What a line of a ring of tubes, or of the radius that closes one, asks.
-fn read_tube_form(line: &[u8], word: &[u8], values: &mut [f64]) -> Request
+// What a line of a form that document 02 adds asks: a ring of tubes, the radius that closes one, where a point lies.
+fn read_later_form(line: &[u8], word: &[u8], values: &mut [f64]) -> Request
     requires { ⌜ (length (now line) ≤ lineBytes) × (length (now line) ≤ length (now values)) × (now word ≡ wordOf (now line)) ⌝ }
-    ensures { λ r. ⌜ Reads (now (values .exit)) r (tubeForm (now (line .entry))) ⌝ }
+    ensures { λ r. ⌜ Reads (now (values .exit)) r (laterForm (now (line .entry))) ⌝ }
 {
     if same_bytes(word, b"tubes") {
         return read_form(
@@ -205,6 +206,9 @@ fn read_tube_form(line: &[u8], word: &[u8], values: &mut [f64]) -> Request
             b"(closing (count N) (radius F))",
             values,
         );
+    }
+    if same_bytes(word, b"drill") {
+        return read_form(line, Form::Drill, b"(drill PLANFORM (at F F))", values);
     }
     refused(Refusal::NoForm)
 }
@@ -246,5 +250,5 @@ pub fn read_line(line: &[u8], values: &mut [f64]) -> Request
             values,
         );
     }
-    read_tube_form(line, word, values)
+    read_later_form(line, word, values)
 }

@@ -12,16 +12,18 @@ use Rattle.refusals.specs.Refusals.{numberOf}
 use Rattle.bodies.specs.Layout.{numbersOf}
 use Rattle.joins.specs.declared.Joined.{Joined}
 use Rattle.tubes.specs.declared.ClosingRadius.{ClosingRadius}
+use Rattle.drill.specs.declared.Answer.{Answer}
+use Rattle.drill.specs.declared.Answer.the-variants.{Inside, Edge, Outside, Refused as refusedPoint}
 use Rattle.moments.specs.declared.Moments.{Moments}
 use Rattle.texts.specs.Appended.{Appended}
-use Rattle.answers.specs.Answers.{figuresText, areaText, joinedText, ringText, closingText, momentsText, soundText, refusedText}
+use Rattle.answers.specs.Answers.{figuresText, areaText, joinedText, ringText, closingText, insideText, edgeText, outsideText, momentsText, soundText, refusedText}
 use Rattle.forms.specs.declared.Form.{Form}
-use Rattle.forms.specs.declared.Form.the-variants.{Set as SetForm, Area as AreaForm, Join as JoinForm, Moments as MomentsForm, Check as CheckForm, Tubes as TubesForm, Closing as ClosingForm, NoForm}
+use Rattle.forms.specs.declared.Form.the-variants.{Set as SetForm, Area as AreaForm, Join as JoinForm, Moments as MomentsForm, Check as CheckForm, Tubes as TubesForm, Closing as ClosingForm, Drill as DrillForm, NoForm}
 use Rattle.forms.specs.Forms.{Asked, refused, asked, lineAsked}
 use Rattle.requests.specs.declared.AreaRequest.{AreaRequest}
 use Rattle.requests.specs.declared.SetRequest.{SetRequest}
 use Rattle.requests.specs.Calls.{joinedPointsOf, tensorMoments, bodyVerdict}
-use Rattle.requests.specs.Requests.{setRequestOf, areaRequestOf, askedFigures, askedScratch, askedArea, askedAreaScratch, askedRing, askedClosing}
+use Rattle.requests.specs.Requests.{setRequestOf, areaRequestOf, askedFigures, askedScratch, askedArea, askedAreaScratch, askedRing, askedClosing, askedDrill}
 use Rattle.figures.specs.declared.Figures.{Figures}
 use Rattle.figures.specs.declared.Area.{Area}
 
@@ -48,6 +50,12 @@ printedRing (Refused refusal) j = refusedText (numberOf refusal)
 abbrev pub printedClosing : Verdict → ClosingRadius → List ℕ
 printedClosing Accepted c = closingText (c .«radius_m» ∷ [])
 printedClosing (Refused refusal) c = refusedText (numberOf refusal)
+
+abbrev pub printedDrill : Answer → List ℕ
+printedDrill (Inside nearest) = insideText nearest
+printedDrill (Edge nearest) = edgeText nearest
+printedDrill (Outside nearest) = outsideText nearest
+printedDrill (refusedPoint refusal) = refusedText (numberOf refusal)
 
 abbrev pub printedMoments : Verdict → Moments → List ℕ
 printedMoments Accepted m = momentsText (m .«moments_kg_m2»)
@@ -86,6 +94,9 @@ ringAnswer ns figures = let j = askedRing ns figures in printedRing (j .verdict)
 unfoldable pub closingAnswer : List ℕ → List Float → List ℕ
 closingAnswer ns figures = let c = askedClosing ns figures in printedClosing (c .verdict) c
 
+unfoldable pub drillAnswer : List ℕ → List Float → List ℕ
+drillAnswer ns figures = printedDrill (askedDrill ns figures)
+
 abbrev pub answerTo : Form → List ℕ → List Float → ℕ → List ℕ
 answerTo SetForm ns figures scratchLength = setAnswer (setRequestOf ns figures) figures scratchLength
 answerTo AreaForm ns figures scratchLength = areaAnswer (areaRequestOf ns figures) figures scratchLength
@@ -94,6 +105,7 @@ answerTo MomentsForm ns figures scratchLength = momentsAnswer figures
 answerTo CheckForm ns figures scratchLength = checkAnswer figures
 answerTo TubesForm ns figures scratchLength = ringAnswer ns figures
 answerTo ClosingForm ns figures scratchLength = closingAnswer ns figures
+answerTo DrillForm ns figures scratchLength = drillAnswer ns figures
 answerTo NoForm ns figures scratchLength = printedRefusal noForm
 
 abbrev pub askedAnswer : Asked → ℕ → List ℕ
@@ -113,6 +125,7 @@ scratchAfterForm MomentsForm ns figures scratch = scratch
 scratchAfterForm CheckForm ns figures scratch = scratch
 scratchAfterForm TubesForm ns figures scratch = scratch
 scratchAfterForm ClosingForm ns figures scratch = scratch
+scratchAfterForm DrillForm ns figures scratch = scratch
 scratchAfterForm NoForm ns figures scratch = scratch
 
 abbrev pub scratchAfterAsked : Asked → List Float → List Float
@@ -136,6 +149,7 @@ requestAnswer MomentsForm verdict ns figures scratchLength = answerTo MomentsFor
 requestAnswer CheckForm verdict ns figures scratchLength = answerTo CheckForm ns figures scratchLength
 requestAnswer TubesForm verdict ns figures scratchLength = answerTo TubesForm ns figures scratchLength
 requestAnswer ClosingForm verdict ns figures scratchLength = answerTo ClosingForm ns figures scratchLength
+requestAnswer DrillForm verdict ns figures scratchLength = answerTo DrillForm ns figures scratchLength
 requestAnswer NoForm verdict ns figures scratchLength = printedRefusal (whyRefused verdict)
 
 -- ---- what answering a line does, behind the n bytes at the start of `out`: where 320 more do not fit, nothing

@@ -7,7 +7,8 @@ ghost use lib.Dec.{leb};
 ghost use lib.ListN.{length};
 ghost use Rattle.texts.specs.Appended.{Appended};
 ghost use Rattle.tokens.specs.Tokens.{lineBytes};
-ghost use Rattle.lines.specs.Lines.{printedSet, printedArea, printedJoin, printedRing, printedClosing, printedMoments, printedCheck, printedRefusal, answerOf, scratchAfterForm, scratchAfterLine, whyRefused, requestAnswer, Answers};
+ghost use Rattle.lines.specs.Lines.{printedSet, printedArea, printedJoin, printedRing, printedClosing, printedDrill, printedMoments, printedCheck, printedRefusal, answerOf, scratchAfterForm, scratchAfterLine, whyRefused, requestAnswer, Answers};
+use drill::Answer;
 use figures::Area;
 use figures::Figures;
 use forms::Form;
@@ -29,7 +30,7 @@ fn put_refusal(out: &mut [u8], n: usize, refusal: Refusal) -> usize
     answers::put_refused(out, n, refusals::number(refusal) as u64)
 }
 
-// The answer to a set, by its verdict; the next six likewise.
+// The answer to a set, by its verdict; the next seven likewise.
 fn put_set(out: &mut [u8], n: usize, f: Figures) -> usize
     requires { ⌜ n + 320 ≤ length (now out) ⌝ }
     ensures { λ r. ⌜ Appended (now (out .entry)) n (printedSet (f .verdict) f) (now (out .exit)) r ⌝ }
@@ -103,6 +104,18 @@ fn put_closing(out: &mut [u8], n: usize, found: ClosingRadius) -> usize
     }
 }
 
+fn put_drilled(out: &mut [u8], n: usize, found: Answer) -> usize
+    requires { ⌜ n + 320 ≤ length (now out) ⌝ }
+    ensures { λ r. ⌜ Appended (now (out .entry)) n (printedDrill found) (now (out .exit)) r ⌝ }
+{
+    match found {
+        Answer::Inside(nearest) => answers::put_inside(out, n, nearest as u64),
+        Answer::Edge(nearest) => answers::put_edge(out, n, nearest as u64),
+        Answer::Outside(nearest) => answers::put_outside(out, n, nearest as u64),
+        Answer::Refused(refusal) => put_refusal(out, n, refusal),
+    }
+}
+
 fn put_moments(out: &mut [u8], n: usize, m: Moments) -> usize
     requires { ⌜ n + 320 ≤ length (now out) ⌝ }
     ensures { λ r. ⌜ Appended (now (out .entry)) n (printedMoments (m .verdict) m) (now (out .exit)) r ⌝ }
@@ -156,6 +169,7 @@ fn answer_request(
         Form::Check => put_checked(out, n, requests::body_verdict(values)),
         Form::Tubes => put_ring(out, n, requests::asked_ring(q, values)),
         Form::Closing => put_closing(out, n, requests::asked_closing(q, values)),
+        Form::Drill => put_drilled(out, n, requests::asked_drill(q, values)),
         Form::NoForm => put_refusal(out, n, why_refused(verdict)),
     }
 }

@@ -56,6 +56,11 @@ module _ (corners : List ℤ) (x height : ℤ) where
   best zero = record { among = omega arith; least = λ j h. subst (λ (k : ℕ). far 0 ≤ℤ far k) (let z : 0 ≡ j = omega arith in z) (≤ℤ-refl (far 0)); first = λ j h. absurd (not-suc-le-zero h) }
   best (suc m) = let b = nearestTo corners x height m in one-more m b (best m) (ltZ (far (suc m)) (far b)) refl
 
+  -- it is one of the corners
+  pub nearest-among : 0 < cornerCount corners → nearestCorner corners x height < cornerCount corners
+  unfolding nearestCorner
+  nearest-among h = omega (arith, best (cornerCount corners - 1) .among)
+
   -- no corner is nearer than the one that is given
   pub none-nearer : (j : ℕ) → j < cornerCount corners → squaredDistance (offsetOf corners x height (nearestCorner corners x height)) ≤ℤ squaredDistance (offsetOf corners x height j)
   unfolding nearestCorner far

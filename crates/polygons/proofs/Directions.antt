@@ -1,18 +1,19 @@
 -- Where a point lies does not hang on the direction in which the corners are given: each edge is an edge of the other polygon with its ends exchanged,
--- a point lies on one where it does on the other, and one is cut where the other is. Assumes nothing.
+-- a point lies on one where it does on the other, and one is cut where the other is. The nearest corner is as far. Assumes nothing.
 use mathlib.Core.Bool.{Bool, true, false, cond, _&&_, _||_}
 use mathlib.Core.List.{List}
-use mathlib.Core.Path.{_≡_, refl, sym, ap, _∙_}
+use mathlib.Core.Path.{_≡_, refl, sym, ap, subst, _∙_}
 use Prim.Native.Nat.{ℕ, zero, suc, _+_, _-_, _*_, _/_, _%_, _≤_, _<_}
-use native.Mathlib.Nat.{mod-eq-of-lt, mod-self, add-comm, add-assoc}
+use native.Mathlib.Nat.{mod-eq-of-lt, mod-self, add-comm, add-assoc, le-antisymm}
 use native.Mathlib.Omega.{arith}
-use lib.Dec.{eqb}
-use lib.IntN.{ℤ, pos, _-ℤ_, _*ℤ_}
+use lib.Dec.{T, eqb, leb→le}
+use lib.IntN.{ℤ, pos, negsuc, _-ℤ_, _*ℤ_}
 use lib.ListN.{length, getD}
-use lib.Signed.{leZ}
+use lib.Signed.{leZ, _≤ℤ_}
 use Rattle.planforms.specs.Planforms.{next}
 use Rattle.polygons.specs.declared.Offset.{Offset}
-use Rattle.polygons.specs.Polygons.{isSame, isZeroBetween, liesOn, isCutRising, isCut, cornerCount, offsetOf, isOn, cuts, some, count, isOnEdge, isInside}
+use Rattle.polygons.specs.Polygons.{isSame, isZeroBetween, liesOn, isCutRising, isCut, squaredDistance, cornerCount, offsetOf, isOn, cuts, some, count, isOnEdge, isInside, nearestCorner}
+use Rattle.polygons.proofs.Corners.{nearest-among, none-nearer}
 
 -- ---- an edge with its ends exchanged
 
@@ -157,3 +158,56 @@ module _ (corners other : List ℤ) (r : Reversed corners other) (x height : ℤ
       ∙ count-joined n (cuts other x height)
       ∙ all-edges isCut cut-either-way _+_ 0 add-comm add-assoc (λ t. cond t 1 0) n refl
       ∙ sym (count-joined n (cuts corners x height)))
+
+-- ---- the nearest corner
+
+neither-less : (a b : ℤ) → T (leZ a b) → T (leZ b a) → a ≡ b
+neither-less (pos a) (pos b) h g = ap pos (le-antisymm (leb→le a b h) (leb→le b a g))
+neither-less (pos a) (negsuc b) h g = absurd h
+neither-less (negsuc a) (pos b) h g = absurd g
+neither-less (negsuc a) (negsuc b) h g = ap negsuc (le-antisymm (leb→le a b g) (leb→le b a h))
+
+module _ (corners other : List ℤ) (r : Reversed corners other) (x height : ℤ) (some-corner : 0 < cornerCount corners) where
+  n : ℕ
+  n = cornerCount corners
+
+  far : List ℤ → ℕ → ℤ
+  far l i = squaredDistance (offsetOf l x height i)
+
+  first : ℕ
+  first = nearestCorner corners x height
+
+  second : ℕ
+  second = nearestCorner other x height
+
+  as-many : cornerCount other ≡ n
+  unfolding n
+  as-many = ap (λ (k : ℕ). k / 2) (r .long)
+
+  first-among : first < n
+  unfolding first n
+  first-among = nearest-among corners x height some-corner
+
+  second-among : second < n
+  unfolding second n
+  second-among = subst (λ (k : ℕ). second < k) as-many (nearest-among other x height (subst (λ (k : ℕ). 0 < k) (sym as-many) some-corner))
+
+  first-least : far corners first ≤ℤ far other second
+  unfolding first second far n
+  first-least =
+      subst (λ (a : Offset). far corners first ≤ℤ squaredDistance a) (sym (turned corners other r x height second second-among))
+      (none-nearer corners x height (n - suc second) (let h = second-among in let z : n - suc second < n = omega arith in z))
+
+  second-least : far other second ≤ℤ far corners first
+  unfolding first second far n
+  second-least =
+      let h = first-among in
+      let i = n - suc first in
+      let less : i < n = omega arith in
+      let back : n - suc i ≡ first = omega arith in
+      subst (λ (a : Offset). far other second ≤ℤ squaredDistance a) (turned corners other r x height i less ∙ ap (offsetOf corners x height) back)
+      (none-nearer other x height i (subst (λ (k : ℕ). i < k) (sym as-many) less))
+
+  pub nearest-either-way : squaredDistance (offsetOf other x height (nearestCorner other x height)) ≡ squaredDistance (offsetOf corners x height (nearestCorner corners x height))
+  unfolding first second far
+  nearest-either-way = neither-less (far other second) (far corners first) (second-least .le) (first-least .le)

@@ -13,6 +13,9 @@ use Rattle.planforms.specs.declared.NumberedPlanform.{NumberedPlanform}
 use Rattle.planforms.specs.declared.NumberedPlanform.the-variants.{Known as planformKnown, Unknown as noPlanform}
 use Rattle.planform_chords.specs.declared.ChordList.{ChordList}
 use Rattle.planform_chords.specs.PlanformChords.{chordList, endsAfter}
+use Rattle.drill.specs.declared.Answer.{Answer}
+use Rattle.drill.specs.declared.Answer.the-variants.{Refused as refusedPoint}
+use Rattle.drill.specs.Drill.{drillOf}
 use Rattle.fins.specs.declared.NumberedSet.{NumberedSet}
 use Rattle.fins.specs.declared.NumberedSet.the-variants.{Known as setKnown, Unknown as noSet}
 use Rattle.materials.specs.declared.NumberedDensity.{NumberedDensity}
@@ -62,6 +65,12 @@ numberedChords noPlanform points h listLength = record { verdict = Refused NoFor
 unfoldable pub numberedEnds : NumberedPlanform → List Float → Float → List Float → List Float
 numberedEnds (planformKnown planform) points h ends = endsAfter planform points h ends
 numberedEnds noPlanform points h ends = ends
+
+-- ---- where a point lies beside a planform (document 02, Paper 11)
+
+unfoldable pub numberedDrill : NumberedPlanform → List Float → Float → Float → Answer
+numberedDrill (planformKnown planform) points x height = drillOf planform points x height
+numberedDrill noPlanform points x height = refusedPoint NoForm
 
 -- ---- a ring of tubes (document 02, Paper 3): of length, outer radius, wall, base angle, body radius, density
 

@@ -10,13 +10,14 @@ use Rattle.sections.specs.Numbered.{numberedSection}
 use Rattle.materials.specs.Numbered.{numberedDensity}
 use Rattle.fins.specs.Numbered.{numberedTab, numberedSet}
 use Rattle.joins.specs.declared.Joined.{Joined}
+use Rattle.drill.specs.declared.Answer.{Answer}
 use Rattle.tubes.specs.declared.ClosingRadius.{ClosingRadius}
 use Rattle.tubes.specs.Closing.{closingOf}
 use Rattle.figures.specs.declared.Area.{Area}
 use Rattle.figures.specs.declared.Figures.{Figures}
 use Rattle.requests.specs.declared.AreaRequest.{AreaRequest}
 use Rattle.requests.specs.declared.SetRequest.{SetRequest}
-use Rattle.requests.specs.Calls.{numberedFigures, numberedScratch, numberedArea, numberedAreaScratch, ringBy}
+use Rattle.requests.specs.Calls.{numberedFigures, numberedScratch, numberedArea, numberedAreaScratch, numberedDrill, ringBy}
 
 -- of the count or part k, counted from the form's last: its number, and how many figures stand up to its end
 abbrev pub number : List ℕ → ℕ → ℕ
@@ -74,3 +75,10 @@ askedRing ns figures = ringBy (number ns 1) (number ns 0) figures
 -- "(closing (count N) (radius F))": count 0
 unfoldable pub askedClosing : List ℕ → List Float → ClosingRadius
 askedClosing ns figures = closingOf (at figures 0) (number ns 0)
+
+-- "(drill PLANFORM (at F F))": planform 0; the point's x and height stand behind the planform's figures
+unfoldable pub askedDrill : List ℕ → List Float → Answer
+askedDrill ns figures =
+    let lengths = between 0 (end ns 0) figures in
+    let point = drop (end ns 0) figures in
+    numberedDrill (numberedPlanform (number ns 0) lengths) lengths (at point 0) (at point 1)

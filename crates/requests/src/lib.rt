@@ -1,5 +1,5 @@
 // What a line or a call asks by numbers, as the calls take it (docs/FORMS.md; include/delvouzh.h): a set, a planform, a planform's chords,
-// a ring of tubes, points to join, a tensor, a body.
+// a point beside a planform, a ring of tubes, points to join, a tensor, a body.
 //
 // A line's figures stand in a lent slice in the order of its form. Any numbers and any figures may be handed in: what they do not make up
 // is no form.
@@ -11,12 +11,13 @@ ghost use Rattle.bodies.specs.Layout.{bodyNumbers};
 ghost use Rattle.joins.specs.Flat.{withBodies};
 ghost use Rattle.figures.specs.Figures.{refusedFigures};
 ghost use Rattle.figures.specs.Areas.{refusedArea};
-ghost use Rattle.requests.specs.Calls.{numberedFigures, numberedScratch, numberedArea, numberedAreaScratch, numberedChords, numberedEnds, ringBy, pointBodyAt, joinedPointsOf, tensorMoments, bodyVerdict};
-ghost use Rattle.requests.specs.Requests.{between, setRequestOf, areaRequestOf, askedRing, askedClosing, askedFigures, askedScratch, askedArea, askedAreaScratch};
+ghost use Rattle.requests.specs.Calls.{numberedFigures, numberedScratch, numberedArea, numberedAreaScratch, numberedChords, numberedEnds, numberedDrill, ringBy, pointBodyAt, joinedPointsOf, tensorMoments, bodyVerdict};
+ghost use Rattle.requests.specs.Requests.{between, setRequestOf, areaRequestOf, askedRing, askedClosing, askedDrill, askedFigures, askedScratch, askedArea, askedAreaScratch};
 use bodies::BODY_NUMBERS;
 use bodies::Body;
 use bodies::TENSOR_NUMBERS;
 use bodies::Vector;
+use drill::Answer;
 use figures::Area;
 use figures::Figures;
 use fins::NumberedSet;
@@ -196,6 +197,16 @@ pub fn listed_chords(
     }
 }
 
+// Where a point lies beside a planform, and the nearest corner.
+pub fn drilled(planform: NumberedPlanform, points: &[f64], x_m: f64, height_m: f64) -> Answer
+    ensures { λ r. ⌜ r ≡ numberedDrill planform (now (points .entry)) «x_m» «height_m» ⌝ }
+{
+    match planform {
+        NumberedPlanform::Known(planform) => drill::drill(planform, points, x_m, height_m),
+        NumberedPlanform::Unknown => Answer::Refused(Refusal::NoForm),
+    }
+}
+
 // A ring of tubes by six numbers: length, outer radius, wall, base angle, body radius, density; of another count, 18.
 pub fn ring_figures(count: usize, density: usize, numbers: &[f64]) -> Joined
     ensures { λ r. ⌜ r ≡ ringBy count density (now (numbers .entry)) ⌝ }
@@ -281,6 +292,17 @@ pub fn asked_closing(q: Request, values: &[f64]) -> ClosingRadius
 {
     let n = q.numbers;
     tubes::closing_radius_m(figure(values, 0), n[1])
+}
+
+// Where the point that a line asks lies.
+pub fn asked_drill(q: Request, values: &[f64]) -> Answer
+    ensures { λ r. ⌜ r ≡ askedDrill (q .numbers) (now (values .entry)) ⌝ }
+{
+    let n = q.numbers;
+    let lengths = between(values, 0, n[0]);
+    let point = behind(values, n[0]);
+    let planform = planforms::numbered_planform(n[1], lengths);
+    drilled(planform, lengths, figure(point, 0), figure(point, 1))
 }
 
 // Point k of a line.

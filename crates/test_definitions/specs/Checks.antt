@@ -108,6 +108,8 @@ refusal-table =
     && refused 19 [] (Refused refusal.NoFigure)
     && refused 20 [] (Refused refusal.WallOverRadius)
     && refused 21 [] (Refused refusal.ThicknessOverRoot)
+    && refused 24 [] (Refused refusal.NoCorners)
+    && refused 25 [] (Refused refusal.NotWholeSteps)
 
 -- ---- limits, one step inside and outside
 

@@ -2,3 +2,4 @@ pub mod Rows
 pub mod Numbers
 pub mod Shapes
 pub mod Checks
+pub mod Drilling

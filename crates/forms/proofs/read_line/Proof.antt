@@ -187,8 +187,8 @@ returns-6 c =
     let s = w .before .before .before .before in
     rw (le-leb (length (now (s .args .line))) 4096 (w .before .if1 .left), ← w .word-of .ensures .word, sym (i1 .before .same-bytes .ensures) ∙ i1 .if2 .left, sym (i2 .before .same-bytes2 .ensures) ∙ i2 .if3 .left, sym (i3 .before .same-bytes3 .ensures) ∙ i3 .if4 .left, sym (i4 .before .same-bytes4 .ensures) ∙ i4 .if5 .left, sym (i5 .before .same-bytes5 .ensures) ∙ i5 .if6 .taken) (t .read-form5 .ensures)
 
-read-tube-form-requires : tie.Need-read-tube-form-requires
-read-tube-form-requires c κs =
+read-later-form-requires : tie.Need-read-later-form-requires
+read-later-form-requires c κs =
     let i5 = c .before in
     let i4 = i5 .before .before .before in
     let i3 = i4 .before .before .before in
@@ -211,7 +211,7 @@ returns-7 c =
     let i1 = i2 .before .before .before in
     let w = i1 .before .before .before .before in
     let s = w .before .before .before .before in
-    rw (le-leb (length (now (s .args .line))) 4096 (w .before .if1 .left), ← w .word-of .ensures .word, sym (i1 .before .same-bytes .ensures) ∙ i1 .if2 .left, sym (i2 .before .same-bytes2 .ensures) ∙ i2 .if3 .left, sym (i3 .before .same-bytes3 .ensures) ∙ i3 .if4 .left, sym (i4 .before .same-bytes4 .ensures) ∙ i4 .if5 .left, sym (i5 .before .same-bytes5 .ensures) ∙ i5 .if6 .left) (t .read-tube-form .ensures)
+    rw (le-leb (length (now (s .args .line))) 4096 (w .before .if1 .left), ← w .word-of .ensures .word, sym (i1 .before .same-bytes .ensures) ∙ i1 .if2 .left, sym (i2 .before .same-bytes2 .ensures) ∙ i2 .if3 .left, sym (i3 .before .same-bytes3 .ensures) ∙ i3 .if4 .left, sym (i4 .before .same-bytes4 .ensures) ∙ i4 .if5 .left, sym (i5 .before .same-bytes5 .ensures) ∙ i5 .if6 .left) (t .read-later-form .ensures)
 
 pub read-line-spec : {M : Type 1} → statement M
 read-line-spec =
@@ -253,6 +253,6 @@ read-line-spec =
     read-form-requires-5
     same-length-5
     returns-6
-    read-tube-form-requires
+    read-later-form-requires
     same-length-6
     returns-7)

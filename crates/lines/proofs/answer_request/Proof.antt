@@ -7,7 +7,7 @@ use Rattle.tubes.specs.declared.ClosingRadius.{ClosingRadius}
 use Rattle.moments.specs.declared.Moments.{Moments}
 use Rattle.figures.specs.declared.Figures.{Figures}
 use Rattle.figures.specs.declared.Area.{Area}
-use Rattle.lines.specs.Lines.{printedSet, printedArea, printedJoin, printedRing, printedClosing, printedMoments, printedCheck, printedRefusal, setAnswer, areaAnswer, joinAnswer, ringAnswer, closingAnswer, momentsAnswer, checkAnswer}
+use Rattle.lines.specs.Lines.{printedSet, printedArea, printedJoin, printedRing, printedClosing, printedDrill, printedMoments, printedCheck, printedRefusal, setAnswer, areaAnswer, joinAnswer, ringAnswer, closingAnswer, drillAnswer, momentsAnswer, checkAnswer}
 use Rattle.lines.proofs.Texts.{same-text}
 use borrow.Author.Needs.{needs}
 use Rattle.lines.proofs.answer_request.Statement.{statement}
@@ -78,6 +78,15 @@ put-closing-requires c κs = search needs
 
 enum-told-8 : tie.Need-enum-told-8
 enum-told-8 c = search needs
+
+asked-drill-requires : tie.Need-asked-drill-requires
+asked-drill-requires c κs = search needs
+
+put-drilled-requires : tie.Need-put-drilled-requires
+put-drilled-requires c κs = search needs
+
+enum-told-9 : tie.Need-enum-told-9
+enum-told-9 c = search needs
 
 why-refused-requires : tie.Need-why-refused-requires
 why-refused-requires c κs = search needs
@@ -167,9 +176,19 @@ same-length-10 : tie.Need-same-length-10
 same-length-10 c = search needs
 
 returns-8 : tie.Need-returns-8
+unfolding drillAnswer
 returns-8 c =
     let p = c .before .before in
     let e = p .before .before .before .enum-told8 .given .1 in
+    (rw e (same-text (ap printedDrill (p .before .asked-drill .ensures)) (p .put-drilled .ensures)), rw e refl)
+
+same-length-11 : tie.Need-same-length-11
+same-length-11 c = search needs
+
+returns-9 : tie.Need-returns-9
+returns-9 c =
+    let p = c .before .before in
+    let e = p .before .before .before .enum-told9 .given .1 in
     (rw e (same-text (ap printedRefusal (p .before .why-refused .ensures)) (p .put-refusal .ensures)), rw e refl)
 
 pub answer-request-spec : {M : Type 1} → statement M
@@ -198,6 +217,9 @@ answer-request-spec =
     asked-closing-requires
     put-closing-requires
     enum-told-8
+    asked-drill-requires
+    put-drilled-requires
+    enum-told-9
     why-refused-requires
     put-refusal-requires
     same-length
@@ -217,4 +239,6 @@ answer-request-spec =
     same-length-9
     returns-7
     same-length-10
-    returns-8)
+    returns-8
+    same-length-11
+    returns-9)

@@ -1,11 +1,11 @@
--- `forms::read_tube_form` meets its contract: the first row whose word is the line's. Assumes nothing.
+-- `forms::read_later_form` meets its contract: the first row whose word is the line's. Assumes nothing.
 use mathlib.Core.Path.{sym, _∙_}
 use Rattle.tokens.specs.Text.{text, codes}
-use Rattle.forms.specs.Forms.{tubeForm}
+use Rattle.forms.specs.Forms.{laterForm}
 use Rattle.forms.proofs.NoForms.{no-form}
 use borrow.Author.Needs.{needs}
-use Rattle.forms.proofs.read_tube_form.Statement.{statement}
-use Rattle.forms.proofs.read_tube_form.Tie as tie
+use Rattle.forms.proofs.read_later_form.Statement.{statement}
+use Rattle.forms.proofs.read_later_form.Tie as tie
 
 slice-aggregate-same-bytes : tie.Need-slice-aggregate-same-bytes
 slice-aggregate-same-bytes c = search needs
@@ -23,7 +23,7 @@ same-length : tie.Need-same-length
 same-length c = search needs
 
 returns : tie.Need-returns
-unfolding tubeForm text codes
+unfolding laterForm text codes
 returns c =
     let t = c .before .before in
     let i1 = t .before .before .before in
@@ -46,7 +46,7 @@ same-length-2 : tie.Need-same-length-2
 same-length-2 c = search needs
 
 returns-2 : tie.Need-returns-2
-unfolding tubeForm text codes
+unfolding laterForm text codes
 returns-2 c =
     let t = c .before .before in
     let i2 = t .before .before .before in
@@ -54,19 +54,45 @@ returns-2 c =
     let s = i1 .before .before .before .before .before .before in
     rw (← s .pre .2, sym (i1 .before .same-bytes .ensures) ∙ i1 .if1 .left, sym (i2 .before .same-bytes2 .ensures) ∙ i2 .if2 .taken) (t .read-form2 .ensures)
 
+slice-aggregate-same-bytes-3 : tie.Need-slice-aggregate-same-bytes-3
+slice-aggregate-same-bytes-3 c = search needs
+
+same-bytes-requires-3 : tie.Need-same-bytes-requires-3
+same-bytes-requires-3 c κs = search needs
+
+slice-aggregate-read-form-3 : tie.Need-slice-aggregate-read-form-3
+slice-aggregate-read-form-3 c = search needs
+
+read-form-requires-3 : tie.Need-read-form-requires-3
+read-form-requires-3 c κs = search needs
+
+same-length-3 : tie.Need-same-length-3
+same-length-3 c = search needs
+
+returns-3 : tie.Need-returns-3
+unfolding laterForm text codes
+returns-3 c =
+    let t = c .before .before in
+    let i3 = t .before .before .before in
+    let i2 = i3 .before .before .before in
+    let i1 = i2 .before .before .before in
+    let s = i1 .before .before .before .before .before .before in
+    rw (← s .pre .2, sym (i1 .before .same-bytes .ensures) ∙ i1 .if1 .left, sym (i2 .before .same-bytes2 .ensures) ∙ i2 .if2 .left, sym (i3 .before .same-bytes3 .ensures) ∙ i3 .if3 .taken) (t .read-form3 .ensures)
+
 refused-requires : tie.Need-refused-requires
 refused-requires c κs = search needs
 
-returns-3 : tie.Need-returns-3
-unfolding tubeForm text codes
-returns-3 c =
-    let i2 = c .before in
+returns-4 : tie.Need-returns-4
+unfolding laterForm text codes
+returns-4 c =
+    let i3 = c .before in
+    let i2 = i3 .before .before .before in
     let i1 = i2 .before .before .before in
     let s = i1 .before .before .before .before .before .before in
-    no-form _ _ _ (c .refused .ensures) (rw (← s .pre .2, sym (i1 .before .same-bytes .ensures) ∙ i1 .if1 .left, sym (i2 .before .same-bytes2 .ensures) ∙ i2 .if2 .left))
+    no-form _ _ _ (c .refused .ensures) (rw (← s .pre .2, sym (i1 .before .same-bytes .ensures) ∙ i1 .if1 .left, sym (i2 .before .same-bytes2 .ensures) ∙ i2 .if2 .left, sym (i3 .before .same-bytes3 .ensures) ∙ i3 .if3 .left))
 
-pub read-tube-form-spec : {M : Type 1} → statement M
-read-tube-form-spec =
+pub read-later-form-spec : {M : Type 1} → statement M
+read-later-form-spec =
     tie.close
     (tie.spec
     slice-aggregate-same-bytes
@@ -81,5 +107,11 @@ read-tube-form-spec =
     read-form-requires-2
     same-length-2
     returns-2
+    slice-aggregate-same-bytes-3
+    same-bytes-requires-3
+    slice-aggregate-read-form-3
+    read-form-requires-3
+    same-length-3
+    returns-3
     refused-requires
-    returns-3)
+    returns-4)
