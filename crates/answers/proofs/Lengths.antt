@@ -6,7 +6,7 @@ use lib.ListN.{length}
 use lib.Ieee.{Float}
 use Rattle.tokens.specs.Text.{text, codes}
 use Rattle.answers.specs.Filled.{room}
-use Rattle.answers.specs.Answers.{figuresText, areaText, joinedText, ringText, closingText, momentsText, soundText, refusedText}
+use Rattle.answers.specs.Answers.{figuresText, areaText, joinedText, ringText, closingText, momentsText, soundText, insideText, edgeText, outsideText, refusedText}
 use Rattle.answers.proofs.Filling.{filled-fits}
 
 pub figures-short : (figures : List Float) (intervals samples : ℕ) → length (figuresText figures intervals samples) ≤ 320
@@ -36,6 +36,18 @@ moments-short figures = let h = filled-fits (text "(moments F F F)") figures [] 
 pub sound-short : length soundText ≤ 320
 unfolding soundText text codes
 sound-short = omega arith
+
+pub inside-short : (nearest : ℕ) → length (insideText nearest) ≤ 320
+unfolding insideText
+inside-short nearest = let h = filled-fits (text "(inside N)") [] (nearest ∷ []) in omega arith
+
+pub edge-short : (nearest : ℕ) → length (edgeText nearest) ≤ 320
+unfolding edgeText
+edge-short nearest = let h = filled-fits (text "(edge N)") [] (nearest ∷ []) in omega arith
+
+pub outside-short : (nearest : ℕ) → length (outsideText nearest) ≤ 320
+unfolding outsideText
+outside-short nearest = let h = filled-fits (text "(outside N)") [] (nearest ∷ []) in omega arith
 
 pub refused-short : (number : ℕ) → length (refusedText number) ≤ 320
 unfolding refusedText room text codes

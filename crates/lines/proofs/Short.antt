@@ -8,17 +8,19 @@ use Rattle.refusals.specs.declared.Verdict.{Verdict}
 use Rattle.refusals.specs.declared.Verdict.the-variants.{Accepted, Refused}
 use Rattle.refusals.specs.Refusals.{numberOf}
 use Rattle.joins.specs.declared.Joined.{Joined}
+use Rattle.drill.specs.declared.Answer.{Answer}
+use Rattle.drill.specs.declared.Answer.the-variants.{Inside, Edge, Outside, Refused as refusedPoint}
 use Rattle.tubes.specs.declared.ClosingRadius.{ClosingRadius}
 use Rattle.moments.specs.declared.Moments.{Moments}
-use Rattle.answers.proofs.Lengths.{figures-short, area-short, joined-short, ring-short, closing-short, moments-short, sound-short, refused-short}
+use Rattle.answers.proofs.Lengths.{figures-short, area-short, joined-short, ring-short, closing-short, moments-short, sound-short, inside-short, edge-short, outside-short, refused-short}
 use Rattle.forms.specs.declared.Form.{Form}
-use Rattle.forms.specs.declared.Form.the-variants.{Set as SetForm, Area as AreaForm, Join as JoinForm, Moments as MomentsForm, Check as CheckForm, Tubes as TubesForm, Closing as ClosingForm, NoForm}
+use Rattle.forms.specs.declared.Form.the-variants.{Set as SetForm, Area as AreaForm, Join as JoinForm, Moments as MomentsForm, Check as CheckForm, Tubes as TubesForm, Closing as ClosingForm, Drill as DrillForm, NoForm}
 use Rattle.forms.specs.Forms.{Asked, refused, asked, lineAsked}
 use Rattle.requests.specs.Calls.{joinedPointsOf, tensorMoments, bodyVerdict}
-use Rattle.requests.specs.Requests.{setRequestOf, areaRequestOf, askedFigures, askedArea, askedRing, askedClosing}
+use Rattle.requests.specs.Requests.{setRequestOf, areaRequestOf, askedFigures, askedArea, askedRing, askedClosing, askedDrill}
 use Rattle.figures.specs.declared.Figures.{Figures}
 use Rattle.figures.specs.declared.Area.{Area}
-use Rattle.lines.specs.Lines.{printedSet, printedArea, printedJoin, printedRing, printedClosing, printedMoments, printedCheck, setAnswer, areaAnswer, joinAnswer, ringAnswer, closingAnswer, momentsAnswer, checkAnswer, answerTo, askedAnswer, answerOf}
+use Rattle.lines.specs.Lines.{printedSet, printedArea, printedJoin, printedRing, printedClosing, printedMoments, printedCheck, printedDrill, setAnswer, areaAnswer, joinAnswer, ringAnswer, closingAnswer, momentsAnswer, checkAnswer, drillAnswer, answerTo, askedAnswer, answerOf}
 
 set-short : (v : Verdict) (f : Figures) → length (printedSet v f) ≤ 320
 set-short Accepted f = figures-short _ _ _
@@ -48,8 +50,14 @@ check-short : (v : Verdict) → length (printedCheck v) ≤ 320
 check-short Accepted = sound-short
 check-short (Refused refusal) = refused-short (numberOf refusal)
 
+place-short : (a : Answer) → length (printedDrill a) ≤ 320
+place-short (Inside nearest) = inside-short nearest
+place-short (Edge nearest) = edge-short nearest
+place-short (Outside nearest) = outside-short nearest
+place-short (refusedPoint refusal) = refused-short (numberOf refusal)
+
 by-form : (form : Form) (ns : List ℕ) (figures : List Float) (n : ℕ) → length (answerTo form ns figures n) ≤ 320
-unfolding setAnswer areaAnswer joinAnswer ringAnswer closingAnswer momentsAnswer checkAnswer
+unfolding setAnswer areaAnswer joinAnswer ringAnswer closingAnswer momentsAnswer checkAnswer drillAnswer
 by-form SetForm ns figures n = let f = askedFigures (setRequestOf ns figures) figures n in set-short (f .verdict) f
 by-form AreaForm ns figures n = let a = askedArea (areaRequestOf ns figures) figures n in geometry-short (a .verdict) a
 by-form JoinForm ns figures n = let j = joinedPointsOf figures in join-short (j .verdict) j
@@ -57,6 +65,7 @@ by-form MomentsForm ns figures n = let m = tensorMoments figures in principal-sh
 by-form CheckForm ns figures n = check-short (bodyVerdict figures)
 by-form TubesForm ns figures n = let j = askedRing ns figures in tubes-short (j .verdict) j
 by-form ClosingForm ns figures n = let c = askedClosing ns figures in radius-short (c .verdict) c
+by-form DrillForm ns figures n = place-short (askedDrill ns figures)
 by-form NoForm ns figures n = refused-short (numberOf noForm)
 
 pub answer-short : (line : List ℕ) (n : ℕ) → length (answerOf line n) ≤ 320

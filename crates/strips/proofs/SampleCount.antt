@@ -7,8 +7,8 @@ use native.Mathlib.Omega.{arith}
 use lib.ListN.{length}
 use lib.Ieee.{Float, eq}
 use Rattle.halving.specs.Cover.{samplesFor}
-use Rattle.strips.specs.Strips.{Worked, samplesOf, samplesIn}
-use Rattle.strips.specs.Claim.{Each, EqualEnds, OtherEnds, TakesNone, Run, Report, Demand3}
+use Rattle.strips.specs.Strips.{Run, Worked, samplesOf, samplesIn}
+use Rattle.strips.specs.Claim.{Each, EqualEnds, OtherEnds, TakesNone, Report, Demand3}
 
 module _ (limit : ℕ) (few : limit ≤ 64) where
   strip-at-most : (s : Worked) → (EqualEnds s → TakesNone s) → (OtherEnds s → samplesOf s ≤ samplesFor limit) → samplesOf s ≤ 1905

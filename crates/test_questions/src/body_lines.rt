@@ -169,7 +169,7 @@ pub(crate) fn replay_check(line: &[u8], values: &mut [f64]) -> Outcome
     if !asked.ok {
         return Outcome::NoLine;
     }
-    let verdict = body_check::check(bodies::body_of(&values[..BODY_NUMBERS]));
+    let verdict = body_check::check(bodies::body_of(&values[0..BODY_NUMBERS]));
     lines::agrees_or_not(says(line, asked, verdict, values))
 }
 

@@ -130,6 +130,7 @@ fn print_run(line: &[u8], values: &mut [f64], scratch: &mut [f64], out: &mut [u8
         Form::Check => 0,
         Form::Tubes => 0,
         Form::Closing => 0,
+        Form::Drill => 0,
         Form::NoForm => 0,
     }
 }
