@@ -38,15 +38,15 @@ unfolding soundText text codes
 sound-short = omega arith
 
 pub inside-short : (nearest : ℕ) → length (insideText nearest) ≤ 320
-unfolding insideText
+unfolding insideText room text codes
 inside-short nearest = let h = filled-fits (text "(inside N)") [] (nearest ∷ []) in omega arith
 
 pub edge-short : (nearest : ℕ) → length (edgeText nearest) ≤ 320
-unfolding edgeText
+unfolding edgeText room text codes
 edge-short nearest = let h = filled-fits (text "(edge N)") [] (nearest ∷ []) in omega arith
 
 pub outside-short : (nearest : ℕ) → length (outsideText nearest) ≤ 320
-unfolding outsideText
+unfolding outsideText room text codes
 outside-short nearest = let h = filled-fits (text "(outside N)") [] (nearest ∷ []) in omega arith
 
 pub refused-short : (number : ℕ) → length (refusedText number) ≤ 320
