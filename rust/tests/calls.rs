@@ -1,6 +1,6 @@
 //! Each call, with figures and refused; the worked examples are document 01's.
 use delvouzh::{
-    answer_line, check, chords_at, closing_radius_m, combine, drill, geometry, mass_properties, principal_moments,
+    answer_line, check, chords_at, closing_radius_m, combine, drill, geometry, mass_properties, most_samples, principal_moments,
     scratch_len, sqrt, tube_mass_properties, Body, Density, Error, FinSet, Place, Planform, Refusal, Section, Tab,
     TensorFault, TubeFinSet,
 };
