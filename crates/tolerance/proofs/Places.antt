@@ -1,7 +1,7 @@
 -- The place of the highest number, one place after another. Assumes nothing.
 use mathlib.Core.Path.{_≡_, refl, _∙_}
 use mathlib.Core.Bool.{Bool, true, false, cond, _||_}
-use Prim.Native.Nat.{ℕ, zero, suc, _+_, _-_, _≤_, _<_}
+use Prim.Native.Nat.{ℕ, zero, suc, _-_, _≤_, _<_}
 use native.Mathlib.Nat.{le-refl}
 use native.Mathlib.Omega.{arith}
 use mathlib.Core.List.{List}
@@ -27,13 +27,6 @@ highest-next g n h r e f = f ∙ rw e (look (ne (g (suc n)) (g (suc n)) || le (g
     look : (b : Bool) → cond b (record { number = g (suc n); place = suc n }) (highestOf g n) ≡ record { number = g (cond b (suc n) (lastHighest g n)); place = cond b (suc n) (lastHighest g n) }
     look true = refl
     look false = refl
-
--- the same where the next place is i
-pub highest-at : (g : ℕ → Float) (i : ℕ) (h r : Highest) → 1 ≤ i → h ≡ highestOf g (i - 1) → r ≡ higherOf h (g i) i → r ≡ highestOf g (i + 1 - 1)
-highest-at g i h r l e f =
-    let a : suc (i - 1) ≡ i = omega arith in
-    let b : i + 1 - 1 ≡ suc (i - 1) = omega arith in
-    rw b (highest-next g (i - 1) h r e (rw a f))
 
 pub highest-below : (g : ℕ → Float) (n : ℕ) → lastHighest g n ≤ n
 unfolding lastHighest

@@ -11,7 +11,7 @@ ghost use Rattle.floats.specs.Floats.{maxOf};
 ghost use Rattle.floats.specs.Operations.{_⊘_, at, tabulate, every};
 ghost use Rattle.pieces.specs.Stored.{readAt, piecesIn};
 ghost use Rattle.tolerance.specs.Bounds.{boundFor, scoreOf, lastHighest};
-ghost use Rattle.tolerance.specs.Steps.{withPiece, sumsOf, higherOf};
+ghost use Rattle.tolerance.specs.Steps.{withPiece, sumsOf, higherOf, keepsOrder, largerError, seenWith};
 use quadrature::Piece;
 
 const ABSOLUTE: f64 = 1e-16;
@@ -76,13 +76,13 @@ pub fn bounds(total: [f64; 7]) -> [f64; 7]
 pub fn all_within(e: [f64; 7], b: [f64; 7]) -> bool
     ensures { λ r. ⌜ r ≡ every 7 (λ k. le (at e k) (at b k)) ⌝ }
 {
-    e[0] <= b[0]
-        && e[1] <= b[1]
-        && e[2] <= b[2]
-        && e[3] <= b[3]
-        && e[4] <= b[4]
-        && e[5] <= b[5]
-        && e[6] <= b[6]
+    (e[0] <= b[0])
+        & (e[1] <= b[1])
+        & (e[2] <= b[2])
+        & (e[3] <= b[3])
+        & (e[4] <= b[4])
+        & (e[5] <= b[5])
+        & (e[6] <= b[6])
 }
 
 // The larger of a piece's score so far and its next error over bound.
@@ -128,21 +128,90 @@ fn higher(highest: Highest, number: f64, place: usize) -> Highest
     }
 }
 
-// The place of the worst of n pieces.
+// Between these a bound is above 0 and finite.
+const SMALLEST: f64 = 1e-300;
+
+const LARGEST: f64 = 1e300;
+
+// Whether errors over these bounds stand in the order of the errors.
+fn keep_order(b: [f64; 7]) -> bool
+    ensures { λ r. ⌜ r ≡ keepsOrder b ⌝ }
+{
+    all_within([SMALLEST; 7], b) & all_within(b, [LARGEST; 7])
+}
+
+fn larger_error(m: f64, e: f64) -> f64
+    ensures { λ r. ⌜ r ≡ largerError m e ⌝ }
+{
+    if m < e { e } else { m }
+}
+
+fn larger_errors(m: [f64; 7], e: [f64; 7]) -> [f64; 7]
+    ensures { λ r. ⌜ r ≡ tabulate 7 (λ k. largerError (at m k) (at e k)) ⌝ }
+{
+    [
+        larger_error(m[0], e[0]),
+        larger_error(m[1], e[1]),
+        larger_error(m[2], e[2]),
+        larger_error(m[3], e[3]),
+        larger_error(m[4], e[4]),
+        larger_error(m[5], e[5]),
+        larger_error(m[6], e[6]),
+    ]
+}
+
+// Of the pieces from a place on: the highest score, its last place, and the largest error of each component.
+struct Seen {
+    number: f64,
+    place: usize,
+    errors: [f64; 7],
+}
+
+// One piece before those seen. Where none of its errors is above the largest seen, neither is its score, and nothing is divided.
+fn seen_with(seen: Seen, p: Piece, b: [f64; 7], ordered: bool, place: usize) -> Seen
+    ensures { λ r. ⌜ r ≡ seenWith seen p b ordered place ⌝ }
+{
+    let e = p.error;
+    let m = seen.errors;
+    if ordered & all_within(e, m) {
+        return seen;
+    }
+    let errors = larger_errors(m, e);
+    let number = score(p, b);
+    if number <= seen.number {
+        Seen {
+            number: seen.number,
+            place: seen.place,
+            errors,
+        }
+    } else {
+        Seen {
+            number,
+            place,
+            errors,
+        }
+    }
+}
+
+// The place of the worst of n pieces, looked for from the last one down.
 pub fn worst(scratch: &[f64], n: usize, b: [f64; 7]) -> usize
     requires { ⌜ (1 ≤ n) × (n * 16 ≤ length (now scratch)) ⌝ }
     ensures { λ r. ⌜ (r ≡ lastHighest (λ i. scoreOf 7 (at b) (readAt (now (scratch .entry)) i)) (n - 1)) × (r < n) ⌝ }
 {
-    let mut highest = Highest {
-        number: score(pieces::read(scratch, 0), b),
-        place: 0,
+    let ordered = keep_order(b);
+    let mut i = n - 1;
+    let last = pieces::read(scratch, i);
+    let errors = last.error;
+    let mut seen = Seen {
+        number: score(last, b),
+        place: i,
+        errors,
     };
-    let mut i: usize = 1;
-    while i < n {
-        highest = higher(highest, score(pieces::read(scratch, i), b), i);
-        i += 1;
+    while 0 < i {
+        i -= 1;
+        seen = seen_with(seen, pieces::read(scratch, i), b, ordered, i);
     }
-    highest.place
+    seen.place
 }
 
 // The last component with the largest error over bound.

@@ -1,16 +1,16 @@
--- `tolerance::worst` meets its contract: before place i the highest score of the places before it is in hand. Assumes nothing.
-use mathlib.Core.Path.{_≡_, ap, _∙_}
-use Prim.Native.Nat.{ℕ, _-_, _≤_}
+-- `tolerance::worst` meets its contract: before place i, the best of the pieces from it on is in hand. Assumes nothing.
+use mathlib.Core.Path.{_≡_, sym, subst, _∙_}
+use mathlib.Core.List.{List}
+use Prim.Native.Nat.{ℕ, suc, _-_, _≤_}
 use native.Mathlib.Omega.{arith}
 use borrow.Author.Needs.{needs}
 use denote.Ref.{now}
 use lib.Ieee.{Float}
-use mathlib.Core.List.{List}
 use Rattle.floats.specs.Operations.{at}
-use Rattle.tolerance.specs.Bounds.{scoreOf}
 use Rattle.pieces.specs.Stored.{readAt}
-use Rattle.tolerance.specs.declared.Highest.{Highest}
-use Rattle.tolerance.proofs.Places.{highestOf, highest-first, highest-at, highest-below}
+use Rattle.tolerance.specs.Bounds.{scoreOf}
+use Rattle.tolerance.proofs.Places.{highest-below}
+use Rattle.tolerance.proofs.Downward.{Sees, sees-last, sees-more}
 use Rattle.tolerance.proofs.worst.Statement.{statement}
 use Rattle.tolerance.proofs.worst.Tie as tie
 
@@ -18,46 +18,53 @@ abbrev Score : List Float → List Float → ℕ → Float
 Score scratch b i = scoreOf 7 (at b) (readAt scratch i)
 
 abbrev Inv-loop : tie.InvT-loop
-Inv-loop scratch n b highest₀ i₀ highest i = (highest ≡ highestOf (Score scratch b) (i - 1)) × (1 ≤ i) × (i ≤ n)
+Inv-loop scratch n b ordered i₀ seen₀ i seen = Sees (readAt scratch) b (n - 1) i seen × (i ≤ n - 1)
 
 abbrev μ-loop : tie.MeasureT-loop
-μ-loop scratch n b highest₀ i₀ highest i = n - i
+μ-loop scratch n b ordered i₀ seen₀ i seen = i
+
+keep-order-requires : tie.Need-keep-order-requires Inv-loop μ-loop
+keep-order-requires c κs = search needs
+
+sub-i : tie.Need-sub-i Inv-loop μ-loop
+sub-i c = omega arith
 
 read-requires : tie.Need-read-requires Inv-loop μ-loop
-read-requires c κs = search needs
+read-requires c κs = omega arith
 
 score-requires : tie.Need-score-requires Inv-loop μ-loop
 score-requires c κs = search needs
 
 loop-holds : tie.Need-loop-holds Inv-loop μ-loop
-loop-holds c = (rw (c .score .ensures, c .before .read .ensures) (highest-first _), omega arith, omega arith)
+loop-holds c = (sees-last _ _ _ _ _ (c .before .before .read .ensures) (c .score .ensures), omega arith)
+
+sub-i-2 : tie.Need-sub-i-2 Inv-loop μ-loop
+sub-i-2 c = omega arith
 
 read-requires-2 : tie.Need-read-requires-2 Inv-loop μ-loop
 read-requires-2 c κs = omega arith
 
-score-requires-2 : tie.Need-score-requires-2 Inv-loop μ-loop
-score-requires-2 c κs = search needs
-
-higher-requires : tie.Need-higher-requires Inv-loop μ-loop
-higher-requires c κs = search needs
-
-add-i : tie.Need-add-i Inv-loop μ-loop
-add-i c = omega arith
+seen-with-requires : tie.Need-seen-with-requires Inv-loop μ-loop
+seen-with-requires c κs = search needs
 
 loop-less : tie.Need-loop-less Inv-loop μ-loop
 loop-less c = omega arith
 
 loop-again : tie.Need-loop-again Inv-loop μ-loop
 loop-again c =
-    let l = c .before .before .before .before in
-    (highest-at _ _ _ _ (l .loop .inv .1) (l .loop .inv .0) (c .higher .ensures ∙ rw (c .before .score2 .ensures, c .before .before .read2 .ensures)), omega arith, omega arith)
+    let l = c .before .before .before in
+    let k = l .before .before .before .before in
+    let a = k .before .before .args in
+    let e : suc (l .loop .i - 1) ≡ l .loop .i = omega arith in
+    let z = subst (λ (i : ℕ). Sees (readAt (now (a .scratch))) (a .b) (a .n - 1) i (l .loop .seen)) (sym e) (l .loop .inv .0) in
+    (sees-more _ _ _ _ _ z _ _ _ (c .before .read2 .ensures) (k .keep-order .ensures) (c .seen-with .ensures), omega arith)
 
 returns : tie.Need-returns Inv-loop μ-loop
 returns c =
     let l = c .before in
-    let a = l .before .before .before .before .args in
-    let e : l .loop .i ≡ a .n = omega arith in
-    let place = ap (λ (h : Highest). h .place) (rw e at (l .loop .inv .0)) in
+    let a = l .before .before .before .before .before .before .args in
+    let e : l .loop .i ≡ 0 = omega arith in
+    let place = rw e at (l .loop .inv .0 .place) in
     (place, omega (arith, place, highest-below (Score (now (a .scratch)) (a .b)) (a .n - 1)))
 
 pub worst-spec : {M : Type 1} → statement M
@@ -66,13 +73,14 @@ worst-spec =
     (tie.spec
     Inv-loop
     μ-loop
+    keep-order-requires
+    sub-i
     read-requires
     score-requires
     loop-holds
+    sub-i-2
     read-requires-2
-    score-requires-2
-    higher-requires
-    add-i
+    seen-with-requires
     loop-less
     loop-again
     returns)
