@@ -3,7 +3,7 @@
  * Lengths are metres, angles radians, figures f64. Every function but delvouzh_sqrt and delvouzh_most_samples returns 0, or the number of a refusal:
  *
  *      1 limit not 1 to 64               7 outline touches itself       13 not converged
- *      2 scratch under 16 * limit        8 no area, or no volume        14 integrand not finite
+ *      2 scratch under 16 * limit        8 no area, or no volume
  *      3 count not 1 to 32               9 angle outside its limits     15 body mass
  *      4 length outside its limits      10 tab off the root chord       16 body centre
  *      5 points not 3 to 64 pairs       11 tab deeper than the body     17 body tensor

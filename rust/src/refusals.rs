@@ -42,7 +42,6 @@ pub enum Refusal {
     TabTooDeep,
     Density,
     NotConverged { component: usize },
-    NotFinite,
     Mass,
     Centre,
     Tensor(TensorFault),
@@ -71,7 +70,6 @@ impl Refusal {
             Self::TabTooDeep => 11,
             Self::Density => 12,
             Self::NotConverged { .. } => 13,
-            Self::NotFinite => 14,
             Self::Mass => 15,
             Self::Centre => 16,
             Self::Tensor(_) => 17,
@@ -100,7 +98,6 @@ impl Refusal {
             11 => Self::TabTooDeep,
             12 => Self::Density,
             13 => Self::NotConverged { component: first },
-            14 => Self::NotFinite,
             15 => Self::Mass,
             16 => Self::Centre,
             17 => Self::Tensor(TensorFault::from_case(first)?),
@@ -213,7 +210,7 @@ mod tests {
 
     #[test]
     fn what_is_not_known_is_no_refusal() {
-        for (number, values) in [(100, [0, 0]), (usize::MAX, [1, 2]), (17, [5, 0])] {
+        for (number, values) in [(14, [0, 0]), (100, [0, 0]), (usize::MAX, [1, 2]), (17, [5, 0])] {
             assert_eq!(
                 Error::unless_zero(number, values),
                 Err(Error::Unknown { number, values })

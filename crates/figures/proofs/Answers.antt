@@ -9,6 +9,7 @@ use Rattle.refusals.specs.declared.Refusal.{Refusal}
 use Rattle.refusals.specs.declared.Verdict.{Verdict}
 use Rattle.refusals.specs.declared.Verdict.the-variants.{Accepted, Refused}
 use Rattle.planforms.specs.declared.Planform.{Planform}
+use Rattle.planforms.proofs.Sized.{PlanformF64}
 use Rattle.planforms.specs.Planforms.{rootChordOf}
 use Rattle.integrands.specs.Integrands.{scaleOf}
 use Rattle.fins.specs.declared.FinSet.{FinSet}
@@ -25,6 +26,8 @@ use Rattle.figures.specs.declared.Area.{Area}
 use Rattle.figures.specs.Figures.{setRun, setStrips, refusedFigures, workedFigures, setFigures, setScratch}
 use Rattle.figures.specs.Areas.{areaRun, areaStrips, areaSeven, refusedArea, workedArea, areaFigures, areaScratch}
 use Rattle.figures.specs.Answers.{setReport, areaReport, SetWorked, SetAnswers, AreaWorked, AreaAnswers}
+use Rattle.figures.proofs.Owned.{SetF64}
+use Rattle.figures.proofs.Rising.{set-pieces-rise, set-samples-finite, set-numbers-finite, area-pieces-rise, area-samples-finite, area-numbers-finite}
 use Rattle.figures.proofs.StripCount.{set-strips-counted, area-strips-counted}
 use Rattle.figures.proofs.Reports.{ZeroFigures, ZeroArea, no-refusal, gives-refusal, concluded-samples, concluded-intervals, concluded-verdict, concluded-zeros, concluded-area-samples, concluded-area-intervals, concluded-area-verdict, concluded-area-zeros}
 
@@ -41,20 +44,25 @@ module _ (set : FinSet) (points : List Float) (L : ℕ) (entry : List Float) (r 
         ending-reported = concluded-verdict set root scale strips r e (set-count-check set points L (length entry) accepts) (set-density set points L (length entry) accepts);
       }
 
-  pub set-worked : setCheck set points L (length entry) ≡ Accepted → SetWorked set points L entry r exit → SetAnswers set points L entry r exit
+  set-claim : setCheck set points L (length entry) ≡ Accepted → SetWorked set points L entry r exit → Demand3 (setRun set points L) (setStrips set points L) (setReport r) entry exit
+  set-claim accepts w =
+      demand-3 (setRun set points L) (set-limit set points L (length entry) accepts .0) (setReport r) entry exit (set-reported accepts (w .figures))
+      (w .scratch ∙ ap (λ (l : List Worked). scratchAfter l entry) (sym (none-behind (setStrips set points L))))
+
+  pub set-worked : SetF64 set points → setCheck set points L (length entry) ≡ Accepted → SetWorked set points L entry r exit → SetAnswers set points L entry r exit
   unfolding setFigures setScratch
-  set-worked accepts w =
-      let claim = demand-3 (setRun set points L) (set-limit set points L (length entry) accepts .0) (setReport r) entry exit (set-reported accepts (w .figures))
-      (w .scratch ∙ ap (λ (l : List Worked). scratchAfter l entry) (sym (none-behind (setStrips set points L)))) in
+  set-worked f64s accepts w =
       record {
         figures = rw accepts (w .figures);
         scratch = rw accepts (w .scratch);
         given-before-strips = λ refusal h. no-refusal refusal (sym h ∙ accepts);
         zero-figures = concluded-zeros set (rootChordOf (set .planform) points) (scaleOf (set .planform) points) (setStrips set points L) r (w .figures);
         strip-count = set-strips-counted set points L (length entry);
-        demand-3 = λ h. claim;
-        samples-at-most = samples-at-most (setRun set points L) (setStrips set points L) (setReport r) entry exit 62 (set-limit set points L (length entry) accepts .1)
-            (set-strips-counted set points L (length entry) accepts .1) claim;
+        demand-3 = λ h. set-claim accepts w;
+        samples-at-most = samples-at-most (setRun set points L) (setStrips set points L) (setReport r) entry exit 62 (set-limit set points L (length entry) accepts .1) (set-strips-counted set points L (length entry) accepts .1) (set-claim accepts w);
+        pieces-rise = set-pieces-rise set points L (length entry) f64s;
+        samples-finite = set-samples-finite set points L (length entry) f64s;
+        numbers-finite = set-numbers-finite set points L (length entry) f64s;
       }
 
   pub set-refused : (refusal : Refusal) → setCheck set points L (length entry) ≡ Refused refusal → r ≡ refusedFigures refusal 0 → exit ≡ entry →
@@ -69,6 +77,9 @@ module _ (set : FinSet) (points : List Float) (L : ℕ) (entry : List Float) (r 
         strip-count = set-strips-counted set points L (length entry);
         demand-3 = λ h. no-refusal refusal (sym refuses ∙ h);
         samples-at-most = rw (ap (λ (x : Figures). x .samples) e) (omega arith);
+        pieces-rise = λ h. no-refusal refusal (sym refuses ∙ h);
+        samples-finite = λ h. no-refusal refusal (sym refuses ∙ h);
+        numbers-finite = λ h. no-refusal refusal (sym refuses ∙ h);
       }
 
 module _ (planform : Planform) (points : List Float) (L : ℕ) (entry : List Float) (r : Area) (exit : List Float) where
@@ -83,19 +94,23 @@ module _ (planform : Planform) (points : List Float) (L : ℕ) (entry : List Flo
         ending-reported = subst (λ (ending : Ending). Reported ending (r .verdict)) (ending-same 4 strips) (concluded-area-verdict scale seven r e);
       }
 
-  pub area-worked : areaCheck planform points L (length entry) ≡ Accepted → AreaWorked planform points L entry r exit → AreaAnswers planform points L entry r exit
+  area-claim : areaCheck planform points L (length entry) ≡ Accepted → AreaWorked planform points L entry r exit → Demand3 (areaRun planform points L) (areaStrips planform points L) (areaReport r) entry exit
+  area-claim accepts w = demand-3 (areaRun planform points L) (area-limit planform points L (length entry) accepts .0) (areaReport r) entry exit (area-reported (w .figures)) (w .scratch)
+
+  pub area-worked : PlanformF64 planform points → areaCheck planform points L (length entry) ≡ Accepted → AreaWorked planform points L entry r exit → AreaAnswers planform points L entry r exit
   unfolding areaFigures areaScratch
-  area-worked accepts w =
-      let claim = demand-3 (areaRun planform points L) (area-limit planform points L (length entry) accepts .0) (areaReport r) entry exit (area-reported (w .figures)) (w .scratch) in
+  area-worked f64s accepts w =
       record {
         figures = rw accepts (w .figures);
         scratch = rw accepts (w .scratch);
         given-before-strips = λ refusal h. no-refusal refusal (sym h ∙ accepts);
         zero-figures = concluded-area-zeros (scaleOf planform points) (areaSeven planform points L) r (w .figures);
         strip-count = area-strips-counted planform points L (length entry);
-        demand-3 = λ h. claim;
-        samples-at-most = samples-at-most (areaRun planform points L) (areaStrips planform points L) (areaReport r) entry exit 62 (area-limit planform points L (length entry) accepts .1)
-            (area-strips-counted planform points L (length entry) accepts .1) claim;
+        demand-3 = λ h. area-claim accepts w;
+        samples-at-most = samples-at-most (areaRun planform points L) (areaStrips planform points L) (areaReport r) entry exit 62 (area-limit planform points L (length entry) accepts .1) (area-strips-counted planform points L (length entry) accepts .1) (area-claim accepts w);
+        pieces-rise = area-pieces-rise planform points L (length entry) f64s;
+        samples-finite = area-samples-finite planform points L (length entry) f64s;
+        numbers-finite = area-numbers-finite planform points L (length entry) f64s;
       }
 
   pub area-refused : (refusal : Refusal) → areaCheck planform points L (length entry) ≡ Refused refusal → r ≡ refusedArea refusal 0 → exit ≡ entry →
@@ -110,4 +125,7 @@ module _ (planform : Planform) (points : List Float) (L : ℕ) (entry : List Flo
         strip-count = area-strips-counted planform points L (length entry);
         demand-3 = λ h. no-refusal refusal (sym refuses ∙ h);
         samples-at-most = rw (ap (λ (x : Area). x .samples) e) (omega arith);
+        pieces-rise = λ h. no-refusal refusal (sym refuses ∙ h);
+        samples-finite = λ h. no-refusal refusal (sym refuses ∙ h);
+        numbers-finite = λ h. no-refusal refusal (sym refuses ∙ h);
       }

@@ -1,4 +1,4 @@
--- What is reported once the strips of an accepted set, or planform, are worked: figures or 8, 13 or 14, by the ending of the last strip.
+-- What is reported once the strips of an accepted set, or planform, are worked: figures, 8 or 13, by the ending of the last strip.
 -- Assumes nothing.
 use mathlib.Core.Path.{_≡_, refl, sym, ap, subst, _∙_}
 use mathlib.Core.Bool.{Bool, true, false, cond}
@@ -23,7 +23,7 @@ use Rattle.bodies.specs.Bodies.{emptyBody}
 use Rattle.bodies.specs.declared.Vector.{Vector}
 use Rattle.fins.specs.declared.FinSet.{FinSet}
 use Rattle.halving.specs.declared.Ending.{Ending}
-use Rattle.halving.specs.declared.Ending.the-variants.{Accepted as accepted, NotConverged as notConverged, NotFinite as notFinite}
+use Rattle.halving.specs.declared.Ending.the-variants.{Accepted as accepted, NotConverged as notConverged}
 use Rattle.halving.specs.Halving.{verdictOf}
 use Rattle.strips.specs.declared.Totals.{Totals}
 use Rattle.strips.specs.Strips.{Worked, samplesIn, intervalsIn, endingOf, totalsOf}
@@ -128,7 +128,6 @@ module _ (set : FinSet) (root scale : Float) (total : Totals) where
   ended-verdict : countCheck (set .count) ≡ Accepted → densityCheck (set .density) ≡ Accepted → (ending : Ending) → Reported ending (endedFigures (verdictOf ending) set root scale total .verdict)
   ended-verdict c d accepted = given-8 _ (joined-verdict (Joined· .verdict) Joined· (fins-joined set root scale (total .value) c d))
   ended-verdict c d (notConverged component) = (refl, refl)
-  ended-verdict c d notFinite = (refl, refl)
 
 -- of the strips worked
 module _ (set : FinSet) (root scale : Float) (strips : List Worked) (r : Figures) (answer : r ≡ concludedSet set root scale (totalsOf strips)) where
@@ -206,7 +205,6 @@ module _ (scale : Float) (total : Totals) where
   area-verdict : (ending : Ending) → Reported ending (endedArea (verdictOf ending) scale total .verdict)
   area-verdict accepted = given-8 _ (geometry-verdict (Geometry· .verdict) Geometry· (geometry-or-8 (total .value)))
   area-verdict (notConverged component) = (refl, refl)
-  area-verdict notFinite = (refl, refl)
 
 module _ (scale : Float) (strips : List Worked) (r : Area) (answer : r ≡ concludedArea scale (totalsOf strips)) where
   abbrev AreaTotal· : Totals

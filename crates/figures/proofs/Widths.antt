@@ -22,7 +22,7 @@ use Rattle.fins.proofs.Sized.{planform-sized}
 use Rattle.strips.specs.Strips.{Worked, workedOf}
 use Rattle.strips.specs.Claim.{Each}
 use Rattle.widths.specs.Widths.{ZerosBehind}
-use Rattle.widths.proofs.Ends.{ends-in-order}
+use Rattle.strips.proofs.Ends.{ends-in-order}
 use Rattle.widths.proofs.Strips.{strips-change-nothing}
 use Rattle.figures.specs.Areas.{areaSeven}
 

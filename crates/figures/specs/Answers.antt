@@ -1,5 +1,5 @@
--- What the two calls promise: the answer and the scratch, whatever is handed in, and demand 3's one claim about the whole run of an
--- accepted set.
+-- What the two calls promise: the answer and the scratch, whatever is handed in, and of an accepted set demand 3's one claim about its whole
+-- run, that its pieces rise, and that its samples and the numbers worked from them are finite.
 use mathlib.Core.Path.{_≡_}
 use mathlib.Core.List.{List}
 use Prim.Native.Nat.{ℕ, _*_, _≤_}
@@ -15,6 +15,7 @@ use Rattle.fins.specs.Fins.{setCheck, areaCheck}
 use Rattle.bodies.specs.Bodies.{emptyBody}
 use Rattle.strips.specs.Strips.{scratchAfter}
 use Rattle.strips.specs.Claim.{Report, Gives, Demand3}
+use Rattle.strips.specs.Rising.{PiecesRise, SamplesFinite, NumbersFinite}
 use Rattle.figures.specs.declared.Figures.{Figures}
 use Rattle.figures.specs.declared.Area.{Area}
 use Rattle.figures.specs.Figures.{setRun, setStrips, workedFigures, setFigures, setScratch}
@@ -54,6 +55,10 @@ pub record SetAnswers (set : FinSet) (points : List Float) (L : ℕ) (entry : Li
       → Demand3 (setRun set points L) (setStrips set points L) (setReport r) entry exit
   -- whatever is handed in
   pub samples-at-most : r .samples ≤ mostSamples
+  -- "premise: the fin passed the checks" (document 02, Paper 14)
+  pub pieces-rise : setCheck set points L (length entry) ≡ Accepted → PiecesRise (setStrips set points L)
+  pub samples-finite : setCheck set points L (length entry) ≡ Accepted → SamplesFinite (setRun set points L) (setStrips set points L)
+  pub numbers-finite : setCheck set points L (length entry) ≡ Accepted → NumbersFinite (setRun set points L) (setStrips set points L)
 
 -- of a planform ("For area alone: 1, 2, planform, strips, 8", `FinPlanform::geometry`): area and centroid, the scratch at exit, and demand 3
 pub record AreaAnswers (planform : Planform) (points : List Float) (L : ℕ) (entry : List Float) (r : Area) (exit : List Float) : Type 0 where
@@ -68,3 +73,6 @@ pub record AreaAnswers (planform : Planform) (points : List Float) (L : ℕ) (en
   pub demand-3 : areaCheck planform points L (length entry) ≡ Accepted
       → Demand3 (areaRun planform points L) (areaStrips planform points L) (areaReport r) entry exit
   pub samples-at-most : r .samples ≤ mostSamples
+  pub pieces-rise : areaCheck planform points L (length entry) ≡ Accepted → PiecesRise (areaStrips planform points L)
+  pub samples-finite : areaCheck planform points L (length entry) ≡ Accepted → SamplesFinite (areaRun planform points L) (areaStrips planform points L)
+  pub numbers-finite : areaCheck planform points L (length entry) ≡ Accepted → NumbersFinite (areaRun planform points L) (areaStrips planform points L)

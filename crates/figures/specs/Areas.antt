@@ -46,7 +46,7 @@ ofGeometry verdict g intervals samples = byVerdict verdict (givenArea g interval
 abbrev pub geometryArea : PlanformGeometry → ℕ → ℕ → Area
 geometryArea g intervals samples = ofGeometry (g .verdict) g intervals samples
 
--- by how the run of the strips ended: area and centroid, or 13 or 14
+-- by how the run of the strips ended: area and centroid, or 13
 abbrev pub endedArea : Verdict → Float → Totals → Area
 endedArea verdict scale total =
     byVerdict verdict (geometryArea (geometryOf (total .value) scale) (total .intervals) (total .samples)) (λ refusal. refusedArea refusal (total .samples))

@@ -42,7 +42,7 @@ ofJoined verdict joined intervals samples =
 abbrev pub joinedFigures : Joined → ℕ → ℕ → Figures
 joinedFigures joined intervals samples = ofJoined (joined .verdict) joined intervals samples
 
--- by how the run of the strips ended: figures, or 13 or 14
+-- by how the run of the strips ended: figures, or 13
 abbrev pub endedFigures : Verdict → FinSet → Float → Float → Totals → Figures
 endedFigures verdict set root scale total =
     byVerdict verdict (joinedFigures (joinedFinsOf set root scale (total .value)) (total .intervals) (total .samples)) (λ refusal. refusedFigures refusal (total .samples))

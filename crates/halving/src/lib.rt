@@ -10,17 +10,16 @@ ghost use Rattle.pieces.specs.Stored.{piecesIn};
 ghost use Rattle.tolerance.specs.Bounds.{middleOf, middleIsEnd};
 ghost use Rattle.halving.specs.Halving.{verdictOf};
 ghost use Rattle.halving.specs.Scratch.{Integrates};
-ghost use Rattle.halving.specs.Steps.{judgedOf, HalvesPiece, Repeats};
+ghost use Rattle.halving.specs.Steps.{judgedOf, scratchHalved, Repeats};
 use integrands::Integrand;
 use quadrature::Piece;
 use refusals::Refusal;
 use refusals::Verdict;
 
-// How a strip ends: accepted, refused 13 with the component, or refused 14.
+// How a strip ends: accepted, or refused 13 with the component.
 pub enum Ending {
     Accepted,
     NotConverged(usize),
-    NotFinite,
 }
 
 // How an ending stands in the refusal table.
@@ -30,7 +29,6 @@ pub fn verdict_of(ending: Ending) -> Verdict
     match ending {
         Ending::Accepted => Verdict::Accepted,
         Ending::NotConverged(component) => Verdict::Refused(Refusal::NotConverged(component)),
-        Ending::NotFinite => Verdict::Refused(Refusal::NotFinite),
     }
 }
 
@@ -100,49 +98,17 @@ fn judge(scratch: &[f64], n: usize, limit: usize) -> Judged
     }
 }
 
-// Whether both halves are finite, and the samples taken.
-struct Halves {
-    finite: bool,
-    samples: usize,
-}
-
-// Measures the left half of the piece at a place, then the right. The left half replaces it and the right is stored behind the n pieces;
-// neither is where a sample is not finite.
-fn halve(
-    scratch: &mut [f64],
-    integrand: Integrand,
-    points: &[f64],
-    n: usize,
-    place: usize,
-) -> Halves
+// Measures the left half of the piece at a place, then the right. The left half replaces it and the right is stored behind the n pieces.
+fn halve(scratch: &mut [f64], integrand: Integrand, points: &[f64], n: usize, place: usize)
     requires { ⌜ (place < n) × (n * 16 + 16 ≤ length (now scratch)) ⌝ }
-    ensures { λ r. ⌜ HalvesPiece (sampleOf integrand (now (points .entry))) n place (now (scratch .entry)) r (now (scratch .exit)) ⌝ }
+    ensures { λ _. ⌜ now (scratch .exit) ≡ scratchHalved (sampleOf integrand (now (points .entry))) n place (now (scratch .entry)) ⌝ }
 {
     let p = pieces::read(scratch, place);
     let m = middle(p);
     let left = quadrature::rule(integrand, points, p.start, m);
-    if !left.finite {
-        return Halves {
-            finite: false,
-            samples: left.samples,
-        };
-    }
     let right = quadrature::rule(integrand, points, m, p.end);
-    let samples = left.samples + right.samples;
-    if !right.finite {
-        return Halves {
-            finite: false,
-            samples,
-        };
-    }
-    let l = left.piece;
-    let r = right.piece;
-    pieces::write(scratch, place, l);
-    pieces::write(scratch, n, r);
-    Halves {
-        finite: true,
-        samples,
-    }
+    pieces::write(scratch, place, left);
+    pieces::write(scratch, n, right)
 }
 
 fn answer(ending: Ending, value: [f64; 7], intervals: usize, samples: usize) -> Integral
@@ -156,33 +122,22 @@ fn answer(ending: Ending, value: [f64; 7], intervals: usize, samples: usize) -> 
     }
 }
 
-// From the first piece in the scratch on, with the samples taken so far.
-fn repeat(
-    scratch: &mut [f64],
-    integrand: Integrand,
-    points: &[f64],
-    limit: usize,
-    taken: usize,
-) -> Integral
-    requires { ⌜ (1 ≤ limit) × (limit ≤ 64) × (limit * 16 ≤ length (now scratch)) × (taken ≤ 15) ⌝ }
-    ensures { λ r. ⌜ Repeats (sampleOf integrand (now (points .entry))) limit taken (now (scratch .entry)) r (now (scratch .exit)) ⌝ }
+// From the first piece in the scratch on. Fifteen samples were taken of it, and each halving takes thirty more.
+fn repeat(scratch: &mut [f64], integrand: Integrand, points: &[f64], limit: usize) -> Integral
+    requires { ⌜ (1 ≤ limit) × (limit ≤ 64) × (limit * 16 ≤ length (now scratch)) ⌝ }
+    ensures { λ r. ⌜ Repeats (sampleOf integrand (now (points .entry))) limit (now (scratch .entry)) r (now (scratch .exit)) ⌝ }
 {
     let mut n: usize = 1;
-    let mut samples = taken;
     loop {
         let judged = judge(scratch, n, limit);
         let next = judged.next;
         let value = judged.value;
         match next {
             Next::Ended(ending) => {
-                return answer(ending, value, n, samples);
+                return answer(ending, value, n, 30 * n - 15);
             }
             Next::Halve(place) => {
-                let halves = halve(scratch, integrand, points, n, place);
-                samples = samples + halves.samples;
-                if !halves.finite {
-                    return answer(Ending::NotFinite, value, n, samples);
-                }
+                halve(scratch, integrand, points, n, place);
                 n += 1;
             }
         }
@@ -209,17 +164,7 @@ pub fn integrate(
             samples: 0,
         };
     }
-    let measured = quadrature::rule(integrand, points, lower, upper);
-    let taken = measured.samples;
-    if !measured.finite {
-        return Integral {
-            ending: Ending::NotFinite,
-            value: [0.0; 7],
-            intervals: 0,
-            samples: taken,
-        };
-    }
-    let whole = measured.piece;
+    let whole = quadrature::rule(integrand, points, lower, upper);
     pieces::write(scratch, 0, whole);
-    repeat(scratch, integrand, points, limit, taken)
+    repeat(scratch, integrand, points, limit)
 }

@@ -6,8 +6,8 @@ ghost use mathlib.Core.Path.{_≡_};
 ghost use Rattle.floats.specs.Operations.{_⊖_, _⊗_, at, tabulate};
 ghost use Rattle.floats.specs.Floats.{absOf};
 ghost use Rattle.integrands.specs.Integrands.{sampleOf};
-ghost use Rattle.quadrature.specs.Rule.{heightsTo, kronrodWeight, gaussWeight, finiteSample};
-ghost use Rattle.quadrature.specs.Tally.{FoundTo, weightsTo, plusWeighted, looked, Gathered, measuredOf};
+ghost use Rattle.quadrature.specs.Rule.{heightsTo, kronrodWeight, gaussWeight, pieceOf};
+ghost use Rattle.quadrature.specs.Tally.{FoundTo, weightsTo, plusWeighted, tallyOf};
 use chords::Chords;
 use integrands::Integrand;
 
@@ -19,38 +19,10 @@ pub struct Piece {
     pub error: [f64; 7],
 }
 
-// The answer of the rule: whether every sample was finite, how many were taken, and the piece, with zeros where one was not finite.
-pub struct Measured {
-    pub finite: bool,
-    pub samples: usize,
-    pub piece: Piece,
-}
-
-// The sums over the samples so far.
+// The sums over the samples.
 struct Tally {
-    finite: bool,
-    samples: usize,
     kronrod: [f64; 7],
     gauss: [f64; 7],
-}
-
-fn all_finite(y: [f64; 7]) -> bool
-    ensures { λ r. ⌜ r ≡ finiteSample 7 y ⌝ }
-{
-    floats::is_finite(y[0])
-        && floats::is_finite(y[1])
-        && floats::is_finite(y[2])
-        && floats::is_finite(y[3])
-        && floats::is_finite(y[4])
-        && floats::is_finite(y[5])
-        && floats::is_finite(y[6])
-}
-
-// Whether a sample is finite, or is not tested.
-fn passes(tested: bool, y: [f64; 7]) -> bool
-    ensures { λ r. ⌜ r ≡ finiteSample (looked tested) y ⌝ }
-{
-    if tested { all_finite(y) } else { true }
 }
 
 fn plus_weighted(sum: [f64; 7], weight: f64, y: [f64; 7]) -> [f64; 7]
@@ -155,9 +127,9 @@ fn chords_found(integrand: Integrand, points: &[f64], heights: [f64; 15]) -> [Ch
     found
 }
 
-// The sums over the fifteen samples. Where `tested` it ends at the first that is not finite; else none is looked at.
-fn sums(integrand: Integrand, points: &[f64], centre: f64, half: f64, tested: bool) -> Tally
-    ensures { λ r. ⌜ Gathered (looked tested) (sampleOf integrand (now (points .entry))) centre half r ⌝ }
+// The sums over the fifteen samples. None is tested: every sample of an accepted fin is finite (document 02, Paper 14).
+fn sums(integrand: Integrand, points: &[f64], centre: f64, half: f64) -> Tally
+    ensures { λ r. ⌜ r ≡ tallyOf (sampleOf integrand (now (points .entry))) centre half ⌝ }
 {
     let heights = sample_heights(centre, half);
     let found = chords_found(integrand, points, heights);
@@ -172,38 +144,13 @@ fn sums(integrand: Integrand, points: &[f64], centre: f64, half: f64, tested: bo
         let h = heights[j];
         let one = found[j];
         let y = integrands::values_over(one, kind, scale, points, h);
-        if !passes(tested, y) {
-            return Tally {
-                finite: false,
-                samples: j + 1,
-                kronrod,
-                gauss,
-            };
-        }
         let k = plus_weighted(kronrod, kw[j], y);
         let g = plus_weighted(gauss, gw[j], y);
         kronrod = k;
         gauss = g;
         j += 1;
     }
-    Tally {
-        finite: true,
-        samples: 15,
-        kronrod,
-        gauss,
-    }
-}
-
-// All fifteen samples. A sum is finite only where each of its samples is, so that they need a test only where a sum is not.
-fn gather(integrand: Integrand, points: &[f64], centre: f64, half: f64) -> Tally
-    ensures { λ r. ⌜ Gathered 7 (sampleOf integrand (now (points .entry))) centre half r ⌝ }
-{
-    let all = sums(integrand, points, centre, half, false);
-    let k = all.kronrod;
-    if all_finite(k) {
-        return all;
-    }
-    sums(integrand, points, centre, half, true)
+    Tally { kronrod, gauss }
 }
 
 fn scaled(half: f64, k: [f64; 7]) -> [f64; 7]
@@ -241,37 +188,20 @@ fn differences(half: f64, k: [f64; 7], g: [f64; 7]) -> [f64; 7]
 }
 
 // The piece from start to end.
-pub fn rule(integrand: Integrand, points: &[f64], start: f64, end: f64) -> Measured
-    ensures { λ r. ⌜ r ≡ measuredOf (sampleOf integrand (now (points .entry))) start end ⌝ }
+pub fn rule(integrand: Integrand, points: &[f64], start: f64, end: f64) -> Piece
+    ensures { λ r. ⌜ r ≡ pieceOf 7 (sampleOf integrand (now (points .entry))) start end ⌝ }
 {
     let centre = 0.5 * (start + end);
     let half = 0.5 * (end - start);
-    let tally = gather(integrand, points, centre, half);
-    let samples = tally.samples;
-    if !tally.finite {
-        return Measured {
-            finite: false,
-            samples,
-            piece: Piece {
-                start,
-                end,
-                value: [0.0; 7],
-                error: [0.0; 7],
-            },
-        };
-    }
+    let tally = sums(integrand, points, centre, half);
     let k = tally.kronrod;
     let g = tally.gauss;
     let value = scaled(half, k);
     let error = differences(half, k, g);
-    Measured {
-        finite: true,
-        samples,
-        piece: Piece {
-            start,
-            end,
-            value,
-            error,
-        },
+    Piece {
+        start,
+        end,
+        value,
+        error,
     }
 }

@@ -2,7 +2,7 @@
 //
 // Neighbouring break heights bound a strip, and its ends are divided by the scale. Strips are worked upward, to the last or the first
 // that is not accepted, each over the scratch as the one before left it. Values, intervals and samples are added up from zero.
-// Refused are a limit that is not 1 to 64 (1), a scratch under 16·limit numbers (2) and, by the strips, 13 and 14.
+// Refused are a limit that is not 1 to 64 (1), a scratch under 16·limit numbers (2) and, by the strips, 13.
 ghost use Prim.Native.Nat.{_+_, _<_, _^_};
 ghost use mathlib.Core.Path.{_≡_};
 ghost use lib.ListN.{length};
@@ -30,7 +30,6 @@ fn is_accepted(ending: Ending) -> bool
     match ending {
         Ending::Accepted => true,
         Ending::NotConverged(_) => false,
-        Ending::NotFinite => false,
     }
 }
 

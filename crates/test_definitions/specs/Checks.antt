@@ -96,7 +96,6 @@ refusal-table =
     && refused 11 [] (Refused refusal.TabTooDeep)
     && refused 12 [] (Refused refusal.Density)
     && refused 13 (6 ∷ []) (Refused (refusal.NotConverged 6))
-    && refused 14 [] (Refused refusal.NotFinite)
     && refused 15 [] (Refused refusal.Mass)
     && refused 16 [] (Refused refusal.Centre)
     && refused 17 (0 ∷ []) (Refused (refusal.Tensor fault.Entry))

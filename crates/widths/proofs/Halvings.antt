@@ -13,29 +13,21 @@ use Rattle.floats.proofs.Bools.{neither}
 use Rattle.floats.proofs.Order.{not-equal-sym}
 use Rattle.rounding.specs.Sizes.{InOrder}
 use Rattle.rounding.proofs.Halves.{left-half, right-half}
-use Rattle.quadrature.specs.Rule.{halfSum, heightsOf, finiteAt, takenAt, pieceOf}
+use Rattle.quadrature.specs.Rule.{halfSum, heightsOf, pieceOf}
 use Rattle.quadrature.specs.declared.Piece.{Piece}
 use Rattle.tolerance.specs.Bounds.{converged, worstPlace, worstPiece, componentOf, middleOf, middleIsEnd, pieceAt}
 use Rattle.halving.specs.Halving.{Halved, ended, measure, repeat, halving}
 use Rattle.halving.specs.declared.Ending.the-variants.{NotConverged}
 use Rattle.tolerance.proofs.Places.{worst-below}
+use Rattle.tolerance.proofs.AllPieces.{All, all-at, all-set, all-append}
 use Rattle.pieces.specs.Stored.{widened}
 use Rattle.halving.specs.Scratch.{widenedHalved}
 use Rattle.widths.specs.Widths.{ZerosBehind}
 use Rattle.widths.proofs.Rule.{half-width-zero}
-use Rattle.widths.proofs.Sums.{Wide, All, all-at, converged-same, component-same, wider-at, worst-same}
-use Rattle.widths.proofs.Pieces.{piece-wide, finite-same, taken-same, piece-same}
+use Rattle.widths.proofs.Sums.{Wide, converged-same, component-same, wider-at, worst-same}
+use Rattle.widths.proofs.Pieces.{piece-wide, piece-same}
 
 -- ---- lists of pieces
-pub all-set : (P : Piece → Type 0) (l : List Piece) (i : ℕ) (p : Piece) → All P l → P p → All P (set l i p)
-all-set P [] i p a f = tt
-all-set P (q ∷ l) zero p a f = (f, a .1)
-all-set P (q ∷ l) (suc i) p a f = (a .0, all-set P l i p (a .1) f)
-
-pub all-append : (P : Piece → Type 0) (l r : List Piece) → All P l → All P r → All P (l ++ r)
-all-append P [] r a b = b
-all-append P (p ∷ l) r a b = (a .0, all-append P l r (a .1) b)
-
 map-set : (f : Piece → Piece) (l : List Piece) (i : ℕ) (p : Piece) → map f (set l i p) ≡ set (map f l) i (f p)
 map-set f [] i p = refl
 map-set f (q ∷ l) zero p = refl
@@ -73,19 +65,17 @@ module _ (v w : ℕ) (g f : Float → List Float) (z : ZerosBehind v w g f) wher
   unfolding pieceOf
   good-piece a b e = (piece-wide v g a b, e)
 
-  measure-same : (a b : Float) → Apart a b → (pieces : List Piece) (heights : List Float) (next next' : Piece → List Float → Halved)
+  measure-same : (a b : Float) → Apart a b → (heights : List Float) (next next' : Piece → List Float → Halved)
       → ((p : Piece) (taken : List Float) → Good p → next (widened (w - v) p) taken ≡ widenedHalved (w - v) (next' p taken))
-      → measure w f a b (Wider pieces) heights next ≡ widenedHalved (w - v) (measure v g a b pieces heights next')
-  unfolding measure
-  measure-same a b e pieces heights next next' h =
-      rw (finite-same v w g f z (heightsOf a b), taken-same v w g f z (heightsOf a b), piece-same v w g f z a b (half-width-zero a b (e .0) (e .1)))
-      (by-cond (finiteAt v g (heightsOf a b)) _ _ _ _ (w - v) (λ t. h (pieceOf v g a b) (heights ++ takenAt v g (heightsOf a b)) (good-piece a b e)) (λ t. refl))
+      → measure w f a b heights next ≡ widenedHalved (w - v) (measure v g a b heights next')
+  measure-same a b e heights next next' h =
+      ap (λ (p : Piece). next p (heights ++ heightsOf a b)) (piece-same v w g f z a b (half-width-zero a b (e .0) (e .1))) ∙ h (pieceOf v g a b) (heights ++ heightsOf a b) (good-piece a b e)
 
   -- one turn: the two halves of the piece p at a place, and on
   abbrev turn : ℕ → (Float → List Float) → ℕ → ℕ → Piece → List Piece → List Float → Halved
   turn n y more place p pieces heights =
-      measure n y (p .start) (middleOf p) pieces heights
-      (λ left taken. measure n y (middleOf p) (p .end) pieces taken (λ right taken. repeat n y more (set pieces place left ++ (right ∷ [])) taken))
+      measure n y (p .start) (middleOf p) heights
+      (λ left taken. measure n y (middleOf p) (p .end) taken (λ right taken. repeat n y more (set pieces place left ++ (right ∷ [])) taken))
 
   stored-same : (pieces : List Piece) (i : ℕ) (left right : Piece) → set (Wider pieces) i (widened (w - v) left) ++ (widened (w - v) right ∷ []) ≡ Wider (set pieces i left ++ (right ∷ []))
   stored-same pieces i left right =
@@ -115,8 +105,8 @@ module _ (v w : ℕ) (g f : Float → List Float) (z : ZerosBehind v w g f) wher
       (worst-same v w (z .no-wider) pieces c n)
       ∙ by-cond (middleIsEnd p) _ _ _ _ (w - v) (λ m. ap (λ (k : ℕ). ended (NotConverged k) (Wider pieces) heights) (component-same v w (z .no-wider) pieces c t))
       (λ m. let halves = apart-halves (p .start) (p .end) (good .1) m in
-      measure-same (p .start) (middleOf p) (halves .0) pieces heights _ _
-      (λ left taken gl. measure-same (middleOf p) (p .end) (halves .1) pieces taken _ _
+      measure-same (p .start) (middleOf p) (halves .0) heights _ _
+      (λ left taken gl. measure-same (middleOf p) (p .end) (halves .1) taken _ _
       (λ right more-taken gr. ap (λ (l : List Piece). repeat w f more l more-taken) (stored-same pieces (worstPlace v pieces) left right)
       ∙ repeat-same more (set pieces (worstPlace v pieces) left ++ (right ∷ [])) more-taken
       (all-append Good (set pieces (worstPlace v pieces) left) (right ∷ []) (all-set Good pieces (worstPlace v pieces) left a gl) (gr, tt))
@@ -127,4 +117,4 @@ module _ (v w : ℕ) (g f : Float → List Float) (z : ZerosBehind v w g f) wher
   unfolding halving
   zeros-change-nothing lower upper limit b =
       by-cond (eq lower upper) _ _ _ _ (w - v) (λ t. refl)
-      (λ t. measure-same lower upper (b, t) [] [] _ _ (λ p taken q. repeat-same (limit - 1) (p ∷ []) taken (q, tt) (lit≤ tt)))
+      (λ t. measure-same lower upper (b, t) [] _ _ (λ p taken q. repeat-same (limit - 1) (p ∷ []) taken (q, tt) (lit≤ tt)))

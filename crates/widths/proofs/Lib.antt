@@ -3,6 +3,5 @@ pub mod Bounds
 pub mod Sums
 pub mod Pieces
 pub mod Halvings
-pub mod Ends
 pub mod Strips
 pub mod Totals

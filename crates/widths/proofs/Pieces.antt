@@ -1,4 +1,4 @@
--- One piece: its samples are finite alike, the same heights are taken, and at width w it is the piece at width v with zeros behind. Assumes nothing.
+-- One piece: at width w it is the piece at width v with zeros behind. Assumes nothing.
 use mathlib.Core.Path.{_≡_, refl, ap, _∙_, fun-ext}
 use mathlib.Core.List.{List, [], _∷_, _++_}
 use Prim.Native.Nat.{ℕ, zero, suc, _+_, _-_, _≤_, _<_}
@@ -7,13 +7,13 @@ use native.Mathlib.Omega.{arith}
 use lib.ListN.{length, replicate}
 use lib.Ieee.{Float}
 use Rattle.floats.specs.Operations.{_⊖_, _⊗_, bits, at, tabulateFrom, tabulate}
-use Rattle.floats.specs.Floats.{isFinite, absOf}
-use Rattle.quadrature.specs.Rule.{halfSum, halfWidth, weightedTo, kronrodWeight, gaussWeight, sumOf, pieceOf, finiteSample, finiteAt, takenAt}
+use Rattle.floats.specs.Floats.{absOf}
+use Rattle.quadrature.specs.Rule.{halfSum, halfWidth, weightedTo, kronrodWeight, gaussWeight, sumOf, pieceOf}
 use Rattle.pieces.specs.Stored.{widened}
 use Rattle.widths.specs.Widths.{ZerosBehind}
-use Rattle.rounding.proofs.Zeros.{zero-less-zero, abs-zero, finite-zero}
+use Rattle.rounding.proofs.Zeros.{zero-less-zero, abs-zero}
 use Rattle.widths.proofs.Rule.{kronrod-zero, gauss-zero}
-use Rattle.widths.proofs.Sums.{every-up, Wide}
+use Rattle.widths.proofs.Sums.{Wide}
 
 -- ---- lists by place
 tabulate-zeros : (i n : ℕ) (f : ℕ → Float) → ((k : ℕ) → i ≤ k → k < i + n → f k ≡ bits 0) → tabulateFrom i n f ≡ replicate n (bits 0)
@@ -40,22 +40,6 @@ unfolding pieceOf
 piece-wide v g a b = (length-tabulate 0 v _, length-tabulate 0 v _)
 
 module _ (v w : ℕ) (g f : Float → List Float) (z : ZerosBehind v w g f) where
-  -- ---- the samples
-  sample-same : (h : Float) → finiteSample w (f h) ≡ finiteSample v (g h)
-  sample-same h =
-      every-up v w (z .no-wider) (λ k. isFinite (at (f h) k)) (λ k. isFinite (at (g h) k)) (λ k b. ap isFinite (z .first h k b))
-      (λ k a b. ap isFinite (z .others h k a b) ∙ finite-zero)
-
-  pub finite-same : (hs : List Float) → finiteAt w f hs ≡ finiteAt v g hs
-  unfolding finiteAt
-  finite-same [] = refl
-  finite-same (h ∷ hs) = rw (sample-same h, finite-same hs)
-
-  pub taken-same : (hs : List Float) → takenAt w f hs ≡ takenAt v g hs
-  unfolding takenAt
-  taken-same [] = refl
-  taken-same (h ∷ hs) = rw (sample-same h, taken-same hs)
-
   -- ---- the sums
   sum-same : (weight : ℕ → Float) (a b : Float) (k : ℕ) → k < v → sumOf weight f a b k ≡ sumOf weight g a b k
   sum-same weight a b k l = ap (λ (y : Float → Float). weightedTo 7 weight y (halfSum a b) (halfWidth a b)) (fun-ext (λ h. z .first h k l))

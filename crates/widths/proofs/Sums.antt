@@ -17,6 +17,7 @@ use Rattle.floats.proofs.Every.{every-fails}
 use Rattle.quadrature.specs.declared.Piece.{Piece}
 use Rattle.tolerance.specs.Bounds.{sumFrom, totalOf, errorOf, absolute, boundFor, boundOf, errorWithin, converged, scoreOf, lastHighest, pieceAt, worstPlace, componentOf}
 use Rattle.tolerance.proofs.Places.{highest-same, highest-below}
+use Rattle.tolerance.proofs.AllPieces.{All, all-at}
 use Rattle.rounding.proofs.Signs.{plus, max-plus, max-zero, zero-plus}
 use Rattle.rounding.proofs.Zeros.{zero-plus-zero}
 use Rattle.pieces.specs.Stored.{widened}
@@ -108,17 +109,8 @@ highest-up v w l g h e z k b o =
 abbrev pub Wide : ℕ → Piece → Type 0
 Wide v p = (length (p .value) ≡ v) × (length (p .error) ≡ v)
 
-abbrev pub All : (Piece → Type 0) → List Piece → Type 0
-All P [] = Unit {0}
-All P (p ∷ pieces) = P p × All P pieces
-
 abbrev pub AllWide : ℕ → List Piece → Type 0
 AllWide v pieces = All (Wide v) pieces
-
-pub all-at : (P : Piece → Type 0) (pieces : List Piece) (i : ℕ) → i < length pieces → All P pieces → P (pieceAt pieces i)
-all-at P [] i b z = absurd (not-suc-le-zero b)
-all-at P (p ∷ pieces) zero b z = z .0
-all-at P (p ∷ pieces) (suc i) b z = all-at P pieces i (le-of-suc-le-suc b) (z .1)
 
 pub behind-first : (v d : ℕ) (l : List Float) → length l ≡ v → (k : ℕ) → k < v → at (l ++ replicate d (bits 0)) k ≡ at l k
 behind-first v d l n k b = List·getD-append l (replicate d (bits 0)) nan k (rw n b)

@@ -3,47 +3,41 @@
 use mathlib.Core.Path.{_≡_, refl, ap, _∙_}
 use mathlib.Core.Bool.{Bool, true, false, cond}
 use mathlib.Core.List.{List, [], _∷_, _++_, map}
-use Prim.Native.Nat.{ℕ, zero, suc, _-_, _≤_, _<_}
-use lib.ListN.{set}
+use Prim.Native.Nat.{ℕ, _+_, _-_, _≤_, _<_}
+use lib.ListN.{length, set}
 use lib.Ieee.{Float, eq}
 use Rattle.floats.specs.Operations.{_⊕_, _⊘_, bits}
 use Rattle.rounding.proofs.Zeros.{zero-plus-zero}
-use Rattle.quadrature.specs.Rule.{heightsOf, finiteAt, pieceOf}
+use Rattle.quadrature.specs.Rule.{heightsOf, pieceOf}
 use Rattle.quadrature.specs.declared.Piece.{Piece}
-use Rattle.tolerance.specs.Bounds.{totalOf, converged, worstPlace, worstPiece, middleOf, middleIsEnd}
-use Rattle.halving.specs.Halving.{Halved, measure, repeat, halving}
+use Rattle.tolerance.specs.Bounds.{totalOf, worstPlace, worstPiece, middleOf}
+use Rattle.tolerance.proofs.AllPieces.{All, all-set, all-append}
+use Rattle.halving.specs.Halving.{Halved, repeat, halving}
+use Rattle.halving.proofs.Outcomes.{outcome, kept}
 use Rattle.strips.specs.Strips.{Worked, piecesOf, isAccepted, workedOf, valueFrom, widenedStrip}
 use Rattle.strips.specs.Claim.{Each}
-use Rattle.widths.proofs.Sums.{Wide, All, total-first, total-others}
+use Rattle.widths.proofs.Sums.{Wide, total-first, total-others}
 use Rattle.widths.proofs.Pieces.{piece-wide}
-use Rattle.widths.proofs.Halvings.{all-set, all-append}
 
 by-pieces : (w : ℕ) (b : Bool) (x y : Halved) → All (Wide w) (x .pieces) → All (Wide w) (y .pieces) → All (Wide w) (cond b x y .pieces)
 by-pieces w true x y h k = h
 by-pieces w false x y h k = k
 
 module _ (w : ℕ) (f : Float → List Float) where
-  measure-wide : (a b : Float) (pieces : List Piece) (heights : List Float) (next : Piece → List Float → Halved) → All (Wide w) pieces
-      → ((p : Piece) (taken : List Float) → Wide w p → All (Wide w) (next p taken .pieces)) → All (Wide w) (measure w f a b pieces heights next .pieces)
-  unfolding measure
-  measure-wide a b pieces heights next z h = by-pieces w (finiteAt w f (heightsOf a b)) _ _ (h (pieceOf w f a b) _ (piece-wide w f a b)) z
-
   repeat-wide : (more : ℕ) (pieces : List Piece) (heights : List Float) → All (Wide w) pieces → All (Wide w) (repeat w f more pieces heights .pieces)
-  unfolding repeat
-  repeat-wide zero pieces heights z = by-pieces w (converged w pieces) _ _ z z
-  repeat-wide (suc more) pieces heights z =
-      let p = worstPiece w pieces in
-      by-pieces w (converged w pieces) _ _ z
-      (by-pieces w (middleIsEnd p) _ _ z
-      (measure-wide (p .start) (middleOf p) pieces heights _ z
-      (λ left taken l. measure-wide (middleOf p) (p .end) pieces taken _ z
-      (λ right more-taken r. repeat-wide more (set pieces (worstPlace w pieces) left ++ (right ∷ [])) more-taken
-      (all-append (Wide w) (set pieces (worstPlace w pieces) left) (right ∷ []) (all-set (Wide w) pieces (worstPlace w pieces) left z l) (r, tt))))))
+  repeat-wide more pieces heights z =
+      kept w f
+      (outcome w f (length pieces + more) (λ ps hs. All (Wide w) ps) (λ ps hs k l m.
+      let p = worstPiece w ps in
+      let left = pieceOf w f (p .start) (middleOf p) in
+      let right = pieceOf w f (middleOf p) (p .end) in
+      all-append (Wide w) (set ps (worstPlace w ps) left) (right ∷ []) (all-set (Wide w) ps (worstPlace w ps) left k (piece-wide w f (p .start) (middleOf p))) (piece-wide w f (middleOf p) (p .end), tt))
+      more pieces heights z refl)
 
   halving-wide : (lower upper : Float) (limit : ℕ) → All (Wide w) (halving w f lower upper limit .pieces)
   unfolding halving
   halving-wide lower upper limit =
-      by-pieces w (eq lower upper) _ _ tt (measure-wide lower upper [] [] _ tt (λ p taken q. repeat-wide (limit - 1) (p ∷ []) taken (q, tt)))
+      by-pieces w (eq lower upper) _ _ tt (repeat-wide (limit - 1) (pieceOf w f lower upper ∷ []) (heightsOf lower upper) (piece-wide w f lower upper, tt))
 
 -- ---- the totals of a run: the first v are those of width v, the others +0
 worked-wide : (w : ℕ) (f : Float → List Float) (limit : ℕ) (scale : Float) (heights : List Float) → Each (λ s. All (Wide w) (piecesOf s)) (workedOf w f limit scale heights)

@@ -74,7 +74,7 @@ pub fn sample() {
     last_strip(|s| s.samples += 1);
 }
 
-/// The pieces as they stand before a halving. A halving that ends in 14 comes to no later call, so neither half stays.
+/// The pieces as they stand before a halving.
 pub fn pieces<'a>(list: impl Iterator<Item = (f64, f64, &'a [f64], &'a [f64])>) {
     last_strip(|s| {
         s.pieces.clear();

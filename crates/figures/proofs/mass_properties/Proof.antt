@@ -1,5 +1,6 @@
 -- `figures::mass_properties` meets its contract: refused by a check, or worked. Assumes nothing.
 use mathlib.Core.Path.{refl, sym, _∙_}
+use Rattle.figures.proofs.Owned.{set-f64}
 use Rattle.figures.proofs.Answers.{set-worked, set-refused}
 use borrow.Author.Needs.{needs}
 use Rattle.figures.proofs.mass_properties.Statement.{statement}
@@ -28,8 +29,10 @@ returns c =
     let w = c .before .before in
     let told = w .before .before in
     let checked = told .before .before in
-    let a = checked .before .before .before .args in
-    set-worked (a .set) (a .points .now) (a .limit) (a .scratch .now) _ _ (sym (checked .check-set .ensures) ∙ told .enum-told .given .1) (w .work-set .ensures)
+    let known = checked .before .before in
+    let a = known .before .args in
+    let f64s = set-f64 (a .set) _ _ (known .before .good .0) (known .shared-slice-known .given) in
+    set-worked (a .set) (a .points .now) (a .limit) (a .scratch .now) _ _ f64s (sym (checked .check-set .ensures) ∙ told .enum-told .given .1) (w .work-set .ensures)
 
 returns-2 : tie.Need-returns-2
 returns-2 c =

@@ -1,9 +1,7 @@
 -- `halving::integrate` meets its contract, each way of a strip. Assumes nothing.
-use borrow.Author.Needs.{needs}
 use native.Mathlib.Omega.{arith}
-use borrow.Author.Tests.{not-true, not-false}
-use Rattle.quadrature.proofs.Taken.{measured-few}
-use Rattle.halving.proofs.Strip.{equal-ends, first-not-finite, goes-on}
+use borrow.Author.Needs.{needs}
+use Rattle.halving.proofs.Strip.{equal-ends, goes-on}
 use Rattle.halving.proofs.integrate.Statement.{statement}
 use Rattle.halving.proofs.integrate.Tie as tie
 
@@ -13,32 +11,24 @@ returns c = equal-ends _ _ _ _ _ (c .if1 .taken)
 rule-requires : tie.Need-rule-requires
 rule-requires c κs = search needs
 
-returns-2 : tie.Need-returns-2
-returns-2 c =
-    let k = c .before .before in
-    first-not-finite _ _ _ _ _ (k .before .if1 .left) _ (k .rule .ensures) (not-true _ (c .if2 .taken))
-
 write-requires : tie.Need-write-requires
 write-requires c κs = search needs
 
 repeat-requires : tie.Need-repeat-requires
 repeat-requires c κs =
     let w = c .before .before .before in
-    let k = w .before .before .before .before .before in
-    omega (arith, w .write .kept .0, measured-few _ _ _ _ (k .rule .ensures), k .before .before .before .before .pre)
+    let k = w .before .before in
+    omega (arith, w .write .kept .0, k .before .before .before .before .pre)
 
 same-length : tie.Need-same-length
 same-length c = search needs
 
-returns-3 : tie.Need-returns-3
-returns-3 c =
+returns-2 : tie.Need-returns-2
+returns-2 c =
     let g = c .before .before in
     let w = g .before .before .before .before in
-    let f = w .before .before .before in
-    let k = f .before .before in
-    goes-on _ _ _ _ _ (k .before .if1 .left) _ (k .rule .ensures) _ _ (not-false _ (f .if2 .left)) (rw (w .write .ensures) at (g .repeat .ensures))
+    let k = w .before .before in
+    goes-on _ _ _ _ _ (k .before .if1 .left) _ (k .rule .ensures) _ _ (rw (w .write .ensures) at (g .repeat .ensures))
 
 pub integrate-spec : {M : Type 1} → statement M
-integrate-spec =
-    tie.close
-    (tie.spec returns rule-requires returns-2 write-requires repeat-requires same-length returns-3)
+integrate-spec = tie.close (tie.spec returns rule-requires write-requires repeat-requires same-length returns-2)

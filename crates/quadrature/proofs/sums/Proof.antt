@@ -1,28 +1,25 @@
--- `quadrature::sums` meets its contract: after j turns the sums are those of the first j samples, each of which passed. Assumes nothing.
-use mathlib.Core.Path.{_≡_, sym, _∙_}
+-- `quadrature::sums` meets its contract: after j turns the sums are those of the first j samples. Assumes nothing.
+use mathlib.Core.Path.{_≡_}
 use mathlib.Core.List.{List}
-use Prim.Native.Nat.{_-_, _<_, _≤_}
+use Prim.Native.Nat.{_-_, _≤_}
 use native.Mathlib.Omega.{arith}
 use borrow.Author.Needs.{needs}
-use borrow.Author.Tests.{not-true, not-false}
-use lib.ListN.{length, getD}
+use lib.ListN.{getD}
 use lib.Ieee.{Float}
 use Rattle.floats.specs.Operations.{at}
 use Rattle.chords.specs.declared.Chords.the-variants.{Nothing}
 use Rattle.integrands.specs.Integrands.{sampleOf}
 use Rattle.integrands.proofs.Sampled.{sampled}
-use Rattle.quadrature.specs.Tally.{looked}
-use Rattle.quadrature.proofs.Taken.{heights-count}
-use Rattle.quadrature.proofs.Tallies.{Passed, none-yet, one-more, the-last, passed-all}
+use Rattle.quadrature.proofs.Tallies.{Summed, none-yet, one-more, all-summed}
 use Rattle.quadrature.proofs.sums.Statement.{statement}
 use Rattle.quadrature.proofs.sums.Tie as tie
 
 abbrev Inv-loop : tie.InvT-loop
-Inv-loop integrand points centre half tested heights found kw gw kronrod₀ gauss₀ j₀ kronrod gauss j =
-    (j ≤ 15) × Passed (looked tested) (sampleOf integrand points) heights kw gw j kronrod gauss
+Inv-loop integrand points centre half heights found kw gw kronrod₀ gauss₀ j₀ kronrod gauss j =
+    (j ≤ 15) × Summed (sampleOf integrand points) heights kw gw j kronrod gauss
 
 abbrev μ-loop : tie.MeasureT-loop
-μ-loop integrand points centre half tested heights found kw gw kronrod₀ gauss₀ j₀ kronrod gauss j =
+μ-loop integrand points centre half heights found kw gw kronrod₀ gauss₀ j₀ kronrod gauss j =
     15 - j
 
 sample-heights-requires : tie.Need-sample-heights-requires Inv-loop μ-loop
@@ -38,7 +35,7 @@ gauss-weights-requires : tie.Need-gauss-weights-requires Inv-loop μ-loop
 gauss-weights-requires c κs = search needs
 
 loop-holds : tie.Need-loop-holds Inv-loop μ-loop
-loop-holds c = (omega arith, none-yet _ _ _ _ _)
+loop-holds c = (omega arith, none-yet _ _ _ _)
 
 mul-h : tie.Need-mul-h Inv-loop μ-loop
 mul-h c = omega arith
@@ -72,25 +69,6 @@ the-sample c =
     let a = made head .before .before .before .args in
     sampled (a .integrand) (a .points .now) (height head) (getD (made head .chords-found .result) (head .loop .j) Nothing) _ (made head .chords-found .ensures (head .loop .j) (omega arith)) (c .values-over .ensures)
 
--- there are fifteen heights
-within : (head : tie.At-loop Inv-loop μ-loop) → head .loop .j < 15 → head .loop .j < length (made head .before .sample-heights .result)
-within head b =
-    let a = made head .before .before .before .args in
-    rw (made head .before .sample-heights .ensures) (omega (arith, heights-count 7 (a .centre) (a .half)))
-
-passes-requires : tie.Need-passes-requires Inv-loop μ-loop
-passes-requires c κs = search needs
-
-add-t31 : tie.Need-add-t31 Inv-loop μ-loop
-add-t31 c = omega arith
-
-returns : tie.Need-returns Inv-loop μ-loop
-returns c =
-    let valued = c .before .before in
-    let head = valued .before .before .before in
-    rw (← made head .before .sample-heights .ensures)
-    (the-last _ (sampleAt head) _ _ _ (head .loop .j) _ _ _ (within head (omega arith)) (head .loop .inv .1) (the-sample valued) (sym (c .before .passes .ensures) ∙ not-true _ (c .if1 .taken)) _ _)
-
 mul-plus-weighted : tie.Need-mul-plus-weighted Inv-loop μ-loop
 mul-plus-weighted c = omega arith
 
@@ -117,16 +95,15 @@ loop-less c = omega arith
 
 loop-again : tie.Need-loop-again Inv-loop μ-loop
 loop-again c =
-    let passed = c .before .before .before in
-    let valued = passed .before in
+    let valued = c .before .before in
     let head = valued .before .before .before in
-    (omega arith, one-more _ (sampleAt head) _ _ _ (head .loop .j) _ _ _ _ _ (within head (omega arith)) (head .loop .inv .1) (the-sample valued) (sym (passed .passes .ensures) ∙ not-false _ (c .before .before .if1 .left)) (c .before .plus-weighted .ensures) (c .plus-weighted2 .ensures))
+    (omega arith, one-more (sampleAt head) _ _ _ (head .loop .j) _ _ _ _ _ (head .loop .inv .1) (the-sample valued) (c .before .plus-weighted .ensures) (c .plus-weighted2 .ensures))
 
-returns-2 : tie.Need-returns-2 Inv-loop μ-loop
-returns-2 c =
+returns : tie.Need-returns Inv-loop μ-loop
+returns c =
     let head = c .before in
     let e : head .loop .j ≡ 15 = omega arith in
-    passed-all _ (sampleAt head) _ _ _ _ _ _ _ (made head .before .sample-heights .ensures) (head .before .before .kronrod-weights .ensures) (head .before .gauss-weights .ensures) (rw e at (head .loop .inv .1))
+    all-summed (sampleAt head) _ _ _ _ _ _ _ (made head .before .sample-heights .ensures) (head .before .before .kronrod-weights .ensures) (head .before .gauss-weights .ensures) (rw e at (head .loop .inv .1))
 
 pub sums-spec : {M : Type 1} → statement M
 sums-spec =
@@ -144,9 +121,6 @@ sums-spec =
     mul-one
     array-copy-out-one
     values-over-requires
-    passes-requires
-    add-t31
-    returns
     mul-plus-weighted
     array-read-plus-weighted
     plus-weighted-requires
@@ -156,4 +130,4 @@ sums-spec =
     add-j
     loop-less
     loop-again
-    returns-2)
+    returns)

@@ -14,8 +14,8 @@ use Rattle.rounding.proofs.Sizes.{div-below}
 use Rattle.rounding.proofs.Monotone.{div-mono}
 use Rattle.sorting.specs.Sorted.{belowAll, Rising, Each as EachHeight}
 use Rattle.halving.specs.Halving.{halving}
-use Rattle.strips.specs.Strips.{isAccepted, workedOf}
+use Rattle.strips.specs.Strips.{Worked, isAccepted, stripOf, workedOf}
 use Rattle.strips.specs.Claim.{Each}
 
 next-le : (x y : Float) (l : List Float) → Rising (x ∷ y ∷ l) → T (le x y)
 unfolding Rising belowAll le
@@ -40,14 +40,20 @@ module _ (w : ℕ) (f : Float → List Float) (limit : ℕ) (scale : Float) (p s
         ordered = div-mono binary64 h k scale (x .finite) (y .finite) c l;
       }
 
-  pub ends-in-order : (heights : List Float) → EachHeight (Below p) heights → Rising heights → Each (λ s'. InOrder (p + s) (s' .lower) (s' .upper)) (workedOf w f limit scale heights)
+  -- what holds of a strip whose ends are so holds of every strip worked
+  pub each-in-order : (P : Worked → Type 0) → ((lower upper : Float) → InOrder (p + s) lower upper → P (stripOf w f limit lower upper)) → (heights : List Float)
+      → EachHeight (Below p) heights → Rising heights → Each P (workedOf w f limit scale heights)
   unfolding workedOf
-  ends-in-order [] b r = tt
-  ends-in-order (h ∷ []) b r = tt
-  ends-in-order (h ∷ k ∷ heights) b r =
-      (strip-ends h k (b .0) (b .1 .0) (next-le h k heights r), go (isAccepted (halving w f (h ⊘ scale) (k ⊘ scale) limit .ending)) (ends-in-order (k ∷ heights) (b .1) (rest h (k ∷ heights) r)))
+  each-in-order P holds [] b r = tt
+  each-in-order P holds (h ∷ []) b r = tt
+  each-in-order P holds (h ∷ k ∷ heights) b r = (
+    holds (h ⊘ scale) (k ⊘ scale) (strip-ends h k (b .0) (b .1 .0) (next-le h k heights r)),
+    go (isAccepted (halving w f (h ⊘ scale) (k ⊘ scale) limit .ending)) (each-in-order P holds (k ∷ heights) (b .1) (rest h (k ∷ heights) r)),
+  )
     where
-      go : (t : Bool) → Each (λ s'. InOrder (p + s) (s' .lower) (s' .upper)) (workedOf w f limit scale (k ∷ heights))
-          → Each (λ s'. InOrder (p + s) (s' .lower) (s' .upper)) (cond t (workedOf w f limit scale (k ∷ heights)) [])
+      go : (t : Bool) → Each P (workedOf w f limit scale (k ∷ heights)) → Each P (cond t (workedOf w f limit scale (k ∷ heights)) [])
       go true e = e
       go false e = tt
+
+  pub ends-in-order : (heights : List Float) → EachHeight (Below p) heights → Rising heights → Each (λ s'. InOrder (p + s) (s' .lower) (s' .upper)) (workedOf w f limit scale heights)
+  ends-in-order heights b r = each-in-order (λ s'. InOrder (p + s) (s' .lower) (s' .upper)) (λ lower upper i. i) heights b r
