@@ -35,7 +35,7 @@ use Rattle.body_check.specs.BodyCheck.{largestMagnitude, asymmetryOf, checkTens
 use Rattle.test_definitions.specs.Rows.{is, are, accepted, refused}
 
 -- the bits of 0.01, 0.02, 0.03, 0.2, 1, 2, 3 and 65, of a NaN and of infinity
-abbrev d01 : ℕ
+abbrev pub d01 : ℕ
 d01 = 0x3f84_7ae1_47ae_147b
 
 abbrev d02 : ℕ
@@ -47,26 +47,26 @@ d03 = 0x3f9e_b851_eb85_1eb8
 abbrev d2 : ℕ
 d2 = 0x3fc9_9999_9999_999a
 
-abbrev one : ℕ
+abbrev pub one : ℕ
 one = 0x3ff0_0000_0000_0000
 
-abbrev two : ℕ
+abbrev pub two : ℕ
 two = 0x4000_0000_0000_0000
 
 abbrev three : ℕ
 three = 0x4008_0000_0000_0000
 
-abbrev large : ℕ
+abbrev pub large : ℕ
 large = 0x4050_4000_0000_0000
 
-abbrev notNumber : ℕ
+abbrev pub notNumber : ℕ
 notNumber = 0x7ff8_0000_0000_0000
 
 abbrev infinity : ℕ
 infinity = 0x7ff0_0000_0000_0000
 
 -- the bits of −x
-abbrev minus : ℕ → ℕ
+abbrev pub minus : ℕ → ℕ
 minus b = toBits binary64 (neg (bits b))
 
 -- ---- first refusals
@@ -201,10 +201,10 @@ smaller-root =
 
 -- ---- the orders: of many faults each is refused once those before it are mended, k of them
 
-abbrev unlessMended : ℕ → ℕ → ℕ → ℕ → ℕ
+abbrev pub unlessMended : ℕ → ℕ → ℕ → ℕ → ℕ
 unlessMended k fault bad good = cond (leb k fault) bad good
 
-abbrev refusedFrom : (ℕ → Verdict) → ℕ → List (ℕ × List ℕ) → Bool
+abbrev pub refusedFrom : (ℕ → Verdict) → ℕ → List (ℕ × List ℕ) → Bool
 refusedFrom check k [] = accepted (check k)
 refusedFrom check k (row ∷ rows) = refused (row .0) (row .1) (check k) && refusedFrom check (suc k) rows
 

@@ -3,3 +3,4 @@ pub mod Numbers
 pub mod Shapes
 pub mod Checks
 pub mod Drilling
+pub mod Tubes
