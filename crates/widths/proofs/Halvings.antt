@@ -71,11 +71,15 @@ module _ (v w : ℕ) (g f : Float → List Float) (z : ZerosBehind v w g f) wher
   measure-same a b e heights next next' h =
       ap (λ (p : Piece). next p (heights ++ heightsOf a b)) (piece-same v w g f z a b (half-width-zero a b (e .0) (e .1))) ∙ h (pieceOf v g a b) (heights ++ heightsOf a b) (good-piece a b e)
 
-  -- one turn: the two halves of the piece p at a place, and on
+  -- one turn: the two halves of the piece p at a place, and on; what comes after both, and after the left one
+  abbrev goOn : ℕ → (Float → List Float) → ℕ → ℕ → List Piece → Piece → Piece → List Float → Halved
+  goOn n y more place pieces left right taken = repeat n y more (set pieces place left ++ (right ∷ [])) taken
+
+  abbrev rightHalf : ℕ → (Float → List Float) → ℕ → ℕ → Piece → List Piece → Piece → List Float → Halved
+  rightHalf n y more place p pieces left taken = measure n y (middleOf p) (p .end) taken (goOn n y more place pieces left)
+
   abbrev turn : ℕ → (Float → List Float) → ℕ → ℕ → Piece → List Piece → List Float → Halved
-  turn n y more place p pieces heights =
-      measure n y (p .start) (middleOf p) heights
-      (λ left taken. measure n y (middleOf p) (p .end) taken (λ right taken. repeat n y more (set pieces place left ++ (right ∷ [])) taken))
+  turn n y more place p pieces heights = measure n y (p .start) (middleOf p) heights (rightHalf n y more place p pieces)
 
   stored-same : (pieces : List Piece) (i : ℕ) (left right : Piece) → set (Wider pieces) i (widened (w - v) left) ++ (widened (w - v) right ∷ []) ≡ Wider (set pieces i left ++ (right ∷ []))
   stored-same pieces i left right =
@@ -105,8 +109,9 @@ module _ (v w : ℕ) (g f : Float → List Float) (z : ZerosBehind v w g f) wher
       (worst-same v w (z .no-wider) pieces c n)
       ∙ by-cond (middleIsEnd p) _ _ _ _ (w - v) (λ m. ap (λ (k : ℕ). ended (NotConverged k) (Wider pieces) heights) (component-same v w (z .no-wider) pieces c t))
       (λ m. let halves = apart-halves (p .start) (p .end) (good .1) m in
-      measure-same (p .start) (middleOf p) (halves .0) heights _ _
-      (λ left taken gl. measure-same (middleOf p) (p .end) (halves .1) taken _ _
+      measure-same (p .start) (middleOf p) (halves .0) heights (rightHalf w f more (worstPlace v pieces) p (Wider pieces)) (rightHalf v g more (worstPlace v pieces) p pieces)
+      (λ left taken gl. measure-same (middleOf p) (p .end) (halves .1) taken
+      (goOn w f more (worstPlace v pieces) (Wider pieces) (widened (w - v) left)) (goOn v g more (worstPlace v pieces) pieces left)
       (λ right more-taken gr. ap (λ (l : List Piece). repeat w f more l more-taken) (stored-same pieces (worstPlace v pieces) left right)
       ∙ repeat-same more (set pieces (worstPlace v pieces) left ++ (right ∷ [])) more-taken
       (all-append Good (set pieces (worstPlace v pieces) left) (right ∷ []) (all-set Good pieces (worstPlace v pieces) left a gl) (gr, tt))
@@ -117,4 +122,5 @@ module _ (v w : ℕ) (g f : Float → List Float) (z : ZerosBehind v w g f) wher
   unfolding halving
   zeros-change-nothing lower upper limit b =
       by-cond (eq lower upper) _ _ _ _ (w - v) (λ t. refl)
-      (λ t. measure-same lower upper (b, t) [] _ _ (λ p taken q. repeat-same (limit - 1) (p ∷ []) taken (q, tt) (lit≤ tt)))
+      (λ t. measure-same lower upper (b, t) []
+      (λ whole taken. repeat w f (limit - 1) (whole ∷ []) taken) (λ whole taken. repeat v g (limit - 1) (whole ∷ []) taken) (λ p taken q. repeat-same (limit - 1) (p ∷ []) taken (q, tt) (lit≤ tt)))
