@@ -44,22 +44,20 @@ module _ (set : FinSet) (points : List Float) (L : ℕ) (entry : List Float) (r 
         ending-reported = concluded-verdict set root scale strips r e (set-count-check set points L (length entry) accepts) (set-density set points L (length entry) accepts);
       }
 
-  set-claim : setCheck set points L (length entry) ≡ Accepted → SetWorked set points L entry r exit → Demand3 (setRun set points L) (setStrips set points L) (setReport r) entry exit
-  set-claim accepts w =
-      demand-3 (setRun set points L) (set-limit set points L (length entry) accepts .0) (setReport r) entry exit (set-reported accepts (w .figures))
-      (w .scratch ∙ ap (λ (l : List Worked). scratchAfter l entry) (sym (none-behind (setStrips set points L))))
-
   pub set-worked : SetF64 set points → setCheck set points L (length entry) ≡ Accepted → SetWorked set points L entry r exit → SetAnswers set points L entry r exit
   unfolding setFigures setScratch
   set-worked f64s accepts w =
+      let claim = demand-3 (setRun set points L) (set-limit set points L (length entry) accepts .0) (setReport r) entry exit (set-reported accepts (w .figures))
+      (w .scratch ∙ ap (λ (l : List Worked). scratchAfter l entry) (sym (none-behind (setStrips set points L)))) in
       record {
         figures = rw accepts (w .figures);
         scratch = rw accepts (w .scratch);
         given-before-strips = λ refusal h. no-refusal refusal (sym h ∙ accepts);
         zero-figures = concluded-zeros set (rootChordOf (set .planform) points) (scaleOf (set .planform) points) (setStrips set points L) r (w .figures);
         strip-count = set-strips-counted set points L (length entry);
-        demand-3 = λ h. set-claim accepts w;
-        samples-at-most = samples-at-most (setRun set points L) (setStrips set points L) (setReport r) entry exit 62 (set-limit set points L (length entry) accepts .1) (set-strips-counted set points L (length entry) accepts .1) (set-claim accepts w);
+        demand-3 = λ h. claim;
+        samples-at-most = samples-at-most (setRun set points L) (setStrips set points L) (setReport r) entry exit 62 (set-limit set points L (length entry) accepts .1)
+            (set-strips-counted set points L (length entry) accepts .1) claim;
         pieces-rise = set-pieces-rise set points L (length entry) f64s;
         samples-finite = set-samples-finite set points L (length entry) f64s;
         numbers-finite = set-numbers-finite set points L (length entry) f64s;
@@ -94,20 +92,19 @@ module _ (planform : Planform) (points : List Float) (L : ℕ) (entry : List Flo
         ending-reported = subst (λ (ending : Ending). Reported ending (r .verdict)) (ending-same 4 strips) (concluded-area-verdict scale seven r e);
       }
 
-  area-claim : areaCheck planform points L (length entry) ≡ Accepted → AreaWorked planform points L entry r exit → Demand3 (areaRun planform points L) (areaStrips planform points L) (areaReport r) entry exit
-  area-claim accepts w = demand-3 (areaRun planform points L) (area-limit planform points L (length entry) accepts .0) (areaReport r) entry exit (area-reported (w .figures)) (w .scratch)
-
   pub area-worked : PlanformF64 planform points → areaCheck planform points L (length entry) ≡ Accepted → AreaWorked planform points L entry r exit → AreaAnswers planform points L entry r exit
   unfolding areaFigures areaScratch
   area-worked f64s accepts w =
+      let claim = demand-3 (areaRun planform points L) (area-limit planform points L (length entry) accepts .0) (areaReport r) entry exit (area-reported (w .figures)) (w .scratch) in
       record {
         figures = rw accepts (w .figures);
         scratch = rw accepts (w .scratch);
         given-before-strips = λ refusal h. no-refusal refusal (sym h ∙ accepts);
         zero-figures = concluded-area-zeros (scaleOf planform points) (areaSeven planform points L) r (w .figures);
         strip-count = area-strips-counted planform points L (length entry);
-        demand-3 = λ h. area-claim accepts w;
-        samples-at-most = samples-at-most (areaRun planform points L) (areaStrips planform points L) (areaReport r) entry exit 62 (area-limit planform points L (length entry) accepts .1) (area-strips-counted planform points L (length entry) accepts .1) (area-claim accepts w);
+        demand-3 = λ h. claim;
+        samples-at-most = samples-at-most (areaRun planform points L) (areaStrips planform points L) (areaReport r) entry exit 62 (area-limit planform points L (length entry) accepts .1)
+            (area-strips-counted planform points L (length entry) accepts .1) claim;
         pieces-rise = area-pieces-rise planform points L (length entry) f64s;
         samples-finite = area-samples-finite planform points L (length entry) f64s;
         numbers-finite = area-numbers-finite planform points L (length entry) f64s;
