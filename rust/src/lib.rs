@@ -2,7 +2,7 @@
 //!
 //! The library is proved against its contracts; this crate only hands over numbers and slices, and is not proved. Lengths are metres,
 //! angles radians. Calls keep nothing, and may run on several threads; the floating-point environment has to be the one that a process
-//! starts with (rounding to nearest, no flushing to zero), and a call takes up to 32 kB of stack.
+//! starts with (rounding to nearest, no flushing to zero), and a call needs the stack that include/delvouzh.h names.
 
 mod raw;
 mod refusals;
