@@ -1,9 +1,18 @@
 -- The answers, as docs/FORMS.md writes them.
 use mathlib.Core.List.{List, [], _∷_}
-use Prim.Native.Nat.{ℕ}
+use Prim.Native.Nat.{ℕ, _+_, _≤_}
+use lib.ListN.{length}
 use lib.Ieee.{Float}
 use Rattle.tokens.specs.Text.{text}
 use Rattle.answers.specs.Filled.{filled}
+
+-- how many bytes an answer may have; none has more (proofs/Lengths)
+abbrev pub answerBytes : ℕ
+answerBytes = 320
+
+-- a buffer has room for one behind its first n bytes
+abbrev pub AnswerFits : List ℕ → ℕ → Type 0
+AnswerFits out n = n + answerBytes ≤ length out
 
 -- mass, centre and the tensor's three columns; intervals; samples
 unfoldable pub figuresText : List Float → ℕ → ℕ → List ℕ

@@ -1,12 +1,16 @@
 // The card's answers (docs/FORMS.md), appended to a lent buffer.
 //
-// An answer is a template, filled in: `F` gives way to the next figure, `N` to the next count. None is longer than 320 bytes.
+// An answer is a template, filled in: `F` gives way to the next figure, `N` to the next count. None is longer than
+// ANSWER_BYTES.
 ghost use Prim.Native.Nat.{_+_, _≤_};
 ghost use lib.ListN.{length};
 ghost use Rattle.texts.specs.Appended.{Appended};
 ghost use Rattle.answers.specs.Filled.{filled, room};
-ghost use Rattle.answers.specs.Answers.{figuresText, areaText, joinedText, ringText, closingText, insideText, edgeText, outsideText, momentsText, soundText, refusedText};
+ghost use Rattle.answers.specs.Answers.{AnswerFits, figuresText, areaText, joinedText, ringText, closingText, insideText, edgeText, outsideText, momentsText, soundText, refusedText};
 ghost use Rattle.answers.specs.Places.{HasRoom, PutPiece};
+
+// How many bytes an answer may have.
+pub const ANSWER_BYTES: usize = 320;
 
 // Where printing stands: how many bytes are there, and how many figures and counts have been used.
 struct Place {
@@ -65,7 +69,8 @@ pub fn put_filled(
     counts: &[u64],
 ) -> usize
     requires { ⌜ n + room (now template) ≤ length (now out) ⌝ }
-    ensures { λ r. ⌜ Appended (now (out .entry)) n (filled (now (template .entry)) (now (figures .entry)) (now (counts .entry))) (now (out .exit)) r ⌝ }
+    ensures { λ r. ⌜ Appended (now (out .entry)) n
+        (filled (now (template .entry)) (now (figures .entry)) (now (counts .entry))) (now (out .exit)) r ⌝ }
 {
     let mut p = Place {
         n,
@@ -82,7 +87,7 @@ pub fn put_filled(
 
 // The figures of a set: mass, centre and tensor.
 pub fn put_figures(out: &mut [u8], n: usize, figures: &[f64], intervals: u64, samples: u64) -> usize
-    requires { ⌜ n + 320 ≤ length (now out) ⌝ }
+    requires { ⌜ AnswerFits (now out) n ⌝ }
     ensures { λ r. ⌜ Appended (now (out .entry)) n (figuresText (now (figures .entry)) intervals samples) (now (out .exit)) r ⌝ }
 {
     let counts = [intervals, samples];
@@ -97,7 +102,7 @@ pub fn put_figures(out: &mut [u8], n: usize, figures: &[f64], intervals: u64, sa
 
 // A planform's area and centroid.
 pub fn put_area(out: &mut [u8], n: usize, figures: &[f64], intervals: u64, samples: u64) -> usize
-    requires { ⌜ n + 320 ≤ length (now out) ⌝ }
+    requires { ⌜ AnswerFits (now out) n ⌝ }
     ensures { λ r. ⌜ Appended (now (out .entry)) n (areaText (now (figures .entry)) intervals samples) (now (out .exit)) r ⌝ }
 {
     let counts = [intervals, samples];
@@ -112,7 +117,7 @@ pub fn put_area(out: &mut [u8], n: usize, figures: &[f64], intervals: u64, sampl
 
 // A joined body: mass, centre and tensor.
 pub fn put_joined(out: &mut [u8], n: usize, figures: &[f64]) -> usize
-    requires { ⌜ n + 320 ≤ length (now out) ⌝ }
+    requires { ⌜ AnswerFits (now out) n ⌝ }
     ensures { λ r. ⌜ Appended (now (out .entry)) n (joinedText (now (figures .entry))) (now (out .exit)) r ⌝ }
 {
     let counts: [u64; 0] = [];
@@ -127,7 +132,7 @@ pub fn put_joined(out: &mut [u8], n: usize, figures: &[f64]) -> usize
 
 // A ring of tubes: mass, centre and tensor.
 pub fn put_ring(out: &mut [u8], n: usize, figures: &[f64]) -> usize
-    requires { ⌜ n + 320 ≤ length (now out) ⌝ }
+    requires { ⌜ AnswerFits (now out) n ⌝ }
     ensures { λ r. ⌜ Appended (now (out .entry)) n (ringText (now (figures .entry))) (now (out .exit)) r ⌝ }
 {
     let counts: [u64; 0] = [];
@@ -142,7 +147,7 @@ pub fn put_ring(out: &mut [u8], n: usize, figures: &[f64]) -> usize
 
 // The radius of tubes that close a ring.
 pub fn put_closing(out: &mut [u8], n: usize, figures: &[f64]) -> usize
-    requires { ⌜ n + 320 ≤ length (now out) ⌝ }
+    requires { ⌜ AnswerFits (now out) n ⌝ }
     ensures { λ r. ⌜ Appended (now (out .entry)) n (closingText (now (figures .entry))) (now (out .exit)) r ⌝ }
 {
     let counts: [u64; 0] = [];
@@ -151,7 +156,7 @@ pub fn put_closing(out: &mut [u8], n: usize, figures: &[f64]) -> usize
 
 // A point that lies inside, with the nearest corner's position; the next two likewise.
 pub fn put_inside(out: &mut [u8], n: usize, nearest: u64) -> usize
-    requires { ⌜ n + 320 ≤ length (now out) ⌝ }
+    requires { ⌜ AnswerFits (now out) n ⌝ }
     ensures { λ r. ⌜ Appended (now (out .entry)) n (insideText nearest) (now (out .exit)) r ⌝ }
 {
     let figures: [f64; 0] = [];
@@ -161,7 +166,7 @@ pub fn put_inside(out: &mut [u8], n: usize, nearest: u64) -> usize
 
 // A point on the edge.
 pub fn put_edge(out: &mut [u8], n: usize, nearest: u64) -> usize
-    requires { ⌜ n + 320 ≤ length (now out) ⌝ }
+    requires { ⌜ AnswerFits (now out) n ⌝ }
     ensures { λ r. ⌜ Appended (now (out .entry)) n (edgeText nearest) (now (out .exit)) r ⌝ }
 {
     let figures: [f64; 0] = [];
@@ -171,7 +176,7 @@ pub fn put_edge(out: &mut [u8], n: usize, nearest: u64) -> usize
 
 // A point outside.
 pub fn put_outside(out: &mut [u8], n: usize, nearest: u64) -> usize
-    requires { ⌜ n + 320 ≤ length (now out) ⌝ }
+    requires { ⌜ AnswerFits (now out) n ⌝ }
     ensures { λ r. ⌜ Appended (now (out .entry)) n (outsideText nearest) (now (out .exit)) r ⌝ }
 {
     let figures: [f64; 0] = [];
@@ -181,7 +186,7 @@ pub fn put_outside(out: &mut [u8], n: usize, nearest: u64) -> usize
 
 // Principal moments.
 pub fn put_moments(out: &mut [u8], n: usize, figures: &[f64]) -> usize
-    requires { ⌜ n + 320 ≤ length (now out) ⌝ }
+    requires { ⌜ AnswerFits (now out) n ⌝ }
     ensures { λ r. ⌜ Appended (now (out .entry)) n (momentsText (now (figures .entry))) (now (out .exit)) r ⌝ }
 {
     let counts: [u64; 0] = [];
@@ -190,7 +195,7 @@ pub fn put_moments(out: &mut [u8], n: usize, figures: &[f64]) -> usize
 
 // A body that passed its check.
 pub fn put_sound(out: &mut [u8], n: usize) -> usize
-    requires { ⌜ n + 320 ≤ length (now out) ⌝ }
+    requires { ⌜ AnswerFits (now out) n ⌝ }
     ensures { λ r. ⌜ Appended (now (out .entry)) n soundText (now (out .exit)) r ⌝ }
 {
     texts::put_bytes(out, n, b"(sound)")
@@ -198,7 +203,7 @@ pub fn put_sound(out: &mut [u8], n: usize) -> usize
 
 // A refusal, with its number and nothing else.
 pub fn put_refused(out: &mut [u8], n: usize, number: u64) -> usize
-    requires { ⌜ n + 320 ≤ length (now out) ⌝ }
+    requires { ⌜ AnswerFits (now out) n ⌝ }
     ensures { λ r. ⌜ Appended (now (out .entry)) n (refusedText number) (now (out .exit)) r ⌝ }
 {
     let figures: [f64; 0] = [];

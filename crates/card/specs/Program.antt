@@ -7,7 +7,8 @@ use mathlib.Core.Path.{_≡_}
 use Prim.Native.Nat.{ℕ, _+_, _^_, _<_, _≤_}
 use lib.ListN.{length, take}
 use lib.Ieee.{Float}
-use Rattle.inputs.specs.Inputs.{linesWithin, begunAfter, linesOf, replies, repliesTo}
+use Rattle.tokens.specs.Tokens.{lineBytes}
+use Rattle.inputs.specs.Inputs.{replyBytes, linesWithin, begunAfter, linesOf, replies, repliesTo}
 use Rattle.inputs.specs.States.{Keeps, answerOver, Answered, Takes}
 use Rattle.inputs.specs.declared.State.{State}
 use Rattle.card.specs.declared.Replied.{Replied}
@@ -28,14 +29,14 @@ mostRead = 2 ^ 54
 -- what is lent to the run
 pub record Lends (buffer chunk : List ℕ) (scratch : List Float) (out : List ℕ) : Type 0 where
   -- room for a line
-  pub line : 4096 ≤ length buffer
+  pub line : lineBytes ≤ length buffer
   -- bytes to read into: into none, every read would answer as at the input's end
   pub some : 0 < length chunk
   pub most : length chunk ≤ 65536
   -- exactly the scratch that document 01 says
   pub numbers : length scratch ≡ scratchLength
   -- room for a reply
-  pub reply : 321 ≤ length out
+  pub reply : replyBytes ≤ length out
 
 -- where the program stands between two reads
 pub record TakenSoFar (buffer : List ℕ) (s : State) (handed : ℕ) : Type 0 where

@@ -69,7 +69,8 @@ fn reply_to(
     handed: usize,
 ) -> Replied
     requires { ⌜ Lends (now buffer) (now chunk) (now scratch) (now out) × TakenSoFar (now buffer) s handed ⌝ }
-    ensures { λ r. ⌜ Replies (now (buffer .entry)) (now (buffer .exit)) s (now (chunk .entry)) (now (scratch .entry)) (now (scratch .exit)) handed r ⌝ }
+    ensures { λ r. ⌜ Replies (now (buffer .entry)) (now (buffer .exit)) s (now (chunk .entry))
+        (now (scratch .entry)) (now (scratch .exit)) handed r ⌝ }
 {
     let mut state = s;
     let mut at: usize = 0;
@@ -103,7 +104,8 @@ fn take_turn(
     handed: usize,
 ) -> Turn
     requires { ⌜ Lends (now buffer) (now chunk) (now scratch) (now out) × TakenSoFar (now buffer) s handed ⌝ }
-    ensures { λ r. ⌜ Turns (now (buffer .entry)) (now (buffer .exit)) s (now (chunk .exit)) (now (scratch .entry)) (now (scratch .exit)) handed r ⌝ }
+    ensures { λ r. ⌜ Turns (now (buffer .entry)) (now (buffer .exit)) s (now (chunk .exit))
+        (now (scratch .entry)) (now (scratch .exit)) handed r ⌝ }
 {
     let got = libc::read(STDIN_FILENO, chunk);
     let n = io::count(got, chunk);

@@ -17,6 +17,7 @@ use Rattle.tubes.specs.Closing.{closingOf}
 use Rattle.moments.specs.declared.Moments.{Moments}
 use Rattle.figures.specs.declared.Area.{Area}
 use Rattle.figures.specs.declared.Figures.{Figures}
+use Rattle.answers.specs.Answers.{answerBytes}
 use Rattle.lines.specs.Lines.{answerOf, Answers}
 use Rattle.planform_chords.specs.declared.ChordList.{ChordList}
 use Rattle.drill.specs.declared.Answer.{Answer}
@@ -156,14 +157,14 @@ over-start : (before text after : List ℕ) (r : ℕ) → take r after ≡ text 
 over-start before text after r holds rest ends = sym (take-append-drop r after) ∙ rw (holds, rest, ends)
 
 module _ (line : List ℕ) (scratch : List Float) (answer written : List ℕ) where
-  pub line-refused : room 320 answer 1 written ≡ false → LineCall line scratch answer written 18 scratch answer written
+  pub line-refused : room answerBytes answer 1 written ≡ false → LineCall line scratch answer written 18 scratch answer written
   line-refused none = record { returned = rw none; answered = rw none; counted = rw none; lent = rw none }
 
-  pub line-written : 320 ≤ length answer → 1 ≤ length written → (n : ℕ) (scratch' : List Float) (answer' written' : List ℕ) →
+  pub line-written : answerBytes ≤ length answer → 1 ≤ length written → (n : ℕ) (scratch' : List Float) (answer' written' : List ℕ) →
       Answers line scratch scratch' answer 0 answer' n → written' ≡ over (n ∷ []) written →
       LineCall line scratch answer written 0 scratch' answer' written'
   line-written h k n scratch' answer' written' a w =
-      let fits = has-room 320 answer 1 written h k in
+      let fits = has-room answerBytes answer 1 written h k in
       let text = a .answer h in
       let long : n ≡ length (answerOf line (length scratch)) = omega (arith, text .ends) in
       record {

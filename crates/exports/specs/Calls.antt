@@ -23,6 +23,7 @@ use Rattle.moments.specs.declared.Moments.{Moments}
 use Rattle.figures.specs.declared.Area.{Area}
 use Rattle.figures.specs.declared.Figures.{Figures}
 use Rattle.requests.specs.Calls.{numberedFigures, numberedScratch, numberedArea, numberedAreaScratch, numberedChords, numberedEnds, numberedDrill, ringBy, tensorMoments, bodyVerdict}
+use Rattle.answers.specs.Answers.{answerBytes}
 use Rattle.lines.specs.Lines.{answerOf, scratchAfterLine}
 use Rattle.exports.specs.Numbers.{numberIn, over, withValues, withCount, withCounts}
 
@@ -108,10 +109,10 @@ pub record CheckCall (numbers : List Float) (values : List ℕ) (r : ℕ) (value
   pub returned : r ≡ cond (leb 2 (length values)) (numberIn (bodyVerdict numbers)) (numberOf NoForm)
   pub counted : values' ≡ cond (leb 2 (length values)) (withValues values (bodyVerdict numbers)) values
 
--- ---- a line's answer: at most 320 bytes
+-- ---- a line's answer
 
 pub record LineCall (line : List ℕ) (scratch : List Float) (answer written : List ℕ) (r : ℕ) (scratch' : List Float) (answer' written' : List ℕ) : Type 0 where
-  pub returned : r ≡ cond (room 320 answer 1 written) 0 (numberOf NoForm)
-  pub answered : answer' ≡ cond (room 320 answer 1 written) (over (answerOf line (length scratch)) answer) answer
-  pub counted : written' ≡ cond (room 320 answer 1 written) (over (length (answerOf line (length scratch)) ∷ []) written) written
-  pub lent : scratch' ≡ cond (room 320 answer 1 written) (scratchAfterLine line scratch) scratch
+  pub returned : r ≡ cond (room answerBytes answer 1 written) 0 (numberOf NoForm)
+  pub answered : answer' ≡ cond (room answerBytes answer 1 written) (over (answerOf line (length scratch)) answer) answer
+  pub counted : written' ≡ cond (room answerBytes answer 1 written) (over (length (answerOf line (length scratch)) ∷ []) written) written
+  pub lent : scratch' ≡ cond (room answerBytes answer 1 written) (scratchAfterLine line scratch) scratch

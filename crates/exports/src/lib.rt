@@ -15,15 +15,13 @@ ghost use Rattle.figures.specs.Answers.{mostSamples};
 ghost use Rattle.exports.specs.Sets.{crossedSet};
 ghost use Rattle.exports.specs.Numbers.{numberIn, valuesIn, over, withValues, withCount, withCounts};
 ghost use Rattle.exports.specs.Calls.{SetCall, AreaCall, ChordsCall, DrillCall, RingCall, ClosingCall, JoinCall, MomentsCall, CheckCall, LineCall};
+use answers::ANSWER_BYTES;
 use bodies::BODY_NUMBERS;
 use fins::NumberedSet;
 use refusals::Verdict;
 
 // The number of "no form", with which a slice that is too short is refused as well.
 const NO_FORM: usize = 18;
-
-// How many bytes the answer to a line may have.
-const ANSWER: usize = 320;
 
 // The figures: thickness, cant, base angle, body radius, density, and the tab's.
 fn crossed_set(
@@ -148,7 +146,10 @@ pub extern "C" fn delvouzh_mass_properties(
     body: &mut [f64],
     counts: &mut [usize],
 ) -> usize
-    ensures { λ r. ⌜ SetCall (crossedSet count planform (now (lengths .entry)) section tab density (now (figures .entry))) (now (lengths .entry)) limit (now (scratch .entry)) (now (body .entry)) (now (counts .entry)) r (now (scratch .exit)) (now (body .exit)) (now (counts .exit)) ⌝ }
+    ensures { λ r. ⌜ SetCall
+        (crossedSet count planform (now (lengths .entry)) section tab density (now (figures .entry))) (now (lengths .entry)) limit
+        (now (scratch .entry)) (now (body .entry)) (now (counts .entry))
+        r (now (scratch .exit)) (now (body .exit)) (now (counts .exit)) ⌝ }
 {
     if body.len() < BODY_NUMBERS {
         return NO_FORM;
@@ -175,7 +176,9 @@ pub extern "C" fn delvouzh_geometry(
     area: &mut [f64],
     counts: &mut [usize],
 ) -> usize
-    ensures { λ r. ⌜ AreaCall (numberedPlanform planform (now (lengths .entry))) (now (lengths .entry)) limit (now (scratch .entry)) (now (area .entry)) (now (counts .entry)) r (now (scratch .exit)) (now (area .exit)) (now (counts .exit)) ⌝ }
+    ensures { λ r. ⌜ AreaCall (numberedPlanform planform (now (lengths .entry))) (now (lengths .entry)) limit
+        (now (scratch .entry)) (now (area .entry)) (now (counts .entry))
+        r (now (scratch .exit)) (now (area .exit)) (now (counts .exit)) ⌝ }
 {
     if area.len() < 3 {
         return NO_FORM;
@@ -206,7 +209,9 @@ pub extern "C" fn delvouzh_chords_at(
     ends: &mut [f64],
     counts: &mut [usize],
 ) -> usize
-    ensures { λ r. ⌜ ChordsCall (numberedPlanform planform (now (lengths .entry))) (now (lengths .entry)) «height_m» (now (ends .entry)) (now (counts .entry)) r (now (ends .exit)) (now (counts .exit)) ⌝ }
+    ensures { λ r. ⌜ ChordsCall (numberedPlanform planform (now (lengths .entry))) (now (lengths .entry)) «height_m»
+        (now (ends .entry)) (now (counts .entry))
+        r (now (ends .exit)) (now (counts .exit)) ⌝ }
 {
     if ends.len() < planform_chords::ROOM {
         return NO_FORM;
@@ -231,7 +236,8 @@ pub extern "C" fn delvouzh_drill(
     height_m: f64,
     counts: &mut [usize],
 ) -> usize
-    ensures { λ r. ⌜ DrillCall (numberedPlanform planform (now (lengths .entry))) (now (lengths .entry)) «x_m» «height_m» (now (counts .entry)) r (now (counts .exit)) ⌝ }
+    ensures { λ r. ⌜ DrillCall (numberedPlanform planform (now (lengths .entry))) (now (lengths .entry)) «x_m» «height_m»
+        (now (counts .entry)) r (now (counts .exit)) ⌝ }
 {
     if counts.len() < 4 {
         return NO_FORM;
@@ -258,7 +264,9 @@ pub extern "C" fn delvouzh_tube_mass_properties(
     body: &mut [f64],
     values: &mut [usize],
 ) -> usize
-    ensures { λ r. ⌜ RingCall count density (now (figures .entry)) (now (body .entry)) (now (values .entry)) r (now (body .exit)) (now (values .exit)) ⌝ }
+    ensures { λ r. ⌜ RingCall count density (now (figures .entry))
+        (now (body .entry)) (now (values .entry))
+        r (now (body .exit)) (now (values .exit)) ⌝ }
 {
     if body.len() < BODY_NUMBERS {
         return NO_FORM;
@@ -282,7 +290,9 @@ pub extern "C" fn delvouzh_closing_radius(
     radius: &mut [f64],
     values: &mut [usize],
 ) -> usize
-    ensures { λ r. ⌜ ClosingCall count «body_radius_m» (now (radius .entry)) (now (values .entry)) r (now (radius .exit)) (now (values .exit)) ⌝ }
+    ensures { λ r. ⌜ ClosingCall count «body_radius_m»
+        (now (radius .entry)) (now (values .entry))
+        r (now (radius .exit)) (now (values .exit)) ⌝ }
 {
     if radius.len() < 1 {
         return NO_FORM;
@@ -319,7 +329,9 @@ pub extern "C" fn delvouzh_principal_moments(
     moments: &mut [f64],
     values: &mut [usize],
 ) -> usize
-    ensures { λ r. ⌜ MomentsCall (now (tensor .entry)) (now (moments .entry)) (now (values .entry)) r (now (moments .exit)) (now (values .exit)) ⌝ }
+    ensures { λ r. ⌜ MomentsCall (now (tensor .entry))
+        (now (moments .entry)) (now (values .entry))
+        r (now (moments .exit)) (now (values .exit)) ⌝ }
 {
     if moments.len() < 3 {
         return NO_FORM;
@@ -356,9 +368,11 @@ pub extern "C" fn delvouzh_answer_line(
     answer: &mut [u8],
     written: &mut [usize],
 ) -> usize
-    ensures { λ r. ⌜ LineCall (now (line .entry)) (now (scratch .entry)) (now (answer .entry)) (now (written .entry)) r (now (scratch .exit)) (now (answer .exit)) (now (written .exit)) ⌝ }
+    ensures { λ r. ⌜ LineCall (now (line .entry))
+        (now (scratch .entry)) (now (answer .entry)) (now (written .entry))
+        r (now (scratch .exit)) (now (answer .exit)) (now (written .exit)) ⌝ }
 {
-    if answer.len() < ANSWER {
+    if answer.len() < ANSWER_BYTES {
         return NO_FORM;
     }
     if written.len() < 1 {

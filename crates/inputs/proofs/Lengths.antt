@@ -8,25 +8,26 @@ use lib.Dec.{eqb, leb}
 use lib.ListN.{length, length-append}
 use Rattle.refusals.specs.declared.Refusal.the-variants.{NoForm}
 use Rattle.refusals.specs.Refusals.{numberOf}
-use Rattle.answers.specs.Answers.{refusedText}
+use Rattle.tokens.specs.Tokens.{lineBytes}
+use Rattle.answers.specs.Answers.{answerBytes, refusedText}
 use Rattle.answers.proofs.Lengths.{refused-short}
 use Rattle.lines.specs.Lines.{answerOf}
 use Rattle.lines.proofs.Short.{answer-short}
-use Rattle.inputs.specs.Inputs.{linesWithin, begunAfter, lastLine, linesOf, reply, replies, repliesTo}
+use Rattle.inputs.specs.Inputs.{replyBytes, linesWithin, begunAfter, lastLine, linesOf, reply, replies, repliesTo}
 use Rattle.inputs.specs.States.{answerOver}
 
-one-short : (m : ℕ) (line : List ℕ) → length (reply (answerOver m) line) ≤ 321
+one-short : (m : ℕ) (line : List ℕ) → length (reply (answerOver m) line) ≤ replyBytes
 unfolding reply
 one-short m line =
-    let e = length-append (cond (leb (length line) 4096) (answerOf line m) (refusedText (numberOf NoForm))) (10 ∷ []) in
-    let h = by (leb (length line) 4096) in
+    let e = length-append (cond (leb (length line) lineBytes) (answerOf line m) (refusedText (numberOf NoForm))) (10 ∷ []) in
+    let h = by (leb (length line) lineBytes) in
     omega arith
   where
-    by : (t : Bool) → length (cond t (answerOf line m) (refusedText (numberOf NoForm))) ≤ 320
+    by : (t : Bool) → length (cond t (answerOf line m) (refusedText (numberOf NoForm))) ≤ answerBytes
     by true = answer-short line m
     by false = refused-short (numberOf NoForm)
 
-all-short : (m : ℕ) (lines : List (List ℕ)) → length (replies (answerOver m) lines) ≤ 321 * length lines
+all-short : (m : ℕ) (lines : List (List ℕ)) → length (replies (answerOver m) lines) ≤ replyBytes * length lines
 unfolding replies
 all-short m [] = omega arith
 all-short m (line ∷ lines) =
@@ -50,10 +51,10 @@ few-last : (begun : List ℕ) → length (lastLine begun) ≤ 1
 few-last [] = omega arith
 few-last (b ∷ bs) = omega arith
 
-pub within-short : (m : ℕ) (begun bytes : List ℕ) → length (replies (answerOver m) (linesWithin begun bytes)) ≤ 321 * length bytes
+pub within-short : (m : ℕ) (begun bytes : List ℕ) → length (replies (answerOver m) (linesWithin begun bytes)) ≤ replyBytes * length bytes
 within-short m begun bytes = let a = all-short m (linesWithin begun bytes) in let f = few begun bytes in omega arith
 
-pub last-short : (m : ℕ) (begun : List ℕ) → length (replies (answerOver m) (lastLine begun)) ≤ 321
+pub last-short : (m : ℕ) (begun : List ℕ) → length (replies (answerOver m) (lastLine begun)) ≤ replyBytes
 last-short m begun = let a = all-short m (lastLine begun) in let f = few-last begun in omega arith
 
 -- a line that has begun, or another byte, is a line at the end
@@ -73,7 +74,7 @@ some-lines begun (b ∷ bs) h = by (eqb b 10) refl (some-lines (begun ++ (b ∷ 
 -- a reply has a byte, its newline
 some-reply : (answer : List ℕ → List ℕ) (line : List ℕ) → 0 < length (reply answer line)
 unfolding reply
-some-reply answer line = by (cond (leb (length line) 4096) (answer line) (refusedText (numberOf NoForm)))
+some-reply answer line = by (cond (leb (length line) lineBytes) (answer line) (refusedText (numberOf NoForm)))
   where
     by : (text : List ℕ) → 0 < length (text ++ (10 ∷ []))
     by text = let e = length-append text (10 ∷ []) in omega arith

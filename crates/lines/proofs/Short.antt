@@ -12,6 +12,7 @@ use Rattle.drill.specs.declared.Answer.{Answer}
 use Rattle.drill.specs.declared.Answer.the-variants.{Inside, Edge, Outside, Refused as refusedPoint}
 use Rattle.tubes.specs.declared.ClosingRadius.{ClosingRadius}
 use Rattle.moments.specs.declared.Moments.{Moments}
+use Rattle.answers.specs.Answers.{answerBytes}
 use Rattle.answers.proofs.Lengths.{figures-short, area-short, joined-short, ring-short, closing-short, moments-short, sound-short, inside-short, edge-short, outside-short, refused-short}
 use Rattle.forms.specs.declared.Form.{Form}
 use Rattle.forms.specs.declared.Form.the-variants.{Set as SetForm, Area as AreaForm, Join as JoinForm, Moments as MomentsForm, Check as CheckForm, Tubes as TubesForm, Closing as ClosingForm, Drill as DrillForm, NoForm}
@@ -22,41 +23,41 @@ use Rattle.figures.specs.declared.Figures.{Figures}
 use Rattle.figures.specs.declared.Area.{Area}
 use Rattle.lines.specs.Lines.{printedSet, printedArea, printedJoin, printedRing, printedClosing, printedMoments, printedCheck, printedDrill, setAnswer, areaAnswer, joinAnswer, ringAnswer, closingAnswer, momentsAnswer, checkAnswer, drillAnswer, answerTo, askedAnswer, answerOf}
 
-set-short : (v : Verdict) (f : Figures) → length (printedSet v f) ≤ 320
+set-short : (v : Verdict) (f : Figures) → length (printedSet v f) ≤ answerBytes
 set-short Accepted f = figures-short _ _ _
 set-short (Refused refusal) f = refused-short (numberOf refusal)
 
-geometry-short : (v : Verdict) (a : Area) → length (printedArea v a) ≤ 320
+geometry-short : (v : Verdict) (a : Area) → length (printedArea v a) ≤ answerBytes
 geometry-short Accepted a = area-short _ _ _
 geometry-short (Refused refusal) a = refused-short (numberOf refusal)
 
-join-short : (v : Verdict) (j : Joined) → length (printedJoin v j) ≤ 320
+join-short : (v : Verdict) (j : Joined) → length (printedJoin v j) ≤ answerBytes
 join-short Accepted j = joined-short _
 join-short (Refused refusal) j = refused-short (numberOf refusal)
 
-tubes-short : (v : Verdict) (j : Joined) → length (printedRing v j) ≤ 320
+tubes-short : (v : Verdict) (j : Joined) → length (printedRing v j) ≤ answerBytes
 tubes-short Accepted j = ring-short _
 tubes-short (Refused refusal) j = refused-short (numberOf refusal)
 
-radius-short : (v : Verdict) (c : ClosingRadius) → length (printedClosing v c) ≤ 320
+radius-short : (v : Verdict) (c : ClosingRadius) → length (printedClosing v c) ≤ answerBytes
 radius-short Accepted c = closing-short _
 radius-short (Refused refusal) c = refused-short (numberOf refusal)
 
-principal-short : (v : Verdict) (m : Moments) → length (printedMoments v m) ≤ 320
+principal-short : (v : Verdict) (m : Moments) → length (printedMoments v m) ≤ answerBytes
 principal-short Accepted m = moments-short _
 principal-short (Refused refusal) m = refused-short (numberOf refusal)
 
-check-short : (v : Verdict) → length (printedCheck v) ≤ 320
+check-short : (v : Verdict) → length (printedCheck v) ≤ answerBytes
 check-short Accepted = sound-short
 check-short (Refused refusal) = refused-short (numberOf refusal)
 
-place-short : (a : Answer) → length (printedDrill a) ≤ 320
+place-short : (a : Answer) → length (printedDrill a) ≤ answerBytes
 place-short (Inside nearest) = inside-short nearest
 place-short (Edge nearest) = edge-short nearest
 place-short (Outside nearest) = outside-short nearest
 place-short (refusedPoint refusal) = refused-short (numberOf refusal)
 
-by-form : (form : Form) (ns : List ℕ) (figures : List Float) (n : ℕ) → length (answerTo form ns figures n) ≤ 320
+by-form : (form : Form) (ns : List ℕ) (figures : List Float) (n : ℕ) → length (answerTo form ns figures n) ≤ answerBytes
 unfolding setAnswer areaAnswer joinAnswer ringAnswer closingAnswer momentsAnswer checkAnswer drillAnswer
 by-form SetForm ns figures n = let f = askedFigures (setRequestOf ns figures) figures n in set-short (f .verdict) f
 by-form AreaForm ns figures n = let a = askedArea (areaRequestOf ns figures) figures n in geometry-short (a .verdict) a
@@ -68,10 +69,10 @@ by-form ClosingForm ns figures n = let c = askedClosing ns figures in radius-sho
 by-form DrillForm ns figures n = place-short (askedDrill ns figures)
 by-form NoForm ns figures n = refused-short (numberOf noForm)
 
-pub answer-short : (line : List ℕ) (n : ℕ) → length (answerOf line n) ≤ 320
+pub answer-short : (line : List ℕ) (n : ℕ) → length (answerOf line n) ≤ answerBytes
 unfolding answerOf
 answer-short line n = by (lineAsked line)
   where
-    by : (a : Asked) → length (askedAnswer a n) ≤ 320
+    by : (a : Asked) → length (askedAnswer a n) ≤ answerBytes
     by (refused refusal) = refused-short (numberOf refusal)
     by (asked form ns figures) = by-form form ns figures n

@@ -1,7 +1,7 @@
 -- The answer to a line, and what it leaves in the lent scratch (docs/FORMS.md; document 01, "The card program" and "Refusal numbers").
 use mathlib.Core.List.{List, [], _∷_}
 use mathlib.Core.Path.{_≡_}
-use Prim.Native.Nat.{ℕ, _+_, _<_, _≤_}
+use Prim.Native.Nat.{ℕ, _+_, _<_}
 use lib.ListN.{length}
 use lib.Ieee.{Float}
 use Rattle.refusals.specs.declared.Refusal.{Refusal}
@@ -16,7 +16,7 @@ use Rattle.drill.specs.declared.Answer.{Answer}
 use Rattle.drill.specs.declared.Answer.the-variants.{Inside, Edge, Outside, Refused as refusedPoint}
 use Rattle.moments.specs.declared.Moments.{Moments}
 use Rattle.texts.specs.Appended.{Appended}
-use Rattle.answers.specs.Answers.{figuresText, areaText, joinedText, ringText, closingText, insideText, edgeText, outsideText, momentsText, soundText, refusedText}
+use Rattle.answers.specs.Answers.{answerBytes, AnswerFits, figuresText, areaText, joinedText, ringText, closingText, insideText, edgeText, outsideText, momentsText, soundText, refusedText}
 use Rattle.forms.specs.declared.Form.{Form}
 use Rattle.forms.specs.declared.Form.the-variants.{Set as SetForm, Area as AreaForm, Join as JoinForm, Moments as MomentsForm, Check as CheckForm, Tubes as TubesForm, Closing as ClosingForm, Drill as DrillForm, NoForm}
 use Rattle.forms.specs.Forms.{Asked, refused, asked, lineAsked}
@@ -152,9 +152,9 @@ requestAnswer ClosingForm verdict ns figures scratchLength = answerTo ClosingFor
 requestAnswer DrillForm verdict ns figures scratchLength = answerTo DrillForm ns figures scratchLength
 requestAnswer NoForm verdict ns figures scratchLength = printedRefusal (whyRefused verdict)
 
--- ---- what answering a line does, behind the n bytes at the start of `out`: where 320 more do not fit, nothing
+-- ---- what answering a line does, behind the n bytes at the start of `out`: where an answer may not fit, nothing
 
 pub record Answers (line : List ℕ) (scratch after : List Float) (out : List ℕ) (n : ℕ) (written : List ℕ) (r : ℕ) : Type 0 where
-  pub answer : n + 320 ≤ length out → Appended out n (answerOf line (length scratch)) written r
-  pub scratch-left : n + 320 ≤ length out → after ≡ scratchAfterLine line scratch
-  pub no-room : length out < n + 320 → (r ≡ n) × (written ≡ out) × (after ≡ scratch)
+  pub answer : AnswerFits out n → Appended out n (answerOf line (length scratch)) written r
+  pub scratch-left : AnswerFits out n → after ≡ scratchAfterLine line scratch
+  pub no-room : length out < n + answerBytes → (r ≡ n) × (written ≡ out) × (after ≡ scratch)

@@ -1,13 +1,15 @@
 // One line's answer: its form is read, the call made, and the answer printed (docs/FORMS.md; document 01, "The card program").
 //
-// No answer is longer than 320 bytes. Where the buffer has no room for so many, no call is made.
+// Where the buffer has no room for the bytes that an answer may have, no call is made.
 ghost use mathlib.Core.Path.{_≡_};
 ghost use Prim.Native.Nat.{_+_, _≤_};
 ghost use lib.Dec.{leb};
 ghost use lib.ListN.{length};
 ghost use Rattle.texts.specs.Appended.{Appended};
 ghost use Rattle.tokens.specs.Tokens.{lineBytes};
+ghost use Rattle.answers.specs.Answers.{answerBytes, AnswerFits};
 ghost use Rattle.lines.specs.Lines.{printedSet, printedArea, printedJoin, printedRing, printedClosing, printedDrill, printedMoments, printedCheck, printedRefusal, answerOf, scratchAfterForm, scratchAfterLine, whyRefused, requestAnswer, Answers};
+use answers::ANSWER_BYTES;
 use drill::Answer;
 use figures::Area;
 use figures::Figures;
@@ -24,7 +26,7 @@ use tubes::ClosingRadius;
 const SHORT_LINE: usize = 512;
 
 fn put_refusal(out: &mut [u8], n: usize, refusal: Refusal) -> usize
-    requires { ⌜ n + 320 ≤ length (now out) ⌝ }
+    requires { ⌜ AnswerFits (now out) n ⌝ }
     ensures { λ r. ⌜ Appended (now (out .entry)) n (printedRefusal refusal) (now (out .exit)) r ⌝ }
 {
     answers::put_refused(out, n, refusals::number(refusal) as u64)
@@ -32,7 +34,7 @@ fn put_refusal(out: &mut [u8], n: usize, refusal: Refusal) -> usize
 
 // The answer to a set, by its verdict; the next seven likewise.
 fn put_set(out: &mut [u8], n: usize, f: Figures) -> usize
-    requires { ⌜ n + 320 ≤ length (now out) ⌝ }
+    requires { ⌜ AnswerFits (now out) n ⌝ }
     ensures { λ r. ⌜ Appended (now (out .entry)) n (printedSet (f .verdict) f) (now (out .exit)) r ⌝ }
 {
     let verdict = f.verdict;
@@ -47,7 +49,7 @@ fn put_set(out: &mut [u8], n: usize, f: Figures) -> usize
 }
 
 fn put_area(out: &mut [u8], n: usize, a: Area) -> usize
-    requires { ⌜ n + 320 ≤ length (now out) ⌝ }
+    requires { ⌜ AnswerFits (now out) n ⌝ }
     ensures { λ r. ⌜ Appended (now (out .entry)) n (printedArea (a .verdict) a) (now (out .exit)) r ⌝ }
 {
     let verdict = a.verdict;
@@ -61,7 +63,7 @@ fn put_area(out: &mut [u8], n: usize, a: Area) -> usize
 }
 
 fn put_joined(out: &mut [u8], n: usize, joined: Joined) -> usize
-    requires { ⌜ n + 320 ≤ length (now out) ⌝ }
+    requires { ⌜ AnswerFits (now out) n ⌝ }
     ensures { λ r. ⌜ Appended (now (out .entry)) n (printedJoin (joined .verdict) joined) (now (out .exit)) r ⌝ }
 {
     let verdict = joined.verdict;
@@ -76,7 +78,7 @@ fn put_joined(out: &mut [u8], n: usize, joined: Joined) -> usize
 }
 
 fn put_ring(out: &mut [u8], n: usize, joined: Joined) -> usize
-    requires { ⌜ n + 320 ≤ length (now out) ⌝ }
+    requires { ⌜ AnswerFits (now out) n ⌝ }
     ensures { λ r. ⌜ Appended (now (out .entry)) n (printedRing (joined .verdict) joined) (now (out .exit)) r ⌝ }
 {
     let verdict = joined.verdict;
@@ -91,7 +93,7 @@ fn put_ring(out: &mut [u8], n: usize, joined: Joined) -> usize
 }
 
 fn put_closing(out: &mut [u8], n: usize, found: ClosingRadius) -> usize
-    requires { ⌜ n + 320 ≤ length (now out) ⌝ }
+    requires { ⌜ AnswerFits (now out) n ⌝ }
     ensures { λ r. ⌜ Appended (now (out .entry)) n (printedClosing (found .verdict) found) (now (out .exit)) r ⌝ }
 {
     let verdict = found.verdict;
@@ -105,7 +107,7 @@ fn put_closing(out: &mut [u8], n: usize, found: ClosingRadius) -> usize
 }
 
 fn put_drilled(out: &mut [u8], n: usize, found: Answer) -> usize
-    requires { ⌜ n + 320 ≤ length (now out) ⌝ }
+    requires { ⌜ AnswerFits (now out) n ⌝ }
     ensures { λ r. ⌜ Appended (now (out .entry)) n (printedDrill found) (now (out .exit)) r ⌝ }
 {
     match found {
@@ -117,7 +119,7 @@ fn put_drilled(out: &mut [u8], n: usize, found: Answer) -> usize
 }
 
 fn put_moments(out: &mut [u8], n: usize, m: Moments) -> usize
-    requires { ⌜ n + 320 ≤ length (now out) ⌝ }
+    requires { ⌜ AnswerFits (now out) n ⌝ }
     ensures { λ r. ⌜ Appended (now (out .entry)) n (printedMoments (m .verdict) m) (now (out .exit)) r ⌝ }
 {
     let verdict = m.verdict;
@@ -129,7 +131,7 @@ fn put_moments(out: &mut [u8], n: usize, m: Moments) -> usize
 }
 
 fn put_checked(out: &mut [u8], n: usize, verdict: Verdict) -> usize
-    requires { ⌜ n + 320 ≤ length (now out) ⌝ }
+    requires { ⌜ AnswerFits (now out) n ⌝ }
     ensures { λ r. ⌜ Appended (now (out .entry)) n (printedCheck verdict) (now (out .exit)) r ⌝ }
 {
     match verdict {
@@ -155,8 +157,10 @@ fn answer_request(
     out: &mut [u8],
     n: usize,
 ) -> usize
-    requires { ⌜ n + 320 ≤ length (now out) ⌝ }
-    ensures { λ r. ⌜ Appended (now (out .entry)) n (requestAnswer (q .form) (q .verdict) (q .numbers) (now (values .entry)) (length (now (scratch .entry)))) (now (out .exit)) r ⌝ }
+    requires { ⌜ AnswerFits (now out) n ⌝ }
+    ensures { λ r. ⌜ Appended (now (out .entry)) n
+        (requestAnswer (q .form) (q .verdict) (q .numbers) (now (values .entry)) (length (now (scratch .entry))))
+        (now (out .exit)) r ⌝ }
     ensures { λ _. ⌜ now (scratch .exit) ≡ scratchAfterForm (q .form) (q .numbers) (now (values .entry)) (now (scratch .entry)) ⌝ }
 {
     let form = q.form;
@@ -176,9 +180,9 @@ fn answer_request(
 
 // Whether n bytes and an answer fit.
 fn has_room(len: usize, n: usize) -> bool
-    ensures { λ r. ⌜ r ≡ leb (n + 320) len ⌝ }
+    ensures { λ r. ⌜ r ≡ leb (n + answerBytes) len ⌝ }
 {
-    320 <= len && n <= len - 320
+    ANSWER_BYTES <= len && n <= len - ANSWER_BYTES
 }
 
 // The answer to a line, whose figures go to the start of values.
@@ -189,7 +193,7 @@ fn answer_read(
     out: &mut [u8],
     n: usize,
 ) -> usize
-    requires { ⌜ (n + 320 ≤ length (now out)) × (length (now line) ≤ lineBytes → length (now line) ≤ length (now values)) ⌝ }
+    requires { ⌜ AnswerFits (now out) n × (length (now line) ≤ lineBytes → length (now line) ≤ length (now values)) ⌝ }
     ensures { λ r. ⌜ Appended (now (out .entry)) n (answerOf (now (line .entry)) (length (now (scratch .entry)))) (now (out .exit)) r ⌝ }
     ensures { λ _. ⌜ now (scratch .exit) ≡ scratchAfterLine (now (line .entry)) (now (scratch .entry)) ⌝ }
 {

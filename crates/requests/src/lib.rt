@@ -138,7 +138,8 @@ fn no_figures() -> Figures
 
 // A set's figures over a lent scratch.
 pub fn set_figures(set: NumberedSet, points: &[f64], limit: usize, scratch: &mut [f64]) -> Figures
-    ensures { λ r. ⌜ (r ≡ numberedFigures set (now (points .entry)) limit (length (now (scratch .entry)))) × (now (scratch .exit) ≡ numberedScratch set (now (points .entry)) limit (now (scratch .entry))) ⌝ }
+    ensures { λ r. ⌜ (r ≡ numberedFigures set (now (points .entry)) limit (length (now (scratch .entry))))
+        × (now (scratch .exit) ≡ numberedScratch set (now (points .entry)) limit (now (scratch .entry))) ⌝ }
 {
     match set {
         NumberedSet::Known(set) => figures::mass_properties(set, points, limit, scratch),
@@ -167,7 +168,8 @@ pub fn area_figures(
     limit: usize,
     scratch: &mut [f64],
 ) -> Area
-    ensures { λ r. ⌜ (r ≡ numberedArea planform (now (points .entry)) limit (length (now (scratch .entry)))) × (now (scratch .exit) ≡ numberedAreaScratch planform (now (points .entry)) limit (now (scratch .entry))) ⌝ }
+    ensures { λ r. ⌜ (r ≡ numberedArea planform (now (points .entry)) limit (length (now (scratch .entry))))
+        × (now (scratch .exit) ≡ numberedAreaScratch planform (now (points .entry)) limit (now (scratch .entry))) ⌝ }
 {
     match planform {
         NumberedPlanform::Known(planform) => figures::geometry(planform, points, limit, scratch),
@@ -189,7 +191,8 @@ pub fn listed_chords(
     h: f64,
     ends: &mut [f64],
 ) -> ChordList
-    ensures { λ r. ⌜ (r ≡ numberedChords planform (now (points .entry)) h (length (now (ends .entry)))) × (now (ends .exit) ≡ numberedEnds planform (now (points .entry)) h (now (ends .entry))) ⌝ }
+    ensures { λ r. ⌜ (r ≡ numberedChords planform (now (points .entry)) h (length (now (ends .entry))))
+        × (now (ends .exit) ≡ numberedEnds planform (now (points .entry)) h (now (ends .entry))) ⌝ }
 {
     match planform {
         NumberedPlanform::Known(planform) => planform_chords::chords_at(planform, points, h, ends),
@@ -258,8 +261,10 @@ pub fn body_verdict(numbers: &[f64]) -> Verdict
 
 // The figures of a set that a line asks, over a lent scratch.
 pub fn asked_figures(q: Request, values: &[f64], scratch: &mut [f64]) -> Figures
-    ensures { λ r. ⌜ r ≡ askedFigures (setRequestOf (q .numbers) (now (values .entry))) (now (values .entry)) (length (now (scratch .entry))) ⌝ }
-    ensures { λ _. ⌜ now (scratch .exit) ≡ askedScratch (setRequestOf (q .numbers) (now (values .entry))) (now (values .entry)) (now (scratch .entry)) ⌝ }
+    ensures { λ r. ⌜ r ≡ askedFigures (setRequestOf (q .numbers) (now (values .entry)))
+        (now (values .entry)) (length (now (scratch .entry))) ⌝ }
+    ensures { λ _. ⌜ now (scratch .exit) ≡ askedScratch (setRequestOf (q .numbers) (now (values .entry)))
+        (now (values .entry)) (now (scratch .entry)) ⌝ }
 {
     let asked = set_request(q, values);
     let set = asked.set;
@@ -270,7 +275,8 @@ pub fn asked_figures(q: Request, values: &[f64], scratch: &mut [f64]) -> Figures
 // The area of a planform that a line asks, likewise.
 pub fn asked_area(q: Request, values: &[f64], scratch: &mut [f64]) -> Area
     ensures { λ r. ⌜ r ≡ askedArea (areaRequestOf (q .numbers) (now (values .entry))) (now (values .entry)) (length (now (scratch .entry))) ⌝ }
-    ensures { λ _. ⌜ now (scratch .exit) ≡ askedAreaScratch (areaRequestOf (q .numbers) (now (values .entry))) (now (values .entry)) (now (scratch .entry)) ⌝ }
+    ensures { λ _. ⌜ now (scratch .exit) ≡ askedAreaScratch (areaRequestOf (q .numbers) (now (values .entry)))
+        (now (values .entry)) (now (scratch .entry)) ⌝ }
 {
     let asked = area_request(q, values);
     let planform = asked.planform;

@@ -167,7 +167,9 @@ fn take_no_figure(c: Cursor, token: &[u8], to: usize) -> Cursor
 // A token of the line, found at a place, against one of a template: `F` takes a figure.
 fn take_word(line: &[u8], c: Cursor, wanted: &[u8], found: Found, values: &mut [f64]) -> Cursor
     requires { ⌜ Room (now line) (now values) c × IsWordAt (now line) c found ⌝ }
-    ensures { λ r. ⌜ ReadsOn (now (line .entry)) (now (values .entry)) (now (values .exit)) c r (takeWord (now (wanted .entry)) (part (now (line .entry)) (found .from) (found .to)) (tokens (drop (found .to) (now (line .entry)))) (takenBefore (now (values .entry)) c)) ⌝ }
+    ensures { λ r. ⌜ ReadsOn (now (line .entry)) (now (values .entry)) (now (values .exit)) c r
+        (takeWord (now (wanted .entry)) (part (now (line .entry)) (found .from) (found .to))
+        (tokens (drop (found .to) (now (line .entry)))) (takenBefore (now (values .entry)) c)) ⌝ }
 {
     let from = found.from;
     let to = found.to;

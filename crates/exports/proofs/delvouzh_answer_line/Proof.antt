@@ -1,5 +1,6 @@
 -- `exports::delvouzh_answer_line` meets its contract: there is no room, or the answer and its length are written. Assumes nothing.
 use borrow.Author.Needs.{needs}
+use Rattle.answers.specs.Answers.{answerBytes}
 use Rattle.exports.proofs.Lists.{one-written}
 use Rattle.exports.proofs.Calls.{few-figures, few-counts, line-refused, line-written}
 use Rattle.exports.proofs.delvouzh_answer_line.Statement.{statement}
@@ -8,12 +9,12 @@ use Rattle.exports.proofs.delvouzh_answer_line.Tie as tie
 returns : tie.Need-returns
 returns c =
     let a = c .before .before .before .before .before .args in
-    line-refused _ _ _ _ (few-figures 320 (a .answer .now) 1 (a .written .now) (c .if1 .taken))
+    line-refused _ _ _ _ (few-figures answerBytes (a .answer .now) 1 (a .written .now) (c .if1 .taken))
 
 returns-2 : tie.Need-returns-2
 returns-2 c =
     let a = c .before .before .before .before .before .before .args in
-    line-refused _ _ _ _ (few-counts 320 (a .answer .now) 1 (a .written .now) (c .before .if1 .left) (c .if2 .taken))
+    line-refused _ _ _ _ (few-counts answerBytes (a .answer .now) 1 (a .written .now) (c .before .if1 .left) (c .if2 .taken))
 
 answer-line-requires : tie.Need-answer-line-requires
 answer-line-requires c κs = search needs
