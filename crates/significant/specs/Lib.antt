@@ -1,0 +1,2 @@
+pub mod Significant
+pub mod Digits
