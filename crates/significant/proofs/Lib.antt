@@ -1,3 +1,4 @@
 pub mod Values
 pub mod Rounding
 pub mod Exact
+pub mod Laws

@@ -141,6 +141,23 @@ unfolding digitsUpTo
 none-of zero = refl
 none-of (suc m) = rw (lt-leb (10 ^ m) 0 (ten-pos m)) (none-of m)
 
+most-digits : (m u : ℕ) → digitsUpTo m u ≤ m
+unfolding digitsUpTo
+most-digits zero u = omega arith
+most-digits (suc m) u = by (leb (10 ^ m) u) (most-digits m u)
+  where
+    by : (t : Bool) → digitsUpTo m u ≤ m → cond t (suc m) (digitsUpTo m u) ≤ suc m
+    by true h = omega arith
+    by false h = omega (arith, h)
+
+pub place-most : (n u : ℕ) → placeOf n u ≤ 2101
+unfolding placeOf digitCount
+place-most n u = by (eqb (firstDigits n u) (10 ^ n))
+  where
+    by : (t : Bool) → cond t (suc (digitsUpTo 2100 u - n)) (digitsUpTo 2100 u - n) ≤ 2101
+    by true = let h = most-digits 2100 u in omega (arith, h)
+    by false = let h = most-digits 2100 u in omega (arith, h)
+
 -- ---- no units
 
 first-of-none : (n : ℕ) → firstDigits n 0 ≡ 0
@@ -186,8 +203,8 @@ module _ (l : List ℕ) (n shift c t : ℕ) (each : Digits l) (o : 1 ≤ n) (b :
       let g : value (drop (from - 1) l) ≡ getD l (from - 1) 0 + 10 * d = f ∙ ap (λ (x : ℕ). getD l (from - 1) 0 + 10 * x) a in
       let p : 10 ^ from ≡ 10 * 10 ^ (from - 1) = ap (λ (j : ℕ). 10 ^ j) (let z : from ≡ suc (from - 1) = omega (arith, m) in z) ∙ pow-succ' 10 (from - 1) in
       let q : 10 ^ (from - 1) * value (drop (from - 1) l) ≡ getD l (from - 1) 0 * 10 ^ (from - 1) + d * 10 ^ from =
-            ap (λ (x : ℕ). 10 ^ (from - 1) * x) g ∙ mul-comm (10 ^ (from - 1)) (getD l (from - 1) 0 + 10 * d) ∙ add-mul (getD l (from - 1) 0) (10 * d) (10 ^ (from - 1))
-            ∙ ap (λ (x : ℕ). getD l (from - 1) 0 * 10 ^ (from - 1) + x) (ap (λ (x : ℕ). x * 10 ^ (from - 1)) (mul-comm 10 d) ∙ mul-assoc d 10 (10 ^ (from - 1)) ∙ ap (λ (x : ℕ). d * x) (sym p)) in
+      ap (λ (x : ℕ). 10 ^ (from - 1) * x) g ∙ mul-comm (10 ^ (from - 1)) (getD l (from - 1) 0 + 10 * d) ∙ add-mul (getD l (from - 1) 0) (10 * d) (10 ^ (from - 1))
+      ∙ ap (λ (x : ℕ). getD l (from - 1) 0 * 10 ^ (from - 1) + x) (ap (λ (x : ℕ). x * 10 ^ (from - 1)) (mul-comm 10 d) ∙ mul-assoc d 10 (10 ^ (from - 1)) ∙ ap (λ (x : ℕ). d * x) (sym p)) in
       omega (arith, e, q)
     where
       above : value (drop from l) ≡ d
@@ -217,11 +234,11 @@ module _ (l : List ℕ) (n shift c t : ℕ) (each : Digits l) (o : 1 ≤ n) (b :
         let w = top .within in
         let k = c + shift - 16 in
         let low-end : 10 ^ (k - 1) * 10 ^ 16 ≤ u * 10 ^ 16 =
-              subst (λ (x : ℕ). x ≤ u * 10 ^ 16) (sym (pow-add 10 (c - 1) shift) ∙ ap (λ (j : ℕ). 10 ^ j) (let z : c - 1 + shift ≡ k - 1 + 16 = omega (arith, m .0, m .1) in z) ∙ pow-add 10 (k - 1) 16)
-              (subst (λ (x : ℕ). 10 ^ (c - 1) * 10 ^ shift ≤ x) (sym e) (mul-le-mul-right (10 ^ shift) (top-least l c top h))) in
+        subst (λ (x : ℕ). x ≤ u * 10 ^ 16) (sym (pow-add 10 (c - 1) shift) ∙ ap (λ (j : ℕ). 10 ^ j) (let z : c - 1 + shift ≡ k - 1 + 16 = omega (arith, m .0, m .1) in z) ∙ pow-add 10 (k - 1) 16)
+        (subst (λ (x : ℕ). 10 ^ (c - 1) * 10 ^ shift ≤ x) (sym e) (mul-le-mul-right (10 ^ shift) (top-least l c top h))) in
         let high-end : u * 10 ^ 16 < 10 ^ k * 10 ^ 16 =
-              subst (λ (x : ℕ). u * 10 ^ 16 < x) (sym (pow-add 10 c shift) ∙ ap (λ (j : ℕ). 10 ^ j) (let z : c + shift ≡ k + 16 = omega (arith, m .1) in z) ∙ pow-add 10 k 16)
-              (subst (λ (x : ℕ). x < 10 ^ c * 10 ^ shift) (sym e) (mul-lt-mul-of-pos-right (top-most l c each top) (ten-pos shift))) in
+        subst (λ (x : ℕ). u * 10 ^ 16 < x) (sym (pow-add 10 c shift) ∙ ap (λ (j : ℕ). 10 ^ j) (let z : c + shift ≡ k + 16 = omega (arith, m .1) in z) ∙ pow-add 10 k 16)
+        (subst (λ (x : ℕ). x < 10 ^ c * 10 ^ shift) (sym e) (mul-lt-mul-of-pos-right (top-most l c each top) (ten-pos shift))) in
         digit-count k u (omega (arith, m .1)) (omega (arith, w, room)) (le-of-mul-le-mul-right low-end (ten-pos 16)) (lt-of-mul-lt-mul-right (10 ^ 16) high-end)
 
     place-is : firstPlace n u ≡ from + shift - 16

@@ -1,2 +1,3 @@
 pub mod Significant
 pub mod Digits
+pub mod Printed

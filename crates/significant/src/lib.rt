@@ -3,6 +3,7 @@
 // A unit is 10^-1074. The smallest positive f64, 2^-1074, is 5^1074 units, so every finite f64 is a whole number of them, m * 2^j * 5^1074 with
 // an m below 2^53: m * 5^(1074 - j) * 10^j, or m * 2^(j - 1074) * 10^1074. The digits of m * 5^k or m * 2^k are worked out, all of them, and the
 // first few are rounded by the rest.
+ghost use mathlib.Core.List.{_++_};
 ghost use mathlib.Core.Path.{_≡_};
 ghost use Prim.Native.Nat.{_+_, _-_, _*_, _^_, _≤_, _<_};
 ghost use lib.ListN.{length};
@@ -11,6 +12,9 @@ ghost use lib.Dec.{T, eqb};
 ghost use Rattle.floats.specs.Floats.{isFinite};
 ghost use Rattle.floats.specs.Operations.{bits};
 ghost use Rattle.significant.specs.Significant.{decimalUnitsOf, digitsOf, placeOf};
+ghost use Rattle.texts.specs.Appended.{Appended};
+ghost use Rattle.tokens.specs.Text.{text};
+ghost use Rattle.significant.specs.Printed.{pointed, fraction, exponentText, scientific, placed, written, magnitudeText, signText, decimalText};
 ghost use Rattle.significant.specs.Digits.{value, Digits, timesPlus, Top, Scales, nearestDigit, Enough, RoundsTo};
 
 // 2^52: the leading one of 53 binary digits, and the weight of a bit pattern's exponent field.
@@ -118,7 +122,6 @@ fn number(digits: &[u8]) -> u64
     d
 }
 
-
 // The first digits to the nearest whole number of their last place, a tie to the even one: by the digit behind them, and by whether there is more
 // behind that.
 fn to_nearest(d: u64, next: u8, more: bool) -> u64
@@ -173,14 +176,7 @@ fn rounded(digits: &[u8], n: usize, shift: usize) -> Significant
 }
 
 // m * base^k * 10^shift units, to n digits, worked out in the digits that are lent.
-fn spelled(
-    digits: &mut [u8],
-    m: u64,
-    base: u64,
-    k: usize,
-    n: usize,
-    shift: usize,
-) -> Significant
+fn spelled(digits: &mut [u8], m: u64, base: u64, k: usize, n: usize, shift: usize) -> Significant
     requires { ⌜ (m < 2 ^ 53) × (0 < base) × (base ≤ 5) × (1 ≤ n) × (n ≤ 16) ⌝ }
     requires { ⌜ (length (now digits) ≡ 33 + k) × (k + shift ≤ 2083) × (10 ^ 16 ≤ base ^ k * 10 ^ shift) ⌝ }
     ensures { λ r. ⌜ (r .digits ≡ digitsOf n (m * base ^ k * 10 ^ shift)) × (r .place ≡ placeOf n (m * base ^ k * 10 ^ shift)) ⌝ }
@@ -227,4 +223,129 @@ pub fn significant_digits(x: f64, n: usize) -> Significant
         return of_bits(floats::to_bits(x), n);
     }
     worked(0, 0, n)
+}
+
+// Three texts, one behind the other, appended to the `at` bytes at the start of out.
+fn put_three(out: &mut [u8], at: usize, a: &[u8], b: &[u8], c: &[u8]) -> usize
+    requires { ⌜ at + (length (now a) + (length (now b) + length (now c))) ≤ length (now out) ⌝ }
+    ensures { λ r. ⌜ Appended (now (out .entry)) at (now (a .entry) ++ (now (b .entry) ++ now (c .entry))) (now (out .exit)) r ⌝ }
+{
+    let first = texts::put_bytes(out, at, a);
+    let second = texts::put_bytes(out, first, b);
+    texts::put_bytes(out, second, c)
+}
+
+// Digits with a point behind the first i.
+fn put_pointed(out: &mut [u8], at: usize, ds: &[u8], i: usize) -> usize
+    requires { ⌜ (i ≤ length (now ds)) × (at + length (now ds) + 1 ≤ length (now out)) ⌝ }
+    ensures { λ r. ⌜ Appended (now (out .entry)) at (pointed (now (ds .entry)) i) (now (out .exit)) r ⌝ }
+{
+    put_three(out, at, &ds[..i], b".", &ds[i..])
+}
+
+// A point, z zeros and digits.
+fn put_fraction(out: &mut [u8], at: usize, ds: &[u8], z: usize) -> usize
+    requires { ⌜ (z ≤ 3) × (at + length (now ds) + 5 ≤ length (now out)) ⌝ }
+    ensures { λ r. ⌜ Appended (now (out .entry)) at (fraction (now (ds .entry)) z) (now (out .exit)) r ⌝ }
+{
+    let zeros = [48u8; 3];
+    put_three(out, at, b"0.", &zeros[..z], ds)
+}
+
+// The exponent of ten.
+fn put_exponent(out: &mut [u8], at: usize, w: usize) -> usize
+    requires { ⌜ at + 22 ≤ length (now out) ⌝ }
+    ensures { λ r. ⌜ Appended (now (out .entry)) at (exponentText w) (now (out .exit)) r ⌝ }
+{
+    if 1075 <= w {
+        let e = texts::put_bytes(out, at, b"e");
+        return counts::put_count(out, e, (w - 1075) as u64);
+    }
+    let minus = texts::put_bytes(out, at, b"e-");
+    counts::put_count(out, minus, (1075 - w) as u64)
+}
+
+// One digit, the point, the others, and the exponent of ten.
+fn put_scientific(out: &mut [u8], at: usize, ds: &[u8], w: usize) -> usize
+    requires { ⌜ (1 ≤ length (now ds)) × (at + length (now ds) + 23 ≤ length (now out)) ⌝ }
+    ensures { λ r. ⌜ Appended (now (out .entry)) at (scientific (now (ds .entry)) w) (now (out .exit)) r ⌝ }
+{
+    let end = put_pointed(out, at, ds, 1);
+    put_exponent(out, end, w)
+}
+
+// Digits of which w - 1074 stand before the point.
+fn put_placed(out: &mut [u8], at: usize, ds: &[u8], w: usize) -> usize
+    requires { ⌜ (1 ≤ length (now ds)) × (at + length (now ds) + 23 ≤ length (now out)) ⌝ }
+    ensures { λ r. ⌜ Appended (now (out .entry)) at (placed (now (ds .entry)) w) (now (out .exit)) r ⌝ }
+{
+    if w <= 1074 {
+        if 1072 <= w {
+            return put_fraction(out, at, ds, 1074 - w);
+        }
+        return put_scientific(out, at, ds, w);
+    }
+    if w - 1074 < ds.len() {
+        return put_pointed(out, at, ds, w - 1074);
+    }
+    put_scientific(out, at, ds, w)
+}
+
+// With an exponent where asked, else as it is shorter.
+fn put_written(out: &mut [u8], at: usize, ds: &[u8], w: usize, power: bool) -> usize
+    requires { ⌜ (1 ≤ length (now ds)) × (at + length (now ds) + 23 ≤ length (now out)) ⌝ }
+    ensures { λ r. ⌜ Appended (now (out .entry)) at (written power (now (ds .entry)) w) (now (out .exit)) r ⌝ }
+{
+    if power {
+        return put_scientific(out, at, ds, w);
+    }
+    put_placed(out, at, ds, w)
+}
+
+// x * 10^scale, its sign left out.
+fn put_magnitude(out: &mut [u8], at: usize, x: f64, n: usize, scale: usize, power: bool) -> usize
+    requires { ⌜ (1 ≤ n) × (n ≤ 16) × (scale ≤ 16) × (at + 43 ≤ length (now out)) ⌝ }
+    ensures { λ r. ⌜ Appended (now (out .entry)) at (magnitudeText n scale power x) (now (out .exit)) r ⌝ }
+{
+    let s = significant_digits(x, n);
+    let mut ds = [0u8; 20];
+    let k = counts::put_count(&mut ds, 0, s.digits);
+    put_written(out, at, &ds[..k], n + s.place + scale, power)
+}
+
+fn put_sign(out: &mut [u8], at: usize, x: f64) -> usize
+    requires { ⌜ at + 1 ≤ length (now out) ⌝ }
+    ensures { λ r. ⌜ Appended (now (out .entry)) at (signText x) (now (out .exit)) r ⌝ }
+{
+    if x < 0.0 {
+        return texts::put_bytes(out, at, b"-");
+    }
+    at
+}
+
+// x, which is no NaN and not zero.
+fn put_signed(out: &mut [u8], at: usize, x: f64, n: usize, scale: usize, power: bool) -> usize
+    requires { ⌜ (1 ≤ n) × (n ≤ 16) × (scale ≤ 16) × (at + 44 ≤ length (now out)) ⌝ }
+    ensures { λ r. ⌜ Appended (now (out .entry)) at (signText x ++ cond (isFinite x) (magnitudeText n scale power x) (text "infinite")) (now (out .exit)) r ⌝ }
+{
+    let start = put_sign(out, at, x);
+    if floats::is_finite(x) {
+        return put_magnitude(out, start, x, n, scale, power);
+    }
+    texts::put_bytes(out, start, b"infinite")
+}
+
+// Appends x * 10^scale to the `at` bytes at the start of out, to n significant digits, with an exponent always or where it is shorter, and answers
+// how many bytes there are then.
+pub fn put_decimal(out: &mut [u8], at: usize, x: f64, n: usize, scale: usize, power: bool) -> usize
+    requires { ⌜ (1 ≤ n) × (n ≤ 16) × (scale ≤ 16) × (at + 44 ≤ length (now out)) ⌝ }
+    ensures { λ r. ⌜ Appended (now (out .entry)) at (decimalText n scale power x) (now (out .exit)) r ⌝ }
+{
+    if x != x {
+        return texts::put_bytes(out, at, b"no number");
+    }
+    if x == 0.0 {
+        return texts::put_bytes(out, at, b"0");
+    }
+    put_signed(out, at, x, n, scale, power)
 }

@@ -4,3 +4,4 @@ pub mod Shapes
 pub mod Checks
 pub mod Drilling
 pub mod Tubes
+pub mod Decimals

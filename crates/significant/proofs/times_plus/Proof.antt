@@ -43,16 +43,16 @@ next by plus before digits carry i d t r q v b h o e f g k =
       same = omega (arith, u, ls);
       within = omega (arith, ls);
       done =
-        v .done
-        ∙ ap (λ (x : List ℕ). take i digits ++ timesPlus by carry x) (drop-cons digits i 0 h)
-        ∙ ap (λ (x : ℕ). take i digits ++ ((x * by + carry) % 10 ∷ timesPlus by ((x * by + carry) / 10) (drop (suc i) digits))) (sym e)
-        ∙ ap (λ (x : ℕ). take i digits ++ (x % 10 ∷ timesPlus by (x / 10) (drop (suc i) digits))) (sym f)
-        ∙ ap (λ (x : ℕ). take i digits ++ (x ∷ timesPlus by (t / 10) (drop (suc i) digits))) (sym g)
-        ∙ ap (λ (x : ℕ). take i digits ++ (r ∷ timesPlus by x (drop (suc i) digits))) (sym k)
-        ∙ sym (append-assoc (take i digits) (r ∷ []) (timesPlus by q (drop (suc i) digits)))
-        ∙ ap (λ (x : List ℕ). x ++ timesPlus by q (drop (suc i) digits)) (sym (take-suc-set digits i r h))
-        ∙ ap (λ (x : List ℕ). take (suc i) (set digits i r) ++ timesPlus by q x) (sym (drop-set-lt (suc i) digits i r (let z : i < suc i = omega arith in z)))
-        ∙ ap (λ (j : ℕ). take j (set digits i r) ++ timesPlus by q (drop j (set digits i r))) (sym (add-one i));
+          v .done
+          ∙ ap (λ (x : List ℕ). take i digits ++ timesPlus by carry x) (drop-cons digits i 0 h)
+          ∙ ap (λ (x : ℕ). take i digits ++ ((x * by + carry) % 10 ∷ timesPlus by ((x * by + carry) / 10) (drop (suc i) digits))) (sym e)
+          ∙ ap (λ (x : ℕ). take i digits ++ (x % 10 ∷ timesPlus by (x / 10) (drop (suc i) digits))) (sym f)
+          ∙ ap (λ (x : ℕ). take i digits ++ (x ∷ timesPlus by (t / 10) (drop (suc i) digits))) (sym g)
+          ∙ ap (λ (x : ℕ). take i digits ++ (r ∷ timesPlus by x (drop (suc i) digits))) (sym k)
+          ∙ sym (append-assoc (take i digits) (r ∷ []) (timesPlus by q (drop (suc i) digits)))
+          ∙ ap (λ (x : List ℕ). x ++ timesPlus by q (drop (suc i) digits)) (sym (take-suc-set digits i r h))
+          ∙ ap (λ (x : List ℕ). take (suc i) (set digits i r) ++ timesPlus by q x) (sym (drop-set-lt (suc i) digits i r (let z : i < suc i = omega arith in z)))
+          ∙ ap (λ (j : ℕ). take j (set digits i r) ++ timesPlus by q (drop j (set digits i r))) (sym (add-one i));
       few = omega (arith, p, w, f, k);
     }
 
