@@ -12,7 +12,7 @@
  *     24 no corners: an ellipse        25 not whole steps of 2^-20 m
  *
  * It writes its figures and counts over the start of the lent arrays; a refusal writes zero figures, but of chords none. Two counts are the values of a
- * refusal: the field of 4 and 9, the two edges of 7, the component of 13, the case of 17 (a to e as 0 to 4); else both are 0.
+ * refusal: the field of 4 and 9, the two edges of 7, the component of 13, the case of 17 (a to e as 0 to 4, without c); else both are 0.
  * Fields: 1 root chord, 2 tip chord, 3 span, 4 sweep, 5 x, 6 y, 7 thickness, 8 tab height, 9 tab length, 10 tab offset,
  * 11 body radius, 12 cant, 13 base angle, 14 tube length, 15 outer radius, 17 drill x, 18 drill height. Edges and components are counted from 0.
  *
@@ -60,8 +60,8 @@ extern "C" {
 #define DELVOUZH_EDGE 2
 #define DELVOUZH_OUTSIDE 3
 
-/* Numbers that a call writes: a body is its mass, centre x, y, z, and inertia tensor in three columns. */
-#define DELVOUZH_BODY 13
+/* Numbers that a call writes: a body is its mass, centre x, y, z, and inertia tensor xx, yy, zz, xy, xz, yz. */
+#define DELVOUZH_BODY 10
 #define DELVOUZH_AREA 3
 #define DELVOUZH_CHORDS 64 /* the ends of 32 chords: an outline of 64 points has no more */
 #define DELVOUZH_CHORD_COUNTS 3
@@ -114,11 +114,11 @@ size_t delvouzh_tube_mass_properties(size_t count, size_t density, const double 
 size_t delvouzh_closing_radius(size_t count, double body_radius_m, double *radius, size_t radius_len, size_t *values,
                                size_t values_len);
 
-/* 1 to 32 bodies, 13 numbers each, one after another, joined into one. Any other count of numbers is 3; a `body` that is too short is 18.
+/* 1 to 32 bodies, 10 numbers each, one after another, joined into one. Any other count of numbers is 3; a `body` that is too short is 18.
  * No other number is given. */
 size_t delvouzh_combine(const double *bodies, size_t bodies_len, double *body, size_t body_len);
 
-/* The principal moments of a tensor, nine numbers in three columns, ascending. Writes two values of a refusal. */
+/* The principal moments of a tensor, six numbers xx, yy, zz, xy, xz, yz, ascending. Writes two values of a refusal. */
 size_t delvouzh_principal_moments(const double *tensor, size_t tensor_len, double *moments, size_t moments_len,
                                   size_t *values, size_t values_len);
 

@@ -37,12 +37,12 @@ unsafe extern "C" {
 /// The library's answer: the refusal's number, 0 for none, its first value, the body, and how many intervals and samples.
 struct Answer {
     number: usize,
-    body: [f64; 13],
+    body: [f64; 10],
     counts: [usize; 4],
 }
 
 fn proved(set: &Set, scratch: &mut [f64], limit: usize) -> Answer {
-    let mut body = [0.0; 13];
+    let mut body = [0.0; 10];
     let mut counts = [0; 4];
     let number = unsafe {
         delvouzh_mass_properties(
@@ -81,7 +81,7 @@ fn agree(answer: &Answer, rust: &Result<MassProperties, DesignError>) -> bool {
         Ok(found) => {
             let c = found.cg_m;
             let centre = [found.mass_kg, c.x, c.y, c.z];
-            let inertia = found.inertia_kg_m2.to_cols_array();
+            let inertia = found.inertia_kg_m2.six();
             let figures = centre.iter().chain(&inertia);
             answer.number == 0 && figures.zip(&answer.body).all(|(&a, &b)| same(a, b))
         }

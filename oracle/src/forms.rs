@@ -10,7 +10,7 @@ pub enum Form {
     Set(Set),
     Area { limit: u64, planform: Planform },
     Join(Vec<[f64; 4]>),
-    Moments([f64; 9]),
+    Moments([f64; 6]),
     Check(Body),
     Tubes(Tubes),
     Closing { count: u64, radius: f64 },
@@ -69,7 +69,7 @@ pub enum Density {
 pub struct Body {
     pub mass: f64,
     pub centre: [f64; 3],
-    pub inertia: [f64; 9],
+    pub inertia: [f64; 6],
 }
 
 #[derive(Clone, Copy, PartialEq)]

@@ -732,7 +732,7 @@ fn table() -> Vec<String> {
     };
     let body = |mass: f64, x: f64, diagonal: [f64; 3]| {
         let [a, b, c] = diagonal;
-        let tensor = [a, 0.0, 0.0, 0.0, b, 0.0, 0.0, 0.0, c];
+        let tensor = [a, b, c, 0.0, 0.0, 0.0];
         check_line(mass, [x, 0.0, 0.0], &tensor)
     };
     let ring = TubesDraft {
@@ -785,14 +785,14 @@ fn table() -> Vec<String> {
         body(1.0, f64::NAN, [1.0, 1.0, 1.0]),
         body(1.0, 0.0, [1.0, 1.0, f64::INFINITY]),
         body(0.0, 0.0, [1.0, 1.0, 1.0]),
-        check_line(1.0, [0.0; 3], &[1.0, 0.5, 0.0, 0.0, 1.0, 0.0, 0.0, 0.0, 1.0]),
+        check_line(1.0, [0.0; 3], &[1.0, 1.0, 1.0, 0.5, 0.0, 0.0]),
         body(1.0, 0.0, [1.0, -1.0, 1.0]),
         body(1.0, 0.0, [1.0, 1.0, 3.0]),
         body(1.0, 0.0, [1.0, 2.0, 3.0]),
         "(set".to_owned(),
         "(join)".to_owned(),
         join_line(&[[1.0, 0.0, 0.0, 0.0], [1.0, 2.0, 0.0, 0.0]]),
-        moments_line(&[2.0, 0.0, 0.0, 0.0, 0.0, 0.0, 0.0, 0.0, 2.0]),
+        moments_line(&[2.0, 0.0, 2.0, 0.0, 0.0, 0.0]),
         ring.line(),
         with_wall(0.0),
         with_wall(ring.outer),
@@ -827,7 +827,7 @@ fn join_line(points: &[[f64; 4]]) -> String {
     format!("(join{points})")
 }
 
-fn moments_line(tensor: &[f64; 9]) -> String {
+fn moments_line(tensor: &[f64; 6]) -> String {
     format!("(moments{})", marked_all(tensor))
 }
 
@@ -835,7 +835,7 @@ fn join(r: &mut Random) -> String {
     join_line(&bodies::points(r))
 }
 
-fn check_line(mass: f64, centre: [f64; 3], inertia: &[f64; 9]) -> String {
+fn check_line(mass: f64, centre: [f64; 3], inertia: &[f64; 6]) -> String {
     let parts = [marked_all(&[mass]), marked_all(&centre), marked_all(inertia)];
     format!("(check (mass{}) (centre{}) (inertia{}))", parts[0], parts[1], parts[2])
 }

@@ -226,12 +226,12 @@ pub fn point([x, height]: [f64; 2]) -> Checked {
 }
 
 /// 17a, of the body check and of the principal moments.
-pub fn entries(tensor: &[f64; 9]) -> Checked {
+pub fn entries(tensor: &[f64; 6]) -> Checked {
     let passes = tensor.iter().all(|v| v.abs() <= LARGEST_ENTRY);
     refuse(!passes, Refusal::Tensor { case: 'a' })
 }
 
-/// 15, 16 and 17a. 17 b to e follow, and are the Rust's (`work::check`).
+/// 15, 16 and 17a. 17 b, d and e follow, and are the Rust's (`work::check`).
 pub fn body(body: &Body) -> Checked {
     refuse(!body.mass.is_finite() || body.mass < 0.0, Refusal::Mass)?;
     let passes = body.centre.iter().all(|v| v.is_finite());

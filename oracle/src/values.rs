@@ -185,14 +185,14 @@ impl<'a> Words<'a> {
                 let rotation = self.rotation()?;
                 let turned = rust_body(&self.body()?).rotated(rotation);
                 let c = turned.cg_m;
-                let inertia = show_all(&turned.inertia_kg_m2.to_cols_array());
+                let inertia = show_all(&turned.inertia_kg_m2.six());
                 Some(show_all(&[turned.mass_kg, c.x, c.y, c.z]) + &inertia)
             }
             "about" => {
                 let [x, y, z] = self.figures()?;
                 let body = rust_body(&self.body()?);
                 let inertia = body.inertia_about(DVec3::new(x, y, z));
-                Some(show_all(&inertia.to_cols_array()))
+                Some(show_all(&inertia.six()))
             }
             "moments" => Some(match moments(&self.figures()?) {
                 Ok(found) => show_all(&found),

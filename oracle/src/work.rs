@@ -44,7 +44,7 @@ impl Worked {
                 "(mass{}) (centre{}) (inertia{})",
                 show_all(&[b.mass_kg]),
                 show_all(&[b.cg_m.x, b.cg_m.y, b.cg_m.z]),
-                show_all(&b.inertia_kg_m2.to_cols_array())
+                show_all(&b.inertia_kg_m2.six())
             )
         };
         let counts = format!("(intervals {}) (samples {})", self.intervals, self.samples);
@@ -91,9 +91,9 @@ impl Worked {
             Err(refusal) => (refusal.number(), refusal.numbers()),
         };
         let figures = match &self.figures {
-            Ok(Figures::Set(b)) => [&[b.mass_kg, b.cg_m.x, b.cg_m.y, b.cg_m.z][..], &b.inertia_kg_m2.to_cols_array()[..]].concat(),
+            Ok(Figures::Set(b)) => [&[b.mass_kg, b.cg_m.x, b.cg_m.y, b.cg_m.z][..], &b.inertia_kg_m2.six()[..]].concat(),
             Ok(Figures::Area(found)) => found.to_vec(),
-            _ => vec![0.0; if self.of_area { 3 } else { 13 }],
+            _ => vec![0.0; if self.of_area { 3 } else { 10 }],
         };
         let mut sum: u64 = 1;
         for i in 0..self.lent {
@@ -225,10 +225,10 @@ fn closing(count: u64, radius: f64) -> Result<Figures, Refusal> {
     Ok(Figures::Closing(TubeFinSet::closing_radius_m(radius, count as u32)))
 }
 
-pub fn moments(tensor: &[f64; 9]) -> Result<[f64; 3], Refusal> {
+pub fn moments(tensor: &[f64; 6]) -> Result<[f64; 3], Refusal> {
     refusals::entries(tensor)?;
     let body = MassProperties {
-        inertia_kg_m2: DMat3::from_cols_array(tensor),
+        inertia_kg_m2: DMat3::from_six(tensor),
         ..MassProperties::ZERO
     };
     Ok(body.principal_moments_kg_m2())
@@ -241,7 +241,6 @@ pub fn check(body: &Body) -> Result<(), Refusal> {
         Err(DesignError::UnphysicalInertia(text)) => {
             let cases = [
                 ("a body with no mass", 'b'),
-                ("the tensor is not symmetric", 'c'),
                 ("a principal moment is negative", 'd'),
                 ("the principal moments", 'e'),
             ];
@@ -353,6 +352,6 @@ pub fn rust_body(body: &Body) -> MassProperties {
     MassProperties {
         mass_kg: body.mass,
         cg_m: DVec3::new(x, y, z),
-        inertia_kg_m2: DMat3::from_cols_array(&body.inertia),
+        inertia_kg_m2: DMat3::from_six(&body.inertia),
     }
 }

@@ -81,14 +81,14 @@ pub struct TubeFinSet {
     pub density: Density,
 }
 
-/// A rigid body: thirteen numbers one after another, as the library has them.
+/// A rigid body: ten numbers one after another, as the library has them.
 #[derive(Debug, Clone, Copy, PartialEq)]
 #[repr(C)]
 pub struct Body {
     pub mass_kg: f64,
     pub centre_m: [f64; 3],
-    /// Three columns.
-    pub inertia_kg_m2: [f64; 9],
+    /// xx, yy, zz, xy, xz, yz.
+    pub inertia_kg_m2: [f64; 6],
 }
 
 // A body's numbers are handed over as they lie.
@@ -98,7 +98,7 @@ impl Body {
     pub const ZERO: Self = Self {
         mass_kg: 0.0,
         centre_m: [0.0; 3],
-        inertia_kg_m2: [0.0; 9],
+        inertia_kg_m2: [0.0; 6],
     };
 
     /// A point mass.
@@ -106,7 +106,7 @@ impl Body {
         Self {
             mass_kg,
             centre_m,
-            inertia_kg_m2: [0.0; 9],
+            inertia_kg_m2: [0.0; 6],
         }
     }
 
@@ -120,7 +120,7 @@ impl Body {
     }
 
     fn numbers(bodies: &[Self]) -> &[f64] {
-        // Body is thirteen f64s in C's layout, without padding.
+        // Body is ten f64s in C's layout, without padding.
         unsafe { std::slice::from_raw_parts(bodies.as_ptr().cast(), raw::BODY * bodies.len()) }
     }
 }
@@ -341,8 +341,8 @@ pub fn combine(bodies: &[Body]) -> Result<Body, Error> {
     Ok(Body::from_numbers(body))
 }
 
-/// The principal moments of a tensor (three columns), ascending.
-pub fn principal_moments(tensor: &[f64; 9]) -> Result<[f64; 3], Error> {
+/// The principal moments of a tensor (xx, yy, zz, xy, xz, yz), ascending.
+pub fn principal_moments(tensor: &[f64; 6]) -> Result<[f64; 3], Error> {
     let mut moments = [0.0; raw::MOMENTS];
     let mut values = [0; raw::VALUES];
     let number = unsafe {

@@ -20,7 +20,7 @@ pub const INSIDE: usize = 1;
 pub const EDGE: usize = 2;
 pub const OUTSIDE: usize = 3;
 
-pub const BODY: usize = 13;
+pub const BODY: usize = 10;
 pub const AREA: usize = 3;
 pub const CHORDS: usize = 64;
 pub const CHORD_COUNTS: usize = 3;

@@ -2,12 +2,11 @@
 
 use std::fmt;
 
-/// What is wrong with a tensor: 17's cases a to e.
+/// What is wrong with a tensor: 17's cases a, b, d and e.
 #[derive(Debug, Clone, Copy, PartialEq, Eq)]
 pub enum TensorFault {
     Entry,
     Massless,
-    Asymmetric,
     Negative,
     Triangle,
 }
@@ -18,7 +17,6 @@ impl TensorFault {
         Some(match case {
             0 => Self::Entry,
             1 => Self::Massless,
-            2 => Self::Asymmetric,
             3 => Self::Negative,
             4 => Self::Triangle,
             _ => return None,

@@ -11,7 +11,7 @@ use Rattle.answers.proofs.Filling.{filled-fits}
 
 pub figures-short : (figures : List Float) (intervals samples : ℕ) → length (figuresText figures intervals samples) ≤ answerBytes
 unfolding figuresText room text codes
-figures-short figures intervals samples = let h = filled-fits (text "(figures (mass F) (centre F F F) (inertia F F F F F F F F F) (intervals N) (samples N))") figures (intervals ∷ samples ∷ []) in h
+figures-short figures intervals samples = let h = filled-fits (text "(figures (mass F) (centre F F F) (inertia F F F F F F) (intervals N) (samples N))") figures (intervals ∷ samples ∷ []) in omega arith
 
 pub area-short : (figures : List Float) (intervals samples : ℕ) → length (areaText figures intervals samples) ≤ answerBytes
 unfolding areaText room text codes
@@ -19,11 +19,11 @@ area-short figures intervals samples = let h = filled-fits (text "(area (area F)
 
 pub joined-short : (figures : List Float) → length (joinedText figures) ≤ answerBytes
 unfolding joinedText room text codes
-joined-short figures = let h = filled-fits (text "(joined (mass F) (centre F F F) (inertia F F F F F F F F F))") figures [] in omega arith
+joined-short figures = let h = filled-fits (text "(joined (mass F) (centre F F F) (inertia F F F F F F))") figures [] in omega arith
 
 pub ring-short : (figures : List Float) → length (ringText figures) ≤ answerBytes
 unfolding ringText room text codes
-ring-short figures = let h = filled-fits (text "(ring (mass F) (centre F F F) (inertia F F F F F F F F F))") figures [] in omega arith
+ring-short figures = let h = filled-fits (text "(ring (mass F) (centre F F F) (inertia F F F F F F))") figures [] in omega arith
 
 pub closing-short : (figures : List Float) → length (closingText figures) ≤ answerBytes
 unfolding closingText room text codes

@@ -14,20 +14,20 @@ answerBytes = 320
 abbrev pub AnswerFits : List ℕ → ℕ → Type 0
 AnswerFits out n = n + answerBytes ≤ length out
 
--- mass, centre and the tensor's three columns; intervals; samples
+-- mass, centre and the tensor, "diagonal first, then xy, xz, yz" (document 02, Paper 12); intervals; samples
 unfoldable pub figuresText : List Float → ℕ → ℕ → List ℕ
-figuresText figures intervals samples = filled (text "(figures (mass F) (centre F F F) (inertia F F F F F F F F F) (intervals N) (samples N))") figures (intervals ∷ samples ∷ [])
+figuresText figures intervals samples = filled (text "(figures (mass F) (centre F F F) (inertia F F F F F F) (intervals N) (samples N))") figures (intervals ∷ samples ∷ [])
 
 -- area, and the centroid's x and height; intervals; samples
 unfoldable pub areaText : List Float → ℕ → ℕ → List ℕ
 areaText figures intervals samples = filled (text "(area (area F) (centroid F F) (intervals N) (samples N))") figures (intervals ∷ samples ∷ [])
 
 unfoldable pub joinedText : List Float → List ℕ
-joinedText figures = filled (text "(joined (mass F) (centre F F F) (inertia F F F F F F F F F))") figures []
+joinedText figures = filled (text "(joined (mass F) (centre F F F) (inertia F F F F F F))") figures []
 
 -- a ring of tubes (document 02, Paper 3): the body, and the radius that closes one
 unfoldable pub ringText : List Float → List ℕ
-ringText figures = filled (text "(ring (mass F) (centre F F F) (inertia F F F F F F F F F))") figures []
+ringText figures = filled (text "(ring (mass F) (centre F F F) (inertia F F F F F F))") figures []
 
 unfoldable pub closingText : List Float → List ℕ
 closingText figures = filled (text "(closing F)") figures []

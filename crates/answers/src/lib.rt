@@ -94,7 +94,7 @@ pub fn put_figures(out: &mut [u8], n: usize, figures: &[f64], intervals: u64, sa
     put_filled(
         out,
         n,
-        b"(figures (mass F) (centre F F F) (inertia F F F F F F F F F) (intervals N) (samples N))",
+        b"(figures (mass F) (centre F F F) (inertia F F F F F F) (intervals N) (samples N))",
         figures,
         &counts,
     )
@@ -124,7 +124,7 @@ pub fn put_joined(out: &mut [u8], n: usize, figures: &[f64]) -> usize
     put_filled(
         out,
         n,
-        b"(joined (mass F) (centre F F F) (inertia F F F F F F F F F))",
+        b"(joined (mass F) (centre F F F) (inertia F F F F F F))",
         figures,
         &counts,
     )
@@ -139,7 +139,7 @@ pub fn put_ring(out: &mut [u8], n: usize, figures: &[f64]) -> usize
     put_filled(
         out,
         n,
-        b"(ring (mass F) (centre F F F) (inertia F F F F F F F F F))",
+        b"(ring (mass F) (centre F F F) (inertia F F F F F F))",
         figures,
         &counts,
     )

@@ -1,1 +1,2 @@
 pub mod SameNumbers
+pub mod Six

@@ -20,9 +20,6 @@ same-body f g h =
       h 7 (omega arith),
       h 8 (omega arith),
       h 9 (omega arith),
-      h 10 (omega arith),
-      h 11 (omega arith),
-      h 12 (omega arith),
     )
 
 pub numbers-length : (b : Body) → length (numbersOf b) ≡ bodyNumbers

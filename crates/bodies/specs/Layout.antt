@@ -1,4 +1,4 @@
--- A body as numbers, for lists of bodies, lines and the library: mass, centre, then the tensor's nine in columns (document 01, "Body").
+-- A body as numbers, for lists of bodies, lines and the library: mass, centre, then the tensor's six (document 01, "Body"; document 02, Paper 12).
 use mathlib.Core.List.{List, _∷_}
 use Prim.Native.Nat.{ℕ, _+_}
 use lib.Ieee.{Float}
@@ -9,12 +9,12 @@ use Rattle.bodies.specs.Tensors.{tensor, numberAt}
 
 -- how many numbers a tensor has, and a body
 abbrev pub tensorNumbers : ℕ
-tensorNumbers = 9
+tensorNumbers = 6
 
 abbrev pub bodyNumbers : ℕ
-bodyNumbers = 13
+bodyNumbers = 10
 
--- the body with the numbers f 0 to f 12, and the numbers of a body
+-- the body with the numbers f 0 to f 9, and the numbers of a body
 abbrev pub bodyOf : (ℕ → Float) → Body
 bodyOf f = record { «mass_kg» = f 0; «centre_m» = vector (f 1) (f 2) (f 3); «inertia_kg_m2» = tensor (λ i. f (4 + i)) }
 

@@ -3,3 +3,4 @@ pub mod Matrices
 pub mod Tensors
 pub mod Bodies
 pub mod Layout
+pub mod Nine

@@ -10,7 +10,7 @@ ghost use lib.ListN.{length};
 ghost use Rattle.floats.specs.Operations.{at};
 ghost use Rattle.bodies.specs.Vectors.{addVectors, subtractVectors, scaleVector, divideVector};
 ghost use Rattle.bodies.specs.Matrices.{timesVector, timesMatrix, transposeOf};
-ghost use Rattle.bodies.specs.Tensors.{tensor, tensorOf, asMatrix, symmetric, addTensors, subtractTensors, scaleTensor, turnTensor, offsetTensorOf};
+ghost use Rattle.bodies.specs.Tensors.{symmetric, tensor, asMatrix, averaged, addTensors, subtractTensors, scaleTensor, turnTensor, offsetTensorOf};
 ghost use Rattle.bodies.specs.Bodies.{inertiaAboutOf, translatedOf, rotatedOf};
 ghost use Rattle.bodies.specs.Layout.{tensorNumbers, bodyNumbers, bodyOf, numbersOf};
 
@@ -24,8 +24,8 @@ pub struct Vector {
 // Nine numbers in columns: a rotation, or what is worked from one.
 pub struct Matrix(pub [f64; 9]);
 
-// An inertia tensor in kg·m²: nine numbers in columns.
-pub struct Tensor(pub [f64; 9]);
+// An inertia tensor in kg·m², which is symmetric: six numbers xx, yy, zz, xy, xz, yz.
+pub struct Tensor(pub [f64; 6]);
 
 pub struct Body {
     pub mass_kg: f64,
@@ -34,9 +34,9 @@ pub struct Body {
 }
 
 // How many numbers a tensor has, and a body.
-pub const TENSOR_NUMBERS: usize = 9;
+pub const TENSOR_NUMBERS: usize = 6;
 
-pub const BODY_NUMBERS: usize = 13;
+pub const BODY_NUMBERS: usize = 10;
 
 // The tensor of its numbers.
 pub fn tensor_of(numbers: &[f64]) -> Tensor
@@ -50,9 +50,6 @@ pub fn tensor_of(numbers: &[f64]) -> Tensor
         numbers[3],
         numbers[4],
         numbers[5],
-        numbers[6],
-        numbers[7],
-        numbers[8],
     ])
 }
 
@@ -75,9 +72,6 @@ pub fn body_of(numbers: &[f64]) -> Body
             numbers[7],
             numbers[8],
             numbers[9],
-            numbers[10],
-            numbers[11],
-            numbers[12],
         ]),
     }
 }
@@ -183,7 +177,7 @@ impl Tensor {
     pub fn symmetric(xx: f64, yy: f64, zz: f64, xy: f64, xz: f64, yz: f64) -> Tensor
         ensures { λ r. ⌜ r ≡ symmetric xx yy zz xy xz yz ⌝ }
     {
-        Tensor([xx, xy, xz, xy, yy, yz, xz, yz, zz])
+        Tensor([xx, yy, zz, xy, xz, yz])
     }
 
     pub fn add(self, other: Tensor) -> Tensor
@@ -198,9 +192,6 @@ impl Tensor {
             a[3] + b[3],
             a[4] + b[4],
             a[5] + b[5],
-            a[6] + b[6],
-            a[7] + b[7],
-            a[8] + b[8],
         ])
     }
 
@@ -216,9 +207,6 @@ impl Tensor {
             a[3] - b[3],
             a[4] - b[4],
             a[5] - b[5],
-            a[6] - b[6],
-            a[7] - b[7],
-            a[8] - b[8],
         ])
     }
 
@@ -233,34 +221,34 @@ impl Tensor {
             a[3] * factor,
             a[4] * factor,
             a[5] * factor,
-            a[6] * factor,
-            a[7] * factor,
-            a[8] * factor,
         ])
     }
 
-    // The tensor as a matrix.
+    // The tensor as a matrix: a mixed number stands on both sides of the diagonal.
     pub fn as_matrix(self) -> Matrix
         ensures { λ r. ⌜ r ≡ asMatrix self ⌝ }
     {
         let a = self.0;
-        Matrix([a[0], a[1], a[2], a[3], a[4], a[5], a[6], a[7], a[8]])
+        Matrix([a[0], a[3], a[4], a[3], a[1], a[5], a[4], a[5], a[2]])
     }
 
-    // The tensor that a matrix is.
-    pub fn of_matrix(matrix: Matrix) -> Tensor
-        ensures { λ r. ⌜ r ≡ tensorOf matrix ⌝ }
+    // Half the sum of each two opposite entries.
+    fn averaged(matrix: Matrix) -> Tensor
+        ensures { λ r. ⌜ r ≡ averaged matrix ⌝ }
     {
         let a = matrix.0;
-        Tensor([a[0], a[1], a[2], a[3], a[4], a[5], a[6], a[7], a[8]])
+        let xy = 0.5 * (a[3] + a[1]);
+        let xz = 0.5 * (a[6] + a[2]);
+        let yz = 0.5 * (a[7] + a[5]);
+        Tensor([a[0], a[4], a[8], xy, xz, yz])
     }
 
-    // R I Rᵀ.
+    // R I Rᵀ, whose opposite entries are equal up to rounding, and are averaged.
     pub fn turn(self, rotation: Matrix) -> Tensor
         ensures { λ r. ⌜ r ≡ turnTensor self rotation ⌝ }
     {
         let product = rotation.times(self.as_matrix());
-        Tensor::of_matrix(product.times(rotation.transpose()))
+        Tensor::averaged(product.times(rotation.transpose()))
     }
 }
 
@@ -271,14 +259,11 @@ fn offset_tensor(d: Vector) -> Tensor
     let square = d.x * d.x + d.y * d.y + d.z * d.z;
     Tensor([
         square - d.x * d.x,
-        0.0 - d.y * d.x,
-        0.0 - d.z * d.x,
-        0.0 - d.x * d.y,
         square - d.y * d.y,
-        0.0 - d.z * d.y,
+        square - d.z * d.z,
+        0.0 - d.x * d.y,
         0.0 - d.x * d.z,
         0.0 - d.y * d.z,
-        square - d.z * d.z,
     ])
 }
 
@@ -291,7 +276,7 @@ impl Body {
             y: 0.0,
             z: 0.0,
         },
-        inertia_kg_m2: Tensor([0.0, 0.0, 0.0, 0.0, 0.0, 0.0, 0.0, 0.0, 0.0]),
+        inertia_kg_m2: Tensor([0.0, 0.0, 0.0, 0.0, 0.0, 0.0]),
     };
 
     // The tensor about `point_m` instead of the centre.
@@ -347,9 +332,6 @@ impl Body {
             a[3],
             a[4],
             a[5],
-            a[6],
-            a[7],
-            a[8],
         ]
     }
 }

@@ -1,4 +1,4 @@
--- "The body check runs 15, 16, 17 a to e" (document 01, "Refusal numbers"; mass.rs, `validate`).
+-- "The body check runs 15, 16, 17 a to e", since document 02, Paper 12, without c (document 01, "Refusal numbers"; mass.rs, `validate`).
 use mathlib.Core.Bool.{Bool, not, cond, _&&_, _||_}
 use mathlib.Core.List.{List}
 use Prim.Native.Nat.{ℕ, zero, suc}
@@ -8,13 +8,13 @@ use Rattle.floats.specs.Floats.{isFinite, absOf, maxOf}
 use Rattle.bodies.specs.declared.Body.{Body}
 use Rattle.bodies.specs.declared.Tensor.{Tensor}
 use Rattle.bodies.specs.declared.Vector.{Vector}
-use Rattle.bodies.specs.Matrices.{transposeOf}
-use Rattle.bodies.specs.Tensors.{numberAt, tensorOf, asMatrix, subtractTensors}
+use Rattle.bodies.specs.Tensors.{numberAt}
+use Rattle.bodies.specs.Layout.{tensorNumbers}
 use Rattle.moments.specs.Moments.{entriesFit, eigenvaluesOf}
 use Rattle.refusals.specs.declared.Verdict.{Verdict}
 use Rattle.refusals.specs.declared.Verdict.the-variants.{Accepted, Refused}
 use Rattle.refusals.specs.declared.Refusal.the-variants.{Mass, Centre as CentreRefused, Tensor as TensorRefused}
-use Rattle.refusals.specs.declared.TensorFault.the-variants.{Entry, Massless, Asymmetric, Negative, Triangle}
+use Rattle.refusals.specs.declared.TensorFault.the-variants.{Entry, Massless, Negative, Triangle}
 
 abbrev pub finiteVector : Vector → Bool
 finiteVector v = isFinite (v .x) && (isFinite (v .y) && isFinite (v .z))
@@ -24,13 +24,9 @@ unfoldable pub largestMagnitude : Tensor → ℕ → Float
 largestMagnitude t zero = bits 0
 largestMagnitude t (suc n) = maxOf (largestMagnitude t n) (absOf (numberAt t n))
 
--- what c, d and e allow: 1e-9 of the largest magnitude. It is `validate`'s; document 01 writes no tolerance (docs/DECISIONS.md, "Bodies").
+-- what d and e allow: 1e-9 of the largest magnitude. It is `validate`'s; document 01 writes no tolerance (docs/DECISIONS.md, "Bodies").
 abbrev pub toleranceOf : Tensor → Float
-toleranceOf t = bits 0x3e11_2e0b_e826_d695 ⊗ largestMagnitude t 9
-
--- the largest difference of opposite entries
-unfoldable pub asymmetryOf : Tensor → Float
-asymmetryOf t = largestMagnitude (subtractTensors t (tensorOf (transposeOf (asMatrix t)))) 9
+toleranceOf t = bits 0x3e11_2e0b_e826_d695 ⊗ largestMagnitude t tensorNumbers
 
 -- "b no mass but an entry not zero": then the largest magnitude is above 0
 abbrev pub masslessInertia : Float → Float → Bool
@@ -43,13 +39,12 @@ checkMoments moments tolerance =
     (cond (lt (at moments 0 ⊕ at moments 1) (at moments 2 ⊖ tolerance)) (Refused (TensorRefused Triangle))
     Accepted)
 
--- "17 tensor": a, b, "c asymmetric" by more than the tolerance, then d and e
+-- "17 tensor": a, b, d and e; six numbers are symmetric, and c has left the table (document 02, Paper 12)
 unfoldable pub checkTensor : Float → Tensor → Verdict
 checkTensor mass t =
     cond (not (entriesFit t)) (Refused (TensorRefused Entry))
-    (cond (masslessInertia mass (largestMagnitude t 9)) (Refused (TensorRefused Massless))
-    (cond (lt (toleranceOf t) (asymmetryOf t)) (Refused (TensorRefused Asymmetric))
-    (checkMoments (eigenvaluesOf t) (toleranceOf t))))
+    (cond (masslessInertia mass (largestMagnitude t tensorNumbers)) (Refused (TensorRefused Massless))
+    (checkMoments (eigenvaluesOf t) (toleranceOf t)))
 
 -- "15 body mass not finite, or < 0", "16 body centre not finite"
 abbrev pub checkOf : Body → Verdict

@@ -1,10 +1,12 @@
-// Whether a body could be a real one (mass.rs, `MassProperties::validate`): refusals 15, 16 and 17 a to e, in that order.
+// Whether a body could be a real one (mass.rs, `MassProperties::validate`): refusals 15, 16 and 17 a, b, d and e, in that order.
 //
-// The mass is finite and not negative, the centre finite, and the tensor finite, 0 without mass, symmetric, with principal moments
-// that are not negative and obey I₁ + I₂ ≥ I₃, the last three to 1e-9 of the tensor's largest magnitude.
+// The mass is finite and not negative, the centre finite, and the tensor finite, 0 without mass, with principal moments that are
+// not negative and obey I₁ + I₂ ≥ I₃, the last two to 1e-9 of the tensor's largest magnitude.
 ghost use mathlib.Core.Path.{_≡_};
-ghost use Rattle.body_check.specs.BodyCheck.{finiteVector, largestMagnitude, asymmetryOf, masslessInertia, checkMoments, checkTensor, checkOf};
+ghost use Rattle.bodies.specs.Layout.{tensorNumbers};
+ghost use Rattle.body_check.specs.BodyCheck.{finiteVector, largestMagnitude, masslessInertia, checkMoments, checkTensor, checkOf};
 use bodies::Body;
+use bodies::TENSOR_NUMBERS;
 use bodies::Tensor;
 use bodies::Vector;
 use refusals::Refusal;
@@ -41,7 +43,7 @@ fn is_finite(v: Vector) -> bool
     floats::is_finite(v.z)
 }
 
-// 17 a to e.
+// 17 a, b, d and e.
 fn check_tensor(mass: f64, tensor: Tensor) -> Verdict
     ensures { λ r. ⌜ r ≡ checkTensor mass tensor ⌝ }
 {
@@ -53,17 +55,7 @@ fn check_tensor(mass: f64, tensor: Tensor) -> Verdict
         return refused(TensorFault::Massless);
     }
     let tolerance = 1e-9 * largest;
-    if tolerance < asymmetry(tensor) {
-        return refused(TensorFault::Asymmetric);
-    }
     check_moments(moments::eigenvalues(tensor), tolerance)
-}
-
-// The largest difference of opposite entries.
-fn asymmetry(tensor: Tensor) -> f64
-    ensures { λ r. ⌜ r ≡ asymmetryOf tensor ⌝ }
-{
-    largest_magnitude(tensor.subtract(Tensor::of_matrix(tensor.as_matrix().transpose())))
 }
 
 fn is_massless_inertia(mass: f64, largest: f64) -> bool
@@ -92,12 +84,12 @@ fn check_moments(moments: [f64; 3], tolerance: f64) -> Verdict
 }
 
 fn largest_magnitude(tensor: Tensor) -> f64
-    ensures { λ r. ⌜ r ≡ largestMagnitude tensor 9 ⌝ }
+    ensures { λ r. ⌜ r ≡ largestMagnitude tensor tensorNumbers ⌝ }
 {
     let a = tensor.0;
     let mut largest = 0.0;
     let mut k = 0;
-    while k < 9 {
+    while k < TENSOR_NUMBERS {
         largest = floats::max(largest, floats::abs(a[k]));
         k += 1;
     }

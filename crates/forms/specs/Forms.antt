@@ -126,8 +126,8 @@ anyForm line =
     row line "set" Set "(set (limit N) (count N) PLANFORM (thickness F) (section SECTION) TAB (cant F) (base F) (radius F) DENSITY)"
     (row line "area" Area "(area (limit N) PLANFORM)"
     (row line "join" Join "(join POINTS)"
-    (row line "moments" Moments "(moments F F F F F F F F F)"
-    (row line "check" Check "(check (mass F) (centre F F F) (inertia F F F F F F F F F))"
+    (row line "moments" Moments "(moments F F F F F F)"
+    (row line "check" Check "(check (mass F) (centre F F F) (inertia F F F F F F))"
     (laterForm line)))))
 
 -- "a longer line is 18"

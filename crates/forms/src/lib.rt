@@ -240,13 +240,13 @@ pub fn read_line(line: &[u8], values: &mut [f64]) -> Request
         return read_form(line, Form::Join, b"(join POINTS)", values);
     }
     if same_bytes(word, b"moments") {
-        return read_form(line, Form::Moments, b"(moments F F F F F F F F F)", values);
+        return read_form(line, Form::Moments, b"(moments F F F F F F)", values);
     }
     if same_bytes(word, b"check") {
         return read_form(
             line,
             Form::Check,
-            b"(check (mass F) (centre F F F) (inertia F F F F F F F F F))",
+            b"(check (mass F) (centre F F F) (inertia F F F F F F))",
             values,
         );
     }

@@ -2,3 +2,4 @@ pub mod InOrder
 pub mod Listed
 pub mod JoinLaws
 pub mod Parts
+pub mod JoinedSix

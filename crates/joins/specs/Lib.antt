@@ -1,2 +1,3 @@
 pub mod Flat
 pub mod Joins
+pub mod Nine

@@ -29,7 +29,7 @@ use Rattle.figures.specs.declared.Area.{Area}
 
 -- ---- what is printed: the figures, or "A refused line prints `(refused N)`"
 
--- mass, centre and the tensor's three columns
+-- mass, centre and the tensor's six numbers
 abbrev pub printedSet : Verdict → Figures → List ℕ
 printedSet Accepted f = figuresText (numbersOf (f .body)) (f .intervals) (f .samples)
 printedSet (Refused refusal) f = refusedText (numberOf refusal)

@@ -5,14 +5,14 @@ use Prim.Native.Nat.{ℕ, zero, suc, _+_, _*_}
 use lib.ListN.{set}
 use lib.Ieee.{Float, lt, le, eq}
 use Rattle.floats.specs.Operations.{_⊕_, _⊖_, _⊗_, _⊘_, bits, every}
-use Rattle.floats.specs.Constants.{half, one, two}
+use Rattle.floats.specs.Constants.{one, two}
 use Rattle.floats.specs.Floats.{isFinite, absOf}
 use Rattle.root.specs.Root.{rootOf}
 use Rattle.bodies.specs.declared.Matrix.{Matrix}
 use Rattle.bodies.specs.declared.Tensor.{Tensor}
-use Rattle.bodies.specs.Vectors.{vector}
-use Rattle.bodies.specs.Matrices.{placeAt, entry, fromColumns}
+use Rattle.bodies.specs.Matrices.{placeAt, entry}
 use Rattle.bodies.specs.Tensors.{numberAt, asMatrix}
+use Rattle.bodies.specs.Layout.{tensorNumbers}
 use Rattle.refusals.specs.declared.Verdict.the-variants.{Accepted, Refused}
 use Rattle.refusals.specs.declared.Refusal.the-variants.{Tensor as TensorRefused}
 use Rattle.refusals.specs.declared.TensorFault.the-variants.{Entry}
@@ -26,7 +26,7 @@ abbrev pub entryFits : Float → Bool
 entryFits x = isFinite x && not (lt (bits 0x5f30_0000_0000_0000) (absOf x))
 
 abbrev pub entriesFit : Tensor → Bool
-entriesFit t = every 9 (λ i. entryFits (numberAt t i))
+entriesFit t = every tensorNumbers (λ i. entryFits (numberAt t i))
 
 -- ---- one rotation
 
@@ -64,14 +64,6 @@ rotate p q a =
 
 -- ---- the sweeps
 
--- the means of opposite entries
-abbrev pub symmetrized : Matrix → Matrix
-symmetrized a =
-    let m01 = half ⊗ (entry a 0 1 ⊕ entry a 1 0) in
-    let m02 = half ⊗ (entry a 0 2 ⊕ entry a 2 0) in
-    let m12 = half ⊗ (entry a 1 2 ⊕ entry a 2 1) in
-    fromColumns (vector (entry a 0 0) m01 m02) (vector m01 (entry a 1 1) m12) (vector m02 m12 (entry a 2 2))
-
 abbrev pub offDiagonal : Matrix → Float
 offDiagonal a = absOf (entry a 0 1) ⊕ absOf (entry a 0 2) ⊕ absOf (entry a 1 2)
 
@@ -98,8 +90,9 @@ insertAll sorted (x ∷ xs) = insertAll (insertMoment x sorted) xs
 abbrev pub ascending : List Float → List Float
 ascending xs = insertAll [] xs
 
+-- the sweeps work on nine entries. The Rust takes the means of opposite entries first, which changes nothing of six (proofs/FirstStep.antt)
 unfoldable pub eigenvaluesOf : Tensor → List Float
-eigenvaluesOf t = let a = sweeps 32 (symmetrized (asMatrix t)) in ascending (entry a 0 0 ∷ entry a 1 1 ∷ entry a 2 2 ∷ [])
+eigenvaluesOf t = let a = sweeps 32 (asMatrix t) in ascending (entry a 0 0 ∷ entry a 1 1 ∷ entry a 2 2 ∷ [])
 
 -- "17a first"
 abbrev pub refusedEntry : Moments

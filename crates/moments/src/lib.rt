@@ -1,13 +1,14 @@
-// The principal moments of a tensor: the eigenvalues of its symmetric part, ascending (mass.rs, `principal_moments_kg_m2`).
+// The principal moments of a tensor: its eigenvalues, ascending (mass.rs, `principal_moments_kg_m2`).
 //
 // Cyclic Jacobi: each sweep turns the planes (0, 1), (0, 2), (1, 2) in that order, Jᵀ A J with the rotation J of Golub and Van Loan,
 // Matrix Computations, algorithm 8.5.1, so that the entry of the plane becomes small. The entry is not set to 0, and both triangles
-// are kept, as in the Rust. The nine numbers stand in columns: row i of column j is number 3 j + i.
+// are kept, as in the Rust: the sweeps work on nine numbers in columns, row i of column j is number 3 j + i.
 ghost use mathlib.Core.Path.{_≡_};
 ghost use mathlib.Core.List.{[], _∷_};
 ghost use Prim.Native.Nat.{_<_};
-ghost use Rattle.moments.specs.Moments.{entryFits, entriesFit, symmetrized, tangentOf, rotationOf, turnPair, turnColumns, turnRows, rotate, sweep, offDiagonal, sweeps, insertMoment, ascending, eigenvaluesOf, refusedEntry, principalMomentsOf};
+ghost use Rattle.moments.specs.Moments.{entryFits, entriesFit, tangentOf, rotationOf, turnPair, turnColumns, turnRows, rotate, sweep, offDiagonal, sweeps, insertMoment, ascending, eigenvaluesOf, refusedEntry, principalMomentsOf};
 use bodies::Matrix;
+use bodies::TENSOR_NUMBERS;
 use bodies::Tensor;
 use refusals::Refusal;
 use refusals::TensorFault;
@@ -55,7 +56,7 @@ pub fn entries_fit(tensor: Tensor) -> bool
 {
     let a = tensor.0;
     let mut k = 0;
-    while k < 9 {
+    while k < TENSOR_NUMBERS {
         if !entry_fits(a[k]) {
             return false;
         }
@@ -70,24 +71,13 @@ fn entry_fits(x: f64) -> bool
     floats::is_finite(x) && !(LARGEST_ENTRY < floats::abs(x))
 }
 
-// The eigenvalues of the tensor's symmetric part, ascending.
+// The eigenvalues of the tensor, ascending.
 pub fn eigenvalues(tensor: Tensor) -> [f64; 3]
     ensures { λ r. ⌜ r ≡ eigenvaluesOf tensor ⌝ }
 {
-    let diagonal = run_sweeps(symmetrize(tensor.as_matrix()));
+    let diagonal = run_sweeps(tensor.as_matrix());
     let a = diagonal.0;
     sort(a[0], a[4], a[8])
-}
-
-// Each pair of opposite entries becomes its mean.
-fn symmetrize(matrix: Matrix) -> Matrix
-    ensures { λ r. ⌜ r ≡ symmetrized matrix ⌝ }
-{
-    let a = matrix.0;
-    let m01 = 0.5 * (a[3] + a[1]);
-    let m02 = 0.5 * (a[6] + a[2]);
-    let m12 = 0.5 * (a[7] + a[5]);
-    Matrix([a[0], m01, m02, m01, a[4], m12, m02, m12, a[8]])
 }
 
 // Sweeps until the off-diagonal sum is 0, at most 32.

@@ -7,11 +7,10 @@ ghost use Rattle.refusals.specs.Order.{refuseUnless, refuseWhen, isRefus
 ghost use Rattle.refusals.specs.Refusals.{numberOf, caseOf, valuesOf, inTwoPlaces};
 ghost use Rattle.refusals.specs.Rows.{IsRow};
 
-// What is wrong with a tensor: 17's cases a to e, in their order.
+// What is wrong with a tensor: 17's cases a, b, d and e, in their order. Six numbers cannot be asymmetric, which was c.
 pub enum TensorFault {
     Entry,
     Massless,
-    Asymmetric,
     Negative,
     Triangle,
 }
@@ -92,7 +91,6 @@ pub fn tensor_case(fault: TensorFault) -> usize
     match fault {
         TensorFault::Entry => 0,
         TensorFault::Massless => 1,
-        TensorFault::Asymmetric => 2,
         TensorFault::Negative => 3,
         TensorFault::Triangle => 4,
     }

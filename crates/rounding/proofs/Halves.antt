@@ -1,24 +1,26 @@
--- The rounded half of the rounded sum of two f64s lies between them. Assumes nothing.
+-- The rounded half of the rounded sum of two f64s lies between them, and of an f64 and itself is that f64, bit for bit. Assumes nothing.
 use mathlib.Core.Path.{_≡_, refl, sym, ap, _∙_, subst}
-use mathlib.Core.Bool.{Bool, true, false}
+use mathlib.Core.Bool.{Bool, true, false, Bool·beq}
 use Prim.Native.Nat.{ℕ, _+_, _*_, _^_, _≤_, _<_}
 use native.Mathlib.Nat.{lt-of-le-of-lt, mul-one, mul-comm, mul-assoc, mul-left-comm, mul-right-comm, mul-le-mul-right, mul-pos, zero-lt-suc, mul-lt-mul-of-pos-right}
 use native.Mathlib.Omega.{arith}
 use lib.Dec.{T, lit≤}
-use lib.IntN.{negsuc}
+use lib.IntN.{ℤ, negsuc}
 use lib.Pow.{pow-add, pow-lt}
-use lib.Ieee.{Float, fin, binary64, round, fits, lt, eq, le, ofBits}
+use lib.Ieee.{Float, nan, inf, fin, binary64, up, down, round, sum, add, fits, lt, eq, le, ofBits}
 use lib.Ieee.Bits.{is-true}
-use lib.Ieee.Fits.{mul-fits}
-use lib.Ieee.Scale.{finite}
+use lib.Ieee.Exact.{HasValue}
+use lib.Ieee.Fits.{mul-fits, down-pos}
+use lib.Ieee.Scale.{finite, round-same}
 use lib.Ieee.Positive.{num, den, den-pos}
 use Rattle.floats.specs.Operations.{_⊕_, _⊗_}
 use Rattle.floats.specs.Constants.{half}
+use Rattle.floats.proofs.Exact.{round-value}
 use Rattle.floats.proofs.Order.{not-equal-sym, below-of-le}
 use Rattle.rounding.specs.Sizes.{Below, InOrder}
 use Rattle.rounding.proofs.Signs.{minus, plus-unlike}
 use Rattle.rounding.proofs.Signed.{over, under, over-mul, under-mul, Leq, leq-trans, leq-same, scale, Adds}
-use Rattle.rounding.proofs.Exact.{Exact, fits-exact}
+use Rattle.rounding.proofs.Exact.{Exact, exact-value, fits-exact}
 use Rattle.rounding.proofs.Ordered.{order→le, le→order}
 use Rattle.rounding.proofs.Rounding.{round-over, round-under}
 use Rattle.rounding.proofs.Operations.{mul-is, add-is}
@@ -135,3 +137,35 @@ module _ (p : ℕ) (l : p ≤ 1000) (a b : Float) (w : InOrder p a b) where
   half-sum-between q r =
       let m = half ⊗ (a ⊕ b) in
       (below-of-le a m (is-true (le a m) half-sum-over) (not-equal-sym m a q), below-of-le m b (is-true (le m b) half-sum-under) r)
+
+-- ---- half the sum of a number and itself
+twice : (a d : ℕ) → (a * d + a * d) * d ≡ a * 2 * (d * d)
+twice a d = ap (λ (z : ℕ). z * d) (doubled (a * d)) ∙ sym (arrange a d d)
+  where
+    doubled : (n : ℕ) → n + n ≡ n * 2
+    doubled n = omega arith
+
+same-sign : (s : Bool) → Bool·beq s s ≡ true
+same-sign true = refl
+same-sign false = refl
+
+module _ (s : Bool) (m : ℕ) (e : ℤ) (t : T (fits binary64 (fin s m e))) where
+  double-value : Below 1000 (fin s m e) → HasValue (fin s m e ⊕ fin s m e) s (m * up e * 2) (down e)
+  unfolding add sum
+  double-value h =
+      rw (same-sign s, round-same binary64 s (m * up e * down e + m * up e * down e) (down e * down e) (m * up e * 2) (down e) (mul-pos (down-pos e) (down-pos e)) (down-pos e) (twice (m * up e) (down e)))
+      (exact-value binary64 s (m * up e * 2) (down e) (exact-double (fin s m e) t h))
+
+  half-value : (y : Float) → HasValue y s (m * up e * 2) (down e) → half ⊗ y ≡ fin s m e
+  half-value nan v = absurd v
+  half-value (inf u) v = absurd v
+  half-value (fin u n d) v =
+      halved (fin u n d) tt
+      ∙ ap (λ (b : Bool). round binary64 b (n * up d * 1) (down d * 2)) (v .0)
+      ∙ round-value s m e (n * up d * 1) (down d * 2) t (mul-pos (down-pos d) (zero-lt-suc 1))
+      (ap (λ (z : ℕ). z * down e) (mul-one (n * up d)) ∙ v .1 ∙ mul-assoc (m * up e) 2 (down d) ∙ ap (λ (z : ℕ). m * up e * z) (mul-comm 2 (down d)))
+
+pub half-of-double : (x : Float) → T (fits binary64 x) → Below 1000 x → half ⊗ (x ⊕ x) ≡ x
+half-of-double nan t h = absurd (h .finite)
+half-of-double (inf s) t h = absurd (h .finite)
+half-of-double (fin s m e) t h = half-value s m e t (fin s m e ⊕ fin s m e) (double-value s m e t h)

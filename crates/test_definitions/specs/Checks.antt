@@ -29,9 +29,10 @@ use Rattle.fins.specs.Fins.{planformCheck, tabCheck, depthCheck, setCheck, area
 use Rattle.bodies.specs.declared.Body.{Body}
 use Rattle.bodies.specs.declared.Tensor.{Tensor}
 use Rattle.bodies.specs.Vectors.{vector}
+use Rattle.bodies.specs.Tensors.{diagonal}
 use Rattle.moments.specs.Moments.{rotationOf, rotate, sweep, sweeps, insertMoment, insertAll, entriesFit, eigenvaluesOf, principalMomentsOf}
 use Rattle.root.specs.Root.{nearRoot, rootOf}
-use Rattle.body_check.specs.BodyCheck.{largestMagnitude, asymmetryOf, checkTensor, checkOf}
+use Rattle.body_check.specs.BodyCheck.{largestMagnitude, checkTensor, checkOf}
 use Rattle.test_definitions.specs.Rows.{is, are, accepted, refused}
 
 -- the bits of 0.01, 0.02, 0.03, 0.2, 1, 2, 3 and 65, of a NaN and of infinity
@@ -100,7 +101,6 @@ refusal-table =
     && refused 16 [] (Refused refusal.Centre)
     && refused 17 (0 ∷ []) (Refused (refusal.Tensor fault.Entry))
     && refused 17 (1 ∷ []) (Refused (refusal.Tensor fault.Massless))
-    && refused 17 (2 ∷ []) (Refused (refusal.Tensor fault.Asymmetric))
     && refused 17 (3 ∷ []) (Refused (refusal.Tensor fault.Negative))
     && refused 17 (4 ∷ []) (Refused (refusal.Tensor fault.Triangle))
     && refused 18 [] (Refused refusal.NoForm)
@@ -185,7 +185,7 @@ tabs-refused =
 
 -- 17a: 2^500 passes, the f64 above it does not, in the last place too; a refused tensor has no moments
 abbrev lastEntry : ℕ → Tensor
-lastEntry b = record { 0 = map bits (0 ∷ 0 ∷ 0 ∷ 0 ∷ 0 ∷ 0 ∷ 0 ∷ 0 ∷ b ∷ []) }
+lastEntry b = record { 0 = map bits (0 ∷ 0 ∷ 0 ∷ 0 ∷ 0 ∷ b ∷ []) }
 
 abbrev pub entries-refused : Bool
 entries-refused =
@@ -292,25 +292,21 @@ area-order =
     refusedFrom (λ k. areaCheck (planformAt (cond (leb k 1) k (suc k))) [] (unlessMended k 0 0 8) (unlessMended k 1 127 128)) 0
     ((1, []) ∷ (2, []) ∷ (4, 1 ∷ []) ∷ (4, 2 ∷ []) ∷ (4, 3 ∷ []) ∷ (4, 4 ∷ []) ∷ [])
 
--- three entries of the first column, then the diagonal
-abbrev tensorOf : ℕ → ℕ → ℕ → ℕ → Tensor
-tensorOf a below b c = record { 0 = map bits (a ∷ below ∷ 0 ∷ 0 ∷ b ∷ 0 ∷ 0 ∷ 0 ∷ c ∷ []) }
-
 abbrev bodyAt : ℕ → Body
 bodyAt k =
     record {
       «mass_kg» = bits (unlessMended k 0 (minus one) (unlessMended k 3 0 one));
       «centre_m» = vector (bits 0) (bits 0) (bits (unlessMended k 1 notNumber 0));
       «inertia_kg_m2» =
-          tensorOf (unlessMended k 2 infinity (unlessMended k 5 (minus one) one)) (unlessMended k 4 one 0) (unlessMended k 6 one two) three;
+          diagonal (bits (unlessMended k 2 infinity (unlessMended k 4 (minus one) one))) (bits (unlessMended k 5 one two)) (bits three);
     }
 
--- "The body check runs 15, 16, 17 a to e": mass −1, a centre that is not finite, an infinite entry, inertia without mass, opposite entries 1
--- and 0, diagonal −1, 1, 3, diagonal 1, 1, 3; then diagonal 1, 2, 3 passes, where I1+I2 = I3
+-- "The body check runs 15, 16, 17 a to e": mass −1, a centre that is not finite, an infinite entry, inertia without mass, diagonal
+-- −1, 1, 3, diagonal 1, 1, 3; then diagonal 1, 2, 3 passes, where I1+I2 = I3. c has left, and d and e keep their numbers (document 02, Paper 12)
 abbrev pub body-order : Bool
 body-order =
     refusedFrom (λ k. checkOf (bodyAt k)) 0
-    ((15, []) ∷ (16, []) ∷ (17, 0 ∷ []) ∷ (17, 1 ∷ []) ∷ (17, 2 ∷ []) ∷ (17, 3 ∷ []) ∷ (17, 4 ∷ []) ∷ [])
+    ((15, []) ∷ (16, []) ∷ (17, 0 ∷ []) ∷ (17, 1 ∷ []) ∷ (17, 3 ∷ []) ∷ (17, 4 ∷ []) ∷ [])
 
 -- no mass and no inertia, which is the empty body, passes
 abbrev pub empty-body-passes : Bool
@@ -333,5 +329,5 @@ pub checks-hold :
     && area-order
     && body-order
     && empty-body-passes)
-unfolding ofBits toBits ofInt add sub mul div neg lt le eq ne absOf isRefused firstRefusal firstFrom every lengthWithin lengthCheck angleCheck scratchCheck densityCheck isInBox segmentsTouch sumOfTerms outlineCheck largestHeight rootChordOf planformCheck tabCheck depthCheck setCheck areaCheck rootOf nearRoot rotationOf rotate sweep sweeps insertMoment insertAll eigenvaluesOf largestMagnitude asymmetryOf checkTensor
+unfolding ofBits toBits ofInt add sub mul div neg lt le eq ne absOf isRefused firstRefusal firstFrom every lengthWithin lengthCheck angleCheck scratchCheck densityCheck isInBox segmentsTouch sumOfTerms outlineCheck largestHeight rootChordOf planformCheck tabCheck depthCheck setCheck areaCheck rootOf nearRoot rotationOf rotate sweep sweeps insertMoment insertAll eigenvaluesOf largestMagnitude checkTensor
 checks-hold = tt

@@ -5,3 +5,4 @@ pub mod Checks
 pub mod Drilling
 pub mod Tubes
 pub mod Decimals
+pub mod Turns

@@ -78,14 +78,14 @@ pub(crate) fn replay_turn(line: &[u8], values: &mut [f64]) -> Outcome
 {
     if lines::reads(
         line,
-        b"turn x F F F F F F F F F F F F F F = F F F F F F F F F F F F F",
+        b"turn x F F F F F F F F F F F = F F F F F F F F F F",
         values,
     ) {
         return turn_agrees(turned_x(values), values);
     }
     if lines::reads(
         line,
-        b"turn z F F F F F F F F F F F F F F = F F F F F F F F F F F F F",
+        b"turn z F F F F F F F F F F F = F F F F F F F F F F",
         values,
     ) {
         return turn_agrees(turned_z(values), values);
@@ -109,7 +109,7 @@ pub(crate) fn replay_about(line: &[u8], values: &mut [f64]) -> Outcome
 {
     if !lines::reads(
         line,
-        b"about F F F F F F F F F F F F F F F F = F F F F F F F F F",
+        b"about F F F F F F F F F F F F F = F F F F F F",
         values,
     ) {
         return Outcome::NoLine;
@@ -125,7 +125,7 @@ fn number(verdict: Verdict) -> usize {
     }
 }
 
-// The case of 17, from 0 for a to 4 for e.
+// The case of 17: 0 for a, 1 for b, 3 for d, 4 for e.
 fn case(verdict: Verdict) -> usize {
     match verdict {
         Verdict::Accepted => 0,
@@ -155,7 +155,6 @@ fn says_case(line: &[u8], c: Cursor, case: usize, values: &mut [f64]) -> bool
     match case {
         0 => lines::ends(line, c, b"refused 17 a", values),
         1 => lines::ends(line, c, b"refused 17 b", values),
-        2 => lines::ends(line, c, b"refused 17 c", values),
         3 => lines::ends(line, c, b"refused 17 d", values),
         4 => lines::ends(line, c, b"refused 17 e", values),
         _ => false,
@@ -165,7 +164,7 @@ fn says_case(line: &[u8], c: Cursor, case: usize, values: &mut [f64]) -> bool
 pub(crate) fn replay_check(line: &[u8], values: &mut [f64]) -> Outcome
     requires { ⌜ (length (now line) ≤ lineBytes) × (lineFigures ≤ length (now values)) ⌝ }
 {
-    let asked = lines::begins(line, b"check F F F F F F F F F F F F F =", values);
+    let asked = lines::begins(line, b"check F F F F F F F F F F =", values);
     if !asked.ok {
         return Outcome::NoLine;
     }
@@ -190,7 +189,7 @@ fn moments_agree(line: &[u8], asked: Cursor, found: Moments, values: &mut [f64])
 pub(crate) fn replay_moments(line: &[u8], values: &mut [f64]) -> Outcome
     requires { ⌜ (length (now line) ≤ lineBytes) × (lineFigures ≤ length (now values)) ⌝ }
 {
-    let asked = lines::begins(line, b"moments F F F F F F F F F =", values);
+    let asked = lines::begins(line, b"moments F F F F F F =", values);
     if !asked.ok {
         return Outcome::NoLine;
     }

@@ -86,7 +86,7 @@ fn print_set(q: Request, values: &[f64], scratch: &mut [f64], out: &mut [u8]) ->
     answers::put_filled(
         out,
         0,
-        b"(run (number N) (values N N) (figures F F F F F F F F F F F F F) (intervals N) (samples N) (scratch N))\n",
+        b"(run (number N) (values N N) (figures F F F F F F F F F F) (intervals N) (samples N) (scratch N))\n",
         &figures,
         &counts,
     )

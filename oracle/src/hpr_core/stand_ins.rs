@@ -137,6 +137,25 @@ impl DMat3 {
         let (a, b, c) = (self.x_axis, self.y_axis, self.z_axis);
         [a.x, a.y, a.z, b.x, b.y, b.z, c.x, c.y, c.z]
     }
+
+    /// Half the sum of the opposite entries (document 02, Paper 12), at the end of `rotated`.
+    pub fn averaged(self) -> Self {
+        let [xx, yx, zx, xy, yy, zy, xz, yz, zz] = self.to_cols_array();
+        Self::from_six(&[xx, yy, zz, 0.5 * (xy + yx), 0.5 * (xz + zx), 0.5 * (yz + zy)])
+    }
+
+    pub fn from_six(&[xx, yy, zz, xy, xz, yz]: &[f64; 6]) -> Self {
+        Self::from_cols_array(&[xx, xy, xz, xy, yy, yz, xz, yz, zz])
+    }
+
+    /// xx, yy, zz, xy, xz, yz. Every tensor that is printed has the same bits in opposite entries, which the oracle holds itself to.
+    pub fn six(self) -> [f64; 6] {
+        let [xx, yx, zx, xy, yy, zy, xz, yz, zz] = self.to_cols_array();
+        for (a, b) in [(xy, yx), (xz, zx), (yz, zy)] {
+            assert!(a.to_bits() == b.to_bits() || (a.is_nan() && b.is_nan()), "opposite entries differ");
+        }
+        [xx, yy, zz, xy, xz, yz]
+    }
 }
 
 impl Add for DMat3 {

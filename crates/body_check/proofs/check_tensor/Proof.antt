@@ -33,34 +33,18 @@ returns-2 c =
     rw (sym (fit .before .entries-fit .ensures) ∙ not-false _ (fit .if1 .left), ← massless .before .before .largest-magnitude .ensures, sym (massless .before .is-massless-inertia .ensures) ∙ massless .if2 .taken)
     (c .refused2 .ensures)
 
-asymmetry-requires : tie.Need-asymmetry-requires
-asymmetry-requires c κs = search needs
-
-refused-requires-3 : tie.Need-refused-requires-3
-refused-requires-3 c κs = search needs
-
-returns-3 : tie.Need-returns-3
-unfolding checkTensor
-returns-3 c =
-    let skew = c .before in
-    let massive = skew .before .before in
-    let fit = massive .before .before .before in
-    rw (sym (fit .before .entries-fit .ensures) ∙ not-false _ (fit .if1 .left), ← massive .before .before .largest-magnitude .ensures, sym (massive .before .is-massless-inertia .ensures) ∙ massive .if2 .left, ← skew .before .asymmetry .ensures, skew .if3 .taken)
-    (c .refused3 .ensures)
-
 eigenvalues-requires : tie.Need-eigenvalues-requires
 eigenvalues-requires c κs = search needs
 
 check-moments-requires : tie.Need-check-moments-requires
 check-moments-requires c κs = search needs
 
-returns-4 : tie.Need-returns-4
+returns-3 : tie.Need-returns-3
 unfolding checkTensor
-returns-4 c =
-    let symmetric = c .before .before in
-    let massive = symmetric .before .before in
+returns-3 c =
+    let massive = c .before .before in
     let fit = massive .before .before .before in
-    rw (sym (fit .before .entries-fit .ensures) ∙ not-false _ (fit .if1 .left), ← massive .before .before .largest-magnitude .ensures, sym (massive .before .is-massless-inertia .ensures) ∙ massive .if2 .left, ← symmetric .before .asymmetry .ensures, symmetric .if3 .left, ← c .before .eigenvalues .ensures)
+    rw (sym (fit .before .entries-fit .ensures) ∙ not-false _ (fit .if1 .left), ← massive .before .before .largest-magnitude .ensures, sym (massive .before .is-massless-inertia .ensures) ∙ massive .if2 .left, ← c .before .eigenvalues .ensures)
     (c .check-moments .ensures)
 
 pub check-tensor-spec : {M : Type 1} → statement M
@@ -74,9 +58,6 @@ check-tensor-spec =
     is-massless-inertia-requires
     refused-requires-2
     returns-2
-    asymmetry-requires
-    refused-requires-3
-    returns-3
     eigenvalues-requires
     check-moments-requires
-    returns-4)
+    returns-3)

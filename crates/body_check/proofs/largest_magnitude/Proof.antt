@@ -10,15 +10,16 @@ use Rattle.floats.specs.Floats.{absOf, maxOf}
 use Rattle.floats.specs.Operations.{bits}
 use Rattle.bodies.specs.declared.Tensor.{Tensor}
 use Rattle.bodies.specs.Tensors.{numberAt}
+use Rattle.bodies.specs.Layout.{tensorNumbers}
 use Rattle.body_check.specs.BodyCheck.{largestMagnitude}
 use Rattle.body_check.proofs.largest_magnitude.Statement.{statement}
 use Rattle.body_check.proofs.largest_magnitude.Tie as tie
 
 abbrev Inv-loop : tie.InvT-loop
-Inv-loop a largest₀ k₀ largest k = (k ≤ 9) × (largest ≡ largestMagnitude (record { 0 = a }) k)
+Inv-loop a largest₀ k₀ largest k = (k ≤ tensorNumbers) × (largest ≡ largestMagnitude (record { 0 = a }) k)
 
 abbrev μ-loop : tie.MeasureT-loop
-μ-loop a largest₀ k₀ largest k = 9 - k
+μ-loop a largest₀ k₀ largest k = tensorNumbers - k
 
 none : (t : Tensor) → bits 0 ≡ largestMagnitude t 0
 unfolding largestMagnitude

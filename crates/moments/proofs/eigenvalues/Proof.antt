@@ -1,4 +1,4 @@
--- `moments::eigenvalues` meets its contract: the sweeps over the symmetric part, and the diagonal sorted. Assumes nothing.
+-- `moments::eigenvalues` meets its contract: the sweeps, and the diagonal sorted. Assumes nothing.
 use borrow.Author.Needs.{needs}
 use Rattle.moments.specs.Moments.{eigenvaluesOf}
 use Rattle.moments.proofs.eigenvalues.Statement.{statement}
@@ -6,9 +6,6 @@ use Rattle.moments.proofs.eigenvalues.Tie as tie
 
 as-matrix-requires : tie.Need-as-matrix-requires
 as-matrix-requires c κs = search needs
-
-symmetrize-requires : tie.Need-symmetrize-requires
-symmetrize-requires c κs = search needs
 
 run-sweeps-requires : tie.Need-run-sweeps-requires
 run-sweeps-requires c κs = search needs
@@ -27,16 +24,13 @@ sort-requires c κs = search needs
 
 returns : tie.Need-returns
 unfolding eigenvaluesOf
-returns c =
-    let start = c .before .before .before in
-    rw (c .sort .ensures, c .before .before .run-sweeps .ensures, start .symmetrize .ensures, start .before .as-matrix .ensures)
+returns c = rw (c .sort .ensures, c .before .before .run-sweeps .ensures, c .before .before .before .as-matrix .ensures)
 
 pub eigenvalues-spec : {M : Type 1} → statement M
 eigenvalues-spec =
     tie.close
     (tie.spec
     as-matrix-requires
-    symmetrize-requires
     run-sweeps-requires
     array-read-sort
     array-read-sort-2

@@ -8,6 +8,7 @@ use native.Mathlib.Omega.{arith}
 use borrow.Author.Needs.{needs}
 use borrow.Author.Tests.{not-true, not-false}
 use Rattle.floats.specs.Operations.{at, every}
+use Rattle.bodies.specs.Layout.{tensorNumbers}
 use Rattle.moments.specs.Moments.{entryFits}
 use Rattle.floats.proofs.Every.{every-none, every-more, every-not}
 use Rattle.moments.proofs.entries_fit.Statement.{statement}
@@ -17,10 +18,10 @@ abbrev Fits : List Float → ℕ → Bool
 Fits a i = entryFits (at a i)
 
 abbrev Inv-loop : tie.InvT-loop
-Inv-loop a k₀ k = (every k (Fits a) ≡ true) × (k ≤ 9)
+Inv-loop a k₀ k = (every k (Fits a) ≡ true) × (k ≤ tensorNumbers)
 
 abbrev μ-loop : tie.MeasureT-loop
-μ-loop a k₀ k = 9 - k
+μ-loop a k₀ k = tensorNumbers - k
 
 loop-holds : tie.Need-loop-holds Inv-loop μ-loop
 loop-holds c = (every-none _, omega arith)
@@ -37,7 +38,7 @@ entry-fits-requires c κs = search needs
 returns : tie.Need-returns Inv-loop μ-loop
 returns c =
     sym
-    (every-not 9 _ (c .before .before .before .loop .k) (omega arith) (c .before .entry-fits .ensures) (not-true _ (c .if1 .taken)))
+    (every-not tensorNumbers _ (c .before .before .before .loop .k) (omega arith) (c .before .entry-fits .ensures) (not-true _ (c .if1 .taken)))
 
 add-k : tie.Need-add-k Inv-loop μ-loop
 add-k c = omega arith
@@ -50,7 +51,7 @@ loop-again c =
     (every-more _ _ (c .before .before .before .loop .inv .0) (c .before .entry-fits .ensures) (not-false _ (c .if1 .left)), omega arith)
 
 returns-2 : tie.Need-returns-2 Inv-loop μ-loop
-returns-2 c = sym (c .before .loop .inv .0) ∙ ap (λ (n : ℕ). every n (Fits (c .before .before .before .args .tensor .0))) (let e : c .before .loop .k ≡ 9 = omega arith in e)
+returns-2 c = sym (c .before .loop .inv .0) ∙ ap (λ (n : ℕ). every n (Fits (c .before .before .before .args .tensor .0))) (let e : c .before .loop .k ≡ tensorNumbers = omega arith in e)
 
 pub entries-fit-spec : {M : Type 1} → statement M
 entries-fit-spec =

@@ -1,4 +1,4 @@
--- `bodies::Tensor::turn` meets its contract: two products and a transpose, put together. Assumes nothing.
+-- `bodies::Tensor::turn` meets its contract: two products and a transpose, put together and averaged. Assumes nothing.
 use borrow.Author.Needs.{needs}
 use Rattle.bodies.specs.Tensors.{turnTensor}
 use Rattle.bodies.proofs.Tensor.turn.Statement.{statement}
@@ -16,15 +16,15 @@ transpose-requires c κs = search needs
 times-requires-2 : tie.Need-times-requires-2
 times-requires-2 c κs = search needs
 
-of-matrix-requires : tie.Need-of-matrix-requires
-of-matrix-requires c κs = search needs
+averaged-requires : tie.Need-averaged-requires
+averaged-requires c κs = search needs
 
 returns : tie.Need-returns
 unfolding turnTensor
 returns c =
     let product = c .before in
     let first = product .before .before in
-    rw (c .of-matrix .ensures, product .times2 .ensures, product .before .transpose .ensures, first .times .ensures, first .before .as-matrix .ensures)
+    rw (c .averaged .ensures, product .times2 .ensures, product .before .transpose .ensures, first .times .ensures, first .before .as-matrix .ensures)
 
 pub turn-spec : {M : Type 1} → statement M
-turn-spec = tie.close (tie.spec as-matrix-requires times-requires transpose-requires times-requires-2 of-matrix-requires returns)
+turn-spec = tie.close (tie.spec as-matrix-requires times-requires transpose-requires times-requires-2 averaged-requires returns)
