@@ -9,14 +9,15 @@
  *      5 points not 3 to 64 pairs       11 tab deeper than the body     17 body tensor
  *      6 first or last point            12 density                      18 no form
  *     19 a word that is no figure      20 wall over the outer radius     21 thickness over the root chord
- *     24 no corners: an ellipse        25 not whole steps of 2^-20 m
+ *     22 fillet too wide for the body  24 no corners: an ellipse         25 not whole steps of 2^-20 m
  *
  * It writes its figures and counts over the start of the lent arrays; a refusal writes zero figures, but of chords none. Two counts are the values of a
  * refusal: the field of 4 and 9, the two edges of 7, the component of 13, the case of 17 (a to e as 0 to 4, without c); else both are 0.
  * Fields: 1 root chord, 2 tip chord, 3 span, 4 sweep, 5 x, 6 y, 7 thickness, 8 tab height, 9 tab length, 10 tab offset,
- * 11 body radius, 12 cant, 13 base angle, 14 tube length, 15 outer radius, 17 drill x, 18 drill height. Edges and components are counted from 0.
+ * 11 body radius, 12 cant, 13 base angle, 14 tube length, 15 outer radius, 16 fillet radius,
+ * 17 drill x, 18 drill height. Edges and components are counted from 0.
  *
- * 18 is an unknown number of a planform, section, tab or density, or another count of numbers than it asks for, with two exceptions:
+ * 18 is an unknown number of a planform, section, tab, fillet or density, or another count of numbers than it asks for, with two exceptions:
  * an outline's numbers that are not 3 to 64 whole pairs are 5, and a join's that are not 1 to 32 whole bodies are 3. An array that is
  * too short for what is written over it is 18 too, and then nothing at all is written.
  *
@@ -51,6 +52,9 @@ extern "C" {
 #define DELVOUZH_NO_TAB 0
 #define DELVOUZH_TAB 1
 
+/* A fillet has its density's number, and `glue` two numbers: radius, density; none has 0, and none. */
+#define DELVOUZH_NO_FILLET 0
+
 #define DELVOUZH_BULK 1
 #define DELVOUZH_SURFACE 2
 #define DELVOUZH_LINE 3
@@ -77,13 +81,14 @@ extern "C" {
 /* The bytes of stack that are enough for any call. The longest chain of frames in the library's code takes half of them: tests/header. */
 #define DELVOUZH_STACK 98304
 
-/* A set's figures. `figures`: thickness, cant, base angle, body radius, density; with a tab also its height, length and offset.
+/* A set's figures. `figures`: thickness, cant, base angle, body radius, density; with a tab also its height, length and offset. `glue`: of a
+ * fillet its radius and density.
  * Writes a body, and as counts two values of a refusal, the intervals and the samples. `scratch` has at least 16 * limit numbers; the
  * pieces of the strips are left in it, 16 numbers each from its start, and the rest of it is as it was. */
 size_t delvouzh_mass_properties(size_t limit, size_t count, size_t planform, const double *lengths, size_t lengths_len,
                                 size_t section, size_t tab, size_t density, const double *figures, size_t figures_len,
-                                double *scratch, size_t scratch_len, double *body, size_t body_len, size_t *counts,
-                                size_t counts_len);
+                                size_t fillet, const double *glue, size_t glue_len, double *scratch, size_t scratch_len,
+                                double *body, size_t body_len, size_t *counts, size_t counts_len);
 
 /* A planform's area and its centroid, x, then height. Counts and scratch as above. */
 size_t delvouzh_geometry(size_t limit, size_t planform, const double *lengths, size_t lengths_len, double *scratch,

@@ -52,7 +52,13 @@ static void lend(struct lent *l, double filling) {
 
 static void set_of(struct lent *l, size_t limit, size_t planform, const double *lengths, size_t len, const double *figures) {
     l->number = delvouzh_mass_properties(limit, 3, planform, lengths, len, DELVOUZH_SQUARE, DELVOUZH_NO_TAB, DELVOUZH_BULK, figures, 5,
-                                         l->scratch, SCRATCH, l->numbers, DELVOUZH_BODY, l->counts, DELVOUZH_COUNTS);
+                                         DELVOUZH_NO_FILLET, figures, 0, l->scratch, SCRATCH, l->numbers, DELVOUZH_BODY, l->counts, DELVOUZH_COUNTS);
+}
+
+static void glued_set_of(struct lent *l, size_t fillet, const double *glue, size_t len) {
+    l->number = delvouzh_mass_properties(LIMIT, 3, DELVOUZH_TRAPEZOID, TRAPEZOID, 4, DELVOUZH_SQUARE, DELVOUZH_NO_TAB, DELVOUZH_BULK,
+                                         FIGURES, 5, fillet, glue, len, l->scratch, SCRATCH, l->numbers, DELVOUZH_BODY, l->counts,
+                                         DELVOUZH_COUNTS);
 }
 
 static void area_of(struct lent *l, size_t planform, const double *lengths, size_t len) {
@@ -86,6 +92,9 @@ static void figures(void) {
     holds("a set's centre", bits(at.numbers[3]) == 0xbfb9999999999999);
     holds("a set's tensor", bits(at.numbers[4]) == 0x3f561772f7ea12f8 && bits(at.numbers[6]) == 0x3f616435485c1b52);
     holds("a set's counts", refused(0, 0, 0) && at.counts[2] == 1 && at.counts[3] == 15);
+    const double glue[2] = {0.01, 1200.0};
+    glued_set_of(&at, DELVOUZH_BULK, glue, 2);
+    holds("a set with fillets", refused(0, 0, 0) && bits(at.numbers[0]) == 0x3fc4a28891b0e97b && bits(at.numbers[12]) == 0x3f61e9ed0a3848ba);
     area_of(&at, DELVOUZH_ELLIPSE, ELLIPSE, 2);
     holds("an area", at.number == 0 && bits(at.numbers[0]) == 0x3f9015bf9217273e);
     holds("a centroid", bits(at.numbers[1]) == 0x3fb999999999999b && bits(at.numbers[2]) == 0x3fa5bade52f95eaa);
@@ -141,6 +150,15 @@ static void refusals(void) {
     holds("24", refused(24, 0, 0));
     set_of(&at, LIMIT, DELVOUZH_TRAPEZOID, TRAPEZOID, 4, cant);
     holds("9 with its field", refused(9, 12, 0));
+    const double wide[2] = {51.0, 0.0};
+    glued_set_of(&at, DELVOUZH_BULK, wide, 2);
+    holds("22", refused(22, 0, 0));
+    glued_set_of(&at, DELVOUZH_SURFACE, wide, 2);
+    holds("12 of a fillet", refused(12, 0, 0));
+    glued_set_of(&at, DELVOUZH_BULK, wide, 1);
+    holds("18 of a fillet without its density", refused(18, 0, 0));
+    glued_set_of(&at, DELVOUZH_NO_FILLET, wide, 1);
+    holds("18 of no fillet with a figure", refused(18, 0, 0));
     set_of(&at, 1, DELVOUZH_ELLIPSE, ELLIPSE, 2, FIGURES);
     holds("13 with its samples", at.number == 13 && at.counts[0] < 7 && at.counts[2] == 0 && at.counts[3] == 15);
     at.number = delvouzh_check(body, DELVOUZH_BODY, at.counts, DELVOUZH_VALUES);
@@ -165,7 +183,8 @@ static void no_room(void) {
     const double body[DELVOUZH_BODY] = {0};
     lend(&at, 7.0);
     at.number = delvouzh_mass_properties(LIMIT, 3, DELVOUZH_TRAPEZOID, TRAPEZOID, 4, DELVOUZH_SQUARE, DELVOUZH_NO_TAB, DELVOUZH_BULK,
-                                         FIGURES, 5, at.scratch, SCRATCH, at.numbers, DELVOUZH_BODY - 1, at.counts, DELVOUZH_COUNTS);
+                                         FIGURES, 5, DELVOUZH_NO_FILLET, FIGURES, 0, at.scratch, SCRATCH, at.numbers, DELVOUZH_BODY - 1,
+                                         at.counts, DELVOUZH_COUNTS);
     holds("no room for a body", at.number == 18 && left_alone());
     at.number = delvouzh_geometry(LIMIT, DELVOUZH_ELLIPSE, ELLIPSE, 2, at.scratch, SCRATCH, at.numbers, DELVOUZH_AREA, at.counts,
                                   DELVOUZH_COUNTS - 1);

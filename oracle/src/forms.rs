@@ -25,6 +25,8 @@ pub struct Set {
     pub section: Section,
     /// Height, length, offset.
     pub tab: Option<[f64; 3]>,
+    /// Radius and density.
+    pub fillet: Option<(f64, Density)>,
     pub cant: f64,
     pub base: f64,
     pub radius: f64,
@@ -275,6 +277,15 @@ impl<'l> Reader<'_, 'l> {
         }
     }
 
+    /// `(fillet F DENSITY)`
+    fn fillet(&mut self) -> Option<(f64, Density)> {
+        (self.open()? == b"fillet").then_some(())?;
+        let radius = self.figure()?;
+        let density = self.density()?;
+        self.close()?;
+        Some((radius, density))
+    }
+
     fn set(&mut self) -> Option<Set> {
         let limit = self.count_part(b"limit")?;
         let count = self.count_part(b"count")?;
@@ -283,6 +294,10 @@ impl<'l> Reader<'_, 'l> {
         let section = self.section()?;
         let tab = match self.rest {
             [Token::Open, Token::Word(b"tab"), ..] => Some(self.part(b"tab")?),
+            _ => None,
+        };
+        let fillet = match self.rest {
+            [Token::Open, Token::Word(b"fillet"), ..] => Some(self.fillet()?),
             _ => None,
         };
         let [cant] = self.part(b"cant")?;
@@ -296,6 +311,7 @@ impl<'l> Reader<'_, 'l> {
             thickness,
             section,
             tab,
+            fillet,
             cant,
             base,
             radius,

@@ -12,11 +12,11 @@ use crate::words;
 
 pub const KINDS: &[&str] = &[
     "set", "area", "outline", "narrow", "merging", "noise", "touch", "points", "limits", "faults", "table", "join",
-    "moments", "check", "tubes", "closing", "drill", "decimals", "words", "spaces", "mixed",
+    "moments", "check", "tubes", "closing", "fillets", "drill", "decimals", "words", "spaces", "mixed",
 ];
 
 /// How many of them are made figure by figure; the others are such lines, written otherwise.
-const MADE: usize = 17;
+const MADE: usize = 18;
 
 /// `count` lines of one kind; none if there is no such kind.
 pub fn lines(kind: &str, count: u64, seed: u64) -> Option<Vec<String>> {
@@ -75,6 +75,7 @@ fn one(r: &mut Random, kind: &str) -> String {
         }
         "tubes" => tubes(r),
         "closing" => closing(r),
+        "fillets" => fillets(r),
         "drill" => points::drill(r),
         "spaces" => {
             let line = mixed(r);
@@ -104,6 +105,7 @@ struct Draft {
     thickness: f64,
     section: Section,
     tab: Option<[f64; 3]>,
+    fillet: Option<(f64, Density)>,
     cant: f64,
     base: f64,
     radius: f64,
@@ -113,14 +115,16 @@ struct Draft {
 impl Draft {
     fn line(&self) -> String {
         let tab = self.tab.map(|t| format!(" (tab{})", marked_all(&t)));
+        let fillet = self.fillet.map(|(x, density)| format!(" (fillet {} {})", marked(x), density_part(density)));
         format!(
-            "(set (limit {}) (count {}) ({}) (thickness {}) (section {}){} (cant {}) (base {}) (radius {}) {})",
+            "(set (limit {}) (count {}) ({}) (thickness {}) (section {}){}{} (cant {}) (base {}) (radius {}) {})",
             self.limit,
             self.count,
             planform_words(&self.planform, marked_all),
             marked(self.thickness),
             section_word(self.section),
             tab.unwrap_or_default(),
+            fillet.unwrap_or_default(),
             marked(self.cant),
             marked(self.base),
             marked(self.radius),
@@ -272,6 +276,7 @@ fn on(r: &mut Random, planform: Planform, wild: bool) -> Draft {
         },
         section: section(r),
         tab: None,
+        fillet: None,
         cant: angle(r),
         base: angle(r),
         radius,
@@ -579,6 +584,78 @@ fn faults(r: &mut Random) -> String {
     d.line()
 }
 
+/// Sets with fillets: radii of every size, and a few last bits about a millionth and a thousand times the body's; a sixth about a limit, a
+/// sixth with faults, so that the order of the checks shows.
+fn fillets(r: &mut Random) -> String {
+    let mut d = set(r);
+    let radius = fillet_radius(r, &mut d);
+    d.fillet = Some((radius, Density::Bulk(density(r))));
+    match r.below(6) {
+        0 => fillet_limit(r, &mut d),
+        1 => {
+            for _ in 0..1 + r.below(3) {
+                fillet_fault(r, &mut d);
+            }
+        }
+        _ => {}
+    }
+    d.line()
+}
+
+/// A legal radius; where it is to stand about a bound of the ratio the body gets a radius that allows it.
+fn fillet_radius(r: &mut Random, d: &mut Draft) -> f64 {
+    let (low, high) = (power_of_two(-20), 64.0);
+    let radius = match r.below(8) {
+        0 => return r.pick(&[0.0, -0.0]),
+        1 => {
+            d.radius = r.between(1.0, 64.0);
+            r.near(d.radius * 1e-6, 3)
+        }
+        2 => {
+            d.radius = r.between(low, 0.06);
+            r.near(d.radius * 1000.0, 3)
+        }
+        3 => {
+            d.radius = length(r, true);
+            length(r, true)
+        }
+        4 => length(r, false),
+        _ => d.radius * r.between(0.01, 3.0),
+    };
+    if let Some(tab) = &mut d.tab {
+        tab[0] = tab[0].min(d.radius);
+    }
+    radius.clamp(low, high)
+}
+
+fn fillet_limit(r: &mut Random, d: &mut Draft) {
+    let (radius, _) = d.fillet.expect("a fillet");
+    let value = r.pick(&densities());
+    d.fillet = Some(match r.below(4) {
+        0 => (r.pick(&lengths()), Density::Bulk(value)),
+        1 => (radius, Density::Surface(value)),
+        2 => (radius, Density::Line(value)),
+        _ => (radius, Density::Bulk(value)),
+    });
+}
+
+fn fillet_fault(r: &mut Random, d: &mut Draft) {
+    let (radius, glue) = d.fillet.expect("a fillet");
+    let bad = r.pick(&[-0.01, 0.0, 65.0, f64::NAN, f64::INFINITY, f64::from_bits(1)]);
+    match r.below(9) {
+        0 => d.fillet = Some((bad, glue)),
+        1 => d.fillet = Some((radius, Density::Surface(0.1))),
+        2 => d.fillet = Some((radius, Density::Bulk(-1.0))),
+        3 => d.base = 4.5,
+        4 => d.tab = Some([bad, 0.01, 0.0]),
+        5 => d.radius = r.pick(&[bad, 0.0, power_of_two(-20)]),
+        6 => d.density = r.pick(&[Density::Line(1.0), Density::Bulk(-1.0)]),
+        7 => d.fillet = Some((r.between(1.0, 64.0), glue)),
+        // not converged: behind every check
+        _ => d.limit = "1".to_owned(),
+    }
+}
+
 /// The line of a ring of tubes before it is written.
 #[derive(Clone)]
 struct TubesDraft {
@@ -707,7 +784,8 @@ fn closing(r: &mut Random) -> String {
     closing_line(&count, radius)
 }
 
-/// The examples of document 01's refusal table, its join, the cases named P that a line can show, and document 02's rings of tubes and points.
+/// The examples of document 01's refusal table, its join, the cases named P that a line can show, and document 02's rings of tubes, fillets, with
+/// ratios at both bounds, and points.
 fn table() -> Vec<String> {
     let legal = Draft {
         limit: "64".to_owned(),
@@ -716,6 +794,7 @@ fn table() -> Vec<String> {
         thickness: 0.003,
         section: Section::Square,
         tab: None,
+        fillet: None,
         cant: 0.0,
         base: 0.0,
         radius: 0.05,
@@ -734,6 +813,12 @@ fn table() -> Vec<String> {
         let [a, b, c] = diagonal;
         let tensor = [a, b, c, 0.0, 0.0, 0.0];
         check_line(mass, [x, 0.0, 0.0], &tensor)
+    };
+    let ratio = |radius: f64, body_radius: f64| {
+        with(&|d| {
+            d.fillet = Some((radius, Density::Bulk(1200.0)));
+            d.radius = body_radius;
+        })
     };
     let ring = TubesDraft {
         count: "6".to_owned(),
@@ -804,6 +889,18 @@ fn table() -> Vec<String> {
         closing_line("0", f64::NAN),
         closing_line("33", 0.05),
         closing_line("6", f64::NAN),
+        with(&|d| d.fillet = Some((0.01, Density::Bulk(1200.0)))),
+        with(&|d| d.fillet = Some((0.01, Density::Bulk(0.0)))),
+        with(&|d| d.fillet = Some((0.0, Density::Surface(0.1)))),
+        with(&|d| d.fillet = Some((0.01, Density::Surface(0.1)))),
+        with(&|d| {
+            d.fillet = Some((0.01, Density::Bulk(1200.0)));
+            d.radius = 0.0;
+        }),
+        ratio(0.001, 0.000001),
+        ratio(1.0, 0.001),
+        ratio(0.0000161, 16.1),
+        ratio(0.000001, 1.0),
         // inside; on an edge and at a corner; outside; at a pointed tip, whose two corners are one place
         drill_line(&drilled, [0.5, 0.5]),
         drill_line(&drilled, [0.25, 0.5]),

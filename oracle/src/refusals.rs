@@ -1,5 +1,7 @@
 //! Document 01's limits, refusal numbers and their order, before the first strip, with document 02's. They refuse more than the Rust.
 
+use hpr_design::fins::reach;
+
 use crate::forms::{Body, Density, Planform, Set, Tubes};
 
 #[derive(Debug, Clone, Copy, PartialEq)]
@@ -25,6 +27,7 @@ pub enum Refusal {
     #[allow(dead_code)] // no line gives it yet
     WallOverRadius,
     ThicknessOverRoot,
+    FilletRatio,
     NoCorners,
     NotWholeSteps,
 }
@@ -52,6 +55,7 @@ impl Refusal {
             Self::NoFigure => 19,
             Self::WallOverRadius => 20,
             Self::ThicknessOverRoot => 21,
+            Self::FilletRatio => 22,
             Self::NoCorners => 24,
             Self::NotWholeSteps => 25,
         }
@@ -97,6 +101,7 @@ const CANT: u8 = 12;
 const BASE_ANGLE: u8 = 13;
 const TUBE_LENGTH: u8 = 14;
 const OUTER_RADIUS: u8 = 15;
+const FILLET_RADIUS: u8 = 16;
 const DRILL_X: u8 = 17;
 const DRILL_HEIGHT: u8 = 18;
 
@@ -117,7 +122,7 @@ fn refuse(refused: bool, refusal: Refusal) -> Checked {
 
 /// Number 4: a length is zero or has magnitude 2^-20 to 64; which fields may be zero or negative.
 fn length(field: u8, value: f64) -> Checked {
-    let zero_allowed = [TIP_CHORD, SWEEP, X, Y, TAB_OFFSET, BODY_RADIUS, DRILL_X, DRILL_HEIGHT].contains(&field);
+    let zero_allowed = [TIP_CHORD, SWEEP, X, Y, TAB_OFFSET, BODY_RADIUS, FILLET_RADIUS, DRILL_X, DRILL_HEIGHT].contains(&field);
     let negative_allowed = [SWEEP, X, TAB_OFFSET, DRILL_X, DRILL_HEIGHT].contains(&field);
     let magnitude = if negative_allowed { value.abs() } else { value };
     let passes = (zero_allowed && value == 0.0) || (SHORTEST <= magnitude && magnitude <= LONGEST);
@@ -177,6 +182,8 @@ pub fn behind_planform(set: &Set, root: f64) -> Checked {
     refuse(set.thickness > root, Refusal::ThicknessOverRoot)?;
     angle(CANT, set.cant)?;
     angle(BASE_ANGLE, set.base)?;
+    let (fillet_radius, glue) = set.fillet.unwrap_or((0.0, Density::Bulk(0.0)));
+    length(FILLET_RADIUS, fillet_radius)?;
     if let Some([tab_height, tab_length, tab_offset]) = set.tab {
         length(TAB_HEIGHT, tab_height)?;
         length(TAB_LENGTH, tab_length)?;
@@ -188,7 +195,23 @@ pub fn behind_planform(set: &Set, root: f64) -> Checked {
     if let Some([tab_height, ..]) = set.tab {
         refuse(tab_height > set.radius, Refusal::TabTooDeep)?;
     }
-    density(set.density)
+    density(set.density)?;
+    if fillet_radius > 0.0 {
+        density(glue)?;
+        fillet_ratio(fillet_radius, set.radius)?;
+    }
+    Ok(())
+}
+
+/// Number 22 of document 02, Paper 6; the section is the Rust's.
+fn fillet_ratio(radius: f64, body_radius: f64) -> Checked {
+    let ratio = radius / body_radius;
+    if body_radius == 0.0 || ratio < 1e-6 {
+        return Ok(());
+    }
+    let [area, moments @ ..] = reach::fillet_section(body_radius, radius);
+    let sound = area > 0.0 && moments.iter().all(|m| m.is_finite());
+    refuse(ratio > 1000.0 || !sound, Refusal::FilletRatio)
 }
 
 /// Number 12.

@@ -226,6 +226,7 @@ fn plate(section: Section, thickness: f64, tab: Option<[f64; 3]>, planform: Plan
         thickness,
         section,
         tab,
+        fillet: None,
         cant: 0.0,
         base: 0.0,
         radius: 0.0,

@@ -3,7 +3,7 @@
 use hpr_core::record::{self, Record};
 use hpr_core::{CoreError, DMat3, DVec3};
 use hpr_design::error::DesignError;
-use hpr_design::fins::{FinCrossSection, FinPlanform, FinSet, FinTab, TubeFinSet};
+use hpr_design::fins::{FinCrossSection, FinFillet, FinPlanform, FinSet, FinTab, TubeFinSet};
 use hpr_design::mass::MassProperties;
 use hpr_design::material::Material;
 
@@ -332,7 +332,10 @@ pub fn rust_set(set: &Set, planform: FinPlanform) -> FinSet {
         thickness_m: set.thickness,
         cross_section: rust_section(set.section),
         tab: set.tab.map(rust_tab),
-        fillet: None,
+        fillet: set.fillet.map(|(radius_m, density)| FinFillet {
+            radius_m,
+            material: rust_material(density),
+        }),
         cant_rad: set.cant,
         base_angle_rad: set.base,
         material: rust_material(set.density),

@@ -47,6 +47,14 @@ pub struct Tab {
     pub offset_m: f64,
 }
 
+/// Glue along both sides of each root; a radius of 0 is none.
+#[derive(Debug, Clone, Copy, PartialEq)]
+pub struct Fillet {
+    /// Radius of the concave face.
+    pub radius_m: f64,
+    pub density: Density,
+}
+
 /// A density, with its units in the case. Only bulk is taken.
 #[derive(Debug, Clone, Copy, PartialEq)]
 pub enum Density {
@@ -63,6 +71,7 @@ pub struct FinSet<'a> {
     pub thickness_m: f64,
     pub section: Section,
     pub tab: Option<Tab>,
+    pub fillet: Option<Fillet>,
     pub cant_rad: f64,
     pub base_angle_rad: f64,
     pub body_radius_m: f64,
@@ -168,6 +177,8 @@ pub fn mass_properties(set: &FinSet, limit: usize, scratch: &mut [f64]) -> Resul
     let (density, value) = set.density.crossing();
     let mut figures = [0.0; 8];
     let (tab, figures) = set.crossing(value, &mut figures);
+    let mut glue = [0.0; 2];
+    let (fillet, glue) = set.glue_crossing(&mut glue);
     let mut body = [0.0; raw::BODY];
     let mut counts = [0; raw::COUNTS];
     let number = unsafe {
@@ -182,6 +193,9 @@ pub fn mass_properties(set: &FinSet, limit: usize, scratch: &mut [f64]) -> Resul
             density,
             figures.as_ptr(),
             figures.len(),
+            fillet,
+            glue.as_ptr(),
+            glue.len(),
             scratch.as_mut_ptr(),
             scratch.len(),
             body.as_mut_ptr(),
@@ -416,6 +430,16 @@ impl FinSet<'_> {
         };
         figures[5..].copy_from_slice(&[height_m, length_m, offset_m]);
         (raw::TAB, figures)
+    }
+
+    /// The fillet's number, which is its density's, and its figures.
+    fn glue_crossing<'b>(&self, glue: &'b mut [f64; 2]) -> (usize, &'b [f64]) {
+        let Some(Fillet { radius_m, density }) = self.fillet else {
+            return (raw::NO_FILLET, &[]);
+        };
+        let (number, value) = density.crossing();
+        *glue = [radius_m, value];
+        (number, glue)
     }
 }
 

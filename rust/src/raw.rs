@@ -12,6 +12,8 @@ pub const AIRFOIL_OPEN: usize = 4;
 pub const NO_TAB: usize = 0;
 pub const TAB: usize = 1;
 
+pub const NO_FILLET: usize = 0;
+
 pub const BULK: usize = 1;
 pub const SURFACE: usize = 2;
 pub const LINE: usize = 3;
@@ -43,6 +45,9 @@ extern "C" {
         density: usize,
         figures: *const f64,
         figures_len: usize,
+        fillet: usize,
+        glue: *const f64,
+        glue_len: usize,
         scratch: *mut f64,
         scratch_len: usize,
         body: *mut f64,

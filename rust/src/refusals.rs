@@ -47,6 +47,7 @@ pub enum Refusal {
     NoFigure,
     WallOverRadius,
     ThicknessOverRoot,
+    FilletRatio,
     NoCorners,
     NotWholeSteps,
 }
@@ -75,6 +76,7 @@ impl Refusal {
             Self::NoFigure => 19,
             Self::WallOverRadius => 20,
             Self::ThicknessOverRoot => 21,
+            Self::FilletRatio => 22,
             Self::NoCorners => 24,
             Self::NotWholeSteps => 25,
         }
@@ -103,6 +105,7 @@ impl Refusal {
             19 => Self::NoFigure,
             20 => Self::WallOverRadius,
             21 => Self::ThicknessOverRoot,
+            22 => Self::FilletRatio,
             24 => Self::NoCorners,
             25 => Self::NotWholeSteps,
             _ => return None,

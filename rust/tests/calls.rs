@@ -1,7 +1,7 @@
 //! Each call, with figures and refused; the worked examples are document 01's.
 use delvouzh::{
     answer_line, check, chords_at, closing_radius_m, combine, drill, geometry, mass_properties, most_samples, principal_moments,
-    scratch_len, sqrt, tube_mass_properties, Body, Density, Error, FinSet, Place, Planform, Refusal, Section, Tab,
+    scratch_len, sqrt, tube_mass_properties, Body, Density, Error, Fillet, FinSet, Place, Planform, Refusal, Section, Tab,
     TensorFault, TubeFinSet,
 };
 
@@ -24,6 +24,7 @@ fn set(planform: Planform) -> FinSet {
         thickness_m: 0.003,
         section: Section::Square,
         tab: None,
+        fillet: None,
         cant_rad: 0.0,
         base_angle_rad: 0.0,
         body_radius_m: 0.05,
@@ -99,6 +100,28 @@ fn each_section_and_tab_changes_the_mass() {
     assert!(near(airfoil, square * 40853.0 / 60000.0));
     assert!(near(open, square * 8221.0 / 12000.0));
     assert!(near(tabbed - square, 3.0 * 680.0 * 0.003 * 0.01 * 0.1));
+}
+
+#[test]
+fn a_fillet_s_glue_is_weighed() {
+    let mut scratch = vec![0.0; scratch_len(64)];
+    let mut mass = |radius_m, kg_m3| {
+        let fillet = Fillet {
+            radius_m,
+            density: Density::Bulk { kg_m3 },
+        };
+        let set = FinSet {
+            fillet: Some(fillet),
+            ..set(TRAPEZOID)
+        };
+        mass_properties(&set, 64, &mut scratch).unwrap().body.mass_kg
+    };
+    let bare = mass(0.0, 1200.0);
+    assert_eq!(mass(0.01, 0.0), bare);
+    assert_eq!(mass(0.01, 1200.0).to_bits(), 0x3fc4a28891b0e97b);
+    // a small fillet is one on a flat body, of r²(1 − π/4) on each side
+    let flat = 3.0 * 2.0 * 0.2 * 1200.0 * 1e-10 * (1.0 - std::f64::consts::FRAC_PI_4);
+    assert!(((mass(1e-5, 1200.0) - bare) / flat - 1.0).abs() < 1e-3);
 }
 
 #[test]
@@ -284,6 +307,14 @@ fn limits_are_refused_by_number_and_field() {
         }),
         ..set(TRAPEZOID)
     };
+    let glued = |radius_m, density| FinSet {
+        fillet: Some(Fillet { radius_m, density }),
+        ..set(TRAPEZOID)
+    };
+    let bulk = Density::Bulk { kg_m3: 1200.0 };
+    assert_eq!(refusal(glued(65.0, bulk)), Refusal::Length { field: 16 });
+    assert_eq!(refusal(glued(0.01, Density::Line { kg_m: 1.0 })), Refusal::Density);
+    assert_eq!(refusal(glued(51.0, bulk)), Refusal::FilletRatio);
     assert_eq!(refusal(tab(0.02, -0.01)), Refusal::TabOffRoot);
     assert_eq!(refusal(tab(0.06, 0.0)), Refusal::TabTooDeep);
 }

@@ -11,7 +11,7 @@ ghost use Rattle.floats.specs.Operations.{at};
 ghost use Rattle.bodies.specs.Vectors.{addVectors, subtractVectors, scaleVector, divideVector};
 ghost use Rattle.bodies.specs.Matrices.{timesVector, timesMatrix, transposeOf};
 ghost use Rattle.bodies.specs.Tensors.{symmetric, tensor, asMatrix, averaged, addTensors, subtractTensors, scaleTensor, turnTensor, offsetTensorOf};
-ghost use Rattle.bodies.specs.Bodies.{inertiaAboutOf, translatedOf, rotatedOf};
+ghost use Rattle.bodies.specs.Bodies.{inertiaAboutOf, translatedOf, rotatedOf, ofOriginTensor};
 ghost use Rattle.bodies.specs.Layout.{tensorNumbers, bodyNumbers, bodyOf, numbersOf};
 
 // Three numbers along x, y and z: a place in metres, an offset, or a column of a matrix.
@@ -333,5 +333,25 @@ impl Body {
             a[4],
             a[5],
         ]
+    }
+}
+
+// The body of a mass at a centre whose tensor about the origin is `about_origin`: I − m (|c|² E − c cᵀ) about the centre c.
+pub fn of_origin_tensor(mass_kg: f64, centre_m: Vector, about_origin: Tensor) -> Body
+    ensures { λ r. ⌜ r ≡ ofOriginTensor «mass_kg» «centre_m» «about_origin» ⌝ }
+{
+    let zero = Body::ZERO;
+    let origin = zero.centre_m;
+    let none = zero.inertia_kg_m2;
+    let point = Body {
+        mass_kg,
+        centre_m,
+        inertia_kg_m2: none,
+    };
+    let inertia_kg_m2 = about_origin.subtract(point.inertia_about(origin));
+    Body {
+        mass_kg,
+        centre_m,
+        inertia_kg_m2,
     }
 }

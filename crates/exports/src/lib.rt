@@ -23,7 +23,7 @@ use refusals::Verdict;
 // The number of "no form", with which a slice that is too short is refused as well.
 const NO_FORM: usize = 18;
 
-// The figures: thickness, cant, base angle, body radius, density, and the tab's.
+// The figures: thickness, cant, base angle, body radius, density, and the tab's; the fillet's beside them.
 fn crossed_set(
     count: usize,
     planform: usize,
@@ -32,8 +32,10 @@ fn crossed_set(
     tab: usize,
     density: usize,
     figures: &[f64],
+    fillet: usize,
+    glue: &[f64],
 ) -> NumberedSet
-    ensures { λ r. ⌜ r ≡ crossedSet count planform (now (lengths .entry)) section tab density (now (figures .entry)) ⌝ }
+    ensures { λ r. ⌜ r ≡ crossedSet count planform (now (lengths .entry)) section tab density (now (figures .entry)) fillet (now (glue .entry)) ⌝ }
 {
     if figures.len() < 5 {
         return NumberedSet::Unknown;
@@ -44,6 +46,7 @@ fn crossed_set(
         figures[0],
         sections::numbered_section(section),
         fins::numbered_tab(tab, &figures[5..]),
+        fillets::numbered_fillet(fillet, glue),
         figures[1],
         figures[2],
         figures[3],
@@ -142,12 +145,14 @@ pub extern "C" fn delvouzh_mass_properties(
     tab: usize,
     density: usize,
     figures: &[f64],
+    fillet: usize,
+    glue: &[f64],
     scratch: &mut [f64],
     body: &mut [f64],
     counts: &mut [usize],
 ) -> usize
     ensures { λ r. ⌜ SetCall
-        (crossedSet count planform (now (lengths .entry)) section tab density (now (figures .entry))) (now (lengths .entry)) limit
+        (crossedSet count planform (now (lengths .entry)) section tab density (now (figures .entry)) fillet (now (glue .entry))) (now (lengths .entry)) limit
         (now (scratch .entry)) (now (body .entry)) (now (counts .entry))
         r (now (scratch .exit)) (now (body .exit)) (now (counts .exit)) ⌝ }
 {
@@ -157,7 +162,17 @@ pub extern "C" fn delvouzh_mass_properties(
     if counts.len() < 4 {
         return NO_FORM;
     }
-    let set = crossed_set(count, planform, lengths, section, tab, density, figures);
+    let set = crossed_set(
+        count,
+        planform,
+        lengths,
+        section,
+        tab,
+        density,
+        figures,
+        fillet,
+        glue,
+    );
     let found = requests::set_figures(set, lengths, limit, scratch);
     let verdict = found.verdict;
     let of_set = found.body;

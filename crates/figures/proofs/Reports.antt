@@ -33,6 +33,7 @@ use Rattle.joins.specs.Joins.{refusedBody, unlessRefused}
 use Rattle.plates.specs.declared.PlanformGeometry.{PlanformGeometry}
 use Rattle.plates.specs.Integrals.{volume}
 use Rattle.plates.specs.Geometry.{unscaledArea, noGeometry, geometryOf}
+use Rattle.fillets.specs.Fillets.{filletsOf}
 use Rattle.plates.specs.Plates.{pivotOf, bulkFin, ofDensity, integralsOf, singleFinOf}
 use Rattle.rings.specs.Rings.{joinedCopies, ringOf}
 use Rattle.sets.specs.Sets.{joinedFinsOf}
@@ -57,27 +58,28 @@ pub gives-refusal : (verdict : Verdict) (refusal : Refusal) → verdict ≡ Refu
 gives-refusal verdict refusal e = subst (λ (v : Verdict). Gives v (numberOf refusal) (valuesOf refusal)) (sym e) (refl, refl)
 
 -- ---- one fin of bulk density, and the fins joined
-bulk-fin : (v : List Float) (cant : Float) (pivot : Vector) (x : Float) → FiguresOr8 (bulkFin v cant pivot x .verdict)
+bulk-fin : (v : List Float) (glue : Body) (cant : Float) (pivot : Vector) (x : Float) → FiguresOr8 (bulkFin v glue cant pivot x .verdict)
 unfolding bulkFin
-bulk-fin v cant pivot x = go (le (volume v) (bits 0)) (refusedBody NoArea) _ refl refl
+bulk-fin v glue cant pivot x = go (le (volume v) (bits 0)) (refusedBody NoArea) _ refl refl
   where
     go : (b : Bool) (none fin : Joined) → none .verdict ≡ Refused NoArea → fin .verdict ≡ Accepted → FiguresOr8 (cond b none fin .verdict)
     go true none fin p q = inr p
     go false none fin p q = inl q
 
-of-density : (density : Density) (v : List Float) (cant : Float) (pivot : Vector) → densityCheck density ≡ Accepted → FiguresOr8 (ofDensity density (bulkFin v cant pivot) .verdict)
+of-density : (density : Density) (v : List Float) (glue : Body) (cant : Float) (pivot : Vector) → densityCheck density ≡ Accepted → FiguresOr8 (ofDensity density (bulkFin v glue cant pivot) .verdict)
 unfolding densityCheck
-of-density (Bulk x) v cant pivot h = bulk-fin v cant pivot x
-of-density (Surface x) v cant pivot h = no-refusal _ h
-of-density (Line x) v cant pivot h = no-refusal _ h
+of-density (Bulk x) v glue cant pivot h = bulk-fin v glue cant pivot x
+of-density (Surface x) v glue cant pivot h = no-refusal _ h
+of-density (Line x) v glue cant pivot h = no-refusal _ h
 
 -- the count's check accepts, and so does the fin's: the first refusal of the two is the fin's
 fins-joined : (set : FinSet) (root scale : Float) (total : List Float) → countCheck (set .count) ≡ Accepted → densityCheck (set .density) ≡ Accepted
     → FiguresOr8 (joinedFinsOf set root scale total .verdict)
 unfolding ringOf singleFinOf firstRefusal
 fins-joined set root scale total c d =
-    go (countCheck (set .count)) c (ofDensity (set .density) (bulkFin (integralsOf set scale total) (set .«cant_rad») (pivotOf (set .«body_radius_m») root)) .verdict)
-    (of-density (set .density) (integralsOf set scale total) (set .«cant_rad») (pivotOf (set .«body_radius_m») root) d)
+    let glue = filletsOf (set .fillet) (set .«body_radius_m») root in
+    go (countCheck (set .count)) c (ofDensity (set .density) (bulkFin (integralsOf set scale total) glue (set .«cant_rad») (pivotOf (set .«body_radius_m») root)) .verdict)
+    (of-density (set .density) (integralsOf set scale total) glue (set .«cant_rad») (pivotOf (set .«body_radius_m») root) d)
     (joinedCopies (singleFinOf set root scale total .body) (set .«base_angle_rad») (set .count))
   where
     go : (count : Verdict) → count ≡ Accepted → (fin : Verdict) → FiguresOr8 fin → (body : Body) → FiguresOr8 (unlessRefused (firstRefusal count (firstRefusal fin Accepted)) body .verdict)

@@ -12,6 +12,8 @@ use Rattle.sections.specs.declared.NumberedSection.{NumberedSection}
 use Rattle.sections.specs.declared.NumberedSection.the-variants.{Known as sectionKnown, Unknown as noSection}
 use Rattle.materials.specs.declared.NumberedDensity.{NumberedDensity}
 use Rattle.materials.specs.declared.NumberedDensity.the-variants.{Known as densityKnown, Unknown as noDensity}
+use Rattle.fillets.specs.declared.NumberedFillet.{NumberedFillet}
+use Rattle.fillets.specs.declared.NumberedFillet.the-variants.{Known as filletKnown, Unknown as unknownFillet}
 use Rattle.fins.specs.declared.Tab.the-variants.{None, Slab}
 use Rattle.fins.specs.declared.NumberedTab.{NumberedTab}
 use Rattle.fins.specs.declared.NumberedTab.the-variants.{Known as tabKnown, Unknown as noTab}
@@ -27,13 +29,14 @@ numberedTab number figures =
     (cond (eqb (length figures) 3) (tabKnown (Slab (at figures 0) (at figures 1) (at figures 2))) noTab)
     noTab)
 
--- count, planform, thickness, section, tab, cant, base angle, body radius, density: a set where each part is known
-abbrev pub numberedSet : ℕ → NumberedPlanform → Float → NumberedSection → NumberedTab → Float → Float → Float → NumberedDensity → NumberedSet
-numberedSet count noPlanform thickness section tab cant base radius density = noSet
-numberedSet count (planformKnown planform) thickness noSection tab cant base radius density = noSet
-numberedSet count (planformKnown planform) thickness (sectionKnown section) noTab cant base radius density = noSet
-numberedSet count (planformKnown planform) thickness (sectionKnown section) (tabKnown tab) cant base radius noDensity = noSet
-numberedSet count (planformKnown planform) thickness (sectionKnown section) (tabKnown tab) cant base radius (densityKnown density) =
+-- count, planform, thickness, section, tab, fillet, cant, base angle, body radius, density: a set where each part is known
+abbrev pub numberedSet : ℕ → NumberedPlanform → Float → NumberedSection → NumberedTab → NumberedFillet → Float → Float → Float → NumberedDensity → NumberedSet
+numberedSet count noPlanform thickness section tab fillet cant base radius density = noSet
+numberedSet count (planformKnown planform) thickness noSection tab fillet cant base radius density = noSet
+numberedSet count (planformKnown planform) thickness (sectionKnown section) noTab fillet cant base radius density = noSet
+numberedSet count (planformKnown planform) thickness (sectionKnown section) (tabKnown tab) unknownFillet cant base radius density = noSet
+numberedSet count (planformKnown planform) thickness (sectionKnown section) (tabKnown tab) (filletKnown fillet) cant base radius noDensity = noSet
+numberedSet count (planformKnown planform) thickness (sectionKnown section) (tabKnown tab) (filletKnown fillet) cant base radius (densityKnown density) =
     setKnown
     (record {
       count = count;
@@ -41,6 +44,7 @@ numberedSet count (planformKnown planform) thickness (sectionKnown section) (tab
       «thickness_m» = thickness;
       «cross_section» = section;
       tab = tab;
+      fillet = fillet;
       «cant_rad» = cant;
       «base_angle_rad» = base;
       «body_radius_m» = radius;

@@ -1,11 +1,14 @@
 // A set of fins, and every check of it before the strips (fins.rs, `FinSet::validate` and the checks of `single_fin`).
 //
 // Document 01, "Order": 1, 2, 3; the planform; thickness; cant, base angle; the tab with 10; body radius; 11; 12; and document 02's 21
-// directly after the thickness. Each check stands for itself, and the first refusal is the answer.
+// directly after the thickness, a fillet's radius before the tab, its density and 22 behind the plate's. Each check stands for itself, and the
+// first refusal is the answer.
 ghost use mathlib.Core.Path.{_≡_};
 ghost use Rattle.refusals.specs.Order.{firstOf};
-ghost use Rattle.fins.specs.Fins.{trapezoidCheck, planformCheck, slabCheck, tabCheck, depthCheck, plateChecks, mountChecks, ownCheck, setCheck, areaCheck};
+ghost use Rattle.fins.specs.Fins.{trapezoidCheck, planformCheck, slabCheck, tabCheck, depthCheck, plateChecks, mountChecks, filletChecks, ownCheck, setCheck, areaCheck};
 ghost use Rattle.fins.specs.Numbered.{numberedTab, numberedSet};
+use fillets::Fillet;
+use fillets::NumberedFillet;
 use limits::check_angle;
 use limits::check_length;
 use materials::Density;
@@ -36,6 +39,7 @@ pub struct FinSet {
     pub thickness_m: f64,
     pub cross_section: Section,
     pub tab: Tab,
+    pub fillet: Fillet,
     pub cant_rad: f64,
     pub base_angle_rad: f64,
     pub body_radius_m: f64,
@@ -83,12 +87,13 @@ pub fn numbered_set(
     thickness_m: f64,
     section: NumberedSection,
     tab: NumberedTab,
+    fillet: NumberedFillet,
     cant_rad: f64,
     base_angle_rad: f64,
     body_radius_m: f64,
     density: NumberedDensity,
 ) -> NumberedSet
-    ensures { λ r. ⌜ r ≡ numberedSet count planform «thickness_m» section tab «cant_rad» «base_angle_rad» «body_radius_m» density ⌝ }
+    ensures { λ r. ⌜ r ≡ numberedSet count planform «thickness_m» section tab fillet «cant_rad» «base_angle_rad» «body_radius_m» density ⌝ }
 {
     let NumberedPlanform::Known(planform) = planform else {
         return NumberedSet::Unknown;
@@ -97,6 +102,9 @@ pub fn numbered_set(
         return NumberedSet::Unknown;
     };
     let NumberedTab::Known(tab) = tab else {
+        return NumberedSet::Unknown;
+    };
+    let NumberedFillet::Known(fillet) = fillet else {
         return NumberedSet::Unknown;
     };
     let NumberedDensity::Known(density) = density else {
@@ -108,6 +116,7 @@ pub fn numbered_set(
         thickness_m,
         cross_section,
         tab,
+        fillet,
         cant_rad,
         base_angle_rad,
         body_radius_m,
@@ -198,22 +207,38 @@ fn check_plate(root_chord_m: f64, thickness_m: f64, cant_rad: f64, base_angle_ra
     first_refusal(v, check_angle(limits::BASE_ANGLE, base_angle_rad))
 }
 
-// The tab, the body radius, how deep the tab reaches, and the density.
-fn check_mount(tab: Tab, root_chord_m: f64, body_radius_m: f64, density: Density) -> Verdict
-    ensures { λ r. ⌜ r ≡ firstOf (mountChecks tab «root_chord_m» «body_radius_m» density) ⌝ }
+// The fillet's radius, the tab, the body radius, how deep the tab reaches, and the density.
+fn check_mount(
+    tab: Tab,
+    fillet_radius_m: f64,
+    root_chord_m: f64,
+    body_radius_m: f64,
+    density: Density,
+) -> Verdict
+    ensures { λ r. ⌜ r ≡ firstOf (mountChecks tab «fillet_radius_m» «root_chord_m» «body_radius_m» density) ⌝ }
 {
-    let v = check_tab(tab, root_chord_m);
+    let v = check_length(limits::FILLET_RADIUS, fillet_radius_m);
+    let v = first_refusal(v, check_tab(tab, root_chord_m));
     let v = first_refusal(v, check_length(limits::BODY_RADIUS, body_radius_m));
     let v = first_refusal(v, check_depth(tab, body_radius_m));
     first_refusal(v, materials::check_density(density))
 }
 
-// The first refusal of the set itself, whatever the interval limit and the scratch: 3, the planform, and so on to 12.
+// The fillet's density and 22.
+fn check_fillet(fillet: Fillet, body_radius_m: f64) -> Verdict
+    ensures { λ r. ⌜ r ≡ firstOf (filletChecks fillet «body_radius_m») ⌝ }
+{
+    let v = fillets::check_glue(fillet);
+    first_refusal(v, fillets::check_ratio(fillet.radius_m, body_radius_m))
+}
+
+// The first refusal of the set itself, whatever the interval limit and the scratch: 3, the planform, and so on to 22.
 pub fn check_own(set: FinSet, points: &[f64]) -> Verdict
     ensures { λ r. ⌜ r ≡ ownCheck set (now (points .entry)) ⌝ }
 {
     let planform = set.planform;
     let tab = set.tab;
+    let fillet = set.fillet;
     let density = set.density;
     let v = limits::check_count(set.count);
     if is_refused(v) {
@@ -233,7 +258,17 @@ pub fn check_own(set: FinSet, points: &[f64]) -> Verdict
     if is_refused(v) {
         return v;
     }
-    check_mount(tab, root_chord_m, set.body_radius_m, density)
+    let v = check_mount(
+        tab,
+        fillet.radius_m,
+        root_chord_m,
+        set.body_radius_m,
+        density,
+    );
+    if is_refused(v) {
+        return v;
+    }
+    check_fillet(fillet, set.body_radius_m)
 }
 
 // The first refusal of a set before its strips: of the interval limit, of the length of the lent scratch, of the set itself.

@@ -25,6 +25,10 @@ section r = oneOf (text "square" ∷ text "rounded" ∷ text "airfoil" ∷ text 
 unfoldable pub tab : Reading → Reading
 tab r = optional (text "(tab F F F)" ∷ []) r
 
+-- "(fillet F DENSITY) or left out" (document 02, Paper 6): its number is the density's
+unfoldable pub fillet : Reading → Reading
+fillet r = optional (text "(fillet F (bulk F))" ∷ text "(fillet F (surface F))" ∷ text "(fillet F (line F))" ∷ []) r
+
 unfoldable pub density : Reading → Reading
 density r = oneOf (text "(bulk F)" ∷ text "(surface F)" ∷ text "(line F)" ∷ []) r
 
@@ -37,9 +41,10 @@ part name r =
     pick (sameBytes name (text "PLANFORM")) (planform r)
     (pick (sameBytes name (text "SECTION")) (section r)
     (pick (sameBytes name (text "TAB")) (tab r)
+    (pick (sameBytes name (text "FILLET")) (fillet r)
     (pick (sameBytes name (text "DENSITY")) (density r)
     (pick (sameBytes name (text "POINTS")) (points r)
-    (takeOne name r)))))
+    (takeOne name r))))))
 
 -- ---- a form
 
@@ -60,13 +65,13 @@ abbrev pub numberIn : Reading → ℕ
 numberIn failed = 0
 numberIn (reading ts t) = t .number
 
--- The counts and parts of a form, the last first: of each how many figures stand up to its end, and its number. No form has more than six.
+-- The counts and parts of a form, the last first: of each how many figures stand up to its end, and its number. No form has more than eight.
 abbrev pub noNumbers : List ℕ
-noNumbers = 0 ∷ 0 ∷ 0 ∷ 0 ∷ 0 ∷ 0 ∷ 0 ∷ 0 ∷ 0 ∷ 0 ∷ 0 ∷ 0 ∷ []
+noNumbers = 0 ∷ 0 ∷ 0 ∷ 0 ∷ 0 ∷ 0 ∷ 0 ∷ 0 ∷ 0 ∷ 0 ∷ 0 ∷ 0 ∷ 0 ∷ 0 ∷ 0 ∷ 0 ∷ []
 
 abbrev pub withItem : ℕ → ℕ → List ℕ → List ℕ
 withItem end number ns =
-    end ∷ number ∷ getD ns 0 0 ∷ getD ns 1 0 ∷ getD ns 2 0 ∷ getD ns 3 0 ∷ getD ns 4 0 ∷ getD ns 5 0 ∷ getD ns 6 0 ∷ getD ns 7 0 ∷ getD ns 8 0 ∷ getD ns 9 0 ∷ []
+    end ∷ number ∷ getD ns 0 0 ∷ getD ns 1 0 ∷ getD ns 2 0 ∷ getD ns 3 0 ∷ getD ns 4 0 ∷ getD ns 5 0 ∷ getD ns 6 0 ∷ getD ns 7 0 ∷ getD ns 8 0 ∷ getD ns 9 0 ∷ getD ns 10 0 ∷ getD ns 11 0 ∷ getD ns 12 0 ∷ getD ns 13 0 ∷ []
 
 abbrev pub numbersAfter : List ℕ → ℕ → ℕ → List ℕ → List ℕ
 numbersAfter name end number ns = cond (isNumbered name) (withItem end number ns) ns
@@ -123,7 +128,7 @@ laterForm line =
 
 unfoldable pub anyForm : List ℕ → Asked
 anyForm line =
-    row line "set" Set "(set (limit N) (count N) PLANFORM (thickness F) (section SECTION) TAB (cant F) (base F) (radius F) DENSITY)"
+    row line "set" Set "(set (limit N) (count N) PLANFORM (thickness F) (section SECTION) TAB FILLET (cant F) (base F) (radius F) DENSITY)"
     (row line "area" Area "(area (limit N) PLANFORM)"
     (row line "join" Join "(join POINTS)"
     (row line "moments" Moments "(moments F F F F F F)"

@@ -34,12 +34,12 @@ pub struct Request {
     pub form: Form,
     pub verdict: Verdict,
     pub figures: usize,
-    pub numbers: [usize; 12],
+    pub numbers: [usize; 16],
 }
 
 // The counts and parts of a form so far.
 struct Items {
-    numbers: [usize; 12],
+    numbers: [usize; 16],
 }
 
 fn refused(refusal: Refusal) -> Request
@@ -50,7 +50,7 @@ fn refused(refusal: Refusal) -> Request
         form: Form::NoForm,
         verdict,
         figures: 0,
-        numbers: [0; 12],
+        numbers: [0; 16],
     }
 }
 
@@ -72,6 +72,14 @@ fn take_part(line: &[u8], c: Cursor, name: &[u8], values: &mut [f64]) -> Cursor
     }
     if same_bytes(name, b"TAB") {
         return templates::take_optional(line, c, b"(tab F F F)", values);
+    }
+    if same_bytes(name, b"FILLET") {
+        return templates::take_optional(
+            line,
+            c,
+            b"(fillet F (bulk F))|(fillet F (surface F))|(fillet F (line F))",
+            values,
+        );
     }
     if same_bytes(name, b"DENSITY") {
         return templates::take_one_of(line, c, b"(bulk F)|(surface F)|(line F)", values);
@@ -117,6 +125,10 @@ fn with_item(end: usize, number: usize, items: Items) -> Items
             a[7],
             a[8],
             a[9],
+            a[10],
+            a[11],
+            a[12],
+            a[13],
         ],
     }
 }
@@ -149,7 +161,7 @@ fn read_form(line: &[u8], form: Form, template: &[u8], values: &mut [f64]) -> Re
     ensures { λ r. ⌜ Reads (now (values .exit)) r (readAs form (now (template .entry)) (now (line .entry))) ⌝ }
 {
     let mut s = templates::line_start();
-    let mut items = Items { numbers: [0; 12] };
+    let mut items = Items { numbers: [0; 16] };
     let mut i: usize = 0;
     while i < template.len() {
         let wanted = tokens::next_token(template, i);
@@ -229,7 +241,7 @@ pub fn read_line(line: &[u8], values: &mut [f64]) -> Request
         return read_form(
             line,
             Form::Set,
-            b"(set (limit N) (count N) PLANFORM (thickness F) (section SECTION) TAB (cant F) (base F) (radius F) DENSITY)",
+            b"(set (limit N) (count N) PLANFORM (thickness F) (section SECTION) TAB FILLET (cant F) (base F) (radius F) DENSITY)",
             values,
         );
     }

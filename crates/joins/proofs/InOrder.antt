@@ -7,7 +7,7 @@ use Rattle.bodies.specs.declared.Vector.{Vector}
 use Rattle.bodies.specs.Tensors.{zeroTensor, addTensors}
 use Rattle.bodies.specs.Bodies.{inertiaAboutOf}
 use Rattle.joins.specs.declared.Sums.{Sums}
-use Rattle.joins.specs.Joins.{inOrder, noSums, sumsOf, addBody, centreOf, inertiaOf, atCentre, addInertia, joinOf}
+use Rattle.joins.specs.Joins.{inOrder, noSums, sumsOf, addBody, centreOf, inertiaOf, atCentre, addInertia, joinOf, twoBodies}
 
 module _ (f : ℕ → Body) where
   pub no-sums : noSums ≡ sumsOf f 0
@@ -62,3 +62,8 @@ module _ (f : ℕ → Body) where
 
   pub all-added : (n : ℕ) {none s : Sums} {t r : Body} → none ≡ noSums → s ≡ inOrder addBody none f n → t ≡ atCentre s → r ≡ inOrder addInertia t f n → r ≡ joinOf f n
   all-added n p e q h = rw (h, q, e, p, sums-added n) (inertia-added n n ∙ all-joined n)
+
+-- the steps over two bodies
+pub two-added : (a b : Body) {none s s' : Sums} {t u r : Body} → none ≡ noSums → s ≡ addBody none a → s' ≡ addBody s b → t ≡ atCentre s' → u ≡ addInertia t a → r ≡ addInertia u b → r ≡ joinOf (twoBodies a b) 2
+unfolding inOrder
+two-added a b p e e' q h h' = all-added (twoBodies a b) 2 p (rw (e', e)) q (rw (h', h))

@@ -58,6 +58,11 @@ joinOf f n =
       «inertia_kg_m2» = inertiaOf f (centreOf (sumsOf f n)) n;
     }
 
+-- a list of two
+abbrev pub twoBodies : Body → Body → ℕ → Body
+twoBodies first second zero = first
+twoBodies first second (suc k) = second
+
 abbrev pub acceptedBody : Body → Joined
 acceptedBody body = record { verdict = Accepted; body = body }
 

@@ -8,7 +8,7 @@ ghost use Prim.Native.Nat.{_+_, _*_, _≤_};
 ghost use lib.ListN.{length};
 ghost use Rattle.bodies.specs.Layout.{bodyNumbers};
 ghost use Rattle.joins.specs.Flat.{bodyAt, withBody};
-ghost use Rattle.joins.specs.Joins.{sumsOf, noSums, addBody, centreOf, atCentre, addInertia, joinOf, acceptedBody, refusedBody, combineOf};
+ghost use Rattle.joins.specs.Joins.{sumsOf, noSums, addBody, centreOf, atCentre, addInertia, joinOf, twoBodies, acceptedBody, refusedBody, combineOf};
 use bodies::BODY_NUMBERS;
 use bodies::Body;
 use bodies::Vector;
@@ -185,4 +185,12 @@ pub fn add_inertia(joined: Body, body: Body) -> Body
         centre_m,
         inertia_kg_m2,
     }
+}
+
+// Two bodies joined.
+pub fn join_two(first: Body, second: Body) -> Body
+    ensures { λ r. ⌜ r ≡ joinOf (twoBodies first second) 2 ⌝ }
+{
+    let sums = add_body(add_body(no_sums(), first), second);
+    add_inertia(add_inertia(at_centre(sums), first), second)
 }

@@ -39,6 +39,8 @@ pub const TUBE_LENGTH: usize = 14;
 
 pub const OUTER_RADIUS: usize = 15;
 
+pub const FILLET_RADIUS: usize = 16;
+
 pub const DRILL_X: usize = 17;
 
 pub const DRILL_HEIGHT: usize = 18;
@@ -91,6 +93,7 @@ fn zero_allowed(field: usize) -> bool
         | (field == POINT_Y)
         | (field == TAB_OFFSET)
         | (field == BODY_RADIUS)
+        | (field == FILLET_RADIUS)
         | (field == DRILL_X)
         | (field == DRILL_HEIGHT)
 }

@@ -102,6 +102,7 @@ withCount s n =
       «thickness_m» = s .«thickness_m»;
       «cross_section» = s .«cross_section»;
       tab = s .tab;
+      fillet = s .fillet;
       «cant_rad» = s .«cant_rad»;
       «base_angle_rad» = s .«base_angle_rad»;
       «body_radius_m» = s .«body_radius_m»;

@@ -1,4 +1,4 @@
--- One fin's body from its volume integrals (document 01, "Set and planform" and "Refusal numbers"; fins.rs, `single_fin`).
+-- One fin's body from its volume integrals (document 01, "Set and planform" and "Refusal numbers"; document 02, Paper 6; fins.rs, `single_fin`).
 use mathlib.Core.Bool.{cond}
 use mathlib.Core.List.{List}
 use lib.Ieee.{Float, neg, eq, le}
@@ -7,16 +7,17 @@ use Rattle.floats.specs.Constants.{half}
 use Rattle.bodies.specs.declared.Body.{Body}
 use Rattle.bodies.specs.declared.Tensor.{Tensor}
 use Rattle.bodies.specs.declared.Vector.{Vector}
-use Rattle.bodies.specs.Vectors.{vector, zeroVector}
-use Rattle.bodies.specs.Tensors.{symmetric, zeroTensor, subtractTensors, scaleTensor}
-use Rattle.bodies.specs.Bodies.{inertiaAboutOf, translatedOf}
+use Rattle.bodies.specs.Vectors.{vector}
+use Rattle.bodies.specs.Tensors.{symmetric, scaleTensor}
+use Rattle.bodies.specs.Bodies.{translatedOf, ofOriginTensor}
 use Rattle.rotations.specs.Rotations.{rotatedXOf}
 use Rattle.refusals.specs.declared.Refusal.the-variants.{NoArea, Density as density}
 use Rattle.materials.specs.declared.Density.{Density}
 use Rattle.materials.specs.declared.Density.the-variants.{Bulk, Surface, Line}
+use Rattle.fillets.specs.Fillets.{filletsOf}
 use Rattle.fins.specs.declared.FinSet.{FinSet}
 use Rattle.joins.specs.declared.Joined.{Joined}
-use Rattle.joins.specs.Joins.{acceptedBody, refusedBody}
+use Rattle.joins.specs.Joins.{joinOf, twoBodies, acceptedBody, refusedBody}
 use Rattle.plates.specs.Integrals.{volume, r1, r2, x1, x2, rx, tau2, unscaledOf, tabIntegralsOf, addIntegrals}
 
 -- the tensor about the origin, of points at (r, τ, −x); its entries are summed first, then times the density
@@ -24,23 +25,14 @@ abbrev pub aboutOrigin : List Float → Float → Tensor
 aboutOrigin v kgPerM3 =
     scaleTensor (symmetric (tau2 v ⊕ x2 v) (r2 v ⊕ x2 v) (r2 v ⊕ tau2 v) (bits 0) (rx v) (bits 0)) kgPerM3
 
--- the plate's mass at its centre, with no tensor of its own (the Rust's `at_origin`)
-abbrev pub atCentre : List Float → Float → Body
-atCentre v kgPerM3 =
-    record {
-      «mass_kg» = kgPerM3 ⊗ volume v;
-      «centre_m» = vector (r1 v ⊘ volume v) (bits 0) (neg (x1 v) ⊘ volume v);
-      «inertia_kg_m2» = zeroTensor;
-    }
-
--- the tensor moved from the origin to the centre
+-- the plate: its tensor moved from the origin to the centre
 unfoldable pub plateBody : List Float → Float → Body
 plateBody v kgPerM3 =
-    record {
-      «mass_kg» = atCentre v kgPerM3 .«mass_kg»;
-      «centre_m» = atCentre v kgPerM3 .«centre_m»;
-      «inertia_kg_m2» = subtractTensors (aboutOrigin v kgPerM3) (inertiaAboutOf (atCentre v kgPerM3) zeroVector);
-    }
+    ofOriginTensor (kgPerM3 ⊗ volume v) (vector (r1 v ⊘ volume v) (bits 0) (neg (x1 v) ⊘ volume v)) (aboutOrigin v kgPerM3)
+
+-- plate and fillets of one fin are joined first; "None is added for zero mass" (document 02, Paper 6), and then nothing is joined
+unfoldable pub withFillets : Body → Body → Body
+withFillets plate fillets = cond (eq (fillets .«mass_kg») (bits 0)) plate (joinOf (twoBodies plate fillets) 2)
 
 abbrev pub negateVector : Vector → Vector
 negateVector u = vector (neg (u .x)) (neg (u .y)) (neg (u .z))
@@ -54,10 +46,10 @@ unfoldable pub cantedOf : Body → Float → Vector → Body
 cantedOf fin cant pivot = cond (eq cant (bits 0)) fin (translatedOf (rotatedXOf (translatedOf fin (negateVector pivot)) cant) pivot)
 
 -- 8: "area or volume <= 0"
-unfoldable pub bulkFin : List Float → Float → Vector → Float → Joined
-bulkFin v cant pivot kgPerM3 =
+unfoldable pub bulkFin : List Float → Body → Float → Vector → Float → Joined
+bulkFin v fillets cant pivot kgPerM3 =
     cond (le (volume v) (bits 0)) (refusedBody NoArea)
-    (acceptedBody (cantedOf (plateBody v kgPerM3) cant pivot))
+    (acceptedBody (cantedOf (withFillets (plateBody v kgPerM3) fillets) cant pivot))
 
 -- 12: "density not bulk"
 abbrev pub ofDensity : Density → (Float → Joined) → Joined
@@ -69,7 +61,8 @@ ofDensity (Line x) fin = refusedBody density
 abbrev pub integralsOf : FinSet → Float → List Float → List Float
 integralsOf set scale total = addIntegrals (unscaledOf total scale) (tabIntegralsOf (set .tab) (set .«thickness_m») (set .«body_radius_m»))
 
--- one fin with its tab, at roll 0, from the strips' scaled totals and the root chord
+-- one fin with its tab and fillets, at roll 0, from the strips' scaled totals and the root chord
 unfoldable pub singleFinOf : FinSet → Float → Float → List Float → Joined
 singleFinOf set root scale total =
-    ofDensity (set .density) (bulkFin (integralsOf set scale total) (set .«cant_rad») (pivotOf (set .«body_radius_m») root))
+    ofDensity (set .density)
+    (bulkFin (integralsOf set scale total) (filletsOf (set .fillet) (set .«body_radius_m») root) (set .«cant_rad») (pivotOf (set .«body_radius_m») root))

@@ -2,10 +2,11 @@
 //
 // A point of the fin lies at (r, τ, −x): r outward from the body's axis, x aft of the root's leading edge, τ across the plate. With V,
 // ∫r, ∫r², ∫x, ∫x², ∫rx, ∫τ² over the volume and a density ρ, about the origin I = ρ [τ²+x², 0, rx; 0, r²+x², 0; rx, 0, r²+τ²], and
-// I − m (|c|² E − c cᵀ) about the centre c = (∫r / V, 0, −∫x / V). Cant turns the fin about its span axis through the root's middle.
+// I − m (|c|² E − c cᵀ) about the centre c = (∫r / V, 0, −∫x / V). The fillets at its root are joined with it; then cant turns the fin about
+// its span axis through the root's middle.
 ghost use mathlib.Core.Path.{_≡_};
 ghost use Rattle.plates.specs.Integrals.{unscaledOf, slabOf, tabIntegralsOf, addIntegrals};
-ghost use Rattle.plates.specs.Plates.{aboutOrigin, atCentre, plateBody, cantedOf, bulkFin, singleFinOf};
+ghost use Rattle.plates.specs.Plates.{aboutOrigin, plateBody, withFillets, cantedOf, bulkFin, singleFinOf};
 ghost use Rattle.plates.specs.Geometry.{geometryOf};
 use bodies::Body;
 use bodies::Tensor;
@@ -110,42 +111,29 @@ fn about_origin(v: [f64; 7], kg_m3: f64) -> Tensor
     Tensor::symmetric(xx, yy, zz, 0.0, rx, 0.0).scale(kg_m3)
 }
 
-// Its mass at its centre, with no tensor of its own.
-fn at_centre(v: [f64; 7], kg_m3: f64) -> Body
-    ensures { λ r. ⌜ r ≡ atCentre v «kg_m3» ⌝ }
+// The plate with the integrals v, its tensor moved from the origin to the centre.
+fn plate(v: [f64; 7], kg_m3: f64) -> Body
+    ensures { λ r. ⌜ r ≡ plateBody v «kg_m3» ⌝ }
 {
     let volume = v[0];
     let r1 = v[1];
     let x1 = v[3];
-    let mass_kg = kg_m3 * volume;
     let centre_m = Vector {
         x: r1 / volume,
         y: 0.0,
         z: -x1 / volume,
     };
-    let zero = Body::ZERO;
-    let inertia_kg_m2 = zero.inertia_kg_m2;
-    Body {
-        mass_kg,
-        centre_m,
-        inertia_kg_m2,
-    }
+    bodies::of_origin_tensor(kg_m3 * volume, centre_m, about_origin(v, kg_m3))
 }
 
-// The plate with the integrals v, its tensor moved from the origin to the centre.
-fn plate(v: [f64; 7], kg_m3: f64) -> Body
-    ensures { λ r. ⌜ r ≡ plateBody v «kg_m3» ⌝ }
+// The plate joined with the fillets at its root; where these weigh nothing nothing is joined, and the plate stays bit for bit.
+fn with_fillets(plate: Body, fillets: Body) -> Body
+    ensures { λ r. ⌜ r ≡ withFillets plate fillets ⌝ }
 {
-    let mass = at_centre(v, kg_m3);
-    let centre_m = mass.centre_m;
-    let zero = Body::ZERO;
-    let origin = zero.centre_m;
-    let inertia_kg_m2 = about_origin(v, kg_m3).subtract(mass.inertia_about(origin));
-    Body {
-        mass_kg: mass.mass_kg,
-        centre_m,
-        inertia_kg_m2,
+    if fillets.mass_kg == 0.0 {
+        return plate;
     }
+    joins::join_two(plate, fillets)
 }
 
 // The fin turned about the span axis through `pivot_m`; either zero leaves it bit for bit.
@@ -163,17 +151,18 @@ fn canted(fin: Body, cant_rad: f64, pivot_m: Vector) -> Body
     rotations::rotated_x(fin.translated(back_m), cant_rad).translated(pivot_m)
 }
 
-// The fin with the integrals v; refused 8 for a volume not above 0, but not for a NaN.
-fn bulk_fin(v: [f64; 7], cant_rad: f64, pivot_m: Vector, kg_m3: f64) -> Joined
-    ensures { λ r. ⌜ r ≡ bulkFin v «cant_rad» «pivot_m» «kg_m3» ⌝ }
+// The fin with the integrals v and its fillets; refused 8 for a volume not above 0, but not for a NaN.
+fn bulk_fin(v: [f64; 7], glue: Body, cant_rad: f64, pivot_m: Vector, kg_m3: f64) -> Joined
+    ensures { λ r. ⌜ r ≡ bulkFin v glue «cant_rad» «pivot_m» «kg_m3» ⌝ }
 {
     if v[0] <= 0.0 {
         return joins::refused(Refusal::NoArea);
     }
-    joins::accepted(canted(plate(v, kg_m3), cant_rad, pivot_m))
+    let fin = with_fillets(plate(v, kg_m3), glue);
+    joins::accepted(canted(fin, cant_rad, pivot_m))
 }
 
-// One fin with its tab at roll angle 0, canted, from the strips' totals; `scale_m` is what every length of a strip was divided by.
+// One fin with its tab and fillets at roll angle 0, canted, from the strips' totals; `scale_m` is what every length of a strip was divided by.
 pub fn single_fin(set: FinSet, root_chord_m: f64, scale_m: f64, total: [f64; 7]) -> Joined
     ensures { λ r. ⌜ r ≡ singleFinOf set «root_chord_m» «scale_m» total ⌝ }
 {
@@ -185,9 +174,11 @@ pub fn single_fin(set: FinSet, root_chord_m: f64, scale_m: f64, total: [f64; 7])
         y: 0.0,
         z: -0.5 * root_chord_m,
     };
+    let fillet = set.fillet;
+    let glue = fillets::fillets(fillet, set.body_radius_m, root_chord_m);
     let density = set.density;
     match density {
-        Density::Bulk { kg_m3 } => bulk_fin(v, set.cant_rad, pivot_m, kg_m3),
+        Density::Bulk { kg_m3 } => bulk_fin(v, glue, set.cant_rad, pivot_m, kg_m3),
         Density::Surface { kg_m2: _ } => joins::refused(Refusal::Density),
         Density::Line { kg_m: _ } => joins::refused(Refusal::Density),
     }

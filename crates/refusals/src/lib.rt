@@ -37,6 +37,7 @@ pub enum Refusal {
     NoFigure,
     WallOverRadius,
     ThicknessOverRoot,
+    FilletRatio,
     NoCorners,
     NotWholeSteps,
 }
@@ -124,6 +125,7 @@ fn row_of(refusal: Refusal) -> Row
         Refusal::NoFigure => Row(19, [0, 0]),
         Refusal::WallOverRadius => Row(20, [0, 0]),
         Refusal::ThicknessOverRoot => Row(21, [0, 0]),
+        Refusal::FilletRatio => Row(22, [0, 0]),
         Refusal::NoCorners => Row(24, [0, 0]),
         Refusal::NotWholeSteps => Row(25, [0, 0]),
     }

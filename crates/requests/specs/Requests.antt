@@ -8,6 +8,7 @@ use Rattle.floats.specs.Operations.{at}
 use Rattle.planforms.specs.Numbered.{numberedPlanform}
 use Rattle.sections.specs.Numbered.{numberedSection}
 use Rattle.materials.specs.Numbered.{numberedDensity}
+use Rattle.fillets.specs.Numbered.{numberedFillet}
 use Rattle.fins.specs.Numbered.{numberedTab, numberedSet}
 use Rattle.joins.specs.declared.Joined.{Joined}
 use Rattle.drill.specs.declared.Answer.{Answer}
@@ -30,24 +31,25 @@ end ns k = getD ns (2 * k) 0
 abbrev pub between : ℕ → ℕ → List Float → List Float
 between from to figures = take (to - from) (drop from figures)
 
--- "(set (limit N) (count N) PLANFORM (thickness F) (section SECTION) TAB (cant F) (base F) (radius F) DENSITY)": limit 5, count 4, planform 3,
--- section 2, tab 1, density 0
+-- "(set (limit N) (count N) PLANFORM (thickness F) (section SECTION) TAB FILLET (cant F) (base F) (radius F) DENSITY)": limit 6, count 5, planform 4,
+-- section 3, tab 2, fillet 1, density 0
 unfoldable pub setRequestOf : List ℕ → List Float → SetRequest
 setRequestOf ns figures =
-    let behindTab = drop (end ns 1) figures in
+    let behindFillet = drop (end ns 1) figures in
     record {
-      limit = number ns 5;
+      limit = number ns 6;
       set =
-          numberedSet (number ns 4)
-          (numberedPlanform (number ns 3) (between 0 (end ns 3) figures))
-          (at figures (end ns 3))
-          (numberedSection (number ns 2))
-          (numberedTab (number ns 1) (between (end ns 2) (end ns 1) figures))
-          (at behindTab 0)
-          (at behindTab 1)
-          (at behindTab 2)
-          (numberedDensity (number ns 0) (at behindTab 3));
-      points = end ns 3;
+          numberedSet (number ns 5)
+          (numberedPlanform (number ns 4) (between 0 (end ns 4) figures))
+          (at figures (end ns 4))
+          (numberedSection (number ns 3))
+          (numberedTab (number ns 2) (between (end ns 3) (end ns 2) figures))
+          (numberedFillet (number ns 1) (between (end ns 2) (end ns 1) figures))
+          (at behindFillet 0)
+          (at behindFillet 1)
+          (at behindFillet 2)
+          (numberedDensity (number ns 0) (at behindFillet 3));
+      points = end ns 4;
     }
 
 -- "(area (limit N) PLANFORM)": limit 1, planform 0

@@ -87,27 +87,27 @@ fn set_request(q: Request, values: &[f64]) -> SetRequest
     ensures { λ r. ⌜ r ≡ setRequestOf (q .numbers) (now (values .entry)) ⌝ }
 {
     let n = q.numbers;
-    let planform = planforms::numbered_planform(n[7], between(values, 0, n[6]));
-    let section = sections::numbered_section(n[5]);
-    let tab = fins::numbered_tab(n[3], between(values, n[4], n[2]));
+    let planform = planforms::numbered_planform(n[9], between(values, 0, n[8]));
+    let section = sections::numbered_section(n[7]);
+    let tab = fins::numbered_tab(n[5], between(values, n[6], n[4]));
+    let fillet = fillets::numbered_fillet(n[3], between(values, n[4], n[2]));
     let rest = behind(values, n[2]);
     let density = materials::numbered_density(n[1], figure(rest, 3));
     let set = fins::numbered_set(
-        n[9],
+        n[11],
         planform,
-        figure(values, n[6]),
+        figure(values, n[8]),
         section,
         tab,
+        fillet,
         figure(rest, 0),
         figure(rest, 1),
         figure(rest, 2),
         density,
     );
-    SetRequest {
-        limit: n[11],
-        set,
-        points: n[6],
-    }
+    let limit = n[13];
+    let points = n[8];
+    SetRequest { limit, set, points }
 }
 
 // What an area's line asks.

@@ -22,6 +22,12 @@ use Rattle.materials.specs.declared.Density.{Density}
 use Rattle.materials.specs.declared.Density.the-variants.{Bulk, Surface, Line}
 use Rattle.materials.specs.Materials.{densityCheck}
 use Rattle.sections.specs.declared.Section.the-variants.{Square}
+use Rattle.trig.specs.Trig.{mOf, steps, quarterOf, sinCosOf}
+use Rattle.fillets.specs.declared.Fillet.{Fillet}
+use Rattle.fillets.specs.Numbered.{noFillet}
+use Rattle.fillets.specs.Angles.{angleOf}
+use Rattle.fillets.specs.FilletSections.{spanLessSineOf, sectorOf, filletSectionOf}
+use Rattle.fillets.specs.Fillets.{isNone, isSound, ratioCheck}
 use Rattle.fins.specs.declared.FinSet.{FinSet}
 use Rattle.fins.specs.declared.Tab.{Tab}
 use Rattle.fins.specs.declared.Tab.the-variants.{None, Slab}
@@ -35,7 +41,7 @@ use Rattle.root.specs.Root.{nearRoot, rootOf}
 use Rattle.body_check.specs.BodyCheck.{largestMagnitude, checkTensor, checkOf}
 use Rattle.test_definitions.specs.Rows.{is, are, accepted, refused}
 
--- the bits of 0.01, 0.02, 0.03, 0.2, 1, 2, 3 and 65, of a NaN and of infinity
+-- the bits of 0.01, 0.02, 0.03, 0.2, 1, 2, 3, 65 and 64, of a NaN and of infinity
 abbrev pub d01 : ℕ
 d01 = 0x3f84_7ae1_47ae_147b
 
@@ -59,6 +65,9 @@ three = 0x4008_0000_0000_0000
 
 abbrev pub large : ℕ
 large = 0x4050_4000_0000_0000
+
+abbrev sixtyFour : ℕ
+sixtyFour = 0x4050_0000_0000_0000
 
 abbrev pub notNumber : ℕ
 notNumber = 0x7ff8_0000_0000_0000
@@ -107,6 +116,7 @@ refusal-table =
     && refused 19 [] (Refused refusal.NoFigure)
     && refused 20 [] (Refused refusal.WallOverRadius)
     && refused 21 [] (Refused refusal.ThicknessOverRoot)
+    && refused 22 [] (Refused refusal.FilletRatio)
     && refused 24 [] (Refused refusal.NoCorners)
     && refused 25 [] (Refused refusal.NotWholeSteps)
 
@@ -145,10 +155,11 @@ fieldsFrom field test [] = true
 fieldsFrom field test (b ∷ bs) = cond b (test field) (not (test field)) && fieldsFrom (suc field) test bs
 
 -- "Zero is allowed for tip chord, sweep, x, y, tab offset and body radius only. Only sweep, x and tab offset may pass this check negative."
+-- A fillet's radius, field 16, may be zero.
 abbrev pub zero-and-negative : Bool
 zero-and-negative =
-    fieldsFrom 1 (λ field. accepted (lengthCheck field (bits 0))) (false ∷ true ∷ false ∷ true ∷ true ∷ true ∷ false ∷ false ∷ false ∷ true ∷ true ∷ [])
-    && fieldsFrom 1 (λ field. accepted (lengthCheck field (bits (minus one)))) (false ∷ false ∷ false ∷ true ∷ true ∷ false ∷ false ∷ false ∷ false ∷ true ∷ false ∷ [])
+    fieldsFrom 1 (λ field. accepted (lengthCheck field (bits 0))) (false ∷ true ∷ false ∷ true ∷ true ∷ true ∷ false ∷ false ∷ false ∷ true ∷ true ∷ false ∷ false ∷ false ∷ false ∷ true ∷ [])
+    && fieldsFrom 1 (λ field. accepted (lengthCheck field (bits (minus one)))) (false ∷ false ∷ false ∷ true ∷ true ∷ false ∷ false ∷ false ∷ false ∷ true ∷ false ∷ false ∷ false ∷ false ∷ false ∷ false ∷ [])
 
 -- "bulk density 0 or 2^-10 to 2^15"; "surface 0.1"
 abbrev pub limits-of-densities : Bool
@@ -214,10 +225,13 @@ planformAt k =
 
 abbrev tabAt : ℕ → Tab
 tabAt k =
-    Slab (bits (unlessMended k 11 large d03)) (bits (unlessMended k 12 large d2)) (bits (unlessMended k 13 large (unlessMended k 14 d01 0)))
+    Slab (bits (unlessMended k 12 large d03)) (bits (unlessMended k 13 large d2)) (bits (unlessMended k 14 large (unlessMended k 15 d01 0)))
 
-abbrev densityAt : ℕ → Density
-densityAt k = cond (leb k 17) (Surface (bits one)) (Bulk (bits one))
+abbrev densityAt : ℕ → ℕ → Density
+densityAt k fault = cond (leb k fault) (Surface (bits one)) (Bulk (bits 0))
+
+abbrev filletAt : ℕ → Fillet
+filletAt k = record { «radius_m» = bits (unlessMended k 11 large sixtyFour); density = densityAt k 19 }
 
 abbrev setAt : ℕ → FinSet
 setAt k =
@@ -227,14 +241,17 @@ setAt k =
       «thickness_m» = bits (unlessMended k 7 large (unlessMended k 8 one d2));
       «cross_section» = Square;
       tab = tabAt k;
+      fillet = filletAt k;
       «cant_rad» = bits (unlessMended k 9 notNumber 0);
       «base_angle_rad» = bits (unlessMended k 10 notNumber 0);
-      «body_radius_m» = bits (unlessMended k 15 (minus d01) (unlessMended k 16 d02 one));
-      density = densityAt k;
+      «body_radius_m» = bits (unlessMended k 16 (minus d01) (unlessMended k 17 d02 (unlessMended k 20 d03 one)));
+      density = densityAt k 18;
     }
 
 -- "Order: 18, 1, 2, 3; planform lengths as listed above ..; thickness; cant, base angle; tab height, length, offset, 10; body radius; 11; 12";
--- and 21 "directly after the thickness limits; equality passes": thickness 65, then 1, then 0.2 over the root chord 0.2
+-- and 21 "directly after the thickness limits; equality passes": thickness 65, then 1, then 0.2 over the root chord 0.2; a fillet's "radius limit
+-- stands between base angle and tab", its density "directly after the plate's", and 22 "directly after the fillet's density, zero or not": of
+-- density 0 and radius 64, on a body of radius 0.03, then of 1
 abbrev pub set-order : Bool
 set-order =
     refusedFrom (λ k. setCheck (setAt k) [] (unlessMended k 0 0 8) (unlessMended k 1 127 128)) 0
@@ -249,6 +266,7 @@ set-order =
     ∷ (21, [])
     ∷ (9, 12 ∷ [])
     ∷ (9, 13 ∷ [])
+    ∷ (4, 16 ∷ [])
     ∷ (4, 8 ∷ [])
     ∷ (4, 9 ∷ [])
     ∷ (4, 10 ∷ [])
@@ -256,6 +274,8 @@ set-order =
     ∷ (4, 11 ∷ [])
     ∷ (11, [])
     ∷ (12, [])
+    ∷ (12, [])
+    ∷ (22, [])
     ∷ [])
 
 -- a set without fault but for what 21 is asked of: planform, points and thickness
@@ -268,6 +288,7 @@ thickSet planform points thickness =
       «thickness_m» = bits thickness;
       «cross_section» = Square;
       tab = None;
+      fillet = noFillet;
       «cant_rad» = bits 0;
       «base_angle_rad» = bits 0;
       «body_radius_m» = bits one;
@@ -329,5 +350,5 @@ pub checks-hold :
     && area-order
     && body-order
     && empty-body-passes)
-unfolding ofBits toBits ofInt add sub mul div neg lt le eq ne absOf isRefused firstRefusal firstFrom every lengthWithin lengthCheck angleCheck scratchCheck densityCheck isInBox segmentsTouch sumOfTerms outlineCheck largestHeight rootChordOf planformCheck tabCheck depthCheck setCheck areaCheck rootOf nearRoot rotationOf rotate sweep sweeps insertMoment insertAll eigenvaluesOf largestMagnitude checkTensor
+unfolding ofBits toBits ofInt add sub mul div neg lt le eq ne absOf isRefused firstRefusal firstFrom every lengthWithin lengthCheck angleCheck scratchCheck densityCheck isInBox segmentsTouch sumOfTerms outlineCheck largestHeight rootChordOf planformCheck tabCheck depthCheck setCheck areaCheck isNone isSound ratioCheck angleOf spanLessSineOf sectorOf filletSectionOf sinCosOf rootOf nearRoot rotationOf rotate sweep sweeps insertMoment insertAll eigenvaluesOf largestMagnitude checkTensor
 checks-hold = tt

@@ -6,3 +6,4 @@ pub mod Drilling
 pub mod Tubes
 pub mod Decimals
 pub mod Turns
+pub mod Fillets

@@ -217,6 +217,36 @@ impl DQuat {
     }
 }
 
+/// Sine and cosine by document 01's steps, and the angle of `atan2` by document 02's (Paper 6), for positive arguments.
+pub trait Angles {
+    fn sin_by_steps(self) -> f64;
+    fn cos_by_steps(self) -> f64;
+    fn angle_by_steps(self, c: f64) -> f64;
+}
+
+impl Angles for f64 {
+    fn sin_by_steps(self) -> f64 {
+        sine_cosine(self).0
+    }
+
+    fn cos_by_steps(self) -> f64 {
+        sine_cosine(self).1
+    }
+
+    fn angle_by_steps(self, c: f64) -> f64 {
+        let mut t = self / c;
+        for _ in 0..3 {
+            t = t / (1.0 + (1.0 + t * t).sqrt());
+        }
+        let z = t * t;
+        let mut v = 1.0 / 21.0;
+        for d in (1..=19).rev().step_by(2) {
+            v = 1.0 / f64::from(d) - z * v;
+        }
+        8.0 * t * v
+    }
+}
+
 /// `powi` in document 01's orders.
 pub trait Powers {
     fn powi_in_order(self, n: i32) -> f64;

@@ -41,6 +41,9 @@ part-numbered-tab-end c = search needs
 numbered-tab-requires : tie.Need-numbered-tab-requires
 numbered-tab-requires c κs = search needs
 
+numbered-fillet-requires : tie.Need-numbered-fillet-requires
+numbered-fillet-requires c κs = search needs
+
 shared-slice-read-numbered-set-2 : tie.Need-shared-slice-read-numbered-set-2
 shared-slice-read-numbered-set-2 c = search needs
 
@@ -63,12 +66,13 @@ returns-2 : tie.Need-returns-2
 unfolding crossedSet
 returns-2 c =
     let d = c .before in
-    let t = d .before .before .before .before .before in
+    let g = d .before .before .before .before .before in
+    let t = g .before in
     let n = t .before .before in
     let p = n .before .before in
     let a = p .before .before .before .before .args in
     let f = a .figures .now in
-    rw (le-leb 5 (length f) (p .before .if1 .left), ← all-behind f, ← p .numbered-planform .ensures, ← n .numbered-section .ensures, ← t .numbered-tab .ensures, ← d .numbered-density .ensures) (c .numbered-set .ensures)
+    rw (le-leb 5 (length f) (p .before .if1 .left), ← all-behind f, ← p .numbered-planform .ensures, ← n .numbered-section .ensures, ← t .numbered-tab .ensures, ← g .numbered-fillet .ensures, ← d .numbered-density .ensures) (c .numbered-set .ensures)
 
 pub crossed-set-spec : {M : Type 1} → statement M
 crossed-set-spec =
@@ -82,6 +86,7 @@ crossed-set-spec =
     part-numbered-tab-start
     part-numbered-tab-end
     numbered-tab-requires
+    numbered-fillet-requires
     shared-slice-read-numbered-set-2
     shared-slice-read-numbered-set-3
     shared-slice-read-numbered-set-4

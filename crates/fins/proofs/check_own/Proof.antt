@@ -7,7 +7,7 @@ use Rattle.refusals.proofs.Order.{passed, refused-here, in-two}
 use Rattle.planforms.specs.Planforms.{rootChordOf}
 use Rattle.fins.specs.declared.FinSet.{FinSet}
 use Rattle.limits.specs.Limits.{countCheck}
-use Rattle.fins.specs.Fins.{planformCheck, plateChecks, mountChecks, ownCheck}
+use Rattle.fins.specs.Fins.{planformCheck, plateChecks, mountChecks, filletChecks, ownCheck}
 use borrow.Author.Needs.{needs}
 use Rattle.fins.proofs.check_own.Statement.{statement}
 use Rattle.fins.proofs.check_own.Tie as tie
@@ -17,19 +17,23 @@ by-group : (set : FinSet) (points : List Float) (root : Float) → root ≡ root
     firstRefusal (countCheck (set .count))
     (firstRefusal (planformCheck (set .planform) points)
     (firstRefusal (firstOf (plateChecks root (set .«thickness_m») (set .«cant_rad») (set .«base_angle_rad»)))
-    (firstOf (mountChecks (set .tab) root (set .«body_radius_m») (set .density)))))
+    (firstRefusal (firstOf (mountChecks (set .tab) (set .fillet .«radius_m») root (set .«body_radius_m») (set .density)))
+    (firstOf (filletChecks (set .fillet) (set .«body_radius_m»))))))
     ≡ ownCheck set points
 unfolding ownCheck
 by-group set points root e =
+    let plate = plateChecks root (set .«thickness_m») (set .«cant_rad») (set .«base_angle_rad») in
+    let mount = mountChecks (set .tab) (set .fillet .«radius_m») root (set .«body_radius_m») (set .density) in
+    let glue = filletChecks (set .fillet) (set .«body_radius_m») in
     ap (λ v. firstRefusal (countCheck (set .count)) (firstRefusal (planformCheck (set .planform) points) v))
-    (in-two
-    (plateChecks root (set .«thickness_m») (set .«cant_rad») (set .«base_angle_rad»))
-    (mountChecks (set .tab) root (set .«body_radius_m») (set .density))
+    (ap (firstRefusal (firstOf plate)) (in-two mount glue)
+    ∙ in-two plate (mount ++ glue)
     ∙ ap
     (λ (r : Float).
     firstOf
     (plateChecks r (set .«thickness_m») (set .«cant_rad») (set .«base_angle_rad»)
-    ++ mountChecks (set .tab) r (set .«body_radius_m») (set .density)))
+    ++ mountChecks (set .tab) (set .fillet .«radius_m») r (set .«body_radius_m») (set .density)
+    ++ glue))
     e)
 
 check-count-requires : tie.Need-check-count-requires
@@ -76,13 +80,33 @@ returns-3 c =
 check-mount-requires : tie.Need-check-mount-requires
 check-mount-requires c κs = search needs
 
+is-refused-requires-4 : tie.Need-is-refused-requires-4
+is-refused-requires-4 c κs = search needs
+
 returns-4 : tie.Need-returns-4
 returns-4 c =
-    let f = c .before in
+    let f = c .before .before .before in
     let root = f .before .before .before in
     let e = root .before in
     let d = e .before .before .before in
-    c .check-mount .ensures
+    refused-here _ _ (c .before .before .check-mount .ensures) (sym (c .before .is-refused4 .ensures) ∙ c .if4 .taken)
+    ∙ sym (passed _ _ (f .before .before .check-plate .ensures) (sym (f .before .is-refused3 .ensures) ∙ f .if3 .left))
+    ∙ sym (passed _ _ (e .before .before .check-planform .ensures) (sym (e .before .is-refused2 .ensures) ∙ e .if2 .left))
+    ∙ sym (passed _ _ (d .before .before .check-count .ensures) (sym (d .before .is-refused .ensures) ∙ d .if1 .left))
+    ∙ by-group _ _ _ (root .root-chord-m .ensures)
+
+check-fillet-requires : tie.Need-check-fillet-requires
+check-fillet-requires c κs = search needs
+
+returns-5 : tie.Need-returns-5
+returns-5 c =
+    let m = c .before in
+    let f = m .before .before .before in
+    let root = f .before .before .before in
+    let e = root .before in
+    let d = e .before .before .before in
+    c .check-fillet .ensures
+    ∙ sym (passed _ _ (m .before .before .check-mount .ensures) (sym (m .before .is-refused4 .ensures) ∙ m .if4 .left))
     ∙ sym (passed _ _ (f .before .before .check-plate .ensures) (sym (f .before .is-refused3 .ensures) ∙ f .if3 .left))
     ∙ sym (passed _ _ (e .before .before .check-planform .ensures) (sym (e .before .is-refused2 .ensures) ∙ e .if2 .left))
     ∙ sym (passed _ _ (d .before .before .check-count .ensures) (sym (d .before .is-refused .ensures) ∙ d .if1 .left))
@@ -103,4 +127,7 @@ check-own-spec =
     is-refused-requires-3
     returns-3
     check-mount-requires
-    returns-4)
+    is-refused-requires-4
+    returns-4
+    check-fillet-requires
+    returns-5)

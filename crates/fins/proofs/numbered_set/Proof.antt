@@ -10,7 +10,7 @@ enum-told : tie.Need-enum-told
 enum-told c = search needs
 
 returns : tie.Need-returns
-returns c = search needs
+returns c = rw (c .enum-told .given .1)
 
 enum-known-section : tie.Need-enum-known-section
 enum-known-section c = search needs
@@ -30,8 +30,8 @@ enum-told-3 c = search needs
 returns-3 : tie.Need-returns-3
 returns-3 c = let s = c .before .before .before in rw (s .before .before .before .planform .given .1, s .section .given .1, c .enum-told3 .given .1)
 
-enum-known-density : tie.Need-enum-known-density
-enum-known-density c = search needs
+enum-known-fillet : tie.Need-enum-known-fillet
+enum-known-fillet c = search needs
 
 enum-told-4 : tie.Need-enum-told-4
 enum-told-4 c = search needs
@@ -42,12 +42,26 @@ returns-4 c =
     let s = t .before .before .before in
     rw (s .before .before .before .planform .given .1, s .section .given .1, t .tab .given .1, c .enum-told4 .given .1)
 
+enum-known-density : tie.Need-enum-known-density
+enum-known-density c = search needs
+
+enum-told-5 : tie.Need-enum-told-5
+enum-told-5 c = search needs
+
 returns-5 : tie.Need-returns-5
 returns-5 c =
-    let d = c .before in
-    let t = d .before .before .before in
+    let f = c .before .before .before in
+    let t = f .before .before .before in
     let s = t .before .before .before in
-    rw (s .before .before .before .planform .given .1, s .section .given .1, t .tab .given .1, d .density .given .1)
+    rw (s .before .before .before .planform .given .1, s .section .given .1, t .tab .given .1, f .fillet .given .1, c .enum-told5 .given .1)
+
+returns-6 : tie.Need-returns-6
+returns-6 c =
+    let d = c .before in
+    let f = d .before .before .before in
+    let t = f .before .before .before in
+    let s = t .before .before .before in
+    rw (s .before .before .before .planform .given .1, s .section .given .1, t .tab .given .1, f .fillet .given .1, d .density .given .1)
 
 pub numbered-set-spec : {M : Type 1} → statement M
 numbered-set-spec =
@@ -62,7 +76,10 @@ numbered-set-spec =
     enum-known-tab
     enum-told-3
     returns-3
-    enum-known-density
+    enum-known-fillet
     enum-told-4
     returns-4
-    returns-5)
+    enum-known-density
+    enum-told-5
+    returns-5
+    returns-6)

@@ -13,6 +13,9 @@ unscaled-requires c κs = search needs
 sum-requires : tie.Need-sum-requires
 sum-requires c κs = search needs
 
+fillets-requires : tie.Need-fillets-requires
+fillets-requires c κs = search needs
+
 enum-known-density : tie.Need-enum-known-density
 enum-known-density c = search needs
 
@@ -33,13 +36,18 @@ refused-requires-2 c κs = search needs
 
 returns : tie.Need-returns
 unfolding singleFinOf
-returns c = rw (
-  c .bulk-fin .ensures,
-  c .before .before .before .before .sum .ensures,
-  c .before .before .before .before .before .unscaled .ensures,
-  c .before .before .before .before .before .before .tab-integrals .ensures,
-  c .before .before .density .given .1,
-)
+returns c =
+    let density = c .before .before in
+    let glue = density .before .before in
+    let sum = glue .before .before in
+    rw (
+      c .bulk-fin .ensures,
+      glue .fillets .ensures,
+      sum .sum .ensures,
+      sum .before .unscaled .ensures,
+      sum .before .before .tab-integrals .ensures,
+      density .density .given .1,
+    )
 
 returns-2 : tie.Need-returns-2
 unfolding singleFinOf
@@ -56,6 +64,7 @@ single-fin-spec =
     tab-integrals-requires
     unscaled-requires
     sum-requires
+    fillets-requires
     enum-known-density
     bulk-fin-requires
     enum-told

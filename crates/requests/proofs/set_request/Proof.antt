@@ -1,8 +1,41 @@
 -- `requests::set_request` meets its contract: each part is the definition's. Assumes nothing.
-use Rattle.requests.specs.Requests.{setRequestOf}
+use mathlib.Core.List.{List}
+use mathlib.Core.Path.{_≡_}
+use Prim.Native.Nat.{ℕ}
+use lib.ListN.{drop}
+use lib.Ieee.{Float}
+use Rattle.floats.specs.Operations.{at}
+use Rattle.planforms.specs.declared.NumberedPlanform.{NumberedPlanform}
+use Rattle.planforms.specs.Numbered.{numberedPlanform}
+use Rattle.sections.specs.declared.NumberedSection.{NumberedSection}
+use Rattle.sections.specs.Numbered.{numberedSection}
+use Rattle.materials.specs.declared.NumberedDensity.{NumberedDensity}
+use Rattle.materials.specs.Numbered.{numberedDensity}
+use Rattle.fillets.specs.declared.NumberedFillet.{NumberedFillet}
+use Rattle.fillets.specs.Numbered.{numberedFillet}
+use Rattle.fins.specs.declared.NumberedTab.{NumberedTab}
+use Rattle.fins.specs.declared.NumberedSet.{NumberedSet}
+use Rattle.fins.specs.Numbered.{numberedTab, numberedSet}
+use Rattle.requests.specs.declared.SetRequest.{SetRequest}
+use Rattle.requests.specs.Requests.{number, end, between, setRequestOf}
 use borrow.Author.Needs.{needs}
 use Rattle.requests.proofs.set_request.Statement.{statement}
 use Rattle.requests.proofs.set_request.Tie as tie
+
+-- each part of a line's set, by the call that made it
+together : (ns : List ℕ) (fs : List Float) {shape below glue rest : List Float} {planform : NumberedPlanform} {section : NumberedSection} {tab : NumberedTab} {fillet : NumberedFillet} {density : NumberedDensity}
+    {weight thickness cant base radius : Float} {set : NumberedSet}
+    → shape ≡ between 0 (end ns 4) fs → planform ≡ numberedPlanform (number ns 4) shape
+    → section ≡ numberedSection (number ns 3)
+    → below ≡ between (end ns 3) (end ns 2) fs → tab ≡ numberedTab (number ns 2) below
+    → glue ≡ between (end ns 2) (end ns 1) fs → fillet ≡ numberedFillet (number ns 1) glue
+    → rest ≡ drop (end ns 1) fs → weight ≡ at rest 3 → density ≡ numberedDensity (number ns 0) weight
+    → thickness ≡ at fs (end ns 4) → cant ≡ at rest 0 → base ≡ at rest 1 → radius ≡ at rest 2
+    → set ≡ numberedSet (number ns 5) planform thickness section tab fillet cant base radius density
+    → record { limit = number ns 6; set = set; points = end ns 4 } ≡ setRequestOf ns fs
+unfolding setRequestOf
+together ns fs e-shape e-planform e-section e-below e-tab e-glue e-fillet e-rest e-weight e-density e-thickness e-cant e-base e-radius e-set =
+    rw (e-set, e-planform, e-shape, e-section, e-tab, e-below, e-fillet, e-glue, e-density, e-weight, e-thickness, e-cant, e-base, e-radius, e-rest)
 
 array-read-numbered-planform : tie.Need-array-read-numbered-planform
 array-read-numbered-planform c = search needs
@@ -36,6 +69,21 @@ between-requires-2 c κs = search needs
 
 numbered-tab-requires : tie.Need-numbered-tab-requires
 numbered-tab-requires c κs = search needs
+
+array-read-numbered-fillet : tie.Need-array-read-numbered-fillet
+array-read-numbered-fillet c = search needs
+
+array-read-between-4 : tie.Need-array-read-between-4
+array-read-between-4 c = search needs
+
+array-read-between-5 : tie.Need-array-read-between-5
+array-read-between-5 c = search needs
+
+between-requires-3 : tie.Need-between-requires-3
+between-requires-3 c κs = search needs
+
+numbered-fillet-requires : tie.Need-numbered-fillet-requires
+numbered-fillet-requires c κs = search needs
 
 array-read-behind : tie.Need-array-read-behind
 array-read-behind c = search needs
@@ -73,22 +121,23 @@ figure-requires-5 c κs = search needs
 numbered-set-requires : tie.Need-numbered-set-requires
 numbered-set-requires c κs = search needs
 
-array-read-t12 : tie.Need-array-read-t12
-array-read-t12 c = search needs
+array-read-limit : tie.Need-array-read-limit
+array-read-limit c = search needs
 
-array-read-t16 : tie.Need-array-read-t16
-array-read-t16 c = search needs
+array-read-points : tie.Need-array-read-points
+array-read-points c = search needs
 
 returns : tie.Need-returns
-unfolding setRequestOf
 returns c =
     let f = c .before in
     let d = f .before .before .before .before in
     let b = d .before .before in
-    let t = b .before in
+    let g = b .before in
+    let t = g .before .before in
     let s = t .before .before in
     let p = s .before in
-    rw (c .numbered-set .ensures, f .figure5 .ensures, f .before .figure4 .ensures, f .before .before .figure3 .ensures, f .before .before .before .figure2 .ensures, d .numbered-density .ensures, d .before .figure .ensures, b .behind .ensures, t .numbered-tab .ensures, t .before .between2 .ensures, s .numbered-section .ensures, p .numbered-planform .ensures, p .before .between .ensures)
+    together _ _ (p .before .between .ensures) (p .numbered-planform .ensures) (s .numbered-section .ensures) (t .before .between2 .ensures) (t .numbered-tab .ensures) (g .before .between3 .ensures) (g .numbered-fillet .ensures)
+    (b .behind .ensures) (d .before .figure .ensures) (d .numbered-density .ensures) (f .before .before .before .figure2 .ensures) (f .before .before .figure3 .ensures) (f .before .figure4 .ensures) (f .figure5 .ensures) (c .numbered-set .ensures)
 
 pub set-request-spec : {M : Type 1} → statement M
 set-request-spec =
@@ -105,6 +154,11 @@ set-request-spec =
     array-read-between-3
     between-requires-2
     numbered-tab-requires
+    array-read-numbered-fillet
+    array-read-between-4
+    array-read-between-5
+    between-requires-3
+    numbered-fillet-requires
     array-read-behind
     behind-requires
     array-read-numbered-density
@@ -117,6 +171,6 @@ set-request-spec =
     figure-requires-4
     figure-requires-5
     numbered-set-requires
-    array-read-t12
-    array-read-t16
+    array-read-limit
+    array-read-points
     returns)

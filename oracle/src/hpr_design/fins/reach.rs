@@ -25,6 +25,10 @@ pub fn segments_touch(p: [f64; 2], q: [f64; 2], r: [f64; 2], s: [f64; 2]) -> boo
     super::segments_touch(p, q, r, s)
 }
 
+pub fn fillet_section(body_radius_m: f64, radius_m: f64) -> [f64; 4] {
+    super::fillet_section(body_radius_m, radius_m)
+}
+
 pub fn tab_integrals(set: &FinSet, body_radius_m: f64) -> [f64; 7] {
     set.tab_integrals(body_radius_m)
 }

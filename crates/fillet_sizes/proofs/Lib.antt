@@ -1,0 +1,5 @@
+pub mod Roots
+pub mod Sums
+pub mod Angles
+pub mod Turns
+pub mod Sections

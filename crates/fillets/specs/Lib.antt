@@ -1,0 +1,4 @@
+pub mod Angles
+pub mod FilletSections
+pub mod Fillets
+pub mod Numbered
