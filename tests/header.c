@@ -94,7 +94,7 @@ static void figures(void) {
     holds("a set's counts", refused(0, 0, 0) && at.counts[2] == 1 && at.counts[3] == 15);
     const double glue[2] = {0.01, 1200.0};
     glued_set_of(&at, DELVOUZH_BULK, glue, 2);
-    holds("a set with fillets", refused(0, 0, 0) && bits(at.numbers[0]) == 0x3fc4a28891b0e97b && bits(at.numbers[12]) == 0x3f61e9ed0a3848ba);
+    holds("a set with fillets", refused(0, 0, 0) && bits(at.numbers[0]) == 0x3fc4a28891b0e97b && bits(at.numbers[6]) == 0x3f61e9ed0a3848ba);
     area_of(&at, DELVOUZH_ELLIPSE, ELLIPSE, 2);
     holds("an area", at.number == 0 && bits(at.numbers[0]) == 0x3f9015bf9217273e);
     holds("a centroid", bits(at.numbers[1]) == 0x3fb999999999999b && bits(at.numbers[2]) == 0x3fa5bade52f95eaa);

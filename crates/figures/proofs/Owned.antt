@@ -41,5 +41,5 @@ set-f64 set values points p q =
     record {
       planform = planform-f64 (set .planform) _ points (h .1 .0) q;
       thickness = of-true (fits binary64 (set .«thickness_m»)) (h .1 .1 .0 .1);
-      radius = of-true (fits binary64 (set .«body_radius_m»)) (h .1 .1 .1 .1 .1 .1 .1 .0 .1);
+      radius = of-true (fits binary64 (set .«body_radius_m»)) (h .1 .1 .1 .1 .1 .1 .1 .1 .0 .1);
     }
