@@ -129,7 +129,7 @@ static void figures(void) {
 static void refusals(void) {
     const double tip[4] = {0.2, -0.01, 0.15, 0.05}, cant[5] = {0.003, NAN, 0.0, 0.05, 680.0};
     const double crossed[8] = {0, 0, 2, 1, 0, 1, 2, 0};
-    double body[DELVOUZH_BODY] = {1, 0, 0, 0, 1, 0, 0, 0, 1, 0, 0, 0, 3};
+    double body[DELVOUZH_BODY] = {1, 0, 0, 0, 1, 1, 3, 0, 0, 0};
     set_of(&at, 0, DELVOUZH_TRAPEZOID, TRAPEZOID, 4, FIGURES);
     holds("1", refused(1, 0, 0));
     set_of(&at, LIMIT + 1, DELVOUZH_TRAPEZOID, TRAPEZOID, 4, FIGURES);

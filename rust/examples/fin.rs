@@ -9,6 +9,7 @@ fn main() -> Result<(), Box<dyn std::error::Error>> {
         thickness_m: 0.003,
         section: Section::Airfoil,
         tab: None,
+        fillet: None,
         cant_rad: 0.0,
         base_angle_rad: 0.0,
         body_radius_m: 0.038,

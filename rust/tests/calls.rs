@@ -386,8 +386,8 @@ fn lines_are_answered() {
     assert_eq!(answer(""), "(refused 18)");
     let (two, zero) = ("4000000000000000", "0000000000000000");
     let moments = format!("(moments {zero} {two} {two})");
-    assert_eq!(answer(&format!("(moments #{two} 0 0 0 0 0 0 0 2.0)")), moments);
-    assert_eq!(answer(&format!("(moments {two} 0 0 0 0 0 0 0 2.0)")), "(refused 19)");
+    assert_eq!(answer(&format!("(moments #{two} 0 2.0 0 0 0)")), moments);
+    assert_eq!(answer(&format!("(moments {two} 0 2.0 0 0 0)")), "(refused 19)");
 }
 
 #[test]

@@ -18,7 +18,7 @@ all-behind l = let d = length-drop 5 l in take-all (length l - 5) (drop 5 l) (om
 
 returns : tie.Need-returns
 unfolding crossedSet
-returns c = rw (lt-leb 5 (length (c .before .before .before .args .figures .now)) (c .if1 .taken))
+returns c = rw (lt-leb 5 (length (c .before .before .before .before .args .figures .now)) (c .if1 .taken))
 
 numbered-planform-requires : tie.Need-numbered-planform-requires
 numbered-planform-requires c κs = search needs
@@ -70,7 +70,7 @@ returns-2 c =
     let t = g .before in
     let n = t .before .before in
     let p = n .before .before in
-    let a = p .before .before .before .before .args in
+    let a = p .before .before .before .before .before .args in
     let f = a .figures .now in
     rw (le-leb 5 (length f) (p .before .if1 .left), ← all-behind f, ← p .numbered-planform .ensures, ← n .numbered-section .ensures, ← t .numbered-tab .ensures, ← g .numbered-fillet .ensures, ← d .numbered-density .ensures) (c .numbered-set .ensures)
 

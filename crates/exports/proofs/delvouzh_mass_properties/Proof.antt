@@ -7,12 +7,12 @@ use Rattle.exports.proofs.delvouzh_mass_properties.Tie as tie
 
 returns : tie.Need-returns
 returns c =
-    let a = c .before .before .before .before .before .before .args in
+    let a = c .before .before .before .before .before .before .before .args in
     set-refused _ _ _ _ _ _ (few-figures bodyNumbers (a .body .now) 4 (a .counts .now) (c .if1 .taken))
 
 returns-2 : tie.Need-returns-2
 returns-2 c =
-    let a = c .before .before .before .before .before .before .before .args in
+    let a = c .before .before .before .before .before .before .before .before .args in
     set-refused _ _ _ _ _ _ (few-counts bodyNumbers (a .body .now) 4 (a .counts .now) (c .before .if1 .left) (c .if2 .taken))
 
 crossed-set-requires : tie.Need-crossed-set-requires
