@@ -128,6 +128,10 @@ step f =
       bytes = f .feed .kept .1 .1 .1 .1 .0;
     }
 
+-- `feed`, from where its replies are to be written
+abbrev fed-on : tie.After-state Inv-loop μ-loop → Step
+fed-on c = step (c .before .before .before .before .before .before .before)
+
 module _ (y : Step) where
   abbrev X : Top
   X = y .top
@@ -190,22 +194,22 @@ feed-requires : tie.Need-feed-requires Inv-loop μ-loop
 feed-requires c κs = (lent (top (c .before .before .before .before .before .before)), omega arith)
 
 add-at : tie.Need-add-at Inv-loop μ-loop
-add-at c = let y = step (c .before .before .before .before .before .before .before) in let t = taken-fits y in let m = y .top .lends .most in omega arith
+add-at c = let y = fed-on c in let t = taken-fits y in let m = y .top .lends .most in omega arith
 
 slice-reshare-prefix-write-replies : tie.Need-slice-reshare-prefix-write-replies Inv-loop μ-loop
-slice-reshare-prefix-write-replies c = step (c .before .before .before .before .before .before .before) .feeds .into .room
+slice-reshare-prefix-write-replies c = fed-on c .feeds .into .room
 
 slice-aggregate-write-replies : tie.Need-slice-aggregate-write-replies Inv-loop μ-loop
-slice-aggregate-write-replies c = sym (written-length (step (c .before .before .before .before .before .before .before .before)))
+slice-aggregate-write-replies c = sym (written-length (fed-on (c .before)))
 
 write-replies-requires : tie.Need-write-replies-requires Inv-loop μ-loop
-write-replies-requires c κs = is-due (step (c .before .before .before .before .before .before .before .before))
+write-replies-requires c κs = is-due (fed-on (c .before))
 
 loop-less : tie.Need-loop-less Inv-loop μ-loop
-loop-less c = let y = step (c .before .before .before .before .before .before .before .before .before) in let t = taken-fits y in let m = takes-some y in omega arith
+loop-less c = let y = fed-on (c .before .before) in let t = taken-fits y in let m = takes-some y in omega arith
 
 loop-again : tie.Need-loop-again Inv-loop μ-loop
-loop-again c = next (step (c .before .before .before .before .before .before .before .before .before)) (c .write-replies .result .handed) (c .write-replies .ensures)
+loop-again c = next (fed-on (c .before .before)) (c .write-replies .result .handed) (c .write-replies .ensures)
 
 same-length : tie.Need-same-length Inv-loop μ-loop
 same-length c = c .before .before .loop .inv .buffers

@@ -167,6 +167,10 @@ step t =
       bytes = t .take-turn .kept .1 .1 .1 .1 .0;
     }
 
+-- the turn that the loop goes on from
+abbrev turned : tie.After-struct-known Inv-loop μ-loop → Step
+turned c = step (c .before .before .before .before .before .before .before .before .before .before)
+
 module _ (y : Step) where
   abbrev X : Top
   X = y .top
@@ -223,6 +227,10 @@ record Last : Type 0 where
 
 abbrev last : tie.After-finish Inv-loop μ-loop → Last
 last f = record { top = top (f .before .before .before .before .before .before); left = f .finish .last .1 .1 .0; written = f .finish .last .1 .1 .1 .0; w = f .finish .result; finishes = f .finish .ensures }
+
+-- `finish`, from where its replies are written
+abbrev finished-at : tie.After-write-replies Inv-loop μ-loop → tie.After-finish Inv-loop μ-loop
+finished-at c = c .before .before .before .before .before .before
 
 module _ (y : Last) where
   abbrev Text : List ℕ
@@ -289,15 +297,15 @@ take-turn-requires c κs =
     (lends-on (top a), stands (top a) (ltb-true (a .loop .read) mostRead (c .before .before .before .before .if1 .taken)))
 
 add-read : tie.Need-add-read Inv-loop μ-loop
-add-read c = let m = most (step (c .before .before .before .before .before .before .before .before .before .before)) in omega arith
+add-read c = let m = most (turned c) in omega arith
 
 loop-less : tie.Need-loop-less Inv-loop μ-loop
 loop-less c =
-    let y = step (c .before .before .before .before .before .before .before .before .before .before) in
+    let y = turned c in
     less (y .top .read) (y .r .read) (y .top .more) (y .r .more) (y .goes) (y .less) (λ g. y .turns .goes g .0)
 
 loop-again : tie.Need-loop-again Inv-loop μ-loop
-loop-again c = next (step (c .before .before .before .before .before .before .before .before .before .before))
+loop-again c = next (turned c)
 
 finish-requires : tie.Need-finish-requires Inv-loop μ-loop
 finish-requires c κs = let x = top (c .before .before .before .before .before) in let r = lends-on x .reply in (lent x, omega arith)
@@ -312,20 +320,20 @@ write-replies-requires : tie.Need-write-replies-requires Inv-loop μ-loop
 write-replies-requires c κs = is-due (last (c .before .before .before .before .before))
 
 same-length : tie.Need-same-length Inv-loop μ-loop
-same-length c = last (c .before .before .before .before .before .before) .top .so-far .buffers
+same-length c = last (finished-at c) .top .so-far .buffers
 
 same-length-2 : tie.Need-same-length-2 Inv-loop μ-loop
-same-length-2 c = last (c .before .before .before .before .before .before) .top .so-far .chunks
+same-length-2 c = last (finished-at c) .top .so-far .chunks
 
 same-length-3 : tie.Need-same-length-3 Inv-loop μ-loop
-same-length-3 c = let f = c .before .before .before .before .before .before in f .finish .kept .1 .1 .0 ∙ last f .top .so-far .hands .takes .numbers
+same-length-3 c = let f = finished-at c in f .finish .kept .1 .1 .0 ∙ last f .top .so-far .hands .takes .numbers
 
 same-length-4 : tie.Need-same-length-4 Inv-loop μ-loop
-same-length-4 c = let f = c .before .before .before .before .before .before in f .finish .kept .1 .1 .1 .0 ∙ last f .top .so-far .bytes
+same-length-4 c = let f = finished-at c in f .finish .kept .1 .1 .1 .0 ∙ last f .top .so-far .bytes
 
 returns : tie.Need-returns Inv-loop μ-loop
 returns c =
-    let f = c .before .before .before .before .before .before in
+    let f = finished-at c in
     finished (last f) (c .write-replies .result .all) (c .write-replies .result .handed) (c .write-replies .ensures) (f .before .before .before .before .if2 .taken)
 
 same-length-5 : tie.Need-same-length-5 Inv-loop μ-loop
