@@ -32,22 +32,23 @@ use Rattle.figures.proofs.StripCount.{set-strips-counted, area-strips-c
 use Rattle.figures.proofs.Reports.{ZeroFigures, ZeroArea, no-refusal, gives-refusal, concluded-samples, concluded-intervals, concluded-verdict, concluded-zeros, concluded-area-samples, concluded-area-intervals, concluded-area-verdict, concluded-area-zeros}
 
 -- ---- an accepted set, and a refused one
-module _ (set : FinSet) (points : List Float) (L : ℕ) (entry : List Float) (r : Figures) (exit : List Float) where
-  set-reported : setCheck set points L (length entry) ≡ Accepted → r ≡ workedFigures set points L → AreReported (setStrips set points L) (setReport r)
-  set-reported accepts e =
-      let root = rootChordOf (set .planform) points in
-      let scale = scaleOf (set .planform) points in
-      let strips = setStrips set points L in
-      record {
-        samples-reported = concluded-samples set root scale strips r e;
-        intervals-reported = concluded-intervals set root scale strips r e;
-        ending-reported = concluded-verdict set root scale strips r e (set-count-check set points L (length entry) accepts) (set-density set points L (length entry) accepts);
-      }
+pub set-reported : (set : FinSet) (points : List Float) (L n : ℕ) (r : Figures) → setCheck set points L n ≡ Accepted → r ≡ workedFigures set points L
+    → AreReported (setStrips set points L) (setReport r)
+set-reported set points L n r accepts e =
+    let root = rootChordOf (set .planform) points in
+    let scale = scaleOf (set .planform) points in
+    let strips = setStrips set points L in
+    record {
+      samples-reported = concluded-samples set root scale strips r e;
+      intervals-reported = concluded-intervals set root scale strips r e;
+      ending-reported = concluded-verdict set root scale strips r e (set-count-check set points L n accepts) (set-density set points L n accepts);
+    }
 
+module _ (set : FinSet) (points : List Float) (L : ℕ) (entry : List Float) (r : Figures) (exit : List Float) where
   pub set-worked : SetF64 set points → setCheck set points L (length entry) ≡ Accepted → SetWorked set points L entry r exit → SetAnswers set points L entry r exit
   unfolding setFigures setScratch
   set-worked f64s accepts w =
-      let claim = demand-3 (setRun set points L) (set-limit set points L (length entry) accepts .0) (setReport r) entry exit (set-reported accepts (w .figures))
+      let claim = demand-3 (setRun set points L) (set-limit set points L (length entry) accepts .0) (setReport r) entry exit (set-reported set points L (length entry) r accepts (w .figures))
       (w .scratch ∙ ap (λ (l : List Worked). scratchAfter l entry) (sym (none-behind (setStrips set points L)))) in
       record {
         figures = rw accepts (w .figures);

@@ -36,7 +36,7 @@ use Rattle.figures.specs.Areas.{areaStrips}
 use Rattle.figures.proofs.Flat.{zero-of, zero-is, zero-zero, within-finite, no-area}
 
 -- ---- fewer strips than break heights
-worked-few : (w : ℕ) (f : Float → List Float) (limit : ℕ) (scale : Float) (l : List Float) → length (workedOf w f limit scale l) ≤ length l - 1
+pub worked-few : (w : ℕ) (f : Float → List Float) (limit : ℕ) (scale : Float) (l : List Float) → length (workedOf w f limit scale l) ≤ length l - 1
 unfolding workedOf
 worked-few w f limit scale [] = omega arith
 worked-few w f limit scale (h ∷ []) = omega arith
@@ -164,7 +164,7 @@ outline-some points h = go (leb 2 (length (breakHeights Outline points))) refl
         (break-heights-members Outline points (heightAt points k) ∙ all-heights k l)
         (break-heights-members Outline points (bits 0) ∙ or-left _ _ (zero-is (bits 0) zero-zero))))))
 
-heights-some : (planform : Planform) (points : List Float) → planformCheck planform points ≡ Accepted → 2 ≤ length (breakHeights planform points)
+pub heights-some : (planform : Planform) (points : List Float) → planformCheck planform points ≡ Accepted → 2 ≤ length (breakHeights planform points)
 unfolding planformCheck oneStrip
 heights-some (Trapezoid root tip span sweep) points h =
     two-listed (Trapezoid root tip span sweep) points (span-above-zero span (both _ _ (both _ _ (both _ _ h .1) .1) .0))

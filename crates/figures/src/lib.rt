@@ -34,7 +34,7 @@ pub struct Area {
     pub samples: usize,
 }
 
-fn refused_figures(refusal: Refusal, samples: usize) -> Figures
+pub fn refused_figures(refusal: Refusal, samples: usize) -> Figures
     ensures { λ r. ⌜ r ≡ refusedFigures refusal samples ⌝ }
 {
     let verdict = Verdict::Refused(refusal);
@@ -67,7 +67,7 @@ fn joined_figures(joined: Joined, intervals: usize, samples: usize) -> Figures
 }
 
 // The answer by how the strips ended.
-fn concluded(set: FinSet, root_chord_m: f64, scale_m: f64, total: Totals) -> Figures
+pub fn concluded(set: FinSet, root_chord_m: f64, scale_m: f64, total: Totals) -> Figures
     ensures { λ r. ⌜ r ≡ concludedSet set «root_chord_m» «scale_m» total ⌝ }
 {
     let verdict = total.verdict;

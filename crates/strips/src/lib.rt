@@ -3,10 +3,10 @@
 // Neighbouring break heights bound a strip, and its ends are divided by the scale. Strips are worked upward, to the last or the first
 // that is not accepted, each over the scratch as the one before left it. Values, intervals and samples are added up from zero.
 // Refused are a limit that is not 1 to 64 (1), a scratch under 16·limit numbers (2) and, by the strips, 13.
-ghost use Prim.Native.Nat.{_+_, _<_, _^_};
+ghost use Prim.Native.Nat.{_+_, _-_, _<_, _^_};
 ghost use mathlib.Core.Path.{_≡_};
 ghost use lib.ListN.{length};
-ghost use Rattle.strips.specs.Strips.{isAccepted, withStrip, inWords, stripBetween, WorksStrip, Room, runBetween, runOf, Runs, refusedTotals, concludedOf, WorksStrips};
+ghost use Rattle.strips.specs.Strips.{isAccepted, withStrip, inWords, stripBetween, WorksStrip, Room, runBetween, runOf, WorksNext, Runs, refusedTotals, concludedOf, WorksStrips};
 use halving::Ending;
 use halving::Integral;
 use integrands::Integrand;
@@ -24,7 +24,13 @@ pub struct Totals {
     pub samples: usize,
 }
 
-fn is_accepted(ending: Ending) -> bool
+// The totals after a strip, and how many strips are left behind it.
+pub struct Onward {
+    pub total: Integral,
+    pub left: usize,
+}
+
+pub fn is_accepted(ending: Ending) -> bool
     ensures { λ r. ⌜ r ≡ isAccepted ending ⌝ }
 {
     match ending {
@@ -67,6 +73,43 @@ pub fn work_strip(
     let upper = heights[i + 1] / scale;
     let strip = halving::integrate(scratch, integrand, points, lower, upper, limit);
     add_strip(total, strip)
+}
+
+// How many strips there are between n break heights from the one at i on.
+fn strips_from(n: usize, i: usize) -> usize
+    ensures { λ r. ⌜ r ≡ n - i - 1 ⌝ }
+{
+    if i < n {
+        return n - i - 1;
+    }
+    0
+}
+
+// The strip of the integrand's planform from the break height i on, where there is one: the job's step (document 02, Paper 9).
+pub fn work_next(
+    scratch: &mut [f64],
+    integrand: Integrand,
+    points: &[f64],
+    i: usize,
+    limit: usize,
+    total: Integral,
+) -> Onward
+    requires { ⌜ Room limit (length (now scratch)) ⌝ }
+    ensures { λ r. ⌜ WorksNext (runOf integrand (now (points .entry)) limit) i total (now (scratch .entry)) r (now (scratch .exit)) ⌝ }
+{
+    let planform = integrand.planform;
+    let breaks = breaks::break_heights(planform, points);
+    let n = breaks.count;
+    let heights = breaks.heights;
+    let left = strips_from(n, i);
+    if 0 < left {
+        let total = work_strip(scratch, integrand, points, &heights[..n], i, limit, total);
+        return Onward {
+            total,
+            left: left - 1,
+        };
+    }
+    Onward { total, left: 0 }
 }
 
 // The strips between the break heights, worked upward, with at most limit pieces to a strip.
@@ -132,7 +175,7 @@ fn refused_totals(refusal: Refusal, samples: usize) -> Totals
 }
 
 // The totals by how the last strip worked ended.
-fn concluded(summed: Integral) -> Totals
+pub fn concluded(summed: Integral) -> Totals
     ensures { λ r. ⌜ r ≡ concludedOf summed ⌝ }
 {
     let ending = summed.ending;

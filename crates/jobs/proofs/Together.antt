@@ -1,0 +1,385 @@
+-- What holds over any calls on a job together. The record is at each point that of the strips worked so far and the density accepted last; no strip
+-- looks at the density, so a change keeps the strips. By induction over the calls. Assumes nothing.
+use mathlib.Core.Path.{_≡_, refl, sym, ap, subst, _∙_}
+use mathlib.Core.Bool.{Bool, true, false, cond, _&&_, true≢false}
+use mathlib.Core.List.{List, [], _∷_, _++_, append-nil, append-assoc}
+use mathlib.Core.Logic.{_⊎_, inl, inr}
+use Prim.Native.Nat.{ℕ, _+_, _-_, _*_, _%_, _^_, _≤_, _<_}
+use native.Mathlib.Nat.{mod-eq-of-lt}
+use native.Mathlib.Omega.{arith}
+use borrow.Author.Tests.{le-leb, lt-ltb, ltb-true, ltb-false}
+use lib.Dec.{leb, ltb}
+use lib.ListN.{length, take, drop, replicate, length-append}
+use lib.Seq.{take-all, append-snoc}
+use lib.Ieee.{Float}
+use Rattle.floats.specs.Operations.{bits, _⊘_, at}
+use Rattle.sorting.specs.Sorted.{over}
+use Rattle.sorting.proofs.Over.{take-over}
+use Rattle.refusals.specs.declared.Refusal.{Refusal}
+use Rattle.refusals.specs.declared.Verdict.{Verdict}
+use Rattle.refusals.specs.declared.Verdict.the-variants.{Accepted, Refused}
+use Rattle.refusals.specs.Order.{isRefused}
+use Rattle.refusals.proofs.Accepted.{both, each-accepts, where-each-accepts}
+use Rattle.limits.specs.Limits.{limitCheck, scratchCheck}
+use Rattle.limits.proofs.Accepted.{limit-within}
+use Rattle.materials.specs.declared.Density.{Density}
+use Rattle.materials.specs.Materials.{densityCheck}
+use Rattle.planforms.specs.Planforms.{rootChordOf}
+use Rattle.breaks.specs.Breaks.{breakHeights}
+use Rattle.breaks.proofs.Listed.{at-most-66}
+use Rattle.integrands.specs.Integrands.{scaleOf}
+use Rattle.fins.specs.declared.FinSet.{FinSet}
+use Rattle.fins.specs.Fins.{planformCheck, ownChecks, ownCheck, setCheck}
+use Rattle.halving.specs.declared.Ending.the-variants.{Accepted as accepted}
+use Rattle.halving.specs.declared.Integral.{Integral}
+use Rattle.strips.specs.declared.Onward.{Onward}
+use Rattle.strips.specs.Strips.{Run, Worked, isAccepted, workedOf, stripsIn, stripAt, stripsFrom, runCheck, byVerdict, samplesIn, intervalsIn, endingOf, summedOf, withStrip, inWords, integralIn, concludedOf, onwardOf}
+use Rattle.strips.specs.Claim.{Each, StripsAre, AreReported}
+use Rattle.strips.proofs.Upward.{strip-at, none-left, fits-words}
+use Rattle.strips.proofs.Onwards.{onward-works}
+use Rattle.strips.proofs.Claims.{strips-are}
+use Rattle.figures.specs.declared.Figures.{Figures}
+use Rattle.figures.specs.Figures.{setIntegrand, setRun, refusedFigures, concludedSet, workedFigures, setFigures}
+use Rattle.figures.specs.Answers.{setReport}
+use Rattle.figures.proofs.StripCount.{worked-few, heights-some}
+use Rattle.figures.proofs.Answers.{set-reported}
+use Rattle.jobs.specs.declared.Job.{Job}
+use Rattle.jobs.specs.declared.Stepped.{Stepped}
+use Rattle.jobs.specs.Jobs.{heldOf, pointsOf, outlineOf, runOfJob, totalOf, noFigures, repeated, waits, more, ended, outcomeOf, afterStrip, stepOf, withDensity, taken, changeOf, makingCheck, madeWith, madeOf}
+use Rattle.jobs.specs.Calls.{Call, step, change, steppedBy, afterCalls, stripsBy, stripsOver, isTaken, densityBy, densityOver, OverCalls}
+use Rattle.jobs.proofs.Laws.{yes, step-ended, step-refused, step-works, after-more, after-last, none-ended, none-refused, one-if-there, change-ended, change-refused, change-taken}
+use Rattle.jobs.proofs.Sums.{Few, summed-with, ending-with, few-in, each-front, each-with, strip-is-few, all-few, worked-all}
+
+not-both : {A : Type 0} (b : Bool) → b ≡ false → b ≡ true → A
+not-both b p q = absurd (true≢false (sym q ∙ p))
+
+-- the copy is the outline
+outline-kept : (points : List Float) → length points ≤ 128 → take (heldOf (pointsOf points .count)) (pointsOf points .numbers) ≡ points
+outline-kept points few =
+    ap (λ (l : List Float). take (heldOf (length l)) (over l (replicate 128 (bits 0)))) (take-all 128 points few)
+    ∙ ap (λ (b : Bool). take (cond b (length points) 128) (over points (replicate 128 (bits 0)))) (le-leb (length points) 128 few)
+    ∙ take-over points (replicate 128 (bits 0))
+
+module _ (set : FinSet) (points : List Float) (L : ℕ) (made : makingCheck set points L ≡ Accepted) (few : length points ≤ 128) where
+  abbrev Run· : Run
+  Run· = setRun set points L
+
+  abbrev Heights· : List Float
+  Heights· = breakHeights (set .planform) points
+
+  abbrev f· : Float → List Float
+  f· = setIntegrand set points
+
+  abbrev Scale· : Float
+  Scale· = scaleOf (set .planform) points
+
+  abbrev All· : List Worked
+  All· = stripsIn Run·
+
+  -- what making tells
+  limit-checked : limitCheck L ≡ Accepted
+  unfolding makingCheck
+  limit-checked = both _ _ made .0
+
+  own-checked : ownCheck set points ≡ Accepted
+  unfolding makingCheck
+  own-checked = both _ _ made .1
+
+  limits : (1 ≤ L) × (L ≤ 4000)
+  limits = let l = limit-within L limit-checked in (l .0, omega (arith, l .1))
+
+  -- ---- the job of the strips worked so far and a density
+  abbrev jobAt : Density → List Worked → Job
+  jobAt d strips =
+      record {
+        set = withDensity set d;
+        points = pointsOf points;
+        limit = L;
+        next = length strips;
+        value = summedOf strips .value;
+        intervals = intervalsIn strips;
+        samples = samplesIn strips;
+        ended = false;
+        outcome = noFigures;
+      }
+
+  made-is : madeOf set points L .job ≡ jobAt (set .density) []
+  unfolding madeOf isRefused
+  made-is = ap (λ (v : Verdict). madeWith v set points L .job) made
+
+  run-is : (d : Density) (strips : List Worked) → runOfJob (jobAt d strips) ≡ Run·
+  run-is d strips = ap (λ (p : List Float). setRun set p L) (outline-kept points few)
+
+  pub record Going (d : Density) (strips : List Worked) (job : Job) : Type 0 where
+    pub is : job ≡ jobAt d strips
+    pub dense : densityCheck d ≡ Accepted
+    pub rest : strips ++ workedOf 7 f· L Scale· (drop (length strips) Heights·) ≡ All·
+    pub below : 0 < stripsFrom Run· (length strips)
+
+  pub record Done (d : Density) (strips : List Worked) (job : Job) : Type 0 where
+    pub over-now : job .ended ≡ true
+    pub set-is : job .set ≡ withDensity set d
+    pub dense : densityCheck d ≡ Accepted
+    pub whole : strips ≡ All·
+    pub answer : job .outcome ≡ workedFigures (withDensity set d) points L
+    pub samples : job .samples ≡ samplesIn strips
+
+  abbrev State : Density → List Worked → Job → Type 0
+  State d strips job = Going d strips job ⊎ Done d strips job
+
+  -- ---- a step that works the next strip
+  module _ (d : Density) (strips : List Worked) (g : Going d strips (jobAt d strips)) where
+    abbrev J· : Job
+    J· = jobAt d strips
+
+    abbrev S· : Worked
+    S· = stripAt Run· (length strips)
+
+    abbrev With· : List Worked
+    With· = strips ++ (S· ∷ [])
+
+    abbrev Left· : ℕ
+    Left· = stripsFrom Run· (length strips) - 1
+
+    one-longer : length With· ≡ length strips + 1
+    one-longer = length-append strips (S· ∷ [])
+
+    inside : length strips + 1 < length Heights·
+    inside = omega (arith, g .below)
+
+    short : length Heights· ≤ 66
+    short = at-most-66 (set .planform) points
+
+    with-few : Each Few With·
+    with-few =
+        each-with Few strips S·
+        (each-front Few strips (workedOf 7 f· L Scale· (drop (length strips) Heights·))
+        (subst (Each Few) (sym (g .rest)) (all-few f· L Scale· (limits .0) (limits .1) Heights·)))
+        (strip-is-few f· L Scale· (limits .0) (limits .1) (S· .lower) (S· .upper))
+
+    fit : inWords (summedOf With·) ≡ summedOf With·
+    fit =
+        let n = few-in With· with-few in
+        fits-words (summedOf With·) (omega (arith, n .0, one-longer, inside, short)) (omega (arith, n .1, one-longer, inside, short))
+
+    same-sums : withStrip (totalOf J·) (integralIn S·) ≡ withStrip (summedOf strips) (integralIn S·)
+    unfolding withStrip
+    same-sums = refl
+
+    abbrev Onward· : Integral → Onward
+    Onward· total = record { total = total; left = Left· }
+
+    onward-is : onwardOf (runOfJob J·) (length strips) (totalOf J·) ≡ Onward· (summedOf With·)
+    onward-is =
+        ap (λ (r : Run). onwardOf r (length strips) (totalOf J·)) (run-is d strips)
+        ∙ onward-works Run· (length strips) (totalOf J·) (g .below)
+        ∙ ap (λ (t : Integral). Onward· (inWords t)) (same-sums ∙ summed-with strips S·)
+        ∙ ap Onward· fit
+
+    next-strips : (b : Bool) → isAccepted (S· .halved .ending) ≡ b → (tail : List Worked) → cond b (workedOf 7 f· L Scale· (drop (length strips + 1) Heights·)) [] ≡ tail → With· ++ tail ≡ All·
+    next-strips b e tail t =
+        append-snoc strips S· tail
+        ∙ ap (λ (l : List Worked). strips ++ l)
+        (sym
+        (strip-at f· L Scale· Heights· (length strips) inside
+        ∙ ap (λ (c : Bool). S· ∷ cond c (workedOf 7 f· L Scale· (drop (length strips + 1) Heights·)) []) e
+        ∙ ap (λ (l : List Worked). S· ∷ l) t))
+        ∙ g .rest
+
+    ends : With· ≡ All· → Done d With· (ended J· (summedOf With·) (outcomeOf (J· .set) (outlineOf J·) (summedOf With·)) .job)
+    unfolding outcomeOf
+    ends whole =
+        record {
+          over-now = refl;
+          set-is = refl;
+          dense = g .dense;
+          whole = whole;
+          answer =
+              ap
+              (λ (p : List Float). concludedSet (withDensity set d) (rootChordOf (set .planform) p) (scaleOf (set .planform) p) (concludedOf (summedOf With·)))
+              (outline-kept points few)
+              ∙ ap (λ (l : List Worked). concludedSet (withDensity set d) (rootChordOf (set .planform) points) Scale· (concludedOf (summedOf l))) whole;
+          samples = refl;
+        }
+
+    last : With· ≡ All· → (isAccepted (summedOf With· .ending) && ltb 0 Left·) ≡ false → State d With· (afterStrip J· (Onward· (summedOf With·)) .job)
+    last whole e = subst (λ (x : Stepped). State d With· (x .job)) (sym (after-last J· (Onward· (summedOf With·)) e)) (inr (ends whole))
+
+    more-is : more J· (summedOf With·) .job ≡ jobAt d With·
+    more-is =
+        ap
+        (λ (n : ℕ).
+        record {
+          set = withDensity set d;
+          points = pointsOf points;
+          limit = L;
+          next = n;
+          value = summedOf With· .value;
+          intervals = intervalsIn With·;
+          samples = samplesIn With·;
+          ended = false;
+          outcome = noFigures;
+        })
+        (mod-eq-of-lt (let h : length strips + 1 < 2 ^ 64 = omega (arith, inside, short) in h) ∙ sym one-longer)
+
+    goes-on : isAccepted (S· .halved .ending) ≡ true → 0 < Left· → Going d With· (more J· (summedOf With·) .job)
+    goes-on a b =
+        record {
+          is = more-is;
+          dense = g .dense;
+          rest = ap (λ (n : ℕ). With· ++ workedOf 7 f· L Scale· (drop n Heights·)) one-longer ∙ next-strips true a _ refl;
+          below = omega (arith, b, one-longer);
+        }
+
+    accepted-is : isAccepted (summedOf With· .ending) ≡ isAccepted (S· .halved .ending)
+    accepted-is = ap isAccepted (ending-with accepted strips S·)
+
+    both-are : (a b : Bool) → isAccepted (S· .halved .ending) ≡ a → ltb 0 Left· ≡ b → (isAccepted (summedOf With· .ending) && ltb 0 Left·) ≡ (a && b)
+    both-are a b p q = ap (λ (x : Bool). x && ltb 0 Left·) (accepted-is ∙ p) ∙ ap (λ (x : Bool). a && x) q
+
+    by-ending : (a b : Bool) → isAccepted (S· .halved .ending) ≡ a → ltb 0 Left· ≡ b → State d With· (afterStrip J· (Onward· (summedOf With·)) .job)
+    by-ending true true p q =
+        subst (λ (x : Stepped). State d With· (x .job)) (sym (after-more J· (Onward· (summedOf With·)) (both-are true true p q))) (inl (goes-on p (ltb-true 0 Left· q)))
+    by-ending true false p q =
+        last
+        (sym (append-nil With·)
+        ∙ next-strips true p [] (none-left f· L Scale· Heights· (length strips + 1) (let h = ltb-false 0 Left· q in omega (arith, h))))
+        (both-are true false p q)
+    by-ending false b p q = last (sym (append-nil With·) ∙ next-strips false p [] refl) (both-are false b p q)
+
+    one-strip : (scratch : List Float) → runCheck L (length scratch) ≡ Accepted → stripsBy J· (step scratch) ≡ S· ∷ []
+    one-strip scratch v =
+        one-if-there J· scratch refl v
+        ∙ ap (λ (r : Run). cond (ltb 0 (stripsFrom r (length strips))) (stripAt r (length strips) ∷ []) []) (run-is d strips)
+        ∙ yes _ _ (lt-ltb 0 (stripsFrom Run· (length strips)) (g .below))
+
+    works : (scratch : List Float) → runCheck L (length scratch) ≡ Accepted → State d (strips ++ stripsBy J· (step scratch)) (stepOf J· (length scratch) .job)
+    works scratch v =
+        subst (λ (l : List Worked). State d (strips ++ l) (stepOf J· (length scratch) .job)) (sym (one-strip scratch v))
+        (subst (λ (x : Stepped). State d With· (x .job)) (sym (step-works J· (length scratch) refl v ∙ ap (afterStrip J·) onward-is))
+        (by-ending (isAccepted (S· .halved .ending)) (ltb 0 Left·) refl refl))
+
+    -- a call that leaves the record as it is
+    stays : (l : List Worked) (x : Stepped) → l ≡ [] → x .job ≡ J· → State d (strips ++ l) (x .job)
+    stays l x e k =
+        subst (λ (m : List Worked). State d (strips ++ m) (x .job)) (sym e)
+        (subst (λ (m : List Worked). State d m (x .job)) (sym (append-nil strips)) (subst (State d strips) (sym k) (inl g)))
+
+    by-check : (scratch : List Float) (v : Verdict) → runCheck L (length scratch) ≡ v → State d (strips ++ stripsBy J· (step scratch)) (stepOf J· (length scratch) .job)
+    by-check scratch Accepted v = works scratch v
+    by-check scratch (Refused r) v =
+        stays (stripsBy J· (step scratch)) (stepOf J· (length scratch)) (none-refused J· scratch r refl v) (ap (λ (x : Stepped). x .job) (step-refused J· (length scratch) r refl v))
+
+    -- ---- a change of density
+    changes : (other : Density) (v : Verdict) → densityCheck other ≡ v → State (densityBy J· d (change other)) (strips ++ []) (changeOf J· other .job)
+    changes other Accepted v =
+        let e = change-taken J· other refl v in
+        subst (λ (x : Stepped). State (cond (isTaken (x .answer .reply)) other d) (strips ++ []) (x .job)) (sym e)
+        (subst (λ (m : List Worked). State other m (taken J· other .job)) (sym (append-nil strips)) (inl (record { is = refl; dense = v; rest = g .rest; below = g .below })))
+    changes other (Refused r) v =
+        let e = change-refused J· other r refl v in
+        subst (λ (x : Stepped). State (cond (isTaken (x .answer .reply)) other d) (strips ++ []) (x .job)) (sym e)
+        (stays [] (waits J· r) refl refl)
+
+    going : (call : Call) → State (densityBy J· d call) (strips ++ stripsBy J· call) (steppedBy J· call .job)
+    going (step scratch) = by-check scratch (runCheck L (length scratch)) refl
+    going (change other) = changes other (densityCheck other) refl
+
+  -- ---- a job that has ended
+  module _ (d : Density) (strips : List Worked) (job : Job) (e : Done d strips job) where
+    kept : (l : List Worked) → l ≡ [] → State d (strips ++ l) job
+    kept l n = subst (λ (m : List Worked). State d (strips ++ m) job) (sym n) (subst (λ (m : List Worked). State d m job) (sym (append-nil strips)) (inr e))
+
+    done : (call : Call) → State (densityBy job d call) (strips ++ stripsBy job call) (steppedBy job call .job)
+    done (step scratch) =
+        subst (λ (x : Stepped). State d (strips ++ stripsBy job (step scratch)) (x .job)) (sym (step-ended job (length scratch) (e .over-now)))
+        (kept (stripsBy job (step scratch)) (none-ended job scratch (e .over-now)))
+    done (change other) =
+        subst (λ (x : Stepped). State (cond (isTaken (x .answer .reply)) other d) (strips ++ []) (x .job)) (sym (change-ended job other (e .over-now))) (kept [] refl)
+
+  one : (d : Density) (strips : List Worked) (job : Job) (call : Call) → State d strips job → State (densityBy job d call) (strips ++ stripsBy job call) (steppedBy job call .job)
+  one d strips job call (inl g) =
+      subst (λ (j : Job). State (densityBy j d call) (strips ++ stripsBy j call) (steppedBy j call .job)) (sym (g .is))
+      (going d strips (record { is = refl; dense = g .dense; rest = g .rest; below = g .below }) call)
+  one d strips job call (inr e) = done d strips job e call
+
+  all : (calls : List Call) (d : Density) (strips : List Worked) (job : Job) → State d strips job → State (densityOver job d calls) (strips ++ stripsOver job calls) (afterCalls job calls)
+  all [] d strips job s = subst (λ (l : List Worked). State d l job) (sym (append-nil strips)) s
+  all (call ∷ calls) d strips job s =
+      subst (λ (l : List Worked). State (densityOver job d (call ∷ calls)) l (afterCalls job (call ∷ calls)))
+      (append-assoc strips (stripsBy job call) (stripsOver (steppedBy job call .job) calls))
+      (all calls (densityBy job d call) (strips ++ stripsBy job call) (steppedBy job call .job) (one d strips job call s))
+
+  -- ---- what the states promise
+  planform-checked : planformCheck (set .planform) points ≡ Accepted
+  unfolding ownCheck
+  planform-checked = each-accepts (ownChecks set points) own-checked .1 .0
+
+  begun : State (set .density) [] (madeOf set points L .job)
+  unfolding ownCheck
+  begun =
+      let (count, (planform, (thickness, (thickness-root, (cant, (base-angle, (tab, (radius, (depth, (density, none)))))))))) = each-accepts (ownChecks set points) own-checked in
+      inl (record { is = made-is; dense = density; rest = refl; below = omega (arith, heights-some (set .planform) points planform-checked) })
+
+  -- a set with a density that was accepted is accepted
+  accepted-with : (d : Density) → densityCheck d ≡ Accepted → (n : ℕ) → scratchCheck L n ≡ Accepted → setCheck (withDensity set d) points L n ≡ Accepted
+  unfolding ownCheck setCheck
+  accepted-with d dense n scratch =
+      let (count, (planform, (thickness, (thickness-root, (cant, (base-angle, (tab, (radius, (depth, (density, none)))))))))) = each-accepts (ownChecks set points) own-checked in
+      where-each-accepts (limitCheck L ∷ scratchCheck L n ∷ ownChecks (withDensity set d) points)
+      (limit-checked, (scratch, (count, (planform, (thickness, (thickness-root, (cant, (base-angle, (tab, (radius, (depth, (dense, none))))))))))))
+
+  long-enough : scratchCheck L (16 * L) ≡ Accepted
+  unfolding scratchCheck
+  long-enough = rw (le-leb (16 * L) (16 * L) (omega arith))
+
+  fresh : (d : Density) → densityCheck d ≡ Accepted → (n : ℕ) → scratchCheck L n ≡ Accepted → workedFigures (withDensity set d) points L ≡ setFigures (withDensity set d) points L n
+  unfolding setFigures
+  fresh d dense n scratch =
+      sym (ap (λ (v : Verdict). byVerdict v (workedFigures (withDensity set d) points L) (λ refusal. refusedFigures refusal 0)) (accepted-with d dense n scratch))
+
+  module _ (calls : List Call) where
+    abbrev After· : Job
+    After· = afterCalls (madeOf set points L .job) calls
+
+    abbrev Strips· : List Worked
+    Strips· = stripsOver (madeOf set points L .job) calls
+
+    abbrev Density· : Density
+    Density· = densityOver (madeOf set points L .job) (set .density) calls
+
+    runs : Going Density· Strips· After· → OverCalls set points L calls
+    runs g =
+        let still : After· .ended ≡ false = ap (λ (j : Job). j .ended) (g .is) in
+        record {
+          set-is = ap (λ (j : Job). j .set) (g .is);
+          ends-as-fresh = λ e n s. not-both _ still e;
+          worked = λ e. not-both _ still e;
+          reported = λ e. not-both _ still e;
+          samples-so-far = ap (λ (j : Job). j .samples) (g .is);
+          no-more-steps = omega (arith, g .below);
+          runs-on = λ e. omega (arith, g .below);
+          as-many-steps = λ e k. not-both _ still e;
+        }
+
+    ended-so : Done Density· Strips· After· → OverCalls set points L calls
+    ended-so z =
+        record {
+          set-is = z .set-is;
+          ends-as-fresh = λ e n s. z .answer ∙ fresh Density· (z .dense) n s;
+          worked = λ e. subst (StripsAre Run·) (sym (z .whole)) (strips-are Run· (limits .0));
+          reported = λ e. subst (λ (l : List Worked). AreReported l (setReport (After· .outcome))) (sym (z .whole))
+              (set-reported (withDensity set Density·) points L (16 * L) (After· .outcome) (accepted-with Density· (z .dense) (16 * L) long-enough) (z .answer));
+          samples-so-far = z .samples;
+          no-more-steps = subst (λ (l : List Worked). length l ≤ stripsFrom Run· 0) (sym (z .whole)) (let n = worked-few 7 f· L Scale· Heights· in omega (arith, n));
+          runs-on = λ e. not-both _ e (z .over-now);
+          as-many-steps = λ e k. ap length (z .whole) ∙ worked-all f· L Scale· Heights· accepted (sym (ap endingOf (z .whole)) ∙ k);
+        }
+
+    by-state : State Density· Strips· After· → OverCalls set points L calls
+    by-state (inl g) = runs g
+    by-state (inr z) = ended-so z
+
+    -- "for every interleaving of steps and changes"
+    pub over-calls : OverCalls set points L calls
+    over-calls = by-state (all calls (set .density) [] (madeOf set points L .job) begun)

@@ -1,0 +1,377 @@
+// A job: a set worked one strip a step, its density changed while it works (document 02, Paper 9).
+//
+// The record is lent to each call and updated there: `step` and `change_density` take it by `&mut`, and what they do is a function by value.
+// Making a job runs every check before the strips but 2, which each step asks. Any record, density and scratch may be handed in.
+ghost use mathlib.Core.Path.{_≡_};
+ghost use lib.ListN.{length};
+ghost use Rattle.strips.specs.Strips.{Room, WorksNext};
+ghost use Rattle.jobs.specs.Jobs.{heldOf, pointsOf, outlineOf, runOfJob, totalOf, noFigures, outcomeOf, repeated, waits, more, ended, afterStrip, withDensity, taken};
+ghost use Rattle.jobs.specs.Jobs.{makingCheck, firstOutcome, madeOf, StepsTo, changeOf};
+ghost use Rattle.jobs.specs.Lent.{StepsLent, ChangesLent};
+use bodies::Body;
+use figures::Figures;
+use fins::FinSet;
+use halving::Ending;
+use halving::Integral;
+use materials::Density;
+use refusals::Refusal;
+use refusals::Verdict;
+use refusals::first_refusal;
+use std::num::wrapping_add_usize;
+use strips::Onward;
+
+// A copy of an outline: room for 64 points, and how many of the numbers are the outline's.
+pub struct Points {
+    pub numbers: [f64; 128],
+    pub count: usize,
+}
+
+// The set, its own copy of the outline and L; which strip is next, the sums and totals over those worked; and, once it has ended, its answer.
+pub struct Job {
+    pub set: FinSet,
+    pub points: Points,
+    pub limit: usize,
+    pub next: usize,
+    pub value: [f64; 7],
+    pub intervals: usize,
+    pub samples: usize,
+    pub ended: bool,
+    pub outcome: Figures,
+}
+
+// More strips remain; taken; or figures with their verdict, which is a refusal's where a number is given.
+pub enum Reply {
+    More,
+    Taken,
+    Answered,
+}
+
+// What a call answers. The plain answers carry no figures.
+pub struct Answer {
+    pub reply: Reply,
+    pub figures: Figures,
+}
+
+// A job as a call leaves it, and what the call answers.
+pub struct Stepped {
+    pub job: Job,
+    pub answer: Answer,
+}
+
+fn held(count: usize) -> usize
+    ensures { λ r. ⌜ r ≡ heldOf count ⌝ }
+{
+    if count <= 128 {
+        return count;
+    }
+    128
+}
+
+// A job's own copy, zeros behind it.
+fn copied(points: &[f64]) -> Points
+    ensures { λ r. ⌜ r ≡ pointsOf (now (points .entry)) ⌝ }
+{
+    let n = held(points.len());
+    let mut numbers = [0.0; 128];
+    let mut i: usize = 0;
+    while i < n {
+        numbers[i] = points[i];
+        i += 1;
+    }
+    Points { numbers, count: i }
+}
+
+fn no_figures() -> Figures
+    ensures { λ r. ⌜ r ≡ noFigures ⌝ }
+{
+    let verdict = Verdict::Accepted;
+    let body = Body::ZERO;
+    Figures {
+        verdict,
+        body,
+        intervals: 0,
+        samples: 0,
+    }
+}
+
+// A job that has ended answers its answer again.
+fn repeat(job: Job) -> Stepped
+    ensures { λ r. ⌜ r ≡ repeated job ⌝ }
+{
+    let reply = Reply::Answered;
+    let figures = job.outcome;
+    let answer = Answer { reply, figures };
+    Stepped { job, answer }
+}
+
+// A number that leaves the job as it is, with the samples taken so far.
+fn wait(job: Job, refusal: Refusal) -> Stepped
+    ensures { λ r. ⌜ r ≡ waits job refusal ⌝ }
+{
+    let reply = Reply::Answered;
+    let figures = figures::refused_figures(refusal, job.samples);
+    let answer = Answer { reply, figures };
+    Stepped { job, answer }
+}
+
+// More strips remain behind these totals.
+fn go_on(job: Job, total: Integral) -> Stepped
+    ensures { λ r. ⌜ r ≡ more job total ⌝ }
+{
+    let set = job.set;
+    let points = job.points;
+    let outcome = job.outcome;
+    let next = wrapping_add_usize(job.next, 1);
+    let value = total.value;
+    let job = Job {
+        set,
+        points,
+        limit: job.limit,
+        next,
+        value,
+        intervals: total.intervals,
+        samples: total.samples,
+        ended: false,
+        outcome,
+    };
+    let reply = Reply::More;
+    let figures = no_figures();
+    let answer = Answer { reply, figures };
+    Stepped { job, answer }
+}
+
+// The job ends with these figures.
+fn end(job: Job, total: Integral, figures: Figures) -> Stepped
+    ensures { λ r. ⌜ r ≡ ended job total figures ⌝ }
+{
+    let set = job.set;
+    let points = job.points;
+    let value = total.value;
+    let job = Job {
+        set,
+        points,
+        limit: job.limit,
+        next: job.next,
+        value,
+        intervals: total.intervals,
+        samples: total.samples,
+        ended: true,
+        outcome: figures,
+    };
+    let reply = Reply::Answered;
+    let answer = Answer { reply, figures };
+    Stepped { job, answer }
+}
+
+// The answer of a set whose strips add up to these totals.
+fn conclude(set: FinSet, points: &[f64], total: Integral) -> Figures
+    ensures { λ r. ⌜ r ≡ outcomeOf set (now (points .entry)) total ⌝ }
+{
+    let planform = set.planform;
+    let scale_m = integrands::scale_m(planform, points);
+    let root_chord_m = planforms::root_chord_m(planform, points);
+    let totals = strips::concluded(total);
+    figures::concluded(set, root_chord_m, scale_m, totals)
+}
+
+// The next strip of a job, added to its totals.
+fn work_next(job: Job, scratch: &mut [f64]) -> Onward
+    requires { ⌜ Room (job .limit) (length (now scratch)) ⌝ }
+    ensures { λ r. ⌜ WorksNext (runOfJob job) (job .next) (totalOf job) (now (scratch .entry)) r (now (scratch .exit)) ⌝ }
+{
+    let set = job.set;
+    let planform = set.planform;
+    let section = set.cross_section;
+    let points = job.points;
+    let numbers = points.numbers;
+    let n = held(points.count);
+    let integrand = integrands::plate_integrand(
+        planform,
+        &numbers[..n],
+        section,
+        set.thickness_m,
+        set.body_radius_m,
+    );
+    let ending = Ending::Accepted;
+    let sums = job.value;
+    let total = Integral {
+        ending,
+        value: sums,
+        intervals: job.intervals,
+        samples: job.samples,
+    };
+    strips::work_next(
+        scratch,
+        integrand,
+        &numbers[..n],
+        job.next,
+        job.limit,
+        total,
+    )
+}
+
+// The job once its next strip is worked: it goes on, or it ends with its last strip or one refused.
+fn after_strip(job: Job, onward: Onward) -> Stepped
+    ensures { λ r. ⌜ r ≡ afterStrip job onward ⌝ }
+{
+    let total = onward.total;
+    let ending = total.ending;
+    let accepted = strips::is_accepted(ending);
+    if accepted & (0 < onward.left) {
+        return go_on(job, total);
+    }
+    let set = job.set;
+    let points = job.points;
+    let numbers = points.numbers;
+    let n = held(points.count);
+    let figures = conclude(set, &numbers[..n], total);
+    end(job, total, figures)
+}
+
+// One step.
+pub fn step_by_value(job: Job, scratch: &mut [f64]) -> Stepped
+    ensures { λ r. ⌜ StepsTo job (now (scratch .entry)) r (now (scratch .exit)) ⌝ }
+{
+    if job.ended {
+        return repeat(job);
+    }
+    let limit = job.limit;
+    let verdict = first_refusal(
+        limits::check_limit(limit),
+        limits::check_scratch(limit, scratch.len()),
+    );
+    match verdict {
+        Verdict::Accepted => {
+            let onward = work_next(job, scratch);
+            after_strip(job, onward)
+        }
+        Verdict::Refused(refusal) => wait(job, refusal),
+    }
+}
+
+fn with_density(set: FinSet, density: Density) -> FinSet
+    ensures { λ r. ⌜ r ≡ withDensity set density ⌝ }
+{
+    let planform = set.planform;
+    let cross_section = set.cross_section;
+    let tab = set.tab;
+    FinSet {
+        count: set.count,
+        planform,
+        thickness_m: set.thickness_m,
+        cross_section,
+        tab,
+        cant_rad: set.cant_rad,
+        base_angle_rad: set.base_angle_rad,
+        body_radius_m: set.body_radius_m,
+        density,
+    }
+}
+
+// The density is taken: the sums are per unit of it, so nothing else changes.
+fn take_density(job: Job, density: Density) -> Stepped
+    ensures { λ r. ⌜ r ≡ taken job density ⌝ }
+{
+    let set = job.set;
+    let set = with_density(set, density);
+    let points = job.points;
+    let value = job.value;
+    let outcome = job.outcome;
+    let job = Job {
+        set,
+        points,
+        limit: job.limit,
+        next: job.next,
+        value,
+        intervals: job.intervals,
+        samples: job.samples,
+        ended: false,
+        outcome,
+    };
+    let reply = Reply::Taken;
+    let figures = no_figures();
+    let answer = Answer { reply, figures };
+    Stepped { job, answer }
+}
+
+// A change of density: taken, or 12, and any change after the end is 12.
+pub fn change_by_value(job: Job, density: Density) -> Stepped
+    ensures { λ r. ⌜ r ≡ changeOf job density ⌝ }
+{
+    let over = job.ended;
+    if over {
+        return wait(job, Refusal::Density);
+    }
+    let verdict = materials::check_density(density);
+    match verdict {
+        Verdict::Accepted => take_density(job, density),
+        Verdict::Refused(refusal) => wait(job, refusal),
+    }
+}
+
+// Every check before the strips but 2.
+fn check_making(set: FinSet, points: &[f64], limit: usize) -> Verdict
+    ensures { λ r. ⌜ r ≡ makingCheck set (now (points .entry)) limit ⌝ }
+{
+    let v = limits::check_limit(limit);
+    first_refusal(v, fins::check_own(set, points))
+}
+
+// A job that was refused has ended with that.
+fn first_answer(verdict: Verdict) -> Answer
+    ensures { λ r. ⌜ r ≡ firstOutcome verdict ⌝ }
+{
+    match verdict {
+        Verdict::Accepted => {
+            let reply = Reply::Taken;
+            let figures = no_figures();
+            Answer { reply, figures }
+        }
+        Verdict::Refused(refusal) => {
+            let reply = Reply::Answered;
+            let figures = figures::refused_figures(refusal, 0);
+            Answer { reply, figures }
+        }
+    }
+}
+
+// Makes a job: taken, or the first refusal, with which the record has ended.
+pub fn make(set: FinSet, points: &[f64], limit: usize) -> Stepped
+    ensures { λ r. ⌜ r ≡ madeOf set (now (points .entry)) limit ⌝ }
+{
+    let verdict = check_making(set, points, limit);
+    let ended = refusals::is_refused(verdict);
+    let answer = first_answer(verdict);
+    let outcome = answer.figures;
+    let points = copied(points);
+    let job = Job {
+        set,
+        points,
+        limit,
+        next: 0,
+        value: [0.0; 7],
+        intervals: 0,
+        samples: 0,
+        ended,
+        outcome,
+    };
+    Stepped { job, answer }
+}
+
+// One step of a lent job.
+pub fn step(job: &mut Job, scratch: &mut [f64]) -> Answer
+    ensures { λ r. ⌜ StepsLent (now (job .entry)) (now (scratch .entry)) r (now (job .exit)) (now (scratch .exit)) ⌝ }
+{
+    let s = step_by_value(*job, scratch);
+    *job = s.job;
+    s.answer
+}
+
+// A change of density of a lent job.
+pub fn change_density(job: &mut Job, density: Density) -> Answer
+    ensures { λ r. ⌜ ChangesLent (now (job .entry)) density r (now (job .exit)) ⌝ }
+{
+    let s = change_by_value(*job, density);
+    *job = s.job;
+    s.answer
+}
