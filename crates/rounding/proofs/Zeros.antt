@@ -13,7 +13,7 @@ use lib.Ieee.Scale.{finite}
 use lib.Ieee.Positive.{num, den}
 use Rattle.floats.specs.Operations.{_⊕_, _⊖_, _⊗_, bits}
 use Rattle.floats.specs.Constants.{half}
-use Rattle.floats.specs.Floats.{isFinite, absOf}
+use Rattle.floats.specs.Floats.{absOf}
 use Rattle.floats.proofs.Bools.{no}
 use Rattle.floats.proofs.Zeros.{zero-is, equal-zero}
 use Rattle.rounding.proofs.Signs.{minus, round-minus}
@@ -33,10 +33,6 @@ zero-less-zero = refl
 pub abs-zero : absOf (bits 0) ≡ bits 0
 unfolding ofBits absOf
 abs-zero = refl
-
-pub finite-zero : isFinite (bits 0) ≡ true
-unfolding ofBits
-finite-zero = refl
 
 -- ---- a product
 none : (x : Float) → num x * 1 ≤ 0 * den x → num x ≡ 0
