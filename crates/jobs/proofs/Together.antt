@@ -318,16 +318,16 @@ module _ (set : FinSet) (points : List Float) (L : ℕ) (made : makingCheck set 
   begun : State (set .density) [] (madeOf set points L .job)
   unfolding ownCheck
   begun =
-      let (count, (planform, (thickness, (thickness-root, (cant, (base-angle, (tab, (radius, (depth, (density, none)))))))))) = each-accepts (ownChecks set points) own-checked in
+      let (count, (planform, (thickness, (thickness-root, (cant, (base-angle, (fillet-radius, (tab, (radius, (depth, (density, (glue, (ratio, none))))))))))))) = each-accepts (ownChecks set points) own-checked in
       inl (record { is = made-is; dense = density; rest = refl; below = omega (arith, heights-some (set .planform) points planform-checked) })
 
   -- a set with a density that was accepted is accepted
   accepted-with : (d : Density) → densityCheck d ≡ Accepted → (n : ℕ) → scratchCheck L n ≡ Accepted → setCheck (withDensity set d) points L n ≡ Accepted
   unfolding ownCheck setCheck
   accepted-with d dense n scratch =
-      let (count, (planform, (thickness, (thickness-root, (cant, (base-angle, (tab, (radius, (depth, (density, none)))))))))) = each-accepts (ownChecks set points) own-checked in
+      let (count, (planform, (thickness, (thickness-root, (cant, (base-angle, (fillet-radius, (tab, (radius, (depth, (density, (glue, (ratio, none))))))))))))) = each-accepts (ownChecks set points) own-checked in
       where-each-accepts (limitCheck L ∷ scratchCheck L n ∷ ownChecks (withDensity set d) points)
-      (limit-checked, (scratch, (count, (planform, (thickness, (thickness-root, (cant, (base-angle, (tab, (radius, (depth, (dense, none))))))))))))
+      (limit-checked, (scratch, (count, (planform, (thickness, (thickness-root, (cant, (base-angle, (fillet-radius, (tab, (radius, (depth, (dense, (glue, (ratio, none)))))))))))))))
 
   long-enough : scratchCheck L (16 * L) ≡ Accepted
   unfolding scratchCheck

@@ -148,6 +148,7 @@ withDensity set density =
       «thickness_m» = set .«thickness_m»;
       «cross_section» = set .«cross_section»;
       tab = set .tab;
+      fillet = set .fillet;
       «cant_rad» = set .«cant_rad»;
       «base_angle_rad» = set .«base_angle_rad»;
       «body_radius_m» = set .«body_radius_m»;

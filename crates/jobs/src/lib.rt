@@ -255,12 +255,14 @@ fn with_density(set: FinSet, density: Density) -> FinSet
     let planform = set.planform;
     let cross_section = set.cross_section;
     let tab = set.tab;
+    let fillet = set.fillet;
     FinSet {
         count: set.count,
         planform,
         thickness_m: set.thickness_m,
         cross_section,
         tab,
+        fillet,
         cant_rad: set.cant_rad,
         base_angle_rad: set.base_angle_rad,
         body_radius_m: set.body_radius_m,
