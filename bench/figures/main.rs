@@ -178,7 +178,8 @@ fn heading(what: &str) {
 
 const SECTIONS: [&str; 4] = ["square", "rounded", "airfoil", "airfoil-open"];
 
-/// The limit of every table but the last; enough for all these sets.
+/// The limit of every table but the last, and the largest there is. Most of the teeth of 64 points with rounded edges need more pieces of a strip than
+/// this, and are refused 13.
 const LIMIT: usize = 64;
 
 /// Each section of a planform; whether one is below `wanted` times the Rust's speed.
