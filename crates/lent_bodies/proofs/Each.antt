@@ -58,10 +58,14 @@ word = tyInt w64
 abbrev pub slice : Ty
 slice = sliceTy (tyRef (named 0) imm (pointee (body.the-row .written)))
 
+-- a body is ten f64s of eight bytes
+abbrev bodyBytes : ℕ
+bodyBytes = 80
+
 -- of a turn: what follows the length, the comparison and the branch
 abbrev work : Name → Code
 work g =
-    seq (assign (place 5 []) (op2 (mul unsigned) (copy (place 4 [])) (int w64 80)))
+    seq (assign (place 5 []) (op2 (mul unsigned) (copy (place 4 [])) (int w64 bodyBytes)))
     (seq (assign (place 7 []) (op2 offset (copy (place 2 (field 0 ∷ []))) (copy (place 5 []))))
     (seq (assign (place 8 []) (rvOpd (copy (place 7 (deref body-laws.mir ∷ [])))))
     (seq (call g (copy (place 3 []) ∷ copy (place 8 []) ∷ []) (place 3 []))
@@ -219,7 +223,7 @@ module _ {M : Type 1} (𝓤 : URA M) (H : Heap 𝓤) (A : Atoms 𝓤) (W : Given
             -- the body's place, and the body
             assigns ! (bin ! (load ! (from ! (stop !)) (look ! 11 refl)) (lit ! tt) (record { fits = offset-fits less })) (from ! (stop !)) (store ! 9 refl (tt, record { fits = offset-fits less })) $
             assigns ! (bin ! (load ! (from ! (fld ! refl (stop !))) (look-in ! 15 (sub ! 0 refl (whole !)))) (load ! (from ! (stop !)) (look ! 9 refl)) tt) (from ! (stop !)) (init ! 5 refl (tt, tt)) $
-            rewrite ! 5 (λ (p : ℕ). ‵ (fat fullShare tyPtr l₇ 0 (vptr b p))) (sym (place-is 80 o k)) refl $
+            rewrite ! 5 (λ (p : ℕ). ‵ (fat fullShare tyPtr l₇ 0 (vptr b p))) (sym (place-is bodyBytes o k)) refl $
             elem-out ! body.the-row (Is body.the-row) (shows 𝓤 H A body.the-row) bodies-vals (struct.tells body.the-type body-laws.the-laws) q′ bodies k emptyBody b o (ltb→lt k n less) (λ is-body.
             assigns ! (of-opd ! (load ! (from ! (hop ! (look ! 7 refl) (stop !))) (look-raw ! 0 refl))) (from ! (stop !)) (init ! 5 refl (struct.lawful body.the-type body-laws.the-laws 𝓤 H A W .typed bodyₖ _ is-body .0)) $
             elem-back ! body.the-row q′ bodies k emptyBody (bodies-vals bodyₖ) b o (ltb→lt k n less) $
@@ -250,8 +254,8 @@ module _ {M : Type 1} (𝓤 : URA M) (H : Heap 𝓤) (A : Atoms 𝓤) (W : Given
             bodyₖ : Body
             bodyₖ = bodyIn bodies k
 
-            offset-fits : Holds (ltb k n) → k * 80 < 2 ^ 64
-            offset-fits less = let bytes : n * 80 < 2 ^ 63 = room .1 in let h : k < n = ltb→lt k n less in omega arith
+            offset-fits : Holds (ltb k n) → k * bodyBytes < 2 ^ 64
+            offset-fits less = let bytes : n * bodyBytes < 2 ^ 63 = room .1 in let h : k < n = ltb→lt k n less in omega arith
 
             next-fits : Holds (ltb k n) → k + 1 < 2 ^ 64
             next-fits less = let words : n < 2 ^ 64 = room .0 in let h : k < n = ltb→lt k n less in omega arith
