@@ -21,7 +21,9 @@ use Rattle.rounding.proofs.Signs.{minus, positive-plus}
 use Rattle.rounding.proofs.Sizes.{weaker, zero-below, half-below, mul-below, div-below, neg-below, add-below, sub-below, add-above, add-plus, above-num, positive-of, mul-above}
 use Rattle.rounding.proofs.Roots.{root-below}
 use Rattle.rounding.proofs.Terms.{Term, given, _plus_, _less_, _times_, _over_, AllAbove, within}
-use Rattle.limits.proofs.Lengths.{PositiveLength}
+use Rattle.refusals.specs.declared.Verdict.the-variants.{Accepted}
+use Rattle.limits.specs.Limits.{bodyRadiusField, filletRadiusField, lengthCheck}
+use Rattle.limits.proofs.Lengths.{PositiveLength, above-checked}
 use Rattle.fillets.specs.declared.AreaMoments.{AreaMoments}
 use Rattle.fillets.specs.Angles.{eight, angleOf}
 use Rattle.fillets.specs.FilletSections.{quarter, six, areaMoments, lessMoments, termDivisors, spanLessSineSeries, spanLessSineOf, sectorArea, chordMoment, secondMoment, movedFirst, movedSecond, sectorWith, sectorOf, touchingAt, triangleOf, sectionWith, filletSectionOf}
@@ -276,3 +278,8 @@ module _ (rb r : Float) (hb : PositiveLength rb) (hr : PositiveLength r) where
       is-finite nan i = absurd i
       is-finite (inf t) i = absurd i
       is-finite (fin t m e) i = refl
+
+-- the same of radii whose checks accept
+pub checked-finite : (rb r : Float) → T (fits binary64 rb) → T (fits binary64 r) → lengthCheck bodyRadiusField rb ≡ Accepted → lengthCheck filletRadiusField r ≡ Accepted → lt (bits 0) rb ≡ true → lt (bits 0) r ≡ true
+    → isSound (filletSectionOf rb r) ≡ lt (bits 0) (filletSectionOf rb r .«area_m2»)
+checked-finite rb r fb fr cb cr pb pr = section-finite rb r (above-checked bodyRadiusField rb fb cb pb) (above-checked filletRadiusField r fr cr pr)
