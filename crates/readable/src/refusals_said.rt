@@ -34,7 +34,7 @@ pub(crate) fn put_sentence(out: &mut [u8], n: usize, number: u64) -> usize
         12 => say(
             out,
             n,
-            b"the density is not bulk, or neither 0 nor 2^-10 to 2^15 kg/m\xc2\xb3",
+            b"the density, of the fins, of the tubes or of a fillet with a radius above 0, is not bulk, or neither 0 nor 2^-10 to 2^15 kg/m\xc2\xb3",
         ),
         13 => say(
             out,
