@@ -1,0 +1,61 @@
+-- `test_jobs::drive` is safe: so many calls, and the scratch keeps its length. Assumes nothing.
+use mathlib.Core.Path.{_≡_, refl}
+use Prim.Native.Nat.{_-_}
+use native.Mathlib.Omega.{arith}
+use borrow.Author.Needs.{needs}
+use lib.ListN.{length}
+use Rattle.test_jobs.proofs.drive.Statement.{statement}
+use Rattle.test_jobs.proofs.drive.Tie as tie
+
+abbrev Inv-loop : tie.InvT-loop
+Inv-loop seed kg-m3 scratch₀ driven₀ s₀ calls₀ scratch driven s calls = length scratch ≡ length scratch₀
+
+abbrev μ-loop : tie.MeasureT-loop
+μ-loop seed kg-m3 scratch₀ driven₀ s₀ calls₀ scratch driven s calls = 80 - calls
+
+loop-holds : tie.Need-loop-holds Inv-loop μ-loop
+loop-holds c = refl
+
+after-requires : tie.Need-after-requires Inv-loop μ-loop
+after-requires c κs = search needs
+
+call-requires : tie.Need-call-requires Inv-loop μ-loop
+call-requires c κs = omega arith
+
+is-taken-requires : tie.Need-is-taken-requires Inv-loop μ-loop
+is-taken-requires c κs = search needs
+
+wood-requires : tie.Need-wood-requires Inv-loop μ-loop
+wood-requires c κs = search needs
+
+add-calls : tie.Need-add-calls Inv-loop μ-loop
+add-calls c = omega arith
+
+loop-less : tie.Need-loop-less Inv-loop μ-loop
+loop-less c = omega arith
+
+loop-again : tie.Need-loop-again Inv-loop μ-loop
+loop-again c = omega arith
+
+same-length : tie.Need-same-length Inv-loop μ-loop
+same-length c = omega arith
+
+returns : tie.Need-returns Inv-loop μ-loop
+returns c = search needs
+
+pub drive-spec : {M : Type 1} → statement M
+drive-spec =
+    tie.close
+    (tie.spec
+    Inv-loop
+    μ-loop
+    loop-holds
+    after-requires
+    call-requires
+    is-taken-requires
+    wood-requires
+    add-calls
+    loop-less
+    loop-again
+    same-length
+    returns)
