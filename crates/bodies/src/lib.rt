@@ -253,7 +253,7 @@ impl Tensor {
 }
 
 // |d|² E − d dᵀ: the parallel-axis term for unit mass at the offset d.
-fn offset_tensor(d: Vector) -> Tensor
+pub fn offset_tensor(d: Vector) -> Tensor
     ensures { λ r. ⌜ r ≡ offsetTensorOf d ⌝ }
 {
     let square = d.x * d.x + d.y * d.y + d.z * d.z;

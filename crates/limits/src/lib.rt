@@ -45,6 +45,10 @@ pub const DRILL_X: usize = 17;
 
 pub const DRILL_HEIGHT: usize = 18;
 
+pub const OFFSET: usize = 19;
+
+pub const ROLL: usize = 20;
+
 // The magnitude of a length other than zero: 2^-20 to 64.
 const SHORTEST_M: f64 = 9.5367431640625e-7;
 
@@ -96,6 +100,7 @@ fn zero_allowed(field: usize) -> bool
         | (field == FILLET_RADIUS)
         | (field == DRILL_X)
         | (field == DRILL_HEIGHT)
+        | (field == OFFSET)
 }
 
 fn negative_allowed(field: usize) -> bool
@@ -106,6 +111,7 @@ fn negative_allowed(field: usize) -> bool
         | (field == TAB_OFFSET)
         | (field == DRILL_X)
         | (field == DRILL_HEIGHT)
+        | (field == OFFSET)
 }
 
 // 4: the length is within the limits of its field.

@@ -40,6 +40,7 @@ pub enum Refusal {
     FilletRatio,
     NoCorners,
     NotWholeSteps,
+    NotHeavier,
 }
 
 // The answer of a check.
@@ -128,6 +129,7 @@ fn row_of(refusal: Refusal) -> Row
         Refusal::FilletRatio => Row(22, [0, 0]),
         Refusal::NoCorners => Row(24, [0, 0]),
         Refusal::NotWholeSteps => Row(25, [0, 0]),
+        Refusal::NotHeavier => Row(26, [0, 0]),
     }
 }
 

@@ -1,0 +1,59 @@
+-- `placements::check_moved` meets its contract: the calls are in order. Assumes nothing.
+use mathlib.Core.List.{[], _∷_}
+use Rattle.refusals.proofs.Order.{in-order}
+use Rattle.placements.specs.Parts.{movedCheck}
+use borrow.Author.Needs.{needs}
+use Rattle.placements.proofs.check_moved.Statement.{statement}
+use Rattle.placements.proofs.check_moved.Tie as tie
+
+check-requires : tie.Need-check-requires
+check-requires c κs = search needs
+
+check-requires-2 : tie.Need-check-requires-2
+check-requires-2 c κs = search needs
+
+first-refusal-requires : tie.Need-first-refusal-requires
+first-refusal-requires c κs = search needs
+
+check-offset-requires : tie.Need-check-offset-requires
+check-offset-requires c κs = search needs
+
+first-refusal-requires-2 : tie.Need-first-refusal-requires-2
+first-refusal-requires-2 c κs = search needs
+
+refuse-when-requires : tie.Need-refuse-when-requires
+refuse-when-requires c κs = search needs
+
+first-refusal-requires-3 : tie.Need-first-refusal-requires-3
+first-refusal-requires-3 c κs = search needs
+
+returns : tie.Need-returns
+unfolding movedCheck
+returns c =
+    let asked = c .before in
+    let second = asked .before .before in
+    let offset = second .before in
+    let bodies = offset .before in
+    rw (
+      c .first-refusal3 .ensures,
+      asked .refuse-when .ensures,
+      second .first-refusal2 .ensures,
+      offset .check-offset .ensures,
+      bodies .first-refusal .ensures,
+      bodies .before .check2 .ensures,
+      bodies .before .before .check .ensures,
+    )
+    (in-order _ (_ ∷ _ ∷ _ ∷ []))
+
+pub check-moved-spec : {M : Type 1} → statement M
+check-moved-spec =
+    tie.close
+    (tie.spec
+    check-requires
+    check-requires-2
+    first-refusal-requires
+    check-offset-requires
+    first-refusal-requires-2
+    refuse-when-requires
+    first-refusal-requires-3
+    returns)

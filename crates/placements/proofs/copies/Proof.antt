@@ -1,0 +1,43 @@
+-- `placements::copies` meets its contract: each arm knows what the checks gave. Assumes nothing.
+use mathlib.Core.Path.{sym, _∙_}
+use Rattle.joins.proofs.JoinLaws.{by-verdict}
+use Rattle.placements.specs.Copies.{copiesOf}
+use Rattle.placements.proofs.Counts.{counted}
+use borrow.Author.Needs.{needs}
+use Rattle.placements.proofs.copies.Statement.{statement}
+use Rattle.placements.proofs.copies.Tie as tie
+
+check-copies-requires : tie.Need-check-copies-requires
+check-copies-requires c κs = search needs
+
+enum-told : tie.Need-enum-told
+enum-told c = search needs
+
+placed-copies-requires : tie.Need-placed-copies-requires
+placed-copies-requires c κs = counted _ _ _ (sym (c .before .before .check-copies .ensures) ∙ c .enum-told .given .1)
+
+enum-known-verdict : tie.Need-enum-known-verdict
+enum-known-verdict c = search needs
+
+refused-requires : tie.Need-refused-requires
+refused-requires c κs = search needs
+
+returns : tie.Need-returns
+unfolding copiesOf
+returns c = by-verdict _ (c .before .before .before .check-copies .ensures) (c .before .enum-told .given .1) (c .placed-copies .ensures)
+
+returns-2 : tie.Need-returns-2
+unfolding copiesOf
+returns-2 c = by-verdict _ (c .before .before .before .before .check-copies .ensures) (c .before .before .verdict .given .1) (c .refused .ensures)
+
+pub copies-spec : {M : Type 1} → statement M
+copies-spec =
+    tie.close
+    (tie.spec
+    check-copies-requires
+    enum-told
+    placed-copies-requires
+    enum-known-verdict
+    refused-requires
+    returns
+    returns-2)

@@ -1,0 +1,47 @@
+-- `placements::with_part_moved` meets its contract: each arm knows what the checks gave. Assumes nothing.
+use mathlib.Core.Path.{ap, _∙_}
+use Rattle.joins.specs.Joins.{acceptedBody}
+use Rattle.joins.proofs.JoinLaws.{by-verdict}
+use Rattle.placements.specs.Parts.{movedOf}
+use borrow.Author.Needs.{needs}
+use Rattle.placements.proofs.with_part_moved.Statement.{statement}
+use Rattle.placements.proofs.with_part_moved.Tie as tie
+
+check-moved-requires : tie.Need-check-moved-requires
+check-moved-requires c κs = search needs
+
+enum-told : tie.Need-enum-told
+enum-told c = search needs
+
+part-moved-requires : tie.Need-part-moved-requires
+part-moved-requires c κs = search needs
+
+accepted-requires : tie.Need-accepted-requires
+accepted-requires c κs = search needs
+
+enum-known-verdict : tie.Need-enum-known-verdict
+enum-known-verdict c = search needs
+
+refused-requires : tie.Need-refused-requires
+refused-requires c κs = search needs
+
+returns : tie.Need-returns
+unfolding movedOf
+returns c = by-verdict _ (c .before .before .before .before .check-moved .ensures) (c .before .before .enum-told .given .1) (c .accepted .ensures ∙ ap acceptedBody (c .before .part-moved .ensures))
+
+returns-2 : tie.Need-returns-2
+unfolding movedOf
+returns-2 c = by-verdict _ (c .before .before .before .before .check-moved .ensures) (c .before .before .verdict .given .1) (c .refused .ensures)
+
+pub with-part-moved-spec : {M : Type 1} → statement M
+with-part-moved-spec =
+    tie.close
+    (tie.spec
+    check-moved-requires
+    enum-told
+    part-moved-requires
+    accepted-requires
+    enum-known-verdict
+    refused-requires
+    returns
+    returns-2)
