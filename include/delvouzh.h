@@ -10,15 +10,17 @@
  *      6 first or last point            12 density                      18 no form
  *     19 a word that is no figure      20 wall over the outer radius     21 thickness over the root chord
  *     22 fillet too wide for the body  24 no corners: an ellipse         25 not whole steps of 2^-20 m
+ *     26 the whole is not heavier
  *
  * It writes its figures and counts over the start of the lent arrays; a refusal writes zero figures, but of chords none. Two counts are the values of a
  * refusal: the field of 4 and 9, the two edges of 7, the component of 13, the case of 17 (a to e as 0 to 4, without c); else both are 0.
  * Fields: 1 root chord, 2 tip chord, 3 span, 4 sweep, 5 x, 6 y, 7 thickness, 8 tab height, 9 tab length, 10 tab offset,
  * 11 body radius, 12 cant, 13 base angle, 14 tube length, 15 outer radius, 16 fillet radius,
- * 17 drill x, 18 drill height. Edges and components are counted from 0.
+ * 17 drill x, 18 drill height, 19 offset, 20 roll. Edges and components are counted from 0.
  *
  * 18 is an unknown number of a planform, section, tab, fillet or density, or another count of numbers than it asks for, with two exceptions:
- * an outline's numbers that are not 3 to 64 whole pairs are 5, and a join's that are not 1 to 32 whole bodies are 3. An array that is
+ * an outline's numbers that are not 3 to 64 whole pairs are 5, and a join's that are not 1 to 32 whole bodies, or
+ * offsets and places that are not 1 to 32 whole ones, are 3. An array that is
  * too short for what is written over it is 18 too, and then nothing at all is written.
  *
  * What a caller owes, and nothing checks:
@@ -122,6 +124,23 @@ size_t delvouzh_closing_radius(size_t count, double body_radius_m, double *radiu
 /* 1 to 32 bodies, 10 numbers each, one after another, joined into one. Any other count of numbers is 3; a `body` that is too short is 18.
  * No other number is given. */
 size_t delvouzh_combine(const double *bodies, size_t bodies_len, double *body, size_t body_len);
+
+/* Copies of a body, checked as delvouzh_check does, one moved by each offset, x and y, 1 to 32 of them, joined. One that moves by 0 and 0 is the body itself. Writes
+ * a body, and two values of a refusal. */
+size_t delvouzh_copied(const double *body, size_t body_len, const double *offsets, size_t offsets_len, double *joined,
+                       size_t joined_len, size_t *values, size_t values_len);
+
+/* The same by places, x, y and roll of each: a copy is rolled about the axis, then moved. */
+size_t delvouzh_placed(const double *body, size_t body_len, const double *places, size_t places_len, double *joined,
+                       size_t joined_len, size_t *values, size_t values_len);
+
+/* A body with a part of it moved by x, y and z; both are checked, the whole first. 26 is a whole of mass 0. Writes likewise. */
+size_t delvouzh_with_part_moved(const double *whole, size_t whole_len, const double *part, size_t part_len, const double *offset,
+                                size_t offset_len, double *joined, size_t joined_len, size_t *values, size_t values_len);
+
+/* A body with a part of it taken off. 26 is a part that is as heavy as the whole, or heavier. Writes likewise. */
+size_t delvouzh_without_part(const double *whole, size_t whole_len, const double *part, size_t part_len, double *joined,
+                             size_t joined_len, size_t *values, size_t values_len);
 
 /* The principal moments of a tensor, six numbers xx, yy, zz, xy, xz, yz, ascending. Writes two values of a refusal. */
 size_t delvouzh_principal_moments(const double *tensor, size_t tensor_len, double *moments, size_t moments_len,

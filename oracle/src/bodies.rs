@@ -49,7 +49,7 @@ fn symmetric(d: [f64; 3], xy: f64, xz: f64, yz: f64) -> [f64; 6] {
 }
 
 /// The tensor of a few points: what a body can have.
-fn real_tensor(r: &mut Random) -> [f64; 6] {
+pub fn real_tensor(r: &mut Random) -> [f64; 6] {
     let count = 1 + r.below(5);
     let parts: Vec<MassProperties> = (0..count)
         .map(|_| {

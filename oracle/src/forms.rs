@@ -15,6 +15,11 @@ pub enum Form {
     Tubes(Tubes),
     Closing { count: u64, radius: f64 },
     Drill { planform: Planform, at: [f64; 2] },
+    Copied { body: Body, offsets: Vec<[f64; 2]> },
+    /// x, y, roll.
+    Placed { body: Body, places: Vec<[f64; 3]> },
+    Moved { whole: Body, part: Body, offset: [f64; 3] },
+    Without { whole: Body, part: Body },
 }
 
 pub struct Set {
@@ -139,22 +144,9 @@ impl<'l> Reader<'_, 'l> {
                 limit: self.count_part(b"limit")?,
                 planform: self.planform()?,
             },
-            b"join" => {
-                let mut points = Vec::new();
-                while self.rest.first() == Some(&Token::Open) {
-                    points.push(self.part(b"point")?);
-                }
-                Form::Join(points)
-            }
+            b"join" => Form::Join(self.each(b"point")?),
             b"moments" => Form::Moments(self.figures()?),
-            b"check" => {
-                let [mass] = self.part(b"mass")?;
-                Form::Check(Body {
-                    mass,
-                    centre: self.part(b"centre")?,
-                    inertia: self.part(b"inertia")?,
-                })
-            }
+            b"check" => Form::Check(self.body_parts()?),
             b"tubes" => Form::Tubes(self.tubes()?),
             b"closing" => {
                 let count = self.count_part(b"count")?;
@@ -164,6 +156,23 @@ impl<'l> Reader<'_, 'l> {
             b"drill" => Form::Drill {
                 planform: self.planform()?,
                 at: self.part(b"at")?,
+            },
+            b"copied" => Form::Copied {
+                body: self.body()?,
+                offsets: self.each(b"offset")?,
+            },
+            b"placed" => Form::Placed {
+                body: self.body()?,
+                places: self.each(b"place")?,
+            },
+            b"moved" => Form::Moved {
+                whole: self.body()?,
+                part: self.body()?,
+                offset: self.part(b"offset")?,
+            },
+            b"without" => Form::Without {
+                whole: self.body()?,
+                part: self.body()?,
             },
             _ => return None,
         };
@@ -220,6 +229,32 @@ impl<'l> Reader<'_, 'l> {
         let list = self.figures()?;
         self.close()?;
         Some(list)
+    }
+
+    /// `(name F ..) ..`, as many as there are.
+    fn each<const N: usize>(&mut self, name: &[u8]) -> Option<Vec<[f64; N]>> {
+        let mut list = Vec::new();
+        while self.rest.first() == Some(&Token::Open) {
+            list.push(self.part(name)?);
+        }
+        Some(list)
+    }
+
+    fn body_parts(&mut self) -> Option<Body> {
+        let [mass] = self.part(b"mass")?;
+        Some(Body {
+            mass,
+            centre: self.part(b"centre")?,
+            inertia: self.part(b"inertia")?,
+        })
+    }
+
+    /// `(body ..)`
+    fn body(&mut self) -> Option<Body> {
+        (self.open()? == b"body").then_some(())?;
+        let body = self.body_parts()?;
+        self.close()?;
+        Some(body)
     }
 
     /// `(name N)`; a number past u64 reads as the largest u64, which is past every limit too.

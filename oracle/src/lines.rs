@@ -6,17 +6,18 @@ use crate::bodies;
 use crate::figures::{marked, marked_all};
 use crate::forms::{Density, Planform, Section};
 use crate::outlines::{self, Heights, Point, length};
+use crate::places;
 use crate::points::{self, drill_line};
 use crate::random::{Random, moved, power_of_two};
 use crate::words;
 
 pub const KINDS: &[&str] = &[
     "set", "area", "outline", "narrow", "merging", "noise", "touch", "points", "limits", "faults", "table", "join",
-    "moments", "check", "tubes", "closing", "fillets", "drill", "decimals", "words", "spaces", "mixed",
+    "moments", "check", "tubes", "closing", "fillets", "drill", "copied", "placed", "moved", "without", "decimals", "words", "spaces", "mixed",
 ];
 
 /// How many of them are made figure by figure; the others are such lines, written otherwise.
-const MADE: usize = 18;
+const MADE: usize = 22;
 
 /// `count` lines of one kind; none if there is no such kind.
 pub fn lines(kind: &str, count: u64, seed: u64) -> Option<Vec<String>> {
@@ -77,6 +78,10 @@ fn one(r: &mut Random, kind: &str) -> String {
         "closing" => closing(r),
         "fillets" => fillets(r),
         "drill" => points::drill(r),
+        "copied" => places::copied(r),
+        "placed" => places::placed(r),
+        "moved" => places::moved(r),
+        "without" => places::without(r),
         "spaces" => {
             let line = mixed(r);
             spaced(r, &line)
@@ -917,6 +922,9 @@ fn table() -> Vec<String> {
         drill_line(&figures(&[[0.0, 0.0], [2.0, 1.0], [0.0, 1.0], [2.0, 0.0]]), [0.1, 0.1]),
         drill_line(&figures(&[[0.0, 0.0], [1.0, 0.0], [2.0, 0.0]]), [65.0, 0.1]),
     ]
+    .into_iter()
+    .chain(places::table())
+    .collect()
 }
 
 fn join_line(points: &[[f64; 4]]) -> String {

@@ -8,6 +8,7 @@ mod figures;
 mod forms;
 mod lines;
 mod outlines;
+mod places;
 mod points;
 mod random;
 mod refusals;

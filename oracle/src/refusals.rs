@@ -30,6 +30,7 @@ pub enum Refusal {
     FilletRatio,
     NoCorners,
     NotWholeSteps,
+    NotHeavier,
 }
 
 impl Refusal {
@@ -58,6 +59,7 @@ impl Refusal {
             Self::FilletRatio => 22,
             Self::NoCorners => 24,
             Self::NotWholeSteps => 25,
+            Self::NotHeavier => 26,
         }
     }
 
@@ -104,6 +106,8 @@ const OUTER_RADIUS: u8 = 15;
 const FILLET_RADIUS: u8 = 16;
 const DRILL_X: u8 = 17;
 const DRILL_HEIGHT: u8 = 18;
+const OFFSET: u8 = 19;
+const ROLL: u8 = 20;
 
 const SHORTEST: f64 = 1.0 / 1048576.0;
 const LONGEST: f64 = 64.0;
@@ -122,8 +126,8 @@ fn refuse(refused: bool, refusal: Refusal) -> Checked {
 
 /// Number 4: a length is zero or has magnitude 2^-20 to 64; which fields may be zero or negative.
 fn length(field: u8, value: f64) -> Checked {
-    let zero_allowed = [TIP_CHORD, SWEEP, X, Y, TAB_OFFSET, BODY_RADIUS, FILLET_RADIUS, DRILL_X, DRILL_HEIGHT].contains(&field);
-    let negative_allowed = [SWEEP, X, TAB_OFFSET, DRILL_X, DRILL_HEIGHT].contains(&field);
+    let zero_allowed = [TIP_CHORD, SWEEP, X, Y, TAB_OFFSET, BODY_RADIUS, FILLET_RADIUS, DRILL_X, DRILL_HEIGHT, OFFSET].contains(&field);
+    let negative_allowed = [SWEEP, X, TAB_OFFSET, DRILL_X, DRILL_HEIGHT, OFFSET].contains(&field);
     let magnitude = if negative_allowed { value.abs() } else { value };
     let passes = (zero_allowed && value == 0.0) || (SHORTEST <= magnitude && magnitude <= LONGEST);
     refuse(!passes, Refusal::Length { field })
@@ -246,6 +250,31 @@ pub fn closing(tubes: u64, radius: f64) -> Checked {
 pub fn point([x, height]: [f64; 2]) -> Checked {
     length(DRILL_X, x)?;
     length(DRILL_HEIGHT, height)
+}
+
+/// Document 02, Paper 13: "then the list's length, then offset and roll place by place".
+pub fn places(list: &[[f64; 3]]) -> Checked {
+    count(list.len() as u64)?;
+    for &[x, y, roll] in list {
+        offset(&[x, y])?;
+        angle(ROLL, roll)?;
+    }
+    Ok(())
+}
+
+/// "field 19 for each number of an offset"
+pub fn offset(numbers: &[f64]) -> Checked {
+    numbers.iter().try_for_each(|&number| length(OFFSET, number))
+}
+
+/// "26, the whole does not outweigh the part taken off"
+pub fn outweighs(whole: f64, part: f64) -> Checked {
+    refuse(whole <= part, Refusal::NotHeavier)
+}
+
+/// "or a part is moved in a body of mass 0"
+pub fn has_mass(whole: f64) -> Checked {
+    refuse(whole == 0.0, Refusal::NotHeavier)
 }
 
 /// 17a, of the body check and of the principal moments.

@@ -4,7 +4,7 @@ use hpr_core::record::{self, Record};
 use hpr_core::{CoreError, DMat3, DVec3};
 use hpr_design::error::DesignError;
 use hpr_design::fins::{FinCrossSection, FinFillet, FinPlanform, FinSet, FinTab, TubeFinSet};
-use hpr_design::mass::MassProperties;
+use hpr_design::mass::{MassProperties, Placement};
 use hpr_design::material::Material;
 
 use crate::drill::{self, Place};
@@ -18,6 +18,8 @@ pub enum Figures {
     Area([f64; 3]),
     Joined(MassProperties),
     Ring(MassProperties),
+    /// Of copies, or with a part moved or taken off.
+    Body(MassProperties),
     Closing(f64),
     /// With the nearest corner's position.
     Drilled(Place, usize),
@@ -57,6 +59,7 @@ impl Worked {
             ),
             Ok(Figures::Joined(b)) => format!("(joined {})", body(b)),
             Ok(Figures::Ring(b)) => format!("(ring {})", body(b)),
+            Ok(Figures::Body(b)) => format!("(body {})", body(b)),
             Ok(Figures::Closing(radius)) => format!("(closing{})", show_all(&[*radius])),
             Ok(Figures::Drilled(Place::Inside, nearest)) => format!("(inside {nearest})"),
             Ok(Figures::Drilled(Place::Edge, nearest)) => format!("(edge {nearest})"),
@@ -128,6 +131,10 @@ pub fn work(line: &[u8], lent: usize) -> Worked {
         Ok(Form::Tubes(set)) => tubes(&set),
         Ok(Form::Closing { count, radius }) => closing(count, radius),
         Ok(Form::Drill { planform, at }) => drilled(&planform, at),
+        Ok(Form::Copied { body, offsets }) => copied(&body, &offsets),
+        Ok(Form::Placed { body, places }) => placed(&body, &places),
+        Ok(Form::Moved { whole, part, offset }) => part_moved(&whole, &part, offset),
+        Ok(Form::Without { whole, part }) => without_part(&whole, &part),
     };
     let run = record::finish();
     let mut wrote: Vec<f64> = Vec::new();
@@ -202,6 +209,42 @@ fn drilled(planform: &Planform, at: [f64; 2]) -> Result<Figures, Refusal> {
     refusals::point(at)?;
     let (place, nearest) = drill::drill(planform, at)?;
     Ok(Figures::Drilled(place, nearest))
+}
+
+fn copied(body: &Body, offsets: &[[f64; 2]]) -> Result<Figures, Refusal> {
+    check(body)?;
+    let places: Vec<[f64; 3]> = offsets.iter().map(|&[x, y]| [x, y, 0.0]).collect();
+    refusals::places(&places)?;
+    Ok(Figures::Body(MassProperties::copied(rust_body(body), offsets)))
+}
+
+fn placed(body: &Body, places: &[[f64; 3]]) -> Result<Figures, Refusal> {
+    check(body)?;
+    refusals::places(places)?;
+    let places: Vec<Placement> = places
+        .iter()
+        .map(|&[x, y, roll_rad]| Placement {
+            offset_m: [x, y],
+            roll_rad,
+        })
+        .collect();
+    Ok(Figures::Body(MassProperties::placed(rust_body(body), &places)))
+}
+
+fn part_moved(whole: &Body, part: &Body, offset: [f64; 3]) -> Result<Figures, Refusal> {
+    check(whole)?;
+    check(part)?;
+    refusals::offset(&offset)?;
+    refusals::has_mass(whole.mass)?;
+    let [x, y, z] = offset;
+    Ok(Figures::Body(rust_body(whole).with_part_moved(&rust_body(part), DVec3::new(x, y, z))))
+}
+
+fn without_part(whole: &Body, part: &Body) -> Result<Figures, Refusal> {
+    check(whole)?;
+    check(part)?;
+    refusals::outweighs(whole.mass, part.mass)?;
+    Ok(Figures::Body(rust_body(whole).without_part(&rust_body(part))))
 }
 
 fn tubes(set: &Tubes) -> Result<Figures, Refusal> {

@@ -90,6 +90,22 @@ pub struct TubeFinSet {
     pub density: Density,
 }
 
+/// Where one copy of a body sits: rolled about the axis, from x toward y, then moved across it.
+#[derive(Debug, Clone, Copy, PartialEq)]
+#[repr(C)]
+pub struct Placement {
+    pub offset_m: [f64; 2],
+    pub roll_rad: f64,
+}
+
+impl Placement {
+    /// The body where it is: no move, no turn.
+    pub const HERE: Self = Self {
+        offset_m: [0.0; 2],
+        roll_rad: 0.0,
+    };
+}
+
 /// A rigid body: ten numbers one after another, as the library has them.
 #[derive(Debug, Clone, Copy, PartialEq)]
 #[repr(C)]
@@ -325,6 +341,96 @@ pub fn tube_mass_properties(set: &TubeFinSet, body_radius_m: f64) -> Result<Body
     };
     Error::unless_zero(number, values)?;
     Ok(Body::from_numbers(body))
+}
+
+/// Copies of a body, one moved by each x and y across the axis, joined. An only one that moves by 0 and 0 is the body itself.
+pub fn copied(body: &Body, offsets_m: &[[f64; 2]]) -> Result<Body, Error> {
+    let body = Body::numbers(std::slice::from_ref(body));
+    let offsets = offsets_m.as_flattened();
+    let mut joined = [0.0; raw::BODY];
+    let mut values = [0; raw::VALUES];
+    let number = unsafe {
+        raw::delvouzh_copied(
+            body.as_ptr(),
+            body.len(),
+            offsets.as_ptr(),
+            offsets.len(),
+            joined.as_mut_ptr(),
+            joined.len(),
+            values.as_mut_ptr(),
+            values.len(),
+        )
+    };
+    Error::unless_zero(number, values)?;
+    Ok(Body::from_numbers(joined))
+}
+
+/// Copies of a body, one at each place, joined. An only one at [`Placement::HERE`] is the body itself.
+pub fn placed(body: &Body, places: &[Placement]) -> Result<Body, Error> {
+    let body = Body::numbers(std::slice::from_ref(body));
+    let places: Vec<f64> = places.iter().flat_map(|p| [p.offset_m[0], p.offset_m[1], p.roll_rad]).collect();
+    let mut joined = [0.0; raw::BODY];
+    let mut values = [0; raw::VALUES];
+    let number = unsafe {
+        raw::delvouzh_placed(
+            body.as_ptr(),
+            body.len(),
+            places.as_ptr(),
+            places.len(),
+            joined.as_mut_ptr(),
+            joined.len(),
+            values.as_mut_ptr(),
+            values.len(),
+        )
+    };
+    Error::unless_zero(number, values)?;
+    Ok(Body::from_numbers(joined))
+}
+
+/// The whole with one of its parts moved by x, y and z inside it.
+pub fn with_part_moved(whole: &Body, part: &Body, offset_m: [f64; 3]) -> Result<Body, Error> {
+    let whole = Body::numbers(std::slice::from_ref(whole));
+    let part = Body::numbers(std::slice::from_ref(part));
+    let mut joined = [0.0; raw::BODY];
+    let mut values = [0; raw::VALUES];
+    let number = unsafe {
+        raw::delvouzh_with_part_moved(
+            whole.as_ptr(),
+            whole.len(),
+            part.as_ptr(),
+            part.len(),
+            offset_m.as_ptr(),
+            offset_m.len(),
+            joined.as_mut_ptr(),
+            joined.len(),
+            values.as_mut_ptr(),
+            values.len(),
+        )
+    };
+    Error::unless_zero(number, values)?;
+    Ok(Body::from_numbers(joined))
+}
+
+/// The whole with one of its parts taken off.
+pub fn without_part(whole: &Body, part: &Body) -> Result<Body, Error> {
+    let whole = Body::numbers(std::slice::from_ref(whole));
+    let part = Body::numbers(std::slice::from_ref(part));
+    let mut joined = [0.0; raw::BODY];
+    let mut values = [0; raw::VALUES];
+    let number = unsafe {
+        raw::delvouzh_without_part(
+            whole.as_ptr(),
+            whole.len(),
+            part.as_ptr(),
+            part.len(),
+            joined.as_mut_ptr(),
+            joined.len(),
+            values.as_mut_ptr(),
+            values.len(),
+        )
+    };
+    Error::unless_zero(number, values)?;
+    Ok(Body::from_numbers(joined))
 }
 
 /// The outer radius of `count` tubes that close the ring around a body; one or two have the body's.

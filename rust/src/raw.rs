@@ -112,6 +112,52 @@ extern "C" {
 
     pub fn delvouzh_combine(bodies: *const f64, bodies_len: usize, body: *mut f64, body_len: usize) -> usize;
 
+    pub fn delvouzh_copied(
+        body: *const f64,
+        body_len: usize,
+        offsets: *const f64,
+        offsets_len: usize,
+        joined: *mut f64,
+        joined_len: usize,
+        values: *mut usize,
+        values_len: usize,
+    ) -> usize;
+
+    pub fn delvouzh_placed(
+        body: *const f64,
+        body_len: usize,
+        places: *const f64,
+        places_len: usize,
+        joined: *mut f64,
+        joined_len: usize,
+        values: *mut usize,
+        values_len: usize,
+    ) -> usize;
+
+    pub fn delvouzh_with_part_moved(
+        whole: *const f64,
+        whole_len: usize,
+        part: *const f64,
+        part_len: usize,
+        offset: *const f64,
+        offset_len: usize,
+        joined: *mut f64,
+        joined_len: usize,
+        values: *mut usize,
+        values_len: usize,
+    ) -> usize;
+
+    pub fn delvouzh_without_part(
+        whole: *const f64,
+        whole_len: usize,
+        part: *const f64,
+        part_len: usize,
+        joined: *mut f64,
+        joined_len: usize,
+        values: *mut usize,
+        values_len: usize,
+    ) -> usize;
+
     pub fn delvouzh_principal_moments(
         tensor: *const f64,
         tensor_len: usize,

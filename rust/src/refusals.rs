@@ -50,6 +50,7 @@ pub enum Refusal {
     FilletRatio,
     NoCorners,
     NotWholeSteps,
+    NotHeavier,
 }
 
 impl Refusal {
@@ -79,6 +80,7 @@ impl Refusal {
             Self::FilletRatio => 22,
             Self::NoCorners => 24,
             Self::NotWholeSteps => 25,
+            Self::NotHeavier => 26,
         }
     }
 
@@ -108,6 +110,7 @@ impl Refusal {
             22 => Self::FilletRatio,
             24 => Self::NoCorners,
             25 => Self::NotWholeSteps,
+            26 => Self::NotHeavier,
             _ => return None,
         })
     }

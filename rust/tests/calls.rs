@@ -1,7 +1,7 @@
 //! Each call, with figures and refused; the worked examples are document 01's.
 use delvouzh::{
-    answer_line, check, chords_at, closing_radius_m, combine, drill, geometry, mass_properties, most_samples, principal_moments,
-    scratch_len, sqrt, tube_mass_properties, Body, Density, Error, Fillet, FinSet, Place, Planform, Refusal, Section, Tab,
+    answer_line, check, chords_at, closing_radius_m, combine, copied, drill, geometry, mass_properties, most_samples, placed, principal_moments,
+    scratch_len, sqrt, tube_mass_properties, with_part_moved, without_part, Body, Density, Error, Fillet, FinSet, Place, Placement, Planform, Refusal, Section, Tab,
     TensorFault, TubeFinSet,
 };
 
@@ -206,6 +206,39 @@ fn a_point_has_its_place_and_nearest_corner() {
         drill(&fin(0.5, f64::NAN), 65.0, 65.0),
         Err(Error::Refused(Refusal::Length { field: 4 }))
     );
+}
+
+#[test]
+fn copies_are_joined_and_parts_move_or_come_off() {
+    let can = Body {
+        mass_kg: 0.9,
+        centre_m: [0.25, 0.0, -0.5],
+        inertia_kg_m2: [0.003, 0.003, 0.001, 0.0, 0.0, 0.0],
+    };
+    assert_eq!(copied(&can, &[[0.0, -0.0]]), Ok(can));
+    assert_eq!(placed(&can, &[Placement::HERE]), Ok(can));
+    let pair = copied(&can, &[[0.5, 0.0], [-0.5, 0.0]]).unwrap();
+    assert_eq!(pair.mass_kg, 1.8);
+    assert!((pair.centre_m[0] - 0.25).abs() < 1e-15 && pair.centre_m[1] == 0.0 && pair.centre_m[2] == -0.5);
+    let turned = placed(&can, &[Placement { offset_m: [0.0; 2], roll_rad: 3.0 }]).unwrap();
+    assert!(turned.centre_m[0] < -0.24, "rolled half round");
+    let ballast = Body::point(0.2, [0.0, 0.0, -0.1]);
+    let moved = with_part_moved(&can, &ballast, [0.0, 0.9, 0.0]).unwrap();
+    assert!((moved.centre_m[1] - 0.2).abs() < 1e-15);
+    let rest = without_part(&can, &ballast).unwrap();
+    assert_eq!(rest.mass_kg, 0.9 - 0.2);
+    assert_ne!(rest.mass_kg + 0.2, can.mass_kg, "conserved up to rounding only");
+    let refused = |answer: Result<Body, Error>| table(answer.unwrap_err());
+    assert_eq!(refused(copied(&can, &[])), Refusal::Count);
+    assert_eq!(refused(placed(&can, &[Placement::HERE; 33])), Refusal::Count);
+    assert_eq!(refused(copied(&can, &[[0.0, 65.0]])), Refusal::Length { field: 19 });
+    let far = Placement { offset_m: [0.0; 2], roll_rad: 5.0 };
+    assert_eq!(refused(placed(&can, &[far])), Refusal::Angle { field: 20 });
+    assert_eq!(refused(without_part(&can, &can)), Refusal::NotHeavier);
+    assert_eq!(refused(with_part_moved(&Body::ZERO, &Body::ZERO, [0.0; 3])), Refusal::NotHeavier);
+    let unsound = Body::point(-1.0, [0.0; 3]);
+    let off_centre = Body::point(1.0, [f64::NAN; 3]);
+    assert_eq!(refused(without_part(&off_centre, &unsound)), Refusal::Centre, "the whole first");
 }
 
 #[test]

@@ -6,7 +6,7 @@ use lib.ListN.{length}
 use lib.Ieee.{Float}
 use Rattle.tokens.specs.Text.{text, codes}
 use Rattle.answers.specs.Filled.{room}
-use Rattle.answers.specs.Answers.{answerBytes, figuresText, areaText, joinedText, ringText, closingText, momentsText, soundText, insideText, edgeText, outsideText, refusedText}
+use Rattle.answers.specs.Answers.{answerBytes, figuresText, areaText, joinedText, ringText, bodyText, closingText, momentsText, soundText, insideText, edgeText, outsideText, refusedText}
 use Rattle.answers.proofs.Filling.{filled-fits}
 
 pub figures-short : (figures : List Float) (intervals samples : ℕ) → length (figuresText figures intervals samples) ≤ answerBytes
@@ -24,6 +24,10 @@ joined-short figures = let h = filled-fits (text "(joined (mass F) (centre F F F
 pub ring-short : (figures : List Float) → length (ringText figures) ≤ answerBytes
 unfolding ringText room text codes
 ring-short figures = let h = filled-fits (text "(ring (mass F) (centre F F F) (inertia F F F F F F))") figures [] in omega arith
+
+pub body-short : (figures : List Float) → length (bodyText figures) ≤ 320
+unfolding bodyText room text codes
+body-short figures = let h = filled-fits (text "(body (mass F) (centre F F F) (inertia F F F F F F))") figures [] in omega arith
 
 pub closing-short : (figures : List Float) → length (closingText figures) ≤ answerBytes
 unfolding closingText room text codes

@@ -29,6 +29,10 @@ joinedText figures = filled (text "(joined (mass F) (centre F F F) (inertia F F 
 unfoldable pub ringText : List Float → List ℕ
 ringText figures = filled (text "(ring (mass F) (centre F F F) (inertia F F F F F F))") figures []
 
+-- copies of a body, or a body with a part moved or taken off (document 02, Paper 13)
+unfoldable pub bodyText : List Float → List ℕ
+bodyText figures = filled (text "(body (mass F) (centre F F F) (inertia F F F F F F))") figures []
+
 unfoldable pub closingText : List Float → List ℕ
 closingText figures = filled (text "(closing F)") figures []
 

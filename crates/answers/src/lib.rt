@@ -6,7 +6,7 @@ ghost use Prim.Native.Nat.{_+_, _≤_};
 ghost use lib.ListN.{length};
 ghost use Rattle.texts.specs.Appended.{Appended};
 ghost use Rattle.answers.specs.Filled.{filled, room};
-ghost use Rattle.answers.specs.Answers.{AnswerFits, figuresText, areaText, joinedText, ringText, closingText, insideText, edgeText, outsideText, momentsText, soundText, refusedText};
+ghost use Rattle.answers.specs.Answers.{AnswerFits, figuresText, areaText, joinedText, ringText, bodyText, closingText, insideText, edgeText, outsideText, momentsText, soundText, refusedText};
 ghost use Rattle.answers.specs.Places.{HasRoom, PutPiece};
 
 // How many bytes an answer may have.
@@ -140,6 +140,21 @@ pub fn put_ring(out: &mut [u8], n: usize, figures: &[f64]) -> usize
         out,
         n,
         b"(ring (mass F) (centre F F F) (inertia F F F F F F))",
+        figures,
+        &counts,
+    )
+}
+
+// A body of copies, or with a part moved or taken off: mass, centre and tensor.
+pub fn put_body(out: &mut [u8], n: usize, figures: &[f64]) -> usize
+    requires { ⌜ n + 320 ≤ length (now out) ⌝ }
+    ensures { λ r. ⌜ Appended (now (out .entry)) n (bodyText (now (figures .entry))) (now (out .exit)) r ⌝ }
+{
+    let counts: [u64; 0] = [];
+    put_filled(
+        out,
+        n,
+        b"(body (mass F) (centre F F F) (inertia F F F F F F))",
         figures,
         &counts,
     )

@@ -26,7 +26,7 @@ use Rattle.planforms.specs.declared.NumberedPlanform.{NumberedPlanform}
 use Rattle.fins.specs.declared.NumberedSet.{NumberedSet}
 use Rattle.requests.specs.Calls.{numberedFigures, numberedScratch, numberedArea, numberedAreaScratch, numberedChords, numberedEnds, numberedDrill, ringBy, tensorMoments, bodyVerdict}
 use Rattle.exports.specs.Numbers.{numberIn, over, withValues, withCounts}
-use Rattle.exports.specs.Calls.{room, figureCounts, SetCall, areaNumbers, areaCounts, AreaCall, chordCounts, ChordsCall, DrillCall, RingCall, ClosingCall, JoinCall, momentsNumbers, MomentsCall, CheckCall, LineCall}
+use Rattle.exports.specs.Calls.{room, figureCounts, SetCall, areaNumbers, areaCounts, AreaCall, chordCounts, ChordsCall, DrillCall, RingCall, BodyCall, ClosingCall, JoinCall, momentsNumbers, MomentsCall, CheckCall, LineCall}
 
 module _ {A : Type 0} (m : ℕ) (figures : List A) (n : ℕ) (counts : List ℕ) where
   has-room : m ≤ length figures → n ≤ length counts → room m figures n counts ≡ true
@@ -131,6 +131,17 @@ module _ (bodies body : List Float) where
       body' ≡ withBody body 0 (j .body) → r ≡ numberIn (j .verdict) → JoinCall bodies body r body'
   join-written h j r body' e b n =
       let fits = le-leb bodyNumbers (length body) h in record { returned = rw (fits, ← e) n; figures = rw (fits, ← e) b }
+
+module _ (asked : Joined) (body : List Float) (values : List ℕ) where
+  pub body-refused : room bodyNumbers body 2 values ≡ false → BodyCall asked body values 18 body values
+  body-refused none = record { returned = rw none; figures = rw none; counted = rw none }
+
+  pub body-written : bodyNumbers ≤ length body → 2 ≤ length values → (j : Joined) (r : ℕ) (body' : List Float) (values' : List ℕ) →
+      j ≡ asked → body' ≡ withBody body 0 (j .body) → values' ≡ withValues values (j .verdict) →
+      r ≡ numberIn (j .verdict) → BodyCall asked body values r body' values'
+  body-written h k j r body' values' e b c n =
+      let fits = has-room bodyNumbers body 2 values h k in
+      record { returned = rw (fits, ← e) n; figures = rw (fits, ← e) b; counted = rw (fits, ← e) c }
 
 module _ (numbers moments : List Float) (values : List ℕ) where
   pub moments-refused : room 3 moments 2 values ≡ false → MomentsCall numbers moments values 18 moments values

@@ -16,6 +16,7 @@ use Rattle.drill.specs.declared.Answer.{Answer}
 use Rattle.drill.specs.Drill.{verdictOf, placeNumber, nearestOf}
 use Rattle.fins.specs.declared.NumberedSet.{NumberedSet}
 use Rattle.bodies.specs.Layout.{bodyNumbers}
+use Rattle.joins.specs.declared.Joined.{Joined}
 use Rattle.joins.specs.Flat.{withBody}
 use Rattle.joins.specs.Joins.{combineOf}
 use Rattle.tubes.specs.Closing.{closingOf}
@@ -92,6 +93,13 @@ pub record ClosingCall (count : ℕ) (bodyRadius : Float) (radius : List Float) 
 pub record JoinCall (bodies body : List Float) (r : ℕ) (body' : List Float) : Type 0 where
   pub returned : r ≡ cond (leb bodyNumbers (length body)) (numberIn (combineOf bodies .verdict)) (numberOf NoForm)
   pub figures : body' ≡ cond (leb bodyNumbers (length body)) (withBody body 0 (combineOf bodies .body)) body
+
+-- ---- copies of a body, and a part moved or taken off (document 02, Paper 13): the answer as a body, and why it is refused
+
+pub record BodyCall (j : Joined) (body : List Float) (values : List ℕ) (r : ℕ) (body' : List Float) (values' : List ℕ) : Type 0 where
+  pub returned : r ≡ cond (room bodyNumbers body 2 values) (numberIn (j .verdict)) (numberOf NoForm)
+  pub figures : body' ≡ cond (room bodyNumbers body 2 values) (withBody body 0 (j .body)) body
+  pub counted : values' ≡ cond (room bodyNumbers body 2 values) (withValues values (j .verdict)) values
 
 -- ---- principal moments: of a tensor's numbers
 

@@ -12,9 +12,10 @@ ghost use lib.ListN.{length};
 ghost use Rattle.root.specs.Root.{rootOf, IsRoot};
 ghost use Rattle.planforms.specs.Numbered.{numberedPlanform};
 ghost use Rattle.figures.specs.Answers.{mostSamples};
+ghost use Rattle.requests.specs.Calls.{copiedBy, placedBy, movedBy, withoutBy};
 ghost use Rattle.exports.specs.Sets.{crossedSet};
 ghost use Rattle.exports.specs.Numbers.{numberIn, valuesIn, over, withValues, withCount, withCounts};
-ghost use Rattle.exports.specs.Calls.{SetCall, AreaCall, ChordsCall, DrillCall, RingCall, ClosingCall, JoinCall, MomentsCall, CheckCall, LineCall};
+ghost use Rattle.exports.specs.Calls.{SetCall, AreaCall, ChordsCall, DrillCall, RingCall, BodyCall, ClosingCall, JoinCall, MomentsCall, CheckCall, LineCall};
 use answers::ANSWER_BYTES;
 use bodies::BODY_NUMBERS;
 use fins::NumberedSet;
@@ -334,6 +335,103 @@ pub extern "C" fn delvouzh_combine(bodies: &[f64], body: &mut [f64]) -> usize
     let verdict = joined.verdict;
     let found = joined.body;
     joins::write_body(body, 0, found);
+    number(verdict)
+}
+
+// Copies of a body by its numbers, one moved by each x and y of a list, joined: writes the numbers of the body, and two values of a refusal.
+#[no_mangle]
+pub extern "C" fn delvouzh_copied(
+    body: &[f64],
+    offsets: &[f64],
+    joined: &mut [f64],
+    values: &mut [usize],
+) -> usize
+    ensures { λ r. ⌜ BodyCall (copiedBy (now (body .entry)) (now (offsets .entry))) (now (joined .entry)) (now (values .entry)) r (now (joined .exit)) (now (values .exit)) ⌝ }
+{
+    if joined.len() < BODY_NUMBERS {
+        return NO_FORM;
+    }
+    if values.len() < 2 {
+        return NO_FORM;
+    }
+    let answer = requests::copied_by(body, offsets);
+    let verdict = answer.verdict;
+    let found = answer.body;
+    joins::write_body(joined, 0, found);
+    write_values(values, verdict);
+    number(verdict)
+}
+
+// The same, one at each x, y and roll of a list.
+#[no_mangle]
+pub extern "C" fn delvouzh_placed(
+    body: &[f64],
+    places: &[f64],
+    joined: &mut [f64],
+    values: &mut [usize],
+) -> usize
+    ensures { λ r. ⌜ BodyCall (placedBy (now (body .entry)) (now (places .entry))) (now (joined .entry)) (now (values .entry)) r (now (joined .exit)) (now (values .exit)) ⌝ }
+{
+    if joined.len() < BODY_NUMBERS {
+        return NO_FORM;
+    }
+    if values.len() < 2 {
+        return NO_FORM;
+    }
+    let answer = requests::placed_by(body, places);
+    let verdict = answer.verdict;
+    let found = answer.body;
+    joins::write_body(joined, 0, found);
+    write_values(values, verdict);
+    number(verdict)
+}
+
+// A body with a part moved by x, y and z: writes likewise.
+#[no_mangle]
+pub extern "C" fn delvouzh_with_part_moved(
+    whole: &[f64],
+    part: &[f64],
+    offset: &[f64],
+    joined: &mut [f64],
+    values: &mut [usize],
+) -> usize
+    ensures { λ r. ⌜ BodyCall (movedBy (now (whole .entry)) (now (part .entry)) (now (offset .entry))) (now (joined .entry)) (now (values .entry)) r (now (joined .exit)) (now (values .exit)) ⌝ }
+{
+    if joined.len() < BODY_NUMBERS {
+        return NO_FORM;
+    }
+    if values.len() < 2 {
+        return NO_FORM;
+    }
+    let answer = requests::moved_by(whole, part, offset);
+    let verdict = answer.verdict;
+    let found = answer.body;
+    joins::write_body(joined, 0, found);
+    write_values(values, verdict);
+    number(verdict)
+}
+
+// A body with a part taken off: writes likewise.
+#[no_mangle]
+pub extern "C" fn delvouzh_without_part(
+    whole: &[f64],
+    part: &[f64],
+    joined: &mut [f64],
+    values: &mut [usize],
+) -> usize
+    ensures { λ r. ⌜ BodyCall (withoutBy (now (whole .entry)) (now (part .entry))) (now (joined .entry)) (now (values .entry)) r (now (joined .exit)) (now (values .exit)) ⌝ }
+{
+    if joined.len() < BODY_NUMBERS {
+        return NO_FORM;
+    }
+    if values.len() < 2 {
+        return NO_FORM;
+    }
+    let answer = requests::without_by(whole, part);
+    let verdict = answer.verdict;
+    let found = answer.body;
+    joins::write_body(joined, 0, found);
+    write_values(values, verdict);
     number(verdict)
 }
 

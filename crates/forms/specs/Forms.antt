@@ -12,7 +12,7 @@ use Rattle.tokens.specs.Text.{text}
 use Rattle.tokens.specs.Tokens.{lineBytes, tokens}
 use Rattle.templates.specs.Matching.{Reading, failed, reading, pick, sameBytes, takeOne, takeText, takeEach, oneOf, optional}
 use Rattle.forms.specs.declared.Form.{Form}
-use Rattle.forms.specs.declared.Form.the-variants.{Set, Area, Join, Moments, Check, Tubes, Closing, Drill}
+use Rattle.forms.specs.declared.Form.the-variants.{Set, Area, Join, Moments, Check, Tubes, Closing, Drill, Copied, Placed, Moved, Without}
 
 -- ---- parts, numbered by their places in the list, from 1 on; a part that is left out is 0
 
@@ -35,7 +35,24 @@ density r = oneOf (text "(bulk F)" ∷ text "(surface F)" ∷ text "(line F)" �
 unfoldable pub points : Reading → Reading
 points r = takeEach (takeText (text "(point F F F F)")) r
 
+-- document 02, Paper 13
+unfoldable pub body : Reading → Reading
+body r = oneOf (text "(body (mass F) (centre F F F) (inertia F F F F F F))" ∷ []) r
+
+unfoldable pub offsets : Reading → Reading
+offsets r = takeEach (takeText (text "(offset F F)")) r
+
+unfoldable pub places : Reading → Reading
+places r = takeEach (takeText (text "(place F F F)")) r
+
 -- a part by its name; `N` stands for itself
+unfoldable pub laterPart : List ℕ → Reading → Reading
+laterPart name r =
+    pick (sameBytes name (text "BODY")) (body r)
+    (pick (sameBytes name (text "OFFSETS")) (offsets r)
+    (pick (sameBytes name (text "PLACES")) (places r)
+    (takeOne name r)))
+
 unfoldable pub part : List ℕ → Reading → Reading
 part name r =
     pick (sameBytes name (text "PLANFORM")) (planform r)
@@ -44,7 +61,7 @@ part name r =
     (pick (sameBytes name (text "FILLET")) (fillet r)
     (pick (sameBytes name (text "DENSITY")) (density r)
     (pick (sameBytes name (text "POINTS")) (points r)
-    (takeOne name r))))))
+    (laterPart name r))))))
 
 -- ---- a form
 
@@ -118,13 +135,22 @@ wordOf line = getD (tokens line) 1 []
 abbrev pub row : List ℕ → String → Form → String → Asked → Asked
 row line word form template others = pickAsked (sameBytes (wordOf line) (text word)) (readAs form (text template) line) others
 
--- document 02, Papers 3 and 11
+-- document 02, Paper 13
+unfoldable pub bodyForm : List ℕ → Asked
+bodyForm line =
+    row line "copied" Copied "(copied BODY OFFSETS)"
+    (row line "placed" Placed "(placed BODY PLACES)"
+    (row line "moved" Moved "(moved BODY BODY (offset F F F))"
+    (row line "without" Without "(without BODY BODY)"
+    (refused noForm))))
+
+-- document 02, Papers 3, 11 and 13
 unfoldable pub laterForm : List ℕ → Asked
 laterForm line =
     row line "tubes" Tubes "(tubes (count N) (length F) (outer F) (wall F) (base F) (radius F) DENSITY)"
     (row line "closing" Closing "(closing (count N) (radius F))"
     (row line "drill" Drill "(drill PLANFORM (at F F))"
-    (refused noForm)))
+    (bodyForm line)))
 
 unfoldable pub anyForm : List ℕ → Asked
 anyForm line =

@@ -7,7 +7,7 @@ ghost use Prim.Native.Nat.{_≤_};
 ghost use lib.ListN.{length};
 ghost use Rattle.tokens.specs.Tokens.{lineBytes};
 ghost use Rattle.templates.specs.Cursors.{Room, Takes};
-ghost use Rattle.forms.specs.Forms.{part, isNumbered, withItem, readAs, wordOf, laterForm, lineAsked};
+ghost use Rattle.forms.specs.Forms.{laterPart, part, isNumbered, withItem, readAs, wordOf, bodyForm, laterForm, lineAsked};
 ghost use Rattle.forms.specs.Reads.{refusedRequest, Reads, endOf, IsWordOf};
 use refusals::Refusal;
 use refusals::Verdict;
@@ -25,6 +25,10 @@ pub enum Form {
     Tubes,
     Closing,
     Drill,
+    Copied,
+    Placed,
+    Moved,
+    Without,
     NoForm,
 }
 
@@ -52,6 +56,28 @@ fn refused(refusal: Refusal) -> Request
         figures: 0,
         numbers: [0; 16],
     }
+}
+
+// A part that document 02 adds, by its name; a count.
+fn take_later_part(line: &[u8], c: Cursor, name: &[u8], values: &mut [f64]) -> Cursor
+    requires { ⌜ Room (now line) (now values) c ⌝ }
+    ensures { λ r. ⌜ Takes (laterPart (now (name .entry))) (now (line .entry)) (now (values .entry)) (now (values .exit)) c r ⌝ }
+{
+    if same_bytes(name, b"BODY") {
+        return templates::take_one_of(
+            line,
+            c,
+            b"(body (mass F) (centre F F F) (inertia F F F F F F))",
+            values,
+        );
+    }
+    if same_bytes(name, b"OFFSETS") {
+        return templates::take_each(line, c, b"(offset F F)", values);
+    }
+    if same_bytes(name, b"PLACES") {
+        return templates::take_each(line, c, b"(place F F F)", values);
+    }
+    templates::take_one(line, c, name, values)
 }
 
 // A part of a form, by its name; a count.
@@ -87,7 +113,7 @@ fn take_part(line: &[u8], c: Cursor, name: &[u8], values: &mut [f64]) -> Cursor
     if same_bytes(name, b"POINTS") {
         return templates::take_each(line, c, b"(point F F F F)", values);
     }
-    templates::take_one(line, c, name, values)
+    take_later_part(line, c, name, values)
 }
 
 // Whether a word of a template is a count or a part: it is in capitals, and not `F`.
@@ -198,6 +224,31 @@ fn word_of(line: &[u8]) -> Found
     tokens::next_token(line, bracket.to)
 }
 
+// What a line of copies, or of a part moved or taken off, asks.
+fn read_body_form(line: &[u8], word: &[u8], values: &mut [f64]) -> Request
+    requires { ⌜ (length (now line) ≤ lineBytes) × (length (now line) ≤ length (now values)) × (now word ≡ wordOf (now line)) ⌝ }
+    ensures { λ r. ⌜ Reads (now (values .exit)) r (bodyForm (now (line .entry))) ⌝ }
+{
+    if same_bytes(word, b"copied") {
+        return read_form(line, Form::Copied, b"(copied BODY OFFSETS)", values);
+    }
+    if same_bytes(word, b"placed") {
+        return read_form(line, Form::Placed, b"(placed BODY PLACES)", values);
+    }
+    if same_bytes(word, b"moved") {
+        return read_form(
+            line,
+            Form::Moved,
+            b"(moved BODY BODY (offset F F F))",
+            values,
+        );
+    }
+    if same_bytes(word, b"without") {
+        return read_form(line, Form::Without, b"(without BODY BODY)", values);
+    }
+    refused(Refusal::NoForm)
+}
+
 // What a line of a form that document 02 adds asks: a ring of tubes, the radius that closes one, where a point lies.
 fn read_later_form(line: &[u8], word: &[u8], values: &mut [f64]) -> Request
     requires { ⌜ (length (now line) ≤ lineBytes) × (length (now line) ≤ length (now values)) × (now word ≡ wordOf (now line)) ⌝ }
@@ -222,7 +273,7 @@ fn read_later_form(line: &[u8], word: &[u8], values: &mut [f64]) -> Request
     if same_bytes(word, b"drill") {
         return read_form(line, Form::Drill, b"(drill PLANFORM (at F F))", values);
     }
-    refused(Refusal::NoForm)
+    read_body_form(line, word, values)
 }
 
 // What a line asks; its figures go to the start of values, which has room for one of each byte of a line that is not too long.

@@ -5,7 +5,7 @@ use Prim.Native.Nat.{ℕ}
 use lib.ListN.{length, take}
 use lib.Ieee.{Float}
 use Rattle.forms.specs.declared.Form.{Form}
-use Rattle.forms.specs.declared.Form.the-variants.{Set as SetForm, Area as AreaForm, Join as JoinForm, Moments as MomentsForm, Check as CheckForm, Tubes as TubesForm, Closing as ClosingForm, Drill as DrillForm, NoForm}
+use Rattle.forms.specs.declared.Form.the-variants.{Set as SetForm, Area as AreaForm, Join as JoinForm, Moments as MomentsForm, Check as CheckForm, Tubes as TubesForm, Closing as ClosingForm, Drill as DrillForm, Copied as CopiedForm, Placed as PlacedForm, Moved as MovedForm, Without as WithoutForm, NoForm}
 use Rattle.forms.specs.declared.Request.{Request}
 use Rattle.forms.specs.Forms.{Asked, refused, asked, lineAsked}
 use Rattle.forms.specs.Reads.{Reads, requestOf, figuresOf}
@@ -25,6 +25,10 @@ accepted CheckForm ns figures n = refl
 accepted TubesForm ns figures n = refl
 accepted ClosingForm ns figures n = refl
 accepted DrillForm ns figures n = refl
+accepted CopiedForm ns figures n = refl
+accepted PlacedForm ns figures n = refl
+accepted MovedForm ns figures n = refl
+accepted WithoutForm ns figures n = refl
 accepted NoForm ns figures n = refl
 
 module _ (line : List ℕ) (values : List Float) (q : Request) (r : Reads values q (lineAsked line)) where

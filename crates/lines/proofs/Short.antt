@@ -13,15 +13,15 @@ use Rattle.drill.specs.declared.Answer.the-variants.{Inside, Edge, Outside, Ref
 use Rattle.tubes.specs.declared.ClosingRadius.{ClosingRadius}
 use Rattle.moments.specs.declared.Moments.{Moments}
 use Rattle.answers.specs.Answers.{answerBytes}
-use Rattle.answers.proofs.Lengths.{figures-short, area-short, joined-short, ring-short, closing-short, moments-short, sound-short, inside-short, edge-short, outside-short, refused-short}
+use Rattle.answers.proofs.Lengths.{figures-short, area-short, joined-short, ring-short, body-short, closing-short, moments-short, sound-short, inside-short, edge-short, outside-short, refused-short}
 use Rattle.forms.specs.declared.Form.{Form}
-use Rattle.forms.specs.declared.Form.the-variants.{Set as SetForm, Area as AreaForm, Join as JoinForm, Moments as MomentsForm, Check as CheckForm, Tubes as TubesForm, Closing as ClosingForm, Drill as DrillForm, NoForm}
+use Rattle.forms.specs.declared.Form.the-variants.{Set as SetForm, Area as AreaForm, Join as JoinForm, Moments as MomentsForm, Check as CheckForm, Tubes as TubesForm, Closing as ClosingForm, Drill as DrillForm, Copied as CopiedForm, Placed as PlacedForm, Moved as MovedForm, Without as WithoutForm, NoForm}
 use Rattle.forms.specs.Forms.{Asked, refused, asked, lineAsked}
 use Rattle.requests.specs.Calls.{joinedPointsOf, tensorMoments, bodyVerdict}
-use Rattle.requests.specs.Requests.{setRequestOf, areaRequestOf, askedFigures, askedArea, askedRing, askedClosing, askedDrill}
+use Rattle.requests.specs.Requests.{setRequestOf, areaRequestOf, askedFigures, askedArea, askedRing, askedClosing, askedDrill, askedCopied, askedPlaced, askedMoved, askedWithout}
 use Rattle.figures.specs.declared.Figures.{Figures}
 use Rattle.figures.specs.declared.Area.{Area}
-use Rattle.lines.specs.Lines.{printedSet, printedArea, printedJoin, printedRing, printedClosing, printedMoments, printedCheck, printedDrill, setAnswer, areaAnswer, joinAnswer, ringAnswer, closingAnswer, momentsAnswer, checkAnswer, drillAnswer, answerTo, askedAnswer, answerOf}
+use Rattle.lines.specs.Lines.{printedSet, printedArea, printedJoin, printedRing, printedBody, printedClosing, printedMoments, printedCheck, printedDrill, setAnswer, areaAnswer, joinAnswer, ringAnswer, closingAnswer, bodyAnswer, momentsAnswer, checkAnswer, drillAnswer, answerTo, askedAnswer, answerOf}
 
 set-short : (v : Verdict) (f : Figures) → length (printedSet v f) ≤ answerBytes
 set-short Accepted f = figures-short _ _ _
@@ -38,6 +38,14 @@ join-short (Refused refusal) j = refused-short (numberOf refusal)
 tubes-short : (v : Verdict) (j : Joined) → length (printedRing v j) ≤ answerBytes
 tubes-short Accepted j = ring-short _
 tubes-short (Refused refusal) j = refused-short (numberOf refusal)
+
+copies-short : (j : Joined) → length (bodyAnswer j) ≤ 320
+unfolding bodyAnswer
+copies-short j = by (j .verdict)
+  where
+    by : (v : Verdict) → length (printedBody v j) ≤ 320
+    by Accepted = body-short _
+    by (Refused refusal) = refused-short (numberOf refusal)
 
 radius-short : (v : Verdict) (c : ClosingRadius) → length (printedClosing v c) ≤ answerBytes
 radius-short Accepted c = closing-short _
@@ -67,6 +75,10 @@ by-form CheckForm ns figures n = check-short (bodyVerdict figures)
 by-form TubesForm ns figures n = let j = askedRing ns figures in tubes-short (j .verdict) j
 by-form ClosingForm ns figures n = let c = askedClosing ns figures in radius-short (c .verdict) c
 by-form DrillForm ns figures n = place-short (askedDrill ns figures)
+by-form CopiedForm ns figures n = copies-short (askedCopied figures)
+by-form PlacedForm ns figures n = copies-short (askedPlaced figures)
+by-form MovedForm ns figures n = copies-short (askedMoved figures)
+by-form WithoutForm ns figures n = copies-short (askedWithout figures)
 by-form NoForm ns figures n = refused-short (numberOf noForm)
 
 pub answer-short : (line : List ℕ) (n : ℕ) → length (answerOf line n) ≤ answerBytes

@@ -16,14 +16,14 @@ use Rattle.drill.specs.declared.Answer.{Answer}
 use Rattle.drill.specs.declared.Answer.the-variants.{Inside, Edge, Outside, Refused as refusedPoint}
 use Rattle.moments.specs.declared.Moments.{Moments}
 use Rattle.texts.specs.Appended.{Appended}
-use Rattle.answers.specs.Answers.{answerBytes, AnswerFits, figuresText, areaText, joinedText, ringText, closingText, insideText, edgeText, outsideText, momentsText, soundText, refusedText}
+use Rattle.answers.specs.Answers.{answerBytes, AnswerFits, figuresText, areaText, joinedText, ringText, bodyText, closingText, insideText, edgeText, outsideText, momentsText, soundText, refusedText}
 use Rattle.forms.specs.declared.Form.{Form}
-use Rattle.forms.specs.declared.Form.the-variants.{Set as SetForm, Area as AreaForm, Join as JoinForm, Moments as MomentsForm, Check as CheckForm, Tubes as TubesForm, Closing as ClosingForm, Drill as DrillForm, NoForm}
+use Rattle.forms.specs.declared.Form.the-variants.{Set as SetForm, Area as AreaForm, Join as JoinForm, Moments as MomentsForm, Check as CheckForm, Tubes as TubesForm, Closing as ClosingForm, Drill as DrillForm, Copied as CopiedForm, Placed as PlacedForm, Moved as MovedForm, Without as WithoutForm, NoForm}
 use Rattle.forms.specs.Forms.{Asked, refused, asked, lineAsked}
 use Rattle.requests.specs.declared.AreaRequest.{AreaRequest}
 use Rattle.requests.specs.declared.SetRequest.{SetRequest}
 use Rattle.requests.specs.Calls.{joinedPointsOf, tensorMoments, bodyVerdict}
-use Rattle.requests.specs.Requests.{setRequestOf, areaRequestOf, askedFigures, askedScratch, askedArea, askedAreaScratch, askedRing, askedClosing, askedDrill}
+use Rattle.requests.specs.Requests.{setRequestOf, areaRequestOf, askedFigures, askedScratch, askedArea, askedAreaScratch, askedRing, askedClosing, askedDrill, askedCopied, askedPlaced, askedMoved, askedWithout}
 use Rattle.figures.specs.declared.Figures.{Figures}
 use Rattle.figures.specs.declared.Area.{Area}
 
@@ -46,6 +46,10 @@ printedJoin (Refused refusal) j = refusedText (numberOf refusal)
 abbrev pub printedRing : Verdict → Joined → List ℕ
 printedRing Accepted j = ringText (numbersOf (j .body))
 printedRing (Refused refusal) j = refusedText (numberOf refusal)
+
+abbrev pub printedBody : Verdict → Joined → List ℕ
+printedBody Accepted j = bodyText (numbersOf (j .body))
+printedBody (Refused refusal) j = refusedText (numberOf refusal)
 
 abbrev pub printedClosing : Verdict → ClosingRadius → List ℕ
 printedClosing Accepted c = closingText (c .«radius_m» ∷ [])
@@ -97,6 +101,10 @@ closingAnswer ns figures = let c = askedClosing ns figures in printedClosing (c 
 unfoldable pub drillAnswer : List ℕ → List Float → List ℕ
 drillAnswer ns figures = printedDrill (askedDrill ns figures)
 
+-- copies of a body, or a body with a part moved or taken off
+unfoldable pub bodyAnswer : Joined → List ℕ
+bodyAnswer j = printedBody (j .verdict) j
+
 abbrev pub answerTo : Form → List ℕ → List Float → ℕ → List ℕ
 answerTo SetForm ns figures scratchLength = setAnswer (setRequestOf ns figures) figures scratchLength
 answerTo AreaForm ns figures scratchLength = areaAnswer (areaRequestOf ns figures) figures scratchLength
@@ -106,6 +114,10 @@ answerTo CheckForm ns figures scratchLength = checkAnswer figures
 answerTo TubesForm ns figures scratchLength = ringAnswer ns figures
 answerTo ClosingForm ns figures scratchLength = closingAnswer ns figures
 answerTo DrillForm ns figures scratchLength = drillAnswer ns figures
+answerTo CopiedForm ns figures scratchLength = bodyAnswer (askedCopied figures)
+answerTo PlacedForm ns figures scratchLength = bodyAnswer (askedPlaced figures)
+answerTo MovedForm ns figures scratchLength = bodyAnswer (askedMoved figures)
+answerTo WithoutForm ns figures scratchLength = bodyAnswer (askedWithout figures)
 answerTo NoForm ns figures scratchLength = printedRefusal noForm
 
 abbrev pub askedAnswer : Asked → ℕ → List ℕ
@@ -126,6 +138,10 @@ scratchAfterForm CheckForm ns figures scratch = scratch
 scratchAfterForm TubesForm ns figures scratch = scratch
 scratchAfterForm ClosingForm ns figures scratch = scratch
 scratchAfterForm DrillForm ns figures scratch = scratch
+scratchAfterForm CopiedForm ns figures scratch = scratch
+scratchAfterForm PlacedForm ns figures scratch = scratch
+scratchAfterForm MovedForm ns figures scratch = scratch
+scratchAfterForm WithoutForm ns figures scratch = scratch
 scratchAfterForm NoForm ns figures scratch = scratch
 
 abbrev pub scratchAfterAsked : Asked → List Float → List Float
@@ -150,6 +166,10 @@ requestAnswer CheckForm verdict ns figures scratchLength = answerTo CheckForm ns
 requestAnswer TubesForm verdict ns figures scratchLength = answerTo TubesForm ns figures scratchLength
 requestAnswer ClosingForm verdict ns figures scratchLength = answerTo ClosingForm ns figures scratchLength
 requestAnswer DrillForm verdict ns figures scratchLength = answerTo DrillForm ns figures scratchLength
+requestAnswer CopiedForm verdict ns figures scratchLength = answerTo CopiedForm ns figures scratchLength
+requestAnswer PlacedForm verdict ns figures scratchLength = answerTo PlacedForm ns figures scratchLength
+requestAnswer MovedForm verdict ns figures scratchLength = answerTo MovedForm ns figures scratchLength
+requestAnswer WithoutForm verdict ns figures scratchLength = answerTo WithoutForm ns figures scratchLength
 requestAnswer NoForm verdict ns figures scratchLength = printedRefusal (whyRefused verdict)
 
 -- ---- what answering a line does, behind the n bytes at the start of `out`: where an answer may not fit, nothing

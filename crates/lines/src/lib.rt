@@ -8,7 +8,7 @@ ghost use lib.ListN.{length};
 ghost use Rattle.texts.specs.Appended.{Appended};
 ghost use Rattle.tokens.specs.Tokens.{lineBytes};
 ghost use Rattle.answers.specs.Answers.{answerBytes, AnswerFits};
-ghost use Rattle.lines.specs.Lines.{printedSet, printedArea, printedJoin, printedRing, printedClosing, printedDrill, printedMoments, printedCheck, printedRefusal, answerOf, scratchAfterForm, scratchAfterLine, whyRefused, requestAnswer, Answers};
+ghost use Rattle.lines.specs.Lines.{printedSet, printedArea, printedJoin, printedRing, printedBody, printedClosing, printedDrill, printedMoments, printedCheck, printedRefusal, answerOf, scratchAfterForm, scratchAfterLine, whyRefused, requestAnswer, Answers};
 use answers::ANSWER_BYTES;
 use drill::Answer;
 use figures::Area;
@@ -32,7 +32,7 @@ fn put_refusal(out: &mut [u8], n: usize, refusal: Refusal) -> usize
     answers::put_refused(out, n, refusals::number(refusal) as u64)
 }
 
-// The answer to a set, by its verdict; the next seven likewise.
+// The answer to a set, by its verdict; the next eight likewise.
 fn put_set(out: &mut [u8], n: usize, f: Figures) -> usize
     requires { ⌜ AnswerFits (now out) n ⌝ }
     ensures { λ r. ⌜ Appended (now (out .entry)) n (printedSet (f .verdict) f) (now (out .exit)) r ⌝ }
@@ -87,6 +87,21 @@ fn put_ring(out: &mut [u8], n: usize, joined: Joined) -> usize
         Verdict::Accepted => {
             let numbers = body.numbers();
             answers::put_ring(out, n, &numbers)
+        }
+        Verdict::Refused(refusal) => put_refusal(out, n, refusal),
+    }
+}
+
+fn put_body(out: &mut [u8], n: usize, joined: Joined) -> usize
+    requires { ⌜ n + 320 ≤ length (now out) ⌝ }
+    ensures { λ r. ⌜ Appended (now (out .entry)) n (printedBody (joined .verdict) joined) (now (out .exit)) r ⌝ }
+{
+    let verdict = joined.verdict;
+    let body = joined.body;
+    match verdict {
+        Verdict::Accepted => {
+            let numbers = body.numbers();
+            answers::put_body(out, n, &numbers)
         }
         Verdict::Refused(refusal) => put_refusal(out, n, refusal),
     }
@@ -174,6 +189,10 @@ fn answer_request(
         Form::Tubes => put_ring(out, n, requests::asked_ring(q, values)),
         Form::Closing => put_closing(out, n, requests::asked_closing(q, values)),
         Form::Drill => put_drilled(out, n, requests::asked_drill(q, values)),
+        Form::Copied => put_body(out, n, requests::asked_copied(values)),
+        Form::Placed => put_body(out, n, requests::asked_placed(values)),
+        Form::Moved => put_body(out, n, requests::asked_moved(values)),
+        Form::Without => put_body(out, n, requests::asked_without(values)),
         Form::NoForm => put_refusal(out, n, why_refused(verdict)),
     }
 }

@@ -36,7 +36,7 @@ placeCount rolled numbers = length numbers / numbersEach rolled
 abbrev pub isWholeList : Bool → List Float → Bool
 isWholeList rolled numbers = eqb (length numbers % numbersEach rolled) 0
 
--- without rolls a copy is moved alone (mass.rs, `Placement::moved`)
+-- without rolls a copy is moved alone, as mass.rs makes such a place of an offset
 abbrev pub placeAt : Bool → List Float → ℕ → Placement
 placeAt true numbers k = place (at numbers (3 * k)) (at numbers (3 * k + 1)) (at numbers (3 * k + 2))
 placeAt false numbers k = place (at numbers (2 * k)) (at numbers (2 * k + 1)) (bits 0)

@@ -260,7 +260,10 @@ fn check_moved(whole: Body, part: Body, offset_m: Vector) -> Verdict
 {
     let v = first_refusal(body_check::check(whole), body_check::check(part));
     let v = first_refusal(v, check_offset(offset_m));
-    first_refusal(v, refusals::refuse_when(whole.mass_kg == 0.0, Refusal::NotHeavier))
+    first_refusal(
+        v,
+        refusals::refuse_when(whole.mass_kg == 0.0, Refusal::NotHeavier),
+    )
 }
 
 // The whole with one of its parts moved by an offset inside it.

@@ -239,6 +239,11 @@ pub(crate) fn put_block(out: &mut [u8], line: &[u8]) -> usize
         let n = put_body(out, ring);
         return say(out, n, b"\n");
     }
+    let body = answers_read::read_body(line, b"(body", b")");
+    if body.ok {
+        let n = put_body(out, body);
+        return say(out, n, b"\n");
+    }
     let refused = answers_read::read_as(line, b"(refused N)");
     if refused.ok {
         return put_refusal(out, refused);

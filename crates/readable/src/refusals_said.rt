@@ -13,7 +13,7 @@ pub(crate) fn put_sentence(out: &mut [u8], n: usize, number: u64) -> usize
         3 => say(
             out,
             n,
-            b"the count of fins, of tubes, or of joined points, is not 1 to 32",
+            b"the count of fins, of tubes, of joined points, of offsets or of places is not 1 to 32",
         ),
         4 => say(out, n, b"a length is out of its limits"),
         5 => say(out, n, b"the outline is not 3 to 64 whole points"),
@@ -27,7 +27,7 @@ pub(crate) fn put_sentence(out: &mut [u8], n: usize, number: u64) -> usize
         9 => say(
             out,
             n,
-            b"cant or base angle is not a number, or beyond 4 rad",
+            b"cant, base angle or roll is not a number, or beyond 4 rad",
         ),
         10 => say(out, n, b"the tab begins before the root or ends behind it"),
         11 => say(out, n, b"the tab is higher than the body's radius"),
@@ -62,6 +62,11 @@ pub(crate) fn put_sentence(out: &mut [u8], n: usize, number: u64) -> usize
             out,
             n,
             b"a coordinate of the point or of a corner is no whole number of steps of 2^-20 m",
+        ),
+        26 => say(
+            out,
+            n,
+            b"the whole is not heavier than the part taken off, or a part is moved in a body of mass 0",
         ),
         _ => say(out, n, b"no number of the table"),
     }

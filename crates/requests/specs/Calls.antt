@@ -31,6 +31,8 @@ use Rattle.joins.specs.Joins.{joinedOf, refusedBody}
 use Rattle.moments.specs.declared.Moments.{Moments}
 use Rattle.moments.specs.Moments.{principalMomentsOf}
 use Rattle.body_check.specs.BodyCheck.{checkOf}
+use Rattle.placements.specs.Copies.{copiedOf, placedAtOf}
+use Rattle.placements.specs.Parts.{movedOf, withoutOf}
 use Rattle.figures.specs.declared.Area.{Area}
 use Rattle.figures.specs.declared.Figures.{Figures}
 use Rattle.figures.specs.Figures.{refusedFigures, setFigures, setScratch}
@@ -118,3 +120,23 @@ tensorMoments numbers = cond (eqb (length numbers) tensorNumbers) (principalMome
 
 unfoldable pub bodyVerdict : List Float → Verdict
 bodyVerdict numbers = cond (eqb (length numbers) bodyNumbers) (checkOf (bodyOf (at numbers))) (Refused NoForm)
+
+-- ---- copies of a body, and a part moved or taken off (document 02, Paper 13): of bodies' numbers
+
+-- another count of numbers than a body's is no form
+abbrev pub ofBody : List Float → (Body → Joined) → Joined
+ofBody numbers f = cond (eqb (length numbers) bodyNumbers) (f (bodyOf (at numbers))) (refusedBody NoForm)
+
+unfoldable pub copiedBy : List Float → List Float → Joined
+copiedBy body offsets = ofBody body (λ b. copiedOf b offsets)
+
+unfoldable pub placedBy : List Float → List Float → Joined
+placedBy body places = ofBody body (λ b. placedAtOf b places)
+
+-- an offset is x, y and z
+unfoldable pub movedBy : List Float → List Float → List Float → Joined
+movedBy whole part offset =
+    ofBody whole (λ w. ofBody part (λ p. cond (eqb (length offset) 3) (movedOf w p (vector (at offset 0) (at offset 1) (at offset 2))) (refusedBody NoForm)))
+
+unfoldable pub withoutBy : List Float → List Float → Joined
+withoutBy whole part = ofBody whole (λ w. ofBody part (λ p. withoutOf w p))

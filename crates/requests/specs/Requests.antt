@@ -10,6 +10,7 @@ use Rattle.sections.specs.Numbered.{numberedSection}
 use Rattle.materials.specs.Numbered.{numberedDensity}
 use Rattle.fillets.specs.Numbered.{numberedFillet}
 use Rattle.fins.specs.Numbered.{numberedTab, numberedSet}
+use Rattle.bodies.specs.Layout.{bodyNumbers}
 use Rattle.joins.specs.declared.Joined.{Joined}
 use Rattle.drill.specs.declared.Answer.{Answer}
 use Rattle.tubes.specs.declared.ClosingRadius.{ClosingRadius}
@@ -18,7 +19,7 @@ use Rattle.figures.specs.declared.Area.{Area}
 use Rattle.figures.specs.declared.Figures.{Figures}
 use Rattle.requests.specs.declared.AreaRequest.{AreaRequest}
 use Rattle.requests.specs.declared.SetRequest.{SetRequest}
-use Rattle.requests.specs.Calls.{numberedFigures, numberedScratch, numberedArea, numberedAreaScratch, numberedDrill, ringBy}
+use Rattle.requests.specs.Calls.{numberedFigures, numberedScratch, numberedArea, numberedAreaScratch, numberedDrill, ringBy, copiedBy, placedBy, movedBy, withoutBy}
 
 -- of the count or part k, counted from the form's last: its number, and how many figures stand up to its end
 abbrev pub number : List ℕ → ℕ → ℕ
@@ -84,3 +85,17 @@ askedDrill ns figures =
     let lengths = between 0 (end ns 0) figures in
     let point = drop (end ns 0) figures in
     numberedDrill (numberedPlanform (number ns 0) lengths) lengths (at point 0) (at point 1)
+
+-- "(copied BODY OFFSETS)", "(placed BODY PLACES)": the body's figures, then each offset's or place's
+unfoldable pub askedCopied : List Float → Joined
+askedCopied figures = copiedBy (between 0 bodyNumbers figures) (drop bodyNumbers figures)
+
+unfoldable pub askedPlaced : List Float → Joined
+askedPlaced figures = placedBy (between 0 bodyNumbers figures) (drop bodyNumbers figures)
+
+-- "(moved BODY BODY (offset F F F))", "(without BODY BODY)": the whole, the part
+unfoldable pub askedMoved : List Float → Joined
+askedMoved figures = movedBy (between 0 bodyNumbers figures) (between bodyNumbers (2 * bodyNumbers) figures) (drop (2 * bodyNumbers) figures)
+
+unfoldable pub askedWithout : List Float → Joined
+askedWithout figures = withoutBy (between 0 bodyNumbers figures) (drop bodyNumbers figures)

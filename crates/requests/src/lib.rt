@@ -1,5 +1,5 @@
 // What a line or a call asks by numbers, as the calls take it (docs/FORMS.md; include/delvouzh.h): a set, a planform, a planform's chords,
-// a point beside a planform, a ring of tubes, points to join, a tensor, a body.
+// a point beside a planform, a ring of tubes, points to join, a tensor, a body, copies of one, a part moved or taken off.
 //
 // A line's figures stand in a lent slice in the order of its form. Any numbers and any figures may be handed in: what they do not make up
 // is no form.
@@ -11,8 +11,8 @@ ghost use Rattle.bodies.specs.Layout.{bodyNumbers};
 ghost use Rattle.joins.specs.Flat.{withBodies};
 ghost use Rattle.figures.specs.Figures.{refusedFigures};
 ghost use Rattle.figures.specs.Areas.{refusedArea};
-ghost use Rattle.requests.specs.Calls.{numberedFigures, numberedScratch, numberedArea, numberedAreaScratch, numberedChords, numberedEnds, numberedDrill, ringBy, pointBodyAt, joinedPointsOf, tensorMoments, bodyVerdict};
-ghost use Rattle.requests.specs.Requests.{between, setRequestOf, areaRequestOf, askedRing, askedClosing, askedDrill, askedFigures, askedScratch, askedArea, askedAreaScratch};
+ghost use Rattle.requests.specs.Calls.{numberedFigures, numberedScratch, numberedArea, numberedAreaScratch, numberedChords, numberedEnds, numberedDrill, ringBy, copiedBy, placedBy, movedBy, withoutBy, pointBodyAt, joinedPointsOf, tensorMoments, bodyVerdict};
+ghost use Rattle.requests.specs.Requests.{between, setRequestOf, areaRequestOf, askedRing, askedClosing, askedDrill, askedCopied, askedPlaced, askedMoved, askedWithout, askedFigures, askedScratch, askedArea, askedAreaScratch};
 use bodies::BODY_NUMBERS;
 use bodies::Body;
 use bodies::TENSOR_NUMBERS;
@@ -34,6 +34,9 @@ use tubes::TubeFinSet;
 
 // Room for as many points as a line may join, each written as a body.
 const POINTS_NUMBERS: usize = 32 * BODY_NUMBERS;
+
+// The numbers of two bodies, the whole and the part.
+const TWO_BODIES: usize = 2 * BODY_NUMBERS;
 
 // A set's limit, the set, and how many of the line's first figures are its planform's: an outline's points.
 pub struct SetRequest {
@@ -259,6 +262,60 @@ pub fn body_verdict(numbers: &[f64]) -> Verdict
     body_check::check(bodies::body_of(numbers))
 }
 
+// Copies of a body by its numbers, moved by the x and y of each offset, joined; of another count of the body's numbers, 18.
+pub fn copied_by(body: &[f64], offsets: &[f64]) -> Joined
+    ensures { λ r. ⌜ r ≡ copiedBy (now (body .entry)) (now (offsets .entry)) ⌝ }
+{
+    if body.len() != BODY_NUMBERS {
+        return joins::refused(Refusal::NoForm);
+    }
+    placements::copied(bodies::body_of(body), offsets)
+}
+
+// The same, by the x, y and roll of each place.
+pub fn placed_by(body: &[f64], places: &[f64]) -> Joined
+    ensures { λ r. ⌜ r ≡ placedBy (now (body .entry)) (now (places .entry)) ⌝ }
+{
+    if body.len() != BODY_NUMBERS {
+        return joins::refused(Refusal::NoForm);
+    }
+    placements::placed(bodies::body_of(body), places)
+}
+
+// A body with a part moved by an offset of three numbers; of other counts, 18.
+pub fn moved_by(whole: &[f64], part: &[f64], offset: &[f64]) -> Joined
+    ensures { λ r. ⌜ r ≡ movedBy (now (whole .entry)) (now (part .entry)) (now (offset .entry)) ⌝ }
+{
+    if whole.len() != BODY_NUMBERS {
+        return joins::refused(Refusal::NoForm);
+    }
+    if part.len() != BODY_NUMBERS {
+        return joins::refused(Refusal::NoForm);
+    }
+    if offset.len() != 3 {
+        return joins::refused(Refusal::NoForm);
+    }
+    let offset_m = Vector {
+        x: offset[0],
+        y: offset[1],
+        z: offset[2],
+    };
+    placements::with_part_moved(bodies::body_of(whole), bodies::body_of(part), offset_m)
+}
+
+// A body with a part taken off; of other counts, 18.
+pub fn without_by(whole: &[f64], part: &[f64]) -> Joined
+    ensures { λ r. ⌜ r ≡ withoutBy (now (whole .entry)) (now (part .entry)) ⌝ }
+{
+    if whole.len() != BODY_NUMBERS {
+        return joins::refused(Refusal::NoForm);
+    }
+    if part.len() != BODY_NUMBERS {
+        return joins::refused(Refusal::NoForm);
+    }
+    placements::without_part(bodies::body_of(whole), bodies::body_of(part))
+}
+
 // The figures of a set that a line asks, over a lent scratch.
 pub fn asked_figures(q: Request, values: &[f64], scratch: &mut [f64]) -> Figures
     ensures { λ r. ⌜ r ≡ askedFigures (setRequestOf (q .numbers) (now (values .entry)))
@@ -309,6 +366,39 @@ pub fn asked_drill(q: Request, values: &[f64]) -> Answer
     let point = behind(values, n[0]);
     let planform = planforms::numbered_planform(n[1], lengths);
     drilled(planform, lengths, figure(point, 0), figure(point, 1))
+}
+
+// The copies that a line asks: the body's numbers, then the offsets.
+pub fn asked_copied(values: &[f64]) -> Joined
+    ensures { λ r. ⌜ r ≡ askedCopied (now (values .entry)) ⌝ }
+{
+    let body = between(values, 0, BODY_NUMBERS);
+    copied_by(body, behind(values, BODY_NUMBERS))
+}
+
+// The copies that a line asks, by places.
+pub fn asked_placed(values: &[f64]) -> Joined
+    ensures { λ r. ⌜ r ≡ askedPlaced (now (values .entry)) ⌝ }
+{
+    let body = between(values, 0, BODY_NUMBERS);
+    placed_by(body, behind(values, BODY_NUMBERS))
+}
+
+// The part moved that a line asks: the whole, the part, the offset.
+pub fn asked_moved(values: &[f64]) -> Joined
+    ensures { λ r. ⌜ r ≡ askedMoved (now (values .entry)) ⌝ }
+{
+    let whole = between(values, 0, BODY_NUMBERS);
+    let part = between(values, BODY_NUMBERS, TWO_BODIES);
+    moved_by(whole, part, behind(values, TWO_BODIES))
+}
+
+// The part taken off that a line asks.
+pub fn asked_without(values: &[f64]) -> Joined
+    ensures { λ r. ⌜ r ≡ askedWithout (now (values .entry)) ⌝ }
+{
+    let whole = between(values, 0, BODY_NUMBERS);
+    without_by(whole, behind(values, BODY_NUMBERS))
 }
 
 // Point k of a line.

@@ -119,6 +119,7 @@ refusal-table =
     && refused 22 [] (Refused refusal.FilletRatio)
     && refused 24 [] (Refused refusal.NoCorners)
     && refused 25 [] (Refused refusal.NotWholeSteps)
+    && refused 26 [] (Refused refusal.NotHeavier)
 
 -- ---- limits, one step inside and outside
 

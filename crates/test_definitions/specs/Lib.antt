@@ -7,3 +7,4 @@ pub mod Tubes
 pub mod Decimals
 pub mod Turns
 pub mod Fillets
+pub mod Placing

@@ -131,6 +131,10 @@ fn print_run(line: &[u8], values: &mut [f64], scratch: &mut [f64], out: &mut [u8
         Form::Tubes => 0,
         Form::Closing => 0,
         Form::Drill => 0,
+        Form::Copied => 0,
+        Form::Placed => 0,
+        Form::Moved => 0,
+        Form::Without => 0,
         Form::NoForm => 0,
     }
 }

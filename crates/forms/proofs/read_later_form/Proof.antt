@@ -2,7 +2,6 @@
 use mathlib.Core.Path.{sym, _∙_}
 use Rattle.tokens.specs.Text.{text, codes}
 use Rattle.forms.specs.Forms.{laterForm}
-use Rattle.forms.proofs.NoForms.{no-form}
 use borrow.Author.Needs.{needs}
 use Rattle.forms.proofs.read_later_form.Statement.{statement}
 use Rattle.forms.proofs.read_later_form.Tie as tie
@@ -79,17 +78,21 @@ returns-3 c =
     let s = i1 .before .before .before .before .before .before in
     rw (← s .pre .2, sym (i1 .before .same-bytes .ensures) ∙ i1 .if1 .left, sym (i2 .before .same-bytes2 .ensures) ∙ i2 .if2 .left, sym (i3 .before .same-bytes3 .ensures) ∙ i3 .if3 .taken) (t .read-form3 .ensures)
 
-refused-requires : tie.Need-refused-requires
-refused-requires c κs = search needs
+read-body-form-requires : tie.Need-read-body-form-requires
+read-body-form-requires c κs = search needs
+
+same-length-4 : tie.Need-same-length-4
+same-length-4 c = search needs
 
 returns-4 : tie.Need-returns-4
 unfolding laterForm text codes
 returns-4 c =
-    let i3 = c .before in
+    let t = c .before .before in
+    let i3 = t .before .before in
     let i2 = i3 .before .before .before in
     let i1 = i2 .before .before .before in
     let s = i1 .before .before .before .before .before .before in
-    no-form _ _ _ (c .refused .ensures) (rw (← s .pre .2, sym (i1 .before .same-bytes .ensures) ∙ i1 .if1 .left, sym (i2 .before .same-bytes2 .ensures) ∙ i2 .if2 .left, sym (i3 .before .same-bytes3 .ensures) ∙ i3 .if3 .left))
+    rw (← s .pre .2, sym (i1 .before .same-bytes .ensures) ∙ i1 .if1 .left, sym (i2 .before .same-bytes2 .ensures) ∙ i2 .if2 .left, sym (i3 .before .same-bytes3 .ensures) ∙ i3 .if3 .left) (t .read-body-form .ensures)
 
 pub read-later-form-spec : {M : Type 1} → statement M
 read-later-form-spec =
@@ -113,5 +116,6 @@ read-later-form-spec =
     read-form-requires-3
     same-length-3
     returns-3
-    refused-requires
+    read-body-form-requires
+    same-length-4
     returns-4)

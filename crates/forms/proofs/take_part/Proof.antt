@@ -154,8 +154,8 @@ returns-6 c =
     let i1 = i2 .before .before .before in
     rw (sym (i1 .before .same-bytes .ensures) ∙ i1 .if1 .left, sym (i2 .before .same-bytes2 .ensures) ∙ i2 .if2 .left, sym (i3 .before .same-bytes3 .ensures) ∙ i3 .if3 .left, sym (i4 .before .same-bytes4 .ensures) ∙ i4 .if4 .left, sym (i5 .before .same-bytes5 .ensures) ∙ i5 .if5 .left, sym (i6 .before .same-bytes6 .ensures) ∙ i6 .if6 .taken) (t .take-each .ensures)
 
-take-one-requires : tie.Need-take-one-requires
-take-one-requires c κs = search needs
+take-later-part-requires : tie.Need-take-later-part-requires
+take-later-part-requires c κs = search needs
 
 same-length-7 : tie.Need-same-length-7
 same-length-7 c = search needs
@@ -170,7 +170,7 @@ returns-7 c =
     let i3 = i4 .before .before .before in
     let i2 = i3 .before .before .before in
     let i1 = i2 .before .before .before in
-    rw (sym (i1 .before .same-bytes .ensures) ∙ i1 .if1 .left, sym (i2 .before .same-bytes2 .ensures) ∙ i2 .if2 .left, sym (i3 .before .same-bytes3 .ensures) ∙ i3 .if3 .left, sym (i4 .before .same-bytes4 .ensures) ∙ i4 .if4 .left, sym (i5 .before .same-bytes5 .ensures) ∙ i5 .if5 .left, sym (i6 .before .same-bytes6 .ensures) ∙ i6 .if6 .left) (t .take-one .ensures)
+    rw (sym (i1 .before .same-bytes .ensures) ∙ i1 .if1 .left, sym (i2 .before .same-bytes2 .ensures) ∙ i2 .if2 .left, sym (i3 .before .same-bytes3 .ensures) ∙ i3 .if3 .left, sym (i4 .before .same-bytes4 .ensures) ∙ i4 .if4 .left, sym (i5 .before .same-bytes5 .ensures) ∙ i5 .if5 .left, sym (i6 .before .same-bytes6 .ensures) ∙ i6 .if6 .left) (t .take-later-part .ensures)
 
 pub take-part-spec : {M : Type 1} → statement M
 take-part-spec =
@@ -212,6 +212,6 @@ take-part-spec =
     take-each-requires
     same-length-6
     returns-6
-    take-one-requires
+    take-later-part-requires
     same-length-7
     returns-7)

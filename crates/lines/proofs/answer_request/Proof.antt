@@ -7,7 +7,7 @@ use Rattle.tubes.specs.declared.ClosingRadius.{ClosingRadius}
 use Rattle.moments.specs.declared.Moments.{Moments}
 use Rattle.figures.specs.declared.Figures.{Figures}
 use Rattle.figures.specs.declared.Area.{Area}
-use Rattle.lines.specs.Lines.{printedSet, printedArea, printedJoin, printedRing, printedClosing, printedDrill, printedMoments, printedCheck, printedRefusal, setAnswer, areaAnswer, joinAnswer, ringAnswer, closingAnswer, drillAnswer, momentsAnswer, checkAnswer}
+use Rattle.lines.specs.Lines.{printedSet, printedArea, printedJoin, printedRing, printedBody, printedClosing, printedDrill, printedMoments, printedCheck, printedRefusal, setAnswer, areaAnswer, joinAnswer, ringAnswer, closingAnswer, drillAnswer, bodyAnswer, momentsAnswer, checkAnswer}
 use Rattle.lines.proofs.Texts.{same-text}
 use borrow.Author.Needs.{needs}
 use Rattle.lines.proofs.answer_request.Statement.{statement}
@@ -87,6 +87,42 @@ put-drilled-requires c κs = search needs
 
 enum-told-9 : tie.Need-enum-told-9
 enum-told-9 c = search needs
+
+asked-copied-requires : tie.Need-asked-copied-requires
+asked-copied-requires c κs = search needs
+
+put-body-requires : tie.Need-put-body-requires
+put-body-requires c κs = search needs
+
+enum-told-10 : tie.Need-enum-told-10
+enum-told-10 c = search needs
+
+asked-placed-requires : tie.Need-asked-placed-requires
+asked-placed-requires c κs = search needs
+
+put-body-requires-2 : tie.Need-put-body-requires-2
+put-body-requires-2 c κs = search needs
+
+enum-told-11 : tie.Need-enum-told-11
+enum-told-11 c = search needs
+
+asked-moved-requires : tie.Need-asked-moved-requires
+asked-moved-requires c κs = search needs
+
+put-body-requires-3 : tie.Need-put-body-requires-3
+put-body-requires-3 c κs = search needs
+
+enum-told-12 : tie.Need-enum-told-12
+enum-told-12 c = search needs
+
+asked-without-requires : tie.Need-asked-without-requires
+asked-without-requires c κs = search needs
+
+put-body-requires-4 : tie.Need-put-body-requires-4
+put-body-requires-4 c κs = search needs
+
+enum-told-13 : tie.Need-enum-told-13
+enum-told-13 c = search needs
 
 why-refused-requires : tie.Need-why-refused-requires
 why-refused-requires c κs = search needs
@@ -186,9 +222,49 @@ same-length-11 : tie.Need-same-length-11
 same-length-11 c = search needs
 
 returns-9 : tie.Need-returns-9
+unfolding bodyAnswer
 returns-9 c =
     let p = c .before .before in
     let e = p .before .before .before .enum-told9 .given .1 in
+    (rw e (same-text (ap (λ (j : Joined). printedBody (j .verdict) j) (p .before .asked-copied .ensures)) (p .put-body .ensures)), rw e refl)
+
+same-length-12 : tie.Need-same-length-12
+same-length-12 c = search needs
+
+returns-10 : tie.Need-returns-10
+unfolding bodyAnswer
+returns-10 c =
+    let p = c .before .before in
+    let e = p .before .before .before .enum-told10 .given .1 in
+    (rw e (same-text (ap (λ (j : Joined). printedBody (j .verdict) j) (p .before .asked-placed .ensures)) (p .put-body2 .ensures)), rw e refl)
+
+same-length-13 : tie.Need-same-length-13
+same-length-13 c = search needs
+
+returns-11 : tie.Need-returns-11
+unfolding bodyAnswer
+returns-11 c =
+    let p = c .before .before in
+    let e = p .before .before .before .enum-told11 .given .1 in
+    (rw e (same-text (ap (λ (j : Joined). printedBody (j .verdict) j) (p .before .asked-moved .ensures)) (p .put-body3 .ensures)), rw e refl)
+
+same-length-14 : tie.Need-same-length-14
+same-length-14 c = search needs
+
+returns-12 : tie.Need-returns-12
+unfolding bodyAnswer
+returns-12 c =
+    let p = c .before .before in
+    let e = p .before .before .before .enum-told12 .given .1 in
+    (rw e (same-text (ap (λ (j : Joined). printedBody (j .verdict) j) (p .before .asked-without .ensures)) (p .put-body4 .ensures)), rw e refl)
+
+same-length-15 : tie.Need-same-length-15
+same-length-15 c = search needs
+
+returns-13 : tie.Need-returns-13
+returns-13 c =
+    let p = c .before .before in
+    let e = p .before .before .before .enum-told13 .given .1 in
     (rw e (same-text (ap printedRefusal (p .before .why-refused .ensures)) (p .put-refusal .ensures)), rw e refl)
 
 pub answer-request-spec : {M : Type 1} → statement M
@@ -220,6 +296,18 @@ answer-request-spec =
     asked-drill-requires
     put-drilled-requires
     enum-told-9
+    asked-copied-requires
+    put-body-requires
+    enum-told-10
+    asked-placed-requires
+    put-body-requires-2
+    enum-told-11
+    asked-moved-requires
+    put-body-requires-3
+    enum-told-12
+    asked-without-requires
+    put-body-requires-4
+    enum-told-13
     why-refused-requires
     put-refusal-requires
     same-length
@@ -241,4 +329,12 @@ answer-request-spec =
     same-length-10
     returns-8
     same-length-11
-    returns-9)
+    returns-9
+    same-length-12
+    returns-10
+    same-length-13
+    returns-11
+    same-length-14
+    returns-12
+    same-length-15
+    returns-13)

@@ -18,7 +18,7 @@ is-refused-requires : tie.Need-is-refused-requires
 is-refused-requires c κs = search needs
 
 returns : tie.Need-returns
-returns c = 
+returns c =
     let asked = c .before in
     let both = asked .before in
     refused-early _ _ _ (both .before .before .check .ensures) (both .before .check-list .ensures) (both .first-refusal .ensures) (sym (asked .is-refused .ensures) ∙ c .if1 .taken)
@@ -27,7 +27,7 @@ check-places-requires : tie.Need-check-places-requires
 check-places-requires c κs = search needs
 
 returns-2 : tie.Need-returns-2
-returns-2 c = 
+returns-2 c =
     let asked = c .before .before in
     let both = asked .before in
     then-places _ _ _ (both .before .before .check .ensures) (both .before .check-list .ensures) (both .first-refusal .ensures) (sym (asked .is-refused .ensures) ∙ c .before .if1 .left) (c .check-places .ensures)

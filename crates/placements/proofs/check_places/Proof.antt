@@ -32,7 +32,7 @@ enum-known-refusal : tie.Need-enum-known-refusal Inv-loop μ-loop
 enum-known-refusal c = search needs
 
 returns : tie.Need-returns Inv-loop μ-loop
-returns c = 
+returns c =
     let turn = c .before .before .before in
     let at-loop = turn .before .before .before .loop in
     stops _ _ _ _ (at-loop .inv .1) _ (turn .before .before .loop-test .taken) (sym (turn .check .ensures ∙ ap placeCheck (turn .before .place-at .ensures)) ∙ c .before .refusal .given .1)
@@ -47,7 +47,7 @@ loop-less : tie.Need-loop-less Inv-loop μ-loop
 loop-less c = omega arith
 
 loop-again : tie.Need-loop-again Inv-loop μ-loop
-loop-again c = 
+loop-again c =
     let turn = c .before .before in
     let at-loop = turn .before .before .before .loop in
     (at-loop .inv .0, goes-on _ _ _ _ (at-loop .inv .1) (turn .before .before .loop-test .taken) (sym (turn .check .ensures ∙ ap placeCheck (turn .before .place-at .ensures)) ∙ c .enum-told .given .1))

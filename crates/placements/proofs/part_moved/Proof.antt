@@ -39,7 +39,7 @@ add-requires-3 c κs = search needs
 
 returns : tie.Need-returns
 unfolding partMovedOf
-returns c = 
+returns c =
     let about = c .before in
     let scaled = about .before in
     let difference = scaled .before in

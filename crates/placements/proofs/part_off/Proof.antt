@@ -27,7 +27,7 @@ subtract-requires-2 c κs = search needs
 
 returns : tie.Need-returns
 unfolding partOffOf
-returns c = 
+returns c =
     let whole = c .before in
     let part = whole .before in
     let centre = part .before in

@@ -17,7 +17,7 @@ accepted-requires : tie.Need-accepted-requires
 accepted-requires c κs = search needs
 
 returns : tie.Need-returns
-returns c = 
+returns c =
     let asked = c .before .before in
     let first = asked .before in
     at-here _ _ _ (first .before .count-places .ensures) (first .place-at .ensures) (asked .is-here .ensures) (c .before .if1 .taken) (c .accepted .ensures)
@@ -26,7 +26,7 @@ joined-copies-requires : tie.Need-joined-copies-requires
 joined-copies-requires c κs = search needs
 
 returns-2 : tie.Need-returns-2
-returns-2 c = 
+returns-2 c =
     let asked = c .before .before in
     let first = asked .before in
     let pre = first .before .before .before .pre in

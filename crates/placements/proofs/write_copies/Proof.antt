@@ -27,7 +27,7 @@ copy-at-requires : tie.Need-copy-at-requires Inv-loop μ-loop
 copy-at-requires c κs = search needs
 
 write-body-requires : tie.Need-write-body-requires Inv-loop μ-loop
-write-body-requires c κs = 
+write-body-requires c κs =
     let at-loop = c .before .before .before .before .loop in
     let start = c .before .before .before .before .before .before in
     let e = length-written _ _ (at-loop .k) (at-loop .inv .1) (omega arith) in
@@ -40,13 +40,13 @@ loop-less : tie.Need-loop-less Inv-loop μ-loop
 loop-less c = omega arith
 
 loop-again : tie.Need-loop-again Inv-loop μ-loop
-loop-again c = 
+loop-again c =
     let at-loop = c .before .before .before .before .before .before .before .loop in
     let copy = c .before .before .before .before in
     (omega arith, one-written _ _ (at-loop .k) (at-loop .inv .1) (copy .copy-at .ensures ∙ ap (copyAt _) (copy .before .place-at .ensures)) (c .before .before .write-body .ensures))
 
 same-length : tie.Need-same-length Inv-loop μ-loop
-same-length c = 
+same-length c =
     let at-loop = c .before .loop in
     let start = c .before .before .before in
     length-written _ _ (at-loop .k) (at-loop .inv .1) (omega arith)
