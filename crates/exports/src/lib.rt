@@ -36,7 +36,8 @@ fn crossed_set(
     fillet: usize,
     glue: &[f64],
 ) -> NumberedSet
-    ensures { λ r. ⌜ r ≡ crossedSet count planform (now (lengths .entry)) section tab density (now (figures .entry)) fillet (now (glue .entry)) ⌝ }
+    ensures { λ r. ⌜ r ≡ crossedSet count planform (now (lengths .entry)) section tab density
+        (now (figures .entry)) fillet (now (glue .entry)) ⌝ }
 {
     if figures.len() < 5 {
         return NumberedSet::Unknown;
@@ -346,7 +347,9 @@ pub extern "C" fn delvouzh_copied(
     joined: &mut [f64],
     values: &mut [usize],
 ) -> usize
-    ensures { λ r. ⌜ BodyCall (copiedBy (now (body .entry)) (now (offsets .entry))) (now (joined .entry)) (now (values .entry)) r (now (joined .exit)) (now (values .exit)) ⌝ }
+    ensures { λ r. ⌜ BodyCall (copiedBy (now (body .entry)) (now (offsets .entry)))
+        (now (joined .entry)) (now (values .entry))
+        r (now (joined .exit)) (now (values .exit)) ⌝ }
 {
     if joined.len() < BODY_NUMBERS {
         return NO_FORM;
@@ -370,7 +373,9 @@ pub extern "C" fn delvouzh_placed(
     joined: &mut [f64],
     values: &mut [usize],
 ) -> usize
-    ensures { λ r. ⌜ BodyCall (placedBy (now (body .entry)) (now (places .entry))) (now (joined .entry)) (now (values .entry)) r (now (joined .exit)) (now (values .exit)) ⌝ }
+    ensures { λ r. ⌜ BodyCall (placedBy (now (body .entry)) (now (places .entry)))
+        (now (joined .entry)) (now (values .entry))
+        r (now (joined .exit)) (now (values .exit)) ⌝ }
 {
     if joined.len() < BODY_NUMBERS {
         return NO_FORM;
@@ -395,7 +400,9 @@ pub extern "C" fn delvouzh_with_part_moved(
     joined: &mut [f64],
     values: &mut [usize],
 ) -> usize
-    ensures { λ r. ⌜ BodyCall (movedBy (now (whole .entry)) (now (part .entry)) (now (offset .entry))) (now (joined .entry)) (now (values .entry)) r (now (joined .exit)) (now (values .exit)) ⌝ }
+    ensures { λ r. ⌜ BodyCall (movedBy (now (whole .entry)) (now (part .entry)) (now (offset .entry)))
+        (now (joined .entry)) (now (values .entry))
+        r (now (joined .exit)) (now (values .exit)) ⌝ }
 {
     if joined.len() < BODY_NUMBERS {
         return NO_FORM;
@@ -419,7 +426,9 @@ pub extern "C" fn delvouzh_without_part(
     joined: &mut [f64],
     values: &mut [usize],
 ) -> usize
-    ensures { λ r. ⌜ BodyCall (withoutBy (now (whole .entry)) (now (part .entry))) (now (joined .entry)) (now (values .entry)) r (now (joined .exit)) (now (values .exit)) ⌝ }
+    ensures { λ r. ⌜ BodyCall (withoutBy (now (whole .entry)) (now (part .entry)))
+        (now (joined .entry)) (now (values .entry))
+        r (now (joined .exit)) (now (values .exit)) ⌝ }
 {
     if joined.len() < BODY_NUMBERS {
         return NO_FORM;
