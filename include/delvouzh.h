@@ -9,8 +9,8 @@
  *      5 points not 3 to 64 pairs       11 tab deeper than the body     17 body tensor
  *      6 first or last point            12 density                      18 no form
  *     19 a word that is no figure      20 wall over the outer radius     21 thickness over the root chord
- *     22 fillet too wide for the body  24 no corners: an ellipse         25 not whole steps of 2^-20 m
- *     26 the whole is not heavier
+ *     22 fillet too wide for the body  23 no such screen, or it is busy  24 no corners: an ellipse
+ *     25 not whole steps of 2^-20 m    26 the whole is not heavier
  *
  * It writes its figures and counts over the start of the lent arrays; a refusal writes zero figures, but of chords none. Two counts are the values of a
  * refusal: the field of 4 and 9, the two edges of 7, the component of 13, the case of 17 (a to e as 0 to 4, without c); else both are 0.

@@ -57,6 +57,7 @@ pub(crate) fn put_sentence(out: &mut [u8], n: usize, number: u64) -> usize
             n,
             b"the fillet's radius is over 1000 times the body's, whatever its density",
         ),
+        23 => say(out, n, b"the screen is not 1 to 8, or already holds a job"),
         24 => say(out, n, b"an ellipse has no corners"),
         25 => say(
             out,

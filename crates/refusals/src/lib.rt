@@ -6,6 +6,7 @@ ghost use mathlib.Core.Path.{_≡_};
 ghost use Rattle.refusals.specs.Order.{refuseUnless, refuseWhen, isRefused, firstRefusal};
 ghost use Rattle.refusals.specs.Refusals.{numberOf, caseOf, valuesOf, inTwoPlaces};
 ghost use Rattle.refusals.specs.Rows.{IsRow};
+ghost use Rattle.refusals.specs.Numbered.{faultFrom, refusalFrom};
 
 // What is wrong with a tensor: 17's cases a, b, d and e, in their order. Six numbers cannot be asymmetric, which was c.
 pub enum TensorFault {
@@ -38,6 +39,7 @@ pub enum Refusal {
     WallOverRadius,
     ThicknessOverRoot,
     FilletRatio,
+    Screen,
     NoCorners,
     NotWholeSteps,
     NotHeavier,
@@ -127,6 +129,7 @@ fn row_of(refusal: Refusal) -> Row
         Refusal::WallOverRadius => Row(20, [0, 0]),
         Refusal::ThicknessOverRoot => Row(21, [0, 0]),
         Refusal::FilletRatio => Row(22, [0, 0]),
+        Refusal::Screen => Row(23, [0, 0]),
         Refusal::NoCorners => Row(24, [0, 0]),
         Refusal::NotWholeSteps => Row(25, [0, 0]),
         Refusal::NotHeavier => Row(26, [0, 0]),
@@ -145,4 +148,49 @@ pub fn values(refusal: Refusal) -> [usize; 2]
     ensures { λ r. ⌜ r ≡ inTwoPlaces (valuesOf refusal) ⌝ }
 {
     row_of(refusal).1
+}
+
+// The fault of a case of 17.
+fn fault_of(case: usize) -> TensorFault
+    ensures { λ r. ⌜ r ≡ faultFrom case ⌝ }
+{
+    match case {
+        0 => TensorFault::Entry,
+        1 => TensorFault::Massless,
+        3 => TensorFault::Negative,
+        _ => TensorFault::Triangle,
+    }
+}
+
+// The refusal that a row of the table is of: no form where the number is none of the table's.
+pub fn refusal_of(number: usize, first: usize, second: usize) -> Refusal
+    ensures { λ r. ⌜ r ≡ refusalFrom number first second ⌝ }
+{
+    match number {
+        1 => Refusal::Limit,
+        2 => Refusal::Scratch,
+        3 => Refusal::Count,
+        4 => Refusal::Length(first),
+        5 => Refusal::Points,
+        6 => Refusal::Ends,
+        7 => Refusal::Touches(first, second),
+        8 => Refusal::NoArea,
+        9 => Refusal::Angle(first),
+        10 => Refusal::TabOffRoot,
+        11 => Refusal::TabTooDeep,
+        12 => Refusal::Density,
+        13 => Refusal::NotConverged(first),
+        15 => Refusal::Mass,
+        16 => Refusal::Centre,
+        17 => Refusal::Tensor(fault_of(first)),
+        19 => Refusal::NoFigure,
+        20 => Refusal::WallOverRadius,
+        21 => Refusal::ThicknessOverRoot,
+        22 => Refusal::FilletRatio,
+        23 => Refusal::Screen,
+        24 => Refusal::NoCorners,
+        25 => Refusal::NotWholeSteps,
+        26 => Refusal::NotHeavier,
+        _ => Refusal::NoForm,
+    }
 }

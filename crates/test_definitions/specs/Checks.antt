@@ -117,6 +117,7 @@ refusal-table =
     && refused 20 [] (Refused refusal.WallOverRadius)
     && refused 21 [] (Refused refusal.ThicknessOverRoot)
     && refused 22 [] (Refused refusal.FilletRatio)
+    && refused 23 [] (Refused refusal.Screen)
     && refused 24 [] (Refused refusal.NoCorners)
     && refused 25 [] (Refused refusal.NotWholeSteps)
     && refused 26 [] (Refused refusal.NotHeavier)
