@@ -8,3 +8,7 @@ pub mod Decimals
 pub mod Turns
 pub mod Fillets
 pub mod Placing
+pub mod Texts
+pub mod Bodies
+pub mod Plates
+pub mod Runs

@@ -1,17 +1,22 @@
 -- Shapes: sorted lists, an outline's root chord, span and break heights, segments that touch, a section's moments, the integrands' values.
 use mathlib.Core.Bool.{Bool, true, false, not, _&&_}
 use mathlib.Core.List.{List, [], _∷_, map}
-use Prim.Native.Nat.{ℕ}
+use Prim.Native.Nat.{ℕ, zero, suc}
 use lib.Dec.{T, eqb}
+use lib.ListN.{length}
 use lib.Ieee.{Float, add, sub, mul, div, neg, ofBits, toBits, ofInt, round, lt, le, eq, ne}
-use Rattle.floats.specs.Operations.{bits}
+use Rattle.floats.specs.Operations.{bits, every, tabulate}
 use Rattle.floats.specs.Floats.{absOf}
-use Rattle.sorting.specs.Sorted.{belowAll, insert, sorted}
+use Rattle.sorting.specs.Sorted.{belowAll, insert, sorted, over}
 use Rattle.planforms.specs.declared.Planform.{Planform}
 use Rattle.planforms.specs.declared.Planform.the-variants.{Trapezoid, Outline}
 use Rattle.planforms.specs.Planforms.{next, largestHeight, rootChordOf, spanOf}
 use Rattle.breaks.specs.Breaks.{heights, everyY, once, breakHeights, oneStrip}
-use Rattle.chords.specs.Chords.{crossed, crossings, outlineCrossings, endsAt, paired}
+use Rattle.chords.specs.Chords.{crossed, crossings, outlineCrossings, endsAt, paired, chordsAt}
+use Rattle.limits.specs.Limits.{lengthWithin, lengthCheck}
+use Rattle.refusals.specs.Order.{firstRefusal, firstFrom}
+use Rattle.fins.specs.Fins.{planformCheck}
+use Rattle.planform_chords.specs.PlanformChords.{endsIn, verdictOf, chordList, endsAfter}
 use Rattle.segments.specs.declared.Point.{Point}
 use Rattle.segments.specs.declared.Segment.{Segment}
 use Rattle.segments.specs.Segments.{isInBox, segmentsTouch}
@@ -55,6 +60,11 @@ triangle = map bits (d2 ∷ d4 ∷ d1 ∷ d3 ∷ d3 ∷ d1 ∷ [])
 abbrev plate : Planform
 plate = Trapezoid (bits d4) (bits d2) (bits d3) (bits d1)
 
+-- n, n + 1, .., so many
+abbrev toBitsFrom : ℕ → ℕ → List ℕ
+toBitsFrom n zero = []
+toBitsFrom n (suc k) = n ∷ toBitsFrom (suc n) k
+
 -- ---- lists and outlines
 
 -- ascending; of two zeros the one that came first stays first, and the last of a list is sorted in first
@@ -81,6 +91,22 @@ break-heights =
     && are (breakHeights plate []) (0 ∷ d3 ∷ [])
     && oneStrip plate
     && not (oneStrip Outline)
+
+-- "An outline edge is crossed for lower end <= h < upper end; crossings are sorted and paired": the triangle's closing edge and its second one, four
+-- edges of the teeth, and none at their tips
+abbrev pub outline-crossings : Bool
+outline-crossings =
+    are (endsAt Outline triangle (bits d2)) (0x3fc9_9999_9999_9999 ∷ 0x3fd1_1111_1111_1111 ∷ [])
+    && are (endsAt Outline teeth (bits d2)) (0x3fb1_1111_1111_1112 ∷ 0x3fc3_3333_3333_3333 ∷ 0x3fd0_0000_0000_0000 ∷ 0x3fd5_5555_5555_5555 ∷ [])
+    && are (endsAt Outline teeth (bits d3)) []
+    && eqb (length (chordsAt Outline teeth (bits d2))) 2
+
+-- the outline view lists start, then end, of each chord, over the list that is lent
+abbrev pub chords-listed : Bool
+chords-listed =
+    are (endsAfter plate [] (bits 0) (tabulate 64 (λ i. bits i))) (0 ∷ d4 ∷ toBitsFrom 2 62)
+    && eqb (chordList plate [] (bits 0) 64 .count) 1
+    && eqb (chordList plate [] (bits 0) 63 .count) 0
 
 abbrev point : ℕ → ℕ → Point
 point x y = record { x = bits x; y = bits y }
@@ -122,6 +148,6 @@ plate-values =
     && are (plateOf Outline teeth Square (bits d03) (bits d05) quarter)
     (0x3f8a_1f58_d0fa_c68a ∷ 0x3f70_cb02_3d33_7fa2 ∷ 0x3f55_974c_058b_5af6 ∷ 0x3f6d_daae_a5b0_e2e7 ∷ 0x3f54_de2b_4dee_d67a ∷ 0x3f53_3127_215f_6d4c ∷ 0x3ec0_608e_9e2f_4c33 ∷ [])
 
-pub shapes-hold : T (sorted-lists && outline-lengths && break-heights && touching-segments && section-moments && area-values && plate-values)
-unfolding ofBits toBits ofInt round add sub mul div neg lt le eq ne absOf belowAll insert sorted largestHeight rootChordOf spanOf heights everyY once breakHeights oneStrip crossed crossings outlineCrossings endsAt paired isInBox segmentsTouch airfoilConstants chordMoments scaleOf sumsFrom sampleOf areaOf plateOf
+pub shapes-hold : T (sorted-lists && outline-lengths && break-heights && outline-crossings && chords-listed && touching-segments && section-moments && area-values && plate-values)
+unfolding ofBits toBits ofInt round add sub mul div neg lt le eq ne absOf belowAll insert sorted largestHeight rootChordOf spanOf heights everyY once breakHeights oneStrip crossed crossings outlineCrossings endsAt paired isInBox segmentsTouch airfoilConstants chordMoments lengthWithin lengthCheck firstRefusal firstFrom planformCheck endsIn verdictOf chordList endsAfter scaleOf sumsFrom sampleOf areaOf plateOf
 shapes-hold = tt

@@ -1,0 +1,111 @@
+-- Lines and answers as text: figures as words, tokens, forms, and what is printed (docs/FORMS.md).
+use mathlib.Core.Bool.{Bool, true, false, not, _&&_, cond}
+use mathlib.Core.List.{List, [], _∷_}
+use Prim.Native.Nat.{ℕ}
+use Prim.Native.String.{String}
+use lib.Dec.{T, eqb}
+use lib.ListN.{length}
+use lib.Ieee.{Float, ofBits, toBits, round, isNan, eq}
+use Rattle.floats.specs.Operations.{bits, tabulate}
+use Rattle.refusals.specs.declared.Verdict.the-variants.{Refused}
+use Rattle.hex.specs.declared.Figure.{Figure}
+use Rattle.hex.specs.declared.Figure.the-variants.{Number, NotFigure}
+use Rattle.hex.specs.Hex as hex
+use Rattle.counts.specs.Counts as counts
+use Rattle.tokens.specs.Text.{text, codes}
+use Rattle.tokens.specs.Tokens.{tokensAfter, tokens}
+use Rattle.figure_words.specs.FigureWords.{leadingDigits, behindDigits, numberFrom, unsignedFigure, decimalFigure, figureWord}
+use Rattle.templates.specs.Matching.{isWordByte, isWord, takeWord, takeOne}
+use Rattle.forms.specs.Forms.{Asked, asked, refused as refusedBy, part, laterPart, readItems, laterForm, anyForm, lineAsked}
+use Rattle.answers.specs.Filled.{filled}
+use Rattle.answers.specs.Answers.{areaText, joinedText, momentsText, soundText, refusedText}
+use Rattle.test_definitions.specs.Rows.{is, same, refused}
+
+-- ---- words
+
+abbrev figure : ℕ → String → Bool
+figure b word = isNumber (figureWord (text word))
+  where
+    isNumber : Figure → Bool
+    isNumber (Number x) = is x b
+    isNumber NotFigure = false
+
+abbrev noFigure : String → Bool
+noFigure word = isNone (figureWord (text word))
+  where
+    isNone : Figure → Bool
+    isNone (Number x) = false
+    isNone NotFigure = true
+
+-- "`0.0032`, `-5`, `+12.50`; not `.5`, `5.`, `1e3`"; 1 to 19 digits in all; sixteen bare digits are none, with a sign or a point they are
+abbrev pub figure-words : Bool
+figure-words =
+    figure 0x3f6a_36e2_eb1c_432d "0.0032"
+    && figure 0xc014_0000_0000_0000 "-5"
+    && figure 0x4029_0000_0000_0000 "+12.50"
+    && figure 0x3ff0_0000_0000_0000 "#3ff0000000000000"
+    && figure 0x43e1_58e4_6091_3d00 "9999999999999999999"
+    && figure 0x4311_8b54_f22a_eb00 "1234567890123456.0"
+    && noFigure ".5"
+    && noFigure "5."
+    && noFigure "1e3"
+    && noFigure "10000000000000000000"
+    && noFigure "1.0000000000000000000"
+    && noFigure "1234567890123456"
+
+-- a tie goes to the even last bit; digits as one f64, then divided, end in 5d
+abbrev pub nearest-to-decimals : Bool
+nearest-to-decimals = figure 0x4340_0000_0000_0000 "9007199254740993.0" && figure 0x430a_8304_6267_065e "932800531062987.7"
+
+-- "A word is a run of the bytes 33 to 126 other than brackets"
+abbrev pub word-bytes : Bool
+word-bytes = isWordByte 33 && isWordByte 126 && not (isWordByte 127) && not (isWordByte 32) && not (isWordByte 40) && not (isWordByte 41)
+
+abbrev sameTokens : List (List ℕ) → List (List ℕ) → Bool
+sameTokens [] [] = true
+sameTokens [] (w ∷ ws) = false
+sameTokens (v ∷ vs) [] = false
+sameTokens (v ∷ vs) (w ∷ ws) = same v w && sameTokens vs ws
+
+-- brackets end a word and are tokens; a tab is a byte of a word
+abbrev pub tokens-cut : Bool
+tokens-cut =
+    sameTokens (tokens (text " (ab c)")) (text "(" ∷ text "ab" ∷ text "c" ∷ text ")" ∷ [])
+    && sameTokens (tokens (97 ∷ 9 ∷ 98 ∷ [])) ((97 ∷ 9 ∷ 98 ∷ []) ∷ [])
+
+-- ---- forms
+
+abbrev isAsked : Asked → Bool
+isAsked (refusedBy refusal) = false
+isAsked (asked form numbers figures) = true
+
+abbrev isRefused : ℕ → Asked → Bool
+isRefused n (refusedBy refusal) = refused n [] (Refused refusal)
+isRefused n (asked form numbers figures) = false
+
+-- 19 for a word that is no figure where one belongs, 18 wherever the line is no form, and 18 first
+abbrev pub no-form-first : Bool
+no-form-first =
+    isAsked (lineAsked (text "(closing (count 4) (radius 1))"))
+    && isRefused 19 (lineAsked (text "(closing (count 4) (radius x))"))
+    && isRefused 18 (lineAsked (text "(closing (count 4) (radius x)) 1"))
+    && isRefused 18 (lineAsked (text "(closing (count x) (radius 1))"))
+    && isRefused 18 (lineAsked (text "(closing (count 4)"))
+
+-- ---- answers
+
+-- the intervals before the samples; three numbers of a centre, three moments, ten numbers of a body
+abbrev pub answers-printed : Bool
+answers-printed =
+    same (refusedText 18) (text "(refused 18)")
+    && same soundText (text "(sound)")
+    && same (momentsText (bits 1 ∷ bits 2 ∷ bits 3 ∷ [])) (text "(moments 0000000000000001 0000000000000002 0000000000000003)")
+    && same (areaText (bits 1 ∷ bits 2 ∷ bits 3 ∷ []) 4 105)
+    (text "(area (area 0000000000000001) (centroid 0000000000000002 0000000000000003) (intervals 4) (samples 105))")
+    && same (joinedText (tabulate 10 (λ i. bits i)))
+    (text "(joined (mass 0000000000000000) (centre 0000000000000001 0000000000000002 0000000000000003) (inertia 0000000000000004 0000000000000005 0000000000000006 0000000000000007 0000000000000008 0000000000000009))")
+
+pub texts-hold :
+    T (figure-words && nearest-to-decimals && word-bytes && tokens-cut && no-form-first && answers-printed)
+unfolding ofBits toBits round isNan eq text codes tokensAfter leadingDigits behindDigits numberFrom unsignedFigure decimalFigure figureWord isWord takeWord takeOne part laterPart readItems laterForm anyForm lineAsked filled areaText joinedText momentsText soundText refusedText hex.figureOf hex.readDigits hex.digits hex.figureText counts.countOf counts.readDigits counts.digits counts.countText
+texts-hold = tt
