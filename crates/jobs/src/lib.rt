@@ -81,7 +81,7 @@ fn copied(points: &[f64]) -> Points
     Points { numbers, count: i }
 }
 
-fn no_figures() -> Figures
+pub fn no_figures() -> Figures
     ensures { λ r. ⌜ r ≡ noFigures ⌝ }
 {
     let verdict = Verdict::Accepted;

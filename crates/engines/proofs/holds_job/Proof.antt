@@ -1,0 +1,22 @@
+-- `engines::holds_job` meets its contract: a screen, and held. Assumes nothing.
+use Rattle.engines.specs.Engines.{holdsJob}
+use borrow.Author.Needs.{needs}
+use Rattle.engines.proofs.holds_job.Statement.{statement}
+use Rattle.engines.proofs.holds_job.Tie as tie
+
+place-of-requires : tie.Need-place-of-requires
+place-of-requires c κs = search needs
+
+is-screen-requires : tie.Need-is-screen-requires
+is-screen-requires c κs = search needs
+
+array-read-result : tie.Need-array-read-result
+array-read-result c = search needs
+
+returns : tie.Need-returns
+unfolding holdsJob
+returns c = rw (c .is-screen .ensures, c .before .place-of .ensures .0)
+
+pub holds-job-spec : {M : Type 1} → statement M
+holds-job-spec =
+    tie.close (tie.spec place-of-requires is-screen-requires array-read-result returns)

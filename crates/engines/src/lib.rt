@@ -1,0 +1,317 @@
+// Eight screens, one engine: each screen may hold a job, and a turn works one strip for the next of them (document 02, Paper 10).
+//
+// A call is worked by value on the screens and on one job, the one at the call's place: who keeps the engine reads and writes that job alone.
+// Screens are 1 to 8; 0 stands for none. Any record, number and scratch may be handed in.
+ghost use mathlib.Core.Path.{_≡_};
+ghost use Prim.Native.Nat.{_<_};
+ghost use lib.ListN.{length};
+ghost use Rattle.engines.specs.Engines.{isScreen, placeOf, holdsJob, isFree, nextScreen, pickOf, withHeld};
+ghost use Rattle.engines.specs.Engines.{refusedShort, idle, stepped, ServesTo, refused, submittedOf, changedOf};
+ghost use Rattle.engines.specs.Engines.{TurnsTo, submitOf, changeAt};
+use fins::FinSet;
+use jobs::Answer;
+use jobs::Job;
+use jobs::Reply;
+use jobs::Stepped;
+use materials::Density;
+use refusals::Refusal;
+
+// Which screens hold a job, and which was served last, 0 before the first.
+pub struct Screens {
+    pub held: [bool; 8],
+    pub last: usize,
+}
+
+// The job of screen n stands at place n - 1.
+pub struct Engine {
+    pub screens: Screens,
+    pub jobs: [Job; 8],
+}
+
+// What a turn did: nothing, as its scratch was short (2) or no screen holds a job; or a step of a screen's job.
+pub enum Service {
+    Short,
+    Idle,
+    Step,
+}
+
+// What a turn answers: the screen served, 0 for none, and the step's answer. An idle turn's is a plain one with no figures.
+pub struct Told {
+    pub service: Service,
+    pub screen: usize,
+    pub answer: Answer,
+}
+
+// The screens and the job of the next one as a turn leaves them, and what it answers.
+pub struct Served {
+    pub screens: Screens,
+    pub job: Job,
+    pub told: Told,
+}
+
+// The screens and a screen's job as a submission or a change of density leaves them, and what it answers.
+pub struct AtScreen {
+    pub screens: Screens,
+    pub job: Job,
+    pub answer: Answer,
+}
+
+// The engine as a turn leaves it, and what it answers.
+pub struct Turned {
+    pub engine: Engine,
+    pub told: Told,
+}
+
+// The engine as a submission or a change of density leaves it, and what it answers.
+pub struct Called {
+    pub engine: Engine,
+    pub answer: Answer,
+}
+
+fn is_screen(screen: usize) -> bool
+    ensures { λ r. ⌜ r ≡ isScreen screen ⌝ }
+{
+    (1 <= screen) & (screen <= 8)
+}
+
+// A screen's place among the jobs; the first for a number that is no screen's.
+pub fn place_of(screen: usize) -> usize
+    ensures { λ r. ⌜ (r ≡ placeOf screen) × (r < 8) ⌝ }
+{
+    if is_screen(screen) {
+        return screen - 1;
+    }
+    0
+}
+
+fn holds_job(screens: Screens, screen: usize) -> bool
+    ensures { λ r. ⌜ r ≡ holdsJob screens screen ⌝ }
+{
+    let held = screens.held;
+    let place = place_of(screen);
+    is_screen(screen) & held[place]
+}
+
+fn is_free(screens: Screens, screen: usize) -> bool
+    ensures { λ r. ⌜ r ≡ isFree screens screen ⌝ }
+{
+    let held = screens.held;
+    let place = place_of(screen);
+    is_screen(screen) & !held[place]
+}
+
+// The next screen with a job, in ascending order from the one after the last served; 0 with no job.
+pub fn next_screen(screens: Screens) -> usize
+    ensures { λ r. ⌜ r ≡ nextScreen screens ⌝ }
+{
+    let mut screen = screens.last % 8 + 1;
+    let mut left: usize = 8;
+    while 0 < left {
+        if holds_job(screens, screen) {
+            return screen;
+        }
+        screen = screen % 8 + 1;
+        left -= 1;
+    }
+    0
+}
+
+// Its place among the jobs, also with no job.
+pub fn pick(screens: Screens) -> usize
+    ensures { λ r. ⌜ (r ≡ pickOf screens) × (r < 8) ⌝ }
+{
+    place_of(next_screen(screens))
+}
+
+// Whether a screen holds a job from here on, and which screen was served last.
+fn with_held(screens: Screens, screen: usize, holds: bool, last: usize) -> Screens
+    ensures { λ r. ⌜ r ≡ withHeld screens screen holds last ⌝ }
+{
+    let mut held = screens.held;
+    let place = place_of(screen);
+    held[place] = holds;
+    Screens { held, last }
+}
+
+fn refuse_short(screens: Screens, job: Job) -> Served
+    ensures { λ r. ⌜ r ≡ refusedShort screens job ⌝ }
+{
+    let service = Service::Short;
+    let reply = Reply::Answered;
+    let figures = figures::refused_figures(Refusal::Scratch, 0);
+    let answer = Answer { reply, figures };
+    let told = Told {
+        service,
+        screen: 0,
+        answer,
+    };
+    Served { screens, job, told }
+}
+
+fn stay_idle(screens: Screens, job: Job) -> Served
+    ensures { λ r. ⌜ r ≡ idle screens job ⌝ }
+{
+    let service = Service::Idle;
+    let reply = Reply::Taken;
+    let figures = jobs::no_figures();
+    let answer = Answer { reply, figures };
+    let told = Told {
+        service,
+        screen: 0,
+        answer,
+    };
+    Served { screens, job, told }
+}
+
+// The screen was served this step: its job goes on, or has ended and frees it.
+fn after_step(screens: Screens, screen: usize, s: Stepped) -> Served
+    ensures { λ r. ⌜ r ≡ stepped screens screen s ⌝ }
+{
+    let job = s.job;
+    let answer = s.answer;
+    let screens = with_held(screens, screen, !job.ended, screen);
+    let service = Service::Step;
+    let told = Told {
+        service,
+        screen,
+        answer,
+    };
+    Served { screens, job, told }
+}
+
+// A turn on the screens and the job at the place picked.
+pub fn serve(screens: Screens, job: Job, scratch: &mut [f64]) -> Served
+    ensures { λ r. ⌜ ServesTo screens job (now (scratch .entry)) r (now (scratch .exit)) ⌝ }
+{
+    if scratch.len() < 1024 {
+        return refuse_short(screens, job);
+    }
+    let screen = next_screen(screens);
+    if 0 < screen {
+        let s = jobs::step_by_value(job, scratch);
+        return after_step(screens, screen, s);
+    }
+    stay_idle(screens, job)
+}
+
+// A call that is refused leaves screens and job as they are; no sample was taken.
+fn refuse(screens: Screens, job: Job, refusal: Refusal) -> AtScreen
+    ensures { λ r. ⌜ r ≡ refused screens job refusal ⌝ }
+{
+    let reply = Reply::Answered;
+    let figures = figures::refused_figures(refusal, 0);
+    let answer = Answer { reply, figures };
+    AtScreen {
+        screens,
+        job,
+        answer,
+    }
+}
+
+// A submission of a job as it was made, on the screens and the job at the screen's place.
+pub fn submit_at(screens: Screens, job: Job, screen: usize, made: Stepped) -> AtScreen
+    ensures { λ r. ⌜ r ≡ submittedOf screens job screen made ⌝ }
+{
+    if is_free(screens, screen) {
+        let new = made.job;
+        let answer = made.answer;
+        if new.ended {
+            return AtScreen {
+                screens,
+                job,
+                answer,
+            };
+        }
+        let screens = with_held(screens, screen, true, screens.last);
+        return AtScreen {
+            screens,
+            job: new,
+            answer,
+        };
+    }
+    refuse(screens, job, Refusal::Screen)
+}
+
+// A change of density on the screens and the job at the screen's place.
+pub fn change_at(screens: Screens, job: Job, screen: usize, density: Density) -> AtScreen
+    ensures { λ r. ⌜ r ≡ changedOf screens job screen density ⌝ }
+{
+    if holds_job(screens, screen) {
+        let s = jobs::change_by_value(job, density);
+        let job = s.job;
+        let answer = s.answer;
+        return AtScreen {
+            screens,
+            job,
+            answer,
+        };
+    }
+    refuse(screens, job, Refusal::Density)
+}
+
+// One turn: a strip for the next screen with a job.
+pub fn turn_by_value(engine: Engine, scratch: &mut [f64]) -> Turned
+    ensures { λ r. ⌜ TurnsTo engine (now (scratch .entry)) r (now (scratch .exit)) ⌝ }
+{
+    let screens = engine.screens;
+    let mut eight = engine.jobs;
+    let place = pick(screens);
+    let job = eight[place];
+    let s = serve(screens, job, scratch);
+    let screens = s.screens;
+    let told = s.told;
+    let job = s.job;
+    eight[place] = job;
+    let engine = Engine {
+        screens,
+        jobs: eight,
+    };
+    Turned { engine, told }
+}
+
+// A submission of a set to a screen: taken, or refused, and then nothing changes.
+pub fn submit_by_value(
+    engine: Engine,
+    screen: usize,
+    set: FinSet,
+    points: &[f64],
+    limit: usize,
+) -> Called
+    ensures { λ r. ⌜ r ≡ submitOf engine screen set (now (points .entry)) limit ⌝ }
+{
+    let screens = engine.screens;
+    let mut eight = engine.jobs;
+    let place = place_of(screen);
+    let job = eight[place];
+    let made = jobs::make(set, points, limit);
+    let s = submit_at(screens, job, screen, made);
+    let screens = s.screens;
+    let answer = s.answer;
+    let job = s.job;
+    eight[place] = job;
+    let engine = Engine {
+        screens,
+        jobs: eight,
+    };
+    Called { engine, answer }
+}
+
+// A change of the density of a screen's job: taken, or 12.
+pub fn change_by_value(engine: Engine, screen: usize, density: Density) -> Called
+    ensures { λ r. ⌜ r ≡ changeAt engine screen density ⌝ }
+{
+    let screens = engine.screens;
+    let mut eight = engine.jobs;
+    let place = place_of(screen);
+    let job = eight[place];
+    let s = change_at(screens, job, screen, density);
+    let screens = s.screens;
+    let answer = s.answer;
+    let job = s.job;
+    eight[place] = job;
+    let engine = Engine {
+        screens,
+        jobs: eight,
+    };
+    Called { engine, answer }
+}
