@@ -1,1 +1,5 @@
 pub mod Laws
+pub mod Order
+pub mod Effects
+pub mod Rounds
+pub mod Alone

@@ -1,2 +1,3 @@
 pub mod NoJob
 pub mod Engines
+pub mod Calls

@@ -1,0 +1,123 @@
+-- Calls on one engine in a row, "each call gets the record, in Paper 10 the engine's, as the one before left it" (document 02, Paper 9), and what holds over
+-- them together (Paper 10).
+use mathlib.Core.Path.{_≡_}
+use mathlib.Core.Bool.{Bool, true, false, cond, _&&_}
+use mathlib.Core.List.{List, [], _∷_, _++_}
+use Prim.Native.Nat.{ℕ, _≤_, _<_}
+use lib.Dec.{ltb, eqb}
+use lib.ListN.{length, getD}
+use lib.Ieee.{Float}
+use Rattle.materials.specs.declared.Density.{Density}
+use Rattle.fins.specs.declared.FinSet.{FinSet}
+use Rattle.jobs.specs.declared.Job.{Job}
+use Rattle.jobs.specs.declared.Answer.{Answer}
+use Rattle.jobs.specs.Calls.{steppedBy, isTaken}
+use Rattle.jobs.specs.Calls as alone
+use Rattle.engines.specs.declared.Engine.{Engine}
+use Rattle.engines.specs.Engines.{isScreen, placeOf, holdsJob, nextScreen, jobAt, turnOf, submitOf, changeAt}
+
+-- a turn over the scratch lent to it, a submission to a screen, or a change of a screen's density
+pub data Call : Type 0 where
+  turn : List Float → Call
+  submit : ℕ → FinSet → List Float → ℕ → Call
+  change : ℕ → Density → Call
+
+-- the engine as a call leaves it
+abbrev pub engineBy : Engine → Call → Engine
+engineBy engine (turn scratch) = turnOf engine (length scratch) .engine
+engineBy engine (submit screen set points L) = submitOf engine screen set points L .engine
+engineBy engine (change screen density) = changeAt engine screen density .engine
+
+abbrev pub afterCalls : Engine → List Call → Engine
+afterCalls engine [] = engine
+afterCalls engine (call ∷ calls) = afterCalls (engineBy engine call) calls
+
+-- an engine of eight screens, as every record of the type is
+pub record EightScreens (engine : Engine) : Type 0 where
+  pub screens : length (engine .screens .held) ≡ 8
+  pub jobs : length (engine .jobs) ≡ 8
+
+-- the job of a screen
+abbrev pub jobOf : Engine → ℕ → Job
+jobOf engine screen = jobAt engine (placeOf screen)
+
+-- ---- the turns that count
+
+-- "A turn lent under 1,024 numbers .. does not count": the screen that a turn serves, 0 where it was idle
+abbrev pub servedBy : Engine → Call → List ℕ
+servedBy engine (turn scratch) = cond (ltb (length scratch) 1024) [] (nextScreen (engine .screens) ∷ [])
+servedBy engine (submit screen set points L) = []
+servedBy engine (change screen density) = []
+
+unfoldable pub servedOver : Engine → List Call → List ℕ
+servedOver engine [] = []
+servedOver engine (call ∷ calls) = servedBy engine call ++ servedOver (engineBy engine call) calls
+
+-- "A waiting screen gets its strip within eight turns, whatever the others submit."
+abbrev pub WithinEight : Type 0
+WithinEight = (engine : Engine) (screen : ℕ) (calls : List Call) → holdsJob (engine .screens) screen ≡ true → 8 ≤ length (servedOver engine calls)
+    → (i : ℕ) × ((i < 8) × (getD (servedOver engine calls) i 0 ≡ screen))
+
+-- ---- each call's own screen
+
+-- the screen that a call is about: the one that a turn serves, or the one named; 0 is none
+abbrev pub screenOf : Engine → Call → ℕ
+screenOf engine (turn scratch) = cond (ltb (length scratch) 1024) 0 (nextScreen (engine .screens))
+screenOf engine (submit screen set points L) = screen
+screenOf engine (change screen density) = screen
+
+-- a call leaves every other screen's job as it is
+abbrev pub OthersStay : Type 0
+OthersStay = (engine : Engine) (call : Call) (screen : ℕ) → isScreen screen ≡ true → (screen ≡ screenOf engine call → ⊥)
+    → (holdsJob (engineBy engine call .screens) screen ≡ holdsJob (engine .screens) screen)
+    × (jobOf (engineBy engine call) screen ≡ jobOf engine screen)
+
+-- "does nothing and does not count"; "with no jobs a turn does nothing"; "refused and changes nothing"; 12 "leaves the old one": the order of service too
+pub record ChangesNothing : Type 0 where
+  pub short-turn : (engine : Engine) (n : ℕ) → n < 1024 → turnOf engine n .engine ≡ engine
+  pub idle-turn : (engine : Engine) (n : ℕ) → nextScreen (engine .screens) ≡ 0 → turnOf engine n .engine ≡ engine
+  pub refused : (engine : Engine) (screen : ℕ) (set : FinSet) (points : List Float) (L : ℕ)
+      → isTaken (submitOf engine screen set points L .answer .reply) ≡ false → submitOf engine screen set points L .engine ≡ engine
+  pub density-kept : (engine : Engine) (screen : ℕ) (density : Density)
+      → isTaken (changeAt engine screen density .answer .reply) ≡ false → changeAt engine screen density .engine ≡ engine
+
+-- ---- a job on its screen
+
+-- what a call on the engine is to the job of one screen: the turn that serves it is a step, a change of its density a change
+abbrev pub ownBy : ℕ → Engine → Call → List alone.Call
+ownBy screen engine (turn scratch) = cond (eqb screen (screenOf engine (turn scratch))) (alone.step scratch ∷ []) []
+ownBy screen engine (submit other set points L) = []
+ownBy screen engine (change other density) = cond (eqb screen other) (alone.change density ∷ []) []
+
+-- what these calls answer
+abbrev pub answersBy : ℕ → Engine → Call → List Answer
+answersBy screen engine (turn scratch) = cond (eqb screen (screenOf engine (turn scratch))) (turnOf engine (length scratch) .told .answer ∷ []) []
+answersBy screen engine (submit other set points L) = []
+answersBy screen engine (change other density) = cond (eqb screen other) (changeAt engine other density .answer ∷ []) []
+
+-- of a list of calls, until the screen is free
+unfoldable pub ownOver : ℕ → Engine → List Call → List alone.Call
+ownOver screen engine [] = []
+ownOver screen engine (call ∷ calls) =
+    cond (holdsJob (engine .screens) screen) (ownBy screen engine call ++ ownOver screen (engineBy engine call) calls) []
+
+unfoldable pub answersOver : ℕ → Engine → List Call → List Answer
+answersOver screen engine [] = []
+answersOver screen engine (call ∷ calls) =
+    cond (holdsJob (engine .screens) screen) (answersBy screen engine call ++ answersOver screen (engineBy engine call) calls) []
+
+-- the screen holds the job before each of the calls; the last of them may end it
+unfoldable pub holdsOver : ℕ → Engine → List Call → Bool
+holdsOver screen engine [] = true
+holdsOver screen engine (call ∷ calls) = holdsJob (engine .screens) screen && holdsOver screen (engineBy engine call) calls
+
+-- what a job answers alone
+unfoldable pub answersAlone : Job → List alone.Call → List Answer
+answersAlone job [] = []
+answersAlone job (call ∷ calls) = steppedBy job call .answer ∷ answersAlone (steppedBy job call .job) calls
+
+-- "a job's answers on its screen equal those it gives stepped alone with the same density changes before each strip"; and so does the job itself
+pub record AsAlone (screen : ℕ) (engine : Engine) (calls : List Call) : Type 0 where
+  pub answers : answersOver screen engine calls ≡ answersAlone (jobOf engine screen) (ownOver screen engine calls)
+  pub job : holdsOver screen engine calls ≡ true
+      → jobOf (afterCalls engine calls) screen ≡ alone.afterCalls (jobOf engine screen) (ownOver screen engine calls)
