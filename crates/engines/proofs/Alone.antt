@@ -85,7 +85,7 @@ module _ (engine : Engine) (w : EightScreens engine) (screen : ℕ) (holds : hol
       ap (λ (e : Engine). jobOf e screen) (submit-busy engine other set points L (ap (isFree (engine .screens)) (sym (eqb-true _ _ c)) ∙ not-free))
   own-submit other set points L false c = apart (submit other set points L) (eqb-false _ _ c)
 
-  own-call : (call : Call) → OwnCall screen engine call
+  pub own-call : (call : Call) → OwnCall screen engine call
   unfolding answersAlone
   own-call (turn scratch) = let r = own-turn scratch (eqb screen (screenOf engine (turn scratch))) refl in record { job = r .0; answers = r .1 }
   own-call (submit other set points L) = record { job = own-submit other set points L (eqb screen other) refl; answers = refl }

@@ -77,6 +77,15 @@ module _ (set : FinSet) (points : List Float) (L : ℕ) where
   taken-by Accepted e = refl
   taken-by (Refused r) e = absurd (true≢false e)
 
+  refused-by : (v : Verdict) → madeWith v set points L .job .ended ≡ true → isTaken (madeWith v set points L .answer .reply) ≡ false
+  unfolding isRefused
+  refused-by Accepted e = absurd (true≢false (sym e))
+  refused-by (Refused r) e = refl
+
+  made-refused : madeOf set points L .job .ended ≡ true → isTaken (madeOf set points L .answer .reply) ≡ false
+  unfolding madeOf
+  made-refused e = refused-by (makingCheck set points L) e
+
   made-taken : madeOf set points L .job .ended ≡ false → isTaken (madeOf set points L .answer .reply) ≡ true
   unfolding madeOf
   made-taken e = taken-by (makingCheck set points L) e
@@ -136,6 +145,13 @@ module _ (engine : Engine) where
 
     pub submit-refuses : isFree screens· screen ≡ true → Made· .job .ended ≡ true → submitOf engine screen set points L .engine ≡ engine
     submit-refuses f e = ap (λ (t : Called). t .engine) (submit-from _ (submit-refused screens· _ screen Made· f e)) ∙ same-job (placeOf screen)
+
+    pub busy-not-taken : isFree screens· screen ≡ false → isTaken (submitOf engine screen set points L .answer .reply) ≡ false
+    busy-not-taken f = ap (λ (t : Called). isTaken (t .answer .reply)) (submit-from _ (submit-not-free screens· _ screen Made· f))
+
+    pub refused-not-taken : isFree screens· screen ≡ true → Made· .job .ended ≡ true → isTaken (submitOf engine screen set points L .answer .reply) ≡ false
+    refused-not-taken f e =
+        ap (λ (t : Called). isTaken (t .answer .reply)) (submit-from _ (submit-refused screens· _ screen Made· f e)) ∙ made-refused set points L e
 
     pub submit-takes : isFree screens· screen ≡ true → Made· .job .ended ≡ false
         → submitOf engine screen set points L ≡ record { engine = withJob engine (placeOf screen) (withHeld screens· screen true (screens· .last)) (Made· .job); answer = Made· .answer }

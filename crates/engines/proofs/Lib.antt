@@ -3,3 +3,4 @@ pub mod Order
 pub mod Effects
 pub mod Rounds
 pub mod Alone
+pub mod Submissions

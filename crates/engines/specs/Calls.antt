@@ -7,13 +7,19 @@ use Prim.Native.Nat.{ℕ, _≤_, _<_}
 use lib.Dec.{ltb, eqb}
 use lib.ListN.{length, getD}
 use lib.Ieee.{Float}
+use Rattle.refusals.specs.declared.Verdict.the-variants.{Accepted}
+use Rattle.limits.specs.Limits.{scratchCheck}
 use Rattle.materials.specs.declared.Density.{Density}
 use Rattle.fins.specs.declared.FinSet.{FinSet}
+use Rattle.figures.specs.Figures.{setFigures}
 use Rattle.jobs.specs.declared.Job.{Job}
+use Rattle.jobs.specs.declared.Reply.the-variants.{More, Answered}
 use Rattle.jobs.specs.declared.Answer.{Answer}
-use Rattle.jobs.specs.Calls.{steppedBy, isTaken}
+use Rattle.jobs.specs.Jobs.{noFigures, makingCheck}
+use Rattle.jobs.specs.Calls.{steppedBy, isTaken, jobAfter, setAfter}
 use Rattle.jobs.specs.Calls as alone
 use Rattle.engines.specs.declared.Engine.{Engine}
+use Rattle.engines.specs.declared.Turned.{Turned}
 use Rattle.engines.specs.Engines.{isScreen, placeOf, holdsJob, nextScreen, jobAt, turnOf, submitOf, changeAt}
 
 -- a turn over the scratch lent to it, a submission to a screen, or a change of a screen's density
@@ -121,3 +127,46 @@ pub record AsAlone (screen : ℕ) (engine : Engine) (calls : List Call) : Type 0
   pub answers : answersOver screen engine calls ≡ answersAlone (jobOf engine screen) (ownOver screen engine calls)
   pub job : holdsOver screen engine calls ≡ true
       → jobOf (afterCalls engine calls) screen ≡ alone.afterCalls (jobOf engine screen) (ownOver screen engine calls)
+
+-- ---- a job that was submitted
+
+-- made of a set that was accepted, brought by these calls where it is, and not at its end
+pub record RunsBy (set : FinSet) (points : List Float) (L : ℕ) (calls : List alone.Call) (job : Job) : Type 0 where
+  pub accepted : makingCheck set points L ≡ Accepted
+  pub is : job ≡ jobAfter set points L calls
+  pub runs : job .ended ≡ false
+
+-- a screen's job is such a one
+pub record Submitted (screen : ℕ) (engine : Engine) : Type 0 where
+  pub set : FinSet
+  pub points : List Float
+  pub limit : ℕ
+  pub calls : List alone.Call
+  pub runs : RunsBy set points limit calls (jobOf engine screen)
+
+-- every job that the engine holds is: so of an engine with no job, and then behind any calls
+abbrev pub AllSubmitted : Engine → Type 0
+AllSubmitted engine = (screen : ℕ) → holdsJob (engine .screens) screen ≡ true → Submitted screen engine
+
+-- the turn that serves the screen of such a job answers that more remain, or the job's end, and that frees the screen
+pub record Serves (screen : ℕ) (set : FinSet) (points : List Float) (L : ℕ) (calls : List alone.Call) (turned : Turned) : Type 0 where
+  -- "it answers the screen served and the step's answer"
+  pub served : turned .told .screen ≡ screen
+  pub goes-on : holdsJob (turned .engine .screens) screen ≡ true → turned .told .answer ≡ record { reply = More; figures = noFigures }
+  -- "The answer ending the job equals a fresh run's with the last density accepted" (Paper 9), over any scratch that is long enough
+  pub ends-as-fresh : holdsJob (turned .engine .screens) screen ≡ false → length points ≤ 128 → (n : ℕ) → scratchCheck L n ≡ Accepted
+      → turned .told .answer ≡ record { reply = Answered; figures = setFigures (setAfter set points L calls) points L n }
+
+-- a submission that is taken, and any calls behind it before each of which, and at whose end, the screen holds its job
+module _ (engine : Engine) (screen : ℕ) (set : FinSet) (points : List Float) (L : ℕ) (calls : List Call) where
+  abbrev pub sinceThen : List alone.Call
+  sinceThen = ownOver screen (engineBy engine (submit screen set points L)) calls
+
+  abbrev pub engineNow : Engine
+  engineNow = afterCalls engine (submit screen set points L ∷ calls)
+
+  pub record OnScreen : Type 0 where
+    -- the job is that of the set submitted, with the calls since: what holds of it alone is `jobs/Calls: OverCalls`
+    pub job : RunsBy set points L sinceThen (jobOf engineNow screen)
+    pub next-turn : (scratch : List Float) → screen ≡ screenOf engineNow (turn scratch)
+        → Serves screen set points L sinceThen (turnOf engineNow (length scratch))

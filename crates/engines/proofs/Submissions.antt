@@ -1,0 +1,343 @@
+-- Every job that the engine holds was submitted, and the turn that serves it goes on, or ends it as a fresh run ends: a job on its screen is the job alone, of which
+-- jobs/proofs/Together speaks. By cases of the call, then by induction over the calls. Assumes nothing.
+use mathlib.Core.Path.{_≡_, refl, sym, ap, subst, _∙_}
+use mathlib.Core.Bool.{Bool, true, false, not, cond, _&&_, true≢false}
+use mathlib.Core.List.{List, [], _∷_, _++_, append-nil, append-assoc}
+use Prim.Native.Nat.{ℕ, _*_, _≤_}
+use native.Mathlib.Nat.{not-suc-le-zero}
+use native.Mathlib.Omega.{arith}
+use borrow.Author.Tests.{ltb-false, eqb-true, eqb-false, not-true, not-false, le-leb}
+use lib.Dec.{ltb, eqb}
+use lib.ListN.{length, set}
+use lib.Seq.{getD-set-same}
+use lib.Ieee.{Float}
+use Rattle.refusals.specs.declared.Refusal.the-variants.{Scratch}
+use Rattle.floats.proofs.Bools.{and-left, and-right}
+use Rattle.refusals.specs.declared.Verdict.{Verdict}
+use Rattle.refusals.specs.declared.Verdict.the-variants.{Accepted, Refused}
+use Rattle.refusals.specs.Order.{isRefused, refuseUnless, firstRefusal}
+use Rattle.refusals.proofs.Accepted.{both}
+use Rattle.limits.specs.Limits.{scratchCheck}
+use Rattle.limits.proofs.Accepted.{limit-within}
+use Rattle.materials.specs.declared.Density.{Density}
+use Rattle.materials.specs.Materials.{densityCheck}
+use Rattle.fins.specs.declared.FinSet.{FinSet}
+use Rattle.strips.specs.declared.Onward.{Onward}
+use Rattle.strips.specs.Strips.{isAccepted, runCheck, onwardOf}
+use Rattle.figures.specs.declared.Figures.{Figures}
+use Rattle.figures.specs.Figures.{setFigures}
+use Rattle.jobs.specs.declared.Job.{Job}
+use Rattle.jobs.specs.declared.Stepped.{Stepped}
+use Rattle.jobs.specs.declared.Reply.the-variants.{More, Answered}
+use Rattle.jobs.specs.Jobs.{noFigures, runOfJob, totalOf, afterStrip, stepOf, changeOf, makingCheck, madeOf, withDensity}
+use Rattle.jobs.specs.Calls.{isTaken, steppedBy, densityBy, densityOver, jobAfter, setAfter}
+use Rattle.jobs.specs.Calls as alone
+use Rattle.jobs.proofs.Laws.{yes, step-ended, step-refused, step-works, after-more, after-last, change-ended, change-refused, change-taken}
+use Rattle.jobs.proofs.Together.{over-calls}
+use Rattle.engines.specs.declared.Engine.{Engine}
+use Rattle.engines.specs.declared.Turned.{Turned}
+use Rattle.engines.specs.declared.Called.{Called}
+use Rattle.engines.specs.Engines.{isScreen, placeOf, holdsJob, isFree, nextScreen, stepped, turnedAt, turnOf, submitOf, changeAt}
+use Rattle.engines.specs.Calls.{Call, turn, submit, change, engineBy, afterCalls, EightScreens, jobOf, screenOf, ownBy, ownOver, holdsOver, RunsBy, Submitted, AllSubmitted, Serves, sinceThen, engineNow, OnScreen}
+use Rattle.engines.proofs.Effects.{in-eight, place-in-eight, holds-is-screen, free-is-screen, mark-own, busy-not-taken, refused-not-taken, submit-takes, change-not-held, others-stay, changes-nothing, still-eight}
+use Rattle.engines.proofs.Order.{next-holds}
+use Rattle.engines.proofs.Alone.{own-call, after-both, job-set, served}
+
+not-both : {A : Type 0} {b : Bool} → b ≡ true → b ≡ false → A
+not-both p q = absurd (true≢false (sym p ∙ q))
+
+-- ---- a job's own calls
+-- a change keeps a job running
+module _ (job : Job) (density : Density) (runs : job .ended ≡ false) where
+  change-runs′ : (v : Verdict) → densityCheck density ≡ v → changeOf job density .job .ended ≡ false
+  change-runs′ Accepted v = ap (λ (s : Stepped). s .job .ended) (change-taken job density runs v)
+  change-runs′ (Refused r) v = ap (λ (s : Stepped). s .job .ended) (change-refused job density r runs v) ∙ runs
+
+  change-runs : changeOf job density .job .ended ≡ false
+  change-runs = change-runs′ (densityCheck density) refl
+
+-- the job's limit is that of its making
+module _ (job : Job) (n : ℕ) where
+  abbrev Onward· : Onward
+  Onward· = onwardOf (runOfJob job) (job .next) (totalOf job)
+
+  strip-limit : (b : Bool) → (isAccepted (Onward· .total .ending) && ltb 0 (Onward· .left)) ≡ b → afterStrip job Onward· .job .limit ≡ job .limit
+  strip-limit true b = ap (λ (s : Stepped). s .job .limit) (after-more job Onward· b)
+  strip-limit false b = ap (λ (s : Stepped). s .job .limit) (after-last job Onward· b)
+
+  step-limit : (e : Bool) → job .ended ≡ e → (v : Verdict) → runCheck (job .limit) n ≡ v → stepOf job n .job .limit ≡ job .limit
+  step-limit true e v r = ap (λ (s : Stepped). s .job .limit) (step-ended job n e)
+  step-limit false e (Refused x) r = ap (λ (s : Stepped). s .job .limit) (step-refused job n x e r)
+  step-limit false e Accepted r = ap (λ (s : Stepped). s .job .limit) (step-works job n e r) ∙ strip-limit (isAccepted (Onward· .total .ending) && ltb 0 (Onward· .left)) refl
+
+change-limit : (job : Job) (density : Density) (e : Bool) → job .ended ≡ e → (v : Verdict) → densityCheck density ≡ v → changeOf job density .job .limit ≡ job .limit
+change-limit job density true e v r = ap (λ (s : Stepped). s .job .limit) (change-ended job density e)
+change-limit job density false e (Refused x) r = ap (λ (s : Stepped). s .job .limit) (change-refused job density x e r)
+change-limit job density false e Accepted r = ap (λ (s : Stepped). s .job .limit) (change-taken job density e r)
+
+call-limit : (job : Job) (call : alone.Call) → steppedBy job call .job .limit ≡ job .limit
+call-limit job (alone.step scratch) = step-limit job (length scratch) (job .ended) refl (runCheck (job .limit) (length scratch)) refl
+call-limit job (alone.change density) = change-limit job density (job .ended) refl (densityCheck density) refl
+
+after-limit : (calls : List alone.Call) (job : Job) → alone.afterCalls job calls .limit ≡ job .limit
+after-limit [] job = refl
+after-limit (call ∷ calls) job = after-limit calls (steppedBy job call .job) ∙ call-limit job call
+
+-- a step over scratch that is long enough: more remain, or the job has ended with its answer
+module _ (job : Job) (n : ℕ) (runs : job .ended ≡ false) (check : runCheck (job .limit) n ≡ Accepted) where
+  abbrev Went· : Onward
+  Went· = onwardOf (runOfJob job) (job .next) (totalOf job)
+
+  abbrev Worked· : Stepped
+  Worked· = stepOf job n
+
+  goes-on : (b : Bool) → (isAccepted (Went· .total .ending) && ltb 0 (Went· .left)) ≡ b → Worked· .job .ended ≡ false → Worked· .answer ≡ record { reply = More; figures = noFigures }
+  goes-on true b e = ap (λ (s : Stepped). s .answer) (step-works job n runs check ∙ after-more job Went· b)
+  goes-on false b e = not-both (ap (λ (s : Stepped). s .job .ended) (step-works job n runs check ∙ after-last job Went· b)) e
+
+  ends : (b : Bool) → (isAccepted (Went· .total .ending) && ltb 0 (Went· .left)) ≡ b → Worked· .job .ended ≡ true → Worked· .answer ≡ record { reply = Answered; figures = Worked· .job .outcome }
+  ends true b e = not-both e (ap (λ (s : Stepped). s .job .ended) (step-works job n runs check ∙ after-more job Went· b))
+  ends false b e =
+      let k = step-works job n runs check ∙ after-last job Went· b in
+      ap (λ (s : Stepped). s .answer) k ∙ ap (λ (s : Stepped). record { reply = Answered; figures = s .job .outcome }) (sym k)
+
+-- a step behind the calls keeps the density accepted last
+density-behind : (calls : List alone.Call) (job : Job) (density : Density) (scratch : List Float) → densityOver job density (calls ++ alone.step scratch ∷ []) ≡ densityOver job density calls
+density-behind [] job density scratch = refl
+density-behind (call ∷ calls) job density scratch = density-behind calls (steppedBy job call .job) (densityBy job density call) scratch
+
+-- what making tells of a job
+module _ (set : FinSet) (points : List Float) (L : ℕ) where
+  made-limit : madeOf set points L .job .limit ≡ L
+  unfolding madeOf
+  made-limit = refl
+
+  runs-accepted : (v : Verdict) → makingCheck set points L ≡ v → madeOf set points L .job .ended ≡ false → makingCheck set points L ≡ Accepted
+  unfolding madeOf isRefused
+  runs-accepted Accepted v e = v
+  runs-accepted (Refused r) v e = not-both (ap isRefused v) e
+
+  enough : (n : ℕ) → makingCheck set points L ≡ Accepted → 1024 ≤ n → runCheck L n ≡ Accepted
+  unfolding makingCheck scratchCheck firstRefusal
+  enough n v h =
+      let limit = both _ _ v .0 in
+      let within = limit-within L limit in
+      ap (λ (x : Verdict). firstRefusal x (scratchCheck L n)) limit ∙ ap (λ (b : Bool). refuseUnless b Scratch) (le-leb (16 * L) n (omega (arith, within .1, h)))
+
+-- ---- the screen that a call serves
+-- it holds a job
+served-held : (engine : Engine) (screen : ℕ) (scratch : List Float) → screen ≡ screenOf engine (turn scratch) → isScreen screen ≡ true → holdsJob (engine .screens) screen ≡ true
+served-held engine screen scratch e s = by (ltb (length scratch) 1024) e
+  where
+    by : (c : Bool) → screen ≡ cond c 0 (nextScreen (engine .screens)) → holdsJob (engine .screens) screen ≡ true
+    by true z = absurd (not-suc-le-zero (subst (λ (k : ℕ). 1 ≤ k) z (in-eight screen s .0)))
+    by false z = ap (holdsJob (engine .screens)) z ∙ next-holds (engine .screens) (subst (λ (k : ℕ). 1 ≤ k) z (in-eight screen s .0))
+
+module _ (engine : Engine) (w : EightScreens engine) (screen : ℕ) (holds : holdsJob (engine .screens) screen ≡ true) where
+  abbrev Job· : Job
+  Job· = jobOf engine screen
+
+  module _ (scratch : List Float) (e : screen ≡ screenOf engine (turn scratch)) where
+    abbrev Step· : Stepped
+    Step· = stepOf Job· (length scratch)
+
+    turn-is : turnOf engine (length scratch) ≡ turnedAt engine (placeOf screen) (stepped (engine .screens) screen Step·)
+    turn-is = served engine w screen holds scratch (ltb (length scratch) 1024) refl e
+
+    -- its job's end frees it
+    turn-holds : holdsJob (turnOf engine (length scratch) .engine .screens) screen ≡ not (Step· .job .ended)
+    turn-holds =
+        ap (λ (t : Turned). holdsJob (t .engine .screens) screen) turn-is
+        ∙ mark-own (engine .screens) screen (holds-is-screen (engine .screens) screen holds) (not (Step· .job .ended)) screen (w .screens)
+
+    turn-job : jobOf (turnOf engine (length scratch) .engine) screen ≡ Step· .job
+    turn-job = ap (λ (t : Turned). jobOf (t .engine) screen) turn-is ∙ job-set engine w screen holds (Step· .job)
+
+    long : (c : Bool) → ltb (length scratch) 1024 ≡ c → screen ≡ cond c 0 (nextScreen (engine .screens)) → 1024 ≤ length scratch
+    long true c z = absurd (not-suc-le-zero (subst (λ (k : ℕ). 1 ≤ k) z (in-eight screen (holds-is-screen (engine .screens) screen holds) .0)))
+    long false c z = ltb-false _ _ c
+
+  -- ---- a job that runs is on its screen, and one that has ended is not
+  module _ (runs : Job· .ended ≡ false) where
+    turn-runs : (scratch : List Float) (c : Bool) → eqb screen (screenOf engine (turn scratch)) ≡ c → holdsJob (turnOf engine (length scratch) .engine .screens) screen ≡ true
+        → jobOf (turnOf engine (length scratch) .engine) screen .ended ≡ false
+    turn-runs scratch true c h =
+        let e = eqb-true _ _ c in
+        ap (λ (j : Job). j .ended) (turn-job scratch e) ∙ not-true _ (sym (turn-holds scratch e) ∙ h)
+    turn-runs scratch false c h =
+        ap (λ (j : Job). j .ended) (others-stay engine (turn scratch) screen (holds-is-screen (engine .screens) screen holds) (eqb-false _ _ c) .1) ∙ runs
+
+    other-runs : (call : Call) → ownBy screen engine call ≡ [] → jobOf (engineBy engine call) screen .ended ≡ false
+    other-runs call none = ap (λ (j : Job). j .ended) (own-call engine w screen holds call .job ∙ ap (alone.afterCalls Job·) none) ∙ runs
+
+    change-still : (other : ℕ) (density : Density) (c : Bool) → eqb screen other ≡ c → jobOf (changeAt engine other density .engine) screen .ended ≡ false
+    change-still other density true c =
+        ap (λ (j : Job). j .ended)
+        (own-call engine w screen holds (change other density) .job ∙ ap (λ (b : Bool). alone.afterCalls Job· (cond b (alone.change density ∷ []) [])) c)
+        ∙ change-runs Job· density runs
+    change-still other density false c = other-runs (change other density) (ap (λ (b : Bool). cond b (alone.change density ∷ []) []) c)
+
+    still-runs : (call : Call) → holdsJob (engineBy engine call .screens) screen ≡ true → jobOf (engineBy engine call) screen .ended ≡ false
+    still-runs (turn scratch) h = turn-runs scratch (eqb screen (screenOf engine (turn scratch))) refl h
+    still-runs (submit other set points L) h = other-runs (submit other set points L) refl
+    still-runs (change other density) h = change-still other density (eqb screen other) refl
+
+  -- ---- a job that was submitted
+  module _ (set : FinSet) (points : List Float) (L : ℕ) (own : List alone.Call) (r : RunsBy set points L own Job·) where
+    abbrev Made· : Job
+    Made· = madeOf set points L .job
+
+    one-more : (call : Call) → holdsJob (engineBy engine call .screens) screen ≡ true → RunsBy set points L (own ++ ownBy screen engine call) (jobOf (engineBy engine call) screen)
+    one-more call h =
+        record {
+          accepted = r .accepted;
+          is =
+              own-call engine w screen holds call .job ∙ ap (λ (j : Job). alone.afterCalls j (ownBy screen engine call)) (r .is)
+              ∙ sym (after-both Made· own (ownBy screen engine call));
+          runs = still-runs (r .runs) call h;
+        }
+
+    module _ (scratch : List Float) (e : screen ≡ screenOf engine (turn scratch)) where
+      -- number 2 never comes up: L is at most 64
+      checked : runCheck (Job· .limit) (length scratch) ≡ Accepted
+      checked =
+          ap (λ (n : ℕ). runCheck n (length scratch)) (ap (λ (j : Job). j .limit) (r .is) ∙ after-limit own Made· ∙ made-limit set points L)
+          ∙ enough set points L (length scratch) (r .accepted) (long scratch e (ltb (length scratch) 1024) refl e)
+
+      abbrev Onward·· : Onward
+      Onward·· = onwardOf (runOfJob Job·) (Job· .next) (totalOf Job·)
+
+      abbrev More· : Bool
+      More· = isAccepted (Onward·· .total .ending) && ltb 0 (Onward·· .left)
+
+      stepped-is : Step· scratch e .job ≡ jobAfter set points L (own ++ alone.step scratch ∷ [])
+      stepped-is = ap (λ (j : Job). stepOf j (length scratch) .job) (r .is) ∙ sym (after-both Made· own (alone.step scratch ∷ []))
+
+      fresh : Step· scratch e .job .ended ≡ true → length points ≤ 128 → (n : ℕ) → scratchCheck L n ≡ Accepted → Step· scratch e .job .outcome ≡ setFigures (setAfter set points L own) points L n
+      fresh h few n enough =
+          ap (λ (j : Job). j .outcome) stepped-is
+          ∙ over-calls set points L (r .accepted) few (own ++ alone.step scratch ∷ []) .ends-as-fresh (ap (λ (j : Job). j .ended) (sym stepped-is) ∙ h) n enough
+          ∙ ap (λ (d : Density). setFigures (withDensity set d) points L n) (density-behind own Made· (set .density) scratch)
+
+      pub serves : Serves screen set points L own (turnOf engine (length scratch))
+      serves =
+          let t = turn-is scratch e in
+          let holds-is = turn-holds scratch e in
+          record {
+            served = ap (λ (x : Turned). x .told .screen) t;
+            goes-on = λ h. ap (λ (x : Turned). x .told .answer) t ∙ goes-on Job· (length scratch) (r .runs) checked More· refl (not-true _ (sym holds-is ∙ h));
+            ends-as-fresh = λ h few n long.
+                ap (λ (x : Turned). x .told .answer) t
+                ∙ ends Job· (length scratch) (r .runs) checked More· refl (not-false _ (sym holds-is ∙ h))
+                ∙ ap (λ (f : Figures). record { reply = Answered; figures = f }) (fresh (not-false _ (sym holds-is ∙ h)) few n long);
+          }
+
+-- ---- a submission that is taken
+module _ (engine : Engine) (w : EightScreens engine) (screen : ℕ) (set : FinSet) (points : List Float) (L : ℕ) where
+  abbrev Submit· : Called
+  Submit· = submitOf engine screen set points L
+
+  module _ (free : isFree (engine .screens) screen ≡ true) (runs : madeOf set points L .job .ended ≡ false) where
+    is-screen : isScreen screen ≡ true
+    is-screen = free-is-screen (engine .screens) screen free
+
+    taken-job : jobOf (Submit· .engine) screen ≡ madeOf set points L .job
+    taken-job =
+        ap (λ (c : Called). jobOf (c .engine) screen) (submit-takes engine screen set points L free runs)
+        ∙ getD-set-same (engine .jobs) (placeOf screen) (madeOf set points L .job) _ (let p = place-in-eight screen is-screen in omega (arith, p, w .jobs))
+
+    made-runs : RunsBy set points L [] (jobOf (Submit· .engine) screen)
+    made-runs = record { accepted = runs-accepted set points L (makingCheck set points L) refl runs; is = taken-job; runs = ap (λ (j : Job). j .ended) taken-job ∙ runs }
+
+  taken-by : (f e : Bool) → isFree (engine .screens) screen ≡ f → madeOf set points L .job .ended ≡ e → isTaken (Submit· .answer .reply) ≡ true → RunsBy set points L [] (jobOf (Submit· .engine) screen)
+  taken-by true false f m t = made-runs f m
+  taken-by false e f m t = not-both t (busy-not-taken engine screen set points L f)
+  taken-by true true f m t = not-both t (refused-not-taken engine screen set points L f m)
+
+  taken : isTaken (Submit· .answer .reply) ≡ true → RunsBy set points L [] (jobOf (Submit· .engine) screen)
+  taken t = taken-by (isFree (engine .screens) screen) (madeOf set points L .job .ended) refl refl t
+
+-- eight screens stay eight
+eight-behind : (calls : List Call) (engine : Engine) → EightScreens engine → EightScreens (afterCalls engine calls)
+eight-behind [] engine w = w
+eight-behind (call ∷ calls) engine w = eight-behind calls (engineBy engine call) (still-eight engine call w)
+
+-- ---- since it was submitted, as long as the screen holds it
+module _ (screen : ℕ) (set : FinSet) (points : List Float) (L : ℕ) where
+  own-first : (call : Call) (calls : List Call) (engine : Engine) → holdsJob (engine .screens) screen ≡ true
+      → ownOver screen engine (call ∷ calls) ≡ ownBy screen engine call ++ ownOver screen (engineBy engine call) calls
+  unfolding ownOver
+  own-first call calls engine h = yes _ _ h
+
+  own-none : (engine : Engine) → ownOver screen engine [] ≡ []
+  unfolding ownOver
+  own-none engine = refl
+
+  held-next : (call : Call) (calls : List Call) (engine : Engine) → holdsOver screen engine (call ∷ calls) ≡ true
+      → (holdsJob (engine .screens) screen ≡ true) × (holdsOver screen (engineBy engine call) calls ≡ true)
+  unfolding holdsOver
+  held-next call calls engine h = (and-left (holdsJob (engine .screens) screen) _ h, and-right (holdsJob (engine .screens) screen) _ h)
+
+  -- the screen holds it behind a call, since it does before the next, or at the end
+  still-held : (calls : List Call) (engine : Engine) → holdsOver screen engine calls ≡ true → holdsJob (afterCalls engine calls .screens) screen ≡ true → holdsJob (engine .screens) screen ≡ true
+  still-held [] engine over h = h
+  still-held (call ∷ calls) engine over h = held-next call calls engine over .0
+
+  since : (calls : List Call) (engine : Engine) → EightScreens engine → (own : List alone.Call) → RunsBy set points L own (jobOf engine screen)
+      → holdsOver screen engine calls ≡ true → holdsJob (afterCalls engine calls .screens) screen ≡ true
+      → RunsBy set points L (own ++ ownOver screen engine calls) (jobOf (afterCalls engine calls) screen)
+  since [] engine w own r over h = subst (λ (l : List alone.Call). RunsBy set points L l (jobOf engine screen)) (sym (ap (λ (l : List alone.Call). own ++ l) (own-none engine) ∙ append-nil own)) r
+  since (call ∷ calls) engine w own r over h =
+      let n = held-next call calls engine over in
+      let here = still-held calls (engineBy engine call) (n .1) h in
+      subst (λ (l : List alone.Call). RunsBy set points L l (jobOf (afterCalls engine (call ∷ calls)) screen))
+      (append-assoc own (ownBy screen engine call) (ownOver screen (engineBy engine call) calls) ∙ ap (λ (l : List alone.Call). own ++ l) (sym (own-first call calls engine (n .0))))
+      (since calls (engineBy engine call) (still-eight engine call w) (own ++ ownBy screen engine call) (one-more engine w screen (n .0) set points L own r call here) (n .1) h)
+
+-- a submission that was taken
+pub on-screen : (engine : Engine) → EightScreens engine → (screen : ℕ) (set : FinSet) (points : List Float) (L : ℕ) (calls : List Call)
+    → isTaken (submitOf engine screen set points L .answer .reply) ≡ true → holdsOver screen (engineBy engine (submit screen set points L)) calls ≡ true
+    → holdsJob (engineNow engine screen set points L calls .screens) screen ≡ true → OnScreen engine screen set points L calls
+on-screen engine w screen set points L calls t over h =
+    let first = engineBy engine (submit screen set points L) in
+    let w1 = still-eight engine (submit screen set points L) w in
+    let r = since screen set points L calls first w1 [] (taken engine w screen set points L t) over h in
+    record { job = r; next-turn = λ scratch e. serves (afterCalls first calls) (eight-behind calls first w1) screen h set points L (sinceThen engine screen set points L calls) r scratch e }
+
+-- ---- every job that is held was submitted
+module _ (engine : Engine) (w : EightScreens engine) (screen : ℕ) (before : holdsJob (engine .screens) screen ≡ true → Submitted screen engine) where
+  held-before : (call : Call) → holdsJob (engine .screens) screen ≡ true → holdsJob (engineBy engine call .screens) screen ≡ true → Submitted screen (engineBy engine call)
+  held-before call b h =
+      let s = before b in
+      record { set = s .set; points = s .points; limit = s .limit; calls = s .calls ++ ownBy screen engine call; runs = one-more engine w screen b (s .set) (s .points) (s .limit) (s .calls) (s .runs) call h }
+
+  -- a screen that was free holds a job only behind a submission that was taken
+  submit-fills : (other : ℕ) (set : FinSet) (points : List Float) (L : ℕ) → screen ≡ other → (t : Bool) → isTaken (submitOf engine other set points L .answer .reply) ≡ t
+      → holdsJob (engine .screens) screen ≡ false → holdsJob (submitOf engine other set points L .engine .screens) screen ≡ true → Submitted screen (submitOf engine other set points L .engine)
+  submit-fills other set points L e true t b h =
+      subst (λ (s : ℕ). isTaken (submitOf engine s set points L .answer .reply) ≡ true → Submitted screen (submitOf engine s set points L .engine)) e
+      (λ u. record { set = set; points = points; limit = L; calls = []; runs = taken engine w screen set points L u }) t
+  submit-fills other set points L e false t b h =
+      not-both h (ap (λ (x : Engine). holdsJob (x .screens) screen) (changes-nothing .refused engine other set points L t) ∙ b)
+
+  fills-own : (call : Call) → screen ≡ screenOf engine call → holdsJob (engine .screens) screen ≡ false → holdsJob (engineBy engine call .screens) screen ≡ true → Submitted screen (engineBy engine call)
+  fills-own (turn scratch) e b h = not-both (served-held engine screen scratch e (holds-is-screen (turnOf engine (length scratch) .engine .screens) screen h)) b
+  fills-own (submit other set points L) e b h = submit-fills other set points L e (isTaken (submitOf engine other set points L .answer .reply)) refl b h
+  fills-own (change other density) e b h =
+      not-both h (ap (λ (x : Engine). holdsJob (x .screens) screen) (change-not-held engine other density (ap (holdsJob (engine .screens)) (sym e) ∙ b)) ∙ b)
+
+  fills : (call : Call) (c : Bool) → eqb screen (screenOf engine call) ≡ c → holdsJob (engine .screens) screen ≡ false → holdsJob (engineBy engine call .screens) screen ≡ true → Submitted screen (engineBy engine call)
+  fills call true c b h = fills-own call (eqb-true _ _ c) b h
+  fills call false c b h = not-both h (others-stay engine call screen (holds-is-screen (engineBy engine call .screens) screen h) (eqb-false _ _ c) .0 ∙ b)
+
+  behind : (call : Call) (b : Bool) → holdsJob (engine .screens) screen ≡ b → holdsJob (engineBy engine call .screens) screen ≡ true → Submitted screen (engineBy engine call)
+  behind call true b h = held-before call b h
+  behind call false b h = fills call (eqb screen (screenOf engine call)) refl b h
+
+pub all-submitted : (calls : List Call) (engine : Engine) → EightScreens engine → AllSubmitted engine → AllSubmitted (afterCalls engine calls)
+all-submitted [] engine w all = all
+all-submitted (call ∷ calls) engine w all =
+    all-submitted calls (engineBy engine call) (still-eight engine call w) (λ screen h. behind engine w screen (all screen) call (holdsJob (engine .screens) screen) refl h)
+
+pub none-held : (engine : Engine) → ((screen : ℕ) → holdsJob (engine .screens) screen ≡ false) → AllSubmitted engine
+none-held engine none screen h = not-both h (none screen)
