@@ -1,0 +1,3 @@
+pub mod Sized
+pub mod Copying
+pub mod Laws
