@@ -1,0 +1,217 @@
+-- What the call for an area gives for a trapezoid: one strip from 0 to the span, and where that is one piece, the area of proofs/OnePiece. Assumes
+-- nothing.
+use mathlib.Core.Path.{_≡_, refl, sym, ap, _∙_, subst}
+use mathlib.Core.Logic.{_⊎_, inl, inr}
+use mathlib.Core.Bool.{Bool, true, false, cond}
+use mathlib.Core.List.{List, [], _∷_, _++_, map}
+use Prim.Native.Nat.{ℕ, zero, suc, _+_, _-_, _≤_, _<_}
+use native.Mathlib.Nat.{le-refl, add-zero}
+use native.Mathlib.Omega.{arith}
+use lib.Dec.{T, lit≤}
+use lib.ListN.{length}
+use lib.Ieee.{Float, lt, eq, le, ofBits}
+use lib.Ieee.Bits.{is-true}
+use lib.Ieee.Positive.{positive, positive-finite}
+use Rattle.floats.specs.Operations.{_⊕_, _⊖_, _⊗_, _⊘_, bits, at}
+use Rattle.floats.proofs.Bools.{no}
+use Rattle.floats.proofs.Commuted.{times-commuted}
+use Rattle.rounding.proofs.Signs.{positive-plus}
+use Rattle.rounding.proofs.Zeros.{zero-plus-zero, times-zero}
+use Rattle.refusals.specs.declared.Refusal.{Refusal}
+use Rattle.refusals.specs.declared.Refusal.the-variants.{NoArea}
+use Rattle.refusals.specs.declared.Verdict.{Verdict}
+use Rattle.refusals.specs.declared.Verdict.the-variants.{Accepted, Refused}
+use Rattle.planforms.specs.declared.Planform.{Planform}
+use Rattle.planforms.specs.declared.Planform.the-variants.{Trapezoid}
+use Rattle.planforms.specs.Planforms.{rootChordOf, spanOf}
+use Rattle.breaks.specs.Breaks.{breakHeights, oneStrip}
+use Rattle.breaks.proofs.Listed.{two-heights}
+use Rattle.chords.specs.Chords.{inSpan, trapezoidAt, endsAt, paired}
+use Rattle.integrands.specs.Integrands.{scaleOf, sumsFrom, areaThree}
+use Rattle.integrands.specs.declared.Kind.the-variants.{Area as area}
+use Rattle.quadrature.specs.Rule.{halfSum, halfWidth, minusSide, plusSide, weightedTo, kronrodWeight, sumOf, pieceOf, heightsOf}
+use Rattle.quadrature.specs.declared.Piece.{Piece}
+use Rattle.tolerance.specs.Bounds.{totalOf}
+use Rattle.halving.specs.Halving.{Halved, repeat, halving, verdictOf}
+use Rattle.halving.proofs.Outcomes.{outcome, kept, one-more}
+use Rattle.strips.specs.Strips.{Worked, workedOf, stripOf, isAccepted, piecesOf, valueFrom, widenedStrip, byVerdict, summedOf, totalsOf, givenTotals, refusedTotals, concludedOf, intervalsIn}
+use Rattle.strips.specs.declared.Totals.{Totals}
+use Rattle.halving.specs.Scratch.{intervalsOf}
+use Rattle.widths.proofs.Strips.{intervals-same}
+use Rattle.widths.proofs.Totals.{totals-same}
+use Rattle.fins.specs.Fins.{areaCheck}
+use Rattle.plates.specs.Geometry.{geometryOf, unscaledArea, noGeometry}
+use Rattle.plates.specs.declared.PlanformGeometry.{PlanformGeometry}
+use Rattle.figures.specs.Areas.{areaStrips, areaSeven, workedArea, areaFigures, concludedArea, refusedArea, geometryArea, givenArea}
+use Rattle.figures.specs.declared.Area.{Area}
+use Rattle.figures.proofs.Reports.{no-refusal}
+use Rattle.accuracy.proofs.Trapezoids.{widthAt}
+
+-- ---- the chord at a height in the span
+chord-there : (b : Bool) (root tip sweep f scale h : Float) → b ≡ true
+    → at (sumsFrom area scale h (bits 0 ∷ bits 0 ∷ bits 0 ∷ bits 0 ∷ []) (paired (cond b (trapezoidAt root tip sweep f) []))) 0
+    ≡ bits 0 ⊕ ((sweep ⊗ f ⊕ root ⊕ (tip ⊖ root) ⊗ f) ⊘ scale ⊖ sweep ⊗ f ⊘ scale)
+unfolding paired sumsFrom
+chord-there true root tip sweep f scale h e = refl
+chord-there false root tip sweep f scale h e = no (sym e)
+
+module _ (root tip span sweep : Float) (points : List Float) where
+  abbrev Shape : Planform
+  Shape = Trapezoid root tip span sweep
+
+  abbrev Scale· : Float
+  Scale· = scaleOf Shape points
+
+  pub width-there : (h : Float) → T (inSpan span (h ⊗ Scale·)) → at (areaThree Shape points h) 0 ≡ widthAt root tip span sweep Scale· h
+  unfolding areaThree endsAt
+  width-there h t = chord-there (inSpan span (h ⊗ Scale·)) root tip sweep (h ⊗ Scale· ⊘ span) Scale· h (is-true _ t)
+
+  scale-is : Scale· ≡ root ⊕ span
+  unfolding scaleOf rootChordOf spanOf
+  scale-is = refl
+
+-- ---- a sum of the rule, of two integrands that are equal at its heights
+pub same-sum : (n : ℕ) (weight : ℕ → Float) (y z : Float → Float) (centre reach : Float) → y centre ≡ z centre → ((i : ℕ) → i < n → y (minusSide centre reach i) ≡ z (minusSide centre reach i))
+    → ((i : ℕ) → i < n → y (plusSide centre reach i) ≡ z (plusSide centre reach i)) → weightedTo n weight y centre reach ≡ weightedTo n weight z centre reach
+unfolding weightedTo
+same-sum zero weight y z centre reach c m p = rw c
+same-sum (suc n) weight y z centre reach c m p =
+    rw (same-sum n weight y z centre reach c (λ i l. m i (omega arith)) (λ i l. p i (omega arith)), m n (le-refl (suc n)), p n (le-refl (suc n)))
+
+-- ---- a halving that ends with one piece has the whole strip
+module _ (w : ℕ) (f : Float → List Float) (lower upper : Float) where
+  abbrev Uncut : List Piece → Type 0
+  Uncut pieces = (pieces ≡ pieceOf w f lower upper ∷ []) ⊎ (2 ≤ length pieces)
+
+  some : (pieces : List Piece) → Uncut pieces → 1 ≤ length pieces
+  some pieces (inl e) = rw e (le-refl 1)
+  some pieces (inr l) = omega arith
+
+  alone : (pieces : List Piece) → Uncut pieces → length pieces ≡ 1 → pieces ≡ pieceOf w f lower upper ∷ []
+  alone pieces (inl e) l = e
+  alone pieces (inr k) l = absurd (let z : ⊥ = omega arith in z)
+
+  pub only-piece : (limit : ℕ) → eq lower upper ≡ false → length (halving w f lower upper limit .pieces) ≡ 1 → halving w f lower upper limit .pieces ≡ pieceOf w f lower upper ∷ []
+  unfolding halving
+  only-piece limit e =
+      rw e
+      (alone (repeat w f (limit - 1) (pieceOf w f lower upper ∷ []) (heightsOf lower upper) .pieces)
+      (kept w f
+      (outcome w f (1 + (limit - 1)) (λ pieces heights. Uncut pieces) (λ pieces heights k l m. inr (omega (arith, one-more w f pieces, some pieces k))) (limit - 1) (pieceOf w f lower upper ∷ [])
+      (heightsOf lower upper) (inl refl) refl)))
+
+-- ---- an answer by a verdict that is no refusal is the one that is given
+chosen : {A : Type 0} (verdict : Verdict) (given : A) (withheld : Refusal → A) (verdictIn : A → Verdict) → ((refusal : Refusal) → verdictIn (withheld refusal) ≡ Refused refusal) → (r : A)
+    → r ≡ byVerdict verdict given withheld → verdictIn r ≡ Accepted → (verdict ≡ Accepted) × (r ≡ given)
+chosen Accepted given withheld verdictIn refuses r e a = (refl, e)
+chosen (Refused refusal) given withheld verdictIn refuses r e a = no-refusal refusal (sym (refuses refusal) ∙ ap verdictIn (sym e) ∙ a)
+
+-- what an answer that gives figures says
+pub record Given (planform : Planform) (points : List Float) (L n : ℕ) (r : Area) : Type 0 where
+  pub accepted : areaCheck planform points L n ≡ Accepted
+  pub area : r .«area_m2» ≡ unscaledArea (summedOf (areaSeven planform points L) .value) (scaleOf planform points)
+  pub centroid-x : r .«centroid_x_m» ≡ scaleOf planform points ⊗ at (summedOf (areaSeven planform points L) .value) 1 ⊘ at (summedOf (areaSeven planform points L) .value) 0
+  pub centroid-height : r .«centroid_span_m» ≡ scaleOf planform points ⊗ at (summedOf (areaSeven planform points L) .value) 2 ⊘ at (summedOf (areaSeven planform points L) .value) 0
+  pub intervals : r .intervals ≡ intervalsIn (areaSeven planform points L)
+  pub not-zero : le (unscaledArea (summedOf (areaSeven planform points L) .value) (scaleOf planform points)) (bits 0) ≡ false
+
+geometry-given : (total : List Float) (scale : Float) → geometryOf total scale .verdict ≡ Accepted
+    → (le (unscaledArea total scale) (bits 0) ≡ false) × (geometryOf total scale .«area_m2» ≡ unscaledArea total scale) × (geometryOf total scale .«centroid_x_m» ≡ scale ⊗ at total 1 ⊘ at total 0) × (geometryOf total scale .«centroid_span_m» ≡ scale ⊗ at total 2 ⊘ at total 0)
+unfolding geometryOf
+geometry-given total scale = go (le (unscaledArea total scale) (bits 0))
+  where
+    Cond : Bool → PlanformGeometry
+    Cond b =
+        cond b noGeometry
+        (record { verdict = Accepted; «area_m2» = unscaledArea total scale; «centroid_x_m» = scale ⊗ at total 1 ⊘ at total 0; «centroid_span_m» = scale ⊗ at total 2 ⊘ at total 0 })
+
+    go : (b : Bool) → Cond b .verdict ≡ Accepted
+        → (b ≡ false) × (Cond b .«area_m2» ≡ unscaledArea total scale) × (Cond b .«centroid_x_m» ≡ scale ⊗ at total 1 ⊘ at total 0) × (Cond b .«centroid_span_m» ≡ scale ⊗ at total 2 ⊘ at total 0)
+    go true e = no-refusal NoArea e
+    go false e = (refl, refl, refl, refl)
+
+module _ (planform : Planform) (points : List Float) (L n : ℕ) (r : Area) (answer : r ≡ areaFigures planform points L n) (given : r .verdict ≡ Accepted) where
+  abbrev verdictIn : Area → Verdict
+  verdictIn a = a .verdict
+
+  pub area-given : Given planform points L n r
+  unfolding areaFigures concludedArea concludedOf
+  area-given =
+      let strips = areaSeven planform points L in
+      let summed = summedOf strips in
+      let scale = scaleOf planform points in
+      let a = chosen (areaCheck planform points L n) (workedArea planform points L) (λ refusal. refusedArea refusal 0) verdictIn (λ refusal. refl) r answer given in
+      let total = totalsOf strips in
+      let geometry = geometryOf (total .value) scale in
+      let b = chosen (total .verdict) (geometryArea geometry (total .intervals) (total .samples)) (λ refusal. refusedArea refusal (total .samples)) verdictIn (λ refusal. refl) r (a .1) given in
+      let c = chosen (geometry .verdict) (givenArea geometry (total .intervals) (total .samples)) (λ refusal. refusedArea refusal (total .samples)) verdictIn (λ refusal. refl) r (b .1) given in
+      let d = chosen (verdictOf (summed .ending)) (givenTotals summed) (λ refusal. refusedTotals refusal (summed .samples)) (λ (t : Totals). t .verdict) (λ refusal. refl) total refl (b .0) in
+      let value : total .value ≡ summed .value = ap (λ (t : Totals). t .value) (d .1) in
+      let g = geometry-given (total .value) scale (c .0) in
+      let over : (k : ℕ) → scale ⊗ at (total .value) k ⊘ at (total .value) 0 ≡ scale ⊗ at (summed .value) k ⊘ at (summed .value) 0 =
+      λ k. ap (λ (v : List Float). scale ⊗ at v k ⊘ at v 0) value in
+      record {
+        accepted = a .0;
+        area = ap (λ (a : Area). a .«area_m2») (c .1) ∙ g .1 ∙ ap (λ (v : List Float). unscaledArea v scale) value;
+        centroid-x = ap (λ (a : Area). a .«centroid_x_m») (c .1) ∙ g .2 ∙ over 1;
+        centroid-height = ap (λ (a : Area). a .«centroid_span_m») (c .1) ∙ g .3 ∙ over 2;
+        intervals = ap (λ (a : Area). a .intervals) (c .1) ∙ ap (λ (t : Totals). t .intervals) (d .1);
+        not-zero = rw value at (g .0);
+      }
+
+-- ---- of a trapezoid there is one strip, from 0 to the span
+module _ (root tip span sweep : Float) (points : List Float) (L : ℕ) (above : lt (bits 0) span ≡ true) where
+  abbrev pub Strip : Worked
+  Strip = stripOf 3 (areaThree (Trapezoid root tip span sweep) points) L (bits 0 ⊘ scaleOf (Trapezoid root tip span sweep) points) (span ⊘ scaleOf (Trapezoid root tip span sweep) points)
+
+  one-strip : (w : ℕ) (f : Float → List Float) (limit : ℕ) (scale h k : Float) → workedOf w f limit scale (h ∷ k ∷ []) ≡ stripOf w f limit (h ⊘ scale) (k ⊘ scale) ∷ []
+  unfolding workedOf
+  one-strip w f limit scale h k = go (isAccepted (halving w f (h ⊘ scale) (k ⊘ scale) limit .ending))
+    where
+      go : (b : Bool) → stripOf w f limit (h ⊘ scale) (k ⊘ scale) ∷ cond b [] [] ≡ stripOf w f limit (h ⊘ scale) (k ⊘ scale) ∷ []
+      go true = refl
+      go false = refl
+
+  heights-are : breakHeights (Trapezoid root tip span sweep) points ≡ bits 0 ∷ span ∷ []
+  unfolding oneStrip spanOf
+  heights-are = two-heights (Trapezoid root tip span sweep) points above
+
+  strips-are : areaStrips (Trapezoid root tip span sweep) points L ≡ Strip ∷ []
+  strips-are = rw heights-are (one-strip 3 (areaThree (Trapezoid root tip span sweep) points) L (scaleOf (Trapezoid root tip span sweep) points) (bits 0) span)
+
+  pub total-is : (k : ℕ) → k < 3 → valueFrom (bits 0) k (areaSeven (Trapezoid root tip span sweep) points L) ≡ bits 0 ⊕ totalOf (piecesOf Strip) k
+  total-is k l =
+      totals-same 3 7 (lit≤ tt) (areaThree (Trapezoid root tip span sweep) points) L (scaleOf (Trapezoid root tip span sweep) points) (breakHeights (Trapezoid root tip span sweep) points) k l
+      ∙ ap (valueFrom (bits 0) k) strips-are
+
+  pub intervals-are : intervalsIn (areaSeven (Trapezoid root tip span sweep) points L) ≡ intervalsOf (Strip .lower) (Strip .upper) (Strip .halved)
+  intervals-are = intervals-same 4 (areaStrips (Trapezoid root tip span sweep) points L) ∙ ap intervalsIn strips-are ∙ add-zero _
+
+  empty : (a b : Float) → eq a b ≡ true → halving 3 (areaThree (Trapezoid root tip span sweep) points) a b L .pieces ≡ []
+  unfolding halving
+  empty a b e = rw e
+
+  none : eq (Strip .lower) (Strip .upper) ≡ true → valueFrom (bits 0) 0 (areaSeven (Trapezoid root tip span sweep) points L) ≡ bits 0
+  unfolding totalOf
+  none e = total-is 0 (lit≤ tt) ∙ ap (λ (l : List Piece). bits 0 ⊕ totalOf l 0) (empty (Strip .lower) (Strip .upper) e) ∙ zero-plus-zero
+
+  level : le (bits 0) (bits 0) ≡ true
+  unfolding le ofBits
+  level = refl
+
+  -- its ends are not equal, as it would have no area
+  pub ends-apart : (n : ℕ) (r : Area) → Given (Trapezoid root tip span sweep) points L n r → T (positive (scaleOf (Trapezoid root tip span sweep) points)) → eq (Strip .lower) (Strip .upper) ≡ false
+  ends-apart n r g p = go (eq (Strip .lower) (Strip .upper)) refl
+    where
+      S : Float
+      S = scaleOf (Trapezoid root tip span sweep) points
+
+      nothing : bits 0 ⊗ S ≡ bits 0
+      nothing = times-commuted (bits 0) S ∙ times-zero S (positive-finite S p) (positive-plus S p)
+
+      area : eq (Strip .lower) (Strip .upper) ≡ true → le (valueFrom (bits 0) 0 (areaSeven (Trapezoid root tip span sweep) points L) ⊗ S ⊗ S) (bits 0) ≡ true
+      area e = rw (none e, nothing, nothing) level
+
+      go : (b : Bool) → eq (Strip .lower) (Strip .upper) ≡ b → b ≡ false
+      go false e = refl
+      go true e = sym (area e) ∙ g .not-zero

@@ -1,0 +1,68 @@
+-- How the exact width changes with the height, and how large it is. Assumes nothing.
+use mathlib.Core.Path.{_≡_, refl, sym, ap, _∙_, subst}
+use mathlib.Core.Bool.{true, false}
+use Prim.Native.Nat.{ℕ, zero, suc, _+_, _*_, _^_, _≤_, _<_}
+use native.Mathlib.Nat.{le-refl, mul-pos, mul-add, add-mul, mul-comm, mul-assoc, mul-left-comm, one-mul, mul-one, zero-mul, mul-zero, zero-add, add-zero}
+use native.Mathlib.Omega.{arith}
+use lib.Dec.{T}
+use lib.Pow.{pow-pos}
+use lib.Ieee.{Float, nan, inf, fin, up, down}
+use lib.Ieee.Positive.{num, den, den-pos, positive}
+use Rattle.rounding_error.proofs.Numbers.{Number, number, Size, _per_, _plus_, minus, _less_, _times_, _over_, _and_, _by_, _for_, _of_, _roundoffs_, IsNumber, IsSize, Within, Same, Under, valueOf, Near, InRange, sizeOf}
+use Rattle.accuracy.proofs.Trapezoids.{exactFraction, exactWidth, Bounded}
+use Rattle.rounding_error.proofs.Distances.{sorted, within-refl, within-plus, within-times, within-upto, times-comm}
+use Rattle.rounding.proofs.Monotone.{positive-num}
+use Rattle.rounding_error.proofs.Counts
+use Rattle.accuracy.proofs.Width.{one, under-one, fraction-under}
+
+ruleset plain = (sorted, one-mul, mul-one, zero-mul, mul-zero, zero-add, add-zero)
+
+pub own-size : (y : Float) → T (positive y) → Under (1 of sizeOf y) (valueOf y)
+own-size nan p = absurd p
+own-size (inf s) p = absurd p
+own-size (fin true m e) p = absurd p
+own-size (fin false m e) p = record { below = go (m * up e) (down e); above = go' (m * up e) (down e) }
+  where
+    go : (N D : ℕ) → (N * 1 + 0 * D) * D ≤ (0 * D + 0 * 1) * D + 1 * N * (D * 1)
+    go N D = simp plain (omega arith)
+
+    go' : (N D : ℕ) → (0 * D + 0 * 1) * D ≤ (N * 1 + 0 * D) * D + 1 * N * (1 * D)
+    go' N D = simp plain (omega arith)
+
+slope : (k b d Ns Ds Np Dp P : ℕ)
+    → (0 * (d * (Np * (Ds * (Ns * Dp * P)))) + 2 * b * (1 * Ns * (k * (Np * Ds)) * Dp) * 1) * Ds * (Ns * d * P) ≤ 2 * k * (b * Ds) * (Ns * (1 * (d * (Np * (Ds * (Ns * Dp * P))))))
+slope k b d Ns Ds Np Dp P = simp plain (omega arith)
+
+pub width-moves : (root tip span scale : Float) (B : Size) (x y : Number) (k : ℕ) → IsSize B → T (positive span) → T (positive scale) → Under (2 of B) (valueOf tip less valueOf root)
+    → Within (k roundoffs (sizeOf span for scale)) x y → Within ((2 * k) roundoffs (B for scale)) (exactWidth root tip span scale x) (exactWidth root tip span scale y)
+width-moves root tip span scale (b per d) x y k C p q g h =
+    let R = valueOf root in
+    let G = valueOf tip less R in
+    let s = valueOf scale in
+    let e0 = k roundoffs (sizeOf span for scale) in
+    let e1 = (1 of sizeOf scale) by e0 in
+    let h1 : Within e1 (s times x) (s times y) = within-times (1 of sizeOf scale) e0 s x y (own-size scale q) h in
+    let h1' : Within e1 (x times s) (y times s) = subst (λ (z : Number). Within e1 z (y times s)) (times-comm s x) (subst (λ (z : Number). Within e1 (s times x) z) (times-comm s y) h1) in
+    let e2 = e1 for span in
+    let h2 : Within e2 (x times s over span) (y times s over span) = Counts.within-over e1 (x times s) (y times s) span h1' in
+    let e3 = (2 of (b per d)) by e2 in
+    let h3 : Within e3 (G times (x times s over span)) (G times (y times s over span)) = within-times (2 of (b per d)) e2 G (x times s over span) (y times s over span) g h2 in
+    let e4 = (0 per 1) and e3 in
+    let h4 : Within e4 (R plus G times (x times s over span)) (R plus G times (y times s over span)) =
+    within-plus (0 per 1) e3 R R (G times (x times s over span)) (G times (y times s over span)) (within-refl R) h3 in
+    within-upto (e4 for scale) ((2 * k) roundoffs ((b per d) for scale)) (exactWidth root tip span scale x) (exactWidth root tip span scale y)
+    (mul-pos (positive-num scale q) (mul-pos (pow-pos 0) (mul-pos C (mul-pos (positive-num span p) (mul-pos (den-pos scale) (mul-pos (mul-pos (positive-num scale q) (den-pos span)) (pow-pos 53)))))))
+    (slope k b d (num scale) (den scale) (num span) (den span) (2 ^ 53))
+    (Counts.within-over e4 (R plus G times (x times s over span)) (R plus G times (y times s over span)) scale h4)
+
+pub width-size : (root tip span sweep scale : Float) (B : Size) (x : Number) → Bounded root tip span sweep scale B → IsNumber x → Under (1 of sizeOf span) (x times valueOf scale)
+    → Under (3 of (B for scale)) (exactWidth root tip span scale x)
+width-size root tip span sweep scale B x b i u =
+    let R = valueOf root in
+    let G = valueOf tip less R in
+    let C = b .in-range .real in
+    let φ = x times valueOf scale over span in
+    let iG : IsNumber G = Counts.less-is (valueOf tip) R (Counts.value-is tip) (Counts.value-is root) in
+    let uG : Under (2 of B) G = Counts.under-less 1 1 B (valueOf tip) R C (b .tip-under) (b .root-under) in
+    Counts.under-over 3 B (R plus G times φ) scale C (b .scale-positive)
+    (Counts.under-plus 1 2 B R (G times φ) C (b .root-under) (under-one 2 1 B G φ C iG uG (fraction-under span (x times valueOf scale) (b .span-positive) u)))
