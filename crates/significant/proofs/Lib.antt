@@ -2,3 +2,4 @@ pub mod Values
 pub mod Rounding
 pub mod Exact
 pub mod Laws
+pub mod Counted

@@ -44,9 +44,9 @@ magnitudeText n scale power x = written power (countText (digitsOf n (decimalUni
 abbrev pub signText : Float → List ℕ
 signText x = cond (lt x (bits 0)) (text "-") []
 
+abbrev pub signedText : ℕ → ℕ → Bool → Float → List ℕ
+signedText n scale power x = signText x ++ cond (isFinite x) (magnitudeText n scale power x) (text "infinite")
+
 -- x times 10 ^ scale to n significant digits
 abbrev pub decimalText : ℕ → ℕ → Bool → Float → List ℕ
-decimalText n scale power x =
-    cond (ne x x) (text "no number")
-    (cond (eq x (bits 0)) (text "0")
-    (signText x ++ cond (isFinite x) (magnitudeText n scale power x) (text "infinite")))
+decimalText n scale power x = cond (ne x x) (text "no number") (cond (eq x (bits 0)) (text "0") (signedText n scale power x))

@@ -1,7 +1,7 @@
 -- An f64 to n significant digits, correctly rounded, of two as near the one whose last digit is even: over whole numbers of a unit, 10 ^ -1074.
 -- The smallest positive f64, 2 ^ -1074, is 5 ^ 1074 units, so that every finite f64 is a whole number of them.
 use mathlib.Core.Bool.{cond}
-use Prim.Native.Nat.{ℕ, zero, suc, _+_, _-_, _*_, _/_, _%_, _^_}
+use Prim.Native.Nat.{ℕ, zero, suc, _+_, _-_, _*_, _/_, _%_, _^_, _≤_, _<_}
 use lib.Dec.{eqb, leb, ltb}
 use lib.Ieee.{Float}
 use Rattle.floats.specs.Units.{unitsOf}
@@ -36,3 +36,7 @@ digitsOf n u = cond (eqb (firstDigits n u) (10 ^ n)) (10 ^ (n - 1)) (firstDigits
 
 unfoldable pub placeOf : ℕ → ℕ → ℕ
 placeOf n u = cond (eqb (firstDigits n u) (10 ^ n)) (suc (firstPlace n u)) (firstPlace n u)
+
+-- a whole number is written with exactly n digits, the first of which is not 0
+abbrev pub HasDigits : ℕ → ℕ → Type 0
+HasDigits n d = (10 ^ (n - 1) ≤ d) × (d < 10 ^ n)

@@ -13,8 +13,7 @@ ghost use Rattle.floats.specs.Floats.{isFinite};
 ghost use Rattle.floats.specs.Operations.{bits};
 ghost use Rattle.significant.specs.Significant.{decimalUnitsOf, digitsOf, placeOf};
 ghost use Rattle.texts.specs.Appended.{Appended};
-ghost use Rattle.tokens.specs.Text.{text};
-ghost use Rattle.significant.specs.Printed.{pointed, fraction, exponentText, scientific, placed, written, magnitudeText, signText, decimalText};
+ghost use Rattle.significant.specs.Printed.{pointed, fraction, exponentText, scientific, placed, written, magnitudeText, signText, signedText, decimalText};
 ghost use Rattle.significant.specs.Digits.{value, Digits, timesPlus, Top, Scales, nearestDigit, Enough, RoundsTo};
 
 // 2^52: the leading one of 53 binary digits, and the weight of a bit pattern's exponent field.
@@ -326,7 +325,7 @@ fn put_sign(out: &mut [u8], at: usize, x: f64) -> usize
 // x, which is no NaN and not zero.
 fn put_signed(out: &mut [u8], at: usize, x: f64, n: usize, scale: usize, power: bool) -> usize
     requires { ⌜ (1 ≤ n) × (n ≤ 16) × (scale ≤ 16) × (at + 44 ≤ length (now out)) ⌝ }
-    ensures { λ r. ⌜ Appended (now (out .entry)) at (signText x ++ cond (isFinite x) (magnitudeText n scale power x) (text "infinite")) (now (out .exit)) r ⌝ }
+    ensures { λ r. ⌜ Appended (now (out .entry)) at (signedText n scale power x) (now (out .exit)) r ⌝ }
 {
     let start = put_sign(out, at, x);
     if floats::is_finite(x) {
