@@ -1,0 +1,6 @@
+pub mod Eight
+pub mod Parts
+pub mod Screens
+pub mod Engines
+pub mod Calls
+pub mod Zeros

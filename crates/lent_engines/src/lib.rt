@@ -1,0 +1,183 @@
+// The engine in lent memory: 1272 numbers and 145 counts, for the library and for the card program's lines (document 02, Paper 10).
+//
+// A call reads the screens and the job at its place, works on them by value as `engines` does, and writes the two back; the other seven jobs
+// stay where they lie. Any lists hold some engine; lists of zeros hold one with no job.
+ghost use mathlib.Core.Path.{_≡_};
+ghost use Prim.Native.Nat.{_≤_, _<_};
+ghost use lib.ListN.{length};
+ghost use Rattle.lent_engines.specs.Memory.{screenCounts, screensIn, noScreens, engineIn};
+ghost use Rattle.lent_engines.specs.Lent.{Room, WritesScreens, Holds, Turns, Submits, Changes};
+ghost use Rattle.lent_jobs.specs.Memory.{flag};
+ghost use Rattle.engines.specs.Engines.{jobAt, withJob};
+use engines::Screens;
+use engines::Told;
+use fins::FinSet;
+use jobs::Answer;
+use jobs::Job;
+use lent_jobs::JOB_COUNTS;
+use lent_jobs::JOB_NUMBERS;
+use materials::Density;
+
+// How many numbers and counts an engine has.
+pub const ENGINE_NUMBERS: usize = 8 * JOB_NUMBERS;
+
+pub const ENGINE_COUNTS: usize = SCREENS + 8 * JOB_COUNTS;
+
+// The counts before those of the jobs.
+const SCREENS: usize = 9;
+
+fn read_screens(counts: &[usize]) -> Screens
+    requires { ⌜ 9 ≤ length (now counts) ⌝ }
+    ensures { λ r. ⌜ r ≡ screensIn (now (counts .entry)) ⌝ }
+{
+    let held = [
+        counts[0] != 0,
+        counts[1] != 0,
+        counts[2] != 0,
+        counts[3] != 0,
+        counts[4] != 0,
+        counts[5] != 0,
+        counts[6] != 0,
+        counts[7] != 0,
+    ];
+    Screens {
+        held,
+        last: counts[8],
+    }
+}
+
+fn flag_of(holds: bool) -> usize
+    ensures { λ r. ⌜ r ≡ flag holds ⌝ }
+{
+    if holds { 1 } else { 0 }
+}
+
+fn counts_of(screens: Screens) -> [usize; SCREENS]
+    ensures { λ r. ⌜ r ≡ screenCounts screens ⌝ }
+{
+    let held = screens.held;
+    [
+        flag_of(held[0]),
+        flag_of(held[1]),
+        flag_of(held[2]),
+        flag_of(held[3]),
+        flag_of(held[4]),
+        flag_of(held[5]),
+        flag_of(held[6]),
+        flag_of(held[7]),
+        screens.last,
+    ]
+}
+
+// Writes the screens over the start of the counts.
+fn write_screens(counts: &mut [usize], screens: Screens)
+    requires { ⌜ 9 ≤ length (now counts) ⌝ }
+    ensures { λ _. ⌜ WritesScreens screens (now (counts .entry)) (now (counts .exit)) ⌝ }
+{
+    let written = counts_of(screens);
+    counts[0] = written[0];
+    counts[1] = written[1];
+    counts[2] = written[2];
+    counts[3] = written[3];
+    counts[4] = written[4];
+    counts[5] = written[5];
+    counts[6] = written[6];
+    counts[7] = written[7];
+    counts[8] = written[8];
+}
+
+// An engine with no job, none served, whatever the lists held before.
+pub fn clear(counts: &mut [usize])
+    requires { ⌜ 9 ≤ length (now counts) ⌝ }
+    ensures { λ _. ⌜ WritesScreens noScreens (now (counts .entry)) (now (counts .exit)) ⌝ }
+{
+    let held = [false; 8];
+    let screens = Screens { held, last: 0 };
+    write_screens(counts, screens);
+}
+
+// The job at a place.
+fn read_at(numbers: &[f64], counts: &[usize], place: usize) -> Job
+    requires { ⌜ Room (now numbers) (now counts) × (place < 8) ⌝ }
+    ensures { λ r. ⌜ r ≡ jobAt (engineIn (now (numbers .entry)) (now (counts .entry))) place ⌝ }
+{
+    let a = place * JOB_NUMBERS;
+    let b = a + JOB_NUMBERS;
+    let i = SCREENS + place * JOB_COUNTS;
+    let j = i + JOB_COUNTS;
+    lent_jobs::read_job(&numbers[a..b], &counts[i..j])
+}
+
+// Writes the screens and the job at a place.
+fn write_at(numbers: &mut [f64], counts: &mut [usize], place: usize, screens: Screens, job: Job)
+    requires { ⌜ Room (now numbers) (now counts) × (place < 8) ⌝ }
+    ensures { λ _. ⌜ Holds (withJob (engineIn (now (numbers .entry)) (now (counts .entry))) place screens job)
+        (now (numbers .entry)) (now (counts .entry)) (now (numbers .exit)) (now (counts .exit)) ⌝ }
+{
+    let a = place * JOB_NUMBERS;
+    let b = a + JOB_NUMBERS;
+    let i = SCREENS + place * JOB_COUNTS;
+    let j = i + JOB_COUNTS;
+    write_screens(counts, screens);
+    lent_jobs::write_job(&mut numbers[a..b], &mut counts[i..j], job);
+}
+
+// One turn of the engine there.
+pub fn turn(numbers: &mut [f64], counts: &mut [usize], scratch: &mut [f64]) -> Told
+    requires { ⌜ Room (now numbers) (now counts) ⌝ }
+    ensures { λ r. ⌜ Turns (now (numbers .entry)) (now (counts .entry)) (now (scratch .entry)) r
+        (now (numbers .exit)) (now (counts .exit)) (now (scratch .exit)) ⌝ }
+{
+    let screens = read_screens(counts);
+    let place = engines::pick(screens);
+    let job = read_at(numbers, counts, place);
+    let s = engines::serve(screens, job, scratch);
+    let screens = s.screens;
+    let job = s.job;
+    write_at(numbers, counts, place, screens, job);
+    s.told
+}
+
+// A submission of a set to a screen of the engine there.
+pub fn submit(
+    numbers: &mut [f64],
+    counts: &mut [usize],
+    screen: usize,
+    set: FinSet,
+    points: &[f64],
+    limit: usize,
+) -> Answer
+    requires { ⌜ Room (now numbers) (now counts) ⌝ }
+    ensures { λ r. ⌜ Submits screen set (now (points .entry)) limit (now (numbers .entry)) (now (counts .entry)) r
+        (now (numbers .exit)) (now (counts .exit)) ⌝ }
+{
+    let screens = read_screens(counts);
+    let place = engines::place_of(screen);
+    let job = read_at(numbers, counts, place);
+    let made = jobs::make(set, points, limit);
+    let s = engines::submit_at(screens, job, screen, made);
+    let screens = s.screens;
+    let job = s.job;
+    write_at(numbers, counts, place, screens, job);
+    s.answer
+}
+
+// A change of the density of a screen's job.
+pub fn change_density(
+    numbers: &mut [f64],
+    counts: &mut [usize],
+    screen: usize,
+    density: Density,
+) -> Answer
+    requires { ⌜ Room (now numbers) (now counts) ⌝ }
+    ensures { λ r. ⌜ Changes screen density (now (numbers .entry)) (now (counts .entry)) r (now (numbers .exit)) (now (counts .exit)) ⌝ }
+{
+    let screens = read_screens(counts);
+    let place = engines::place_of(screen);
+    let job = read_at(numbers, counts, place);
+    let s = engines::change_at(screens, job, screen, density);
+    let screens = s.screens;
+    let job = s.job;
+    write_at(numbers, counts, place, screens, job);
+    s.answer
+}
