@@ -86,7 +86,8 @@ fn sum(a: i64, b: i64) -> i64
 
 // A trapezoid's corners in steps.
 fn trapezoid_corners(root_chord_m: f64, tip_chord_m: f64, span_m: f64, sweep_m: f64) -> [i64; 8]
-    requires { ⌜ AreLengths («root_chord_m» ∷ «tip_chord_m» ∷ «span_m» ∷ «sweep_m» ∷ []) × (isWhole (exactOf «sweep_m») ≡ true) × (isWhole (exactOf «tip_chord_m») ≡ true) ⌝ }
+    requires { ⌜ AreLengths («root_chord_m» ∷ «tip_chord_m» ∷ «span_m» ∷ «sweep_m» ∷ [])
+        × (isWhole (exactOf «sweep_m») ≡ true) × (isWhole (exactOf «tip_chord_m») ≡ true) ⌝ }
     ensures { λ r. ⌜ r ≡ map stepsOf (cornersOf (Trapezoid «root_chord_m» «tip_chord_m» «span_m» «sweep_m») []) ⌝ }
 {
     let root = steps(root_chord_m);

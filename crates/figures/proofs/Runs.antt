@@ -10,7 +10,7 @@ use Rattle.refusals.specs.Order.{firstRefusal}
 use Rattle.planforms.specs.declared.Planform.{Planform}
 use Rattle.breaks.specs.Breaks.{breakHeights}
 use Rattle.integrands.specs.declared.Integrand.{Integrand}
-use Rattle.integrands.specs.Integrands.{scaleOf, areaIntegrand, plateIntegrand, areaOf, plateOf}
+use Rattle.integrands.specs.Integrands.{scaleOf, areaIntegrand, plateIntegrand, sampleOf, plateOf}
 use Rattle.fins.specs.declared.FinSet.{FinSet}
 use Rattle.fins.specs.Fins.{setCheck, areaCheck}
 use Rattle.strips.specs.declared.Totals.{Totals}
@@ -22,6 +22,10 @@ pub plate-strips : (set : FinSet) (points : List Float) (L : ℕ) (integrand : I
     → stripsOf integrand points L ≡ setStrips set points L
 unfolding plateOf
 plate-strips set points L integrand e = ap (λ (f : Integrand). stripsOf f points L) e
+
+-- the area's integrand as the code samples it, over seven components
+unfoldable pub areaOf : Planform → List Float → Float → List Float
+areaOf planform points h = sampleOf (areaIntegrand planform points) points h
 
 pub area-strips : (planform : Planform) (points : List Float) (L : ℕ) (integrand : Integrand) → integrand ≡ areaIntegrand planform points
     → stripsOf integrand points L ≡ workedOf 7 (areaOf planform points) L (scaleOf planform points) (breakHeights planform points)

@@ -14,7 +14,7 @@ use Rattle.planforms.specs.declared.Planform.{Planform}
 use Rattle.planforms.proofs.Sized.{PlanformF64, Sized}
 use Rattle.breaks.specs.Breaks.{breakHeights}
 use Rattle.breaks.proofs.Bounded.{breaks-bounded, breaks-rise}
-use Rattle.integrands.specs.Integrands.{scaleOf, sampleOf, areaOf, areaThree}
+use Rattle.integrands.specs.Integrands.{scaleOf, sampleOf, areaThree}
 use Rattle.integrands.proofs.Scales.{scale-sized}
 use Rattle.fins.specs.Fins.{areaCheck}
 use Rattle.fins.proofs.Accepted.{area-planform}
@@ -25,6 +25,7 @@ use Rattle.widths.specs.Widths.{ZerosBehind}
 use Rattle.strips.proofs.Ends.{ends-in-order}
 use Rattle.widths.proofs.Strips.{strips-change-nothing}
 use Rattle.figures.specs.Areas.{areaSeven}
+use Rattle.figures.proofs.Runs.{areaOf}
 
 -- three components, and four that are zero
 area-zeros : (planform : Planform) (points : List Float) → ZerosBehind 3 7 (areaThree planform points) (areaOf planform points)

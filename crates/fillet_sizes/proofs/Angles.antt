@@ -21,11 +21,11 @@ use Rattle.rounding.proofs.Signs.{minus, positive-plus}
 use Rattle.rounding.proofs.Exact.{pow-exact}
 use Rattle.rounding.proofs.Operations.{mul-least, div-most}
 use Rattle.rounding.proofs.Sizes.{weaker, mul-below, div-below, add-below, add-above, add-plus, above-num, positive-of}
-use Rattle.rounding.proofs.Roots.{root-below}
+use Rattle.rounding.proofs.Roots.{root-below, power-fits}
 use Rattle.rounding.proofs.Monotone.{positive-num}
 use Rattle.rounding.proofs.Terms.{Term, given, _less_, _times_, _over_, AllAbove, within}
 use Rattle.fillets.specs.Angles.{eight, twentyOne, halved, eighth, angleDivisors, angleSeries, angleOf}
-use Rattle.fillet_sizes.proofs.Roots.{root-least}
+use Rattle.rounding.proofs.LeastRoots.{root-least}
 use Rattle.fillet_sizes.proofs.Sums.{one-below, one-above, one-minus, not-negative, mul-minus, div-minus, one-plus-least, one-plus-one}
 
 -- ---- one halving of a tangent t up to 2^500: t/(1 + √(1 + t·t))
@@ -141,13 +141,6 @@ module _ (t : Float) (b : Below 500 t) (s : minus t ≡ false) where
       plain k n d m e h g =
           rw (mul-one (n * e))
           (le-trans (mul-le-mul-right e (rw (mul-one n) at h)) (le-trans (le-of-eq (turned k d e)) (mul-le-mul-left 2 (mul-le-mul-right d (rw (mul-one m) at g)))))
-
-power-fits : (k : ℕ) → k ≤ 1023 → T (fits binary64 (fin false 1 (pos k)))
-unfolding fits
-power-fits k h = and-i (eqb (1 % 2) 1 && ltb 1 (2 ^ 53) && leb 1 (2 ^ 1074)) (ltb (1 * 2 ^ k) (2 ^ 1024 * 1)) tt (lt→ltb (1 * 2 ^ k) (2 ^ 1024 * 1) (rw (one-mul (2 ^ k)) (lt-of-lt-of-le (pow-lt (room k h)) (le-of-eq (sym (mul-one (2 ^ 1024)))))))
-  where
-    room : (k : ℕ) → k ≤ 1023 → k < 1024
-    room k h = omega arith
 
 -- so of any tangent up to 2^500 at most 2
 halved-small : (p : ℕ) → p ≤ 500 → (t : Float) → Below 500 t → minus t ≡ false → Below p t → Below 1 (halved t)

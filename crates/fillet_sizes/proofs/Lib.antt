@@ -1,4 +1,3 @@
-pub mod Roots
 pub mod Sums
 pub mod Angles
 pub mod Turns

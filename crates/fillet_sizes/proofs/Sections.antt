@@ -29,7 +29,7 @@ use Rattle.fillets.specs.Angles.{eight, angleOf}
 use Rattle.fillets.specs.FilletSections.{quarter, six, areaMoments, lessMoments, termDivisors, spanLessSineSeries, spanLessSineOf, sectorArea, chordMoment, secondMoment, movedFirst, movedSecond, sectorWith, sectorOf, touchingAt, triangleOf, sectionWith, filletSectionOf}
 use Rattle.fillets.specs.Fillets.{isSound}
 use Rattle.fillet_sizes.proofs.Sums.{not-negative, mul-minus, div-minus}
-use Rattle.fillet_sizes.proofs.Roots.{root-least}
+use Rattle.rounding.proofs.LeastRoots.{root-least}
 use Rattle.fillet_sizes.proofs.Angles.{angle-below}
 use Rattle.fillet_sizes.proofs.Turns.{turn-below}
 

@@ -7,6 +7,7 @@ pub mod Operations
 pub mod Sizes
 pub mod Terms
 pub mod Roots
+pub mod LeastRoots
 pub mod Monotone
 pub mod Halves
 pub mod Gaps

@@ -41,7 +41,8 @@ not-above a b n h k = go (leb a b) (leb→le a b) (nleb→lt a b)
     go true p q = p tt
     go false p q = absurd (too-large a b n (q tt) h (k (q tt)))
 
-power-fits : (k : ℕ) → k ≤ 1023 → T (fits binary64 (fin false 1 (pos k)))
+-- a power of two is an f64
+pub power-fits : (k : ℕ) → k ≤ 1023 → T (fits binary64 (fin false 1 (pos k)))
 unfolding fits
 power-fits k h = and-i (eqb (1 % 2) 1 && ltb 1 (2 ^ 53) && leb 1 (2 ^ 1074)) (ltb (1 * 2 ^ k) (2 ^ 1024 * 1)) tt (lt→ltb (1 * 2 ^ k) (2 ^ 1024 * 1) (rw (one-mul (2 ^ k)) (lt-of-lt-of-le (pow-lt (room k h)) (le-of-eq (sym (mul-one (2 ^ 1024)))))))
   where

@@ -66,7 +66,8 @@ pub fn work_strip(
     total: Integral,
 ) -> Integral
     requires { ⌜ Room limit (length (now scratch)) × (i + 1 < length (now heights)) × (length (now heights) < 2 ^ 32) ⌝ }
-    ensures { λ r. ⌜ WorksStrip (stripBetween integrand (now (points .entry)) limit (now (heights .entry)) i) total (now (scratch .entry)) r (now (scratch .exit)) ⌝ }
+    ensures { λ r. ⌜ WorksStrip (stripBetween integrand (now (points .entry)) limit (now (heights .entry)) i) total
+        (now (scratch .entry)) r (now (scratch .exit)) ⌝ }
 {
     let scale = integrand.scale;
     let lower = heights[i] / scale;

@@ -23,7 +23,7 @@ use Rattle.segments.specs.Segments.{isInBox, segmentsTouch}
 use Rattle.sections.specs.declared.Section.the-variants.{Square, Rounded, Airfoil, AirfoilOpen}
 use Rattle.sections.specs.Airfoil.{airfoilConstants}
 use Rattle.sections.specs.ChordMoments.{chordMoments}
-use Rattle.integrands.specs.Integrands.{scaleOf, sumsFrom, sampleOf, areaOf, plateOf}
+use Rattle.integrands.specs.Integrands.{scaleOf, areaIntegrand, sumsFrom, sampleOf, areaThree, plateOf}
 use Rattle.test_definitions.specs.Rows.{is, are}
 
 -- the bits of some lengths: 0.03, 0.05, and 0.1 to 0.4
@@ -135,10 +135,14 @@ section-moments =
     && are (chordMoments Square (bits d4) (bits d1) (bits d05)) (0 ∷ 0 ∷ 0 ∷ 0 ∷ [])
 
 -- at the scaled height 0.25, with one chord and with two: "an area run uses three of the seven, the rest zero"
+abbrev sampled : Planform → List Float → List Float
+sampled planform points = sampleOf (areaIntegrand planform points) points quarter
+
 abbrev pub area-values : Bool
 area-values =
-    are (areaOf plate [] quarter) (0x3fd9_e79e_79e7_9e7a ∷ 0x3fbd_9afe_422d_4768 ∷ 0x3fb9_e79e_79e7_9e7a ∷ 0 ∷ 0 ∷ 0 ∷ 0 ∷ [])
-    && are (areaOf Outline teeth quarter) (0x3fd3_0c30_c30c_30c5 ∷ 0x3fb5_c4ca_037b_a573 ∷ 0x3fb3_0c30_c30c_30c5 ∷ 0 ∷ 0 ∷ 0 ∷ 0 ∷ [])
+    are (sampled plate []) (0x3fd9_e79e_79e7_9e7a ∷ 0x3fbd_9afe_422d_4768 ∷ 0x3fb9_e79e_79e7_9e7a ∷ 0 ∷ 0 ∷ 0 ∷ 0 ∷ [])
+    && are (sampled Outline teeth) (0x3fd3_0c30_c30c_30c5 ∷ 0x3fb5_c4ca_037b_a573 ∷ 0x3fb3_0c30_c30c_30c5 ∷ 0 ∷ 0 ∷ 0 ∷ 0 ∷ [])
+    && are (areaThree Outline teeth quarter) (0x3fd3_0c30_c30c_30c5 ∷ 0x3fb5_c4ca_037b_a573 ∷ 0x3fb3_0c30_c30c_30c5 ∷ [])
 
 -- at thickness 0.03 and body radius 0.05: "Every length of a strip, thickness and body radius too, is divided by root chord plus span"
 abbrev pub plate-values : Bool
@@ -149,5 +153,5 @@ plate-values =
     (0x3f8a_1f58_d0fa_c68a ∷ 0x3f70_cb02_3d33_7fa2 ∷ 0x3f55_974c_058b_5af6 ∷ 0x3f6d_daae_a5b0_e2e7 ∷ 0x3f54_de2b_4dee_d67a ∷ 0x3f53_3127_215f_6d4c ∷ 0x3ec0_608e_9e2f_4c33 ∷ [])
 
 pub shapes-hold : T (sorted-lists && outline-lengths && break-heights && outline-crossings && chords-listed && touching-segments && section-moments && area-values && plate-values)
-unfolding ofBits toBits ofInt round add sub mul div neg lt le eq ne absOf belowAll insert sorted largestHeight rootChordOf spanOf heights everyY once breakHeights oneStrip crossed crossings outlineCrossings endsAt paired isInBox segmentsTouch airfoilConstants chordMoments lengthWithin lengthCheck firstRefusal firstFrom planformCheck endsIn verdictOf chordList endsAfter scaleOf sumsFrom sampleOf areaOf plateOf
+unfolding ofBits toBits ofInt round add sub mul div neg lt le eq ne absOf belowAll insert sorted largestHeight rootChordOf spanOf heights everyY once breakHeights oneStrip crossed crossings outlineCrossings endsAt paired isInBox segmentsTouch airfoilConstants chordMoments lengthWithin lengthCheck firstRefusal firstFrom planformCheck endsIn verdictOf chordList endsAfter scaleOf sumsFrom sampleOf areaThree plateOf
 shapes-hold = tt
