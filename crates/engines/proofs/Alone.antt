@@ -26,7 +26,7 @@ use Rattle.engines.specs.declared.Turned.{Turned}
 use Rattle.engines.specs.declared.Called.{Called}
 use Rattle.engines.specs.Engines.{isScreen, placeOf, holdsJob, isFree, nextScreen, withJob, stepped, turnedAt, turnOf, submitOf, changeAt}
 use Rattle.engines.specs.Calls.{Call, turn, submit, change, engineBy, afterCalls, EightScreens, jobOf, screenOf, ownBy, answersBy, ownOver, answersOver, holdsOver, answersAlone, AsAlone}
-use Rattle.engines.proofs.Effects.{in-eight, place-in-eight, holds-is-screen, turn-serves, submit-busy, change-goes, others-stay, still-eight}
+use Rattle.engines.proofs.Effects.{in-eight, place-below, holds-is-screen, turn-serves, submit-busy, change-goes, others-stay, still-eight}
 
 -- ---- one call, while the screen holds the job
 pub record OwnCall (screen : ℕ) (engine : Engine) (call : Call) : Type 0 where
@@ -38,7 +38,7 @@ module _ (engine : Engine) (w : EightScreens engine) (screen : ℕ) (holds : hol
   is-screen = holds-is-screen (engine .screens) screen holds
 
   pub job-set : (job : Job) → jobOf (withJob engine (placeOf screen) (engine .screens) job) screen ≡ job
-  job-set job = getD-set-same (engine .jobs) (placeOf screen) job _ (let p = place-in-eight screen is-screen in omega (arith, p, w .jobs))
+  job-set job = getD-set-same (engine .jobs) (placeOf screen) job _ (let p = place-below screen in omega (arith, p, w .jobs))
 
   -- a call about another screen
   apart : (call : Call) → (screen ≡ screenOf engine call → ⊥) → jobOf (engineBy engine call) screen ≡ jobOf engine screen

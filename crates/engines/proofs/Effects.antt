@@ -40,8 +40,14 @@ pub place-is : (screen : ℕ) → isScreen screen ≡ true → placeOf screen �
 unfolding placeOf
 place-is screen s = yes _ _ s
 
-pub place-in-eight : (screen : ℕ) → isScreen screen ≡ true → placeOf screen < 8
-place-in-eight screen s = let r = in-eight screen s in omega (arith, place-is screen s, r .0, r .1)
+place-by : (screen : ℕ) (c : Bool) → isScreen screen ≡ c → cond c (screen - 1) 0 < 8
+place-by screen true s = let r = in-eight screen s in omega (arith, r .1)
+place-by screen false s = omega arith
+
+-- a place is one of the eight, whatever the number
+pub place-below : (screen : ℕ) → placeOf screen < 8
+unfolding placeOf
+place-below screen = place-by screen (isScreen screen) refl
 
 pub places-apart : (screen own : ℕ) → isScreen screen ≡ true → isScreen own ≡ true → (screen ≡ own → ⊥) → placeOf screen ≡ placeOf own → ⊥
 places-apart screen own s o apart same =
@@ -57,13 +63,17 @@ pub free-is-screen : (screens : Screens) (screen : ℕ) → isFree screens scree
 unfolding isFree
 free-is-screen screens screen h = and-left (isScreen screen) _ h
 
+pub pick-in-eight : (screens : Screens) → pickOf screens < 8
+unfolding pickOf
+pick-in-eight screens = place-below (nextScreen screens)
+
 -- the mark of one screen and of the others
 module _ (screens : Screens) (own : ℕ) (o : isScreen own ≡ true) (holds : Bool) (last : ℕ) where
   pub mark-own : length (screens .held) ≡ 8 → holdsJob (withHeld screens own holds last) own ≡ holds
   unfolding holdsJob withHeld
   mark-own w =
       ap (λ (b : Bool). b && getD (set (screens .held) (placeOf own) holds) (placeOf own) false) o
-      ∙ getD-set-same (screens .held) (placeOf own) holds false (let p = place-in-eight own o in omega (arith, p, w))
+      ∙ getD-set-same (screens .held) (placeOf own) holds false (let p = place-below own in omega (arith, p, w))
 
   pub mark-other : (screen : ℕ) → isScreen screen ≡ true → (screen ≡ own → ⊥) → holdsJob (withHeld screens own holds last) screen ≡ holdsJob screens screen
   unfolding holdsJob withHeld

@@ -4,3 +4,7 @@ pub mod Effects
 pub mod Rounds
 pub mod Alone
 pub mod Submissions
+pub mod Placed
+pub mod InPlace
+pub mod Rows
+pub mod Borrow

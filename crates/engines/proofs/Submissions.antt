@@ -39,7 +39,7 @@ use Rattle.engines.specs.declared.Turned.{Turned}
 use Rattle.engines.specs.declared.Called.{Called}
 use Rattle.engines.specs.Engines.{isScreen, placeOf, holdsJob, isFree, nextScreen, stepped, turnedAt, turnOf, submitOf, changeAt}
 use Rattle.engines.specs.Calls.{Call, turn, submit, change, engineBy, afterCalls, EightScreens, jobOf, screenOf, ownBy, ownOver, holdsOver, RunsBy, Submitted, AllSubmitted, Serves, sinceThen, engineNow, OnScreen}
-use Rattle.engines.proofs.Effects.{in-eight, place-in-eight, holds-is-screen, free-is-screen, mark-own, busy-not-taken, refused-not-taken, submit-takes, change-not-held, others-stay, changes-nothing, still-eight}
+use Rattle.engines.proofs.Effects.{in-eight, place-below, holds-is-screen, free-is-screen, mark-own, busy-not-taken, refused-not-taken, submit-takes, change-not-held, others-stay, changes-nothing, still-eight}
 use Rattle.engines.proofs.Order.{next-holds}
 use Rattle.engines.proofs.Alone.{own-call, after-both, job-set, served}
 
@@ -244,7 +244,7 @@ module _ (engine : Engine) (w : EightScreens engine) (screen : ℕ) (set : FinSe
     taken-job : jobOf (Submit· .engine) screen ≡ madeOf set points L .job
     taken-job =
         ap (λ (c : Called). jobOf (c .engine) screen) (submit-takes engine screen set points L free runs)
-        ∙ getD-set-same (engine .jobs) (placeOf screen) (madeOf set points L .job) _ (let p = place-in-eight screen is-screen in omega (arith, p, w .jobs))
+        ∙ getD-set-same (engine .jobs) (placeOf screen) (madeOf set points L .job) _ (let p = place-below screen in omega (arith, p, w .jobs))
 
     made-runs : RunsBy set points L [] (jobOf (Submit· .engine) screen)
     made-runs = record { accepted = runs-accepted set points L (makingCheck set points L) refl runs; is = taken-job; runs = ap (λ (j : Job). j .ended) taken-job ∙ runs }

@@ -1,3 +1,4 @@
 pub mod NoJob
 pub mod Engines
+pub mod Lent
 pub mod Calls

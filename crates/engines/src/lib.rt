@@ -8,6 +8,7 @@ ghost use lib.ListN.{length};
 ghost use Rattle.engines.specs.Engines.{isScreen, placeOf, holdsJob, isFree, nextScreen, pickOf, withHeld};
 ghost use Rattle.engines.specs.Engines.{refusedShort, idle, stepped, ServesTo, refused, submittedOf, changedOf};
 ghost use Rattle.engines.specs.Engines.{TurnsTo, submitOf, changeAt};
+ghost use Rattle.engines.specs.Lent.{TurnsLent, SubmitsLent, ChangesLent};
 use fins::FinSet;
 use jobs::Answer;
 use jobs::Job;
@@ -314,4 +315,44 @@ pub fn change_by_value(engine: Engine, screen: usize, density: Density) -> Calle
         jobs: eight,
     };
     Called { engine, answer }
+}
+
+// A turn of a lent engine. The job at one place is read and written where it stands, and so in the next two.
+pub fn turn(engine: &mut Engine, scratch: &mut [f64]) -> Told
+    ensures { λ r. ⌜ TurnsLent (now (engine .entry)) (now (scratch .entry)) r (now (engine .exit)) (now (scratch .exit)) ⌝ }
+{
+    let place = pick(engine.screens);
+    let s = serve(engine.screens, engine.jobs[place], scratch);
+    engine.jobs[place] = s.job;
+    engine.screens = s.screens;
+    s.told
+}
+
+// A submission of a set to a screen of a lent engine.
+pub fn submit(
+    engine: &mut Engine,
+    screen: usize,
+    set: FinSet,
+    points: &[f64],
+    limit: usize,
+) -> Answer
+    ensures { λ r. ⌜ SubmitsLent (now (engine .entry)) screen set (now (points .entry)) limit r (now (engine .exit)) ⌝ }
+{
+    let made = jobs::make(set, points, limit);
+    let place = place_of(screen);
+    let s = submit_at(engine.screens, engine.jobs[place], screen, made);
+    engine.jobs[place] = s.job;
+    engine.screens = s.screens;
+    s.answer
+}
+
+// A change of the density of a screen's job in a lent engine.
+pub fn change_density(engine: &mut Engine, screen: usize, density: Density) -> Answer
+    ensures { λ r. ⌜ ChangesLent (now (engine .entry)) screen density r (now (engine .exit)) ⌝ }
+{
+    let place = place_of(screen);
+    let s = change_at(engine.screens, engine.jobs[place], screen, density);
+    engine.jobs[place] = s.job;
+    engine.screens = s.screens;
+    s.answer
 }
