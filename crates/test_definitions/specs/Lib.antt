@@ -12,3 +12,4 @@ pub mod Texts
 pub mod Bodies
 pub mod Plates
 pub mod Runs
+pub mod Serving
