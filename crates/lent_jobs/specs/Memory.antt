@@ -1,6 +1,6 @@
 -- A job in lent memory, "one record, lent to each step and updated there" (document 02, Paper 9), as C and Rust lend it: a list of numbers and a
 -- list of counts. `job-back` (proofs/Laws) says that the job which is written is the job that is read.
-use mathlib.Core.Bool.{Bool, true, false, cond, not}
+use mathlib.Core.Bool.{Bool, cond, not}
 use mathlib.Core.List.{List, [], _∷_, _++_}
 use Prim.Native.Nat.{ℕ, _+_}
 use lib.Dec.{eqb}
