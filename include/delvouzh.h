@@ -1,6 +1,7 @@
 /* Fin figures that are proved: the functions of libexports.a, which `rt staticlib exports` writes (x86-64 Linux).
  *
- * Lengths are metres, angles radians, figures f64. Every function but delvouzh_sqrt and delvouzh_most_samples returns 0, or the number of a refusal:
+ * Lengths are metres, angles radians, figures f64. Every function but delvouzh_sqrt and delvouzh_most_samples returns 0, a step of a job also
+ * DELVOUZH_MORE, or the number of a refusal:
  *
  *      1 limit not 1 to 64               7 outline touches itself       13 not converged
  *      2 scratch under 16 * limit        8 no area, or no volume
@@ -25,7 +26,7 @@
  *
  * What a caller owes, and nothing checks:
  *  - An array goes in as a pointer and how many numbers lie there. The pointer is never null, also where there are none; arrays that are
- *    written overlap no other. What they hold on entry, the scratch too, does not matter to an answer.
+ *    written overlap no other. What they hold on entry, the scratch too, does not matter to an answer; but a job's memory is the job.
  *  - The floating-point environment is the one that a process starts with: rounding to nearest, subnormal numbers kept (no flushing to
  *    zero), exceptions masked. Linking with -ffast-math changes it before main; some libraries change it for their thread.
  *  - DELVOUZH_STACK bytes of stack for a call.
@@ -77,6 +78,13 @@ extern "C" {
 #define DELVOUZH_VALUES 2
 #define DELVOUZH_WRITTEN 1
 
+/* The memory of a job, which its calls are lent: so many doubles, and so many size_t. */
+#define DELVOUZH_JOB_NUMBERS 159
+#define DELVOUZH_JOB_COUNTS 17
+
+/* What a step returns that has strips still to come; no refusal has this number. */
+#define DELVOUZH_MORE 1000
+
 /* The bytes of an answer to a line: no answer has more. */
 #define DELVOUZH_ANSWER 320
 
@@ -98,6 +106,29 @@ size_t delvouzh_geometry(size_t limit, size_t planform, const double *lengths, s
 
 /* 118,110: no call of the two above reports more samples, with figures or refused. */
 size_t delvouzh_most_samples(void);
+
+/* A job: a set as delvouzh_mass_properties takes it, worked one strip a step, so that its density can still be changed. It lies in `job_numbers`
+ * and `job_counts`, which are lent to every call on it as the one before left them, and keeps its own copy of the outline. A copy of both is a
+ * job of its own.
+ *
+ * Makes one, and runs every check of the set but 2. Returns 0 where the job is taken. A refused job has ended with its refusal, and every
+ * step repeats that; but 18 makes none, and leaves the memory as it was. Writes two values of a refusal. */
+size_t delvouzh_job_make(size_t limit, size_t count, size_t planform, const double *lengths, size_t lengths_len, size_t section,
+                         size_t tab, size_t density, const double *figures, size_t figures_len, size_t fillet, const double *glue,
+                         size_t glue_len, double *job_numbers, size_t job_numbers_len, size_t *job_counts, size_t job_counts_len,
+                         size_t *values, size_t values_len);
+
+/* Works the job's next strip, and leaves its pieces in `scratch`, 16 numbers each from its start, the rest as it was. Returns DELVOUZH_MORE where
+ * strips are still to come, and writes zeros; with the last strip, or one that is refused, what delvouzh_mass_properties does for the set with its
+ * last density, and the job has ended. A step of a job that has ended repeats its answer, with any scratch, and writes none. A scratch under
+ * 16 * limit numbers is 2, with the samples so far, and changes nothing. Writes a body and counts as delvouzh_mass_properties does. */
+size_t delvouzh_job_step(double *job_numbers, size_t job_numbers_len, size_t *job_counts, size_t job_counts_len, double *scratch,
+                         size_t scratch_len, double *body, size_t body_len, size_t *counts, size_t counts_len);
+
+/* Another density for the plates of a job that has not ended: returns 0 where it is taken. 12 is a density that is not bulk or outside its limits, or
+ * a job that has ended, and leaves the old one; its samples are those so far. Writes counts as delvouzh_job_step does. */
+size_t delvouzh_job_change_density(double *job_numbers, size_t job_numbers_len, size_t *job_counts, size_t job_counts_len,
+                                   size_t density, double figure, size_t *counts, size_t counts_len);
 
 /* A planform's chords at a height in metres, which may be any number: the planform is checked as for its area. Writes start and end of each
  * chord over `ends`, which has room for DELVOUZH_CHORDS numbers, and leaves the rest of it, and with a refusal all of it, as it was; as

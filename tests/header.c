@@ -231,6 +231,95 @@ static void scratches(void) {
     holds("the rest of the scratch is left", at.scratch[16 * at.counts[2]] == 7.0 && at.scratch[SCRATCH - 1] == 7.0);
 }
 
+/* A job's memory, with one place behind it that no call may write. */
+static double job_numbers[DELVOUZH_JOB_NUMBERS + 1];
+static size_t job_counts[DELVOUZH_JOB_COUNTS + 1];
+
+static void make_job(size_t section, const double *figures) {
+    const double outline[8] = {0.0, 0.0, 0.05, 0.15, 0.15, 0.05, 0.2, 0.0};
+    at.number = delvouzh_job_make(LIMIT, 3, DELVOUZH_OUTLINE, outline, 8, section, DELVOUZH_NO_TAB, DELVOUZH_BULK, figures, 5, DELVOUZH_NO_FILLET,
+                                  figures, 0, job_numbers, DELVOUZH_JOB_NUMBERS + 1, job_counts, DELVOUZH_JOB_COUNTS + 1, at.counts, DELVOUZH_VALUES);
+}
+
+static void step_job(size_t scratch_len) {
+    at.number = delvouzh_job_step(job_numbers, DELVOUZH_JOB_NUMBERS + 1, job_counts, DELVOUZH_JOB_COUNTS + 1, at.scratch, scratch_len, at.numbers,
+                                  DELVOUZH_BODY, at.counts, DELVOUZH_COUNTS);
+}
+
+static void change_job(size_t density, double figure) {
+    at.number = delvouzh_job_change_density(job_numbers, DELVOUZH_JOB_NUMBERS + 1, job_counts, DELVOUZH_JOB_COUNTS + 1, density, figure, at.counts,
+                                            DELVOUZH_COUNTS);
+}
+
+static int no_figures(void) {
+    return at.numbers[0] == 0.0 && at.numbers[9] == 0.0 && refused(at.number, 0, 0) && at.counts[2] == 0 && at.counts[3] == 0;
+}
+
+/* A set of two strips, its wood changed between them, beside the same set in one run. */
+static void jobs(void) {
+    const double outline[8] = {0.0, 0.0, 0.05, 0.15, 0.15, 0.05, 0.2, 0.0}, balsa[5] = {0.003, 0.0, 0.0, 0.05, 160.0}, thick[5] = {65.0, 0.0, 0.0, 0.05, 160.0};
+    struct lent whole;
+    size_t samples;
+    lend(&whole, 7.0);
+    set_of(&whole, LIMIT, DELVOUZH_OUTLINE, outline, 8, balsa);
+    lend(&at, 7.0);
+    job_numbers[DELVOUZH_JOB_NUMBERS] = 7.0;
+    job_counts[DELVOUZH_JOB_COUNTS] = 99;
+    make_job(DELVOUZH_SQUARE, FIGURES);
+    holds("a job is taken", refused(0, 0, 0));
+    change_job(DELVOUZH_LINE, 160.0);
+    holds("12 before the first strip", refused(12, 0, 0) && at.counts[3] == 0);
+    step_job(SCRATCH);
+    holds("more remain", at.number == DELVOUZH_MORE && no_figures());
+    step_job(SCRATCH - 1);
+    samples = at.counts[3];
+    holds("2 with the samples so far", refused(2, 0, 0) && samples >= 15 && samples < whole.counts[3]);
+    change_job(DELVOUZH_BULK, 160.0);
+    holds("another wood is taken", at.number == 0 && at.counts[3] == 0);
+    change_job(DELVOUZH_BULK, 40000.0);
+    holds("12 with the samples so far", refused(12, 0, 0) && at.counts[3] == samples);
+    change_job(4, 160.0);
+    holds("18 of an unknown density", refused(18, 0, 0));
+    step_job(SCRATCH);
+    holds("a job ends as a fresh run with the last wood", at.number == 0 && memcmp(at.numbers, whole.numbers, sizeof at.numbers) == 0 &&
+                                                             memcmp(at.counts, whole.counts, sizeof at.counts) == 0);
+    holds("its strips leave what the run does", memcmp(at.scratch, whole.scratch, sizeof at.scratch) == 0);
+    lend(&at, 7.0);
+    step_job(0);
+    holds("the same again, with no scratch", at.number == 0 && memcmp(at.numbers, whole.numbers, sizeof at.numbers) == 0);
+    change_job(DELVOUZH_BULK, 160.0);
+    holds("12 after the end", refused(12, 0, 0) && at.counts[3] == whole.counts[3]);
+    make_job(5, balsa);
+    holds("18 of an unknown section", refused(18, 0, 0));
+    step_job(0);
+    holds("18 makes no job", at.number == 0 && memcmp(at.numbers, whole.numbers, sizeof at.numbers) == 0);
+    make_job(DELVOUZH_SQUARE, thick);
+    holds("a refused job", refused(4, 7, 0));
+    step_job(0);
+    holds("it has ended with that", refused(4, 7, 0) && at.numbers[0] == 0.0 && at.counts[3] == 0);
+    holds("nothing behind the memory is written", job_numbers[DELVOUZH_JOB_NUMBERS] == 7.0 && job_counts[DELVOUZH_JOB_COUNTS] == 99);
+}
+
+/* No room for a job, or for its answer: 18, and nothing at all is written. */
+static void no_room_for_a_job(void) {
+    make_job(DELVOUZH_SQUARE, FIGURES);
+    lend(&at, 7.0);
+    at.number = delvouzh_job_step(job_numbers, DELVOUZH_JOB_NUMBERS - 1, job_counts, DELVOUZH_JOB_COUNTS, at.scratch, SCRATCH, at.numbers,
+                                  DELVOUZH_BODY, at.counts, DELVOUZH_COUNTS);
+    holds("no room for a job's numbers", at.number == 18 && left_alone());
+    at.number = delvouzh_job_step(job_numbers, DELVOUZH_JOB_NUMBERS, job_counts, DELVOUZH_JOB_COUNTS - 1, at.scratch, SCRATCH, at.numbers,
+                                  DELVOUZH_BODY, at.counts, DELVOUZH_COUNTS);
+    holds("no room for a job's counts", at.number == 18 && left_alone());
+    at.number = delvouzh_job_step(job_numbers, DELVOUZH_JOB_NUMBERS, job_counts, DELVOUZH_JOB_COUNTS, at.scratch, SCRATCH, at.numbers,
+                                  DELVOUZH_BODY, at.counts, DELVOUZH_COUNTS - 1);
+    holds("no room for a step's counts", at.number == 18 && left_alone());
+    at.number = delvouzh_job_change_density(job_numbers, DELVOUZH_JOB_NUMBERS, job_counts, DELVOUZH_JOB_COUNTS, DELVOUZH_BULK, 160.0, at.counts,
+                                            DELVOUZH_COUNTS - 1);
+    holds("no room for a change's counts", at.number == 18 && left_alone());
+    step_job(SCRATCH);
+    holds("the job is as it was", at.number == DELVOUZH_MORE);
+}
+
 static void *turns(void *same) {
     struct lent own;
     *(int *)same = 1;
@@ -256,6 +345,9 @@ static ucontext_t here, there;
 
 static void call_set(void) { set_of(&at, LIMIT, DELVOUZH_ELLIPSE, ELLIPSE, 2, FIGURES); }
 static void call_area(void) { area_of(&at, DELVOUZH_ELLIPSE, ELLIPSE, 2); }
+static void call_make(void) { make_job(DELVOUZH_SQUARE, FIGURES); }
+static void call_step(void) { step_job(SCRATCH); }
+static void call_change(void) { change_job(DELVOUZH_BULK, 160.0); }
 static void call_join(void) { at.number = delvouzh_combine(at.scratch, 32 * DELVOUZH_BODY, at.numbers, DELVOUZH_BODY); }
 static void call_check(void) { at.number = delvouzh_check(at.scratch, DELVOUZH_BODY, at.counts, DELVOUZH_VALUES); }
 
@@ -279,7 +371,7 @@ static size_t stack_of(void (*call)(void)) {
 }
 
 static void stacks(void) {
-    void (*const calls[])(void) = {call_set, call_area, call_join, call_check, call_line, call_long_line};
+    void (*const calls[])(void) = {call_set, call_make, call_change, call_step, call_area, call_join, call_check, call_line, call_long_line};
     size_t most = 0;
     memset(long_set, ' ', sizeof long_set - 1);
     memcpy(long_set, SET, sizeof SET - 1);
@@ -298,6 +390,8 @@ int main(void) {
     figures();
     refusals();
     no_room();
+    jobs();
+    no_room_for_a_job();
     scratches();
     threads();
     stacks();

@@ -1,12 +1,14 @@
 //! Fin figures that are proved: safe calls of the static library `libexports.a`, whose functions include/delvouzh.h declares.
 //!
 //! The library is proved against its contracts; this crate only hands over numbers and slices, and is not proved. Lengths are metres,
-//! angles radians. Calls keep nothing, and may run on several threads; the floating-point environment has to be the one that a process
+//! angles radians. Calls keep nothing but what a `Job` holds, and may run on several threads; the floating-point environment has to be the one that a process
 //! starts with (rounding to nearest, no flushing to zero), and a call needs the stack that include/delvouzh.h names.
 
+mod jobs;
 mod raw;
 mod refusals;
 
+pub use jobs::{Job, Step};
 pub use refusals::{Error, Refusal, RunError, TensorFault};
 
 /// The outline of one fin.

@@ -31,6 +31,9 @@ pub const MOMENTS: usize = 3;
 pub const COUNTS: usize = 4;
 pub const VALUES: usize = 2;
 pub const WRITTEN: usize = 1;
+pub const JOB_NUMBERS: usize = 159;
+pub const JOB_COUNTS: usize = 17;
+pub const MORE: usize = 1000;
 pub const ANSWER: usize = 320;
 
 extern "C" {
@@ -52,6 +55,52 @@ extern "C" {
         scratch_len: usize,
         body: *mut f64,
         body_len: usize,
+        counts: *mut usize,
+        counts_len: usize,
+    ) -> usize;
+
+    pub fn delvouzh_job_make(
+        limit: usize,
+        count: usize,
+        planform: usize,
+        lengths: *const f64,
+        lengths_len: usize,
+        section: usize,
+        tab: usize,
+        density: usize,
+        figures: *const f64,
+        figures_len: usize,
+        fillet: usize,
+        glue: *const f64,
+        glue_len: usize,
+        job_numbers: *mut f64,
+        job_numbers_len: usize,
+        job_counts: *mut usize,
+        job_counts_len: usize,
+        values: *mut usize,
+        values_len: usize,
+    ) -> usize;
+
+    pub fn delvouzh_job_step(
+        job_numbers: *mut f64,
+        job_numbers_len: usize,
+        job_counts: *mut usize,
+        job_counts_len: usize,
+        scratch: *mut f64,
+        scratch_len: usize,
+        body: *mut f64,
+        body_len: usize,
+        counts: *mut usize,
+        counts_len: usize,
+    ) -> usize;
+
+    pub fn delvouzh_job_change_density(
+        job_numbers: *mut f64,
+        job_numbers_len: usize,
+        job_counts: *mut usize,
+        job_counts_len: usize,
+        density: usize,
+        figure: f64,
         counts: *mut usize,
         counts_len: usize,
     ) -> usize;

@@ -29,7 +29,7 @@ use Rattle.exports.specs.Numbers.{numberIn, over, withValues, withCounts
 use Rattle.exports.specs.Calls.{room, figureCounts, SetCall, areaNumbers, areaCounts, AreaCall, chordCounts, ChordsCall, DrillCall, RingCall, BodyCall, ClosingCall, JoinCall, momentsNumbers, MomentsCall, CheckCall, LineCall}
 
 module _ {A : Type 0} (m : ℕ) (figures : List A) (n : ℕ) (counts : List ℕ) where
-  has-room : m ≤ length figures → n ≤ length counts → room m figures n counts ≡ true
+  pub has-room : m ≤ length figures → n ≤ length counts → room m figures n counts ≡ true
   has-room h k = simp (le-leb m (length figures) h, le-leb n (length counts) k)
 
   pub few-figures : length figures < m → room m figures n counts ≡ false

@@ -1,3 +1,4 @@
 pub mod Sets
 pub mod Numbers
 pub mod Calls
+pub mod JobCalls

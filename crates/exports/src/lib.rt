@@ -1,7 +1,8 @@
 // What C and Rust link (include/delvouzh.h): each function under its plain name, over numbers and slices alone.
 //
 // A call returns 0, or the number of the refusal, and writes its figures and counts over the start of lent slices; a refusal writes
-// zero figures, but of chords none. Only the root returns its f64, and the most samples their number, and a line is answered, by 0, also where the answer's text is a refusal. A planform, a
+// zero figures, but of chords none. Only the root returns its f64, the most samples their number, and a step of a job 1000 where more strips remain; a line is
+// answered, by 0, also where the answer's text is a refusal. A planform, a
 // section, a tab and a density cross as a number, with their figures in a slice: an unknown number, or figures of another count, are 18
 // (no form); but points that are not 3 to 64 pairs are 5, and bodies that are not 1 to 32 whole ones are 3. A lent slice that is too short
 // for what is written over it is 18 too, and then nothing at all is written.
@@ -11,18 +12,29 @@ ghost use Prim.Native.Nat.{_≤_};
 ghost use lib.ListN.{length};
 ghost use Rattle.root.specs.Root.{rootOf, IsRoot};
 ghost use Rattle.planforms.specs.Numbered.{numberedPlanform};
+ghost use Rattle.materials.specs.Numbered.{numberedDensity};
 ghost use Rattle.figures.specs.Answers.{mostSamples};
 ghost use Rattle.requests.specs.Calls.{copiedBy, placedBy, movedBy, withoutBy};
 ghost use Rattle.exports.specs.Sets.{crossedSet};
 ghost use Rattle.exports.specs.Numbers.{numberIn, valuesIn, over, withValues, withCount, withCounts};
 ghost use Rattle.exports.specs.Calls.{SetCall, AreaCall, ChordsCall, DrillCall, RingCall, BodyCall, ClosingCall, JoinCall, MomentsCall, CheckCall, LineCall};
+ghost use Rattle.exports.specs.JobCalls.{answerNumber, MakeCall, StepCall, ChangeCall};
 use answers::ANSWER_BYTES;
 use bodies::BODY_NUMBERS;
 use fins::NumberedSet;
+use jobs::Answer;
+use jobs::Reply;
+use lent_jobs::JOB_COUNTS;
+use lent_jobs::JOB_NUMBERS;
+use materials::NumberedDensity;
+use refusals::Refusal;
 use refusals::Verdict;
 
 // The number of "no form", with which a slice that is too short is refused as well.
 const NO_FORM: usize = 18;
+
+// The number of "more remain", over all of the refusals'.
+const MORE: usize = 1000;
 
 // The figures: thickness, cant, base angle, body radius, density, and the tab's; the fillet's beside them.
 fn crossed_set(
@@ -181,6 +193,142 @@ pub extern "C" fn delvouzh_mass_properties(
     joins::write_body(body, 0, of_set);
     write_counts(counts, verdict, found.intervals, found.samples);
     number(verdict)
+}
+
+// The number that an answer of a job crosses as: taken is 0.
+fn answer_number(answer: Answer) -> usize
+    ensures { λ r. ⌜ r ≡ answerNumber answer ⌝ }
+{
+    let reply = answer.reply;
+    match reply {
+        Reply::More => MORE,
+        Reply::Taken => 0,
+        Reply::Answered => {
+            let figures = answer.figures;
+            let verdict = figures.verdict;
+            number(verdict)
+        }
+    }
+}
+
+// Makes a job in the lent memory: 0 where it is taken; a refused one has ended with that. Writes two values of a refusal.
+#[no_mangle]
+pub extern "C" fn delvouzh_job_make(
+    limit: usize,
+    count: usize,
+    planform: usize,
+    lengths: &[f64],
+    section: usize,
+    tab: usize,
+    density: usize,
+    figures: &[f64],
+    fillet: usize,
+    glue: &[f64],
+    job_numbers: &mut [f64],
+    job_counts: &mut [usize],
+    values: &mut [usize],
+) -> usize
+    ensures { λ r. ⌜ MakeCall (now («job_numbers» .entry)) (now («job_counts» .entry))
+        (crossedSet count planform (now (lengths .entry)) section tab density (now (figures .entry)) fillet (now (glue .entry))) (now (lengths .entry)) limit
+        (now (values .entry)) r (now («job_numbers» .exit)) (now («job_counts» .exit)) (now (values .exit)) ⌝ }
+{
+    if job_numbers.len() < JOB_NUMBERS {
+        return NO_FORM;
+    }
+    if job_counts.len() < JOB_COUNTS {
+        return NO_FORM;
+    }
+    if values.len() < 2 {
+        return NO_FORM;
+    }
+    let asked = crossed_set(
+        count,
+        planform,
+        lengths,
+        section,
+        tab,
+        density,
+        figures,
+        fillet,
+        glue,
+    );
+    let NumberedSet::Known(set) = asked else {
+        write_values(values, Verdict::Refused(Refusal::NoForm));
+        return NO_FORM;
+    };
+    let answer = lent_jobs::make(job_numbers, job_counts, set, lengths, limit);
+    let found = answer.figures;
+    let verdict = found.verdict;
+    write_values(values, verdict);
+    answer_number(answer)
+}
+
+// One step of the job there, over a lent scratch of at least 16·limit numbers: 1000 where more strips remain, else the figures or the refusal
+// that it has ended with. Writes the body's numbers and the counts; where more remain, zeros.
+#[no_mangle]
+pub extern "C" fn delvouzh_job_step(
+    job_numbers: &mut [f64],
+    job_counts: &mut [usize],
+    scratch: &mut [f64],
+    body: &mut [f64],
+    counts: &mut [usize],
+) -> usize
+    ensures { λ r. ⌜ StepCall (now («job_numbers» .entry)) (now («job_counts» .entry))
+        (now (scratch .entry)) (now (body .entry)) (now (counts .entry))
+        r (now («job_numbers» .exit)) (now («job_counts» .exit)) (now (scratch .exit)) (now (body .exit)) (now (counts .exit)) ⌝ }
+{
+    if job_numbers.len() < JOB_NUMBERS {
+        return NO_FORM;
+    }
+    if job_counts.len() < JOB_COUNTS {
+        return NO_FORM;
+    }
+    if body.len() < BODY_NUMBERS {
+        return NO_FORM;
+    }
+    if counts.len() < 4 {
+        return NO_FORM;
+    }
+    let answer = lent_jobs::step(job_numbers, job_counts, scratch);
+    let found = answer.figures;
+    let verdict = found.verdict;
+    let of_job = found.body;
+    joins::write_body(body, 0, of_job);
+    write_counts(counts, verdict, found.intervals, found.samples);
+    answer_number(answer)
+}
+
+// Another density for the job there: 0 where it is taken, or 12. Writes the counts, with 12 the samples so far.
+#[no_mangle]
+pub extern "C" fn delvouzh_job_change_density(
+    job_numbers: &mut [f64],
+    job_counts: &mut [usize],
+    density: usize,
+    figure: f64,
+    counts: &mut [usize],
+) -> usize
+    ensures { λ r. ⌜ ChangeCall (now («job_numbers» .entry)) (now («job_counts» .entry)) (numberedDensity density figure) (now (counts .entry))
+        r (now («job_numbers» .exit)) (now («job_counts» .exit)) (now (counts .exit)) ⌝ }
+{
+    if job_numbers.len() < JOB_NUMBERS {
+        return NO_FORM;
+    }
+    if job_counts.len() < JOB_COUNTS {
+        return NO_FORM;
+    }
+    if counts.len() < 4 {
+        return NO_FORM;
+    }
+    let asked = materials::numbered_density(density, figure);
+    let NumberedDensity::Known(density) = asked else {
+        write_counts(counts, Verdict::Refused(Refusal::NoForm), 0, 0);
+        return NO_FORM;
+    };
+    let answer = lent_jobs::change_density(job_numbers, job_counts, density);
+    let found = answer.figures;
+    let verdict = found.verdict;
+    write_counts(counts, verdict, found.intervals, found.samples);
+    answer_number(answer)
 }
 
 // A planform's area and centroid (x, then height), likewise: writes three figures.

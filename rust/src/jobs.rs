@@ -1,0 +1,116 @@
+//! A set worked one strip a step, its density changed while it works.
+
+use crate::{raw, Body, Density, Error, Figures, FinSet, RunError};
+
+/// What a step answers that is not refused.
+#[derive(Debug, Clone, Copy, PartialEq)]
+pub enum Step {
+    /// Strips are still to come.
+    More,
+    /// The job has ended; each step from now on answers the same.
+    Done(Figures),
+}
+
+/// A running job: the memory that the library's calls are lent. Every call gets it as the one before left it, since it is borrowed mutably; a clone
+/// is a job of its own.
+#[derive(Debug, Clone)]
+pub struct Job {
+    numbers: [f64; raw::JOB_NUMBERS],
+    counts: [usize; raw::JOB_COUNTS],
+}
+
+impl Job {
+    /// A job of a set with at most `limit` intervals a strip; it keeps its own copy of an outline. Every check of the set is run here, and a refused
+    /// set has no job; how long the scratch is, each step checks.
+    pub fn new(set: &FinSet, limit: usize) -> Result<Self, Error> {
+        let mut short = [0.0; 4];
+        let (planform, lengths) = set.planform.crossing(&mut short);
+        let (density, value) = set.density.crossing();
+        let mut figures = [0.0; 8];
+        let (tab, figures) = set.crossing(value, &mut figures);
+        let mut glue = [0.0; 2];
+        let (fillet, glue) = set.glue_crossing(&mut glue);
+        let mut job = Self {
+            numbers: [0.0; raw::JOB_NUMBERS],
+            counts: [0; raw::JOB_COUNTS],
+        };
+        let mut values = [0; raw::VALUES];
+        let number = unsafe {
+            raw::delvouzh_job_make(
+                limit,
+                set.count,
+                planform,
+                lengths.as_ptr(),
+                lengths.len(),
+                set.section.crossing(),
+                tab,
+                density,
+                figures.as_ptr(),
+                figures.len(),
+                fillet,
+                glue.as_ptr(),
+                glue.len(),
+                job.numbers.as_mut_ptr(),
+                job.numbers.len(),
+                job.counts.as_mut_ptr(),
+                job.counts.len(),
+                values.as_mut_ptr(),
+                values.len(),
+            )
+        };
+        Error::unless_zero(number, values)?;
+        Ok(job)
+    }
+
+    /// Works the next strip. The last one's step, or that of one refused, gives the answer of `mass_properties` for the set with the density taken
+    /// last. A scratch that is too short is refused, and the job goes on as it was.
+    pub fn step(&mut self, scratch: &mut [f64]) -> Result<Step, RunError> {
+        let mut body = [0.0; raw::BODY];
+        let mut counts = [0; raw::COUNTS];
+        let number = unsafe {
+            raw::delvouzh_job_step(
+                self.numbers.as_mut_ptr(),
+                self.numbers.len(),
+                self.counts.as_mut_ptr(),
+                self.counts.len(),
+                scratch.as_mut_ptr(),
+                scratch.len(),
+                body.as_mut_ptr(),
+                body.len(),
+                counts.as_mut_ptr(),
+                counts.len(),
+            )
+        };
+        if number == raw::MORE {
+            return Ok(Step::More);
+        }
+        let [first, second, intervals, samples] = counts;
+        RunError::unless_zero(number, [first, second], samples)?;
+        let body = Body::from_numbers(body);
+        Ok(Step::Done(Figures {
+            body,
+            intervals,
+            samples,
+        }))
+    }
+
+    /// Another density for the plates, as long as the job has not ended; a refused one leaves the old one.
+    pub fn change_density(&mut self, density: Density) -> Result<(), RunError> {
+        let (density, value) = density.crossing();
+        let mut counts = [0; raw::COUNTS];
+        let number = unsafe {
+            raw::delvouzh_job_change_density(
+                self.numbers.as_mut_ptr(),
+                self.numbers.len(),
+                self.counts.as_mut_ptr(),
+                self.counts.len(),
+                density,
+                value,
+                counts.as_mut_ptr(),
+                counts.len(),
+            )
+        };
+        let [first, second, _, samples] = counts;
+        RunError::unless_zero(number, [first, second], samples)
+    }
+}

@@ -1,0 +1,204 @@
+//! Jobs worked strip by strip, beside whole runs.
+use delvouzh::{
+    mass_properties, scratch_len, Density, Error, Fillet, FinSet, Job, Planform, Refusal, RunError, Section, Step, Tab,
+};
+
+/// Numbers that look random (xorshift).
+struct Random(u64);
+
+impl Random {
+    fn below(&mut self, n: u64) -> u64 {
+        self.0 ^= self.0 << 13;
+        self.0 ^= self.0 >> 7;
+        self.0 ^= self.0 << 17;
+        (self.0 >> 11) % n
+    }
+
+    fn between(&mut self, lower: f64, upper: f64) -> f64 {
+        lower + (upper - lower) * self.below(1 << 20) as f64 / (1 << 20) as f64
+    }
+
+    /// From the root's leading edge back to its trailing edge.
+    fn outline(&mut self) -> Vec<[f64; 2]> {
+        let inner = 1 + self.below(14);
+        let point = |i: u64, height| [0.02 * i as f64, height];
+        let mut points = vec![[0.0, 0.0]];
+        points.extend((1..=inner).map(|i| point(i, 0.02 * (1 + self.below(16)) as f64)));
+        points.push(point(inner + 1, 0.0));
+        points
+    }
+
+    fn planform<'a>(&mut self, points_m: &'a [[f64; 2]]) -> Planform<'a> {
+        match self.below(4) {
+            0 => Planform::Trapezoid {
+                root_chord_m: self.between(0.1, 1.0),
+                tip_chord_m: self.between(0.0, 1.0),
+                span_m: self.between(0.05, 1.0),
+                sweep_m: self.between(-0.5, 0.5),
+            },
+            1 => Planform::Ellipse {
+                root_chord_m: self.between(0.1, 1.0),
+                span_m: self.between(0.05, 1.0),
+            },
+            _ => Planform::Outline { points_m },
+        }
+    }
+
+    fn density(&mut self) -> Density {
+        match self.below(8) {
+            0 => Density::Surface { kg_m2: 1.0 },
+            1 => Density::Bulk { kg_m3: 40000.0 },
+            2 => Density::Line { kg_m: 0.0 },
+            _ => Density::Bulk {
+                kg_m3: self.between(50.0, 900.0),
+            },
+        }
+    }
+
+    fn set<'a>(&mut self, points_m: &'a [[f64; 2]]) -> FinSet<'a> {
+        let section = [
+            Section::Square,
+            Section::Rounded,
+            Section::Airfoil,
+            Section::AirfoilOpen,
+        ][self.below(4) as usize];
+        FinSet {
+            count: 1 + self.below(8) as usize,
+            planform: self.planform(points_m),
+            thickness_m: self.between(0.001, 0.01),
+            section,
+            tab: (self.below(2) == 0).then(|| Tab {
+                height_m: 0.01,
+                length_m: 0.03,
+                offset_m: 0.005,
+            }),
+            fillet: (self.below(2) == 0).then(|| Fillet {
+                radius_m: 0.01,
+                density: Density::Bulk { kg_m3: 1200.0 },
+            }),
+            cant_rad: [0.0, 0.05][self.below(2) as usize],
+            base_angle_rad: self.between(0.0, 1.0),
+            body_radius_m: 0.05,
+            density: Density::Bulk { kg_m3: 680.0 },
+        }
+    }
+}
+
+fn refused(refusal: Refusal, samples: usize) -> RunError {
+    RunError {
+        error: Error::Refused(refusal),
+        samples,
+    }
+}
+
+/// Steps a job to its end, with changes of density and short steps in between, and gives its answer, the steps that counted and the density
+/// taken last.
+fn worked(
+    job: &mut Job,
+    random: &mut Random,
+    scratch: &mut [f64],
+    density: Density,
+) -> (Result<Step, RunError>, usize, Density) {
+    let (mut steps, mut last) = (0, density);
+    loop {
+        while random.below(3) == 0 {
+            let other = random.density();
+            match job.change_density(other) {
+                Ok(()) => last = other,
+                Err(failed) => assert_eq!(failed.error, Error::Refused(Refusal::Density)),
+            }
+        }
+        if random.below(4) == 0 {
+            let before = scratch.to_vec();
+            let short = job.step(&mut scratch[..15]).unwrap_err();
+            assert_eq!(short.error, Error::Refused(Refusal::Scratch));
+            assert_eq!(before, scratch, "a short step writes nothing");
+        }
+        steps += 1;
+        let answer = job.step(scratch);
+        if answer != Ok(Step::More) {
+            return (answer, steps, last);
+        }
+    }
+}
+
+#[test]
+fn a_job_ends_as_a_fresh_run_with_the_density_taken_last() {
+    let mut random = Random(20261116);
+    let (mut done, mut most) = (0, 0);
+    for _ in 0..3000 {
+        let points = random.outline();
+        let set = random.set(&points);
+        let limit = [1, 2, 8, 64][random.below(4) as usize];
+        let mut whole = vec![7.0; scratch_len(limit)];
+        let mut scratch = whole.clone();
+        let mut job = match Job::new(&set, limit) {
+            Ok(job) => job,
+            Err(error) => {
+                assert_eq!(
+                    mass_properties(&set, limit, &mut whole),
+                    Err(RunError { error, samples: 0 })
+                );
+                continue;
+            }
+        };
+        let (answer, steps, density) = worked(&mut job, &mut random, &mut scratch, set.density);
+        let fresh = mass_properties(&FinSet { density, ..set }, limit, &mut whole);
+        assert_eq!(answer, fresh.map(Step::Done));
+        assert_eq!(scratch, whole, "the strips leave what a whole run does");
+        assert_eq!(job.step(&mut []), answer, "the same again, with no scratch");
+        assert!(steps <= 63);
+        let samples = fresh.map_or_else(|failed| failed.samples, |figures| figures.samples);
+        assert_eq!(
+            job.change_density(set.density),
+            Err(refused(Refusal::Density, samples)),
+            "no change after the end"
+        );
+        done += usize::from(fresh.is_ok());
+        most = most.max(steps);
+    }
+    assert!(
+        done > 1000 && most > 10,
+        "{done} jobs with figures, {most} steps at most"
+    );
+}
+
+#[test]
+fn a_refused_set_has_no_job() {
+    let mut random = Random(1);
+    let points = random.outline();
+    let set = FinSet {
+        thickness_m: 65.0,
+        ..random.set(&points)
+    };
+    assert_eq!(
+        Job::new(&set, 8).unwrap_err(),
+        Error::Refused(Refusal::Length { field: 7 })
+    );
+    assert_eq!(Job::new(&set, 65).unwrap_err(), Error::Refused(Refusal::Limit));
+}
+
+#[test]
+fn short_steps_and_refused_changes_carry_the_samples_so_far() {
+    let points = [[0.0, 0.0], [0.05, 0.1], [0.1, 0.05], [0.2, 0.0]];
+    let mut random = Random(2);
+    let set = FinSet {
+        planform: Planform::Outline { points_m: &points },
+        ..random.set(&points)
+    };
+    let mut scratch = vec![0.0; scratch_len(64)];
+    let mut job = Job::new(&set, 64).unwrap();
+    let line = Density::Line { kg_m: 1.0 };
+    assert_eq!(job.change_density(line), Err(refused(Refusal::Density, 0)));
+    assert_eq!(job.step(&mut scratch[..1023]), Err(refused(Refusal::Scratch, 0)));
+    assert_eq!(job.step(&mut scratch), Ok(Step::More));
+    let so_far = job.change_density(line).unwrap_err().samples;
+    assert!(so_far >= 15);
+    assert_eq!(job.step(&mut []), Err(refused(Refusal::Scratch, so_far)));
+    let mut other = job.clone();
+    assert_eq!(
+        job.step(&mut scratch),
+        other.step(&mut scratch),
+        "a clone goes on from where it was made"
+    );
+}
