@@ -1,11 +1,11 @@
--- `test_jobs::whole` is safe: the number is small. Assumes nothing.
+-- `test_sets::whole` is safe: the number is small. Assumes nothing.
 use Prim.Native.Nat.{_%_, _^_}
 use native.Mathlib.Omega.{arith}
 use borrow.Author.Needs.{needs}
 use lib.Dec.{le→leb}
 use lib.Ieee.{inFloat}
-use Rattle.test_jobs.proofs.whole.Statement.{statement}
-use Rattle.test_jobs.proofs.whole.Tie as tie
+use Rattle.test_sets.proofs.whole.Statement.{statement}
+use Rattle.test_sets.proofs.whole.Tie as tie
 
 int-to-float-result : tie.Need-int-to-float-result
 unfolding inFloat

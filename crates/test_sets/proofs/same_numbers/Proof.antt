@@ -1,10 +1,10 @@
--- `test_jobs::same_numbers` is safe: i runs up to the end of two lists of one length. Assumes nothing.
+-- `test_sets::same_numbers` is safe: i runs up to the end of two lists of one length. Assumes nothing.
 use Prim.Native.Nat.{_-_}
 use native.Mathlib.Omega.{arith}
 use borrow.Author.Needs.{needs}
 use lib.ListN.{length}
-use Rattle.test_jobs.proofs.same_numbers.Statement.{statement}
-use Rattle.test_jobs.proofs.same_numbers.Tie as tie
+use Rattle.test_sets.proofs.same_numbers.Statement.{statement}
+use Rattle.test_sets.proofs.same_numbers.Tie as tie
 
 abbrev Inv-loop : tie.InvT-loop
 Inv-loop a b i₀ i = Unit {0}

@@ -1,9 +1,9 @@
--- `test_jobs::outline` is safe: i runs up to 30. Assumes nothing.
+-- `test_sets::outline` is safe: i runs up to 30. Assumes nothing.
 use Prim.Native.Nat.{_-_}
 use native.Mathlib.Omega.{arith}
 use borrow.Author.Needs.{needs}
-use Rattle.test_jobs.proofs.outline.Statement.{statement}
-use Rattle.test_jobs.proofs.outline.Tie as tie
+use Rattle.test_sets.proofs.outline.Statement.{statement}
+use Rattle.test_sets.proofs.outline.Tie as tie
 
 abbrev Inv-loop : tie.InvT-loop
 Inv-loop seed numbers₀ s₀ x₀ i₀ numbers s x i = Unit {0}

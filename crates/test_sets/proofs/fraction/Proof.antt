@@ -1,11 +1,11 @@
--- `test_jobs::fraction` is safe: the number is small. Assumes nothing.
+-- `test_sets::fraction` is safe: the number is small. Assumes nothing.
 use Prim.Native.Nat.{_%_, _^_}
 use native.Mathlib.Omega.{arith}
 use borrow.Author.Needs.{needs}
 use lib.Dec.{le→leb}
 use lib.Ieee.{inFloat}
-use Rattle.test_jobs.proofs.fraction.Statement.{statement}
-use Rattle.test_jobs.proofs.fraction.Tie as tie
+use Rattle.test_sets.proofs.fraction.Statement.{statement}
+use Rattle.test_sets.proofs.fraction.Tie as tie
 
 int-to-float-result : tie.Need-int-to-float-result
 unfolding inFloat
