@@ -19,7 +19,7 @@ use Rattle.rounding_error.proofs.Operations.{near-same}
 use Rattle.rounding_error.proofs.Counts
 use Rattle.accuracy.proofs.Sums.{Valued, more, zero-valued, step}
 use Rattle.accuracy.proofs.Affine.{same-trans, same-sym, same-refl, same-plus, same-times, same-over, zero-plus}
-use Rattle.accuracy.proofs.Moves.{own-size}
+use Rattle.rounding_error.proofs.Counts.{own-size}
 use Rattle.accuracy.proofs.Ends.{middle, zero-value}
 use Rattle.accuracy.proofs.Whole.{Sizes, value-near, positive-value, across}
 

@@ -24,10 +24,10 @@ use Rattle.accuracy.proofs.Heights.{inside, middle-in, reach-small, one
 use Rattle.accuracy.proofs.Whole.{Sizes}
 use Rattle.accuracy.proofs.Area.{area-near}
 
-quarter-ranges : Ranges 2 quarter
+pub quarter-ranges : Ranges 2 quarter
 quarter-ranges = record { real = pow-pos 2; least = omega arith; most = omega arith }
 
-half-ranges : Ranges 1 halfSize
+pub half-ranges : Ranges 1 halfSize
 half-ranges = record { real = pow-pos 1; least = omega arith; most = omega arith }
 
 rule : Rule weight

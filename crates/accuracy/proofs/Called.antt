@@ -13,6 +13,7 @@ use lib.Ieee.{Float, lt, eq, le, ofBits}
 use lib.Ieee.Bits.{is-true}
 use lib.Ieee.Positive.{positive, positive-finite}
 use Rattle.floats.specs.Operations.{_⊕_, _⊖_, _⊗_, _⊘_, bits, at}
+use Rattle.floats.specs.Constants.{half}
 use Rattle.floats.proofs.Bools.{no}
 use Rattle.floats.proofs.Commuted.{times-commuted}
 use Rattle.rounding.proofs.Signs.{positive-plus}
@@ -27,7 +28,7 @@ use Rattle.planforms.specs.Planforms.{rootChordOf, spanOf}
 use Rattle.breaks.specs.Breaks.{breakHeights, oneStrip}
 use Rattle.breaks.proofs.Listed.{two-heights}
 use Rattle.chords.specs.Chords.{inSpan, trapezoidAt, endsAt, paired}
-use Rattle.integrands.specs.Integrands.{scaleOf, sumsFrom, areaThree}
+use Rattle.integrands.specs.Integrands.{scaleOf, sumsFrom, areaValues, areaThree}
 use Rattle.integrands.specs.declared.Kind.the-variants.{Area as area}
 use Rattle.quadrature.specs.Rule.{halfSum, halfWidth, minusSide, plusSide, weightedTo, kronrodWeight, sumOf, pieceOf, heightsOf}
 use Rattle.quadrature.specs.declared.Piece.{Piece}
@@ -48,9 +49,21 @@ use Rattle.figures.proofs.Reports.{no-refusal}
 use Rattle.accuracy.proofs.Trapezoids.{widthAt}
 
 -- ---- the chord at a height in the span
+abbrev startBy : Float → Float → Float → Float
+startBy sweep f scale = sweep ⊗ f ⊘ scale
+
+abbrev endBy : Float → Float → Float → Float → Float → Float
+endBy root tip sweep f scale = (sweep ⊗ f ⊕ root ⊕ (tip ⊖ root) ⊗ f) ⊘ scale
+
+abbrev pub threeValues : Float → Float → Float → Float → Float → Float → List Float
+threeValues root tip sweep f scale h =
+    (bits 0 ⊕ (endBy root tip sweep f scale ⊖ startBy sweep f scale))
+    ∷ (bits 0 ⊕ half ⊗ (endBy root tip sweep f scale ⊗ endBy root tip sweep f scale ⊖ startBy sweep f scale ⊗ startBy sweep f scale))
+    ∷ (bits 0 ⊕ h ⊗ (endBy root tip sweep f scale ⊖ startBy sweep f scale))
+    ∷ []
+
 chord-there : (b : Bool) (root tip sweep f scale h : Float) → b ≡ true
-    → at (sumsFrom area scale h (bits 0 ∷ bits 0 ∷ bits 0 ∷ bits 0 ∷ []) (paired (cond b (trapezoidAt root tip sweep f) []))) 0
-    ≡ bits 0 ⊕ ((sweep ⊗ f ⊕ root ⊕ (tip ⊖ root) ⊗ f) ⊘ scale ⊖ sweep ⊗ f ⊘ scale)
+    → areaValues (sumsFrom area scale h (bits 0 ∷ bits 0 ∷ bits 0 ∷ bits 0 ∷ []) (paired (cond b (trapezoidAt root tip sweep f) []))) ≡ threeValues root tip sweep f scale h
 unfolding paired sumsFrom
 chord-there true root tip sweep f scale h e = refl
 chord-there false root tip sweep f scale h e = no (sym e)
@@ -62,9 +75,12 @@ module _ (root tip span sweep : Float) (points : List Float) where
   abbrev Scale· : Float
   Scale· = scaleOf Shape points
 
-  pub width-there : (h : Float) → T (inSpan span (h ⊗ Scale·)) → at (areaThree Shape points h) 0 ≡ widthAt root tip span sweep Scale· h
+  pub values-there : (h : Float) → T (inSpan span (h ⊗ Scale·)) → areaThree Shape points h ≡ threeValues root tip sweep (h ⊗ Scale· ⊘ span) Scale· h
   unfolding areaThree endsAt
-  width-there h t = chord-there (inSpan span (h ⊗ Scale·)) root tip sweep (h ⊗ Scale· ⊘ span) Scale· h (is-true _ t)
+  values-there h t = chord-there (inSpan span (h ⊗ Scale·)) root tip sweep (h ⊗ Scale· ⊘ span) Scale· h (is-true _ t)
+
+  pub width-there : (h : Float) → T (inSpan span (h ⊗ Scale·)) → at (areaThree Shape points h) 0 ≡ widthAt root tip span sweep Scale· h
+  width-there h t = ap (λ (l : List Float). at l 0) (values-there h t)
 
   scale-is : Scale· ≡ root ⊕ span
   unfolding scaleOf rootChordOf spanOf

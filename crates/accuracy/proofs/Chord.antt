@@ -19,7 +19,7 @@ use Rattle.rounding.proofs.Ordered.{order→le}
 use Rattle.chords.specs.Chords.{inSpan}
 use Rattle.rounding_error.proofs.Operations.{mul-exact}
 use Rattle.rounding_error.proofs.Counts
-use Rattle.accuracy.proofs.Moves.{own-size}
+use Rattle.rounding_error.proofs.Counts.{own-size}
 use Rattle.quadrature.specs.Rule.{minusSide, plusSide}
 use Rattle.accuracy.proofs.ExactRule.{below, above}
 use Rattle.accuracy.proofs.OnePiece.{centreOf, reachOf}

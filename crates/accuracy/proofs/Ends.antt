@@ -18,7 +18,7 @@ use Rattle.rounding.proofs.Monotone.{positive-num}
 use Rattle.rounding_error.proofs.Operations.{near-same}
 use Rattle.rounding_error.proofs.Counts
 use Rattle.accuracy.proofs.Sums.{Valued, more, zero-valued}
-use Rattle.accuracy.proofs.Moves.{own-size}
+use Rattle.rounding_error.proofs.Counts.{own-size}
 
 -- half the span over the scale
 abbrev pub middle : Float → Float → Number

@@ -19,7 +19,7 @@ use Rattle.accuracy.proofs.OnePiece.{centreOf, reachOf}
 use Rattle.rounding_error.proofs.Distances.{sorted, within-upto}
 use Rattle.rounding.proofs.Monotone.{positive-num}
 use Rattle.rounding_error.proofs.Counts
-use Rattle.accuracy.proofs.Moves.{own-size}
+use Rattle.rounding_error.proofs.Counts.{own-size}
 use Rattle.accuracy.proofs.Piece.{minus-near, plus-near}
 use Rattle.accuracy.proofs.Ends.{middle, halfSize, centre-near, reach-near}
 use Rattle.accuracy.proofs.Whole.{positive-value, own-most}

@@ -18,3 +18,11 @@ pub mod Limits
 pub mod Areas
 pub mod Called
 pub mod Near
+pub mod Weighted
+pub mod Quadratic
+pub mod ChordEnds
+pub mod Integrals
+pub mod AreaSamples
+pub mod AreaIntegrals
+pub mod Centroids
+pub mod CentroidNear

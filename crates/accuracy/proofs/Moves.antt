@@ -13,21 +13,10 @@ use Rattle.accuracy.proofs.Trapezoids.{exactFraction, exactWidth, Bound
 use Rattle.rounding_error.proofs.Distances.{sorted, within-refl, within-plus, within-times, within-upto, times-comm}
 use Rattle.rounding.proofs.Monotone.{positive-num}
 use Rattle.rounding_error.proofs.Counts
+use Rattle.rounding_error.proofs.Counts.{own-size}
 use Rattle.accuracy.proofs.Width.{one, under-one, fraction-under}
 
 ruleset plain = (sorted, one-mul, mul-one, zero-mul, mul-zero, zero-add, add-zero)
-
-pub own-size : (y : Float) → T (positive y) → Under (1 of sizeOf y) (valueOf y)
-own-size nan p = absurd p
-own-size (inf s) p = absurd p
-own-size (fin true m e) p = absurd p
-own-size (fin false m e) p = record { below = go (m * up e) (down e); above = go' (m * up e) (down e) }
-  where
-    go : (N D : ℕ) → (N * 1 + 0 * D) * D ≤ (0 * D + 0 * 1) * D + 1 * N * (D * 1)
-    go N D = simp plain (omega arith)
-
-    go' : (N D : ℕ) → (0 * D + 0 * 1) * D ≤ (N * 1 + 0 * D) * D + 1 * N * (1 * D)
-    go' N D = simp plain (omega arith)
 
 slope : (k b d Ns Ds Np Dp P : ℕ)
     → (0 * (d * (Np * (Ds * (Ns * Dp * P)))) + 2 * b * (1 * Ns * (k * (Np * Ds)) * Dp) * 1) * Ds * (Ns * d * P) ≤ 2 * k * (b * Ds) * (Ns * (1 * (d * (Np * (Ds * (Ns * Dp * P))))))

@@ -122,12 +122,20 @@ module _ (root tip span sweep : Float) (points : List Float) (L : ℕ) (entry : 
   pub sized : Sized Shape points
   sized = planform-sized Shape points (g .f64s) (area-planform Shape points L (length entry) (figures-given .accepted))
 
-  span-above : lt (bits 0) span ≡ true
+  pub span-above : lt (bits 0) span ≡ true
   span-above = positive-above span (positive-of span 20 (sized .1 .1 .0 .not-minus) (sized .1 .1 .0 .above))
+
+  -- one interval is one piece, the whole strip
+  pub one-piece : r .intervals ≡ 1 → piecesOf (Strip root tip span sweep points L span-above) ≡ pieceOf 3 (areaThree Shape points) (bits 0 ⊘ S) (span ⊘ S) ∷ []
+  one-piece one =
+      let apart = ends-apart root tip span sweep points L span-above (length entry) r figures-given (scale-sized Shape points sized .is-positive) in
+      only-piece 3 (areaThree Shape points) (bits 0 ⊘ S) (span ⊘ S) L apart
+      (subst (λ (b : Bool). cond b 1 (length (piecesOf (Strip root tip span sweep points L span-above))) ≡ 1) apart
+      (sym (intervals-are root tip span sweep points L span-above) ∙ sym (figures-given .intervals) ∙ one))
 
   module _ (b d : ℕ) (reach : Reach b d root tip sweep) where
     -- B at most 64, which every length is
-    sizes : b ≤ 64 * d → Lengths root tip span sweep S (b per d)
+    pub sizes : b ≤ 64 * d → Lengths root tip span sweep S (b per d)
     sizes most = lengths root tip span sweep S b d (reach .is-size) most (sized .0) (sized .1 .1 .0) (scale-sized Shape points sized) (reach .root-most) (reach .tip-most) (reach .sweep-most)
 
     area-is : (m : b ≤ 64 * d) → r .intervals ≡ 1 → r .«area_m2» ≡ areaOf kronrodWeight root tip span sweep S
@@ -136,11 +144,6 @@ module _ (root tip span sweep : Float) (points : List Float) (L : ℕ) (entry : 
         let f = areaThree Shape points in
         let l = bits 0 ⊘ S in
         let u = span ⊘ S in
-        let apart = ends-apart root tip span sweep points L span-above (length entry) r figures-given (scale-sized Shape points sized .is-positive) in
-        let few : length (piecesOf (Strip root tip span sweep points L span-above)) ≡ 1 =
-        subst (λ (b : Bool). cond b 1 (length (piecesOf (Strip root tip span sweep points L span-above))) ≡ 1) apart
-        (sym (intervals-are root tip span sweep points L span-above) ∙ sym (figures-given .intervals) ∙ one) in
-        let whole : piecesOf (Strip root tip span sweep points L span-above) ≡ pieceOf 3 f l u ∷ [] = only-piece 3 f l u L apart few in
         let same : sumOf kronrodWeight f l u 0 ≡ weightedTo 7 kronrodWeight (widthAt root tip span sweep S) (centreOf span S) (reachOf span S) =
         same-sum 7 kronrodWeight (λ h. at (f h) 0) (widthAt root tip span sweep S) (centreOf span S) (reachOf span S) (width-there root tip span sweep points (centreOf span S) (c .centre))
         (λ i k. width-there root tip span sweep points (minusSide (centreOf span S) (reachOf span S) i) (c .minus-side i k))
@@ -148,7 +151,7 @@ module _ (root tip span sweep : Float) (points : List Float) (L : ℕ) (entry : 
         figures-given .area
         ∙ ap (λ (x : Float). x ⊗ S ⊗ S)
         (total-is root tip span sweep points L span-above 0 (lit≤ tt)
-        ∙ ap (λ (x : Float). bits 0 ⊕ x) (total-one f l u (piecesOf (Strip root tip span sweep points L span-above)) whole ∙ ap (λ (x : Float). bits 0 ⊕ halfWidth l u ⊗ x) same))
+        ∙ ap (λ (x : Float). bits 0 ⊕ x) (total-one f l u (piecesOf (Strip root tip span sweep points L span-above)) (one-piece one) ∙ ap (λ (x : Float). bits 0 ⊕ halfWidth l u ⊗ x) same))
 
     area-near : (m : b ≤ 64 * d) → r .intervals ≡ 1 → Near (r .«area_m2») (exactArea root tip span) ((1 per 2 ^ 44) by (sizeOf span by (b per d)))
     area-near m one =

@@ -21,7 +21,8 @@ use Rattle.rounding_error.proofs.Counts
 use Rattle.accuracy.proofs.Width.{mul-one-roundoffs, under-one, width-near}
 use Rattle.accuracy.proofs.Sums.{Valued, Weighs, Sampled, weighted-near, errorTo}
 use Rattle.accuracy.proofs.Affine.{same-times, width-total, width-even, rule-exact, exact-is, weights-is}
-use Rattle.accuracy.proofs.Moves.{own-size, width-moves, width-size}
+use Rattle.rounding_error.proofs.Counts.{own-size}
+use Rattle.accuracy.proofs.Moves.{width-moves, width-size}
 
 -- ---- the sample heights
 offset-near : (x reach : Float) (H : Size) → InRange H → T (finite reach) → T (finite x) → Under (1 of H) (valueOf reach) → Under (1 of one) (valueOf x)

@@ -17,16 +17,16 @@ use Rattle.gauss_kronrod.specs.Tables.{nodes, kronrodWeights}
 use Rattle.accuracy.proofs.ExactRule.{node}
 
 -- ---- the tests
-abbrev overTest : Size → Number → Number → Bool
+abbrev pub overTest : Size → Number → Number → Bool
 overTest (a per c) (number p n d) (number q m e) = leb ((p * e + m * d) * c) ((q * d + n * e) * c + a * (d * e))
 
-abbrev withinTest : Size → Number → Number → Bool
+abbrev pub withinTest : Size → Number → Number → Bool
 withinTest e x y = overTest e x y && overTest e y x
 
 tested-over : (e : Size) (x y : Number) → T (overTest e x y) → Over e x y
 tested-over (a per c) (number p n d) (number q m e) t = leb→le ((p * e + m * d) * c) ((q * d + n * e) * c + a * (d * e)) t
 
-tested : (e : Size) (x y : Number) → T (withinTest e x y) → Within e x y
+pub tested : (e : Size) (x y : Number) → T (withinTest e x y) → Within e x y
 tested e x y t = record { below = tested-over e x y (and-l (overTest e x y) (overTest e y x) t); above = tested-over e y x (and-r (overTest e x y) (overTest e y x) t) }
 
 unfoldable weightTest : ℕ → Bool

@@ -21,11 +21,12 @@ use Rattle.rounding_error.proofs.Operations.{near-same}
 use Rattle.rounding_error.proofs.Counts
 use Rattle.accuracy.proofs.Sums.{Valued, more, zero-valued, step}
 use Rattle.accuracy.proofs.Affine.{same-trans, same-sym, same-refl, same-plus, same-times, same-over, zero-plus, width-total, weights-is}
-use Rattle.accuracy.proofs.Moves.{own-size, width-moves, width-size}
+use Rattle.rounding_error.proofs.Counts.{own-size}
+use Rattle.accuracy.proofs.Moves.{width-moves, width-size}
 use Rattle.accuracy.proofs.Piece.{piece-near}
 use Rattle.accuracy.proofs.Ends.{middle, halfSize, centre-near, reach-near}
 
-one-by : (B : Size) → one by B ≡ B
+pub one-by : (B : Size) → one by B ≡ B
 one-by (a per c) = go (one-mul a) (one-mul c)
   where
     go : {a a' c c' : ℕ} → a' ≡ a → c' ≡ c → a' per c' ≡ a per c
@@ -50,7 +51,7 @@ half-under = record { below = omega arith; above = omega arith }
 half-less : (a c : ℕ) → 1 * 1 * (1 * a) * c ≤ 1 * a * (2 * c)
 half-less a c = simp (sorted, one-mul) (omega arith)
 
-middle-under : (span scale : Float) → T (positive span) → T (positive scale) → Under (1 of (sizeOf span for scale)) (middle span scale)
+pub middle-under : (span scale : Float) → T (positive span) → T (positive scale) → Under (1 of (sizeOf span for scale)) (middle span scale)
 middle-under span scale p q =
     within-upto ((1 * 1) of (halfSize by (sizeOf span for scale))) (1 of (sizeOf span for scale)) (middle span scale) (number 0 0 1) (mul-pos (pow-pos 1) (mul-pos (positive-num scale q) (den-pos span)))
     (half-less (num span * den scale) (num scale * den span))

@@ -1,17 +1,17 @@
 -- Errors counted in units: `k roundoffs B` is k·2^-53·B. Assumes nothing.
 use mathlib.Core.Path.{_≡_, refl, sym, ap, _∙_, subst}
 use Prim.Native.Nat.{ℕ, suc, _+_, _-_, _*_, _^_, _≤_, _<_}
-use native.Mathlib.Nat.{le-refl, le-trans, le-of-eq, mul-pos, mul-le-mul-right, mul-le-mul-left, mul-le-mul, le-of-mul-le-mul-right, mul-add, add-mul, mul-comm, mul-assoc, mul-left-comm, one-mul, mul-one}
+use native.Mathlib.Nat.{le-refl, le-trans, le-of-eq, mul-pos, mul-le-mul-right, mul-le-mul-left, mul-le-mul, le-of-mul-le-mul-right, mul-add, add-mul, mul-comm, mul-assoc, mul-left-comm, one-mul, mul-one, zero-mul, zero-add}
 use native.Mathlib.Omega.{arith}
 use lib.Dec.{T}
 use lib.Pow.{pow-add, pow-pos, pow-mono}
-use lib.Ieee.{Float, nan, inf, fin}
+use lib.Ieee.{Float, nan, inf, fin, up, down}
 use lib.Ieee.Fits.{down-pos}
 use mathlib.Core.Bool.{true, false}
 use lib.Ieee.Scale.{finite}
 use lib.Ieee.Positive.{num, den, den-pos, positive}
 use Rattle.floats.specs.Operations.{_⊕_, _⊖_, _⊗_, _⊘_}
-use Rattle.rounding_error.proofs.Numbers.{Number, number, Size, _per_, _plus_, minus, _less_, _times_, _over_, _and_, _by_, _for_, _of_, _roundoffs_, roundoff, _upto_, IsNumber, IsSize, Over, Within, Same, zeroNumber, Under, valueOf, Near, Normal, InRange}
+use Rattle.rounding_error.proofs.Numbers.{Number, number, Size, _per_, _plus_, minus, _less_, _times_, _over_, _and_, _by_, _for_, _of_, _roundoffs_, roundoff, _upto_, IsNumber, IsSize, Over, Within, Same, zeroNumber, Under, valueOf, Near, Normal, InRange, sizeOf}
 use Rattle.rounding_error.proofs.Distances.{sorted, within-refl, within-trans, within-sym, within-upto, within-same, within-plus, within-minus, within-times, times-comm}
 use Rattle.rounding.proofs.Monotone.{positive-num}
 use Rattle.rounding_error.proofs.Operations.{mul-exact, add-exact, sub-exact, div-exact, neg-value}
@@ -76,6 +76,18 @@ pub over-is : (x : Number) (y : Float) → IsNumber x → T (positive y) → IsN
 over-is (number p n d) y h k = mul-pos (positive-num y k) h
 
 -- ---- sizes
+pub by-is : (A B : Size) → IsSize A → IsSize B → IsSize (A by B)
+by-is (a per c) (b per d) h k = mul-pos h k
+
+pub for-is : (A : Size) (y : Float) → IsSize A → T (positive y) → IsSize (A for y)
+for-is (a per c) y h p = mul-pos (positive-num y p) h
+
+pub roundoffs-is : (k : ℕ) (A : Size) → IsSize A → IsSize (k roundoffs A)
+roundoffs-is k (a per c) h = mul-pos h (pow-pos 53)
+
+pub of-is : (k : ℕ) (A : Size) → IsSize A → IsSize (k of A)
+of-is k (a per c) h = h
+
 pub under-plus : (j l : ℕ) (B : Size) (x y : Number) → IsSize B → Under (j of B) x → Under (l of B) y → Under ((j + l) of B) (x plus y)
 under-plus j l B x y C h k = under-of j l B (x plus y) zeroNumber C (within-plus (j of B) (l of B) x zeroNumber y zeroNumber h k)
 
@@ -117,12 +129,28 @@ sized-number k j (a per c) x v C I h n u =
 pub sized : (k j : ℕ) (B : Size) (x : Float) (v : Number) → IsSize B → IsNumber v → k ≤ 2 ^ 53 → Near x v (k roundoffs B) → Under (j of B) v → Under ((suc j) of B) (valueOf x)
 sized k j B x v C I h n u = sized-number k j B (valueOf x) v C I h (n .within) u
 
+-- ---- an f64 above 0 is its own size
+pub own-size : (y : Float) → T (positive y) → Under (1 of sizeOf y) (valueOf y)
+own-size nan p = absurd p
+own-size (inf s) p = absurd p
+own-size (fin true m e) p = absurd p
+own-size (fin false m e) p = record { below = go (m * up e) (down e); above = go' (m * up e) (down e) }
+  where
+    go : (N D : ℕ) → (N * 1 + 0 * D) * D ≤ (0 * D + 0 * 1) * D + 1 * N * (D * 1)
+    go N D = simp (sorted, one-mul, mul-one, zero-mul, zero-add) (omega arith)
+
+    go' : (N D : ℕ) → (0 * D + 0 * 1) * D ≤ (N * 1 + 0 * D) * D + 1 * N * (1 * D)
+    go' N D = simp (sorted, one-mul, mul-one, zero-mul, zero-add) (omega arith)
+
 -- ---- an f64 is near itself
 none : (a c : ℕ) → 0 * c ≤ 0 * a * 1
 none a c = omega arith
 
+pub itself-within : (x : Number) (B : Size) → Within (0 roundoffs B) x x
+itself-within x (a per c) = within-upto (0 per 1) (0 roundoffs (a per c)) x x (pow-pos 0) (none a (c * 2 ^ 53)) (within-refl x)
+
 pub itself : (x : Float) (B : Size) → T (finite x) → Near x (valueOf x) (0 roundoffs B)
-itself x (a per c) h = record { finite = h; within = within-upto (0 per 1) (0 roundoffs (a per c)) (valueOf x) (valueOf x) (pow-pos 0) (none a (c * 2 ^ 53)) (within-refl (valueOf x)) }
+itself x (a per c) h = record { finite = h; within = itself-within (valueOf x) (a per c) }
 
 -- ---- the sum and the difference
 pub add-roundoffs : (x y : Float) (v w : Number) (j k l : ℕ) (B : Size) → InRange B → 1 ≤ j → j ≤ 2 ^ 22

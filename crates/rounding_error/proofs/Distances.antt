@@ -15,7 +15,7 @@ trans-all : (p n d q m e r k f a c b g : ℕ)
     → ((p * f + k * d) * (c * g)) * e ≤ ((r * d + n * f) * (c * g) + (a * g + b * c) * (d * f)) * e
 trans-all p n d q m e r k f a c b g u v = let x = simp sorted at u in let y = simp sorted at v in simp sorted (omega (arith, x, y))
 
-over-trans : (e f : Size) (x y z : Number) → IsNumber y → Over e x y → Over f y z → Over (e and f) x z
+pub over-trans : (e f : Size) (x y z : Number) → IsNumber y → Over e x y → Over f y z → Over (e and f) x z
 over-trans (a per c) (b per g) (number p n d) (number q m e) (number r k f) E h i =
     le-of-mul-le-mul-right (trans-all p n d q m e r k f a c b g (mul-le-mul-right (f * g) h) (mul-le-mul-right (d * c) i)) E
 
@@ -36,7 +36,7 @@ pub within-refl : (x : Number) → Within (0 per 1) x x
 within-refl (number p n d) = record { below = omega arith; above = omega arith }
 
 -- ---- a larger error
-over-upto : (e f : Size) (x y : Number) → IsSize e → e upto f → Over e x y → Over f x y
+pub over-upto : (e f : Size) (x y : Number) → IsSize e → e upto f → Over e x y → Over f x y
 over-upto (a per c) (b per g) (number p n d) (number q m e) C l h =
     le-of-mul-le-mul-right (go (mul-le-mul-right g h) (mul-le-mul-right (d * e) l)) C
   where
@@ -91,7 +91,7 @@ within-minus (a per c) (number p n d) (number q m e) h = record { below = go p n
 
 -- ---- products
 -- (b − a)·(d − c) is not negative
-four : (a b c d : ℕ) → a ≤ b → c ≤ d → a * d + b * c ≤ b * d + a * c
+pub four : (a b c d : ℕ) → a ≤ b → c ≤ d → a * d + b * c ≤ b * d + a * c
 four a b c d h k =
     subst (λ (b : ℕ). a * d + b * c ≤ b * d + a * c) (add-sub-of-le h)
     (subst (λ (d : ℕ). a * d + (a + (b - a)) * c ≤ (a + (b - a)) * d + a * c) (add-sub-of-le k) (go (b - a) (d - c)))

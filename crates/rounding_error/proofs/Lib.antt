@@ -5,3 +5,6 @@ pub mod Operations
 pub mod Counts
 pub mod Ranges
 pub mod Fractions
+pub mod Polynomials
+pub mod Chains
+pub mod Quotients

@@ -1,0 +1,181 @@
+-- The three components of the area are quadratics of the fraction of the span, and their totals are near the exact integrals. Assumes nothing.
+use mathlib.Core.Path.{_≡_, refl, sym, ap, _∙_, subst}
+use mathlib.Core.List.{List, [], _∷_}
+use Prim.Native.Nat.{ℕ, zero, suc, _+_, _*_, _^_, _≤_, _<_}
+use native.Mathlib.Nat.{mul-pos, mul-add, add-mul, mul-comm, mul-assoc, mul-left-comm, one-mul}
+use native.Mathlib.Omega.{arith}
+use lib.Dec.{T}
+use lib.Pow.{pow-pos}
+use lib.Ieee.{Float}
+use lib.Ieee.Positive.{den-pos}
+use Rattle.rounding_error.proofs.Numbers.{Number, number, Size, _per_, _plus_, _less_, _times_, _by_, _of_, IsNumber, IsSize, Under, valueOf, zeroNumber, sizeOf}
+use Rattle.rounding_error.proofs.Distances.{sorted, within-upto}
+use Rattle.rounding_error.proofs.Counts as Counts
+use Rattle.rounding_error.proofs.Chains.{Valued, inverse, inverse-is, under-inverse}
+use Rattle.rounding_error.proofs.Polynomials.{_equals_, plus-is, less-is, times-is, Expression, given, ratio, _add_, _take_, _mul_, AllNumbers, equal-by, evaluated-is}
+use Rattle.accuracy.proofs.Samples.{one, quarter}
+use Rattle.accuracy.proofs.Given.{Lengths}
+use Rattle.accuracy.proofs.Ends.{halfSize}
+use Rattle.accuracy.proofs.Weighted.{middle}
+use Rattle.accuracy.proofs.Quadratic.{Quadratic, integral, two-under}
+use Rattle.accuracy.proofs.Whole.{one-by}
+use Rattle.accuracy.proofs.ChordEnds as Chord
+use Rattle.accuracy.proofs.AreaSamples as Area
+use Rattle.accuracy.proofs.Integrals.{totalOver, totalError, sumSize, total-valued}
+
+-- the exact chord as an expression of sweep, root, tip, 1/scale, span/scale and the fraction: places 0 to 5
+abbrev pub startE : Expression → Expression
+startE τ = given 0 mul τ mul given 3
+
+abbrev pub endE : Expression → Expression
+endE τ = (given 0 mul τ add given 1 add (given 2 take given 1) mul τ) mul given 3
+
+abbrev pub widthE : Expression → Expression
+widthE τ = endE τ take startE τ
+
+abbrev pub momentE : Expression → Expression
+momentE τ = ratio 1 1 mul (endE τ mul endE τ take startE τ mul startE τ)
+
+abbrev pub heightE : Expression → Expression
+heightE τ = given 4 mul τ mul (endE τ take startE τ)
+
+-- v(1/2 − d) + v(1/2 + d), and 2·v(1/2) + q·d²
+abbrev pub bothE : (Expression → Expression) → Expression
+bothE v = v (ratio 1 1 take given 5) add v (ratio 1 1 add given 5)
+
+abbrev pub twiceE : (Expression → Expression) → Expression → Expression
+twiceE v q = v (ratio 1 1) add v (ratio 1 1) add q mul (given 5 mul given 5)
+
+abbrev pub momentSecond : Expression
+momentSecond = (given 0 add (given 2 take given 1)) mul given 3 mul ((given 0 add (given 2 take given 1)) mul given 3) take given 0 mul given 3 mul (given 0 mul given 3)
+
+abbrev pub heightSecond : Expression
+heightSecond = ratio 2 0 mul given 4 mul ((given 2 take given 1) mul given 3)
+
+module _ (root tip span sweep scale : Float) (B : Size) (g : Lengths root tip span sweep scale B) where
+  abbrev S : Number
+  S = valueOf sweep
+
+  abbrev R : Number
+  R = valueOf root
+
+  abbrev Tp : Number
+  Tp = valueOf tip
+
+  abbrev σ : Number
+  σ = inverse scale
+
+  abbrev U : Number
+  U = Chord.U root tip span sweep scale B g
+
+  abbrev Bs : Size
+  Bs = Chord.Bs root tip span sweep scale B g
+
+  abbrev H : Size
+  H = Chord.H root tip span sweep scale B g
+
+  pub values : (d : Number) → IsNumber d → AllNumbers (S ∷ R ∷ Tp ∷ σ ∷ U ∷ d ∷ [])
+  values d i =
+      (Counts.value-is sweep, (Counts.value-is root, (Counts.value-is tip, (inverse-is scale (g .scale-positive), (Chord.U-is root tip span sweep scale B g, (i, tt))))))
+
+  abbrev pub all : Number → List Number
+  all d = S ∷ R ∷ Tp ∷ σ ∷ U ∷ d ∷ []
+
+  -- the second derivatives
+  abbrev pub moment-q : Number
+  moment-q = ((S plus (Tp less R)) times σ) times ((S plus (Tp less R)) times σ) less (S times σ) times (S times σ)
+
+  abbrev pub height-q : Number
+  height-q = (number 2 0 1 times U) times ((Tp less R) times σ)
+
+  pub width-quadratic : Quadratic (Area.width root tip span sweep scale B g) zeroNumber
+  width-quadratic =
+      record {
+        is = λ τ i. evaluated-is (all τ) (values τ i) (widthE (given 5));
+        q-is = pow-pos 0;
+        even = λ d i. equal-by (all d) (values d i) (bothE widthE) (twiceE widthE (ratio 0 0)) tt;
+      }
+
+  pub moment-quadratic : Quadratic (Area.moment root tip span sweep scale B g) moment-q
+  moment-quadratic =
+      record {
+        is = λ τ i. evaluated-is (all τ) (values τ i) (momentE (given 5));
+        q-is = evaluated-is (all U) (values U (Chord.U-is root tip span sweep scale B g)) momentSecond;
+        even = λ d i. equal-by (all d) (values d i) (bothE momentE) (twiceE momentE momentSecond) tt;
+      }
+
+  pub height-quadratic : Quadratic (Area.height root tip span sweep scale B g) height-q
+  height-quadratic =
+      record {
+        is = λ τ i. evaluated-is (all τ) (values τ i) (heightE (given 5));
+        q-is = evaluated-is (all U) (values U (Chord.U-is root tip span sweep scale B g)) heightSecond;
+        even = λ d i. equal-by (all d) (values d i) (bothE heightE) (twiceE heightE heightSecond) tt;
+      }
+
+  -- ---- how large they are
+  none-under : (A : Size) → Under (0 of A) zeroNumber
+  none-under (a per c) = record { below = go a c; above = go a c }
+    where
+      go : (a c : ℕ) → (0 * 1 + 0 * 1) * c ≤ (0 * 1 + 0 * 1) * c + 0 * a * (1 * 1)
+      go a c = omega arith
+
+  C : IsSize B
+  C = g .ranges .real
+
+  q : IsNumber σ
+  q = inverse-is scale (g .scale-positive)
+
+  taper-is : IsNumber (Tp less R)
+  taper-is = less-is Tp R (Counts.value-is tip) (Counts.value-is root)
+
+  taper-under : Under (2 of B) (Tp less R)
+  taper-under = Counts.under-less 1 1 B Tp R C (g .tip-under) (g .root-under)
+
+  scaled : (j : ℕ) (v : Number) → IsNumber v → Under (j of B) v → Under (j of Bs) (v times σ)
+  scaled j v i u = under-inverse j B v scale C i (g .scale-positive) u
+
+  moment-q-under : Under (10 of (Bs by Bs)) moment-q
+  moment-q-under =
+      let G = S plus (Tp less R) in
+      let iG : IsNumber G = plus-is S (Tp less R) (Counts.value-is sweep) taper-is in
+      let uG : Under (3 of Bs) (G times σ) = scaled 3 G iG (Counts.under-plus 1 2 B S (Tp less R) C (g .sweep-under) taper-under) in
+      let uS : Under (1 of Bs) (S times σ) = scaled 1 S (Counts.value-is sweep) (g .sweep-under) in
+      let CB = Chord.scaled-ranges root tip span sweep scale B g .real in
+      Counts.under-less 9 1 (Bs by Bs) ((G times σ) times (G times σ)) ((S times σ) times (S times σ)) (Counts.by-is Bs Bs CB CB)
+      (Counts.under-times 3 3 Bs Bs (G times σ) (G times σ) CB CB (times-is G σ iG q) uG uG) (Counts.under-times 1 1 Bs Bs (S times σ) (S times σ) CB CB (times-is S σ (Counts.value-is sweep) q) uS uS)
+
+  in-halves : (A : Size) → IsSize A → (x : Number) → Under (10 of A) x → Under (20 of (halfSize by A)) x
+  in-halves (a per c) D x u = within-upto (10 of (a per c)) (20 of (halfSize by (a per c))) x zeroNumber D (go a c) u
+    where
+      go : (a c : ℕ) → 10 * a * (2 * c) ≤ 20 * (1 * a) * c
+      go a c = simp (sorted, one-mul) (omega arith)
+
+  height-q-under : Under (4 of (H by Bs)) height-q
+  height-q-under =
+      let CB = Chord.scaled-ranges root tip span sweep scale B g .real in
+      let CH = Chord.height-ranges root tip span sweep scale B g .real in
+      Counts.under-times 2 2 H Bs (number 2 0 1 times U) ((Tp less R) times σ) CH CB (times-is (number 2 0 1) U (pow-pos 0) (Chord.U-is root tip span sweep scale B g)) double (scaled 2 (Tp less R) taper-is taper-under)
+    where
+      double : Under (2 of H) (number 2 0 1 times U)
+      double =
+          subst (λ (A : Size). Under (2 of A) (number 2 0 1 times U)) (one-by H)
+          (Counts.under-times 2 1 one H (number 2 0 1) U (pow-pos 0) (Chord.height-ranges root tip span sweep scale B g .real) (pow-pos 0) two-under
+          (under-inverse 1 (sizeOf span) (valueOf span) scale (den-pos span) (Counts.value-is span) (g .scale-positive) (Counts.own-size span (g .span-positive))))
+
+  pub width-total : Valued (totalOver root tip span sweep scale B g (Area.widthAt root tip span sweep scale B g)) (U times integral (Area.width root tip span sweep scale B g) zeroNumber) (totalError 170 5 0) (sumSize 5 0) (H by (quarter by Bs))
+  width-total =
+      total-valued root tip span sweep scale B g (Area.widthAt root tip span sweep scale B g) (Area.width root tip span sweep scale B g) zeroNumber 170 5 0 48 Bs (omega arith) (omega arith) (omega arith) (omega arith)
+      (Chord.scaled-ranges root tip span sweep scale B g) width-quadratic (none-under Bs) (Area.widths-sampled root tip span sweep scale B g)
+
+  pub moment-total : Valued (totalOver root tip span sweep scale B g (Area.momentAt root tip span sweep scale B g)) (U times integral (Area.moment root tip span sweep scale B g) moment-q) (totalError 1315 17 20) (sumSize 17 20)
+      (H by (quarter by (halfSize by (Bs by Bs))))
+  moment-total =
+      total-valued root tip span sweep scale B g (Area.momentAt root tip span sweep scale B g) (Area.moment root tip span sweep scale B g) moment-q 1315 17 20 97 (halfSize by (Bs by Bs)) (omega arith) (omega arith)
+      (omega arith) (omega arith) (Area.moment-ranges root tip span sweep scale B g) moment-quadratic
+      (in-halves (Bs by Bs) (Area.ranges-2 root tip span sweep scale B g .real) moment-q moment-q-under) (Area.moments-sampled root tip span sweep scale B g)
+
+  pub height-total : Valued (totalOver root tip span sweep scale B g (Area.heightAt root tip span sweep scale B g)) (U times integral (Area.height root tip span sweep scale B g) height-q) (totalError 599 10 4) (sumSize 10 4)
+      (H by (quarter by (H by Bs)))
+  height-total =
+      total-valued root tip span sweep scale B g (Area.heightAt root tip span sweep scale B g) (Area.height root tip span sweep scale B g) height-q 599 10 4 96 (H by Bs) (omega arith) (omega arith) (omega arith) (omega arith)
+      (Area.height-ranges root tip span sweep scale B g) height-quadratic height-q-under (Area.heights-sampled root tip span sweep scale B g)

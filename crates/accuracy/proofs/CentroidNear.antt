@@ -1,0 +1,250 @@
+-- The centroid that the call gives for a trapezoid whose strip is one piece is near the exact one. Assumes nothing.
+use mathlib.Core.Path.{_≡_, refl, sym, ap, _∙_, subst}
+use mathlib.Core.Bool.{Bool, true, false, cond}
+use mathlib.Core.List.{List, [], _∷_}
+use Prim.Native.Nat.{ℕ, zero, suc, _+_, _*_, _^_, _≤_, _<_, zero-le}
+use native.Mathlib.Nat.{mul-pos, le-of-eq, mul-add, add-mul, mul-comm, mul-assoc, mul-left-comm, one-mul, mul-one, zero-mul}
+use native.Mathlib.Omega.{arith}
+use lib.Dec.{T, lit≤}
+use lib.ListN.{length}
+use lib.Pow.{pow-pos}
+use lib.IntN.{pos}
+use lib.Ieee.{Float, nan, inf, fin, lt, up, down, binary64, fits, ofBits}
+use lib.Ieee.Scale.{finite}
+use lib.Ieee.Positive.{num, den, den-pos, positive, positive-finite}
+use Rattle.floats.specs.Operations.{_⊕_, _⊗_, _⊘_, bits, at}
+use Rattle.floats.specs.Fractions.{Fraction, _over_, _plus_ as sum, _times_ as product, valueOf as fractionOf}
+use Rattle.floats.proofs.Bools.{of-true}
+use Rattle.floats.proofs.Order.{le-of-not}
+use Rattle.rounding.specs.Sizes.{AtLeast}
+use Rattle.rounding.proofs.Ordered.{le→order}
+use Rattle.rounding.proofs.Signs.{finite-no-nan}
+use Rattle.rounding.proofs.Sizes.{positive-of}
+use Rattle.rounding_error.specs.Distances.{Within as Apart}
+use Rattle.rounding_error.proofs.Numbers.{Number, number, Size, _per_, _plus_, _times_, IsNumber, valueOf}
+use Rattle.rounding_error.proofs.Distances.{sorted, within-upto}
+use Rattle.rounding_error.proofs.Counts as Counts
+use Rattle.rounding_error.proofs.Fractions.{IsFraction, plus-fraction, times-fraction, value-fraction, whole-fraction, shifted-fraction, within-fraction}
+use Rattle.refusals.specs.declared.Verdict.the-variants.{Accepted}
+use Rattle.refusals.proofs.Accepted.{both}
+use Rattle.chords.specs.Chords.{inSpan}
+use Rattle.limits.specs.Limits.{rootChordField, tipChordField, lengthCheck}
+use Rattle.limits.proofs.Lengths.{height-checked}
+use Rattle.planforms.specs.declared.Planform.{Planform}
+use Rattle.planforms.specs.declared.Planform.the-variants.{Trapezoid}
+use Rattle.quadrature.specs.Rule.{halfWidth, minusSide, plusSide, weightedTo, kronrodWeight, sumOf, pieceOf}
+use Rattle.quadrature.specs.declared.Piece.{Piece}
+use Rattle.tolerance.specs.Bounds.{totalOf}
+use Rattle.integrands.specs.Integrands.{scaleOf, areaThree}
+use Rattle.integrands.proofs.Scales.{scale-sized}
+use Rattle.fins.specs.Fins.{planformCheck}
+use Rattle.fins.proofs.Accepted.{area-planform}
+use Rattle.strips.specs.Strips.{piecesOf, valueFrom}
+use Rattle.figures.specs.Areas.{areaSeven}
+use Rattle.figures.specs.declared.Area.{Area}
+use Rattle.accuracy.specs.Areas.{AreaGiven, Reach}
+use Rattle.accuracy.specs.Centroids.{thrice, alongRoot, inHeight, CentroidNear, OnePieceCentroid}
+use Rattle.accuracy.proofs.OnePiece.{centreOf, reachOf}
+use Rattle.accuracy.proofs.Given.{Lengths, AllHaveChords}
+use Rattle.accuracy.proofs.Areas.{all-have-chords}
+use Rattle.accuracy.proofs.AreaSamples as Values
+use Rattle.accuracy.proofs.Integrals.{totalOver}
+use Rattle.accuracy.proofs.Called.{Strip, total-is, intervals-are, ends-apart, only-piece, same-sum, values-there}
+use Rattle.accuracy.proofs.Near.{figures-given, sized, sizes, span-above, one-piece}
+use Rattle.accuracy.proofs.Centroids as Centroids
+use Rattle.accuracy.proofs.Centroids.{NotBelow, along-near, height-near, along-finite, height-finite, along-is, height-is, D3-is}
+
+-- ---- the totals of one piece
+total-one : (k : ℕ) → k < 3 → (f : Float → List Float) (a b : Float) (pieces : List Piece) → pieces ≡ pieceOf 3 f a b ∷ [] → totalOf pieces k ≡ bits 0 ⊕ halfWidth a b ⊗ sumOf kronrodWeight f a b k
+unfolding totalOf pieceOf
+total-one zero l f a b pieces e = rw e
+total-one (suc zero) l f a b pieces e = rw e
+total-one (suc (suc zero)) l f a b pieces e = rw e
+total-one (suc (suc (suc k))) l f a b pieces e = absurd (let z : ⊥ = omega arith in z)
+
+-- ---- a tip chord is not below 0
+not-below : (x : Float) → T (finite x) → lt x (bits 0) ≡ false → NotBelow (valueOf x)
+unfolding ofBits
+not-below nan i h = absurd i
+not-below (inf s) i h = absurd i
+not-below (fin false m e) i h = zero-le
+not-below (fin true m e) i h = let o = le→order (bits 0) (fin true m e) tt tt (of-true _ (le-of-not (bits 0) (fin true m e) (finite-no-nan (bits 0) tt) (finite-no-nan (fin true m e) tt) h)) in omega arith
+
+tip-checked : (root tip span sweep : Float) (points : List Float) → T (fits binary64 tip) → planformCheck (Trapezoid root tip span sweep) points ≡ Accepted → lt tip (bits 0) ≡ false
+unfolding planformCheck
+tip-checked root tip span sweep points f h = height-checked tipChordField tip f (both (lengthCheck tipChordField tip) _ (both (lengthCheck rootChordField root) _ h .1) .0) refl refl .not-under
+
+-- ---- from the numbers of proofs to fractions
+own-fraction : (x : Float) → T (finite x) → NotBelow (valueOf x) → IsFraction (number (num x) 0 (den x)) (fractionOf x)
+own-fraction nan i h = absurd i
+own-fraction (inf s) i h = absurd i
+own-fraction (fin false m e) i h = value-fraction (fin false m e) i
+own-fraction (fin true m e) i h = shifted-fraction (m * up e) 0 0 (m * up e) (down e) (fractionOf (fin true m e)) (omega arith) (value-fraction (fin true m e) i)
+
+-- a product of fractions not below 0
+product-fraction : (a c p e : ℕ) (v w : Fraction) → IsFraction (number a 0 c) v → IsFraction (number p 0 e) w → IsFraction (number (a * p) 0 (c * e)) (product v w)
+product-fraction a c p e v w h k = shifted-fraction (a * p) 0 (a * p + 0 * 0) (a * 0 + 0 * p) (c * e) (product v w) (none a p) (times-fraction (number a 0 c) (number p 0 e) v w h k)
+  where
+    none : (a p : ℕ) → a * p + (a * 0 + 0 * p) ≡ 0 + (a * p + 0 * 0)
+    none a p = omega arith
+
+sum-fraction : (a c p e : ℕ) (v w : Fraction) → IsFraction (number a 0 c) v → IsFraction (number p 0 e) w → IsFraction (number (a * e + p * c) 0 (c * e)) (sum v w)
+sum-fraction a c p e v w h k = shifted-fraction (a * e + p * c) 0 (a * e + p * c) (0 * e + 0 * c) (c * e) (sum v w) (none (a * e) (p * c) c e) (plus-fraction (number a 0 c) (number p 0 e) v w h k)
+  where
+    none : (x y c e : ℕ) → x + y + (0 * e + 0 * c) ≡ 0 + (x + y)
+    none x y c e = omega arith
+
+module _ (root tip span sweep : Float) (points : List Float) (L : ℕ) (entry : List Float) (r : Area) (exit : List Float) (b d κ : ℕ) (g : AreaGiven root tip span sweep points L entry r exit)
+    (one : r .intervals ≡ 1) (reach : Reach b d root tip sweep) (most : b ≤ 64 * d) where
+  abbrev Shape : Planform
+  Shape = Trapezoid root tip span sweep
+
+  abbrev S : Float
+  S = scaleOf Shape points
+
+  lengths-given : Lengths root tip span sweep S (b per d)
+  lengths-given = sizes root tip span sweep points L entry r exit g b d reach most
+
+  root-positive : T (positive root)
+  root-positive = let s = sized root tip span sweep points L entry r exit g in positive-of root 20 (s .0 .not-minus) (s .0 .above)
+
+  tip-not-below : NotBelow (valueOf tip)
+  tip-not-below = not-below tip (reach .tip-most .finite) (tip-checked root tip span sweep points (g .f64s .1 .0) (area-planform Shape points L (length entry) (figures-given root tip span sweep points L entry r exit g .accepted)))
+
+  total-at : (k : ℕ) → k < 3 → (y : Float → Float) → ((h : Float) → T (inSpan span (h ⊗ S)) → at (areaThree Shape points h) k ≡ y h)
+      → valueFrom (bits 0) k (areaSeven Shape points L) ≡ totalOver root tip span sweep S (b per d) lengths-given y
+  total-at k l y there =
+      let c = all-have-chords root tip span sweep S (b per d) lengths-given in
+      let a = span-above root tip span sweep points L entry r exit g in
+      total-is root tip span sweep points L a k l
+      ∙ ap (λ (x : Float). bits 0 ⊕ x)
+      (total-one k l (areaThree Shape points) (bits 0 ⊘ S) (span ⊘ S) (piecesOf (Strip root tip span sweep points L a)) (one-piece root tip span sweep points L entry r exit g one)
+      ∙ ap (λ (x : Float). bits 0 ⊕ reachOf span S ⊗ x)
+      (same-sum 7 kronrodWeight (λ h. at (areaThree Shape points h) k) y (centreOf span S) (reachOf span S) (there (centreOf span S) (c .centre))
+      (λ i m. there (minusSide (centreOf span S) (reachOf span S) i) (c .minus-side i m)) (λ i m. there (plusSide (centreOf span S) (reachOf span S) i) (c .plus-side i m))))
+
+  -- ---- the two coordinates
+  abbrev R : Number
+  R = valueOf root
+
+  abbrev Tp : Number
+  Tp = valueOf tip
+
+  rf : T (finite root)
+  rf = reach .root-most .finite
+
+  tf : T (finite tip)
+  tf = reach .tip-most .finite
+
+  span-positive : T (positive span)
+  span-positive = lengths-given .span-positive
+
+  root-fraction : IsFraction (number (num root) 0 (den root)) (fractionOf root)
+  root-fraction = own-fraction root rf (Centroids.positive-not-below root root-positive)
+
+  abbrev three : ℕ
+  three = 3 * (num root * den tip + num tip * den root)
+
+  thrice-number : IsFraction (number three 0 (1 * (den root * den tip))) (thrice root tip)
+  thrice-number =
+      product-fraction 3 1 (num root * den tip + num tip * den root) (den root * den tip) (pos 3 over 1) (sum (fractionOf root) (fractionOf tip)) (whole-fraction 3 1)
+      (sum-fraction (num root) (den root) (num tip) (den tip) (fractionOf root) (fractionOf tip) root-fraction (own-fraction tip tf tip-not-below))
+
+  thrice-fraction : IsFraction (number 3 0 1 times (R plus Tp)) (thrice root tip)
+  thrice-fraction =
+      times-fraction (number 3 0 1) (R plus Tp) (pos 3 over 1) (sum (fractionOf root) (fractionOf tip)) (whole-fraction 3 1)
+      (plus-fraction R Tp (fractionOf root) (fractionOf tip) (value-fraction root rf) (value-fraction tip tf))
+
+  last-fraction : IsFraction (R plus number 2 0 1 times Tp) (sum (fractionOf root) (product (pos 2 over 1) (fractionOf tip)))
+  last-fraction =
+      plus-fraction R (number 2 0 1 times Tp) (fractionOf root) (product (pos 2 over 1) (fractionOf tip)) (value-fraction root rf)
+      (times-fraction (number 2 0 1) Tp (pos 2 over 1) (fractionOf tip) (whole-fraction 2 1) (value-fraction tip tf))
+
+  along-fraction : IsFraction (((R times R plus R times Tp) plus Tp times Tp) plus valueOf sweep times (R plus number 2 0 1 times Tp)) (alongRoot root tip sweep)
+  along-fraction =
+      let r′ = value-fraction root rf in
+      let t′ = value-fraction tip tf in
+      let rr = product (fractionOf root) (fractionOf root) in
+      let rt = product (fractionOf root) (fractionOf tip) in
+      let tt′ = product (fractionOf tip) (fractionOf tip) in
+      let last = sum (fractionOf root) (product (pos 2 over 1) (fractionOf tip)) in
+      plus-fraction ((R times R plus R times Tp) plus Tp times Tp) (valueOf sweep times (R plus number 2 0 1 times Tp)) (sum (sum rr rt) tt′) (product (fractionOf sweep) last)
+      (plus-fraction (R times R plus R times Tp) (Tp times Tp) (sum rr rt) tt′
+      (plus-fraction (R times R) (R times Tp) rr rt (times-fraction R R (fractionOf root) (fractionOf root) r′ r′) (times-fraction R Tp (fractionOf root) (fractionOf tip) r′ t′))
+      (times-fraction Tp Tp (fractionOf tip) (fractionOf tip) t′ t′))
+      (times-fraction (valueOf sweep) (R plus number 2 0 1 times Tp) (fractionOf sweep) last (value-fraction sweep (reach .sweep-most .finite)) last-fraction)
+
+  height-fraction : IsFraction (valueOf span times (R plus number 2 0 1 times Tp)) (inHeight root tip span)
+  height-fraction =
+      times-fraction (valueOf span) (R plus number 2 0 1 times Tp) (fractionOf span) (sum (fractionOf root) (product (pos 2 over 1) (fractionOf tip))) (value-fraction span (positive-finite span span-positive)) last-fraction
+
+  value-at : (k : ℕ) → k < 3 → (y : Float → Float) → ((h : Float) → T (inSpan span (h ⊗ S)) → at (areaThree Shape points h) k ≡ y h)
+      → S ⊗ valueFrom (bits 0) k (areaSeven Shape points L) ⊘ valueFrom (bits 0) 0 (areaSeven Shape points L)
+      ≡ S ⊗ totalOver root tip span sweep S (b per d) lengths-given y ⊘ totalOver root tip span sweep S (b per d) lengths-given (Values.widthAt root tip span sweep S (b per d) lengths-given)
+  value-at k l y there =
+      rw (total-at k l y there, total-at 0 (lit≤ tt) (Values.widthAt root tip span sweep S (b per d) lengths-given) (λ h t. ap (λ (v : List Float). at v 0) (values-there root tip span sweep points h t)))
+
+  module _ (least : AtLeast b (d * κ) root) (κ-most : κ ≤ 2 ^ 26) where
+    slender : b * den root ≤ κ * num root * d
+    slender = turn (num root) (least .size)
+      where
+        turn : (N : ℕ) → b * den root ≤ N * (d * κ) → b * den root ≤ κ * N * d
+        turn N h = let x = simp sorted at h in simp sorted x
+
+    x-is : r .«centroid_x_m» ≡ S ⊗ Centroids.alongTotal root tip span sweep S b d lengths-given root-positive tip-not-below κ κ-most slender ⊘ Centroids.t0 root tip span sweep S b d lengths-given root-positive tip-not-below κ κ-most slender
+    x-is =
+        figures-given root tip span sweep points L entry r exit g .centroid-x
+        ∙ value-at 1 (lit≤ tt) (Values.momentAt root tip span sweep S (b per d) lengths-given) (λ h t. ap (λ (v : List Float). at v 1) (values-there root tip span sweep points h t))
+
+    height-is′ : r .«centroid_span_m» ≡ S ⊗ Centroids.heightTotal root tip span sweep S b d lengths-given root-positive tip-not-below κ κ-most slender ⊘ Centroids.t0 root tip span sweep S b d lengths-given root-positive tip-not-below κ κ-most slender
+    height-is′ =
+        figures-given root tip span sweep points L entry r exit g .centroid-height
+        ∙ value-at 2 (lit≤ tt) (Values.heightAt root tip span sweep S (b per d) lengths-given) (λ h t. ap (λ (v : List Float). at v 2) (values-there root tip span sweep points h t))
+
+    centroid-near : CentroidNear κ b d root tip span sweep r
+    centroid-near =
+        let N = lengths-given in
+        let C = 1 * (den root * den tip) in
+        let c : 0 < C = mul-pos (pow-pos 0) (mul-pos (den-pos root) (den-pos tip)) in
+        let x = S ⊗ Centroids.alongTotal root tip span sweep S b d N root-positive tip-not-below κ κ-most slender ⊘ Centroids.t0 root tip span sweep S b d N root-positive tip-not-below κ κ-most slender in
+        let y = S ⊗ Centroids.heightTotal root tip span sweep S b d N root-positive tip-not-below κ κ-most slender ⊘ Centroids.t0 root tip span sweep S b d N root-positive tip-not-below κ κ-most slender in
+        let D = number 3 0 1 times (R plus Tp) in
+        let iD : IsNumber D = D3-is root tip span sweep S b d N root-positive tip-not-below κ κ-most slender in
+        let xf = along-finite root tip span sweep S b d N root-positive tip-not-below κ κ-most slender in
+        let yf = height-finite root tip span sweep S b d N root-positive tip-not-below κ κ-most slender in
+        let dx = d * 2 ^ 34 in
+        let Nx : Number = Centroids.alongNumber root tip span sweep S b d N root-positive tip-not-below κ κ-most slender in
+        let Ny : Number = Centroids.heightNumber root tip span sweep S b d N root-positive tip-not-below κ κ-most slender in
+        record {
+          along-root =
+              subst (λ (z : Float). Apart (product (pos (κ * κ * b) over dx) (thrice root tip)) (product (fractionOf z) (thrice root tip)) (alongRoot root tip sweep)) (sym x-is)
+              (within-fraction (κ * κ * b * three) (dx * C) (valueOf x times D) Nx (product (pos (κ * κ * b) over dx) (thrice root tip)) (product (fractionOf x) (thrice root tip)) (alongRoot root tip sweep)
+              (mul-pos (mul-pos (reach .is-size) (pow-pos 34)) c) (Counts.times-is (valueOf x) D (Counts.value-is x) iD) (along-is root tip span sweep S b d N root-positive tip-not-below κ κ-most slender)
+              (product-fraction (κ * κ * b) dx three C (pos (κ * κ * b) over dx) (thrice root tip) (whole-fraction (κ * κ * b) dx) thrice-number)
+              (times-fraction (valueOf x) D (fractionOf x) (thrice root tip) (value-fraction x xf) thrice-fraction) along-fraction
+              (within-upto (Centroids.alongError root tip span sweep S b d N root-positive tip-not-below κ κ-most slender) ((κ * κ * b * three) per (dx * C)) (valueOf x times D) Nx
+              (mul-pos (mul-pos (reach .is-size) (pow-pos 34)) (mul-pos (den-pos root) (den-pos tip))) (same (κ * κ * b * three) dx (den root * den tip))
+              (along-near root tip span sweep S b d N root-positive tip-not-below κ κ-most slender)));
+          in-height =
+              subst (λ (z : Float). Apart (product (product (pos (κ * κ) over 2 ^ 34) (fractionOf span)) (thrice root tip)) (product (fractionOf z) (thrice root tip)) (inHeight root tip span)) (sym height-is′)
+              (within-fraction (κ * κ * num span * three) (2 ^ 34 * den span * C) (valueOf y times D) Ny (product (product (pos (κ * κ) over 2 ^ 34) (fractionOf span)) (thrice root tip))
+              (product (fractionOf y) (thrice root tip)) (inHeight root tip span)
+              (mul-pos (mul-pos (pow-pos 34) (den-pos span)) c) (Counts.times-is (valueOf y) D (Counts.value-is y) iD) (height-is root tip span sweep S b d N root-positive tip-not-below κ κ-most slender)
+              (product-fraction (κ * κ * num span) (2 ^ 34 * den span) three C (product (pos (κ * κ) over 2 ^ 34) (fractionOf span)) (thrice root tip)
+              (product-fraction (κ * κ) (2 ^ 34) (num span) (den span) (pos (κ * κ) over 2 ^ 34) (fractionOf span) (whole-fraction (κ * κ) (2 ^ 34))
+              (own-fraction span (positive-finite span span-positive) (Centroids.positive-not-below span span-positive))) thrice-number)
+              (times-fraction (valueOf y) D (fractionOf y) (thrice root tip) (value-fraction y yf) thrice-fraction) height-fraction
+              (within-upto (Centroids.heightError root tip span sweep S b d N root-positive tip-not-below κ κ-most slender) ((κ * κ * num span * three) per (2 ^ 34 * den span * C)) (valueOf y times D) Ny
+              (mul-pos (mul-pos (den-pos span) (pow-pos 34)) (mul-pos (den-pos root) (den-pos tip))) (turned (κ * κ * num span * three) (den span) (2 ^ 34) (den root * den tip))
+              (height-near root tip span sweep S b d N root-positive tip-not-below κ κ-most slender)));
+        }
+      where
+        same : (a x y : ℕ) → a * (x * (1 * y)) ≤ a * (x * y)
+        same a x y = simp (sorted, one-mul) (omega arith)
+
+        turned : (a x q y : ℕ) → a * (q * x * (1 * y)) ≤ a * (x * q * y)
+        turned a x q y = simp (sorted, one-mul) (omega arith)
+
+pub one-piece-centroid : OnePieceCentroid
+one-piece-centroid root tip span sweep points L entry r exit b d κ g one reach most least κ-most =
+    centroid-near root tip span sweep points L entry r exit b d κ g one reach most least κ-most

@@ -1,0 +1,217 @@
+-- The samples of a strip that is one piece: their heights, the fractions of the span at which they lie, and the ends of the chords there, each near
+-- the exact one. Assumes nothing.
+use mathlib.Core.Path.{_≡_, refl, sym, ap, _∙_, subst}
+use mathlib.Core.List.{List, [], _∷_}
+use Prim.Native.Nat.{ℕ, zero, suc, _+_, _*_, _^_, _≤_, _<_}
+use native.Mathlib.Nat.{mul-pos, mul-add, add-mul, mul-comm, mul-assoc, mul-left-comm, one-mul, mul-one, zero-mul, mul-zero, zero-add, add-zero}
+use native.Mathlib.Omega.{arith}
+use lib.Dec.{T}
+use lib.Pow.{pow-pos}
+use lib.Ieee.{Float}
+use lib.Ieee.Positive.{num, den, den-pos, positive, positive-finite}
+use Rattle.floats.specs.Operations.{_⊕_, _⊖_, _⊗_, _⊘_}
+use Rattle.quadrature.specs.Rule.{minusSide, plusSide}
+use Rattle.rounding.proofs.Monotone.{positive-num}
+use Rattle.rounding_error.proofs.Numbers.{Number, number, Size, _per_, _plus_, _less_, _times_, _over_, _by_, _for_, _of_, _roundoffs_, _upto_, IsNumber, IsSize, Within, Under, zeroNumber, valueOf, sizeOf, Near, InRange, Ranges}
+use Rattle.rounding_error.proofs.Distances.{sorted}
+use Rattle.rounding_error.proofs.Ranges.{ranges-by, ranges-for, in-range}
+use Rattle.rounding_error.proofs.Counts as Counts
+use Rattle.rounding_error.proofs.Chains.{Valued, inverse, inverse-is, inverse-times, over-is-times, equalled, resized, exactly, plus-valued, less-valued, times-valued, exact-times, over-valued}
+use Rattle.rounding_error.proofs.Polynomials.{_equals_, trans, symm, itself, by-left, times-equal, plus-is, less-is, times-is, given, ratio, _add_, _take_, _mul_, equal-by}
+use Rattle.accuracy.proofs.ExactRule.{node}
+use Rattle.accuracy.proofs.Samples.{one}
+use Rattle.accuracy.proofs.Trapezoids.{fractionAt}
+use Rattle.accuracy.proofs.OnePiece.{centreOf, reachOf}
+use Rattle.accuracy.proofs.Given.{Lengths}
+use Rattle.accuracy.proofs.Tables.{node-near-one, node-finite}
+use Rattle.accuracy.proofs.Heights.{one-part}
+use Rattle.rounding_error.proofs.Counts.{own-size}
+use Rattle.accuracy.proofs.Whole.{middle-under}
+use Rattle.accuracy.proofs.Ends.{halfSize, centre-near, reach-near}
+use Rattle.accuracy.proofs.Areas.{half-ranges}
+use Rattle.accuracy.proofs.Weighted.{middle, lower, upper}
+
+ruleset plain = (sorted, one-mul, mul-one, zero-mul, mul-zero, zero-add, add-zero)
+
+-- ---- a fraction of the span is at most 1
+lower-parts : (p n d : ℕ) → (p * 1 + 0 * d) * 1 ≤ (0 * d + n * 1) * 1 + 1 * 1 * (d * 1) → (0 * d + n * 1) * 1 ≤ (p * 1 + 0 * d) * 1 + 1 * 1 * (1 * d)
+    → Under (1 of one) (middle less (middle times number p n d))
+lower-parts p n d h k = record { below = omega arith; above = omega arith }
+
+pub lower-under : (x : Number) → Under (1 of one) x → Under (1 of one) (middle less (middle times x))
+lower-under (number p n d) u = lower-parts p n d (u .below) (u .above)
+
+upper-parts : (p n d : ℕ) → (p * 1 + 0 * d) * 1 ≤ (0 * d + n * 1) * 1 + 1 * 1 * (d * 1) → (0 * d + n * 1) * 1 ≤ (p * 1 + 0 * d) * 1 + 1 * 1 * (1 * d)
+    → Under (1 of one) (middle plus (middle times number p n d))
+upper-parts p n d h k = record { below = omega arith; above = omega arith }
+
+pub upper-under : (x : Number) → Under (1 of one) x → Under (1 of one) (middle plus (middle times x))
+upper-under (number p n d) u = upper-parts p n d (u .below) (u .above)
+
+pub half-one : Under (1 of one) middle
+half-one = record { below = omega arith; above = omega arith }
+
+by-one : (a c : ℕ) → a * 1 * c ≤ a * (c * 1)
+by-one a c = omega arith
+
+-- a size times 1 is the size
+pub at-one : {x : Float} {v : Number} {k j : ℕ} (A : Size) → IsSize A → Valued x v k j (A by one) → Valued x v k j A
+at-one (a per c) C h = resized ((a per c) by one) (a per c) (mul-pos C (pow-pos 0)) (by-one a c) h
+
+module _ (root tip span sweep scale : Float) (B : Size) (g : Lengths root tip span sweep scale B) where
+  -- span over scale
+  abbrev pub U : Number
+  U = valueOf span times inverse scale
+
+  abbrev pub H : Size
+  H = sizeOf span for scale
+
+  pub height-ranges : Ranges 48 H
+  height-ranges = ranges-for 24 24 (sizeOf span) scale (g .scale-positive) (g .span-ranges) (g .scale-ranges)
+
+  pub U-is : IsNumber U
+  U-is = times-is (valueOf span) (inverse scale) (Counts.value-is span) (inverse-is scale (g .scale-positive))
+
+  hr : InRange H
+  hr = in-range 48 H (omega arith) height-ranges
+
+  hhr : InRange (halfSize by H)
+  hhr = in-range 49 (halfSize by H) (omega arith) (ranges-by 1 48 halfSize H half-ranges height-ranges)
+
+  half-span : (x : Float) → Near x (middle times (valueOf span over scale)) (4 roundoffs H) → Valued x (middle times U) 4 1 H
+  half-span x n =
+      equalled
+      (record { near = n; size = middle-under span scale (g .span-positive) (g .scale-positive); is = times-is middle (valueOf span over scale) (pow-pos 1) (Counts.over-is (valueOf span) scale (Counts.value-is span) (g .scale-positive)) })
+      (middle times U) (times-is middle U (pow-pos 1) U-is) (by-left middle (over-is-times (valueOf span) scale))
+
+  pub centre-valued : Valued (centreOf span scale) (middle times U) 4 1 H
+  centre-valued = half-span (centreOf span scale) (centre-near span scale (g .span-positive) (g .scale-positive) hr hhr)
+
+  pub reach-valued : Valued (reachOf span scale) (middle times U) 4 1 H
+  reach-valued = half-span (reachOf span scale) (reach-near span scale (g .span-positive) (g .scale-positive) hr hhr)
+
+  offset-valued : (i : ℕ) → i < 7 → Valued (reachOf span scale ⊗ node i) ((middle times U) times valueOf (node i)) 8 1 H
+  offset-valued i k =
+      at-one H (hr .real)
+      (times-valued {A = H} {B = one} (hr .real) (pow-pos 0) (in-range 48 (H by one) (omega arith) (ranges-by 48 0 H one height-ranges (record { real = pow-pos 0; least = omega arith; most = omega arith }))) tt reach-valued
+      (exactly (node i) 1 one (node-finite i k) (one-part (valueOf (node i)) (node-near-one i k))))
+
+  abbrev x : ℕ → Number
+  x i = valueOf (node i)
+
+  x-is : (i : ℕ) → IsNumber (x i)
+  x-is i = Counts.value-is (node i)
+
+  pub lower-is : (i : ℕ) → IsNumber (lower i)
+  lower-is i = less-is middle (middle times x i) (pow-pos 1) (times-is middle (x i) (pow-pos 1) (x-is i))
+
+  pub upper-is : (i : ℕ) → IsNumber (upper i)
+  upper-is i = plus-is middle (middle times x i) (pow-pos 1) (times-is middle (x i) (pow-pos 1) (x-is i))
+
+  -- the heights
+  pub minus-valued : (i : ℕ) → i < 7 → Valued (minusSide (centreOf span scale) (reachOf span scale) i) (U times lower i) 16 2 H
+  minus-valued i k =
+      equalled (less-valued hr tt centre-valued (offset-valued i k)) (U times lower i) (times-is U (lower i) U-is (lower-is i))
+      (equal-by (U ∷ x i ∷ []) (U-is, (x-is i, tt)) (ratio 1 1 mul given 0 take ratio 1 1 mul given 0 mul given 1) (given 0 mul (ratio 1 1 take ratio 1 1 mul given 1)) tt)
+
+  pub plus-side-valued : (i : ℕ) → i < 7 → Valued (plusSide (centreOf span scale) (reachOf span scale) i) (U times upper i) 16 2 H
+  plus-side-valued i k =
+      equalled (plus-valued hr tt centre-valued (offset-valued i k)) (U times upper i) (times-is U (upper i) U-is (upper-is i))
+      (equal-by (U ∷ x i ∷ []) (U-is, (x-is i, tt)) (ratio 1 1 mul given 0 add ratio 1 1 mul given 0 mul given 1) (given 0 mul (ratio 1 1 add ratio 1 1 mul given 1)) tt)
+
+  pub middle-valued : Valued (centreOf span scale) (U times middle) 4 1 H
+  middle-valued = equalled centre-valued (U times middle) (times-is U middle U-is (pow-pos 1)) (equal-by (U ∷ []) (U-is, tt) (ratio 1 1 mul given 0) (given 0 mul ratio 1 1) tt)
+
+  -- ---- h·scale / span
+  abbrev s : Number
+  s = valueOf scale
+
+  abbrev P : Number
+  P = valueOf span
+
+  fraction-exact : (τ : Number) → IsNumber τ → ((U times τ) times s) times inverse span equals τ
+  fraction-exact τ i =
+      let iP : IsNumber P = Counts.value-is span in
+      let is : IsNumber s = Counts.value-is scale in
+      let iσ : IsNumber (inverse scale) = inverse-is scale (g .scale-positive) in
+      let iπ : IsNumber (inverse span) = inverse-is span (g .span-positive) in
+      let PP = P times inverse span in
+      let ss = s times inverse scale in
+      let iPP : IsNumber PP = times-is P (inverse span) iP iπ in
+      let iss : IsNumber ss = times-is s (inverse scale) is iσ in
+      trans (times-is (PP times ss) τ (times-is PP ss iPP iss) i)
+      (equal-by (P ∷ inverse scale ∷ τ ∷ s ∷ inverse span ∷ []) (iP, (iσ, (i, (is, (iπ, tt))))) (given 0 mul given 1 mul given 2 mul given 3 mul given 4) (given 0 mul given 4 mul (given 3 mul given 1) mul given 2) tt)
+      (trans (times-is (number 1 0 1 times number 1 0 1) τ (pow-pos 0) i)
+      (times-equal (times-is PP ss iPP iss) (pow-pos 0) i i (times-equal iPP (pow-pos 0) iss (pow-pos 0) (inverse-times span (g .span-positive)) (inverse-times scale (g .scale-positive))) (itself {x = τ}))
+      (equal-by (τ ∷ []) (i, tt) (ratio 1 0 mul ratio 1 0 mul given 0) (given 0) tt))
+
+  by-scale : (Np Dp Ns Ds : ℕ) → Np * Ds * Ns * Dp ≤ Np * (Ns * Dp * Ds)
+  by-scale Np Dp Ns Ds = simp sorted (omega arith)
+
+  one-of : (n : ℕ) → n * 1 ≤ 1 * n
+  one-of n = omega arith
+
+  pub fraction-valued : (h : Float) (τ : Number) → IsNumber τ → Under (1 of one) τ → Valued h (U times τ) 16 2 H → Valued (fractionAt span scale h) τ 25 1 one
+  fraction-valued h τ i u z =
+      let p = g .span-positive in
+      let q = g .scale-positive in
+      let D = sizeOf span in
+      let S = sizeOf scale in
+      let a : Valued (h ⊗ scale) ((U times τ) times s) 22 2 (H by S) =
+      times-valued {A = H} {B = S} (hr .real) (den-pos scale) (in-range 72 (H by S) (omega arith) (ranges-by 48 24 H S height-ranges (g .scale-ranges))) tt z
+      (exactly scale 1 S (positive-finite scale q) (own-size scale q)) in
+      let b : Valued (h ⊗ scale) ((U times τ) times s) 22 2 D =
+      resized (H by S) D (Counts.by-is H S (hr .real) (den-pos scale)) (by-scale (num span) (den span) (num scale) (den scale)) a in
+      let c : Valued (h ⊗ scale ⊘ span) (((U times τ) times s) times inverse span) 25 2 (D for span) =
+      over-valued span p (den-pos span) (in-range 48 (D for span) (omega arith) (ranges-for 24 24 D span p (g .span-ranges) (g .span-ranges))) tt b in
+      let d : Valued (h ⊗ scale ⊘ span) τ 25 2 one =
+      equalled (resized (D for span) one (mul-pos (positive-num span p) (den-pos span)) (one-of (num span * den span)) c) τ i (fraction-exact τ i) in
+      record { near = d .near; size = u; is = i }
+
+  -- ---- the ends of the chord there
+  abbrev R : Number
+  R = valueOf root
+
+  abbrev Tp : Number
+  Tp = valueOf tip
+
+  abbrev Sw : Number
+  Sw = valueOf sweep
+
+  -- where the chord at τ starts and ends, divided by the scale
+  abbrev pub starts : Number → Number
+  starts τ = (Sw times τ) times inverse scale
+
+  abbrev pub ends : Number → Number
+  ends τ = ((Sw times τ plus R) plus (Tp less R) times τ) times inverse scale
+
+  abbrev pub Bs : Size
+  Bs = B for scale
+
+  pub scaled-ranges : Ranges 48 Bs
+  scaled-ranges = ranges-for 24 24 B scale (g .scale-positive) (g .ranges) (g .scale-ranges)
+
+  br : InRange B
+  br = in-range 24 B (omega arith) (g .ranges)
+
+  brs : InRange Bs
+  brs = in-range 48 Bs (omega arith) scaled-ranges
+
+  br1 : InRange (B by one)
+  br1 = in-range 24 (B by one) (omega arith) (ranges-by 24 0 B one (g .ranges) (record { real = pow-pos 0; least = omega arith; most = omega arith }))
+
+  root-valued : Valued root R 0 1 B
+  root-valued = exactly root 1 B (g .root-finite) (g .root-under)
+
+  module _ (f : Float) (τ : Number) (z : Valued f τ 25 1 one) where
+    lead-valued : Valued (sweep ⊗ f) (Sw times τ) 27 1 B
+    lead-valued = at-one B (br .real) (exact-times sweep 1 B (br .real) (pow-pos 0) br1 tt (g .sweep-finite) (g .sweep-under) z)
+
+    taper-valued : Valued ((tip ⊖ root) ⊗ f) ((Tp less R) times τ) 85 2 B
+    taper-valued = at-one B (br .real) (times-valued {A = B} {B = one} (br .real) (pow-pos 0) br1 tt (less-valued br tt (exactly tip 1 B (g .tip-finite) (g .tip-under)) root-valued) z)
+
+    pub start-valued : Valued (sweep ⊗ f ⊘ scale) (starts τ) 29 1 Bs
+    start-valued = over-valued scale (g .scale-positive) (br .real) brs tt lead-valued
+
+    pub end-valued : Valued ((sweep ⊗ f ⊕ root ⊕ (tip ⊖ root) ⊗ f) ⊘ scale) (ends τ) 127 4 Bs
+    end-valued = over-valued scale (g .scale-positive) (br .real) brs tt (plus-valued br tt (plus-valued br tt lead-valued root-valued) taper-valued)
