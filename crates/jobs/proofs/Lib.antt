@@ -5,4 +5,5 @@ pub mod Copies
 pub mod Laws
 pub mod Writes
 pub mod Sums
+pub mod Kept
 pub mod Together

@@ -1,21 +1,19 @@
 -- What holds over any calls on a job together. The record is at each point that of the strips worked so far and the density accepted last; no strip
 -- looks at the density, so a change keeps the strips. By induction over the calls. Assumes nothing.
-use mathlib.Core.Path.{_≡_, refl, sym, ap, subst, _∙_}
+use mathlib.Core.Path.{_≡_, refl, sym, ap, ap₂, subst, _∙_}
 use mathlib.Core.Bool.{Bool, true, false, cond, _&&_, true≢false}
 use mathlib.Core.List.{List, [], _∷_, _++_, append-nil, append-assoc}
 use mathlib.Core.Logic.{_⊎_, inl, inr}
-use Prim.Native.Nat.{ℕ, _+_, _-_, _*_, _%_, _^_, _≤_, _<_}
+use Prim.Native.Nat.{ℕ, _+_, _-_, _*_, _^_, _≤_, _<_}
 use native.Mathlib.Nat.{mod-eq-of-lt}
 use native.Mathlib.Omega.{arith}
 use borrow.Author.Tests.{le-leb, lt-ltb, ltb-true, ltb-false}
-use lib.Dec.{leb, ltb}
-use lib.ListN.{length, take, drop, replicate, length-append}
-use lib.Seq.{take-all, append-snoc}
+use lib.Dec.{ltb}
+use lib.ListN.{length, drop, length-append}
+use lib.Seq.{append-snoc}
 use lib.Ieee.{Float}
-use Rattle.floats.specs.Operations.{bits, _⊘_, at}
+use Rattle.floats.specs.Operations.{at}
 use Rattle.sorting.specs.Sorted.{over}
-use Rattle.sorting.proofs.Over.{take-over}
-use Rattle.refusals.specs.declared.Refusal.{Refusal}
 use Rattle.refusals.specs.declared.Verdict.{Verdict}
 use Rattle.refusals.specs.declared.Verdict.the-variants.{Accepted, Refused}
 use Rattle.refusals.specs.Order.{isRefused}
@@ -38,29 +36,22 @@ use Rattle.strips.specs.Claim.{Each, StripsAre, AreReported}
 use Rattle.strips.proofs.Upward.{strip-at, none-left, fits-words}
 use Rattle.strips.proofs.Onwards.{onward-works}
 use Rattle.strips.proofs.Claims.{strips-are}
-use Rattle.figures.specs.declared.Figures.{Figures}
 use Rattle.figures.specs.Figures.{setIntegrand, setRun, refusedFigures, concludedSet, workedFigures, setFigures}
 use Rattle.figures.specs.Answers.{setReport}
 use Rattle.figures.proofs.StripCount.{worked-few, heights-some}
 use Rattle.figures.proofs.Answers.{set-reported}
 use Rattle.jobs.specs.declared.Job.{Job}
 use Rattle.jobs.specs.declared.Stepped.{Stepped}
-use Rattle.jobs.specs.Jobs.{heldOf, pointsOf, outlineOf, runOfJob, totalOf, noFigures, repeated, waits, more, ended, outcomeOf, afterStrip, stepOf, withDensity, taken, changeOf, makingCheck, madeWith, madeOf}
+use Rattle.jobs.specs.Jobs.{pointsOf, outlineOf, runOfJob, totalOf, noFigures, waits, more, ended, outcomeOf, afterStrip, stepOf, withDensity, taken, changeOf, makingCheck, madeWith, madeOf}
 use Rattle.jobs.specs.Calls.{Call, step, change, steppedBy, afterCalls, stripsBy, stripsOver, isTaken, densityBy, densityOver, OverCalls}
+use Rattle.jobs.proofs.Kept.{keptOf, Same, kept-same}
 use Rattle.jobs.proofs.Laws.{yes, step-ended, step-refused, step-works, after-more, after-last, none-ended, none-refused, one-if-there, change-ended, change-refused, change-taken}
 use Rattle.jobs.proofs.Sums.{Few, summed-with, ending-with, few-in, each-front, each-with, strip-is-few, all-few, worked-all}
 
 not-both : {A : Type 0} (b : Bool) → b ≡ false → b ≡ true → A
 not-both b p q = absurd (true≢false (sym q ∙ p))
 
--- the copy is the outline
-outline-kept : (points : List Float) → length points ≤ 128 → take (heldOf (pointsOf points .count)) (pointsOf points .numbers) ≡ points
-outline-kept points few =
-    ap (λ (l : List Float). take (heldOf (length l)) (over l (replicate 128 (bits 0)))) (take-all 128 points few)
-    ∙ ap (λ (b : Bool). take (cond b (length points) 128) (over points (replicate 128 (bits 0)))) (le-leb (length points) 128 few)
-    ∙ take-over points (replicate 128 (bits 0))
-
-module _ (set : FinSet) (points : List Float) (L : ℕ) (made : makingCheck set points L ≡ Accepted) (few : length points ≤ 128) where
+module _ (set : FinSet) (points : List Float) (L : ℕ) (made : makingCheck set points L ≡ Accepted) where
   abbrev Run· : Run
   Run· = setRun set points L
 
@@ -107,8 +98,22 @@ module _ (set : FinSet) (points : List Float) (L : ℕ) (made : makingCheck set 
   unfolding madeOf isRefused
   made-is = ap (λ (v : Verdict). madeWith v set points L .job) made
 
+  planform-checked : planformCheck (set .planform) points ≡ Accepted
+  unfolding ownCheck
+  planform-checked = each-accepts (ownChecks set points) own-checked .1 .0
+
+  -- the copy serves as the points do
+  same : Same (set .planform) points (keptOf points)
+  same = kept-same (set .planform) points planform-checked
+
+  abbrev runOf : (Float → List Float) → Float → List Float → Run
+  runOf f scale heights = record { width = 7; integrand = f; limit = L; scale = scale; heights = heights }
+
   run-is : (d : Density) (strips : List Worked) → runOfJob (jobAt d strips) ≡ Run·
-  run-is d strips = ap (λ (p : List Float). setRun set p L) (outline-kept points few)
+  run-is d strips =
+      ap (λ (f : Float → List Float). runOf f (scaleOf (set .planform) (keptOf points)) (breakHeights (set .planform) (keptOf points)))
+      (same .plate (set .«cross_section») (set .«thickness_m») (set .«body_radius_m»))
+      ∙ ap₂ (λ (s : Float) (h : List Float). runOf f· s h) (same .scale) (same .heights)
 
   pub record Going (d : Density) (strips : List Worked) (job : Job) : Type 0 where
     pub is : job ≡ jobAt d strips
@@ -195,9 +200,7 @@ module _ (set : FinSet) (points : List Float) (L : ℕ) (made : makingCheck set 
           dense = g .dense;
           whole = whole;
           answer =
-              ap
-              (λ (p : List Float). concludedSet (withDensity set d) (rootChordOf (set .planform) p) (scaleOf (set .planform) p) (concludedOf (summedOf With·)))
-              (outline-kept points few)
+              ap₂ (λ (r s : Float). concludedSet (withDensity set d) r s (concludedOf (summedOf With·))) (same .root) (same .scale)
               ∙ ap (λ (l : List Worked). concludedSet (withDensity set d) (rootChordOf (set .planform) points) Scale· (concludedOf (summedOf l))) whole;
           samples = refl;
         }
@@ -311,10 +314,6 @@ module _ (set : FinSet) (points : List Float) (L : ℕ) (made : makingCheck set 
       (all calls (densityBy job d call) (strips ++ stripsBy job call) (steppedBy job call .job) (one d strips job call s))
 
   -- ---- what the states promise
-  planform-checked : planformCheck (set .planform) points ≡ Accepted
-  unfolding ownCheck
-  planform-checked = each-accepts (ownChecks set points) own-checked .1 .0
-
   begun : State (set .density) [] (madeOf set points L .job)
   unfolding ownCheck
   begun =
