@@ -30,7 +30,7 @@ use Rattle.jobs.specs.declared.Job.{Job}
 use Rattle.jobs.specs.declared.Stepped.{Stepped}
 use Rattle.jobs.specs.declared.Reply.the-variants.{More, Answered}
 use Rattle.jobs.specs.Jobs.{noFigures, runOfJob, totalOf, afterStrip, stepOf, changeOf, makingCheck, madeOf, withDensity}
-use Rattle.jobs.specs.Calls.{isTaken, steppedBy, densityBy, densityOver, jobAfter, setAfter}
+use Rattle.jobs.specs.Calls.{isTaken, counts, steppedBy, densityBy, densityOver, jobAfter, setAfter}
 use Rattle.jobs.specs.Calls as alone
 use Rattle.jobs.proofs.Laws.{yes, step-ended, step-refused, step-works, after-more, after-last, change-ended, change-refused, change-taken}
 use Rattle.jobs.proofs.Together.{over-calls}
@@ -199,10 +199,16 @@ module _ (engine : Engine) (w : EightScreens engine) (screen : ℕ) (holds : hol
 
     module _ (scratch : List Float) (e : screen ≡ screenOf engine (turn scratch)) where
       -- number 2 never comes up: L is at most 64
+      room : runCheck L (length scratch) ≡ Accepted
+      room = enough set points L (length scratch) (r .accepted) (long scratch e (ltb (length scratch) 1024) refl e)
+
       checked : runCheck (Job· .limit) (length scratch) ≡ Accepted
-      checked =
-          ap (λ (n : ℕ). runCheck n (length scratch)) (ap (λ (j : Job). j .limit) (r .is) ∙ after-limit own Made· ∙ made-limit set points L)
-          ∙ enough set points L (length scratch) (r .accepted) (long scratch e (ltb (length scratch) 1024) refl e)
+      checked = ap (λ (n : ℕ). runCheck n (length scratch)) (ap (λ (j : Job). j .limit) (r .is) ∙ after-limit own Made· ∙ made-limit set points L) ∙ room
+
+      pub works-strip : counts Job· (length scratch) ≡ true
+      works-strip =
+          ap (λ (j : Job). counts j (length scratch)) (r .is)
+          ∙ over-calls set points L (r .accepted) own .works-next (ap (λ (j : Job). j .ended) (sym (r .is)) ∙ r .runs) (length scratch) room
 
       abbrev Onward·· : Onward
       Onward·· = onwardOf (runOfJob Job·) (Job· .next) (totalOf Job·)
@@ -213,10 +219,10 @@ module _ (engine : Engine) (w : EightScreens engine) (screen : ℕ) (holds : hol
       stepped-is : Step· scratch e .job ≡ jobAfter set points L (own ++ alone.step scratch ∷ [])
       stepped-is = ap (λ (j : Job). stepOf j (length scratch) .job) (r .is) ∙ sym (after-both Made· own (alone.step scratch ∷ []))
 
-      fresh : Step· scratch e .job .ended ≡ true → length points ≤ 128 → (n : ℕ) → scratchCheck L n ≡ Accepted → Step· scratch e .job .outcome ≡ setFigures (setAfter set points L own) points L n
-      fresh h few n enough =
+      fresh : Step· scratch e .job .ended ≡ true → (n : ℕ) → scratchCheck L n ≡ Accepted → Step· scratch e .job .outcome ≡ setFigures (setAfter set points L own) points L n
+      fresh h n enough =
           ap (λ (j : Job). j .outcome) stepped-is
-          ∙ over-calls set points L (r .accepted) few (own ++ alone.step scratch ∷ []) .ends-as-fresh (ap (λ (j : Job). j .ended) (sym stepped-is) ∙ h) n enough
+          ∙ over-calls set points L (r .accepted) (own ++ alone.step scratch ∷ []) .ends-as-fresh (ap (λ (j : Job). j .ended) (sym stepped-is) ∙ h) n enough
           ∙ ap (λ (d : Density). setFigures (withDensity set d) points L n) (density-behind own Made· (set .density) scratch)
 
       pub serves : Serves screen set points L own (turnOf engine (length scratch))
@@ -226,10 +232,10 @@ module _ (engine : Engine) (w : EightScreens engine) (screen : ℕ) (holds : hol
           record {
             served = ap (λ (x : Turned). x .told .screen) t;
             goes-on = λ h. ap (λ (x : Turned). x .told .answer) t ∙ goes-on Job· (length scratch) (r .runs) checked More· refl (not-true _ (sym holds-is ∙ h));
-            ends-as-fresh = λ h few n long.
+            ends-as-fresh = λ h n long.
                 ap (λ (x : Turned). x .told .answer) t
                 ∙ ends Job· (length scratch) (r .runs) checked More· refl (not-false _ (sym holds-is ∙ h))
-                ∙ ap (λ (f : Figures). record { reply = Answered; figures = f }) (fresh (not-false _ (sym holds-is ∙ h)) few n long);
+                ∙ ap (λ (f : Figures). record { reply = Answered; figures = f }) (fresh (not-false _ (sym holds-is ∙ h)) n long);
           }
 
 -- ---- a submission that is taken
@@ -302,7 +308,12 @@ on-screen engine w screen set points L calls t over h =
     let first = engineBy engine (submit screen set points L) in
     let w1 = still-eight engine (submit screen set points L) w in
     let r = since screen set points L calls first w1 [] (taken engine w screen set points L t) over h in
-    record { job = r; next-turn = λ scratch e. serves (afterCalls first calls) (eight-behind calls first w1) screen h set points L (sinceThen engine screen set points L calls) r scratch e }
+    let own = sinceThen engine screen set points L calls in
+    record {
+      job = r;
+      gets-strip = λ scratch e. works-strip (afterCalls first calls) (eight-behind calls first w1) screen h set points L own r scratch e;
+      next-turn = λ scratch e. serves (afterCalls first calls) (eight-behind calls first w1) screen h set points L own r scratch e;
+    }
 
 -- ---- every job that is held was submitted
 module _ (engine : Engine) (w : EightScreens engine) (screen : ℕ) (before : holdsJob (engine .screens) screen ≡ true → Submitted screen engine) where

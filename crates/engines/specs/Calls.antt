@@ -154,7 +154,7 @@ pub record Serves (screen : ℕ) (set : FinSet) (points : List Float) (L : ℕ) 
   pub served : turned .told .screen ≡ screen
   pub goes-on : holdsJob (turned .engine .screens) screen ≡ true → turned .told .answer ≡ record { reply = More; figures = noFigures }
   -- "The answer ending the job equals a fresh run's with the last density accepted" (Paper 9), over any scratch that is long enough
-  pub ends-as-fresh : holdsJob (turned .engine .screens) screen ≡ false → length points ≤ 128 → (n : ℕ) → scratchCheck L n ≡ Accepted
+  pub ends-as-fresh : holdsJob (turned .engine .screens) screen ≡ false → (n : ℕ) → scratchCheck L n ≡ Accepted
       → turned .told .answer ≡ record { reply = Answered; figures = setFigures (setAfter set points L calls) points L n }
 
 -- a submission that is taken, and any calls behind it before each of which, and at whose end, the screen holds its job
@@ -168,5 +168,7 @@ module _ (engine : Engine) (screen : ℕ) (set : FinSet) (points : List Float) (
   pub record OnScreen : Type 0 where
     -- the job is that of the set submitted, with the calls since: what holds of it alone is `jobs/Calls: OverCalls`
     pub job : RunsBy set points L sinceThen (jobOf engineNow screen)
+    -- "gets its strip": the turn that serves it works one
+    pub gets-strip : (scratch : List Float) → screen ≡ screenOf engineNow (turn scratch) → alone.counts (jobOf engineNow screen) (length scratch) ≡ true
     pub next-turn : (scratch : List Float) → screen ≡ screenOf engineNow (turn scratch)
         → Serves screen set points L sinceThen (turnOf engineNow (length scratch))

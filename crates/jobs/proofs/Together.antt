@@ -1,7 +1,7 @@
 -- What holds over any calls on a job together. The record is at each point that of the strips worked so far and the density accepted last; no strip
 -- looks at the density, so a change keeps the strips. By induction over the calls. Assumes nothing.
 use mathlib.Core.Path.{_≡_, refl, sym, ap, ap₂, subst, _∙_}
-use mathlib.Core.Bool.{Bool, true, false, cond, _&&_, true≢false}
+use mathlib.Core.Bool.{Bool, true, false, not, cond, _&&_, true≢false}
 use mathlib.Core.List.{List, [], _∷_, _++_, append-nil, append-assoc}
 use mathlib.Core.Logic.{_⊎_, inl, inr}
 use Prim.Native.Nat.{ℕ, _+_, _-_, _*_, _^_, _≤_, _<_}
@@ -43,7 +43,7 @@ use Rattle.figures.proofs.Answers.{set-reported}
 use Rattle.jobs.specs.declared.Job.{Job}
 use Rattle.jobs.specs.declared.Stepped.{Stepped}
 use Rattle.jobs.specs.Jobs.{pointsOf, outlineOf, runOfJob, totalOf, noFigures, waits, more, ended, outcomeOf, afterStrip, stepOf, withDensity, taken, changeOf, makingCheck, madeWith, madeOf}
-use Rattle.jobs.specs.Calls.{Call, step, change, steppedBy, afterCalls, stripsBy, stripsOver, isTaken, densityBy, densityOver, OverCalls}
+use Rattle.jobs.specs.Calls.{Call, step, change, steppedBy, afterCalls, counts, stripsBy, stripsOver, isTaken, densityBy, densityOver, OverCalls}
 use Rattle.jobs.proofs.Kept.{keptOf, Same, kept-same}
 use Rattle.jobs.proofs.Laws.{yes, step-ended, step-refused, step-works, after-more, after-last, none-ended, none-refused, one-if-there, change-ended, change-refused, change-taken}
 use Rattle.jobs.proofs.Sums.{Few, summed-with, ending-with, few-in, each-front, each-with, strip-is-few, all-few, worked-all}
@@ -114,6 +114,14 @@ module _ (set : FinSet) (points : List Float) (L : ℕ) (made : makingCheck set 
       ap (λ (f : Float → List Float). runOf f (scaleOf (set .planform) (keptOf points)) (breakHeights (set .planform) (keptOf points)))
       (same .plate (set .«cross_section») (set .«thickness_m») (set .«body_radius_m»))
       ∙ ap₂ (λ (s : Float) (h : List Float). runOf f· s h) (same .scale) (same .heights)
+
+  -- a step over scratch that is long enough works a strip where one is left
+  going-counts : (d : Density) (strips : List Worked) (n : ℕ) → runCheck L n ≡ Accepted → 0 < stripsFrom Run· (length strips) → counts (jobAt d strips) n ≡ true
+  unfolding isRefused
+  going-counts d strips n v below =
+      ap (λ (x : Verdict). not (isRefused x) && ltb 0 (stripsFrom (runOfJob (jobAt d strips)) (length strips))) v
+      ∙ ap (λ (r : Run). ltb 0 (stripsFrom r (length strips))) (run-is d strips)
+      ∙ lt-ltb 0 (stripsFrom Run· (length strips)) below
 
   pub record Going (d : Density) (strips : List Worked) (job : Job) : Type 0 where
     pub is : job ≡ jobAt d strips
@@ -358,6 +366,7 @@ module _ (set : FinSet) (points : List Float) (L : ℕ) (made : makingCheck set 
           samples-so-far = ap (λ (j : Job). j .samples) (g .is);
           no-more-steps = omega (arith, g .below);
           runs-on = λ e. omega (arith, g .below);
+          works-next = λ e n v. subst (λ (j : Job). counts j n ≡ true) (sym (g .is)) (going-counts Density· Strips· n v (g .below));
           as-many-steps = λ e k. not-both _ still e;
         }
 
@@ -372,6 +381,7 @@ module _ (set : FinSet) (points : List Float) (L : ℕ) (made : makingCheck set 
           samples-so-far = z .samples;
           no-more-steps = subst (λ (l : List Worked). length l ≤ stripsFrom Run· 0) (sym (z .whole)) (let n = worked-few 7 f· L Scale· Heights· in omega (arith, n));
           runs-on = λ e. not-both _ e (z .over-now);
+          works-next = λ e n v. not-both _ e (z .over-now);
           as-many-steps = λ e k. ap length (z .whole) ∙ worked-all f· L Scale· Heights· accepted (sym (ap endingOf (z .whole)) ∙ k);
         }
 
