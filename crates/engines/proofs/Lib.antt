@@ -8,3 +8,4 @@ pub mod Placed
 pub mod InPlace
 pub mod Rows
 pub mod Borrow
+pub mod AtPlace
