@@ -4,3 +4,4 @@ pub mod Screens
 pub mod Engines
 pub mod Calls
 pub mod Zeros
+pub mod Submissions
