@@ -12,4 +12,5 @@ pub mod Texts
 pub mod Bodies
 pub mod Plates
 pub mod Runs
+pub mod Stepping
 pub mod Serving

@@ -1,0 +1,217 @@
+-- A job's calls (document 02, Paper 9): a fin of two strips, between heights 0, 1 and 2, with one piece each.
+use mathlib.Core.Bool.{Bool, true, false, not, _&&_}
+use mathlib.Core.List.{List, [], _∷_, map}
+use Prim.Native.Nat.{ℕ}
+use lib.Dec.{T, eqb}
+use lib.ListN.{length, take, drop, replicate}
+use lib.Ieee.{Float, add, sub, mul, div, ofBits, toBits, ofInt, round, lt, le, eq, ne}
+use Rattle.floats.specs.Operations.{bits, at, every}
+use Rattle.floats.specs.Floats.{absOf}
+use Rattle.sorting.specs.Sorted.{belowAll, insert, sorted}
+use Rattle.refusals.specs.declared.Refusal.the-variants as refusal
+use Rattle.refusals.specs.Order.{isRefused, firstRefusal}
+use Rattle.limits.specs.Limits.{scratchCheck}
+use Rattle.materials.specs.declared.Density.{Density}
+use Rattle.materials.specs.declared.Density.the-variants.{Bulk, Surface, Line}
+use Rattle.materials.specs.Materials.{densityCheck}
+use Rattle.sections.specs.declared.Section.the-variants.{Square}
+use Rattle.sections.specs.ChordMoments.{chordMoments}
+use Rattle.planforms.specs.declared.Planform.the-variants.{Outline}
+use Rattle.planforms.specs.Planforms.{largestHeight, rootChordOf, spanOf}
+use Rattle.breaks.specs.Breaks.{heights, everyY, once, breakHeights}
+use Rattle.chords.specs.Chords.{crossed, crossings, outlineCrossings, endsAt, paired}
+use Rattle.integrands.specs.Integrands.{scaleOf, sumsFrom, sampleOf, plateOf}
+use Rattle.fillets.specs.Numbered.{noFillet}
+use Rattle.fins.specs.declared.FinSet.{FinSet}
+use Rattle.fins.specs.declared.Tab.the-variants.{None}
+use Rattle.gauss_kronrod.specs.Tables.{nodes, kronrodWeights, gaussWeights}
+use Rattle.quadrature.specs.Rule.{heightsTo, weightedTo, pieceOf, zeros}
+use Rattle.tolerance.specs.Bounds.{totalOf, errorOf, absolute, relative, converged, scoreOf, lastHighest, worstPlace, componentOf}
+use Rattle.halving.specs.declared.Ending.{Ending}
+use Rattle.halving.specs.declared.Ending.the-variants.{Accepted, NotConverged}
+use Rattle.halving.specs.Halving.{repeat, halving}
+use Rattle.strips.specs.declared.Onward.{Onward}
+use Rattle.strips.specs.Strips.{withStrip, onwardOf, scratchOnward, concludedOf}
+use Rattle.figures.specs.Figures.{refusedFigures, concludedSet}
+use Rattle.jobs.specs.declared.Job.{Job}
+use Rattle.jobs.specs.declared.Reply.{Reply}
+use Rattle.jobs.specs.declared.Reply.the-variants.{More, Taken, Answered}
+use Rattle.jobs.specs.Jobs.{pointsOf, noFigures, outcomeOf, afterStrip, stepOf, stepScratch, changeOf}
+use Rattle.test_definitions.specs.Rows.{is, are, refused}
+
+abbrev one : ℕ
+one = 0x3ff0_0000_0000_0000
+
+abbrev two : ℕ
+two = 0x4000_0000_0000_0000
+
+abbrev third : ℕ
+third = 0x3fd5_5555_5555_5555
+
+-- 1 wide up to height 1, then narrowing to a point at 2; root chord plus span is 3
+abbrev points : List Float
+points = map bits (0 ∷ 0 ∷ 0 ∷ two ∷ one ∷ one ∷ one ∷ 0 ∷ [])
+
+abbrev plywood : Density
+plywood = Bulk (bits 0x4085_4000_0000_0000)
+
+abbrev balsa : Density
+balsa = Bulk (bits 0x4064_0000_0000_0000)
+
+abbrev set : FinSet
+set =
+    record {
+      count = 3;
+      planform = Outline;
+      «thickness_m» = bits 0x3fe0_0000_0000_0000;
+      «cross_section» = Square;
+      tab = None;
+      fillet = noFillet;
+      «cant_rad» = bits 0;
+      «base_angle_rad» = bits 0;
+      «body_radius_m» = bits one;
+      density = plywood;
+    }
+
+-- a job of which so many strips are worked, 15 samples each, with these sums
+abbrev worked : ℕ → ℕ → List Float → Job
+worked strips samples value =
+    record {
+      set = set;
+      points = pointsOf points;
+      limit = 8;
+      next = strips;
+      value = value;
+      intervals = strips;
+      samples = samples;
+      ended = false;
+      outcome = noFigures;
+    }
+
+-- one that has ended with 13
+abbrev over : Job
+over =
+    record {
+      set = set;
+      points = pointsOf points;
+      limit = 8;
+      next = 1;
+      value = zeros;
+      intervals = 1;
+      samples = 135;
+      ended = true;
+      outcome = refusedFigures (refusal.NotConverged 6) 135;
+    }
+
+abbrev isMore : Reply → Bool
+isMore More = true
+isMore Taken = false
+isMore Answered = false
+
+abbrev isTaken : Reply → Bool
+isTaken More = false
+isTaken Taken = true
+isTaken Answered = false
+
+abbrev isAnswered : Reply → Bool
+isAnswered More = false
+isAnswered Taken = false
+isAnswered Answered = true
+
+abbrev isBulk : Density → ℕ → Bool
+isBulk (Bulk density) b = is density b
+isBulk (Surface density) b = false
+isBulk (Line density) b = false
+
+-- ---- calls that work no strip
+
+-- "A step lent under 16·L numbers answers 2, changes nothing and does not count", with "the job's samples so far"; not one of 128 numbers
+abbrev pub short-step : Bool
+short-step =
+    let s = stepOf (worked 1 15 zeros) 127 in
+    isAnswered (s .answer .reply)
+    && refused 2 [] (s .answer .figures .verdict)
+    && eqb (s .answer .figures .samples) 15
+    && eqb (s .job .next) 1
+    && not (s .job .ended)
+
+-- "A step on an ended job repeats its answer, with any scratch", before 2 is asked; "one that repeats an answer writes nothing"
+abbrev pub repeats : Bool
+repeats =
+    let s = stepOf over 0 in
+    isAnswered (s .answer .reply)
+    && refused 13 (6 ∷ []) (s .answer .figures .verdict)
+    && eqb (s .answer .figures .samples) 135
+    && are (stepScratch over (map bits (one ∷ two ∷ []))) (one ∷ two ∷ [])
+
+-- "the plate's density may be changed, answered only as taken": the density asked for, not the first; nothing else moves
+abbrev pub density-taken : Bool
+density-taken =
+    let s = changeOf (worked 1 15 zeros) balsa in
+    isTaken (s .answer .reply)
+    && isBulk (s .job .set .density) 0x4064_0000_0000_0000
+    && eqb (s .job .next) 1
+    && eqb (s .answer .figures .samples) 0
+
+-- "a density not bulk or outside the limits, or any change after the end, answers 12 and leaves the old one", with the samples
+abbrev pub density-left : Bool
+density-left =
+    let line = changeOf (worked 1 15 zeros) (Line (bits one)) in
+    let after = changeOf over balsa in
+    refused 12 [] (line .answer .figures .verdict)
+    && eqb (line .answer .figures .samples) 15
+    && isBulk (line .job .set .density) 0x4085_4000_0000_0000
+    && refused 12 [] (after .answer .figures .verdict)
+    && eqb (after .answer .figures .samples) 135
+    && isBulk (after .job .set .density) 0x4085_4000_0000_0000
+
+-- "Until the job ends, with its last strip or one refused": of totals with strips left, with none left, and refused
+abbrev totals : Ending → ℕ → Onward
+totals ending left = record { total = record { ending = ending; value = zeros; intervals = 2; samples = 30 }; left = left }
+
+abbrev pub job-ends : Bool
+job-ends =
+    let job = worked 1 15 zeros in
+    not (afterStrip job (totals Accepted 1) .job .ended)
+    && isMore (afterStrip job (totals Accepted 1) .answer .reply)
+    && afterStrip job (totals Accepted 0) .job .ended
+    && afterStrip job (totals (NotConverged 3) 5) .job .ended
+    && refused 13 (3 ∷ []) (afterStrip job (totals (NotConverged 3) 5) .answer .figures .verdict)
+
+-- ---- steps that work one
+
+-- "one strip a step": the first leaves one strip worked, with its fifteen samples, and more to come
+abbrev pub one-strip-a-step : Bool
+one-strip-a-step =
+    let s = stepOf (worked 0 0 zeros) 128 in
+    isMore (s .answer .reply) && eqb (s .job .next) 1 && eqb (s .job .samples) 15 && eqb (s .job .intervals) 1 && not (s .job .ended)
+
+-- "the sums and totals over those worked": the last strip's are added to those of the record, whose first is 1
+abbrev pub sums-go-on : Bool
+sums-go-on =
+    let s = stepOf (worked 1 15 (map bits (one ∷ 0 ∷ 0 ∷ 0 ∷ 0 ∷ 0 ∷ 0 ∷ []))) 128 in
+    s .job .ended && eqb (s .job .samples) 30 && eqb (s .job .intervals) 2 && lt (bits one) (at (s .job .value) 0)
+
+-- "A step writes its own strip's pieces from the start of the scratch lent to it and leaves the rest", the last step too
+abbrev pub last-strip-written : Bool
+last-strip-written =
+    let scratch = stepScratch (worked 1 15 zeros) (replicate 128 (bits one)) in
+    eqb (length scratch) 128 && are (take 2 scratch) (third ∷ 0x3fe5_5555_5555_5555 ∷ []) && are (take 2 (drop 16 scratch)) (one ∷ one ∷ [])
+
+pub calls-hold : T (short-step && repeats && density-taken && density-left && job-ends)
+unfolding ofBits toBits ofInt round add sub mul div lt le eq ne absOf every belowAll insert sorted isRefused firstRefusal scratchCheck densityCheck chordMoments largestHeight rootChordOf spanOf heights everyY once breakHeights crossed crossings outlineCrossings endsAt paired scaleOf sumsFrom sampleOf plateOf nodes kronrodWeights gaussWeights heightsTo weightedTo pieceOf totalOf errorOf absolute relative converged scoreOf lastHighest worstPlace componentOf repeat halving withStrip onwardOf scratchOnward concludedOf outcomeOf concludedSet afterStrip stepOf stepScratch changeOf
+calls-hold = tt
+
+-- each apart, since fifteen samples are worked for each piece
+
+pub first-step-holds : T one-strip-a-step
+unfolding ofBits toBits ofInt round add sub mul div lt le eq ne absOf every belowAll insert sorted isRefused firstRefusal scratchCheck densityCheck chordMoments largestHeight rootChordOf spanOf heights everyY once breakHeights crossed crossings outlineCrossings endsAt paired scaleOf sumsFrom sampleOf plateOf nodes kronrodWeights gaussWeights heightsTo weightedTo pieceOf totalOf errorOf absolute relative converged scoreOf lastHighest worstPlace componentOf repeat halving withStrip onwardOf scratchOnward concludedOf outcomeOf concludedSet afterStrip stepOf stepScratch changeOf
+first-step-holds = tt
+
+pub last-step-holds : T sums-go-on
+unfolding ofBits toBits ofInt round add sub mul div lt le eq ne absOf every belowAll insert sorted isRefused firstRefusal scratchCheck densityCheck chordMoments largestHeight rootChordOf spanOf heights everyY once breakHeights crossed crossings outlineCrossings endsAt paired scaleOf sumsFrom sampleOf plateOf nodes kronrodWeights gaussWeights heightsTo weightedTo pieceOf totalOf errorOf absolute relative converged scoreOf lastHighest worstPlace componentOf repeat halving withStrip onwardOf scratchOnward concludedOf outcomeOf concludedSet afterStrip stepOf stepScratch changeOf
+last-step-holds = tt
+
+pub last-scratch-holds : T last-strip-written
+unfolding ofBits toBits ofInt round add sub mul div lt le eq ne absOf every belowAll insert sorted isRefused firstRefusal scratchCheck densityCheck chordMoments largestHeight rootChordOf spanOf heights everyY once breakHeights crossed crossings outlineCrossings endsAt paired scaleOf sumsFrom sampleOf plateOf nodes kronrodWeights gaussWeights heightsTo weightedTo pieceOf totalOf errorOf absolute relative converged scoreOf lastHighest worstPlace componentOf repeat halving withStrip onwardOf scratchOnward concludedOf outcomeOf concludedSet afterStrip stepOf stepScratch changeOf
+last-scratch-holds = tt
