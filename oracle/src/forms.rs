@@ -20,6 +20,9 @@ pub enum Form {
     Placed { body: Body, places: Vec<[f64; 3]> },
     Moved { whole: Body, part: Body, offset: [f64; 3] },
     Without { whole: Body, part: Body },
+    Submit { screen: u64, set: Set },
+    Density { screen: u64, density: Density },
+    Turn,
 }
 
 pub struct Set {
@@ -174,6 +177,18 @@ impl<'l> Reader<'_, 'l> {
                 whole: self.body()?,
                 part: self.body()?,
             },
+            b"submit" => {
+                let screen = self.count()?;
+                (self.open()? == b"set").then_some(())?;
+                let set = self.set()?;
+                self.close()?;
+                Form::Submit { screen, set }
+            }
+            b"density" => Form::Density {
+                screen: self.count()?,
+                density: self.density()?,
+            },
+            b"turn" => Form::Turn,
             _ => return None,
         };
         self.close()?;
@@ -257,9 +272,16 @@ impl<'l> Reader<'_, 'l> {
         Some(body)
     }
 
-    /// `(name N)`; a number past u64 reads as the largest u64, which is past every limit too.
+    /// `(name N)`
     fn count_part(&mut self, name: &[u8]) -> Option<u64> {
         (self.open()? == name).then_some(())?;
+        let value = self.count()?;
+        self.close()?;
+        Some(value)
+    }
+
+    /// A number past u64 reads as the largest u64, which is past every limit too.
+    fn count(&mut self) -> Option<u64> {
         let word = self.word()?;
         let mut value: u64 = 0;
         for byte in word {
@@ -268,7 +290,6 @@ impl<'l> Reader<'_, 'l> {
             }
             value = value.saturating_mul(10).saturating_add(u64::from(byte - b'0'));
         }
-        self.close()?;
         Some(value)
     }
 

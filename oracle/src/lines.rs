@@ -9,11 +9,12 @@ use crate::outlines::{self, Heights, Point, length};
 use crate::places;
 use crate::points::{self, drill_line};
 use crate::random::{Random, moved, power_of_two};
+use crate::screens;
 use crate::words;
 
 pub const KINDS: &[&str] = &[
     "set", "area", "outline", "narrow", "merging", "noise", "touch", "points", "limits", "faults", "table", "join",
-    "moments", "check", "tubes", "closing", "fillets", "drill", "copied", "placed", "moved", "without", "decimals", "words", "spaces", "mixed",
+    "moments", "check", "tubes", "closing", "fillets", "drill", "copied", "placed", "moved", "without", "decimals", "words", "spaces", "mixed", "engine",
 ];
 
 /// How many of them are made figure by figure; the others are such lines, written otherwise.
@@ -23,6 +24,9 @@ const MADE: usize = 22;
 pub fn lines(kind: &str, count: u64, seed: u64) -> Option<Vec<String>> {
     let r = &mut Random::new(seed);
     let count = count as usize;
+    if kind == "engine" {
+        return Some(screens::traffic(r, count));
+    }
     let listed: fn(&mut Random) -> Vec<String> = match kind {
         "limits" => limits,
         "table" => |_| table(),
@@ -40,7 +44,7 @@ pub fn lines(kind: &str, count: u64, seed: u64) -> Option<Vec<String>> {
     Some(made)
 }
 
-fn one(r: &mut Random, kind: &str) -> String {
+pub fn one(r: &mut Random, kind: &str) -> String {
     match kind {
         "set" => set(r).line(),
         "area" => {
@@ -145,7 +149,7 @@ impl Draft {
     }
 }
 
-fn density_part(density: Density) -> String {
+pub fn density_part(density: Density) -> String {
     let (kind, value) = match density {
         Density::Bulk(v) => ("bulk", v),
         Density::Surface(v) => ("surface", v),
@@ -237,7 +241,7 @@ pub fn angle(r: &mut Random) -> f64 {
     r.sign(x)
 }
 
-fn density(r: &mut Random) -> f64 {
+pub fn density(r: &mut Random) -> f64 {
     match r.below(8) {
         0 => r.pick(&[0.0, -0.0]),
         1 => r.pick(&[power_of_two(-10), power_of_two(15)]),
@@ -420,7 +424,7 @@ fn angles() -> Vec<f64> {
     signed(&magnitudes)
 }
 
-fn densities() -> Vec<f64> {
+pub fn densities() -> Vec<f64> {
     let (low, high) = (power_of_two(-10), power_of_two(15));
     let magnitudes = [
         0.0,
@@ -951,7 +955,7 @@ fn check(r: &mut Random) -> String {
 }
 
 /// The same line with other spaces, all of them free.
-fn spaced(r: &mut Random, line: &str) -> String {
+pub fn spaced(r: &mut Random, line: &str) -> String {
     let bytes = line.as_bytes();
     let bracket = |k: usize| bytes.get(k).is_none_or(|b| b"()".contains(b));
     let mut made = String::new();

@@ -4,6 +4,7 @@
 mod bodies;
 mod damage;
 mod drill;
+mod engine;
 mod figures;
 mod forms;
 mod lines;
@@ -13,6 +14,7 @@ mod points;
 mod random;
 mod refusals;
 mod runs;
+mod screens;
 mod values;
 mod words;
 mod work;
@@ -22,19 +24,20 @@ use std::io::{self, BufWriter, Read, Write};
 /// The numbers of scratch that the card program lends.
 const LENT: usize = 1024;
 
-const USAGE: &str = "usage: oracle answer | detail [SCRATCH] | runs | work | damage SEED | kinds
+const USAGE: &str = "usage: oracle answer | detail [SCRATCH] | runs | work | damage SEED [N] | kinds
      | lines KIND COUNT SEED | runs KIND COUNT SEED | values KIND COUNT SEED";
 
 fn main() {
     let arguments: Vec<String> = std::env::args().skip(1).collect();
     let words: Vec<&str> = arguments.iter().map(String::as_str).collect();
     let mut out = BufWriter::new(io::stdout().lock());
+    let mut engine = engine::Engine::new();
     let done = match words[..] {
-        ["answer"] => each_line(&mut out, |line| work::work(line, LENT).answer().into_bytes()),
-        ["detail"] => each_line(&mut out, |line| work::work(line, LENT).detail().into_bytes()),
+        ["answer"] => each_line(&mut out, |line| work::work(&mut engine, line, LENT).answer().into_bytes()),
+        ["detail"] => each_line(&mut out, |line| work::work(&mut engine, line, LENT).detail().into_bytes()),
         ["detail", scratch] => {
             let lent = number(scratch) as usize;
-            each_line(&mut out, |line| work::work(line, lent).detail().into_bytes())
+            each_line(&mut out, |line| work::work(&mut engine, line, lent).detail().into_bytes())
         }
         ["runs"] => each_line(&mut out, |line| runs::run(line).into_bytes()),
         ["runs", kind, count, seed] => {
@@ -45,10 +48,8 @@ fn main() {
             let made = lines::lines(kind, number(count), number(seed));
             print(&mut out, made, lines::KINDS)
         }
-        ["damage", seed] => {
-            let mut random = random::Random::new(number(seed));
-            each_line(&mut out, |line| damage::damage(&mut random, line))
-        }
+        ["damage", seed] => damaged(&mut out, number(seed), 1),
+        ["damage", seed, n] => damaged(&mut out, number(seed), number(n) as usize),
         ["values", kind, count, seed] => {
             let made = values::values(kind, number(count), number(seed));
             print(&mut out, made, values::KINDS)
@@ -60,6 +61,12 @@ fn main() {
     if let Err(e) = done.and_then(|()| out.flush()) {
         stop(&e.to_string());
     }
+}
+
+/// One line in n is damaged, the others stay as they are.
+fn damaged(out: &mut impl Write, seed: u64, n: usize) -> io::Result<()> {
+    let mut random = random::Random::new(seed);
+    each_line(out, |line| if n == 1 || random.once_in(n) { damage::damage(&mut random, line) } else { line.to_vec() })
 }
 
 fn stop(text: &str) -> ! {

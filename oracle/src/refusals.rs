@@ -143,8 +143,13 @@ fn angle(field: u8, value: f64) -> Checked {
 
 /// Numbers 1 and 2.
 pub fn run(limit: u64, scratch: usize) -> Checked {
-    refuse(!(1..=LARGEST_LIMIT).contains(&limit), Refusal::Limit)?;
+    self::limit(limit)?;
     refuse((scratch as u64) < 16 * limit, Refusal::Scratch)
+}
+
+/// Number 1.
+pub fn limit(limit: u64) -> Checked {
+    refuse(!(1..=LARGEST_LIMIT).contains(&limit), Refusal::Limit)
 }
 
 /// Number 3, of fins and of bodies joined.
@@ -221,7 +226,7 @@ fn fillet_ratio(radius: f64, body_radius: f64) -> Checked {
 }
 
 /// Number 12.
-fn density(density: Density) -> Checked {
+pub fn density(density: Density) -> Checked {
     let passes = match density {
         Density::Bulk(value) => value == 0.0 || (LIGHTEST..=HEAVIEST).contains(&value),
         Density::Surface(_) | Density::Line(_) => false,

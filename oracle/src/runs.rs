@@ -1,5 +1,6 @@
 //! Runs: a set's or a planform's line with its own number of scratch numbers in front of it.
 
+use crate::engine::Engine;
 use crate::lines;
 use crate::random::Random;
 use crate::work;
@@ -26,5 +27,5 @@ fn lent(r: &mut Random, line: &str) -> usize {
 pub fn run(line: &[u8]) -> String {
     let space = line.iter().position(|&b| b == b' ').unwrap_or(line.len());
     let lent = std::str::from_utf8(&line[..space]).ok().and_then(|n| n.parse().ok()).unwrap_or(0);
-    work::work(line.get(space + 1..).unwrap_or_default(), lent).run()
+    work::work(&mut Engine::new(), line.get(space + 1..).unwrap_or_default(), lent).run()
 }

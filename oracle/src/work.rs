@@ -1,6 +1,6 @@
 //! Answers to card lines: document 01's refusals first, then the Rust.
 
-use hpr_core::record::{self, Record};
+use hpr_core::record::{self, Record, Strip};
 use hpr_core::{CoreError, DMat3, DVec3};
 use hpr_design::error::DesignError;
 use hpr_design::fins::{FinCrossSection, FinFillet, FinPlanform, FinSet, FinTab, TubeFinSet};
@@ -8,6 +8,7 @@ use hpr_design::mass::{MassProperties, Placement};
 use hpr_design::material::Material;
 
 use crate::drill::{self, Place};
+use crate::engine::Engine;
 use crate::figures::show_all;
 use crate::forms::{self, Body, Density, Form, Planform, Section, Set, Tubes};
 use crate::refusals::{self, Refusal};
@@ -25,6 +26,13 @@ pub enum Figures {
     Drilled(Place, usize),
     Moments([f64; 3]),
     Sound,
+    /// A submission or a change of density is.
+    Taken,
+    Idle,
+    /// Of a screen's job more strips remain.
+    More(usize),
+    /// A screen's job has ended.
+    Done(usize, Result<MassProperties, Refusal>),
 }
 
 /// What a line gives. Intervals, samples and scratch are those of lines that run strips, and else 0 and untouched.
@@ -66,6 +74,11 @@ impl Worked {
             Ok(Figures::Drilled(Place::Outside, nearest)) => format!("(outside {nearest})"),
             Ok(Figures::Moments(m)) => format!("(moments{})", show_all(m)),
             Ok(Figures::Sound) => "(sound)".to_owned(),
+            Ok(Figures::Taken) => "(taken)".to_owned(),
+            Ok(Figures::Idle) => "(idle)".to_owned(),
+            Ok(Figures::More(screen)) => format!("(more {screen})"),
+            Ok(Figures::Done(screen, Ok(b))) => format!("(done {screen} (figures {} {counts}))", body(b)),
+            Ok(Figures::Done(screen, Err(refusal))) => format!("(done {screen} (refused {}))", refusal.number()),
             Err(refusal) => format!("(refused {})", refusal.number()),
         }
     }
@@ -116,14 +129,14 @@ impl Worked {
     }
 }
 
-/// Works a line with `lent` numbers of scratch.
-pub fn work(line: &[u8], lent: usize) -> Worked {
+/// Works a line with `lent` numbers of scratch, over the engine as the lines before left it.
+pub fn work(engine: &mut Engine, line: &[u8], lent: usize) -> Worked {
     let form = forms::read(line);
     let of_area = matches!(form, Ok(Form::Area { .. }));
     record::start(0, &[]);
     let figures = match form {
         Err(refusal) => Err(refusal),
-        Ok(Form::Set(set)) => fin_set(&set, lent),
+        Ok(Form::Set(set)) => fin_set(&set, lent).map(Figures::Set),
         Ok(Form::Area { limit, planform }) => area(limit, &planform, lent),
         Ok(Form::Join(points)) => join(&points),
         Ok(Form::Moments(tensor)) => moments(&tensor).map(Figures::Moments),
@@ -135,10 +148,67 @@ pub fn work(line: &[u8], lent: usize) -> Worked {
         Ok(Form::Placed { body, places }) => placed(&body, &places),
         Ok(Form::Moved { whole, part, offset }) => part_moved(&whole, &part, offset),
         Ok(Form::Without { whole, part }) => without_part(&whole, &part),
+        Ok(Form::Submit { screen, set }) => engine.submit(screen, set, check_set).map(|()| Figures::Taken),
+        Ok(Form::Density { screen, density }) => engine.change(screen, density).map(|()| Figures::Taken),
+        Ok(Form::Turn) => return turn(engine, lent),
     };
     let run = record::finish();
+    let intervals = if figures.is_ok() { intervals(&run) } else { 0 };
+    Worked {
+        intervals,
+        samples: samples(&run),
+        figures,
+        wrote: wrote(&run.strips, lent),
+        lent,
+        of_area,
+    }
+}
+
+/// The fewest numbers of scratch that a turn takes.
+const TURN: usize = 1024;
+
+/// A turn. The plain answers carry neither intervals nor samples; what is written are the pieces of its own strip.
+fn turn(engine: &mut Engine, lent: usize) -> Worked {
+    let plain = |figures| Worked {
+        intervals: 0,
+        samples: 0,
+        figures,
+        wrote: Vec::new(),
+        lent,
+        of_area: false,
+    };
+    if lent < TURN {
+        return plain(Err(Refusal::Scratch));
+    }
+    let Some((screen, set, worked)) = engine.serve() else {
+        return plain(Ok(Figures::Idle));
+    };
+    let fresh = fin_set(set, lent);
+    let run = record::finish();
+    let wrote = wrote(&run.strips[worked - 1..worked], lent);
+    if worked < run.strips.len() {
+        return Worked {
+            wrote,
+            ..plain(Ok(Figures::More(screen)))
+        };
+    }
+    engine.free(screen);
+    Worked {
+        intervals: if fresh.is_ok() { intervals(&run) } else { 0 },
+        samples: samples(&run),
+        wrote,
+        ..plain(Ok(Figures::Done(screen, fresh)))
+    }
+}
+
+fn samples(run: &Record) -> u64 {
+    run.strips.iter().map(|s| s.samples).sum()
+}
+
+/// The scratch from its start, as far as these strips wrote it, one over the other.
+fn wrote(strips: &[Strip], lent: usize) -> Vec<f64> {
     let mut wrote: Vec<f64> = Vec::new();
-    for strip in &run.strips {
+    for strip in strips {
         let pieces = strip.pieces.concat();
         if wrote.len() < pieces.len() {
             wrote.resize(pieces.len(), 0.0);
@@ -146,14 +216,7 @@ pub fn work(line: &[u8], lent: usize) -> Worked {
         wrote[..pieces.len()].copy_from_slice(&pieces);
     }
     assert!(wrote.len() <= lent, "the strips wrote past the scratch");
-    Worked {
-        intervals: if figures.is_ok() { intervals(&run) } else { 0 },
-        samples: run.strips.iter().map(|s| s.samples).sum(),
-        figures,
-        wrote,
-        lent,
-        of_area,
-    }
+    wrote
 }
 
 /// The pieces added up, one for a strip of equal ends. An accepted strip's samples are 15·(2·n − 1) or none.
@@ -172,15 +235,26 @@ fn intervals(run: &Record) -> usize {
     total
 }
 
-fn fin_set(set: &Set, lent: usize) -> Result<Figures, Refusal> {
+fn fin_set(set: &Set, lent: usize) -> Result<MassProperties, Refusal> {
     refusals::run(set.limit, lent)?;
+    let planform = checked_set(set)?;
+    let set_of_fins = rust_set(set, planform);
+    record::start(set.limit as usize, &[]);
+    set_of_fins.mass_properties(set.radius).map_err(run_refusal)
+}
+
+/// Every check before the strips but 2.
+fn check_set(set: &Set) -> Result<(), Refusal> {
+    refusals::limit(set.limit)?;
+    checked_set(set).map(|_| ())
+}
+
+/// The planform, once every check behind 1 and 2 passed.
+fn checked_set(set: &Set) -> Result<FinPlanform, Refusal> {
     refusals::count(set.count)?;
     let planform = checked_planform(&set.planform)?;
     refusals::behind_planform(set, planform.root_chord_m())?;
-    let set_of_fins = rust_set(set, planform);
-    record::start(set.limit as usize, &[]);
-    let body = set_of_fins.mass_properties(set.radius).map_err(run_refusal)?;
-    Ok(Figures::Set(body))
+    Ok(planform)
 }
 
 fn area(limit: u64, planform: &Planform, lent: usize) -> Result<Figures, Refusal> {
