@@ -26,7 +26,7 @@
  *
  * What a caller owes, and nothing checks:
  *  - An array goes in as a pointer and how many numbers lie there. The pointer is never null, also where there are none; arrays that are
- *    written overlap no other. What they hold on entry, the scratch too, does not matter to an answer; but a job's memory is the job.
+ *    written overlap no other. What they hold on entry, the scratch too, does not matter to an answer; but a job's memory is the job, and an engine's the engine.
  *  - The floating-point environment is the one that a process starts with: rounding to nearest, subnormal numbers kept (no flushing to
  *    zero), exceptions masked. Linking with -ffast-math changes it before main; some libraries change it for their thread.
  *  - DELVOUZH_STACK bytes of stack for a call.
@@ -87,6 +87,10 @@ extern "C" {
 
 /* The bytes of an answer to a line: no answer has more. */
 #define DELVOUZH_ANSWER 320
+
+/* The numbers and counts of an engine of eight screens. Zeros are one with no job. */
+#define DELVOUZH_ENGINE_NUMBERS 1272
+#define DELVOUZH_ENGINE_COUNTS 145
 
 /* The bytes of stack that are enough for any call. The longest chain of frames in the library's code takes half of them: tests/header. */
 #define DELVOUZH_STACK 98304
@@ -181,10 +185,13 @@ size_t delvouzh_principal_moments(const double *tensor, size_t tensor_len, doubl
 size_t delvouzh_check(const double *body, size_t body_len, size_t *values, size_t values_len);
 
 /* The answer to a card line (docs/FORMS.md); neither has a newline. Writes the answer's bytes, and as `written` how many they are. Every
- * line is answered, and returns 0, also where its answer is "(refused N)". 18 is an `answer` without room for DELVOUZH_ANSWER bytes, or a
- * `written` without room for a number, and then nothing at all is written, as above. */
-size_t delvouzh_answer_line(const unsigned char *line, size_t line_len, double *scratch, size_t scratch_len,
-                            unsigned char *answer, size_t answer_len, size_t *written, size_t written_len);
+ * line is answered, and returns 0, also where its answer is "(refused N)". The engine of eight screens is lent as two arrays, which begin as zeros and
+ * go from one call to the next as they are; lines that are no submission, density or turn leave them alone. 18 is an engine without room for DELVOUZH_ENGINE_NUMBERS
+ * numbers and DELVOUZH_ENGINE_COUNTS counts, an `answer` without room for DELVOUZH_ANSWER bytes, or a `written` without room for a number, and then nothing at
+ * all is written, as above. */
+size_t delvouzh_answer_line(const unsigned char *line, size_t line_len, double *scratch, size_t scratch_len, double *engine_numbers,
+                            size_t engine_numbers_len, size_t *engine_counts, size_t engine_counts_len, unsigned char *answer, size_t answer_len,
+                            size_t *written, size_t written_len);
 
 /* The square root: the nearest f64. */
 double delvouzh_sqrt(double x);

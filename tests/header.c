@@ -21,8 +21,8 @@ static const double FIGURES[5] = {0.003, 0.0, 0.0, 0.05, 680.0};
 
 /* what a call is lent, and what it returned */
 struct lent {
-    double scratch[SCRATCH], numbers[DELVOUZH_BODY];
-    size_t counts[DELVOUZH_COUNTS], number;
+    double scratch[SCRATCH], numbers[DELVOUZH_BODY], engine_numbers[DELVOUZH_ENGINE_NUMBERS];
+    size_t counts[DELVOUZH_COUNTS], engine_counts[DELVOUZH_ENGINE_COUNTS], number;
     unsigned char answer[DELVOUZH_ANSWER];
 };
 
@@ -48,6 +48,8 @@ static void lend(struct lent *l, double filling) {
     for (int i = 0; i < DELVOUZH_BODY; i++) l->numbers[i] = filling;
     for (int i = 0; i < DELVOUZH_COUNTS; i++) l->counts[i] = 99;
     memset(l->answer, '?', sizeof l->answer);
+    for (int i = 0; i < DELVOUZH_ENGINE_NUMBERS; i++) l->engine_numbers[i] = 0.0;
+    for (int i = 0; i < DELVOUZH_ENGINE_COUNTS; i++) l->engine_counts[i] = 0;
 }
 
 static void set_of(struct lent *l, size_t limit, size_t planform, const double *lengths, size_t len, const double *figures) {
@@ -67,8 +69,8 @@ static void area_of(struct lent *l, size_t planform, const double *lengths, size
 }
 
 static void answer_to(struct lent *l, const char *line) {
-    l->number = delvouzh_answer_line((const unsigned char *)line, strlen(line), l->scratch, SCRATCH, l->answer, DELVOUZH_ANSWER,
-                                     l->counts, DELVOUZH_WRITTEN);
+    l->number = delvouzh_answer_line((const unsigned char *)line, strlen(line), l->scratch, SCRATCH, l->engine_numbers, DELVOUZH_ENGINE_NUMBERS,
+                                     l->engine_counts, DELVOUZH_ENGINE_COUNTS, l->answer, DELVOUZH_ANSWER, l->counts, DELVOUZH_WRITTEN);
 }
 
 static int refused(size_t number, size_t first, size_t second) {
@@ -186,6 +188,14 @@ static void refusals(void) {
     holds("18 of an unknown planform", refused(18, 0, 0));
     answer_to(&at, "(join)");
     holds("a refused line is answered", answered("(refused 3)"));
+    answer_to(&at, "(turn)");
+    holds("no job", answered("(idle)"));
+    answer_to(&at, "(submit 2 (set (limit 1) (count 3) (ellipse 0.2 0.1) (thickness 0.003) (section square) (cant 0) (base 0) (radius 0.05) (bulk 680)))");
+    holds("a job is taken", answered("(taken)"));
+    answer_to(&at, "(turn)");
+    holds("a job that is refused", answered("(done 2 (refused 13))"));
+    answer_to(&at, "(turn)");
+    holds("its screen is free", answered("(idle)"));
     answer_to(&at, "");
     holds("an empty line is answered", answered("(refused 18)"));
 }
@@ -212,10 +222,18 @@ static void no_room(void) {
     holds("no room for a place", at.number == 18 && left_alone());
     at.number = delvouzh_check(body, DELVOUZH_BODY, at.counts, DELVOUZH_VALUES - 1);
     holds("no room for values", at.number == 18 && left_alone());
-    at.number = delvouzh_answer_line(line, sizeof line - 1, at.scratch, SCRATCH, at.answer, DELVOUZH_ANSWER - 1, at.counts, 1);
+    at.number = delvouzh_answer_line(line, sizeof line - 1, at.scratch, SCRATCH, at.engine_numbers, DELVOUZH_ENGINE_NUMBERS, at.engine_counts,
+                                     DELVOUZH_ENGINE_COUNTS, at.answer, DELVOUZH_ANSWER - 1, at.counts, 1);
     holds("no room for an answer", at.number == 18 && left_alone());
-    at.number = delvouzh_answer_line(line, sizeof line - 1, at.scratch, SCRATCH, at.answer, DELVOUZH_ANSWER, at.counts, 0);
+    at.number = delvouzh_answer_line(line, sizeof line - 1, at.scratch, SCRATCH, at.engine_numbers, DELVOUZH_ENGINE_NUMBERS, at.engine_counts,
+                                     DELVOUZH_ENGINE_COUNTS, at.answer, DELVOUZH_ANSWER, at.counts, 0);
     holds("no room for an answer's length", at.number == 18 && left_alone());
+    at.number = delvouzh_answer_line(line, sizeof line - 1, at.scratch, SCRATCH, at.engine_numbers, DELVOUZH_ENGINE_NUMBERS - 1, at.engine_counts,
+                                     DELVOUZH_ENGINE_COUNTS, at.answer, DELVOUZH_ANSWER, at.counts, 1);
+    holds("no room for an engine's numbers", at.number == 18 && left_alone());
+    at.number = delvouzh_answer_line(line, sizeof line - 1, at.scratch, SCRATCH, at.engine_numbers, DELVOUZH_ENGINE_NUMBERS, at.engine_counts,
+                                     DELVOUZH_ENGINE_COUNTS - 1, at.answer, DELVOUZH_ANSWER, at.counts, 1);
+    holds("no room for an engine's counts", at.number == 18 && left_alone());
 }
 
 /* The scratch: what it holds on entry does not matter, and behind the pieces it is left as it was. */

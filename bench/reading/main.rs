@@ -13,6 +13,10 @@ extern "C" {
         line_len: usize,
         scratch: *mut f64,
         scratch_len: usize,
+        engine_numbers: *mut f64,
+        engine_numbers_len: usize,
+        engine_counts: *mut usize,
+        engine_counts_len: usize,
         answer: *mut u8,
         answer_len: usize,
         written: *mut usize,
@@ -170,10 +174,24 @@ fn damaged(figures: &[[u8; 16]], place: usize) -> Vec<[u8; 16]> {
 
 fn answer(line: &str) -> String {
     let mut scratch = [0.0; 1024];
+    let (mut engine_numbers, mut engine_counts) = ([0.0; 1272], [0; 145]);
     let mut text = [0; 320];
     let mut written = [0];
     let number = unsafe {
-        delvouzh_answer_line(line.as_ptr(), line.len(), scratch.as_mut_ptr(), scratch.len(), text.as_mut_ptr(), text.len(), written.as_mut_ptr(), 1)
+        delvouzh_answer_line(
+            line.as_ptr(),
+            line.len(),
+            scratch.as_mut_ptr(),
+            scratch.len(),
+            engine_numbers.as_mut_ptr(),
+            engine_numbers.len(),
+            engine_counts.as_mut_ptr(),
+            engine_counts.len(),
+            text.as_mut_ptr(),
+            text.len(),
+            written.as_mut_ptr(),
+            1,
+        )
     };
     assert_eq!(number, 0);
     String::from_utf8(text[..written[0]].to_vec()).unwrap()

@@ -1,13 +1,15 @@
 //! Fin figures that are proved: safe calls of the static library `libexports.a`, whose functions include/delvouzh.h declares.
 //!
 //! The library is proved against its contracts; this crate only hands over numbers and slices, and is not proved. Lengths are metres,
-//! angles radians. Calls keep nothing but what a `Job` holds, and may run on several threads; the floating-point environment has to be the one that a process
+//! angles radians. Calls keep nothing but what a `Job` or an `Engine` holds, and may run on several threads; the floating-point environment has to be the one that a process
 //! starts with (rounding to nearest, no flushing to zero), and a call needs the stack that include/delvouzh.h names.
 
+mod engine;
 mod jobs;
 mod raw;
 mod refusals;
 
+pub use engine::Engine;
 pub use jobs::{Job, Step};
 pub use refusals::{Error, Refusal, RunError, TensorFault};
 
@@ -489,8 +491,8 @@ pub fn check(body: &Body) -> Result<(), Error> {
     Error::unless_zero(number, values)
 }
 
-/// The answer to a card line (docs/FORMS.md), a refusal's text too; neither has a newline.
-pub fn answer_line(line: &[u8], scratch: &mut [f64]) -> Result<Vec<u8>, Error> {
+/// The answer to a card line (docs/FORMS.md), a refusal's text too; neither has a newline. Submissions, densities and turns go to the engine.
+pub fn answer_line(line: &[u8], scratch: &mut [f64], engine: &mut Engine) -> Result<Vec<u8>, Error> {
     let mut answer = vec![0; raw::ANSWER];
     let mut written = [0; raw::WRITTEN];
     let number = unsafe {
@@ -499,6 +501,10 @@ pub fn answer_line(line: &[u8], scratch: &mut [f64]) -> Result<Vec<u8>, Error> {
             line.len(),
             scratch.as_mut_ptr(),
             scratch.len(),
+            engine.numbers.as_mut_ptr(),
+            engine.numbers.len(),
+            engine.counts.as_mut_ptr(),
+            engine.counts.len(),
             answer.as_mut_ptr(),
             answer.len(),
             written.as_mut_ptr(),

@@ -35,6 +35,8 @@ pub const JOB_NUMBERS: usize = 159;
 pub const JOB_COUNTS: usize = 17;
 pub const MORE: usize = 1000;
 pub const ANSWER: usize = 320;
+pub const ENGINE_NUMBERS: usize = 1272;
+pub const ENGINE_COUNTS: usize = 145;
 
 extern "C" {
     pub fn delvouzh_mass_properties(
@@ -223,6 +225,10 @@ extern "C" {
         line_len: usize,
         scratch: *mut f64,
         scratch_len: usize,
+        engine_numbers: *mut f64,
+        engine_numbers_len: usize,
+        engine_counts: *mut usize,
+        engine_counts_len: usize,
         answer: *mut u8,
         answer_len: usize,
         written: *mut usize,

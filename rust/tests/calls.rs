@@ -1,7 +1,7 @@
 //! Each call, with figures and refused; the worked examples are document 01's.
 use delvouzh::{
     answer_line, check, chords_at, closing_radius_m, combine, copied, drill, geometry, mass_properties, most_samples, placed, principal_moments,
-    scratch_len, sqrt, tube_mass_properties, with_part_moved, without_part, Body, Density, Error, Fillet, FinSet, Place, Placement, Planform, Refusal, Section, Tab,
+    scratch_len, sqrt, tube_mass_properties, with_part_moved, without_part, Body, Density, Engine, Error, Fillet, FinSet, Place, Placement, Planform, Refusal, Section, Tab,
     TensorFault, TubeFinSet,
 };
 
@@ -412,8 +412,8 @@ fn bodies_are_checked() {
 
 #[test]
 fn lines_are_answered() {
-    let mut scratch = [0.0; 1024];
-    let mut answer = |line: &str| String::from_utf8(answer_line(line.as_bytes(), &mut scratch).unwrap()).unwrap();
+    let (mut scratch, mut engine) = ([0.0; 1024], Engine::new());
+    let mut answer = |line: &str| String::from_utf8(answer_line(line.as_bytes(), &mut scratch, &mut engine).unwrap()).unwrap();
     assert_eq!(answer("(join)"), "(refused 3)");
     assert_eq!(answer("(set"), "(refused 18)");
     assert_eq!(answer(""), "(refused 18)");
@@ -421,6 +421,31 @@ fn lines_are_answered() {
     let moments = format!("(moments {zero} {two} {two})");
     assert_eq!(answer(&format!("(moments #{two} 0 2.0 0 0 0)")), moments);
     assert_eq!(answer(&format!("(moments {two} 0 2.0 0 0 0)")), "(refused 19)");
+}
+
+#[test]
+fn lines_to_the_engine_find_it_as_the_last_left_it() {
+    let (mut scratch, mut engine) = ([0.0; 1024], Engine::new());
+    let mut answer = |line: &str| String::from_utf8(answer_line(line.as_bytes(), &mut scratch, &mut engine).unwrap()).unwrap();
+    let set = |density: u32| {
+        format!(
+            "(set (limit 64) (count 3) (outline 0 0 0.05 0.1 0.15 0.05 0.2 0) (thickness 0.003) (section square) (cant 0) (base 0) (radius 0.05) (bulk {density}))"
+        )
+    };
+    assert_eq!(answer("(turn)"), "(idle)");
+    assert_eq!(answer(&format!("(submit 8 {})", set(680))), "(taken)");
+    assert_eq!(answer(&format!("(submit 8 {})", set(680))), "(refused 23)");
+    assert_eq!(answer("(turn)"), "(more 8)");
+    assert_eq!(answer("(density 8 (bulk 160))"), "(taken)");
+    let card = answer(&set(160));
+    assert_eq!(answer("(turn)"), format!("(done 8 {card})"));
+    assert_eq!(answer("(turn)"), "(idle)");
+    // a short scratch is 2 for a turn, and the job waits
+    assert_eq!(answer(&format!("(submit 1 {})", set(680))), "(taken)");
+    let short = answer_line(b"(turn)", &mut scratch[..1023], &mut engine).unwrap();
+    assert_eq!(short, b"(refused 2)");
+    let next = answer_line(b"(turn)", &mut scratch, &mut engine).unwrap();
+    assert_eq!(next, b"(more 1)");
 }
 
 #[test]

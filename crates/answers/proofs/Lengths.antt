@@ -6,7 +6,7 @@ use lib.ListN.{length}
 use lib.Ieee.{Float}
 use Rattle.tokens.specs.Text.{text, codes}
 use Rattle.answers.specs.Filled.{room}
-use Rattle.answers.specs.Answers.{answerBytes, figuresText, areaText, joinedText, ringText, bodyText, closingText, momentsText, soundText, insideText, edgeText, outsideText, refusedText}
+use Rattle.answers.specs.Answers.{answerBytes, figuresText, areaText, joinedText, ringText, bodyText, closingText, momentsText, soundText, insideText, edgeText, outsideText, takenText, idleText, moreText, doneText, doneRefusedText, refusedText}
 use Rattle.answers.proofs.Filling.{filled-fits}
 
 pub figures-short : (figures : List Float) (intervals samples : ℕ) → length (figuresText figures intervals samples) ≤ answerBytes
@@ -52,6 +52,28 @@ edge-short nearest = let h = filled-fits (text "(edge N)") [] (nearest ∷ []) i
 pub outside-short : (nearest : ℕ) → length (outsideText nearest) ≤ answerBytes
 unfolding outsideText room text codes
 outside-short nearest = let h = filled-fits (text "(outside N)") [] (nearest ∷ []) in omega arith
+
+pub taken-short : length takenText ≤ answerBytes
+unfolding takenText text codes
+taken-short = omega arith
+
+pub idle-short : length idleText ≤ answerBytes
+unfolding idleText text codes
+idle-short = omega arith
+
+pub more-short : (screen : ℕ) → length (moreText screen) ≤ answerBytes
+unfolding moreText room text codes
+more-short screen = let h = filled-fits (text "(more N)") [] (screen ∷ []) in omega arith
+
+pub done-short : (screen : ℕ) (figures : List Float) (intervals samples : ℕ) → length (doneText screen figures intervals samples) ≤ answerBytes
+unfolding doneText room text codes
+done-short screen figures intervals samples =
+    let h = filled-fits (text "(done N (figures (mass F) (centre F F F) (inertia F F F F F F) (intervals N) (samples N)))") figures (screen ∷ intervals ∷ samples ∷ []) in
+    omega arith
+
+pub done-refused-short : (screen number : ℕ) → length (doneRefusedText screen number) ≤ answerBytes
+unfolding doneRefusedText room text codes
+done-refused-short screen number = let h = filled-fits (text "(done N (refused N))") [] (screen ∷ number ∷ []) in omega arith
 
 pub refused-short : (number : ℕ) → length (refusedText number) ≤ answerBytes
 unfolding refusedText room text codes

@@ -54,5 +54,23 @@ momentsText figures = filled (text "(moments F F F)") figures []
 unfoldable pub soundText : List ℕ
 soundText = text "(sound)"
 
+-- the engine's (document 02, Papers 9 and 10): a submission or a change of density is taken; a turn finds no job
+unfoldable pub takenText : List ℕ
+takenText = text "(taken)"
+
+unfoldable pub idleText : List ℕ
+idleText = text "(idle)"
+
+-- of the screen served: more strips remain; its job has ended, with figures or a refusal
+unfoldable pub moreText : ℕ → List ℕ
+moreText screen = filled (text "(more N)") [] (screen ∷ [])
+
+unfoldable pub doneText : ℕ → List Float → ℕ → ℕ → List ℕ
+doneText screen figures intervals samples =
+    filled (text "(done N (figures (mass F) (centre F F F) (inertia F F F F F F) (intervals N) (samples N)))") figures (screen ∷ intervals ∷ samples ∷ [])
+
+unfoldable pub doneRefusedText : ℕ → ℕ → List ℕ
+doneRefusedText screen number = filled (text "(done N (refused N))") [] (screen ∷ number ∷ [])
+
 unfoldable pub refusedText : ℕ → List ℕ
 refusedText number = filled (text "(refused N)") [] (number ∷ [])

@@ -6,7 +6,7 @@ ghost use Prim.Native.Nat.{_+_, _≤_};
 ghost use lib.ListN.{length};
 ghost use Rattle.texts.specs.Appended.{Appended};
 ghost use Rattle.answers.specs.Filled.{filled, room};
-ghost use Rattle.answers.specs.Answers.{AnswerFits, figuresText, areaText, joinedText, ringText, bodyText, closingText, insideText, edgeText, outsideText, momentsText, soundText, refusedText};
+ghost use Rattle.answers.specs.Answers.{AnswerFits, figuresText, areaText, joinedText, ringText, bodyText, closingText, insideText, edgeText, outsideText, momentsText, soundText, takenText, idleText, moreText, doneText, doneRefusedText, refusedText};
 ghost use Rattle.answers.specs.Places.{HasRoom, PutPiece};
 
 // How many bytes an answer may have.
@@ -214,6 +214,64 @@ pub fn put_sound(out: &mut [u8], n: usize) -> usize
     ensures { λ r. ⌜ Appended (now (out .entry)) n soundText (now (out .exit)) r ⌝ }
 {
     texts::put_bytes(out, n, b"(sound)")
+}
+
+// A submission or a change of density that is taken.
+pub fn put_taken(out: &mut [u8], n: usize) -> usize
+    requires { ⌜ AnswerFits (now out) n ⌝ }
+    ensures { λ r. ⌜ Appended (now (out .entry)) n takenText (now (out .exit)) r ⌝ }
+{
+    texts::put_bytes(out, n, b"(taken)")
+}
+
+// A turn with no job.
+pub fn put_idle(out: &mut [u8], n: usize) -> usize
+    requires { ⌜ AnswerFits (now out) n ⌝ }
+    ensures { λ r. ⌜ Appended (now (out .entry)) n idleText (now (out .exit)) r ⌝ }
+{
+    texts::put_bytes(out, n, b"(idle)")
+}
+
+// A turn whose job has strips left, by its screen.
+pub fn put_more(out: &mut [u8], n: usize, screen: u64) -> usize
+    requires { ⌜ AnswerFits (now out) n ⌝ }
+    ensures { λ r. ⌜ Appended (now (out .entry)) n (moreText screen) (now (out .exit)) r ⌝ }
+{
+    let figures: [f64; 0] = [];
+    let counts = [screen];
+    put_filled(out, n, b"(more N)", &figures, &counts)
+}
+
+// A turn whose job has ended with figures: mass, centre and tensor.
+pub fn put_done(
+    out: &mut [u8],
+    n: usize,
+    screen: u64,
+    figures: &[f64],
+    intervals: u64,
+    samples: u64,
+) -> usize
+    requires { ⌜ AnswerFits (now out) n ⌝ }
+    ensures { λ r. ⌜ Appended (now (out .entry)) n (doneText screen (now (figures .entry)) intervals samples) (now (out .exit)) r ⌝ }
+{
+    let counts = [screen, intervals, samples];
+    put_filled(
+        out,
+        n,
+        b"(done N (figures (mass F) (centre F F F) (inertia F F F F F F) (intervals N) (samples N)))",
+        figures,
+        &counts,
+    )
+}
+
+// A turn whose job has ended with a refusal.
+pub fn put_done_refused(out: &mut [u8], n: usize, screen: u64, number: u64) -> usize
+    requires { ⌜ AnswerFits (now out) n ⌝ }
+    ensures { λ r. ⌜ Appended (now (out .entry)) n (doneRefusedText screen number) (now (out .exit)) r ⌝ }
+{
+    let figures: [f64; 0] = [];
+    let counts = [screen, number];
+    put_filled(out, n, b"(done N (refused N))", &figures, &counts)
 }
 
 // A refusal, with its number and nothing else.

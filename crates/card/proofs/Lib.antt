@@ -1,3 +1,4 @@
 pub mod Handing
 pub mod Silence
 pub mod Scratch
+pub mod AtFirst

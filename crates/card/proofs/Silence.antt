@@ -6,17 +6,17 @@ use mathlib.Core.Path.{_≡_, ap, subst}
 use Prim.Native.Nat.{_<_}
 use native.Mathlib.Omega.{arith}
 use lib.ListN.{length}
-use lib.Ieee.{Float}
+use Rattle.lines.specs.Lines.{Memory}
 use Rattle.inputs.specs.Inputs.{linesWithin, linesOf}
-use Rattle.inputs.specs.States.{answerOver, Answered}
+use Rattle.inputs.specs.States.{Answered}
 use Rattle.inputs.proofs.Lengths.{some-replied}
 use Rattle.card.specs.declared.Ran.{Ran}
-use Rattle.card.specs.Program.{Runs}
+use Rattle.card.specs.Program.{atFirst, Runs}
 
-pub some-handed : (scratch left : List Float) (r : Ran) → Runs scratch left r → r .ended ≡ true → 0 < r .read → 0 < r .handed
-some-handed scratch left r p e h =
+pub some-handed : (left : Memory) (r : Ran) → Runs left r → r .ended ≡ true → 0 < r .read → 0 < r .handed
+some-handed left r p e h =
     let a = p .reads in let u = ap length (p .all e) in let c = p .hands in
-    let answered : Answered scratch (linesOf (p .taken)) (p .text) left = subst (λ (t : Bool). Answered scratch (cond t (linesOf (p .taken)) (linesWithin [] (p .taken))) (p .text) left) e (p .answers) in
+    let answered : Answered atFirst (linesOf (p .taken)) (p .text) left = subst (λ (t : Bool). Answered atFirst (cond t (linesOf (p .taken)) (linesWithin [] (p .taken))) (p .text) left) e (p .answers) in
     let t = ap length (answered .replied) in
-    let s = some-replied (answerOver (length scratch)) (p .taken) (omega arith) in
+    let s = some-replied (p .taken) atFirst (omega arith) in
     omega arith

@@ -1,14 +1,18 @@
 // The card program: lines of standard input, a reply printed for each (document 01, "The card program").
 //
-// It only reads, feeds and writes: what is replied is `inputs`' to say. The replies to what was read are written before it reads on. A read
-// that fails, or a reply that nobody takes, ends it without a reply to the line that had begun, and with a line on standard error.
+// It only reads, feeds and writes: what is replied is `inputs`' to say. It keeps one scratch and one engine from its first line to its last. The replies
+// to what was read are written before it reads on. A read that fails, or a reply that nobody takes, ends it without a reply to the line that had begun,
+// and with a line on standard error.
 //
 // `read` counts the bytes that were read, `handed` those of replies that were handed to write: the contracts say by them what was answered.
 ghost use mathlib.Core.Path.{_≡_};
 ghost use Prim.Native.Nat.{_+_};
 ghost use lib.ListN.{length};
-ghost use Rattle.card.specs.Program.{Lends, TakenSoFar, Due, Replies, Turns, Runs};
+ghost use Rattle.lines.specs.Lines.{memoryIn};
+ghost use Rattle.card.specs.Program.{atFirst, Lends, TakenSoFar, Due, Replies, Turns, Runs};
 use inputs::State;
+use lent_engines::ENGINE_COUNTS;
+use lent_engines::ENGINE_NUMBERS;
 use libc::STDERR_FILENO;
 use libc::STDIN_FILENO;
 use libc::STDOUT_FILENO;
@@ -65,19 +69,32 @@ fn reply_to(
     s: State,
     chunk: &[u8],
     scratch: &mut [f64],
+    engine_numbers: &mut [f64],
+    engine_counts: &mut [usize],
     out: &mut [u8],
     handed: usize,
 ) -> Replied
-    requires { ⌜ Lends (now buffer) (now chunk) (now scratch) (now out) × TakenSoFar (now buffer) s handed ⌝ }
+    requires { ⌜ Lends (now buffer) (now chunk) (now «engine_numbers») (now «engine_counts») (now out)
+        × TakenSoFar (now buffer) s (memoryIn (now scratch) (now «engine_numbers») (now «engine_counts»)) handed ⌝ }
     ensures { λ r. ⌜ Replies (now (buffer .entry)) (now (buffer .exit)) s (now (chunk .entry))
-        (now (scratch .entry)) (now (scratch .exit)) handed r ⌝ }
+        (memoryIn (now (scratch .entry)) (now («engine_numbers» .entry)) (now («engine_counts» .entry)))
+        (memoryIn (now (scratch .exit)) (now («engine_numbers» .exit)) (now («engine_counts» .exit))) handed r ⌝ }
 {
     let mut state = s;
     let mut at: usize = 0;
     let mut total = handed;
     let mut all = true;
     while all && at < chunk.len() {
-        let fed = inputs::feed(buffer, state, &chunk[at..], scratch, out, 0);
+        let fed = inputs::feed(
+            buffer,
+            state,
+            &chunk[at..],
+            scratch,
+            engine_numbers,
+            engine_counts,
+            out,
+            0,
+        );
         let written = fed.written;
         let taken = fed.taken;
         state = fed.state;
@@ -100,12 +117,16 @@ fn take_turn(
     s: State,
     chunk: &mut [u8],
     scratch: &mut [f64],
+    engine_numbers: &mut [f64],
+    engine_counts: &mut [usize],
     out: &mut [u8],
     handed: usize,
 ) -> Turn
-    requires { ⌜ Lends (now buffer) (now chunk) (now scratch) (now out) × TakenSoFar (now buffer) s handed ⌝ }
+    requires { ⌜ Lends (now buffer) (now chunk) (now «engine_numbers») (now «engine_counts») (now out)
+        × TakenSoFar (now buffer) s (memoryIn (now scratch) (now «engine_numbers») (now «engine_counts»)) handed ⌝ }
     ensures { λ r. ⌜ Turns (now (buffer .entry)) (now (buffer .exit)) s (now (chunk .exit))
-        (now (scratch .entry)) (now (scratch .exit)) handed r ⌝ }
+        (memoryIn (now (scratch .entry)) (now («engine_numbers» .entry)) (now («engine_counts» .entry)))
+        (memoryIn (now (scratch .exit)) (now («engine_numbers» .exit)) (now («engine_counts» .exit))) handed r ⌝ }
 {
     let got = libc::read(STDIN_FILENO, chunk);
     let n = io::count(got, chunk);
@@ -118,7 +139,16 @@ fn take_turn(
             state: s,
         };
     }
-    let replied = reply_to(buffer, s, &chunk[..n], scratch, out, handed);
+    let replied = reply_to(
+        buffer,
+        s,
+        &chunk[..n],
+        scratch,
+        engine_numbers,
+        engine_counts,
+        out,
+        handed,
+    );
     let state = replied.state;
     Turn {
         more: replied.all,
@@ -130,9 +160,17 @@ fn take_turn(
 }
 
 // All of the input.
-fn run(buffer: &mut [u8], chunk: &mut [u8], scratch: &mut [f64], out: &mut [u8]) -> Ran
-    requires { ⌜ Lends (now buffer) (now chunk) (now scratch) (now out) ⌝ }
-    ensures { λ r. ⌜ Runs (now (scratch .entry)) (now (scratch .exit)) r ⌝ }
+fn run(
+    buffer: &mut [u8],
+    chunk: &mut [u8],
+    scratch: &mut [f64],
+    engine_numbers: &mut [f64],
+    engine_counts: &mut [usize],
+    out: &mut [u8],
+) -> Ran
+    requires { ⌜ Lends (now buffer) (now chunk) (now «engine_numbers») (now «engine_counts») (now out)
+        × (memoryIn (now scratch) (now «engine_numbers») (now «engine_counts») ≡ atFirst) ⌝ }
+    ensures { λ r. ⌜ Runs (memoryIn (now (scratch .exit)) (now («engine_numbers» .exit)) (now («engine_counts» .exit))) r ⌝ }
 {
     let mut state = inputs::no_line();
     let mut read: usize = 0;
@@ -140,7 +178,16 @@ fn run(buffer: &mut [u8], chunk: &mut [u8], scratch: &mut [f64], out: &mut [u8])
     let mut more = true;
     let mut ended = false;
     while more && read < MOST_READ {
-        let t = take_turn(buffer, state, chunk, scratch, out, handed);
+        let t = take_turn(
+            buffer,
+            state,
+            chunk,
+            scratch,
+            engine_numbers,
+            engine_counts,
+            out,
+            handed,
+        );
         state = t.state;
         read += t.read;
         handed = t.handed;
@@ -148,7 +195,15 @@ fn run(buffer: &mut [u8], chunk: &mut [u8], scratch: &mut [f64], out: &mut [u8])
         ended = t.ended;
     }
     if ended {
-        let last = inputs::finish(buffer, state, scratch, out, 0);
+        let last = inputs::finish(
+            buffer,
+            state,
+            scratch,
+            engine_numbers,
+            engine_counts,
+            out,
+            0,
+        );
         let h = write_replies(&out[..last], handed);
         return Ran {
             ended,
@@ -169,8 +224,17 @@ fn main() {
     let mut buffer = io::buffer();
     let mut chunk = io::large_buffer();
     let mut scratch = [0.0; 1024];
+    let mut engine_numbers = [0.0; ENGINE_NUMBERS];
+    let mut engine_counts = [0; ENGINE_COUNTS];
     let mut out = io::large_buffer();
-    let ran = run(&mut buffer, &mut chunk, &mut scratch, &mut out);
+    let ran = run(
+        &mut buffer,
+        &mut chunk,
+        &mut scratch,
+        &mut engine_numbers,
+        &mut engine_counts,
+        &mut out,
+    );
     if !ran.answered {
         io::write_all(
             STDERR_FILENO,

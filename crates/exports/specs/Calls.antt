@@ -1,7 +1,7 @@
 -- What a call returns and leaves in the lent lists (include/delvouzh.h). Where a list has no room for what is written over its start, the
 -- call returns 18 (no form) and leaves every list as it was.
 use mathlib.Core.Path.{_≡_}
-use mathlib.Core.Bool.{Bool, cond, _&&_}
+use mathlib.Core.Bool.{Bool, false, cond, _&&_}
 use mathlib.Core.List.{List, [], _∷_}
 use Prim.Native.Nat.{ℕ}
 use lib.Dec.{leb}
@@ -25,7 +25,8 @@ use Rattle.figures.specs.declared.Area.{Area}
 use Rattle.figures.specs.declared.Figures.{Figures}
 use Rattle.requests.specs.Calls.{numberedFigures, numberedScratch, numberedArea, numberedAreaScratch, numberedChords, numberedEnds, numberedDrill, ringBy, tensorMoments, bodyVerdict}
 use Rattle.answers.specs.Answers.{answerBytes}
-use Rattle.lines.specs.Lines.{answerOf, scratchAfterLine}
+use Rattle.lent_engines.specs.Memory.{engineNumbers, engineCounts}
+use Rattle.lines.specs.Lines.{LentMemory, memoryOf, answerOf, memoryAfter}
 use Rattle.exports.specs.Numbers.{numberIn, over, withValues, withCount, withCounts}
 
 -- room for m figures, or bytes, and n counts
@@ -119,8 +120,14 @@ pub record CheckCall (numbers : List Float) (values : List ℕ) (r : ℕ) (value
 
 -- ---- a line's answer
 
-pub record LineCall (line : List ℕ) (scratch : List Float) (answer written : List ℕ) (r : ℕ) (scratch' : List Float) (answer' written' : List ℕ) : Type 0 where
-  pub returned : r ≡ cond (room answerBytes answer 1 written) 0 (numberOf NoForm)
-  pub answered : answer' ≡ cond (room answerBytes answer 1 written) (over (answerOf line (length scratch)) answer) answer
-  pub counted : written' ≡ cond (room answerBytes answer 1 written) (over (length (answerOf line (length scratch)) ∷ []) written) written
-  pub lent : scratch' ≡ cond (room answerBytes answer 1 written) (scratchAfterLine line scratch) scratch
+-- room for the engine, and for the answer
+abbrev pub lineRoom : LentMemory → List ℕ → List ℕ → Bool
+lineRoom lent answer written = room engineNumbers (lent .numbers) engineCounts (lent .counts) && room answerBytes answer 1 written
+
+pub record LineCall (line : List ℕ) (lent : LentMemory) (answer written : List ℕ) (r : ℕ) (lent' : LentMemory) (answer' written' : List ℕ) : Type 0 where
+  pub returned : r ≡ cond (lineRoom lent answer written) 0 (numberOf NoForm)
+  pub answered : answer' ≡ cond (lineRoom lent answer written) (over (answerOf line (memoryOf lent)) answer) answer
+  pub counted : written' ≡ cond (lineRoom lent answer written) (over (length (answerOf line (memoryOf lent)) ∷ []) written) written
+  -- the scratch, and the engine that the two lists hold
+  pub memory-left : memoryOf lent' ≡ cond (lineRoom lent answer written) (memoryAfter line (memoryOf lent)) (memoryOf lent)
+  pub untouched : lineRoom lent answer written ≡ false → lent' ≡ lent

@@ -14,6 +14,7 @@ ghost use Rattle.root.specs.Root.{rootOf, IsRoot};
 ghost use Rattle.planforms.specs.Numbered.{numberedPlanform};
 ghost use Rattle.materials.specs.Numbered.{numberedDensity};
 ghost use Rattle.figures.specs.Answers.{mostSamples};
+ghost use Rattle.lines.specs.Lines.{lentIn};
 ghost use Rattle.requests.specs.Calls.{copiedBy, placedBy, movedBy, withoutBy};
 ghost use Rattle.exports.specs.Sets.{crossedSet};
 ghost use Rattle.exports.specs.Numbers.{numberIn, valuesIn, over, withValues, withCount, withCounts};
@@ -24,6 +25,8 @@ use bodies::BODY_NUMBERS;
 use fins::NumberedSet;
 use jobs::Answer;
 use jobs::Reply;
+use lent_engines::ENGINE_COUNTS;
+use lent_engines::ENGINE_NUMBERS;
 use lent_jobs::JOB_COUNTS;
 use lent_jobs::JOB_NUMBERS;
 use materials::NumberedDensity;
@@ -630,24 +633,34 @@ pub extern "C" fn delvouzh_check(body: &[f64], values: &mut [usize]) -> usize
     number(verdict)
 }
 
-// The answer to a line of docs/FORMS.md, a refusal's text too: writes its bytes, and how many they are.
+// The answer to a line of docs/FORMS.md, a refusal's text too, over the engine that is lent: writes its bytes, and how many they are.
 #[no_mangle]
 pub extern "C" fn delvouzh_answer_line(
     line: &[u8],
     scratch: &mut [f64],
+    engine_numbers: &mut [f64],
+    engine_counts: &mut [usize],
     answer: &mut [u8],
     written: &mut [usize],
 ) -> usize
     ensures { λ r. ⌜ LineCall (now (line .entry))
-        (now (scratch .entry)) (now (answer .entry)) (now (written .entry))
-        r (now (scratch .exit)) (now (answer .exit)) (now (written .exit)) ⌝ }
+        (lentIn (now (scratch .entry)) (now («engine_numbers» .entry)) (now («engine_counts» .entry)))
+        (now (answer .entry)) (now (written .entry))
+        r (lentIn (now (scratch .exit)) (now («engine_numbers» .exit)) (now («engine_counts» .exit)))
+        (now (answer .exit)) (now (written .exit)) ⌝ }
 {
+    if engine_numbers.len() < ENGINE_NUMBERS {
+        return NO_FORM;
+    }
+    if engine_counts.len() < ENGINE_COUNTS {
+        return NO_FORM;
+    }
     if answer.len() < ANSWER_BYTES {
         return NO_FORM;
     }
     if written.len() < 1 {
         return NO_FORM;
     }
-    written[0] = lines::answer_line(line, scratch, answer, 0);
+    written[0] = lines::answer_line(line, scratch, engine_numbers, engine_counts, answer, 0);
     0
 }

@@ -7,7 +7,7 @@ ghost use Prim.Native.Nat.{_≤_};
 ghost use lib.ListN.{length};
 ghost use Rattle.tokens.specs.Tokens.{lineBytes};
 ghost use Rattle.templates.specs.Cursors.{Room, Takes};
-ghost use Rattle.forms.specs.Forms.{laterPart, part, isNumbered, withItem, readAs, wordOf, bodyForm, laterForm, lineAsked};
+ghost use Rattle.forms.specs.Forms.{laterPart, part, isNumbered, withItem, readAs, wordOf, engineForm, bodyForm, laterForm, lineAsked};
 ghost use Rattle.forms.specs.Reads.{refusedRequest, Reads, endOf, IsWordOf};
 use refusals::Refusal;
 use refusals::Verdict;
@@ -29,6 +29,9 @@ pub enum Form {
     Placed,
     Moved,
     Without,
+    Submit,
+    Density,
+    Turn,
     NoForm,
 }
 
@@ -224,6 +227,28 @@ fn word_of(line: &[u8]) -> Found
     tokens::next_token(line, bracket.to)
 }
 
+// What a line to the engine of eight screens asks.
+fn read_engine_form(line: &[u8], word: &[u8], values: &mut [f64]) -> Request
+    requires { ⌜ (length (now line) ≤ lineBytes) × (length (now line) ≤ length (now values)) × (now word ≡ wordOf (now line)) ⌝ }
+    ensures { λ r. ⌜ Reads (now (values .exit)) r (engineForm (now (line .entry))) ⌝ }
+{
+    if same_bytes(word, b"submit") {
+        return read_form(
+            line,
+            Form::Submit,
+            b"(submit N (set (limit N) (count N) PLANFORM (thickness F) (section SECTION) TAB FILLET (cant F) (base F) (radius F) DENSITY))",
+            values,
+        );
+    }
+    if same_bytes(word, b"density") {
+        return read_form(line, Form::Density, b"(density N DENSITY)", values);
+    }
+    if same_bytes(word, b"turn") {
+        return read_form(line, Form::Turn, b"(turn)", values);
+    }
+    refused(Refusal::NoForm)
+}
+
 // What a line of copies, or of a part moved or taken off, asks.
 fn read_body_form(line: &[u8], word: &[u8], values: &mut [f64]) -> Request
     requires { ⌜ (length (now line) ≤ lineBytes) × (length (now line) ≤ length (now values)) × (now word ≡ wordOf (now line)) ⌝ }
@@ -246,7 +271,7 @@ fn read_body_form(line: &[u8], word: &[u8], values: &mut [f64]) -> Request
     if same_bytes(word, b"without") {
         return read_form(line, Form::Without, b"(without BODY BODY)", values);
     }
-    refused(Refusal::NoForm)
+    read_engine_form(line, word, values)
 }
 
 // What a line of a form that document 02 adds asks: a ring of tubes, the radius that closes one, where a point lies.

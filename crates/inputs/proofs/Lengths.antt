@@ -11,14 +11,13 @@ use Rattle.refusals.specs.Refusals.{numberOf}
 use Rattle.tokens.specs.Tokens.{lineBytes}
 use Rattle.answers.specs.Answers.{answerBytes, refusedText}
 use Rattle.answers.proofs.Lengths.{refused-short}
-use Rattle.lines.specs.Lines.{answerOf}
+use Rattle.lines.specs.Lines.{Memory, answerOf}
 use Rattle.lines.proofs.Short.{answer-short}
-use Rattle.inputs.specs.Inputs.{replyBytes, linesWithin, begunAfter, lastLine, linesOf, reply, replies, repliesTo}
-use Rattle.inputs.specs.States.{answerOver}
+use Rattle.inputs.specs.Inputs.{replyBytes, linesWithin, begunAfter, lastLine, linesOf, reply, leftByLine, replies, repliesTo}
 
-one-short : (m : ℕ) (line : List ℕ) → length (reply (answerOver m) line) ≤ replyBytes
+one-short : (line : List ℕ) (m : Memory) → length (reply line m) ≤ replyBytes
 unfolding reply
-one-short m line =
+one-short line m =
     let e = length-append (cond (leb (length line) lineBytes) (answerOf line m) (refusedText (numberOf NoForm))) (10 ∷ []) in
     let h = by (leb (length line) lineBytes) in
     omega arith
@@ -27,11 +26,12 @@ one-short m line =
     by true = answer-short line m
     by false = refused-short (numberOf NoForm)
 
-all-short : (m : ℕ) (lines : List (List ℕ)) → length (replies (answerOver m) lines) ≤ replyBytes * length lines
+all-short : (lines : List (List ℕ)) (m : Memory) → length (replies lines m) ≤ replyBytes * length lines
 unfolding replies
-all-short m [] = omega arith
-all-short m (line ∷ lines) =
-    let e = length-append (reply (answerOver m) line) (replies (answerOver m) lines) in let h = one-short m line in let i = all-short m lines in
+all-short [] m = omega arith
+all-short (line ∷ lines) m =
+    let left = leftByLine line m in
+    let e = length-append (reply line m) (replies lines left) in let h = one-short line m in let i = all-short lines left in
     omega arith
 
 -- a line has a byte at least, its newline
@@ -51,11 +51,11 @@ few-last : (begun : List ℕ) → length (lastLine begun) ≤ 1
 few-last [] = omega arith
 few-last (b ∷ bs) = omega arith
 
-pub within-short : (m : ℕ) (begun bytes : List ℕ) → length (replies (answerOver m) (linesWithin begun bytes)) ≤ replyBytes * length bytes
-within-short m begun bytes = let a = all-short m (linesWithin begun bytes) in let f = few begun bytes in omega arith
+pub within-short : (begun bytes : List ℕ) (m : Memory) → length (replies (linesWithin begun bytes) m) ≤ replyBytes * length bytes
+within-short begun bytes m = let a = all-short (linesWithin begun bytes) m in let f = few begun bytes in omega arith
 
-pub last-short : (m : ℕ) (begun : List ℕ) → length (replies (answerOver m) (lastLine begun)) ≤ replyBytes
-last-short m begun = let a = all-short m (lastLine begun) in let f = few-last begun in omega arith
+pub last-short : (begun : List ℕ) (m : Memory) → length (replies (lastLine begun) m) ≤ replyBytes
+last-short begun m = let a = all-short (lastLine begun) m in let f = few-last begun in omega arith
 
 -- a line that has begun, or another byte, is a line at the end
 abbrev Some : List ℕ → List ℕ → Type 0
@@ -72,17 +72,17 @@ some-lines begun (b ∷ bs) h = by (eqb b 10) refl (some-lines (begun ++ (b ∷ 
     by false e i = let l = length-append begun (b ∷ []) in rw e (i (omega arith))
 
 -- a reply has a byte, its newline
-some-reply : (answer : List ℕ → List ℕ) (line : List ℕ) → 0 < length (reply answer line)
+some-reply : (line : List ℕ) (m : Memory) → 0 < length (reply line m)
 unfolding reply
-some-reply answer line = by (cond (leb (length line) lineBytes) (answer line) (refusedText (numberOf NoForm)))
+some-reply line m = by (cond (leb (length line) lineBytes) (answerOf line m) (refusedText (numberOf NoForm)))
   where
     by : (text : List ℕ) → 0 < length (text ++ (10 ∷ []))
     by text = let e = length-append text (10 ∷ []) in omega arith
 
-some-replies : (answer : List ℕ → List ℕ) (lines : List (List ℕ)) → 0 < length lines → 0 < length (replies answer lines)
+some-replies : (lines : List (List ℕ)) (m : Memory) → 0 < length lines → 0 < length (replies lines m)
 unfolding replies
-some-replies answer [] h = absurd (let z : ⊥ = omega arith in z)
-some-replies answer (line ∷ lines) h = let e = length-append (reply answer line) (replies answer lines) in let f = some-reply answer line in omega arith
+some-replies [] m h = absurd (let z : ⊥ = omega arith in z)
+some-replies (line ∷ lines) m h = let e = length-append (reply line m) (replies lines (leftByLine line m)) in let f = some-reply line m in omega arith
 
-pub some-replied : (answer : List ℕ → List ℕ) (input : List ℕ) → 0 < length input → 0 < length (repliesTo answer input)
-some-replied answer input h = some-replies answer (linesOf input) (some-lines [] input (omega arith))
+pub some-replied : (input : List ℕ) (m : Memory) → 0 < length input → 0 < length (repliesTo input m)
+some-replied input m h = some-replies (linesOf input) m (some-lines [] input (omega arith))

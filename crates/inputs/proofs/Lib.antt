@@ -3,3 +3,4 @@ pub mod Keeping
 pub mod Lengths
 pub mod Lines
 pub mod Taking
+pub mod Lent

@@ -4,7 +4,7 @@ use mathlib.Core.Bool.{Bool, true, false}
 use mathlib.Core.Path.{_≡_, refl, sym, ap, _∙_}
 use Prim.Native.Nat.{ℕ}
 use lib.Dec.{eqb}
-use lib.Ieee.{Float}
+use Rattle.lines.specs.Lines.{Memory}
 use Rattle.inputs.specs.Inputs.{linesWithin, begunAfter, reply, replies, leftByLine, leftByLines}
 
 -- the line that has begun after some bytes and more
@@ -33,14 +33,16 @@ lines-twice begun (x ∷ a) b = by (eqb x 10) refl (lines-twice [] a b) (lines-t
     by true e i j = rw e (ap (λ (l : List (List ℕ)). begun ∷ l) i)
     by false e i j = rw e j
 
--- the replies to lines and more lines
-pub replies-append : (answer : List ℕ → List ℕ) (l k : List (List ℕ)) → replies answer (l ++ k) ≡ replies answer l ++ replies answer k
-unfolding replies
-replies-append answer [] k = refl
-replies-append answer (line ∷ l) k = ap (λ (t : List ℕ). reply answer line ++ t) (replies-append answer l k) ∙ sym (append-assoc (reply answer line) (replies answer l) (replies answer k))
-
--- and what they leave in the scratch
-pub left-append : (left : List ℕ → List Float → List Float) (l k : List (List ℕ)) (scratch : List Float) → leftByLines left (l ++ k) scratch ≡ leftByLines left k (leftByLines left l scratch)
+-- what lines and more lines leave
+pub left-append : (l k : List (List ℕ)) (memory : Memory) → leftByLines (l ++ k) memory ≡ leftByLines k (leftByLines l memory)
 unfolding leftByLines
-left-append left [] k scratch = refl
-left-append left (line ∷ l) k scratch = left-append left l k (leftByLine left line scratch)
+left-append [] k memory = refl
+left-append (line ∷ l) k memory = left-append l k (leftByLine line memory)
+
+-- and the replies to them
+pub replies-append : (l k : List (List ℕ)) (memory : Memory) → replies (l ++ k) memory ≡ replies l memory ++ replies k (leftByLines l memory)
+unfolding replies leftByLines
+replies-append [] k memory = refl
+replies-append (line ∷ l) k memory =
+    let left = leftByLine line memory in
+    ap (λ (t : List ℕ). reply line memory ++ t) (replies-append l k left) ∙ sym (append-assoc (reply line memory) (replies l left) (replies k (leftByLines l left)))

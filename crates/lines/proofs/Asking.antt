@@ -5,49 +5,52 @@ use Prim.Native.Nat.{ℕ}
 use lib.ListN.{length, take}
 use lib.Ieee.{Float}
 use Rattle.forms.specs.declared.Form.{Form}
-use Rattle.forms.specs.declared.Form.the-variants.{Set as SetForm, Area as AreaForm, Join as JoinForm, Moments as MomentsForm, Check as CheckForm, Tubes as TubesForm, Closing as ClosingForm, Drill as DrillForm, Copied as CopiedForm, Placed as PlacedForm, Moved as MovedForm, Without as WithoutForm, NoForm}
+use Rattle.forms.specs.declared.Form.the-variants.{Set as SetForm, Area as AreaForm, Join as JoinForm, Moments as MomentsForm, Check as CheckForm, Tubes as TubesForm, Closing as ClosingForm, Drill as DrillForm, Copied as CopiedForm, Placed as PlacedForm, Moved as MovedForm, Without as WithoutForm, Submit as SubmitForm, Density as DensityForm, Turn as TurnForm, NoForm}
 use Rattle.forms.specs.declared.Request.{Request}
 use Rattle.forms.specs.Forms.{Asked, refused, asked, lineAsked}
 use Rattle.forms.specs.Reads.{Reads, requestOf, figuresOf}
 use Rattle.refusals.specs.declared.Verdict.the-variants.{Accepted}
-use Rattle.lines.specs.Lines.{answerTo, askedAnswer, answerOf, scratchAfterForm, scratchAfterAsked, scratchAfterLine, requestAnswer}
+use Rattle.lines.specs.Lines.{Memory, answerTo, askedAnswer, answerOf, memoryAfterForm, memoryAfterAsked, memoryAfter, requestAnswer}
 
 counted : (a : Asked) → requestOf a .figures ≡ length (figuresOf a)
 counted (refused refusal) = refl
 counted (asked form ns figures) = refl
 
-accepted : (form : Form) (ns : List ℕ) (figures : List Float) (n : ℕ) → requestAnswer form Accepted ns figures n ≡ answerTo form ns figures n
-accepted SetForm ns figures n = refl
-accepted AreaForm ns figures n = refl
-accepted JoinForm ns figures n = refl
-accepted MomentsForm ns figures n = refl
-accepted CheckForm ns figures n = refl
-accepted TubesForm ns figures n = refl
-accepted ClosingForm ns figures n = refl
-accepted DrillForm ns figures n = refl
-accepted CopiedForm ns figures n = refl
-accepted PlacedForm ns figures n = refl
-accepted MovedForm ns figures n = refl
-accepted WithoutForm ns figures n = refl
-accepted NoForm ns figures n = refl
+accepted : (form : Form) (ns : List ℕ) (figures : List Float) (m : Memory) → requestAnswer form Accepted ns figures m ≡ answerTo form ns figures m
+accepted SetForm ns figures m = refl
+accepted AreaForm ns figures m = refl
+accepted JoinForm ns figures m = refl
+accepted MomentsForm ns figures m = refl
+accepted CheckForm ns figures m = refl
+accepted TubesForm ns figures m = refl
+accepted ClosingForm ns figures m = refl
+accepted DrillForm ns figures m = refl
+accepted CopiedForm ns figures m = refl
+accepted PlacedForm ns figures m = refl
+accepted MovedForm ns figures m = refl
+accepted WithoutForm ns figures m = refl
+accepted SubmitForm ns figures m = refl
+accepted DensityForm ns figures m = refl
+accepted TurnForm ns figures m = refl
+accepted NoForm ns figures m = refl
 
 module _ (line : List ℕ) (values : List Float) (q : Request) (r : Reads values q (lineAsked line)) where
   -- all of its figures were there to take
   pub all-there : length (take (q .figures) values) ≡ q .figures
   all-there = ap length (r .figures) ∙ sym (counted (lineAsked line)) ∙ sym (ap (λ (x : Request). x .figures) (r .request))
 
-  pub answer-is : (n : ℕ) → requestAnswer (q .form) (q .verdict) (q .numbers) (take (q .figures) values) n ≡ answerOf line n
+  pub answer-is : (m : Memory) → requestAnswer (q .form) (q .verdict) (q .numbers) (take (q .figures) values) m ≡ answerOf line m
   unfolding answerOf
-  answer-is n = ap₂ (λ (x : Request) (l : List Float). requestAnswer (x .form) (x .verdict) (x .numbers) l n) (r .request) (r .figures) ∙ by (lineAsked line)
+  answer-is m = ap₂ (λ (x : Request) (l : List Float). requestAnswer (x .form) (x .verdict) (x .numbers) l m) (r .request) (r .figures) ∙ by (lineAsked line)
     where
-      by : (a : Asked) → requestAnswer (requestOf a .form) (requestOf a .verdict) (requestOf a .numbers) (figuresOf a) n ≡ askedAnswer a n
+      by : (a : Asked) → requestAnswer (requestOf a .form) (requestOf a .verdict) (requestOf a .numbers) (figuresOf a) m ≡ askedAnswer a m
       by (refused refusal) = refl
-      by (asked form ns figures) = accepted form ns figures n
+      by (asked form ns figures) = accepted form ns figures m
 
-  pub scratch-is : (scratch : List Float) → scratchAfterForm (q .form) (q .numbers) (take (q .figures) values) scratch ≡ scratchAfterLine line scratch
-  unfolding scratchAfterLine
-  scratch-is scratch = ap₂ (λ (x : Request) (l : List Float). scratchAfterForm (x .form) (x .numbers) l scratch) (r .request) (r .figures) ∙ by (lineAsked line)
+  pub memory-is : (m : Memory) → memoryAfterForm (q .form) (q .numbers) (take (q .figures) values) m ≡ memoryAfter line m
+  unfolding memoryAfter
+  memory-is m = ap₂ (λ (x : Request) (l : List Float). memoryAfterForm (x .form) (x .numbers) l m) (r .request) (r .figures) ∙ by (lineAsked line)
     where
-      by : (a : Asked) → scratchAfterForm (requestOf a .form) (requestOf a .numbers) (figuresOf a) scratch ≡ scratchAfterAsked a scratch
+      by : (a : Asked) → memoryAfterForm (requestOf a .form) (requestOf a .numbers) (figuresOf a) m ≡ memoryAfterAsked a m
       by (refused refusal) = refl
       by (asked form ns figures) = refl

@@ -1,6 +1,6 @@
--- A count is capped at a million when it is read (`counts`). No answer and no scratch shows it: a larger limit or count is refused, by 1
--- or 3, as it would be uncapped. Assumes nothing.
-use mathlib.Core.Bool.{Bool, true, false, _&&_}
+-- A count is capped at a million when it is read (`counts`). No answer, no scratch and no engine shows it: a larger limit or count is refused, by 1
+-- or 3, and a larger number is no screen's, as it would be uncapped. Assumes nothing.
+use mathlib.Core.Bool.{Bool, true, false, _&&_, cond}
 use mathlib.Core.List.{List}
 use mathlib.Core.Path.{_≡_, refl, sym, ap, _∙_}
 use Prim.Native.Nat.{ℕ, _<_}
@@ -10,20 +10,21 @@ use lib.Dec.{leb}
 use lib.ListN.{length}
 use lib.Ieee.{Float}
 use Rattle.refusals.specs.declared.Refusal.{Refusal}
-use Rattle.refusals.specs.declared.Refusal.the-variants.{Limit, Count}
+use Rattle.refusals.specs.declared.Refusal.the-variants.{Limit, Count, Screen as notFree, Density as notTaken}
 use Rattle.refusals.specs.declared.Verdict.{Verdict}
 use Rattle.refusals.specs.declared.Verdict.the-variants.{Accepted, Refused}
 use Rattle.counts.specs.Counts.{capped}
-use Rattle.refusals.specs.Order.{refuseUnless, firstRefusal}
+use Rattle.refusals.specs.Order.{refuseUnless, isRefused, firstRefusal}
 use Rattle.limits.specs.Limits.{limitCheck, scratchCheck, countCheck}
 use Rattle.planforms.specs.declared.Planform.{Planform}
 use Rattle.fins.specs.declared.FinSet.{FinSet}
 use Rattle.floats.proofs.Bools.{and-false}
-use Rattle.fins.specs.Fins.{setCheck, areaCheck}
+use Rattle.fins.specs.Fins.{ownCheck, setCheck, areaCheck}
 use Rattle.planforms.specs.declared.NumberedPlanform.{NumberedPlanform}
 use Rattle.planforms.specs.declared.NumberedPlanform.the-variants.{Known as planformKnown, Unknown as noPlanform}
 use Rattle.fins.specs.declared.NumberedSet.{NumberedSet}
 use Rattle.fins.specs.declared.NumberedSet.the-variants.{Known as setKnown, Unknown as noSet}
+use Rattle.materials.specs.declared.Density.{Density}
 use Rattle.materials.specs.declared.NumberedDensity.{NumberedDensity}
 use Rattle.materials.specs.declared.NumberedDensity.the-variants.{Known as densityKnown, Unknown as noDensity}
 use Rattle.materials.specs.Numbered.{numberedDensity}
@@ -34,13 +35,19 @@ use Rattle.tubes.specs.Closing.{closingOf}
 use Rattle.floats.specs.Operations.{at}
 use Rattle.requests.specs.declared.AreaRequest.{AreaRequest}
 use Rattle.requests.specs.declared.SetRequest.{SetRequest}
-use Rattle.requests.specs.Calls.{numberedFigures, numberedScratch, numberedArea, numberedAreaScratch, ringOfKnown, ringBy}
-use Rattle.requests.specs.Requests.{between, askedFigures, askedScratch, askedArea, askedAreaScratch}
+use Rattle.requests.specs.Calls.{numberedFigures, numberedScratch, numberedSubmit, numberedChange, numberedArea, numberedAreaScratch, ringOfKnown, ringBy}
+use Rattle.requests.specs.Requests.{between, askedFigures, askedScratch, askedSubmit, askedArea, askedAreaScratch}
 use Rattle.figures.specs.declared.Figures.{Figures}
 use Rattle.figures.specs.declared.Area.{Area}
 use Rattle.strips.specs.Strips.{byVerdict, scratchAfter}
 use Rattle.figures.specs.Figures.{setStrips, refusedFigures, workedFigures, setFigures, setScratch}
 use Rattle.figures.specs.Areas.{areaFigures, areaScratch}
+use Rattle.jobs.specs.declared.Job.{Job}
+use Rattle.jobs.specs.Jobs.{makingCheck, firstOutcome, madeOf}
+use Rattle.engines.specs.declared.Screens.{Screens}
+use Rattle.engines.specs.declared.AtScreen.{AtScreen}
+use Rattle.engines.specs.declared.Engine.{Engine}
+use Rattle.engines.specs.Engines.{isScreen, placeOf, isFree, holdsJob, refused as refusedAt, submittedOf, changedOf, jobAt, calledAt, submitOf, changeAt}
 use Rattle.lines.specs.Lines.{printedSet, printedArea, setAnswer, areaAnswer}
 
 -- ---- the two checks
@@ -212,3 +219,76 @@ module _ (figures : List Float) where
   pub area-scratch-capped : (q : AreaRequest) (scratch : List Float) → askedAreaScratch (cappedAreaRequest q) figures scratch ≡ askedAreaScratch q figures scratch
   unfolding askedAreaScratch
   area-scratch-capped q scratch = area-left-capped (q .planform) (between 0 (q .points) figures) (q .limit) scratch
+
+-- ---- the engine: a number that is no screen's is refused whatever it is, and a set as above
+
+no-screen : (k : ℕ) → 8 < k → isScreen k ≡ false
+no-screen k h = ap (λ (t : Bool). leb 1 k && t) (lt-leb k 8 h) ∙ and-false (leb 1 k)
+
+making-limit : (set : FinSet) (points : List Float) (L : ℕ) → 64 < L → makingCheck set points L ≡ Refused Limit
+unfolding makingCheck firstRefusal
+making-limit set points L h = rw (too-long L h)
+
+-- 3 comes behind 1 alone
+making-count : (set : FinSet) (points : List Float) (L n : ℕ) → 32 < n → makingCheck (withCount set n) points L ≡ firstRefusal (limitCheck L) (Refused Count)
+unfolding makingCheck ownCheck firstRefusal
+making-count set points L n h = rw (too-many n h)
+
+some-refusal : (v : Verdict) → (refusal : Refusal) × (firstRefusal v (Refused Count) ≡ Refused refusal)
+unfolding firstRefusal
+some-refusal Accepted = (Count, refl)
+some-refusal (Refused refusal) = (refusal, refl)
+
+-- a making that is refused gives its refusal alone, whatever set, points and limit are beside it
+unfoldable turnedAway : Screens → Job → ℕ → Refusal → AtScreen
+turnedAway screens job screen refusal = cond (isFree screens screen) (record { screens = screens; job = job; answer = firstOutcome (Refused refusal) }) (refusedAt screens job notFree)
+
+refused-making : (screens : Screens) (job : Job) (screen : ℕ) (set : FinSet) (points : List Float) (L : ℕ) (refusal : Refusal) → makingCheck set points L ≡ Refused refusal
+    → submittedOf screens job screen (madeOf set points L) ≡ turnedAway screens job screen refusal
+unfolding submittedOf madeOf turnedAway isRefused
+refused-making screens job screen set points L refusal e = rw e
+
+module _ (engine : Engine) (points : List Float) where
+  submit-outside : (set : FinSet) (L k : ℕ) → 8 < k → submitOf engine k set points L ≡ calledAt engine 0 (refusedAt (engine .screens) (jobAt engine 0) notFree)
+  unfolding submitOf submittedOf isFree placeOf
+  submit-outside set L k h = rw (no-screen k h)
+
+  submit-screen : (set : FinSet) (L screen : ℕ) → submitOf engine (capped screen) set points L ≡ submitOf engine screen set points L
+  submit-screen set L = at-capped (λ (k : ℕ). submitOf engine k set points L) 8 (omega arith) (λ i j h g. submit-outside set L i h ∙ sym (submit-outside set L j g))
+
+  -- where the making is refused alike, so is the submission
+  refused-submission : (screen : ℕ) (set : FinSet) (L : ℕ) (refusal : Refusal) → makingCheck set points L ≡ Refused refusal
+      → submitOf engine screen set points L ≡ calledAt engine (placeOf screen) (turnedAway (engine .screens) (jobAt engine (placeOf screen)) screen refusal)
+  unfolding submitOf
+  refused-submission screen set L refusal e = ap (calledAt engine (placeOf screen)) (refused-making (engine .screens) (jobAt engine (placeOf screen)) screen set points L refusal e)
+
+  submit-limit : (screen : ℕ) (set : FinSet) (L : ℕ) → submitOf engine screen set points (capped L) ≡ submitOf engine screen set points L
+  submit-limit screen set =
+      at-capped (λ (k : ℕ). submitOf engine screen set points k) 64 (omega arith)
+      (λ i j h g. refused-submission screen set i Limit (making-limit set points i h) ∙ sym (refused-submission screen set j Limit (making-limit set points j g)))
+
+  submit-count : (screen : ℕ) (set : FinSet) (L n : ℕ) → submitOf engine screen (withCount set (capped n)) points L ≡ submitOf engine screen (withCount set n) points L
+  submit-count screen set L =
+      let r = some-refusal (limitCheck L) in
+      at-capped (λ (k : ℕ). submitOf engine screen (withCount set k) points L) 32 (omega arith)
+      (λ i j h g. refused-submission screen (withCount set i) L (r .0) (making-count set points L i h ∙ r .1) ∙ sym (refused-submission screen (withCount set j) L (r .0) (making-count set points L j g ∙ r .1)))
+
+  numbered-submit-capped : (screen : ℕ) (set : NumberedSet) (L : ℕ) → numberedSubmit engine (capped screen) (cappedSet set) points (capped L) ≡ numberedSubmit engine screen set points L
+  unfolding numberedSubmit
+  numbered-submit-capped screen (setKnown set) L = submit-screen (withCount set (capped (set .count))) (capped L) screen ∙ submit-limit screen (withCount set (capped (set .count))) L ∙ submit-count screen set L (set .count)
+  numbered-submit-capped screen noSet L = refl
+
+module _ (engine : Engine) where
+  change-outside : (density : Density) (k : ℕ) → 8 < k → changeAt engine k density ≡ calledAt engine 0 (refusedAt (engine .screens) (jobAt engine 0) notTaken)
+  unfolding changeAt changedOf holdsJob placeOf
+  change-outside density k h = rw (no-screen k h)
+
+  -- answer and engine of a submission, and of a change of density
+  pub submit-capped : (figures : List Float) (screen : ℕ) (q : SetRequest) → askedSubmit (capped screen) (cappedSetRequest q) figures engine ≡ askedSubmit screen q figures engine
+  unfolding askedSubmit
+  submit-capped figures screen q = numbered-submit-capped engine (between 0 (q .points) figures) screen (q .set) (q .limit)
+
+  pub change-capped : (screen : ℕ) (density : NumberedDensity) → numberedChange engine (capped screen) density ≡ numberedChange engine screen density
+  unfolding numberedChange
+  change-capped screen (densityKnown density) = at-capped (λ (k : ℕ). changeAt engine k density) 8 (omega arith) (λ i j h g. change-outside density i h ∙ sym (change-outside density j g)) screen
+  change-capped screen noDensity = refl

@@ -3,7 +3,7 @@ use mathlib.Core.List.{List}
 use Prim.Native.Nat.{ℕ, _≤_}
 use lib.ListN.{length}
 use lib.Ieee.{Float}
-use Rattle.refusals.specs.declared.Refusal.the-variants.{NoForm as noForm}
+use Rattle.refusals.specs.declared.Refusal.the-variants.{NoForm as noForm, Scratch as short}
 use Rattle.refusals.specs.declared.Verdict.{Verdict}
 use Rattle.refusals.specs.declared.Verdict.the-variants.{Accepted, Refused}
 use Rattle.refusals.specs.Refusals.{numberOf}
@@ -13,14 +13,21 @@ use Rattle.drill.specs.declared.Answer.the-variants.{Inside, Edge, Outside, Ref
 use Rattle.tubes.specs.declared.ClosingRadius.{ClosingRadius}
 use Rattle.moments.specs.declared.Moments.{Moments}
 use Rattle.answers.specs.Answers.{answerBytes}
-use Rattle.answers.proofs.Lengths.{figures-short, area-short, joined-short, ring-short, body-short, closing-short, moments-short, sound-short, inside-short, edge-short, outside-short, refused-short}
+use Rattle.answers.proofs.Lengths.{figures-short, area-short, joined-short, ring-short, body-short, closing-short, moments-short, sound-short, inside-short, edge-short, outside-short, taken-short, idle-short, more-short, done-short, done-refused-short, refused-short}
 use Rattle.forms.specs.declared.Form.{Form}
-use Rattle.forms.specs.declared.Form.the-variants.{Set as SetForm, Area as AreaForm, Join as JoinForm, Moments as MomentsForm, Check as CheckForm, Tubes as TubesForm, Closing as ClosingForm, Drill as DrillForm, Copied as CopiedForm, Placed as PlacedForm, Moved as MovedForm, Without as WithoutForm, NoForm}
+use Rattle.forms.specs.declared.Form.the-variants.{Set as SetForm, Area as AreaForm, Join as JoinForm, Moments as MomentsForm, Check as CheckForm, Tubes as TubesForm, Closing as ClosingForm, Drill as DrillForm, Copied as CopiedForm, Placed as PlacedForm, Moved as MovedForm, Without as WithoutForm, Submit as SubmitForm, Density as DensityForm, Turn as TurnForm, NoForm}
 use Rattle.forms.specs.Forms.{Asked, refused, asked, lineAsked}
 use Rattle.requests.specs.Calls.{joinedPointsOf, tensorMoments, bodyVerdict}
-use Rattle.requests.specs.Requests.{setRequestOf, areaRequestOf, askedFigures, askedArea, askedRing, askedClosing, askedDrill, askedCopied, askedPlaced, askedMoved, askedWithout}
+use Rattle.requests.specs.Requests.{number, setRequestOf, askedSubmit, askedChange, areaRequestOf, askedFigures, askedArea, askedRing, askedClosing, askedDrill, askedCopied, askedPlaced, askedMoved, askedWithout}
 use Rattle.figures.specs.declared.Figures.{Figures}
 use Rattle.figures.specs.declared.Area.{Area}
+use Rattle.jobs.specs.declared.Reply.{Reply}
+use Rattle.jobs.specs.declared.Reply.the-variants.{More, Taken, Answered}
+use Rattle.engines.specs.declared.Service.{Service}
+use Rattle.engines.specs.declared.Service.the-variants.{Short, Idle, Step}
+use Rattle.engines.specs.declared.Told.{Told}
+use Rattle.engines.specs.Engines.{turnOf}
+use Rattle.lines.specs.Lines.{Memory, printedCall, printedDone, printedStep, printedTurn, submitAnswer, changeAnswer, turnAnswer}
 use Rattle.lines.specs.Lines.{printedSet, printedArea, printedJoin, printedRing, printedBody, printedClosing, printedMoments, printedCheck, printedDrill, setAnswer, areaAnswer, joinAnswer, ringAnswer, closingAnswer, bodyAnswer, momentsAnswer, checkAnswer, drillAnswer, answerTo, askedAnswer, answerOf}
 
 set-short : (v : Verdict) (f : Figures) → length (printedSet v f) ≤ answerBytes
@@ -65,26 +72,47 @@ place-short (Edge nearest) = edge-short nearest
 place-short (Outside nearest) = outside-short nearest
 place-short (refusedPoint refusal) = refused-short (numberOf refusal)
 
-by-form : (form : Form) (ns : List ℕ) (figures : List Float) (n : ℕ) → length (answerTo form ns figures n) ≤ answerBytes
-unfolding setAnswer areaAnswer joinAnswer ringAnswer closingAnswer momentsAnswer checkAnswer drillAnswer
-by-form SetForm ns figures n = let f = askedFigures (setRequestOf ns figures) figures n in set-short (f .verdict) f
-by-form AreaForm ns figures n = let a = askedArea (areaRequestOf ns figures) figures n in geometry-short (a .verdict) a
-by-form JoinForm ns figures n = let j = joinedPointsOf figures in join-short (j .verdict) j
-by-form MomentsForm ns figures n = let m = tensorMoments figures in principal-short (m .verdict) m
-by-form CheckForm ns figures n = check-short (bodyVerdict figures)
-by-form TubesForm ns figures n = let j = askedRing ns figures in tubes-short (j .verdict) j
-by-form ClosingForm ns figures n = let c = askedClosing ns figures in radius-short (c .verdict) c
-by-form DrillForm ns figures n = place-short (askedDrill ns figures)
-by-form CopiedForm ns figures n = copies-short (askedCopied figures)
-by-form PlacedForm ns figures n = copies-short (askedPlaced figures)
-by-form MovedForm ns figures n = copies-short (askedMoved figures)
-by-form WithoutForm ns figures n = copies-short (askedWithout figures)
-by-form NoForm ns figures n = refused-short (numberOf noForm)
+called-short : (v : Verdict) → length (printedCall v) ≤ answerBytes
+called-short Accepted = taken-short
+called-short (Refused refusal) = refused-short (numberOf refusal)
 
-pub answer-short : (line : List ℕ) (n : ℕ) → length (answerOf line n) ≤ answerBytes
+ended-short : (v : Verdict) (screen : ℕ) (f : Figures) → length (printedDone v screen f) ≤ answerBytes
+ended-short Accepted screen f = done-short screen _ _ _
+ended-short (Refused refusal) screen f = done-refused-short screen (numberOf refusal)
+
+step-short : (reply : Reply) (screen : ℕ) (f : Figures) → length (printedStep reply screen f) ≤ answerBytes
+step-short More screen f = more-short screen
+step-short Taken screen f = taken-short
+step-short Answered screen f = ended-short (f .verdict) screen f
+
+turn-short : (service : Service) (t : Told) → length (printedTurn service t) ≤ answerBytes
+turn-short Short t = refused-short (numberOf short)
+turn-short Idle t = idle-short
+turn-short Step t = step-short (t .answer .reply) (t .screen) (t .answer .figures)
+
+by-form : (form : Form) (ns : List ℕ) (figures : List Float) (m : Memory) → length (answerTo form ns figures m) ≤ answerBytes
+unfolding setAnswer areaAnswer joinAnswer ringAnswer closingAnswer momentsAnswer checkAnswer drillAnswer submitAnswer changeAnswer turnAnswer
+by-form SetForm ns figures m = let f = askedFigures (setRequestOf ns figures) figures (length (m .scratch)) in set-short (f .verdict) f
+by-form AreaForm ns figures m = let a = askedArea (areaRequestOf ns figures) figures (length (m .scratch)) in geometry-short (a .verdict) a
+by-form JoinForm ns figures m = let j = joinedPointsOf figures in join-short (j .verdict) j
+by-form MomentsForm ns figures m = let p = tensorMoments figures in principal-short (p .verdict) p
+by-form CheckForm ns figures m = check-short (bodyVerdict figures)
+by-form TubesForm ns figures m = let j = askedRing ns figures in tubes-short (j .verdict) j
+by-form ClosingForm ns figures m = let c = askedClosing ns figures in radius-short (c .verdict) c
+by-form DrillForm ns figures m = place-short (askedDrill ns figures)
+by-form CopiedForm ns figures m = copies-short (askedCopied figures)
+by-form PlacedForm ns figures m = copies-short (askedPlaced figures)
+by-form MovedForm ns figures m = copies-short (askedMoved figures)
+by-form WithoutForm ns figures m = copies-short (askedWithout figures)
+by-form SubmitForm ns figures m = called-short (askedSubmit (number ns 7) (setRequestOf ns figures) figures (m .engine) .answer .figures .verdict)
+by-form DensityForm ns figures m = called-short (askedChange ns figures (m .engine) .answer .figures .verdict)
+by-form TurnForm ns figures m = let t = turnOf (m .engine) (length (m .scratch)) .told in turn-short (t .service) t
+by-form NoForm ns figures m = refused-short (numberOf noForm)
+
+pub answer-short : (line : List ℕ) (m : Memory) → length (answerOf line m) ≤ answerBytes
 unfolding answerOf
-answer-short line n = by (lineAsked line)
+answer-short line m = by (lineAsked line)
   where
-    by : (a : Asked) → length (askedAnswer a n) ≤ answerBytes
+    by : (a : Asked) → length (askedAnswer a m) ≤ answerBytes
     by (refused refusal) = refused-short (numberOf refusal)
-    by (asked form ns figures) = by-form form ns figures n
+    by (asked form ns figures) = by-form form ns figures m

@@ -1,11 +1,12 @@
--- The answer to a line, and what it leaves in the lent scratch (docs/FORMS.md; document 01, "The card program" and "Refusal numbers").
+-- The answer to a line, and what it leaves in the lent scratch and in the engine of eight screens (docs/FORMS.md; document 01, "The card program" and
+-- "Refusal numbers").
 use mathlib.Core.List.{List, [], _∷_}
 use mathlib.Core.Path.{_≡_}
 use Prim.Native.Nat.{ℕ, _+_, _<_}
 use lib.ListN.{length}
 use lib.Ieee.{Float}
 use Rattle.refusals.specs.declared.Refusal.{Refusal}
-use Rattle.refusals.specs.declared.Refusal.the-variants.{NoForm as noForm}
+use Rattle.refusals.specs.declared.Refusal.the-variants.{NoForm as noForm, Scratch as short}
 use Rattle.refusals.specs.declared.Verdict.{Verdict}
 use Rattle.refusals.specs.declared.Verdict.the-variants.{Accepted, Refused}
 use Rattle.refusals.specs.Refusals.{numberOf}
@@ -16,16 +17,34 @@ use Rattle.drill.specs.declared.Answer.{Answer}
 use Rattle.drill.specs.declared.Answer.the-variants.{Inside, Edge, Outside, Refused as refusedPoint}
 use Rattle.moments.specs.declared.Moments.{Moments}
 use Rattle.texts.specs.Appended.{Appended}
-use Rattle.answers.specs.Answers.{answerBytes, AnswerFits, figuresText, areaText, joinedText, ringText, bodyText, closingText, insideText, edgeText, outsideText, momentsText, soundText, refusedText}
+use Rattle.answers.specs.Answers.{answerBytes, AnswerFits, figuresText, areaText, joinedText, ringText, bodyText, closingText, insideText, edgeText, outsideText, momentsText, soundText, takenText, idleText, moreText, doneText, doneRefusedText, refusedText}
 use Rattle.forms.specs.declared.Form.{Form}
-use Rattle.forms.specs.declared.Form.the-variants.{Set as SetForm, Area as AreaForm, Join as JoinForm, Moments as MomentsForm, Check as CheckForm, Tubes as TubesForm, Closing as ClosingForm, Drill as DrillForm, Copied as CopiedForm, Placed as PlacedForm, Moved as MovedForm, Without as WithoutForm, NoForm}
+use Rattle.forms.specs.declared.Form.the-variants.{Set as SetForm, Area as AreaForm, Join as JoinForm, Moments as MomentsForm, Check as CheckForm, Tubes as TubesForm, Closing as ClosingForm, Drill as DrillForm, Copied as CopiedForm, Placed as PlacedForm, Moved as MovedForm, Without as WithoutForm, Submit as SubmitForm, Density as DensityForm, Turn as TurnForm, NoForm}
 use Rattle.forms.specs.Forms.{Asked, refused, asked, lineAsked}
 use Rattle.requests.specs.declared.AreaRequest.{AreaRequest}
 use Rattle.requests.specs.declared.SetRequest.{SetRequest}
 use Rattle.requests.specs.Calls.{joinedPointsOf, tensorMoments, bodyVerdict}
-use Rattle.requests.specs.Requests.{setRequestOf, areaRequestOf, askedFigures, askedScratch, askedArea, askedAreaScratch, askedRing, askedClosing, askedDrill, askedCopied, askedPlaced, askedMoved, askedWithout}
+use Rattle.requests.specs.Requests.{number, setRequestOf, askedSubmit, askedChange, areaRequestOf, askedFigures, askedScratch, askedArea, askedAreaScratch, askedRing, askedClosing, askedDrill, askedCopied, askedPlaced, askedMoved, askedWithout}
 use Rattle.figures.specs.declared.Figures.{Figures}
 use Rattle.figures.specs.declared.Area.{Area}
+use Rattle.jobs.specs.declared.Reply.{Reply}
+use Rattle.jobs.specs.declared.Reply.the-variants.{More, Taken, Answered}
+use Rattle.engines.specs.declared.Engine.{Engine}
+use Rattle.engines.specs.declared.Service.{Service}
+use Rattle.engines.specs.declared.Service.the-variants.{Short, Idle, Step}
+use Rattle.engines.specs.declared.Told.{Told}
+use Rattle.engines.specs.Engines.{turnOf, turnScratch}
+use Rattle.lent_engines.specs.Memory.{engineIn}
+use Rattle.lent_engines.specs.Lent.{Room}
+
+-- what a line finds, and leaves for the next: the lent scratch, and the engine
+pub record Memory : Type 0 where
+  pub scratch : List Float
+  pub engine : Engine
+
+-- the engine is lent as two lists
+abbrev pub memoryIn : List Float → List Float → List ℕ → Memory
+memoryIn scratch numbers counts = record { scratch = scratch; engine = engineIn numbers counts }
 
 -- ---- what is printed: the figures, or "A refused line prints `(refused N)`"
 
@@ -70,11 +89,33 @@ abbrev pub printedCheck : Verdict → List ℕ
 printedCheck Accepted = soundText
 printedCheck (Refused refusal) = refusedText (numberOf refusal)
 
+-- a submission or a change of density: taken, or a refusal
+abbrev pub printedCall : Verdict → List ℕ
+printedCall Accepted = takenText
+printedCall (Refused refusal) = refusedText (numberOf refusal)
+
+-- a step of the screen served: more strips remain, or its job has ended; no step answers that it is taken
+abbrev pub printedDone : Verdict → ℕ → Figures → List ℕ
+printedDone Accepted screen f = doneText screen (numbersOf (f .body)) (f .intervals) (f .samples)
+printedDone (Refused refusal) screen f = doneRefusedText screen (numberOf refusal)
+
+abbrev pub printedStep : Reply → ℕ → Figures → List ℕ
+printedStep More screen f = moreText screen
+printedStep Taken screen f = takenText
+printedStep Answered screen f = printedDone (f .verdict) screen f
+
+-- "A turn lent under 1,024 numbers answers 2"; "with no jobs a turn does nothing and says so"; "otherwise it answers the screen served and the step's
+-- answer" (document 02, Paper 10)
+abbrev pub printedTurn : Service → Told → List ℕ
+printedTurn Short t = refusedText (numberOf short)
+printedTurn Idle t = idleText
+printedTurn Step t = printedStep (t .answer .reply) (t .screen) (t .answer .figures)
+
 -- "18: line is no form"
 abbrev pub printedRefusal : Refusal → List ℕ
 printedRefusal refusal = refusedText (numberOf refusal)
 
--- ---- the call for each form, over a scratch of the length that is lent: of a form's counts and parts, and of its figures
+-- ---- the call for each form, of its counts and parts, and of its figures: over a scratch of the length that is lent, or over the engine
 
 -- a limit and a count are capped at a million when a line is read; no answer shows it (proofs/Capped.antt, `answer-capped`)
 unfoldable pub setAnswer : SetRequest → List Float → ℕ → List ℕ
@@ -105,51 +146,76 @@ drillAnswer ns figures = printedDrill (askedDrill ns figures)
 unfoldable pub bodyAnswer : Joined → List ℕ
 bodyAnswer j = printedBody (j .verdict) j
 
-abbrev pub answerTo : Form → List ℕ → List Float → ℕ → List ℕ
-answerTo SetForm ns figures scratchLength = setAnswer (setRequestOf ns figures) figures scratchLength
-answerTo AreaForm ns figures scratchLength = areaAnswer (areaRequestOf ns figures) figures scratchLength
-answerTo JoinForm ns figures scratchLength = joinAnswer figures
-answerTo MomentsForm ns figures scratchLength = momentsAnswer figures
-answerTo CheckForm ns figures scratchLength = checkAnswer figures
-answerTo TubesForm ns figures scratchLength = ringAnswer ns figures
-answerTo ClosingForm ns figures scratchLength = closingAnswer ns figures
-answerTo DrillForm ns figures scratchLength = drillAnswer ns figures
-answerTo CopiedForm ns figures scratchLength = bodyAnswer (askedCopied figures)
-answerTo PlacedForm ns figures scratchLength = bodyAnswer (askedPlaced figures)
-answerTo MovedForm ns figures scratchLength = bodyAnswer (askedMoved figures)
-answerTo WithoutForm ns figures scratchLength = bodyAnswer (askedWithout figures)
-answerTo NoForm ns figures scratchLength = printedRefusal noForm
+unfoldable pub submitAnswer : ℕ → SetRequest → List Float → Engine → List ℕ
+submitAnswer screen q figures engine = printedCall (askedSubmit screen q figures engine .answer .figures .verdict)
 
-abbrev pub askedAnswer : Asked → ℕ → List ℕ
-askedAnswer (refused refusal) scratchLength = printedRefusal refusal
-askedAnswer (asked form ns figures) scratchLength = answerTo form ns figures scratchLength
+unfoldable pub changeAnswer : List ℕ → List Float → Engine → List ℕ
+changeAnswer ns figures engine = printedCall (askedChange ns figures engine .answer .figures .verdict)
 
-unfoldable pub answerOf : List ℕ → ℕ → List ℕ
-answerOf line scratchLength = askedAnswer (lineAsked line) scratchLength
+unfoldable pub turnAnswer : Engine → ℕ → List ℕ
+turnAnswer engine scratchLength = let t = turnOf engine scratchLength .told in printedTurn (t .service) t
 
--- ---- the scratch, which only the strips of a set or an area write to ("Refusal numbers")
+abbrev pub answerTo : Form → List ℕ → List Float → Memory → List ℕ
+answerTo SetForm ns figures m = setAnswer (setRequestOf ns figures) figures (length (m .scratch))
+answerTo AreaForm ns figures m = areaAnswer (areaRequestOf ns figures) figures (length (m .scratch))
+answerTo JoinForm ns figures m = joinAnswer figures
+answerTo MomentsForm ns figures m = momentsAnswer figures
+answerTo CheckForm ns figures m = checkAnswer figures
+answerTo TubesForm ns figures m = ringAnswer ns figures
+answerTo ClosingForm ns figures m = closingAnswer ns figures
+answerTo DrillForm ns figures m = drillAnswer ns figures
+answerTo CopiedForm ns figures m = bodyAnswer (askedCopied figures)
+answerTo PlacedForm ns figures m = bodyAnswer (askedPlaced figures)
+answerTo MovedForm ns figures m = bodyAnswer (askedMoved figures)
+answerTo WithoutForm ns figures m = bodyAnswer (askedWithout figures)
+answerTo SubmitForm ns figures m = submitAnswer (number ns 7) (setRequestOf ns figures) figures (m .engine)
+answerTo DensityForm ns figures m = changeAnswer ns figures (m .engine)
+answerTo TurnForm ns figures m = turnAnswer (m .engine) (length (m .scratch))
+answerTo NoForm ns figures m = printedRefusal noForm
 
-abbrev pub scratchAfterForm : Form → List ℕ → List Float → List Float → List Float
-scratchAfterForm SetForm ns figures scratch = askedScratch (setRequestOf ns figures) figures scratch
-scratchAfterForm AreaForm ns figures scratch = askedAreaScratch (areaRequestOf ns figures) figures scratch
-scratchAfterForm JoinForm ns figures scratch = scratch
-scratchAfterForm MomentsForm ns figures scratch = scratch
-scratchAfterForm CheckForm ns figures scratch = scratch
-scratchAfterForm TubesForm ns figures scratch = scratch
-scratchAfterForm ClosingForm ns figures scratch = scratch
-scratchAfterForm DrillForm ns figures scratch = scratch
-scratchAfterForm CopiedForm ns figures scratch = scratch
-scratchAfterForm PlacedForm ns figures scratch = scratch
-scratchAfterForm MovedForm ns figures scratch = scratch
-scratchAfterForm WithoutForm ns figures scratch = scratch
-scratchAfterForm NoForm ns figures scratch = scratch
+abbrev pub askedAnswer : Asked → Memory → List ℕ
+askedAnswer (refused refusal) m = printedRefusal refusal
+askedAnswer (asked form ns figures) m = answerTo form ns figures m
 
-abbrev pub scratchAfterAsked : Asked → List Float → List Float
-scratchAfterAsked (refused refusal) scratch = scratch
-scratchAfterAsked (asked form ns figures) scratch = scratchAfterForm form ns figures scratch
+unfoldable pub answerOf : List ℕ → Memory → List ℕ
+answerOf line m = askedAnswer (lineAsked line) m
 
-unfoldable pub scratchAfterLine : List ℕ → List Float → List Float
-scratchAfterLine line scratch = scratchAfterAsked (lineAsked line) scratch
+-- ---- what is left: the scratch, which only the strips of a set, an area or a turn write to ("Refusal numbers"); and the engine, which only its own
+-- lines change
+
+abbrev pub withScratch : List Float → Memory → Memory
+withScratch scratch m = record { scratch = scratch; engine = m .engine }
+
+abbrev pub withEngine : Engine → Memory → Memory
+withEngine engine m = record { scratch = m .scratch; engine = engine }
+
+abbrev pub turned : Memory → Memory
+turned m = record { scratch = turnScratch (m .engine) (m .scratch); engine = turnOf (m .engine) (length (m .scratch)) .engine }
+
+abbrev pub memoryAfterForm : Form → List ℕ → List Float → Memory → Memory
+memoryAfterForm SetForm ns figures m = withScratch (askedScratch (setRequestOf ns figures) figures (m .scratch)) m
+memoryAfterForm AreaForm ns figures m = withScratch (askedAreaScratch (areaRequestOf ns figures) figures (m .scratch)) m
+memoryAfterForm JoinForm ns figures m = m
+memoryAfterForm MomentsForm ns figures m = m
+memoryAfterForm CheckForm ns figures m = m
+memoryAfterForm TubesForm ns figures m = m
+memoryAfterForm ClosingForm ns figures m = m
+memoryAfterForm DrillForm ns figures m = m
+memoryAfterForm CopiedForm ns figures m = m
+memoryAfterForm PlacedForm ns figures m = m
+memoryAfterForm MovedForm ns figures m = m
+memoryAfterForm WithoutForm ns figures m = m
+memoryAfterForm SubmitForm ns figures m = withEngine (askedSubmit (number ns 7) (setRequestOf ns figures) figures (m .engine) .engine) m
+memoryAfterForm DensityForm ns figures m = withEngine (askedChange ns figures (m .engine) .engine) m
+memoryAfterForm TurnForm ns figures m = turned m
+memoryAfterForm NoForm ns figures m = m
+
+abbrev pub memoryAfterAsked : Asked → Memory → Memory
+memoryAfterAsked (refused refusal) m = m
+memoryAfterAsked (asked form ns figures) m = memoryAfterForm form ns figures m
+
+unfoldable pub memoryAfter : List ℕ → Memory → Memory
+memoryAfter line m = memoryAfterAsked (lineAsked line) m
 
 -- ---- what the code does with a request and its figures
 
@@ -157,24 +223,44 @@ abbrev pub whyRefused : Verdict → Refusal
 whyRefused Accepted = noForm
 whyRefused (Refused refusal) = refusal
 
-abbrev pub requestAnswer : Form → Verdict → List ℕ → List Float → ℕ → List ℕ
-requestAnswer SetForm verdict ns figures scratchLength = answerTo SetForm ns figures scratchLength
-requestAnswer AreaForm verdict ns figures scratchLength = answerTo AreaForm ns figures scratchLength
-requestAnswer JoinForm verdict ns figures scratchLength = answerTo JoinForm ns figures scratchLength
-requestAnswer MomentsForm verdict ns figures scratchLength = answerTo MomentsForm ns figures scratchLength
-requestAnswer CheckForm verdict ns figures scratchLength = answerTo CheckForm ns figures scratchLength
-requestAnswer TubesForm verdict ns figures scratchLength = answerTo TubesForm ns figures scratchLength
-requestAnswer ClosingForm verdict ns figures scratchLength = answerTo ClosingForm ns figures scratchLength
-requestAnswer DrillForm verdict ns figures scratchLength = answerTo DrillForm ns figures scratchLength
-requestAnswer CopiedForm verdict ns figures scratchLength = answerTo CopiedForm ns figures scratchLength
-requestAnswer PlacedForm verdict ns figures scratchLength = answerTo PlacedForm ns figures scratchLength
-requestAnswer MovedForm verdict ns figures scratchLength = answerTo MovedForm ns figures scratchLength
-requestAnswer WithoutForm verdict ns figures scratchLength = answerTo WithoutForm ns figures scratchLength
-requestAnswer NoForm verdict ns figures scratchLength = printedRefusal (whyRefused verdict)
+abbrev pub requestAnswer : Form → Verdict → List ℕ → List Float → Memory → List ℕ
+requestAnswer SetForm verdict ns figures m = answerTo SetForm ns figures m
+requestAnswer AreaForm verdict ns figures m = answerTo AreaForm ns figures m
+requestAnswer JoinForm verdict ns figures m = answerTo JoinForm ns figures m
+requestAnswer MomentsForm verdict ns figures m = answerTo MomentsForm ns figures m
+requestAnswer CheckForm verdict ns figures m = answerTo CheckForm ns figures m
+requestAnswer TubesForm verdict ns figures m = answerTo TubesForm ns figures m
+requestAnswer ClosingForm verdict ns figures m = answerTo ClosingForm ns figures m
+requestAnswer DrillForm verdict ns figures m = answerTo DrillForm ns figures m
+requestAnswer CopiedForm verdict ns figures m = answerTo CopiedForm ns figures m
+requestAnswer PlacedForm verdict ns figures m = answerTo PlacedForm ns figures m
+requestAnswer MovedForm verdict ns figures m = answerTo MovedForm ns figures m
+requestAnswer WithoutForm verdict ns figures m = answerTo WithoutForm ns figures m
+requestAnswer SubmitForm verdict ns figures m = answerTo SubmitForm ns figures m
+requestAnswer DensityForm verdict ns figures m = answerTo DensityForm ns figures m
+requestAnswer TurnForm verdict ns figures m = answerTo TurnForm ns figures m
+requestAnswer NoForm verdict ns figures m = printedRefusal (whyRefused verdict)
 
--- ---- what answering a line does, behind the n bytes at the start of `out`: where an answer may not fit, nothing
+-- ---- what answering a line does, behind the n bytes at the start of `out`: where an answer may not fit, or the engine's lists are too short, nothing
 
-pub record Answers (line : List ℕ) (scratch after : List Float) (out : List ℕ) (n : ℕ) (written : List ℕ) (r : ℕ) : Type 0 where
-  pub answer : AnswerFits out n → Appended out n (answerOf line (length scratch)) written r
-  pub scratch-left : AnswerFits out n → after ≡ scratchAfterLine line scratch
-  pub no-room : length out < n + answerBytes → (r ≡ n) × (written ≡ out) × (after ≡ scratch)
+-- scratch and engine as they are lent
+pub record LentMemory : Type 0 where
+  pub scratch : List Float
+  pub numbers : List Float
+  pub counts : List ℕ
+
+abbrev pub lentIn : List Float → List Float → List ℕ → LentMemory
+lentIn scratch numbers counts = record { scratch = scratch; numbers = numbers; counts = counts }
+
+abbrev pub memoryOf : LentMemory → Memory
+memoryOf l = memoryIn (l .scratch) (l .numbers) (l .counts)
+
+-- there is room for an answer, and for the engine
+pub record Fits (lent : LentMemory) (out : List ℕ) (n : ℕ) : Type 0 where
+  pub answer : AnswerFits out n
+  pub engine : Room (lent .numbers) (lent .counts)
+
+pub record Answers (line : List ℕ) (lent after : LentMemory) (out : List ℕ) (n : ℕ) (written : List ℕ) (r : ℕ) : Type 0 where
+  pub answer : Fits lent out n → Appended out n (answerOf line (memoryOf lent)) written r
+  pub memory-left : Fits lent out n → memoryOf after ≡ memoryAfter line (memoryOf lent)
+  pub no-room : (Fits lent out n → ⊥) → (r ≡ n) × (written ≡ out) × (after ≡ lent)

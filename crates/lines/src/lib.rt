@@ -1,6 +1,8 @@
 // One line's answer: its form is read, the call made, and the answer printed (docs/FORMS.md; document 01, "The card program").
 //
-// Where the buffer has no room for the bytes that an answer may have, no call is made.
+// The engine of eight screens is lent as two lists. Where these are too short, or the buffer has no room for the bytes that an answer may have, no
+// call is made.
+ghost use mathlib.Core.Bool.{_&&_};
 ghost use mathlib.Core.Path.{_≡_};
 ghost use Prim.Native.Nat.{_+_, _≤_};
 ghost use lib.Dec.{leb};
@@ -8,14 +10,23 @@ ghost use lib.ListN.{length};
 ghost use Rattle.texts.specs.Appended.{Appended};
 ghost use Rattle.tokens.specs.Tokens.{lineBytes};
 ghost use Rattle.answers.specs.Answers.{answerBytes, AnswerFits};
-ghost use Rattle.lines.specs.Lines.{printedSet, printedArea, printedJoin, printedRing, printedBody, printedClosing, printedDrill, printedMoments, printedCheck, printedRefusal, answerOf, scratchAfterForm, scratchAfterLine, whyRefused, requestAnswer, Answers};
+ghost use Rattle.lent_engines.specs.Memory.{engineNumbers, engineCounts};
+ghost use Rattle.lent_engines.specs.Lent.{Room};
+ghost use Rattle.lines.specs.Lines.{printedSet, printedArea, printedJoin, printedRing, printedBody, printedClosing, printedDrill, printedMoments, printedCheck, printedRefusal};
+ghost use Rattle.lines.specs.Lines.{printedCall, printedDone, printedStep, printedTurn};
+ghost use Rattle.lines.specs.Lines.{memoryIn, lentIn, answerOf, memoryAfterForm, memoryAfter, whyRefused, requestAnswer, Answers};
 use answers::ANSWER_BYTES;
 use drill::Answer;
+use engines::Service;
+use engines::Told;
 use figures::Area;
 use figures::Figures;
 use forms::Form;
 use forms::Request;
+use jobs::Reply;
 use joins::Joined;
+use lent_engines::ENGINE_COUNTS;
+use lent_engines::ENGINE_NUMBERS;
 use moments::Moments;
 use refusals::Refusal;
 use refusals::Verdict;
@@ -155,6 +166,72 @@ fn put_checked(out: &mut [u8], n: usize, verdict: Verdict) -> usize
     }
 }
 
+// A submission or a change of density.
+fn put_called(out: &mut [u8], n: usize, called: jobs::Answer) -> usize
+    requires { ⌜ AnswerFits (now out) n ⌝ }
+    ensures { λ r. ⌜ Appended (now (out .entry)) n (printedCall (called .figures .verdict)) (now (out .exit)) r ⌝ }
+{
+    let f = called.figures;
+    let verdict = f.verdict;
+    match verdict {
+        Verdict::Accepted => answers::put_taken(out, n),
+        Verdict::Refused(refusal) => put_refusal(out, n, refusal),
+    }
+}
+
+// A job that has ended.
+fn put_done(out: &mut [u8], n: usize, screen: usize, f: Figures) -> usize
+    requires { ⌜ AnswerFits (now out) n ⌝ }
+    ensures { λ r. ⌜ Appended (now (out .entry)) n (printedDone (f .verdict) screen f) (now (out .exit)) r ⌝ }
+{
+    let verdict = f.verdict;
+    let body = f.body;
+    match verdict {
+        Verdict::Accepted => {
+            let numbers = body.numbers();
+            answers::put_done(
+                out,
+                n,
+                screen as u64,
+                &numbers,
+                f.intervals as u64,
+                f.samples as u64,
+            )
+        }
+        Verdict::Refused(refusal) => {
+            answers::put_done_refused(out, n, screen as u64, refusals::number(refusal) as u64)
+        }
+    }
+}
+
+// A step of a screen's job.
+fn put_step(out: &mut [u8], n: usize, screen: usize, answer: jobs::Answer) -> usize
+    requires { ⌜ AnswerFits (now out) n ⌝ }
+    ensures { λ r. ⌜ Appended (now (out .entry)) n (printedStep (answer .reply) screen (answer .figures)) (now (out .exit)) r ⌝ }
+{
+    let reply = answer.reply;
+    let f = answer.figures;
+    match reply {
+        Reply::More => answers::put_more(out, n, screen as u64),
+        Reply::Taken => answers::put_taken(out, n),
+        Reply::Answered => put_done(out, n, screen, f),
+    }
+}
+
+// A turn.
+fn put_turn(out: &mut [u8], n: usize, told: Told) -> usize
+    requires { ⌜ AnswerFits (now out) n ⌝ }
+    ensures { λ r. ⌜ Appended (now (out .entry)) n (printedTurn (told .service) told) (now (out .exit)) r ⌝ }
+{
+    let service = told.service;
+    let answer = told.answer;
+    match service {
+        Service::Short => put_refusal(out, n, Refusal::Scratch),
+        Service::Idle => answers::put_idle(out, n),
+        Service::Step => put_step(out, n, told.screen, answer),
+    }
+}
+
 fn why_refused(verdict: Verdict) -> Refusal
     ensures { λ r. ⌜ r ≡ whyRefused verdict ⌝ }
 {
@@ -169,14 +246,19 @@ fn answer_request(
     q: Request,
     values: &[f64],
     scratch: &mut [f64],
+    engine_numbers: &mut [f64],
+    engine_counts: &mut [usize],
     out: &mut [u8],
     n: usize,
 ) -> usize
-    requires { ⌜ AnswerFits (now out) n ⌝ }
+    requires { ⌜ AnswerFits (now out) n × Room (now «engine_numbers») (now «engine_counts») ⌝ }
     ensures { λ r. ⌜ Appended (now (out .entry)) n
-        (requestAnswer (q .form) (q .verdict) (q .numbers) (now (values .entry)) (length (now (scratch .entry))))
+        (requestAnswer (q .form) (q .verdict) (q .numbers) (now (values .entry))
+        (memoryIn (now (scratch .entry)) (now («engine_numbers» .entry)) (now («engine_counts» .entry))))
         (now (out .exit)) r ⌝ }
-    ensures { λ _. ⌜ now (scratch .exit) ≡ scratchAfterForm (q .form) (q .numbers) (now (values .entry)) (now (scratch .entry)) ⌝ }
+    ensures { λ _. ⌜ memoryIn (now (scratch .exit)) (now («engine_numbers» .exit)) (now («engine_counts» .exit))
+        ≡ memoryAfterForm (q .form) (q .numbers) (now (values .entry))
+        (memoryIn (now (scratch .entry)) (now («engine_numbers» .entry)) (now («engine_counts» .entry))) ⌝ }
 {
     let form = q.form;
     let verdict = q.verdict;
@@ -193,6 +275,21 @@ fn answer_request(
         Form::Placed => put_body(out, n, requests::asked_placed(values)),
         Form::Moved => put_body(out, n, requests::asked_moved(values)),
         Form::Without => put_body(out, n, requests::asked_without(values)),
+        Form::Submit => put_called(
+            out,
+            n,
+            requests::asked_submit(q, values, engine_numbers, engine_counts),
+        ),
+        Form::Density => put_called(
+            out,
+            n,
+            requests::asked_change(q, values, engine_numbers, engine_counts),
+        ),
+        Form::Turn => put_turn(
+            out,
+            n,
+            lent_engines::turn(engine_numbers, engine_counts, scratch),
+        ),
         Form::NoForm => put_refusal(out, n, why_refused(verdict)),
     }
 }
@@ -204,34 +301,83 @@ fn has_room(len: usize, n: usize) -> bool
     ANSWER_BYTES <= len && n <= len - ANSWER_BYTES
 }
 
+// Whether the engine's lists are long enough.
+fn has_engine(numbers: usize, counts: usize) -> bool
+    ensures { λ r. ⌜ r ≡ leb engineNumbers numbers && leb engineCounts counts ⌝ }
+{
+    (ENGINE_NUMBERS <= numbers) & (ENGINE_COUNTS <= counts)
+}
+
 // The answer to a line, whose figures go to the start of values.
 fn answer_read(
     line: &[u8],
     values: &mut [f64],
     scratch: &mut [f64],
+    engine_numbers: &mut [f64],
+    engine_counts: &mut [usize],
     out: &mut [u8],
     n: usize,
 ) -> usize
-    requires { ⌜ AnswerFits (now out) n × (length (now line) ≤ lineBytes → length (now line) ≤ length (now values)) ⌝ }
-    ensures { λ r. ⌜ Appended (now (out .entry)) n (answerOf (now (line .entry)) (length (now (scratch .entry)))) (now (out .exit)) r ⌝ }
-    ensures { λ _. ⌜ now (scratch .exit) ≡ scratchAfterLine (now (line .entry)) (now (scratch .entry)) ⌝ }
+    requires { ⌜ AnswerFits (now out) n × Room (now «engine_numbers») (now «engine_counts»)
+        × (length (now line) ≤ lineBytes → length (now line) ≤ length (now values)) ⌝ }
+    ensures { λ r. ⌜ Appended (now (out .entry)) n
+        (answerOf (now (line .entry)) (memoryIn (now (scratch .entry)) (now («engine_numbers» .entry)) (now («engine_counts» .entry))))
+        (now (out .exit)) r ⌝ }
+    ensures { λ _. ⌜ memoryIn (now (scratch .exit)) (now («engine_numbers» .exit)) (now («engine_counts» .exit))
+        ≡ memoryAfter (now (line .entry)) (memoryIn (now (scratch .entry)) (now («engine_numbers» .entry)) (now («engine_counts» .entry))) ⌝ }
 {
     let q = forms::read_line(line, values);
     let end = q.figures;
-    answer_request(q, &values[..end], scratch, out, n)
+    answer_request(
+        q,
+        &values[..end],
+        scratch,
+        engine_numbers,
+        engine_counts,
+        out,
+        n,
+    )
 }
 
 // Appends the answer to a line to the n bytes at the start of out, and answers how many there are then.
-pub fn answer_line(line: &[u8], scratch: &mut [f64], out: &mut [u8], n: usize) -> usize
-    ensures { λ r. ⌜ Answers (now (line .entry)) (now (scratch .entry)) (now (scratch .exit)) (now (out .entry)) n (now (out .exit)) r ⌝ }
+pub fn answer_line(
+    line: &[u8],
+    scratch: &mut [f64],
+    engine_numbers: &mut [f64],
+    engine_counts: &mut [usize],
+    out: &mut [u8],
+    n: usize,
+) -> usize
+    ensures { λ r. ⌜ Answers (now (line .entry))
+        (lentIn (now (scratch .entry)) (now («engine_numbers» .entry)) (now («engine_counts» .entry)))
+        (lentIn (now (scratch .exit)) (now («engine_numbers» .exit)) (now («engine_counts» .exit)))
+        (now (out .entry)) n (now (out .exit)) r ⌝ }
 {
-    if !has_room(out.len(), n) {
+    let room = has_room(out.len(), n);
+    let engine = has_engine(engine_numbers.len(), engine_counts.len());
+    if !(room & engine) {
         return n;
     }
     if line.len() <= SHORT_LINE {
         let mut values = [0.0; SHORT_LINE];
-        return answer_read(line, &mut values, scratch, out, n);
+        return answer_read(
+            line,
+            &mut values,
+            scratch,
+            engine_numbers,
+            engine_counts,
+            out,
+            n,
+        );
     }
     let mut values = [0.0; LINE_FIGURES];
-    answer_read(line, &mut values, scratch, out, n)
+    answer_read(
+        line,
+        &mut values,
+        scratch,
+        engine_numbers,
+        engine_counts,
+        out,
+        n,
+    )
 }

@@ -1,6 +1,7 @@
 -- The calls on what is given by numbers (docs/FORMS.md; include/delvouzh.h): an unknown number, or another count of numbers, is no form.
 use mathlib.Core.Bool.{cond}
 use mathlib.Core.List.{List, [], _∷_}
+use mathlib.Core.Path.{_≡_}
 use Prim.Native.Nat.{ℕ, _+_, _*_, _/_}
 use lib.Dec.{eqb}
 use lib.ListN.{length}
@@ -37,6 +38,12 @@ use Rattle.figures.specs.declared.Area.{Area}
 use Rattle.figures.specs.declared.Figures.{Figures}
 use Rattle.figures.specs.Figures.{refusedFigures, setFigures, setScratch}
 use Rattle.figures.specs.Areas.{refusedArea, areaFigures, areaScratch}
+use Rattle.jobs.specs.declared.Answer.{Answer as Told}
+use Rattle.jobs.specs.declared.Reply.the-variants.{Answered}
+use Rattle.engines.specs.declared.Engine.{Engine}
+use Rattle.engines.specs.declared.Called.{Called}
+use Rattle.engines.specs.Engines.{submitOf, changeAt}
+use Rattle.lent_engines.specs.Memory.{engineIn}
 
 -- ---- a set's figures, and what is left in the scratch
 
@@ -48,7 +55,26 @@ unfoldable pub numberedScratch : NumberedSet → List Float → ℕ → List Flo
 numberedScratch (setKnown set) points L scratch = setScratch set points L scratch
 numberedScratch noSet points L scratch = scratch
 
--- ---- a planform's area, likewise
+-- ---- the engine (document 02, Paper 10): a set submitted to a screen, with its points and L; another density for a screen's job
+
+-- what a call of an engine answers, and which engine the lent lists hold then
+pub record CallsEngine (called : Called) (r : Told) (numbers : List Float) (counts : List ℕ) : Type 0 where
+  pub answer : r ≡ called .answer
+  pub engine : engineIn numbers counts ≡ called .engine
+
+-- no form changes nothing
+abbrev pub noCall : Engine → Called
+noCall engine = record { engine = engine; answer = record { reply = Answered; figures = refusedFigures NoForm 0 } }
+
+unfoldable pub numberedSubmit : Engine → ℕ → NumberedSet → List Float → ℕ → Called
+numberedSubmit engine screen (setKnown set) points L = submitOf engine screen set points L
+numberedSubmit engine screen noSet points L = noCall engine
+
+unfoldable pub numberedChange : Engine → ℕ → NumberedDensity → Called
+numberedChange engine screen (densityKnown density) = changeAt engine screen density
+numberedChange engine screen noDensity = noCall engine
+
+-- ---- a planform's area, and what is left in the scratch
 
 unfoldable pub numberedArea : NumberedPlanform → List Float → ℕ → ℕ → Area
 numberedArea (planformKnown planform) points L scratchLength = areaFigures planform points L scratchLength

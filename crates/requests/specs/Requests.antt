@@ -19,7 +19,9 @@ use Rattle.figures.specs.declared.Area.{Area}
 use Rattle.figures.specs.declared.Figures.{Figures}
 use Rattle.requests.specs.declared.AreaRequest.{AreaRequest}
 use Rattle.requests.specs.declared.SetRequest.{SetRequest}
-use Rattle.requests.specs.Calls.{numberedFigures, numberedScratch, numberedArea, numberedAreaScratch, numberedDrill, ringBy, copiedBy, placedBy, movedBy, withoutBy}
+use Rattle.engines.specs.declared.Engine.{Engine}
+use Rattle.engines.specs.declared.Called.{Called}
+use Rattle.requests.specs.Calls.{numberedFigures, numberedScratch, numberedSubmit, numberedChange, numberedArea, numberedAreaScratch, numberedDrill, ringBy, copiedBy, placedBy, movedBy, withoutBy}
 
 -- of the count or part k, counted from the form's last: its number, and how many figures stand up to its end
 abbrev pub number : List ℕ → ℕ → ℕ
@@ -64,6 +66,14 @@ askedFigures q figures scratchLength = numberedFigures (q .set) (between 0 (q .p
 
 unfoldable pub askedScratch : SetRequest → List Float → List Float → List Float
 askedScratch q figures scratch = numberedScratch (q .set) (between 0 (q .points) figures) (q .limit) scratch
+
+-- "(submit N SET)": the set's counts and parts stand as in its own form, and the screen is 7
+unfoldable pub askedSubmit : ℕ → SetRequest → List Float → Engine → Called
+askedSubmit screen q figures engine = numberedSubmit engine screen (q .set) (between 0 (q .points) figures) (q .limit)
+
+-- "(density N DENSITY)": screen 1, density 0
+unfoldable pub askedChange : List ℕ → List Float → Engine → Called
+askedChange ns figures engine = numberedChange engine (number ns 1) (numberedDensity (number ns 0) (at figures 0))
 
 unfoldable pub askedArea : AreaRequest → List Float → ℕ → Area
 askedArea q figures scratchLength = numberedArea (q .planform) (between 0 (q .points) figures) (q .limit) scratchLength

@@ -1,5 +1,6 @@
-// What a line or a call asks by numbers, as the calls take it (docs/FORMS.md; include/delvouzh.h): a set, a planform, a planform's chords,
-// a point beside a planform, a ring of tubes, points to join, a tensor, a body, copies of one, a part moved or taken off.
+// What a line or a call asks by numbers, as the calls take it (docs/FORMS.md; include/delvouzh.h): a set, one submitted to a screen, a density for a
+// screen's job, a planform, a planform's chords, a point beside a planform, a ring of tubes, points to join, a tensor, a body, copies of one, a part
+// moved or taken off.
 //
 // A line's figures stand in a lent slice in the order of its form. Any numbers and any figures may be handed in: what they do not make up
 // is no form.
@@ -11,8 +12,10 @@ ghost use Rattle.bodies.specs.Layout.{bodyNumbers};
 ghost use Rattle.joins.specs.Flat.{withBodies};
 ghost use Rattle.figures.specs.Figures.{refusedFigures};
 ghost use Rattle.figures.specs.Areas.{refusedArea};
-ghost use Rattle.requests.specs.Calls.{numberedFigures, numberedScratch, numberedArea, numberedAreaScratch, numberedChords, numberedEnds, numberedDrill, ringBy, copiedBy, placedBy, movedBy, withoutBy, pointBodyAt, joinedPointsOf, tensorMoments, bodyVerdict};
-ghost use Rattle.requests.specs.Requests.{between, setRequestOf, areaRequestOf, askedRing, askedClosing, askedDrill, askedCopied, askedPlaced, askedMoved, askedWithout, askedFigures, askedScratch, askedArea, askedAreaScratch};
+ghost use Rattle.lent_engines.specs.Memory.{engineIn};
+ghost use Rattle.lent_engines.specs.Lent.{Room};
+ghost use Rattle.requests.specs.Calls.{CallsEngine, numberedFigures, numberedScratch, numberedSubmit, numberedChange, numberedArea, numberedAreaScratch, numberedChords, numberedEnds, numberedDrill, ringBy, copiedBy, placedBy, movedBy, withoutBy, pointBodyAt, joinedPointsOf, tensorMoments, bodyVerdict};
+ghost use Rattle.requests.specs.Requests.{number, between, setRequestOf, askedSubmit, askedChange, areaRequestOf, askedRing, askedClosing, askedDrill, askedCopied, askedPlaced, askedMoved, askedWithout, askedFigures, askedScratch, askedArea, askedAreaScratch};
 use bodies::BODY_NUMBERS;
 use bodies::Body;
 use bodies::TENSOR_NUMBERS;
@@ -22,6 +25,7 @@ use figures::Area;
 use figures::Figures;
 use fins::NumberedSet;
 use forms::Request;
+use jobs::Reply;
 use joins::Joined;
 use materials::NumberedDensity;
 use moments::Moments;
@@ -147,6 +151,62 @@ pub fn set_figures(set: NumberedSet, points: &[f64], limit: usize, scratch: &mut
     match set {
         NumberedSet::Known(set) => figures::mass_properties(set, points, limit, scratch),
         NumberedSet::Unknown => no_figures(),
+    }
+}
+
+fn no_call() -> jobs::Answer
+    ensures { λ r. ⌜ r ≡ record { reply = Reply.Answered; figures = refusedFigures Refusal.NoForm 0 } ⌝ }
+{
+    let reply = Reply::Answered;
+    let figures = no_figures();
+    jobs::Answer { reply, figures }
+}
+
+// Submits a set to a screen of a lent engine.
+pub fn submit_set(
+    numbers: &mut [f64],
+    counts: &mut [usize],
+    screen: usize,
+    set: NumberedSet,
+    points: &[f64],
+    limit: usize,
+) -> jobs::Answer
+    requires { ⌜ Room (now numbers) (now counts) ⌝ }
+    ensures { λ r. ⌜ CallsEngine (numberedSubmit (engineIn (now (numbers .entry)) (now (counts .entry))) screen set (now (points .entry)) limit)
+        r (now (numbers .exit)) (now (counts .exit)) ⌝ }
+{
+    match set {
+        NumberedSet::Known(set) => lent_engines::submit(
+            numbers,
+            counts,
+            screen,
+            set,
+            points,
+            limit,
+        ),
+        NumberedSet::Unknown => no_call(),
+    }
+}
+
+// Changes the density of a screen's job.
+pub fn change_density(
+    numbers: &mut [f64],
+    counts: &mut [usize],
+    screen: usize,
+    density: NumberedDensity,
+) -> jobs::Answer
+    requires { ⌜ Room (now numbers) (now counts) ⌝ }
+    ensures { λ r. ⌜ CallsEngine (numberedChange (engineIn (now (numbers .entry)) (now (counts .entry))) screen density)
+        r (now (numbers .exit)) (now (counts .exit)) ⌝ }
+{
+    match density {
+        NumberedDensity::Known(density) => lent_engines::change_density(
+            numbers,
+            counts,
+            screen,
+            density,
+        ),
+        NumberedDensity::Unknown => no_call(),
     }
 }
 
@@ -329,7 +389,41 @@ pub fn asked_figures(q: Request, values: &[f64], scratch: &mut [f64]) -> Figures
     set_figures(set, points, asked.limit, scratch)
 }
 
-// The area of a planform that a line asks, likewise.
+// The submission that a line asks.
+pub fn asked_submit(
+    q: Request,
+    values: &[f64],
+    numbers: &mut [f64],
+    counts: &mut [usize],
+) -> jobs::Answer
+    requires { ⌜ Room (now numbers) (now counts) ⌝ }
+    ensures { λ r. ⌜ CallsEngine (askedSubmit (number (q .numbers) 7) (setRequestOf (q .numbers) (now (values .entry))) (now (values .entry))
+        (engineIn (now (numbers .entry)) (now (counts .entry)))) r (now (numbers .exit)) (now (counts .exit)) ⌝ }
+{
+    let n = q.numbers;
+    let asked = set_request(q, values);
+    let set = asked.set;
+    let points = between(values, 0, asked.points);
+    submit_set(numbers, counts, n[15], set, points, asked.limit)
+}
+
+// The change of density that a line asks.
+pub fn asked_change(
+    q: Request,
+    values: &[f64],
+    numbers: &mut [f64],
+    counts: &mut [usize],
+) -> jobs::Answer
+    requires { ⌜ Room (now numbers) (now counts) ⌝ }
+    ensures { λ r. ⌜ CallsEngine (askedChange (q .numbers) (now (values .entry))
+        (engineIn (now (numbers .entry)) (now (counts .entry)))) r (now (numbers .exit)) (now (counts .exit)) ⌝ }
+{
+    let n = q.numbers;
+    let density = materials::numbered_density(n[1], figure(values, 0));
+    change_density(numbers, counts, n[3], density)
+}
+
+// The area of a planform that a line asks, over a lent scratch.
 pub fn asked_area(q: Request, values: &[f64], scratch: &mut [f64]) -> Area
     ensures { λ r. ⌜ r ≡ askedArea (areaRequestOf (q .numbers) (now (values .entry))) (now (values .entry)) (length (now (scratch .entry))) ⌝ }
     ensures { λ _. ⌜ now (scratch .exit) ≡ askedAreaScratch (areaRequestOf (q .numbers) (now (values .entry)))

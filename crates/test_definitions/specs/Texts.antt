@@ -4,7 +4,7 @@ use mathlib.Core.List.{List, [], _∷_}
 use Prim.Native.Nat.{ℕ}
 use Prim.Native.String.{String}
 use lib.Dec.{T, eqb}
-use lib.ListN.{length}
+use lib.ListN.{length, drop, getD}
 use lib.Ieee.{Float, ofBits, toBits, round, isNan, eq}
 use Rattle.floats.specs.Operations.{bits, tabulate}
 use Rattle.refusals.specs.declared.Verdict.the-variants.{Refused}
@@ -15,10 +15,10 @@ use Rattle.counts.specs.Counts as counts
 use Rattle.tokens.specs.Text.{text, codes}
 use Rattle.tokens.specs.Tokens.{tokensAfter, tokens}
 use Rattle.figure_words.specs.FigureWords.{leadingDigits, behindDigits, numberFrom, unsignedFigure, decimalFigure, figureWord}
-use Rattle.templates.specs.Matching.{isWordByte, isWord, takeWord, takeOne}
-use Rattle.forms.specs.Forms.{Asked, asked, refused as refusedBy, part, laterPart, readItems, laterForm, anyForm, lineAsked}
+use Rattle.templates.specs.Matching.{isWordByte, isWord, takeWord, takeOne, takeToken, takeTokens, takeText, firstOf}
+use Rattle.forms.specs.Forms.{Asked, asked, refused as refusedBy, part, laterPart, density, readItems, engineForm, bodyForm, laterForm, anyForm, lineAsked}
 use Rattle.answers.specs.Filled.{filled}
-use Rattle.answers.specs.Answers.{areaText, joinedText, momentsText, soundText, refusedText}
+use Rattle.answers.specs.Answers.{areaText, joinedText, momentsText, soundText, takenText, idleText, moreText, doneText, doneRefusedText, refusedText}
 use Rattle.test_definitions.specs.Rows.{is, same, refused}
 
 -- ---- words
@@ -92,6 +92,24 @@ no-form-first =
     && isRefused 18 (lineAsked (text "(closing (count x) (radius 1))"))
     && isRefused 18 (lineAsked (text "(closing (count 4)"))
 
+-- the counts and parts of a line, the last first: of each how many figures stand up to its end, and its number
+abbrev numbered : List ℕ → Asked → Bool
+numbered ns (refusedBy refusal) = false
+numbered ns (asked form numbers figures) = starts ns numbers
+  where
+    starts : List ℕ → List ℕ → Bool
+    starts [] numbers = true
+    starts (k ∷ ks) numbers = eqb (getD numbers 0 0) k && starts ks (drop 1 numbers)
+
+-- of a density's line the screen stands before the density, a bulk one; a turn has nothing behind its word
+abbrev pub engine-lines : Bool
+engine-lines =
+    isAsked (lineAsked (text "(turn)"))
+    && isRefused 18 (lineAsked (text "(turn 1)"))
+    && numbered (1 ∷ 1 ∷ 0 ∷ 3 ∷ []) (lineAsked (text "(density 3 (bulk 5))"))
+    && isRefused 19 (lineAsked (text "(density 3 (bulk x))"))
+    && isRefused 18 (lineAsked (text "(density x (bulk 5))"))
+
 -- ---- answers
 
 -- the intervals before the samples; three numbers of a centre, three moments, ten numbers of a body
@@ -105,7 +123,17 @@ answers-printed =
     && same (joinedText (tabulate 10 (λ i. bits i)))
     (text "(joined (mass 0000000000000000) (centre 0000000000000001 0000000000000002 0000000000000003) (inertia 0000000000000004 0000000000000005 0000000000000006 0000000000000007 0000000000000008 0000000000000009))")
 
+-- the screen first, then intervals and samples, or the refusal's number
+abbrev pub engine-answers : Bool
+engine-answers =
+    same takenText (text "(taken)")
+    && same idleText (text "(idle)")
+    && same (moreText 3) (text "(more 3)")
+    && same (doneRefusedText 3 13) (text "(done 3 (refused 13))")
+    && same (doneText 8 (tabulate 10 (λ i. bits i)) 2 30)
+    (text "(done 8 (figures (mass 0000000000000000) (centre 0000000000000001 0000000000000002 0000000000000003) (inertia 0000000000000004 0000000000000005 0000000000000006 0000000000000007 0000000000000008 0000000000000009) (intervals 2) (samples 30)))")
+
 pub texts-hold :
-    T (figure-words && nearest-to-decimals && word-bytes && tokens-cut && no-form-first && answers-printed)
-unfolding ofBits toBits round isNan eq text codes tokensAfter leadingDigits behindDigits numberFrom unsignedFigure decimalFigure figureWord isWord takeWord takeOne part laterPart readItems laterForm anyForm lineAsked filled areaText joinedText momentsText soundText refusedText hex.figureOf hex.readDigits hex.digits hex.figureText counts.countOf counts.readDigits counts.digits counts.countText
+    T (figure-words && nearest-to-decimals && word-bytes && tokens-cut && no-form-first && engine-lines && answers-printed && engine-answers)
+unfolding ofBits toBits round isNan eq text codes tokensAfter leadingDigits behindDigits numberFrom unsignedFigure decimalFigure figureWord isWord takeWord takeOne takeToken takeTokens takeText firstOf part laterPart readItems density engineForm bodyForm laterForm anyForm lineAsked filled areaText joinedText momentsText soundText takenText idleText moreText doneText doneRefusedText refusedText hex.figureOf hex.readDigits hex.digits hex.figureText counts.countOf counts.readDigits counts.digits counts.countText
 texts-hold = tt

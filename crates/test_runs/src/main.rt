@@ -135,6 +135,9 @@ fn print_run(line: &[u8], values: &mut [f64], scratch: &mut [f64], out: &mut [u8
         Form::Placed => 0,
         Form::Moved => 0,
         Form::Without => 0,
+        Form::Submit => 0,
+        Form::Density => 0,
+        Form::Turn => 0,
         Form::NoForm => 0,
     }
 }

@@ -1,7 +1,8 @@
 -- `card::main` meets its contract: what it lends is what `run` asks for. Assumes nothing.
 use mathlib.Core.Path.{refl}
-use borrow.Author.Needs.{needs}
 use native.Mathlib.Omega.{arith}
+use Rattle.card.specs.Program.{atFirst}
+use borrow.Author.Needs.{needs}
 use Rattle.card.proofs.main.Statement.{statement}
 use Rattle.card.proofs.main.Tie as tie
 
@@ -26,8 +27,16 @@ slice-aggregate-run-3 c = search needs
 slice-aggregate-run-4 : tie.Need-slice-aggregate-run-4
 slice-aggregate-run-4 c = search needs
 
+slice-aggregate-run-5 : tie.Need-slice-aggregate-run-5
+slice-aggregate-run-5 c = search needs
+
+slice-aggregate-run-6 : tie.Need-slice-aggregate-run-6
+slice-aggregate-run-6 c = search needs
+
 run-requires : tie.Need-run-requires
-run-requires c κs = record { line = omega arith; some = omega arith; most = omega arith; numbers = refl; reply = omega arith }
+unfolding atFirst
+run-requires c κs =
+    (record { line = omega arith; some = omega arith; most = omega arith; engine = (omega arith, omega arith); reply = omega arith }, refl)
 
 slice-aggregate-write-all : tie.Need-slice-aggregate-write-all
 slice-aggregate-write-all c = search needs
@@ -52,6 +61,8 @@ main-spec =
     slice-aggregate-run-2
     slice-aggregate-run-3
     slice-aggregate-run-4
+    slice-aggregate-run-5
+    slice-aggregate-run-6
     run-requires
     slice-aggregate-write-all
     write-all-requires

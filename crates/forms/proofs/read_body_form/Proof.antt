@@ -2,7 +2,6 @@
 use mathlib.Core.Path.{sym, _∙_}
 use Rattle.tokens.specs.Text.{text, codes}
 use Rattle.forms.specs.Forms.{bodyForm}
-use Rattle.forms.proofs.NoForms.{no-form}
 use borrow.Author.Needs.{needs}
 use Rattle.forms.proofs.read_body_form.Statement.{statement}
 use Rattle.forms.proofs.read_body_form.Tie as tie
@@ -105,18 +104,22 @@ returns-4 c =
     let s = i1 .before .before .before .before .before .before in
     rw (← s .pre .2, sym (i1 .before .same-bytes .ensures) ∙ i1 .if1 .left, sym (i2 .before .same-bytes2 .ensures) ∙ i2 .if2 .left, sym (i3 .before .same-bytes3 .ensures) ∙ i3 .if3 .left, sym (i4 .before .same-bytes4 .ensures) ∙ i4 .if4 .taken) (t .read-form4 .ensures)
 
-refused-requires : tie.Need-refused-requires
-refused-requires c κs = search needs
+read-engine-form-requires : tie.Need-read-engine-form-requires
+read-engine-form-requires c κs = search needs
+
+same-length-5 : tie.Need-same-length-5
+same-length-5 c = search needs
 
 returns-5 : tie.Need-returns-5
 unfolding bodyForm text codes
 returns-5 c =
-    let i4 = c .before in
+    let t = c .before .before in
+    let i4 = t .before .before in
     let i3 = i4 .before .before .before in
     let i2 = i3 .before .before .before in
     let i1 = i2 .before .before .before in
     let s = i1 .before .before .before .before .before .before in
-    no-form _ _ _ (c .refused .ensures) (rw (← s .pre .2, sym (i1 .before .same-bytes .ensures) ∙ i1 .if1 .left, sym (i2 .before .same-bytes2 .ensures) ∙ i2 .if2 .left, sym (i3 .before .same-bytes3 .ensures) ∙ i3 .if3 .left, sym (i4 .before .same-bytes4 .ensures) ∙ i4 .if4 .left))
+    rw (← s .pre .2, sym (i1 .before .same-bytes .ensures) ∙ i1 .if1 .left, sym (i2 .before .same-bytes2 .ensures) ∙ i2 .if2 .left, sym (i3 .before .same-bytes3 .ensures) ∙ i3 .if3 .left, sym (i4 .before .same-bytes4 .ensures) ∙ i4 .if4 .left) (t .read-engine-form .ensures)
 
 pub read-body-form-spec : {M : Type 1} → statement M
 read-body-form-spec =
@@ -146,5 +149,6 @@ read-body-form-spec =
     read-form-requires-4
     same-length-4
     returns-4
-    refused-requires
+    read-engine-form-requires
+    same-length-5
     returns-5)

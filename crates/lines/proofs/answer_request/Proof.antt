@@ -1,17 +1,26 @@
 -- `lines::answer_request` meets its contract: each arm knows its form. Assumes nothing.
-use mathlib.Core.Path.{refl, sym, ap, _∙_}
-use Rattle.refusals.specs.declared.Refusal.{Refusal}
-use Rattle.refusals.specs.declared.Verdict.{Verdict}
+use mathlib.Core.List.{List}
+use mathlib.Core.Path.{refl, ap, ap₂}
+use denote.Ref.{now}
+use lib.Ieee.{Float}
 use Rattle.joins.specs.declared.Joined.{Joined}
 use Rattle.tubes.specs.declared.ClosingRadius.{ClosingRadius}
 use Rattle.moments.specs.declared.Moments.{Moments}
 use Rattle.figures.specs.declared.Figures.{Figures}
 use Rattle.figures.specs.declared.Area.{Area}
-use Rattle.lines.specs.Lines.{printedSet, printedArea, printedJoin, printedRing, printedBody, printedClosing, printedDrill, printedMoments, printedCheck, printedRefusal, setAnswer, areaAnswer, joinAnswer, ringAnswer, closingAnswer, drillAnswer, bodyAnswer, momentsAnswer, checkAnswer}
+use Rattle.jobs.specs.declared.Answer.{Answer}
+use Rattle.engines.specs.declared.Engine.{Engine}
+use Rattle.engines.specs.declared.Told.{Told}
+use Rattle.lines.specs.Lines.{printedSet, printedArea, printedJoin, printedRing, printedBody, printedClosing, printedDrill, printedMoments, printedCheck, printedRefusal, printedCall, printedTurn}
+use Rattle.lines.specs.Lines.{setAnswer, areaAnswer, joinAnswer, ringAnswer, closingAnswer, drillAnswer, bodyAnswer, momentsAnswer, checkAnswer, submitAnswer, changeAnswer, turnAnswer}
+use Rattle.lines.specs.Lines.{Memory, memoryIn}
 use Rattle.lines.proofs.Texts.{same-text}
 use borrow.Author.Needs.{needs}
 use Rattle.lines.proofs.answer_request.Statement.{statement}
 use Rattle.lines.proofs.answer_request.Tie as tie
+
+abbrev withScratchOf : List Float → Engine → Memory
+withScratchOf scratch engine = record { scratch = scratch; engine = engine }
 
 enum-told : tie.Need-enum-told
 enum-told c = search needs
@@ -124,6 +133,33 @@ put-body-requires-4 c κs = search needs
 enum-told-13 : tie.Need-enum-told-13
 enum-told-13 c = search needs
 
+asked-submit-requires : tie.Need-asked-submit-requires
+asked-submit-requires c κs = search needs
+
+put-called-requires : tie.Need-put-called-requires
+put-called-requires c κs = search needs
+
+enum-told-14 : tie.Need-enum-told-14
+enum-told-14 c = search needs
+
+asked-change-requires : tie.Need-asked-change-requires
+asked-change-requires c κs = search needs
+
+put-called-requires-2 : tie.Need-put-called-requires-2
+put-called-requires-2 c κs = search needs
+
+enum-told-15 : tie.Need-enum-told-15
+enum-told-15 c = search needs
+
+turn-requires : tie.Need-turn-requires
+turn-requires c κs = search needs
+
+put-turn-requires : tie.Need-put-turn-requires
+put-turn-requires c κs = search needs
+
+enum-told-16 : tie.Need-enum-told-16
+enum-told-16 c = search needs
+
 why-refused-requires : tie.Need-why-refused-requires
 why-refused-requires c κs = search needs
 
@@ -141,8 +177,9 @@ unfolding setAnswer
 returns c =
     let p = c .before .before in
     let a = p .before .before .before in
+    let s = a .before .before .before .before .before .before .before .before .before .before .args in
     let e = a .before .before .before .enum-told .given .1 in
-    (rw e (same-text (ap (λ (f : Figures). printedSet (f .verdict) f) (a .asked-figures .ensures .0)) (p .put-set .ensures)), rw e (a .asked-figures .ensures .1))
+    (rw e (same-text (ap (λ (f : Figures). printedSet (f .verdict) f) (a .asked-figures .ensures .0)) (p .put-set .ensures)), rw e (ap (λ (l : List Float). memoryIn l (now (s .engine-numbers)) (now (s .engine-counts))) (a .asked-figures .ensures .1)))
 
 same-length-3 : tie.Need-same-length-3
 same-length-3 c = search needs
@@ -155,8 +192,9 @@ unfolding areaAnswer
 returns-2 c =
     let p = c .before .before in
     let a = p .before .before .before in
+    let s = a .before .before .before .before .before .before .before .before .before .before .args in
     let e = a .before .before .before .enum-told2 .given .1 in
-    (rw e (same-text (ap (λ (f : Area). printedArea (f .verdict) f) (a .asked-area .ensures .0)) (p .put-area .ensures)), rw e (a .asked-area .ensures .1))
+    (rw e (same-text (ap (λ (f : Area). printedArea (f .verdict) f) (a .asked-area .ensures .0)) (p .put-area .ensures)), rw e (ap (λ (l : List Float). memoryIn l (now (s .engine-numbers)) (now (s .engine-counts))) (a .asked-area .ensures .1)))
 
 same-length-5 : tie.Need-same-length-5
 same-length-5 c = search needs
@@ -166,7 +204,7 @@ unfolding joinAnswer
 returns-3 c =
     let p = c .before .before in
     let e = p .before .before .before .enum-told3 .given .1 in
-    (rw e (same-text (ap (λ (j : Joined). printedJoin (j .verdict) j) (p .before .join-points .ensures)) (p .put-joined .ensures)), rw e refl)
+    (rw e (same-text (ap (λ (x : Joined). printedJoin (x .verdict) x) (p .before .join-points .ensures)) (p .put-joined .ensures)), rw e refl)
 
 same-length-6 : tie.Need-same-length-6
 same-length-6 c = search needs
@@ -176,7 +214,7 @@ unfolding momentsAnswer
 returns-4 c =
     let p = c .before .before in
     let e = p .before .before .before .enum-told4 .given .1 in
-    (rw e (same-text (ap (λ (m : Moments). printedMoments (m .verdict) m) (p .before .tensor-moments .ensures)) (p .put-moments .ensures)), rw e refl)
+    (rw e (same-text (ap (λ (x : Moments). printedMoments (x .verdict) x) (p .before .tensor-moments .ensures)) (p .put-moments .ensures)), rw e refl)
 
 same-length-7 : tie.Need-same-length-7
 same-length-7 c = search needs
@@ -196,7 +234,7 @@ unfolding ringAnswer
 returns-6 c =
     let p = c .before .before in
     let e = p .before .before .before .enum-told6 .given .1 in
-    (rw e (same-text (ap (λ (j : Joined). printedRing (j .verdict) j) (p .before .asked-ring .ensures)) (p .put-ring .ensures)), rw e refl)
+    (rw e (same-text (ap (λ (x : Joined). printedRing (x .verdict) x) (p .before .asked-ring .ensures)) (p .put-ring .ensures)), rw e refl)
 
 same-length-9 : tie.Need-same-length-9
 same-length-9 c = search needs
@@ -206,7 +244,7 @@ unfolding closingAnswer
 returns-7 c =
     let p = c .before .before in
     let e = p .before .before .before .enum-told7 .given .1 in
-    (rw e (same-text (ap (λ (r : ClosingRadius). printedClosing (r .verdict) r) (p .before .asked-closing .ensures)) (p .put-closing .ensures)), rw e refl)
+    (rw e (same-text (ap (λ (x : ClosingRadius). printedClosing (x .verdict) x) (p .before .asked-closing .ensures)) (p .put-closing .ensures)), rw e refl)
 
 same-length-10 : tie.Need-same-length-10
 same-length-10 c = search needs
@@ -226,7 +264,7 @@ unfolding bodyAnswer
 returns-9 c =
     let p = c .before .before in
     let e = p .before .before .before .enum-told9 .given .1 in
-    (rw e (same-text (ap (λ (j : Joined). printedBody (j .verdict) j) (p .before .asked-copied .ensures)) (p .put-body .ensures)), rw e refl)
+    (rw e (same-text (ap (λ (x : Joined). printedBody (x .verdict) x) (p .before .asked-copied .ensures)) (p .put-body .ensures)), rw e refl)
 
 same-length-12 : tie.Need-same-length-12
 same-length-12 c = search needs
@@ -236,7 +274,7 @@ unfolding bodyAnswer
 returns-10 c =
     let p = c .before .before in
     let e = p .before .before .before .enum-told10 .given .1 in
-    (rw e (same-text (ap (λ (j : Joined). printedBody (j .verdict) j) (p .before .asked-placed .ensures)) (p .put-body2 .ensures)), rw e refl)
+    (rw e (same-text (ap (λ (x : Joined). printedBody (x .verdict) x) (p .before .asked-placed .ensures)) (p .put-body2 .ensures)), rw e refl)
 
 same-length-13 : tie.Need-same-length-13
 same-length-13 c = search needs
@@ -246,7 +284,7 @@ unfolding bodyAnswer
 returns-11 c =
     let p = c .before .before in
     let e = p .before .before .before .enum-told11 .given .1 in
-    (rw e (same-text (ap (λ (j : Joined). printedBody (j .verdict) j) (p .before .asked-moved .ensures)) (p .put-body3 .ensures)), rw e refl)
+    (rw e (same-text (ap (λ (x : Joined). printedBody (x .verdict) x) (p .before .asked-moved .ensures)) (p .put-body3 .ensures)), rw e refl)
 
 same-length-14 : tie.Need-same-length-14
 same-length-14 c = search needs
@@ -256,15 +294,71 @@ unfolding bodyAnswer
 returns-12 c =
     let p = c .before .before in
     let e = p .before .before .before .enum-told12 .given .1 in
-    (rw e (same-text (ap (λ (j : Joined). printedBody (j .verdict) j) (p .before .asked-without .ensures)) (p .put-body4 .ensures)), rw e refl)
+    (rw e (same-text (ap (λ (x : Joined). printedBody (x .verdict) x) (p .before .asked-without .ensures)) (p .put-body4 .ensures)), rw e refl)
 
 same-length-15 : tie.Need-same-length-15
 same-length-15 c = search needs
 
+same-length-16 : tie.Need-same-length-16
+same-length-16 c = search needs
+
+same-length-17 : tie.Need-same-length-17
+same-length-17 c = search needs
+
 returns-13 : tie.Need-returns-13
+unfolding submitAnswer
 returns-13 c =
     let p = c .before .before in
-    let e = p .before .before .before .enum-told13 .given .1 in
+    let a = p .before .before .before .before .before in
+    let s = a .before .before .before .before .before .before .before .before .before .before .before .args in
+    let e = a .before .before .before .before .enum-told13 .given .1 in
+    (rw e (same-text (ap (λ (x : Answer). printedCall (x .figures .verdict)) (a .asked-submit .ensures .answer)) (p .put-called .ensures)), rw e (ap (withScratchOf (now (s .scratch))) (a .asked-submit .ensures .engine)))
+
+same-length-18 : tie.Need-same-length-18
+same-length-18 c = search needs
+
+same-length-19 : tie.Need-same-length-19
+same-length-19 c = search needs
+
+same-length-20 : tie.Need-same-length-20
+same-length-20 c = search needs
+
+returns-14 : tie.Need-returns-14
+unfolding changeAnswer
+returns-14 c =
+    let p = c .before .before in
+    let a = p .before .before .before .before .before in
+    let s = a .before .before .before .before .before .before .before .before .before .before .before .args in
+    let e = a .before .before .before .before .enum-told14 .given .1 in
+    (rw e (same-text (ap (λ (x : Answer). printedCall (x .figures .verdict)) (a .asked-change .ensures .answer)) (p .put-called2 .ensures)), rw e (ap (withScratchOf (now (s .scratch))) (a .asked-change .ensures .engine)))
+
+same-length-21 : tie.Need-same-length-21
+same-length-21 c = search needs
+
+same-length-22 : tie.Need-same-length-22
+same-length-22 c = search needs
+
+same-length-23 : tie.Need-same-length-23
+same-length-23 c = search needs
+
+same-length-24 : tie.Need-same-length-24
+same-length-24 c = search needs
+
+returns-15 : tie.Need-returns-15
+unfolding turnAnswer
+returns-15 c =
+    let p = c .before .before in
+    let t = p .before .before .before .before .before .before .before in
+    let e = t .before .before .before .before .before .enum-told15 .given .1 in
+    (rw e (same-text (ap (λ (x : Told). printedTurn (x .service) x) (t .turn .ensures .told)) (p .put-turn .ensures)), rw e (ap₂ withScratchOf (t .turn .ensures .lent) (t .turn .ensures .holds .held)))
+
+same-length-25 : tie.Need-same-length-25
+same-length-25 c = search needs
+
+returns-16 : tie.Need-returns-16
+returns-16 c =
+    let p = c .before .before in
+    let e = p .before .before .before .enum-told16 .given .1 in
     (rw e (same-text (ap printedRefusal (p .before .why-refused .ensures)) (p .put-refusal .ensures)), rw e refl)
 
 pub answer-request-spec : {M : Type 1} → statement M
@@ -308,6 +402,15 @@ answer-request-spec =
     asked-without-requires
     put-body-requires-4
     enum-told-13
+    asked-submit-requires
+    put-called-requires
+    enum-told-14
+    asked-change-requires
+    put-called-requires-2
+    enum-told-15
+    turn-requires
+    put-turn-requires
+    enum-told-16
     why-refused-requires
     put-refusal-requires
     same-length
@@ -337,4 +440,17 @@ answer-request-spec =
     same-length-14
     returns-12
     same-length-15
-    returns-13)
+    same-length-16
+    same-length-17
+    returns-13
+    same-length-18
+    same-length-19
+    same-length-20
+    returns-14
+    same-length-21
+    same-length-22
+    same-length-23
+    same-length-24
+    returns-15
+    same-length-25
+    returns-16)

@@ -1,0 +1,9 @@
+-- Before the first line no screen holds a job, and none was served. Assumes nothing.
+use mathlib.Core.Path.{_≡_}
+use Rattle.lent_engines.specs.Memory.{noScreens}
+use Rattle.lent_engines.proofs.Zeros.{zeros-hold-none}
+use Rattle.card.specs.Program.{atFirst}
+
+pub no-job-at-first : atFirst .engine .screens ≡ noScreens
+unfolding atFirst
+no-job-at-first = zeros-hold-none _

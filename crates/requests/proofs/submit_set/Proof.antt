@@ -1,0 +1,50 @@
+-- `requests::submit_set` meets its contract: each arm knows its case. Assumes nothing.
+use mathlib.Core.Path.{refl}
+use Rattle.requests.specs.Calls.{numberedSubmit}
+use borrow.Author.Needs.{needs}
+use Rattle.requests.proofs.submit_set.Statement.{statement}
+use Rattle.requests.proofs.submit_set.Tie as tie
+
+enum-known-set : tie.Need-enum-known-set
+enum-known-set c = search needs
+
+submit-requires : tie.Need-submit-requires
+submit-requires c κs = search needs
+
+enum-told : tie.Need-enum-told
+enum-told c = search needs
+
+no-call-requires : tie.Need-no-call-requires
+no-call-requires c κs = search needs
+
+same-length : tie.Need-same-length
+same-length c = search needs
+
+same-length-2 : tie.Need-same-length-2
+same-length-2 c = search needs
+
+returns : tie.Need-returns
+unfolding numberedSubmit
+returns c =
+    let w = c .before .before .before .before in
+    let told = w .before .before .before .before .set .given .1 in
+    rw told (record { answer = w .submit .ensures .answered; engine = w .submit .ensures .holds .held })
+
+returns-2 : tie.Need-returns-2
+unfolding numberedSubmit
+returns-2 c =
+    let told = c .before .enum-told .given .1 in
+    rw told (record { answer = c .no-call .ensures; engine = refl })
+
+pub submit-set-spec : {M : Type 1} → statement M
+submit-set-spec =
+    tie.close
+    (tie.spec
+    enum-known-set
+    submit-requires
+    enum-told
+    no-call-requires
+    same-length
+    same-length-2
+    returns
+    returns-2)
