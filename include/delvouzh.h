@@ -1,7 +1,7 @@
 /* Fin figures that are proved: the functions of libexports.a, which `rt staticlib exports` writes (x86-64 Linux).
  *
  * Lengths are metres, angles radians, figures f64. Every function but delvouzh_sqrt and delvouzh_most_samples returns 0, a step of a job also
- * DELVOUZH_MORE, or the number of a refusal:
+ * DELVOUZH_MORE, a turn of an engine also DELVOUZH_MORE or DELVOUZH_IDLE, or the number of a refusal:
  *
  *      1 limit not 1 to 64               7 outline touches itself       13 not converged
  *      2 scratch under 16 * limit        8 no area, or no volume
@@ -26,7 +26,8 @@
  *
  * What a caller owes, and nothing checks:
  *  - An array goes in as a pointer and how many numbers lie there. The pointer is never null, also where there are none; arrays that are
- *    written overlap no other. What they hold on entry, the scratch too, does not matter to an answer; but a job's memory is the job, and an engine's the engine.
+ *    written overlap no other. What they hold on entry, the scratch too, does not matter to an answer; but a job's memory is the job, and an engine's
+ *    the engine.
  *  - The floating-point environment is the one that a process starts with: rounding to nearest, subnormal numbers kept (no flushing to
  *    zero), exceptions masked. Linking with -ffast-math changes it before main; some libraries change it for their thread.
  *  - DELVOUZH_STACK bytes of stack for a call.
@@ -82,8 +83,14 @@ extern "C" {
 #define DELVOUZH_JOB_NUMBERS 159
 #define DELVOUZH_JOB_COUNTS 17
 
-/* What a step returns that has strips still to come; no refusal has this number. */
+/* The memory of an engine of eight screens, likewise; and the counts that a turn writes. */
+#define DELVOUZH_ENGINE_NUMBERS 1272
+#define DELVOUZH_ENGINE_COUNTS 145
+#define DELVOUZH_TURN_COUNTS 5
+
+/* What a step returns that has strips still to come, and a turn with no job; no refusal has these numbers. */
 #define DELVOUZH_MORE 1000
+#define DELVOUZH_IDLE 1001
 
 /* The bytes of an answer to a line: no answer has more. */
 #define DELVOUZH_ANSWER 320
@@ -133,6 +140,32 @@ size_t delvouzh_job_step(double *job_numbers, size_t job_numbers_len, size_t *jo
  * a job that has ended, and leaves the old one; its samples are those so far. Writes counts as delvouzh_job_step does. */
 size_t delvouzh_job_change_density(double *job_numbers, size_t job_numbers_len, size_t *job_counts, size_t job_counts_len,
                                    size_t density, double figure, size_t *counts, size_t counts_len);
+
+/* An engine of eight screens, 1 to 8, each of which may hold one job. It lies in `engine_numbers` and `engine_counts`, which are lent to every call on
+ * it as the one before left them; memory of zeros is an engine with no job, none served.
+ *
+ * Makes such an engine of any memory. Returns 0. */
+size_t delvouzh_engine_clear(size_t *engine_counts, size_t engine_counts_len);
+
+/* Submits a set to a screen, as delvouzh_job_make takes it. Returns 0 where its job is taken; 23 is a screen that is not 1 to 8 or already holds a
+ * job, before anything else but 18. A refused submission changes nothing. Writes two values of a refusal. */
+size_t delvouzh_engine_submit(size_t screen, size_t limit, size_t count, size_t planform, const double *lengths,
+                              size_t lengths_len, size_t section, size_t tab, size_t density, const double *figures,
+                              size_t figures_len, size_t fillet, const double *glue, size_t glue_len, double *engine_numbers,
+                              size_t engine_numbers_len, size_t *engine_counts, size_t engine_counts_len, size_t *values,
+                              size_t values_len);
+
+/* Works one strip for the next screen with a job, in ascending order from the one after the last served, wrapping round. Returns what that job's
+ * delvouzh_job_step would, and DELVOUZH_IDLE where no screen holds a job; a job that has ended frees its screen. A scratch under 1,024 numbers is 2, with
+ * no samples, and changes nothing. Writes a body and counts as delvouzh_job_step does, and behind the counts the screen served, 0 for none. */
+size_t delvouzh_engine_turn(double *engine_numbers, size_t engine_numbers_len, size_t *engine_counts, size_t engine_counts_len,
+                            double *scratch, size_t scratch_len, double *body, size_t body_len, size_t *counts,
+                            size_t counts_len);
+
+/* Another density for the job of a screen, as delvouzh_job_change_density; with no job there, or no such screen, 12 with no samples. */
+size_t delvouzh_engine_change_density(double *engine_numbers, size_t engine_numbers_len, size_t *engine_counts,
+                                      size_t engine_counts_len, size_t screen, size_t density, double figure, size_t *counts,
+                                      size_t counts_len);
 
 /* A planform's chords at a height in metres, which may be any number: the planform is checked as for its area. Writes start and end of each
  * chord over `ends`, which has room for DELVOUZH_CHORDS numbers, and leaves the rest of it, and with a refusal all of it, as it was; as

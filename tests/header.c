@@ -338,6 +338,97 @@ static void no_room_for_a_job(void) {
     holds("the job is as it was", at.number == DELVOUZH_MORE);
 }
 
+/* An engine's memory, with one place behind it that no call may write. */
+static double engine_numbers[DELVOUZH_ENGINE_NUMBERS + 1];
+static size_t engine_counts[DELVOUZH_ENGINE_COUNTS + 1], told[DELVOUZH_TURN_COUNTS];
+
+static void submit(size_t screen, size_t section, const double *figures) {
+    const double outline[8] = {0.0, 0.0, 0.05, 0.15, 0.15, 0.05, 0.2, 0.0};
+    at.number = delvouzh_engine_submit(screen, LIMIT, 3, DELVOUZH_OUTLINE, outline, 8, section, DELVOUZH_NO_TAB, DELVOUZH_BULK, figures, 5,
+                                       DELVOUZH_NO_FILLET, figures, 0, engine_numbers, DELVOUZH_ENGINE_NUMBERS + 1, engine_counts,
+                                       DELVOUZH_ENGINE_COUNTS + 1, at.counts, DELVOUZH_VALUES);
+}
+
+static void turn(size_t scratch_len) {
+    at.number = delvouzh_engine_turn(engine_numbers, DELVOUZH_ENGINE_NUMBERS + 1, engine_counts, DELVOUZH_ENGINE_COUNTS + 1, at.scratch, scratch_len,
+                                     at.numbers, DELVOUZH_BODY, told, DELVOUZH_TURN_COUNTS);
+}
+
+static void change_at(size_t screen, size_t density, double figure) {
+    at.number = delvouzh_engine_change_density(engine_numbers, DELVOUZH_ENGINE_NUMBERS + 1, engine_counts, DELVOUZH_ENGINE_COUNTS + 1, screen, density,
+                                               figure, at.counts, DELVOUZH_COUNTS);
+}
+
+/* A set of two strips on two of the eight screens, beside the same set in one run. */
+static void engine(void) {
+    const double outline[8] = {0.0, 0.0, 0.05, 0.15, 0.15, 0.05, 0.2, 0.0}, balsa[5] = {0.003, 0.0, 0.0, 0.05, 160.0}, thick[5] = {65.0, 0.0, 0.0, 0.05, 160.0};
+    struct lent whole;
+    lend(&whole, 7.0);
+    set_of(&whole, LIMIT, DELVOUZH_OUTLINE, outline, 8, balsa);
+    lend(&at, 7.0);
+    engine_numbers[DELVOUZH_ENGINE_NUMBERS] = 7.0;
+    engine_counts[DELVOUZH_ENGINE_COUNTS] = 99;
+    turn(SCRATCH);
+    holds("memory of zeros is idle", at.number == DELVOUZH_IDLE && told[4] == 0 && at.numbers[0] == 0.0);
+    turn(SCRATCH - 1);
+    holds("2 before idle", at.number == 2 && told[3] == 0 && told[4] == 0);
+    submit(0, DELVOUZH_SQUARE, FIGURES);
+    holds("no screen 0", refused(23, 0, 0));
+    submit(9, DELVOUZH_SQUARE, thick);
+    holds("no screen 9, before the set's refusal", refused(23, 0, 0));
+    submit(9, 5, FIGURES);
+    holds("18 of an unknown section, before 23", refused(18, 0, 0));
+    submit(2, DELVOUZH_SQUARE, thick);
+    holds("a refused submission", refused(4, 7, 0));
+    submit(2, DELVOUZH_SQUARE, FIGURES);
+    holds("it left the screen free", refused(0, 0, 0));
+    submit(2, DELVOUZH_SQUARE, FIGURES);
+    holds("which is busy now", refused(23, 0, 0));
+    submit(8, DELVOUZH_SQUARE, balsa);
+    holds("another screen", refused(0, 0, 0));
+    change_at(1, DELVOUZH_BULK, 160.0);
+    holds("12 with no job there", refused(12, 0, 0) && at.counts[3] == 0);
+    turn(SCRATCH);
+    holds("from screen 1 on", at.number == DELVOUZH_MORE && told[4] == 2);
+    turn(SCRATCH);
+    holds("then the next", at.number == DELVOUZH_MORE && told[4] == 8);
+    change_at(2, DELVOUZH_BULK, 160.0);
+    holds("another wood is taken", at.number == 0);
+    change_at(2, 4, 160.0);
+    holds("18 of an unknown density", refused(18, 0, 0));
+    lend(&at, 7.0);
+    turn(SCRATCH);
+    holds("a screen's job ends as a fresh run with the last wood",
+          at.number == 0 && told[4] == 2 && memcmp(at.numbers, whole.numbers, sizeof at.numbers) == 0 && memcmp(told, whole.counts, sizeof whole.counts) == 0);
+    change_at(2, DELVOUZH_BULK, 160.0);
+    holds("the screen is freed", refused(12, 0, 0) && at.counts[3] == 0);
+    turn(SCRATCH);
+    holds("the other one", at.number == 0 && told[4] == 8 && memcmp(at.numbers, whole.numbers, sizeof at.numbers) == 0);
+    submit(1, DELVOUZH_SQUARE, FIGURES);
+    holds("cleared", delvouzh_engine_clear(engine_counts, DELVOUZH_ENGINE_COUNTS + 1) == 0);
+    turn(SCRATCH);
+    holds("it holds no job", at.number == DELVOUZH_IDLE);
+    holds("nothing behind the memory is written", engine_numbers[DELVOUZH_ENGINE_NUMBERS] == 7.0 && engine_counts[DELVOUZH_ENGINE_COUNTS] == 99);
+}
+
+/* No room for an engine, or for a turn's answer: 18, and nothing at all is written. */
+static void no_room_for_an_engine(void) {
+    submit(1, DELVOUZH_SQUARE, FIGURES);
+    lend(&at, 7.0);
+    at.number = delvouzh_engine_turn(engine_numbers, DELVOUZH_ENGINE_NUMBERS - 1, engine_counts, DELVOUZH_ENGINE_COUNTS, at.scratch, SCRATCH, at.numbers,
+                                     DELVOUZH_BODY, told, DELVOUZH_TURN_COUNTS);
+    holds("no room for an engine's numbers", at.number == 18 && left_alone());
+    at.number = delvouzh_engine_turn(engine_numbers, DELVOUZH_ENGINE_NUMBERS, engine_counts, DELVOUZH_ENGINE_COUNTS - 1, at.scratch, SCRATCH, at.numbers,
+                                     DELVOUZH_BODY, told, DELVOUZH_TURN_COUNTS);
+    holds("no room for an engine's counts", at.number == 18 && left_alone());
+    at.number = delvouzh_engine_turn(engine_numbers, DELVOUZH_ENGINE_NUMBERS, engine_counts, DELVOUZH_ENGINE_COUNTS, at.scratch, SCRATCH, at.numbers,
+                                     DELVOUZH_BODY, told, DELVOUZH_TURN_COUNTS - 1);
+    holds("no room for a turn's counts", at.number == 18 && left_alone());
+    holds("no room to clear", delvouzh_engine_clear(engine_counts, DELVOUZH_ENGINE_COUNTS - 1) == 18);
+    turn(SCRATCH);
+    holds("the engine is as it was", at.number == DELVOUZH_MORE && told[4] == 1);
+}
+
 static void *turns(void *same) {
     struct lent own;
     *(int *)same = 1;
@@ -366,6 +457,9 @@ static void call_area(void) { area_of(&at, DELVOUZH_ELLIPSE, ELLIPSE, 2); }
 static void call_make(void) { make_job(DELVOUZH_SQUARE, FIGURES); }
 static void call_step(void) { step_job(SCRATCH); }
 static void call_change(void) { change_job(DELVOUZH_BULK, 160.0); }
+static void call_submit(void) { submit(3, DELVOUZH_SQUARE, FIGURES); }
+static void call_turn(void) { turn(SCRATCH); }
+static void call_change_at(void) { change_at(3, DELVOUZH_BULK, 160.0); }
 static void call_join(void) { at.number = delvouzh_combine(at.scratch, 32 * DELVOUZH_BODY, at.numbers, DELVOUZH_BODY); }
 static void call_check(void) { at.number = delvouzh_check(at.scratch, DELVOUZH_BODY, at.counts, DELVOUZH_VALUES); }
 
@@ -389,7 +483,7 @@ static size_t stack_of(void (*call)(void)) {
 }
 
 static void stacks(void) {
-    void (*const calls[])(void) = {call_set, call_make, call_change, call_step, call_area, call_join, call_check, call_line, call_long_line};
+    void (*const calls[])(void) = {call_set, call_make, call_change, call_step, call_submit, call_change_at, call_turn, call_area, call_join, call_check, call_line, call_long_line};
     size_t most = 0;
     memset(long_set, ' ', sizeof long_set - 1);
     memcpy(long_set, SET, sizeof SET - 1);
@@ -410,6 +504,8 @@ int main(void) {
     no_room();
     jobs();
     no_room_for_a_job();
+    engine();
+    no_room_for_an_engine();
     scratches();
     threads();
     stacks();

@@ -4,12 +4,12 @@
 //! angles radians. Calls keep nothing but what a `Job` or an `Engine` holds, and may run on several threads; the floating-point environment has to be the one that a process
 //! starts with (rounding to nearest, no flushing to zero), and a call needs the stack that include/delvouzh.h names.
 
-mod engine;
+mod engines;
 mod jobs;
 mod raw;
 mod refusals;
 
-pub use engine::Engine;
+pub use engines::{Engine, Turn};
 pub use jobs::{Job, Step};
 pub use refusals::{Error, Refusal, RunError, TensorFault};
 

@@ -33,7 +33,11 @@ pub const VALUES: usize = 2;
 pub const WRITTEN: usize = 1;
 pub const JOB_NUMBERS: usize = 159;
 pub const JOB_COUNTS: usize = 17;
+pub const ENGINE_NUMBERS: usize = 1272;
+pub const ENGINE_COUNTS: usize = 145;
+pub const TURN_COUNTS: usize = 5;
 pub const MORE: usize = 1000;
+pub const IDLE: usize = 1001;
 pub const ANSWER: usize = 320;
 pub const ENGINE_NUMBERS: usize = 1272;
 pub const ENGINE_COUNTS: usize = 145;
@@ -101,6 +105,56 @@ extern "C" {
         job_numbers_len: usize,
         job_counts: *mut usize,
         job_counts_len: usize,
+        density: usize,
+        figure: f64,
+        counts: *mut usize,
+        counts_len: usize,
+    ) -> usize;
+
+    pub fn delvouzh_engine_clear(engine_counts: *mut usize, engine_counts_len: usize) -> usize;
+
+    pub fn delvouzh_engine_submit(
+        screen: usize,
+        limit: usize,
+        count: usize,
+        planform: usize,
+        lengths: *const f64,
+        lengths_len: usize,
+        section: usize,
+        tab: usize,
+        density: usize,
+        figures: *const f64,
+        figures_len: usize,
+        fillet: usize,
+        glue: *const f64,
+        glue_len: usize,
+        engine_numbers: *mut f64,
+        engine_numbers_len: usize,
+        engine_counts: *mut usize,
+        engine_counts_len: usize,
+        values: *mut usize,
+        values_len: usize,
+    ) -> usize;
+
+    pub fn delvouzh_engine_turn(
+        engine_numbers: *mut f64,
+        engine_numbers_len: usize,
+        engine_counts: *mut usize,
+        engine_counts_len: usize,
+        scratch: *mut f64,
+        scratch_len: usize,
+        body: *mut f64,
+        body_len: usize,
+        counts: *mut usize,
+        counts_len: usize,
+    ) -> usize;
+
+    pub fn delvouzh_engine_change_density(
+        engine_numbers: *mut f64,
+        engine_numbers_len: usize,
+        engine_counts: *mut usize,
+        engine_counts_len: usize,
+        screen: usize,
         density: usize,
         figure: f64,
         counts: *mut usize,

@@ -1,7 +1,7 @@
 // What C and Rust link (include/delvouzh.h): each function under its plain name, over numbers and slices alone.
 //
 // A call returns 0, or the number of the refusal, and writes its figures and counts over the start of lent slices; a refusal writes
-// zero figures, but of chords none. Only the root returns its f64, the most samples their number, and a step of a job 1000 where more strips remain; a line is
+// zero figures, but of chords none. Only the root returns its f64, the most samples their number, and a step of a job 1000 where more strips remain, a turn with no job 1001; a line is
 // answered, by 0, also where the answer's text is a refusal. A planform, a
 // section, a tab and a density cross as a number, with their figures in a slice: an unknown number, or figures of another count, are 18
 // (no form); but points that are not 3 to 64 pairs are 5, and bodies that are not 1 to 32 whole ones are 3. A lent slice that is too short
@@ -20,8 +20,11 @@ ghost use Rattle.exports.specs.Sets.{crossedSet};
 ghost use Rattle.exports.specs.Numbers.{numberIn, valuesIn, over, withValues, withCount, withCounts};
 ghost use Rattle.exports.specs.Calls.{SetCall, AreaCall, ChordsCall, DrillCall, RingCall, BodyCall, ClosingCall, JoinCall, MomentsCall, CheckCall, LineCall};
 ghost use Rattle.exports.specs.JobCalls.{answerNumber, MakeCall, StepCall, ChangeCall};
+ghost use Rattle.exports.specs.EngineCalls.{toldNumber, ClearCall, SubmitCall, TurnCall, DensityCall};
 use answers::ANSWER_BYTES;
 use bodies::BODY_NUMBERS;
+use engines::Service;
+use engines::Told;
 use fins::NumberedSet;
 use jobs::Answer;
 use jobs::Reply;
@@ -328,6 +331,158 @@ pub extern "C" fn delvouzh_job_change_density(
         return NO_FORM;
     };
     let answer = lent_jobs::change_density(job_numbers, job_counts, density);
+    let found = answer.figures;
+    let verdict = found.verdict;
+    write_counts(counts, verdict, found.intervals, found.samples);
+    answer_number(answer)
+}
+
+// The number of an idle turn, over all of the refusals'.
+const IDLE: usize = 1001;
+
+// The number that a turn crosses as.
+fn told_number(told: Told) -> usize
+    ensures { λ r. ⌜ r ≡ toldNumber told ⌝ }
+{
+    let service = told.service;
+    let answer = told.answer;
+    match service {
+        Service::Short => answer_number(answer),
+        Service::Idle => IDLE,
+        Service::Step => answer_number(answer),
+    }
+}
+
+// Clears an engine's memory: no screen holds a job, and none was served.
+#[no_mangle]
+pub extern "C" fn delvouzh_engine_clear(engine_counts: &mut [usize]) -> usize
+    ensures { λ r. ⌜ ClearCall (now («engine_counts» .entry)) r (now («engine_counts» .exit)) ⌝ }
+{
+    if engine_counts.len() < ENGINE_COUNTS {
+        return NO_FORM;
+    }
+    lent_engines::clear(engine_counts);
+    0
+}
+
+// Submits a set to a screen, 1 to 8, of the engine there: 0 where its job is taken; else nothing changes. Writes two values of a refusal.
+#[no_mangle]
+pub extern "C" fn delvouzh_engine_submit(
+    screen: usize,
+    limit: usize,
+    count: usize,
+    planform: usize,
+    lengths: &[f64],
+    section: usize,
+    tab: usize,
+    density: usize,
+    figures: &[f64],
+    fillet: usize,
+    glue: &[f64],
+    engine_numbers: &mut [f64],
+    engine_counts: &mut [usize],
+    values: &mut [usize],
+) -> usize
+    ensures { λ r. ⌜ SubmitCall (now («engine_numbers» .entry)) (now («engine_counts» .entry)) screen
+        (crossedSet count planform (now (lengths .entry)) section tab density (now (figures .entry)) fillet (now (glue .entry))) (now (lengths .entry)) limit
+        (now (values .entry)) r (now («engine_numbers» .exit)) (now («engine_counts» .exit)) (now (values .exit)) ⌝ }
+{
+    if engine_numbers.len() < ENGINE_NUMBERS {
+        return NO_FORM;
+    }
+    if engine_counts.len() < ENGINE_COUNTS {
+        return NO_FORM;
+    }
+    if values.len() < 2 {
+        return NO_FORM;
+    }
+    let asked = crossed_set(
+        count,
+        planform,
+        lengths,
+        section,
+        tab,
+        density,
+        figures,
+        fillet,
+        glue,
+    );
+    let NumberedSet::Known(set) = asked else {
+        write_values(values, Verdict::Refused(Refusal::NoForm));
+        return NO_FORM;
+    };
+    let answer = lent_engines::submit(engine_numbers, engine_counts, screen, set, lengths, limit);
+    let found = answer.figures;
+    let verdict = found.verdict;
+    write_values(values, verdict);
+    answer_number(answer)
+}
+
+// One turn of the engine there, over a lent scratch of at least 1,024 numbers: 1001 where no screen holds a job, 1000 where more strips remain of the job
+// served, else the figures or the refusal that it has ended with. Writes the body's numbers, the counts, and behind them the screen served, or 0.
+#[no_mangle]
+pub extern "C" fn delvouzh_engine_turn(
+    engine_numbers: &mut [f64],
+    engine_counts: &mut [usize],
+    scratch: &mut [f64],
+    body: &mut [f64],
+    counts: &mut [usize],
+) -> usize
+    ensures { λ r. ⌜ TurnCall (now («engine_numbers» .entry)) (now («engine_counts» .entry))
+        (now (scratch .entry)) (now (body .entry)) (now (counts .entry))
+        r (now («engine_numbers» .exit)) (now («engine_counts» .exit)) (now (scratch .exit)) (now (body .exit)) (now (counts .exit)) ⌝ }
+{
+    if engine_numbers.len() < ENGINE_NUMBERS {
+        return NO_FORM;
+    }
+    if engine_counts.len() < ENGINE_COUNTS {
+        return NO_FORM;
+    }
+    if body.len() < BODY_NUMBERS {
+        return NO_FORM;
+    }
+    if counts.len() < 5 {
+        return NO_FORM;
+    }
+    let told = lent_engines::turn(engine_numbers, engine_counts, scratch);
+    let answer = told.answer;
+    let found = answer.figures;
+    let verdict = found.verdict;
+    let of_job = found.body;
+    joins::write_body(body, 0, of_job);
+    write_counts(counts, verdict, found.intervals, found.samples);
+    counts[4] = told.screen;
+    told_number(told)
+}
+
+// Another density for the job of a screen: 0 where it is taken, or 12. Writes the counts, with 12 the samples so far.
+#[no_mangle]
+pub extern "C" fn delvouzh_engine_change_density(
+    engine_numbers: &mut [f64],
+    engine_counts: &mut [usize],
+    screen: usize,
+    density: usize,
+    figure: f64,
+    counts: &mut [usize],
+) -> usize
+    ensures { λ r. ⌜ DensityCall (now («engine_numbers» .entry)) (now («engine_counts» .entry)) (numberedDensity density figure) screen (now (counts .entry))
+        r (now («engine_numbers» .exit)) (now («engine_counts» .exit)) (now (counts .exit)) ⌝ }
+{
+    if engine_numbers.len() < ENGINE_NUMBERS {
+        return NO_FORM;
+    }
+    if engine_counts.len() < ENGINE_COUNTS {
+        return NO_FORM;
+    }
+    if counts.len() < 4 {
+        return NO_FORM;
+    }
+    let asked = materials::numbered_density(density, figure);
+    let NumberedDensity::Known(density) = asked else {
+        write_counts(counts, Verdict::Refused(Refusal::NoForm), 0, 0);
+        return NO_FORM;
+    };
+    let answer = lent_engines::change_density(engine_numbers, engine_counts, screen, density);
     let found = answer.figures;
     let verdict = found.verdict;
     write_counts(counts, verdict, found.intervals, found.samples);

@@ -1,0 +1,144 @@
+//! Eight screens, one engine: each screen may hold one job, and a turn works one strip for the next of them.
+
+use crate::{raw, Body, Density, Error, Figures, FinSet, RunError};
+
+/// What a turn did.
+#[derive(Debug, Clone, Copy, PartialEq)]
+pub enum Turn {
+    /// No screen holds a job.
+    Idle,
+    /// A strip was worked for this screen, and strips of its job are still to come.
+    More { screen: usize },
+    /// The job of this screen has ended, with figures or refused, and has freed it.
+    Done {
+        screen: usize,
+        answer: Result<Figures, RunError>,
+    },
+}
+
+/// An engine of eight screens, 1 to 8: the memory that the library's calls are lent. Every call gets it as the one before left it, since it is
+/// borrowed mutably.
+#[derive(Debug, Clone)]
+pub struct Engine {
+    pub(crate) numbers: [f64; raw::ENGINE_NUMBERS],
+    pub(crate) counts: [usize; raw::ENGINE_COUNTS],
+}
+
+impl Default for Engine {
+    fn default() -> Self {
+        Self::new()
+    }
+}
+
+impl Engine {
+    /// An engine with no job; the first turn looks from screen 1.
+    pub fn new() -> Self {
+        Self {
+            numbers: [0.0; raw::ENGINE_NUMBERS],
+            counts: [0; raw::ENGINE_COUNTS],
+        }
+    }
+
+    /// No screen holds a job from here on, and none was served.
+    pub fn clear(&mut self) {
+        unsafe { raw::delvouzh_engine_clear(self.counts.as_mut_ptr(), self.counts.len()) };
+    }
+
+    /// Submits a set to a screen with at most `limit` intervals a strip. A screen that is not 1 to 8 or holds a job is refused before anything else; a
+    /// refused submission changes nothing.
+    pub fn submit(&mut self, screen: usize, set: &FinSet, limit: usize) -> Result<(), Error> {
+        let mut short = [0.0; 4];
+        let (planform, lengths) = set.planform.crossing(&mut short);
+        let (density, value) = set.density.crossing();
+        let mut figures = [0.0; 8];
+        let (tab, figures) = set.crossing(value, &mut figures);
+        let mut glue = [0.0; 2];
+        let (fillet, glue) = set.glue_crossing(&mut glue);
+        let mut values = [0; raw::VALUES];
+        let number = unsafe {
+            raw::delvouzh_engine_submit(
+                screen,
+                limit,
+                set.count,
+                planform,
+                lengths.as_ptr(),
+                lengths.len(),
+                set.section.crossing(),
+                tab,
+                density,
+                figures.as_ptr(),
+                figures.len(),
+                fillet,
+                glue.as_ptr(),
+                glue.len(),
+                self.numbers.as_mut_ptr(),
+                self.numbers.len(),
+                self.counts.as_mut_ptr(),
+                self.counts.len(),
+                values.as_mut_ptr(),
+                values.len(),
+            )
+        };
+        Error::unless_zero(number, values)
+    }
+
+    /// Works one strip for the next screen with a job, in ascending order from the one after the last served, wrapping round. A scratch of fewer than
+    /// 1,024 numbers is refused, and then nothing changes.
+    pub fn turn(&mut self, scratch: &mut [f64]) -> Result<Turn, RunError> {
+        let mut body = [0.0; raw::BODY];
+        let mut counts = [0; raw::TURN_COUNTS];
+        let number = unsafe {
+            raw::delvouzh_engine_turn(
+                self.numbers.as_mut_ptr(),
+                self.numbers.len(),
+                self.counts.as_mut_ptr(),
+                self.counts.len(),
+                scratch.as_mut_ptr(),
+                scratch.len(),
+                body.as_mut_ptr(),
+                body.len(),
+                counts.as_mut_ptr(),
+                counts.len(),
+            )
+        };
+        let [first, second, intervals, samples, screen] = counts;
+        if number == raw::IDLE {
+            return Ok(Turn::Idle);
+        }
+        if number == raw::MORE {
+            return Ok(Turn::More { screen });
+        }
+        let refused = RunError::unless_zero(number, [first, second], samples);
+        if screen == 0 {
+            refused?;
+        }
+        let body = Body::from_numbers(body);
+        let answer = refused.map(|()| Figures {
+            body,
+            intervals,
+            samples,
+        });
+        Ok(Turn::Done { screen, answer })
+    }
+
+    /// Another density for the plates of a screen's job; a refused one leaves the old one.
+    pub fn change_density(&mut self, screen: usize, density: Density) -> Result<(), RunError> {
+        let (density, value) = density.crossing();
+        let mut counts = [0; raw::COUNTS];
+        let number = unsafe {
+            raw::delvouzh_engine_change_density(
+                self.numbers.as_mut_ptr(),
+                self.numbers.len(),
+                self.counts.as_mut_ptr(),
+                self.counts.len(),
+                screen,
+                density,
+                value,
+                counts.as_mut_ptr(),
+                counts.len(),
+            )
+        };
+        let [first, second, _, samples] = counts;
+        RunError::unless_zero(number, [first, second], samples)
+    }
+}
