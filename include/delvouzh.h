@@ -83,7 +83,7 @@ extern "C" {
 #define DELVOUZH_JOB_NUMBERS 159
 #define DELVOUZH_JOB_COUNTS 17
 
-/* The memory of an engine of eight screens, likewise; and the counts that a turn writes. */
+/* The memory of an engine of eight screens, likewise, where zeros are one with no job; and the counts that a turn writes. */
 #define DELVOUZH_ENGINE_NUMBERS 1272
 #define DELVOUZH_ENGINE_COUNTS 145
 #define DELVOUZH_TURN_COUNTS 5
@@ -94,10 +94,6 @@ extern "C" {
 
 /* The bytes of an answer to a line: no answer has more. */
 #define DELVOUZH_ANSWER 320
-
-/* The numbers and counts of an engine of eight screens. Zeros are one with no job. */
-#define DELVOUZH_ENGINE_NUMBERS 1272
-#define DELVOUZH_ENGINE_COUNTS 145
 
 /* The bytes of stack that are enough for any call. The longest chain of frames in the library's code takes half of them: tests/header. */
 #define DELVOUZH_STACK 98304

@@ -39,8 +39,6 @@ pub const TURN_COUNTS: usize = 5;
 pub const MORE: usize = 1000;
 pub const IDLE: usize = 1001;
 pub const ANSWER: usize = 320;
-pub const ENGINE_NUMBERS: usize = 1272;
-pub const ENGINE_COUNTS: usize = 145;
 
 extern "C" {
     pub fn delvouzh_mass_properties(
