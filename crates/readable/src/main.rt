@@ -1,14 +1,7 @@
-// Answers of the card program as cards to read: `card < lines | readable`. One block a line: mass in g, lengths in mm, moments in kg·m² to six significant
-// digits (`significant`), a refusal as the sentence that docs/FORMS.md has for its number.
-//
-// Every input ends, whatever its bytes: a line that is no answer says so, and one of more than 512 bytes is none. What is promised is that, and
-// the digits (`significant::put_decimal`); that a block is the right one for its answer is run and compared.
-mod answers_read;
-mod blocks;
-mod refusals_said;
-
+// Answers of the card program as cards to read: `card < lines | readable`. One block a line, which `blocks` makes; every input ends, whatever its bytes.
 ghost use Prim.Native.Nat.{_≤_};
 ghost use lib.ListN.{length};
+ghost use Rattle.blocks.specs.Cards.{BlockFits};
 use libc::STDIN_FILENO;
 use libc::STDOUT_FILENO;
 
@@ -17,7 +10,7 @@ const TURNS: u64 = 18446744073709551615;
 
 // Shows the line that is kept, which is at its end.
 fn end_line(line: &[u8], kept: usize, out: &mut [u8])
-    requires { ⌜ kept ≤ length (now line) ⌝ }
+    requires { ⌜ (kept ≤ length (now line)) × BlockFits (now out) ⌝ }
 {
     let n = blocks::put_block(out, &line[..kept]);
     io::write_all(STDOUT_FILENO, &out[..n]);
@@ -25,7 +18,7 @@ fn end_line(line: &[u8], kept: usize, out: &mut [u8])
 
 // One byte of the input. A line that the buffer cannot hold is no answer, as its last byte is kept by none.
 fn take_byte(line: &mut [u8], kept: usize, b: u8, out: &mut [u8]) -> usize
-    requires { ⌜ kept ≤ length (now line) ⌝ }
+    requires { ⌜ (kept ≤ length (now line)) × BlockFits (now out) ⌝ }
     ensures { λ r. ⌜ r ≤ length (now (line .entry)) ⌝ }
 {
     if b == 10 {
@@ -40,7 +33,7 @@ fn take_byte(line: &mut [u8], kept: usize, b: u8, out: &mut [u8]) -> usize
 }
 
 fn take_chunk(line: &mut [u8], kept: usize, chunk: &[u8], out: &mut [u8]) -> usize
-    requires { ⌜ kept ≤ length (now line) ⌝ }
+    requires { ⌜ (kept ≤ length (now line)) × BlockFits (now out) ⌝ }
     ensures { λ r. ⌜ r ≤ length (now (line .entry)) ⌝ }
 {
     let mut more = kept;
@@ -53,7 +46,9 @@ fn take_chunk(line: &mut [u8], kept: usize, chunk: &[u8], out: &mut [u8]) -> usi
 }
 
 // All of the input; a line without a newline at its end is a line.
-fn run(chunk: &mut [u8], line: &mut [u8], out: &mut [u8]) {
+fn run(chunk: &mut [u8], line: &mut [u8], out: &mut [u8])
+    requires { ⌜ BlockFits (now out) ⌝ }
+{
     let mut kept: usize = 0;
     let mut turns = TURNS;
     while turns > 0 {

@@ -3,3 +3,4 @@ pub mod Rounding
 pub mod Exact
 pub mod Laws
 pub mod Counted
+pub mod Fits

@@ -290,7 +290,7 @@ fn with_number(c: Cursor, number: usize) -> Cursor
 }
 
 // The first bar from i on, or the end.
-fn bar_end(alternatives: &[u8], i: usize) -> usize
+pub fn bar_end(alternatives: &[u8], i: usize) -> usize
     requires { ⌜ i ≤ length (now alternatives) ⌝ }
     ensures { λ r. ⌜ IsBarEnd (now (alternatives .entry)) i r ⌝ }
 {

@@ -14,7 +14,7 @@ pub struct Found {
     pub to: usize,
 }
 
-fn ends_word(b: u8) -> bool
+pub fn ends_word(b: u8) -> bool
     ensures { λ r. ⌜ r ≡ endsWord b ⌝ }
 {
     if b == 32 {

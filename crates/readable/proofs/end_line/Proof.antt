@@ -1,6 +1,9 @@
 -- `readable::end_line` meets its contract: what is kept and what is put are within their buffers. Assumes nothing.
 use native.Mathlib.Omega.{arith}
+use mathlib.Core.Path.{sym}
 use lib.ListN.{length-take}
+use lib.Seq.{length-take-le}
+use Rattle.readable.proofs.Within.{within}
 use borrow.Author.Needs.{needs}
 use Rattle.readable.proofs.end_line.Statement.{statement}
 use Rattle.readable.proofs.end_line.Tie as tie
@@ -12,10 +15,10 @@ put-block-requires : tie.Need-put-block-requires
 put-block-requires c κs = search needs
 
 slice-reshare-prefix-write-all : tie.Need-slice-reshare-prefix-write-all
-slice-reshare-prefix-write-all c = search needs
+slice-reshare-prefix-write-all c = within (c .before .before .put-block .ensures) (omega arith)
 
 slice-aggregate-write-all : tie.Need-slice-aggregate-write-all
-slice-aggregate-write-all c = simp length-take (omega arith)
+slice-aggregate-write-all c = let p = c .before .before .before in sym (length-take-le (p .put-block .result) (p .put-block .last .0) (within (p .put-block .ensures) (omega arith)))
 
 write-all-requires : tie.Need-write-all-requires
 write-all-requires c κs = search needs

@@ -1,0 +1,201 @@
+-- A text of a table, or another where there is none; and how long the texts are. Assumes nothing.
+use mathlib.Core.List.{List, [], _∷_, _++_}
+use mathlib.Core.Bool.{Bool, true, false, _&&_, cond}
+use mathlib.Core.Path.{_≡_, refl, sym, ap, subst, _∙_}
+use Prim.Native.Nat.{ℕ, _+_, _<_, _≤_}
+use native.Mathlib.Omega.{arith}
+use borrow.Author.Tests.{le-leb, lt-leb}
+use lib.Dec.{T, eqb, leb, leb→le}
+use lib.ListN.{length, take, length-append}
+use lib.Ieee.{Float}
+use lib.Ieee.Fits.{and-l, and-r}
+use Rattle.texts.specs.Appended.{Appended}
+use Rattle.texts.proofs.Appending.{then}
+use Rattle.tokens.specs.Text.{text, codes}
+use Rattle.counts.specs.Counts.{countText}
+use Rattle.counts.proofs.Printing.{twenty}
+use Rattle.templates.specs.Matching.{sameBytes, cutAtBars}
+use Rattle.blocks.specs.declared.words.Read.{Read}
+use Rattle.blocks.specs.Words.{shapeIn, figuresIn, countsIn}
+use Rattle.blocks.specs.Steps.{IsRead}
+use Rattle.blocks.specs.Tables.{textFor, withBars, noBar, noBars}
+use Rattle.blocks.specs.Filled.{ofFirst, plainPiece, plain, filled, room, plainMost}
+use Rattle.blocks.specs.Cards.{all, newline, orElse, sentences, refusalText, bodyFigures, bodyLines, cardPiece, cardMost, card, cards, noAnswer, shown, blockOf}
+use Rattle.blocks.proofs.Bars.{cut-into}
+use Rattle.blocks.proofs.Pieces.{plain-fits}
+use Rattle.blocks.proofs.Whole.{filled-fits}
+
+-- ---- a text, or another
+
+some-text : (t other : List ℕ) → 0 < length t → orElse t other ≡ t
+some-text t other h = ap (λ (c : Bool). cond c t other) (le-leb 1 (length t) h)
+
+no-text : (t other : List ℕ) → length t ≡ 0 → orElse t other ≡ other
+no-text t other h = ap (λ (c : Bool). cond c t other) (lt-leb 1 (length t) (omega (arith, h)))
+
+module _ (out after p t other : List ℕ) (n r : ℕ) (e : p ≡ t) where
+  pub text-found : 0 < length p → Appended out n p after r → Appended out n (orElse t other) after r
+  text-found h a = subst (λ (x : List ℕ). Appended out n x after r) (e ∙ sym (some-text t other (subst (λ (x : List ℕ). 0 < length x) e h))) a
+
+  pub text-none : length p ≡ 0 → Appended out n other after r → Appended out n (orElse t other) after r
+  text-none h a = subst (λ (x : List ℕ). Appended out n x after r) (sym (no-text t other (ap length (sym e) ∙ h))) a
+
+-- ---- what holds of every text of a table holds of the one that is found
+
+abbrev each : (List ℕ → Bool) → List (List ℕ) → Bool
+each f [] = true
+each f (t ∷ ts) = f t && each f ts
+
+at-most : (m : List ℕ → ℕ) (k : ℕ) (key : List ℕ) (ts : List (List ℕ)) → m [] ≤ k → T (each (λ t. leb (m t) k) ts) → m (textFor key ts) ≤ k
+unfolding textFor
+at-most m k key [] o h = o
+at-most m k key (s ∷ []) o h = o
+at-most m k key (s ∷ t ∷ ts) o h = by (sameBytes key s) (at-most m k key ts o)
+  where
+    behind : T (leb (m t) k && each (λ t. leb (m t) k) ts)
+    behind = and-r (leb (m s) k) (leb (m t) k && each (λ t. leb (m t) k) ts) h
+
+    by : (c : Bool) → (T (each (λ t. leb (m t) k) ts) → m (textFor key ts) ≤ k) → m (cond c t (textFor key ts)) ≤ k
+    by true f = leb→le (m t) k (and-l (leb (m t) k) (each (λ t. leb (m t) k) ts) behind)
+    by false f = f (and-r (leb (m t) k) (each (λ t. leb (m t) k) ts) behind)
+
+-- ---- the sentences
+
+sentences-cut : cutAtBars (withBars sentences) ≡ sentences
+unfolding sentences text codes
+sentences-cut = cut-into _ _ tt
+
+sentence-short : (key : List ℕ) → length (textFor key sentences) ≤ 150
+unfolding sentences text codes
+sentence-short key = at-most length 150 key sentences (omega arith) tt
+
+module _ (table key : List ℕ) (e : table ≡ withBars sentences) where
+  cut : cutAtBars table ≡ sentences
+  cut = ap cutAtBars e ∙ sentences-cut
+
+  pub short-in-table : length (textFor key (cutAtBars table)) ≤ 150
+  short-in-table = subst (λ (ts : List (List ℕ)). length (textFor key ts) ≤ 150) (sym cut) (sentence-short key)
+
+  pub said : (out after other : List ℕ) (n r : ℕ) → Appended out n (orElse (textFor key (cutAtBars table)) other) after r → Appended out n (orElse (textFor key sentences) other) after r
+  said out after other n r a = subst (λ (ts : List (List ℕ)). Appended out n (orElse (textFor key ts) other) after r) cut a
+
+sentence-or-none : (key : List ℕ) → length (orElse (textFor key sentences) (text "no number of the table")) ≤ 150
+unfolding text codes
+sentence-or-none key = by (leb 1 (length (textFor key sentences)))
+  where
+    none : length (text "no number of the table") ≤ 150
+    none = omega arith
+
+    by : (c : Bool) → length (cond c (textFor key sentences) (text "no number of the table")) ≤ 150
+    by true = sentence-short key
+    by false = none
+
+pub refusal-fits : (n : ℕ) → length (refusalText n) ≤ 180
+unfolding text codes
+refusal-fits n =
+    let a = length-append (countText n) (text ": " ++ orElse (textFor (countText n) sentences) (text "no number of the table")) in
+    let t = twenty n in
+    let s = sentence-or-none (countText n) in
+    omega (arith, a, t, s)
+
+-- ---- blocks
+
+body-room : room plainMost bodyLines ≤ 430
+unfolding bodyLines room text codes
+body-room = leb→le (room plainMost bodyLines) 430 tt
+
+-- the same of the code's text
+pub body-text-room : (template : List ℕ) → template ≡ bodyLines → room plainMost template ≤ 430
+body-text-room template e = subst (λ (t : List ℕ). room plainMost t ≤ 430) (sym e) body-room
+
+body-fits : (figures : List Float) → length (filled plain bodyLines (bodyFigures figures) []) ≤ 430
+body-fits figures = let h = filled-fits plain plainMost plain-fits bodyLines (bodyFigures figures) [] in let k = body-room in omega (arith, h, k)
+
+pub card-fits : (b : ℕ) (figures : List Float) (counts : List ℕ) → length (cardPiece b figures counts) ≤ cardMost b
+card-fits b figures counts = by (eqb b 66) (eqb b 82) counts
+  where
+    by : (s t : Bool) (counts : List ℕ) → length (cond s (filled plain bodyLines (bodyFigures figures) []) (cond t (ofFirst refusalText counts) (plainPiece b figures counts))) ≤ cond s 430 (cond t 180 (plainMost b))
+    by true t counts = body-fits figures
+    by false true [] = omega arith
+    by false true (n ∷ ns) = refusal-fits n
+    by false false counts = plain-fits b figures counts
+
+cards-cut : cutAtBars (withBars cards) ≡ cards
+unfolding cards text codes
+cards-cut = cut-into _ _ tt
+
+card-room : (key : List ℕ) → room cardMost (textFor key cards) ≤ 1000
+unfolding cards room text codes
+card-room key = at-most (room cardMost) 1000 key cards (omega arith) tt
+
+module _ (table key : List ℕ) (e : table ≡ withBars cards) where
+  cards-in : cutAtBars table ≡ cards
+  cards-in = ap cutAtBars e ∙ cards-cut
+
+  pub room-in-table : room cardMost (textFor key (cutAtBars table)) ≤ 1000
+  room-in-table = subst (λ (ts : List (List ℕ)). room cardMost (textFor key ts) ≤ 1000) (sym cards-in) (card-room key)
+
+  pub shown-from : (out after : List ℕ) (figures : List Float) (counts : List ℕ) (r : ℕ)
+      → Appended out 0 (orElse (filled card (textFor key (cutAtBars table)) figures counts) noAnswer ++ newline) after r → Appended out 0 (shown key figures counts) after r
+  shown-from out after figures counts r a = subst (λ (ts : List (List ℕ)). Appended out 0 (orElse (filled card (textFor key ts) figures counts) noAnswer ++ newline) after r) cards-in a
+
+-- a block that is there, and its empty line; or that there is none
+module _ (out between after t other : List ℕ) (n r : ℕ) (first : Appended out 0 t between n) where
+  pub block-put : 0 < n → Appended between n newline after r → Appended out 0 (orElse t other ++ newline) after r
+  block-put h a =
+      let e = first .ends in
+      subst (λ (x : List ℕ). Appended out 0 (x ++ newline) after r) (sym (some-text t other (omega (arith, h, e)))) (then out between after 0 n r t newline first a)
+
+  pub none-put : n ≤ 0 → Appended between 0 (other ++ newline) after r → Appended out 0 (orElse t other ++ newline) after r
+  none-put h a =
+      let e = first .ends in
+      let z : length t ≡ 0 = omega (arith, h, e) in
+      let m : n ≡ 0 = omega (arith, h) in
+      subst (λ (x : List ℕ). Appended out 0 (x ++ newline) after r) (sym (no-text t other z))
+      (subst (λ (x : List ℕ). Appended out 0 (x ++ (other ++ newline)) after r) (empty t z)
+      (then out between after 0 0 r t (other ++ newline) (subst (λ (k : ℕ). Appended out 0 t between k) m first) a))
+    where
+      empty : (l : List ℕ) → length l ≡ 0 → l ≡ []
+      empty [] k = refl
+      empty (x ∷ xs) k = absurd (let y : ⊥ = omega arith in y)
+
+-- ---- a body's lines, as the code has them
+
+pub body-asked : (template : List ℕ) (n k : ℕ) → template ≡ bodyLines → n + 430 ≤ k → n + room plainMost template ≤ k
+body-asked template n k e h = let r = body-text-room template e in omega (arith, r, h)
+
+pub body-said : (out after template : List ℕ) (fs gs : List Float) (n r : ℕ) → template ≡ bodyLines → gs ≡ bodyFigures fs → Appended out n (filled plain template gs []) after r → Appended out n (filled plain bodyLines (bodyFigures fs) []) after r
+body-said out after template fs gs n r e f a =
+    subst (λ (t : List ℕ). Appended out n (filled plain t (bodyFigures fs) []) after r) e (subst (λ (x : List Float). Appended out n (filled plain template x []) after r) f a)
+
+-- ---- the text that is found
+
+pub found-room : (p t : List ℕ) (k : ℕ) → p ≡ t → room cardMost t ≤ 1000 → 1024 ≤ k → 0 + room cardMost p ≤ k
+found-room p t k e h g = let f = ap (room cardMost) e in omega (arith, f, h, g)
+
+pub found-filled : (out after p t : List ℕ) (figures : List Float) (counts : List ℕ) (n : ℕ) → p ≡ t → Appended out 0 (filled card p figures counts) after n → Appended out 0 (filled card t figures counts) after n
+found-filled out after p t figures counts n e a = subst (λ (x : List ℕ). Appended out 0 (filled card x figures counts) after n) e a
+
+-- a block is no longer than its room
+pub card-short : (out after p t : List ℕ) (figures : List Float) (counts : List ℕ) (n : ℕ) → p ≡ t → room cardMost t ≤ 1000 → Appended out 0 (filled card p figures counts) after n → n ≤ 1000
+card-short out after p t figures counts n e h a =
+    let f = filled-fits card cardMost card-fits p figures counts in
+    let g = a .ends in
+    let k = ap (room cardMost) e in
+    omega (arith, f, g, h, k)
+
+-- ---- a line
+
+pub long-line : (line out after : List ℕ) (r : ℕ) → 512 < length line → Appended out 0 (noAnswer ++ newline) after r → Appended out 0 (blockOf line) after r
+unfolding blockOf
+long-line line out after r h a =
+    subst (λ (c : Bool). Appended out 0 (cond c (shown (shapeIn line) (figuresIn line) (countsIn line)) (noAnswer ++ newline)) after r) (sym (lt-leb (length line) 512 h)) a
+
+pub answer-line : (line : List ℕ) (p : Read) (shape : List ℕ) (figures : List Float) (counts out after : List ℕ) (r : ℕ) → length line ≤ 512 → IsRead line p shape figures counts
+    → Appended out 0 (shown (take (p .bytes) shape) (take (p .figures) figures) (take (p .counts) counts)) after r → Appended out 0 (blockOf line) after r
+unfolding blockOf
+answer-line line p shape figures counts out after r h d a =
+    subst (λ (c : Bool). Appended out 0 (cond c (shown (shapeIn line) (figuresIn line) (countsIn line)) (noAnswer ++ newline)) after r) (sym (le-leb (length line) 512 h))
+    (subst (λ (s : List ℕ). Appended out 0 (shown s (figuresIn line) (countsIn line)) after r) (d .of-shape)
+    (subst (λ (f : List Float). Appended out 0 (shown (take (p .bytes) shape) f (countsIn line)) after r) (d .of-figures)
+    (subst (λ (n : List ℕ). Appended out 0 (shown (take (p .bytes) shape) (take (p .figures) figures) n) after r) (d .of-counts) a)))

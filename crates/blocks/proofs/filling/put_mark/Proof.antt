@@ -1,0 +1,148 @@
+-- `blocks::filling::put_mark` meets its contract: each answer by the law of its case. Assumes nothing.
+use denote.Ref.{now}
+use Rattle.blocks.proofs.Pieces.{body-put, no-refusal, refusal-put, other-put, body-room, refusal-room, other-room}
+use borrow.Author.Needs.{needs}
+use Rattle.blocks.proofs.filling.put_mark.Statement.{statement}
+use Rattle.blocks.proofs.filling.put_mark.Tie as tie
+
+mul-put-body : tie.Need-mul-put-body
+mul-put-body c = search needs
+
+sub-put-body : tie.Need-sub-put-body
+sub-put-body c = search needs
+
+part-put-body-start : tie.Need-part-put-body-start
+part-put-body-start c = search needs
+
+part-put-body-end : tie.Need-part-put-body-end
+part-put-body-end c = search needs
+
+put-body-requires : tie.Need-put-body-requires
+put-body-requires c κs =
+    let s = c .before .before .before .before .before .before in
+    let o = now (s .args .out) in
+    let p = s .args .p in
+    let b = s .args .b in
+    let fs = now (s .args .figures) in
+    let ns = now (s .args .counts) in
+    let i = s .pre .figures-left in
+    let j = s .pre .counts-left in
+    body-room o p b fs ns i j (s .pre) (c .before .before .if1 .taken)
+
+same-length : tie.Need-same-length
+same-length c = search needs
+
+returns : tie.Need-returns
+returns c =
+    let s = c .before .before .before .before .before .before .before .before .before in
+    let o = now (s .args .out) in
+    let p = s .args .p in
+    let b = s .args .b in
+    let fs = now (s .args .figures) in
+    let ns = now (s .args .counts) in
+    let i = s .pre .figures-left in
+    let j = s .pre .counts-left in
+    let m = c .before .before in
+    body-put o p b fs ns i j (m .before .before .before .if1 .taken) (m .put-body .last .0) (m .put-body .result) (m .put-body .ensures)
+
+returns-2 : tie.Need-returns-2
+returns-2 c =
+    let s = c .before .before .before .before .before .before in
+    let o = now (s .args .out) in
+    let p = s .args .p in
+    let b = s .args .b in
+    let fs = now (s .args .figures) in
+    let ns = now (s .args .counts) in
+    let i = s .pre .figures-left in
+    let j = s .pre .counts-left in
+    no-refusal o p b fs ns i j (c .before .if2 .taken) (c .if3 .taken)
+
+mul-put-refusal : tie.Need-mul-put-refusal
+mul-put-refusal c = search needs
+
+shared-slice-read-put-refusal : tie.Need-shared-slice-read-put-refusal
+shared-slice-read-put-refusal c = search needs
+
+put-refusal-requires : tie.Need-put-refusal-requires
+put-refusal-requires c κs =
+    let s = c .before .before .before .before .before .before .before .before in
+    let o = now (s .args .out) in
+    let p = s .args .p in
+    let b = s .args .b in
+    let fs = now (s .args .figures) in
+    let ns = now (s .args .counts) in
+    let i = s .pre .figures-left in
+    let j = s .pre .counts-left in
+    refusal-room o p b fs ns i j (s .pre) (c .before .before .before .if2 .taken)
+
+add-next : tie.Need-add-next
+add-next c = search needs
+
+same-length-2 : tie.Need-same-length-2
+same-length-2 c = search needs
+
+returns-3 : tie.Need-returns-3
+returns-3 c =
+    let s = c .before .before .before .before .before .before .before .before .before .before .before in
+    let o = now (s .args .out) in
+    let p = s .args .p in
+    let b = s .args .b in
+    let fs = now (s .args .figures) in
+    let ns = now (s .args .counts) in
+    let i = s .pre .figures-left in
+    let j = s .pre .counts-left in
+    let m = c .before .before in
+    let e = m .before .before .before in
+    refusal-put o p b fs ns i j (e .before .if2 .taken) (m .put-refusal .last .0) (m .put-refusal .result) (e .if3 .left) (m .put-refusal .ensures)
+
+put-piece-requires : tie.Need-put-piece-requires
+put-piece-requires c κs =
+    let s = c .before .before .before .before .before .before in
+    let o = now (s .args .out) in
+    let p = s .args .p in
+    let b = s .args .b in
+    let fs = now (s .args .figures) in
+    let ns = now (s .args .counts) in
+    let i = s .pre .figures-left in
+    let j = s .pre .counts-left in
+    let e = c .before in
+    other-room o p b fs ns i j (s .pre) (e .before .if1 .left) (e .if2 .left)
+
+same-length-3 : tie.Need-same-length-3
+same-length-3 c = search needs
+
+returns-4 : tie.Need-returns-4
+returns-4 c =
+    let s = c .before .before .before .before .before .before .before .before .before in
+    let o = now (s .args .out) in
+    let p = s .args .p in
+    let b = s .args .b in
+    let fs = now (s .args .figures) in
+    let ns = now (s .args .counts) in
+    let i = s .pre .figures-left in
+    let j = s .pre .counts-left in
+    let m = c .before .before in
+    let e = m .before .before in
+    other-put o p b fs ns i j (e .before .if1 .left) (e .if2 .left) (m .put-piece .last .0) (m .put-piece .result) (m .put-piece .ensures)
+
+pub put-mark-spec : {M : Type 1} → statement M
+put-mark-spec =
+    tie.close
+    (tie.spec
+    mul-put-body
+    sub-put-body
+    part-put-body-start
+    part-put-body-end
+    put-body-requires
+    same-length
+    returns
+    returns-2
+    mul-put-refusal
+    shared-slice-read-put-refusal
+    put-refusal-requires
+    add-next
+    same-length-2
+    returns-3
+    put-piece-requires
+    same-length-3
+    returns-4)

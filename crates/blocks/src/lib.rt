@@ -1,0 +1,85 @@
+// Answers of the card program as blocks to read: mass in g, lengths in mm, moments in kg·m² to six significant digits, a refusal as its sentence.
+//
+// A line is brought to its shape, in which `F` stands for a figure and `N` for a count, and the shape is looked up in a table of the answers with
+// their blocks. Every line has a block, whatever its bytes: one that looks like no answer says so.
+mod filling;
+mod lookup;
+mod sentences;
+mod words;
+
+ghost use mathlib.Core.List.{_++_};
+ghost use Prim.Native.Nat.{_+_, _≤_};
+ghost use lib.ListN.{length};
+ghost use Rattle.texts.specs.Appended.{Appended};
+ghost use Rattle.templates.specs.Matching.{cutAtBars};
+ghost use Rattle.blocks.specs.Tables.{textFor};
+ghost use Rattle.blocks.specs.Filled.{filled, room};
+ghost use Rattle.blocks.specs.Cards.{orElse, newline, card, cardMost, noAnswer, shown, blockOf, BlockFits};
+
+// No answer has more bytes.
+const LONGEST: usize = 512;
+
+// No block has more bytes.
+pub const BLOCK_BYTES: usize = 1024;
+
+// The block of the answer that has this shape in the table, and an empty line.
+fn put_from(out: &mut [u8], table: &[u8], shape: &[u8], figures: &[f64], counts: &[u64]) -> usize
+    requires { ⌜ BlockFits (now out) × (length (now table) ≤ 4096) × (room cardMost (textFor (now shape) (cutAtBars (now table))) ≤ 1000) ⌝ }
+    ensures { λ r. ⌜ Appended (now (out .entry)) 0
+        (orElse (filled card (textFor (now (shape .entry)) (cutAtBars (now (table .entry)))) (now (figures .entry)) (now (counts .entry))) noAnswer
+        ++ newline) (now (out .exit)) r ⌝ }
+{
+    let p = lookup::find(table, shape);
+    let from = p.from;
+    let to = p.to;
+    let n = filling::put_card(out, 0, &table[from..to], figures, counts);
+    if 0 < n {
+        return texts::put_bytes(out, n, b"\n");
+    }
+    texts::put_bytes(out, 0, b"no answer of the card program\n\n")
+}
+
+// What is shown for an answer's shape, figures and counts.
+fn put_shown(out: &mut [u8], shape: &[u8], figures: &[f64], counts: &[u64]) -> usize
+    requires { ⌜ BlockFits (now out) ⌝ }
+    ensures { λ r. ⌜ Appended (now (out .entry)) 0 (shown (now (shape .entry)) (now (figures .entry)) (now (counts .entry))) (now (out .exit)) r ⌝ }
+{
+    put_from(
+        out,
+        b"(figures (mass F) (centre F F F) (inertia F F F F F F) (intervals N) (samples N))|Bpieces N, samples N\n|\
+        (joined (mass F) (centre F F F) (inertia F F F F F F))|B|\
+        (ring (mass F) (centre F F F) (inertia F F F F F F))|B|\
+        (body (mass F) (centre F F F) (inertia F F F F F F))|B|\
+        (refused N)|refused R\n|\
+        (area (area F) (centroid F F) (intervals N) (samples N))|area F m\xc2\xb2\n\
+        centroid G mm behind the root's front, G mm above the root\n\
+        pieces N, samples N\n|\
+        (moments F F F)|principal moments E, E, E kg\xc2\xb7m\xc2\xb2\n|\
+        (closing F)|the ring closes at an outer radius of G mm\n|\
+        (sound)|the body is sound\n|\
+        (inside N)|inside; the nearest corner is N\n|\
+        (edge N)|on the edge; the nearest corner is N\n|\
+        (outside N)|outside; the nearest corner is N\n",
+        shape,
+        figures,
+        counts,
+    )
+}
+
+// The block of a line, at the start of out; answers how many bytes it has.
+pub fn put_block(out: &mut [u8], line: &[u8]) -> usize
+    requires { ⌜ BlockFits (now out) ⌝ }
+    ensures { λ r. ⌜ Appended (now (out .entry)) 0 (blockOf (now (line .entry))) (now (out .exit)) r ⌝ }
+{
+    if LONGEST < line.len() {
+        return texts::put_bytes(out, 0, b"no answer of the card program\n\n");
+    }
+    let mut shape = [0u8; 512];
+    let mut figures = [0.0; 512];
+    let mut counts = [0u64; 512];
+    let r = words::read_answer(line, &mut shape, &mut figures, &mut counts);
+    let n = r.bytes;
+    let i = r.figures;
+    let j = r.counts;
+    put_shown(out, &shape[..n], &figures[..i], &counts[..j])
+}
