@@ -108,6 +108,12 @@ cards =
     ∷ text "(inside N)" ∷ all (text "inside; the nearest corner is N" ∷ newline ∷ [])
     ∷ text "(edge N)" ∷ all (text "on the edge; the nearest corner is N" ∷ newline ∷ [])
     ∷ text "(outside N)" ∷ all (text "outside; the nearest corner is N" ∷ newline ∷ [])
+    ∷ text "(taken)" ∷ all (text "taken" ∷ newline ∷ [])
+    ∷ text "(idle)" ∷ all (text "no screen has a job" ∷ newline ∷ [])
+    ∷ text "(more N)" ∷ all (text "screen N: more to come" ∷ newline ∷ [])
+    ∷ text "(done N (figures (mass F) (centre F F F) (inertia F F F F F F) (intervals N) (samples N)))"
+    ∷ all (text "screen N: done" ∷ newline ∷ text "Bpieces N, samples N" ∷ newline ∷ [])
+    ∷ text "(done N (refused N))" ∷ all (text "screen N: refused R" ∷ newline ∷ [])
     ∷ []
 
 -- what is shown for a line: the block of the answer that it looks like, and an empty line; "no answer .." where it is none, or longer than any

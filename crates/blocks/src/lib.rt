@@ -59,7 +59,13 @@ fn put_shown(out: &mut [u8], shape: &[u8], figures: &[f64], counts: &[u64]) -> u
         (sound)|the body is sound\n|\
         (inside N)|inside; the nearest corner is N\n|\
         (edge N)|on the edge; the nearest corner is N\n|\
-        (outside N)|outside; the nearest corner is N\n",
+        (outside N)|outside; the nearest corner is N\n|\
+        (taken)|taken\n|\
+        (idle)|no screen has a job\n|\
+        (more N)|screen N: more to come\n|\
+        (done N (figures (mass F) (centre F F F) (inertia F F F F F F) (intervals N) (samples N)))|screen N: done\n\
+        Bpieces N, samples N\n|\
+        (done N (refused N))|screen N: refused R\n",
         shape,
         figures,
         counts,
