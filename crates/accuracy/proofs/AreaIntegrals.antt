@@ -113,7 +113,7 @@ module _ (root tip span sweep scale : Float) (B : Size) (g : Lengths root tip sp
       }
 
   -- ---- how large they are
-  none-under : (A : Size) → Under (0 of A) zeroNumber
+  pub none-under : (A : Size) → Under (0 of A) zeroNumber
   none-under (a per c) = record { below = go a c; above = go a c }
     where
       go : (a c : ℕ) → (0 * 1 + 0 * 1) * c ≤ (0 * 1 + 0 * 1) * c + 0 * a * (1 * 1)

@@ -32,7 +32,7 @@ use Rattle.accuracy.proofs.Quadratic.{Quadratic}
 use Rattle.accuracy.proofs.ChordEnds as Chord
 use Rattle.accuracy.proofs.Integrals.{from-zero}
 
-half-value : valueOf half ≡ middle
+pub half-value : valueOf half ≡ middle
 unfolding ofBits
 half-value = refl
 
@@ -131,7 +131,7 @@ module _ (root tip span sweep scale : Float) (B : Size) (g : Lengths root tip sp
         (times-valued {A = H} {B = Bs} (Chord.height-ranges root tip span sweep scale B g .real) (r1 .real) (in-range 96 (H by Bs) (omega arith) height-ranges) tt z across-valued)
 
   -- ---- at each of the samples
-  sampled : (y : Float → Float) (v : Number → Number) (l j : ℕ) (A : Size) → ((h : Float) (τ : Number) → IsNumber τ → Under (1 of one) τ → Valued h (U times τ) 16 2 H → Valued (y h) (v τ) l j A)
+  pub sampled : (y : Float → Float) (v : Number → Number) (l j : ℕ) (A : Size) → ((h : Float) (τ : Number) → IsNumber τ → Under (1 of one) τ → Valued h (U times τ) 16 2 H → Valued (y h) (v τ) l j A)
       → Sampled y v (centreOf span scale) (reachOf span scale) l j A
   sampled y v l j A each =
       let x : (i : ℕ) → i < 7 → Under (1 of one) (valueOf (node i)) = λ i k. one-part (valueOf (node i)) (node-near-one i k) in

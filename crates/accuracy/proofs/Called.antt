@@ -117,7 +117,7 @@ module _ (w : ℕ) (f : Float → List Float) (lower upper : Float) where
       (heightsOf lower upper) (inl refl) refl)))
 
 -- ---- an answer by a verdict that is no refusal is the one that is given
-chosen : {A : Type 0} (verdict : Verdict) (given : A) (withheld : Refusal → A) (verdictIn : A → Verdict) → ((refusal : Refusal) → verdictIn (withheld refusal) ≡ Refused refusal) → (r : A)
+pub chosen : {A : Type 0} (verdict : Verdict) (given : A) (withheld : Refusal → A) (verdictIn : A → Verdict) → ((refusal : Refusal) → verdictIn (withheld refusal) ≡ Refused refusal) → (r : A)
     → r ≡ byVerdict verdict given withheld → verdictIn r ≡ Accepted → (verdict ≡ Accepted) × (r ≡ given)
 chosen Accepted given withheld verdictIn refuses r e a = (refl, e)
 chosen (Refused refusal) given withheld verdictIn refuses r e a = no-refusal refusal (sym (refuses refusal) ∙ ap verdictIn (sym e) ∙ a)
@@ -180,7 +180,7 @@ module _ (root tip span sweep : Float) (points : List Float) (L : ℕ) (above : 
   abbrev pub Strip : Worked
   Strip = stripOf 3 (areaThree (Trapezoid root tip span sweep) points) L (bits 0 ⊘ scaleOf (Trapezoid root tip span sweep) points) (span ⊘ scaleOf (Trapezoid root tip span sweep) points)
 
-  one-strip : (w : ℕ) (f : Float → List Float) (limit : ℕ) (scale h k : Float) → workedOf w f limit scale (h ∷ k ∷ []) ≡ stripOf w f limit (h ⊘ scale) (k ⊘ scale) ∷ []
+  pub one-strip : (w : ℕ) (f : Float → List Float) (limit : ℕ) (scale h k : Float) → workedOf w f limit scale (h ∷ k ∷ []) ≡ stripOf w f limit (h ⊘ scale) (k ⊘ scale) ∷ []
   unfolding workedOf
   one-strip w f limit scale h k = go (isAccepted (halving w f (h ⊘ scale) (k ⊘ scale) limit .ending))
     where
@@ -188,7 +188,7 @@ module _ (root tip span sweep : Float) (points : List Float) (L : ℕ) (above : 
       go true = refl
       go false = refl
 
-  heights-are : breakHeights (Trapezoid root tip span sweep) points ≡ bits 0 ∷ span ∷ []
+  pub heights-are : breakHeights (Trapezoid root tip span sweep) points ≡ bits 0 ∷ span ∷ []
   unfolding oneStrip spanOf
   heights-are = two-heights (Trapezoid root tip span sweep) points above
 

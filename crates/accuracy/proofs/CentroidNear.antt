@@ -63,26 +63,26 @@ total-one (suc (suc zero)) l f a b pieces e = rw e
 total-one (suc (suc (suc k))) l f a b pieces e = absurd (let z : ⊥ = omega arith in z)
 
 -- ---- a tip chord is not below 0
-not-below : (x : Float) → T (finite x) → lt x (bits 0) ≡ false → NotBelow (valueOf x)
+pub not-below : (x : Float) → T (finite x) → lt x (bits 0) ≡ false → NotBelow (valueOf x)
 unfolding ofBits
 not-below nan i h = absurd i
 not-below (inf s) i h = absurd i
 not-below (fin false m e) i h = zero-le
 not-below (fin true m e) i h = let o = le→order (bits 0) (fin true m e) tt tt (of-true _ (le-of-not (bits 0) (fin true m e) (finite-no-nan (bits 0) tt) (finite-no-nan (fin true m e) tt) h)) in omega arith
 
-tip-checked : (root tip span sweep : Float) (points : List Float) → T (fits binary64 tip) → planformCheck (Trapezoid root tip span sweep) points ≡ Accepted → lt tip (bits 0) ≡ false
+pub tip-checked : (root tip span sweep : Float) (points : List Float) → T (fits binary64 tip) → planformCheck (Trapezoid root tip span sweep) points ≡ Accepted → lt tip (bits 0) ≡ false
 unfolding planformCheck
 tip-checked root tip span sweep points f h = height-checked tipChordField tip f (both (lengthCheck tipChordField tip) _ (both (lengthCheck rootChordField root) _ h .1) .0) refl refl .not-under
 
 -- ---- from the numbers of proofs to fractions
-own-fraction : (x : Float) → T (finite x) → NotBelow (valueOf x) → IsFraction (number (num x) 0 (den x)) (fractionOf x)
+pub own-fraction : (x : Float) → T (finite x) → NotBelow (valueOf x) → IsFraction (number (num x) 0 (den x)) (fractionOf x)
 own-fraction nan i h = absurd i
 own-fraction (inf s) i h = absurd i
 own-fraction (fin false m e) i h = value-fraction (fin false m e) i
 own-fraction (fin true m e) i h = shifted-fraction (m * up e) 0 0 (m * up e) (down e) (fractionOf (fin true m e)) (omega arith) (value-fraction (fin true m e) i)
 
 -- a product of fractions not below 0
-product-fraction : (a c p e : ℕ) (v w : Fraction) → IsFraction (number a 0 c) v → IsFraction (number p 0 e) w → IsFraction (number (a * p) 0 (c * e)) (product v w)
+pub product-fraction : (a c p e : ℕ) (v w : Fraction) → IsFraction (number a 0 c) v → IsFraction (number p 0 e) w → IsFraction (number (a * p) 0 (c * e)) (product v w)
 product-fraction a c p e v w h k = shifted-fraction (a * p) 0 (a * p + 0 * 0) (a * 0 + 0 * p) (c * e) (product v w) (none a p) (times-fraction (number a 0 c) (number p 0 e) v w h k)
   where
     none : (a p : ℕ) → a * p + (a * 0 + 0 * p) ≡ 0 + (a * p + 0 * 0)

@@ -38,31 +38,31 @@ ruleset plain = (sorted, one-mul, mul-one, zero-mul, mul-zero, zero-add, add-zer
 abbrev pub NotBelow : Number → Type 0
 NotBelow (number p n d) = n ≤ p
 
-over-plus : (x y : Number) → NotBelow y → Over (0 per 1) x (x plus y)
+pub over-plus : (x y : Number) → NotBelow y → Over (0 per 1) x (x plus y)
 over-plus (number p n d) (number q m e) h = go p n d q m e (mul-le-mul-right (d * d) h)
   where
     go : (p n d q m e : ℕ) → m * (d * d) ≤ q * (d * d) → (p * (d * e) + (n * e + m * d) * d) * 1 ≤ ((p * e + q * d) * d + n * (d * e)) * 1 + 0 * (d * (d * e))
     go p n d q m e h = let x = simp plain at h in simp plain (omega (arith, x))
 
-equal-over : (x y : Number) → x equals y → Over (0 per 1) x y
+pub equal-over : (x y : Number) → x equals y → Over (0 per 1) x y
 equal-over (number p n d) (number q m e) h = go (h .same)
   where
     go : p * e + m * d ≡ q * d + n * e → (p * e + m * d) * 1 ≤ (q * d + n * e) * 1 + 0 * (d * e)
     go u = omega arith
 
-over-none : (e : Size) (x y z : Number) → IsSize e → IsNumber y → Over (0 per 1) x y → Over e y z → Over e x z
+pub over-none : (e : Size) (x y z : Number) → IsSize e → IsNumber y → Over (0 per 1) x y → Over e y z → Over e x z
 over-none (a per c) x y z C i h k = over-upto ((0 * c + a * 1) per (1 * c)) (a per c) x z (mul-pos (pow-pos 0) C) (go a c) (over-trans (0 per 1) (a per c) x y z i h k)
   where
     go : (a c : ℕ) → (0 * c + a * 1) * c ≤ a * (1 * c)
     go a c = simp plain (omega arith)
 
-not-below-times : (x y : Number) → NotBelow x → NotBelow y → NotBelow (x times y)
+pub not-below-times : (x y : Number) → NotBelow x → NotBelow y → NotBelow (x times y)
 not-below-times (number p n d) (number q m e) h k = flip (four n p m q h k)
   where
     flip : n * q + p * m ≤ p * q + n * m → p * m + n * q ≤ p * q + n * m
     flip u = omega arith
 
-inverse-not-below : (y : Float) → NotBelow (inverse y)
+pub inverse-not-below : (y : Float) → NotBelow (inverse y)
 inverse-not-below y = zero-le
 
 pub positive-not-below : (y : Float) → T (positive y) → NotBelow (valueOf y)

@@ -53,7 +53,7 @@ lower-valued span scale p q t =
       is = Counts.over-is (valueOf (bits 0)) scale (z .is) q;
     }
 
-upper-valued : (span scale : Float) → T (positive span) → T (positive scale) → InRange (sizeOf span for scale) → Valued (upperEnd span scale) (valueOf span over scale) 1 1 (sizeOf span for scale)
+pub upper-valued : (span scale : Float) → T (positive span) → T (positive scale) → InRange (sizeOf span for scale) → Valued (upperEnd span scale) (valueOf span over scale) 1 1 (sizeOf span for scale)
 upper-valued span scale p q t =
     let D = sizeOf span in
     record {

@@ -84,7 +84,7 @@ quarter-of : (x y : ℕ) → x * 2 ^ 53 ≤ y * 2 ^ 53 * 2 + x * 8 → x ≤ 4 *
 quarter-of x y h = omega arith
 
 -- valueOf span over scale, of a span above 0
-span-over : (span scale : Float) → T (positive span) → valueOf span over scale ≡ number (num span * den scale) (0 * den scale) (num scale * den span)
+pub span-over : (span scale : Float) → T (positive span) → valueOf span over scale ≡ number (num span * den scale) (0 * den scale) (num scale * den span)
 span-over span scale p = ap (λ (x : Number). x over scale) (positive-value span p)
 
 at-least : (a b D : ℕ) (span scale : Float) → T (positive span) → T (positive scale) → Over (4 roundoffs (sizeOf span for scale)) (middle span scale) (number a b D)

@@ -26,3 +26,7 @@ pub mod AreaSamples
 pub mod AreaIntegrals
 pub mod Centroids
 pub mod CentroidNear
+pub mod PlateSamples
+pub mod PlateIntegrals
+pub mod SetCalled
+pub mod MassNear

@@ -16,7 +16,7 @@ use Rattle.integrands.proofs.Scales.{Scale}
 use Rattle.rounding_error.proofs.Numbers.{Number, number, Size, _per_, _of_, Under, valueOf, sizeOf, Least, Ranges}
 use Rattle.accuracy.proofs.Given.{Lengths}
 
-ranges-of : (x : Float) (p s : ℕ) → p ≤ 24 → s ≤ 24 → Below p x → Above s x → Ranges 24 (sizeOf x)
+pub ranges-of : (x : Float) (p s : ℕ) → p ≤ 24 → s ≤ 24 → Below p x → Above s x → Ranges 24 (sizeOf x)
 ranges-of x p s l k b a =
     record {
       real = den-pos x;

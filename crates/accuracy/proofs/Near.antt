@@ -98,7 +98,7 @@ apart-more root tip span area b d c e D E l p n =
     more : (N D P : ℕ) → c * d * (N * (P * D)) ≤ b * e * (N * (P * D)) → 1 * (N * c) * (P * (D * d)) ≤ 1 * (N * b) * (P * (D * e))
     more N D P h = let x = simp sorted at h in simp (sorted, one-mul) (omega (arith, x))
 
-positive-above : (x : Float) → T (positive x) → lt (bits 0) x ≡ true
+pub positive-above : (x : Float) → T (positive x) → lt (bits 0) x ≡ true
 unfolding lt ofBits
 positive-above nan p = absurd p
 positive-above (inf s) p = absurd p

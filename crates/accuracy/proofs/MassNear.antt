@@ -1,0 +1,310 @@
+-- The mass that the call gives for trapezoids of square section, with no tab and no fillet, is near the exact one, where their strip is one piece.
+-- Assumes nothing.
+use mathlib.Core.Path.{_≡_, refl, sym, ap, _∙_, subst}
+use mathlib.Core.Logic.{inl, inr}
+use mathlib.Core.Bool.{Bool, true, false, cond, _||_}
+use mathlib.Core.List.{List, [], _∷_}
+use Prim.Native.Nat.{ℕ, zero, suc, _+_, _*_, _^_, _≤_, _<_}
+use native.Mathlib.Nat.{mul-pos, le-refl, le-trans, le-of-eq, mul-le-mul-left, mul-le-mul-right, mul-add, add-mul, mul-comm, mul-assoc, mul-left-comm, one-mul, mul-one, zero-mul, mul-zero, zero-add, add-zero}
+use native.Mathlib.Omega.{arith}
+use lib.Dec.{T, lit≤}
+use lib.ListN.{length}
+use lib.Pow.{pow-pos}
+use lib.IntN.{pos}
+use lib.Ieee.{Float, binary64, lt, le, eq, ofBits}
+use mir.Facts.{or-yes}
+use lib.Ieee.Bits.{is-true}
+use lib.Ieee.Fits.{and-l, and-r}
+use lib.Ieee.Scale.{finite}
+use lib.Ieee.Positive.{num, den, den-pos, positive, positive-finite, between, le→cross}
+use Rattle.floats.specs.Operations.{_⊕_, _⊖_, _⊗_, _⊘_, bits, at}
+use Rattle.floats.specs.Fractions.{Fraction, _over_, _plus_ as sum, _times_ as product, valueOf as fractionOf}
+use Rattle.floats.proofs.Bools.{no, of-true}
+use Rattle.floats.proofs.Order.{le-of-not, equal-not-below, equal-sym}
+use Rattle.refusals.specs.declared.Refusal.the-variants.{Density as density}
+use Rattle.refusals.specs.declared.Verdict.the-variants.{Accepted}
+use Rattle.refusals.proofs.Accepted.{holds}
+use Rattle.limits.specs.Limits.{isWithin}
+use Rattle.materials.specs.declared.Density.the-variants.{Bulk}
+use Rattle.materials.specs.Materials.{lightest, heaviest, densityCheck}
+use Rattle.rounding.specs.Sizes.{AtMost}
+use Rattle.rounding.proofs.Exact.{zero-exact}
+use Rattle.rounding.proofs.Monotone.{positive-num}
+use Rattle.rounding.proofs.Operations.{div-most}
+use Rattle.rounding.proofs.Ordered.{le→order}
+use Rattle.rounding.proofs.Signs.{minus, finite-no-nan, positive-plus}
+use Rattle.rounding.proofs.Signed.{over as above, under as below}
+use Rattle.rounding_error.proofs.Numbers.{Number, number, Size, _per_, _plus_, _times_, _for_, _roundoffs_, Over, valueOf, sizeOf, InRange, Ranges}
+use Rattle.rounding_error.proofs.Distances.{sorted, within-upto}
+use Rattle.rounding_error.specs.Distances.{Within as Apart}
+use Rattle.rounding_error.proofs.Counts as Counts
+use Rattle.rounding_error.proofs.Fractions.{IsFraction, plus-fraction, times-fraction, value-fraction, whole-fraction, within-fraction}
+use Rattle.rounding_error.proofs.Quotients.{near-positive}
+use Rattle.accuracy.proofs.Ends.{upper-valued}
+use Rattle.accuracy.proofs.Heights.{span-over}
+use Rattle.floats.specs.Floats.{cube}
+use Rattle.limits.specs.Limits.{thicknessField}
+use Rattle.limits.proofs.Lengths.{PositiveLength, field-above}
+use Rattle.planforms.specs.declared.Planform.{Planform}
+use Rattle.planforms.specs.declared.Planform.the-variants.{Trapezoid}
+use Rattle.planforms.proofs.Sized.{Sized}
+use Rattle.sections.specs.declared.Section.the-variants.{Square}
+use Rattle.chords.specs.Chords.{inSpan}
+use Rattle.integrands.specs.Integrands.{scaleOf, plateOf}
+use Rattle.integrands.proofs.Scales.{Scale, scale-sized}
+use Rattle.quadrature.specs.Rule.{halfWidth, minusSide, plusSide, kronrodWeight, sumOf, pieceOf}
+use Rattle.quadrature.specs.declared.Piece.{Piece}
+use Rattle.tolerance.specs.Bounds.{totalOf}
+use Rattle.strips.specs.Strips.{Worked, stripOf, piecesOf, valueFrom, intervalsIn}
+use Rattle.joins.specs.Joins.{inOrder}
+use Rattle.fins.specs.declared.FinSet.{FinSet}
+use Rattle.fins.proofs.Accepted.{AcceptedSet, set-accepted, set-count}
+use Rattle.fins.proofs.Sized.{planform-sized}
+use Rattle.figures.specs.Figures.{setStrips}
+use Rattle.figures.specs.declared.Figures.{Figures}
+use Rattle.rounding.proofs.Sizes.{positive-of}
+use Rattle.rounding_error.proofs.Ranges.{in-range}
+use Rattle.accuracy.specs.Areas.{Reach}
+use Rattle.accuracy.specs.Masses.{Plate, Mount, setOf, SetGiven, exactMass, OnePieceMass}
+use Rattle.accuracy.proofs.Given.{Lengths, AllHaveChords}
+use Rattle.accuracy.proofs.OnePiece.{centreOf, reachOf}
+use Rattle.accuracy.proofs.Limits.{ranges-of, lengths}
+use Rattle.accuracy.proofs.Areas.{all-have-chords}
+use Rattle.accuracy.proofs.ChordEnds as Chord
+use Rattle.accuracy.proofs.AreaSamples as Area
+use Rattle.accuracy.proofs.Called.{one-strip, heights-are, only-piece, same-sum}
+use Rattle.accuracy.proofs.Near.{positive-above}
+use Rattle.accuracy.proofs.Centroids.{NotBelow, positive-not-below}
+use Rattle.accuracy.proofs.CentroidNear.{not-below, tip-checked, own-fraction, product-fraction}
+use Rattle.accuracy.proofs.PlateSamples.{centre-positive, minus-positive, plus-positive}
+use Rattle.accuracy.proofs.PlateIntegrals.{plateAt, volumeTotal, massOf, massNumber, mass-is as number-is, massesTo, masses-valued, massUnit, mass-ranges}
+use Rattle.accuracy.proofs.SetCalled.{Given, set-given, plate-there}
+
+ruleset plain = (sorted, one-mul, mul-one, zero-mul, mul-zero, zero-add, add-zero)
+
+-- ---- the ends of a strip from 0 to the span differ
+upper-positive : (span scale : Float) → T (positive span) → T (positive scale) → InRange (sizeOf span for scale) → T (positive (span ⊘ scale))
+upper-positive span scale p q t =
+    let v = upper-valued span scale p q t in
+    let l = num span * den scale in
+    let m = num scale * den span in
+    near-positive (span ⊘ scale) l m (1 * l) (m * 2 ^ 53) (v .near .finite) (mul-pos (positive-num span p) (den-pos scale)) (mul-pos (mul-pos (positive-num scale q) (den-pos span)) (pow-pos 53))
+    (twice l m) (none l m (den scale) (valueOf (span ⊘ scale)) (subst (λ (x : Number). Over (1 roundoffs (sizeOf span for scale)) x (valueOf (span ⊘ scale))) (span-over span scale p) (v .near .within .above)))
+  where
+    twice : (l m : ℕ) → 2 * (1 * l * m) ≤ l * (m * 2 ^ 53)
+    twice l m = simp plain (omega arith)
+
+    none : (l m k : ℕ) (x : Number) → Over ((1 * l) per (m * 2 ^ 53)) (number l (0 * k) m) x → Over ((1 * l) per (m * 2 ^ 53)) (number l 0 m) x
+    none l m k (number q n e) h = subst (λ (z : ℕ). (l * e + n * m) * (m * 2 ^ 53) ≤ (q * m + z * e) * (m * 2 ^ 53) + 1 * l * (m * e)) (zero-mul k) h
+
+lower-none : (scale : Float) → T (positive scale) → AtMost 0 1 (bits 0 ⊘ scale)
+unfolding ofBits
+lower-none scale p = div-most binary64 (bits 0) scale 0 1 (pow-pos 0) (zero-exact binary64) tt (positive-finite scale p) (positive-num scale p) (omega arith)
+
+not-equal : (x y : Float) → AtMost 0 1 x → T (positive y) → eq x y ≡ false
+not-equal x y a p = go (eq x y) refl
+  where
+    pick : (s : Bool) (n : ℕ) → n ≡ 0 → above s n ≡ 0
+    pick true n e = refl
+    pick false n e = e
+
+    go : (b : Bool) → eq x y ≡ b → b ≡ false
+    go false e = refl
+    go true e =
+        let yf = positive-finite y p in
+        let o = le→order y x yf (a .finite) (of-true _ (le-of-not y x (finite-no-nan y yf) (finite-no-nan x (a .finite)) (equal-not-below x y e))) in
+        absurd (clash (num y * den x) (num x * den y) (minus x) (mul-pos (positive-num y p) (den-pos x)) (zero-of (num x) (den x) (den y) (a .size)) (rw (positive-plus y p) at o))
+      where
+        zero-of : (N D E : ℕ) → N * 1 ≤ 0 * D → N * E ≡ 0
+        zero-of N D E h = z N E (small N D h)
+          where
+            small : (N D : ℕ) → N * 1 ≤ 0 * D → N ≡ 0
+            small N D h = omega arith
+
+            z : (N E : ℕ) → N ≡ 0 → N * E ≡ 0
+            z N E e = rw e (zero-mul E)
+
+        clash : (u v : ℕ) (s : Bool) → 0 < u → v ≡ 0 → u + below s v ≤ above s v + 0 → ⊥
+        clash u v s h e o = no u (above s v) (below s v) h (pick s v e) o
+          where
+            no : (u w z : ℕ) → 0 < u → w ≡ 0 → u + z ≤ w + 0 → ⊥
+            no u w z h e o = omega arith
+
+pub ends-differ : (span scale : Float) → T (positive span) → T (positive scale) → InRange (sizeOf span for scale) → eq (bits 0 ⊘ scale) (span ⊘ scale) ≡ false
+ends-differ span scale p q t = not-equal (bits 0 ⊘ scale) (span ⊘ scale) (lower-none scale q) (upper-positive span scale p q t)
+
+-- ---- a density above 0 within its limits
+density-checked : (x : Float) → densityCheck (Bulk x) ≡ Accepted → lt (bits 0) x ≡ true → T (positive x) × Ranges 24 (sizeOf x)
+unfolding densityCheck ofBits
+density-checked x h w = elim (or-yes (eq x (bits 0)) (isWithin lightest heaviest x) (of-true (eq x (bits 0) || isWithin lightest heaviest x) (holds (eq x (bits 0) || isWithin lightest heaviest x) density h))) [
+  | inl k ↦ no (sym w ∙ equal-not-below (bits 0) x (equal-sym x (bits 0) (is-true (eq x (bits 0)) k)))
+  | inr k ↦
+      (let l = and-l (le lightest x) (le x heaviest) k in
+      let u = and-r (le lightest x) (le x heaviest) k in
+      let p = between lightest x heaviest tt tt l u in
+      (p, record { real = den-pos x; least = low (num x) (den x) (le→cross lightest x tt p l); most = high (num x) (den x) (le→cross x heaviest p tt u) }))
+]
+  where
+    low : (N D : ℕ) → 1 * D ≤ N * 2 ^ 10 → D ≤ N * 2 ^ 24
+    low N D h = omega arith
+
+    high : (N D : ℕ) → N * 1 ≤ 2 ^ 15 * D → N ≤ D * 2 ^ 24
+    high N D h = omega arith
+
+-- ---- the total of the one strip's one piece
+total-one : (f : Float → List Float) (a b : Float) (pieces : List Piece) → pieces ≡ pieceOf 7 f a b ∷ [] → totalOf pieces 0 ≡ bits 0 ⊕ halfWidth a b ⊗ sumOf kronrodWeight f a b 0
+unfolding totalOf pieceOf
+total-one f a b pieces e = rw e
+
+module _ (p : Plate) (m : Mount) (points : List Float) (L : ℕ) (entry : List Float) (r : Figures) (exit : List Float) (b d : ℕ) (g : SetGiven p m points L entry r exit) (one : r .intervals ≡ 1)
+    (reach : Reach b d (p .root) (p .tip) (p .sweep)) (most : b ≤ 64 * d) where
+  abbrev Shape : Planform
+  Shape = Trapezoid (p .root) (p .tip) (p .span) (p .sweep)
+
+  abbrev S : Float
+  S = scaleOf Shape points
+
+  abbrev set : FinSet
+  set = setOf p m
+
+  figures : Given p m points L (length entry) r
+  figures = set-given p m points L (length entry) r (g .answers .figures) (g .given) (g .no-fillet)
+
+  checks : AcceptedSet set points L (length entry)
+  checks = set-accepted set points L (length entry) (figures .accepted)
+
+  lengths-sized : Sized Shape points
+  lengths-sized = planform-sized Shape points (g .f64s) (checks .planform)
+
+  scaled : Scale S
+  scaled = scale-sized Shape points lengths-sized
+
+  N : Lengths (p .root) (p .tip) (p .span) (p .sweep) S (b per d)
+  N =
+      lengths (p .root) (p .tip) (p .span) (p .sweep) S b d (reach .is-size) most (lengths-sized .0) (lengths-sized .1 .1 .0) scaled (reach .root-most) (reach .tip-most) (reach .sweep-most)
+
+  root-positive : T (positive (p .root))
+  root-positive = positive-of (p .root) 20 (lengths-sized .0 .not-minus) (lengths-sized .0 .above)
+
+  thick : PositiveLength (p .thickness)
+  thick = field-above thicknessField (p .thickness) (g .thickness-f64) (checks .thickness) refl refl
+
+  thick-positive : T (positive (p .thickness))
+  thick-positive = positive-of (p .thickness) 20 (thick .not-minus) (thick .above)
+
+  thick-ranges : Ranges 24 (sizeOf (p .thickness))
+  thick-ranges = ranges-of (p .thickness) 6 20 (omega arith) (omega arith) (thick .length .below) (thick .above)
+
+  heavy : T (positive (p .density)) × Ranges 24 (sizeOf (p .density))
+  heavy = density-checked (p .density) (checks .density) (g .heavy)
+
+  tip-not-below : NotBelow (valueOf (p .tip))
+  tip-not-below = not-below (p .tip) (reach .tip-most .finite) (tip-checked (p .root) (p .tip) (p .span) (p .sweep) points (g .f64s .1 .0) (checks .planform))
+
+  slender : b * den (p .root) ≤ 2 ^ 26 * num (p .root) * d
+  slender = go (num (p .root)) (den (p .root)) (mul-le-mul-right (64 * d) (lengths-sized .0 .above .size)) (mul-le-mul-right (den (p .root)) most)
+    where
+      go : (n e : ℕ) → 1 * e * (64 * d) ≤ n * 2 ^ 20 * (64 * d) → b * e ≤ 64 * d * e → b * e ≤ 2 ^ 26 * n * d
+      go n e h k = omega arith
+
+  abbrev y : Float → Float
+  y = plateAt (p .root) (p .tip) (p .span) (p .sweep) S b d N (p .thickness) thick-positive thick-ranges
+
+  abbrev f : Float → List Float
+  f = plateOf Shape points Square (p .thickness) (m .radius)
+
+  there : (h : Float) → T (inSpan (p .span) (h ⊗ S)) → T (positive (Area.endAt (p .root) (p .tip) (p .span) (p .sweep) S (b per d) N h ⊖ Area.startAt (p .root) (p .tip) (p .span) (p .sweep) S (b per d) N h)) → at (f h) 0 ≡ y h
+  there h t w = plate-there (p .root) (p .tip) (p .span) (p .sweep) (p .thickness) (m .radius) points h t (positive-above _ w)
+
+  span-above : lt (bits 0) (p .span) ≡ true
+  span-above = positive-above (p .span) (N .span-positive)
+
+  abbrev Strip : Worked
+  Strip = stripOf 7 f L (bits 0 ⊘ S) (p .span ⊘ S)
+
+  strips-are : setStrips set points L ≡ Strip ∷ []
+  strips-are =
+      rw (heights-are (p .root) (p .tip) (p .span) (p .sweep) points L span-above) (one-strip (p .root) (p .tip) (p .span) (p .sweep) points L span-above 7 f L S (bits 0) (p .span))
+
+  apart : eq (bits 0 ⊘ S) (p .span ⊘ S) ≡ false
+  apart = ends-differ (p .span) S (N .span-positive) (N .scale-positive) (in-range 48 _ (omega arith) (Chord.height-ranges (p .root) (p .tip) (p .span) (p .sweep) S (b per d) N))
+
+  one-piece : piecesOf Strip ≡ pieceOf 7 f (bits 0 ⊘ S) (p .span ⊘ S) ∷ []
+  one-piece =
+      only-piece 7 f (bits 0 ⊘ S) (p .span ⊘ S) L apart
+      (subst (λ (x : Bool). cond x 1 (length (piecesOf Strip)) ≡ 1) apart (sym (add-zero _) ∙ ap intervalsIn (sym strips-are) ∙ sym (figures .intervals) ∙ one))
+
+  volume-total : valueFrom (bits 0) 0 (setStrips set points L) ≡ volumeTotal (p .root) (p .tip) (p .span) (p .sweep) S b d N (p .thickness) thick-positive thick-ranges
+  volume-total =
+      let c = all-have-chords (p .root) (p .tip) (p .span) (p .sweep) S (b per d) N in
+      let u = centreOf (p .span) S in
+      let v = reachOf (p .span) S in
+      ap (valueFrom (bits 0) 0) strips-are
+      ∙ ap (λ (x : Float). bits 0 ⊕ x)
+      (total-one f (bits 0 ⊘ S) (p .span ⊘ S) (piecesOf Strip) one-piece
+      ∙ ap (λ (x : Float). bits 0 ⊕ v ⊗ x)
+      (same-sum 7 kronrodWeight (λ h. at (f h) 0) y u v (there u (c .centre) (centre-positive (p .root) (p .tip) (p .span) (p .sweep) S b d N root-positive tip-not-below (2 ^ 26) (le-refl (2 ^ 26)) slender))
+      (λ i k. there (minusSide u v i) (c .minus-side i k) (minus-positive (p .root) (p .tip) (p .span) (p .sweep) S b d N root-positive tip-not-below (2 ^ 26) (le-refl (2 ^ 26)) slender i k))
+      (λ i k. there (plusSide u v i) (c .plus-side i k) (plus-positive (p .root) (p .tip) (p .span) (p .sweep) S b d N root-positive tip-not-below (2 ^ 26) (le-refl (2 ^ 26)) slender i k))))
+
+  mass-is : r .body .«mass_kg» ≡ massesTo (p .root) (p .tip) (p .span) (p .sweep) S b d N (p .thickness) thick-positive thick-ranges (p .density) (heavy .0) (heavy .1) (m .count)
+  mass-is = figures .mass ∙ ap (λ (x : Float). inOrder (λ x y. x ⊕ y) (bits 0) (λ k. p .density ⊗ (x ⊗ cube S ⊕ bits 0)) (m .count)) volume-total
+
+  -- ---- in fractions
+  abbrev wide : Number
+  wide = (valueOf (p .root) plus valueOf (p .tip)) times number 1 0 2
+
+  sf : T (finite (p .span))
+  sf = positive-finite (p .span) (N .span-positive)
+
+  kf : T (finite (p .thickness))
+  kf = positive-finite (p .thickness) thick-positive
+
+  df : T (finite (p .density))
+  df = positive-finite (p .density) (heavy .0)
+
+  exact-fraction : IsFraction (number (m .count) 0 1 times massNumber (p .root) (p .tip) (p .span) (p .sweep) S b d N (p .thickness) thick-positive thick-ranges (p .density) (heavy .0) (heavy .1)) (exactMass p m)
+  exact-fraction =
+      let w = product (sum (fractionOf (p .root)) (fractionOf (p .tip))) (pos 1 over 2) in
+      let sw = product (fractionOf (p .span)) w in
+      let tw = product (fractionOf (p .thickness)) sw in
+      let dw = product (fractionOf (p .density)) tw in
+      times-fraction (number (m .count) 0 1) (valueOf (p .density) times (valueOf (p .thickness) times (valueOf (p .span) times wide))) (pos (m .count) over 1) dw (whole-fraction (m .count) 1)
+      (times-fraction (valueOf (p .density)) (valueOf (p .thickness) times (valueOf (p .span) times wide)) (fractionOf (p .density)) tw (value-fraction (p .density) df)
+      (times-fraction (valueOf (p .thickness)) (valueOf (p .span) times wide) (fractionOf (p .thickness)) sw (value-fraction (p .thickness) kf)
+      (times-fraction (valueOf (p .span)) wide (fractionOf (p .span)) w (value-fraction (p .span) sf)
+      (times-fraction (valueOf (p .root) plus valueOf (p .tip)) (number 1 0 2) (sum (fractionOf (p .root)) (fractionOf (p .tip))) (pos 1 over 2)
+      (plus-fraction (valueOf (p .root)) (valueOf (p .tip)) (fractionOf (p .root)) (fractionOf (p .tip)) (value-fraction (p .root) (reach .root-most .finite)) (value-fraction (p .tip) (reach .tip-most .finite)))
+      (whole-fraction 1 2)))))
+
+  own : (x : Float) → T (positive x) → IsFraction (number (num x) 0 (den x)) (fractionOf x)
+  own x q = own-fraction x (positive-finite x q) (positive-not-below x q)
+
+  mass-size : (n Nd Dd Nk Dk Np Dp Q : ℕ) → n * 14200 * (Nd * (1 * (Nk * (Np * b)))) * (d * Q * (Dd * (Dk * Dp))) ≤ n * b * (Nd * (Nk * Np)) * (Dd * (4 * (Dk * (Dp * d))) * (Q * 4096))
+  mass-size n Nd Dd Nk Dk Np Dp Q = simp plain (omega arith)
+
+  mass-near : Apart (product (pos (m .count * b) over (d * 2 ^ 41)) (product (fractionOf (p .density)) (product (fractionOf (p .thickness)) (fractionOf (p .span))))) (fractionOf (r .body .«mass_kg»)) (exactMass p m)
+  mass-near =
+      let M = massesTo (p .root) (p .tip) (p .span) (p .sweep) S b d N (p .thickness) thick-positive thick-ranges (p .density) (heavy .0) (heavy .1) (m .count) in
+      let X = number (m .count) 0 1 times massNumber (p .root) (p .tip) (p .span) (p .sweep) S b d N (p .thickness) thick-positive thick-ranges (p .density) (heavy .0) (heavy .1) in
+      let Y = massUnit (p .root) (p .tip) (p .span) (p .sweep) S b d N (p .thickness) thick-positive thick-ranges (p .density) (heavy .0) (heavy .1) in
+      let v = masses-valued (p .root) (p .tip) (p .span) (p .sweep) S b d N (p .thickness) thick-positive thick-ranges (p .density) (heavy .0) (heavy .1) (m .count) (set-count set points L (length entry) (figures .accepted) .1) in
+      let tw = product (fractionOf (p .thickness)) (fractionOf (p .span)) in
+      let dw = product (fractionOf (p .density)) tw in
+      let e = product (pos (m .count * b) over (d * 2 ^ 41)) dw in
+      let A = m .count * b * (num (p .density) * (num (p .thickness) * num (p .span))) in
+      let C = d * 2 ^ 41 * (den (p .density) * (den (p .thickness) * den (p .span))) in
+      let vr = mass-ranges (p .root) (p .tip) (p .span) (p .sweep) S b d N (p .thickness) thick-positive thick-ranges (p .density) (heavy .0) (heavy .1) in
+      subst (λ (x : Float). Apart e (fractionOf x) (exactMass p m)) (sym mass-is)
+      (within-fraction A C (valueOf M) X e (fractionOf M) (exactMass p m)
+      (mul-pos (mul-pos (reach .is-size) (pow-pos 41)) (mul-pos (den-pos (p .density)) (mul-pos (den-pos (p .thickness)) (den-pos (p .span))))) (Counts.value-is M) (v .is)
+      (product-fraction (m .count * b) (d * 2 ^ 41) (num (p .density) * (num (p .thickness) * num (p .span))) (den (p .density) * (den (p .thickness) * den (p .span))) (pos (m .count * b) over (d * 2 ^ 41)) dw
+      (whole-fraction (m .count * b) (d * 2 ^ 41))
+      (product-fraction (num (p .density)) (den (p .density)) (num (p .thickness) * num (p .span)) (den (p .thickness) * den (p .span)) (fractionOf (p .density)) tw (own (p .density) (heavy .0))
+      (product-fraction (num (p .thickness)) (den (p .thickness)) (num (p .span)) (den (p .span)) (fractionOf (p .thickness)) (fractionOf (p .span)) (own (p .thickness) thick-positive) (own (p .span) (N .span-positive)))))
+      (value-fraction M (v .near .finite)) exact-fraction
+      (within-upto ((m .count * 14200) roundoffs Y) (A per C) (valueOf M) X (Counts.roundoffs-is (m .count * 14200) Y (vr .real))
+      (mass-size (m .count) (num (p .density)) (den (p .density)) (num (p .thickness)) (den (p .thickness)) (num (p .span)) (den (p .span)) (2 ^ 41)) (v .near .within)))
+
+pub one-piece-mass : OnePieceMass
+one-piece-mass p m points L entry r exit b d g one reach most = mass-near p m points L entry r exit b d g one reach most

@@ -1,0 +1,247 @@
+-- The volume of a plate of square section whose strip is one piece, and the mass of a ring of such fins, are near the exact ones. Assumes nothing.
+use mathlib.Core.Path.{_≡_, refl, sym, ap, _∙_, subst}
+use mathlib.Core.Bool.{_&&_}
+use mathlib.Core.List.{List, [], _∷_}
+use Prim.Native.Nat.{ℕ, zero, suc, _+_, _*_, _^_, _≤_, _<_}
+use native.Mathlib.Nat.{mul-pos, mul-add, add-mul, mul-comm, mul-assoc, mul-left-comm, one-mul, mul-one, zero-mul, mul-zero, zero-add, add-zero}
+use native.Mathlib.Omega.{arith}
+use lib.Dec.{T}
+use lib.Pow.{pow-pos}
+use lib.Ieee.{Float, ofBits}
+use lib.Ieee.Scale.{finite}
+use lib.Ieee.Positive.{num, den, den-pos, positive, positive-finite}
+use Rattle.floats.specs.Operations.{_⊕_, _⊖_, _⊗_, _⊘_, bits}
+use Rattle.floats.specs.Floats.{cube}
+use Rattle.joins.specs.Joins.{inOrder}
+use Rattle.rounding_error.proofs.Numbers.{Number, number, Size, _per_, _plus_, _less_, _times_, _by_, _for_, _of_, _roundoffs_, _upto_, IsNumber, IsSize, Under, valueOf, zeroNumber, sizeOf, InRange, Ranges}
+use Rattle.rounding_error.proofs.Distances.{sorted}
+use Rattle.rounding_error.proofs.Ranges.{ranges-by, ranges-for, in-range}
+use Rattle.rounding_error.proofs.Counts as Counts
+use Rattle.rounding_error.proofs.Chains.{Valued, inverse, inverse-is, inverse-times, in-bounds, counted, counted-by, exactly, equalled, resized, plus-valued, times-valued, exact-times, over-valued}
+use Rattle.rounding_error.proofs.Polynomials.{_equals_, trans, itself, times-equal, plus-is, times-is, AllNumbers, Expression, given, ratio, _add_, _take_, _mul_, equal-by, evaluated-is}
+use Rattle.accuracy.proofs.Samples.{one, quarter}
+use Rattle.accuracy.proofs.Given.{Lengths}
+use Rattle.accuracy.proofs.Areas.{quarter-ranges}
+use Rattle.accuracy.proofs.Weighted.{middle, Sampled, nought}
+use Rattle.accuracy.proofs.Quadratic.{Quadratic, integral}
+use Rattle.accuracy.proofs.OnePiece.{centreOf, reachOf}
+use Rattle.accuracy.proofs.ChordEnds as Chord
+use Rattle.accuracy.proofs.AreaSamples as Area
+use Rattle.accuracy.proofs.AreaIntegrals as Totals
+use Rattle.accuracy.proofs.Integrals.{from-zero, totalOver, totalError, sumSize, total-valued}
+
+ruleset plain = (sorted, one-mul, mul-one, zero-mul, mul-zero, zero-add, add-zero)
+
+unscaled : (b d Np Dp Ns Ds Nk Dk : ℕ)
+    → Np * Ds * (1 * (Nk * Ds * (b * Ds))) * (Ns * (Ns * Ns)) * (4 * (Dk * (Dp * d))) ≤ 1 * (Nk * (Np * b)) * (Ns * Dp * (4 * (Ns * Dk * (Ns * d))) * (Ds * (Ds * Ds)))
+unscaled b d Np Dp Ns Ds Nk Dk = simp plain (omega arith)
+
+module _ (root tip span sweep scale : Float) (b d : ℕ) (g : Lengths root tip span sweep scale (b per d)) (thickness : Float) (tp : T (positive thickness)) (tr : Ranges 24 (sizeOf thickness)) where
+  abbrev S : Number
+  S = valueOf sweep
+
+  abbrev R : Number
+  R = valueOf root
+
+  abbrev Tp : Number
+  Tp = valueOf tip
+
+  abbrev P : Number
+  P = valueOf span
+
+  abbrev s : Number
+  s = valueOf scale
+
+  abbrev σ : Number
+  σ = inverse scale
+
+  abbrev Tk : Number
+  Tk = valueOf thickness
+
+  abbrev U : Number
+  U = Chord.U root tip span sweep scale (b per d) g
+
+  abbrev H : Size
+  H = Chord.H root tip span sweep scale (b per d) g
+
+  abbrev Bs : Size
+  Bs = Chord.Bs root tip span sweep scale (b per d) g
+
+  abbrev TKs : Size
+  TKs = sizeOf thickness for scale
+
+  ks : Ranges 48 TKs
+  ks = ranges-for 24 24 (sizeOf thickness) scale (g .scale-positive) tr (g .scale-ranges)
+
+  pub thickness-valued : Valued (thickness ⊘ scale) (Tk times σ) 2 1 TKs
+  thickness-valued =
+      over-valued scale (g .scale-positive) (den-pos thickness) (in-range 48 TKs (omega arith) ks) tt (exactly thickness 1 (sizeOf thickness) (positive-finite thickness tp) (Counts.own-size thickness tp))
+
+  -- thickness times width
+  abbrev pub plateAt : Float → Float
+  plateAt h = bits 0 ⊕ thickness ⊘ scale ⊗ (Area.endAt root tip span sweep scale (b per d) g h ⊖ Area.startAt root tip span sweep scale (b per d) g h)
+
+  abbrev plate : Number → Number
+  plate τ = (Tk times σ) times Area.width root tip span sweep scale (b per d) g τ
+
+  plate-ranges : Ranges 96 (TKs by Bs)
+  plate-ranges = ranges-by 48 48 TKs Bs ks (Chord.scaled-ranges root tip span sweep scale (b per d) g)
+
+  plates-sampled : Sampled plateAt plate (centreOf span scale) (reachOf span scale) 355 5 (TKs by Bs)
+  plates-sampled =
+      Area.sampled root tip span sweep scale (b per d) g plateAt plate 355 5 (TKs by Bs) (λ h τ i u z.
+      from-zero 348 5 (TKs by Bs) (in-range 96 (TKs by Bs) (omega arith) plate-ranges) (omega arith) (omega arith)
+      (times-valued {A = TKs} {B = Bs} (ks .real) (Chord.scaled-ranges root tip span sweep scale (b per d) g .real) (in-range 96 (TKs by Bs) (omega arith) plate-ranges) tt thickness-valued
+      (Area.across-valued root tip span sweep scale (b per d) g h τ i u z)))
+
+  -- sweep, root, tip, 1/scale, span/scale, a fraction, thickness
+  abbrev all : Number → List Number
+  all x = S ∷ R ∷ Tp ∷ σ ∷ U ∷ x ∷ Tk ∷ []
+
+  iσ : IsNumber σ
+  iσ = inverse-is scale (g .scale-positive)
+
+  iU : IsNumber U
+  iU = Chord.U-is root tip span sweep scale (b per d) g
+
+  values : (x : Number) → IsNumber x → AllNumbers (all x)
+  values x i = (Counts.value-is sweep, (Counts.value-is root, (Counts.value-is tip, (iσ, (iU, (i, (Counts.value-is thickness, tt)))))))
+
+  abbrev plateE : Expression → Expression
+  plateE τ = given 6 mul given 3 mul Totals.widthE τ
+
+  plate-quadratic : Quadratic plate zeroNumber
+  plate-quadratic =
+      record {
+        is = λ τ i. evaluated-is (all τ) (values τ i) (plateE (given 5));
+        q-is = pow-pos 0;
+        even = λ x i. equal-by (all x) (values x i) (Totals.bothE plateE) (Totals.twiceE plateE (ratio 0 0)) tt;
+      }
+
+  abbrev pub volumeTotal : Float
+  volumeTotal = totalOver root tip span sweep scale (b per d) g plateAt
+
+  total : Valued volumeTotal (U times integral plate zeroNumber) (totalError 355 5 0) 40 (H by (quarter by (TKs by Bs)))
+  total =
+      total-valued root tip span sweep scale (b per d) g plateAt plate zeroNumber 355 5 0 96 (TKs by Bs) (omega arith) (omega arith) (omega arith) (omega arith) plate-ranges plate-quadratic
+      (Totals.none-under root tip span sweep scale (b per d) g (TKs by Bs)) plates-sampled
+
+  -- ---- times the cube of the scale: thickness·span·(root + tip)/2
+  abbrev SS : Size
+  SS = sizeOf scale
+
+  scale-exactly : Valued scale s 0 1 SS
+  scale-exactly = exactly scale 1 SS (positive-finite scale (g .scale-positive)) (Counts.own-size scale (g .scale-positive))
+
+  sr : Ranges 48 (SS by SS)
+  sr = ranges-by 24 24 SS SS (g .scale-ranges) (g .scale-ranges)
+
+  cr : Ranges 72 (SS by (SS by SS))
+  cr = ranges-by 24 48 SS (SS by SS) (g .scale-ranges) sr
+
+  cube-valued : Valued (cube scale) (s times (s times s)) 4 1 (SS by (SS by SS))
+  cube-valued =
+      exact-times scale 1 SS (den-pos scale) (sr .real) (in-range 72 (SS by (SS by SS)) (omega arith) cr) tt (positive-finite scale (g .scale-positive)) (Counts.own-size scale (g .scale-positive))
+      (exact-times scale 1 SS (den-pos scale) (den-pos scale) (in-range 48 (SS by SS) (omega arith) sr) tt (positive-finite scale (g .scale-positive)) (Counts.own-size scale (g .scale-positive)) scale-exactly)
+
+  abbrev pub volumeNumber : Number
+  volumeNumber = Tk times (P times ((R plus Tp) times middle))
+
+  abbrev ss : Number
+  ss = s times σ
+
+  is : IsNumber s
+  is = Counts.value-is scale
+
+  iss : IsNumber ss
+  iss = times-is s σ is iσ
+
+  pub volume-is : IsNumber volumeNumber
+  volume-is =
+      times-is Tk (P times ((R plus Tp) times middle)) (Counts.value-is thickness)
+      (times-is P ((R plus Tp) times middle) (Counts.value-is span) (times-is (R plus Tp) middle (plus-is R Tp (Counts.value-is root) (Counts.value-is tip)) (pow-pos 1)))
+
+  volume-exact : (U times integral plate zeroNumber) times (s times (s times s)) equals volumeNumber
+  volume-exact =
+      trans (times-is ((ss times ss) times ss) volumeNumber (times-is (ss times ss) ss (times-is ss ss iss iss) iss) volume-is)
+      (equal-by (S ∷ R ∷ Tp ∷ σ ∷ P ∷ s ∷ Tk ∷ []) (Counts.value-is sweep, (Counts.value-is root, (Counts.value-is tip, (iσ, (Counts.value-is span, (is, (Counts.value-is thickness, tt)))))))
+      (given 4 mul given 3 mul (given 6 mul given 3 mul Totals.widthE (ratio 1 1) add ratio 1 23 mul ratio 0 0) mul (given 5 mul (given 5 mul given 5)))
+      (given 5 mul given 3 mul (given 5 mul given 3) mul (given 5 mul given 3) mul (given 6 mul (given 4 mul ((given 1 add given 2) mul ratio 1 1)))) tt)
+      (trans (times-is ((1′ times 1′) times 1′) volumeNumber (pow-pos 0) volume-is)
+      (times-equal (times-is (ss times ss) ss (times-is ss ss iss iss) iss) (pow-pos 0) volume-is volume-is
+      (times-equal (times-is ss ss iss iss) (pow-pos 0) iss (pow-pos 0) (times-equal iss (pow-pos 0) iss (pow-pos 0) unit unit) unit) (itself {x = volumeNumber}))
+      (equal-by (volumeNumber ∷ []) (volume-is, tt) (ratio 1 0 mul ratio 1 0 mul ratio 1 0 mul given 0) (given 0) tt))
+    where
+      1′ : Number
+      1′ = number 1 0 1
+
+      unit : ss equals number 1 0 1
+      unit = inverse-times scale (g .scale-positive)
+
+  -- a quarter of thickness·span·B
+  abbrev pub unit : Size
+  unit = quarter by (sizeOf thickness by (sizeOf span by (b per d)))
+
+  pub unit-ranges : Ranges 74 unit
+  unit-ranges = ranges-by 2 72 quarter (sizeOf thickness by (sizeOf span by (b per d))) quarter-ranges (ranges-by 24 48 (sizeOf thickness) (sizeOf span by (b per d)) tr (ranges-by 24 24 (sizeOf span) (b per d) (g .span-ranges) (g .ranges)))
+
+  total-ranges : Ranges 146 (H by (quarter by (TKs by Bs)))
+  total-ranges = ranges-by 48 98 H (quarter by (TKs by Bs)) (Chord.height-ranges root tip span sweep scale (b per d) g) (ranges-by 2 96 quarter (TKs by Bs) quarter-ranges plate-ranges)
+
+  pub volume-valued : Valued (volumeTotal ⊗ cube scale) volumeNumber 12702 40 unit
+  volume-valued =
+      resized (H by (quarter by (TKs by Bs)) by (SS by (SS by SS))) unit (Counts.by-is (H by (quarter by (TKs by Bs))) (SS by (SS by SS)) (total-ranges .real) (cr .real))
+      (unscaled b d (num span) (den span) (num scale) (den scale) (num thickness) (den thickness))
+      (equalled
+      (times-valued {A = H by (quarter by (TKs by Bs))} {B = SS by (SS by SS)} (total-ranges .real) (cr .real)
+      (in-range 218 (H by (quarter by (TKs by Bs)) by (SS by (SS by SS))) (omega arith) (ranges-by 146 72 (H by (quarter by (TKs by Bs))) (SS by (SS by SS)) total-ranges cr)) tt total cube-valued)
+      volumeNumber volume-is volume-exact)
+
+  -- ---- with no tab, times the density, and so many fins together
+  module _ (density : Float) (dp : T (positive density)) (dr : Ranges 24 (sizeOf density)) where
+    abbrev pub massOf : Float
+    massOf = density ⊗ (volumeTotal ⊗ cube scale ⊕ bits 0)
+
+    abbrev pub massNumber : Number
+    massNumber = valueOf density times volumeNumber
+
+    abbrev pub massUnit : Size
+    massUnit = sizeOf density by unit
+
+    pub mass-ranges : Ranges 98 massUnit
+    mass-ranges = ranges-by 24 74 (sizeOf density) unit dr unit-ranges
+
+    mr : InRange massUnit
+    mr = in-range 98 massUnit (omega arith) mass-ranges
+
+    pub mass-is : IsNumber massNumber
+    mass-is = times-is (valueOf density) volumeNumber (Counts.value-is density) volume-is
+
+    no-tab : Valued (volumeTotal ⊗ cube scale ⊕ bits 0) volumeNumber 12744 40 unit
+    unfolding ofBits
+    no-tab =
+        equalled (plus-valued (in-range 74 unit (omega arith) unit-ranges) tt volume-valued (nought unit)) volumeNumber volume-is (equal-by (volumeNumber ∷ []) (volume-is, tt) (given 0 add ratio 0 0) (given 0) tt)
+
+    mass-valued : Valued massOf massNumber 12785 40 massUnit
+    mass-valued = exact-times density 1 (sizeOf density) (den-pos density) (unit-ranges .real) mr tt (positive-finite density dp) (Counts.own-size density dp) no-tab
+
+    abbrev pub massesTo : ℕ → Float
+    massesTo n = inOrder (λ x y. x ⊕ y) (bits 0) (λ k. massOf) n
+
+    one-more : (n : ℕ) (X : Number) → (number n 0 1 times X) plus X equals number (suc n) 0 1 times X
+    one-more n (number p q e) = record { same = parts n p q e }
+      where
+        parts : (n p q e : ℕ)
+            → ((n * p + 0 * q) * e + p * (1 * e)) * (1 * e) + (suc n * q + 0 * p) * (1 * e * e) ≡ (suc n * p + 0 * q) * (1 * e * e) + ((n * q + 0 * p) * e + q * (1 * e)) * (1 * e)
+        parts n p q e = simp plain (omega arith)
+
+    pub masses-valued : (n : ℕ) → n ≤ 32 → Valued (massesTo n) (number n 0 1 times massNumber) (n * 14200) (n * 40) massUnit
+    unfolding inOrder ofBits
+    masses-valued zero l =
+        counted-by (equalled (nought massUnit) (number 0 0 1 times massNumber) (times-is (number 0 0 1) massNumber (pow-pos 0) mass-is) (equal-by (massNumber ∷ []) (mass-is, tt) (ratio 0 0) (ratio 0 0 mul given 0) tt))
+        (0 * 14200) (0 * 40) (mr .real) (omega arith) (omega arith)
+    masses-valued (suc n) l =
+        counted-by
+        (equalled (plus-valued mr (in-bounds (n * 14200) 12785 (n * 40) 40 (omega arith) (omega arith) (omega arith) (omega arith)) (masses-valued n (omega arith)) mass-valued)
+        (number (suc n) 0 1 times massNumber) (times-is (number (suc n) 0 1) massNumber (pow-pos 0) mass-is) (one-more n massNumber))
+        (suc n * 14200) (suc n * 40) (mr .real) (omega arith) (omega arith)

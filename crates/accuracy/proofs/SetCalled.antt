@@ -1,0 +1,204 @@
+-- What the call for a set's figures gives for trapezoids of square section with no tab and no fillet: their mass. Assumes nothing.
+use mathlib.Core.Path.{_≡_, refl, sym, ap, _∙_, subst}
+use mathlib.Core.Bool.{Bool, true, false, not, cond}
+use mathlib.Core.List.{List, [], _∷_}
+use Prim.Native.Nat.{ℕ, zero, suc, _+_, _*_, _^_, _≤_, _<_}
+use native.Mathlib.Nat.{add-zero, mul-pos, zero-mul, mul-one, one-mul, mul-add, add-mul, mul-comm, mul-assoc, mul-left-comm, mul-zero, zero-add}
+use native.Mathlib.Omega.{arith}
+use lib.Dec.{T}
+use lib.ListN.{length}
+use lib.Ieee.{Float, lt, le, eq, ofBits}
+use lib.Ieee.Bits.{is-true}
+use lib.Ieee.Positive.{positive}
+use Rattle.floats.specs.Operations.{_⊕_, _⊖_, _⊗_, _⊘_, bits, at}
+use Rattle.floats.specs.Constants.{half}
+use Rattle.floats.specs.Floats.{cube}
+use Rattle.floats.proofs.Bools.{no}
+use Rattle.floats.proofs.Order.{le-not-below}
+use Rattle.refusals.specs.declared.Refusal.{Refusal}
+use Rattle.refusals.specs.declared.Refusal.the-variants.{NoArea}
+use Rattle.refusals.specs.declared.Verdict.{Verdict}
+use Rattle.refusals.specs.declared.Verdict.the-variants.{Accepted, Refused}
+use Rattle.refusals.specs.Order.{firstOf}
+use Rattle.refusals.proofs.Accepted.{each-accepts}
+use Rattle.limits.specs.Limits.{countCheck}
+use Rattle.planforms.specs.declared.Planform.{Planform}
+use Rattle.planforms.specs.declared.Planform.the-variants.{Trapezoid}
+use Rattle.planforms.specs.Planforms.{rootChordOf}
+use Rattle.sections.specs.declared.Section.the-variants.{Square}
+use Rattle.sections.specs.ChordMoments.{chordMoments}
+use Rattle.chords.specs.Chords.{inSpan, trapezoidAt, endsAt, paired}
+use Rattle.integrands.specs.Integrands.{scaleOf, sumsFrom, sampleOf, plateOf}
+use Rattle.integrands.specs.declared.Kind.the-variants.{Plate as plateKind}
+use Rattle.quadrature.specs.Rule.{halfWidth, kronrodWeight, sumOf, pieceOf}
+use Rattle.quadrature.specs.declared.Piece.{Piece}
+use Rattle.tolerance.specs.Bounds.{totalOf}
+use Rattle.halving.specs.Halving.{verdictOf}
+use Rattle.halving.specs.Scratch.{intervalsOf}
+use Rattle.strips.specs.Strips.{Worked, stripOf, piecesOf, valueFrom, byVerdict, summedOf, totalsOf, givenTotals, refusedTotals, concludedOf, intervalsIn}
+use Rattle.strips.specs.declared.Totals.{Totals}
+use Rattle.bodies.specs.declared.Body.{Body}
+use Rattle.bodies.specs.declared.Vector.{Vector}
+use Rattle.bodies.specs.Bodies.{rotatedOf, ofOriginTensor}
+use Rattle.joins.specs.declared.Joined.{Joined}
+use Rattle.joins.specs.Joins.{inOrder, sumsOf, joinOf, unlessRefused, acceptedBody, refusedBody, twoBodies}
+use Rattle.rings.specs.Rings.{ringOf, joinedCopies, rolledCopy}
+use Rattle.fillets.specs.declared.Fillet.{Fillet}
+use Rattle.fillets.specs.Fillets.{isNone, filletsOf}
+use Rattle.sets.specs.Sets.{joinedFinsOf}
+use Rattle.fins.specs.declared.FinSet.{FinSet}
+use Rattle.fins.specs.Fins.{setCheck}
+use Rattle.plates.specs.Integrals.{volume, tabIntegralsOf}
+use Rattle.plates.specs.Plates.{plateBody, withFillets, cantedOf, bulkFin, singleFinOf, integralsOf, pivotOf}
+use Rattle.figures.specs.Figures.{setStrips, workedFigures, setFigures, concludedSet, refusedFigures, joinedFigures}
+use Rattle.figures.specs.declared.Figures.{Figures}
+use Rattle.figures.proofs.Reports.{no-refusal}
+use Rattle.accuracy.specs.Masses.{Plate, Mount, setOf}
+use Rattle.accuracy.proofs.Called.{chosen, one-strip, heights-are}
+
+-- ---- a chord wider than 0, in the span
+positive-over : (c : Float) → lt (bits 0) c ≡ true → le c (bits 0) ≡ false
+positive-over c h = go (le c (bits 0)) refl
+  where
+    go : (b : Bool) → le c (bits 0) ≡ b → b ≡ false
+    go false e = refl
+    go true e = sym h ∙ le-not-below c (bits 0) e
+
+moment-there : (x : Bool) (root tip sweep f scale h t q : Float) → x ≡ true → le ((sweep ⊗ f ⊕ root ⊕ (tip ⊖ root) ⊗ f) ⊘ scale ⊖ sweep ⊗ f ⊘ scale) (bits 0) ≡ false
+    → at (sumsFrom (plateKind Square t q) scale h (bits 0 ∷ bits 0 ∷ bits 0 ∷ bits 0 ∷ []) (paired (cond x (trapezoidAt root tip sweep f) []))) 0
+    ≡ bits 0 ⊕ t ⊗ ((sweep ⊗ f ⊕ root ⊕ (tip ⊖ root) ⊗ f) ⊘ scale ⊖ sweep ⊗ f ⊘ scale)
+unfolding paired sumsFrom chordMoments
+moment-there true root tip sweep f scale h t q e w = rw w
+moment-there false root tip sweep f scale h t q e w = no (sym e)
+
+pub plate-there : (root tip span sweep thickness radius : Float) (points : List Float) (h : Float) → T (inSpan span (h ⊗ scaleOf (Trapezoid root tip span sweep) points))
+    → lt (bits 0) ((sweep ⊗ (h ⊗ scaleOf (Trapezoid root tip span sweep) points ⊘ span) ⊕ root ⊕ (tip ⊖ root) ⊗ (h ⊗ scaleOf (Trapezoid root tip span sweep) points ⊘ span)) ⊘ scaleOf (Trapezoid root tip span sweep) points
+    ⊖ sweep ⊗ (h ⊗ scaleOf (Trapezoid root tip span sweep) points ⊘ span) ⊘ scaleOf (Trapezoid root tip span sweep) points) ≡ true
+    → at (plateOf (Trapezoid root tip span sweep) points Square thickness radius h) 0
+    ≡ bits 0 ⊕ thickness ⊘ scaleOf (Trapezoid root tip span sweep) points
+    ⊗ ((sweep ⊗ (h ⊗ scaleOf (Trapezoid root tip span sweep) points ⊘ span) ⊕ root ⊕ (tip ⊖ root) ⊗ (h ⊗ scaleOf (Trapezoid root tip span sweep) points ⊘ span)) ⊘ scaleOf (Trapezoid root tip span sweep) points
+    ⊖ sweep ⊗ (h ⊗ scaleOf (Trapezoid root tip span sweep) points ⊘ span) ⊘ scaleOf (Trapezoid root tip span sweep) points)
+unfolding plateOf sampleOf endsAt
+plate-there root tip span sweep thickness radius points h t w =
+    let s = scaleOf (Trapezoid root tip span sweep) points in
+    moment-there (inSpan span (h ⊗ s)) root tip sweep (h ⊗ s ⊘ span) s h (thickness ⊘ s) (radius ⊘ s) (is-true _ t) (positive-over _ w)
+
+-- ---- the answer
+pub record Given (p : Plate) (m : Mount) (points : List Float) (L n : ℕ) (r : Figures) : Type 0 where
+  pub accepted : setCheck (setOf p m) points L n ≡ Accepted
+  pub intervals : r .intervals ≡ intervalsIn (setStrips (setOf p m) points L)
+  pub mass : r .body .«mass_kg» ≡ inOrder (λ x y. x ⊕ y) (bits 0)
+      (λ k. p .density ⊗ (valueFrom (bits 0) 0 (setStrips (setOf p m) points L) ⊗ cube (scaleOf (setOf p m .planform) points) ⊕ bits 0)) (m .count)
+
+-- a join that is no refusal
+unless-accepted : (v : Verdict) (body : Body) → unlessRefused v body .verdict ≡ Accepted → (v ≡ Accepted) × (unlessRefused v body ≡ acceptedBody body)
+unless-accepted Accepted body e = (refl, refl)
+unless-accepted (Refused refusal) body e = no-refusal refusal e
+
+turned-mass : (x : Bool) (a b : Body) → a .«mass_kg» ≡ b .«mass_kg» → cond x a b .«mass_kg» ≡ a .«mass_kg»
+turned-mass true a b e = refl
+turned-mass false a b e = sym e
+
+zero-equal : eq (bits 0) (bits 0) ≡ true
+unfolding eq ofBits
+zero-equal = refl
+
+-- one fin's mass: with no fillets, and however it is canted
+fin-mass : (v : List Float) (fillets : Body) (kgPerM3 cant : Float) (pivot : Vector) → fillets .«mass_kg» ≡ bits 0 → cantedOf (withFillets (plateBody v kgPerM3) fillets) cant pivot .«mass_kg» ≡ kgPerM3 ⊗ volume v
+unfolding cantedOf withFillets plateBody ofOriginTensor rotatedOf
+fin-mass v fillets kgPerM3 cant pivot e =
+    turned-mass (eq cant (bits 0)) (withFillets (plateBody v kgPerM3) fillets) _ refl
+    ∙ ap (λ (x : Float). cond (eq x (bits 0)) (plateBody v kgPerM3) (joinOf (twoBodies (plateBody v kgPerM3) fillets) 2) .«mass_kg») e
+    ∙ ap (λ (b : Bool). cond b (plateBody v kgPerM3) (joinOf (twoBodies (plateBody v kgPerM3) fillets) 2) .«mass_kg») zero-equal
+
+bulk-given : (v : List Float) (fillets : Body) (cant : Float) (pivot : Vector) (kgPerM3 : Float) → bulkFin v fillets cant pivot kgPerM3 .verdict ≡ Accepted
+    → bulkFin v fillets cant pivot kgPerM3 .body ≡ cantedOf (withFillets (plateBody v kgPerM3) fillets) cant pivot
+unfolding bulkFin
+bulk-given v fillets cant pivot kgPerM3 = go (le (volume v) (bits 0))
+  where
+    body : Body
+    body = cantedOf (withFillets (plateBody v kgPerM3) fillets) cant pivot
+
+    go : (b : Bool) → cond b (refusedBody NoArea) (acceptedBody body) .verdict ≡ Accepted → cond b (refusedBody NoArea) (acceptedBody body) .body ≡ body
+    go true e = no-refusal NoArea e
+    go false e = refl
+
+-- copies of it, turned and joined
+ring-mass : (body : Body) (base : Float) (count : ℕ) → joinedCopies body base count .«mass_kg» ≡ inOrder (λ x y. x ⊕ y) (bits 0) (λ k. body .«mass_kg») count
+unfolding joinOf sumsOf rotatedOf
+ring-mass body base count = refl
+
+no-fillets : (f : Fillet) (radius l : Float) → isNone (f .«radius_m») radius ≡ true → filletsOf f radius l .«mass_kg» ≡ bits 0
+unfolding filletsOf
+no-fillets f radius l e = rw e
+
+module _ (p : Plate) (m : Mount) (points : List Float) (L n : ℕ) (r : Figures) (answer : r ≡ setFigures (setOf p m) points L n) (given : r .verdict ≡ Accepted)
+    (none : isNone (m .fillet .«radius_m») (m .radius) ≡ true) where
+  abbrev set : FinSet
+  set = setOf p m
+
+  abbrev scale : Float
+  scale = scaleOf (set .planform) points
+
+  abbrev root : Float
+  root = rootChordOf (set .planform) points
+
+  abbrev strips : List Worked
+  strips = setStrips set points L
+
+  abbrev verdictIn : Figures → Verdict
+  verdictIn a = a .verdict
+
+  set-chosen : (setCheck set points L n ≡ Accepted) × (r ≡ workedFigures set points L)
+  unfolding setFigures
+  set-chosen = chosen (setCheck set points L n) (workedFigures set points L) (λ refusal. refusedFigures refusal 0) verdictIn (λ refusal. refl) r answer given
+
+  abbrev total : Totals
+  total = totalsOf strips
+
+  abbrev joined : Joined
+  joined = joinedFinsOf set root scale (total .value)
+
+  run-chosen : (total .verdict ≡ Accepted) × (r ≡ joinedFigures joined (total .intervals) (total .samples))
+  unfolding concludedSet
+  run-chosen = chosen (total .verdict) (joinedFigures joined (total .intervals) (total .samples)) (λ refusal. refusedFigures refusal (total .samples)) verdictIn (λ refusal. refl) r (set-chosen .1) given
+
+  joined-chosen : (joined .verdict ≡ Accepted) × (r ≡ record { verdict = Accepted; body = joined .body; intervals = total .intervals; samples = total .samples })
+  joined-chosen =
+      chosen (joined .verdict) (record { verdict = Accepted; body = joined .body; intervals = total .intervals; samples = total .samples }) (λ refusal. refusedFigures refusal (total .samples)) verdictIn
+      (λ refusal. refl) r (run-chosen .1) given
+
+  totals-chosen : total ≡ givenTotals (summedOf strips)
+  unfolding concludedOf
+  totals-chosen = chosen (verdictOf (summedOf strips .ending)) (givenTotals (summedOf strips)) (λ refusal. refusedTotals refusal (summedOf strips .samples)) (λ (t : Totals). t .verdict) (λ refusal. refl) total refl (run-chosen .0) .1
+
+  abbrev one : Joined
+  one = singleFinOf set root scale (total .value)
+
+  ring-given : (one .verdict ≡ Accepted) × (joined .body ≡ joinedCopies (one .body) (m .base) (m .count))
+  unfolding ringOf
+  ring-given =
+      let u = unless-accepted (firstOf (countCheck (m .count) ∷ one .verdict ∷ [])) (joinedCopies (one .body) (m .base) (m .count)) (joined-chosen .0) in
+      let (a, (b, c)) = each-accepts (countCheck (m .count) ∷ one .verdict ∷ []) (u .0) in
+      (b, ap (λ (j : Joined). j .body) (u .1))
+
+  one-mass : one .body .«mass_kg» ≡ p .density ⊗ volume (integralsOf set scale (total .value))
+  unfolding singleFinOf
+  one-mass =
+      ap (λ (x : Body). x .«mass_kg»)
+      (bulk-given (integralsOf set scale (total .value)) (filletsOf (m .fillet) (m .radius) root) (m .cant) (pivotOf (m .radius) root) (p .density) (ring-given .0))
+      ∙ fin-mass (integralsOf set scale (total .value)) (filletsOf (m .fillet) (m .radius) root) (p .density) (m .cant) (pivotOf (m .radius) root) (no-fillets (m .fillet) (m .radius) root none)
+
+  volume-is : volume (integralsOf set scale (total .value)) ≡ valueFrom (bits 0) 0 strips ⊗ cube scale ⊕ bits 0
+  unfolding tabIntegralsOf
+  volume-is = ap (λ (t : Totals). at (t .value) 0 ⊗ cube scale ⊕ bits 0) totals-chosen
+
+  pub set-given : Given p m points L n r
+  set-given =
+      record {
+        accepted = set-chosen .0;
+        intervals = ap (λ (a : Figures). a .intervals) (joined-chosen .1) ∙ ap (λ (t : Totals). t .intervals) totals-chosen;
+        mass =
+            ap (λ (a : Figures). a .body .«mass_kg») (joined-chosen .1) ∙ ap (λ (x : Body). x .«mass_kg») (ring-given .1) ∙ ring-mass (one .body) (m .base) (m .count)
+            ∙ ap (λ (x : Float). inOrder (λ x y. x ⊕ y) (bits 0) (λ k. x) (m .count)) (one-mass ∙ ap (λ (x : Float). p .density ⊗ x) volume-is);
+      }
