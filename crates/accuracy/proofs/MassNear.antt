@@ -1,11 +1,11 @@
--- The mass that the call gives for trapezoids of square section, with no tab and no fillet, is near the exact one, where their strip is one piece.
+-- The mass that the call gives for trapezoids of square section, with a tab or none and no fillet, is near the exact one, where their strip is one piece.
 -- Assumes nothing.
 use mathlib.Core.Path.{_≡_, refl, sym, ap, _∙_, subst}
 use mathlib.Core.Logic.{inl, inr}
 use mathlib.Core.Bool.{Bool, true, false, cond, _||_}
 use mathlib.Core.List.{List, [], _∷_}
 use Prim.Native.Nat.{ℕ, zero, suc, _+_, _*_, _^_, _≤_, _<_}
-use native.Mathlib.Nat.{mul-pos, le-refl, le-trans, le-of-eq, mul-le-mul-left, mul-le-mul-right, mul-add, add-mul, mul-comm, mul-assoc, mul-left-comm, one-mul, mul-one, zero-mul, mul-zero, zero-add, add-zero}
+use native.Mathlib.Nat.{mul-pos, le-refl, le-trans, le-of-eq, mul-le-mul-left, mul-le-mul-right, le-of-mul-le-mul-right, mul-add, add-mul, mul-comm, mul-assoc, mul-left-comm, one-mul, mul-one, zero-mul, mul-zero, zero-add, add-zero}
 use native.Mathlib.Omega.{arith}
 use lib.Dec.{T, lit≤}
 use lib.ListN.{length}
@@ -34,7 +34,7 @@ use Rattle.rounding.proofs.Operations.{div-most}
 use Rattle.rounding.proofs.Ordered.{le→order}
 use Rattle.rounding.proofs.Signs.{minus, finite-no-nan, positive-plus}
 use Rattle.rounding.proofs.Signed.{over as above, under as below}
-use Rattle.rounding_error.proofs.Numbers.{Number, number, Size, _per_, _plus_, _times_, _for_, _roundoffs_, Over, valueOf, sizeOf, InRange, Ranges}
+use Rattle.rounding_error.proofs.Numbers.{Number, number, Size, _per_, _plus_, _times_, _for_, _roundoffs_, Over, zeroNumber, valueOf, sizeOf, InRange, Ranges}
 use Rattle.rounding_error.proofs.Distances.{sorted, within-upto}
 use Rattle.rounding_error.specs.Distances.{Within as Apart}
 use Rattle.rounding_error.proofs.Counts as Counts
@@ -65,10 +65,14 @@ use Rattle.figures.specs.declared.Figures.{Figures}
 use Rattle.rounding.proofs.Sizes.{positive-of}
 use Rattle.rounding_error.proofs.Ranges.{in-range}
 use Rattle.accuracy.specs.Areas.{Reach}
-use Rattle.accuracy.specs.Masses.{Plate, Mount, setOf, SetGiven, exactMass, OnePieceMass}
+use Rattle.accuracy.specs.Masses.{Plate, Mount, setOf, SetGiven, finVolume, tabVolume, exactMass, TabWithin, Extents, OnePieceMass}
+use Rattle.fins.specs.declared.Tab.{Tab}
+use Rattle.fins.specs.declared.Tab.the-variants.{None, Slab}
+use Rattle.plates.specs.Integrals.{volume, tabIntegralsOf}
+use Rattle.rounding_error.proofs.Chains.{Valued}
 use Rattle.accuracy.proofs.Given.{Lengths, AllHaveChords}
 use Rattle.accuracy.proofs.OnePiece.{centreOf, reachOf}
-use Rattle.accuracy.proofs.Limits.{ranges-of, lengths}
+use Rattle.accuracy.proofs.Limits.{ranges-of, lengths, most-under}
 use Rattle.accuracy.proofs.Areas.{all-have-chords}
 use Rattle.accuracy.proofs.ChordEnds as Chord
 use Rattle.accuracy.proofs.AreaSamples as Area
@@ -77,7 +81,7 @@ use Rattle.accuracy.proofs.Near.{positive-above}
 use Rattle.accuracy.proofs.Centroids.{NotBelow, positive-not-below}
 use Rattle.accuracy.proofs.CentroidNear.{not-below, tip-checked, own-fraction, product-fraction}
 use Rattle.accuracy.proofs.PlateSamples.{centre-positive, minus-positive, plus-positive}
-use Rattle.accuracy.proofs.PlateIntegrals.{plateAt, volumeTotal, massOf, massNumber, mass-is as number-is, massesTo, masses-valued, massUnit, mass-ranges}
+use Rattle.accuracy.proofs.PlateIntegrals.{plateAt, volumeTotal, wholeUnit, slab-valued, no-slab, massesTo, masses-valued, massUnit, mass-ranges}
 use Rattle.accuracy.proofs.SetCalled.{Given, set-given, plate-there}
 
 ruleset plain = (sorted, one-mul, mul-one, zero-mul, mul-zero, zero-add, add-zero)
@@ -156,8 +160,14 @@ total-one : (f : Float → List Float) (a b : Float) (pieces : List Piece) → p
 unfolding totalOf pieceOf
 total-one f a b pieces e = rw e
 
-module _ (p : Plate) (m : Mount) (points : List Float) (L : ℕ) (entry : List Float) (r : Figures) (exit : List Float) (b d : ℕ) (g : SetGiven p m points L entry r exit) (one : r .intervals ≡ 1)
-    (reach : Reach b d (p .root) (p .tip) (p .sweep)) (most : b ≤ 64 * d) where
+module _ (p : Plate) (m : Mount) (points : List Float) (L : ℕ) (entry : List Float) (r : Figures) (exit : List Float) (b d y e : ℕ) (g : SetGiven p m points L entry r exit) (one : r .intervals ≡ 1)
+    (x : Extents p b d y e) where
+  abbrev reach : Reach b d (p .root) (p .tip) (p .sweep)
+  reach = x .along
+
+  abbrev most : b ≤ 64 * d
+  most = x .along-most
+
   abbrev Shape : Planform
   Shape = Trapezoid (p .root) (p .tip) (p .span) (p .sweep)
 
@@ -207,13 +217,13 @@ module _ (p : Plate) (m : Mount) (points : List Float) (L : ℕ) (entry : List F
       go : (n e : ℕ) → 1 * e * (64 * d) ≤ n * 2 ^ 20 * (64 * d) → b * e ≤ 64 * d * e → b * e ≤ 2 ^ 26 * n * d
       go n e h k = omega arith
 
-  abbrev y : Float → Float
-  y = plateAt (p .root) (p .tip) (p .span) (p .sweep) S b d N (p .thickness) thick-positive thick-ranges
+  abbrev z : Float → Float
+  z = plateAt (p .root) (p .tip) (p .span) (p .sweep) S b d N (p .thickness) thick-positive thick-ranges
 
   abbrev f : Float → List Float
   f = plateOf Shape points Square (p .thickness) (m .radius)
 
-  there : (h : Float) → T (inSpan (p .span) (h ⊗ S)) → T (positive (Area.endAt (p .root) (p .tip) (p .span) (p .sweep) S (b per d) N h ⊖ Area.startAt (p .root) (p .tip) (p .span) (p .sweep) S (b per d) N h)) → at (f h) 0 ≡ y h
+  there : (h : Float) → T (inSpan (p .span) (h ⊗ S)) → T (positive (Area.endAt (p .root) (p .tip) (p .span) (p .sweep) S (b per d) N h ⊖ Area.startAt (p .root) (p .tip) (p .span) (p .sweep) S (b per d) N h)) → at (f h) 0 ≡ z h
   there h t w = plate-there (p .root) (p .tip) (p .span) (p .sweep) (p .thickness) (m .radius) points h t (positive-above _ w)
 
   span-above : lt (bits 0) (p .span) ≡ true
@@ -243,12 +253,54 @@ module _ (p : Plate) (m : Mount) (points : List Float) (L : ℕ) (entry : List F
       ∙ ap (λ (x : Float). bits 0 ⊕ x)
       (total-one f (bits 0 ⊘ S) (p .span ⊘ S) (piecesOf Strip) one-piece
       ∙ ap (λ (x : Float). bits 0 ⊕ v ⊗ x)
-      (same-sum 7 kronrodWeight (λ h. at (f h) 0) y u v (there u (c .centre) (centre-positive (p .root) (p .tip) (p .span) (p .sweep) S b d N root-positive tip-not-below (2 ^ 26) (le-refl (2 ^ 26)) slender))
+      (same-sum 7 kronrodWeight (λ h. at (f h) 0) z u v (there u (c .centre) (centre-positive (p .root) (p .tip) (p .span) (p .sweep) S b d N root-positive tip-not-below (2 ^ 26) (le-refl (2 ^ 26)) slender))
       (λ i k. there (minusSide u v i) (c .minus-side i k) (minus-positive (p .root) (p .tip) (p .span) (p .sweep) S b d N root-positive tip-not-below (2 ^ 26) (le-refl (2 ^ 26)) slender i k))
       (λ i k. there (plusSide u v i) (c .plus-side i k) (plus-positive (p .root) (p .tip) (p .span) (p .sweep) S b d N root-positive tip-not-below (2 ^ 26) (le-refl (2 ^ 26)) slender i k))))
 
-  mass-is : r .body .«mass_kg» ≡ massesTo (p .root) (p .tip) (p .span) (p .sweep) S b d N (p .thickness) thick-positive thick-ranges (p .density) (heavy .0) (heavy .1) (m .count)
-  mass-is = figures .mass ∙ ap (λ (x : Float). inOrder (λ x y. x ⊕ y) (bits 0) (λ k. p .density ⊗ (x ⊗ cube S ⊕ bits 0)) (m .count)) volume-total
+  -- ---- the tab
+  yr : Ranges 24 (y per e)
+  yr = record { real = x .is-size; least = deep-least; most = deep-most (x .outward-most) }
+    where
+      deep-least : e ≤ y * 2 ^ 24
+      deep-least = le-of-mul-le-mul-right (go (num (p .span)) (den (p .span)) (mul-le-mul-right y (lengths-sized .1 .1 .0 .above .size)) (x .span-most .size)) (positive-num (p .span) (N .span-positive))
+        where
+          go : (n k : ℕ) → 1 * k * y ≤ n * 2 ^ 20 * y → n * e ≤ y * k → e * n ≤ y * 2 ^ 24 * n
+          go n k h l = omega arith
+
+      deep-most : y ≤ 64 * e → y ≤ e * 2 ^ 24
+      deep-most h = omega arith
+
+  abbrev Unit′ : Size
+  Unit′ = wholeUnit (p .root) (p .tip) (p .span) (p .sweep) S b d N (p .thickness) thick-positive thick-ranges y e yr (x .span-most .size)
+
+  abbrev slabNumber : Tab → Number
+  slabNumber None = zeroNumber
+  slabNumber (Slab height length offset) = (valueOf (p .thickness) times valueOf length) times valueOf height
+
+  slab-near : (tab : Tab) → TabWithin tab b d y e → Valued (volume (tabIntegralsOf tab (p .thickness) (m .radius))) (slabNumber tab) 24 4 Unit′
+  unfolding tabIntegralsOf ofBits
+  slab-near None w = no-slab (p .root) (p .tip) (p .span) (p .sweep) S b d N (p .thickness) thick-positive thick-ranges y e yr (x .span-most .size)
+  slab-near (Slab height length offset) w =
+      slab-valued (p .root) (p .tip) (p .span) (p .sweep) S b d N (p .thickness) thick-positive thick-ranges y e yr (x .span-most .size) length height (w .0 .finite) (w .1 .finite)
+      (most-under length b d (w .0)) (most-under height y e (w .1))
+
+  slab-fraction : (tab : Tab) → TabWithin tab b d y e → IsFraction (slabNumber tab) (tabVolume tab (p .thickness))
+  slab-fraction None w = whole-fraction 0 1
+  slab-fraction (Slab height length offset) w =
+      times-fraction (valueOf (p .thickness) times valueOf length) (valueOf height) (product (fractionOf (p .thickness)) (fractionOf length)) (fractionOf height)
+      (times-fraction (valueOf (p .thickness)) (valueOf length) (fractionOf (p .thickness)) (fractionOf length) (value-fraction (p .thickness) (positive-finite (p .thickness) thick-positive)) (value-fraction length (w .0 .finite)))
+      (value-fraction height (w .1 .finite))
+
+  abbrev slab : Float
+  slab = volume (tabIntegralsOf (p .tab) (p .thickness) (m .radius))
+
+  sv : Valued slab (slabNumber (p .tab)) 24 4 Unit′
+  sv = slab-near (p .tab) (x .tab-within)
+
+  mass-is :
+      r .body .«mass_kg»
+      ≡ massesTo (p .root) (p .tip) (p .span) (p .sweep) S b d N (p .thickness) thick-positive thick-ranges y e yr (x .span-most .size) slab (slabNumber (p .tab)) sv (p .density) (heavy .0) (heavy .1) (m .count)
+  mass-is = figures .mass ∙ ap (λ (v : Float). inOrder (λ x y. x ⊕ y) (bits 0) (λ k. p .density ⊗ (v ⊗ cube S ⊕ slab)) (m .count)) volume-total
 
   -- ---- in fractions
   abbrev wide : Number
@@ -263,48 +315,53 @@ module _ (p : Plate) (m : Mount) (points : List Float) (L : ℕ) (entry : List F
   df : T (finite (p .density))
   df = positive-finite (p .density) (heavy .0)
 
-  exact-fraction : IsFraction (number (m .count) 0 1 times massNumber (p .root) (p .tip) (p .span) (p .sweep) S b d N (p .thickness) thick-positive thick-ranges (p .density) (heavy .0) (heavy .1)) (exactMass p m)
-  exact-fraction =
+  volume-fraction : IsFraction (valueOf (p .thickness) times (valueOf (p .span) times wide)) (finVolume p)
+  volume-fraction =
       let w = product (sum (fractionOf (p .root)) (fractionOf (p .tip))) (pos 1 over 2) in
-      let sw = product (fractionOf (p .span)) w in
-      let tw = product (fractionOf (p .thickness)) sw in
-      let dw = product (fractionOf (p .density)) tw in
-      times-fraction (number (m .count) 0 1) (valueOf (p .density) times (valueOf (p .thickness) times (valueOf (p .span) times wide))) (pos (m .count) over 1) dw (whole-fraction (m .count) 1)
-      (times-fraction (valueOf (p .density)) (valueOf (p .thickness) times (valueOf (p .span) times wide)) (fractionOf (p .density)) tw (value-fraction (p .density) df)
-      (times-fraction (valueOf (p .thickness)) (valueOf (p .span) times wide) (fractionOf (p .thickness)) sw (value-fraction (p .thickness) kf)
+      times-fraction (valueOf (p .thickness)) (valueOf (p .span) times wide) (fractionOf (p .thickness)) (product (fractionOf (p .span)) w) (value-fraction (p .thickness) kf)
       (times-fraction (valueOf (p .span)) wide (fractionOf (p .span)) w (value-fraction (p .span) sf)
       (times-fraction (valueOf (p .root) plus valueOf (p .tip)) (number 1 0 2) (sum (fractionOf (p .root)) (fractionOf (p .tip))) (pos 1 over 2)
       (plus-fraction (valueOf (p .root)) (valueOf (p .tip)) (fractionOf (p .root)) (fractionOf (p .tip)) (value-fraction (p .root) (reach .root-most .finite)) (value-fraction (p .tip) (reach .tip-most .finite)))
-      (whole-fraction 1 2)))))
+      (whole-fraction 1 2)))
 
-  own : (x : Float) → T (positive x) → IsFraction (number (num x) 0 (den x)) (fractionOf x)
-  own x q = own-fraction x (positive-finite x q) (positive-not-below x q)
+  abbrev X : Number
+  X = number (m .count) 0 1 times (valueOf (p .density) times (valueOf (p .thickness) times (valueOf (p .span) times wide) plus slabNumber (p .tab)))
 
-  mass-size : (n Nd Dd Nk Dk Np Dp Q : ℕ) → n * 14200 * (Nd * (1 * (Nk * (Np * b)))) * (d * Q * (Dd * (Dk * Dp))) ≤ n * b * (Nd * (Nk * Np)) * (Dd * (4 * (Dk * (Dp * d))) * (Q * 4096))
-  mass-size n Nd Dd Nk Dk Np Dp Q = simp plain (omega arith)
+  exact-fraction : IsFraction X (exactMass p m)
+  exact-fraction =
+      let both = sum (finVolume p) (tabVolume (p .tab) (p .thickness)) in
+      times-fraction (number (m .count) 0 1) (valueOf (p .density) times (valueOf (p .thickness) times (valueOf (p .span) times wide) plus slabNumber (p .tab))) (pos (m .count) over 1)
+      (product (fractionOf (p .density)) both) (whole-fraction (m .count) 1)
+      (times-fraction (valueOf (p .density)) (valueOf (p .thickness) times (valueOf (p .span) times wide) plus slabNumber (p .tab)) (fractionOf (p .density)) both (value-fraction (p .density) df)
+      (plus-fraction (valueOf (p .thickness) times (valueOf (p .span) times wide)) (slabNumber (p .tab)) (finVolume p) (tabVolume (p .tab) (p .thickness)) volume-fraction (slab-fraction (p .tab) (x .tab-within))))
 
-  mass-near : Apart (product (pos (m .count * b) over (d * 2 ^ 41)) (product (fractionOf (p .density)) (product (fractionOf (p .thickness)) (fractionOf (p .span))))) (fractionOf (r .body .«mass_kg»)) (exactMass p m)
+  own : (v : Float) → T (positive v) → IsFraction (number (num v) 0 (den v)) (fractionOf v)
+  own v q = own-fraction v (positive-finite v q) (positive-not-below v q)
+
+  mass-size : (n Nd Dd Nk Dk Q : ℕ) → n * 14300 * (Nd * (1 * (Nk * (y * b)))) * (d * e * Q * (Dd * Dk)) ≤ n * (b * y) * (Nd * Nk) * (Dd * (4 * (Dk * (e * d))) * (Q * 4096))
+  mass-size n Nd Dd Nk Dk Q = simp plain (omega arith)
+
+  mass-near : Apart (product (pos (m .count * (b * y)) over (d * e * 2 ^ 41)) (product (fractionOf (p .density)) (fractionOf (p .thickness)))) (fractionOf (r .body .«mass_kg»)) (exactMass p m)
   mass-near =
-      let M = massesTo (p .root) (p .tip) (p .span) (p .sweep) S b d N (p .thickness) thick-positive thick-ranges (p .density) (heavy .0) (heavy .1) (m .count) in
-      let X = number (m .count) 0 1 times massNumber (p .root) (p .tip) (p .span) (p .sweep) S b d N (p .thickness) thick-positive thick-ranges (p .density) (heavy .0) (heavy .1) in
-      let Y = massUnit (p .root) (p .tip) (p .span) (p .sweep) S b d N (p .thickness) thick-positive thick-ranges (p .density) (heavy .0) (heavy .1) in
-      let v = masses-valued (p .root) (p .tip) (p .span) (p .sweep) S b d N (p .thickness) thick-positive thick-ranges (p .density) (heavy .0) (heavy .1) (m .count) (set-count set points L (length entry) (figures .accepted) .1) in
-      let tw = product (fractionOf (p .thickness)) (fractionOf (p .span)) in
-      let dw = product (fractionOf (p .density)) tw in
-      let e = product (pos (m .count * b) over (d * 2 ^ 41)) dw in
-      let A = m .count * b * (num (p .density) * (num (p .thickness) * num (p .span))) in
-      let C = d * 2 ^ 41 * (den (p .density) * (den (p .thickness) * den (p .span))) in
-      let vr = mass-ranges (p .root) (p .tip) (p .span) (p .sweep) S b d N (p .thickness) thick-positive thick-ranges (p .density) (heavy .0) (heavy .1) in
-      subst (λ (x : Float). Apart e (fractionOf x) (exactMass p m)) (sym mass-is)
-      (within-fraction A C (valueOf M) X e (fractionOf M) (exactMass p m)
-      (mul-pos (mul-pos (reach .is-size) (pow-pos 41)) (mul-pos (den-pos (p .density)) (mul-pos (den-pos (p .thickness)) (den-pos (p .span))))) (Counts.value-is M) (v .is)
-      (product-fraction (m .count * b) (d * 2 ^ 41) (num (p .density) * (num (p .thickness) * num (p .span))) (den (p .density) * (den (p .thickness) * den (p .span))) (pos (m .count * b) over (d * 2 ^ 41)) dw
-      (whole-fraction (m .count * b) (d * 2 ^ 41))
-      (product-fraction (num (p .density)) (den (p .density)) (num (p .thickness) * num (p .span)) (den (p .thickness) * den (p .span)) (fractionOf (p .density)) tw (own (p .density) (heavy .0))
-      (product-fraction (num (p .thickness)) (den (p .thickness)) (num (p .span)) (den (p .span)) (fractionOf (p .thickness)) (fractionOf (p .span)) (own (p .thickness) thick-positive) (own (p .span) (N .span-positive)))))
+      let M = massesTo (p .root) (p .tip) (p .span) (p .sweep) S b d N (p .thickness) thick-positive thick-ranges y e yr (x .span-most .size) slab (slabNumber (p .tab)) sv (p .density) (heavy .0) (heavy .1) (m .count) in
+      let Y = massUnit (p .root) (p .tip) (p .span) (p .sweep) S b d N (p .thickness) thick-positive thick-ranges y e yr (x .span-most .size) slab (slabNumber (p .tab)) sv (p .density) (heavy .0) (heavy .1) in
+      let v =
+      masses-valued (p .root) (p .tip) (p .span) (p .sweep) S b d N (p .thickness) thick-positive thick-ranges y e yr (x .span-most .size) slab (slabNumber (p .tab)) sv (p .density) (heavy .0) (heavy .1) (m .count)
+      (set-count set points L (length entry) (figures .accepted) .1) in
+      let vr = mass-ranges (p .root) (p .tip) (p .span) (p .sweep) S b d N (p .thickness) thick-positive thick-ranges y e yr (x .span-most .size) slab (slabNumber (p .tab)) sv (p .density) (heavy .0) (heavy .1) in
+      let dw = product (fractionOf (p .density)) (fractionOf (p .thickness)) in
+      let n = m .count * (b * y) in
+      let q = d * e * 2 ^ 41 in
+      let A = n * (num (p .density) * num (p .thickness)) in
+      let C = q * (den (p .density) * den (p .thickness)) in
+      subst (λ (z : Float). Apart (product (pos n over q) dw) (fractionOf z) (exactMass p m)) (sym mass-is)
+      (within-fraction A C (valueOf M) X (product (pos n over q) dw) (fractionOf M) (exactMass p m)
+      (mul-pos (mul-pos (mul-pos (reach .is-size) (x .is-size)) (pow-pos 41)) (mul-pos (den-pos (p .density)) (den-pos (p .thickness)))) (Counts.value-is M) (v .is)
+      (product-fraction n q (num (p .density) * num (p .thickness)) (den (p .density) * den (p .thickness)) (pos n over q) dw (whole-fraction n q)
+      (product-fraction (num (p .density)) (den (p .density)) (num (p .thickness)) (den (p .thickness)) (fractionOf (p .density)) (fractionOf (p .thickness)) (own (p .density) (heavy .0)) (own (p .thickness) thick-positive)))
       (value-fraction M (v .near .finite)) exact-fraction
-      (within-upto ((m .count * 14200) roundoffs Y) (A per C) (valueOf M) X (Counts.roundoffs-is (m .count * 14200) Y (vr .real))
-      (mass-size (m .count) (num (p .density)) (den (p .density)) (num (p .thickness)) (den (p .thickness)) (num (p .span)) (den (p .span)) (2 ^ 41)) (v .near .within)))
+      (within-upto ((m .count * 14300) roundoffs Y) (A per C) (valueOf M) X (Counts.roundoffs-is (m .count * 14300) Y (vr .real))
+      (mass-size (m .count) (num (p .density)) (den (p .density)) (num (p .thickness)) (den (p .thickness)) (2 ^ 41)) (v .near .within)))
 
 pub one-piece-mass : OnePieceMass
-one-piece-mass p m points L entry r exit b d g one reach most = mass-near p m points L entry r exit b d g one reach most
+one-piece-mass p m points L entry r exit b d y e g one x = mass-near p m points L entry r exit b d y e g one x

@@ -1,9 +1,10 @@
--- The volume of a plate of square section whose strip is one piece, and the mass of a ring of such fins, are near the exact ones. Assumes nothing.
+-- The volume of a plate of square section whose strip is one piece, and the mass of a ring of such fins with their tabs, are near the exact ones.
+-- Assumes nothing.
 use mathlib.Core.Path.{_≡_, refl, sym, ap, _∙_, subst}
 use mathlib.Core.Bool.{_&&_}
 use mathlib.Core.List.{List, [], _∷_}
 use Prim.Native.Nat.{ℕ, zero, suc, _+_, _*_, _^_, _≤_, _<_}
-use native.Mathlib.Nat.{mul-pos, mul-add, add-mul, mul-comm, mul-assoc, mul-left-comm, one-mul, mul-one, zero-mul, mul-zero, zero-add, add-zero}
+use native.Mathlib.Nat.{mul-pos, mul-le-mul-left, mul-add, add-mul, mul-comm, mul-assoc, mul-left-comm, one-mul, mul-one, zero-mul, mul-zero, zero-add, add-zero}
 use native.Mathlib.Omega.{arith}
 use lib.Dec.{T}
 use lib.Pow.{pow-pos}
@@ -14,7 +15,7 @@ use Rattle.floats.specs.Operations.{_⊕_, _⊖_, _⊗_, _⊘_, bits}
 use Rattle.floats.specs.Floats.{cube}
 use Rattle.joins.specs.Joins.{inOrder}
 use Rattle.rounding_error.proofs.Numbers.{Number, number, Size, _per_, _plus_, _less_, _times_, _by_, _for_, _of_, _roundoffs_, _upto_, IsNumber, IsSize, Under, valueOf, zeroNumber, sizeOf, InRange, Ranges}
-use Rattle.rounding_error.proofs.Distances.{sorted}
+use Rattle.rounding_error.proofs.Distances.{sorted, within-upto}
 use Rattle.rounding_error.proofs.Ranges.{ranges-by, ranges-for, in-range}
 use Rattle.rounding_error.proofs.Counts as Counts
 use Rattle.rounding_error.proofs.Chains.{Valued, inverse, inverse-is, inverse-times, in-bounds, counted, counted-by, exactly, equalled, resized, plus-valued, times-valued, exact-times, over-valued}
@@ -35,6 +36,37 @@ ruleset plain = (sorted, one-mul, mul-one, zero-mul, mul-zero, zero-add, add-zer
 unscaled : (b d Np Dp Ns Ds Nk Dk : ℕ)
     → Np * Ds * (1 * (Nk * Ds * (b * Ds))) * (Ns * (Ns * Ns)) * (4 * (Dk * (Dp * d))) ≤ 1 * (Nk * (Np * b)) * (Ns * Dp * (4 * (Ns * Dk * (Ns * d))) * (Ds * (Ds * Ds)))
 unscaled b d Np Dp Ns Ds Nk Dk = simp plain (omega arith)
+
+deeper : (b d y e Np Dp Nk Dk : ℕ) → Np * e ≤ y * Dp → 1 * (Nk * (Np * b)) * (4 * (Dk * (e * d))) ≤ 1 * (Nk * (y * b)) * (4 * (Dk * (Dp * d)))
+deeper b d y e Np Dp Nk Dk h = let x = simp plain at (mul-le-mul-left (4 * Nk * b * Dk * d) h) in simp plain (omega (arith, x))
+
+-- a size is four quarters of it
+fourfold : (b d y e Nk Dk : ℕ) → Nk * b * y * (4 * (Dk * (e * d))) ≤ 4 * (1 * (Nk * (y * b))) * (Dk * d * e)
+fourfold b d y e Nk Dk = simp plain (omega arith)
+
+in-quarters : {x : Float} {v : Number} (A Q : Size) → IsSize A → A upto (4 of Q) → Valued x v 6 1 A → Valued x v 24 4 Q
+in-quarters {x = x} {v = v} (a per c) (q per r) C l h =
+    record {
+      near = record {
+        finite = h .near .finite;
+        within = within-upto (6 roundoffs (a per c)) (24 roundoffs (q per r)) (valueOf x) v (mul-pos C (pow-pos 53)) (six (2 ^ 53) l) (h .near .within);
+      };
+      size = within-upto (1 of (a per c)) (4 of (q per r)) v zeroNumber C (once l) (h .size);
+      is = h .is;
+    }
+  where
+    six : (P : ℕ) → a * r ≤ 4 * q * c → 6 * a * (r * P) ≤ 24 * q * (c * P)
+    six P u = let y = simp sorted at (mul-le-mul-left (6 * P) u) in simp sorted (omega (arith, y))
+
+    once : a * r ≤ 4 * q * c → 1 * a * r ≤ 4 * q * c
+    once u = omega arith
+
+one-more : (n : ℕ) (X : Number) → (number n 0 1 times X) plus X equals number (suc n) 0 1 times X
+one-more n (number p q e) = record { same = parts n p q e }
+  where
+    parts : (n p q e : ℕ)
+        → ((n * p + 0 * q) * e + p * (1 * e)) * (1 * e) + (suc n * q + 0 * p) * (1 * e * e) ≡ (suc n * p + 0 * q) * (1 * e * e) + ((n * q + 0 * p) * e + q * (1 * e)) * (1 * e)
+    parts n p q e = simp plain (omega arith)
 
 module _ (root tip span sweep scale : Float) (b d : ℕ) (g : Lengths root tip span sweep scale (b per d)) (thickness : Float) (tp : T (positive thickness)) (tr : Ranges 24 (sizeOf thickness)) where
   abbrev S : Number
@@ -197,51 +229,67 @@ module _ (root tip span sweep scale : Float) (b d : ℕ) (g : Lengths root tip s
       (in-range 218 (H by (quarter by (TKs by Bs)) by (SS by (SS by SS))) (omega arith) (ranges-by 146 72 (H by (quarter by (TKs by Bs))) (SS by (SS by SS)) total-ranges cr)) tt total cube-valued)
       volumeNumber volume-is volume-exact)
 
-  -- ---- with no tab, times the density, and so many fins together
-  module _ (density : Float) (dp : T (positive density)) (dr : Ranges 24 (sizeOf density)) where
-    abbrev pub massOf : Float
-    massOf = density ⊗ (volumeTotal ⊗ cube scale ⊕ bits 0)
+  -- ---- with the tab, times the density, and so many fins together; y / e is a size that span and tab height do not pass
+  module _ (y e : ℕ) (yr : Ranges 24 (y per e)) (deep : num span * e ≤ y * den span) where
+    abbrev pub wholeUnit : Size
+    wholeUnit = quarter by (sizeOf thickness by ((y per e) by (b per d)))
 
-    abbrev pub massNumber : Number
-    massNumber = valueOf density times volumeNumber
+    pub whole-ranges : Ranges 74 wholeUnit
+    whole-ranges = ranges-by 2 72 quarter (sizeOf thickness by ((y per e) by (b per d))) quarter-ranges (ranges-by 24 48 (sizeOf thickness) ((y per e) by (b per d)) tr (ranges-by 24 24 (y per e) (b per d) yr (g .ranges)))
 
-    abbrev pub massUnit : Size
-    massUnit = sizeOf density by unit
+    fin-valued : Valued (volumeTotal ⊗ cube scale) volumeNumber 12702 40 wholeUnit
+    fin-valued = resized unit wholeUnit (unit-ranges .real) (deeper b d y e (num span) (den span) (num thickness) (den thickness) deep) volume-valued
 
-    pub mass-ranges : Ranges 98 massUnit
-    mass-ranges = ranges-by 24 74 (sizeOf density) unit dr unit-ranges
+    -- a tab length long and height deep
+    pub slab-valued : (length height : Float) → T (finite length) → T (finite height) → Under (1 of (b per d)) (valueOf length) → Under (1 of (y per e)) (valueOf height)
+        → Valued (thickness ⊗ length ⊗ height) ((Tk times valueOf length) times valueOf height) 24 4 wholeUnit
+    slab-valued length height lf hf ul uh =
+        let B = b per d in
+        let Y = y per e in
+        let K = sizeOf thickness in
+        let kb : Ranges 48 (K by B) = ranges-by 24 24 K B tr (g .ranges) in
+        in-quarters (K by B by Y) wholeUnit (Counts.by-is (K by B) Y (kb .real) (yr .real)) (fourfold b d y e (num thickness) (den thickness))
+        (times-valued {A = K by B} {B = Y} (kb .real) (yr .real) (in-range 72 (K by B by Y) (omega arith) (ranges-by 48 24 (K by B) Y kb yr)) tt
+        (exact-times thickness 1 K (den-pos thickness) (g .ranges .real) (in-range 48 (K by B) (omega arith) kb) tt (positive-finite thickness tp) (Counts.own-size thickness tp) (exactly length 1 B lf ul))
+        (exactly height 1 Y hf uh))
 
-    mr : InRange massUnit
-    mr = in-range 98 massUnit (omega arith) mass-ranges
+    pub no-slab : Valued (bits 0) (valueOf (bits 0)) 24 4 wholeUnit
+    no-slab = counted (nought wholeUnit) 24 4 (whole-ranges .real) tt
 
-    pub mass-is : IsNumber massNumber
-    mass-is = times-is (valueOf density) volumeNumber (Counts.value-is density) volume-is
+    module _ (slab : Float) (slabNumber : Number) (sv : Valued slab slabNumber 24 4 wholeUnit) (density : Float) (dp : T (positive density)) (dr : Ranges 24 (sizeOf density)) where
+      abbrev pub massOf : Float
+      massOf = density ⊗ (volumeTotal ⊗ cube scale ⊕ slab)
 
-    no-tab : Valued (volumeTotal ⊗ cube scale ⊕ bits 0) volumeNumber 12744 40 unit
-    unfolding ofBits
-    no-tab =
-        equalled (plus-valued (in-range 74 unit (omega arith) unit-ranges) tt volume-valued (nought unit)) volumeNumber volume-is (equal-by (volumeNumber ∷ []) (volume-is, tt) (given 0 add ratio 0 0) (given 0) tt)
+      abbrev pub massNumber : Number
+      massNumber = valueOf density times (volumeNumber plus slabNumber)
 
-    mass-valued : Valued massOf massNumber 12785 40 massUnit
-    mass-valued = exact-times density 1 (sizeOf density) (den-pos density) (unit-ranges .real) mr tt (positive-finite density dp) (Counts.own-size density dp) no-tab
+      abbrev pub massUnit : Size
+      massUnit = sizeOf density by wholeUnit
 
-    abbrev pub massesTo : ℕ → Float
-    massesTo n = inOrder (λ x y. x ⊕ y) (bits 0) (λ k. massOf) n
+      pub mass-ranges : Ranges 98 massUnit
+      mass-ranges = ranges-by 24 74 (sizeOf density) wholeUnit dr whole-ranges
 
-    one-more : (n : ℕ) (X : Number) → (number n 0 1 times X) plus X equals number (suc n) 0 1 times X
-    one-more n (number p q e) = record { same = parts n p q e }
-      where
-        parts : (n p q e : ℕ)
-            → ((n * p + 0 * q) * e + p * (1 * e)) * (1 * e) + (suc n * q + 0 * p) * (1 * e * e) ≡ (suc n * p + 0 * q) * (1 * e * e) + ((n * q + 0 * p) * e + q * (1 * e)) * (1 * e)
-        parts n p q e = simp plain (omega arith)
+      mr : InRange massUnit
+      mr = in-range 98 massUnit (omega arith) mass-ranges
 
-    pub masses-valued : (n : ℕ) → n ≤ 32 → Valued (massesTo n) (number n 0 1 times massNumber) (n * 14200) (n * 40) massUnit
-    unfolding inOrder ofBits
-    masses-valued zero l =
-        counted-by (equalled (nought massUnit) (number 0 0 1 times massNumber) (times-is (number 0 0 1) massNumber (pow-pos 0) mass-is) (equal-by (massNumber ∷ []) (mass-is, tt) (ratio 0 0) (ratio 0 0 mul given 0) tt))
-        (0 * 14200) (0 * 40) (mr .real) (omega arith) (omega arith)
-    masses-valued (suc n) l =
-        counted-by
-        (equalled (plus-valued mr (in-bounds (n * 14200) 12785 (n * 40) 40 (omega arith) (omega arith) (omega arith) (omega arith)) (masses-valued n (omega arith)) mass-valued)
-        (number (suc n) 0 1 times massNumber) (times-is (number (suc n) 0 1) massNumber (pow-pos 0) mass-is) (one-more n massNumber))
-        (suc n * 14200) (suc n * 40) (mr .real) (omega arith) (omega arith)
+      pub mass-is : IsNumber massNumber
+      mass-is = times-is (valueOf density) (volumeNumber plus slabNumber) (Counts.value-is density) (plus-is volumeNumber slabNumber volume-is (sv .is))
+
+      mass-valued : Valued massOf massNumber 12817 44 massUnit
+      mass-valued =
+          exact-times density 1 (sizeOf density) (den-pos density) (whole-ranges .real) mr tt (positive-finite density dp) (Counts.own-size density dp)
+          (plus-valued (in-range 74 wholeUnit (omega arith) whole-ranges) tt fin-valued sv)
+
+      abbrev pub massesTo : ℕ → Float
+      massesTo n = inOrder (λ x y. x ⊕ y) (bits 0) (λ k. massOf) n
+
+      pub masses-valued : (n : ℕ) → n ≤ 32 → Valued (massesTo n) (number n 0 1 times massNumber) (n * 14300) (n * 44) massUnit
+      unfolding inOrder ofBits
+      masses-valued zero l =
+          counted-by (equalled (nought massUnit) (number 0 0 1 times massNumber) (times-is (number 0 0 1) massNumber (pow-pos 0) mass-is) (equal-by (massNumber ∷ []) (mass-is, tt) (ratio 0 0) (ratio 0 0 mul given 0) tt))
+          (0 * 14300) (0 * 44) (mr .real) (omega arith) (omega arith)
+      masses-valued (suc n) l =
+          counted-by
+          (equalled (plus-valued mr (in-bounds (n * 14300) 12817 (n * 44) 44 (omega arith) (omega arith) (omega arith) (omega arith)) (masses-valued n (omega arith)) mass-valued)
+          (number (suc n) 0 1 times massNumber) (times-is (number (suc n) 0 1) massNumber (pow-pos 0) mass-is) (one-more n massNumber))
+          (suc n * 14300) (suc n * 44) (mr .real) (omega arith) (omega arith)

@@ -1,4 +1,4 @@
--- What the call for a set's figures gives for trapezoids of square section with no tab and no fillet: their mass. Assumes nothing.
+-- What the call for a set's figures gives for trapezoids of square section with no fillet: their mass. Assumes nothing.
 use mathlib.Core.Path.{_≡_, refl, sym, ap, _∙_, subst}
 use mathlib.Core.Bool.{Bool, true, false, not, cond}
 use mathlib.Core.List.{List, [], _∷_}
@@ -88,7 +88,7 @@ pub record Given (p : Plate) (m : Mount) (points : List Float) (L n : ℕ) (r : 
   pub accepted : setCheck (setOf p m) points L n ≡ Accepted
   pub intervals : r .intervals ≡ intervalsIn (setStrips (setOf p m) points L)
   pub mass : r .body .«mass_kg» ≡ inOrder (λ x y. x ⊕ y) (bits 0)
-      (λ k. p .density ⊗ (valueFrom (bits 0) 0 (setStrips (setOf p m) points L) ⊗ cube (scaleOf (setOf p m .planform) points) ⊕ bits 0)) (m .count)
+      (λ k. p .density ⊗ (valueFrom (bits 0) 0 (setStrips (setOf p m) points L) ⊗ cube (scaleOf (setOf p m .planform) points) ⊕ volume (tabIntegralsOf (p .tab) (p .thickness) (m .radius)))) (m .count)
 
 -- a join that is no refusal
 unless-accepted : (v : Verdict) (body : Body) → unlessRefused v body .verdict ≡ Accepted → (v ≡ Accepted) × (unlessRefused v body ≡ acceptedBody body)
@@ -189,9 +189,8 @@ module _ (p : Plate) (m : Mount) (points : List Float) (L n : ℕ) (r : Figures)
       (bulk-given (integralsOf set scale (total .value)) (filletsOf (m .fillet) (m .radius) root) (m .cant) (pivotOf (m .radius) root) (p .density) (ring-given .0))
       ∙ fin-mass (integralsOf set scale (total .value)) (filletsOf (m .fillet) (m .radius) root) (p .density) (m .cant) (pivotOf (m .radius) root) (no-fillets (m .fillet) (m .radius) root none)
 
-  volume-is : volume (integralsOf set scale (total .value)) ≡ valueFrom (bits 0) 0 strips ⊗ cube scale ⊕ bits 0
-  unfolding tabIntegralsOf
-  volume-is = ap (λ (t : Totals). at (t .value) 0 ⊗ cube scale ⊕ bits 0) totals-chosen
+  volume-is : volume (integralsOf set scale (total .value)) ≡ valueFrom (bits 0) 0 strips ⊗ cube scale ⊕ volume (tabIntegralsOf (p .tab) (p .thickness) (m .radius))
+  volume-is = ap (λ (t : Totals). at (t .value) 0 ⊗ cube scale ⊕ volume (tabIntegralsOf (p .tab) (p .thickness) (m .radius))) totals-chosen
 
   pub set-given : Given p m points L n r
   set-given =

@@ -1,13 +1,14 @@
--- How near the mass of a set of trapezoids is to the exact one: square sections, with no tab and no fillet, whatever the cant.
+-- How near the mass of a set of trapezoids is to the exact one: square sections, with a tab or none and no fillet, whatever the cant.
 use mathlib.Core.Path.{_≡_}
 use mathlib.Core.Bool.{true}
 use mathlib.Core.List.{List}
-use Prim.Native.Nat.{ℕ, _*_, _^_, _≤_}
+use Prim.Native.Nat.{ℕ, _*_, _^_, _≤_, _<_}
 use lib.Dec.{T}
 use lib.IntN.{pos}
 use lib.Ieee.{Float, binary64, fits, lt}
 use Rattle.floats.specs.Operations.{bits}
 use Rattle.floats.specs.Fractions.{Fraction, _over_, _plus_, _times_, valueOf}
+use Rattle.rounding.specs.Sizes.{AtMost}
 use Rattle.rounding_error.specs.Distances.{Within}
 use Rattle.refusals.specs.declared.Verdict.the-variants.{Accepted}
 use Rattle.materials.specs.declared.Density.the-variants.{Bulk}
@@ -16,7 +17,8 @@ use Rattle.planforms.specs.declared.Planform.the-variants.{Trapezoid}
 use Rattle.fillets.specs.declared.Fillet.{Fillet}
 use Rattle.fillets.specs.Fillets.{isNone}
 use Rattle.fins.specs.declared.FinSet.{FinSet}
-use Rattle.fins.specs.declared.Tab.the-variants.{None}
+use Rattle.fins.specs.declared.Tab.{Tab}
+use Rattle.fins.specs.declared.Tab.the-variants.{None, Slab}
 use Rattle.figures.specs.Answers.{SetAnswers}
 use Rattle.figures.specs.declared.Figures.{Figures}
 use Rattle.accuracy.specs.Areas.{Reach}
@@ -28,6 +30,7 @@ pub record Plate : Type 0 where
   pub span : Float
   pub sweep : Float
   pub thickness : Float
+  pub tab : Tab
   pub density : Float
 
 pub record Mount : Type 0 where
@@ -44,7 +47,7 @@ setOf p m =
       planform = Trapezoid (p .root) (p .tip) (p .span) (p .sweep);
       «thickness_m» = p .thickness;
       «cross_section» = Square;
-      tab = None;
+      tab = p .tab;
       fillet = m .fillet;
       «cant_rad» = m .cant;
       «base_angle_rad» = m .base;
@@ -62,19 +65,37 @@ pub record SetGiven (p : Plate) (m : Mount) (points : List Float) (L : ℕ) (ent
   pub no-fillet : isNone (m .fillet .«radius_m») (m .radius) ≡ true
   pub heavy : lt (bits 0) (p .density) ≡ true
 
--- count·density·thickness·span·(root + tip)/2
-abbrev pub exactMass : Plate → Mount → Fraction
-exactMass p m =
-    (pos (m .count) over 1)
-    times (valueOf (p .density) times (valueOf (p .thickness) times (valueOf (p .span) times ((valueOf (p .root) plus valueOf (p .tip)) times (pos 1 over 2)))))
+-- thickness·span·(root + tip)/2, and thickness·length·height of a tab
+abbrev pub finVolume : Plate → Fraction
+finVolume p = valueOf (p .thickness) times (valueOf (p .span) times ((valueOf (p .root) plus valueOf (p .tip)) times (pos 1 over 2)))
 
--- where the strip is one piece: at most 2^-41·count·density·thickness·span·B from it, B = b / d the largest of root, tip and |sweep|, at most 64
+abbrev pub tabVolume : Tab → Float → Fraction
+tabVolume None thickness = pos 0 over 1
+tabVolume (Slab height length offset) thickness = valueOf thickness times valueOf length times valueOf height
+
+-- count·density·volume
+abbrev pub exactMass : Plate → Mount → Fraction
+exactMass p m = (pos (m .count) over 1) times (valueOf (p .density) times (finVolume p plus tabVolume (p .tab) (p .thickness)))
+
+-- B = b / d, at most 64: root, tip, |sweep| and the length of a tab do not pass it; Y = y / e, at most 64: nor span and height of a tab that
+abbrev pub TabWithin : Tab → ℕ → ℕ → ℕ → ℕ → Type 0
+TabWithin None b d y e = Unit {0}
+TabWithin (Slab height length offset) b d y e = AtMost b d length × AtMost y e height
+
+pub record Extents (p : Plate) (b d y e : ℕ) : Type 0 where
+  pub along : Reach b d (p .root) (p .tip) (p .sweep)
+  pub along-most : b ≤ 64 * d
+  pub is-size : 0 < e
+  pub span-most : AtMost y e (p .span)
+  pub outward-most : y ≤ 64 * e
+  pub tab-within : TabWithin (p .tab) b d y e
+
+-- where the strip is one piece: at most 2^-41·count·density·thickness·B·Y from it
 abbrev pub OnePieceMass : Type 0
 OnePieceMass =
-    (p : Plate) (m : Mount) (points : List Float) (L : ℕ) (entry : List Float) (r : Figures) (exit : List Float) (b d : ℕ)
+    (p : Plate) (m : Mount) (points : List Float) (L : ℕ) (entry : List Float) (r : Figures) (exit : List Float) (b d y e : ℕ)
     → SetGiven p m points L entry r exit
     → r .intervals ≡ 1
-    → Reach b d (p .root) (p .tip) (p .sweep)
-    → b ≤ 64 * d
-    → Within ((pos (m .count * b) over (d * 2 ^ 41)) times (valueOf (p .density) times (valueOf (p .thickness) times valueOf (p .span))))
+    → Extents p b d y e
+    → Within ((pos (m .count * (b * y)) over (d * e * 2 ^ 41)) times (valueOf (p .density) times valueOf (p .thickness)))
     (valueOf (r .body .«mass_kg»)) (exactMass p m)
