@@ -14,3 +14,4 @@ pub mod Plates
 pub mod Runs
 pub mod Stepping
 pub mod Serving
+pub mod Blocks
