@@ -2,3 +2,4 @@ pub mod Handing
 pub mod Silence
 pub mod Scratch
 pub mod AtFirst
+pub mod Screens
