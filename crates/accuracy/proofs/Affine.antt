@@ -1,23 +1,18 @@
 -- The exact width as a function of the exact height: how it changes with the height, how large it is, and that the rule's exact sum of it is
 -- the sum of the weights times the width at the centre. Assumes nothing.
-use mathlib.Core.Path.{_≡_, refl, sym, ap, _∙_, subst}
-use mathlib.Core.Bool.{true, false}
-use Prim.Native.Nat.{ℕ, zero, suc, _+_, _*_, _^_, _≤_, _<_}
-use native.Mathlib.Nat.{le-refl, le-trans, le-of-eq, mul-pos, eq-of-mul-eq-mul-right, mul-add, add-mul, mul-comm, mul-assoc, mul-left-comm}
+use mathlib.Core.Path.{_≡_, refl, sym, ap}
+use Prim.Native.Nat.{ℕ, zero, suc, _+_, _*_}
+use native.Mathlib.Nat.{eq-of-mul-eq-mul-right}
 use native.Mathlib.Omega.{arith}
 use lib.Dec.{T}
-use lib.Pow.{pow-pos}
-use lib.Ieee.{Float, nan, inf, fin, up, down, ofBits}
-use lib.Ieee.Fits.{down-pos}
-use lib.Ieee.Positive.{num, den, den-pos, positive}
+use lib.Ieee.{Float, ofBits}
+use lib.Ieee.Positive.{num, den, positive}
 use Rattle.floats.specs.Operations.{bits}
-use Rattle.rounding_error.proofs.Numbers.{Number, number, Size, _per_, _plus_, minus, _less_, _times_, _over_, _and_, _by_, _for_, _of_, _roundoffs_, IsNumber, IsSize, Within, Same, Under, valueOf, Near, InRange, sizeOf}
-use Rattle.accuracy.proofs.Trapezoids.{exactFraction, exactWidth, Bounded}
-use Rattle.accuracy.proofs.ExactRule.{node, below, above, exactTo, weightsTo}
-use Rattle.rounding_error.proofs.Distances.{sorted, within-refl, within-plus, within-times, within-upto, times-comm}
-use Rattle.rounding.proofs.Monotone.{positive-num}
+use Rattle.rounding_error.proofs.Numbers.{Number, number, _plus_, _less_, _times_, _over_, _by_, _of_, IsNumber, Same, valueOf}
+use Rattle.accuracy.proofs.Trapezoids.{exactWidth}
+use Rattle.accuracy.proofs.ExactRule.{node, exactTo, weightsTo}
+use Rattle.rounding_error.proofs.Distances.{sorted}
 use Rattle.rounding_error.proofs.Counts
-use Rattle.accuracy.proofs.Width.{one, under-one, fraction-under}
 
 -- ---- the same number
 pub same-trans : (x y z : Number) → IsNumber y → Same x y → Same y z → Same x z

@@ -1,24 +1,25 @@
 -- From the one piece's value to the area. Assumes nothing.
-use mathlib.Core.Path.{_≡_, refl, sym, ap, _∙_, subst}
-use Prim.Native.Nat.{ℕ, zero, suc, _+_, _*_, _^_, _≤_, _<_}
-use native.Mathlib.Nat.{mul-pos, le-refl, mul-add, add-mul, mul-comm, mul-assoc, mul-left-comm, one-mul, mul-one, zero-mul, mul-zero, zero-add, add-zero}
+use mathlib.Core.Path.{_≡_, sym, subst}
+use Prim.Native.Nat.{ℕ, zero, _+_, _*_, _^_, _≤_}
+use native.Mathlib.Nat.{mul-pos, one-mul, mul-one, zero-mul, mul-zero, zero-add, add-zero}
 use native.Mathlib.Omega.{arith}
 use lib.Dec.{T}
 use lib.Pow.{pow-pos}
 use lib.Ieee.{Float}
 use lib.Ieee.Positive.{num, den, den-pos, positive, positive-finite}
 use Rattle.floats.specs.Operations.{_⊕_, _⊗_, bits}
-use Rattle.rounding_error.proofs.Numbers.{Number, number, Size, _per_, _plus_, minus, _less_, _times_, _over_, _by_, _for_, _of_, _roundoffs_, IsNumber, IsSize, Within, Same, Under, valueOf, Near, InRange, sizeOf}
+use Rattle.rounding_error.proofs.Numbers.{Number, number, Size, _per_, _plus_, _less_, _times_, _over_, _by_, _for_, _of_, _roundoffs_, IsNumber, Within, Same, Under, valueOf, Near, sizeOf}
 use Rattle.accuracy.proofs.Trapezoids.{exactWidth, Bounded}
 use Rattle.accuracy.proofs.ExactRule.{weightsTo}
 use Rattle.accuracy.proofs.Samples.{InSpan, one, Rule, Inside, pieceValue}
 use Rattle.accuracy.proofs.OnePiece.{centreOf, reachOf, areaOf, exactArea}
 use Rattle.rounding_error.proofs.Distances.{sorted, within-upto, times-comm}
-use Rattle.rounding.proofs.Monotone.{positive-num}
 use Rattle.rounding_error.proofs.Operations.{near-same}
 use Rattle.rounding_error.proofs.Counts
-use Rattle.accuracy.proofs.Sums.{Valued, more, zero-valued, step}
-use Rattle.accuracy.proofs.Affine.{same-trans, same-sym, same-refl, same-plus, same-times, same-over, zero-plus}
+use Rattle.rounding_error.proofs.Chains.{Valued}
+use Rattle.rounding_error.proofs.Chains.{zero-valued}
+use Rattle.accuracy.proofs.Sums.{step}
+use Rattle.accuracy.proofs.Affine.{same-trans, same-refl, same-plus, same-times, same-over, zero-plus}
 use Rattle.rounding_error.proofs.Counts.{own-size}
 use Rattle.accuracy.proofs.Ends.{middle, zero-value}
 use Rattle.accuracy.proofs.Whole.{Sizes, value-near, positive-value, across}

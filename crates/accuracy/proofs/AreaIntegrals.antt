@@ -1,10 +1,9 @@
 -- The three components of the area are quadratics of the fraction of the span, and their totals are near the exact integrals. Assumes nothing.
-use mathlib.Core.Path.{_≡_, refl, sym, ap, _∙_, subst}
+use mathlib.Core.Path.{subst}
 use mathlib.Core.List.{List, [], _∷_}
-use Prim.Native.Nat.{ℕ, zero, suc, _+_, _*_, _^_, _≤_, _<_}
-use native.Mathlib.Nat.{mul-pos, mul-add, add-mul, mul-comm, mul-assoc, mul-left-comm, one-mul}
+use Prim.Native.Nat.{ℕ, _+_, _*_, _≤_}
+use native.Mathlib.Nat.{one-mul}
 use native.Mathlib.Omega.{arith}
-use lib.Dec.{T}
 use lib.Pow.{pow-pos}
 use lib.Ieee.{Float}
 use lib.Ieee.Positive.{den-pos}
@@ -12,11 +11,10 @@ use Rattle.rounding_error.proofs.Numbers.{Number, number, Size, _per_, _plus_, 
 use Rattle.rounding_error.proofs.Distances.{sorted, within-upto}
 use Rattle.rounding_error.proofs.Counts as Counts
 use Rattle.rounding_error.proofs.Chains.{Valued, inverse, inverse-is, under-inverse}
-use Rattle.rounding_error.proofs.Polynomials.{_equals_, plus-is, less-is, times-is, Expression, given, ratio, _add_, _take_, _mul_, AllNumbers, equal-by, evaluated-is}
+use Rattle.rounding_error.proofs.Polynomials.{plus-is, less-is, times-is, Expression, given, ratio, _add_, _take_, _mul_, AllNumbers, equal-by, evaluated-is}
 use Rattle.accuracy.proofs.Samples.{one, quarter}
 use Rattle.accuracy.proofs.Given.{Lengths}
 use Rattle.accuracy.proofs.Ends.{halfSize}
-use Rattle.accuracy.proofs.Weighted.{middle}
 use Rattle.accuracy.proofs.Quadratic.{Quadratic, integral, two-under}
 use Rattle.accuracy.proofs.Whole.{one-by}
 use Rattle.accuracy.proofs.ChordEnds as Chord

@@ -1,10 +1,7 @@
 -- The three components of the area's integrand at the samples of a strip that is one piece: width, its first moment along the root, and height times
 -- width. Each is near a quadratic of the fraction of the span. Assumes nothing.
-use mathlib.Core.Path.{_≡_, refl, sym, ap, _∙_, subst}
-use mathlib.Core.Bool.{_&&_}
-use mathlib.Core.List.{List, [], _∷_}
-use Prim.Native.Nat.{ℕ, zero, suc, _+_, _*_, _^_, _≤_, _<_}
-use native.Mathlib.Nat.{mul-pos}
+use mathlib.Core.Path.{_≡_, refl, subst}
+use Prim.Native.Nat.{ℕ, _<_}
 use native.Mathlib.Omega.{arith}
 use lib.Dec.{T}
 use lib.Pow.{pow-pos}
@@ -13,11 +10,10 @@ use lib.Ieee.Scale.{finite}
 use Rattle.floats.specs.Operations.{_⊕_, _⊖_, _⊗_, _⊘_, bits}
 use Rattle.floats.specs.Constants.{half}
 use Rattle.quadrature.specs.Rule.{minusSide, plusSide}
-use Rattle.rounding_error.proofs.Numbers.{Number, number, Size, _per_, _plus_, _less_, _times_, _by_, _for_, _of_, IsNumber, IsSize, Under, valueOf, zeroNumber, InRange, Ranges}
+use Rattle.rounding_error.proofs.Numbers.{Number, Size, _plus_, _less_, _times_, _by_, _of_, IsNumber, IsSize, Under, valueOf, InRange, Ranges}
 use Rattle.rounding_error.proofs.Ranges.{ranges-by, in-range}
 use Rattle.rounding_error.proofs.Counts as Counts
-use Rattle.rounding_error.proofs.Chains.{Valued, inverse, inverse-is, under-inverse, counted, equalled, plus-valued, less-valued, times-valued, exact-times}
-use Rattle.rounding_error.proofs.Polynomials.{_equals_, plus-is, less-is, times-is, given, ratio, _add_, _take_, _mul_, equal-by}
+use Rattle.rounding_error.proofs.Chains.{Valued, counted, less-valued, times-valued, exact-times}
 use Rattle.accuracy.proofs.ExactRule.{node}
 use Rattle.accuracy.proofs.Samples.{one}
 use Rattle.accuracy.proofs.Trapezoids.{fractionAt}
@@ -28,7 +24,6 @@ use Rattle.accuracy.proofs.Heights.{one-part}
 use Rattle.accuracy.proofs.Ends.{halfSize}
 use Rattle.accuracy.proofs.Areas.{half-ranges}
 use Rattle.accuracy.proofs.Weighted.{middle, lower, upper, Sampled}
-use Rattle.accuracy.proofs.Quadratic.{Quadratic}
 use Rattle.accuracy.proofs.ChordEnds as Chord
 use Rattle.accuracy.proofs.Integrals.{from-zero}
 

@@ -1,18 +1,17 @@
 -- The area of a trapezoid whose strip is one piece, worked with QUADPACK's tables, is within 449·2^-53·span·B of (root + tip)/2·span, where B is
 -- the largest of root, tip and |sweep|: less than 2^-44·span·B. Assumes nothing.
-use Prim.Native.Nat.{ℕ, _+_, _*_, _^_, _≤_}
-use native.Mathlib.Nat.{mul-pos, mul-add, add-mul, mul-comm, mul-assoc, mul-left-comm}
+use Prim.Native.Nat.{ℕ, _*_, _^_, _≤_}
+use native.Mathlib.Nat.{mul-pos}
 use native.Mathlib.Omega.{arith}
-use lib.Dec.{T}
 use lib.Pow.{pow-pos}
 use lib.Ieee.{Float}
 use lib.Ieee.Scale.{finite}
-use lib.Ieee.Positive.{num, den, den-pos, positive, positive-finite}
-use Rattle.rounding_error.proofs.Numbers.{Number, number, Size, _per_, _by_, _for_, _of_, _roundoffs_, Within, Under, valueOf, Near, InRange, sizeOf, Ranges}
+use lib.Ieee.Positive.{num, den, den-pos, positive-finite}
+use Rattle.rounding_error.proofs.Numbers.{Size, _per_, _by_, _for_, _roundoffs_, valueOf, Near, InRange, sizeOf, Ranges}
 use Rattle.accuracy.proofs.Trapezoids.{Bounded}
-use Rattle.accuracy.proofs.Samples.{one, quarter, Rule}
+use Rattle.accuracy.proofs.Samples.{quarter, Rule}
 use Rattle.accuracy.proofs.Given.{Lengths, AllHaveChords}
-use Rattle.accuracy.proofs.OnePiece.{centreOf, reachOf, areaOf, exactArea}
+use Rattle.accuracy.proofs.OnePiece.{reachOf, areaOf, exactArea}
 use Rattle.quadrature.specs.Rule.{kronrodWeight as weight}
 use Rattle.accuracy.proofs.ExactRule.{node}
 use Rattle.accuracy.proofs.Chord.{chords-found}
@@ -21,7 +20,6 @@ use Rattle.rounding_error.proofs.Ranges.{ranges-by, ranges-for, in-range}
 use Rattle.accuracy.proofs.Tables.{node-near-one, node-finite, weight-finite, weight-under, weights-two}
 use Rattle.accuracy.proofs.Ends.{halfSize, reach-near}
 use Rattle.accuracy.proofs.Heights.{inside, middle-in, reach-small, one-part}
-use Rattle.accuracy.proofs.Whole.{Sizes}
 use Rattle.accuracy.proofs.Area.{area-near}
 
 pub quarter-ranges : Ranges 2 quarter

@@ -1,23 +1,19 @@
 -- What the call for an area gives for a trapezoid: one strip from 0 to the span, and where that is one piece, the area of proofs/OnePiece. Assumes
 -- nothing.
-use mathlib.Core.Path.{_≡_, refl, sym, ap, _∙_, subst}
+use mathlib.Core.Path.{_≡_, refl, sym, ap, _∙_}
 use mathlib.Core.Logic.{_⊎_, inl, inr}
 use mathlib.Core.Bool.{Bool, true, false, cond}
-use mathlib.Core.List.{List, [], _∷_, _++_, map}
+use mathlib.Core.List.{List, [], _∷_}
 use Prim.Native.Nat.{ℕ, zero, suc, _+_, _-_, _≤_, _<_}
 use native.Mathlib.Nat.{le-refl, add-zero}
 use native.Mathlib.Omega.{arith}
 use lib.Dec.{T, lit≤}
 use lib.ListN.{length}
-use lib.Ieee.{Float, lt, eq, le, ofBits}
+use lib.Ieee.{Float, lt, eq, le}
 use lib.Ieee.Bits.{is-true}
-use lib.Ieee.Positive.{positive, positive-finite}
 use Rattle.floats.specs.Operations.{_⊕_, _⊖_, _⊗_, _⊘_, bits, at}
 use Rattle.floats.specs.Constants.{half}
 use Rattle.floats.proofs.Bools.{no}
-use Rattle.floats.proofs.Commuted.{times-commuted}
-use Rattle.rounding.proofs.Signs.{positive-plus}
-use Rattle.rounding.proofs.Zeros.{zero-plus-zero, times-zero}
 use Rattle.refusals.specs.declared.Refusal.{Refusal}
 use Rattle.refusals.specs.declared.Refusal.the-variants.{NoArea}
 use Rattle.refusals.specs.declared.Verdict.{Verdict}
@@ -30,12 +26,12 @@ use Rattle.breaks.proofs.Listed.{two-heights}
 use Rattle.chords.specs.Chords.{inSpan, trapezoidAt, endsAt, paired}
 use Rattle.integrands.specs.Integrands.{scaleOf, sumsFrom, areaValues, areaThree}
 use Rattle.integrands.specs.declared.Kind.the-variants.{Area as area}
-use Rattle.quadrature.specs.Rule.{halfSum, halfWidth, minusSide, plusSide, weightedTo, kronrodWeight, sumOf, pieceOf, heightsOf}
+use Rattle.quadrature.specs.Rule.{halfWidth, minusSide, plusSide, weightedTo, kronrodWeight, sumOf, pieceOf, heightsOf}
 use Rattle.quadrature.specs.declared.Piece.{Piece}
 use Rattle.tolerance.specs.Bounds.{totalOf}
-use Rattle.halving.specs.Halving.{Halved, repeat, halving, verdictOf}
+use Rattle.halving.specs.Halving.{repeat, halving, verdictOf}
 use Rattle.halving.proofs.Outcomes.{outcome, kept, one-more}
-use Rattle.strips.specs.Strips.{Worked, workedOf, stripOf, isAccepted, piecesOf, valueFrom, widenedStrip, byVerdict, summedOf, totalsOf, givenTotals, refusedTotals, concludedOf, intervalsIn}
+use Rattle.strips.specs.Strips.{Worked, workedOf, stripOf, isAccepted, piecesOf, valueFrom, byVerdict, summedOf, totalsOf, givenTotals, refusedTotals, concludedOf, intervalsIn}
 use Rattle.strips.specs.declared.Totals.{Totals}
 use Rattle.halving.specs.Scratch.{intervalsOf}
 use Rattle.widths.proofs.Strips.{intervals-same}
@@ -82,10 +78,6 @@ module _ (root tip span sweep : Float) (points : List Float) where
   pub width-there : (h : Float) → T (inSpan span (h ⊗ Scale·)) → at (areaThree Shape points h) 0 ≡ widthAt root tip span sweep Scale· h
   width-there h t = ap (λ (l : List Float). at l 0) (values-there h t)
 
-  scale-is : Scale· ≡ root ⊕ span
-  unfolding scaleOf rootChordOf spanOf
-  scale-is = refl
-
 -- ---- a sum of the rule, of two integrands that are equal at its heights
 pub same-sum : (n : ℕ) (weight : ℕ → Float) (y z : Float → Float) (centre reach : Float) → y centre ≡ z centre → ((i : ℕ) → i < n → y (minusSide centre reach i) ≡ z (minusSide centre reach i))
     → ((i : ℕ) → i < n → y (plusSide centre reach i) ≡ z (plusSide centre reach i)) → weightedTo n weight y centre reach ≡ weightedTo n weight z centre reach
@@ -93,6 +85,14 @@ unfolding weightedTo
 same-sum zero weight y z centre reach c m p = rw c
 same-sum (suc n) weight y z centre reach c m p =
     rw (same-sum n weight y z centre reach c (λ i l. m i (omega arith)) (λ i l. p i (omega arith)), m n (le-refl (suc n)), p n (le-refl (suc n)))
+
+-- ---- the totals of one piece
+pub total-one : (k : ℕ) → k < 3 → (f : Float → List Float) (a b : Float) (pieces : List Piece) → pieces ≡ pieceOf 3 f a b ∷ [] → totalOf pieces k ≡ bits 0 ⊕ halfWidth a b ⊗ sumOf kronrodWeight f a b k
+unfolding totalOf pieceOf
+total-one zero l f a b pieces e = rw e
+total-one (suc zero) l f a b pieces e = rw e
+total-one (suc (suc zero)) l f a b pieces e = rw e
+total-one (suc (suc (suc k))) l f a b pieces e = absurd (let z : ⊥ = omega arith in z)
 
 -- ---- a halving that ends with one piece has the whole strip
 module _ (w : ℕ) (f : Float → List Float) (lower upper : Float) where
@@ -129,10 +129,9 @@ pub record Given (planform : Planform) (points : List Float) (L n : ℕ) (r : Ar
   pub centroid-x : r .«centroid_x_m» ≡ scaleOf planform points ⊗ at (summedOf (areaSeven planform points L) .value) 1 ⊘ at (summedOf (areaSeven planform points L) .value) 0
   pub centroid-height : r .«centroid_span_m» ≡ scaleOf planform points ⊗ at (summedOf (areaSeven planform points L) .value) 2 ⊘ at (summedOf (areaSeven planform points L) .value) 0
   pub intervals : r .intervals ≡ intervalsIn (areaSeven planform points L)
-  pub not-zero : le (unscaledArea (summedOf (areaSeven planform points L) .value) (scaleOf planform points)) (bits 0) ≡ false
 
 geometry-given : (total : List Float) (scale : Float) → geometryOf total scale .verdict ≡ Accepted
-    → (le (unscaledArea total scale) (bits 0) ≡ false) × (geometryOf total scale .«area_m2» ≡ unscaledArea total scale) × (geometryOf total scale .«centroid_x_m» ≡ scale ⊗ at total 1 ⊘ at total 0) × (geometryOf total scale .«centroid_span_m» ≡ scale ⊗ at total 2 ⊘ at total 0)
+    → (geometryOf total scale .«area_m2» ≡ unscaledArea total scale) × (geometryOf total scale .«centroid_x_m» ≡ scale ⊗ at total 1 ⊘ at total 0) × (geometryOf total scale .«centroid_span_m» ≡ scale ⊗ at total 2 ⊘ at total 0)
 unfolding geometryOf
 geometry-given total scale = go (le (unscaledArea total scale) (bits 0))
   where
@@ -142,9 +141,9 @@ geometry-given total scale = go (le (unscaledArea total scale) (bits 0))
         (record { verdict = Accepted; «area_m2» = unscaledArea total scale; «centroid_x_m» = scale ⊗ at total 1 ⊘ at total 0; «centroid_span_m» = scale ⊗ at total 2 ⊘ at total 0 })
 
     go : (b : Bool) → Cond b .verdict ≡ Accepted
-        → (b ≡ false) × (Cond b .«area_m2» ≡ unscaledArea total scale) × (Cond b .«centroid_x_m» ≡ scale ⊗ at total 1 ⊘ at total 0) × (Cond b .«centroid_span_m» ≡ scale ⊗ at total 2 ⊘ at total 0)
+        → (Cond b .«area_m2» ≡ unscaledArea total scale) × (Cond b .«centroid_x_m» ≡ scale ⊗ at total 1 ⊘ at total 0) × (Cond b .«centroid_span_m» ≡ scale ⊗ at total 2 ⊘ at total 0)
     go true e = no-refusal NoArea e
-    go false e = (refl, refl, refl, refl)
+    go false e = (refl, refl, refl)
 
 module _ (planform : Planform) (points : List Float) (L n : ℕ) (r : Area) (answer : r ≡ areaFigures planform points L n) (given : r .verdict ≡ Accepted) where
   abbrev verdictIn : Area → Verdict
@@ -168,11 +167,10 @@ module _ (planform : Planform) (points : List Float) (L n : ℕ) (r : Area) (ans
       λ k. ap (λ (v : List Float). scale ⊗ at v k ⊘ at v 0) value in
       record {
         accepted = a .0;
-        area = ap (λ (a : Area). a .«area_m2») (c .1) ∙ g .1 ∙ ap (λ (v : List Float). unscaledArea v scale) value;
-        centroid-x = ap (λ (a : Area). a .«centroid_x_m») (c .1) ∙ g .2 ∙ over 1;
-        centroid-height = ap (λ (a : Area). a .«centroid_span_m») (c .1) ∙ g .3 ∙ over 2;
+        area = ap (λ (a : Area). a .«area_m2») (c .1) ∙ g .0 ∙ ap (λ (v : List Float). unscaledArea v scale) value;
+        centroid-x = ap (λ (a : Area). a .«centroid_x_m») (c .1) ∙ g .1 ∙ over 1;
+        centroid-height = ap (λ (a : Area). a .«centroid_span_m») (c .1) ∙ g .2 ∙ over 2;
         intervals = ap (λ (a : Area). a .intervals) (c .1) ∙ ap (λ (t : Totals). t .intervals) (d .1);
-        not-zero = rw value at (g .0);
       }
 
 -- ---- of a trapezoid there is one strip, from 0 to the span
@@ -202,32 +200,3 @@ module _ (root tip span sweep : Float) (points : List Float) (L : ℕ) (above : 
 
   pub intervals-are : intervalsIn (areaSeven (Trapezoid root tip span sweep) points L) ≡ intervalsOf (Strip .lower) (Strip .upper) (Strip .halved)
   intervals-are = intervals-same 4 (areaStrips (Trapezoid root tip span sweep) points L) ∙ ap intervalsIn strips-are ∙ add-zero _
-
-  empty : (a b : Float) → eq a b ≡ true → halving 3 (areaThree (Trapezoid root tip span sweep) points) a b L .pieces ≡ []
-  unfolding halving
-  empty a b e = rw e
-
-  none : eq (Strip .lower) (Strip .upper) ≡ true → valueFrom (bits 0) 0 (areaSeven (Trapezoid root tip span sweep) points L) ≡ bits 0
-  unfolding totalOf
-  none e = total-is 0 (lit≤ tt) ∙ ap (λ (l : List Piece). bits 0 ⊕ totalOf l 0) (empty (Strip .lower) (Strip .upper) e) ∙ zero-plus-zero
-
-  level : le (bits 0) (bits 0) ≡ true
-  unfolding le ofBits
-  level = refl
-
-  -- its ends are not equal, as it would have no area
-  pub ends-apart : (n : ℕ) (r : Area) → Given (Trapezoid root tip span sweep) points L n r → T (positive (scaleOf (Trapezoid root tip span sweep) points)) → eq (Strip .lower) (Strip .upper) ≡ false
-  ends-apart n r g p = go (eq (Strip .lower) (Strip .upper)) refl
-    where
-      S : Float
-      S = scaleOf (Trapezoid root tip span sweep) points
-
-      nothing : bits 0 ⊗ S ≡ bits 0
-      nothing = times-commuted (bits 0) S ∙ times-zero S (positive-finite S p) (positive-plus S p)
-
-      area : eq (Strip .lower) (Strip .upper) ≡ true → le (valueFrom (bits 0) 0 (areaSeven (Trapezoid root tip span sweep) points L) ⊗ S ⊗ S) (bits 0) ≡ true
-      area e = rw (none e, nothing, nothing) level
-
-      go : (b : Bool) → eq (Strip .lower) (Strip .upper) ≡ b → b ≡ false
-      go false e = refl
-      go true e = sym (area e) ∙ g .not-zero

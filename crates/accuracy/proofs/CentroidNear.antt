@@ -1,9 +1,9 @@
 -- The centroid that the call gives for a trapezoid whose strip is one piece is near the exact one. Assumes nothing.
 use mathlib.Core.Path.{_≡_, refl, sym, ap, _∙_, subst}
-use mathlib.Core.Bool.{Bool, true, false, cond}
-use mathlib.Core.List.{List, [], _∷_}
-use Prim.Native.Nat.{ℕ, zero, suc, _+_, _*_, _^_, _≤_, _<_, zero-le}
-use native.Mathlib.Nat.{mul-pos, le-of-eq, mul-add, add-mul, mul-comm, mul-assoc, mul-left-comm, one-mul, mul-one, zero-mul}
+use mathlib.Core.Bool.{true, false}
+use mathlib.Core.List.{List}
+use Prim.Native.Nat.{ℕ, _+_, _*_, _^_, _≤_, _<_, zero-le}
+use native.Mathlib.Nat.{mul-pos, one-mul}
 use native.Mathlib.Omega.{arith}
 use lib.Dec.{T, lit≤}
 use lib.ListN.{length}
@@ -21,7 +21,7 @@ use Rattle.rounding.proofs.Ordered.{le→order}
 use Rattle.rounding.proofs.Signs.{finite-no-nan}
 use Rattle.rounding.proofs.Sizes.{positive-of}
 use Rattle.rounding_error.specs.Distances.{Within as Apart}
-use Rattle.rounding_error.proofs.Numbers.{Number, number, Size, _per_, _plus_, _times_, IsNumber, valueOf}
+use Rattle.rounding_error.proofs.Numbers.{Number, number, _per_, _plus_, _times_, IsNumber, valueOf}
 use Rattle.rounding_error.proofs.Distances.{sorted, within-upto}
 use Rattle.rounding_error.proofs.Counts as Counts
 use Rattle.rounding_error.proofs.Fractions.{IsFraction, plus-fraction, times-fraction, value-fraction, whole-fraction, shifted-fraction, within-fraction}
@@ -32,11 +32,8 @@ use Rattle.limits.specs.Limits.{rootChordField, tipChordField, lengthCheck}
 use Rattle.limits.proofs.Lengths.{height-checked}
 use Rattle.planforms.specs.declared.Planform.{Planform}
 use Rattle.planforms.specs.declared.Planform.the-variants.{Trapezoid}
-use Rattle.quadrature.specs.Rule.{halfWidth, minusSide, plusSide, weightedTo, kronrodWeight, sumOf, pieceOf}
-use Rattle.quadrature.specs.declared.Piece.{Piece}
-use Rattle.tolerance.specs.Bounds.{totalOf}
+use Rattle.quadrature.specs.Rule.{minusSide, plusSide, kronrodWeight}
 use Rattle.integrands.specs.Integrands.{scaleOf, areaThree}
-use Rattle.integrands.proofs.Scales.{scale-sized}
 use Rattle.fins.specs.Fins.{planformCheck}
 use Rattle.fins.proofs.Accepted.{area-planform}
 use Rattle.strips.specs.Strips.{piecesOf, valueFrom}
@@ -45,22 +42,14 @@ use Rattle.figures.specs.declared.Area.{Area}
 use Rattle.accuracy.specs.Areas.{AreaGiven, Reach}
 use Rattle.accuracy.specs.Centroids.{thrice, alongRoot, inHeight, CentroidNear, OnePieceCentroid}
 use Rattle.accuracy.proofs.OnePiece.{centreOf, reachOf}
-use Rattle.accuracy.proofs.Given.{Lengths, AllHaveChords}
+use Rattle.accuracy.proofs.Given.{Lengths}
 use Rattle.accuracy.proofs.Areas.{all-have-chords}
 use Rattle.accuracy.proofs.AreaSamples as Values
 use Rattle.accuracy.proofs.Integrals.{totalOver}
-use Rattle.accuracy.proofs.Called.{Strip, total-is, intervals-are, ends-apart, only-piece, same-sum, values-there}
+use Rattle.accuracy.proofs.Called.{Strip, total-is, same-sum, values-there, total-one}
 use Rattle.accuracy.proofs.Near.{figures-given, sized, sizes, span-above, one-piece}
 use Rattle.accuracy.proofs.Centroids as Centroids
 use Rattle.accuracy.proofs.Centroids.{NotBelow, along-near, height-near, along-finite, height-finite, along-is, height-is, D3-is}
-
--- ---- the totals of one piece
-total-one : (k : ℕ) → k < 3 → (f : Float → List Float) (a b : Float) (pieces : List Piece) → pieces ≡ pieceOf 3 f a b ∷ [] → totalOf pieces k ≡ bits 0 ⊕ halfWidth a b ⊗ sumOf kronrodWeight f a b k
-unfolding totalOf pieceOf
-total-one zero l f a b pieces e = rw e
-total-one (suc zero) l f a b pieces e = rw e
-total-one (suc (suc zero)) l f a b pieces e = rw e
-total-one (suc (suc (suc k))) l f a b pieces e = absurd (let z : ⊥ = omega arith in z)
 
 -- ---- a tip chord is not below 0
 pub not-below : (x : Float) → T (finite x) → lt x (bits 0) ≡ false → NotBelow (valueOf x)

@@ -1,24 +1,24 @@
 -- The centroid of a trapezoid whose strip is one piece: each coordinate times 3·(root + tip) is near the textbook's dividend. Assumes nothing.
-use mathlib.Core.Path.{_≡_, refl, sym, ap, _∙_, subst}
+use mathlib.Core.Path.{_≡_, refl, sym, subst}
 use mathlib.Core.Bool.{true, false, _&&_}
 use mathlib.Core.List.{List, [], _∷_}
 use Prim.Native.Nat.{ℕ, zero, suc, _+_, _*_, _^_, _≤_, _<_, zero-le}
-use native.Mathlib.Nat.{mul-pos, le-trans, le-of-eq, mul-le-mul-left, mul-le-mul-right, le-of-mul-le-mul-right, mul-add, add-mul, mul-comm, mul-assoc, mul-left-comm, one-mul, mul-one, zero-mul, mul-zero, zero-add, add-zero}
+use native.Mathlib.Nat.{mul-pos, le-trans, le-of-eq, mul-le-mul-left, mul-le-mul-right, le-of-mul-le-mul-right, one-mul, mul-one, zero-mul, mul-zero, zero-add, add-zero}
 use native.Mathlib.Omega.{arith}
 use lib.Dec.{T, leb, le→leb}
 use lib.Pow.{pow-pos, pow-add}
-use lib.Ieee.{Float, nan, inf, fin, lt, up, down, ofBits}
+use lib.Ieee.{Float, nan, inf, fin, up, down}
 use lib.Ieee.Fits.{and-i}
 use lib.Ieee.Scale.{finite}
 use lib.Ieee.Positive.{num, den, den-pos, positive, positive-finite}
-use Rattle.floats.specs.Operations.{_⊗_, _⊘_, bits}
+use Rattle.floats.specs.Operations.{_⊗_, _⊘_}
 use Rattle.rounding.proofs.Monotone.{positive-num}
-use Rattle.rounding_error.proofs.Numbers.{Number, number, Size, _per_, _plus_, _less_, _times_, _by_, _for_, _of_, _roundoffs_, _upto_, IsNumber, IsSize, Over, Within, Same, Under, valueOf, zeroNumber, sizeOf, Near, InRange, Ranges}
+use Rattle.rounding_error.proofs.Numbers.{Number, number, Size, _per_, _plus_, _times_, _by_, _for_, _of_, _roundoffs_, _upto_, IsNumber, IsSize, Over, Within, Same, Under, valueOf, zeroNumber, sizeOf, InRange, Ranges}
 use Rattle.rounding_error.proofs.Distances.{sorted, over-trans, over-upto, four, within-upto, within-same, within-sym, within-times}
 use Rattle.rounding_error.proofs.Ranges.{ranges-by, ranges-for, in-range}
 use Rattle.rounding_error.proofs.Counts as Counts
 use Rattle.rounding_error.proofs.Chains.{Valued, some, few, inverse, inverse-is, inverse-times, under-inverse, counted-by, exact-times}
-use Rattle.rounding_error.proofs.Polynomials.{_equals_, trans, symm, itself, times-equal, plus-is, less-is, times-is, Expression, given, ratio, _add_, _take_, _mul_, AllNumbers, equal-by, evaluated-is}
+use Rattle.rounding_error.proofs.Polynomials.{_equals_, trans, itself, times-equal, plus-is, times-is, Expression, given, ratio, _add_, _take_, _mul_, AllNumbers, equal-by, evaluated-is}
 use Rattle.rounding_error.proofs.Quotients.{near-positive, near-least, quotient-near, quotient-finite}
 use Rattle.accuracy.proofs.Samples.{one, quarter}
 use Rattle.accuracy.proofs.Given.{Lengths}

@@ -1,8 +1,8 @@
 -- A sample of a strip that is one piece has a chord: 0 <= h·scale < span, as f64 compares them. Assumes nothing.
-use mathlib.Core.Path.{_≡_, refl, sym, ap, _∙_, subst}
+use mathlib.Core.Path.{subst}
 use mathlib.Core.Bool.{true, false}
-use Prim.Native.Nat.{ℕ, zero, suc, _+_, _*_, _^_, _≤_, _<_}
-use native.Mathlib.Nat.{mul-pos, le-refl, le-trans, le-of-eq, mul-le-mul-right, le-of-mul-le-mul-right, lt-of-mul-lt-mul-right, mul-add, add-mul, mul-comm, mul-assoc, mul-left-comm, one-mul, mul-one, zero-mul, mul-zero, zero-add, add-zero, zero-lt-suc}
+use Prim.Native.Nat.{ℕ, _+_, _*_, _^_, _≤_, _<_}
+use native.Mathlib.Nat.{mul-pos, le-of-mul-le-mul-right, one-mul, mul-one, zero-mul, mul-zero, zero-add, add-zero}
 use native.Mathlib.Omega.{arith}
 use lib.Dec.{T, ltb→lt}
 use lib.Pow.{pow-pos}
@@ -10,8 +10,8 @@ use lib.Ieee.{Float, nan, inf, fin, up, down, ofBits, le}
 use lib.Ieee.Fits.{up-pos, down-pos, and-i}
 use lib.Ieee.Scale.{finite}
 use lib.Ieee.Positive.{num, den, den-pos, positive, positive-finite}
-use Rattle.floats.specs.Operations.{_⊕_, _⊖_, _⊗_, bits}
-use Rattle.rounding_error.proofs.Numbers.{Number, number, Size, _per_, _plus_, minus, _less_, _times_, _over_, _by_, _for_, _of_, _roundoffs_, IsNumber, IsSize, Within, Over, Same, Under, zeroNumber, valueOf, Near, InRange, sizeOf}
+use Rattle.floats.specs.Operations.{_⊗_, bits}
+use Rattle.rounding_error.proofs.Numbers.{Number, number, Size, _per_, _plus_, minus, _times_, _over_, _by_, _for_, _of_, _roundoffs_, IsNumber, IsSize, Within, Same, Under, zeroNumber, valueOf, Near, InRange, sizeOf}
 use Rattle.accuracy.proofs.Samples.{InSpan}
 use Rattle.rounding_error.proofs.Distances.{sorted, within-refl, within-upto, within-trans, within-same, within-plus, within-times, times-comm}
 use Rattle.rounding.proofs.Monotone.{positive-num}

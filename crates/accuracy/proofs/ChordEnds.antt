@@ -1,23 +1,21 @@
 -- The samples of a strip that is one piece: their heights, the fractions of the span at which they lie, and the ends of the chords there, each near
 -- the exact one. Assumes nothing.
-use mathlib.Core.Path.{_≡_, refl, sym, ap, _∙_, subst}
-use mathlib.Core.List.{List, [], _∷_}
-use Prim.Native.Nat.{ℕ, zero, suc, _+_, _*_, _^_, _≤_, _<_}
-use native.Mathlib.Nat.{mul-pos, mul-add, add-mul, mul-comm, mul-assoc, mul-left-comm, one-mul, mul-one, zero-mul, mul-zero, zero-add, add-zero}
+use mathlib.Core.List.{[], _∷_}
+use Prim.Native.Nat.{ℕ, _+_, _*_, _≤_, _<_}
+use native.Mathlib.Nat.{mul-pos, one-mul, mul-one, zero-mul, mul-zero, zero-add, add-zero}
 use native.Mathlib.Omega.{arith}
-use lib.Dec.{T}
 use lib.Pow.{pow-pos}
 use lib.Ieee.{Float}
-use lib.Ieee.Positive.{num, den, den-pos, positive, positive-finite}
+use lib.Ieee.Positive.{num, den, den-pos, positive-finite}
 use Rattle.floats.specs.Operations.{_⊕_, _⊖_, _⊗_, _⊘_}
 use Rattle.quadrature.specs.Rule.{minusSide, plusSide}
 use Rattle.rounding.proofs.Monotone.{positive-num}
-use Rattle.rounding_error.proofs.Numbers.{Number, number, Size, _per_, _plus_, _less_, _times_, _over_, _by_, _for_, _of_, _roundoffs_, _upto_, IsNumber, IsSize, Within, Under, zeroNumber, valueOf, sizeOf, Near, InRange, Ranges}
+use Rattle.rounding_error.proofs.Numbers.{Number, number, Size, _per_, _plus_, _less_, _times_, _over_, _by_, _for_, _of_, _roundoffs_, IsNumber, IsSize, Under, valueOf, sizeOf, Near, InRange, Ranges}
 use Rattle.rounding_error.proofs.Distances.{sorted}
 use Rattle.rounding_error.proofs.Ranges.{ranges-by, ranges-for, in-range}
 use Rattle.rounding_error.proofs.Counts as Counts
 use Rattle.rounding_error.proofs.Chains.{Valued, inverse, inverse-is, inverse-times, over-is-times, equalled, resized, exactly, plus-valued, less-valued, times-valued, exact-times, over-valued}
-use Rattle.rounding_error.proofs.Polynomials.{_equals_, trans, symm, itself, by-left, times-equal, plus-is, less-is, times-is, given, ratio, _add_, _take_, _mul_, equal-by}
+use Rattle.rounding_error.proofs.Polynomials.{_equals_, trans, itself, by-left, times-equal, plus-is, less-is, times-is, given, ratio, _add_, _take_, _mul_, equal-by}
 use Rattle.accuracy.proofs.ExactRule.{node}
 use Rattle.accuracy.proofs.Samples.{one}
 use Rattle.accuracy.proofs.Trapezoids.{fractionAt}

@@ -1,23 +1,22 @@
 -- The ends, centre and reach of a strip that is one piece. Assumes nothing.
-use mathlib.Core.Path.{_≡_, refl, sym, ap, _∙_, subst}
-use mathlib.Core.Bool.{true, false}
-use Prim.Native.Nat.{ℕ, zero, suc, _+_, _*_, _^_, _≤_, _<_}
-use native.Mathlib.Nat.{mul-pos, le-refl, mul-add, add-mul, mul-comm, mul-assoc, mul-left-comm, one-mul, mul-one, zero-mul, mul-zero, zero-add, add-zero}
+use mathlib.Core.Path.{_≡_, refl, sym, subst}
+use Prim.Native.Nat.{ℕ, _*_, _^_, _≤_}
+use native.Mathlib.Nat.{mul-pos}
 use native.Mathlib.Omega.{arith}
 use lib.Dec.{T}
 use lib.Pow.{pow-pos}
-use lib.Ieee.{Float, nan, inf, fin, ofBits}
+use lib.Ieee.{Float, ofBits}
 use lib.Ieee.Scale.{finite}
-use lib.Ieee.Positive.{num, den, den-pos, positive, positive-finite}
-use Rattle.floats.specs.Operations.{_⊕_, _⊖_, _⊗_, _⊘_, bits}
-use Rattle.rounding_error.proofs.Numbers.{Number, number, Size, _per_, _plus_, minus, _less_, _times_, _over_, _by_, _for_, _of_, _roundoffs_, IsNumber, IsSize, Within, Same, Under, valueOf, Near, InRange, sizeOf}
+use lib.Ieee.Positive.{den-pos, positive, positive-finite}
+use Rattle.floats.specs.Operations.{_⊕_, _⊖_, _⊗_, bits}
+use Rattle.rounding_error.proofs.Numbers.{Number, number, Size, _per_, _plus_, _less_, _times_, _over_, _by_, _for_, _of_, _roundoffs_, Same, Under, valueOf, Near, InRange, sizeOf}
 use Rattle.floats.specs.Constants.{half}
 use Rattle.accuracy.proofs.OnePiece.{lowerEnd, upperEnd, centreOf, reachOf}
 use Rattle.rounding_error.proofs.Distances.{sorted, within-upto}
-use Rattle.rounding.proofs.Monotone.{positive-num}
 use Rattle.rounding_error.proofs.Operations.{near-same}
 use Rattle.rounding_error.proofs.Counts
-use Rattle.accuracy.proofs.Sums.{Valued, more, zero-valued}
+use Rattle.rounding_error.proofs.Chains.{Valued}
+use Rattle.rounding_error.proofs.Chains.{zero-valued}
 use Rattle.rounding_error.proofs.Counts.{own-size}
 
 -- half the span over the scale

@@ -1,13 +1,13 @@
 -- What an accepted trapezoid gives: lengths far from the ends of f64's range, and a size B that root, tip and sweep do not pass.
 use Prim.Native.Nat.{ℕ, _<_}
 use lib.Dec.{T}
-use lib.Ieee.{Float, le}
+use lib.Ieee.{Float}
 use lib.Ieee.Scale.{finite}
 use lib.Ieee.Positive.{positive}
-use Rattle.floats.specs.Operations.{_⊗_, bits}
+use Rattle.floats.specs.Operations.{_⊗_}
 use Rattle.quadrature.specs.Rule.{minusSide, plusSide}
 use Rattle.chords.specs.Chords.{inSpan}
-use Rattle.rounding_error.proofs.Numbers.{Size, _per_, _of_, IsSize, Under, valueOf, sizeOf, Ranges}
+use Rattle.rounding_error.proofs.Numbers.{Size, _of_, Under, valueOf, sizeOf, Ranges}
 use Rattle.accuracy.proofs.OnePiece.{centreOf, reachOf}
 
 pub record Lengths (root tip span sweep scale : Float) (B : Size) : Type 0 where

@@ -1,26 +1,24 @@
 -- The sum over one piece and one strip, of values that are quadratic in the fraction of the span, is near span over scale times their integral. Assumes nothing.
-use mathlib.Core.Path.{_≡_, refl, sym, ap, _∙_, subst}
 use mathlib.Core.Bool.{_&&_}
-use mathlib.Core.List.{List, [], _∷_}
-use Prim.Native.Nat.{ℕ, zero, suc, _+_, _*_, _^_, _≤_, _<_}
-use native.Mathlib.Nat.{mul-pos}
+use mathlib.Core.List.{[], _∷_}
+use Prim.Native.Nat.{ℕ, suc, _+_, _*_, _^_, _≤_}
 use native.Mathlib.Omega.{arith}
-use lib.Dec.{T, le→leb, leb}
-use lib.Pow.{pow-pos}
+use lib.Dec.{le→leb, leb}
 use lib.Ieee.{Float, ofBits}
 use lib.Ieee.Fits.{and-i}
 use Rattle.floats.specs.Operations.{_⊕_, _⊗_, bits}
 use Rattle.quadrature.specs.Rule.{weightedTo, kronrodWeight as weight}
-use Rattle.rounding_error.proofs.Numbers.{Number, number, Size, _per_, _plus_, _times_, _by_, _of_, IsNumber, IsSize, Under, valueOf, InRange, Ranges}
+use Rattle.rounding_error.proofs.Numbers.{Number, number, Size, _plus_, _times_, _by_, _of_, IsNumber, Under, InRange, Ranges}
 use Rattle.rounding_error.proofs.Ranges.{ranges-by, in-range}
 use Rattle.rounding_error.proofs.Counts as Counts
-use Rattle.rounding_error.proofs.Chains.{Valued, some, few, in-bounds, counted-by, equalled, plus-valued, times-valued, inverse}
-use Rattle.rounding_error.proofs.Polynomials.{_equals_, plus-is, times-is, given, ratio, _add_, _take_, _mul_, equal-by}
+use Rattle.rounding_error.proofs.Chains.{Valued, some, few, in-bounds, counted-by, equalled, plus-valued, times-valued}
+use Rattle.rounding_error.proofs.Polynomials.{times-is, given, ratio, _add_, _mul_, equal-by}
 use Rattle.accuracy.proofs.Samples.{quarter}
 use Rattle.accuracy.proofs.OnePiece.{centreOf, reachOf}
 use Rattle.accuracy.proofs.Given.{Lengths}
 use Rattle.accuracy.proofs.Areas.{quarter-ranges}
-use Rattle.accuracy.proofs.Weighted.{middle, exactSum, Sampled, sizeTo, errorTo, size-few, error-few, nought, weighted-near}
+use Rattle.accuracy.proofs.Weighted.{Sampled, sizeTo, errorTo, error-few, weighted-near}
+use Rattle.rounding_error.proofs.Chains.{zero-valued}
 use Rattle.accuracy.proofs.Quadratic.{Quadratic, integral, integral-is, sum-near}
 use Rattle.accuracy.proofs.ChordEnds.{U, U-is, H, height-ranges, reach-valued}
 
@@ -29,7 +27,7 @@ pub from-zero : {x : Float} {v : Number} (k j : ℕ) (A : Size) → InRange A �
 unfolding ofBits
 from-zero {x = x} {v = v} k j A t e f h =
     counted-by
-    (equalled (plus-valued t (in-bounds 0 k 0 j (omega arith) e (omega arith) f) (nought A) h) v (h .is) (equal-by (v ∷ []) (h .is, tt) (ratio 0 0 add given 0) (given 0) tt))
+    (equalled (plus-valued t (in-bounds 0 k 0 j (omega arith) e (omega arith) f) (zero-valued A) h) v (h .is) (equal-by (v ∷ []) (h .is, tt) (ratio 0 0 add given 0) (given 0) tt))
     (2 + j + k) j (t .real) (omega arith) (omega arith)
 
 -- the errors that come out for samples of l roundoffs, at most j, and q at most r

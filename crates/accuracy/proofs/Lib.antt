@@ -16,6 +16,7 @@ pub mod Heights
 pub mod Chord
 pub mod Limits
 pub mod Areas
+pub mod StripEnds
 pub mod Called
 pub mod Near
 pub mod Weighted

@@ -1,5 +1,5 @@
 -- Lengths within their limits are far from the ends of f64's range, and so are the sizes made of them. Assumes nothing.
-use mathlib.Core.Path.{_≡_, refl, sym, ap, _∙_, subst}
+use mathlib.Core.Path.{sym}
 use mathlib.Core.Bool.{true, false}
 use Prim.Native.Nat.{ℕ, _+_, _*_, _^_, _≤_, _<_}
 use native.Mathlib.Nat.{le-trans, le-of-eq, mul-le-mul-left, mul-le-mul-right, le-of-mul-le-mul-right, mul-comm, mul-one, one-mul}
@@ -7,13 +7,13 @@ use native.Mathlib.Omega.{arith}
 use lib.Dec.{T}
 use lib.Pow.{pow-mono}
 use lib.Ieee.{Float, nan, inf, fin, up, down}
-use lib.Ieee.Positive.{num, den, den-pos, positive, positive-finite}
+use lib.Ieee.Positive.{num, den, den-pos, positive}
 use Rattle.rounding.specs.Sizes.{AtMost, Below, Above}
 use Rattle.rounding.proofs.Monotone.{positive-num}
 use Rattle.rounding.proofs.Sizes.{positive-of}
 use Rattle.limits.proofs.Lengths.{PositiveLength}
 use Rattle.integrands.proofs.Scales.{Scale}
-use Rattle.rounding_error.proofs.Numbers.{Number, number, Size, _per_, _of_, Under, valueOf, sizeOf, Least, Ranges}
+use Rattle.rounding_error.proofs.Numbers.{_per_, _of_, Under, valueOf, sizeOf, Least, Ranges}
 use Rattle.accuracy.proofs.Given.{Lengths}
 
 pub ranges-of : (x : Float) (p s : ℕ) → p ≤ 24 → s ≤ 24 → Below p x → Above s x → Ranges 24 (sizeOf x)

@@ -4,44 +4,36 @@ use mathlib.Core.Path.{_≡_, refl, sym, ap, _∙_, subst}
 use mathlib.Core.Logic.{inl, inr}
 use mathlib.Core.Bool.{Bool, true, false, cond, _||_}
 use mathlib.Core.List.{List, [], _∷_}
-use Prim.Native.Nat.{ℕ, zero, suc, _+_, _*_, _^_, _≤_, _<_}
-use native.Mathlib.Nat.{mul-pos, le-refl, le-trans, le-of-eq, mul-le-mul-left, mul-le-mul-right, le-of-mul-le-mul-right, mul-add, add-mul, mul-comm, mul-assoc, mul-left-comm, one-mul, mul-one, zero-mul, mul-zero, zero-add, add-zero}
+use Prim.Native.Nat.{ℕ, _*_, _^_, _≤_}
+use native.Mathlib.Nat.{mul-pos, le-refl, mul-le-mul-right, le-of-mul-le-mul-right, one-mul, mul-one, zero-mul, mul-zero, zero-add, add-zero}
 use native.Mathlib.Omega.{arith}
-use lib.Dec.{T, lit≤}
+use lib.Dec.{T}
 use lib.ListN.{length}
 use lib.Pow.{pow-pos}
 use lib.IntN.{pos}
-use lib.Ieee.{Float, binary64, lt, le, eq, ofBits}
+use lib.Ieee.{Float, lt, le, eq, ofBits}
 use mir.Facts.{or-yes}
 use lib.Ieee.Bits.{is-true}
 use lib.Ieee.Fits.{and-l, and-r}
 use lib.Ieee.Scale.{finite}
 use lib.Ieee.Positive.{num, den, den-pos, positive, positive-finite, between, le→cross}
 use Rattle.floats.specs.Operations.{_⊕_, _⊖_, _⊗_, _⊘_, bits, at}
-use Rattle.floats.specs.Fractions.{Fraction, _over_, _plus_ as sum, _times_ as product, valueOf as fractionOf}
+use Rattle.floats.specs.Fractions.{_over_, _plus_ as sum, _times_ as product, valueOf as fractionOf}
 use Rattle.floats.proofs.Bools.{no, of-true}
-use Rattle.floats.proofs.Order.{le-of-not, equal-not-below, equal-sym}
+use Rattle.floats.proofs.Order.{equal-not-below, equal-sym}
 use Rattle.refusals.specs.declared.Refusal.the-variants.{Density as density}
 use Rattle.refusals.specs.declared.Verdict.the-variants.{Accepted}
 use Rattle.refusals.proofs.Accepted.{holds}
 use Rattle.limits.specs.Limits.{isWithin}
 use Rattle.materials.specs.declared.Density.the-variants.{Bulk}
 use Rattle.materials.specs.Materials.{lightest, heaviest, densityCheck}
-use Rattle.rounding.specs.Sizes.{AtMost}
-use Rattle.rounding.proofs.Exact.{zero-exact}
 use Rattle.rounding.proofs.Monotone.{positive-num}
-use Rattle.rounding.proofs.Operations.{div-most}
-use Rattle.rounding.proofs.Ordered.{le→order}
-use Rattle.rounding.proofs.Signs.{minus, finite-no-nan, positive-plus}
-use Rattle.rounding.proofs.Signed.{over as above, under as below}
-use Rattle.rounding_error.proofs.Numbers.{Number, number, Size, _per_, _plus_, _times_, _for_, _roundoffs_, Over, zeroNumber, valueOf, sizeOf, InRange, Ranges}
+use Rattle.rounding_error.proofs.Numbers.{Number, number, Size, _per_, _plus_, _times_, _roundoffs_, zeroNumber, valueOf, sizeOf, Ranges}
 use Rattle.rounding_error.proofs.Distances.{sorted, within-upto}
 use Rattle.rounding_error.specs.Distances.{Within as Apart}
 use Rattle.rounding_error.proofs.Counts as Counts
 use Rattle.rounding_error.proofs.Fractions.{IsFraction, plus-fraction, times-fraction, value-fraction, whole-fraction, within-fraction}
-use Rattle.rounding_error.proofs.Quotients.{near-positive}
-use Rattle.accuracy.proofs.Ends.{upper-valued}
-use Rattle.accuracy.proofs.Heights.{span-over}
+use Rattle.accuracy.proofs.StripEnds.{ends-differ}
 use Rattle.floats.specs.Floats.{cube}
 use Rattle.limits.specs.Limits.{thicknessField}
 use Rattle.limits.proofs.Lengths.{PositiveLength, field-above}
@@ -70,7 +62,7 @@ use Rattle.fins.specs.declared.Tab.{Tab}
 use Rattle.fins.specs.declared.Tab.the-variants.{None, Slab}
 use Rattle.plates.specs.Integrals.{volume, tabIntegralsOf}
 use Rattle.rounding_error.proofs.Chains.{Valued}
-use Rattle.accuracy.proofs.Given.{Lengths, AllHaveChords}
+use Rattle.accuracy.proofs.Given.{Lengths}
 use Rattle.accuracy.proofs.OnePiece.{centreOf, reachOf}
 use Rattle.accuracy.proofs.Limits.{ranges-of, lengths, most-under}
 use Rattle.accuracy.proofs.Areas.{all-have-chords}
@@ -85,57 +77,6 @@ use Rattle.accuracy.proofs.PlateIntegrals.{plateAt, volumeTotal, wholeU
 use Rattle.accuracy.proofs.SetCalled.{Given, set-given, plate-there}
 
 ruleset plain = (sorted, one-mul, mul-one, zero-mul, mul-zero, zero-add, add-zero)
-
--- ---- the ends of a strip from 0 to the span differ
-upper-positive : (span scale : Float) → T (positive span) → T (positive scale) → InRange (sizeOf span for scale) → T (positive (span ⊘ scale))
-upper-positive span scale p q t =
-    let v = upper-valued span scale p q t in
-    let l = num span * den scale in
-    let m = num scale * den span in
-    near-positive (span ⊘ scale) l m (1 * l) (m * 2 ^ 53) (v .near .finite) (mul-pos (positive-num span p) (den-pos scale)) (mul-pos (mul-pos (positive-num scale q) (den-pos span)) (pow-pos 53))
-    (twice l m) (none l m (den scale) (valueOf (span ⊘ scale)) (subst (λ (x : Number). Over (1 roundoffs (sizeOf span for scale)) x (valueOf (span ⊘ scale))) (span-over span scale p) (v .near .within .above)))
-  where
-    twice : (l m : ℕ) → 2 * (1 * l * m) ≤ l * (m * 2 ^ 53)
-    twice l m = simp plain (omega arith)
-
-    none : (l m k : ℕ) (x : Number) → Over ((1 * l) per (m * 2 ^ 53)) (number l (0 * k) m) x → Over ((1 * l) per (m * 2 ^ 53)) (number l 0 m) x
-    none l m k (number q n e) h = subst (λ (z : ℕ). (l * e + n * m) * (m * 2 ^ 53) ≤ (q * m + z * e) * (m * 2 ^ 53) + 1 * l * (m * e)) (zero-mul k) h
-
-lower-none : (scale : Float) → T (positive scale) → AtMost 0 1 (bits 0 ⊘ scale)
-unfolding ofBits
-lower-none scale p = div-most binary64 (bits 0) scale 0 1 (pow-pos 0) (zero-exact binary64) tt (positive-finite scale p) (positive-num scale p) (omega arith)
-
-not-equal : (x y : Float) → AtMost 0 1 x → T (positive y) → eq x y ≡ false
-not-equal x y a p = go (eq x y) refl
-  where
-    pick : (s : Bool) (n : ℕ) → n ≡ 0 → above s n ≡ 0
-    pick true n e = refl
-    pick false n e = e
-
-    go : (b : Bool) → eq x y ≡ b → b ≡ false
-    go false e = refl
-    go true e =
-        let yf = positive-finite y p in
-        let o = le→order y x yf (a .finite) (of-true _ (le-of-not y x (finite-no-nan y yf) (finite-no-nan x (a .finite)) (equal-not-below x y e))) in
-        absurd (clash (num y * den x) (num x * den y) (minus x) (mul-pos (positive-num y p) (den-pos x)) (zero-of (num x) (den x) (den y) (a .size)) (rw (positive-plus y p) at o))
-      where
-        zero-of : (N D E : ℕ) → N * 1 ≤ 0 * D → N * E ≡ 0
-        zero-of N D E h = z N E (small N D h)
-          where
-            small : (N D : ℕ) → N * 1 ≤ 0 * D → N ≡ 0
-            small N D h = omega arith
-
-            z : (N E : ℕ) → N ≡ 0 → N * E ≡ 0
-            z N E e = rw e (zero-mul E)
-
-        clash : (u v : ℕ) (s : Bool) → 0 < u → v ≡ 0 → u + below s v ≤ above s v + 0 → ⊥
-        clash u v s h e o = no u (above s v) (below s v) h (pick s v e) o
-          where
-            no : (u w z : ℕ) → 0 < u → w ≡ 0 → u + z ≤ w + 0 → ⊥
-            no u w z h e o = omega arith
-
-pub ends-differ : (span scale : Float) → T (positive span) → T (positive scale) → InRange (sizeOf span for scale) → eq (bits 0 ⊘ scale) (span ⊘ scale) ≡ false
-ends-differ span scale p q t = not-equal (bits 0 ⊘ scale) (span ⊘ scale) (lower-none scale q) (upper-positive span scale p q t)
 
 -- ---- a density above 0 within its limits
 density-checked : (x : Float) → densityCheck (Bulk x) ≡ Accepted → lt (bits 0) x ≡ true → T (positive x) × Ranges 24 (sizeOf x)

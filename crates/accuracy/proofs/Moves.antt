@@ -1,20 +1,19 @@
 -- How the exact width changes with the height, and how large it is. Assumes nothing.
-use mathlib.Core.Path.{_≡_, refl, sym, ap, _∙_, subst}
-use mathlib.Core.Bool.{true, false}
-use Prim.Native.Nat.{ℕ, zero, suc, _+_, _*_, _^_, _≤_, _<_}
-use native.Mathlib.Nat.{le-refl, mul-pos, mul-add, add-mul, mul-comm, mul-assoc, mul-left-comm, one-mul, mul-one, zero-mul, mul-zero, zero-add, add-zero}
+use mathlib.Core.Path.{subst}
+use Prim.Native.Nat.{ℕ, _+_, _*_, _^_, _≤_}
+use native.Mathlib.Nat.{mul-pos, one-mul, mul-one, zero-mul, mul-zero, zero-add, add-zero}
 use native.Mathlib.Omega.{arith}
 use lib.Dec.{T}
 use lib.Pow.{pow-pos}
-use lib.Ieee.{Float, nan, inf, fin, up, down}
+use lib.Ieee.{Float}
 use lib.Ieee.Positive.{num, den, den-pos, positive}
-use Rattle.rounding_error.proofs.Numbers.{Number, number, Size, _per_, _plus_, minus, _less_, _times_, _over_, _and_, _by_, _for_, _of_, _roundoffs_, IsNumber, IsSize, Within, Same, Under, valueOf, Near, InRange, sizeOf}
-use Rattle.accuracy.proofs.Trapezoids.{exactFraction, exactWidth, Bounded}
+use Rattle.rounding_error.proofs.Numbers.{Number, Size, _per_, _plus_, _less_, _times_, _over_, _and_, _by_, _for_, _of_, _roundoffs_, IsNumber, IsSize, Within, Under, valueOf, sizeOf}
+use Rattle.accuracy.proofs.Trapezoids.{exactWidth, Bounded}
 use Rattle.rounding_error.proofs.Distances.{sorted, within-refl, within-plus, within-times, within-upto, times-comm}
 use Rattle.rounding.proofs.Monotone.{positive-num}
 use Rattle.rounding_error.proofs.Counts
 use Rattle.rounding_error.proofs.Counts.{own-size}
-use Rattle.accuracy.proofs.Width.{one, under-one, fraction-under}
+use Rattle.accuracy.proofs.Width.{under-one, fraction-under}
 
 ruleset plain = (sorted, one-mul, mul-one, zero-mul, mul-zero, zero-add, add-zero)
 

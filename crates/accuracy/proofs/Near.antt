@@ -1,55 +1,48 @@
 -- The area that the call gives for a trapezoid whose strip is one piece is near the exact one. Assumes nothing.
-use mathlib.Core.Path.{_≡_, refl, sym, ap, _∙_, subst}
+use mathlib.Core.Path.{_≡_, sym, ap, _∙_, subst}
 use mathlib.Core.Bool.{Bool, true, false, not, cond}
 use mathlib.Core.List.{List, [], _∷_}
 use Prim.Native.Nat.{ℕ, _+_, _*_, _^_, _≤_, _<_}
-use native.Mathlib.Nat.{mul-pos, le-of-lt, mul-le-mul-right, one-mul, mul-add, add-mul, mul-comm, mul-assoc, mul-left-comm}
+use native.Mathlib.Nat.{mul-pos, mul-le-mul-right, one-mul}
 use native.Mathlib.Omega.{arith}
 use lib.Dec.{T, leb, leb→le, nleb→lt, ltb→lt, lt→ltb, lit≤}
 use lib.ListN.{length}
 use lib.Pow.{pow-pos}
 use lib.IntN.{pos}
-use lib.Ieee.{Float, nan, inf, fin, lt, eq, up, down, ofBits}
+use lib.Ieee.{Float, nan, inf, fin, lt, up, down, ofBits}
 use lib.Ieee.Bits.{is-true}
 use lib.Ieee.Fits.{up-pos}
 use lib.Ieee.Scale.{finite}
 use lib.Ieee.Positive.{num, den, den-pos, positive, positive-finite}
 use Rattle.floats.specs.Operations.{_⊕_, _⊗_, _⊘_, bits, at}
-use Rattle.floats.specs.Fractions.{Fraction, _over_, _plus_ as sum, _times_ as product, valueOf as fractionOf}
-use Rattle.rounding.specs.Sizes.{AtMost}
+use Rattle.floats.specs.Fractions.{_over_, _plus_ as sum, _times_ as product, valueOf as fractionOf}
 use Rattle.rounding.proofs.Sizes.{positive-of}
 use Rattle.rounding_error.specs.Distances.{Within as Apart}
-use Rattle.rounding_error.proofs.Numbers.{Number, number, Size, _per_, _by_, _plus_, _times_, Within, Near, IsNumber, valueOf, sizeOf}
+use Rattle.rounding_error.proofs.Numbers.{Number, number, _per_, _by_, _for_, _plus_, _times_, Near, IsNumber, valueOf, sizeOf}
 use Rattle.rounding_error.proofs.Distances.{sorted, within-upto}
 use Rattle.rounding_error.proofs.Counts as Counts
+use Rattle.rounding_error.proofs.Ranges.{ranges-for, in-range}
 use Rattle.rounding_error.proofs.Fractions.{IsFraction, plus-fraction, times-fraction, value-fraction, whole-fraction, shifted-fraction, within-fraction}
 use Rattle.planforms.specs.declared.Planform.{Planform}
 use Rattle.planforms.specs.declared.Planform.the-variants.{Trapezoid}
 use Rattle.planforms.proofs.Sized.{Sized}
-use Rattle.quadrature.specs.Rule.{halfSum, halfWidth, minusSide, plusSide, weightedTo, kronrodWeight, sumOf, pieceOf}
-use Rattle.quadrature.specs.declared.Piece.{Piece}
-use Rattle.tolerance.specs.Bounds.{totalOf}
+use Rattle.quadrature.specs.Rule.{halfWidth, minusSide, plusSide, weightedTo, kronrodWeight, sumOf, pieceOf}
 use Rattle.integrands.specs.Integrands.{scaleOf, areaThree}
 use Rattle.integrands.proofs.Scales.{scale-sized}
 use Rattle.fins.proofs.Accepted.{area-planform}
 use Rattle.fins.proofs.Sized.{planform-sized}
-use Rattle.strips.specs.Strips.{piecesOf, valueFrom}
-use Rattle.figures.specs.Areas.{areaSeven}
+use Rattle.strips.specs.Strips.{piecesOf}
 use Rattle.figures.specs.declared.Area.{Area}
 use Rattle.accuracy.specs.Areas.{AreaGiven, Reach, OnePieceArea}
 use Rattle.accuracy.specs.Areas.{exactArea as exactFraction}
 use Rattle.accuracy.proofs.Trapezoids.{widthAt}
 use Rattle.accuracy.proofs.OnePiece.{centreOf, reachOf, areaOf, exactArea}
-use Rattle.accuracy.proofs.Given.{Lengths, AllHaveChords}
-use Rattle.accuracy.proofs.Limits.{lengths}
+use Rattle.accuracy.proofs.Given.{Lengths}
+use Rattle.accuracy.proofs.Limits.{lengths, ranges-of}
 use Rattle.accuracy.proofs.Whole.{positive-value}
 use Rattle.accuracy.proofs.Areas.{in-size, all-have-chords}
-use Rattle.accuracy.proofs.Called.{Given, area-given, Strip, total-is, intervals-are, ends-apart, only-piece, same-sum, width-there}
-
--- ---- the sum over one piece
-total-one : (f : Float → List Float) (a b : Float) (pieces : List Piece) → pieces ≡ pieceOf 3 f a b ∷ [] → totalOf pieces 0 ≡ bits 0 ⊕ halfWidth a b ⊗ sumOf kronrodWeight f a b 0
-unfolding totalOf pieceOf
-total-one f a b pieces e = rw e
+use Rattle.accuracy.proofs.Called.{Given, area-given, Strip, total-is, intervals-are, only-piece, same-sum, width-there, total-one}
+use Rattle.accuracy.proofs.StripEnds.{ends-differ}
 
 -- ---- from the numbers of proofs to fractions
 exact-is : (root tip span : Float) → T (finite root) → T (finite tip) → T (finite span) → IsFraction (exactArea root tip span) (exactFraction root tip span)
@@ -128,7 +121,11 @@ module _ (root tip span sweep : Float) (points : List Float) (L : ℕ) (entry : 
   -- one interval is one piece, the whole strip
   pub one-piece : r .intervals ≡ 1 → piecesOf (Strip root tip span sweep points L span-above) ≡ pieceOf 3 (areaThree Shape points) (bits 0 ⊘ S) (span ⊘ S) ∷ []
   one-piece one =
-      let apart = ends-apart root tip span sweep points L span-above (length entry) r figures-given (scale-sized Shape points sized .is-positive) in
+      let s = scale-sized Shape points sized in
+      let p = positive-of span 20 (sized .1 .1 .0 .not-minus) (sized .1 .1 .0 .above) in
+      let height =
+      ranges-for 24 24 (sizeOf span) S (s .is-positive) (ranges-of span 6 20 (omega arith) (omega arith) (sized .1 .1 .0 .length .below) (sized .1 .1 .0 .above)) (ranges-of S 7 20 (omega arith) (omega arith) (s .below) (s .above)) in
+      let apart = ends-differ span S p (s .is-positive) (in-range 48 (sizeOf span for S) (omega arith) height) in
       only-piece 3 (areaThree Shape points) (bits 0 ⊘ S) (span ⊘ S) L apart
       (subst (λ (b : Bool). cond b 1 (length (piecesOf (Strip root tip span sweep points L span-above))) ≡ 1) apart
       (sym (intervals-are root tip span sweep points L span-above) ∙ sym (figures-given .intervals) ∙ one))
@@ -151,7 +148,7 @@ module _ (root tip span sweep : Float) (points : List Float) (L : ℕ) (entry : 
         figures-given .area
         ∙ ap (λ (x : Float). x ⊗ S ⊗ S)
         (total-is root tip span sweep points L span-above 0 (lit≤ tt)
-        ∙ ap (λ (x : Float). bits 0 ⊕ x) (total-one f l u (piecesOf (Strip root tip span sweep points L span-above)) (one-piece one) ∙ ap (λ (x : Float). bits 0 ⊕ halfWidth l u ⊗ x) same))
+        ∙ ap (λ (x : Float). bits 0 ⊕ x) (total-one 0 (lit≤ tt) f l u (piecesOf (Strip root tip span sweep points L span-above)) (one-piece one) ∙ ap (λ (x : Float). bits 0 ⊕ halfWidth l u ⊗ x) same))
 
     area-near : (m : b ≤ 64 * d) → r .intervals ≡ 1 → Near (r .«area_m2») (exactArea root tip span) ((1 per 2 ^ 44) by (sizeOf span by (b per d)))
     area-near m one =

@@ -1,26 +1,24 @@
 -- A piece's value is near half its width times the sum of the weights times the exact width at its centre. Assumes nothing.
-use mathlib.Core.Path.{_≡_, refl, sym, ap, _∙_, subst}
-use Prim.Native.Nat.{ℕ, zero, suc, _+_, _*_, _^_, _≤_, _<_}
-use native.Mathlib.Nat.{mul-pos}
+use Prim.Native.Nat.{ℕ}
 use native.Mathlib.Omega.{arith}
 use lib.Dec.{T}
 use lib.Pow.{pow-pos}
 use lib.Ieee.{Float}
 use lib.Ieee.Scale.{finite}
-use lib.Ieee.Positive.{num, den, den-pos, positive, positive-finite}
-use Rattle.floats.specs.Operations.{_⊕_, _⊖_, _⊗_, _⊘_, bits}
-use Rattle.rounding_error.proofs.Numbers.{Number, number, Size, _per_, _plus_, _less_, _times_, _over_, _by_, _for_, _of_, _roundoffs_, IsNumber, IsSize, Within, Same, Under, valueOf, Near, InRange, sizeOf}
+use lib.Ieee.Positive.{den-pos, positive-finite}
+use Rattle.floats.specs.Operations.{_⊕_, _⊖_, _⊗_}
+use Rattle.rounding_error.proofs.Numbers.{Number, Size, _plus_, _less_, _times_, _by_, _for_, _of_, _roundoffs_, IsNumber, Within, Under, valueOf, Near, InRange, sizeOf}
 use Rattle.accuracy.proofs.Trapezoids.{widthAt, exactWidth, Bounded}
 use Rattle.quadrature.specs.Rule.{minusSide, plusSide, weightedTo}
 use Rattle.accuracy.proofs.ExactRule.{node, below, above, exactTo, weightsTo}
 use Rattle.accuracy.proofs.Samples.{InSpan, one, quarter, Rule, Inside, pieceValue}
 use Rattle.rounding_error.proofs.Distances.{within-trans}
-use Rattle.rounding.proofs.Monotone.{positive-num}
 use Rattle.rounding_error.proofs.Operations.{near-same}
 use Rattle.rounding_error.proofs.Counts
 use Rattle.accuracy.proofs.Width.{mul-one-roundoffs, under-one, width-near}
-use Rattle.accuracy.proofs.Sums.{Valued, Weighs, Sampled, weighted-near, errorTo}
-use Rattle.accuracy.proofs.Affine.{same-times, width-total, width-even, rule-exact, exact-is, weights-is}
+use Rattle.rounding_error.proofs.Chains.{Valued}
+use Rattle.accuracy.proofs.Sums.{Sampled, weighted-near}
+use Rattle.accuracy.proofs.Affine.{same-times, width-total, width-even, rule-exact}
 use Rattle.rounding_error.proofs.Counts.{own-size}
 use Rattle.accuracy.proofs.Moves.{width-moves, width-size}
 

@@ -1,10 +1,9 @@
 -- The volume of a plate of square section whose strip is one piece, and the mass of a ring of such fins with their tabs, are near the exact ones.
 -- Assumes nothing.
-use mathlib.Core.Path.{_≡_, refl, sym, ap, _∙_, subst}
-use mathlib.Core.Bool.{_&&_}
+use mathlib.Core.Path.{_≡_}
 use mathlib.Core.List.{List, [], _∷_}
-use Prim.Native.Nat.{ℕ, zero, suc, _+_, _*_, _^_, _≤_, _<_}
-use native.Mathlib.Nat.{mul-pos, mul-le-mul-left, mul-add, add-mul, mul-comm, mul-assoc, mul-left-comm, one-mul, mul-one, zero-mul, mul-zero, zero-add, add-zero}
+use Prim.Native.Nat.{ℕ, zero, suc, _+_, _*_, _^_, _≤_}
+use native.Mathlib.Nat.{mul-pos, mul-le-mul-left, one-mul, mul-one, zero-mul, mul-zero, zero-add, add-zero}
 use native.Mathlib.Omega.{arith}
 use lib.Dec.{T}
 use lib.Pow.{pow-pos}
@@ -14,22 +13,23 @@ use lib.Ieee.Positive.{num, den, den-pos, positive, positive-finite}
 use Rattle.floats.specs.Operations.{_⊕_, _⊖_, _⊗_, _⊘_, bits}
 use Rattle.floats.specs.Floats.{cube}
 use Rattle.joins.specs.Joins.{inOrder}
-use Rattle.rounding_error.proofs.Numbers.{Number, number, Size, _per_, _plus_, _less_, _times_, _by_, _for_, _of_, _roundoffs_, _upto_, IsNumber, IsSize, Under, valueOf, zeroNumber, sizeOf, InRange, Ranges}
+use Rattle.rounding_error.proofs.Numbers.{Number, number, Size, _per_, _plus_, _times_, _by_, _for_, _of_, _roundoffs_, _upto_, IsNumber, IsSize, Under, valueOf, zeroNumber, sizeOf, InRange, Ranges}
 use Rattle.rounding_error.proofs.Distances.{sorted, within-upto}
 use Rattle.rounding_error.proofs.Ranges.{ranges-by, ranges-for, in-range}
 use Rattle.rounding_error.proofs.Counts as Counts
 use Rattle.rounding_error.proofs.Chains.{Valued, inverse, inverse-is, inverse-times, in-bounds, counted, counted-by, exactly, equalled, resized, plus-valued, times-valued, exact-times, over-valued}
-use Rattle.rounding_error.proofs.Polynomials.{_equals_, trans, itself, times-equal, plus-is, times-is, AllNumbers, Expression, given, ratio, _add_, _take_, _mul_, equal-by, evaluated-is}
-use Rattle.accuracy.proofs.Samples.{one, quarter}
+use Rattle.rounding_error.proofs.Polynomials.{_equals_, trans, itself, times-equal, plus-is, times-is, AllNumbers, Expression, given, ratio, _add_, _mul_, equal-by, evaluated-is}
+use Rattle.accuracy.proofs.Samples.{quarter}
 use Rattle.accuracy.proofs.Given.{Lengths}
 use Rattle.accuracy.proofs.Areas.{quarter-ranges}
-use Rattle.accuracy.proofs.Weighted.{middle, Sampled, nought}
+use Rattle.accuracy.proofs.Weighted.{middle, Sampled}
+use Rattle.rounding_error.proofs.Chains.{zero-valued}
 use Rattle.accuracy.proofs.Quadratic.{Quadratic, integral}
 use Rattle.accuracy.proofs.OnePiece.{centreOf, reachOf}
 use Rattle.accuracy.proofs.ChordEnds as Chord
 use Rattle.accuracy.proofs.AreaSamples as Area
 use Rattle.accuracy.proofs.AreaIntegrals as Totals
-use Rattle.accuracy.proofs.Integrals.{from-zero, totalOver, totalError, sumSize, total-valued}
+use Rattle.accuracy.proofs.Integrals.{from-zero, totalOver, totalError, total-valued}
 
 ruleset plain = (sorted, one-mul, mul-one, zero-mul, mul-zero, zero-add, add-zero)
 
@@ -254,7 +254,7 @@ module _ (root tip span sweep scale : Float) (b d : ℕ) (g : Lengths root tip s
         (exactly height 1 Y hf uh))
 
     pub no-slab : Valued (bits 0) (valueOf (bits 0)) 24 4 wholeUnit
-    no-slab = counted (nought wholeUnit) 24 4 (whole-ranges .real) tt
+    no-slab = counted (zero-valued wholeUnit) 24 4 (whole-ranges .real) tt
 
     module _ (slab : Float) (slabNumber : Number) (sv : Valued slab slabNumber 24 4 wholeUnit) (density : Float) (dp : T (positive density)) (dr : Ranges 24 (sizeOf density)) where
       abbrev pub massOf : Float
@@ -286,7 +286,7 @@ module _ (root tip span sweep scale : Float) (b d : ℕ) (g : Lengths root tip s
       pub masses-valued : (n : ℕ) → n ≤ 32 → Valued (massesTo n) (number n 0 1 times massNumber) (n * 14300) (n * 44) massUnit
       unfolding inOrder ofBits
       masses-valued zero l =
-          counted-by (equalled (nought massUnit) (number 0 0 1 times massNumber) (times-is (number 0 0 1) massNumber (pow-pos 0) mass-is) (equal-by (massNumber ∷ []) (mass-is, tt) (ratio 0 0) (ratio 0 0 mul given 0) tt))
+          counted-by (equalled (zero-valued massUnit) (number 0 0 1 times massNumber) (times-is (number 0 0 1) massNumber (pow-pos 0) mass-is) (equal-by (massNumber ∷ []) (mass-is, tt) (ratio 0 0) (ratio 0 0 mul given 0) tt))
           (0 * 14300) (0 * 44) (mr .real) (omega arith) (omega arith)
       masses-valued (suc n) l =
           counted-by

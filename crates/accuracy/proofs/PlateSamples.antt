@@ -1,40 +1,32 @@
 -- The plate's integrand of a square section at the samples of a strip that is one piece: the chord is wider than 0, and so its moments are those of
 -- the section; thickness times width, and its first moment along the root, are near quadratics of the fraction of the span. Assumes nothing.
-use mathlib.Core.Path.{_≡_, refl, sym, ap, _∙_, subst}
-use mathlib.Core.Bool.{true, false, _&&_}
-use mathlib.Core.List.{List, [], _∷_}
-use Prim.Native.Nat.{ℕ, zero, suc, _+_, _*_, _^_, _≤_, _<_, zero-le}
-use native.Mathlib.Nat.{mul-pos, mul-le-mul-left, mul-le-mul-right, mul-add, add-mul, mul-comm, mul-assoc, mul-left-comm, one-mul, mul-one, zero-mul, mul-zero, zero-add, add-zero}
+use Prim.Native.Nat.{ℕ, _+_, _*_, _^_, _≤_, _<_, zero-le}
+use native.Mathlib.Nat.{mul-pos, mul-le-mul-left, mul-le-mul-right, one-mul, mul-one, zero-mul, mul-zero, zero-add, add-zero}
 use native.Mathlib.Omega.{arith}
 use lib.Dec.{T}
 use lib.Pow.{pow-pos}
 use lib.Ieee.{Float}
-use lib.Ieee.Positive.{num, den, den-pos, positive, positive-finite}
-use Rattle.floats.specs.Operations.{_⊕_, _⊖_, _⊗_, _⊘_, bits}
-use Rattle.floats.specs.Constants.{half}
+use lib.Ieee.Positive.{num, den, den-pos, positive}
+use Rattle.floats.specs.Operations.{_⊖_}
 use Rattle.quadrature.specs.Rule.{minusSide, plusSide}
 use Rattle.rounding.proofs.Monotone.{positive-num}
-use Rattle.rounding_error.proofs.Numbers.{Number, number, Size, _per_, _plus_, _less_, _times_, _by_, _for_, _of_, _roundoffs_, IsNumber, IsSize, Over, Same, Under, valueOf, zeroNumber, sizeOf, InRange, Ranges}
+use Rattle.rounding_error.proofs.Numbers.{Number, number, Size, _per_, _plus_, _less_, _times_, _by_, _of_, _roundoffs_, IsNumber, IsSize, Same, Under, valueOf}
 use Rattle.rounding_error.proofs.Distances.{sorted}
-use Rattle.rounding_error.proofs.Ranges.{ranges-by, ranges-for, in-range}
 use Rattle.rounding_error.proofs.Counts as Counts
-use Rattle.rounding_error.proofs.Chains.{Valued, inverse, inverse-is, counted, exactly, equalled, times-valued, exact-times, over-valued}
+use Rattle.rounding_error.proofs.Chains.{Valued, inverse, inverse-is, counted}
 use Rattle.rounding_error.proofs.Polynomials.{_equals_, plus-is, less-is, times-is, given, ratio, _add_, _take_, _mul_, equal-by}
 use Rattle.rounding_error.proofs.Quotients.{near-positive}
 use Rattle.accuracy.proofs.ExactRule.{node}
 use Rattle.accuracy.proofs.Samples.{one}
 use Rattle.accuracy.proofs.OnePiece.{centreOf, reachOf}
 use Rattle.accuracy.proofs.Given.{Lengths}
-use Rattle.accuracy.proofs.Ends.{halfSize}
-use Rattle.accuracy.proofs.Areas.{half-ranges}
 use Rattle.accuracy.proofs.Heights.{part, one-part}
 use Rattle.accuracy.proofs.Tables.{node-near-one}
 use Rattle.accuracy.proofs.Whole.{positive-value}
-use Rattle.accuracy.proofs.Weighted.{middle, lower, upper, Sampled}
+use Rattle.accuracy.proofs.Weighted.{middle, lower, upper}
 use Rattle.accuracy.proofs.ChordEnds as Chord
 use Rattle.accuracy.proofs.AreaSamples as Area
 use Rattle.accuracy.proofs.AreaIntegrals as Totals
-use Rattle.accuracy.proofs.Integrals.{from-zero}
 use Rattle.accuracy.proofs.Centroids.{NotBelow, over-plus, equal-over, over-none, not-below-times, inverse-not-below, positive-not-below}
 
 ruleset plain = (sorted, one-mul, mul-one, zero-mul, mul-zero, zero-add, add-zero)

@@ -1,9 +1,8 @@
 -- The rule on quadratics: of values v with v(1/2 − d) + v(1/2 + d) = 2·v(1/2) + q·d², its exact sum is the sum of the weights times v(1/2) and their second
 -- moment times q: so it is near twice the integral from 0 to 1, v(1/2) + q/24. Assumes nothing.
-use mathlib.Core.Path.{_≡_, refl, sym, ap, _∙_, subst}
-use mathlib.Core.List.{List, [], _∷_}
-use Prim.Native.Nat.{ℕ, zero, suc, _+_, _*_, _^_, _≤_, _<_}
-use native.Mathlib.Nat.{mul-pos, mul-add, add-mul, mul-comm, mul-assoc, mul-left-comm, one-mul, mul-one, zero-lt-suc as zero-lt}
+use mathlib.Core.List.{[], _∷_}
+use Prim.Native.Nat.{ℕ, zero, suc, _+_, _*_, _^_, _≤_}
+use native.Mathlib.Nat.{zero-lt-suc as zero-lt}
 use native.Mathlib.Omega.{arith}
 use lib.Dec.{T}
 use lib.Pow.{pow-pos}
@@ -15,7 +14,7 @@ use Rattle.rounding_error.proofs.Numbers.{Number, number, Size, _per_, _plus_, 
 use Rattle.rounding_error.proofs.Distances.{sorted, within-upto, within-same, within-sym, within-plus, within-trans}
 use Rattle.rounding_error.proofs.Counts as Counts
 use Rattle.rounding_error.proofs.Chains.{Valued}
-use Rattle.rounding_error.proofs.Polynomials.{_equals_, trans, symm, itself, plus-equal, by-left, plus-is, times-is, given, ratio, _add_, _take_, _mul_, equal-by}
+use Rattle.rounding_error.proofs.Polynomials.{_equals_, trans, plus-equal, by-left, plus-is, times-is, given, ratio, _add_, _mul_, equal-by}
 use Rattle.accuracy.proofs.ExactRule.{node, weightsTo}
 use Rattle.accuracy.proofs.Samples.{one, quarter}
 use Rattle.accuracy.proofs.Affine.{weights-is}

@@ -1,28 +1,21 @@
 -- What the call for a set's figures gives for trapezoids of square section with no fillet: their mass. Assumes nothing.
-use mathlib.Core.Path.{_≡_, refl, sym, ap, _∙_, subst}
-use mathlib.Core.Bool.{Bool, true, false, not, cond}
+use mathlib.Core.Path.{_≡_, refl, sym, ap, _∙_}
+use mathlib.Core.Bool.{Bool, true, false, cond}
 use mathlib.Core.List.{List, [], _∷_}
-use Prim.Native.Nat.{ℕ, zero, suc, _+_, _*_, _^_, _≤_, _<_}
-use native.Mathlib.Nat.{add-zero, mul-pos, zero-mul, mul-one, one-mul, mul-add, add-mul, mul-comm, mul-assoc, mul-left-comm, mul-zero, zero-add}
-use native.Mathlib.Omega.{arith}
+use Prim.Native.Nat.{ℕ}
 use lib.Dec.{T}
-use lib.ListN.{length}
 use lib.Ieee.{Float, lt, le, eq, ofBits}
 use lib.Ieee.Bits.{is-true}
-use lib.Ieee.Positive.{positive}
 use Rattle.floats.specs.Operations.{_⊕_, _⊖_, _⊗_, _⊘_, bits, at}
-use Rattle.floats.specs.Constants.{half}
 use Rattle.floats.specs.Floats.{cube}
 use Rattle.floats.proofs.Bools.{no}
 use Rattle.floats.proofs.Order.{le-not-below}
-use Rattle.refusals.specs.declared.Refusal.{Refusal}
 use Rattle.refusals.specs.declared.Refusal.the-variants.{NoArea}
 use Rattle.refusals.specs.declared.Verdict.{Verdict}
 use Rattle.refusals.specs.declared.Verdict.the-variants.{Accepted, Refused}
 use Rattle.refusals.specs.Order.{firstOf}
 use Rattle.refusals.proofs.Accepted.{each-accepts}
 use Rattle.limits.specs.Limits.{countCheck}
-use Rattle.planforms.specs.declared.Planform.{Planform}
 use Rattle.planforms.specs.declared.Planform.the-variants.{Trapezoid}
 use Rattle.planforms.specs.Planforms.{rootChordOf}
 use Rattle.sections.specs.declared.Section.the-variants.{Square}
@@ -30,19 +23,15 @@ use Rattle.sections.specs.ChordMoments.{chordMoments}
 use Rattle.chords.specs.Chords.{inSpan, trapezoidAt, endsAt, paired}
 use Rattle.integrands.specs.Integrands.{scaleOf, sumsFrom, sampleOf, plateOf}
 use Rattle.integrands.specs.declared.Kind.the-variants.{Plate as plateKind}
-use Rattle.quadrature.specs.Rule.{halfWidth, kronrodWeight, sumOf, pieceOf}
-use Rattle.quadrature.specs.declared.Piece.{Piece}
-use Rattle.tolerance.specs.Bounds.{totalOf}
 use Rattle.halving.specs.Halving.{verdictOf}
-use Rattle.halving.specs.Scratch.{intervalsOf}
-use Rattle.strips.specs.Strips.{Worked, stripOf, piecesOf, valueFrom, byVerdict, summedOf, totalsOf, givenTotals, refusedTotals, concludedOf, intervalsIn}
+use Rattle.strips.specs.Strips.{Worked, valueFrom, summedOf, totalsOf, givenTotals, refusedTotals, concludedOf, intervalsIn}
 use Rattle.strips.specs.declared.Totals.{Totals}
 use Rattle.bodies.specs.declared.Body.{Body}
 use Rattle.bodies.specs.declared.Vector.{Vector}
 use Rattle.bodies.specs.Bodies.{rotatedOf, ofOriginTensor}
 use Rattle.joins.specs.declared.Joined.{Joined}
 use Rattle.joins.specs.Joins.{inOrder, sumsOf, joinOf, unlessRefused, acceptedBody, refusedBody, twoBodies}
-use Rattle.rings.specs.Rings.{ringOf, joinedCopies, rolledCopy}
+use Rattle.rings.specs.Rings.{ringOf, joinedCopies}
 use Rattle.fillets.specs.declared.Fillet.{Fillet}
 use Rattle.fillets.specs.Fillets.{isNone, filletsOf}
 use Rattle.sets.specs.Sets.{joinedFinsOf}
@@ -54,7 +43,7 @@ use Rattle.figures.specs.Figures.{setStrips, workedFigures, setFigures, conclud
 use Rattle.figures.specs.declared.Figures.{Figures}
 use Rattle.figures.proofs.Reports.{no-refusal}
 use Rattle.accuracy.specs.Masses.{Plate, Mount, setOf}
-use Rattle.accuracy.proofs.Called.{chosen, one-strip, heights-are}
+use Rattle.accuracy.proofs.Called.{chosen}
 
 -- ---- a chord wider than 0, in the span
 positive-over : (c : Float) → lt (bits 0) c ≡ true → le c (bits 0) ≡ false

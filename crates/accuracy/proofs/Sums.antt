@@ -1,24 +1,15 @@
 -- A weighted sum of near values is near the exact sum. Assumes nothing.
-use mathlib.Core.Path.{_≡_, refl, sym, ap, _∙_, subst}
 use Prim.Native.Nat.{ℕ, zero, suc, _+_, _*_, _^_, _≤_, _<_}
-use native.Mathlib.Nat.{le-refl, le-trans, le-of-eq, mul-pos}
 use native.Mathlib.Omega.{arith}
 use lib.Dec.{T}
-use lib.Pow.{pow-pos}
-use lib.Ieee.{Float, ofBits}
+use lib.Ieee.{Float}
 use lib.Ieee.Scale.{finite}
-use Rattle.floats.specs.Operations.{_⊕_, _⊖_, _⊗_, bits}
-use Rattle.rounding_error.proofs.Numbers.{Number, number, Size, _per_, _plus_, _less_, _times_, _by_, _of_, _roundoffs_, IsNumber, IsSize, Within, Same, Under, valueOf, Near, InRange}
+use Rattle.floats.specs.Operations.{_⊕_, _⊗_, bits}
+use Rattle.rounding_error.proofs.Numbers.{Number, Size, _plus_, _times_, _by_, _of_, _roundoffs_, IsSize, Under, valueOf, InRange}
 use Rattle.quadrature.specs.Rule.{minusSide, plusSide, weightedTo}
 use Rattle.accuracy.proofs.ExactRule.{below, above, exactTo}
-use Rattle.rounding_error.proofs.Distances.{sorted}
+use Rattle.rounding_error.proofs.Chains.{Valued, zero-valued}
 use Rattle.rounding_error.proofs.Counts
-
--- a value: near v within l roundoffs of B, and v is at most j of B
-pub record Valued (y : Float) (v : Number) (l j : ℕ) (B : Size) : Type 0 where
-  pub near : Near y v (l roundoffs B)
-  pub size : Under (j of B) v
-  pub is : IsNumber v
 
 -- a weight: at most W
 pub record Weighs (w : Float) (W : Size) : Type 0 where
@@ -53,18 +44,6 @@ step x y u v k l i j A t a b c d h g =
 -- ---- the sums of the rule
 pub more : (y : Float) (v : Number) (l j l' j' : ℕ) (B : Size) → IsSize B → l ≤ l' → j ≤ j' → Valued y v l j B → Valued y v l' j' B
 more y v l j l' j' B C h k g = record { near = Counts.more-roundoffs l l' B y v C h (g .near); size = Counts.more-of j j' B v C k (g .size); is = g .is }
-
-pub zero-valued : (A : Size) → Valued (bits 0) (valueOf (bits 0)) 0 0 A
-unfolding ofBits
-zero-valued (a per c) =
-    record {
-      near = Counts.itself (bits 0) (a per c) tt;
-      size = record { below = go a c; above = go a c };
-      is = pow-pos 0;
-    }
-  where
-    go : (a c : ℕ) → 0 * c ≤ 0 * c + 0 * a * 1
-    go a c = omega arith
 
 -- the samples at the centre and on both sides, each within 65 roundoffs of B and at most 3 of B
 pub record Sampled (weight : ℕ → Float) (y : Float → Float) (v : Number → Number) (centre reach : Float) (W B : Size) : Type 0 where

@@ -2,7 +2,7 @@
 use mathlib.Core.Bool.{Bool, _&&_}
 use Prim.Native.Nat.{ℕ, _+_, _*_, _<_}
 use lib.Dec.{T, leb, leb→le}
-use lib.Ieee.{Float, round}
+use lib.Ieee.{round}
 use lib.Ieee.Fits.{and-l, and-r}
 use lib.Ieee.Bits.{is-true}
 use lib.Ieee.Scale.{finite}
@@ -11,7 +11,7 @@ use Rattle.floats.proofs.Bools.{of-true}
 use Rattle.floats.proofs.Every.{every-holds}
 use Rattle.rounding_error.proofs.Numbers.{Number, number, Size, _per_, _of_, _roundoffs_, Over, Within, Under, zeroNumber, valueOf}
 use Rattle.accuracy.proofs.ExactRule.{weightsTo}
-use Rattle.accuracy.proofs.Samples.{one, quarter, Rule}
+use Rattle.accuracy.proofs.Samples.{one, quarter}
 use Rattle.quadrature.specs.Rule.{kronrodWeight as weight}
 use Rattle.gauss_kronrod.specs.Tables.{nodes, kronrodWeights}
 use Rattle.accuracy.proofs.ExactRule.{node}

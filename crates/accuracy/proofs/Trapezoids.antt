@@ -1,12 +1,11 @@
 -- A trapezoid's scaled width at a scaled height h, as the program works it out (the product's chords/specs/Chords and integrands/specs/Integrands),
 -- and exactly. `scale` is the f64 that every length is divided by.
-use Prim.Native.Nat.{ℕ}
 use lib.Dec.{T}
 use lib.Ieee.{Float}
 use lib.Ieee.Scale.{finite}
-use lib.Ieee.Positive.{num, den, positive}
+use lib.Ieee.Positive.{positive}
 use Rattle.floats.specs.Operations.{_⊕_, _⊖_, _⊗_, _⊘_, bits}
-use Rattle.rounding_error.proofs.Numbers.{Number, Size, _per_, _plus_, _less_, _times_, _over_, _for_, _of_, Under, valueOf, InRange, sizeOf}
+use Rattle.rounding_error.proofs.Numbers.{Number, Size, _plus_, _less_, _times_, _over_, _for_, _of_, Under, valueOf, InRange, sizeOf}
 
 -- f = h·scale / span; from lead = sweep·f to (lead + root) + (tip − root)·f, metres
 abbrev pub fractionAt : Float → Float → Float → Float

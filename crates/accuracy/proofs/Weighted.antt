@@ -1,23 +1,18 @@
 -- The rule's weighted sum of near values, at the fractions 1/2 and (1 ± x)/2 of the span, is near the exact sum; and that is the sum of the weights
 -- times the value in the middle and, of a quadratic, the second moment of the weights. Assumes nothing.
-use mathlib.Core.Path.{_≡_, refl, sym, ap, _∙_, subst}
 use mathlib.Core.Bool.{_&&_}
-use mathlib.Core.List.{List, [], _∷_}
 use Prim.Native.Nat.{ℕ, zero, suc, _+_, _*_, _^_, _≤_, _<_}
-use native.Mathlib.Nat.{mul-pos}
 use native.Mathlib.Omega.{arith}
-use lib.Dec.{T, le→leb, leb}
-use lib.ListN.{getD}
+use lib.Dec.{le→leb, leb}
 use lib.Pow.{pow-pos}
-use lib.Ieee.{Float, ofBits}
+use lib.Ieee.{Float}
 use lib.Ieee.Fits.{and-i}
 use Rattle.floats.specs.Operations.{_⊕_, _⊗_, bits}
 use Rattle.quadrature.specs.Rule.{minusSide, plusSide, weightedTo, kronrodWeight as weight}
-use Rattle.rounding_error.proofs.Numbers.{Number, number, Size, _per_, _plus_, _less_, _times_, _by_, _of_, IsNumber, IsSize, Under, zeroNumber, valueOf, InRange}
+use Rattle.rounding_error.proofs.Numbers.{Number, number, Size, _plus_, _less_, _times_, _by_, IsSize, valueOf, InRange}
 use Rattle.rounding_error.proofs.Counts as Counts
-use Rattle.rounding_error.proofs.Chains.{Valued, some, few, in-bounds, counted-by, exactly, plus-valued, exact-times}
+use Rattle.rounding_error.proofs.Chains.{Valued, some, few, in-bounds, counted-by, zero-valued, plus-valued, exact-times}
 use Rattle.rounding_error.proofs.Polynomials as Polynomials
-use Rattle.rounding_error.proofs.Polynomials.{_equals_, given, ratio, _add_, _take_, _mul_, polynomials-equal}
 use Rattle.accuracy.proofs.ExactRule.{node}
 use Rattle.accuracy.proofs.Samples.{quarter}
 use Rattle.accuracy.proofs.Tables.{weight-finite, weight-under}
@@ -58,13 +53,6 @@ pub error-few : (l j n : ℕ) → j ≤ 2 ^ 10 → l ≤ 2 ^ 20 → n ≤ 7 → 
 error-few l j zero h k m = omega arith
 error-few l j (suc n) h k m = omega (arith, size-few j n h, error-few l j n h k (omega arith))
 
-pub nought : (A : Size) → Valued (bits 0) (valueOf (bits 0)) 0 0 A
-unfolding ofBits
-nought (a per c) = record { near = Counts.itself (bits 0) (a per c) tt; size = record { below = go a c; above = go a c }; is = pow-pos 0 }
-  where
-    go : (a c : ℕ) → 0 * c ≤ 0 * c + 0 * a * 1
-    go a c = omega arith
-
 module _ (y : Float → Float) (v : Number → Number) (centre reach : Float) (l j : ℕ) (B : Size) (b : IsSize B) (t : InRange (quarter by B)) (few-sizes : j ≤ 2 ^ 10) (few-errors : l ≤ 2 ^ 20)
     (s : Sampled y v centre reach l j B) where
   term : (i : ℕ) → i < 8 → (h : Float) (w : Number) → Valued (y h) w l j B → Valued (weight i ⊗ y h) (valueOf (weight i) times w) (suc j + l) j (quarter by B)
@@ -81,7 +69,7 @@ module _ (y : Float → Float) (v : Number → Number) (centre reach : Float) (l
   pub weighted-near : (n : ℕ) → n ≤ 7 → Valued (weightedTo n weight y centre reach) (exactSum n v) (errorTo l j n) (sizeTo j n) (quarter by B)
   unfolding weightedTo exactSum
   weighted-near zero m =
-      counted-by (one-more 0 m 0 0 (omega arith) (omega arith) (bits 0) (valueOf (bits 0)) (nought (quarter by B)) 7 (omega arith) centre (v middle) (s .at-centre)) (errorTo l j 0) j (t .real) (omega arith) (omega arith)
+      counted-by (one-more 0 m 0 0 (omega arith) (omega arith) (bits 0) (valueOf (bits 0)) (zero-valued (quarter by B)) 7 (omega arith) centre (v middle) (s .at-centre)) (errorTo l j 0) j (t .real) (omega arith) (omega arith)
   weighted-near (suc n) m =
       let e = errorTo l j n in
       let J = sizeTo j n in

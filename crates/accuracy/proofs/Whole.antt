@@ -1,26 +1,24 @@
 -- The area of a trapezoid whose strip is one piece: within 419·2^-53 of the span times the largest of root, tip and |sweep|. Assumes nothing.
-use mathlib.Core.Path.{_≡_, refl, sym, ap, _∙_, subst}
-use Prim.Native.Nat.{ℕ, zero, suc, _+_, _*_, _^_, _≤_, _<_}
-use native.Mathlib.Nat.{mul-pos, le-refl, le-trans, le-of-eq, mul-le-mul-right, mul-add, add-mul, mul-comm, mul-assoc, mul-left-comm, one-mul, mul-one, zero-mul, mul-zero, zero-add, add-zero}
+use mathlib.Core.Path.{_≡_, refl, subst}
+use Prim.Native.Nat.{ℕ, _+_, _*_, _^_, _≤_}
+use native.Mathlib.Nat.{mul-pos, mul-le-mul-right, one-mul}
 use native.Mathlib.Omega.{arith}
 use lib.Dec.{T}
 use lib.Pow.{pow-pos}
 use lib.Ieee.{Float, nan, inf, fin}
 use mathlib.Core.Bool.{true, false}
 use lib.Ieee.Scale.{finite}
-use lib.Ieee.Positive.{num, den, den-pos, positive, positive-finite}
-use Rattle.floats.specs.Operations.{_⊕_, _⊖_, _⊗_, _⊘_, bits}
-use Rattle.rounding_error.proofs.Numbers.{Number, number, Size, _per_, _plus_, minus, _less_, _times_, _over_, _by_, _for_, _of_, _roundoffs_, IsNumber, IsSize, Within, Same, Under, valueOf, Near, InRange, sizeOf}
-use Rattle.accuracy.proofs.Trapezoids.{widthAt, exactWidth, Bounded}
+use lib.Ieee.Positive.{num, den, den-pos, positive}
+use Rattle.rounding_error.proofs.Numbers.{Number, number, Size, _per_, _less_, _times_, _over_, _by_, _for_, _of_, _roundoffs_, IsNumber, Within, Under, valueOf, Near, InRange, sizeOf}
+use Rattle.accuracy.proofs.Trapezoids.{exactWidth, Bounded}
 use Rattle.accuracy.proofs.ExactRule.{weightsTo}
 use Rattle.accuracy.proofs.Samples.{InSpan, one, quarter, Rule, Inside, pieceValue}
-use Rattle.accuracy.proofs.OnePiece.{centreOf, reachOf, areaOf, exactArea}
+use Rattle.accuracy.proofs.OnePiece.{centreOf, reachOf}
 use Rattle.rounding_error.proofs.Distances.{sorted, within-upto, within-trans}
 use Rattle.rounding.proofs.Monotone.{positive-num}
-use Rattle.rounding_error.proofs.Operations.{near-same}
 use Rattle.rounding_error.proofs.Counts
-use Rattle.accuracy.proofs.Sums.{Valued, more, zero-valued, step}
-use Rattle.accuracy.proofs.Affine.{same-trans, same-sym, same-refl, same-plus, same-times, same-over, zero-plus, width-total, weights-is}
+use Rattle.rounding_error.proofs.Chains.{Valued}
+use Rattle.accuracy.proofs.Affine.{width-total, weights-is}
 use Rattle.rounding_error.proofs.Counts.{own-size}
 use Rattle.accuracy.proofs.Moves.{width-moves, width-size}
 use Rattle.accuracy.proofs.Piece.{piece-near}

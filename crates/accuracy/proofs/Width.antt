@@ -1,7 +1,7 @@
 -- The width of a trapezoid at a height is near the exact one: within 57·2^-53 of the largest of root, tip and |sweep|, over the scale. Assumes nothing.
-use mathlib.Core.Path.{_≡_, refl, sym, ap, _∙_, subst}
-use Prim.Native.Nat.{ℕ, suc, _+_, _*_, _^_, _≤_, _<_}
-use native.Mathlib.Nat.{le-refl, le-trans, le-of-eq, mul-pos, mul-le-mul-left, mul-add, add-mul, mul-comm, mul-assoc, mul-left-comm, mul-one}
+use mathlib.Core.Path.{_≡_, refl, sym, subst}
+use Prim.Native.Nat.{ℕ, _+_, _*_, _^_, _≤_}
+use native.Mathlib.Nat.{le-trans, le-of-eq, mul-pos, mul-le-mul-left, mul-one}
 use native.Mathlib.Omega.{arith}
 use lib.Dec.{T}
 use lib.Pow.{pow-pos}
@@ -9,8 +9,8 @@ use lib.Ieee.{Float, ofBits}
 use lib.Ieee.Scale.{finite}
 use lib.Ieee.Positive.{num, den, den-pos, positive}
 use Rattle.floats.specs.Operations.{_⊕_, _⊖_, _⊗_, _⊘_, bits}
-use Rattle.rounding_error.proofs.Numbers.{Number, number, Size, _per_, _plus_, minus, _less_, _times_, _over_, _by_, _for_, _of_, _roundoffs_, IsNumber, IsSize, Within, Same, zeroNumber, Under, valueOf, Near, Normal, InRange, sizeOf}
-use Rattle.accuracy.proofs.Trapezoids.{fractionAt, leadAt, endAt, widthBy, widthAt, exactFraction, exactWidth, Bounded}
+use Rattle.rounding_error.proofs.Numbers.{Number, number, Size, _per_, _plus_, _less_, _times_, _over_, _by_, _for_, _of_, _roundoffs_, IsNumber, IsSize, Same, zeroNumber, Under, valueOf, Near, InRange, sizeOf}
+use Rattle.accuracy.proofs.Trapezoids.{fractionAt, widthBy, widthAt, exactFraction, exactWidth, Bounded}
 use Rattle.rounding_error.proofs.Distances.{sorted, within-upto}
 use Rattle.rounding.proofs.Monotone.{positive-num}
 use Rattle.rounding_error.proofs.Operations.{mul-exact, near-same}

@@ -1,19 +1,19 @@
 -- Chains of operations: an f64 with the exact number that it stands for, how many unit roundoffs of a size it is from it, and how many sizes that
 -- number is at most. With literal counts the conditions are `tt`. Assumes nothing.
-use mathlib.Core.Path.{_≡_, refl, sym, ap, _∙_, subst}
+use mathlib.Core.Path.{_≡_, sym}
 use mathlib.Core.Bool.{Bool, true, false, _&&_}
-use Prim.Native.Nat.{ℕ, zero, suc, _+_, _*_, _^_, _≤_, _<_}
-use native.Mathlib.Nat.{mul-pos, le-refl, le-trans, le-of-eq, mul-le-mul-right, mul-le-mul-left, mul-add, add-mul, mul-comm, mul-assoc, mul-left-comm, one-mul, mul-one, zero-mul, mul-zero, zero-add, add-zero}
+use Prim.Native.Nat.{ℕ, suc, _+_, _*_, _^_, _≤_}
+use native.Mathlib.Nat.{mul-pos, le-trans, le-of-eq, mul-le-mul-right, mul-le-mul-left, mul-one}
 use native.Mathlib.Omega.{arith}
 use lib.Dec.{T, leb, leb→le, le→leb}
 use lib.Pow.{pow-pos}
-use lib.Ieee.{Float, nan, inf, fin, up, down}
+use lib.Ieee.{Float, nan, inf, fin, up, down, ofBits}
 use lib.Ieee.Fits.{and-l, and-r, and-i}
 use lib.Ieee.Scale.{finite}
-use lib.Ieee.Positive.{num, den, den-pos, positive}
-use Rattle.floats.specs.Operations.{_⊕_, _⊖_, _⊗_, _⊘_}
+use lib.Ieee.Positive.{num, den, positive}
+use Rattle.floats.specs.Operations.{_⊕_, _⊖_, _⊗_, _⊘_, bits}
 use Rattle.rounding.proofs.Monotone.{positive-num}
-use Rattle.rounding_error.proofs.Numbers.{Number, number, Size, _per_, _plus_, minus, _less_, _times_, _over_, _by_, _for_, _of_, _roundoffs_, _upto_, IsNumber, IsSize, Within, Same, Under, zeroNumber, valueOf, Near, InRange}
+use Rattle.rounding_error.proofs.Numbers.{Number, number, Size, _per_, _plus_, _less_, _times_, _over_, _by_, _for_, _of_, _roundoffs_, _upto_, IsNumber, IsSize, Under, zeroNumber, valueOf, Near, InRange}
 use Rattle.rounding_error.proofs.Distances.{sorted, within-sym, within-same, within-upto}
 use Rattle.rounding_error.proofs.Operations.{near-same}
 use Rattle.rounding_error.proofs.Counts as Counts
@@ -87,6 +87,13 @@ resized {x = x} {v = v} {k = k} {j = j} (a per c) (b per d) C l h =
 
 pub exactly : (x : Float) (j : ℕ) (B : Size) → T (finite x) → Under (j of B) (valueOf x) → Valued x (valueOf x) 0 j B
 exactly x j B f u = record { near = Counts.itself x B f; size = u; is = Counts.value-is x }
+
+pub zero-valued : (A : Size) → Valued (bits 0) (valueOf (bits 0)) 0 0 A
+unfolding ofBits
+zero-valued (a per c) = record { near = Counts.itself (bits 0) (a per c) tt; size = record { below = go a c; above = go a c }; is = pow-pos 0 }
+  where
+    go : (a c : ℕ) → 0 * c ≤ 0 * c + 0 * a * 1
+    go a c = omega arith
 
 module _ {x y : Float} {u v : Number} {k l i j : ℕ} where
   pub plus-valued : {A : Size} → InRange A → T (some k && some l && few i && few j) → Valued x u k i A → Valued y v l j A → Valued (x ⊕ y) (u plus v) (suc i + suc j + (k + l)) (i + j) A

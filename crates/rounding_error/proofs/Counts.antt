@@ -1,20 +1,20 @@
 -- Errors counted in units: `k roundoffs B` is k·2^-53·B. Assumes nothing.
-use mathlib.Core.Path.{_≡_, refl, sym, ap, _∙_, subst}
-use Prim.Native.Nat.{ℕ, suc, _+_, _-_, _*_, _^_, _≤_, _<_}
-use native.Mathlib.Nat.{le-refl, le-trans, le-of-eq, mul-pos, mul-le-mul-right, mul-le-mul-left, mul-le-mul, le-of-mul-le-mul-right, mul-add, add-mul, mul-comm, mul-assoc, mul-left-comm, one-mul, mul-one, zero-mul, zero-add}
+use mathlib.Core.Path.{_≡_, sym, subst}
+use Prim.Native.Nat.{ℕ, suc, _+_, _-_, _*_, _^_, _≤_}
+use native.Mathlib.Nat.{le-refl, le-trans, le-of-eq, mul-pos, mul-le-mul-right, mul-le-mul-left, mul-le-mul, one-mul, mul-one, zero-mul, zero-add}
 use native.Mathlib.Omega.{arith}
 use lib.Dec.{T}
-use lib.Pow.{pow-add, pow-pos, pow-mono}
+use lib.Pow.{pow-add, pow-pos}
 use lib.Ieee.{Float, nan, inf, fin, up, down}
 use lib.Ieee.Fits.{down-pos}
 use mathlib.Core.Bool.{true, false}
 use lib.Ieee.Scale.{finite}
-use lib.Ieee.Positive.{num, den, den-pos, positive}
+use lib.Ieee.Positive.{num, den, positive}
 use Rattle.floats.specs.Operations.{_⊕_, _⊖_, _⊗_, _⊘_}
-use Rattle.rounding_error.proofs.Numbers.{Number, number, Size, _per_, _plus_, minus, _less_, _times_, _over_, _and_, _by_, _for_, _of_, _roundoffs_, roundoff, _upto_, IsNumber, IsSize, Over, Within, Same, zeroNumber, Under, valueOf, Near, Normal, InRange, sizeOf}
-use Rattle.rounding_error.proofs.Distances.{sorted, within-refl, within-trans, within-sym, within-upto, within-same, within-plus, within-minus, within-times, times-comm}
+use Rattle.rounding_error.proofs.Numbers.{Number, number, Size, _per_, _plus_, minus, _less_, _times_, _over_, _and_, _by_, _for_, _of_, _roundoffs_, _upto_, IsNumber, IsSize, Within, Same, zeroNumber, Under, valueOf, Near, Normal, InRange, sizeOf}
+use Rattle.rounding_error.proofs.Distances.{sorted, within-refl, within-trans, within-upto, within-same, within-plus, within-minus, within-times, times-comm}
 use Rattle.rounding.proofs.Monotone.{positive-num}
-use Rattle.rounding_error.proofs.Operations.{mul-exact, add-exact, sub-exact, div-exact, neg-value}
+use Rattle.rounding_error.proofs.Operations.{mul-exact, add-exact, sub-exact, div-exact}
 
 -- ---- j·B is of a normal-size size
 least : (a c j R : ℕ) → 1 ≤ j → c ≤ a * R → c ≤ j * a * (R * 2 ^ 22)

@@ -3,17 +3,16 @@
 use mathlib.Core.Path.{_≡_, refl, sym, ap, _∙_, subst}
 use mathlib.Core.Bool.{Bool, true, false, not, cond}
 use Prim.Native.Nat.{ℕ, zero, suc, _+_, _-_, _*_, _≤_, _<_}
-use native.Mathlib.Nat.{le-trans, le-of-eq, mul-pos, mul-add, add-mul, mul-comm, mul-assoc, mul-left-comm, mul-zero, zero-mul, add-zero, zero-add}
+use native.Mathlib.Nat.{mul-pos}
 use native.Mathlib.Omega.{arith}
 use lib.Dec.{T, ltb, leb, ltb→lt, nltb→le, le→leb}
 use lib.IntN.{ℤ, pos, negsuc, negℤ, subℕ, _+ℤ_, _*ℤ_}
-use lib.Signed.{_≤ℤ_, leZ}
-use lib.Ieee.{Float, nan, inf, fin, up, down}
+use lib.Signed.{_≤ℤ_}
+use lib.Ieee.{Float, nan, inf, fin, up}
 use lib.Ieee.Scale.{finite}
-use Rattle.floats.specs.Fractions.{Fraction, _over_, _plus_ as sum, _times_ as product, minus as negation, valueOf as fractionOf}
+use Rattle.floats.specs.Fractions.{Fraction, _over_, _plus_ as sum, _times_ as product, valueOf as fractionOf}
 use Rattle.rounding_error.specs.Distances.{_atMost_, Within as Near}
-use Rattle.rounding_error.proofs.Numbers.{Number, number, Size, _per_, _plus_, minus, _times_, _by_, IsNumber, IsSize, Over, Within, valueOf}
-use Rattle.rounding_error.proofs.Distances.{sorted}
+use Rattle.rounding_error.proofs.Numbers.{Number, number, _per_, _plus_, _times_, _by_, IsNumber, Over, Within, valueOf}
 
 -- ---- z is p − n
 abbrev Stands : ℤ → ℕ → ℕ → Type 0
@@ -40,11 +39,6 @@ difference a b = go (ltb a b) (ltb→lt a b) (nltb→le a b)
 negative : (x p n : ℕ) → n ≡ p + x → Stands (negℤ (pos x)) p n
 negative zero p n h = omega arith
 negative (suc x) p n h = h
-
-opposite : (z : ℤ) (p n : ℕ) → Stands z p n → Stands (negℤ z) n p
-opposite (pos zero) p n h = omega arith
-opposite (pos (suc k)) p n h = h
-opposite (negsuc k) p n h = h
 
 sum-stands : (z w : ℤ) (p n q m : ℕ) → Stands z p n → Stands w q m → Stands (z +ℤ w) (p + q) (n + m)
 sum-stands (pos k) (pos l) p n q m h i = omega arith
@@ -102,9 +96,6 @@ plus-fraction (number p n d) (number q m e) (z over b) (w over c) h i = (
 pub times-fraction : (x y : Number) (v w : Fraction) → IsFraction x v → IsFraction y w → IsFraction (x times y) (product v w)
 times-fraction (number p n d) (number q m e) (z over b) (w over c) h i =
     (ap (λ (t : ℕ). t * e) (h .0) ∙ ap (λ (t : ℕ). b * t) (i .0), product-stands z w p n q m (h .1) (i .1))
-
-pub minus-fraction : (x : Number) (v : Fraction) → IsFraction x v → IsFraction (minus x) (negation v)
-minus-fraction (number p n d) (z over b) h = (h .0, opposite z p n (h .1))
 
 pub value-fraction : (x : Float) → T (finite x) → IsFraction (valueOf x) (fractionOf x)
 value-fraction nan i = absurd i

@@ -1,20 +1,19 @@
 -- Each operation of f64 gives what is near the exact result: at most 2^-53 of a size that the result does not pass. Assumes nothing.
-use mathlib.Core.Path.{_≡_, refl, sym, ap, _∙_, subst}
-use mathlib.Core.Bool.{Bool, true, false, not, _&&_, Bool·beq, cond}
+use mathlib.Core.Path.{_≡_, refl, sym, ap, subst}
+use mathlib.Core.Bool.{Bool, true, false, not, cond}
 use Prim.Native.Nat.{ℕ, _+_, _-_, _*_, _≤_, _<_}
-use native.Mathlib.Nat.{mul-pos, le-of-mul-le-mul-right, mul-le-mul-right, lt-irrefl, mul-one, one-mul}
+use native.Mathlib.Nat.{mul-pos, lt-irrefl}
 use native.Mathlib.Omega.{arith}
-use lib.IntN.{ℤ}
 use lib.Dec.{T, ltb, eqb, eqb→eq, ltb→lt, nltb→le}
-use lib.Ieee.{Float, nan, inf, fin, binary64, up, down, unlike, round, neg, sum, add, sub, mul, div}
-use lib.Ieee.Fits.{up-pos, down-pos}
+use lib.Ieee.{Float, nan, inf, fin, binary64, up, down, round, neg, sum, add, sub, mul, div}
+use lib.Ieee.Fits.{down-pos}
 use lib.Ieee.Scale.{finite}
-use lib.Ieee.Positive.{num, den, positive, first-pos}
+use lib.Ieee.Positive.{positive}
 use Rattle.floats.specs.Operations.{_⊕_, _⊖_, _⊗_, _⊘_}
-use Rattle.rounding_error.proofs.Numbers.{Number, number, Size, _per_, _plus_, minus, _less_, _times_, _over_, _and_, _by_, roundoff, _upto_, IsNumber, IsSize, Over, Within, Same, zeroNumber, Under, valueOf, Near, Normal}
+use Rattle.rounding_error.proofs.Numbers.{Number, number, Size, _per_, _plus_, minus, _less_, _times_, _over_, roundoff, IsNumber, Same, Under, valueOf, Near, Normal}
 use Rattle.rounding.proofs.Monotone.{positive-num}
 use Rattle.rounding_error.proofs.Roundoff.{round-near, signed, AtMost}
-use Rattle.rounding_error.proofs.Distances.{sorted, within-same}
+use Rattle.rounding_error.proofs.Distances.{within-same}
 
 pub near-same : (x : Float) (v w : Number) (e : Size) → IsNumber v → Near x v e → Same v w → Near x w e
 near-same x v w e i h s = record { finite = h .finite; within = within-same e (valueOf x) v w i (h .within) s }

@@ -1,10 +1,10 @@
 -- Equal polynomials of numbers by one computed test: `polynomials-equal`. A polynomial is brought to a sum of products of variables, each product with
 -- one factor (p − n)/(d + 1). Assumes nothing.
-use mathlib.Core.Path.{_≡_, refl, sym, ap, _∙_, subst}
+use mathlib.Core.Path.{_≡_, refl, sym, ap, subst}
 use mathlib.Core.Bool.{Bool, true, false, _&&_, cond}
-use mathlib.Core.List.{List, [], _∷_, map}
-use Prim.Native.Nat.{ℕ, zero, suc, _+_, _*_, _≤_, _<_}
-use native.Mathlib.Nat.{mul-pos, mul-add, add-mul, mul-comm, mul-assoc, mul-left-comm, one-mul, mul-one, zero-mul, mul-zero, zero-add, add-zero, eq-of-mul-eq-mul-right, zero-lt-suc}
+use mathlib.Core.List.{List, [], _∷_}
+use Prim.Native.Nat.{ℕ, zero, suc, _+_, _*_}
+use native.Mathlib.Nat.{mul-pos, one-mul, mul-one, zero-mul, mul-zero, zero-add, add-zero, eq-of-mul-eq-mul-right, zero-lt-suc}
 use native.Mathlib.Omega.{arith}
 use lib.Dec.{T, eqb, leb, eqb→eq}
 use lib.ListN.{getD}

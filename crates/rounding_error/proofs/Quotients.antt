@@ -1,18 +1,17 @@
 -- A quotient of two f64s that are near exact numbers, times the exact divisor, is near the exact dividend; and an f64 near a number above 0 is above 0.
 -- Assumes nothing.
-use mathlib.Core.Path.{_≡_, refl, sym, ap, _∙_, subst}
+use mathlib.Core.Path.{_≡_, sym, subst}
 use mathlib.Core.Bool.{true, false, _&&_}
 use Prim.Native.Nat.{ℕ, zero, suc, _+_, _*_, _^_, _≤_, _<_}
-use native.Mathlib.Nat.{mul-pos, le-trans, le-of-eq, mul-le-mul-left, mul-le-mul-right, le-of-mul-le-mul-right, zero-lt-suc, mul-add, add-mul, mul-comm, mul-assoc, mul-left-comm, one-mul, mul-one, zero-mul, mul-zero, zero-add, add-zero}
+use native.Mathlib.Nat.{mul-pos, mul-le-mul-left, mul-le-mul-right, le-of-mul-le-mul-right, zero-lt-suc, one-mul, mul-one, zero-mul, mul-zero, zero-add, add-zero}
 use native.Mathlib.Omega.{arith}
 use lib.Dec.{T, leb, leb→le, lt→ltb}
 use lib.Pow.{pow-pos}
 use lib.Ieee.{Float, nan, inf, fin, up, down}
-use lib.Ieee.Fits.{and-l, and-r, up-pos, down-pos}
+use lib.Ieee.Fits.{and-l, and-r, down-pos}
 use lib.Ieee.Scale.{finite}
 use lib.Ieee.Positive.{num, den, den-pos, positive}
-use Rattle.floats.specs.Operations.{_⊗_, _⊘_}
-use Rattle.rounding.proofs.Monotone.{positive-num}
+use Rattle.floats.specs.Operations.{_⊘_}
 use Rattle.rounding_error.proofs.Numbers.{Number, number, Size, _per_, _times_, _over_, _by_, _for_, _of_, _roundoffs_, _upto_, IsNumber, IsSize, Over, Within, Same, Under, valueOf, sizeOf, Near, InRange}
 use Rattle.rounding_error.proofs.Distances.{sorted, within-sym, within-same, within-upto, within-trans, within-times, times-comm}
 use Rattle.rounding_error.proofs.Counts as Counts

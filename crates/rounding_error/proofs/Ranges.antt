@@ -1,12 +1,12 @@
 -- Sizes from 2^-k to 2^k. Assumes nothing.
-use mathlib.Core.Path.{_≡_, refl, sym, ap, _∙_, subst}
-use Prim.Native.Nat.{ℕ, _+_, _*_, _^_, _≤_, _<_}
-use native.Mathlib.Nat.{le-trans, le-of-eq, mul-pos, mul-le-mul, mul-le-mul-left, mul-add, add-mul, mul-comm, mul-assoc, mul-left-comm}
+use mathlib.Core.Path.{_≡_, ap}
+use Prim.Native.Nat.{ℕ, _+_, _*_, _^_, _≤_}
+use native.Mathlib.Nat.{le-trans, le-of-eq, mul-pos, mul-le-mul, mul-le-mul-left, mul-comm}
 use lib.Dec.{T}
-use lib.Pow.{pow-add, pow-pos, pow-mono}
+use lib.Pow.{pow-add, pow-mono}
 use lib.Ieee.{Float}
-use lib.Ieee.Positive.{num, den, den-pos, positive}
-use Rattle.rounding_error.proofs.Numbers.{Size, _per_, _by_, _for_, IsSize, InRange, Ranges, sizeOf}
+use lib.Ieee.Positive.{num, den, positive}
+use Rattle.rounding_error.proofs.Numbers.{Size, _per_, _by_, _for_, InRange, Ranges, sizeOf}
 use Rattle.rounding_error.proofs.Distances.{sorted}
 use Rattle.rounding.proofs.Monotone.{positive-num}
 

@@ -1,5 +1,5 @@
 -- How far two exact fractions are from each other.
-use Prim.Native.Nat.{ℕ, _*_, _<_}
+use Prim.Native.Nat.{_*_, _<_}
 use lib.IntN.{pos, _*ℤ_}
 use lib.Signed.{_≤ℤ_}
 use Rattle.floats.specs.Fractions.{Fraction, _over_, _plus_}
