@@ -11,12 +11,12 @@ use lib.Seq.{getD-take, drop-append-add, drop-drop, length-take-le}
 use lib.Ieee.{Float}
 use borrow.Rule.Slice.PartMut.{putMid, post-is}
 use Rattle.jobs.specs.declared.Job.{Job}
-use Rattle.lent_jobs.specs.Memory.{countAt, jobIn}
+use Rattle.lent_jobs.specs.Memory.{jobNumbers, jobCounts, countAt, jobIn}
 use Rattle.engines.specs.declared.Screens.{Screens}
 use Rattle.engines.specs.declared.Engine.{Engine}
 use Rattle.engines.specs.NoJob.{noJob}
 use Rattle.engines.specs.Engines.{jobAt, withJob}
-use Rattle.lent_engines.specs.Memory.{eight, screenCounts, screensIn, numbersAt, countsAt, jobInAt, engineIn}
+use Rattle.lent_engines.specs.Memory.{engineNumbers, engineCounts, eight, screenCounts, screensIn, numbersAt, countsAt, jobInAt, engineIn}
 use Rattle.lent_engines.specs.Lent.{Room, Holds, WritesScreens}
 use Rattle.lent_engines.proofs.Eight.{at-eight, eight-ext, eight-set}
 use Rattle.lent_engines.proofs.Parts.{put, put-there, put-take, put-drop, part-before, part-behind}
@@ -50,22 +50,22 @@ counts-length : (screens : Screens) (counts counts₁ : List ℕ) → 9 ≤ leng
 counts-length screens counts counts₁ room written = ap length (written .counts-are) ∙ simp length-drop (omega arith)
 
 module _ (numbers : List Float) (counts counts₁ : List ℕ) (place : ℕ) (screens : Screens) (job : Job) (p : List Float) (q : List ℕ) where
-  module _ (room : Room numbers counts) (below : place < 8) (written : WritesScreens screens counts counts₁) (length-p : length p ≡ 159) (length-q : length q ≡ 17) where
+  module _ (room : Room numbers counts) (below : place < 8) (written : WritesScreens screens counts counts₁) (length-p : length p ≡ jobNumbers) (length-q : length q ≡ jobCounts) where
     abbrev numbers₂ : List Float
-    numbers₂ = put (place * 159) 159 numbers p
+    numbers₂ = put (place * jobNumbers) jobNumbers numbers p
 
     abbrev counts₂ : List ℕ
-    counts₂ = put (9 + place * 17) 17 counts₁ q
+    counts₂ = put (9 + place * jobCounts) jobCounts counts₁ q
 
-    fits-numbers : place * 159 + 159 ≤ length numbers
+    fits-numbers : place * jobNumbers + jobNumbers ≤ length numbers
     fits-numbers = omega arith
 
-    fits-counts : (9 + place * 17) + 17 ≤ length counts₁
+    fits-counts : (9 + place * jobCounts) + jobCounts ≤ length counts₁
     fits-counts = omega (arith, counts-length screens counts counts₁ (omega arith) written)
 
     other-numbers : (j : ℕ) → Beside place j → numbersAt numbers₂ j ≡ numbersAt numbers j
-    other-numbers j (before h) = part-before (place * 159) 159 numbers p fits-numbers length-p (j * 159) 159 (omega arith)
-    other-numbers j (behind h) = part-behind (place * 159) 159 numbers p fits-numbers length-p (j * 159) 159 (omega arith)
+    other-numbers j (before h) = part-before (place * jobNumbers) jobNumbers numbers p fits-numbers length-p (j * jobNumbers) jobNumbers (omega arith)
+    other-numbers j (behind h) = part-behind (place * jobNumbers) jobNumbers numbers p fits-numbers length-p (j * jobNumbers) jobNumbers (omega arith)
 
     behind-screens : (m : ℕ) → drop (9 + m) counts₁ ≡ drop (9 + m) counts
     behind-screens m =
@@ -73,14 +73,14 @@ module _ (numbers : List Float) (counts counts₁ : List ℕ) (place : ℕ) (scr
 
     other-counts : (j : ℕ) → Beside place j → countsAt counts₂ j ≡ countsAt counts j
     other-counts j (before h) =
-        part-before (9 + place * 17) 17 counts₁ q fits-counts length-q (9 + j * 17) 17 (omega arith) ∙ ap (take 17) (behind-screens (j * 17))
+        part-before (9 + place * jobCounts) jobCounts counts₁ q fits-counts length-q (9 + j * jobCounts) jobCounts (omega arith) ∙ ap (take jobCounts) (behind-screens (j * jobCounts))
     other-counts j (behind h) =
-        part-behind (9 + place * 17) 17 counts₁ q fits-counts length-q (9 + j * 17) 17 (omega arith) ∙ ap (take 17) (behind-screens (j * 17))
+        part-behind (9 + place * jobCounts) jobCounts counts₁ q fits-counts length-q (9 + j * jobCounts) jobCounts (omega arith) ∙ ap (take jobCounts) (behind-screens (j * jobCounts))
 
     there : jobIn p q ≡ job → jobInAt numbers₂ counts₂ place ≡ job
     unfolding jobInAt
     there e =
-        ap₂ jobIn (put-there (place * 159) 159 numbers p fits-numbers length-p) (put-there (9 + place * 17) 17 counts₁ q fits-counts length-q) ∙ e
+        ap₂ jobIn (put-there (place * jobNumbers) jobNumbers numbers p fits-numbers length-p) (put-there (9 + place * jobCounts) jobCounts counts₁ q fits-counts length-q) ∙ e
 
     other : (j : ℕ) → j < 8 → (j ≡ place → ⊥) → jobInAt numbers₂ counts₂ j ≡ jobInAt numbers counts j
     unfolding jobInAt
@@ -89,7 +89,7 @@ module _ (numbers : List Float) (counts counts₁ : List ℕ) (place : ℕ) (scr
     screens-there : screensIn counts₂ ≡ screens
     screens-there =
         screens-first counts₂
-        ∙ ap screensIn (put-take (9 + place * 17) 17 counts₁ q fits-counts length-q 9 (omega arith))
+        ∙ ap screensIn (put-take (9 + place * jobCounts) jobCounts counts₁ q fits-counts length-q 9 (omega arith))
         ∙ sym (screens-first counts₁)
         ∙ written .held
 
@@ -100,38 +100,38 @@ module _ (numbers : List Float) (counts counts₁ : List ℕ) (place : ℕ) (scr
           held =
               ap₂ (λ (s : Screens) (jobs : List Job). record { screens = s; jobs = jobs }) screens-there
               (eight-set noJob (jobInAt numbers counts) (jobInAt numbers₂ counts₂) place job below (there e) other);
-          numbers-behind = put-drop (place * 159) 159 numbers p fits-numbers length-p 1272 (omega arith);
-          counts-behind = put-drop (9 + place * 17) 17 counts₁ q fits-counts length-q 145 (omega arith) ∙ behind-screens 136;
+          numbers-behind = put-drop (place * jobNumbers) jobNumbers numbers p fits-numbers length-p engineNumbers (omega arith);
+          counts-behind = put-drop (9 + place * jobCounts) jobCounts counts₁ q fits-counts length-q engineCounts (omega arith) ∙ behind-screens (8 * jobCounts);
         }
 
 -- ---- the parts as the code cuts them
 
-part-numbers : (place : ℕ) → place * 159 + 159 - place * 159 ≡ 159
+part-numbers : (place : ℕ) → place * jobNumbers + jobNumbers - place * jobNumbers ≡ jobNumbers
 part-numbers place = omega arith
 
-part-counts : (place : ℕ) → 9 + place * 17 + 17 - (9 + place * 17) ≡ 17
+part-counts : (place : ℕ) → 9 + place * jobCounts + jobCounts - (9 + place * jobCounts) ≡ jobCounts
 part-counts place = omega arith
 
 part-length : {A : Type 0} (a n k : ℕ) (l : List A) → k ≡ n → a + n ≤ length l → length (take k (drop a l)) ≡ n
 part-length a n k l e h = length-take-le k (drop a l) (simp length-drop (omega arith)) ∙ e
 
-pub numbers-part : (numbers : List Float) (place : ℕ) → 1272 ≤ length numbers → place < 8
-    → length (take (place * 159 + 159 - place * 159) (drop (place * 159) numbers)) ≡ 159
-numbers-part numbers place room below = part-length (place * 159) 159 _ numbers (part-numbers place) (omega arith)
+pub numbers-part : (numbers : List Float) (place : ℕ) → engineNumbers ≤ length numbers → place < 8
+    → length (take (place * jobNumbers + jobNumbers - place * jobNumbers) (drop (place * jobNumbers) numbers)) ≡ jobNumbers
+numbers-part numbers place room below = part-length (place * jobNumbers) jobNumbers _ numbers (part-numbers place) (omega arith)
 
-pub counts-part : (screens : Screens) (counts counts₁ : List ℕ) (place : ℕ) → 145 ≤ length counts → place < 8 → WritesScreens screens counts counts₁
-    → length (take (9 + place * 17 + 17 - (9 + place * 17)) (drop (9 + place * 17) counts₁)) ≡ 17
+pub counts-part : (screens : Screens) (counts counts₁ : List ℕ) (place : ℕ) → engineCounts ≤ length counts → place < 8 → WritesScreens screens counts counts₁
+    → length (take (9 + place * jobCounts + jobCounts - (9 + place * jobCounts)) (drop (9 + place * jobCounts) counts₁)) ≡ jobCounts
 counts-part screens counts counts₁ place room below written =
     let same = counts-length screens counts counts₁ (omega arith) written in
-    part-length (9 + place * 17) 17 _ counts₁ (part-counts place) (omega arith)
+    part-length (9 + place * jobCounts) jobCounts _ counts₁ (part-counts place) (omega arith)
 
 pub job-read : (numbers : List Float) (counts : List ℕ) (place : ℕ) → place < 8 → (r : Job)
-    → r ≡ jobIn (take (place * 159 + 159 - place * 159) (drop (place * 159) numbers)) (take (9 + place * 17 + 17 - (9 + place * 17)) (drop (9 + place * 17) counts))
+    → r ≡ jobIn (take (place * jobNumbers + jobNumbers - place * jobNumbers) (drop (place * jobNumbers) numbers)) (take (9 + place * jobCounts + jobCounts - (9 + place * jobCounts)) (drop (9 + place * jobCounts) counts))
     → r ≡ jobAt (engineIn numbers counts) place
 unfolding jobInAt
 job-read numbers counts place h r e =
     e
-    ∙ ap₂ jobIn (ap (λ (n : ℕ). take n (drop (place * 159) numbers)) (part-numbers place)) (ap (λ (n : ℕ). take n (drop (9 + place * 17) counts)) (part-counts place))
+    ∙ ap₂ jobIn (ap (λ (n : ℕ). take n (drop (place * jobNumbers) numbers)) (part-numbers place)) (ap (λ (n : ℕ). take n (drop (9 + place * jobCounts) counts)) (part-counts place))
     ∙ sym (job-of numbers counts place h)
 
 put-is : {A : Type 0} (a b : ℕ) (l p : List A) → a ≤ b → putMid a (b - a) l p ≡ take a l ++ (p ++ drop b l)
@@ -142,14 +142,14 @@ module _ (numbers : List Float) (counts counts₁ : List ℕ) (place : ℕ) (scr
   engine· = withJob (engineIn numbers counts) place screens job
 
   abbrev counts₂· : List ℕ
-  counts₂· = putMid (9 + place * 17) (9 + place * 17 + 17 - (9 + place * 17)) counts₁ q
+  counts₂· = putMid (9 + place * jobCounts) (9 + place * jobCounts + jobCounts - (9 + place * jobCounts)) counts₁ q
 
-  pub written-back : Room numbers counts → place < 8 → WritesScreens screens counts counts₁ → length p ≡ 159 → length q ≡ 17 → jobIn p q ≡ job
+  pub written-back : Room numbers counts → place < 8 → WritesScreens screens counts counts₁ → length p ≡ jobNumbers → length q ≡ jobCounts → jobIn p q ≡ job
       → Holds (withJob (engineIn numbers counts) place screens job) numbers counts
-      (putMid (place * 159) (place * 159 + 159 - place * 159) numbers p) (putMid (9 + place * 17) (9 + place * 17 + 17 - (9 + place * 17)) counts₁ q)
+      (putMid (place * jobNumbers) (place * jobNumbers + jobNumbers - place * jobNumbers) numbers p) (putMid (9 + place * jobCounts) (9 + place * jobCounts + jobCounts - (9 + place * jobCounts)) counts₁ q)
   written-back room below written h k e =
-      let n : place * 159 ≤ place * 159 + 159 = omega arith in
-      let m : 9 + place * 17 ≤ 9 + place * 17 + 17 = omega arith in
-      subst (λ (l : List Float). Holds engine· numbers counts l counts₂·) (sym (put-is (place * 159) (place * 159 + 159) numbers p n))
-      (subst (λ (l : List ℕ). Holds engine· numbers counts (put (place * 159) 159 numbers p) l) (sym (put-is (9 + place * 17) (9 + place * 17 + 17) counts₁ q m))
+      let n : place * jobNumbers ≤ place * jobNumbers + jobNumbers = omega arith in
+      let m : 9 + place * jobCounts ≤ 9 + place * jobCounts + jobCounts = omega arith in
+      subst (λ (l : List Float). Holds engine· numbers counts l counts₂·) (sym (put-is (place * jobNumbers) (place * jobNumbers + jobNumbers) numbers p n))
+      (subst (λ (l : List ℕ). Holds engine· numbers counts (put (place * jobNumbers) jobNumbers numbers p) l) (sym (put-is (9 + place * jobCounts) (9 + place * jobCounts + jobCounts) counts₁ q m))
       (engine-written numbers counts counts₁ place screens job p q room below written h k e))

@@ -7,16 +7,16 @@ use lib.Dec.{eqb}
 use lib.ListN.{take, drop, getD}
 use lib.Ieee.{Float}
 use Rattle.jobs.specs.declared.Job.{Job}
-use Rattle.lent_jobs.specs.Memory.{countAt, flag, jobIn}
+use Rattle.lent_jobs.specs.Memory.{jobNumbers, jobCounts, countAt, flag, jobIn}
 use Rattle.engines.specs.declared.Screens.{Screens}
 use Rattle.engines.specs.declared.Engine.{Engine}
 
 -- the numbers of eight jobs; for each screen whether it holds a job, the last served, and the counts of eight jobs
 abbrev pub engineNumbers : ℕ
-engineNumbers = 1272
+engineNumbers = 8 * jobNumbers
 
 abbrev pub engineCounts : ℕ
-engineCounts = 145
+engineCounts = 9 + 8 * jobCounts
 
 abbrev pub eight : {A : Type 0} → (ℕ → A) → List A
 eight f = f 0 ∷ f 1 ∷ f 2 ∷ f 3 ∷ f 4 ∷ f 5 ∷ f 6 ∷ f 7 ∷ []
@@ -34,10 +34,10 @@ noScreens = record { held = eight (λ i. false); last = 0 }
 
 -- the job at a place
 abbrev pub numbersAt : List Float → ℕ → List Float
-numbersAt numbers place = take 159 (drop (place * 159) numbers)
+numbersAt numbers place = take jobNumbers (drop (place * jobNumbers) numbers)
 
 abbrev pub countsAt : List ℕ → ℕ → List ℕ
-countsAt counts place = take 17 (drop (9 + place * 17) counts)
+countsAt counts place = take jobCounts (drop (9 + place * jobCounts) counts)
 
 unfoldable pub jobInAt : List Float → List ℕ → ℕ → Job
 jobInAt numbers counts place = jobIn (numbersAt numbers place) (countsAt counts place)

@@ -7,7 +7,6 @@ ghost use Prim.Native.Nat.{_≤_, _<_};
 ghost use lib.ListN.{length};
 ghost use Rattle.lent_engines.specs.Memory.{screenCounts, screensIn, noScreens, engineIn};
 ghost use Rattle.lent_engines.specs.Lent.{Room, WritesScreens, Holds, Turns, Submits, Changes};
-ghost use Rattle.lent_jobs.specs.Memory.{flag};
 ghost use Rattle.engines.specs.Engines.{jobAt, withJob};
 use engines::Screens;
 use engines::Told;
@@ -46,25 +45,19 @@ fn read_screens(counts: &[usize]) -> Screens
     }
 }
 
-fn flag_of(holds: bool) -> usize
-    ensures { λ r. ⌜ r ≡ flag holds ⌝ }
-{
-    if holds { 1 } else { 0 }
-}
-
 fn counts_of(screens: Screens) -> [usize; SCREENS]
     ensures { λ r. ⌜ r ≡ screenCounts screens ⌝ }
 {
     let held = screens.held;
     [
-        flag_of(held[0]),
-        flag_of(held[1]),
-        flag_of(held[2]),
-        flag_of(held[3]),
-        flag_of(held[4]),
-        flag_of(held[5]),
-        flag_of(held[6]),
-        flag_of(held[7]),
+        lent_jobs::flag_of(held[0]),
+        lent_jobs::flag_of(held[1]),
+        lent_jobs::flag_of(held[2]),
+        lent_jobs::flag_of(held[3]),
+        lent_jobs::flag_of(held[4]),
+        lent_jobs::flag_of(held[5]),
+        lent_jobs::flag_of(held[6]),
+        lent_jobs::flag_of(held[7]),
         screens.last,
     ]
 }

@@ -140,10 +140,11 @@ fn verdict_row(verdict: Verdict) -> [usize; 3]
     }
 }
 
-fn flag_of(ended: bool) -> usize
-    ensures { λ r. ⌜ r ≡ flag ended ⌝ }
+// A count that stands for a test.
+pub fn flag_of(holds: bool) -> usize
+    ensures { λ r. ⌜ r ≡ flag holds ⌝ }
 {
-    if ended { 1 } else { 0 }
+    if holds { 1 } else { 0 }
 }
 
 fn set_numbers(set: FinSet) -> [f64; SET_NUMBERS]

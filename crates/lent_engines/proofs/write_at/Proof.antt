@@ -3,6 +3,7 @@ use denote.Ref.{now}
 use mathlib.Core.Path.{_≡_}
 use native.Mathlib.Omega.{arith}
 use lib.ListN.{length}
+use Rattle.lent_jobs.specs.Memory.{jobNumbers, jobCounts}
 use Rattle.lent_engines.proofs.Engines.{numbers-part, counts-part, written-back}
 use borrow.Author.Needs.{needs}
 use Rattle.lent_engines.proofs.write_at.Statement.{statement}
@@ -65,8 +66,8 @@ returns c = let numbers = c .before .before .before in
     let screens = job .before .before .before .before .before in
     let s = screens .before .before .before .before in
     let place = s .args .place in
-    let p : length (job .write-job .last .0) ≡ 159 = omega (arith, numbers .numbers .given, numbers-part (now (s .args .numbers)) place (s .pre .0 .0) (s .pre .1)) in
-    let q : length (job .write-job .last .1 .0) ≡ 17 =
+    let p : length (job .write-job .last .0) ≡ jobNumbers = omega (arith, numbers .numbers .given, numbers-part (now (s .args .numbers)) place (s .pre .0 .0) (s .pre .1)) in
+    let q : length (job .write-job .last .1 .0) ≡ jobCounts =
     omega (arith, c .before .counts2 .given, counts-part _ _ _ place (s .pre .0 .1) (s .pre .1) (screens .write-screens .ensures))
     in
     written-back (now (s .args .numbers)) (now (s .args .counts)) _ place (s .args .screens) (s .args .job) (job .write-job .last .0) (job .write-job .last .1 .0)
