@@ -98,6 +98,8 @@ extern "C" {
 /* The bytes of stack that are enough for any call. The longest chain of frames in the library's code takes half of them: tests/header. */
 #define DELVOUZH_STACK 98304
 
+/* ---- libexports.a */
+
 /* A set's figures. `figures`: thickness, cant, base angle, body radius, density; with a tab also its height, length and offset. `glue`: of a
  * fillet its radius and density.
  * Writes a body, and as counts two values of a refusal, the intervals and the samples. `scratch` has at least 16 * limit numbers; the
@@ -113,55 +115,6 @@ size_t delvouzh_geometry(size_t limit, size_t planform, const double *lengths, s
 
 /* 118,110: no call of the two above reports more samples, with figures or refused. */
 size_t delvouzh_most_samples(void);
-
-/* A job: a set as delvouzh_mass_properties takes it, worked one strip a step, so that its density can still be changed. It lies in `job_numbers`
- * and `job_counts`, which are lent to every call on it as the one before left them, and keeps its own copy of the outline. A copy of both is a
- * job of its own.
- *
- * Makes one, and runs every check of the set but 2. Returns 0 where the job is taken. A refused job has ended with its refusal, and every
- * step repeats that; but 18 makes none, and leaves the memory as it was. Writes two values of a refusal. */
-size_t delvouzh_job_make(size_t limit, size_t count, size_t planform, const double *lengths, size_t lengths_len, size_t section,
-                         size_t tab, size_t density, const double *figures, size_t figures_len, size_t fillet, const double *glue,
-                         size_t glue_len, double *job_numbers, size_t job_numbers_len, size_t *job_counts, size_t job_counts_len,
-                         size_t *values, size_t values_len);
-
-/* Works the job's next strip, and leaves its pieces in `scratch`, 16 numbers each from its start, the rest as it was. Returns DELVOUZH_MORE where
- * strips are still to come, and writes zeros; with the last strip, or one that is refused, what delvouzh_mass_properties does for the set with its
- * last density, and the job has ended. A step of a job that has ended repeats its answer, with any scratch, and writes none. A scratch under
- * 16 * limit numbers is 2, with the samples so far, and changes nothing. Writes a body and counts as delvouzh_mass_properties does. */
-size_t delvouzh_job_step(double *job_numbers, size_t job_numbers_len, size_t *job_counts, size_t job_counts_len, double *scratch,
-                         size_t scratch_len, double *body, size_t body_len, size_t *counts, size_t counts_len);
-
-/* Another density for the plates of a job that has not ended: returns 0 where it is taken. 12 is a density that is not bulk or outside its limits, or
- * a job that has ended, and leaves the old one; its samples are those so far. Writes counts as delvouzh_job_step does. */
-size_t delvouzh_job_change_density(double *job_numbers, size_t job_numbers_len, size_t *job_counts, size_t job_counts_len,
-                                   size_t density, double figure, size_t *counts, size_t counts_len);
-
-/* An engine of eight screens, 1 to 8, each of which may hold one job. It lies in `engine_numbers` and `engine_counts`, which are lent to every call on
- * it as the one before left them; memory of zeros is an engine with no job, none served.
- *
- * Makes such an engine of any memory. Returns 0. */
-size_t delvouzh_engine_clear(size_t *engine_counts, size_t engine_counts_len);
-
-/* Submits a set to a screen, as delvouzh_job_make takes it. Returns 0 where its job is taken; 23 is a screen that is not 1 to 8 or already holds a
- * job, before anything else but 18. A refused submission changes nothing. Writes two values of a refusal. */
-size_t delvouzh_engine_submit(size_t screen, size_t limit, size_t count, size_t planform, const double *lengths,
-                              size_t lengths_len, size_t section, size_t tab, size_t density, const double *figures,
-                              size_t figures_len, size_t fillet, const double *glue, size_t glue_len, double *engine_numbers,
-                              size_t engine_numbers_len, size_t *engine_counts, size_t engine_counts_len, size_t *values,
-                              size_t values_len);
-
-/* Works one strip for the next screen with a job, in ascending order from the one after the last served, wrapping round. Returns what that job's
- * delvouzh_job_step would, and DELVOUZH_IDLE where no screen holds a job; a job that has ended frees its screen. A scratch under 1,024 numbers is 2, with
- * no samples, and changes nothing. Writes a body and counts as delvouzh_job_step does, and behind the counts the screen served, 0 for none. */
-size_t delvouzh_engine_turn(double *engine_numbers, size_t engine_numbers_len, size_t *engine_counts, size_t engine_counts_len,
-                            double *scratch, size_t scratch_len, double *body, size_t body_len, size_t *counts,
-                            size_t counts_len);
-
-/* Another density for the job of a screen, as delvouzh_job_change_density; with no job there, or no such screen, 12 with no samples. */
-size_t delvouzh_engine_change_density(double *engine_numbers, size_t engine_numbers_len, size_t *engine_counts,
-                                      size_t engine_counts_len, size_t screen, size_t density, double figure, size_t *counts,
-                                      size_t counts_len);
 
 /* A planform's chords at a height in metres, which may be any number: the planform is checked as for its area. Writes start and end of each
  * chord over `ends`, which has room for DELVOUZH_CHORDS numbers, and leaves the rest of it, and with a refusal all of it, as it was; as
@@ -213,6 +166,60 @@ size_t delvouzh_principal_moments(const double *tensor, size_t tensor_len, doubl
 /* Whether a body could be a real one. Writes two values of a refusal. */
 size_t delvouzh_check(const double *body, size_t body_len, size_t *values, size_t values_len);
 
+/* The square root: the nearest f64. */
+double delvouzh_sqrt(double x);
+
+/* ---- libscreen_exports.a: what a kiosk's screens use */
+
+/* A job: a set as delvouzh_mass_properties takes it, worked one strip a step, so that its density can still be changed. It lies in `job_numbers`
+ * and `job_counts`, which are lent to every call on it as the one before left them, and keeps its own copy of the outline. A copy of both is a
+ * job of its own.
+ *
+ * Makes one, and runs every check of the set but 2. Returns 0 where the job is taken. A refused job has ended with its refusal, and every
+ * step repeats that; but 18 makes none, and leaves the memory as it was. Writes two values of a refusal. */
+size_t delvouzh_job_make(size_t limit, size_t count, size_t planform, const double *lengths, size_t lengths_len, size_t section,
+                         size_t tab, size_t density, const double *figures, size_t figures_len, size_t fillet, const double *glue,
+                         size_t glue_len, double *job_numbers, size_t job_numbers_len, size_t *job_counts, size_t job_counts_len,
+                         size_t *values, size_t values_len);
+
+/* Works the job's next strip, and leaves its pieces in `scratch`, 16 numbers each from its start, the rest as it was. Returns DELVOUZH_MORE where
+ * strips are still to come, and writes zeros; with the last strip, or one that is refused, what delvouzh_mass_properties does for the set with its
+ * last density, and the job has ended. A step of a job that has ended repeats its answer, with any scratch, and writes none. A scratch under
+ * 16 * limit numbers is 2, with the samples so far, and changes nothing. Writes a body and counts as delvouzh_mass_properties does. */
+size_t delvouzh_job_step(double *job_numbers, size_t job_numbers_len, size_t *job_counts, size_t job_counts_len, double *scratch,
+                         size_t scratch_len, double *body, size_t body_len, size_t *counts, size_t counts_len);
+
+/* Another density for the plates of a job that has not ended: returns 0 where it is taken. 12 is a density that is not bulk or outside its limits, or
+ * a job that has ended, and leaves the old one; its samples are those so far. Writes counts as delvouzh_job_step does. */
+size_t delvouzh_job_change_density(double *job_numbers, size_t job_numbers_len, size_t *job_counts, size_t job_counts_len,
+                                   size_t density, double figure, size_t *counts, size_t counts_len);
+
+/* An engine of eight screens, 1 to 8, each of which may hold one job. It lies in `engine_numbers` and `engine_counts`, which are lent to every call on
+ * it as the one before left them; memory of zeros is an engine with no job, none served.
+ *
+ * Makes such an engine of any memory. Returns 0. */
+size_t delvouzh_engine_clear(size_t *engine_counts, size_t engine_counts_len);
+
+/* Submits a set to a screen, as delvouzh_job_make takes it. Returns 0 where its job is taken; 23 is a screen that is not 1 to 8 or already holds a
+ * job, before anything else but 18. A refused submission changes nothing. Writes two values of a refusal. */
+size_t delvouzh_engine_submit(size_t screen, size_t limit, size_t count, size_t planform, const double *lengths,
+                              size_t lengths_len, size_t section, size_t tab, size_t density, const double *figures,
+                              size_t figures_len, size_t fillet, const double *glue, size_t glue_len, double *engine_numbers,
+                              size_t engine_numbers_len, size_t *engine_counts, size_t engine_counts_len, size_t *values,
+                              size_t values_len);
+
+/* Works one strip for the next screen with a job, in ascending order from the one after the last served, wrapping round. Returns what that job's
+ * delvouzh_job_step would, and DELVOUZH_IDLE where no screen holds a job; a job that has ended frees its screen. A scratch under 1,024 numbers is 2, with
+ * no samples, and changes nothing. Writes a body and counts as delvouzh_job_step does, and behind the counts the screen served, 0 for none. */
+size_t delvouzh_engine_turn(double *engine_numbers, size_t engine_numbers_len, size_t *engine_counts, size_t engine_counts_len,
+                            double *scratch, size_t scratch_len, double *body, size_t body_len, size_t *counts,
+                            size_t counts_len);
+
+/* Another density for the job of a screen, as delvouzh_job_change_density; with no job there, or no such screen, 12 with no samples. */
+size_t delvouzh_engine_change_density(double *engine_numbers, size_t engine_numbers_len, size_t *engine_counts,
+                                      size_t engine_counts_len, size_t screen, size_t density, double figure, size_t *counts,
+                                      size_t counts_len);
+
 /* The answer to a card line (docs/FORMS.md); neither has a newline. Writes the answer's bytes, and as `written` how many they are. Every
  * line is answered, and returns 0, also where its answer is "(refused N)". The engine of eight screens is lent as two arrays, which begin as zeros and
  * go from one call to the next as they are; lines that are no submission, density or turn leave them alone. 18 is an engine without room for DELVOUZH_ENGINE_NUMBERS
@@ -221,9 +228,6 @@ size_t delvouzh_check(const double *body, size_t body_len, size_t *values, size_
 size_t delvouzh_answer_line(const unsigned char *line, size_t line_len, double *scratch, size_t scratch_len, double *engine_numbers,
                             size_t engine_numbers_len, size_t *engine_counts, size_t engine_counts_len, unsigned char *answer, size_t answer_len,
                             size_t *written, size_t written_len);
-
-/* The square root: the nearest f64. */
-double delvouzh_sqrt(double x);
 
 #ifdef __cplusplus
 }

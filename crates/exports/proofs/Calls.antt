@@ -1,11 +1,10 @@
 -- What a call promises follows from what its parts wrote, or from a list that has no room. Assumes nothing.
-use mathlib.Core.Path.{_≡_, refl, sym, _∙_}
-use mathlib.Core.Bool.{true, false, true≢false}
+use mathlib.Core.Path.{_≡_}
+use mathlib.Core.Bool.{false}
 use mathlib.Core.List.{List, [], _∷_}
 use Prim.Native.Nat.{ℕ, _≤_, _<_}
-use native.Mathlib.Omega.{arith}
 use borrow.Author.Tests.{le-leb, lt-leb}
-use lib.ListN.{length, take, drop, take-append-drop}
+use lib.ListN.{length}
 use lib.Ieee.{Float}
 use Rattle.refusals.specs.declared.Verdict.{Verdict}
 use Rattle.bodies.specs.Layout.{bodyNumbers}
@@ -17,27 +16,15 @@ use Rattle.tubes.specs.Closing.{closingOf}
 use Rattle.moments.specs.declared.Moments.{Moments}
 use Rattle.figures.specs.declared.Area.{Area}
 use Rattle.figures.specs.declared.Figures.{Figures}
-use Rattle.answers.specs.Answers.{answerBytes}
-use Rattle.lent_engines.specs.Memory.{engineNumbers, engineCounts}
-use Rattle.lines.specs.Lines.{LentMemory, memoryOf, answerOf, Fits, Answers}
 use Rattle.planform_chords.specs.declared.ChordList.{ChordList}
 use Rattle.drill.specs.declared.Answer.{Answer}
 use Rattle.drill.specs.Drill.{verdictOf, placeNumber, nearestOf}
 use Rattle.planforms.specs.declared.NumberedPlanform.{NumberedPlanform}
 use Rattle.fins.specs.declared.NumberedSet.{NumberedSet}
 use Rattle.requests.specs.Calls.{numberedFigures, numberedScratch, numberedArea, numberedAreaScratch, numberedChords, numberedEnds, numberedDrill, ringBy, tensorMoments, bodyVerdict}
-use Rattle.exports.specs.Numbers.{numberIn, over, withValues, withCounts}
-use Rattle.exports.specs.Calls.{room, figureCounts, SetCall, areaNumbers, areaCounts, AreaCall, chordCounts, ChordsCall, DrillCall, RingCall, BodyCall, ClosingCall, JoinCall, momentsNumbers, MomentsCall, CheckCall, lineRoom, LineCall}
-
-module _ {A : Type 0} (m : ℕ) (figures : List A) (n : ℕ) (counts : List ℕ) where
-  pub has-room : m ≤ length figures → n ≤ length counts → room m figures n counts ≡ true
-  has-room h k = simp (le-leb m (length figures) h, le-leb n (length counts) k)
-
-  pub few-figures : length figures < m → room m figures n counts ≡ false
-  few-figures h = simp (lt-leb m (length figures) h)
-
-  pub few-counts : m ≤ length figures → length counts < n → room m figures n counts ≡ false
-  few-counts h k = simp (le-leb m (length figures) h, lt-leb n (length counts) k)
+use Rattle.foreign_numbers.specs.Numbers.{numberIn, over, withValues, withCounts, room, figureCounts}
+use Rattle.exports.specs.Calls.{SetCall, areaNumbers, areaCounts, AreaCall, chordCounts, ChordsCall, DrillCall, RingCall, BodyCall, ClosingCall, JoinCall, momentsNumbers, MomentsCall, CheckCall}
+use Rattle.foreign_numbers.proofs.Rooms.{has-room}
 
 module _ (set : NumberedSet) (points : List Float) (L : ℕ) (scratch body : List Float) (counts : List ℕ) where
   pub set-refused : room bodyNumbers body 4 counts ≡ false → SetCall set points L scratch body counts 18 scratch body counts
@@ -163,35 +150,3 @@ module _ (numbers : List Float) (values : List ℕ) where
       values' ≡ withValues values v → r ≡ numberIn v → CheckCall numbers values r values'
   check-written h v r values' e c n =
       let fits = le-leb 2 (length values) h in record { returned = rw (fits, ← e) n; counted = rw (fits, ← e) c }
-
--- a text of r bytes that stands at the start, with the rest as it was
-over-start : (before text after : List ℕ) (r : ℕ) → take r after ≡ text → drop r after ≡ drop r before → r ≡ length text → after ≡ over text before
-over-start before text after r holds rest ends = sym (take-append-drop r after) ∙ rw (holds, rest, ends)
-
--- room for the engine and for the answer, or not
-module _ (lent : LentMemory) (answer written : List ℕ) where
-  pub no-engine : room engineNumbers (lent .numbers) engineCounts (lent .counts) ≡ false → lineRoom lent answer written ≡ false
-  no-engine e = rw e
-
-  pub no-answer : engineNumbers ≤ length (lent .numbers) → engineCounts ≤ length (lent .counts) → room answerBytes answer 1 written ≡ false → lineRoom lent answer written ≡ false
-  no-answer h k e = rw (has-room engineNumbers (lent .numbers) engineCounts (lent .counts) h k, e)
-
-module _ (line : List ℕ) (lent : LentMemory) (answer written : List ℕ) where
-  pub line-refused : lineRoom lent answer written ≡ false → LineCall line lent answer written 18 lent answer written
-  line-refused none = record { returned = rw none; answered = rw none; counted = rw none; memory-left = rw none; untouched = λ _. refl }
-
-  pub line-written : engineNumbers ≤ length (lent .numbers) → engineCounts ≤ length (lent .counts) → answerBytes ≤ length answer → 1 ≤ length written → (n : ℕ) (lent' : LentMemory) (answer' written' : List ℕ) →
-      Answers line lent lent' answer 0 answer' n → written' ≡ over (n ∷ []) written →
-      LineCall line lent answer written 0 lent' answer' written'
-  line-written i j h k n lent' answer' written' a w =
-      let fits : lineRoom lent answer written ≡ true = rw (has-room engineNumbers (lent .numbers) engineCounts (lent .counts) i j, has-room answerBytes answer 1 written h k) in
-      let all : Fits lent answer 0 = record { answer = h; engine = (i, j) } in
-      let text = a .answer all in
-      let long : n ≡ length (answerOf line (memoryOf lent)) = omega (arith, text .ends) in
-      record {
-        returned = rw fits;
-        answered = rw fits (over-start answer _ answer' n (text .holds) (text .rest) long);
-        counted = rw (fits, ← long) w;
-        memory-left = rw fits (a .memory-left all);
-        untouched = λ none. absurd (true≢false (sym fits ∙ none));
-      }

@@ -1,7 +1,7 @@
 -- What a call returns and leaves in the lent lists (include/delvouzh.h). Where a list has no room for what is written over its start, the
 -- call returns 18 (no form) and leaves every list as it was.
 use mathlib.Core.Path.{_≡_}
-use mathlib.Core.Bool.{Bool, false, cond, _&&_}
+use mathlib.Core.Bool.{cond}
 use mathlib.Core.List.{List, [], _∷_}
 use Prim.Native.Nat.{ℕ}
 use lib.Dec.{leb}
@@ -22,21 +22,10 @@ use Rattle.joins.specs.Joins.{combineOf}
 use Rattle.tubes.specs.Closing.{closingOf}
 use Rattle.moments.specs.declared.Moments.{Moments}
 use Rattle.figures.specs.declared.Area.{Area}
-use Rattle.figures.specs.declared.Figures.{Figures}
 use Rattle.requests.specs.Calls.{numberedFigures, numberedScratch, numberedArea, numberedAreaScratch, numberedChords, numberedEnds, numberedDrill, ringBy, tensorMoments, bodyVerdict}
-use Rattle.answers.specs.Answers.{answerBytes}
-use Rattle.lent_engines.specs.Memory.{engineNumbers, engineCounts}
-use Rattle.lines.specs.Lines.{LentMemory, memoryOf, answerOf, memoryAfter}
-use Rattle.exports.specs.Numbers.{numberIn, over, withValues, withCount, withCounts}
-
--- room for m figures, or bytes, and n counts
-abbrev pub room : {A : Type 0} → ℕ → List A → ℕ → List ℕ → Bool
-room m figures n counts = leb m (length figures) && leb n (length counts)
+use Rattle.foreign_numbers.specs.Numbers.{numberIn, over, withValues, withCount, withCounts, room, figureCounts}
 
 -- ---- a set's figures
-
-abbrev pub figureCounts : Figures → List ℕ → List ℕ
-figureCounts f counts = withCounts counts (f .verdict) (f .intervals) (f .samples)
 
 pub record SetCall (set : NumberedSet) (points : List Float) (L : ℕ) (scratch body : List Float) (counts : List ℕ) (r : ℕ) (scratch' body' : List Float) (counts' : List ℕ) : Type 0 where
   pub returned : r ≡ cond (room bodyNumbers body 4 counts) (numberIn (numberedFigures set points L (length scratch) .verdict)) (numberOf NoForm)
@@ -117,17 +106,3 @@ pub record MomentsCall (numbers moments : List Float) (values : List ℕ) (r : �
 pub record CheckCall (numbers : List Float) (values : List ℕ) (r : ℕ) (values' : List ℕ) : Type 0 where
   pub returned : r ≡ cond (leb 2 (length values)) (numberIn (bodyVerdict numbers)) (numberOf NoForm)
   pub counted : values' ≡ cond (leb 2 (length values)) (withValues values (bodyVerdict numbers)) values
-
--- ---- a line's answer
-
--- room for the engine, and for the answer
-abbrev pub lineRoom : LentMemory → List ℕ → List ℕ → Bool
-lineRoom lent answer written = room engineNumbers (lent .numbers) engineCounts (lent .counts) && room answerBytes answer 1 written
-
-pub record LineCall (line : List ℕ) (lent : LentMemory) (answer written : List ℕ) (r : ℕ) (lent' : LentMemory) (answer' written' : List ℕ) : Type 0 where
-  pub returned : r ≡ cond (lineRoom lent answer written) 0 (numberOf NoForm)
-  pub answered : answer' ≡ cond (lineRoom lent answer written) (over (answerOf line (memoryOf lent)) answer) answer
-  pub counted : written' ≡ cond (lineRoom lent answer written) (over (length (answerOf line (memoryOf lent)) ∷ []) written) written
-  -- the scratch, and the engine that the two lists hold
-  pub memory-left : memoryOf lent' ≡ cond (lineRoom lent answer written) (memoryAfter line (memoryOf lent)) (memoryOf lent)
-  pub untouched : lineRoom lent answer written ≡ false → lent' ≡ lent

@@ -1,6 +1,7 @@
 -- `exports::delvouzh_chords_at` meets its contract: there is no room, or the chords are listed. Assumes nothing.
 use borrow.Author.Needs.{needs}
-use Rattle.exports.proofs.Calls.{few-figures, few-counts, chords-refused, chords-written}
+use Rattle.foreign_numbers.proofs.Rooms.{few-figures, few-counts}
+use Rattle.exports.proofs.Calls.{chords-refused, chords-written}
 use Rattle.exports.proofs.delvouzh_chords_at.Statement.{statement}
 use Rattle.exports.proofs.delvouzh_chords_at.Tie as tie
 

@@ -1,7 +1,8 @@
 -- `exports::delvouzh_closing_radius` meets its contract: there is no room, or the radius is written. Assumes nothing.
 use borrow.Author.Needs.{needs}
-use Rattle.exports.proofs.Lists.{one-written}
-use Rattle.exports.proofs.Calls.{few-figures, few-counts, closing-refused, closing-written}
+use Rattle.foreign_numbers.proofs.Lists.{one-written}
+use Rattle.foreign_numbers.proofs.Rooms.{few-figures, few-counts}
+use Rattle.exports.proofs.Calls.{closing-refused, closing-written}
 use Rattle.exports.proofs.delvouzh_closing_radius.Statement.{statement}
 use Rattle.exports.proofs.delvouzh_closing_radius.Tie as tie
 

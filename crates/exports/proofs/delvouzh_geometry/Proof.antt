@@ -1,6 +1,7 @@
 -- `exports::delvouzh_geometry` meets its contract: there is no room, or the figures are written. Assumes nothing.
 use borrow.Author.Needs.{needs}
-use Rattle.exports.proofs.Calls.{few-figures, few-counts, area-refused, area-written}
+use Rattle.foreign_numbers.proofs.Rooms.{few-figures, few-counts}
+use Rattle.exports.proofs.Calls.{area-refused, area-written}
 use Rattle.exports.proofs.delvouzh_geometry.Statement.{statement}
 use Rattle.exports.proofs.delvouzh_geometry.Tie as tie
 

@@ -1,6 +1,7 @@
 -- `exports::delvouzh_principal_moments` meets its contract: there is no room, or the moments are written. Assumes nothing.
 use borrow.Author.Needs.{needs}
-use Rattle.exports.proofs.Calls.{few-figures, few-counts, moments-refused, moments-written}
+use Rattle.foreign_numbers.proofs.Rooms.{few-figures, few-counts}
+use Rattle.exports.proofs.Calls.{moments-refused, moments-written}
 use Rattle.exports.proofs.delvouzh_principal_moments.Statement.{statement}
 use Rattle.exports.proofs.delvouzh_principal_moments.Tie as tie
 

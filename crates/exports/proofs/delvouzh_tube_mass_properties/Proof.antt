@@ -1,7 +1,8 @@
 -- `exports::delvouzh_tube_mass_properties` meets its contract: there is no room, or the body is written. Assumes nothing.
 use borrow.Author.Needs.{needs}
 use Rattle.bodies.specs.Layout.{bodyNumbers}
-use Rattle.exports.proofs.Calls.{few-figures, few-counts, ring-refused, ring-written}
+use Rattle.foreign_numbers.proofs.Rooms.{few-figures, few-counts}
+use Rattle.exports.proofs.Calls.{ring-refused, ring-written}
 use Rattle.exports.proofs.delvouzh_tube_mass_properties.Statement.{statement}
 use Rattle.exports.proofs.delvouzh_tube_mass_properties.Tie as tie
 

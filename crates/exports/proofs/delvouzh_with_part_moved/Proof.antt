@@ -1,7 +1,8 @@
 -- `exports::delvouzh_with_part_moved` meets its contract: there is no room, or the body is written. Assumes nothing.
 use borrow.Author.Needs.{needs}
 use Rattle.bodies.specs.Layout.{bodyNumbers}
-use Rattle.exports.proofs.Calls.{few-figures, few-counts, body-refused, body-written}
+use Rattle.foreign_numbers.proofs.Rooms.{few-figures, few-counts}
+use Rattle.exports.proofs.Calls.{body-refused, body-written}
 use Rattle.exports.proofs.delvouzh_with_part_moved.Statement.{statement}
 use Rattle.exports.proofs.delvouzh_with_part_moved.Tie as tie
 

@@ -1,0 +1,121 @@
+-- What a call on a job in lent memory promises follows from what its parts did, or from a list that has no room. Assumes nothing.
+use mathlib.Core.Path.{_≡_, refl, sym, subst, _∙_}
+use mathlib.Core.Bool.{Bool, true, false, _&&_, true≢false}
+use mathlib.Core.List.{List}
+use Prim.Native.Nat.{ℕ, _≤_, _<_}
+use lib.ListN.{length}
+use lib.Ieee.{Float}
+use Rattle.refusals.specs.declared.Refusal.the-variants.{NoForm}
+use Rattle.refusals.specs.declared.Verdict.the-variants.{Refused}
+use Rattle.materials.specs.declared.Density.{Density}
+use Rattle.materials.specs.declared.NumberedDensity.{NumberedDensity}
+use Rattle.materials.specs.declared.NumberedDensity.the-variants.{Known as densityKnown, Unknown as noDensity}
+use Rattle.fins.specs.declared.FinSet.{FinSet}
+use Rattle.fins.specs.declared.NumberedSet.{NumberedSet}
+use Rattle.fins.specs.declared.NumberedSet.the-variants.{Known as setKnown, Unknown as noSet}
+use Rattle.joins.specs.Flat.{withBody}
+use Rattle.jobs.specs.declared.Job.{Job}
+use Rattle.jobs.specs.declared.Answer.{Answer}
+use Rattle.jobs.specs.declared.Stepped.{Stepped}
+use Rattle.lent_jobs.specs.Memory.{jobNumbers, jobCounts}
+use Rattle.lent_jobs.specs.Lent.{Holds, Makes, Steps, Changes}
+use Rattle.foreign_numbers.specs.Numbers.{withValues, withCounts, room, figureCounts}
+use Rattle.screen_exports.specs.JobCalls.{answerNumber, madeBy, changedBy, jobRoom, Memory, JobCall, makeRoom, MakeCall, stepRoom, StepCall, changeRoom, ChangeCall}
+use Rattle.foreign_numbers.proofs.Rooms.{has-room, few-figures, few-counts}
+
+pub first-not : {a : Bool} (b : Bool) → a ≡ false → (a && b) ≡ false
+first-not b e = rw e
+
+pub second-not : {a b : Bool} → a ≡ true → b ≡ false → (a && b) ≡ false
+second-not e f = rw (e, f)
+
+pub both : {a b : Bool} → a ≡ true → b ≡ true → (a && b) ≡ true
+both e f = rw (e, f)
+
+module _ (numbers : List Float) (counts : List ℕ) where
+  pub job-room : jobNumbers ≤ length numbers → jobCounts ≤ length counts → jobRoom numbers counts ≡ true
+  job-room h k = has-room jobNumbers numbers jobCounts counts h k
+
+  pub few-numbers : length numbers < jobNumbers → jobRoom numbers counts ≡ false
+  few-numbers h = few-figures jobNumbers numbers jobCounts counts h
+
+  pub few-totals : jobNumbers ≤ length numbers → length counts < jobCounts → jobRoom numbers counts ≡ false
+  few-totals h k = few-counts jobNumbers numbers jobCounts counts h k
+
+  unwritten : (written : Bool) (job : Job) → written ≡ false → Memory written job numbers counts numbers counts
+  unwritten written job none = record { numbers-are = rw none; counts-are = rw none; held = λ e. absurd (true≢false (sym e ∙ none)) }
+
+  written-over : (written : Bool) (job : Job) (numbers' : List Float) (counts' : List ℕ) → written ≡ true → Holds job numbers counts numbers' counts' →
+      Memory written job numbers counts numbers' counts'
+  written-over written job numbers' counts' all h = record { numbers-are = rw all (h .numbers-are); counts-are = rw all (h .counts-are); held = λ e. h .held }
+
+  -- ---- no room
+
+  refused : (fits written : Bool) (s : Stepped) → fits ≡ false → JobCall fits written s numbers counts 18 numbers counts
+  refused fits written s none = record { returned = rw none; memory = unwritten (fits && written) (s .job) (rw none) }
+
+  module _ (set : NumberedSet) (points : List Float) (L : ℕ) (values : List ℕ) where
+    pub make-refused : makeRoom numbers counts values ≡ false → MakeCall numbers counts set points L values 18 numbers counts values
+    make-refused none = record { call = refused _ _ _ none; counted = rw none }
+
+  module _ (scratch body : List Float) (told : List ℕ) where
+    pub step-refused : stepRoom numbers counts body told ≡ false → StepCall numbers counts scratch body told 18 numbers counts scratch body told
+    step-refused none = record { call = refused _ _ _ none; figures = rw none; counted = rw none; lent = rw none }
+
+  module _ (density : NumberedDensity) (told : List ℕ) where
+    pub change-refused : changeRoom numbers counts told ≡ false → ChangeCall numbers counts density told 18 numbers counts told
+    change-refused none = record { call = refused _ _ _ none; counted = rw none }
+
+  -- ---- a number that stands for nothing
+
+  module _ (points : List Float) (L : ℕ) (values values' : List ℕ) where
+    pub make-unknown : (set read : NumberedSet) → read ≡ set → read ≡ noSet → makeRoom numbers counts values ≡ true → values' ≡ withValues values (Refused NoForm) →
+        MakeCall numbers counts set points L values 18 numbers counts values'
+    make-unknown set read same none fits v =
+        subst (λ (x : NumberedSet). MakeCall numbers counts x points L values 18 numbers counts values') (sym none ∙ same)
+        (unfold madeBy in
+        record { call = record { returned = rw fits; memory = unwritten _ _ (rw fits) }; counted = rw fits v })
+
+  module _ (told told' : List ℕ) where
+    pub change-unknown : (density read : NumberedDensity) → read ≡ density → read ≡ noDensity → changeRoom numbers counts told ≡ true →
+        told' ≡ withCounts told (Refused NoForm) 0 0 → ChangeCall numbers counts density told 18 numbers counts told'
+    change-unknown density read same none fits v =
+        subst (λ (x : NumberedDensity). ChangeCall numbers counts x told 18 numbers counts told') (sym none ∙ same)
+        (unfold changedBy in
+        record { call = record { returned = rw fits; memory = unwritten _ _ (rw fits) }; counted = rw fits v })
+
+  -- ---- the job is worked on
+
+  module _ (numbers' : List Float) (counts' : List ℕ) (a : Answer) (r : ℕ) (r-is : r ≡ answerNumber a) where
+    called : (fits written : Bool) (s : Stepped) → fits ≡ true → written ≡ true → a ≡ s .answer → Holds (s .job) numbers counts numbers' counts' →
+        JobCall fits written s numbers counts r numbers' counts'
+    called fits written s f w e h =
+        record { returned = rw (f, ← e) r-is; memory = written-over (fits && written) (s .job) numbers' counts' (rw (f, w)) h }
+
+    pub make-written : (points : List Float) (L : ℕ) (values values' : List ℕ) (asked read : NumberedSet) (set : FinSet) →
+        read ≡ asked → read ≡ setKnown set → makeRoom numbers counts values ≡ true → Makes set points L numbers counts a numbers' counts' →
+        values' ≡ withValues values (a .figures .verdict) → MakeCall numbers counts asked points L values r numbers' counts' values'
+    make-written points L values values' asked read set same known fits m v =
+        subst (λ (x : NumberedSet). MakeCall numbers counts x points L values r numbers' counts' values') (sym known ∙ same)
+        (unfold madeBy in
+        record { call = called _ _ _ fits refl (m .answered) (m .holds); counted = rw (fits, ← m .answered) v })
+
+    pub step-written : (scratch body scratch' body' : List Float) (told told' : List ℕ) →
+        stepRoom numbers counts body told ≡ true → Steps numbers counts scratch a numbers' counts' scratch' →
+        body' ≡ withBody body 0 (a .figures .body) → told' ≡ figureCounts (a .figures) told →
+        StepCall numbers counts scratch body told r numbers' counts' scratch' body' told'
+    step-written scratch body scratch' body' told told' fits s b c =
+        record {
+          call = called _ _ _ fits refl (s .answered) (s .holds);
+          figures = rw (fits, ← s .answered) b;
+          counted = rw (fits, ← s .answered) c;
+          lent = rw fits (s .lent);
+        }
+
+    pub change-written : (told told' : List ℕ) (asked read : NumberedDensity) (density : Density) →
+        read ≡ asked → read ≡ densityKnown density → changeRoom numbers counts told ≡ true → Changes numbers counts density a numbers' counts' →
+        told' ≡ figureCounts (a .figures) told → ChangeCall numbers counts asked told r numbers' counts' told'
+    change-written told told' asked read density same known fits m v =
+        subst (λ (x : NumberedDensity). ChangeCall numbers counts x told r numbers' counts' told') (sym known ∙ same)
+        (unfold changedBy in
+        record { call = called _ _ _ fits refl (m .answered) (m .holds); counted = rw (fits, ← m .answered) v })

@@ -1,0 +1,3 @@
+pub mod JobLaws
+pub mod EngineLaws
+pub mod LineLaws

@@ -1,0 +1,113 @@
+-- What the calls on a job in lent memory return and leave in the lent lists (include/delvouzh.h; document 02, Paper 9). An unknown number of a set's
+-- part or of a density is 18, and the memory stays as it was, as where a list has no room.
+use mathlib.Core.Path.{_≡_}
+use mathlib.Core.Bool.{Bool, true, false, cond, _&&_}
+use mathlib.Core.List.{List, _++_}
+use Prim.Native.Nat.{ℕ}
+use lib.Dec.{leb}
+use lib.ListN.{length, drop}
+use lib.Ieee.{Float}
+use Rattle.refusals.specs.declared.Refusal.the-variants.{NoForm}
+use Rattle.refusals.specs.declared.Verdict.{Verdict}
+use Rattle.refusals.specs.Refusals.{numberOf}
+use Rattle.materials.specs.declared.NumberedDensity.{NumberedDensity}
+use Rattle.materials.specs.declared.NumberedDensity.the-variants.{Known as densityKnown, Unknown as noDensity}
+use Rattle.fins.specs.declared.NumberedSet.{NumberedSet}
+use Rattle.fins.specs.declared.NumberedSet.the-variants.{Known as setKnown, Unknown as noSet}
+use Rattle.bodies.specs.Layout.{bodyNumbers}
+use Rattle.joins.specs.Flat.{withBody}
+use Rattle.figures.specs.Figures.{refusedFigures}
+use Rattle.jobs.specs.declared.Job.{Job}
+use Rattle.jobs.specs.declared.Reply.{Reply}
+use Rattle.jobs.specs.declared.Reply.the-variants.{More, Taken, Answered}
+use Rattle.jobs.specs.declared.Answer.{Answer}
+use Rattle.jobs.specs.declared.Stepped.{Stepped}
+use Rattle.jobs.specs.Jobs.{stepOf, stepScratch, changeOf, madeOf}
+use Rattle.lent_jobs.specs.Memory.{jobNumbers, jobCounts, numbersOf, countsOf, jobIn}
+use Rattle.foreign_numbers.specs.Numbers.{numberIn, withValues, room, figureCounts}
+
+-- "more remain" has a number over all of the refusals'; "taken" is 0
+abbrev pub replyNumber : Reply → Verdict → ℕ
+replyNumber More verdict = 1000
+replyNumber Taken verdict = 0
+replyNumber Answered verdict = numberIn verdict
+
+abbrev pub answerNumber : Answer → ℕ
+answerNumber answer = replyNumber (answer .reply) (answer .figures .verdict)
+
+-- ---- what is asked by numbers
+
+abbrev pub noForm : Job → Stepped
+noForm job = record { job = job; answer = record { reply = Answered; figures = refusedFigures NoForm 0 } }
+
+unfoldable pub madeBy : NumberedSet → List Float → ℕ → Job → Stepped
+madeBy (setKnown set) points L before = madeOf set points L
+madeBy noSet points L before = noForm before
+
+abbrev pub isSet : NumberedSet → Bool
+isSet (setKnown set) = true
+isSet noSet = false
+
+unfoldable pub changedBy : NumberedDensity → Job → Stepped
+changedBy (densityKnown density) before = changeOf before density
+changedBy noDensity before = noForm before
+
+abbrev pub isDensity : NumberedDensity → Bool
+isDensity (densityKnown density) = true
+isDensity noDensity = false
+
+-- ---- the memory
+
+-- room for a job
+abbrev pub jobRoom : List Float → List ℕ → Bool
+jobRoom numbers counts = room jobNumbers numbers jobCounts counts
+
+-- the job is written over its start, where anything is written, and is the one that it then holds
+pub record Memory (written : Bool) (job : Job) (numbers : List Float) (counts : List ℕ) (numbers' : List Float) (counts' : List ℕ) : Type 0 where
+  pub numbers-are : numbers' ≡ cond written (numbersOf job ++ drop jobNumbers numbers) numbers
+  pub counts-are : counts' ≡ cond written (countsOf job ++ drop jobCounts counts) counts
+  pub held : written ≡ true → jobIn numbers' counts' ≡ job
+
+-- ---- the calls
+
+-- what a call returns of its answer, and what it leaves in the memory
+pub record JobCall (fits written : Bool) (s : Stepped) (numbers : List Float) (counts : List ℕ) (r : ℕ) (numbers' : List Float) (counts' : List ℕ) : Type 0 where
+  pub returned : r ≡ cond fits (answerNumber (s .answer)) (numberOf NoForm)
+  pub memory : Memory (fits && written) (s .job) numbers counts numbers' counts'
+
+module _ (numbers : List Float) (counts : List ℕ) where
+  -- a job is made, also one that is refused, which has ended with that
+  abbrev pub makeRoom : List ℕ → Bool
+  makeRoom values = jobRoom numbers counts && leb 2 (length values)
+
+  module _ (set : NumberedSet) (points : List Float) (L : ℕ) where
+    abbrev pub making : Stepped
+    making = madeBy set points L (jobIn numbers counts)
+
+    pub record MakeCall (values : List ℕ) (r : ℕ) (numbers' : List Float) (counts' values' : List ℕ) : Type 0 where
+      pub call : JobCall (makeRoom values) (isSet set) making numbers counts r numbers' counts'
+      pub counted : values' ≡ cond (makeRoom values) (withValues values (making .answer .figures .verdict)) values
+
+  -- a step, with the figures and counts of its answer: the plain one carries none
+  abbrev pub stepRoom : List Float → List ℕ → Bool
+  stepRoom body told = jobRoom numbers counts && room bodyNumbers body 4 told
+
+  abbrev pub stepping : List Float → Stepped
+  stepping scratch = stepOf (jobIn numbers counts) (length scratch)
+
+  pub record StepCall (scratch body : List Float) (told : List ℕ) (r : ℕ) (numbers' : List Float) (counts' : List ℕ) (scratch' body' : List Float) (told' : List ℕ) : Type 0 where
+    pub call : JobCall (stepRoom body told) true (stepping scratch) numbers counts r numbers' counts'
+    pub figures : body' ≡ cond (stepRoom body told) (withBody body 0 (stepping scratch .answer .figures .body)) body
+    pub counted : told' ≡ cond (stepRoom body told) (figureCounts (stepping scratch .answer .figures) told) told
+    pub lent : scratch' ≡ cond (stepRoom body told) (stepScratch (jobIn numbers counts) scratch) scratch
+
+  -- a change of density
+  abbrev pub changeRoom : List ℕ → Bool
+  changeRoom told = jobRoom numbers counts && leb 4 (length told)
+
+  abbrev pub changing : NumberedDensity → Stepped
+  changing density = changedBy density (jobIn numbers counts)
+
+  pub record ChangeCall (density : NumberedDensity) (told : List ℕ) (r : ℕ) (numbers' : List Float) (counts' told' : List ℕ) : Type 0 where
+    pub call : JobCall (changeRoom told) (isDensity density) (changing density) numbers counts r numbers' counts'
+    pub counted : told' ≡ cond (changeRoom told) (figureCounts (changing density .answer .figures) told) told

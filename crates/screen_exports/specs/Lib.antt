@@ -1,0 +1,3 @@
+pub mod JobCalls
+pub mod EngineCalls
+pub mod LineCalls

@@ -1,0 +1,350 @@
+// What C and Rust link for a kiosk's screens (include/delvouzh.h, libscreen_exports.a): a job in lent memory, an engine of eight screens, a line's answer.
+//
+// Numbers, slices and refusals cross as in `exports`. A step of a job returns 1000 where more strips remain, a turn with no job 1001; a line is answered, by 0, also
+// where the answer's text is a refusal. An unknown number of a set's part or of a density is 18, and leaves the memory as it was; a lent slice that is too short
+// is 18 too, and then nothing at all is written.
+ghost use mathlib.Core.Path.{_≡_};
+ghost use Rattle.materials.specs.Numbered.{numberedDensity};
+ghost use Rattle.lines.specs.Lines.{lentIn};
+ghost use Rattle.foreign_numbers.specs.Sets.{crossedSet};
+ghost use Rattle.screen_exports.specs.LineCalls.{LineCall};
+ghost use Rattle.screen_exports.specs.JobCalls.{answerNumber, MakeCall, StepCall, ChangeCall};
+ghost use Rattle.screen_exports.specs.EngineCalls.{toldNumber, ClearCall, SubmitCall, TurnCall, DensityCall};
+use answers::ANSWER_BYTES;
+use bodies::BODY_NUMBERS;
+use engines::Service;
+use engines::Told;
+use fins::NumberedSet;
+use foreign_numbers::NO_FORM;
+use jobs::Answer;
+use jobs::Reply;
+use lent_engines::ENGINE_COUNTS;
+use lent_engines::ENGINE_NUMBERS;
+use lent_jobs::JOB_COUNTS;
+use lent_jobs::JOB_NUMBERS;
+use materials::NumberedDensity;
+use refusals::Refusal;
+use refusals::Verdict;
+
+// The number of "more remain", over all of the refusals'.
+const MORE: usize = 1000;
+
+// The number that an answer of a job crosses as: taken is 0.
+fn answer_number(answer: Answer) -> usize
+    ensures { λ r. ⌜ r ≡ answerNumber answer ⌝ }
+{
+    let reply = answer.reply;
+    match reply {
+        Reply::More => MORE,
+        Reply::Taken => 0,
+        Reply::Answered => {
+            let figures = answer.figures;
+            let verdict = figures.verdict;
+            foreign_numbers::number(verdict)
+        }
+    }
+}
+
+// Makes a job in the lent memory: 0 where it is taken; a refused one has ended with that. Writes two values of a refusal.
+#[no_mangle]
+pub extern "C" fn delvouzh_job_make(
+    limit: usize,
+    count: usize,
+    planform: usize,
+    lengths: &[f64],
+    section: usize,
+    tab: usize,
+    density: usize,
+    figures: &[f64],
+    fillet: usize,
+    glue: &[f64],
+    job_numbers: &mut [f64],
+    job_counts: &mut [usize],
+    values: &mut [usize],
+) -> usize
+    ensures { λ r. ⌜ MakeCall (now («job_numbers» .entry)) (now («job_counts» .entry))
+        (crossedSet count planform (now (lengths .entry)) section tab density (now (figures .entry)) fillet (now (glue .entry))) (now (lengths .entry)) limit
+        (now (values .entry)) r (now («job_numbers» .exit)) (now («job_counts» .exit)) (now (values .exit)) ⌝ }
+{
+    if job_numbers.len() < JOB_NUMBERS {
+        return NO_FORM;
+    }
+    if job_counts.len() < JOB_COUNTS {
+        return NO_FORM;
+    }
+    if values.len() < 2 {
+        return NO_FORM;
+    }
+    let asked = foreign_numbers::crossed_set(
+        count,
+        planform,
+        lengths,
+        section,
+        tab,
+        density,
+        figures,
+        fillet,
+        glue,
+    );
+    let NumberedSet::Known(set) = asked else {
+        foreign_numbers::write_values(values, Verdict::Refused(Refusal::NoForm));
+        return NO_FORM;
+    };
+    let answer = lent_jobs::make(job_numbers, job_counts, set, lengths, limit);
+    let found = answer.figures;
+    let verdict = found.verdict;
+    foreign_numbers::write_values(values, verdict);
+    answer_number(answer)
+}
+
+// One step of the job there, over a lent scratch of at least 16·limit numbers: 1000 where more strips remain, else the figures or the refusal
+// that it has ended with. Writes the body's numbers and the counts; where more remain, zeros.
+#[no_mangle]
+pub extern "C" fn delvouzh_job_step(
+    job_numbers: &mut [f64],
+    job_counts: &mut [usize],
+    scratch: &mut [f64],
+    body: &mut [f64],
+    counts: &mut [usize],
+) -> usize
+    ensures { λ r. ⌜ StepCall (now («job_numbers» .entry)) (now («job_counts» .entry))
+        (now (scratch .entry)) (now (body .entry)) (now (counts .entry))
+        r (now («job_numbers» .exit)) (now («job_counts» .exit)) (now (scratch .exit)) (now (body .exit)) (now (counts .exit)) ⌝ }
+{
+    if job_numbers.len() < JOB_NUMBERS {
+        return NO_FORM;
+    }
+    if job_counts.len() < JOB_COUNTS {
+        return NO_FORM;
+    }
+    if body.len() < BODY_NUMBERS {
+        return NO_FORM;
+    }
+    if counts.len() < 4 {
+        return NO_FORM;
+    }
+    let answer = lent_jobs::step(job_numbers, job_counts, scratch);
+    let found = answer.figures;
+    let verdict = found.verdict;
+    let of_job = found.body;
+    joins::write_body(body, 0, of_job);
+    foreign_numbers::write_counts(counts, verdict, found.intervals, found.samples);
+    answer_number(answer)
+}
+
+// Another density for the job there: 0 where it is taken, or 12. Writes the counts, with 12 the samples so far.
+#[no_mangle]
+pub extern "C" fn delvouzh_job_change_density(
+    job_numbers: &mut [f64],
+    job_counts: &mut [usize],
+    density: usize,
+    figure: f64,
+    counts: &mut [usize],
+) -> usize
+    ensures { λ r. ⌜ ChangeCall (now («job_numbers» .entry)) (now («job_counts» .entry)) (numberedDensity density figure) (now (counts .entry))
+        r (now («job_numbers» .exit)) (now («job_counts» .exit)) (now (counts .exit)) ⌝ }
+{
+    if job_numbers.len() < JOB_NUMBERS {
+        return NO_FORM;
+    }
+    if job_counts.len() < JOB_COUNTS {
+        return NO_FORM;
+    }
+    if counts.len() < 4 {
+        return NO_FORM;
+    }
+    let asked = materials::numbered_density(density, figure);
+    let NumberedDensity::Known(density) = asked else {
+        foreign_numbers::write_counts(counts, Verdict::Refused(Refusal::NoForm), 0, 0);
+        return NO_FORM;
+    };
+    let answer = lent_jobs::change_density(job_numbers, job_counts, density);
+    let found = answer.figures;
+    let verdict = found.verdict;
+    foreign_numbers::write_counts(counts, verdict, found.intervals, found.samples);
+    answer_number(answer)
+}
+
+// The number of an idle turn, over all of the refusals'.
+const IDLE: usize = 1001;
+
+// The number that a turn crosses as.
+fn told_number(told: Told) -> usize
+    ensures { λ r. ⌜ r ≡ toldNumber told ⌝ }
+{
+    let service = told.service;
+    let answer = told.answer;
+    match service {
+        Service::Short => answer_number(answer),
+        Service::Idle => IDLE,
+        Service::Step => answer_number(answer),
+    }
+}
+
+// Clears an engine's memory: no screen holds a job, and none was served.
+#[no_mangle]
+pub extern "C" fn delvouzh_engine_clear(engine_counts: &mut [usize]) -> usize
+    ensures { λ r. ⌜ ClearCall (now («engine_counts» .entry)) r (now («engine_counts» .exit)) ⌝ }
+{
+    if engine_counts.len() < ENGINE_COUNTS {
+        return NO_FORM;
+    }
+    lent_engines::clear(engine_counts);
+    0
+}
+
+// Submits a set to a screen, 1 to 8, of the engine there: 0 where its job is taken; else nothing changes. Writes two values of a refusal.
+#[no_mangle]
+pub extern "C" fn delvouzh_engine_submit(
+    screen: usize,
+    limit: usize,
+    count: usize,
+    planform: usize,
+    lengths: &[f64],
+    section: usize,
+    tab: usize,
+    density: usize,
+    figures: &[f64],
+    fillet: usize,
+    glue: &[f64],
+    engine_numbers: &mut [f64],
+    engine_counts: &mut [usize],
+    values: &mut [usize],
+) -> usize
+    ensures { λ r. ⌜ SubmitCall (now («engine_numbers» .entry)) (now («engine_counts» .entry)) screen
+        (crossedSet count planform (now (lengths .entry)) section tab density (now (figures .entry)) fillet (now (glue .entry))) (now (lengths .entry)) limit
+        (now (values .entry)) r (now («engine_numbers» .exit)) (now («engine_counts» .exit)) (now (values .exit)) ⌝ }
+{
+    if engine_numbers.len() < ENGINE_NUMBERS {
+        return NO_FORM;
+    }
+    if engine_counts.len() < ENGINE_COUNTS {
+        return NO_FORM;
+    }
+    if values.len() < 2 {
+        return NO_FORM;
+    }
+    let asked = foreign_numbers::crossed_set(
+        count,
+        planform,
+        lengths,
+        section,
+        tab,
+        density,
+        figures,
+        fillet,
+        glue,
+    );
+    let NumberedSet::Known(set) = asked else {
+        foreign_numbers::write_values(values, Verdict::Refused(Refusal::NoForm));
+        return NO_FORM;
+    };
+    let answer = lent_engines::submit(engine_numbers, engine_counts, screen, set, lengths, limit);
+    let found = answer.figures;
+    let verdict = found.verdict;
+    foreign_numbers::write_values(values, verdict);
+    answer_number(answer)
+}
+
+// One turn of the engine there, over a lent scratch of at least 1,024 numbers: 1001 where no screen holds a job, 1000 where more strips remain of the job
+// served, else the figures or the refusal that it has ended with. Writes the body's numbers, the counts, and behind them the screen served, or 0.
+#[no_mangle]
+pub extern "C" fn delvouzh_engine_turn(
+    engine_numbers: &mut [f64],
+    engine_counts: &mut [usize],
+    scratch: &mut [f64],
+    body: &mut [f64],
+    counts: &mut [usize],
+) -> usize
+    ensures { λ r. ⌜ TurnCall (now («engine_numbers» .entry)) (now («engine_counts» .entry))
+        (now (scratch .entry)) (now (body .entry)) (now (counts .entry))
+        r (now («engine_numbers» .exit)) (now («engine_counts» .exit)) (now (scratch .exit)) (now (body .exit)) (now (counts .exit)) ⌝ }
+{
+    if engine_numbers.len() < ENGINE_NUMBERS {
+        return NO_FORM;
+    }
+    if engine_counts.len() < ENGINE_COUNTS {
+        return NO_FORM;
+    }
+    if body.len() < BODY_NUMBERS {
+        return NO_FORM;
+    }
+    if counts.len() < 5 {
+        return NO_FORM;
+    }
+    let told = lent_engines::turn(engine_numbers, engine_counts, scratch);
+    let answer = told.answer;
+    let found = answer.figures;
+    let verdict = found.verdict;
+    let of_job = found.body;
+    joins::write_body(body, 0, of_job);
+    foreign_numbers::write_counts(counts, verdict, found.intervals, found.samples);
+    counts[4] = told.screen;
+    told_number(told)
+}
+
+// Another density for the job of a screen: 0 where it is taken, or 12. Writes the counts, with 12 the samples so far.
+#[no_mangle]
+pub extern "C" fn delvouzh_engine_change_density(
+    engine_numbers: &mut [f64],
+    engine_counts: &mut [usize],
+    screen: usize,
+    density: usize,
+    figure: f64,
+    counts: &mut [usize],
+) -> usize
+    ensures { λ r. ⌜ DensityCall (now («engine_numbers» .entry)) (now («engine_counts» .entry)) (numberedDensity density figure) screen (now (counts .entry))
+        r (now («engine_numbers» .exit)) (now («engine_counts» .exit)) (now (counts .exit)) ⌝ }
+{
+    if engine_numbers.len() < ENGINE_NUMBERS {
+        return NO_FORM;
+    }
+    if engine_counts.len() < ENGINE_COUNTS {
+        return NO_FORM;
+    }
+    if counts.len() < 4 {
+        return NO_FORM;
+    }
+    let asked = materials::numbered_density(density, figure);
+    let NumberedDensity::Known(density) = asked else {
+        foreign_numbers::write_counts(counts, Verdict::Refused(Refusal::NoForm), 0, 0);
+        return NO_FORM;
+    };
+    let answer = lent_engines::change_density(engine_numbers, engine_counts, screen, density);
+    let found = answer.figures;
+    let verdict = found.verdict;
+    foreign_numbers::write_counts(counts, verdict, found.intervals, found.samples);
+    answer_number(answer)
+}
+
+// The answer to a line of docs/FORMS.md, a refusal's text too, over the engine that is lent: writes its bytes, and how many they are.
+#[no_mangle]
+pub extern "C" fn delvouzh_answer_line(
+    line: &[u8],
+    scratch: &mut [f64],
+    engine_numbers: &mut [f64],
+    engine_counts: &mut [usize],
+    answer: &mut [u8],
+    written: &mut [usize],
+) -> usize
+    ensures { λ r. ⌜ LineCall (now (line .entry))
+        (lentIn (now (scratch .entry)) (now («engine_numbers» .entry)) (now («engine_counts» .entry)))
+        (now (answer .entry)) (now (written .entry))
+        r (lentIn (now (scratch .exit)) (now («engine_numbers» .exit)) (now («engine_counts» .exit)))
+        (now (answer .exit)) (now (written .exit)) ⌝ }
+{
+    if engine_numbers.len() < ENGINE_NUMBERS {
+        return NO_FORM;
+    }
+    if engine_counts.len() < ENGINE_COUNTS {
+        return NO_FORM;
+    }
+    if answer.len() < ANSWER_BYTES {
+        return NO_FORM;
+    }
+    if written.len() < 1 {
+        return NO_FORM;
+    }
+    written[0] = lines::answer_line(line, scratch, engine_numbers, engine_counts, answer, 0);
+    0
+}
