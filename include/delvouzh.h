@@ -1,4 +1,6 @@
-/* Fin figures that are proved: the functions of libexports.a, which `rt staticlib exports` writes (x86-64 Linux).
+/* Fin figures that are proved: the functions of two static libraries (x86-64 Linux), which `rt staticlib exports` and `rt staticlib screen_exports` write.
+ * libexports.a has the calls on numbers alone, libscreen_exports.a those of a kiosk's screens; below each call stands under its library. Either may
+ * be linked alone; both together: cc main.c -lscreen_exports -lexports.
  *
  * Lengths are metres, angles radians, figures f64. Every function but delvouzh_sqrt and delvouzh_most_samples returns 0, a step of a job also
  * DELVOUZH_MORE, a turn of an engine also DELVOUZH_MORE or DELVOUZH_IDLE, or the number of a refusal:
@@ -95,10 +97,10 @@ extern "C" {
 /* The bytes of an answer to a line: no answer has more. */
 #define DELVOUZH_ANSWER 320
 
-/* The bytes of stack that are enough for any call. The longest chain of frames in the library's code takes half of them: tests/header. */
+/* The bytes of stack that are enough for any call. The longest chain of frames in the libraries' code takes half of them: tests/header. */
 #define DELVOUZH_STACK 98304
 
-/* ---- libexports.a */
+/* ---- libexports.a: calls on numbers alone */
 
 /* A set's figures. `figures`: thickness, cant, base angle, body radius, density; with a tab also its height, length and offset. `glue`: of a
  * fillet its radius and density.
@@ -169,7 +171,7 @@ size_t delvouzh_check(const double *body, size_t body_len, size_t *values, size_
 /* The square root: the nearest f64. */
 double delvouzh_sqrt(double x);
 
-/* ---- libscreen_exports.a: what a kiosk's screens use */
+/* ---- libscreen_exports.a: the calls of a kiosk's screens. Each library has its own copy of what both use, so that a whole run is as fast as it can be. */
 
 /* A job: a set as delvouzh_mass_properties takes it, worked one strip a step, so that its density can still be changed. It lies in `job_numbers`
  * and `job_counts`, which are lent to every call on it as the one before left them, and keeps its own copy of the outline. A copy of both is a

@@ -1,4 +1,5 @@
-//! Links libexports.a from DELVOUZH_LIB, by default target/staticlib of the repository, where `rt staticlib exports` writes it.
+//! Links libexports.a and libscreen_exports.a from DELVOUZH_LIB, by default target/staticlib of the repository, where `rt staticlib exports` and
+//! `rt staticlib screen_exports` write them.
 use std::path::PathBuf;
 
 fn main() {
@@ -6,15 +7,17 @@ fn main() {
         || PathBuf::from(env!("CARGO_MANIFEST_DIR")).join("../target/staticlib"),
         PathBuf::from,
     );
-    let archive = folder.join("libexports.a");
     println!("cargo:rerun-if-env-changed=DELVOUZH_LIB");
-    println!("cargo:rerun-if-changed={}", archive.display());
-    if !archive.is_file() {
-        println!(
-            "cargo:warning={} is not there: run `rt staticlib exports`",
-            archive.display()
-        );
-    }
     println!("cargo:rustc-link-search=native={}", folder.display());
-    println!("cargo:rustc-link-lib=static=exports");
+    for name in ["screen_exports", "exports"] {
+        let archive = folder.join(format!("lib{name}.a"));
+        println!("cargo:rerun-if-changed={}", archive.display());
+        if !archive.is_file() {
+            println!(
+                "cargo:warning={} is not there: run `rt staticlib {name}`",
+                archive.display()
+            );
+        }
+        println!("cargo:rustc-link-lib=static={name}");
+    }
 }

@@ -1,4 +1,4 @@
-/* What a C program gets from the static library: each call with figures and refused, what is left alone where there is no room, the
+/* What a C program gets from the static libraries: each call with figures and refused, what is left alone where there is no room, the
  * scratch, threads, and the stack. tests/header compiles it, as C and as C++; it prints what does not hold, and exits with 1 then. */
 #define _XOPEN_SOURCE 700
 #include <fenv.h>

@@ -1,6 +1,6 @@
-//! Fin figures that are proved: safe calls of the static library `libexports.a`, whose functions include/delvouzh.h declares.
+//! Fin figures that are proved: safe calls of the static libraries `libexports.a` and `libscreen_exports.a`, whose functions include/delvouzh.h declares.
 //!
-//! The library is proved against its contracts; this crate only hands over numbers and slices, and is not proved. Lengths are metres,
+//! The libraries are proved against their contracts; this crate only hands over numbers and slices, and is not proved. Lengths are metres,
 //! angles radians. Calls keep nothing but what a `Job` or an `Engine` holds, and may run on several threads; the floating-point environment has to be the one that a process
 //! starts with (rounding to nearest, no flushing to zero), and a call needs the stack that include/delvouzh.h names.
 
