@@ -97,7 +97,7 @@ extern "C" {
 /* The bytes of an answer to a line: no answer has more. */
 #define DELVOUZH_ANSWER 320
 
-/* The bytes of stack that are enough for any call. The longest chain of frames in the libraries' code takes half of them: tests/header. */
+/* The bytes of stack that are enough for any call. The longest chain of frames in the libraries' code takes a little over half of them: tests/header. */
 #define DELVOUZH_STACK 98304
 
 /* ---- libexports.a: calls on numbers alone */
