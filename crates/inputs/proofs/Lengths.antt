@@ -1,11 +1,12 @@
 -- How long replies are: no more than 321 bytes for each byte of an input, and one at least where there is a byte. Assumes nothing.
 use mathlib.Core.List.{List, [], _∷_, _++_}
 use mathlib.Core.Bool.{Bool, true, false, cond}
-use mathlib.Core.Path.{_≡_, refl}
-use Prim.Native.Nat.{ℕ, _+_, _*_, _<_, _≤_}
+use mathlib.Core.Path.{_≡_, refl, ap, _∙_}
+use Prim.Native.Nat.{ℕ, _+_, _-_, _*_, _<_, _≤_}
 use native.Mathlib.Omega.{arith}
 use lib.Dec.{eqb, leb}
-use lib.ListN.{length, length-append}
+use lib.ListN.{length, take, drop, length-append}
+use lib.Seq.{take-add}
 use Rattle.refusals.specs.declared.Refusal.the-variants.{NoForm}
 use Rattle.refusals.specs.Refusals.{numberOf}
 use Rattle.tokens.specs.Tokens.{lineBytes}
@@ -13,7 +14,8 @@ use Rattle.answers.specs.Answers.{answerBytes, refusedText}
 use Rattle.answers.proofs.Lengths.{refused-short}
 use Rattle.lines.specs.Lines.{Memory, answerOf}
 use Rattle.lines.proofs.Short.{answer-short}
-use Rattle.inputs.specs.Inputs.{replyBytes, linesWithin, begunAfter, lastLine, linesOf, reply, leftByLine, replies, repliesTo}
+use Rattle.inputs.specs.Inputs.{replyBytes, linesWithin, begunAfter, lastLine, linesOf, reply, leftByLine, leftByLines, replies, repliesTo}
+use Rattle.inputs.proofs.Lines.{lines-twice, replies-append}
 
 one-short : (line : List ℕ) (m : Memory) → length (reply line m) ≤ replyBytes
 unfolding reply
@@ -56,6 +58,17 @@ within-short begun bytes m = let a = all-short (linesWithin begun bytes) m in le
 
 pub last-short : (begun : List ℕ) (m : Memory) → length (replies (lastLine begun) m) ≤ replyBytes
 last-short begun m = let a = all-short (lastLine begun) m in let f = few-last begun in omega arith
+
+-- the replies to the first bytes are no longer than those to more of them
+pub grow : (begun bytes : List ℕ) (m : Memory) (j i : ℕ) → j ≤ i → length (replies (linesWithin begun (take j bytes)) m) ≤ length (replies (linesWithin begun (take i bytes)) m)
+grow begun bytes m j i h =
+    let a = take j bytes in let b = take (i - j) (drop j bytes) in
+    let sum : i ≡ j + (i - j) = omega arith in
+    let e : take i bytes ≡ a ++ b = ap (λ (k : ℕ). take k bytes) sum ∙ take-add j (i - j) bytes in
+    let k = linesWithin (begunAfter begun a) b in
+    let l = replies-append (linesWithin begun a) k m in
+    let n = length-append (replies (linesWithin begun a) m) (replies k (leftByLines (linesWithin begun a) m)) in
+    rw (e, lines-twice begun a b, l) (omega arith)
 
 -- a line that has begun, or another byte, is a line at the end
 abbrev Some : List ℕ → List ℕ → Type 0
