@@ -66,7 +66,8 @@ pub extern "C" fn delvouzh_mass_properties(
     counts: &mut [usize],
 ) -> usize
     ensures { λ r. ⌜ SetCall
-        (crossedSet count planform (now (lengths .entry)) section tab density (now (figures .entry)) fillet (now (glue .entry))) (now (lengths .entry)) limit
+        (crossedSet count planform (now (lengths .entry)) section tab density (now (figures .entry)) fillet (now (glue .entry)))
+        (now (lengths .entry)) limit
         (now (scratch .entry)) (now (body .entry)) (now (counts .entry))
         r (now (scratch .exit)) (now (body .exit)) (now (counts .exit)) ⌝ }
 {

@@ -63,7 +63,8 @@ pub extern "C" fn delvouzh_job_make(
     values: &mut [usize],
 ) -> usize
     ensures { λ r. ⌜ MakeCall (now («job_numbers» .entry)) (now («job_counts» .entry))
-        (crossedSet count planform (now (lengths .entry)) section tab density (now (figures .entry)) fillet (now (glue .entry))) (now (lengths .entry)) limit
+        (crossedSet count planform (now (lengths .entry)) section tab density (now (figures .entry)) fillet (now (glue .entry)))
+        (now (lengths .entry)) limit
         (now (values .entry)) r (now («job_numbers» .exit)) (now («job_counts» .exit)) (now (values .exit)) ⌝ }
 {
     if job_numbers.len() < JOB_NUMBERS {
@@ -212,7 +213,8 @@ pub extern "C" fn delvouzh_engine_submit(
     values: &mut [usize],
 ) -> usize
     ensures { λ r. ⌜ SubmitCall (now («engine_numbers» .entry)) (now («engine_counts» .entry)) screen
-        (crossedSet count planform (now (lengths .entry)) section tab density (now (figures .entry)) fillet (now (glue .entry))) (now (lengths .entry)) limit
+        (crossedSet count planform (now (lengths .entry)) section tab density (now (figures .entry)) fillet (now (glue .entry)))
+        (now (lengths .entry)) limit
         (now (values .entry)) r (now («engine_numbers» .exit)) (now («engine_counts» .exit)) (now (values .exit)) ⌝ }
 {
     if engine_numbers.len() < ENGINE_NUMBERS {
@@ -293,7 +295,8 @@ pub extern "C" fn delvouzh_engine_change_density(
     figure: f64,
     counts: &mut [usize],
 ) -> usize
-    ensures { λ r. ⌜ DensityCall (now («engine_numbers» .entry)) (now («engine_counts» .entry)) (numberedDensity density figure) screen (now (counts .entry))
+    ensures { λ r. ⌜ DensityCall (now («engine_numbers» .entry)) (now («engine_counts» .entry))
+        (numberedDensity density figure) screen (now (counts .entry))
         r (now («engine_numbers» .exit)) (now («engine_counts» .exit)) (now (counts .exit)) ⌝ }
 {
     if engine_numbers.len() < ENGINE_NUMBERS {
