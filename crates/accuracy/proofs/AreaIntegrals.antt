@@ -132,7 +132,7 @@ module _ (root tip span sweep scale : Float) (B : Size) (g : Lengths root tip sp
   scaled : (j : ℕ) (v : Number) → IsNumber v → Under (j of B) v → Under (j of Bs) (v times σ)
   scaled j v i u = under-inverse j B v scale C i (g .scale-positive) u
 
-  moment-q-under : Under (10 of (Bs by Bs)) moment-q
+  pub moment-q-under : Under (10 of (Bs by Bs)) moment-q
   moment-q-under =
       let G = S plus (Tp less R) in
       let iG : IsNumber G = plus-is S (Tp less R) (Counts.value-is sweep) taper-is in

@@ -20,7 +20,7 @@ use Rattle.refusals.specs.declared.Verdict.{Verdict}
 use Rattle.refusals.specs.declared.Verdict.the-variants.{Accepted, Refused}
 use Rattle.planforms.specs.declared.Planform.{Planform}
 use Rattle.planforms.specs.declared.Planform.the-variants.{Trapezoid}
-use Rattle.planforms.specs.Planforms.{rootChordOf, spanOf}
+use Rattle.planforms.specs.Planforms.{spanOf}
 use Rattle.breaks.specs.Breaks.{breakHeights, oneStrip}
 use Rattle.breaks.proofs.Listed.{two-heights}
 use Rattle.chords.specs.Chords.{inSpan, trapezoidAt, endsAt, paired}
@@ -28,6 +28,7 @@ use Rattle.integrands.specs.Integrands.{scaleOf, sumsFrom, areaValues, areaThre
 use Rattle.integrands.specs.declared.Kind.the-variants.{Area as area}
 use Rattle.quadrature.specs.Rule.{halfWidth, minusSide, plusSide, weightedTo, kronrodWeight, sumOf, pieceOf, heightsOf}
 use Rattle.quadrature.specs.declared.Piece.{Piece}
+use Rattle.tolerance.proofs.Numbers.{at-tabulate}
 use Rattle.tolerance.specs.Bounds.{totalOf}
 use Rattle.halving.specs.Halving.{repeat, halving, verdictOf}
 use Rattle.halving.proofs.Outcomes.{outcome, kept, one-more}
@@ -87,12 +88,9 @@ same-sum (suc n) weight y z centre reach c m p =
     rw (same-sum n weight y z centre reach c (λ i l. m i (omega arith)) (λ i l. p i (omega arith)), m n (le-refl (suc n)), p n (le-refl (suc n)))
 
 -- ---- the totals of one piece
-pub total-one : (k : ℕ) → k < 3 → (f : Float → List Float) (a b : Float) (pieces : List Piece) → pieces ≡ pieceOf 3 f a b ∷ [] → totalOf pieces k ≡ bits 0 ⊕ halfWidth a b ⊗ sumOf kronrodWeight f a b k
+pub total-one : (w k : ℕ) → k < w → (f : Float → List Float) (a b : Float) (pieces : List Piece) → pieces ≡ pieceOf w f a b ∷ [] → totalOf pieces k ≡ bits 0 ⊕ halfWidth a b ⊗ sumOf kronrodWeight f a b k
 unfolding totalOf pieceOf
-total-one zero l f a b pieces e = rw e
-total-one (suc zero) l f a b pieces e = rw e
-total-one (suc (suc zero)) l f a b pieces e = rw e
-total-one (suc (suc (suc k))) l f a b pieces e = absurd (let z : ⊥ = omega arith in z)
+total-one w k l f a b pieces e = rw e (ap (λ (x : Float). bits 0 ⊕ x) (at-tabulate w (λ j. halfWidth a b ⊗ sumOf kronrodWeight f a b j) k l))
 
 -- ---- a halving that ends with one piece has the whole strip
 module _ (w : ℕ) (f : Float → List Float) (lower upper : Float) where

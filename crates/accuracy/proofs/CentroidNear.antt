@@ -70,6 +70,9 @@ own-fraction (inf s) i h = absurd i
 own-fraction (fin false m e) i h = value-fraction (fin false m e) i
 own-fraction (fin true m e) i h = shifted-fraction (m * up e) 0 0 (m * up e) (down e) (fractionOf (fin true m e)) (omega arith) (value-fraction (fin true m e) i)
 
+pub positive-fraction : (x : Float) → T (positive x) → IsFraction (number (num x) 0 (den x)) (fractionOf x)
+positive-fraction x p = own-fraction x (positive-finite x p) (Centroids.positive-not-below x p)
+
 -- a product of fractions not below 0
 pub product-fraction : (a c p e : ℕ) (v w : Fraction) → IsFraction (number a 0 c) v → IsFraction (number p 0 e) w → IsFraction (number (a * p) 0 (c * e)) (product v w)
 product-fraction a c p e v w h k = shifted-fraction (a * p) 0 (a * p + 0 * 0) (a * 0 + 0 * p) (c * e) (product v w) (none a p) (times-fraction (number a 0 c) (number p 0 e) v w h k)
@@ -77,11 +80,33 @@ product-fraction a c p e v w h k = shifted-fraction (a * p) 0 (a * p + 0 * 0) (a
     none : (a p : ℕ) → a * p + (a * 0 + 0 * p) ≡ 0 + (a * p + 0 * 0)
     none a p = omega arith
 
-sum-fraction : (a c p e : ℕ) (v w : Fraction) → IsFraction (number a 0 c) v → IsFraction (number p 0 e) w → IsFraction (number (a * e + p * c) 0 (c * e)) (sum v w)
+pub sum-fraction : (a c p e : ℕ) (v w : Fraction) → IsFraction (number a 0 c) v → IsFraction (number p 0 e) w → IsFraction (number (a * e + p * c) 0 (c * e)) (sum v w)
 sum-fraction a c p e v w h k = shifted-fraction (a * e + p * c) 0 (a * e + p * c) (0 * e + 0 * c) (c * e) (sum v w) (none (a * e) (p * c) c e) (plus-fraction (number a 0 c) (number p 0 e) v w h k)
   where
     none : (x y c e : ℕ) → x + y + (0 * e + 0 * c) ≡ 0 + (x + y)
     none x y c e = omega arith
+
+pub last-fraction : (root tip : Float) → T (finite root) → T (finite tip) → IsFraction (valueOf root plus number 2 0 1 times valueOf tip) (sum (fractionOf root) (product (pos 2 over 1) (fractionOf tip)))
+last-fraction root tip rf tf =
+    plus-fraction (valueOf root) (number 2 0 1 times valueOf tip) (fractionOf root) (product (pos 2 over 1) (fractionOf tip)) (value-fraction root rf)
+    (times-fraction (number 2 0 1) (valueOf tip) (pos 2 over 1) (fractionOf tip) (whole-fraction 2 1) (value-fraction tip tf))
+
+pub along-fraction : (root tip sweep : Float) → T (finite root) → T (finite tip) → T (finite sweep)
+    → IsFraction (((valueOf root times valueOf root plus valueOf root times valueOf tip) plus valueOf tip times valueOf tip) plus valueOf sweep times (valueOf root plus number 2 0 1 times valueOf tip)) (alongRoot root tip sweep)
+along-fraction root tip sweep rf tf wf =
+    let R = valueOf root in
+    let Tp = valueOf tip in
+    let r′ = value-fraction root rf in
+    let t′ = value-fraction tip tf in
+    let rr = product (fractionOf root) (fractionOf root) in
+    let rt = product (fractionOf root) (fractionOf tip) in
+    let tt′ = product (fractionOf tip) (fractionOf tip) in
+    let last = sum (fractionOf root) (product (pos 2 over 1) (fractionOf tip)) in
+    plus-fraction ((R times R plus R times Tp) plus Tp times Tp) (valueOf sweep times (R plus number 2 0 1 times Tp)) (sum (sum rr rt) tt′) (product (fractionOf sweep) last)
+    (plus-fraction (R times R plus R times Tp) (Tp times Tp) (sum rr rt) tt′
+    (plus-fraction (R times R) (R times Tp) rr rt (times-fraction R R (fractionOf root) (fractionOf root) r′ r′) (times-fraction R Tp (fractionOf root) (fractionOf tip) r′ t′))
+    (times-fraction Tp Tp (fractionOf tip) (fractionOf tip) t′ t′))
+    (times-fraction (valueOf sweep) (R plus number 2 0 1 times Tp) (fractionOf sweep) last (value-fraction sweep wf) (last-fraction root tip rf tf))
 
 module _ (root tip span sweep : Float) (points : List Float) (L : ℕ) (entry : List Float) (r : Area) (exit : List Float) (b d κ : ℕ) (g : AreaGiven root tip span sweep points L entry r exit)
     (one : r .intervals ≡ 1) (reach : Reach b d root tip sweep) (most : b ≤ 64 * d) where
@@ -107,7 +132,7 @@ module _ (root tip span sweep : Float) (points : List Float) (L : ℕ) (entry : 
       let a = span-above root tip span sweep points L entry r exit g in
       total-is root tip span sweep points L a k l
       ∙ ap (λ (x : Float). bits 0 ⊕ x)
-      (total-one k l (areaThree Shape points) (bits 0 ⊘ S) (span ⊘ S) (piecesOf (Strip root tip span sweep points L a)) (one-piece root tip span sweep points L entry r exit g one)
+      (total-one 3 k l (areaThree Shape points) (bits 0 ⊘ S) (span ⊘ S) (piecesOf (Strip root tip span sweep points L a)) (one-piece root tip span sweep points L entry r exit g one)
       ∙ ap (λ (x : Float). bits 0 ⊕ reachOf span S ⊗ x)
       (same-sum 7 kronrodWeight (λ h. at (areaThree Shape points h) k) y (centreOf span S) (reachOf span S) (there (centreOf span S) (c .centre))
       (λ i m. there (minusSide (centreOf span S) (reachOf span S) i) (c .minus-side i m)) (λ i m. there (plusSide (centreOf span S) (reachOf span S) i) (c .plus-side i m))))
@@ -144,28 +169,9 @@ module _ (root tip span sweep : Float) (points : List Float) (L : ℕ) (entry : 
       times-fraction (number 3 0 1) (R plus Tp) (pos 3 over 1) (sum (fractionOf root) (fractionOf tip)) (whole-fraction 3 1)
       (plus-fraction R Tp (fractionOf root) (fractionOf tip) (value-fraction root rf) (value-fraction tip tf))
 
-  last-fraction : IsFraction (R plus number 2 0 1 times Tp) (sum (fractionOf root) (product (pos 2 over 1) (fractionOf tip)))
-  last-fraction =
-      plus-fraction R (number 2 0 1 times Tp) (fractionOf root) (product (pos 2 over 1) (fractionOf tip)) (value-fraction root rf)
-      (times-fraction (number 2 0 1) Tp (pos 2 over 1) (fractionOf tip) (whole-fraction 2 1) (value-fraction tip tf))
-
-  along-fraction : IsFraction (((R times R plus R times Tp) plus Tp times Tp) plus valueOf sweep times (R plus number 2 0 1 times Tp)) (alongRoot root tip sweep)
-  along-fraction =
-      let r′ = value-fraction root rf in
-      let t′ = value-fraction tip tf in
-      let rr = product (fractionOf root) (fractionOf root) in
-      let rt = product (fractionOf root) (fractionOf tip) in
-      let tt′ = product (fractionOf tip) (fractionOf tip) in
-      let last = sum (fractionOf root) (product (pos 2 over 1) (fractionOf tip)) in
-      plus-fraction ((R times R plus R times Tp) plus Tp times Tp) (valueOf sweep times (R plus number 2 0 1 times Tp)) (sum (sum rr rt) tt′) (product (fractionOf sweep) last)
-      (plus-fraction (R times R plus R times Tp) (Tp times Tp) (sum rr rt) tt′
-      (plus-fraction (R times R) (R times Tp) rr rt (times-fraction R R (fractionOf root) (fractionOf root) r′ r′) (times-fraction R Tp (fractionOf root) (fractionOf tip) r′ t′))
-      (times-fraction Tp Tp (fractionOf tip) (fractionOf tip) t′ t′))
-      (times-fraction (valueOf sweep) (R plus number 2 0 1 times Tp) (fractionOf sweep) last (value-fraction sweep (reach .sweep-most .finite)) last-fraction)
-
   height-fraction : IsFraction (valueOf span times (R plus number 2 0 1 times Tp)) (inHeight root tip span)
   height-fraction =
-      times-fraction (valueOf span) (R plus number 2 0 1 times Tp) (fractionOf span) (sum (fractionOf root) (product (pos 2 over 1) (fractionOf tip))) (value-fraction span (positive-finite span span-positive)) last-fraction
+      times-fraction (valueOf span) (R plus number 2 0 1 times Tp) (fractionOf span) (sum (fractionOf root) (product (pos 2 over 1) (fractionOf tip))) (value-fraction span (positive-finite span span-positive)) (last-fraction root tip rf tf)
 
   value-at : (k : ℕ) → k < 3 → (y : Float → Float) → ((h : Float) → T (inSpan span (h ⊗ S)) → at (areaThree Shape points h) k ≡ y h)
       → S ⊗ valueFrom (bits 0) k (areaSeven Shape points L) ⊘ valueFrom (bits 0) 0 (areaSeven Shape points L)
@@ -210,7 +216,7 @@ module _ (root tip span sweep : Float) (points : List Float) (L : ℕ) (entry : 
               (within-fraction (κ * κ * b * three) (dx * C) (valueOf x times D) Nx (product (pos (κ * κ * b) over dx) (thrice root tip)) (product (fractionOf x) (thrice root tip)) (alongRoot root tip sweep)
               (mul-pos (mul-pos (reach .is-size) (pow-pos 34)) c) (Counts.times-is (valueOf x) D (Counts.value-is x) iD) (along-is root tip span sweep S b d N root-positive tip-not-below κ κ-most slender)
               (product-fraction (κ * κ * b) dx three C (pos (κ * κ * b) over dx) (thrice root tip) (whole-fraction (κ * κ * b) dx) thrice-number)
-              (times-fraction (valueOf x) D (fractionOf x) (thrice root tip) (value-fraction x xf) thrice-fraction) along-fraction
+              (times-fraction (valueOf x) D (fractionOf x) (thrice root tip) (value-fraction x xf) thrice-fraction) (along-fraction root tip sweep rf tf (reach .sweep-most .finite))
               (within-upto (Centroids.alongError root tip span sweep S b d N root-positive tip-not-below κ κ-most slender) ((κ * κ * b * three) per (dx * C)) (valueOf x times D) Nx
               (mul-pos (mul-pos (reach .is-size) (pow-pos 34)) (mul-pos (den-pos root) (den-pos tip))) (same (κ * κ * b * three) dx (den root * den tip))
               (along-near root tip span sweep S b d N root-positive tip-not-below κ κ-most slender)));

@@ -88,7 +88,7 @@ enough κ b d Np Dp Ns Ds Nr Dr N D E u h = le-of-mul-le-mul-right (go (mul-le-m
         → Np * Ds * (1 * (b * Ds)) * D * Dr ≤ κ * N * (Ns * Dp * (4 * (Ns * d))) * Dr
     go v w = let x = simp plain at v in let y = simp plain at w in simp plain (omega (arith, x, y))
 
-own-share : (y : Float) (n a c : ℕ) → T (positive y) → Under (n of (a per c)) (valueOf y) → num y * c ≤ n * a * den y
+pub own-share : (y : Float) (n a c : ℕ) → T (positive y) → Under (n of (a per c)) (valueOf y) → num y * c ≤ n * a * den y
 own-share nan n a c p u = absurd p
 own-share (inf z) n a c p u = absurd p
 own-share (fin true k e) n a c p u = absurd p
@@ -97,16 +97,16 @@ own-share (fin false k e) n a c p u = go (k * up e) (down e) (u .below)
     go : (N D : ℕ) → (N * 1 + 0 * D) * c ≤ (0 * D + 0 * 1) * c + n * a * (D * 1) → N * c ≤ n * a * D
     go N D h = omega arith
 
-range-low : (a c κ N D W Q : ℕ) → 0 < c → c ≤ a * Q → a * D ≤ κ * N * c → κ ≤ W → D ≤ N * (W * Q)
+pub range-low : (a c κ N D W Q : ℕ) → 0 < c → c ≤ a * Q → a * D ≤ κ * N * c → κ ≤ W → D ≤ N * (W * Q)
 range-low a c κ N D W Q C h u k = le-of-mul-le-mul-right (go (mul-le-mul-right D h) (mul-le-mul-right Q u) (mul-le-mul-right (N * c * Q) k)) C
   where
     go : c * D ≤ a * Q * D → a * D * Q ≤ κ * N * c * Q → κ * (N * c * Q) ≤ W * (N * c * Q) → D * c ≤ N * (W * Q) * c
     go x y z = let x' = simp sorted at x in let y' = simp sorted at y in let z' = simp sorted at z in simp sorted (omega (arith, x', y', z'))
 
-range-high : (a c N D W Q : ℕ) → 0 < c → a ≤ c * Q → N * c ≤ 41 * a * D → 41 ≤ W → N ≤ D * (W * Q)
-range-high a c N D W Q C h u k = le-of-mul-le-mul-right (go (mul-le-mul-right (41 * D) h) (mul-le-mul-right (c * Q * D) k)) C
+pub range-high : (n a c N D W Q : ℕ) → 0 < c → a ≤ c * Q → N * c ≤ n * a * D → n ≤ W → N ≤ D * (W * Q)
+range-high n a c N D W Q C h u k = le-of-mul-le-mul-right (go (mul-le-mul-right (n * D) h) (mul-le-mul-right (c * Q * D) k)) C
   where
-    go : a * (41 * D) ≤ c * Q * (41 * D) → 41 * (c * Q * D) ≤ W * (c * Q * D) → N * c ≤ D * (W * Q) * c
+    go : a * (n * D) ≤ c * Q * (n * D) → n * (c * Q * D) ≤ W * (c * Q * D) → N * c ≤ D * (W * Q) * c
     go x y = let x' = simp sorted at x in let y' = simp sorted at y in let u' = simp sorted at u in simp sorted (omega (arith, x', y', u'))
 
 along-size : (b d κ e Np Dp Ns Ds Nr Dr Nt Dt Q : ℕ) → e ≤ 2097152 * κ → b * Dr ≤ κ * Nr * d
@@ -248,7 +248,7 @@ module _ (root tip span sweep scale : Float) (b d : ℕ) (g : Lengths root tip s
         real = den-pos t0;
         least = subst (λ (x : ℕ). den t0 ≤ num t0 * x) (sym (pow-add 2 26 98)) (range-low a c κ (num t0) (den t0) (2 ^ 26) (2 ^ 98) (unit-ranges .real) (unit-ranges .least) t0-least κ-most);
         most = subst (λ (x : ℕ). num t0 ≤ den t0 * x) (sym (pow-add 2 26 98))
-            (range-high a c (num t0) (den t0) (2 ^ 26) (2 ^ 98) (unit-ranges .real) (unit-ranges .most)
+            (range-high 41 a c (num t0) (den t0) (2 ^ 26) (2 ^ 98) (unit-ranges .real) (unit-ranges .most)
             (own-share t0 41 a c t0-positive (Counts.sized (totalError 170 5 0) 40 U0 t0 T0 (unit-ranges .real) (w .is) (omega arith) (w .near) (w .size))) (omega arith));
       }
 

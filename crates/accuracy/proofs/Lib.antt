@@ -29,5 +29,8 @@ pub mod Centroids
 pub mod CentroidNear
 pub mod PlateSamples
 pub mod PlateIntegrals
+pub mod PlateMoments
 pub mod SetCalled
 pub mod MassNear
+pub mod Turned
+pub mod BalanceNear

@@ -7,7 +7,7 @@ use mathlib.Core.List.{List, [], _∷_}
 use Prim.Native.Nat.{ℕ, _*_, _^_, _≤_}
 use native.Mathlib.Nat.{mul-pos, le-refl, mul-le-mul-right, le-of-mul-le-mul-right, one-mul, mul-one, zero-mul, mul-zero, zero-add, add-zero}
 use native.Mathlib.Omega.{arith}
-use lib.Dec.{T}
+use lib.Dec.{T, lit≤}
 use lib.ListN.{length}
 use lib.Pow.{pow-pos}
 use lib.IntN.{pos}
@@ -44,9 +44,7 @@ use Rattle.sections.specs.declared.Section.the-variants.{Square}
 use Rattle.chords.specs.Chords.{inSpan}
 use Rattle.integrands.specs.Integrands.{scaleOf, plateOf}
 use Rattle.integrands.proofs.Scales.{Scale, scale-sized}
-use Rattle.quadrature.specs.Rule.{halfWidth, minusSide, plusSide, kronrodWeight, sumOf, pieceOf}
-use Rattle.quadrature.specs.declared.Piece.{Piece}
-use Rattle.tolerance.specs.Bounds.{totalOf}
+use Rattle.quadrature.specs.Rule.{minusSide, plusSide, kronrodWeight, pieceOf}
 use Rattle.strips.specs.Strips.{Worked, stripOf, piecesOf, valueFrom, intervalsIn}
 use Rattle.joins.specs.Joins.{inOrder}
 use Rattle.fins.specs.declared.FinSet.{FinSet}
@@ -68,10 +66,10 @@ use Rattle.accuracy.proofs.Limits.{ranges-of, lengths, most-under}
 use Rattle.accuracy.proofs.Areas.{all-have-chords}
 use Rattle.accuracy.proofs.ChordEnds as Chord
 use Rattle.accuracy.proofs.AreaSamples as Area
-use Rattle.accuracy.proofs.Called.{one-strip, heights-are, only-piece, same-sum}
+use Rattle.accuracy.proofs.Called.{one-strip, heights-are, only-piece, same-sum, total-one}
 use Rattle.accuracy.proofs.Near.{positive-above}
-use Rattle.accuracy.proofs.Centroids.{NotBelow, positive-not-below}
-use Rattle.accuracy.proofs.CentroidNear.{not-below, tip-checked, own-fraction, product-fraction}
+use Rattle.accuracy.proofs.Centroids.{NotBelow}
+use Rattle.accuracy.proofs.CentroidNear.{not-below, tip-checked, positive-fraction, product-fraction}
 use Rattle.accuracy.proofs.PlateSamples.{centre-positive, minus-positive, plus-positive}
 use Rattle.accuracy.proofs.PlateIntegrals.{plateAt, volumeTotal, wholeUnit, slab-valued, no-slab, massesTo, masses-valued, massUnit, mass-ranges}
 use Rattle.accuracy.proofs.SetCalled.{Given, set-given, plate-there}
@@ -96,11 +94,6 @@ density-checked x h w = elim (or-yes (eq x (bits 0)) (isWithin lightest heaviest
     high : (N D : ℕ) → N * 1 ≤ 2 ^ 15 * D → N ≤ D * 2 ^ 24
     high N D h = omega arith
 
--- ---- the total of the one strip's one piece
-total-one : (f : Float → List Float) (a b : Float) (pieces : List Piece) → pieces ≡ pieceOf 7 f a b ∷ [] → totalOf pieces 0 ≡ bits 0 ⊕ halfWidth a b ⊗ sumOf kronrodWeight f a b 0
-unfolding totalOf pieceOf
-total-one f a b pieces e = rw e
-
 module _ (p : Plate) (m : Mount) (points : List Float) (L : ℕ) (entry : List Float) (r : Figures) (exit : List Float) (b d y e : ℕ) (g : SetGiven p m points L entry r exit) (one : r .intervals ≡ 1)
     (x : Extents p b d y e) where
   abbrev reach : Reach b d (p .root) (p .tip) (p .sweep)
@@ -115,44 +108,44 @@ module _ (p : Plate) (m : Mount) (points : List Float) (L : ℕ) (entry : List F
   abbrev S : Float
   S = scaleOf Shape points
 
-  abbrev set : FinSet
+  abbrev pub set : FinSet
   set = setOf p m
 
-  figures : Given p m points L (length entry) r
+  pub figures : Given p m points L (length entry) r
   figures = set-given p m points L (length entry) r (g .answers .figures) (g .given) (g .no-fillet)
 
-  checks : AcceptedSet set points L (length entry)
+  pub checks : AcceptedSet set points L (length entry)
   checks = set-accepted set points L (length entry) (figures .accepted)
 
-  lengths-sized : Sized Shape points
+  pub lengths-sized : Sized Shape points
   lengths-sized = planform-sized Shape points (g .f64s) (checks .planform)
 
-  scaled : Scale S
+  pub scaled : Scale S
   scaled = scale-sized Shape points lengths-sized
 
-  N : Lengths (p .root) (p .tip) (p .span) (p .sweep) S (b per d)
+  pub N : Lengths (p .root) (p .tip) (p .span) (p .sweep) S (b per d)
   N =
       lengths (p .root) (p .tip) (p .span) (p .sweep) S b d (reach .is-size) most (lengths-sized .0) (lengths-sized .1 .1 .0) scaled (reach .root-most) (reach .tip-most) (reach .sweep-most)
 
-  root-positive : T (positive (p .root))
+  pub root-positive : T (positive (p .root))
   root-positive = positive-of (p .root) 20 (lengths-sized .0 .not-minus) (lengths-sized .0 .above)
 
-  thick : PositiveLength (p .thickness)
+  pub thick : PositiveLength (p .thickness)
   thick = field-above thicknessField (p .thickness) (g .thickness-f64) (checks .thickness) refl refl
 
-  thick-positive : T (positive (p .thickness))
+  pub thick-positive : T (positive (p .thickness))
   thick-positive = positive-of (p .thickness) 20 (thick .not-minus) (thick .above)
 
-  thick-ranges : Ranges 24 (sizeOf (p .thickness))
+  pub thick-ranges : Ranges 24 (sizeOf (p .thickness))
   thick-ranges = ranges-of (p .thickness) 6 20 (omega arith) (omega arith) (thick .length .below) (thick .above)
 
-  heavy : T (positive (p .density)) × Ranges 24 (sizeOf (p .density))
+  pub heavy : T (positive (p .density)) × Ranges 24 (sizeOf (p .density))
   heavy = density-checked (p .density) (checks .density) (g .heavy)
 
-  tip-not-below : NotBelow (valueOf (p .tip))
+  pub tip-not-below : NotBelow (valueOf (p .tip))
   tip-not-below = not-below (p .tip) (reach .tip-most .finite) (tip-checked (p .root) (p .tip) (p .span) (p .sweep) points (g .f64s .1 .0) (checks .planform))
 
-  slender : b * den (p .root) ≤ 2 ^ 26 * num (p .root) * d
+  pub slender : b * den (p .root) ≤ 2 ^ 26 * num (p .root) * d
   slender = go (num (p .root)) (den (p .root)) (mul-le-mul-right (64 * d) (lengths-sized .0 .above .size)) (mul-le-mul-right (den (p .root)) most)
     where
       go : (n e : ℕ) → 1 * e * (64 * d) ≤ n * 2 ^ 20 * (64 * d) → b * e ≤ 64 * d * e → b * e ≤ 2 ^ 26 * n * d
@@ -170,36 +163,36 @@ module _ (p : Plate) (m : Mount) (points : List Float) (L : ℕ) (entry : List F
   span-above : lt (bits 0) (p .span) ≡ true
   span-above = positive-above (p .span) (N .span-positive)
 
-  abbrev Strip : Worked
+  abbrev pub Strip : Worked
   Strip = stripOf 7 f L (bits 0 ⊘ S) (p .span ⊘ S)
 
-  strips-are : setStrips set points L ≡ Strip ∷ []
+  pub strips-are : setStrips set points L ≡ Strip ∷ []
   strips-are =
       rw (heights-are (p .root) (p .tip) (p .span) (p .sweep) points L span-above) (one-strip (p .root) (p .tip) (p .span) (p .sweep) points L span-above 7 f L S (bits 0) (p .span))
 
   apart : eq (bits 0 ⊘ S) (p .span ⊘ S) ≡ false
   apart = ends-differ (p .span) S (N .span-positive) (N .scale-positive) (in-range 48 _ (omega arith) (Chord.height-ranges (p .root) (p .tip) (p .span) (p .sweep) S (b per d) N))
 
-  one-piece : piecesOf Strip ≡ pieceOf 7 f (bits 0 ⊘ S) (p .span ⊘ S) ∷ []
+  pub one-piece : piecesOf Strip ≡ pieceOf 7 f (bits 0 ⊘ S) (p .span ⊘ S) ∷ []
   one-piece =
       only-piece 7 f (bits 0 ⊘ S) (p .span ⊘ S) L apart
       (subst (λ (x : Bool). cond x 1 (length (piecesOf Strip)) ≡ 1) apart (sym (add-zero _) ∙ ap intervalsIn (sym strips-are) ∙ sym (figures .intervals) ∙ one))
 
-  volume-total : valueFrom (bits 0) 0 (setStrips set points L) ≡ volumeTotal (p .root) (p .tip) (p .span) (p .sweep) S b d N (p .thickness) thick-positive thick-ranges
+  pub volume-total : valueFrom (bits 0) 0 (setStrips set points L) ≡ volumeTotal (p .root) (p .tip) (p .span) (p .sweep) S b d N (p .thickness) thick-positive thick-ranges
   volume-total =
       let c = all-have-chords (p .root) (p .tip) (p .span) (p .sweep) S (b per d) N in
       let u = centreOf (p .span) S in
       let v = reachOf (p .span) S in
       ap (valueFrom (bits 0) 0) strips-are
       ∙ ap (λ (x : Float). bits 0 ⊕ x)
-      (total-one f (bits 0 ⊘ S) (p .span ⊘ S) (piecesOf Strip) one-piece
+      (total-one 7 0 (lit≤ tt) f (bits 0 ⊘ S) (p .span ⊘ S) (piecesOf Strip) one-piece
       ∙ ap (λ (x : Float). bits 0 ⊕ v ⊗ x)
       (same-sum 7 kronrodWeight (λ h. at (f h) 0) z u v (there u (c .centre) (centre-positive (p .root) (p .tip) (p .span) (p .sweep) S b d N root-positive tip-not-below (2 ^ 26) (le-refl (2 ^ 26)) slender))
       (λ i k. there (minusSide u v i) (c .minus-side i k) (minus-positive (p .root) (p .tip) (p .span) (p .sweep) S b d N root-positive tip-not-below (2 ^ 26) (le-refl (2 ^ 26)) slender i k))
       (λ i k. there (plusSide u v i) (c .plus-side i k) (plus-positive (p .root) (p .tip) (p .span) (p .sweep) S b d N root-positive tip-not-below (2 ^ 26) (le-refl (2 ^ 26)) slender i k))))
 
   -- ---- the tab
-  yr : Ranges 24 (y per e)
+  pub yr : Ranges 24 (y per e)
   yr = record { real = x .is-size; least = deep-least; most = deep-most (x .outward-most) }
     where
       deep-least : e ≤ y * 2 ^ 24
@@ -214,7 +207,7 @@ module _ (p : Plate) (m : Mount) (points : List Float) (L : ℕ) (entry : List F
   abbrev Unit′ : Size
   Unit′ = wholeUnit (p .root) (p .tip) (p .span) (p .sweep) S b d N (p .thickness) thick-positive thick-ranges y e yr (x .span-most .size)
 
-  abbrev slabNumber : Tab → Number
+  abbrev pub slabNumber : Tab → Number
   slabNumber None = zeroNumber
   slabNumber (Slab height length offset) = (valueOf (p .thickness) times valueOf length) times valueOf height
 
@@ -235,7 +228,7 @@ module _ (p : Plate) (m : Mount) (points : List Float) (L : ℕ) (entry : List F
   abbrev slab : Float
   slab = volume (tabIntegralsOf (p .tab) (p .thickness) (m .radius))
 
-  sv : Valued slab (slabNumber (p .tab)) 24 4 Unit′
+  pub sv : Valued slab (slabNumber (p .tab)) 24 4 Unit′
   sv = slab-near (p .tab) (x .tab-within)
 
   mass-is :
@@ -268,16 +261,13 @@ module _ (p : Plate) (m : Mount) (points : List Float) (L : ℕ) (entry : List F
   abbrev X : Number
   X = number (m .count) 0 1 times (valueOf (p .density) times (valueOf (p .thickness) times (valueOf (p .span) times wide) plus slabNumber (p .tab)))
 
-  exact-fraction : IsFraction X (exactMass p m)
+  pub exact-fraction : IsFraction X (exactMass p m)
   exact-fraction =
       let both = sum (finVolume p) (tabVolume (p .tab) (p .thickness)) in
       times-fraction (number (m .count) 0 1) (valueOf (p .density) times (valueOf (p .thickness) times (valueOf (p .span) times wide) plus slabNumber (p .tab))) (pos (m .count) over 1)
       (product (fractionOf (p .density)) both) (whole-fraction (m .count) 1)
       (times-fraction (valueOf (p .density)) (valueOf (p .thickness) times (valueOf (p .span) times wide) plus slabNumber (p .tab)) (fractionOf (p .density)) both (value-fraction (p .density) df)
       (plus-fraction (valueOf (p .thickness) times (valueOf (p .span) times wide)) (slabNumber (p .tab)) (finVolume p) (tabVolume (p .tab) (p .thickness)) volume-fraction (slab-fraction (p .tab) (x .tab-within))))
-
-  own : (v : Float) → T (positive v) → IsFraction (number (num v) 0 (den v)) (fractionOf v)
-  own v q = own-fraction v (positive-finite v q) (positive-not-below v q)
 
   mass-size : (n Nd Dd Nk Dk Q : ℕ) → n * 14300 * (Nd * (1 * (Nk * (y * b)))) * (d * e * Q * (Dd * Dk)) ≤ n * (b * y) * (Nd * Nk) * (Dd * (4 * (Dk * (e * d))) * (Q * 4096))
   mass-size n Nd Dd Nk Dk Q = simp plain (omega arith)
@@ -299,7 +289,7 @@ module _ (p : Plate) (m : Mount) (points : List Float) (L : ℕ) (entry : List F
       (within-fraction A C (valueOf M) X (product (pos n over q) dw) (fractionOf M) (exactMass p m)
       (mul-pos (mul-pos (mul-pos (reach .is-size) (x .is-size)) (pow-pos 41)) (mul-pos (den-pos (p .density)) (den-pos (p .thickness)))) (Counts.value-is M) (v .is)
       (product-fraction n q (num (p .density) * num (p .thickness)) (den (p .density) * den (p .thickness)) (pos n over q) dw (whole-fraction n q)
-      (product-fraction (num (p .density)) (den (p .density)) (num (p .thickness)) (den (p .thickness)) (fractionOf (p .density)) (fractionOf (p .thickness)) (own (p .density) (heavy .0)) (own (p .thickness) thick-positive)))
+      (product-fraction (num (p .density)) (den (p .density)) (num (p .thickness)) (den (p .thickness)) (fractionOf (p .density)) (fractionOf (p .thickness)) (positive-fraction (p .density) (heavy .0)) (positive-fraction (p .thickness) thick-positive)))
       (value-fraction M (v .near .finite)) exact-fraction
       (within-upto ((m .count * 14300) roundoffs Y) (A per C) (valueOf M) X (Counts.roundoffs-is (m .count * 14300) Y (vr .real))
       (mass-size (m .count) (num (p .density)) (den (p .density)) (num (p .thickness)) (den (p .thickness)) (2 ^ 41)) (v .near .within)))

@@ -148,7 +148,7 @@ module _ (root tip span sweep : Float) (points : List Float) (L : ℕ) (entry : 
         figures-given .area
         ∙ ap (λ (x : Float). x ⊗ S ⊗ S)
         (total-is root tip span sweep points L span-above 0 (lit≤ tt)
-        ∙ ap (λ (x : Float). bits 0 ⊕ x) (total-one 0 (lit≤ tt) f l u (piecesOf (Strip root tip span sweep points L span-above)) (one-piece one) ∙ ap (λ (x : Float). bits 0 ⊕ halfWidth l u ⊗ x) same))
+        ∙ ap (λ (x : Float). bits 0 ⊕ x) (total-one 3 0 (lit≤ tt) f l u (piecesOf (Strip root tip span sweep points L span-above)) (one-piece one) ∙ ap (λ (x : Float). bits 0 ⊕ halfWidth l u ⊗ x) same))
 
     area-near : (m : b ≤ 64 * d) → r .intervals ≡ 1 → Near (r .«area_m2») (exactArea root tip span) ((1 per 2 ^ 44) by (sizeOf span by (b per d)))
     area-near m one =

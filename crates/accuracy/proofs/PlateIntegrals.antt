@@ -44,24 +44,24 @@ deeper b d y e Np Dp Nk Dk h = let x = simp plain at (mul-le-mul-left (4 * Nk * 
 fourfold : (b d y e Nk Dk : ℕ) → Nk * b * y * (4 * (Dk * (e * d))) ≤ 4 * (1 * (Nk * (y * b))) * (Dk * d * e)
 fourfold b d y e Nk Dk = simp plain (omega arith)
 
-in-quarters : {x : Float} {v : Number} (A Q : Size) → IsSize A → A upto (4 of Q) → Valued x v 6 1 A → Valued x v 24 4 Q
-in-quarters {x = x} {v = v} (a per c) (q per r) C l h =
+pub in-quarters : {x : Float} {v : Number} (k j : ℕ) (A Q : Size) → IsSize A → A upto (4 of Q) → Valued x v k j A → Valued x v (4 * k) (4 * j) Q
+in-quarters {x = x} {v = v} k j (a per c) (q per r) C l h =
     record {
       near = record {
         finite = h .near .finite;
-        within = within-upto (6 roundoffs (a per c)) (24 roundoffs (q per r)) (valueOf x) v (mul-pos C (pow-pos 53)) (six (2 ^ 53) l) (h .near .within);
+        within = within-upto (k roundoffs (a per c)) ((4 * k) roundoffs (q per r)) (valueOf x) v (mul-pos C (pow-pos 53)) (scaled (2 ^ 53) l) (h .near .within);
       };
-      size = within-upto (1 of (a per c)) (4 of (q per r)) v zeroNumber C (once l) (h .size);
+      size = within-upto (j of (a per c)) ((4 * j) of (q per r)) v zeroNumber C (once l) (h .size);
       is = h .is;
     }
   where
-    six : (P : ℕ) → a * r ≤ 4 * q * c → 6 * a * (r * P) ≤ 24 * q * (c * P)
-    six P u = let y = simp sorted at (mul-le-mul-left (6 * P) u) in simp sorted (omega (arith, y))
+    scaled : (P : ℕ) → a * r ≤ 4 * q * c → k * a * (r * P) ≤ 4 * k * q * (c * P)
+    scaled P u = let y = simp sorted at (mul-le-mul-left (k * P) u) in simp sorted (omega (arith, y))
 
-    once : a * r ≤ 4 * q * c → 1 * a * r ≤ 4 * q * c
-    once u = omega arith
+    once : a * r ≤ 4 * q * c → j * a * r ≤ 4 * j * q * c
+    once u = let y = simp sorted at (mul-le-mul-left j u) in simp sorted (omega (arith, y))
 
-one-more : (n : ℕ) (X : Number) → (number n 0 1 times X) plus X equals number (suc n) 0 1 times X
+pub one-more : (n : ℕ) (X : Number) → (number n 0 1 times X) plus X equals number (suc n) 0 1 times X
 one-more n (number p q e) = record { same = parts n p q e }
   where
     parts : (n p q e : ℕ)
@@ -237,7 +237,7 @@ module _ (root tip span sweep scale : Float) (b d : ℕ) (g : Lengths root tip s
     pub whole-ranges : Ranges 74 wholeUnit
     whole-ranges = ranges-by 2 72 quarter (sizeOf thickness by ((y per e) by (b per d))) quarter-ranges (ranges-by 24 48 (sizeOf thickness) ((y per e) by (b per d)) tr (ranges-by 24 24 (y per e) (b per d) yr (g .ranges)))
 
-    fin-valued : Valued (volumeTotal ⊗ cube scale) volumeNumber 12702 40 wholeUnit
+    pub fin-valued : Valued (volumeTotal ⊗ cube scale) volumeNumber 12702 40 wholeUnit
     fin-valued = resized unit wholeUnit (unit-ranges .real) (deeper b d y e (num span) (den span) (num thickness) (den thickness) deep) volume-valued
 
     -- a tab length long and height deep
@@ -248,7 +248,7 @@ module _ (root tip span sweep scale : Float) (b d : ℕ) (g : Lengths root tip s
         let Y = y per e in
         let K = sizeOf thickness in
         let kb : Ranges 48 (K by B) = ranges-by 24 24 K B tr (g .ranges) in
-        in-quarters (K by B by Y) wholeUnit (Counts.by-is (K by B) Y (kb .real) (yr .real)) (fourfold b d y e (num thickness) (den thickness))
+        in-quarters 6 1 (K by B by Y) wholeUnit (Counts.by-is (K by B) Y (kb .real) (yr .real)) (fourfold b d y e (num thickness) (den thickness))
         (times-valued {A = K by B} {B = Y} (kb .real) (yr .real) (in-range 72 (K by B by Y) (omega arith) (ranges-by 48 24 (K by B) Y kb yr)) tt
         (exact-times thickness 1 K (den-pos thickness) (g .ranges .real) (in-range 48 (K by B) (omega arith) kb) tt (positive-finite thickness tp) (Counts.own-size thickness tp) (exactly length 1 B lf ul))
         (exactly height 1 Y hf uh))

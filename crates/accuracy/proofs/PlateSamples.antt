@@ -53,7 +53,7 @@ lower-inside (number p n d) u = lower-parts p n d (u .below) (u .above)
 upper-inside : (x : Number) → Under (1016 of part) x → Inside (middle plus (middle times x))
 upper-inside (number p n d) u = upper-parts p n d (u .below) (u .above)
 
-not-below-plus : (x y : Number) → NotBelow x → NotBelow y → NotBelow (x plus y)
+pub not-below-plus : (x y : Number) → NotBelow x → NotBelow y → NotBelow (x plus y)
 not-below-plus (number p n d) (number q m e) h k = go (mul-le-mul-right e h) (mul-le-mul-right d k)
   where
     go : n * e ≤ p * e → m * d ≤ q * d → n * e + m * d ≤ p * e + q * d

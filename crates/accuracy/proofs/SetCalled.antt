@@ -6,7 +6,8 @@ use Prim.Native.Nat.{ℕ}
 use lib.Dec.{T}
 use lib.Ieee.{Float, lt, le, eq, ofBits}
 use lib.Ieee.Bits.{is-true}
-use Rattle.floats.specs.Operations.{_⊕_, _⊖_, _⊗_, _⊘_, bits, at}
+use Rattle.floats.specs.Operations.{_⊕_, _⊖_, _⊗_, _⊘_, bits, at, tabulate}
+use Rattle.floats.specs.Constants.{half}
 use Rattle.floats.specs.Floats.{cube}
 use Rattle.floats.proofs.Bools.{no}
 use Rattle.floats.proofs.Order.{le-not-below}
@@ -37,7 +38,7 @@ use Rattle.fillets.specs.Fillets.{isNone, filletsOf}
 use Rattle.sets.specs.Sets.{joinedFinsOf}
 use Rattle.fins.specs.declared.FinSet.{FinSet}
 use Rattle.fins.specs.Fins.{setCheck}
-use Rattle.plates.specs.Integrals.{volume, tabIntegralsOf}
+use Rattle.plates.specs.Integrals.{volume, unscaledOf, tabIntegralsOf, addIntegrals}
 use Rattle.plates.specs.Plates.{plateBody, withFillets, cantedOf, bulkFin, singleFinOf, integralsOf, pivotOf}
 use Rattle.figures.specs.Figures.{setStrips, workedFigures, setFigures, concludedSet, refusedFigures, joinedFigures}
 use Rattle.figures.specs.declared.Figures.{Figures}
@@ -72,6 +73,31 @@ plate-there root tip span sweep thickness radius points h t w =
     let s = scaleOf (Trapezoid root tip span sweep) points in
     moment-there (inSpan span (h ⊗ s)) root tip sweep (h ⊗ s ⊘ span) s h (thickness ⊘ s) (radius ⊘ s) (is-true _ t) (positive-over _ w)
 
+-- and its first moment along the root
+first-there : (x : Bool) (root tip sweep f scale h t q : Float) → x ≡ true → le ((sweep ⊗ f ⊕ root ⊕ (tip ⊖ root) ⊗ f) ⊘ scale ⊖ sweep ⊗ f ⊘ scale) (bits 0) ≡ false
+    → at (sumsFrom (plateKind Square t q) scale h (bits 0 ∷ bits 0 ∷ bits 0 ∷ bits 0 ∷ []) (paired (cond x (trapezoidAt root tip sweep f) []))) 1
+    ≡ bits 0
+    ⊕ half ⊗ t
+    ⊗ ((sweep ⊗ f ⊕ root ⊕ (tip ⊖ root) ⊗ f) ⊘ scale ⊗ ((sweep ⊗ f ⊕ root ⊕ (tip ⊖ root) ⊗ f) ⊘ scale) ⊖ sweep ⊗ f ⊘ scale ⊗ (sweep ⊗ f ⊘ scale))
+unfolding paired sumsFrom chordMoments
+first-there true root tip sweep f scale h t q e w = rw w
+first-there false root tip sweep f scale h t q e w = no (sym e)
+
+pub plate-first-there : (root tip span sweep thickness radius : Float) (points : List Float) (h : Float) → T (inSpan span (h ⊗ scaleOf (Trapezoid root tip span sweep) points))
+    → lt (bits 0) ((sweep ⊗ (h ⊗ scaleOf (Trapezoid root tip span sweep) points ⊘ span) ⊕ root ⊕ (tip ⊖ root) ⊗ (h ⊗ scaleOf (Trapezoid root tip span sweep) points ⊘ span)) ⊘ scaleOf (Trapezoid root tip span sweep) points
+    ⊖ sweep ⊗ (h ⊗ scaleOf (Trapezoid root tip span sweep) points ⊘ span) ⊘ scaleOf (Trapezoid root tip span sweep) points) ≡ true
+    → at (plateOf (Trapezoid root tip span sweep) points Square thickness radius h) 3
+    ≡ bits 0
+    ⊕ half ⊗ (thickness ⊘ scaleOf (Trapezoid root tip span sweep) points)
+    ⊗ ((sweep ⊗ (h ⊗ scaleOf (Trapezoid root tip span sweep) points ⊘ span) ⊕ root ⊕ (tip ⊖ root) ⊗ (h ⊗ scaleOf (Trapezoid root tip span sweep) points ⊘ span)) ⊘ scaleOf (Trapezoid root tip span sweep) points
+    ⊗ ((sweep ⊗ (h ⊗ scaleOf (Trapezoid root tip span sweep) points ⊘ span) ⊕ root ⊕ (tip ⊖ root) ⊗ (h ⊗ scaleOf (Trapezoid root tip span sweep) points ⊘ span)) ⊘ scaleOf (Trapezoid root tip span sweep) points)
+    ⊖ sweep ⊗ (h ⊗ scaleOf (Trapezoid root tip span sweep) points ⊘ span) ⊘ scaleOf (Trapezoid root tip span sweep) points
+    ⊗ (sweep ⊗ (h ⊗ scaleOf (Trapezoid root tip span sweep) points ⊘ span) ⊘ scaleOf (Trapezoid root tip span sweep) points))
+unfolding plateOf sampleOf endsAt
+plate-first-there root tip span sweep thickness radius points h t w =
+    let s = scaleOf (Trapezoid root tip span sweep) points in
+    first-there (inSpan span (h ⊗ s)) root tip sweep (h ⊗ s ⊘ span) s h (thickness ⊘ s) (radius ⊘ s) (is-true _ t) (positive-over _ w)
+
 -- ---- the answer
 pub record Given (p : Plate) (m : Mount) (points : List Float) (L n : ℕ) (r : Figures) : Type 0 where
   pub accepted : setCheck (setOf p m) points L n ≡ Accepted
@@ -99,6 +125,12 @@ fin-mass v fillets kgPerM3 cant pivot e =
     turned-mass (eq cant (bits 0)) (withFillets (plateBody v kgPerM3) fillets) _ refl
     ∙ ap (λ (x : Float). cond (eq x (bits 0)) (plateBody v kgPerM3) (joinOf (twoBodies (plateBody v kgPerM3) fillets) 2) .«mass_kg») e
     ∙ ap (λ (b : Bool). cond b (plateBody v kgPerM3) (joinOf (twoBodies (plateBody v kgPerM3) fillets) 2) .«mass_kg») zero-equal
+
+-- one fin with no fillets and no cant is the plate
+fin-body : (v : List Float) (fillets : Body) (kgPerM3 cant : Float) (pivot : Vector) → fillets .«mass_kg» ≡ bits 0 → eq cant (bits 0) ≡ true
+    → cantedOf (withFillets (plateBody v kgPerM3) fillets) cant pivot ≡ plateBody v kgPerM3
+unfolding cantedOf withFillets
+fin-body v fillets kgPerM3 cant pivot e c = rw (c, e, zero-equal)
 
 bulk-given : (v : List Float) (fillets : Body) (cant : Float) (pivot : Vector) (kgPerM3 : Float) → bulkFin v fillets cant pivot kgPerM3 .verdict ≡ Accepted
     → bulkFin v fillets cant pivot kgPerM3 .body ≡ cantedOf (withFillets (plateBody v kgPerM3) fillets) cant pivot
@@ -190,3 +222,16 @@ module _ (p : Plate) (m : Mount) (points : List Float) (L n : ℕ) (r : Figures)
             ap (λ (a : Figures). a .body .«mass_kg») (joined-chosen .1) ∙ ap (λ (x : Body). x .«mass_kg») (ring-given .1) ∙ ring-mass (one .body) (m .base) (m .count)
             ∙ ap (λ (x : Float). inOrder (λ x y. x ⊕ y) (bits 0) (λ k. x) (m .count)) (one-mass ∙ ap (λ (x : Float). p .density ⊗ x) volume-is);
       }
+
+  -- ---- and with no cant its centre: that of copies of the plate, turned and joined
+  abbrev pub integrals : List Float
+  integrals = addIntegrals (unscaledOf (tabulate 7 (λ k. valueFrom (bits 0) k strips)) scale) (tabIntegralsOf (p .tab) (p .thickness) (m .radius))
+
+  pub set-body : eq (m .cant) (bits 0) ≡ true → r .body ≡ joinedCopies (plateBody integrals (p .density)) (m .base) (m .count)
+  unfolding singleFinOf
+  set-body c =
+      ap (λ (a : Figures). a .body) (joined-chosen .1) ∙ ring-given .1
+      ∙ ap (λ (x : Body). joinedCopies x (m .base) (m .count))
+      (bulk-given (integralsOf set scale (total .value)) (filletsOf (m .fillet) (m .radius) root) (m .cant) (pivotOf (m .radius) root) (p .density) (ring-given .0)
+      ∙ fin-body (integralsOf set scale (total .value)) (filletsOf (m .fillet) (m .radius) root) (p .density) (m .cant) (pivotOf (m .radius) root) (no-fillets (m .fillet) (m .radius) root none) c
+      ∙ ap (λ (t : Totals). plateBody (integralsOf set scale (t .value)) (p .density)) totals-chosen)

@@ -1,3 +1,4 @@
 pub mod Areas
 pub mod Centroids
 pub mod Masses
+pub mod Balances

@@ -10,9 +10,9 @@ use lib.IntN.{ℤ, pos, negsuc, negℤ, subℕ, _+ℤ_, _*ℤ_}
 use lib.Signed.{_≤ℤ_}
 use lib.Ieee.{Float, nan, inf, fin, up}
 use lib.Ieee.Scale.{finite}
-use Rattle.floats.specs.Fractions.{Fraction, _over_, _plus_ as sum, _times_ as product, valueOf as fractionOf}
+use Rattle.floats.specs.Fractions.{Fraction, _over_, _plus_ as sum, minus as negated, _times_ as product, valueOf as fractionOf}
 use Rattle.rounding_error.specs.Distances.{_atMost_, Within as Near}
-use Rattle.rounding_error.proofs.Numbers.{Number, number, _per_, _plus_, _times_, _by_, IsNumber, Over, Within, valueOf}
+use Rattle.rounding_error.proofs.Numbers.{Number, number, _per_, _plus_, minus, _times_, _by_, IsNumber, Over, Within, valueOf}
 
 -- ---- z is p − n
 abbrev Stands : ℤ → ℕ → ℕ → Type 0
@@ -96,6 +96,10 @@ plus-fraction (number p n d) (number q m e) (z over b) (w over c) h i = (
 pub times-fraction : (x y : Number) (v w : Fraction) → IsFraction x v → IsFraction y w → IsFraction (x times y) (product v w)
 times-fraction (number p n d) (number q m e) (z over b) (w over c) h i =
     (ap (λ (t : ℕ). t * e) (h .0) ∙ ap (λ (t : ℕ). b * t) (i .0), product-stands z w p n q m (h .1) (i .1))
+
+pub minus-fraction : (x : Number) (v : Fraction) → IsFraction x v → IsFraction (minus x) (negated v)
+minus-fraction (number p n d) (pos k over c) h = (h .0, negative k n p (h .1))
+minus-fraction (number p n d) (negsuc k over c) h = (h .0, h .1)
 
 pub value-fraction : (x : Float) → T (finite x) → IsFraction (valueOf x) (fractionOf x)
 value-fraction nan i = absurd i

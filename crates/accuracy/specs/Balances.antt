@@ -1,0 +1,57 @@
+-- How near the balance point of a set of trapezoids is to the exact one, along the body's axis: square sections, with a tab or none, no fillet and no
+-- cant. The axis points forward from the leading edge of the root: what lies behind that has a coordinate below 0. Both sides are multiplied by the
+-- mass, as a fraction is divided by nothing here.
+use mathlib.Core.Path.{_≡_}
+use mathlib.Core.Bool.{true}
+use mathlib.Core.List.{List}
+use Prim.Native.Nat.{ℕ, _*_, _^_, _≤_}
+use lib.Dec.{T}
+use lib.IntN.{pos}
+use lib.Ieee.{Float, binary64, fits, eq}
+use Rattle.floats.specs.Operations.{bits}
+use Rattle.floats.specs.Fractions.{Fraction, _over_, _plus_, minus, _times_, valueOf}
+use Rattle.rounding.specs.Sizes.{AtMost, AtLeast}
+use Rattle.rounding_error.specs.Distances.{Within}
+use Rattle.fins.specs.declared.Tab.{Tab}
+use Rattle.fins.specs.declared.Tab.the-variants.{None, Slab}
+use Rattle.figures.specs.declared.Figures.{Figures}
+use Rattle.accuracy.specs.Centroids.{alongRoot}
+use Rattle.accuracy.specs.Masses.{Plate, Mount, SetGiven, exactMass, Extents}
+
+-- thickness·span·(root² + root·tip + tip² + sweep·(root + 2·tip))/6, and thickness·height·length·(offset + length/2) of a tab
+abbrev pub finMoment : Plate → Fraction
+finMoment p = valueOf (p .thickness) times (valueOf (p .span) times (alongRoot (p .root) (p .tip) (p .sweep) times (pos 1 over 6)))
+
+abbrev pub tabMoment : Tab → Float → Fraction
+tabMoment None thickness = pos 0 over 1
+tabMoment (Slab height length offset) thickness =
+    valueOf thickness times valueOf height times (valueOf length times (valueOf offset plus valueOf length times (pos 1 over 2)))
+
+-- count·density·moment
+abbrev pub exactMoment : Plate → Mount → Fraction
+exactMoment p m = (pos (m .count) over 1) times (valueOf (p .density) times (finMoment p plus tabMoment (p .tab) (p .thickness)))
+
+-- height and length of a tab are f64s, and B = b / d is no less than its offset
+abbrev pub TabGiven : Tab → ℕ → ℕ → Type 0
+TabGiven None b d = Unit {0}
+TabGiven (Slab height length offset) b d = T (fits binary64 height) × (T (fits binary64 length) × AtMost b d offset)
+
+-- with no cant; B is at most κ root chords, Y = y / e at most ν spans
+pub record Straight (p : Plate) (m : Mount) (b d y e κ ν : ℕ) : Type 0 where
+  pub no-cant : eq (m .cant) (bits 0) ≡ true
+  pub radius-f64 : T (fits binary64 (m .radius))
+  pub tab-given : TabGiven (p .tab) b d
+  pub roots : AtLeast b (d * κ) (p .root)
+  pub spans : AtLeast y (e * ν) (p .span)
+  pub few : κ * ν ≤ 2 ^ 26
+
+-- where the strip is one piece: at most (κ·ν)²·2^-32·B from it
+abbrev pub OnePieceBalance : Type 0
+OnePieceBalance =
+    (p : Plate) (m : Mount) (points : List Float) (L : ℕ) (entry : List Float) (r : Figures) (exit : List Float) (b d y e κ ν : ℕ)
+    → SetGiven p m points L entry r exit
+    → r .intervals ≡ 1
+    → Extents p b d y e
+    → Straight p m b d y e κ ν
+    → Within ((pos (κ * ν * (κ * ν) * b) over (d * 2 ^ 32)) times exactMass p m)
+    (valueOf (r .body .«centre_m» .z) times exactMass p m) (minus (exactMoment p m))
