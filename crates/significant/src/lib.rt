@@ -214,7 +214,7 @@ fn of_bits(b: u64, n: usize) -> Significant
 }
 
 // x to n significant digits, its sign left out; of what is not finite, and of zero, none.
-pub fn significant_digits(x: f64, n: usize) -> Significant
+fn significant_digits(x: f64, n: usize) -> Significant
     requires { ⌜ (1 ≤ n) × (n ≤ 16) ⌝ }
     ensures { λ r. ⌜ (r .digits ≡ digitsOf n (decimalUnitsOf x)) × (r .place ≡ placeOf n (decimalUnitsOf x)) ⌝ }
 {
