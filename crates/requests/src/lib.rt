@@ -163,7 +163,7 @@ fn no_call() -> jobs::Answer
 }
 
 // Submits a set to a screen of a lent engine.
-pub fn submit_set(
+fn submit_set(
     numbers: &mut [f64],
     counts: &mut [usize],
     screen: usize,
@@ -189,7 +189,7 @@ pub fn submit_set(
 }
 
 // Changes the density of a screen's job.
-pub fn change_density(
+fn change_density(
     numbers: &mut [f64],
     counts: &mut [usize],
     screen: usize,
