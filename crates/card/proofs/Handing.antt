@@ -6,10 +6,13 @@ use Prim.Native.Nat.{ℕ, _+_, _^_, _<_}
 use native.Mathlib.Omega.{arith}
 use lib.ListN.{length, length-append}
 use Rattle.lines.specs.Lines.{Memory}
-use Rattle.inputs.specs.declared.State.{State}
-use Rattle.inputs.specs.Inputs.{linesWithin, begunAfter, lastLine, linesOf, replies, leftByLines}
-use Rattle.inputs.specs.States.{Keeps, Answered, TakesInto}
-use Rattle.inputs.proofs.Lines.{begun-twice, lines-twice, replies-append, left-append}
+use Rattle.input_lines.specs.declared.State.{State}
+use Rattle.input_lines.specs.Lines.{linesWithin, begunAfter, lastLine, linesOf}
+use Rattle.input_lines.specs.Kept.{Keeps}
+use Rattle.input_lines.proofs.Cutting.{begun-twice, lines-twice}
+use Rattle.inputs.specs.Inputs.{replies, leftByLines}
+use Rattle.inputs.specs.States.{Answered, TakesInto}
+use Rattle.inputs.proofs.Lines.{replies-append, left-append}
 use Rattle.inputs.proofs.Taking as taking
 use Rattle.card.specs.Program.{atFirst, Due, HandsOn}
 

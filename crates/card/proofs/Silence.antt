@@ -7,7 +7,7 @@ use Prim.Native.Nat.{_<_}
 use native.Mathlib.Omega.{arith}
 use lib.ListN.{length}
 use Rattle.lines.specs.Lines.{Memory}
-use Rattle.inputs.specs.Inputs.{linesWithin, linesOf}
+use Rattle.input_lines.specs.Lines.{linesWithin, linesOf}
 use Rattle.inputs.specs.States.{Answered}
 use Rattle.inputs.proofs.Lengths.{some-replied}
 use Rattle.card.specs.declared.Ran.{Ran}

@@ -12,9 +12,11 @@ use Rattle.tokens.specs.Tokens.{lineBytes}
 use Rattle.lent_engines.specs.Memory.{engineNumbers, engineCounts}
 use Rattle.lent_engines.specs.Lent.{Room}
 use Rattle.lines.specs.Lines.{Memory, memoryIn}
-use Rattle.inputs.specs.Inputs.{replyBytes, linesWithin, begunAfter, linesOf, replies, repliesTo, leftByLines}
-use Rattle.inputs.specs.States.{Keeps, Answered, Takes}
-use Rattle.inputs.specs.declared.State.{State}
+use Rattle.input_lines.specs.declared.State.{State}
+use Rattle.input_lines.specs.Lines.{linesWithin, begunAfter, linesOf}
+use Rattle.input_lines.specs.Kept.{Keeps}
+use Rattle.inputs.specs.Inputs.{replyBytes, replies, repliesTo, leftByLines}
+use Rattle.inputs.specs.States.{Answered, Takes}
 use Rattle.card.specs.declared.Replied.{Replied}
 use Rattle.card.specs.declared.Turn.{Turn}
 use Rattle.card.specs.declared.Ran.{Ran}

@@ -10,7 +10,7 @@ ghost use Prim.Native.Nat.{_+_};
 ghost use lib.ListN.{length};
 ghost use Rattle.lines.specs.Lines.{memoryIn};
 ghost use Rattle.card.specs.Program.{atFirst, Lends, TakenSoFar, Due, Replies, Turns, Runs};
-use inputs::State;
+use input_lines::State;
 use lent_engines::ENGINE_COUNTS;
 use lent_engines::ENGINE_NUMBERS;
 use libc::STDERR_FILENO;
@@ -172,7 +172,7 @@ fn run(
         × (memoryIn (now scratch) (now «engine_numbers») (now «engine_counts») ≡ atFirst) ⌝ }
     ensures { λ r. ⌜ Runs (memoryIn (now (scratch .exit)) (now («engine_numbers» .exit)) (now («engine_counts» .exit))) r ⌝ }
 {
-    let mut state = inputs::no_line();
+    let mut state = input_lines::no_line();
     let mut read: usize = 0;
     let mut handed: usize = 0;
     let mut more = true;

@@ -7,9 +7,10 @@ use lib.ListN.{length, take, drop, take-append-drop}
 use lib.Seq.{drop-at, length-take-le}
 use Rattle.lines.specs.Lines.{Memory}
 use Rattle.texts.specs.Appended.{Appended}
-use Rattle.inputs.specs.declared.State.{State}
-use Rattle.inputs.specs.Inputs.{begunAfter, linesOf}
-use Rattle.inputs.specs.States.{Keeps, Answered, Takes, Finishes}
+use Rattle.input_lines.specs.declared.State.{State}
+use Rattle.input_lines.specs.Lines.{begunAfter, linesOf}
+use Rattle.input_lines.specs.Kept.{Keeps}
+use Rattle.inputs.specs.States.{Answered, Takes, Finishes}
 use Rattle.inputs.specs.Calls.{appendedIn, Calls, begins, reads, feeds}
 use Rattle.inputs.proofs.Taking.{none, then-answered, also}
 

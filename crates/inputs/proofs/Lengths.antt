@@ -14,8 +14,10 @@ use Rattle.answers.specs.Answers.{answerBytes, refusedText}
 use Rattle.answers.proofs.Lengths.{refused-short}
 use Rattle.lines.specs.Lines.{Memory, answerOf}
 use Rattle.lines.proofs.Short.{answer-short}
-use Rattle.inputs.specs.Inputs.{replyBytes, linesWithin, begunAfter, lastLine, linesOf, reply, leftByLine, leftByLines, replies, repliesTo}
-use Rattle.inputs.proofs.Lines.{lines-twice, replies-append}
+use Rattle.input_lines.specs.Lines.{linesWithin, begunAfter, lastLine, linesOf}
+use Rattle.input_lines.proofs.Cutting.{lines-twice}
+use Rattle.inputs.specs.Inputs.{replyBytes, reply, leftByLine, leftByLines, replies, repliesTo}
+use Rattle.inputs.proofs.Lines.{replies-append}
 
 one-short : (line : List ℕ) (m : Memory) → length (reply line m) ≤ replyBytes
 unfolding reply

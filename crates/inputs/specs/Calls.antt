@@ -4,8 +4,9 @@ use mathlib.Core.List.{List, [], _++_}
 use Prim.Native.Nat.{ℕ, _≤_}
 use lib.ListN.{length, take, drop}
 use Rattle.lines.specs.Lines.{Memory}
-use Rattle.inputs.specs.States.{Keeps, Feeds}
-use Rattle.inputs.specs.declared.State.{State}
+use Rattle.input_lines.specs.declared.State.{State}
+use Rattle.input_lines.specs.Kept.{Keeps}
+use Rattle.inputs.specs.States.{Feeds}
 use Rattle.inputs.specs.declared.Fed.{Fed}
 
 -- what stands in `out` from place n up to place w: what a call that was handed n, and answered w, appended

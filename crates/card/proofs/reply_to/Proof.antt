@@ -11,10 +11,12 @@ use lib.Seq.{length-take-le, take-all, take-add}
 use lib.Ieee.{Float}
 use Rattle.lent_engines.specs.Lent.{Room}
 use Rattle.lines.specs.Lines.{Memory, memoryIn}
-use Rattle.inputs.specs.declared.State.{State}
+use Rattle.input_lines.specs.declared.State.{State}
+use Rattle.input_lines.specs.Lines.{linesWithin, begunAfter}
+use Rattle.input_lines.specs.Kept.{Keeps}
 use Rattle.inputs.specs.declared.Fed.{Fed}
-use Rattle.inputs.specs.Inputs.{linesWithin, begunAfter, replies, leftByLines}
-use Rattle.inputs.specs.States.{Lent, Keeps, Feeds}
+use Rattle.inputs.specs.Inputs.{replies, leftByLines}
+use Rattle.inputs.specs.States.{Lent, Feeds}
 use Rattle.inputs.proofs.Lengths.{within-short}
 use Rattle.inputs.proofs.Lent.{SameLengths, same-lengths, then-same, room-still}
 use Rattle.card.specs.Program.{atFirst, Lends, TakenSoFar, Due, HandsOn, Replies}

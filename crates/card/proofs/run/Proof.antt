@@ -11,9 +11,11 @@ use lib.Seq.{length-take-le}
 use lib.Ieee.{Float}
 use Rattle.lent_engines.specs.Lent.{Room}
 use Rattle.lines.specs.Lines.{Memory, memoryIn}
-use Rattle.inputs.specs.declared.State.{State}
-use Rattle.inputs.specs.Inputs.{linesWithin, begunAfter, lastLine, linesOf, replies, leftByLines}
-use Rattle.inputs.specs.States.{Lent, Keeps, Answered, Finishes}
+use Rattle.input_lines.specs.declared.State.{State}
+use Rattle.input_lines.specs.Lines.{linesWithin, begunAfter, lastLine, linesOf}
+use Rattle.input_lines.specs.Kept.{Keeps}
+use Rattle.inputs.specs.Inputs.{replies, leftByLines}
+use Rattle.inputs.specs.States.{Lent, Answered, Finishes}
 use Rattle.inputs.proofs.Taking.{then-answered}
 use Rattle.inputs.proofs.Lengths.{within-short, last-short}
 use Rattle.inputs.proofs.Lent.{SameLengths, same-lengths, then-same, room-still}

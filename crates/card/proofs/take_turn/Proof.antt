@@ -9,7 +9,7 @@ use lib.ListN.{length, take}
 use lib.Seq.{take-take}
 use lib.Ieee.{Float}
 use Rattle.lines.specs.Lines.{Memory, memoryIn}
-use Rattle.inputs.specs.declared.State.{State}
+use Rattle.input_lines.specs.declared.State.{State}
 use Rattle.card.specs.Program.{Lends, Replies, Turns}
 use Rattle.card.specs.declared.Replied.{Replied}
 use Rattle.card.proofs.Handing.{none}

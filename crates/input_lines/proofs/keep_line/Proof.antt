@@ -1,21 +1,20 @@
--- `inputs::keep_line` meets its contract: what was kept of the line so far, one byte more each time. Assumes nothing.
-use mathlib.Core.List.{List, []}
+-- `input_lines::keep_line` meets its contract: what was kept of the line so far, one byte more each time. Assumes nothing.
+use mathlib.Core.List.{List}
 use mathlib.Core.Path.{_≡_, refl, _∙_}
 use Prim.Native.Nat.{ℕ, _+_, _-_, _<_, _≤_}
 use native.Mathlib.Omega.{arith}
 use denote.Ref.{now}
 use lib.ListN.{length, take, getD}
 use Rattle.tokens.specs.Tokens.{lineBytes}
-use Rattle.lines.specs.Lines.{Memory}
-use Rattle.inputs.specs.declared.State.{State}
-use Rattle.inputs.specs.States.{KeepsByte, Takes, KeepsLine}
-use Rattle.inputs.proofs.Taking.{none, one-kept}
+use Rattle.input_lines.specs.declared.State.{State}
+use Rattle.input_lines.specs.Kept.{KeepsByte}
+use Rattle.input_lines.proofs.Keeping.{OfLine, none, one-kept}
 use borrow.Author.Needs.{needs}
-use Rattle.inputs.proofs.keep_line.Statement.{statement}
-use Rattle.inputs.proofs.keep_line.Tie as tie
+use Rattle.input_lines.proofs.keep_line.Statement.{statement}
+use Rattle.input_lines.proofs.keep_line.Tie as tie
 
 record Inv (buffer₀ bytes : List ℕ) (s : State) (buffer : List ℕ) (state : State) (taken : ℕ) : Type 0 where
-  takes : (memory : Memory) → Takes buffer₀ buffer s state (take taken bytes) [] memory memory
+  line : OfLine buffer₀ buffer s state (take taken bytes)
   within : state .kept ≤ lineBytes
   some : taken ≤ length bytes
   buffers : length buffer ≡ length buffer₀
@@ -29,10 +28,10 @@ abbrev μ-loop : tie.MeasureT-loop
 next : (buffer₀ bytes : List ℕ) (s : State) (buffer : List ℕ) (state : State) (taken : ℕ) → Inv buffer₀ bytes s buffer state taken → (after : List ℕ) (r : State) → taken < length bytes
     → (getD bytes taken 0 ≡ 10 → ⊥) → KeepsByte buffer after state r (getD bytes taken 0) → length after ≡ length buffer → Inv buffer₀ bytes s after r (taken + 1)
 next buffer₀ bytes s buffer state taken v after r h g k e =
-    record { takes = λ memory. one-kept bytes taken h (v .takes memory) g k; within = k .within; some = omega arith; buffers = e ∙ v .buffers }
+    record { line = one-kept bytes taken h (v .line) g k; within = k .within; some = omega arith; buffers = e ∙ v .buffers }
 
 loop-holds : tie.Need-loop-holds Inv-loop μ-loop
-loop-holds c = let s = c .before .before in record { takes = λ memory. none; within = s .pre .1; some = omega arith; buffers = refl }
+loop-holds c = let s = c .before .before in record { line = none; within = s .pre .1; some = omega arith; buffers = refl }
 
 shared-slice-read-b : tie.Need-shared-slice-read-b Inv-loop μ-loop
 shared-slice-read-b c = c .before .loop-test .taken
@@ -43,7 +42,7 @@ same-length c = c .before .before .before .loop .inv .buffers
 returns : tie.Need-returns Inv-loop μ-loop
 returns c =
     let v = c .before .before .before .loop .inv in
-    record { takes = v .takes; within = v .within; some = v .some; ends = λ h. c .if1 .taken }
+    record { none-ends = v .line .none-ends; keeps = v .line .keeps; within = v .within; some = v .some; ends = λ h. c .if1 .taken }
 
 keep-requires : tie.Need-keep-requires Inv-loop μ-loop
 keep-requires c κs =
@@ -71,7 +70,7 @@ same-length-2 c = c .before .loop .inv .buffers
 returns-2 : tie.Need-returns-2 Inv-loop μ-loop
 returns-2 c =
     let v = c .before .loop .inv in let t = c .loop-test .left in
-    record { takes = v .takes; within = v .within; some = v .some; ends = λ h. absurd (let z : ⊥ = omega arith in z) }
+    record { none-ends = v .line .none-ends; keeps = v .line .keeps; within = v .within; some = v .some; ends = λ h. absurd (let z : ⊥ = omega arith in z) }
 
 pub keep-line-spec : {M : Type 1} → statement M
 keep-line-spec =
