@@ -3,7 +3,7 @@
 use mathlib.Core.Path.{_≡_, refl, sym, ap, _∙_, subst}
 use mathlib.Core.List.{List, [], _∷_}
 use Prim.Native.Nat.{ℕ, zero, suc, _+_, _*_, _^_, _≤_, _<_, zero-le}
-use native.Mathlib.Nat.{mul-pos, le-refl, le-trans, le-of-eq, mul-le-mul, mul-le-mul-left, mul-le-mul-right, one-mul, mul-one, zero-mul, mul-zero, zero-add, add-zero}
+use native.Mathlib.Nat.{mul-pos, le-trans, le-of-eq, mul-le-mul, mul-le-mul-left, mul-le-mul-right, one-mul, mul-one, zero-mul, mul-zero, zero-add, add-zero}
 use native.Mathlib.Omega.{arith}
 use lib.Dec.{T, lit≤}
 use lib.ListN.{length}
@@ -27,13 +27,12 @@ use Rattle.planforms.specs.declared.Planform.{Planform}
 use Rattle.planforms.specs.Planforms.{rootChordOf}
 use Rattle.planforms.specs.declared.Planform.the-variants.{Trapezoid}
 use Rattle.sections.specs.declared.Section.the-variants.{Square}
-use Rattle.chords.specs.Chords.{inSpan}
 use Rattle.integrands.specs.Integrands.{scaleOf, plateIntegrand, sampleOf, plateOf}
 use Rattle.integrands.proofs.Samples.{sample-below}
 use Rattle.integrands.proofs.Scales.{Scale}
-use Rattle.quadrature.specs.Rule.{halfWidth, minusSide, plusSide, kronrodWeight, sumOf}
+use Rattle.quadrature.specs.Rule.{halfWidth, kronrodWeight, sumOf}
 use Rattle.quadrature.proofs.Values.{value-below}
-use Rattle.strips.specs.Strips.{piecesOf, valueFrom}
+use Rattle.strips.specs.Strips.{valueFrom}
 use Rattle.joins.specs.Joins.{inOrder}
 use Rattle.bodies.specs.declared.Body.{Body}
 use Rattle.bodies.specs.Bodies.{ofOriginTensor}
@@ -57,17 +56,11 @@ use Rattle.accuracy.specs.Centroids.{alongRoot}
 use Rattle.accuracy.specs.Balances.{finMoment, tabMoment, exactMoment, TabGiven, Straight, OnePieceBalance}
 use Rattle.accuracy.proofs.Given.{Lengths}
 use Rattle.accuracy.proofs.Limits.{most-under}
-use Rattle.accuracy.proofs.OnePiece.{centreOf, reachOf}
-use Rattle.accuracy.proofs.Areas.{all-have-chords}
-use Rattle.accuracy.proofs.AreaSamples as Area
-use Rattle.accuracy.proofs.Called.{same-sum, total-one}
-use Rattle.accuracy.proofs.Near.{positive-above}
 use Rattle.accuracy.proofs.Centroids.{NotBelow, not-below-times, positive-not-below}
 use Rattle.accuracy.proofs.CentroidNear.{own-fraction, positive-fraction, product-fraction, sum-fraction, along-fraction}
-use Rattle.accuracy.proofs.PlateSamples.{centre-positive, minus-positive, plus-positive}
 use Rattle.accuracy.proofs.PlateIntegrals as Plates
 use Rattle.accuracy.proofs.PlateMoments as Moments
-use Rattle.accuracy.proofs.SetCalled.{plate-first-there, set-body, integrals}
+use Rattle.accuracy.proofs.SetCalled.{set-body, integrals}
 use Rattle.accuracy.proofs.MassNear as Mass
 use Rattle.accuracy.proofs.Turned.{acrossAt, ring-centre, across-naught}
 
@@ -187,30 +180,8 @@ module _ (p : Plate) (m : Mount) (points : List Float) (L : ℕ) (entry : List F
   abbrev f : Float → List Float
   f = plateOf Shape points Square (p .thickness) (m .radius)
 
-  -- ---- the totals of the strip's one piece: the first moment along the root
-  abbrev z : Float → Float
-  z = Moments.momentAt (p .root) (p .tip) (p .span) (p .sweep) S b d N (p .thickness) tp tr
-
-  there : (h : Float) → T (inSpan (p .span) (h ⊗ S)) → T (positive (Area.endAt (p .root) (p .tip) (p .span) (p .sweep) S (b per d) N h ⊖ Area.startAt (p .root) (p .tip) (p .span) (p .sweep) S (b per d) N h)) → at (f h) 3 ≡ z h
-  there h t w = plate-first-there (p .root) (p .tip) (p .span) (p .sweep) (p .thickness) (m .radius) points h t (positive-above _ w)
-
-  total-at : (k : ℕ) → k < 7 → valueFrom (bits 0) k (setStrips (Mass.set p m points L entry r exit b d y e g one x) points L) ≡ bits 0 ⊕ (bits 0 ⊕ halfWidth (bits 0 ⊘ S) (p .span ⊘ S) ⊗ sumOf kronrodWeight f (bits 0 ⊘ S) (p .span ⊘ S) k)
-  total-at k l =
-      ap (valueFrom (bits 0) k) (Mass.strips-are p m points L entry r exit b d y e g one x)
-      ∙ ap (λ (x : Float). bits 0 ⊕ x)
-      (total-one 7 k l f (bits 0 ⊘ S) (p .span ⊘ S) (piecesOf (Mass.Strip p m points L entry r exit b d y e g one x)) (Mass.one-piece p m points L entry r exit b d y e g one x))
-
   moment-total : valueFrom (bits 0) 3 (setStrips (Mass.set p m points L entry r exit b d y e g one x) points L) ≡ Moments.momentTotal (p .root) (p .tip) (p .span) (p .sweep) S b d N (p .thickness) tp tr
-  moment-total =
-      let c = all-have-chords (p .root) (p .tip) (p .span) (p .sweep) S (b per d) N in
-      let u = centreOf (p .span) S in
-      let v = reachOf (p .span) S in
-      let w = Mass.slender p m points L entry r exit b d y e g one x in
-      total-at 3 (lit≤ tt)
-      ∙ ap (λ (x : Float). bits 0 ⊕ (bits 0 ⊕ v ⊗ x))
-      (same-sum 7 kronrodWeight (λ h. at (f h) 3) z u v (there u (c .centre) (centre-positive (p .root) (p .tip) (p .span) (p .sweep) S b d N rp tn (2 ^ 26) (le-refl (2 ^ 26)) w))
-      (λ i k. there (minusSide u v i) (c .minus-side i k) (minus-positive (p .root) (p .tip) (p .span) (p .sweep) S b d N rp tn (2 ^ 26) (le-refl (2 ^ 26)) w i k))
-      (λ i k. there (plusSide u v i) (c .plus-side i k) (plus-positive (p .root) (p .tip) (p .span) (p .sweep) S b d N rp tn (2 ^ 26) (le-refl (2 ^ 26)) w i k)))
+  moment-total = Mass.total-at p m points L entry r exit b d y e g one x 3 (lit≤ tt)
 
   -- ---- the tab
   tab-accepted : tabCheck (p .tab) (p .root) ≡ Accepted
@@ -312,7 +283,7 @@ module _ (p : Plate) (m : Mount) (points : List Float) (L : ℕ) (entry : List F
       let w : Below 743 (halfWidth l u ⊗ sumOf kronrodWeight f l u 1) =
       value-below 7 f samples-below samples-wide l u (over-scale (bits 0) (weaker (bits 0) 0 6 (lit≤ tt) zero-below))
       (over-scale (p .span) (Mass.lengths-sized p m points L entry r exit b d y e g one x .1 .1 .0 .length .below)) 1 (lit≤ tt) in
-      subst (Below 745) (sym (total-at 1 (lit≤ tt)))
+      subst (Below 745) (sym (Mass.sum-at p m points L entry r exit b d y e g one x 1 (lit≤ tt)))
       (add-below (bits 0) (bits 0 ⊕ halfWidth l u ⊗ sumOf kronrodWeight f l u 1) 744 (lit≤ tt) (weaker (bits 0) 0 744 (lit≤ tt) zero-below)
       (add-below (bits 0) (halfWidth l u ⊗ sumOf kronrodWeight f l u 1) 743 (lit≤ tt) (weaker (bits 0) 0 743 (lit≤ tt) zero-below) w))
 

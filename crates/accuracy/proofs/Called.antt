@@ -46,10 +46,10 @@ use Rattle.figures.proofs.Reports.{no-refusal}
 use Rattle.accuracy.proofs.Trapezoids.{widthAt}
 
 -- ---- the chord at a height in the span
-abbrev startBy : Float → Float → Float → Float
+abbrev pub startBy : Float → Float → Float → Float
 startBy sweep f scale = sweep ⊗ f ⊘ scale
 
-abbrev endBy : Float → Float → Float → Float → Float → Float
+abbrev pub endBy : Float → Float → Float → Float → Float → Float
 endBy root tip sweep f scale = (sweep ⊗ f ⊕ root ⊕ (tip ⊖ root) ⊗ f) ⊘ scale
 
 abbrev pub threeValues : Float → Float → Float → Float → Float → Float → List Float

@@ -4,7 +4,7 @@ use mathlib.Core.Path.{_≡_, refl, sym, ap, _∙_, subst}
 use mathlib.Core.Logic.{inl, inr}
 use mathlib.Core.Bool.{Bool, true, false, cond, _||_}
 use mathlib.Core.List.{List, [], _∷_}
-use Prim.Native.Nat.{ℕ, _*_, _^_, _≤_}
+use Prim.Native.Nat.{ℕ, _*_, _^_, _≤_, _<_}
 use native.Mathlib.Nat.{mul-pos, le-refl, mul-le-mul-right, le-of-mul-le-mul-right, one-mul, mul-one, zero-mul, mul-zero, zero-add, add-zero}
 use native.Mathlib.Omega.{arith}
 use lib.Dec.{T, lit≤}
@@ -44,7 +44,7 @@ use Rattle.sections.specs.declared.Section.the-variants.{Square}
 use Rattle.chords.specs.Chords.{inSpan}
 use Rattle.integrands.specs.Integrands.{scaleOf, plateOf}
 use Rattle.integrands.proofs.Scales.{Scale, scale-sized}
-use Rattle.quadrature.specs.Rule.{minusSide, plusSide, kronrodWeight, pieceOf}
+use Rattle.quadrature.specs.Rule.{halfWidth, minusSide, plusSide, kronrodWeight, sumOf, pieceOf}
 use Rattle.strips.specs.Strips.{Worked, stripOf, piecesOf, valueFrom, intervalsIn}
 use Rattle.joins.specs.Joins.{inOrder}
 use Rattle.fins.specs.declared.FinSet.{FinSet}
@@ -71,8 +71,9 @@ use Rattle.accuracy.proofs.Near.{positive-above}
 use Rattle.accuracy.proofs.Centroids.{NotBelow}
 use Rattle.accuracy.proofs.CentroidNear.{not-below, tip-checked, positive-fraction, product-fraction}
 use Rattle.accuracy.proofs.PlateSamples.{centre-positive, minus-positive, plus-positive}
-use Rattle.accuracy.proofs.PlateIntegrals.{plateAt, volumeTotal, wholeUnit, slab-valued, no-slab, massesTo, masses-valued, massUnit, mass-ranges}
-use Rattle.accuracy.proofs.SetCalled.{Given, set-given, plate-there}
+use Rattle.accuracy.proofs.PlateIntegrals.{volumeTotal, wholeUnit, slab-valued, no-slab, massesTo, masses-valued, massUnit, mass-ranges}
+use Rattle.accuracy.proofs.Integrals.{totalOver}
+use Rattle.accuracy.proofs.SetCalled.{Given, set-given, sevenBy, plate-there}
 
 ruleset plain = (sorted, one-mul, mul-one, zero-mul, mul-zero, zero-add, add-zero)
 
@@ -151,13 +152,14 @@ module _ (p : Plate) (m : Mount) (points : List Float) (L : ℕ) (entry : List F
       go : (n e : ℕ) → 1 * e * (64 * d) ≤ n * 2 ^ 20 * (64 * d) → b * e ≤ 64 * d * e → b * e ≤ 2 ^ 26 * n * d
       go n e h k = omega arith
 
-  abbrev z : Float → Float
-  z = plateAt (p .root) (p .tip) (p .span) (p .sweep) S b d N (p .thickness) thick-positive thick-ranges
-
   abbrev f : Float → List Float
   f = plateOf Shape points Square (p .thickness) (m .radius)
 
-  there : (h : Float) → T (inSpan (p .span) (h ⊗ S)) → T (positive (Area.endAt (p .root) (p .tip) (p .span) (p .sweep) S (b per d) N h ⊖ Area.startAt (p .root) (p .tip) (p .span) (p .sweep) S (b per d) N h)) → at (f h) 0 ≡ z h
+  -- the seven values of a sample
+  abbrev pub seven : Float → List Float
+  seven h = sevenBy (p .root) (p .tip) (p .sweep) (h ⊗ S ⊘ p .span) S (p .thickness ⊘ S) (m .radius ⊘ S) h
+
+  there : (h : Float) → T (inSpan (p .span) (h ⊗ S)) → T (positive (Area.endAt (p .root) (p .tip) (p .span) (p .sweep) S (b per d) N h ⊖ Area.startAt (p .root) (p .tip) (p .span) (p .sweep) S (b per d) N h)) → f h ≡ seven h
   there h t w = plate-there (p .root) (p .tip) (p .span) (p .sweep) (p .thickness) (m .radius) points h t (positive-above _ w)
 
   span-above : lt (bits 0) (p .span) ≡ true
@@ -178,18 +180,27 @@ module _ (p : Plate) (m : Mount) (points : List Float) (L : ℕ) (entry : List F
       only-piece 7 f (bits 0 ⊘ S) (p .span ⊘ S) L apart
       (subst (λ (x : Bool). cond x 1 (length (piecesOf Strip)) ≡ 1) apart (sym (add-zero _) ∙ ap intervalsIn (sym strips-are) ∙ sym (figures .intervals) ∙ one))
 
-  pub volume-total : valueFrom (bits 0) 0 (setStrips set points L) ≡ volumeTotal (p .root) (p .tip) (p .span) (p .sweep) S b d N (p .thickness) thick-positive thick-ranges
-  volume-total =
+  -- the strips' totals
+  pub sum-at : (k : ℕ) → k < 7 → valueFrom (bits 0) k (setStrips set points L) ≡ bits 0 ⊕ (bits 0 ⊕ halfWidth (bits 0 ⊘ S) (p .span ⊘ S) ⊗ sumOf kronrodWeight f (bits 0 ⊘ S) (p .span ⊘ S) k)
+  sum-at k l = ap (valueFrom (bits 0) k) strips-are ∙ ap (λ (x : Float). bits 0 ⊕ x) (total-one 7 k l f (bits 0 ⊘ S) (p .span ⊘ S) (piecesOf Strip) one-piece)
+
+  pub total-at : (k : ℕ) → k < 7 → valueFrom (bits 0) k (setStrips set points L) ≡ totalOver (p .root) (p .tip) (p .span) (p .sweep) S (b per d) N (λ h. at (seven h) k)
+  total-at k l =
       let c = all-have-chords (p .root) (p .tip) (p .span) (p .sweep) S (b per d) N in
       let u = centreOf (p .span) S in
       let v = reachOf (p .span) S in
-      ap (valueFrom (bits 0) 0) strips-are
-      ∙ ap (λ (x : Float). bits 0 ⊕ x)
-      (total-one 7 0 (lit≤ tt) f (bits 0 ⊘ S) (p .span ⊘ S) (piecesOf Strip) one-piece
-      ∙ ap (λ (x : Float). bits 0 ⊕ v ⊗ x)
-      (same-sum 7 kronrodWeight (λ h. at (f h) 0) z u v (there u (c .centre) (centre-positive (p .root) (p .tip) (p .span) (p .sweep) S b d N root-positive tip-not-below (2 ^ 26) (le-refl (2 ^ 26)) slender))
-      (λ i k. there (minusSide u v i) (c .minus-side i k) (minus-positive (p .root) (p .tip) (p .span) (p .sweep) S b d N root-positive tip-not-below (2 ^ 26) (le-refl (2 ^ 26)) slender i k))
-      (λ i k. there (plusSide u v i) (c .plus-side i k) (plus-positive (p .root) (p .tip) (p .span) (p .sweep) S b d N root-positive tip-not-below (2 ^ 26) (le-refl (2 ^ 26)) slender i k))))
+      let there-at : (h : Float) → T (inSpan (p .span) (h ⊗ S))
+      → T (positive (Area.endAt (p .root) (p .tip) (p .span) (p .sweep) S (b per d) N h ⊖ Area.startAt (p .root) (p .tip) (p .span) (p .sweep) S (b per d) N h)) → at (f h) k ≡ at (seven h) k =
+      λ h t w. ap (λ (s : List Float). at s k) (there h t w) in
+      sum-at k l
+      ∙ ap (λ (x : Float). bits 0 ⊕ (bits 0 ⊕ v ⊗ x))
+      (same-sum 7 kronrodWeight (λ h. at (f h) k) (λ h. at (seven h) k) u v
+      (there-at u (c .centre) (centre-positive (p .root) (p .tip) (p .span) (p .sweep) S b d N root-positive tip-not-below (2 ^ 26) (le-refl (2 ^ 26)) slender))
+      (λ i n. there-at (minusSide u v i) (c .minus-side i n) (minus-positive (p .root) (p .tip) (p .span) (p .sweep) S b d N root-positive tip-not-below (2 ^ 26) (le-refl (2 ^ 26)) slender i n))
+      (λ i n. there-at (plusSide u v i) (c .plus-side i n) (plus-positive (p .root) (p .tip) (p .span) (p .sweep) S b d N root-positive tip-not-below (2 ^ 26) (le-refl (2 ^ 26)) slender i n)))
+
+  pub volume-total : valueFrom (bits 0) 0 (setStrips set points L) ≡ volumeTotal (p .root) (p .tip) (p .span) (p .sweep) S b d N (p .thickness) thick-positive thick-ranges
+  volume-total = total-at 0 (lit≤ tt)
 
   -- ---- the tab
   pub yr : Ranges 24 (y per e)

@@ -7,7 +7,6 @@ use lib.Dec.{T}
 use lib.Ieee.{Float, lt, le, eq, ofBits}
 use lib.Ieee.Bits.{is-true}
 use Rattle.floats.specs.Operations.{_⊕_, _⊖_, _⊗_, _⊘_, bits, at, tabulate}
-use Rattle.floats.specs.Constants.{half}
 use Rattle.floats.specs.Floats.{cube}
 use Rattle.floats.proofs.Bools.{no}
 use Rattle.floats.proofs.Order.{le-not-below}
@@ -20,9 +19,9 @@ use Rattle.limits.specs.Limits.{countCheck}
 use Rattle.planforms.specs.declared.Planform.the-variants.{Trapezoid}
 use Rattle.planforms.specs.Planforms.{rootChordOf}
 use Rattle.sections.specs.declared.Section.the-variants.{Square}
-use Rattle.sections.specs.ChordMoments.{chordMoments}
+use Rattle.sections.specs.ChordMoments.{squareMoments, chordMoments}
 use Rattle.chords.specs.Chords.{inSpan, trapezoidAt, endsAt, paired}
-use Rattle.integrands.specs.Integrands.{scaleOf, sumsFrom, sampleOf, plateOf}
+use Rattle.integrands.specs.Integrands.{scaleOf, plus, sumsFrom, plateValues, sampleOf, plateOf}
 use Rattle.integrands.specs.declared.Kind.the-variants.{Plate as plateKind}
 use Rattle.halving.specs.Halving.{verdictOf}
 use Rattle.strips.specs.Strips.{Worked, valueFrom, summedOf, totalsOf, givenTotals, refusedTotals, concludedOf, intervalsIn}
@@ -44,7 +43,7 @@ use Rattle.figures.specs.Figures.{setStrips, workedFigures, setFigures, conclud
 use Rattle.figures.specs.declared.Figures.{Figures}
 use Rattle.figures.proofs.Reports.{no-refusal}
 use Rattle.accuracy.specs.Masses.{Plate, Mount, setOf}
-use Rattle.accuracy.proofs.Called.{chosen}
+use Rattle.accuracy.proofs.Called.{startBy, endBy, chosen}
 
 -- ---- a chord wider than 0, in the span
 positive-over : (c : Float) → lt (bits 0) c ≡ true → le c (bits 0) ≡ false
@@ -54,49 +53,28 @@ positive-over c h = go (le c (bits 0)) refl
     go false e = refl
     go true e = sym h ∙ le-not-below c (bits 0) e
 
-moment-there : (x : Bool) (root tip sweep f scale h t q : Float) → x ≡ true → le ((sweep ⊗ f ⊕ root ⊕ (tip ⊖ root) ⊗ f) ⊘ scale ⊖ sweep ⊗ f ⊘ scale) (bits 0) ≡ false
-    → at (sumsFrom (plateKind Square t q) scale h (bits 0 ∷ bits 0 ∷ bits 0 ∷ bits 0 ∷ []) (paired (cond x (trapezoidAt root tip sweep f) []))) 0
-    ≡ bits 0 ⊕ t ⊗ ((sweep ⊗ f ⊕ root ⊕ (tip ⊖ root) ⊗ f) ⊘ scale ⊖ sweep ⊗ f ⊘ scale)
+-- its moments, added to 0
+moments-there : (x : Bool) (root tip sweep f scale h t q : Float) → x ≡ true → le (endBy root tip sweep f scale ⊖ startBy sweep f scale) (bits 0) ≡ false
+    → sumsFrom (plateKind Square t q) scale h (tabulate 4 (λ i. bits 0)) (paired (cond x (trapezoidAt root tip sweep f) []))
+    ≡ plus (tabulate 4 (λ i. bits 0)) (squareMoments (startBy sweep f scale) (endBy root tip sweep f scale) (endBy root tip sweep f scale ⊖ startBy sweep f scale) t)
 unfolding paired sumsFrom chordMoments
-moment-there true root tip sweep f scale h t q e w = rw w
-moment-there false root tip sweep f scale h t q e w = no (sym e)
+moments-there true root tip sweep f scale h t q e w = rw w
+moments-there false root tip sweep f scale h t q e w = no (sym e)
 
-pub plate-there : (root tip span sweep thickness radius : Float) (points : List Float) (h : Float) → T (inSpan span (h ⊗ scaleOf (Trapezoid root tip span sweep) points))
-    → lt (bits 0) ((sweep ⊗ (h ⊗ scaleOf (Trapezoid root tip span sweep) points ⊘ span) ⊕ root ⊕ (tip ⊖ root) ⊗ (h ⊗ scaleOf (Trapezoid root tip span sweep) points ⊘ span)) ⊘ scaleOf (Trapezoid root tip span sweep) points
-    ⊖ sweep ⊗ (h ⊗ scaleOf (Trapezoid root tip span sweep) points ⊘ span) ⊘ scaleOf (Trapezoid root tip span sweep) points) ≡ true
-    → at (plateOf (Trapezoid root tip span sweep) points Square thickness radius h) 0
-    ≡ bits 0 ⊕ thickness ⊘ scaleOf (Trapezoid root tip span sweep) points
-    ⊗ ((sweep ⊗ (h ⊗ scaleOf (Trapezoid root tip span sweep) points ⊘ span) ⊕ root ⊕ (tip ⊖ root) ⊗ (h ⊗ scaleOf (Trapezoid root tip span sweep) points ⊘ span)) ⊘ scaleOf (Trapezoid root tip span sweep) points
-    ⊖ sweep ⊗ (h ⊗ scaleOf (Trapezoid root tip span sweep) points ⊘ span) ⊘ scaleOf (Trapezoid root tip span sweep) points)
-unfolding plateOf sampleOf endsAt
-plate-there root tip span sweep thickness radius points h t w =
-    let s = scaleOf (Trapezoid root tip span sweep) points in
-    moment-there (inSpan span (h ⊗ s)) root tip sweep (h ⊗ s ⊘ span) s h (thickness ⊘ s) (radius ⊘ s) (is-true _ t) (positive-over _ w)
+-- and the seven values there; f is the fraction of the span
+abbrev pub sevenBy : Float → Float → Float → Float → Float → Float → Float → Float → List Float
+sevenBy root tip sweep f scale t q h =
+    plateValues (q ⊕ h) (plus (tabulate 4 (λ i. bits 0)) (squareMoments (startBy sweep f scale) (endBy root tip sweep f scale) (endBy root tip sweep f scale ⊖ startBy sweep f scale) t))
 
--- and its first moment along the root
-first-there : (x : Bool) (root tip sweep f scale h t q : Float) → x ≡ true → le ((sweep ⊗ f ⊕ root ⊕ (tip ⊖ root) ⊗ f) ⊘ scale ⊖ sweep ⊗ f ⊘ scale) (bits 0) ≡ false
-    → at (sumsFrom (plateKind Square t q) scale h (bits 0 ∷ bits 0 ∷ bits 0 ∷ bits 0 ∷ []) (paired (cond x (trapezoidAt root tip sweep f) []))) 1
-    ≡ bits 0
-    ⊕ half ⊗ t
-    ⊗ ((sweep ⊗ f ⊕ root ⊕ (tip ⊖ root) ⊗ f) ⊘ scale ⊗ ((sweep ⊗ f ⊕ root ⊕ (tip ⊖ root) ⊗ f) ⊘ scale) ⊖ sweep ⊗ f ⊘ scale ⊗ (sweep ⊗ f ⊘ scale))
-unfolding paired sumsFrom chordMoments
-first-there true root tip sweep f scale h t q e w = rw w
-first-there false root tip sweep f scale h t q e w = no (sym e)
+module _ (root tip span sweep thickness radius : Float) (points : List Float) where
+  abbrev S : Float
+  S = scaleOf (Trapezoid root tip span sweep) points
 
-pub plate-first-there : (root tip span sweep thickness radius : Float) (points : List Float) (h : Float) → T (inSpan span (h ⊗ scaleOf (Trapezoid root tip span sweep) points))
-    → lt (bits 0) ((sweep ⊗ (h ⊗ scaleOf (Trapezoid root tip span sweep) points ⊘ span) ⊕ root ⊕ (tip ⊖ root) ⊗ (h ⊗ scaleOf (Trapezoid root tip span sweep) points ⊘ span)) ⊘ scaleOf (Trapezoid root tip span sweep) points
-    ⊖ sweep ⊗ (h ⊗ scaleOf (Trapezoid root tip span sweep) points ⊘ span) ⊘ scaleOf (Trapezoid root tip span sweep) points) ≡ true
-    → at (plateOf (Trapezoid root tip span sweep) points Square thickness radius h) 3
-    ≡ bits 0
-    ⊕ half ⊗ (thickness ⊘ scaleOf (Trapezoid root tip span sweep) points)
-    ⊗ ((sweep ⊗ (h ⊗ scaleOf (Trapezoid root tip span sweep) points ⊘ span) ⊕ root ⊕ (tip ⊖ root) ⊗ (h ⊗ scaleOf (Trapezoid root tip span sweep) points ⊘ span)) ⊘ scaleOf (Trapezoid root tip span sweep) points
-    ⊗ ((sweep ⊗ (h ⊗ scaleOf (Trapezoid root tip span sweep) points ⊘ span) ⊕ root ⊕ (tip ⊖ root) ⊗ (h ⊗ scaleOf (Trapezoid root tip span sweep) points ⊘ span)) ⊘ scaleOf (Trapezoid root tip span sweep) points)
-    ⊖ sweep ⊗ (h ⊗ scaleOf (Trapezoid root tip span sweep) points ⊘ span) ⊘ scaleOf (Trapezoid root tip span sweep) points
-    ⊗ (sweep ⊗ (h ⊗ scaleOf (Trapezoid root tip span sweep) points ⊘ span) ⊘ scaleOf (Trapezoid root tip span sweep) points))
-unfolding plateOf sampleOf endsAt
-plate-first-there root tip span sweep thickness radius points h t w =
-    let s = scaleOf (Trapezoid root tip span sweep) points in
-    first-there (inSpan span (h ⊗ s)) root tip sweep (h ⊗ s ⊘ span) s h (thickness ⊘ s) (radius ⊘ s) (is-true _ t) (positive-over _ w)
+  pub plate-there : (h : Float) → T (inSpan span (h ⊗ S)) → lt (bits 0) (endBy root tip sweep (h ⊗ S ⊘ span) S ⊖ startBy sweep (h ⊗ S ⊘ span) S) ≡ true
+      → plateOf (Trapezoid root tip span sweep) points Square thickness radius h ≡ sevenBy root tip sweep (h ⊗ S ⊘ span) S (thickness ⊘ S) (radius ⊘ S) h
+  unfolding plateOf sampleOf endsAt
+  plate-there h t w =
+      ap (plateValues (radius ⊘ S ⊕ h)) (moments-there (inSpan span (h ⊗ S)) root tip sweep (h ⊗ S ⊘ span) S h (thickness ⊘ S) (radius ⊘ S) (is-true _ t) (positive-over _ w))
 
 -- ---- the answer
 pub record Given (p : Plate) (m : Mount) (points : List Float) (L n : ℕ) (r : Figures) : Type 0 where
