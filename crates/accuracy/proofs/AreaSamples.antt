@@ -97,10 +97,10 @@ module _ (root tip span sweep scale : Float) (B : Size) (g : Lengths root tip sp
     f-valued : Valued (fractionAt span scale h) τ 25 1 one
     f-valued = Chord.fraction-valued root tip span sweep scale B g h τ i u z
 
-    start : Valued (startAt h) (starts τ) 29 1 Bs
+    pub start : Valued (startAt h) (starts τ) 29 1 Bs
     start = Chord.start-valued root tip span sweep scale B g (fractionAt span scale h) τ f-valued
 
-    end : Valued (endAt h) (ends τ) 127 4 Bs
+    pub end : Valued (endAt h) (ends τ) 127 4 Bs
     end = Chord.end-valued root tip span sweep scale B g (fractionAt span scale h) τ f-valued
 
     pub across-valued : Valued (endAt h ⊖ startAt h) (width τ) 163 5 Bs

@@ -2,13 +2,16 @@
 use mathlib.Core.Bool.{_&&_}
 use mathlib.Core.List.{[], _∷_}
 use Prim.Native.Nat.{ℕ, suc, _+_, _*_, _^_, _≤_}
+use native.Mathlib.Nat.{mul-pos, mul-le-mul-left, mul-le-mul-right}
 use native.Mathlib.Omega.{arith}
 use lib.Dec.{le→leb, leb}
+use lib.Pow.{pow-pos}
 use lib.Ieee.{Float, ofBits}
 use lib.Ieee.Fits.{and-i}
 use Rattle.floats.specs.Operations.{_⊕_, _⊗_, bits}
 use Rattle.quadrature.specs.Rule.{weightedTo, kronrodWeight as weight}
-use Rattle.rounding_error.proofs.Numbers.{Number, number, Size, _plus_, _times_, _by_, _of_, IsNumber, Under, InRange, Ranges}
+use Rattle.rounding_error.proofs.Numbers.{Number, number, Size, _per_, _plus_, _times_, _by_, _of_, _roundoffs_, _upto_, IsNumber, IsSize, Under, valueOf, zeroNumber, InRange, Ranges}
+use Rattle.rounding_error.proofs.Distances.{sorted, within-upto}
 use Rattle.rounding_error.proofs.Ranges.{ranges-by, in-range}
 use Rattle.rounding_error.proofs.Counts as Counts
 use Rattle.rounding_error.proofs.Chains.{Valued, some, few, in-bounds, counted-by, equalled, plus-valued, times-valued}
@@ -29,6 +32,27 @@ from-zero {x = x} {v = v} k j A t e f h =
     counted-by
     (equalled (plus-valued t (in-bounds 0 k 0 j (omega arith) e (omega arith) f) (zero-valued A) h) v (h .is) (equal-by (v ∷ []) (h .is, tt) (ratio 0 0 add given 0) (given 0) tt))
     (2 + j + k) j (t .real) (omega arith) (omega arith)
+
+-- in a unit of which c times the old one is no more
+pub parted : {x : Float} {v : Number} {k j : ℕ} (c k' j' : ℕ) (A W : Size) → IsSize A → (c of A) upto W → k ≤ c * k' → j ≤ c * j' → Valued x v k j A → Valued x v k' j' W
+parted {x = x} {v = v} {k = k} {j = j} c k' j' (a per e) (w per f) E l m n h =
+    record {
+      near = record {
+        finite = h .near .finite;
+        within = within-upto (k roundoffs (a per e)) (k' roundoffs (w per f)) (valueOf x) v (mul-pos E (pow-pos 53)) (scaled (2 ^ 53) (more k k' m)) (h .near .within);
+      };
+      size = within-upto (j of (a per e)) (j' of (w per f)) v zeroNumber E (more j j' n) (h .size);
+      is = h .is;
+    }
+  where
+    more : (k k' : ℕ) → k ≤ c * k' → k * a * f ≤ k' * w * e
+    more k k' m =
+        let x = simp sorted at (mul-le-mul-right (a * f) m) in
+        let y = simp sorted at (mul-le-mul-left k' l) in
+        simp sorted (omega (arith, x, y))
+
+    scaled : (Q : ℕ) → k * a * f ≤ k' * w * e → k * a * (f * Q) ≤ k' * w * (e * Q)
+    scaled Q u = let y = simp sorted at (mul-le-mul-right Q u) in simp sorted (omega (arith, y))
 
 -- the errors that come out for samples of l roundoffs, at most j, and q at most r
 abbrev pub sumError : ℕ → ℕ → ℕ → ℕ

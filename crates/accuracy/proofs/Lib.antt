@@ -30,7 +30,12 @@ pub mod CentroidNear
 pub mod PlateSamples
 pub mod PlateIntegrals
 pub mod PlateMoments
+pub mod Constants
+pub mod Cubics
+pub mod ClosedForms
+pub mod FinIntegrals
 pub mod SetCalled
 pub mod MassNear
 pub mod Turned
 pub mod BalanceNear
+pub mod FinCalled

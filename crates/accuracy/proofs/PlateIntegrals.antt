@@ -19,7 +19,7 @@ use Rattle.rounding_error.proofs.Ranges.{ranges-by, ranges-for, in-range}
 use Rattle.rounding_error.proofs.Counts as Counts
 use Rattle.rounding_error.proofs.Chains.{Valued, inverse, inverse-is, inverse-times, in-bounds, counted, counted-by, exactly, equalled, resized, plus-valued, times-valued, exact-times, over-valued}
 use Rattle.rounding_error.proofs.Polynomials.{_equals_, trans, itself, times-equal, plus-is, times-is, AllNumbers, Expression, given, ratio, _add_, _mul_, equal-by, evaluated-is}
-use Rattle.accuracy.proofs.Samples.{quarter}
+use Rattle.accuracy.proofs.Samples.{one, quarter}
 use Rattle.accuracy.proofs.Given.{Lengths}
 use Rattle.accuracy.proofs.Areas.{quarter-ranges}
 use Rattle.accuracy.proofs.Weighted.{middle, Sampled}
@@ -119,12 +119,14 @@ module _ (root tip span sweep scale : Float) (b d : ℕ) (g : Lengths root tip s
   plate-ranges : Ranges 96 (TKs by Bs)
   plate-ranges = ranges-by 48 48 TKs Bs ks (Chord.scaled-ranges root tip span sweep scale (b per d) g)
 
-  plates-sampled : Sampled plateAt plate (centreOf span scale) (reachOf span scale) 355 5 (TKs by Bs)
-  plates-sampled =
-      Area.sampled root tip span sweep scale (b per d) g plateAt plate 355 5 (TKs by Bs) (λ h τ i u z.
+  pub plate-valued : (h : Float) (τ : Number) → IsNumber τ → Under (1 of one) τ → Valued h (U times τ) 16 2 H → Valued (plateAt h) (plate τ) 355 5 (TKs by Bs)
+  plate-valued h τ i u z =
       from-zero 348 5 (TKs by Bs) (in-range 96 (TKs by Bs) (omega arith) plate-ranges) (omega arith) (omega arith)
       (times-valued {A = TKs} {B = Bs} (ks .real) (Chord.scaled-ranges root tip span sweep scale (b per d) g .real) (in-range 96 (TKs by Bs) (omega arith) plate-ranges) tt thickness-valued
-      (Area.across-valued root tip span sweep scale (b per d) g h τ i u z)))
+      (Area.across-valued root tip span sweep scale (b per d) g h τ i u z))
+
+  plates-sampled : Sampled plateAt plate (centreOf span scale) (reachOf span scale) 355 5 (TKs by Bs)
+  plates-sampled = Area.sampled root tip span sweep scale (b per d) g plateAt plate 355 5 (TKs by Bs) plate-valued
 
   -- sweep, root, tip, 1/scale, span/scale, a fraction, thickness
   abbrev all : Number → List Number

@@ -229,12 +229,14 @@ module _ (root tip span sweep scale : Float) (b d : ℕ) (g : Lengths root tip s
       (exact-times half 1 halfSize (pow-pos 1) (ks .real) (in-range 49 (halfSize by TKs) (omega arith) hr) tt Area.half-finite Area.half-under
       (Plates.thickness-valued root tip span sweep scale b d g thickness tp tr))
 
-  sampled : Sampled momentAt moment (centreOf span scale) (reachOf span scale) 2679 17 A
-  sampled =
-      Area.sampled root tip span sweep scale (b per d) g momentAt moment 2679 17 A (λ h τ i u z.
+  pub sample-valued : (h : Float) (τ : Number) → IsNumber τ → Under (1 of one) τ → Valued h (U times τ) 16 2 H → Valued (momentAt h) (moment τ) 2679 17 A
+  sample-valued h τ i u z =
       from-zero 2660 17 A (in-range 145 A (omega arith) ar) (omega arith) (omega arith)
       (times-valued {A = halfSize by TKs} {B = Bs by Bs} (hr .real) (br .real) (in-range 145 A (omega arith) ar) tt half-thickness
-      (Area.squares-valued root tip span sweep scale (b per d) g h τ i u z)))
+      (Area.squares-valued root tip span sweep scale (b per d) g h τ i u z))
+
+  sampled : Sampled momentAt moment (centreOf span scale) (reachOf span scale) 2679 17 A
+  sampled = Area.sampled root tip span sweep scale (b per d) g momentAt moment 2679 17 A sample-valued
 
   -- sweep, root, tip, 1/scale, span/scale, a fraction, thickness
   abbrev all : Number → List Number
@@ -296,13 +298,13 @@ module _ (root tip span sweep scale : Float) (b d : ℕ) (g : Lengths root tip s
   sr : Ranges 48 (SS by SS)
   sr = ranges-by 24 24 SS SS (g .scale-ranges) (g .scale-ranges)
 
-  fr : Ranges 96 (SS by SS by (SS by SS))
+  pub fr : Ranges 96 (SS by SS by (SS by SS))
   fr = ranges-by 48 48 (SS by SS) (SS by SS) sr sr
 
   square-valued : Valued (scale ⊗ scale) (s times s) 2 1 (SS by SS)
   square-valued = exact-times scale 1 SS (den-pos scale) (den-pos scale) (in-range 48 (SS by SS) (omega arith) sr) tt (positive-finite scale (g .scale-positive)) (Counts.own-size scale (g .scale-positive)) scale-exactly
 
-  fourth-valued : Valued (fourth scale) ((s times s) times (s times s)) 10 1 (SS by SS by (SS by SS))
+  pub fourth-valued : Valued (fourth scale) ((s times s) times (s times s)) 10 1 (SS by SS by (SS by SS))
   fourth-valued = times-valued {A = SS by SS} {B = SS by SS} (sr .real) (sr .real) (in-range 96 (SS by SS by (SS by SS)) (omega arith) fr) tt square-valued square-valued
 
   abbrev pub alongNumber : Number
