@@ -40,14 +40,20 @@ sevenOf l a b c d e f g =
       tau2 = evaluate (among l) g;
     }
 
+abbrev pub valuesOf : List Float → List Number
+valuesOf [] = []
+valuesOf (x ∷ l) = valueOf x ∷ valuesOf l
+
+pub values-are : (l : List Float) → AllNumbers (valuesOf l)
+values-are [] = tt
+values-are (x ∷ l) = (Counts.value-is x, values-are l)
+
 -- ---- the fin: root, tip, span, sweep, thickness, radius
 abbrev pub plateValues : Plate → Float → List Number
-plateValues p radius =
-    valueOf (p .root) ∷ valueOf (p .tip) ∷ valueOf (p .span) ∷ valueOf (p .sweep) ∷ valueOf (p .thickness) ∷ valueOf radius ∷ []
+plateValues p radius = valuesOf (p .root ∷ p .tip ∷ p .span ∷ p .sweep ∷ p .thickness ∷ radius ∷ [])
 
 pub plate-numbers : (p : Plate) (radius : Float) → AllNumbers (plateValues p radius)
-plate-numbers p radius =
-    (Counts.value-is (p .root), (Counts.value-is (p .tip), (Counts.value-is (p .span), (Counts.value-is (p .sweep), (Counts.value-is (p .thickness), (Counts.value-is radius, tt))))))
+plate-numbers p radius = values-are (p .root ∷ p .tip ∷ p .span ∷ p .sweep ∷ p .thickness ∷ radius ∷ [])
 
 abbrev pub squareE : Expression → Expression
 squareE a = a mul a
@@ -69,18 +75,26 @@ heightSquaresE = given 4 mul (cubeE (given 2) mul ((given 0 add ratio 3 0 mul gi
 abbrev pub tipEndE : Expression
 tipEndE = given 3 add given 1
 
+-- root² + root·tip + tip² + sweep·(root + 2·tip)
+abbrev pub alongE : Expression
+alongE = squareE (given 0) add given 0 mul given 1 add squareE (given 1) add given 3 mul (given 0 add ratio 2 0 mul given 1)
+
 abbrev pub x1E : Expression
-x1E =
-    given 4 mul (given 2 mul ((squareE (given 0) add given 0 mul given 1 add squareE (given 1) add given 3 mul (given 0 add ratio 2 0 mul given 1)) mul ratio 1 5))
+x1E = given 4 mul (given 2 mul (alongE mul ratio 1 5))
+
+-- root³ + root²·e + root·e² + e³, e where the tip ends
+abbrev pub cubesE : Expression
+cubesE = cubeE (given 0) add squareE (given 0) mul tipEndE add given 0 mul squareE tipEndE add cubeE tipEndE
 
 abbrev pub x2E : Expression
-x2E =
-    given 4 mul (given 2 mul ((cubeE (given 0) add squareE (given 0) mul tipEndE add given 0 mul squareE tipEndE add cubeE tipEndE take cubeE (given 3)) mul ratio 1 11))
+x2E = given 4 mul (given 2 mul ((cubesE take cubeE (given 3)) mul ratio 1 11))
+
+-- root² + 2·root·e + 3·(e² − sweep²)
+abbrev pub squaresE : Expression
+squaresE = squareE (given 0) add ratio 2 0 mul (given 0 mul tipEndE) add ratio 3 0 mul (squareE tipEndE take squareE (given 3))
 
 abbrev pub heightAlongE : Expression
-heightAlongE =
-    given 4 mul (squareE (given 2)
-    mul ((squareE (given 0) add ratio 2 0 mul (given 0 mul tipEndE) add ratio 3 0 mul (squareE tipEndE take squareE (given 3))) mul ratio 1 23))
+heightAlongE = given 4 mul (squareE (given 2) mul (squaresE mul ratio 1 23))
 
 abbrev pub r1E : Expression
 r1E = given 5 mul volumeE add heightE

@@ -1,5 +1,5 @@
--- Polynomials of the fraction of the span, which stands at place 0: that one is quadratic or cubic about the middle is one computed test, and how large its
--- second coefficient is follows from three of its values. Assumes nothing.
+-- Polynomials of the fraction of the span, which stands at place 0: that one is quadratic or cubic about the middle is one computed test, and how
+-- large its second coefficient is follows from three of its values. Assumes nothing.
 use mathlib.Core.Path.{_≡_, refl, subst}
 use mathlib.Core.List.{List, [], _∷_}
 use Prim.Native.Nat.{ℕ, zero, suc, _+_, _*_}
@@ -9,7 +9,8 @@ use lib.Pow.{pow-pos}
 use Rattle.rounding_error.proofs.Numbers.{Number, number, Size, _plus_, _less_, _times_, _of_, IsNumber, IsSize, Under, zeroNumber}
 use Rattle.rounding_error.proofs.Distances.{within-sym, within-same}
 use Rattle.rounding_error.proofs.Counts as Counts
-use Rattle.rounding_error.proofs.Polynomials.{_equals_, trans, itself, by-left, plus-equal, plus-is, less-is, times-is, AllNumbers, Expression, given, ratio, _add_, _take_, _mul_, evaluate, among, normal, vanishes, equal-by, evaluated-is}
+use Rattle.rounding_error.proofs.Polynomials.{_equals_, trans, itself, by-left, plus-equal, plus-is, less-is, times-is, AllNumbers, Expression, given}
+use Rattle.rounding_error.proofs.Polynomials.{ratio, _add_, _take_, _mul_, evaluate, among, normal, vanishes, equal-by, evaluated-is}
 use Rattle.accuracy.proofs.Samples.{one}
 use Rattle.accuracy.proofs.Weighted.{middle}
 use Rattle.accuracy.proofs.Quadratic.{Quadratic}
@@ -24,7 +25,8 @@ replaced t (s add u) = replaced t s add replaced t u
 replaced t (s take u) = replaced t s take replaced t u
 replaced t (s mul u) = replaced t s mul replaced t u
 
-replaced-at : (rest : List Number) (x : Number) (t e : Expression) → evaluate (among (x ∷ rest)) (replaced t e) ≡ evaluate (among (evaluate (among (x ∷ rest)) t ∷ rest)) e
+replaced-at : (rest : List Number) (x : Number) (t e : Expression)
+    → evaluate (among (x ∷ rest)) (replaced t e) ≡ evaluate (among (evaluate (among (x ∷ rest)) t ∷ rest)) e
 replaced-at rest x t (given zero) = refl
 replaced-at rest x t (given (suc i)) = refl
 replaced-at rest x t (ratio p d) = refl
@@ -58,11 +60,13 @@ abbrev pub twiceE : Expression → Expression → Expression
 twiceE v q = replaced halfE v add replaced halfE v add replaced halfE q mul (given 0 mul given 0)
 
 -- an equation of numbers, of others that are the same
-moved : {a a' b b' m m' q q' : Number} (D : Number) → a' ≡ a → b' ≡ b → m' ≡ m → q' ≡ q → a' plus b' equals (m' plus m') plus q' times D → a plus b equals (m plus m) plus q times D
+moved : {a a' b b' m m' q q' : Number} (D : Number) → a' ≡ a → b' ≡ b → m' ≡ m → q' ≡ q → a' plus b' equals (m' plus m') plus q' times D
+    → a plus b equals (m plus m) plus q times D
 moved {a = a} {b = b} {b' = b'} {m = m} {m' = m'} {q = q} {q' = q'} D ea eb em eq h =
     subst (λ (x : Number). a plus b equals (m plus m) plus x times D) eq
     (subst (λ (x : Number). a plus b equals (x plus x) plus q' times D) em
-    (subst (λ (x : Number). a plus x equals (m' plus m') plus q' times D) eb (subst (λ (x : Number). x plus b' equals (m' plus m') plus q' times D) ea h)))
+    (subst (λ (x : Number). a plus x equals (m' plus m') plus q' times D) eb
+    (subst (λ (x : Number). x plus b' equals (m' plus m') plus q' times D) ea h)))
 
 abbrev pub fill : List Number → Number → Expression → Number
 fill rest x e = evaluate (among (x ∷ rest)) e
@@ -73,17 +77,20 @@ module _ (rest : List Number) (are : AllNumbers rest) where
       record {
         is = λ x i. evaluated-is (x ∷ rest) (i, are) v;
         q-is = evaluated-is (middle ∷ rest) (pow-pos 1, are) q;
-        even = λ d i. moved (d times d) (replaced-at rest d (halfE take given 0) v) (replaced-at rest d (halfE add given 0) v) (replaced-at rest d halfE v) (replaced-at rest d halfE q)
+        even = λ d i. moved (d times d) (replaced-at rest d (halfE take given 0) v) (replaced-at rest d (halfE add given 0) v)
+            (replaced-at rest d halfE v) (replaced-at rest d halfE q)
             (equal-by (d ∷ rest) (i, are) (bothE v) (twiceE v q) test);
       }
 
   pub at-middle : (s t : Expression) → T (vanishes (normal (replaced halfE s take replaced halfE t))) → fill rest middle s equals fill rest middle t
   at-middle s t test =
       subst (λ (x : Number). x equals fill rest middle t) (replaced-at rest middle halfE s)
-      (subst (λ (x : Number). fill rest middle (replaced halfE s) equals x) (replaced-at rest middle halfE t) (equal-by (middle ∷ rest) (pow-pos 1, are) (replaced halfE s) (replaced halfE t) test))
+      (subst (λ (x : Number). fill rest middle (replaced halfE s) equals x) (replaced-at rest middle halfE t)
+      (equal-by (middle ∷ rest) (pow-pos 1, are) (replaced halfE s) (replaced halfE t) test))
 
 -- ---- the second coefficient by three values: q = 4·(v(0) + v(1) − 2·v(1/2))
-four-times : (a m q : Number) → IsNumber a → IsNumber m → IsNumber q → a equals m plus q times (middle times middle) → number 4 0 1 times (a less m) equals q
+four-times : (a m q : Number) → IsNumber a → IsNumber m → IsNumber q → a equals m plus q times (middle times middle)
+    → number 4 0 1 times (a less m) equals q
 four-times a m q ia im iq h =
     trans (times-is (number 4 0 1) (b less m) (pow-pos 0) (less-is b m ib im)) (by-left (number 4 0 1) (plus-equal h itself))
     (equal-by (m ∷ q ∷ []) (im, (iq, tt)) (ratio 4 0 mul (given 0 add given 1 mul (halfE mul halfE) take given 0)) (given 1) tt)
@@ -94,7 +101,8 @@ four-times a m q ia im iq h =
     ib : IsNumber b
     ib = plus-is m (q times (middle times middle)) im (times-is q (middle times middle) iq (pow-pos 2))
 
-pub second-under : (v : Number → Number) (q : Number) (j : ℕ) (A : Size) → IsSize A → Quadratic v q → Under (j of A) (v (middle less middle)) → Under (j of A) (v (middle plus middle)) → Under (j of A) (v middle)
+pub second-under : (v : Number → Number) (q : Number) (j : ℕ) (A : Size) → IsSize A → Quadratic v q → Under (j of A) (v (middle less middle))
+    → Under (j of A) (v (middle plus middle)) → Under (j of A) (v middle)
     → Under ((4 * (j + j + (j + j))) of A) q
 second-under v q j A C z u0 u1 um =
     let a = v (middle less middle) plus v (middle plus middle) in
@@ -108,9 +116,11 @@ second-under v q j A C z u0 u1 um =
     let u : Under (n of A) (number 4 0 1 times (a less m)) =
     subst (λ (B : Size). Under (n of B) (number 4 0 1 times (a less m))) (one-by A)
     (Counts.under-times 4 (j + j + (j + j)) one A (number 4 0 1) (a less m) (pow-pos 0) C (pow-pos 0) four-under
-    (Counts.under-less (j + j) (j + j) A a m C (Counts.under-plus j j A (v (middle less middle)) (v (middle plus middle)) C u0 u1) (Counts.under-plus j j A (v middle) (v middle) C um um))) in
+    (Counts.under-less (j + j) (j + j) A a m C (Counts.under-plus j j A (v (middle less middle)) (v (middle plus middle)) C u0 u1)
+    (Counts.under-plus j j A (v middle) (v middle) C um um))) in
     within-sym (n of A) zeroNumber q
-    (within-same (n of A) zeroNumber (number 4 0 1 times (a less m)) q (times-is (number 4 0 1) (a less m) (pow-pos 0) (less-is a m ia iM)) (within-sym (n of A) (number 4 0 1 times (a less m)) zeroNumber u)
+    (within-same (n of A) zeroNumber (number 4 0 1 times (a less m)) q (times-is (number 4 0 1) (a less m) (pow-pos 0) (less-is a m ia iM))
+    (within-sym (n of A) (number 4 0 1 times (a less m)) zeroNumber u)
     (four-times a m q ia iM (z .q-is) (z .even middle (pow-pos 1)) .same))
   where
     four-under : Under (4 of one) (number 4 0 1)

@@ -1,5 +1,5 @@
--- The volume integrals of a fin of square section whose strip is one piece: ∫r, ∫r², ∫x², ∫rx and ∫τ² by one law from their samples, which are polynomials
--- of the fraction of the span, V and ∫x by proofs/PlateIntegrals and proofs/PlateMoments; each near its closed form. Assumes nothing.
+-- The volume integrals of a fin of square section whose strip is one piece are near their closed forms: ∫r, ∫r², ∫x², ∫rx and ∫τ² by one law from
+-- their samples, which are polynomials of the fraction of the span, V and ∫x by proofs/PlateIntegrals and proofs/PlateMoments. Assumes nothing.
 use mathlib.Core.Path.{_≡_, sym, subst}
 use mathlib.Core.Bool.{_&&_}
 use mathlib.Core.List.{List, [], _∷_}
@@ -16,12 +16,16 @@ use Rattle.floats.specs.Operations.{_⊕_, _⊖_, _⊗_, _⊘_, bits, at}
 use Rattle.floats.specs.Constants.{three, twelve}
 use Rattle.floats.specs.Floats.{cube, fourth, fifth}
 use Rattle.plates.specs.Integrals.{unscaledOf}
-use Rattle.rounding_error.proofs.Numbers.{Number, number, Size, _per_, _plus_, _less_, _times_, _by_, _for_, _of_, _upto_, IsNumber, Under, valueOf, sizeOf, InRange, Ranges}
+use Rattle.rounding_error.proofs.Numbers.{Number, number, Size, _per_, _plus_, _less_, _times_, _by_, _for_, _of_, _upto_, IsNumber, Under, valueOf}
+use Rattle.rounding_error.proofs.Numbers.{sizeOf, InRange, Ranges}
 use Rattle.rounding_error.proofs.Distances.{sorted}
 use Rattle.rounding_error.proofs.Ranges.{ranges-by, ranges-for, in-range}
 use Rattle.rounding_error.proofs.Counts as Counts
-use Rattle.rounding_error.proofs.Chains.{Valued, some, few, inverse, inverse-is, inverse-times, under-inverse, counted, equalled, resized, exactly, zero-valued, plus-valued, less-valued, times-valued, exact-times, over-valued}
-use Rattle.rounding_error.proofs.Polynomials.{_equals_, trans, itself, by-left, times-equal, times-is, AllNumbers, Expression, given, ratio, _add_, _take_, _mul_, evaluate, among, normal, vanishes, equal-by, evaluated-is}
+use Rattle.rounding_error.proofs.Counts.{value-is}
+use Rattle.rounding_error.proofs.Chains.{Valued, some, few, inverse, inverse-is, inverse-times, under-inverse, counted, equalled, resized, exactly}
+use Rattle.rounding_error.proofs.Chains.{zero-valued, plus-valued, less-valued, times-valued, exact-times, over-valued}
+use Rattle.rounding_error.proofs.Polynomials.{_equals_, trans, itself, by-left, times-equal, times-is, AllNumbers, Expression, given, ratio, _add_}
+use Rattle.rounding_error.proofs.Polynomials.{_take_, _mul_, evaluate, among, normal, vanishes, equal-by, evaluated-is}
 use Rattle.accuracy.proofs.Samples.{one, quarter}
 use Rattle.accuracy.proofs.OnePiece.{centreOf, reachOf}
 use Rattle.accuracy.proofs.Given.{Lengths}
@@ -94,7 +98,8 @@ left-five b d Np Dp Ns Ds Nk Dk h =
 quarters : (b d Np Dp Nk Dk : ℕ) → Np * d ≤ b * Dp → 4 * (1 * (Nk * (Np * b))) * (Dk * (d * d)) ≤ Nk * (b * b) * (4 * (Dk * (Dp * d)))
 quarters b d Np Dp Nk Dk h = let x = simp plain at (mul-le-mul-left (4 * Nk * Dk * b * d) h) in simp plain (omega (arith, x))
 
-eighths : (b d Np Dp Nk Dk : ℕ) → Np * d ≤ b * Dp → 8 * (1 * (1 * (Nk * (Np * (b * b))))) * (Dk * (d * (d * d))) ≤ Nk * (b * (b * b)) * (4 * (2 * (Dk * (Dp * (d * d)))))
+eighths : (b d Np Dp Nk Dk : ℕ) → Np * d ≤ b * Dp
+    → 8 * (1 * (1 * (Nk * (Np * (b * b))))) * (Dk * (d * (d * d))) ≤ Nk * (b * (b * b)) * (4 * (2 * (Dk * (Dp * (d * d)))))
 eighths b d Np Dp Nk Dk h = let x = simp plain at (mul-le-mul-left (8 * Nk * Dk * b * b * d * d) h) in simp plain (omega (arith, x))
 
 zero-value : (U : Number) → IsNumber U → valueOf (bits 0) equals U times (middle less middle)
@@ -152,7 +157,8 @@ x2Second = ratio 2 0 mul thickE mul (endE mul endSlope mul endSlope take startE 
 
 abbrev rxSecond : Expression
 rxSecond =
-    thickE mul (radiusE mul (endSlope mul endSlope take startSlope mul startSlope) add ratio 2 0 mul radiusSlope mul (endE mul endSlope take startE mul startSlope))
+    thickE mul radiusE mul (endSlope mul endSlope take startSlope mul startSlope)
+    add ratio 2 0 mul thickE mul radiusSlope mul (endE mul endSlope take startE mul startSlope)
 
 -- the integral over the span, times a power of the scale
 abbrev integralE : Expression → Expression → Expression → Expression
@@ -169,8 +175,10 @@ fourthE = given 8 mul given 8 mul (given 8 mul given 8)
 abbrev fifthE : Expression
 fifthE = given 8 mul fourthE
 
-module _ (root tip span sweep scale : Float) (b d : ℕ) (g : Lengths root tip span sweep scale (b per d)) (thickness : Float) (tp : T (positive thickness)) (tr : Ranges 24 (sizeOf thickness))
-    (radius : Float) (rf : T (finite radius)) (ru : Under (1 of (b per d)) (valueOf radius)) (deep : num span * d ≤ b * den span) (thin : num thickness * d ≤ b * den thickness) where
+module _ (root tip span sweep scale : Float) (b d : ℕ) (g : Lengths root tip span sweep scale (b per d)) (thickness : Float)
+    (tp : T (positive thickness)) (tr : Ranges 24 (sizeOf thickness))
+    (radius : Float) (rf : T (finite radius)) (ru : Under (1 of (b per d)) (valueOf radius)) (deep : num span * d ≤ b * den span)
+    (thin : num thickness * d ≤ b * den thickness) where
   abbrev S : Number
   S = valueOf sweep
 
@@ -263,7 +271,7 @@ module _ (root tip span sweep scale : Float) (b d : ℕ) (g : Lengths root tip s
   iU = Chord.U-is root tip span sweep scale (b per d) g
 
   are : AllNumbers rest
-  are = (Counts.value-is root, (Counts.value-is tip, (Counts.value-is span, (Counts.value-is sweep, (Counts.value-is thickness, (Counts.value-is radius, (iσ, (Counts.value-is scale, tt))))))))
+  are = (value-is root, (value-is tip, (value-is span, (value-is sweep, (value-is thickness, (value-is radius, (iσ, (value-is scale, tt))))))))
 
   abbrev valueAt : Expression → Number → Number
   valueAt e τ = fill rest τ e
@@ -281,14 +289,16 @@ module _ (root tip span sweep scale : Float) (b d : ℕ) (g : Lengths root tip s
   all-ones (suc n) e =
       let x = atMiddle (onesE n e) in
       let ix : IsNumber x = evaluated-is (middle ∷ rest) (pow-pos 1, are) (onesE n e) in
-      trans (times-is (number 1 0 1) x (pow-pos 0) ix) (times-equal (times-is s σ (Counts.value-is scale) iσ) (pow-pos 0) ix ix (inverse-times scale sp) itself)
+      trans (times-is (number 1 0 1) x (pow-pos 0) ix)
+      (times-equal (times-is s σ (value-is scale) iσ) (pow-pos 0) ix ix (inverse-times scale sp) itself)
       (trans ix (equal-by (x ∷ []) (ix, tt) (ratio 1 0 mul given 0) (given 0) tt) (all-ones n e))
 
   abbrev At : (Float → Float) → Expression → ℕ → ℕ → Size → Type 0
   At y v l j A = (h : Float) (τ : Number) → IsNumber τ → Under (1 of one) τ → Valued h (U times τ) 16 2 H → Valued (y h) (valueAt v τ) l j A
 
   -- ---- the law: samples y near the polynomial v, whose second coefficient is q; D the unit of a power of the scale, W what is left of both units
-  module _ (k e m n : ℕ) (power : Float) (powerE : Expression) (A D W : Size) (ar : Ranges k A) (dr : Ranges e D) (fewer : T (leb k 500 && leb (48 + (2 + k) + e) 1000))
+  module _ (k e m n : ℕ) (power : Float) (powerE : Expression) (A D W : Size) (ar : Ranges k A) (dr : Ranges e D)
+      (fewer : T (leb k 500 && leb (48 + (2 + k) + e) 1000))
       (pv : Valued power (atMiddle powerE) m 1 D) (left : (4 of (H by (quarter by A) by D)) upto W)
       (y : Float → Float) (v q exact : Expression) (l j : ℕ) (each : At y v l j A)
       (even-test : T (vanishes (normal (bothE v take twiceE v q))))
@@ -306,13 +316,17 @@ module _ (root tip span sweep scale : Float) (b d : ℕ) (g : Lengths root tip s
     z = quadratic rest are v q even-test
 
     at-start : Valued (bits 0) (U times (middle less middle)) 16 2 H
-    at-start = counted (equalled (zero-valued H) (U times (middle less middle)) (times-is U (middle less middle) iU (pow-pos 2)) (zero-value U iU)) 16 2 (hr .real) tt
+    at-start =
+        counted (equalled (zero-valued H) (U times (middle less middle)) (times-is U (middle less middle) iU (pow-pos 2)) (zero-value U iU))
+        16 2 (hr .real) tt
 
     at-end : Valued (span ⊘ scale) (U times (middle plus middle)) 16 2 H
     at-end =
         counted
-        (equalled (over-valued scale sp (den-pos span) (in-range 48 H (omega arith) hr) tt (exactly span 1 (sizeOf span) (positive-finite span (g .span-positive)) (Counts.own-size span (g .span-positive))))
-        (U times (middle plus middle)) (times-is U (middle plus middle) iU (pow-pos 2)) (equal-by (U ∷ []) (iU, tt) (given 0) (given 0 mul (halfE add halfE)) tt))
+        (equalled (over-valued scale sp (den-pos span) (in-range 48 H (omega arith) hr) tt
+        (exactly span 1 (sizeOf span) (positive-finite span (g .span-positive)) (Counts.own-size span (g .span-positive))))
+        (U times (middle plus middle)) (times-is U (middle plus middle) iU (pow-pos 2))
+        (equal-by (U ∷ []) (iU, tt) (given 0) (given 0 mul (halfE add halfE)) tt))
         16 2 (hr .real) tt
 
     zero-one : Under (1 of one) (middle less middle)
@@ -326,7 +340,8 @@ module _ (root tip span sweep scale : Float) (b d : ℕ) (g : Lengths root tip s
 
     q-under : Under (r of A) (atMiddle q)
     q-under =
-        second-under (valueAt v) (atMiddle q) j A (ar .real) z (each (bits 0) (middle less middle) (pow-pos 2) zero-one at-start .size) (each (span ⊘ scale) (middle plus middle) (pow-pos 2) one-one at-end .size)
+        second-under (valueAt v) (atMiddle q) j A (ar .real) z (each (bits 0) (middle less middle) (pow-pos 2) zero-one at-start .size)
+        (each (span ⊘ scale) (middle plus middle) (pow-pos 2) one-one at-end .size)
         (sampled .at-centre .size)
 
     k-few : k ≤ 500
@@ -337,23 +352,29 @@ module _ (root tip span sweep scale : Float) (b d : ℕ) (g : Lengths root tip s
 
     product-in : InRange (H by (quarter by A) by D)
     product-in =
-        in-range (48 + (2 + k) + e) (H by (quarter by A) by D) (leb→le (48 + (2 + k) + e) 1000 (and-r (leb k 500) (leb (48 + (2 + k) + e) 1000) fewer))
+        in-range (48 + (2 + k) + e) (H by (quarter by A) by D)
+        (leb→le (48 + (2 + k) + e) 1000 (and-r (leb k 500) (leb (48 + (2 + k) + e) 1000) fewer))
         (ranges-by (48 + (2 + k)) e (H by (quarter by A)) D total-ranges dr)
 
     integral-exact : (U times integral (valueAt v) (atMiddle q)) times atMiddle powerE equals closed exact
     integral-exact =
         subst (λ (x : Number). (U times integral (valueAt v) (atMiddle q)) times atMiddle powerE equals x) (raised-at rest middle exact)
-        (trans (evaluated-is (middle ∷ rest) (pow-pos 1, are) (onesE n (raised exact))) (at-middle rest are (integralE v q powerE) (onesE n (raised exact)) exact-test) (all-ones n (raised exact)))
+        (trans (evaluated-is (middle ∷ rest) (pow-pos 1, are) (onesE n (raised exact)))
+        (at-middle rest are (integralE v q powerE) (onesE n (raised exact)) exact-test) (all-ones n (raised exact)))
 
-    integral-valued : j ≤ 2 ^ 6 → l ≤ 2 ^ 20 → T (some K && some m && few (suc J * 2)) → T (leb (suc J * 2 + (suc J * m + 1 * K)) (4 * 60000) && leb (J * 1) (4 * 400))
+    integral-valued : j ≤ 2 ^ 6 → l ≤ 2 ^ 20 → T (some K && some m && few (suc J * 2))
+        → T (leb (suc J * 2 + (suc J * m + 1 * K)) (4 * 60000) && leb (J * 1) (4 * 400))
         → Valued (totalOver root tip span sweep scale (b per d) g y ⊗ power) (closed exact) 60000 400 W
     integral-valued fj fl within fits =
         let total : Valued (totalOver root tip span sweep scale (b per d) g y) (U times integral (valueAt v) (atMiddle q)) K J (H by (quarter by A)) =
-        total-valued root tip span sweep scale (b per d) g y (valueAt v) (atMiddle q) l j r k A (omega arith) (omega arith) fl k-few ar z q-under sampled in
+        total-valued root tip span sweep scale (b per d) g y (valueAt v) (atMiddle q) l j r k A
+        (omega arith) (omega arith) fl k-few ar z q-under sampled in
         parted 4 60000 400 (H by (quarter by A) by D) W (product-in .real) left
-        (leb→le (suc J * 2 + (suc J * m + 1 * K)) (4 * 60000) (and-l (leb (suc J * 2 + (suc J * m + 1 * K)) (4 * 60000)) (leb (J * 1) (4 * 400)) fits))
+        (leb→le (suc J * 2 + (suc J * m + 1 * K)) (4 * 60000)
+        (and-l (leb (suc J * 2 + (suc J * m + 1 * K)) (4 * 60000)) (leb (J * 1) (4 * 400)) fits))
         (leb→le (J * 1) (4 * 400) (and-r (leb (suc J * 2 + (suc J * m + 1 * K)) (4 * 60000)) (leb (J * 1) (4 * 400)) fits))
-        (equalled (times-valued {A = H by (quarter by A)} {B = D} (total-ranges .real) (dr .real) product-in within total pv) (closed exact) (evaluated-is rest are exact) integral-exact)
+        (equalled (times-valued {A = H by (quarter by A)} {B = D} (total-ranges .real) (dr .real) product-in within total pv) (closed exact)
+        (evaluated-is rest are exact) integral-exact)
 
   -- ---- powers of the scale
   D4r : Ranges 96 (SS by SS by (SS by SS))
@@ -367,7 +388,8 @@ module _ (root tip span sweep scale : Float) (b d : ℕ) (g : Lengths root tip s
 
   fifth-valued : Valued (fifth scale) (atMiddle fifthE) 12 1 (SS by (SS by SS by (SS by SS)))
   fifth-valued =
-      exact-times scale 1 SS (den-pos scale) (D4r .real) (in-range 120 (SS by (SS by SS by (SS by SS))) (omega arith) D5r) tt (positive-finite scale sp) (Counts.own-size scale sp) fourth-valued
+      exact-times scale 1 SS (den-pos scale) (D4r .real) (in-range 120 (SS by (SS by SS by (SS by SS))) (omega arith) D5r) tt
+      (positive-finite scale sp) (Counts.own-size scale sp) fourth-valued
 
   left4 : (4 of (H by (quarter by A3) by (SS by SS by (SS by SS)))) upto W3
   left4 = left-four b d (num span) (den span) (num scale) (den scale) (num thickness) (den thickness) deep
@@ -441,7 +463,7 @@ module _ (root tip span sweep scale : Float) (b d : ℕ) (g : Lengths root tip s
     height-valued = resized H Bs (hr .real) H-upto (record { near = zh .near; size = under-one 1 1 H U τ (hr .real) iU U-under u; is = zh .is })
       where
         U-under : Under (1 of H) U
-        U-under = under-inverse 1 (sizeOf span) P scale (den-pos span) (Counts.value-is span) sp (Counts.own-size span (g .span-positive))
+        U-under = under-inverse 1 (sizeOf span) P scale (den-pos span) (value-is span) sp (Counts.own-size span (g .span-positive))
 
     radius-valued : Valued (radiusAt h) (valueAt radiusE τ) 22 2 Bs
     radius-valued = plus-valued in-b tt (over-valued scale sp (g .ranges .real) in-b tt (exactly radius 1 Λ rf ru)) height-valued
@@ -481,11 +503,14 @@ module _ (root tip span sweep scale : Float) (b d : ℕ) (g : Lengths root tip s
         k1 : Ranges 192 (Bs by Bs by (TKs by Bs))
         k1 = ranges-by 96 96 (Bs by Bs) (TKs by Bs) b2 k0
 
-    cubes-valued : Valued (cube (b′ h) ⊖ cube (a′ h)) (valueAt (endE mul (endE mul endE) take startE mul (startE mul startE)) τ) 8239 65 (Bs by (Bs by Bs))
+    cubes-valued : Valued (cube (b′ h) ⊖ cube (a′ h)) (valueAt (endE mul (endE mul endE) take startE mul (startE mul startE)) τ) 8239 65
+        (Bs by (Bs by Bs))
     cubes-valued =
         less-valued in-b3 tt
-        (times-valued {A = Bs} {B = Bs by Bs} (br .real) (b2 .real) in-b3 tt end (times-valued {A = Bs} {B = Bs} (br .real) (br .real) in-b2 tt end end))
-        (times-valued {A = Bs} {B = Bs by Bs} (br .real) (b2 .real) in-b3 tt start (times-valued {A = Bs} {B = Bs} (br .real) (br .real) in-b2 tt start start))
+        (times-valued {A = Bs} {B = Bs by Bs} (br .real) (b2 .real) in-b3 tt end
+        (times-valued {A = Bs} {B = Bs} (br .real) (br .real) in-b2 tt end end))
+        (times-valued {A = Bs} {B = Bs by Bs} (br .real) (b2 .real) in-b3 tt start
+        (times-valued {A = Bs} {B = Bs} (br .real) (br .real) in-b2 tt start start))
 
     x2-valued : Valued (x2At h) (valueAt m2E τ) 5625 22 A4
     x2-valued =
@@ -494,7 +519,8 @@ module _ (root tip span sweep scale : Float) (b d : ℕ) (g : Lengths root tip s
         (equalled
         (over-valued three three-positive (a4 .real) (in-range 194 (A4 for three) (omega arith) k3) tt
         (times-valued {A = TKs} {B = Bs by (Bs by Bs)} (ks .real) (b3 .real) (in-range 192 A4 (omega arith) a4) tt t-valued cubes-valued))
-        (valueAt m2E τ) (evaluated-is (τ ∷ rest) (i, are) m2E) (by-left (valueAt (thickE mul (endE mul (endE mul endE) take startE mul (startE mul startE))) τ) three-inverse)))
+        (valueAt m2E τ) (evaluated-is (τ ∷ rest) (i, are) m2E)
+        (by-left (valueAt (thickE mul (endE mul (endE mul endE) take startE mul (startE mul startE))) τ) three-inverse)))
       where
         k3 : Ranges 194 (A4 for three)
         k3 = ranges-for 192 2 A4 three three-positive a4 three-ranges
@@ -517,7 +543,8 @@ module _ (root tip span sweep scale : Float) (b d : ℕ) (g : Lengths root tip s
         (times-valued {A = TKs} {B = TKs by TKs} (ks .real) (k2 .real) (in-range 144 TT (omega arith) k3) tt t-valued
         (times-valued {A = TKs} {B = TKs} (ks .real) (ks .real) (in-range 96 (TKs by TKs) (omega arith) k2) tt t-valued t-valued))
         (Area.across-valued root tip span sweep scale (b per d) g h τ i u zh)))
-        (valueAt tE τ) (evaluated-is (τ ∷ rest) (i, are) tE) (by-left (valueAt (thickE mul (thickE mul thickE) mul (endE take startE)) τ) twelve-inverse)))
+        (valueAt tE τ) (evaluated-is (τ ∷ rest) (i, are) tE)
+        (by-left (valueAt (thickE mul (thickE mul thickE) mul (endE take startE)) τ) twelve-inverse)))
       where
         k2 : Ranges 96 (TKs by TKs)
         k2 = ranges-by 48 48 TKs TKs ks ks
@@ -537,39 +564,49 @@ module _ (root tip span sweep scale : Float) (b d : ℕ) (g : Lengths root tip s
 
   volume-near : Valued (total m0At ⊗ cube scale) (closed volumeE) 60000 400 W2
   volume-near =
-      parted 4 60000 400 (Plates.unit root tip span sweep scale b d g thickness tp tr) W2 (Plates.unit-ranges root tip span sweep scale b d g thickness tp tr .real)
-      (quarters b d (num span) (den span) (num thickness) (den thickness) deep) (omega arith) (omega arith) (Plates.volume-valued root tip span sweep scale b d g thickness tp tr)
+      parted 4 60000 400 (Plates.unit root tip span sweep scale b d g thickness tp tr) W2
+      (Plates.unit-ranges root tip span sweep scale b d g thickness tp tr .real)
+      (quarters b d (num span) (den span) (num thickness) (den thickness) deep) (omega arith) (omega arith)
+      (Plates.volume-valued root tip span sweep scale b d g thickness tp tr)
 
   x1-near : Valued (total m1At ⊗ fourth scale) (closed x1E) 60000 400 W3
   x1-near =
-      parted 8 60000 400 (Moments.momentUnit root tip span sweep scale b d g thickness tp tr) W3 (Moments.moment-ranges root tip span sweep scale b d g thickness tp tr .real)
-      (eighths b d (num span) (den span) (num thickness) (den thickness) deep) (omega arith) (omega arith) (Moments.moment-valued root tip span sweep scale b d g thickness tp tr)
+      parted 8 60000 400 (Moments.momentUnit root tip span sweep scale b d g thickness tp tr) W3
+      (Moments.moment-ranges root tip span sweep scale b d g thickness tp tr .real)
+      (eighths b d (num span) (den span) (num thickness) (den thickness) deep) (omega arith) (omega arith)
+      (Moments.moment-valued root tip span sweep scale b d g thickness tp tr)
 
   r1-near : Valued (total r1At ⊗ fourth scale) (closed r1E) 60000 400 W3
   r1-near =
-      integral-valued 144 96 10 4 (fourth scale) fourthE A3 (SS by SS by (SS by SS)) W3 a3 D4r tt fourth-valued left4 r1At (radiusE mul m0E) r1Second r1E 1193 10 r1-valued tt tt (omega arith) (omega arith) tt tt
+      integral-valued 144 96 10 4 (fourth scale) fourthE A3 (SS by SS by (SS by SS)) W3 a3 D4r tt fourth-valued left4
+      r1At (radiusE mul m0E) r1Second r1E 1193 10 r1-valued tt tt (omega arith) (omega arith) tt tt
 
   r2-near : Valued (total r2At ⊗ fifth scale) (closed r2E) 60000 400 W4
   r2-near =
-      integral-valued 192 120 12 5 (fifth scale) fifthE A4 (SS by (SS by SS by (SS by SS))) W4 a4 D5r tt fifth-valued left5 r2At (radiusE mul radiusE mul m0E) r2Second r2E 2400 20 r2-valued tt tt (omega arith) (omega arith) tt tt
+      integral-valued 192 120 12 5 (fifth scale) fifthE A4 (SS by (SS by SS by (SS by SS))) W4 a4 D5r tt fifth-valued left5
+      r2At (radiusE mul radiusE mul m0E) r2Second r2E 2400 20 r2-valued tt tt (omega arith) (omega arith) tt tt
 
   rx-near : Valued (total rxAt ⊗ fifth scale) (closed rxE) 60000 400 W4
   rx-near =
-      integral-valued 192 120 12 5 (fifth scale) fifthE A4 (SS by (SS by SS by (SS by SS))) W4 a4 D5r tt fifth-valued left5 rxAt (radiusE mul m1E) rxSecond rxE 4233 17 rx-valued tt tt (omega arith) (omega arith) tt tt
+      integral-valued 192 120 12 5 (fifth scale) fifthE A4 (SS by (SS by SS by (SS by SS))) W4 a4 D5r tt fifth-valued left5
+      rxAt (radiusE mul m1E) rxSecond rxE 4233 17 rx-valued tt tt (omega arith) (omega arith) tt tt
 
   x2-near : Valued (total x2At ⊗ fifth scale) (closed x2E) 60000 400 W4
   x2-near =
-      integral-valued 192 120 12 5 (fifth scale) fifthE A4 (SS by (SS by SS by (SS by SS))) W4 a4 D5r tt fifth-valued left5 x2At m2E x2Second x2E 5625 22 x2-valued tt tt (omega arith) (omega arith) tt tt
+      integral-valued 192 120 12 5 (fifth scale) fifthE A4 (SS by (SS by SS by (SS by SS))) W4 a4 D5r tt fifth-valued left5
+      x2At m2E x2Second x2E 5625 22 x2-valued tt tt (omega arith) (omega arith) tt tt
 
   tau2-near : Valued (total tau2At ⊗ fifth scale) (closed tau2E) 60000 400 W4
   tau2-near =
-      integral-valued 192 120 12 5 (fifth scale) fifthE A4 (SS by (SS by SS by (SS by SS))) W4 a4 D5r tt fifth-valued left5 tau2At tE (ratio 0 0) tau2E 41 1 tau2-valued tt tt (omega arith) (omega arith) tt tt
+      integral-valued 192 120 12 5 (fifth scale) fifthE A4 (SS by (SS by SS by (SS by SS))) W4 a4 D5r tt fifth-valued left5
+      tau2At tE (ratio 0 0) tau2E 41 1 tau2-valued tt tt (omega arith) (omega arith) tt tt
 
   -- ---- the seven of totals t, in metres
   called : {x y : Float} {v : Number} {W : Size} (power : Float) → Valued (y ⊗ power) v 60000 400 W → x ≡ y → Valued (x ⊗ power) v 60000 400 W
   called {v = v} {W = W} power h e = subst (λ (t : Float). Valued (t ⊗ power) v 60000 400 W) (sym e) h
 
-  pub seven-near : (t : List Float) → at t 0 ≡ total m0At → at t 1 ≡ total r1At → at t 2 ≡ total r2At → at t 3 ≡ total m1At → at t 4 ≡ total x2At → at t 5 ≡ total rxAt → at t 6 ≡ total tau2At
+  pub seven-near : (t : List Float) → at t 0 ≡ total m0At → at t 1 ≡ total r1At → at t 2 ≡ total r2At → at t 3 ≡ total m1At → at t 4 ≡ total x2At
+      → at t 5 ≡ total rxAt → at t 6 ≡ total tau2At
       → SevenNear (unscaledOf t scale) (sevenOf rest volumeE r1E r2E x1E x2E rxE tau2E) 60000 400 (sizeOf thickness) (b per d)
   seven-near t e0 e1 e2 e3 e4 e5 e6 =
       record {
