@@ -3,129 +3,54 @@
 use mathlib.Core.Path.{_≡_, sym, subst}
 use mathlib.Core.Bool.{_&&_}
 use mathlib.Core.List.{List, [], _∷_}
-use Prim.Native.Nat.{ℕ, zero, suc, _+_, _*_, _^_, _≤_}
-use native.Mathlib.Nat.{mul-le-mul, mul-le-mul-left, one-mul, mul-one, zero-mul, mul-zero, zero-add, add-zero}
+use Prim.Native.Nat.{ℕ, suc, _+_, _*_, _^_, _≤_}
 use native.Mathlib.Omega.{arith}
-use lib.Dec.{T, leb, leb→le}
+use lib.Dec.{T, lit≤}
 use lib.Pow.{pow-pos}
 use lib.Ieee.{Float, ofBits}
-use lib.Ieee.Fits.{and-l, and-r}
 use lib.Ieee.Scale.{finite}
 use lib.Ieee.Positive.{num, den, den-pos, positive, positive-finite}
 use Rattle.floats.specs.Operations.{_⊕_, _⊖_, _⊗_, _⊘_, bits, at}
 use Rattle.floats.specs.Constants.{three, twelve}
 use Rattle.floats.specs.Floats.{cube, fourth, fifth}
 use Rattle.plates.specs.Integrals.{unscaledOf}
-use Rattle.rounding_error.proofs.Numbers.{Number, number, Size, _per_, _plus_, _less_, _times_, _by_, _for_, _of_, _upto_, IsNumber, Under, valueOf}
+use Rattle.rounding_error.proofs.Numbers.{Number, Size, _per_, _plus_, _less_, _times_, _by_, _for_, _of_, _upto_, IsNumber, Under, valueOf}
 use Rattle.rounding_error.proofs.Numbers.{sizeOf, InRange, Ranges}
-use Rattle.rounding_error.proofs.Distances.{sorted}
 use Rattle.rounding_error.proofs.Ranges.{ranges-by, ranges-for, in-range}
 use Rattle.rounding_error.proofs.Counts as Counts
 use Rattle.rounding_error.proofs.Counts.{value-is}
-use Rattle.rounding_error.proofs.Chains.{Valued, some, few, inverse, inverse-is, inverse-times, under-inverse, counted, equalled, resized, exactly}
-use Rattle.rounding_error.proofs.Chains.{zero-valued, plus-valued, less-valued, times-valued, exact-times, over-valued}
-use Rattle.rounding_error.proofs.Polynomials.{_equals_, trans, itself, by-left, times-equal, times-is, AllNumbers, Expression, given, ratio, _add_}
+use Rattle.rounding_error.proofs.Chains.{Valued, some, few, inverse, under-inverse, counted, equalled, resized, exactly}
+use Rattle.rounding_error.proofs.Chains.{zero-valued, plus-valued, less-valued, times-valued, over-valued}
+use Rattle.rounding_error.proofs.Polynomials.{_equals_, by-left, times-is, AllNumbers, Expression, given, ratio, _add_}
 use Rattle.rounding_error.proofs.Polynomials.{_take_, _mul_, evaluate, among, normal, vanishes, equal-by, evaluated-is}
 use Rattle.accuracy.proofs.Samples.{one, quarter}
-use Rattle.accuracy.proofs.OnePiece.{centreOf, reachOf}
+use Rattle.accuracy.proofs.OnePiece.{centreOf}
 use Rattle.accuracy.proofs.Given.{Lengths}
 use Rattle.accuracy.proofs.Ends.{halfSize}
-use Rattle.accuracy.proofs.Areas.{quarter-ranges, half-ranges}
-use Rattle.accuracy.proofs.Weighted.{middle, Sampled}
-use Rattle.accuracy.proofs.Quadratic.{Quadratic, integral}
+use Rattle.accuracy.proofs.Areas.{half-ranges}
+use Rattle.accuracy.proofs.Weighted.{middle}
 use Rattle.accuracy.proofs.Width.{under-one}
 use Rattle.accuracy.proofs.ChordEnds as Chord
 use Rattle.accuracy.proofs.AreaSamples as Area
-use Rattle.accuracy.proofs.Integrals.{from-zero, parted, totalOver, totalError, sumSize, total-valued}
+use Rattle.accuracy.proofs.Integrals.{from-zero, parted, totalOver, totalError, sumSize}
+use Rattle.accuracy.proofs.Unscaled as Unscaled
+use Rattle.accuracy.proofs.Unscaled.{startE, endE, thickE, m0E, m1E, integralE, onesE, fourthE, fifthE}
 use Rattle.accuracy.proofs.PlateIntegrals as Plates
 use Rattle.accuracy.proofs.PlateMoments as Moments
 use Rattle.accuracy.proofs.Constants.{three-inverse, three-positive, three-ranges, twelve-inverse, twelve-positive, twelve-ranges}
-use Rattle.accuracy.proofs.Cubics.{replaced, halfE, raised, raised-at, bothE, twiceE, fill, quadratic, at-middle, second-under}
+use Rattle.accuracy.proofs.FinUnits.{swapped, third-in, half-in, by-three, by-twelve, per-scale, left-four, left-five, quarters, eighths}
+use Rattle.accuracy.proofs.Cubics.{replaced, halfE, raised, bothE, twiceE, fill, quadratic, second-under}
 use Rattle.accuracy.proofs.ClosedForms.{SevenNear, sevenOf, volumeE, r1E, r2E, x1E, x2E, rxE, tau2E}
-
-ruleset plain = (sorted, one-mul, mul-one, zero-mul, mul-zero, zero-add, add-zero)
-
--- ---- the units
-swapped : (A B C : Size) → (A by (B by C)) upto (B by (A by C))
-swapped (a per d) (b per e) (c per f) = go a b c d e f
-  where
-    go : (a b c d e f : ℕ) → a * (b * c) * (e * (d * f)) ≤ b * (a * c) * (d * (e * f))
-    go a b c d e f = simp sorted (omega arith)
-
-third-in : (A B C D : Size) → (A by B by (C by D)) upto (C by (A by (B by D)))
-third-in (a per e) (b per f) (c per g) (d per h) = go a b c d e f g h
-  where
-    go : (a b c d e f g h : ℕ) → a * b * (c * d) * (g * (e * (f * h))) ≤ c * (a * (b * d)) * (e * f * (g * h))
-    go a b c d e f g h = simp sorted (omega arith)
-
-half-in : (A B C D : Size) → (2 of (A by (halfSize by B by (C by D)))) upto (B by (A by (C by D)))
-half-in (a per e) (b per f) (c per g) (d per h) = go a b c d e f g h
-  where
-    go : (a b c d e f g h : ℕ) → 2 * (a * (1 * b * (c * d))) * (f * (e * (g * h))) ≤ b * (a * (c * d)) * (e * (2 * f * (g * h)))
-    go a b c d e f g h = simp plain (omega arith)
-
-by-three : (A : Size) → (3 of (A for three)) upto A
-unfolding ofBits
-by-three (a per c) = go a c
-  where
-    go : (a c : ℕ) → 3 * (a * 1) * c ≤ a * (3 * c)
-    go a c = simp plain (omega arith)
-
-by-twelve : (A B : Size) → A upto B → (12 of (A by (A by A) by B for twelve)) upto (A by (B by (B by B)))
-unfolding ofBits
-by-twelve (a per c) (b per d) h = go (mul-le-mul h h)
-  where
-    go : a * d * (a * d) ≤ b * c * (b * c) → 12 * (a * (a * a) * b * 1) * (c * (d * (d * d))) ≤ a * (b * (b * b)) * (12 * (c * (c * c) * d))
-    go u = let x = simp plain at (mul-le-mul-left (12 * a * b * c * d) u) in simp plain (omega (arith, x))
-
-per-scale : (b d Np Dp Ns Ds : ℕ) → Np * d ≤ b * Dp → Np * Ds * (Ns * d) ≤ b * Ds * (Ns * Dp)
-per-scale b d Np Dp Ns Ds h = let x = simp plain at (mul-le-mul-left (Ds * Ns) h) in simp plain (omega (arith, x))
-
-left-four : (b d Np Dp Ns Ds Nk Dk : ℕ) → Np * d ≤ b * Dp
-    → 4 * (Np * Ds * (1 * (Nk * Ds * (b * Ds * (b * Ds)))) * (Ns * Ns * (Ns * Ns))) * (Dk * (d * (d * d)))
-    ≤ Nk * (b * (b * b)) * (Ns * Dp * (4 * (Ns * Dk * (Ns * d * (Ns * d)))) * (Ds * Ds * (Ds * Ds)))
-left-four b d Np Dp Ns Ds Nk Dk h =
-    let x = simp plain at (mul-le-mul-left (4 * Ds * Ds * Ds * Ds * Ns * Ns * Ns * Ns * Nk * Dk * b * b * d * d) h) in
-    simp plain (omega (arith, x))
-
-left-five : (b d Np Dp Ns Ds Nk Dk : ℕ) → Np * d ≤ b * Dp
-    → 4 * (Np * Ds * (1 * (Nk * Ds * (b * Ds * (b * Ds * (b * Ds))))) * (Ns * (Ns * Ns * (Ns * Ns)))) * (Dk * (d * d * (d * d)))
-    ≤ Nk * (b * b * (b * b)) * (Ns * Dp * (4 * (Ns * Dk * (Ns * d * (Ns * d * (Ns * d))))) * (Ds * (Ds * Ds * (Ds * Ds))))
-left-five b d Np Dp Ns Ds Nk Dk h =
-    let x = simp plain at (mul-le-mul-left (4 * Ds * Ds * Ds * Ds * Ds * Ns * Ns * Ns * Ns * Ns * Nk * Dk * b * b * b * d * d * d) h) in
-    simp plain (omega (arith, x))
-
-quarters : (b d Np Dp Nk Dk : ℕ) → Np * d ≤ b * Dp → 4 * (1 * (Nk * (Np * b))) * (Dk * (d * d)) ≤ Nk * (b * b) * (4 * (Dk * (Dp * d)))
-quarters b d Np Dp Nk Dk h = let x = simp plain at (mul-le-mul-left (4 * Nk * Dk * b * d) h) in simp plain (omega (arith, x))
-
-eighths : (b d Np Dp Nk Dk : ℕ) → Np * d ≤ b * Dp
-    → 8 * (1 * (1 * (Nk * (Np * (b * b))))) * (Dk * (d * (d * d))) ≤ Nk * (b * (b * b)) * (4 * (2 * (Dk * (Dp * (d * d)))))
-eighths b d Np Dp Nk Dk h = let x = simp plain at (mul-le-mul-left (8 * Nk * Dk * b * b * d * d) h) in simp plain (omega (arith, x))
 
 zero-value : (U : Number) → IsNumber U → valueOf (bits 0) equals U times (middle less middle)
 unfolding ofBits
 zero-value U i = equal-by (U ∷ []) (i, tt) (ratio 0 0) (given 0 mul (halfE take halfE)) tt
 
--- ---- the samples' exact values: the fraction, root, tip, span, sweep, thickness, radius, 1/scale and scale stand at the places 0 to 8
-abbrev startE : Expression
-startE = given 4 mul given 0 mul given 7
-
-abbrev endE : Expression
-endE = (given 4 mul given 0 add given 1 add (given 2 take given 1) mul given 0) mul given 7
-
+-- ---- the samples' exact values, in the places of proofs/Unscaled
 abbrev radiusE : Expression
 radiusE = given 6 mul given 7 add given 3 mul given 7 mul given 0
 
-abbrev thickE : Expression
-thickE = given 5 mul given 7
-
--- the moments M_0, M_1, M_2 and T of a chord
-abbrev m0E : Expression
-m0E = thickE mul (endE take startE)
-
-abbrev m1E : Expression
-m1E = ratio 1 1 mul thickE mul (endE mul endE take startE mul startE)
-
+-- the moments M_2 and T of a chord
 abbrev m2E : Expression
 m2E = thickE mul (endE mul (endE mul endE) take startE mul (startE mul startE)) mul ratio 1 2
 
@@ -159,21 +84,6 @@ abbrev rxSecond : Expression
 rxSecond =
     thickE mul radiusE mul (endSlope mul endSlope take startSlope mul startSlope)
     add ratio 2 0 mul thickE mul radiusSlope mul (endE mul endSlope take startE mul startSlope)
-
--- the integral over the span, times a power of the scale
-abbrev integralE : Expression → Expression → Expression → Expression
-integralE v q power = given 3 mul given 7 mul (v add ratio 1 23 mul q) mul power
-
--- times scale·(1/scale), n times
-abbrev onesE : ℕ → Expression → Expression
-onesE zero e = e
-onesE (suc n) e = given 8 mul given 7 mul onesE n e
-
-abbrev fourthE : Expression
-fourthE = given 8 mul given 8 mul (given 8 mul given 8)
-
-abbrev fifthE : Expression
-fifthE = given 8 mul fourthE
 
 module _ (root tip span sweep scale : Float) (b d : ℕ) (g : Lengths root tip span sweep scale (b per d)) (thickness : Float)
     (tp : T (positive thickness)) (tr : Ranges 24 (sizeOf thickness))
@@ -261,17 +171,14 @@ module _ (root tip span sweep scale : Float) (b d : ℕ) (g : Lengths root tip s
   a4 : Ranges 192 A4
   a4 = ranges-by 48 144 TKs (Bs by (Bs by Bs)) ks b3
 
-  abbrev pub rest : List Number
-  rest = R ∷ Tp ∷ P ∷ S ∷ Tk ∷ Q ∷ σ ∷ s ∷ []
-
-  iσ : IsNumber σ
-  iσ = inverse-is scale sp
+  abbrev rest : List Number
+  rest = Unscaled.rest root tip span sweep scale b d g thickness Q (value-is radius)
 
   iU : IsNumber U
   iU = Chord.U-is root tip span sweep scale (b per d) g
 
   are : AllNumbers rest
-  are = (value-is root, (value-is tip, (value-is span, (value-is sweep, (value-is thickness, (value-is radius, (iσ, (value-is scale, tt))))))))
+  are = Unscaled.are root tip span sweep scale b d g thickness Q (value-is radius)
 
   abbrev valueAt : Expression → Number → Number
   valueAt e τ = fill rest τ e
@@ -279,27 +186,38 @@ module _ (root tip span sweep scale : Float) (b d : ℕ) (g : Lengths root tip s
   abbrev atMiddle : Expression → Number
   atMiddle e = fill rest middle e
 
-  -- of the closed forms
   abbrev closed : Expression → Number
   closed e = evaluate (among rest) e
 
-  -- ---- scale·(1/scale) is 1
-  all-ones : (n : ℕ) (e : Expression) → atMiddle (onesE n e) equals atMiddle e
-  all-ones zero e = itself
-  all-ones (suc n) e =
-      let x = atMiddle (onesE n e) in
-      let ix : IsNumber x = evaluated-is (middle ∷ rest) (pow-pos 1, are) (onesE n e) in
-      trans (times-is (number 1 0 1) x (pow-pos 0) ix)
-      (times-equal (times-is s σ (value-is scale) iσ) (pow-pos 0) ix ix (inverse-times scale sp) itself)
-      (trans ix (equal-by (x ∷ []) (ix, tt) (ratio 1 0 mul given 0) (given 0) tt) (all-ones n e))
-
   abbrev At : (Float → Float) → Expression → ℕ → ℕ → Size → Type 0
-  At y v l j A = (h : Float) (τ : Number) → IsNumber τ → Under (1 of one) τ → Valued h (U times τ) 16 2 H → Valued (y h) (valueAt v τ) l j A
+  At = Unscaled.At root tip span sweep scale b d g thickness Q (value-is radius)
 
-  -- ---- the law: samples y near the polynomial v, whose second coefficient is q; D the unit of a power of the scale, W what is left of both units
+  -- ---- proofs/Unscaled's law, in the unit W; how large the second coefficient is follows from the samples
+  at-start : Valued (bits 0) (U times (middle less middle)) 16 2 H
+  at-start =
+      counted (equalled (zero-valued H) (U times (middle less middle)) (times-is U (middle less middle) iU (pow-pos 2)) (zero-value U iU))
+      16 2 (hr .real) tt
+
+  at-end : Valued (span ⊘ scale) (U times (middle plus middle)) 16 2 H
+  at-end =
+      counted
+      (equalled (over-valued scale sp (den-pos span) (in-range 48 H (omega arith) hr) tt
+      (exactly span 1 (sizeOf span) (positive-finite span (g .span-positive)) (Counts.own-size span (g .span-positive))))
+      (U times (middle plus middle)) (times-is U (middle plus middle) iU (pow-pos 2))
+      (equal-by (U ∷ []) (iU, tt) (given 0) (given 0 mul (halfE add halfE)) tt))
+      16 2 (hr .real) tt
+
+  at-half : Valued (centreOf span scale) (U times middle) 16 2 H
+  at-half = counted (Chord.middle-valued root tip span sweep scale (b per d) g) 16 2 (hr .real) tt
+
+  zero-one : Under (1 of one) (middle less middle)
+  zero-one = record { below = omega arith; above = omega arith }
+
+  one-one : Under (1 of one) (middle plus middle)
+  one-one = record { below = omega arith; above = omega arith }
+
   module _ (k e m n : ℕ) (power : Float) (powerE : Expression) (A D W : Size) (ar : Ranges k A) (dr : Ranges e D)
-      (fewer : T (leb k 500 && leb (48 + (2 + k) + e) 1000))
-      (pv : Valued power (atMiddle powerE) m 1 D) (left : (4 of (H by (quarter by A) by D)) upto W)
+      (fk : k ≤ 500) (fe : 48 + (2 + k) + e ≤ 1000) (pv : Valued power (atMiddle powerE) m 1 D) (left : (4 of (H by (quarter by A) by D)) upto W)
       (y : Float → Float) (v q exact : Expression) (l j : ℕ) (each : At y v l j A)
       (even-test : T (vanishes (normal (bothE v take twiceE v q))))
       (exact-test : T (vanishes (normal (replaced halfE (integralE v q powerE) take replaced halfE (onesE n (raised exact)))))) where
@@ -312,90 +230,33 @@ module _ (root tip span sweep scale : Float) (b d : ℕ) (g : Lengths root tip s
     abbrev J : ℕ
     J = sumSize j r
 
-    z : Quadratic (valueAt v) (atMiddle q)
-    z = quadratic rest are v q even-test
-
-    at-start : Valued (bits 0) (U times (middle less middle)) 16 2 H
-    at-start =
-        counted (equalled (zero-valued H) (U times (middle less middle)) (times-is U (middle less middle) iU (pow-pos 2)) (zero-value U iU))
-        16 2 (hr .real) tt
-
-    at-end : Valued (span ⊘ scale) (U times (middle plus middle)) 16 2 H
-    at-end =
-        counted
-        (equalled (over-valued scale sp (den-pos span) (in-range 48 H (omega arith) hr) tt
-        (exactly span 1 (sizeOf span) (positive-finite span (g .span-positive)) (Counts.own-size span (g .span-positive))))
-        (U times (middle plus middle)) (times-is U (middle plus middle) iU (pow-pos 2))
-        (equal-by (U ∷ []) (iU, tt) (given 0) (given 0 mul (halfE add halfE)) tt))
-        16 2 (hr .real) tt
-
-    zero-one : Under (1 of one) (middle less middle)
-    zero-one = record { below = omega arith; above = omega arith }
-
-    one-one : Under (1 of one) (middle plus middle)
-    one-one = record { below = omega arith; above = omega arith }
-
-    sampled : Sampled y (valueAt v) (centreOf span scale) (reachOf span scale) l j A
-    sampled = Area.sampled root tip span sweep scale (b per d) g y (valueAt v) l j A each
-
     q-under : Under (r of A) (atMiddle q)
     q-under =
-        second-under (valueAt v) (atMiddle q) j A (ar .real) z (each (bits 0) (middle less middle) (pow-pos 2) zero-one at-start .size)
+        second-under (valueAt v) (atMiddle q) j A (ar .real) (quadratic rest are v q even-test)
+        (each (bits 0) (middle less middle) (pow-pos 2) zero-one at-start .size)
         (each (span ⊘ scale) (middle plus middle) (pow-pos 2) one-one at-end .size)
-        (sampled .at-centre .size)
+        (each (centreOf span scale) middle (pow-pos 1) Chord.half-one at-half .size)
 
-    k-few : k ≤ 500
-    k-few = leb→le k 500 (and-l (leb k 500) (leb (48 + (2 + k) + e) 1000) fewer)
-
-    total-ranges : Ranges (48 + (2 + k)) (H by (quarter by A))
-    total-ranges = ranges-by 48 (2 + k) H (quarter by A) hr (ranges-by 2 k quarter A quarter-ranges ar)
-
-    product-in : InRange (H by (quarter by A) by D)
-    product-in =
-        in-range (48 + (2 + k) + e) (H by (quarter by A) by D)
-        (leb→le (48 + (2 + k) + e) 1000 (and-r (leb k 500) (leb (48 + (2 + k) + e) 1000) fewer))
-        (ranges-by (48 + (2 + k)) e (H by (quarter by A)) D total-ranges dr)
-
-    integral-exact : (U times integral (valueAt v) (atMiddle q)) times atMiddle powerE equals closed exact
-    integral-exact =
-        subst (λ (x : Number). (U times integral (valueAt v) (atMiddle q)) times atMiddle powerE equals x) (raised-at rest middle exact)
-        (trans (evaluated-is (middle ∷ rest) (pow-pos 1, are) (onesE n (raised exact)))
-        (at-middle rest are (integralE v q powerE) (onesE n (raised exact)) exact-test) (all-ones n (raised exact)))
-
-    integral-valued : j ≤ 2 ^ 6 → l ≤ 2 ^ 20 → T (some K && some m && few (suc J * 2))
-        → T (leb (suc J * 2 + (suc J * m + 1 * K)) (4 * 60000) && leb (J * 1) (4 * 400))
+    integral-near : j ≤ 2 ^ 6 → l ≤ 2 ^ 20 → T (some K && some m && few (suc J * 2)) → suc J * 2 + (suc J * m + 1 * K) ≤ 4 * 60000 → J * 1 ≤ 4 * 400
         → Valued (totalOver root tip span sweep scale (b per d) g y ⊗ power) (closed exact) 60000 400 W
-    integral-valued fj fl within fits =
-        let total : Valued (totalOver root tip span sweep scale (b per d) g y) (U times integral (valueAt v) (atMiddle q)) K J (H by (quarter by A)) =
-        total-valued root tip span sweep scale (b per d) g y (valueAt v) (atMiddle q) l j r k A
-        (omega arith) (omega arith) fl k-few ar z q-under sampled in
-        parted 4 60000 400 (H by (quarter by A) by D) W (product-in .real) left
-        (leb→le (suc J * 2 + (suc J * m + 1 * K)) (4 * 60000)
-        (and-l (leb (suc J * 2 + (suc J * m + 1 * K)) (4 * 60000)) (leb (J * 1) (4 * 400)) fits))
-        (leb→le (J * 1) (4 * 400) (and-r (leb (suc J * 2 + (suc J * m + 1 * K)) (4 * 60000)) (leb (J * 1) (4 * 400)) fits))
-        (equalled (times-valued {A = H by (quarter by A)} {B = D} (total-ranges .real) (dr .real) product-in within total pv) (closed exact)
-        (evaluated-is rest are exact) integral-exact)
-
-  -- ---- powers of the scale
-  D4r : Ranges 96 (SS by SS by (SS by SS))
-  D4r = Moments.fr root tip span sweep scale b d g thickness tp tr
-
-  D5r : Ranges 120 (SS by (SS by SS by (SS by SS)))
-  D5r = ranges-by 24 96 SS (SS by SS by (SS by SS)) (g .scale-ranges) D4r
-
-  fourth-valued : Valued (fourth scale) (atMiddle fourthE) 10 1 (SS by SS by (SS by SS))
-  fourth-valued = Moments.fourth-valued root tip span sweep scale b d g thickness tp tr
-
-  fifth-valued : Valued (fifth scale) (atMiddle fifthE) 12 1 (SS by (SS by SS by (SS by SS)))
-  fifth-valued =
-      exact-times scale 1 SS (den-pos scale) (D4r .real) (in-range 120 (SS by (SS by SS by (SS by SS))) (omega arith) D5r) tt
-      (positive-finite scale sp) (Counts.own-size scale sp) fourth-valued
+    integral-near fj fl within errors sizes =
+        parted 4 60000 400 (H by (quarter by A) by D) W
+        (Unscaled.unit-is root tip span sweep scale b d g thickness Q (value-is radius) A D (ar .real) (dr .real)) left errors sizes
+        (Unscaled.integral-valued root tip span sweep scale b d g thickness Q (value-is radius) k e m n power powerE A D ar dr fk fe pv y v q exact l
+        j r each q-under even-test exact-test
+        (omega arith) (omega arith) fl within)
 
   left4 : (4 of (H by (quarter by A3) by (SS by SS by (SS by SS)))) upto W3
   left4 = left-four b d (num span) (den span) (num scale) (den scale) (num thickness) (den thickness) deep
 
   left5 : (4 of (H by (quarter by A4) by (SS by (SS by SS by (SS by SS))))) upto W4
   left5 = left-five b d (num span) (den span) (num scale) (den scale) (num thickness) (den thickness) deep
+
+  D5r : Ranges 120 (SS by (SS by SS by (SS by SS)))
+  D5r = Unscaled.fifth-ranges root tip span sweep scale b d g thickness Q (value-is radius)
+
+  D5v : Valued (fifth scale) (atMiddle fifthE) 12 1 (SS by (SS by SS by (SS by SS)))
+  D5v = Unscaled.fifth-valued root tip span sweep scale b d g thickness Q (value-is radius)
 
   -- ---- the samples
   abbrev a′ : Float → Float
@@ -578,28 +439,30 @@ module _ (root tip span sweep scale : Float) (b d : ℕ) (g : Lengths root tip s
 
   r1-near : Valued (total r1At ⊗ fourth scale) (closed r1E) 60000 400 W3
   r1-near =
-      integral-valued 144 96 10 4 (fourth scale) fourthE A3 (SS by SS by (SS by SS)) W3 a3 D4r tt fourth-valued left4
-      r1At (radiusE mul m0E) r1Second r1E 1193 10 r1-valued tt tt (omega arith) (omega arith) tt tt
+      integral-near 144 96 10 4 (fourth scale) fourthE A3 (SS by SS by (SS by SS)) W3 a3
+      (Unscaled.fourth-ranges root tip span sweep scale b d g thickness Q (value-is radius))
+      (omega arith) (omega arith) (Unscaled.fourth-valued root tip span sweep scale b d g thickness Q (value-is radius)) left4
+      r1At (radiusE mul m0E) r1Second r1E 1193 10 r1-valued tt tt (omega arith) (omega arith) tt (lit≤ tt) (lit≤ tt)
 
   r2-near : Valued (total r2At ⊗ fifth scale) (closed r2E) 60000 400 W4
   r2-near =
-      integral-valued 192 120 12 5 (fifth scale) fifthE A4 (SS by (SS by SS by (SS by SS))) W4 a4 D5r tt fifth-valued left5
-      r2At (radiusE mul radiusE mul m0E) r2Second r2E 2400 20 r2-valued tt tt (omega arith) (omega arith) tt tt
+      integral-near 192 120 12 5 (fifth scale) fifthE A4 (SS by (SS by SS by (SS by SS))) W4 a4 D5r (omega arith) (omega arith) D5v left5
+      r2At (radiusE mul radiusE mul m0E) r2Second r2E 2400 20 r2-valued tt tt (omega arith) (omega arith) tt (lit≤ tt) (lit≤ tt)
 
   rx-near : Valued (total rxAt ⊗ fifth scale) (closed rxE) 60000 400 W4
   rx-near =
-      integral-valued 192 120 12 5 (fifth scale) fifthE A4 (SS by (SS by SS by (SS by SS))) W4 a4 D5r tt fifth-valued left5
-      rxAt (radiusE mul m1E) rxSecond rxE 4233 17 rx-valued tt tt (omega arith) (omega arith) tt tt
+      integral-near 192 120 12 5 (fifth scale) fifthE A4 (SS by (SS by SS by (SS by SS))) W4 a4 D5r (omega arith) (omega arith) D5v left5
+      rxAt (radiusE mul m1E) rxSecond rxE 4233 17 rx-valued tt tt (omega arith) (omega arith) tt (lit≤ tt) (lit≤ tt)
 
   x2-near : Valued (total x2At ⊗ fifth scale) (closed x2E) 60000 400 W4
   x2-near =
-      integral-valued 192 120 12 5 (fifth scale) fifthE A4 (SS by (SS by SS by (SS by SS))) W4 a4 D5r tt fifth-valued left5
-      x2At m2E x2Second x2E 5625 22 x2-valued tt tt (omega arith) (omega arith) tt tt
+      integral-near 192 120 12 5 (fifth scale) fifthE A4 (SS by (SS by SS by (SS by SS))) W4 a4 D5r (omega arith) (omega arith) D5v left5
+      x2At m2E x2Second x2E 5625 22 x2-valued tt tt (omega arith) (omega arith) tt (lit≤ tt) (lit≤ tt)
 
   tau2-near : Valued (total tau2At ⊗ fifth scale) (closed tau2E) 60000 400 W4
   tau2-near =
-      integral-valued 192 120 12 5 (fifth scale) fifthE A4 (SS by (SS by SS by (SS by SS))) W4 a4 D5r tt fifth-valued left5
-      tau2At tE (ratio 0 0) tau2E 41 1 tau2-valued tt tt (omega arith) (omega arith) tt tt
+      integral-near 192 120 12 5 (fifth scale) fifthE A4 (SS by (SS by SS by (SS by SS))) W4 a4 D5r (omega arith) (omega arith) D5v left5
+      tau2At tE (ratio 0 0) tau2E 41 1 tau2-valued tt tt (omega arith) (omega arith) tt (lit≤ tt) (lit≤ tt)
 
   -- ---- the seven of totals t, in metres
   called : {x y : Float} {v : Number} {W : Size} (power : Float) → Valued (y ⊗ power) v 60000 400 W → x ≡ y → Valued (x ⊗ power) v 60000 400 W

@@ -28,11 +28,13 @@ pub mod AreaIntegrals
 pub mod Centroids
 pub mod CentroidNear
 pub mod PlateSamples
+pub mod Cubics
+pub mod ClosedForms
+pub mod Unscaled
 pub mod PlateIntegrals
 pub mod PlateMoments
 pub mod Constants
-pub mod Cubics
-pub mod ClosedForms
+pub mod FinUnits
 pub mod FinIntegrals
 pub mod SetCalled
 pub mod MassNear

@@ -1,7 +1,7 @@
 -- The volume of a plate of square section whose strip is one piece, and the mass of a ring of such fins with their tabs, are near the exact ones.
 -- Assumes nothing.
 use mathlib.Core.Path.{_≡_}
-use mathlib.Core.List.{List, [], _∷_}
+use mathlib.Core.List.{[], _∷_}
 use Prim.Native.Nat.{ℕ, zero, suc, _+_, _*_, _^_, _≤_}
 use native.Mathlib.Nat.{mul-pos, mul-le-mul-left, one-mul, mul-one, zero-mul, mul-zero, zero-add, add-zero}
 use native.Mathlib.Omega.{arith}
@@ -17,19 +17,20 @@ use Rattle.rounding_error.proofs.Numbers.{Number, number, Size, _per_, _plus_, 
 use Rattle.rounding_error.proofs.Distances.{sorted, within-upto}
 use Rattle.rounding_error.proofs.Ranges.{ranges-by, ranges-for, in-range}
 use Rattle.rounding_error.proofs.Counts as Counts
-use Rattle.rounding_error.proofs.Chains.{Valued, inverse, inverse-is, inverse-times, in-bounds, counted, counted-by, exactly, equalled, resized, plus-valued, times-valued, exact-times, over-valued}
-use Rattle.rounding_error.proofs.Polynomials.{_equals_, trans, itself, times-equal, plus-is, times-is, AllNumbers, Expression, given, ratio, _add_, _mul_, equal-by, evaluated-is}
+use Rattle.rounding_error.proofs.Chains.{Valued, inverse, in-bounds, counted, counted-by, exactly, equalled, resized, plus-valued, times-valued, exact-times, over-valued}
+use Rattle.rounding_error.proofs.Polynomials.{_equals_, plus-is, times-is, given, ratio, _mul_, equal-by, evaluated-is}
 use Rattle.accuracy.proofs.Samples.{one, quarter}
 use Rattle.accuracy.proofs.Given.{Lengths}
 use Rattle.accuracy.proofs.Areas.{quarter-ranges}
-use Rattle.accuracy.proofs.Weighted.{middle, Sampled}
+use Rattle.accuracy.proofs.Weighted.{middle}
 use Rattle.rounding_error.proofs.Chains.{zero-valued}
-use Rattle.accuracy.proofs.Quadratic.{Quadratic, integral}
-use Rattle.accuracy.proofs.OnePiece.{centreOf, reachOf}
 use Rattle.accuracy.proofs.ChordEnds as Chord
 use Rattle.accuracy.proofs.AreaSamples as Area
 use Rattle.accuracy.proofs.AreaIntegrals as Totals
-use Rattle.accuracy.proofs.Integrals.{from-zero, totalOver, totalError, total-valued}
+use Rattle.accuracy.proofs.ClosedForms.{volumeE}
+use Rattle.accuracy.proofs.Unscaled as Unscaled
+use Rattle.accuracy.proofs.Unscaled.{m0E, cubeE}
+use Rattle.accuracy.proofs.Integrals.{from-zero, totalOver}
 
 ruleset plain = (sorted, one-mul, mul-one, zero-mul, mul-zero, zero-add, add-zero)
 
@@ -125,92 +126,19 @@ module _ (root tip span sweep scale : Float) (b d : ℕ) (g : Lengths root tip s
       (times-valued {A = TKs} {B = Bs} (ks .real) (Chord.scaled-ranges root tip span sweep scale (b per d) g .real) (in-range 96 (TKs by Bs) (omega arith) plate-ranges) tt thickness-valued
       (Area.across-valued root tip span sweep scale (b per d) g h τ i u z))
 
-  plates-sampled : Sampled plateAt plate (centreOf span scale) (reachOf span scale) 355 5 (TKs by Bs)
-  plates-sampled = Area.sampled root tip span sweep scale (b per d) g plateAt plate 355 5 (TKs by Bs) plate-valued
-
-  -- sweep, root, tip, 1/scale, span/scale, a fraction, thickness
-  abbrev all : Number → List Number
-  all x = S ∷ R ∷ Tp ∷ σ ∷ U ∷ x ∷ Tk ∷ []
-
-  iσ : IsNumber σ
-  iσ = inverse-is scale (g .scale-positive)
-
-  iU : IsNumber U
-  iU = Chord.U-is root tip span sweep scale (b per d) g
-
-  values : (x : Number) → IsNumber x → AllNumbers (all x)
-  values x i = (Counts.value-is sweep, (Counts.value-is root, (Counts.value-is tip, (iσ, (iU, (i, (Counts.value-is thickness, tt)))))))
-
-  abbrev plateE : Expression → Expression
-  plateE τ = given 6 mul given 3 mul Totals.widthE τ
-
-  plate-quadratic : Quadratic plate zeroNumber
-  plate-quadratic =
-      record {
-        is = λ τ i. evaluated-is (all τ) (values τ i) (plateE (given 5));
-        q-is = pow-pos 0;
-        even = λ x i. equal-by (all x) (values x i) (Totals.bothE plateE) (Totals.twiceE plateE (ratio 0 0)) tt;
-      }
-
   abbrev pub volumeTotal : Float
   volumeTotal = totalOver root tip span sweep scale (b per d) g plateAt
-
-  total : Valued volumeTotal (U times integral plate zeroNumber) (totalError 355 5 0) 40 (H by (quarter by (TKs by Bs)))
-  total =
-      total-valued root tip span sweep scale (b per d) g plateAt plate zeroNumber 355 5 0 96 (TKs by Bs) (omega arith) (omega arith) (omega arith) (omega arith) plate-ranges plate-quadratic
-      (Totals.none-under root tip span sweep scale (b per d) g (TKs by Bs)) plates-sampled
 
   -- ---- times the cube of the scale: thickness·span·(root + tip)/2
   abbrev SS : Size
   SS = sizeOf scale
 
-  scale-exactly : Valued scale s 0 1 SS
-  scale-exactly = exactly scale 1 SS (positive-finite scale (g .scale-positive)) (Counts.own-size scale (g .scale-positive))
-
-  sr : Ranges 48 (SS by SS)
-  sr = ranges-by 24 24 SS SS (g .scale-ranges) (g .scale-ranges)
-
-  cr : Ranges 72 (SS by (SS by SS))
-  cr = ranges-by 24 48 SS (SS by SS) (g .scale-ranges) sr
-
-  cube-valued : Valued (cube scale) (s times (s times s)) 4 1 (SS by (SS by SS))
-  cube-valued =
-      exact-times scale 1 SS (den-pos scale) (sr .real) (in-range 72 (SS by (SS by SS)) (omega arith) cr) tt (positive-finite scale (g .scale-positive)) (Counts.own-size scale (g .scale-positive))
-      (exact-times scale 1 SS (den-pos scale) (den-pos scale) (in-range 48 (SS by SS) (omega arith) sr) tt (positive-finite scale (g .scale-positive)) (Counts.own-size scale (g .scale-positive)) scale-exactly)
-
   abbrev pub volumeNumber : Number
   volumeNumber = Tk times (P times ((R plus Tp) times middle))
 
-  abbrev ss : Number
-  ss = s times σ
-
-  is : IsNumber s
-  is = Counts.value-is scale
-
-  iss : IsNumber ss
-  iss = times-is s σ is iσ
-
   pub volume-is : IsNumber volumeNumber
-  volume-is =
-      times-is Tk (P times ((R plus Tp) times middle)) (Counts.value-is thickness)
-      (times-is P ((R plus Tp) times middle) (Counts.value-is span) (times-is (R plus Tp) middle (plus-is R Tp (Counts.value-is root) (Counts.value-is tip)) (pow-pos 1)))
-
-  volume-exact : (U times integral plate zeroNumber) times (s times (s times s)) equals volumeNumber
-  volume-exact =
-      trans (times-is ((ss times ss) times ss) volumeNumber (times-is (ss times ss) ss (times-is ss ss iss iss) iss) volume-is)
-      (equal-by (S ∷ R ∷ Tp ∷ σ ∷ P ∷ s ∷ Tk ∷ []) (Counts.value-is sweep, (Counts.value-is root, (Counts.value-is tip, (iσ, (Counts.value-is span, (is, (Counts.value-is thickness, tt)))))))
-      (given 4 mul given 3 mul (given 6 mul given 3 mul Totals.widthE (ratio 1 1) add ratio 1 23 mul ratio 0 0) mul (given 5 mul (given 5 mul given 5)))
-      (given 5 mul given 3 mul (given 5 mul given 3) mul (given 5 mul given 3) mul (given 6 mul (given 4 mul ((given 1 add given 2) mul ratio 1 1)))) tt)
-      (trans (times-is ((1′ times 1′) times 1′) volumeNumber (pow-pos 0) volume-is)
-      (times-equal (times-is (ss times ss) ss (times-is ss ss iss iss) iss) (pow-pos 0) volume-is volume-is
-      (times-equal (times-is ss ss iss iss) (pow-pos 0) iss (pow-pos 0) (times-equal iss (pow-pos 0) iss (pow-pos 0) unit unit) unit) (itself {x = volumeNumber}))
-      (equal-by (volumeNumber ∷ []) (volume-is, tt) (ratio 1 0 mul ratio 1 0 mul ratio 1 0 mul given 0) (given 0) tt))
-    where
-      1′ : Number
-      1′ = number 1 0 1
-
-      unit : ss equals number 1 0 1
-      unit = inverse-times scale (g .scale-positive)
+  volume-is = evaluated-is (Unscaled.rest root tip span sweep scale b d g thickness zeroNumber (pow-pos 0))
+      (Unscaled.are root tip span sweep scale b d g thickness zeroNumber (pow-pos 0)) volumeE
 
   -- a quarter of thickness·span·B
   abbrev pub unit : Size
@@ -219,17 +147,18 @@ module _ (root tip span sweep scale : Float) (b d : ℕ) (g : Lengths root tip s
   pub unit-ranges : Ranges 74 unit
   unit-ranges = ranges-by 2 72 quarter (sizeOf thickness by (sizeOf span by (b per d))) quarter-ranges (ranges-by 24 48 (sizeOf thickness) (sizeOf span by (b per d)) tr (ranges-by 24 24 (sizeOf span) (b per d) (g .span-ranges) (g .ranges)))
 
-  total-ranges : Ranges 146 (H by (quarter by (TKs by Bs)))
-  total-ranges = ranges-by 48 98 H (quarter by (TKs by Bs)) (Chord.height-ranges root tip span sweep scale (b per d) g) (ranges-by 2 96 quarter (TKs by Bs) quarter-ranges plate-ranges)
-
   pub volume-valued : Valued (volumeTotal ⊗ cube scale) volumeNumber 12702 40 unit
   volume-valued =
-      resized (H by (quarter by (TKs by Bs)) by (SS by (SS by SS))) unit (Counts.by-is (H by (quarter by (TKs by Bs))) (SS by (SS by SS)) (total-ranges .real) (cr .real))
+      resized (H by (quarter by (TKs by Bs)) by (SS by (SS by SS))) unit
+      (Unscaled.unit-is root tip span sweep scale b d g thickness zeroNumber (pow-pos 0) (TKs by Bs) (SS by (SS by SS)) (plate-ranges .real)
+      (Unscaled.cube-ranges root tip span sweep scale b d g thickness zeroNumber (pow-pos 0) .real))
       (unscaled b d (num span) (den span) (num scale) (den scale) (num thickness) (den thickness))
-      (equalled
-      (times-valued {A = H by (quarter by (TKs by Bs))} {B = SS by (SS by SS)} (total-ranges .real) (cr .real)
-      (in-range 218 (H by (quarter by (TKs by Bs)) by (SS by (SS by SS))) (omega arith) (ranges-by 146 72 (H by (quarter by (TKs by Bs))) (SS by (SS by SS)) total-ranges cr)) tt total cube-valued)
-      volumeNumber volume-is volume-exact)
+      (Unscaled.integral-valued root tip span sweep scale b d g thickness zeroNumber (pow-pos 0) 96 72 4 3 (cube scale) cubeE (TKs by Bs)
+      (SS by (SS by SS)) plate-ranges
+      (Unscaled.cube-ranges root tip span sweep scale b d g thickness zeroNumber (pow-pos 0)) (omega arith) (omega arith)
+      (Unscaled.cube-valued root tip span sweep scale b d g thickness zeroNumber (pow-pos 0))
+      plateAt m0E (ratio 0 0) volumeE 355 5 0 plate-valued (Totals.none-under root tip span sweep scale (b per d) g (TKs by Bs)) tt tt (omega arith)
+      (omega arith) (omega arith) tt)
 
   -- ---- with the tab, times the density, and so many fins together; y / e is a size that span and tab height do not pass
   module _ (y e : ℕ) (yr : Ranges 24 (y per e)) (deep : num span * e ≤ y * den span) where

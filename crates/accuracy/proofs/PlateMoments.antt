@@ -1,7 +1,7 @@
 -- The first moment along the root of a plate of square section whose strip is one piece, and the centre of a ring of such fins along the body's axis,
 -- are near the exact ones. Assumes nothing.
 use mathlib.Core.Path.{_≡_, refl, sym, subst}
-use mathlib.Core.List.{List, [], _∷_}
+use mathlib.Core.List.{[], _∷_}
 use Prim.Native.Nat.{ℕ, zero, suc, _+_, _*_, _^_, _≤_, _<_, zero-le}
 use native.Mathlib.Nat.{mul-pos, le-trans, le-of-eq, mul-le-mul, mul-le-mul-left, mul-le-mul-right, le-of-mul-le-mul-right, one-mul, mul-one, mul-assoc, zero-mul, mul-zero, zero-add, add-zero}
 use native.Mathlib.Omega.{arith}
@@ -30,9 +30,7 @@ use Rattle.accuracy.proofs.Samples.{one, quarter}
 use Rattle.accuracy.proofs.Given.{Lengths}
 use Rattle.accuracy.proofs.Ends.{halfSize}
 use Rattle.accuracy.proofs.Areas.{quarter-ranges, half-ranges}
-use Rattle.accuracy.proofs.Weighted.{middle, Sampled}
-use Rattle.accuracy.proofs.Quadratic.{Quadratic, integral}
-use Rattle.accuracy.proofs.OnePiece.{centreOf, reachOf}
+use Rattle.accuracy.proofs.Weighted.{middle}
 use Rattle.accuracy.proofs.ChordEnds as Chord
 use Rattle.accuracy.proofs.AreaSamples as Area
 use Rattle.accuracy.proofs.AreaIntegrals as Totals
@@ -42,7 +40,10 @@ use Rattle.accuracy.proofs.PlateIntegrals.{one-more}
 use Rattle.accuracy.proofs.Whole.{positive-value, one-by}
 use Rattle.accuracy.proofs.Centroids.{NotBelow, over-plus, equal-over, over-none, not-below-times, positive-not-below, range-low, range-high, own-share}
 use Rattle.accuracy.proofs.PlateSamples.{not-below-plus}
-use Rattle.accuracy.proofs.Integrals.{from-zero, totalOver, totalError, total-valued}
+use Rattle.accuracy.proofs.ClosedForms.{x1E}
+use Rattle.accuracy.proofs.Unscaled as Unscaled
+use Rattle.accuracy.proofs.Unscaled.{thickE, m1E, fourthE}
+use Rattle.accuracy.proofs.Integrals.{from-zero, totalOver}
 
 ruleset plain = (sorted, one-mul, mul-one, zero-mul, mul-zero, zero-add, add-zero)
 
@@ -157,6 +158,13 @@ negated {x = x} {v = v} {k = k} {j = j} {A = A} h =
       is = minus-number v (h .is);
     }
 
+-- the first moment's second coefficient
+abbrev endSlope : Expression
+endSlope = (given 4 add (given 2 take given 1)) mul given 7
+
+abbrev m1Second : Expression
+m1Second = thickE mul (endSlope mul endSlope take given 4 mul given 7 mul (given 4 mul given 7))
+
 module _ (root tip span sweep scale : Float) (b d : ℕ) (g : Lengths root tip span sweep scale (b per d)) (thickness : Float) (tp : T (positive thickness)) (tr : Ranges 24 (sizeOf thickness)) where
   abbrev S : Number
   S = valueOf sweep
@@ -235,38 +243,11 @@ module _ (root tip span sweep scale : Float) (b d : ℕ) (g : Lengths root tip s
       (times-valued {A = halfSize by TKs} {B = Bs by Bs} (hr .real) (br .real) (in-range 145 A (omega arith) ar) tt half-thickness
       (Area.squares-valued root tip span sweep scale (b per d) g h τ i u z))
 
-  sampled : Sampled momentAt moment (centreOf span scale) (reachOf span scale) 2679 17 A
-  sampled = Area.sampled root tip span sweep scale (b per d) g momentAt moment 2679 17 A sample-valued
-
-  -- sweep, root, tip, 1/scale, span/scale, a fraction, thickness
-  abbrev all : Number → List Number
-  all x = S ∷ R ∷ Tp ∷ σ ∷ U ∷ x ∷ Tk ∷ []
-
   iσ : IsNumber σ
   iσ = inverse-is scale (g .scale-positive)
 
-  iU : IsNumber U
-  iU = Chord.U-is root tip span sweep scale (b per d) g
-
-  values : (x : Number) → IsNumber x → AllNumbers (all x)
-  values x i = (Counts.value-is sweep, (Counts.value-is root, (Counts.value-is tip, (iσ, (iU, (i, (Counts.value-is thickness, tt)))))))
-
-  abbrev momentE : Expression → Expression
-  momentE τ = ratio 1 1 mul (given 6 mul given 3) mul (Totals.endE τ mul Totals.endE τ take Totals.startE τ mul Totals.startE τ)
-
   abbrev second : Number
   second = (Tk times σ) times Totals.moment-q root tip span sweep scale (b per d) g
-
-  abbrev secondE : Expression
-  secondE = given 6 mul given 3 mul Totals.momentSecond
-
-  quadratic : Quadratic moment second
-  quadratic =
-      record {
-        is = λ τ i. evaluated-is (all τ) (values τ i) (momentE (given 5));
-        q-is = evaluated-is (all U) (values U iU) secondE;
-        even = λ x i. equal-by (all x) (values x i) (Totals.bothE momentE) (Totals.twiceE momentE secondE) tt;
-      }
 
   second-under : Under (20 of A) second
   second-under =
@@ -284,28 +265,9 @@ module _ (root tip span sweep scale : Float) (b d : ℕ) (g : Lengths root tip s
   abbrev pub momentTotal : Float
   momentTotal = totalOver root tip span sweep scale (b per d) g momentAt
 
-  total : Valued momentTotal (U times integral moment second) (totalError 2679 17 20) 216 (H by (quarter by A))
-  total =
-      total-valued root tip span sweep scale (b per d) g momentAt moment second 2679 17 20 145 A (omega arith) (omega arith) (omega arith) (omega arith) ar quadratic second-under sampled
-
   -- ---- times the fourth power of the scale: thickness·span·(root² + root·tip + tip² + sweep·(root + 2·tip))/6
   abbrev SS : Size
   SS = sizeOf scale
-
-  scale-exactly : Valued scale s 0 1 SS
-  scale-exactly = exactly scale 1 SS (positive-finite scale (g .scale-positive)) (Counts.own-size scale (g .scale-positive))
-
-  sr : Ranges 48 (SS by SS)
-  sr = ranges-by 24 24 SS SS (g .scale-ranges) (g .scale-ranges)
-
-  pub fr : Ranges 96 (SS by SS by (SS by SS))
-  fr = ranges-by 48 48 (SS by SS) (SS by SS) sr sr
-
-  square-valued : Valued (scale ⊗ scale) (s times s) 2 1 (SS by SS)
-  square-valued = exact-times scale 1 SS (den-pos scale) (den-pos scale) (in-range 48 (SS by SS) (omega arith) sr) tt (positive-finite scale (g .scale-positive)) (Counts.own-size scale (g .scale-positive)) scale-exactly
-
-  pub fourth-valued : Valued (fourth scale) ((s times s) times (s times s)) 10 1 (SS by SS by (SS by SS))
-  fourth-valued = times-valued {A = SS by SS} {B = SS by SS} (sr .real) (sr .real) (in-range 96 (SS by SS by (SS by SS)) (omega arith) fr) tt square-valued square-valued
 
   abbrev pub alongNumber : Number
   alongNumber = ((R times R plus R times Tp) plus Tp times Tp) plus S times (R plus number 2 0 1 times Tp)
@@ -313,48 +275,9 @@ module _ (root tip span sweep scale : Float) (b d : ℕ) (g : Lengths root tip s
   abbrev pub finMoment : Number
   finMoment = Tk times (P times (alongNumber times number 1 0 6))
 
-  abbrev ss : Number
-  ss = s times σ
-
-  is : IsNumber s
-  is = Counts.value-is scale
-
-  iss : IsNumber ss
-  iss = times-is s σ is iσ
-
-  -- sweep, root, tip, 1/scale, span, scale, thickness
-  abbrev places : List Number
-  places = S ∷ R ∷ Tp ∷ σ ∷ P ∷ s ∷ Tk ∷ []
-
-  places-are : AllNumbers places
-  places-are = (Counts.value-is sweep, (Counts.value-is root, (Counts.value-is tip, (iσ, (Counts.value-is span, (is, (Counts.value-is thickness, tt)))))))
-
-  abbrev alongE : Expression
-  alongE = given 1 mul given 1 add given 1 mul given 2 add given 2 mul given 2 add given 0 mul (given 1 add ratio 2 0 mul given 2)
-
-  abbrev finE : Expression
-  finE = given 6 mul (given 4 mul (alongE mul ratio 1 5))
-
   pub moment-is : IsNumber finMoment
-  moment-is = evaluated-is places places-are finE
-
-  moment-exact : (U times integral moment second) times ((s times s) times (s times s)) equals finMoment
-  moment-exact =
-      trans (times-is (((ss times ss) times ss) times ss) finMoment (times-is ((ss times ss) times ss) ss (times-is (ss times ss) ss (times-is ss ss iss iss) iss) iss) moment-is)
-      (equal-by places places-are
-      (given 4 mul given 3 mul (momentE (ratio 1 1) add ratio 1 23 mul secondE) mul (given 5 mul given 5 mul (given 5 mul given 5)))
-      (given 5 mul given 3 mul (given 5 mul given 3) mul (given 5 mul given 3) mul (given 5 mul given 3) mul finE) tt)
-      (trans (times-is (((1′ times 1′) times 1′) times 1′) finMoment (pow-pos 0) moment-is)
-      (times-equal (times-is ((ss times ss) times ss) ss (times-is (ss times ss) ss (times-is ss ss iss iss) iss) iss) (pow-pos 0) moment-is moment-is
-      (times-equal (times-is (ss times ss) ss (times-is ss ss iss iss) iss) (pow-pos 0) iss (pow-pos 0)
-      (times-equal (times-is ss ss iss iss) (pow-pos 0) iss (pow-pos 0) (times-equal iss (pow-pos 0) iss (pow-pos 0) unit unit) unit) unit) (itself {x = finMoment}))
-      (equal-by (finMoment ∷ []) (moment-is, tt) (ratio 1 0 mul ratio 1 0 mul ratio 1 0 mul ratio 1 0 mul given 0) (given 0) tt))
-    where
-      1′ : Number
-      1′ = number 1 0 1
-
-      unit : ss equals number 1 0 1
-      unit = inverse-times scale (g .scale-positive)
+  moment-is = evaluated-is (Unscaled.rest root tip span sweep scale b d g thickness zeroNumber (pow-pos 0))
+      (Unscaled.are root tip span sweep scale b d g thickness zeroNumber (pow-pos 0)) x1E
 
   -- an eighth of thickness·span·B²
   abbrev pub momentUnit : Size
@@ -367,18 +290,18 @@ module _ (root tip span sweep scale : Float) (b d : ℕ) (g : Lengths root tip s
       (ranges-by 24 72 (sizeOf thickness) (sizeOf span by ((b per d) by (b per d))) tr
       (ranges-by 24 48 (sizeOf span) ((b per d) by (b per d)) (g .span-ranges) (ranges-by 24 24 (b per d) (b per d) (g .ranges) (g .ranges)))))
 
-  total-ranges : Ranges 195 (H by (quarter by A))
-  total-ranges = ranges-by 48 147 H (quarter by A) (Chord.height-ranges root tip span sweep scale (b per d) g) (ranges-by 2 145 quarter A quarter-ranges ar)
-
   pub moment-valued : Valued (momentTotal ⊗ fourth scale) finMoment 90000 216 momentUnit
   moment-valued =
       counted
-      (resized (H by (quarter by A) by (SS by SS by (SS by SS))) momentUnit (Counts.by-is (H by (quarter by A)) (SS by SS by (SS by SS)) (total-ranges .real) (fr .real))
+      (resized (H by (quarter by A) by (SS by SS by (SS by SS))) momentUnit
+      (Unscaled.unit-is root tip span sweep scale b d g thickness zeroNumber (pow-pos 0) A (SS by SS by (SS by SS)) (ar .real)
+      (Unscaled.fourth-ranges root tip span sweep scale b d g thickness zeroNumber (pow-pos 0) .real))
       (unscaled b d (num span) (den span) (num scale) (den scale) (num thickness) (den thickness))
-      (equalled
-      (times-valued {A = H by (quarter by A)} {B = SS by SS by (SS by SS)} (total-ranges .real) (fr .real)
-      (in-range 291 (H by (quarter by A) by (SS by SS by (SS by SS))) (omega arith) (ranges-by 195 96 (H by (quarter by A)) (SS by SS by (SS by SS)) total-ranges fr)) tt total fourth-valued)
-      finMoment moment-is moment-exact))
+      (Unscaled.integral-valued root tip span sweep scale b d g thickness zeroNumber (pow-pos 0) 145 96 10 4 (fourth scale) fourthE A
+      (SS by SS by (SS by SS)) ar
+      (Unscaled.fourth-ranges root tip span sweep scale b d g thickness zeroNumber (pow-pos 0)) (omega arith) (omega arith)
+      (Unscaled.fourth-valued root tip span sweep scale b d g thickness zeroNumber (pow-pos 0))
+      momentAt m1E m1Second x1E 2679 17 20 sample-valued second-under tt tt (omega arith) (omega arith) (omega arith) tt))
       90000 216 (moment-ranges .real) tt
 
   -- ---- with the tab; y / e is a size that span and tab height do not pass

@@ -1,0 +1,196 @@
+-- The total of one strip's samples that are polynomials of the fraction of the span, times a power of the scale, is near their integral's closed form.
+-- That the integral has this form is one computed test. Assumes nothing.
+use mathlib.Core.Path.{subst}
+use mathlib.Core.Bool.{_&&_}
+use mathlib.Core.List.{List, [], _∷_}
+use Prim.Native.Nat.{ℕ, zero, suc, _+_, _*_, _^_, _≤_}
+use native.Mathlib.Omega.{arith}
+use lib.Dec.{T}
+use lib.Pow.{pow-pos}
+use lib.Ieee.{Float}
+use lib.Ieee.Positive.{den-pos, positive, positive-finite}
+use Rattle.floats.specs.Operations.{_⊗_}
+use Rattle.floats.specs.Floats.{cube, fourth, fifth}
+use Rattle.rounding_error.proofs.Numbers.{Number, number, Size, _per_, _times_, _by_, _of_, IsNumber, IsSize, Under, valueOf, sizeOf, Ranges}
+use Rattle.rounding_error.proofs.Ranges.{ranges-by, in-range}
+use Rattle.rounding_error.proofs.Counts as Counts
+use Rattle.rounding_error.proofs.Counts.{value-is, own-size}
+use Rattle.rounding_error.proofs.Chains.{Valued, some, few, inverse, inverse-is, inverse-times, equalled, exactly, times-valued, exact-times}
+use Rattle.rounding_error.proofs.Polynomials.{_equals_, trans, itself, times-equal, times-is, AllNumbers, equal-by, evaluated-is, evaluate, among}
+use Rattle.rounding_error.proofs.Polynomials.{Expression, given, ratio, _add_, _take_, _mul_, normal, vanishes}
+use Rattle.accuracy.proofs.Samples.{one, quarter}
+use Rattle.accuracy.proofs.Given.{Lengths}
+use Rattle.accuracy.proofs.Areas.{quarter-ranges}
+use Rattle.accuracy.proofs.Weighted.{middle}
+use Rattle.accuracy.proofs.Quadratic.{integral}
+use Rattle.accuracy.proofs.ChordEnds as Chord
+use Rattle.accuracy.proofs.AreaSamples as Area
+use Rattle.accuracy.proofs.Integrals.{totalOver, totalError, sumSize, total-valued}
+use Rattle.accuracy.proofs.Cubics.{replaced, halfE, raised, raised-at, bothE, twiceE, fill, quadratic, at-middle}
+
+-- ---- the fraction, root, tip, span, sweep, thickness, radius, 1/scale and scale stand at the places 0 to 8
+-- the ends of the chord, and the thickness
+abbrev pub startE : Expression
+startE = given 4 mul given 0 mul given 7
+
+abbrev pub endE : Expression
+endE = (given 4 mul given 0 add given 1 add (given 2 take given 1) mul given 0) mul given 7
+
+abbrev pub thickE : Expression
+thickE = given 5 mul given 7
+
+-- the moments M_0 and M_1 of a chord
+abbrev pub m0E : Expression
+m0E = thickE mul (endE take startE)
+
+abbrev pub m1E : Expression
+m1E = ratio 1 1 mul thickE mul (endE mul endE take startE mul startE)
+
+-- the integral over the span, times a power of the scale
+abbrev pub integralE : Expression → Expression → Expression → Expression
+integralE v q power = given 3 mul given 7 mul (v add ratio 1 23 mul q) mul power
+
+-- times scale·(1/scale), n times
+abbrev pub onesE : ℕ → Expression → Expression
+onesE zero e = e
+onesE (suc n) e = given 8 mul given 7 mul onesE n e
+
+abbrev pub cubeE : Expression
+cubeE = given 8 mul (given 8 mul given 8)
+
+abbrev pub fourthE : Expression
+fourthE = given 8 mul given 8 mul (given 8 mul given 8)
+
+abbrev pub fifthE : Expression
+fifthE = given 8 mul fourthE
+
+module _ (root tip span sweep scale : Float) (b d : ℕ) (g : Lengths root tip span sweep scale (b per d)) (thickness : Float) (radius : Number)
+    (ir : IsNumber radius) where
+  abbrev s : Number
+  s = valueOf scale
+
+  abbrev σ : Number
+  σ = inverse scale
+
+  abbrev U : Number
+  U = Chord.U root tip span sweep scale (b per d) g
+
+  abbrev H : Size
+  H = Chord.H root tip span sweep scale (b per d) g
+
+  abbrev SS : Size
+  SS = sizeOf scale
+
+  sp : T (positive scale)
+  sp = g .scale-positive
+
+  iσ : IsNumber σ
+  iσ = inverse-is scale sp
+
+  abbrev pub rest : List Number
+  rest = valueOf root ∷ valueOf tip ∷ valueOf span ∷ valueOf sweep ∷ valueOf thickness ∷ radius ∷ σ ∷ s ∷ []
+
+  pub are : AllNumbers rest
+  are = (value-is root, (value-is tip, (value-is span, (value-is sweep, (value-is thickness, (ir, (iσ, (value-is scale, tt))))))))
+
+  abbrev pub valueAt : Expression → Number → Number
+  valueAt e τ = fill rest τ e
+
+  abbrev pub atMiddle : Expression → Number
+  atMiddle e = fill rest middle e
+
+  -- of the closed forms
+  abbrev pub closed : Expression → Number
+  closed e = evaluate (among rest) e
+
+  -- ---- scale·(1/scale) is 1
+  all-ones : (n : ℕ) (e : Expression) → atMiddle (onesE n e) equals atMiddle e
+  all-ones zero e = itself
+  all-ones (suc n) e =
+      let x = atMiddle (onesE n e) in
+      let ix : IsNumber x = evaluated-is (middle ∷ rest) (pow-pos 1, are) (onesE n e) in
+      trans (times-is (number 1 0 1) x (pow-pos 0) ix)
+      (times-equal (times-is s σ (value-is scale) iσ) (pow-pos 0) ix ix (inverse-times scale sp) itself)
+      (trans ix (equal-by (x ∷ []) (ix, tt) (ratio 1 0 mul given 0) (given 0) tt) (all-ones n e))
+
+  abbrev pub At : (Float → Float) → Expression → ℕ → ℕ → Size → Type 0
+  At y v l j A = (h : Float) (τ : Number) → IsNumber τ → Under (1 of one) τ → Valued h (U times τ) 16 2 H → Valued (y h) (valueAt v τ) l j A
+
+  -- ---- powers of the scale
+  scale-exactly : Valued scale s 0 1 SS
+  scale-exactly = exactly scale 1 SS (positive-finite scale sp) (own-size scale sp)
+
+  r2 : Ranges 48 (SS by SS)
+  r2 = ranges-by 24 24 SS SS (g .scale-ranges) (g .scale-ranges)
+
+  pub cube-ranges : Ranges 72 (SS by (SS by SS))
+  cube-ranges = ranges-by 24 48 SS (SS by SS) (g .scale-ranges) r2
+
+  pub fourth-ranges : Ranges 96 (SS by SS by (SS by SS))
+  fourth-ranges = ranges-by 48 48 (SS by SS) (SS by SS) r2 r2
+
+  pub fifth-ranges : Ranges 120 (SS by (SS by SS by (SS by SS)))
+  fifth-ranges = ranges-by 24 96 SS (SS by SS by (SS by SS)) (g .scale-ranges) fourth-ranges
+
+  square-valued : Valued (scale ⊗ scale) (s times s) 2 1 (SS by SS)
+  square-valued =
+      exact-times scale 1 SS (den-pos scale) (den-pos scale) (in-range 48 (SS by SS) (omega arith) r2) tt (positive-finite scale sp)
+      (own-size scale sp) scale-exactly
+
+  pub cube-valued : Valued (cube scale) (atMiddle cubeE) 4 1 (SS by (SS by SS))
+  cube-valued =
+      exact-times scale 1 SS (den-pos scale) (r2 .real) (in-range 72 (SS by (SS by SS)) (omega arith) cube-ranges) tt
+      (positive-finite scale sp) (own-size scale sp) square-valued
+
+  pub fourth-valued : Valued (fourth scale) (atMiddle fourthE) 10 1 (SS by SS by (SS by SS))
+  fourth-valued =
+      times-valued {A = SS by SS} {B = SS by SS} (r2 .real) (r2 .real) (in-range 96 (SS by SS by (SS by SS)) (omega arith) fourth-ranges) tt
+      square-valued square-valued
+
+  pub fifth-valued : Valued (fifth scale) (atMiddle fifthE) 12 1 (SS by (SS by SS by (SS by SS)))
+  fifth-valued =
+      exact-times scale 1 SS (den-pos scale) (fourth-ranges .real) (in-range 120 (SS by (SS by SS by (SS by SS))) (omega arith) fifth-ranges) tt
+      (positive-finite scale sp) (own-size scale sp) fourth-valued
+
+  pub unit-is : (A D : Size) → IsSize A → IsSize D → IsSize (H by (quarter by A) by D)
+  unit-is A D a c =
+      Counts.by-is (H by (quarter by A)) D
+      (Counts.by-is H (quarter by A) (Chord.height-ranges root tip span sweep scale (b per d) g .real) (Counts.by-is quarter A (pow-pos 2) a)) c
+
+  -- ---- samples y near the polynomial v, whose second coefficient is q; D is the unit of the power of the scale
+  module _ (k e m n : ℕ) (power : Float) (powerE : Expression) (A D : Size) (ar : Ranges k A) (dr : Ranges e D) (fk : k ≤ 500)
+      (fe : 48 + (2 + k) + e ≤ 1000)
+      (pv : Valued power (atMiddle powerE) m 1 D)
+      (y : Float → Float) (v q exact : Expression) (l j r : ℕ) (each : At y v l j A) (uq : Under (r of A) (atMiddle q))
+      (even-test : T (vanishes (normal (bothE v take twiceE v q))))
+      (exact-test : T (vanishes (normal (replaced halfE (integralE v q powerE) take replaced halfE (onesE n (raised exact)))))) where
+    abbrev K : ℕ
+    K = totalError l j r
+
+    abbrev J : ℕ
+    J = sumSize j r
+
+    total-ranges : Ranges (48 + (2 + k)) (H by (quarter by A))
+    total-ranges =
+        ranges-by 48 (2 + k) H (quarter by A) (Chord.height-ranges root tip span sweep scale (b per d) g) (ranges-by 2 k quarter A quarter-ranges ar)
+
+    product-ranges : Ranges (48 + (2 + k) + e) (H by (quarter by A) by D)
+    product-ranges = ranges-by (48 + (2 + k)) e (H by (quarter by A)) D total-ranges dr
+
+    integral-exact : (U times integral (valueAt v) (atMiddle q)) times atMiddle powerE equals closed exact
+    integral-exact =
+        subst (λ (x : Number). (U times integral (valueAt v) (atMiddle q)) times atMiddle powerE equals x) (raised-at rest middle exact)
+        (trans (evaluated-is (middle ∷ rest) (pow-pos 1, are) (onesE n (raised exact)))
+        (at-middle rest are (integralE v q powerE) (onesE n (raised exact)) exact-test) (all-ones n (raised exact)))
+
+    pub integral-valued : j ≤ 2 ^ 10 → r ≤ 2 ^ 10 → l ≤ 2 ^ 20 → T (some K && some m && few (suc J * 2))
+        → Valued (totalOver root tip span sweep scale (b per d) g y ⊗ power) (closed exact) (suc J * 2 + (suc J * m + 1 * K)) (J * 1)
+        (H by (quarter by A) by D)
+    integral-valued fj fr fl within =
+        let total : Valued (totalOver root tip span sweep scale (b per d) g y) (U times integral (valueAt v) (atMiddle q)) K J (H by (quarter by A)) =
+        total-valued root tip span sweep scale (b per d) g y (valueAt v) (atMiddle q) l j r k A fj fr fl fk ar (quadratic rest are v q even-test) uq
+        (Area.sampled root tip span sweep scale (b per d) g y (valueAt v) l j A each) in
+        equalled
+        (times-valued {A = H by (quarter by A)} {B = D} (total-ranges .real) (dr .real)
+        (in-range (48 + (2 + k) + e) (H by (quarter by A) by D) fe product-ranges) within
+        total pv) (closed exact) (evaluated-is rest are exact) integral-exact
