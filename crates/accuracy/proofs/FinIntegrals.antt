@@ -34,7 +34,7 @@ use Rattle.accuracy.proofs.ChordEnds as Chord
 use Rattle.accuracy.proofs.AreaSamples as Area
 use Rattle.accuracy.proofs.Integrals.{from-zero, parted, totalOver, totalError, sumSize}
 use Rattle.accuracy.proofs.Unscaled as Unscaled
-use Rattle.accuracy.proofs.Unscaled.{startE, endE, thickE, m0E, m1E, integralE, onesE, fourthE, fifthE}
+use Rattle.accuracy.proofs.Unscaled.{startE, endE, thickE, m0E, m1E, startSlope, endSlope, m1Second, integralE, onesE, fourthE, fifthE}
 use Rattle.accuracy.proofs.PlateIntegrals as Plates
 use Rattle.accuracy.proofs.PlateMoments as Moments
 use Rattle.accuracy.proofs.Constants.{three-inverse, three-positive, three-ranges, twelve-inverse, twelve-positive, twelve-ranges}
@@ -57,18 +57,12 @@ m2E = thickE mul (endE mul (endE mul endE) take startE mul (startE mul startE)) 
 abbrev tE : Expression
 tE = thickE mul (thickE mul thickE) mul (endE take startE) mul ratio 1 11
 
--- how radius, width and the chord's ends change with the fraction
+-- how radius and width change with the fraction
 abbrev radiusSlope : Expression
 radiusSlope = given 3 mul given 7
 
 abbrev widthSlope : Expression
 widthSlope = (given 2 take given 1) mul given 7
-
-abbrev endSlope : Expression
-endSlope = (given 4 add given 2 take given 1) mul given 7
-
-abbrev startSlope : Expression
-startSlope = given 4 mul given 7
 
 -- the second coefficients, at the fraction 1/2
 abbrev r1Second : Expression
@@ -81,28 +75,14 @@ abbrev x2Second : Expression
 x2Second = ratio 2 0 mul thickE mul (endE mul endSlope mul endSlope take startE mul startSlope mul startSlope)
 
 abbrev rxSecond : Expression
-rxSecond =
-    thickE mul radiusE mul (endSlope mul endSlope take startSlope mul startSlope)
-    add ratio 2 0 mul thickE mul radiusSlope mul (endE mul endSlope take startE mul startSlope)
+rxSecond = radiusE mul m1Second add ratio 2 0 mul thickE mul radiusSlope mul (endE mul endSlope take startE mul startSlope)
 
 module _ (root tip span sweep scale : Float) (b d : ℕ) (g : Lengths root tip span sweep scale (b per d)) (thickness : Float)
     (tp : T (positive thickness)) (tr : Ranges 24 (sizeOf thickness))
     (radius : Float) (rf : T (finite radius)) (ru : Under (1 of (b per d)) (valueOf radius)) (deep : num span * d ≤ b * den span)
     (thin : num thickness * d ≤ b * den thickness) where
-  abbrev S : Number
-  S = valueOf sweep
-
-  abbrev R : Number
-  R = valueOf root
-
-  abbrev Tp : Number
-  Tp = valueOf tip
-
   abbrev P : Number
   P = valueOf span
-
-  abbrev s : Number
-  s = valueOf scale
 
   abbrev σ : Number
   σ = inverse scale

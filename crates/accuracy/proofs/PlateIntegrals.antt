@@ -70,9 +70,6 @@ one-more n (number p q e) = record { same = parts n p q e }
     parts n p q e = simp plain (omega arith)
 
 module _ (root tip span sweep scale : Float) (b d : ℕ) (g : Lengths root tip span sweep scale (b per d)) (thickness : Float) (tp : T (positive thickness)) (tr : Ranges 24 (sizeOf thickness)) where
-  abbrev S : Number
-  S = valueOf sweep
-
   abbrev R : Number
   R = valueOf root
 
@@ -81,9 +78,6 @@ module _ (root tip span sweep scale : Float) (b d : ℕ) (g : Lengths root tip s
 
   abbrev P : Number
   P = valueOf span
-
-  abbrev s : Number
-  s = valueOf scale
 
   abbrev σ : Number
   σ = inverse scale

@@ -24,7 +24,7 @@ use Rattle.rounding_error.proofs.Ranges.{ranges-by, ranges-for, in-range}
 use Rattle.rounding_error.proofs.Operations.{neg-value}
 use Rattle.rounding_error.proofs.Counts as Counts
 use Rattle.rounding_error.proofs.Chains.{Valued, inverse, inverse-is, inverse-times, under-inverse, in-bounds, counted, counted-by, equalled, resized, exactly, zero-valued, plus-valued, less-valued, times-valued, exact-times, over-valued}
-use Rattle.rounding_error.proofs.Polynomials.{_equals_, trans, itself, times-equal, times-is, AllNumbers, Expression, given, ratio, _add_, _take_, _mul_, equal-by, evaluated-is}
+use Rattle.rounding_error.proofs.Polynomials.{_equals_, trans, itself, times-equal, times-is, AllNumbers, given, ratio, _add_, _take_, _mul_, equal-by, evaluated-is}
 use Rattle.rounding_error.proofs.Quotients.{near-positive, near-least, quotient-near, quotient-finite}
 use Rattle.accuracy.proofs.Samples.{one, quarter}
 use Rattle.accuracy.proofs.Given.{Lengths}
@@ -42,7 +42,7 @@ use Rattle.accuracy.proofs.Centroids.{NotBelow, over-plus, equal-over, 
 use Rattle.accuracy.proofs.PlateSamples.{not-below-plus}
 use Rattle.accuracy.proofs.ClosedForms.{x1E}
 use Rattle.accuracy.proofs.Unscaled as Unscaled
-use Rattle.accuracy.proofs.Unscaled.{thickE, m1E, fourthE}
+use Rattle.accuracy.proofs.Unscaled.{m1E, m1Second, fourthE}
 use Rattle.accuracy.proofs.Integrals.{from-zero, totalOver}
 
 ruleset plain = (sorted, one-mul, mul-one, zero-mul, mul-zero, zero-add, add-zero)
@@ -157,13 +157,6 @@ negated {x = x} {v = v} {k = k} {j = j} {A = A} h =
       size = Counts.under-minus (j of A) v (h .size);
       is = minus-number v (h .is);
     }
-
--- the first moment's second coefficient
-abbrev endSlope : Expression
-endSlope = (given 4 add (given 2 take given 1)) mul given 7
-
-abbrev m1Second : Expression
-m1Second = thickE mul (endSlope mul endSlope take given 4 mul given 7 mul (given 4 mul given 7))
 
 module _ (root tip span sweep scale : Float) (b d : ℕ) (g : Lengths root tip span sweep scale (b per d)) (thickness : Float) (tp : T (positive thickness)) (tr : Ranges 24 (sizeOf thickness)) where
   abbrev S : Number

@@ -46,6 +46,16 @@ m0E = thickE mul (endE take startE)
 abbrev pub m1E : Expression
 m1E = ratio 1 1 mul thickE mul (endE mul endE take startE mul startE)
 
+-- how the chord's ends change with the fraction, and so the second coefficient of M_1
+abbrev pub startSlope : Expression
+startSlope = given 4 mul given 7
+
+abbrev pub endSlope : Expression
+endSlope = (given 4 add (given 2 take given 1)) mul given 7
+
+abbrev pub m1Second : Expression
+m1Second = thickE mul (endSlope mul endSlope take startSlope mul startSlope)
+
 -- the integral over the span, times a power of the scale
 abbrev pub integralE : Expression → Expression → Expression → Expression
 integralE v q power = given 3 mul given 7 mul (v add ratio 1 23 mul q) mul power
