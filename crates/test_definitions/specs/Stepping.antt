@@ -34,6 +34,7 @@ use Rattle.strips.specs.declared.Onward.{Onward}
 use Rattle.strips.specs.Strips.{withStrip, onwardOf, scratchOnward, concludedOf}
 use Rattle.figures.specs.Figures.{refusedFigures, concludedSet}
 use Rattle.jobs.specs.declared.Job.{Job}
+use Rattle.jobs.specs.declared.Stepped.{Stepped}
 use Rattle.jobs.specs.declared.Reply.{Reply}
 use Rattle.jobs.specs.declared.Reply.the-variants.{More, Taken, Answered}
 use Rattle.jobs.specs.Jobs.{pointsOf, noFigures, outcomeOf, afterStrip, stepOf, stepScratch, changeOf}
@@ -181,37 +182,33 @@ job-ends =
 -- ---- steps that work one
 
 -- "one strip a step": the first leaves one strip worked, with its fifteen samples, and more to come
-abbrev pub one-strip-a-step : Bool
-one-strip-a-step =
-    let s = stepOf (worked 0 0 zeros) 128 in
+abbrev pub one-strip-a-step : Stepped → Bool
+one-strip-a-step s =
     isMore (s .answer .reply) && eqb (s .job .next) 1 && eqb (s .job .samples) 15 && eqb (s .job .intervals) 1 && not (s .job .ended)
 
 -- "the sums and totals over those worked": the last strip's are added to those of the record, whose first is 1
-abbrev pub sums-go-on : Bool
-sums-go-on =
-    let s = stepOf (worked 1 15 (map bits (one ∷ 0 ∷ 0 ∷ 0 ∷ 0 ∷ 0 ∷ 0 ∷ []))) 128 in
-    s .job .ended && eqb (s .job .samples) 30 && eqb (s .job .intervals) 2 && lt (bits one) (at (s .job .value) 0)
+abbrev pub sums-go-on : Stepped → Bool
+sums-go-on s = s .job .ended && eqb (s .job .samples) 30 && eqb (s .job .intervals) 2 && lt (bits one) (at (s .job .value) 0)
 
 -- "A step writes its own strip's pieces from the start of the scratch lent to it and leaves the rest", the last step too
-abbrev pub last-strip-written : Bool
-last-strip-written =
-    let scratch = stepScratch (worked 1 15 zeros) (replicate 128 (bits one)) in
+abbrev pub last-strip-written : List Float → Bool
+last-strip-written scratch =
     eqb (length scratch) 128 && are (take 2 scratch) (third ∷ 0x3fe5_5555_5555_5555 ∷ []) && are (take 2 (drop 16 scratch)) (one ∷ one ∷ [])
 
 pub calls-hold : T (short-step && repeats && density-taken && density-left && job-ends)
 unfolding ofBits toBits ofInt round add sub mul div lt le eq ne absOf every belowAll insert sorted isRefused firstRefusal scratchCheck densityCheck chordMoments largestHeight rootChordOf spanOf heights everyY once breakHeights crossed crossings outlineCrossings endsAt paired scaleOf sumsFrom sampleOf plateOf nodes kronrodWeights gaussWeights heightsTo weightedTo pieceOf totalOf errorOf absolute relative converged scoreOf lastHighest worstPlace componentOf repeat halving withStrip onwardOf scratchOnward concludedOf outcomeOf concludedSet afterStrip stepOf stepScratch changeOf
 calls-hold = tt
 
--- each apart, since fifteen samples are worked for each piece
+-- each apart, since fifteen samples are worked for each piece, and by a `let`, by which they are worked once
 
-pub first-step-holds : T one-strip-a-step
+pub first-step-holds : T (let s = stepOf (worked 0 0 zeros) 128 in one-strip-a-step s)
 unfolding ofBits toBits ofInt round add sub mul div lt le eq ne absOf every belowAll insert sorted isRefused firstRefusal scratchCheck densityCheck chordMoments largestHeight rootChordOf spanOf heights everyY once breakHeights crossed crossings outlineCrossings endsAt paired scaleOf sumsFrom sampleOf plateOf nodes kronrodWeights gaussWeights heightsTo weightedTo pieceOf totalOf errorOf absolute relative converged scoreOf lastHighest worstPlace componentOf repeat halving withStrip onwardOf scratchOnward concludedOf outcomeOf concludedSet afterStrip stepOf stepScratch changeOf
 first-step-holds = tt
 
-pub last-step-holds : T sums-go-on
+pub last-step-holds : T (let s = stepOf (worked 1 15 (map bits (one ∷ 0 ∷ 0 ∷ 0 ∷ 0 ∷ 0 ∷ 0 ∷ []))) 128 in sums-go-on s)
 unfolding ofBits toBits ofInt round add sub mul div lt le eq ne absOf every belowAll insert sorted isRefused firstRefusal scratchCheck densityCheck chordMoments largestHeight rootChordOf spanOf heights everyY once breakHeights crossed crossings outlineCrossings endsAt paired scaleOf sumsFrom sampleOf plateOf nodes kronrodWeights gaussWeights heightsTo weightedTo pieceOf totalOf errorOf absolute relative converged scoreOf lastHighest worstPlace componentOf repeat halving withStrip onwardOf scratchOnward concludedOf outcomeOf concludedSet afterStrip stepOf stepScratch changeOf
 last-step-holds = tt
 
-pub last-scratch-holds : T last-strip-written
+pub last-scratch-holds : T (let scratch = stepScratch (worked 1 15 zeros) (replicate 128 (bits one)) in last-strip-written scratch)
 unfolding ofBits toBits ofInt round add sub mul div lt le eq ne absOf every belowAll insert sorted isRefused firstRefusal scratchCheck densityCheck chordMoments largestHeight rootChordOf spanOf heights everyY once breakHeights crossed crossings outlineCrossings endsAt paired scaleOf sumsFrom sampleOf plateOf nodes kronrodWeights gaussWeights heightsTo weightedTo pieceOf totalOf errorOf absolute relative converged scoreOf lastHighest worstPlace componentOf repeat halving withStrip onwardOf scratchOnward concludedOf outcomeOf concludedSet afterStrip stepOf stepScratch changeOf
 last-scratch-holds = tt
