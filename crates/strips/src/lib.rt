@@ -56,7 +56,7 @@ fn add_strip(total: Integral, strip: Integral) -> Integral
 }
 
 // One strip, between the break heights i and i + 1: what it makes of the totals so far.
-pub fn work_strip(
+fn work_strip(
     scratch: &mut [f64],
     integrand: Integrand,
     points: &[f64],
