@@ -39,5 +39,7 @@ pub mod FinIntegrals
 pub mod SetCalled
 pub mod MassNear
 pub mod Turned
+pub mod Conditioned
+pub mod PlateTensors
 pub mod BalanceNear
 pub mod FinCalled

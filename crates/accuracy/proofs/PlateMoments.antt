@@ -83,7 +83,7 @@ low x v k j a c l m κ h L C M o f u =
         go y z = let y' = simp plain at y in let z' = simp plain at z in simp plain (omega (arith, y', z'))
 
 -- n·k roundoffs of a size are k roundoffs of n of it
-together : {x : Float} {v : Number} {k j : ℕ} (n : ℕ) (A : Size) → IsSize A → Valued x v (n * k) (n * j) A → Valued x v k j (n of A)
+pub together : {x : Float} {v : Number} {k j : ℕ} (n : ℕ) (A : Size) → IsSize A → Valued x v (n * k) (n * j) A → Valued x v k j (n of A)
 together {x = x} {v = v} {k = k} {j = j} n (a per c) C h =
     record {
       near = record {
@@ -97,19 +97,25 @@ together {x = x} {v = v} {k = k} {j = j} n (a per c) C h =
     go : (n k a c : ℕ) → n * k * a * c ≤ k * (n * a) * c
     go n k a c = simp plain (omega arith)
 
-several : (n k : ℕ) (A : Size) → 1 ≤ n → n ≤ 32 → Ranges k A → Ranges (k + 5) (n of A)
-several n k (a per c) l m r =
+pub several : (n p k : ℕ) (A : Size) → 1 ≤ n → n ≤ 2 ^ p → Ranges k A → Ranges (k + p) (n of A)
+several n p k (a per c) l m r =
     record {
       real = r .real;
-      least = rw (pow-add 2 k 5) (low′ (2 ^ k) (r .least));
-      most = rw (pow-add 2 k 5) (high′ (2 ^ k) (r .most));
+      least = rw (pow-add 2 k p) (low′ (2 ^ k) (2 ^ p) (pow-pos p) (r .least));
+      most = rw (pow-add 2 k p) (high′ (2 ^ k) (2 ^ p) m (r .most));
     }
   where
-    low′ : (Q : ℕ) → c ≤ a * Q → c ≤ n * a * (Q * 2 ^ 5)
-    low′ Q h = let x = simp plain at (mul-le-mul-right (a * Q) l) in simp plain (omega (arith, x, h))
+    low′ : (Q P : ℕ) → 1 ≤ P → c ≤ a * Q → c ≤ n * a * (Q * P)
+    low′ Q P i h = le-trans h (le-trans (le-of-eq (once (a * Q))) (le-trans (mul-le-mul (mul-le-mul l i) (le-of-eq refl)) (le-of-eq (turn n P a Q))))
+      where
+        once : (x : ℕ) → x ≡ 1 * 1 * x
+        once x = omega arith
 
-    high′ : (Q : ℕ) → a ≤ c * Q → n * a ≤ c * (Q * 2 ^ 5)
-    high′ Q h = le-trans (mul-le-mul m h) (le-of-eq (turn 32 c Q))
+        turn : (n P a Q : ℕ) → n * P * (a * Q) ≡ n * a * (Q * P)
+        turn n P a Q = simp sorted
+
+    high′ : (Q P : ℕ) → n ≤ P → a ≤ c * Q → n * a ≤ c * (Q * P)
+    high′ Q P m h = le-trans (mul-le-mul m h) (le-of-eq (turn P c Q))
       where
         turn : (t c R : ℕ) → t * (c * R) ≡ c * (R * t)
         turn t c R = simp sorted
@@ -118,7 +124,7 @@ whole-again : (Nd Dd Nv Dv a c : ℕ) → a * Dv * (Nd * Nv) * (Dd * c) ≤ Nd *
 whole-again Nd Dd Nv Dv a c = simp plain (omega arith)
 
 -- ---- 0 and 1
-naught-valued : (x : Float) (A : Size) → AtMost 0 1 x → Valued x zeroNumber 0 0 A
+pub naught-valued : (x : Float) (A : Size) → AtMost 0 1 x → Valued x zeroNumber 0 0 A
 naught-valued x (a per c) n =
     record {
       near = record { finite = n .finite; within = within-upto (1 of (0 per 1)) (0 roundoffs (a per c)) (valueOf x) zeroNumber (pow-pos 0) (none a (c * 2 ^ 53)) (most-under x 0 1 n) };
@@ -132,15 +138,15 @@ naught-valued x (a per c) n =
     naught : (a c : ℕ) → (0 * 1 + 0 * 1) * c ≤ (0 * 1 + 0 * 1) * c + 0 * a * (1 * 1)
     naught a c = omega arith
 
-one-value : valueOf oneFloat ≡ number 1 0 1
+pub one-value : valueOf oneFloat ≡ number 1 0 1
 unfolding ofBits
 one-value = refl
 
-one-finite : T (finite oneFloat)
+pub one-finite : T (finite oneFloat)
 unfolding ofBits
 one-finite = tt
 
-one-under : Under (1 of one) (valueOf oneFloat)
+pub one-under : Under (1 of one) (valueOf oneFloat)
 unfolding ofBits
 one-under = record { below = omega arith; above = omega arith }
 
@@ -617,7 +623,7 @@ module _ (root tip span sweep scale : Float) (b d : ℕ) (g : Lengths root tip s
             mass-ranges =
                 let a = n * (num density * (1 * (num thickness * (y * b)))) in
                 let c = den density * (4 * (den thickness * (e * d))) in
-                let nr = several n 98 massUnit some most mr in
+                let nr = several n 5 98 massUnit some most mr in
                 record {
                   real = den-pos massesTo;
                   least = subst (λ (x : ℕ). den massesTo ≤ num massesTo * x) (sym (pow-add 2 27 103))
@@ -629,16 +635,16 @@ module _ (root tip span sweep scale : Float) (b d : ℕ) (g : Lengths root tip s
                 }
 
             quotient-in : InRange ((n of ringUnit) for massesTo)
-            quotient-in = in-range 258 ((n of ringUnit) for massesTo) (omega arith) (ranges-for 128 130 (n of ringUnit) massesTo masses-positive (several n 123 ringUnit some most ring-ranges) mass-ranges)
+            quotient-in = in-range 258 ((n of ringUnit) for massesTo) (omega arith) (ranges-for 128 130 (n of ringUnit) massesTo masses-positive (several n 5 123 ringUnit some most ring-ranges) mass-ranges)
 
             -- 238·14300·2·κ + 237 + 100000
             abbrev pub balanceError : ℕ
             balanceError = 238 * 14300 * (2 * κ) + (237 + 100000)
 
             pub balance-finite : T (finite (momentsTo n ⊘ massesTo))
-            balance-finite = quotient-finite (momentsTo n) massesTo (number n 0 1 times ringMoment) 100000 236 (n of ringUnit) (several n 123 ringUnit some most ring-ranges .real) quotient-in tt moments masses-positive
+            balance-finite = quotient-finite (momentsTo n) massesTo (number n 0 1 times ringMoment) 100000 236 (n of ringUnit) (several n 5 123 ringUnit some most ring-ranges .real) quotient-in tt moments masses-positive
 
             pub balance-near : Within (balanceError roundoffs (n of ringUnit)) (valueOf (momentsTo n ⊘ massesTo) times (number n 0 1 times massNumber)) (number n 0 1 times ringMoment)
             balance-near =
                 quotient-near (momentsTo n) massesTo (number n 0 1 times ringMoment) (number n 0 1 times massNumber) 100000 236 14300 (2 * κ) (n of ringUnit) (n of massUnit)
-                (several n 123 ringUnit some most ring-ranges .real) (several n 98 massUnit some most mr .real) quotient-in tt moments (masses .near) (masses .is) masses-positive (mass-low .1)
+                (several n 5 123 ringUnit some most ring-ranges .real) (several n 5 98 massUnit some most mr .real) quotient-in tt moments (masses .near) (masses .is) masses-positive (mass-low .1)

@@ -16,7 +16,8 @@ use Rattle.floats.proofs.Order.{ne-itself}
 use Rattle.rounding.specs.Sizes.{AtMost, Below, Above}
 use Rattle.rounding.proofs.Signs.{finite-no-nan}
 use Rattle.rounding.proofs.Exact.{zero-exact, pow-exact}
-use Rattle.rounding.proofs.Operations.{neg-most, mul-most, add-most}
+use Rattle.rounding.proofs.Monotone.{positive-num}
+use Rattle.rounding.proofs.Operations.{neg-most, mul-most, add-most, div-most}
 use Rattle.rounding.proofs.Rounding.{round-most, round-least}
 use Rattle.rounding.proofs.Sizes.{weaker, mul-below, add-below, div-below}
 use Rattle.rounding.proofs.Tests.{most-of-le}
@@ -37,7 +38,7 @@ use Rattle.joins.specs.declared.Sums.{Sums}
 use Rattle.accuracy.proofs.Near.{positive-above}
 
 -- ---- zeros
-zero-most : AtMost 0 1 (bits 0)
+pub zero-most : AtMost 0 1 (bits 0)
 unfolding ofBits
 zero-most = record { finite = tt; size = lit≤ tt }
 
@@ -47,34 +48,41 @@ no-size x h = go (num x) (den x) (h .size)
     go : (n d : ℕ) → n * 1 ≤ 0 * d → n ≡ 0
     go n d k = let z = zero-mul d in omega arith
 
-none-times : (x y : Float) → AtMost 0 1 x → T (finite y) → AtMost 0 1 (x ⊗ y)
+pub none-times : (x y : Float) → AtMost 0 1 x → T (finite y) → AtMost 0 1 (x ⊗ y)
 none-times x y h f = mul-most binary64 x y 0 1 (lit≤ tt) (zero-exact binary64) (h .finite) f (rw (no-size x h, zero-mul (num y)) (go (0 * (den x * den y))))
   where
     go : (a : ℕ) → 0 * 1 ≤ a
     go a = omega arith
 
-times-none : (x y : Float) → T (finite x) → AtMost 0 1 y → AtMost 0 1 (x ⊗ y)
+pub times-none : (x y : Float) → T (finite x) → AtMost 0 1 y → AtMost 0 1 (x ⊗ y)
 times-none x y f h = mul-most binary64 x y 0 1 (lit≤ tt) (zero-exact binary64) f (h .finite) (rw (no-size y h, mul-zero (num x)) (go (0 * (den x * den y))))
   where
     go : (a : ℕ) → 0 * 1 ≤ a
     go a = omega arith
 
-none-plus : (x y : Float) → AtMost 0 1 x → AtMost 0 1 y → AtMost 0 1 (x ⊕ y)
+pub none-plus : (x y : Float) → AtMost 0 1 x → AtMost 0 1 y → AtMost 0 1 (x ⊕ y)
 none-plus x y h k =
     add-most binary64 x y 0 1 (lit≤ tt) (zero-exact binary64) (h .finite) (k .finite) (rw (no-size x h, no-size y k, zero-mul (den y), zero-mul (den x)) (go (0 * (den x * den y))))
   where
     go : (a : ℕ) → (0 + 0) * 1 ≤ a
     go a = omega arith
 
-none-less : (x y : Float) → AtMost 0 1 x → AtMost 0 1 y → AtMost 0 1 (x ⊖ y)
+pub none-less : (x y : Float) → AtMost 0 1 x → AtMost 0 1 y → AtMost 0 1 (x ⊖ y)
 unfolding sub
 none-less x y h k = none-plus x (neg y) h (neg-most y 0 1 k)
+
+pub none-over : (x y : Float) → AtMost 0 1 x → T (positive y) → AtMost 0 1 (x ⊘ y)
+none-over x y h p =
+    div-most binary64 x y 0 1 (lit≤ tt) (zero-exact binary64) (h .finite) (positive-finite y p) (positive-num y p) (rw (no-size x h, zero-mul (den y)) (go (0 * (num y * den x))))
+  where
+    go : (a : ℕ) → 0 * 1 ≤ a
+    go a = omega arith
 
 -- ---- the last row of the matrix of a turn by an angle whose half has the sine s and the cosine c: two zeros, and 1
 abbrev pub acrossOf : Float → Float → Float → Float
 acrossOf s c x = (bits 0 ⊗ (s ⊕ s) ⊖ c ⊗ (bits 0 ⊕ bits 0)) ⊗ x ⊕ (bits 0 ⊗ (s ⊕ s) ⊕ c ⊗ (bits 0 ⊕ bits 0)) ⊗ bits 0
 
-one-left : one ⊖ (bits 0 ⊗ (bits 0 ⊕ bits 0) ⊕ bits 0 ⊗ (bits 0 ⊕ bits 0)) ≡ one
+pub one-left : one ⊖ (bits 0 ⊗ (bits 0 ⊕ bits 0) ⊕ bits 0 ⊗ (bits 0 ⊕ bits 0)) ≡ one
 unfolding ofBits add sub mul round
 one-left = refl
 
@@ -137,7 +145,7 @@ unfolding inOrder
 same-in-order f g zero h = refl
 same-in-order f g (suc n) h = rw (same-in-order f g n h, h n)
 
-heavy-centre : (s : Sums) → T (positive (s .«mass_kg»)) → centreOf s ≡ divideVector (s .moment) (s .«mass_kg»)
+pub heavy-centre : (s : Sums) → T (positive (s .«mass_kg»)) → centreOf s ≡ divideVector (s .moment) (s .«mass_kg»)
 heavy-centre s p = rw (ne-itself (s .«mass_kg») ∙ finite-no-nan (s .«mass_kg») (positive-finite (s .«mass_kg») p), positive-above (s .«mass_kg») p)
 
 abbrev pub acrossAt : Float → ℕ → Float → ℕ → Float
