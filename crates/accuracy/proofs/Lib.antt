@@ -41,5 +41,8 @@ pub mod MassNear
 pub mod Turned
 pub mod Conditioned
 pub mod PlateTensors
+pub mod NoRoll
+pub mod JoinedAlone
+pub mod OnlyFin
 pub mod BalanceNear
 pub mod FinCalled
