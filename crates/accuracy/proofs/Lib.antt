@@ -46,3 +46,4 @@ pub mod JoinedAlone
 pub mod OnlyFin
 pub mod BalanceNear
 pub mod FinCalled
+pub mod TabIntegrals
