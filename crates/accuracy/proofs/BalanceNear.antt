@@ -100,7 +100,7 @@ balance-size b d y e κ n E Nd Dd Nk Dk Np Dp Nr Dr Nt Dt tn td Q h u =
     part Nk Np Nr Dr Nt Dt td more = simp plain (omega arith)
 
 -- ---- the tab
-tab-lengths : (height length offset root : Float) → T (fits binary64 height) → T (fits binary64 length) → tabCheck (Slab height length offset) root ≡ Accepted → PositiveLength height × PositiveLength length
+pub tab-lengths : (height length offset root : Float) → T (fits binary64 height) → T (fits binary64 length) → tabCheck (Slab height length offset) root ≡ Accepted → PositiveLength height × PositiveLength length
 unfolding tabCheck
 tab-lengths height length offset root h l c =
     let (a, (b, rest)) = each-accepts (lengthCheck tabHeightField height ∷ lengthCheck tabLengthField length ∷ lengthCheck tabOffsetField offset ∷ _ ∷ []) c in
@@ -174,7 +174,7 @@ module _ (p : Plate) (m : Mount) (points : List Float) (L : ℕ) (entry : List F
   abbrev deep : num (p .span) * e ≤ y * den (p .span)
   deep = x .span-most .size
 
-  slender : b * y * (den (p .root) * den (p .span)) ≤ κ * ν * (num (p .root) * num (p .span)) * (d * e)
+  pub slender : b * y * (den (p .root) * den (p .span)) ≤ κ * ν * (num (p .root) * num (p .span)) * (d * e)
   slender = both-most b y d e κ ν (num (p .root)) (den (p .root)) (num (p .span)) (den (p .span)) (st .roots .size) (st .spans .size)
 
   abbrev f : Float → List Float
@@ -184,7 +184,7 @@ module _ (p : Plate) (m : Mount) (points : List Float) (L : ℕ) (entry : List F
   moment-total = Mass.total-at p m points L entry r exit b d y e g one x 3 (lit≤ tt)
 
   -- ---- the tab
-  tab-accepted : tabCheck (p .tab) (p .root) ≡ Accepted
+  pub tab-accepted : tabCheck (p .tab) (p .root) ≡ Accepted
   unfolding rootChordOf
   tab-accepted = Mass.checks p m points L entry r exit b d y e g one x .tab
 
@@ -339,7 +339,7 @@ module _ (p : Plate) (m : Mount) (points : List Float) (L : ℕ) (entry : List F
       ∙ centre-by v (p .density) (m .base) (m .count) volumeSum momentSum volume-is moment-is masses-positive
 
   -- ---- in fractions
-  abbrev tabShare : Tab → ℕ × ℕ
+  abbrev pub tabShare : Tab → ℕ × ℕ
   tabShare None = (0, 1)
   tabShare (Slab height length offset) = (num (p .thickness) * num length * num height, den (p .thickness) * den length * den height)
 
@@ -352,39 +352,52 @@ module _ (p : Plate) (m : Mount) (points : List Float) (L : ℕ) (entry : List F
       (positive-fraction length (positive-of length 20 (s .1 .not-minus) (s .1 .above))))
       (positive-fraction height (positive-of height 20 (s .0 .not-minus) (s .0 .above)))
 
-  tab-share-is : (tab : Tab) → 0 < tabShare tab .1
+  pub tab-share-is : (tab : Tab) → 0 < tabShare tab .1
   tab-share-is None = pow-pos 0
   tab-share-is (Slab height length offset) = mul-pos (mul-pos (den-pos (p .thickness)) (den-pos length)) (den-pos height)
 
   abbrev wide : ℕ
   wide = num (p .root) * den (p .tip) + num (p .tip) * den (p .root)
 
-  abbrev fin : ℕ
+  abbrev pub fin : ℕ
   fin = num (p .thickness) * (num (p .span) * (wide * 1))
 
-  abbrev finDen : ℕ
+  abbrev pub finDen : ℕ
   finDen = den (p .thickness) * (den (p .span) * (den (p .root) * den (p .tip) * 2))
 
+  abbrev pub volumeNum : ℕ
+  volumeNum = fin * tabShare (p .tab) .1 + tabShare (p .tab) .0 * finDen
+
+  abbrev pub volumeDen : ℕ
+  volumeDen = finDen * tabShare (p .tab) .1
+
+  pub volume-number : IsFraction (number volumeNum 0 volumeDen) (sum (finVolume p) (tabVolume (p .tab) (p .thickness)))
+  volume-number =
+      let w = sum (fractionOf (p .root)) (fractionOf (p .tip)) in
+      sum-fraction fin finDen (tabShare (p .tab) .0) (tabShare (p .tab) .1) (finVolume p) (tabVolume (p .tab) (p .thickness))
+      (product-fraction (num (p .thickness)) (den (p .thickness)) (num (p .span) * (wide * 1)) (den (p .span) * (den (p .root) * den (p .tip) * 2))
+      (fractionOf (p .thickness))
+      (product (fractionOf (p .span)) (product w (pos 1 over 2))) (positive-fraction (p .thickness) tp)
+      (product-fraction (num (p .span)) (den (p .span)) (wide * 1) (den (p .root) * den (p .tip) * 2) (fractionOf (p .span))
+      (product w (pos 1 over 2)) (positive-fraction (p .span) (N .span-positive))
+      (product-fraction wide (den (p .root) * den (p .tip)) 1 2 w (pos 1 over 2)
+      (sum-fraction (num (p .root)) (den (p .root)) (num (p .tip)) (den (p .tip)) (fractionOf (p .root)) (fractionOf (p .tip))
+      (positive-fraction (p .root) rp) (own-fraction (p .tip) (x .along .tip-most .finite) tn)) (whole-fraction 1 2))))
+      (tab-share (p .tab) (st .tab-given) tab-accepted)
+
   abbrev massNum : ℕ
-  massNum = m .count * (num (p .density) * (fin * tabShare (p .tab) .1 + tabShare (p .tab) .0 * finDen))
+  massNum = m .count * (num (p .density) * volumeNum)
 
   abbrev massDen : ℕ
-  massDen = 1 * (den (p .density) * (finDen * tabShare (p .tab) .1))
+  massDen = 1 * (den (p .density) * volumeDen)
 
   mass-number : IsFraction (number massNum 0 massDen) (exactMass p m)
   mass-number =
-      let w = sum (fractionOf (p .root)) (fractionOf (p .tip)) in
       let both = sum (finVolume p) (tabVolume (p .tab) (p .thickness)) in
-      let tb = tabShare (p .tab) in
-      product-fraction (m .count) 1 (num (p .density) * (fin * tb .1 + tb .0 * finDen)) (den (p .density) * (finDen * tb .1)) (pos (m .count) over 1) (product (fractionOf (p .density)) both) (whole-fraction (m .count) 1)
-      (product-fraction (num (p .density)) (den (p .density)) (fin * tb .1 + tb .0 * finDen) (finDen * tb .1) (fractionOf (p .density)) both (positive-fraction (p .density) (heavy .0))
-      (sum-fraction fin finDen (tb .0) (tb .1) (finVolume p) (tabVolume (p .tab) (p .thickness))
-      (product-fraction (num (p .thickness)) (den (p .thickness)) (num (p .span) * (wide * 1)) (den (p .span) * (den (p .root) * den (p .tip) * 2)) (fractionOf (p .thickness))
-      (product (fractionOf (p .span)) (product w (pos 1 over 2))) (positive-fraction (p .thickness) tp)
-      (product-fraction (num (p .span)) (den (p .span)) (wide * 1) (den (p .root) * den (p .tip) * 2) (fractionOf (p .span)) (product w (pos 1 over 2)) (positive-fraction (p .span) (N .span-positive))
-      (product-fraction wide (den (p .root) * den (p .tip)) 1 2 w (pos 1 over 2)
-      (sum-fraction (num (p .root)) (den (p .root)) (num (p .tip)) (den (p .tip)) (fractionOf (p .root)) (fractionOf (p .tip)) (positive-fraction (p .root) rp) (own-fraction (p .tip) (x .along .tip-most .finite) tn)) (whole-fraction 1 2))))
-      (tab-share (p .tab) (st .tab-given) tab-accepted)))
+      product-fraction (m .count) 1 (num (p .density) * volumeNum) (den (p .density) * volumeDen) (pos (m .count) over 1)
+      (product (fractionOf (p .density)) both) (whole-fraction (m .count) 1)
+      (product-fraction (num (p .density)) (den (p .density)) volumeNum volumeDen (fractionOf (p .density)) both
+      (positive-fraction (p .density) (heavy .0)) volume-number)
 
   abbrev R : Number
   R = valueOf (p .root)

@@ -47,3 +47,6 @@ pub mod OnlyFin
 pub mod BalanceNear
 pub mod FinCalled
 pub mod TabIntegrals
+pub mod ExactIntegrals
+pub mod Reaches
+pub mod InertiaNear

@@ -2,3 +2,4 @@ pub mod Areas
 pub mod Centroids
 pub mod Masses
 pub mod Balances
+pub mod Inertias
