@@ -6,8 +6,7 @@ use native.Mathlib.Nat.{one-mul}
 use native.Mathlib.Omega.{arith}
 use lib.Pow.{pow-pos}
 use lib.Ieee.{Float}
-use lib.Ieee.Positive.{den-pos}
-use Rattle.rounding_error.proofs.Numbers.{Number, number, Size, _per_, _plus_, _less_, _times_, _by_, _of_, IsNumber, IsSize, Under, valueOf, zeroNumber, sizeOf}
+use Rattle.rounding_error.proofs.Numbers.{Number, number, Size, _per_, _plus_, _less_, _times_, _by_, _of_, IsNumber, IsSize, Under, valueOf, zeroNumber}
 use Rattle.rounding_error.proofs.Distances.{sorted, within-upto}
 use Rattle.rounding_error.proofs.Counts as Counts
 use Rattle.rounding_error.proofs.Chains.{Valued, inverse, inverse-is, under-inverse}
@@ -157,8 +156,7 @@ module _ (root tip span sweep scale : Float) (B : Size) (g : Lengths root tip sp
       double : Under (2 of H) (number 2 0 1 times U)
       double =
           subst (λ (A : Size). Under (2 of A) (number 2 0 1 times U)) (one-by H)
-          (Counts.under-times 2 1 one H (number 2 0 1) U (pow-pos 0) (Chord.height-ranges root tip span sweep scale B g .real) (pow-pos 0) two-under
-          (under-inverse 1 (sizeOf span) (valueOf span) scale (den-pos span) (Counts.value-is span) (g .scale-positive) (Counts.own-size span (g .span-positive))))
+          (Counts.under-times 2 1 one H (number 2 0 1) U (pow-pos 0) (Chord.height-ranges root tip span sweep scale B g .real) (pow-pos 0) two-under (Chord.U-under root tip span sweep scale B g))
 
   pub width-total : Valued (totalOver root tip span sweep scale B g (Area.widthAt root tip span sweep scale B g)) (U times integral (Area.width root tip span sweep scale B g) zeroNumber) (totalError 170 5 0) (sumSize 5 0) (H by (quarter by Bs))
   width-total =

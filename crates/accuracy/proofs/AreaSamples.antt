@@ -106,7 +106,7 @@ module _ (root tip span sweep scale : Float) (B : Size) (g : Lengths root tip sp
     pub across-valued : Valued (endAt h ⊖ startAt h) (width τ) 163 5 Bs
     across-valued = less-valued r1 tt end start
 
-    width-valued : Valued (widthAt h) (width τ) 170 5 Bs
+    pub width-valued : Valued (widthAt h) (width τ) 170 5 Bs
     width-valued = from-zero 163 5 Bs r1 (omega arith) (omega arith) across-valued
 
     pub squares-valued : Valued (endAt h ⊗ endAt h ⊖ startAt h ⊗ startAt h) (ends τ times ends τ less starts τ times starts τ) 1278 17 (Bs by Bs)

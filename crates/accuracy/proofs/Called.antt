@@ -65,6 +65,12 @@ unfolding paired sumsFrom
 chord-there true root tip sweep f scale h e = refl
 chord-there false root tip sweep f scale h e = no (sym e)
 
+chord-missing : (b : Bool) (root tip sweep f scale h : Float) → b ≡ false
+    → areaValues (sumsFrom area scale h (bits 0 ∷ bits 0 ∷ bits 0 ∷ bits 0 ∷ []) (paired (cond b (trapezoidAt root tip sweep f) []))) ≡ bits 0 ∷ bits 0 ∷ bits 0 ∷ []
+unfolding paired sumsFrom
+chord-missing true root tip sweep f scale h e = no e
+chord-missing false root tip sweep f scale h e = refl
+
 module _ (root tip span sweep : Float) (points : List Float) where
   abbrev Shape : Planform
   Shape = Trapezoid root tip span sweep
@@ -78,6 +84,11 @@ module _ (root tip span sweep : Float) (points : List Float) where
 
   pub width-there : (h : Float) → T (inSpan span (h ⊗ Scale·)) → at (areaThree Shape points h) 0 ≡ widthAt root tip span sweep Scale· h
   width-there h t = ap (λ (l : List Float). at l 0) (values-there h t)
+
+  -- and at one where there is none
+  pub width-missing : (h : Float) → inSpan span (h ⊗ Scale·) ≡ false → at (areaThree Shape points h) 0 ≡ bits 0
+  unfolding areaThree endsAt
+  width-missing h e = ap (λ (l : List Float). at l 0) (chord-missing (inSpan span (h ⊗ Scale·)) root tip sweep (h ⊗ Scale· ⊘ span) Scale· h e)
 
 -- ---- a sum of the rule, of two integrands that are equal at its heights
 pub same-sum : (n : ℕ) (weight : ℕ → Float) (y z : Float → Float) (centre reach : Float) → y centre ≡ z centre → ((i : ℕ) → i < n → y (minusSide centre reach i) ≡ z (minusSide centre reach i))

@@ -43,7 +43,7 @@ use Rattle.accuracy.specs.Areas.{AreaGiven, Reach}
 use Rattle.accuracy.specs.Centroids.{thrice, alongRoot, inHeight, CentroidNear, OnePieceCentroid}
 use Rattle.accuracy.proofs.OnePiece.{centreOf, reachOf}
 use Rattle.accuracy.proofs.Given.{Lengths}
-use Rattle.accuracy.proofs.Areas.{all-have-chords}
+use Rattle.accuracy.proofs.Cuts.{all-have-chords}
 use Rattle.accuracy.proofs.AreaSamples as Values
 use Rattle.accuracy.proofs.Integrals.{totalOver}
 use Rattle.accuracy.proofs.Called.{Strip, total-is, same-sum, values-there, total-one}

@@ -14,7 +14,7 @@ use Rattle.rounding_error.proofs.Numbers.{Number, number, Size, _per_, _plus_, 
 use Rattle.rounding_error.proofs.Distances.{sorted}
 use Rattle.rounding_error.proofs.Ranges.{ranges-by, ranges-for, in-range}
 use Rattle.rounding_error.proofs.Counts as Counts
-use Rattle.rounding_error.proofs.Chains.{Valued, inverse, inverse-is, inverse-times, over-is-times, equalled, resized, exactly, plus-valued, less-valued, times-valued, exact-times, over-valued}
+use Rattle.rounding_error.proofs.Chains.{Valued, inverse, inverse-is, inverse-times, over-is-times, equalled, resized, exactly, plus-valued, less-valued, times-valued, exact-times, over-valued, under-inverse}
 use Rattle.rounding_error.proofs.Polynomials.{_equals_, trans, itself, by-left, times-equal, plus-is, less-is, times-is, given, ratio, _add_, _take_, _mul_, equal-by}
 use Rattle.accuracy.proofs.ExactRule.{node}
 use Rattle.accuracy.proofs.Samples.{one}
@@ -69,6 +69,9 @@ module _ (root tip span sweep scale : Float) (B : Size) (g : Lengths root tip sp
 
   pub U-is : IsNumber U
   U-is = times-is (valueOf span) (inverse scale) (Counts.value-is span) (inverse-is scale (g .scale-positive))
+
+  pub U-under : Under (1 of H) U
+  U-under = under-inverse 1 (sizeOf span) (valueOf span) scale (den-pos span) (Counts.value-is span) (g .scale-positive) (own-size span (g .span-positive))
 
   hr : InRange H
   hr = in-range 48 H (omega arith) height-ranges
@@ -127,7 +130,7 @@ module _ (root tip span sweep scale : Float) (B : Size) (g : Lengths root tip sp
   abbrev P : Number
   P = valueOf span
 
-  fraction-exact : (τ : Number) → IsNumber τ → ((U times τ) times s) times inverse span equals τ
+  pub fraction-exact : (τ : Number) → IsNumber τ → ((U times τ) times s) times inverse span equals τ
   fraction-exact τ i =
       let iP : IsNumber P = Counts.value-is span in
       let is : IsNumber s = Counts.value-is scale in
@@ -149,19 +152,20 @@ module _ (root tip span sweep scale : Float) (B : Size) (g : Lengths root tip sp
   one-of : (n : ℕ) → n * 1 ≤ 1 * n
   one-of n = omega arith
 
+  -- h·scale
+  pub unscaled-valued : (h : Float) (τ : Number) → Valued h (U times τ) 16 2 H → Valued (h ⊗ scale) ((U times τ) times s) 22 2 (sizeOf span)
+  unscaled-valued h τ z =
+      let S = sizeOf scale in
+      resized (H by S) (sizeOf span) (Counts.by-is H S (hr .real) (den-pos scale)) (by-scale (num span) (den span) (num scale) (den scale))
+      (times-valued {A = H} {B = S} (hr .real) (den-pos scale) (in-range 72 (H by S) (omega arith) (ranges-by 48 24 H S height-ranges (g .scale-ranges))) tt z
+      (exactly scale 1 S (positive-finite scale (g .scale-positive)) (own-size scale (g .scale-positive))))
+
   pub fraction-valued : (h : Float) (τ : Number) → IsNumber τ → Under (1 of one) τ → Valued h (U times τ) 16 2 H → Valued (fractionAt span scale h) τ 25 1 one
   fraction-valued h τ i u z =
       let p = g .span-positive in
-      let q = g .scale-positive in
       let D = sizeOf span in
-      let S = sizeOf scale in
-      let a : Valued (h ⊗ scale) ((U times τ) times s) 22 2 (H by S) =
-      times-valued {A = H} {B = S} (hr .real) (den-pos scale) (in-range 72 (H by S) (omega arith) (ranges-by 48 24 H S height-ranges (g .scale-ranges))) tt z
-      (exactly scale 1 S (positive-finite scale q) (own-size scale q)) in
-      let b : Valued (h ⊗ scale) ((U times τ) times s) 22 2 D =
-      resized (H by S) D (Counts.by-is H S (hr .real) (den-pos scale)) (by-scale (num span) (den span) (num scale) (den scale)) a in
       let c : Valued (h ⊗ scale ⊘ span) (((U times τ) times s) times inverse span) 25 2 (D for span) =
-      over-valued span p (den-pos span) (in-range 48 (D for span) (omega arith) (ranges-for 24 24 D span p (g .span-ranges) (g .span-ranges))) tt b in
+      over-valued span p (den-pos span) (in-range 48 (D for span) (omega arith) (ranges-for 24 24 D span p (g .span-ranges) (g .span-ranges))) tt (unscaled-valued h τ z) in
       let d : Valued (h ⊗ scale ⊘ span) τ 25 2 one =
       equalled (resized (D for span) one (mul-pos (positive-num span p) (den-pos span)) (one-of (num span * den span)) c) τ i (fraction-exact τ i) in
       record { near = d .near; size = u; is = i }

@@ -42,7 +42,7 @@ unfolding ofBits
 zero-value = refl
 
 -- both ends are within an roundoff
-lower-valued : (span scale : Float) → T (positive span) → T (positive scale) → InRange (sizeOf span for scale) → Valued (lowerEnd scale) (valueOf (bits 0) over scale) 1 0 (sizeOf span for scale)
+pub lower-valued : (span scale : Float) → T (positive span) → T (positive scale) → InRange (sizeOf span for scale) → Valued (lowerEnd scale) (valueOf (bits 0) over scale) 1 0 (sizeOf span for scale)
 lower-valued span scale p q t =
     let D = sizeOf span in
     let z : Valued (bits 0) (valueOf (bits 0)) 0 0 D = zero-valued D in

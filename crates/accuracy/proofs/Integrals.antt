@@ -20,7 +20,7 @@ use Rattle.accuracy.proofs.Samples.{quarter}
 use Rattle.accuracy.proofs.OnePiece.{centreOf, reachOf}
 use Rattle.accuracy.proofs.Given.{Lengths}
 use Rattle.accuracy.proofs.Areas.{quarter-ranges}
-use Rattle.accuracy.proofs.Weighted.{Sampled, sizeTo, errorTo, error-few, weighted-near}
+use Rattle.accuracy.proofs.Weighted.{middle, lower, upper, Sampled, sizeTo, errorTo, error-few, weighted-near}
 use Rattle.rounding_error.proofs.Chains.{zero-valued}
 use Rattle.accuracy.proofs.Quadratic.{Quadratic, integral, integral-is, sum-near}
 use Rattle.accuracy.proofs.ChordEnds.{U, U-is, H, height-ranges, reach-valued}
@@ -94,7 +94,7 @@ module _ (root tip span sweep scale : Float) (B : Size) (g : Lengths root tip sp
         let a : Valued K (number 2 0 1 times I) e J (quarter by A) =
         counted-by
         (sum-near v q z j r A (ranges .real) (s .at-centre .size) uq K (errorTo l j 7) (sizeTo j 7)
-        (weighted-near y v (centreOf span scale) (reachOf span scale) l j A (ranges .real) quarter-in few-j few-l s 7 (omega arith)))
+        (weighted-near y (centreOf span scale) (reachOf span scale) (v middle) (λ i. v (lower i)) (λ i. v (upper i)) l j A (ranges .real) quarter-in few-j few-l s 7 (omega arith)))
         e J (quarter-in .real) (omega arith) (omega arith) in
         let b = times-valued {A = Hg} {B = quarter by A} (height-ranges root tip span sweep scale B g .real) (quarter-in .real) unit-in
         (and-i (some 4 && some e) (few (2 * suc J)) (and-i (some 4) (some e) tt (le→leb e (2 ^ 40) (omega arith))) (le→leb (2 * suc J) (2 ^ 20) (omega arith)))

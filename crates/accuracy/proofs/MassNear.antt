@@ -63,7 +63,7 @@ use Rattle.rounding_error.proofs.Chains.{Valued}
 use Rattle.accuracy.proofs.Given.{Lengths}
 use Rattle.accuracy.proofs.OnePiece.{centreOf, reachOf}
 use Rattle.accuracy.proofs.Limits.{ranges-of, lengths, most-under}
-use Rattle.accuracy.proofs.Areas.{all-have-chords}
+use Rattle.accuracy.proofs.Cuts.{all-have-chords}
 use Rattle.accuracy.proofs.ChordEnds as Chord
 use Rattle.accuracy.proofs.AreaSamples as Area
 use Rattle.accuracy.proofs.Called.{one-strip, heights-are, only-piece, same-sum, total-one}

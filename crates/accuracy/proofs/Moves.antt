@@ -1,4 +1,4 @@
--- How the exact width changes with the height, and how large it is. Assumes nothing.
+-- How the exact width changes with the height. Assumes nothing.
 use mathlib.Core.Path.{subst}
 use Prim.Native.Nat.{ℕ, _+_, _*_, _^_, _≤_}
 use native.Mathlib.Nat.{mul-pos, one-mul, mul-one, zero-mul, mul-zero, zero-add, add-zero}
@@ -7,13 +7,12 @@ use lib.Dec.{T}
 use lib.Pow.{pow-pos}
 use lib.Ieee.{Float}
 use lib.Ieee.Positive.{num, den, den-pos, positive}
-use Rattle.rounding_error.proofs.Numbers.{Number, Size, _per_, _plus_, _less_, _times_, _over_, _and_, _by_, _for_, _of_, _roundoffs_, IsNumber, IsSize, Within, Under, valueOf, sizeOf}
-use Rattle.accuracy.proofs.Trapezoids.{exactWidth, Bounded}
+use Rattle.rounding_error.proofs.Numbers.{Number, Size, _per_, _plus_, _less_, _times_, _over_, _and_, _by_, _for_, _of_, _roundoffs_, IsSize, Within, Under, valueOf, sizeOf}
+use Rattle.accuracy.proofs.Trapezoids.{exactWidth}
 use Rattle.rounding_error.proofs.Distances.{sorted, within-refl, within-plus, within-times, within-upto, times-comm}
 use Rattle.rounding.proofs.Monotone.{positive-num}
 use Rattle.rounding_error.proofs.Counts
 use Rattle.rounding_error.proofs.Counts.{own-size}
-use Rattle.accuracy.proofs.Width.{under-one, fraction-under}
 
 ruleset plain = (sorted, one-mul, mul-one, zero-mul, mul-zero, zero-add, add-zero)
 
@@ -42,15 +41,3 @@ width-moves root tip span scale (b per d) x y k C p q g h =
     (mul-pos (positive-num scale q) (mul-pos (pow-pos 0) (mul-pos C (mul-pos (positive-num span p) (mul-pos (den-pos scale) (mul-pos (mul-pos (positive-num scale q) (den-pos span)) (pow-pos 53)))))))
     (slope k b d (num scale) (den scale) (num span) (den span) (2 ^ 53))
     (Counts.within-over e4 (R plus G times (x times s over span)) (R plus G times (y times s over span)) scale h4)
-
-pub width-size : (root tip span sweep scale : Float) (B : Size) (x : Number) → Bounded root tip span sweep scale B → IsNumber x → Under (1 of sizeOf span) (x times valueOf scale)
-    → Under (3 of (B for scale)) (exactWidth root tip span scale x)
-width-size root tip span sweep scale B x b i u =
-    let R = valueOf root in
-    let G = valueOf tip less R in
-    let C = b .in-range .real in
-    let φ = x times valueOf scale over span in
-    let iG : IsNumber G = Counts.less-is (valueOf tip) R (Counts.value-is tip) (Counts.value-is root) in
-    let uG : Under (2 of B) G = Counts.under-less 1 1 B (valueOf tip) R C (b .tip-under) (b .root-under) in
-    Counts.under-over 3 B (R plus G times φ) scale C (b .scale-positive)
-    (Counts.under-plus 1 2 B R (G times φ) C (b .root-under) (under-one 2 1 B G φ C iG uG (fraction-under span (x times valueOf scale) (b .span-positive) u)))

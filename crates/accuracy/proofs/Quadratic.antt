@@ -19,7 +19,7 @@ use Rattle.accuracy.proofs.ExactRule.{node, weightsTo}
 use Rattle.accuracy.proofs.Samples.{one, quarter}
 use Rattle.accuracy.proofs.Affine.{weights-is}
 use Rattle.accuracy.proofs.Tables.{withinTest, tested, weights-two}
-use Rattle.accuracy.proofs.Weighted.{middle, lower, upper, exactSum}
+use Rattle.accuracy.proofs.Weighted.{middle, lower, upper, sumTo, exactSum}
 
 -- how far fraction i is from the middle
 abbrev offset : ℕ → Number
@@ -64,7 +64,7 @@ module _ (v : Number → Number) (q : Number) (z : Quadratic v q) where
   middle-is = z .is middle (pow-pos 1)
 
   sum-is : (n : ℕ) → IsNumber (exactSum n v)
-  unfolding exactSum
+  unfolding sumTo
   sum-is zero = plus-is (valueOf (bits 0)) (valueOf (weight 7) times v middle) (Counts.value-is (bits 0)) (times-is (valueOf (weight 7)) (v middle) (Counts.value-is (weight 7)) middle-is)
   sum-is (suc n) =
       plus-is (exactSum n v plus valueOf (weight n) times v (lower n)) (valueOf (weight n) times v (upper n))
@@ -76,7 +76,7 @@ module _ (v : Number → Number) (q : Number) (z : Quadratic v q) where
   zero-first y i = equal-by (y ∷ q ∷ []) (i, (z .q-is, tt)) (ratio 0 0 add given 0) (given 0 add ratio 0 0 mul given 1) tt
 
   pub sum-quadratic : (n : ℕ) → exactSum n v equals (weightsTo n weight times v middle) plus (secondTo n times q)
-  unfolding exactSum weightsTo secondTo
+  unfolding sumTo weightsTo secondTo
   sum-quadratic zero = zero-first (valueOf (weight 7) times v middle) (times-is (valueOf (weight 7)) (v middle) (Counts.value-is (weight 7)) middle-is)
   sum-quadratic (suc n) =
       let E = exactSum n v in

@@ -26,7 +26,7 @@ use Rattle.accuracy.proofs.Heights.{span-over}
 
 ruleset plain = (sorted, one-mul, mul-one, zero-mul, mul-zero, zero-add, add-zero)
 
-upper-positive : (span scale : Float) → T (positive span) → T (positive scale) → InRange (sizeOf span for scale) → T (positive (span ⊘ scale))
+pub upper-positive : (span scale : Float) → T (positive span) → T (positive scale) → InRange (sizeOf span for scale) → T (positive (span ⊘ scale))
 upper-positive span scale p q t =
     let v = upper-valued span scale p q t in
     let l = num span * den scale in
@@ -40,7 +40,7 @@ upper-positive span scale p q t =
     none : (l m k : ℕ) (x : Number) → Over ((1 * l) per (m * 2 ^ 53)) (number l (0 * k) m) x → Over ((1 * l) per (m * 2 ^ 53)) (number l 0 m) x
     none l m k (number q n e) h = subst (λ (z : ℕ). (l * e + n * m) * (m * 2 ^ 53) ≤ (q * m + z * e) * (m * 2 ^ 53) + 1 * l * (m * e)) (zero-mul k) h
 
-lower-none : (scale : Float) → T (positive scale) → AtMost 0 1 (bits 0 ⊘ scale)
+pub lower-none : (scale : Float) → T (positive scale) → AtMost 0 1 (bits 0 ⊘ scale)
 unfolding ofBits
 lower-none scale p = div-most binary64 (bits 0) scale 0 1 (pow-pos 0) (zero-exact binary64) tt (positive-finite scale p) (positive-num scale p) (omega arith)
 

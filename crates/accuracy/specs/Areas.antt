@@ -1,7 +1,7 @@
 -- How near the area of a trapezoid is to the exact one, (root + tip)/2·span.
 use mathlib.Core.Path.{_≡_}
 use mathlib.Core.List.{List}
-use Prim.Native.Nat.{ℕ, _*_, _^_, _<_}
+use Prim.Native.Nat.{ℕ, _*_, _^_, _≤_, _<_}
 use lib.Dec.{T}
 use lib.IntN.{pos}
 use lib.Ieee.{Float, binary64, fits}
@@ -30,11 +30,16 @@ pub record Reach (b d : ℕ) (root tip sweep : Float) : Type 0 where
 abbrev pub exactArea : Float → Float → Float → Fraction
 exactArea root tip span = (pos 1 over 2) times ((valueOf root plus valueOf tip) times valueOf span)
 
--- where the strip is one piece: at most 2^-44·span·B from it, B = b / d the largest of root, tip and |sweep|
-abbrev pub OnePieceArea : Type 0
-OnePieceArea =
+-- at most n·2^-44·span·B from it, n the number of the strip's pieces and B = b / d the largest of root, tip and |sweep|. Of more than 40 pieces some may be
+-- slivers, narrower than 2^-40 of the strip, at whose samples h·scale may round past the span, where there is no chord: then at most n·2^-38·span·B.
+pub record AreaNear (b d : ℕ) (root tip span : Float) (r : Area) : Type 0 where
+  pub pieces : (1 ≤ r .intervals) × (r .intervals ≤ 64)
+  pub near : r .intervals ≤ 40 → Within ((pos (b * r .intervals) over (d * 2 ^ 44)) times valueOf span) (valueOf (r .«area_m2»)) (exactArea root tip span)
+  pub with-slivers : Within ((pos (b * r .intervals) over (d * 2 ^ 38)) times valueOf span) (valueOf (r .«area_m2»)) (exactArea root tip span)
+
+abbrev pub TrapezoidArea : Type 0
+TrapezoidArea =
     (root tip span sweep : Float) (points : List Float) (L : ℕ) (entry : List Float) (r : Area) (exit : List Float) (b d : ℕ)
     → AreaGiven root tip span sweep points L entry r exit
-    → r .intervals ≡ 1
     → Reach b d root tip sweep
-    → Within ((pos b over (d * 2 ^ 44)) times valueOf span) (valueOf (r .«area_m2»)) (exactArea root tip span)
+    → AreaNear b d root tip span r

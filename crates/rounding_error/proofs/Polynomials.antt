@@ -372,3 +372,25 @@ equal-by l h s t v = polynomials-equal (among l) (among-is l h) s t v
 
 pub evaluated-is : (l : List Number) → AllNumbers l → (t : Expression) → IsNumber (evaluate (among l) t)
 evaluated-is l h t = evaluate-is (among l) (among-is l h) t
+
+-- at equal numbers
+abbrev pub AllEqual : List Number → List Number → Type 0
+AllEqual [] [] = Unit {0}
+AllEqual [] (y ∷ k) = ⊥
+AllEqual (x ∷ l) [] = ⊥
+AllEqual (x ∷ l) (y ∷ k) = (x equals y) × AllEqual l k
+
+among-equal : (l k : List Number) → AllEqual l k → (i : ℕ) → among l i equals among k i
+among-equal [] [] h i = itself
+among-equal [] (y ∷ k) h i = absurd h
+among-equal (x ∷ l) [] h i = absurd h
+among-equal (x ∷ l) (y ∷ k) h zero = h .0
+among-equal (x ∷ l) (y ∷ k) h (suc i) = among-equal l k (h .1) i
+
+pub evaluated-equal : (l k : List Number) → AllNumbers l → AllNumbers k → AllEqual l k → (t : Expression) → evaluate (among l) t equals evaluate (among k) t
+evaluated-equal l k il ik h (given i) = among-equal l k h i
+evaluated-equal l k il ik h (ratio p d) = itself
+evaluated-equal l k il ik h (s add t) = plus-equal (evaluated-equal l k il ik h s) (evaluated-equal l k il ik h t)
+evaluated-equal l k il ik h (s take t) = plus-equal (evaluated-equal l k il ik h s) (minus-equal (evaluated-equal l k il ik h t))
+evaluated-equal l k il ik h (s mul t) =
+    times-equal (evaluated-is l il s) (evaluated-is k ik s) (evaluated-is l il t) (evaluated-is k ik t) (evaluated-equal l k il ik h s) (evaluated-equal l k il ik h t)
