@@ -15,6 +15,8 @@ use Rattle.accuracy.proofs.Samples.{one, quarter}
 use Rattle.accuracy.proofs.Given.{Lengths}
 use Rattle.accuracy.proofs.Ends.{halfSize}
 use Rattle.accuracy.proofs.Quadratic.{Quadratic, integral, two-under}
+use Rattle.accuracy.proofs.Weighted.{middle}
+use Rattle.accuracy.proofs.Parts.{Parabola, parabola-from}
 use Rattle.accuracy.proofs.Whole.{one-by}
 use Rattle.accuracy.proofs.ChordEnds as Chord
 use Rattle.accuracy.proofs.AreaSamples as Area
@@ -75,6 +77,9 @@ module _ (root tip span sweep scale : Float) (B : Size) (g : Lengths root tip sp
   values d i =
       (Counts.value-is sweep, (Counts.value-is root, (Counts.value-is tip, (inverse-is scale (g .scale-positive), (Chord.U-is root tip span sweep scale B g, (i, tt))))))
 
+  iσ : IsNumber σ
+  iσ = inverse-is scale (g .scale-positive)
+
   abbrev pub all : Number → List Number
   all d = S ∷ R ∷ Tp ∷ σ ∷ U ∷ d ∷ []
 
@@ -108,6 +113,34 @@ module _ (root tip span sweep scale : Float) (B : Size) (g : Lengths root tip sp
         q-is = evaluated-is (all U) (values U (Chord.U-is root tip span sweep scale B g)) heightSecond;
         even = λ d i. equal-by (all d) (values d i) (bothE heightE) (twiceE heightE heightSecond) tt;
       }
+
+  -- ---- by their coefficients
+  pub width-parabola : Parabola (Area.width root tip span sweep scale B g) zeroNumber
+  width-parabola =
+      parabola-from (Area.width root tip span sweep scale B g) (R times σ) ((Tp less R) times σ) zeroNumber
+      (times-is R σ (Counts.value-is root) iσ, (times-is (Tp less R) σ (less-is Tp R (Counts.value-is tip) (Counts.value-is root)) iσ, (pow-pos 0, tt)))
+      (width-quadratic .is)
+      (λ τ i. equal-by (all τ) (values τ i) (widthE (given 5))
+      (given 1 mul given 3 add given 5 mul ((given 2 take given 1) mul given 3 add given 5 mul (ratio 1 1 mul ratio 0 0))) tt)
+
+  pub moment-parabola : Parabola (Area.moment root tip span sweep scale B g) moment-q
+  moment-parabola =
+      let iU = Chord.U-is root tip span sweep scale B g in
+      let c0 = middle times ((R times σ) times (R times σ)) in
+      let c1 = (R times σ) times ((S plus (Tp less R)) times σ) in
+      let e0 = ratio 1 1 mul (given 1 mul given 3 mul (given 1 mul given 3)) in
+      let e1 = given 1 mul given 3 mul ((given 0 add (given 2 take given 1)) mul given 3) in
+      parabola-from (Area.moment root tip span sweep scale B g) c0 c1 moment-q
+      (evaluated-is (all U) (values U iU) e0, (evaluated-is (all U) (values U iU) e1, (moment-quadratic .q-is, tt))) (moment-quadratic .is)
+      (λ τ i. equal-by (all τ) (values τ i) (momentE (given 5)) (e0 add given 5 mul (e1 add given 5 mul (ratio 1 1 mul momentSecond))) tt)
+
+  pub height-parabola : Parabola (Area.height root tip span sweep scale B g) height-q
+  height-parabola =
+      parabola-from (Area.height root tip span sweep scale B g) zeroNumber (U times (R times σ)) height-q
+      (pow-pos 0, (times-is U (R times σ) (Chord.U-is root tip span sweep scale B g) (times-is R σ (Counts.value-is root) iσ), (height-quadratic .q-is, tt)))
+      (height-quadratic .is)
+      (λ τ i. equal-by (all τ) (values τ i) (heightE (given 5))
+      (ratio 0 0 add given 5 mul (given 4 mul (given 1 mul given 3) add given 5 mul (ratio 1 1 mul heightSecond))) tt)
 
   -- ---- how large they are
   pub none-under : (A : Size) → Under (0 of A) zeroNumber

@@ -29,7 +29,7 @@ use Rattle.rounding_error.proofs.Distances.{sorted, within-upto}
 use Rattle.rounding_error.proofs.Counts as Counts
 use Rattle.rounding_error.proofs.Ranges.{ranges-by, in-range}
 use Rattle.rounding_error.proofs.Chains.{Valued, inverse, inverse-is, inverse-times, some, few, equalled, counted-by, exactly, times-valued}
-use Rattle.rounding_error.proofs.Polynomials.{_equals_, trans, itself, times-equal, times-is, given, ratio, _add_, _take_, _mul_, AllNumbers}
+use Rattle.rounding_error.proofs.Polynomials.{_equals_, trans, itself, times-is, given, ratio, _add_, _mul_, AllNumbers}
 use Rattle.rounding_error.proofs.Polynomials.{equal-by, evaluated-is, evaluated-equal}
 use Rattle.rounding_error.proofs.Fractions.{IsFraction, plus-fraction, times-fraction, value-fraction, whole-fraction, shifted-fraction}
 use Rattle.rounding_error.proofs.Fractions.{within-fraction}
@@ -50,12 +50,17 @@ use Rattle.accuracy.proofs.Whole.{positive-value}
 use Rattle.accuracy.proofs.Called.{total-is, width-there, width-missing}
 use Rattle.accuracy.proofs.StripEnds.{lower-none}
 use Rattle.accuracy.proofs.Integrals.{from-zero}
+use Rattle.accuracy.proofs.Quadratic.{integral}
+use Rattle.accuracy.proofs.Parts.{Cubic}
+use Rattle.accuracy.proofs.AreaSamples as Area
+use Rattle.accuracy.proofs.AreaIntegrals as Totals
 use Rattle.accuracy.proofs.AreaIntegrals.{widthE}
 use Rattle.accuracy.proofs.ChordEnds as Chord
-use Rattle.accuracy.proofs.PieceValues as Values
+use Rattle.accuracy.proofs.WidthPieces as Widths
 use Rattle.accuracy.proofs.StripPieces as Strip
 use Rattle.accuracy.proofs.StripPieces.{InStrip, value-of}
 use Rattle.accuracy.proofs.PieceSums as Sums
+use Rattle.accuracy.proofs.WidthSums.{any-summed, wide-summed}
 use Rattle.accuracy.proofs.Near.{figures-given, sized, sizes, span-above, ends-apart, stripPieces, pieces-counted}
 
 ruleset plain = (sorted, one-mul, mul-one, zero-mul, mul-zero, zero-add, add-zero)
@@ -115,7 +120,7 @@ module _ (root tip span sweep scale : Float) (B : Size) (g : Lengths root tip sp
   Top = Strip.Top root tip span sweep scale B g
 
   abbrev unit : Size
-  unit = Values.unit root tip span sweep scale B g
+  unit = Widths.unit root tip span sweep scale B g
 
   abbrev S : Size
   S = sizeOf scale
@@ -124,7 +129,13 @@ module _ (root tip span sweep scale : Float) (B : Size) (g : Lengths root tip sp
   s = valueOf scale
 
   abbrev whole : Number
-  whole = Sums.integralOver root tip span sweep scale B g lower Top
+  whole = Sums.integralOver root tip span sweep scale B g (Area.width root tip span sweep scale B g) lower Top
+
+  abbrev U : Number
+  U = Chord.U root tip span sweep scale B g
+
+  width-cubic : Cubic (Area.width root tip span sweep scale B g)
+  width-cubic = Totals.width-parabola root tip span sweep scale B g .cubic
 
   -- exactly
   area-exact : (whole times s) times s equals exactArea root tip span
@@ -135,34 +146,28 @@ module _ (root tip span sweep scale : Float) (B : Size) (g : Lengths root tip sp
       let P = valueOf span in
       let σ = inverse scale in
       let A = exactArea root tip span in
-      let low = Sums.fraction root tip span sweep scale B g lower in
-      let top = Sums.fraction root tip span sweep scale B g Top in
-      let tp = Strip.top-positive root tip span sweep scale B g in
+      let X = U times integral (Area.width root tip span sweep scale B g) zeroNumber in
       let iR : IsNumber R = Counts.value-is root in
       let iT : IsNumber Tp = Counts.value-is tip in
       let iSw : IsNumber Sw = Counts.value-is sweep in
       let iP : IsNumber P = Counts.value-is span in
       let is : IsNumber s = Counts.value-is scale in
       let iσ : IsNumber σ = inverse-is scale (g .scale-positive) in
-      let iι : IsNumber (inverse Top) = inverse-is Top tp in
-      let ilow = times-is (valueOf lower) (inverse Top) (Counts.value-is lower) iι in
-      let itop = times-is (valueOf Top) (inverse Top) (Counts.value-is Top) iι in
       let iA = exact-number root tip span in
       let iss = times-is s σ is iσ in
-      let none : low equals zeroNumber =
-      trans (times-is zeroNumber (inverse Top) (pow-pos 0) iι)
-      (times-equal (Counts.value-is lower) (pow-pos 0) iι iι zero' (itself {x = inverse Top}))
-      (equal-by (inverse Top ∷ []) (iι, tt) (ratio 0 0 mul given 0) (ratio 0 0) tt) in
-      let e = (given 4 mul given 3) mul ((given 7 take given 6) mul widthE ((given 6 add given 7) mul ratio 1 1)) mul given 5 mul given 5 in
-      let l = Sw ∷ R ∷ Tp ∷ σ ∷ P ∷ s ∷ low ∷ top ∷ [] in
-      let k = Sw ∷ R ∷ Tp ∷ σ ∷ P ∷ s ∷ zeroNumber ∷ number 1 0 1 ∷ [] in
-      let il : AllNumbers l = (iSw, (iR, (iT, (iσ, (iP, (is, (ilow, (itop, tt)))))))) in
-      let ik : AllNumbers k = (iSw, (iR, (iT, (iσ, (iP, (is, (pow-pos 0, (pow-pos 0, tt)))))))) in
-      trans (evaluated-is k ik e) (evaluated-equal l k il ik
-      (itself, (itself, (itself, (itself, (itself, (itself, (none, (inverse-times Top tp, tt)))))))) e)
+      let l = Sw ∷ R ∷ Tp ∷ σ ∷ P ∷ s ∷ [] in
+      let il : AllNumbers l = (iSw, (iR, (iT, (iσ, (iP, (is, tt)))))) in
+      let e = (given 4 mul given 3) mul (widthE (ratio 1 1) add ratio 1 23 mul ratio 0 0) in
+      let iX : IsNumber X = evaluated-is l il e in
+      let iW : IsNumber whole = Sums.additive root tip span sweep scale B g (Area.width root tip span sweep scale B g) width-cubic .is lower Top in
+      trans (evaluated-is l il (e mul given 5 mul given 5))
+      (evaluated-equal (whole ∷ s ∷ []) (X ∷ s ∷ []) (iW, (is, tt)) (iX, (is, tt)) (
+        Sums.over-whole root tip span sweep scale B g (Area.width root tip span sweep scale B g) zeroNumber width-cubic
+            (Totals.width-quadratic root tip span sweep scale B g) lower zero',
+        (itself, tt),
+      ) (given 0 mul given 1 mul given 1))
       (trans (evaluated-is ((s times σ) ∷ A ∷ []) (iss, (iA, tt)) (given 0 mul given 0 mul given 1))
-      (equal-by (Sw ∷ R ∷ Tp ∷ σ ∷ P ∷ s ∷ []) (iSw, (iR, (iT, (iσ, (iP, (is, tt))))))
-      ((given 4 mul given 3) mul ((ratio 1 0 take ratio 0 0) mul widthE ((ratio 0 0 add ratio 1 0) mul ratio 1 1)) mul given 5 mul given 5)
+      (equal-by l il (e mul given 5 mul given 5)
       ((given 5 mul given 3) mul (given 5 mul given 3) mul (ratio 1 1 mul ((given 1 add given 2) mul given 4))) tt)
       (trans (evaluated-is (number 1 0 1 ∷ A ∷ []) (pow-pos 0, (iA, tt)) (given 0 mul given 0 mul given 1))
       (evaluated-equal ((s times σ) ∷ A ∷ []) (number 1 0 1 ∷ A ∷ []) (iss, (iA, tt)) (pow-pos 0, (iA, tt))
@@ -170,13 +175,13 @@ module _ (root tip span sweep scale : Float) (B : Size) (g : Lengths root tip sp
       (equal-by (A ∷ []) (iA, tt) (ratio 1 0 mul ratio 1 0 mul given 0) (given 0) tt)))
 
   unit-once : Ranges 123 (unit by S)
-  unit-once = ranges-by 99 24 unit S (Values.unit-ranges root tip span sweep scale B g) (g .scale-ranges)
+  unit-once = ranges-by 99 24 unit S (Widths.unit-ranges root tip span sweep scale B g) (g .scale-ranges)
 
   unit-twice : Ranges 147 (unit by S by S)
   unit-twice = ranges-by 123 24 (unit by S) S unit-once (g .scale-ranges)
 
   -- n pieces, each within M roundoffs of the unit
-  module _ (n M : ℕ) (n-least : 1 ≤ n) (n-most : n ≤ 64) (M-most : M ≤ 2 ^ 20) (t : Float) (z : Valued t whole (n * M) (8 * n) unit) where
+  module _ (n M : ℕ) (n-least : 1 ≤ n) (n-most : n ≤ 64) (M-most : M ≤ 2 ^ 20) (t : Float) (z : Valued t whole (n * M) (n * 8) unit) where
     product-most : n * M ≤ 64 * 2 ^ 20
     product-most = mul-le-mul n-most M-most
 
@@ -190,10 +195,11 @@ module _ (root tip span sweep scale : Float) (B : Size) (g : Lengths root tip sp
     area-valued : Near ((bits 0 ⊕ t) ⊗ scale ⊗ scale) (exactArea root tip span) ((n * (M + 46)) roundoffs (unit by S by S))
     area-valued =
         let p = product-most in
-        let unit-in = in-range 99 unit (omega arith) (Values.unit-ranges root tip span sweep scale B g) in
+        let unit-in = in-range 99 unit (omega arith) (Widths.unit-ranges root tip span sweep scale B g) in
         let once-in = in-range 123 (unit by S) (omega arith) unit-once in
         let twice-in = in-range 147 (unit by S by S) (omega arith) unit-twice in
-        let a : Valued (bits 0 ⊕ t) whole (2 + 8 * n + n * M) (8 * n) unit = from-zero (n * M) (8 * n) unit unit-in (omega arith) (omega arith) z in
+        let a : Valued (bits 0 ⊕ t) whole (2 + 8 * n + n * M) (8 * n) unit = from-zero (n * M) (8 * n) unit unit-in (omega arith) (omega arith)
+        (counted-by z (n * M) (8 * n) (unit-in .real) (omega arith) (omega arith)) in
         let b : Valued ((bits 0 ⊕ t) ⊗ scale) (whole times s) (4 + 24 * n + n * M) (8 * n) (unit by S) =
         counted-by (times-valued {A = unit} {B = S} (unit-in .real) (den-pos scale) once-in
         (counts (2 + 8 * n + n * M) (omega arith)) a itself-valued) (4 + 24 * n + n * M) (8 * n) (once-in .real) (omega arith) (omega arith) in
@@ -205,17 +211,17 @@ module _ (root tip span sweep scale : Float) (B : Size) (g : Lengths root tip sp
 -- in spans: an eighth of span/scale·B/scale, times the scale twice, is an eighth of span·B
 to-spans : (root tip span sweep scale : Float) (b d : ℕ) (g : Lengths root tip span sweep scale (b per d)) (area : Float) (n M K : ℕ)
     → M * K ≤ 8 * 2 ^ 53
-    → Near area (exactArea root tip span) ((n * M) roundoffs (Values.unit root tip span sweep scale (b per d) g by sizeOf scale by sizeOf scale))
+    → Near area (exactArea root tip span) ((n * M) roundoffs (Widths.unit root tip span sweep scale (b per d) g by sizeOf scale by sizeOf scale))
     → Near area (exactArea root tip span) ((b * n * num span) per (d * K * den span))
 to-spans root tip span sweep scale b d g area n M K l h =
     record {
       finite = h .finite;
       within =
-          within-upto ((n * M) roundoffs (Values.unit root tip span sweep scale (b per d) g by sizeOf scale by sizeOf scale))
+          within-upto ((n * M) roundoffs (Widths.unit root tip span sweep scale (b per d) g by sizeOf scale by sizeOf scale))
           ((b * n * num span) per (d * K * den span)) (valueOf area) (exactArea root tip span)
-          (mul-pos (Counts.by-is (Values.unit root tip span sweep scale (b per d) g by sizeOf scale) (sizeOf scale)
-          (Counts.by-is (Values.unit root tip span sweep scale (b per d) g) (sizeOf scale)
-          (Values.unit-ranges root tip span sweep scale (b per d) g .real) (den-pos scale)) (den-pos scale)) (pow-pos 53))
+          (mul-pos (Counts.by-is (Widths.unit root tip span sweep scale (b per d) g by sizeOf scale) (sizeOf scale)
+          (Counts.by-is (Widths.unit root tip span sweep scale (b per d) g) (sizeOf scale)
+          (Widths.unit-ranges root tip span sweep scale (b per d) g .real) (den-pos scale)) (den-pos scale)) (pow-pos 53))
           (go (num span) (den span) (num scale) (den scale) (2 ^ 53) l) (h .within);
     }
   where
@@ -318,35 +324,38 @@ module _ (root tip span sweep : Float) (points : List Float) (L : ℕ) (entry : 
     abbrev B : Size
     B = b per d
 
-    widths : Values.Widths root tip span sweep scale B l (λ h. at (areaThree Shape points h) 0)
+    widths : Widths.Widths root tip span sweep scale B l (λ h. at (areaThree Shape points h) 0)
     widths = record { there = width-there root tip span sweep points; nowhere = width-missing root tip span sweep points }
 
-    summed : Sums.Summed root tip span sweep scale B l (areaThree Shape points) widths low pieces
-    summed =
-        Sums.summed root tip span sweep scale B l (areaThree Shape points) widths low L
-        (ends-apart root tip span sweep points L entry r exit g) in-strip low-value
-        (area-limit Shape points L (length entry) (figures-given root tip span sweep points L entry r exit g .accepted) .1)
+    kept : Sums.Kept root tip span sweep scale B l 3 (areaThree Shape points) low pieces × (length pieces ≤ 64)
+    kept =
+        Sums.halving-kept root tip span sweep scale B l 3 (areaThree Shape points) low L
+        (ends-apart root tip span sweep points L entry r exit g) in-strip
+        low-value (area-limit Shape points L (length entry) (figures-given root tip span sweep points L entry r exit g .accepted) .1)
 
     area-near : (M K : ℕ) → M ≤ 2 ^ 20 → (M + 46) * K ≤ 8 * 2 ^ 53
-        → Valued sumOver (Sums.integralOver root tip span sweep scale B l low high) (length pieces * M) (8 * length pieces)
-        (Values.unit root tip span sweep scale B l)
+        → Valued sumOver (Sums.integralOver root tip span sweep scale B l (Area.width root tip span sweep scale B l) low high) (length pieces * M)
+        (length pieces * 8)
+        (Widths.unit root tip span sweep scale B l)
         → Near (r .«area_m2») (exactArea root tip span) ((b * r .intervals * num span) per (d * K * den span))
     area-near M K m k z =
         subst (λ (i : ℕ). Near (r .«area_m2») (exactArea root tip span) ((b * i * num span) per (d * K * den span)))
         (sym (pieces-counted root tip span sweep points L entry r exit g))
         (subst (λ (x : Float). Near x (exactArea root tip span) ((b * length pieces * num span) per (d * K * den span))) (sym area-is)
         (to-spans root tip span sweep scale b d l ((bits 0 ⊕ sumOver) ⊗ scale ⊗ scale) (length pieces) (M + 46) K k
-        (area-valued root tip span sweep scale B l low low-value (length pieces) M (summed .least) (summed .most) m sumOver z)))
+        (area-valued root tip span sweep scale B l low low-value (length pieces) M (kept .0 .some) (kept .1) m sumOver z)))
 
     pub few-pieces : r .intervals ≤ 40 → Near (r .«area_m2») (exactArea root tip span) ((b * r .intervals * num span) per (d * 2 ^ 44 * den span))
     few-pieces h = area-near 3650 (2 ^ 44) (omega arith) (omega arith)
-        (summed .nearer (subst (λ (i : ℕ). i ≤ 40) (pieces-counted root tip span sweep points L entry r exit g) h))
+        (wide-summed root tip span sweep scale B l (areaThree Shape points) widths low pieces (kept .0) (kept .1)
+        (subst (λ (i : ℕ). i ≤ 40) (pieces-counted root tip span sweep points L entry r exit g) h))
 
     pub any-pieces : Near (r .«area_m2») (exactArea root tip span) ((b * r .intervals * num span) per (d * 2 ^ 38 * den span))
-    any-pieces = area-near 224882 (2 ^ 38) (omega arith) (omega arith) (summed .near)
+    any-pieces = area-near 224882 (2 ^ 38) (omega arith) (omega arith)
+        (any-summed root tip span sweep scale B l (areaThree Shape points) widths low pieces (kept .0) (kept .1))
 
     pub counted : (1 ≤ r .intervals) × (r .intervals ≤ 64)
-    counted = let e = pieces-counted root tip span sweep points L entry r exit g in (omega (arith, e, summed .least), omega (arith, e, summed .most))
+    counted = let e = pieces-counted root tip span sweep points L entry r exit g in (omega (arith, e, kept .0 .some), omega (arith, e, kept .1))
 
 pub trapezoid-area : TrapezoidArea
 trapezoid-area root tip span sweep points L entry r exit b d g reach = go (leb b (64 * d)) (leb→le b (64 * d)) (nleb→lt b (64 * d))

@@ -25,7 +25,7 @@ replaced t (s add u) = replaced t s add replaced t u
 replaced t (s take u) = replaced t s take replaced t u
 replaced t (s mul u) = replaced t s mul replaced t u
 
-replaced-at : (rest : List Number) (x : Number) (t e : Expression)
+pub replaced-at : (rest : List Number) (x : Number) (t e : Expression)
     → evaluate (among (x ∷ rest)) (replaced t e) ≡ evaluate (among (evaluate (among (x ∷ rest)) t ∷ rest)) e
 replaced-at rest x t (given zero) = refl
 replaced-at rest x t (given (suc i)) = refl

@@ -1,6 +1,5 @@
--- The pieces of a halved strip, added in storage order: their exact integrals add up to that over the whole strip, however it was cut, and the f64
--- sum is near
--- it. Assumes nothing.
+-- The pieces of a halved strip, added in storage order: exact integrals over them add up to that over the whole strip, however it was cut, and sums
+-- of f64s near them are near it. Assumes nothing.
 use mathlib.Core.Path.{_≡_, refl, sym, subst}
 use mathlib.Core.Bool.{false}
 use mathlib.Core.List.{List, [], _∷_, _++_}
@@ -23,25 +22,19 @@ use Rattle.tolerance.proofs.AllPieces.{All, all-at, all-set, all-append}
 use Rattle.halving.specs.Halving.{Halved, halving}
 use Rattle.halving.proofs.Outcomes.{Outcome, accepts, full, uncut, outcome, kept, one-more, halvesOfWorst}
 use Rattle.rounding_error.proofs.Numbers.{Number, number, Size, _plus_, _less_, _times_, IsNumber, valueOf, zeroNumber, InRange}
-use Rattle.rounding_error.proofs.Ranges.{in-range}
 use Rattle.rounding_error.proofs.Counts as Counts
-use Rattle.rounding_error.proofs.Chains.{Valued, zero-valued, inverse, inverse-is, in-bounds, equalled, counted-by, plus-valued}
-use Rattle.rounding_error.proofs.Polynomials.{_equals_, trans, symm, itself, plus-equal, plus-is, times-is, Expression, given, ratio, _add_, _take_}
-use Rattle.rounding_error.proofs.Polynomials.{_mul_, AllNumbers, equal-by, evaluated-is, evaluated-equal}
+use Rattle.rounding_error.proofs.Chains.{Valued, zero-valued, inverse, inverse-is, inverse-times, in-bounds, equalled, counted-by, plus-valued}
+use Rattle.rounding_error.proofs.Polynomials.{_equals_, trans, symm, itself, by-left, plus-equal, times-equal, plus-is, times-is, given, ratio}
+use Rattle.rounding_error.proofs.Polynomials.{_add_, _take_, _mul_, equal-by, evaluated-is}
 use Rattle.accuracy.proofs.Given.{Lengths}
 use Rattle.accuracy.proofs.Weighted.{middle}
+use Rattle.accuracy.proofs.Quadratic.{Quadratic, integral}
 use Rattle.accuracy.proofs.ChordEnds as Chord
-use Rattle.accuracy.proofs.AreaSamples as Area
-use Rattle.accuracy.proofs.AreaIntegrals.{widthE}
-use Rattle.accuracy.proofs.PieceValues as Values
+use Rattle.accuracy.proofs.Parts.{simpson, Cubic, equally, simpson-is, simpson-adds, simpson-equal, three-even}
 use Rattle.accuracy.proofs.StripPieces as Strip
 use Rattle.accuracy.proofs.StripPieces.{InStrip, left-in-strip, right-in-strip, Wide}
 
--- the integral from the fraction at place i to that at place j of the variables
-abbrev overE : ℕ → ℕ → Expression
-overE i j = given 4 mul ((given j take given i) mul widthE ((given i add given j) mul ratio 1 1))
-
-all-map : (P Q : Piece → Type 0) → ((p : Piece) → P p → Q p) → (l : List Piece) → All P l → All Q l
+pub all-map : (P Q : Piece → Type 0) → ((p : Piece) → P p → Q p) → (l : List Piece) → All P l → All Q l
 all-map P Q f [] a = tt
 all-map P Q f (p ∷ l) a = (f p (a .0), all-map P Q f l (a .1))
 
@@ -117,30 +110,45 @@ for-each M (p ∷ l) = one-more' (length l) (forEach M l) (for-each M l)
     one-more' : (n s : ℕ) → s ≡ n * M → M + s ≡ suc n * M
     one-more' n s e = rw e (omega arith)
 
-module _ (e : Piece → Number) (is : (p : Piece) → IsNumber (e p)) (number : Piece → Float) (unit : Size) (t : InRange unit) (K : ℕ)
-    (few-errors : K ≤ 2 ^ 20) where
-  -- each is within K roundoffs and at most 8 units; the sums before it are at most 512 units
-  pub sum-valued : (l : List Piece) → All (λ p. Valued (number p) (e p) K 8 unit) l → (x : Float) (v : Number) (k j : ℕ) → j + 8 * length l ≤ 512
-      → k + forEach (K + 522) l ≤ 2 ^ 40 → Valued x v k j unit
-      → Valued (sumFrom x number l) (v plus exactOver e is l) (k + forEach (K + 522) l) (j + 8 * length l) unit
+module _ (e : Piece → Number) (is : (p : Piece) → IsNumber (e p)) (number : Piece → Float) (unit : Size) (t : InRange unit) (K J M : ℕ)
+    (few-errors : K ≤ 2 ^ 26) (few-sizes : J ≤ 2 ^ 18) (few-all : M ≤ 2 ^ 18) where
+  -- each is within K roundoffs and at most J units, and all sums are at most M
+  pub sum-valued : (l : List Piece) → All (λ p. Valued (number p) (e p) K J unit) l → (x : Float) (v : Number) (k j : ℕ) → j + forEach J l ≤ M
+      → k + forEach (K + (M + J + 2)) l ≤ 2 ^ 40 → Valued x v k j unit
+      → Valued (sumFrom x number l) (v plus exactOver e is l) (k + forEach (K + (M + J + 2)) l) (j + forEach J l) unit
   sum-valued [] a x v k j h m z =
       counted-by (equalled z (v plus zeroNumber) (plus-is v zeroNumber (z .is) (pow-pos 0))
-      (equal-by (v ∷ []) (z .is, tt) (given 0) (given 0 add ratio 0 0) tt)) (k + 0) (j + 8 * 0) (t .real) (omega arith) (omega arith)
+      (equal-by (v ∷ []) (z .is, tt) (given 0) (given 0 add ratio 0 0) tt)) (k + 0) (j + 0) (t .real) (omega arith) (omega arith)
   sum-valued (p ∷ l) a x v k j h m z =
       let X = exactOver e is l in
-      let s = counted-by (plus-valued t (in-bounds k K j 8 (omega arith) (omega arith) (omega arith) (omega arith)) z (a .0)) (k + (K + 522)) (j + 8)
+      let E = K + (M + J + 2) in
+      let s = counted-by (plus-valued t (in-bounds k K j J (omega arith) (omega arith) (omega arith) (omega arith)) z (a .0)) (k + E) (j + J)
       (t .real) (omega arith) (omega arith) in
       counted-by
-      (equalled (sum-valued l (a .1) (x ⊕ number p) (v plus e p) (k + (K + 522)) (j + 8) (omega arith) (omega arith) s) (v plus (e p plus X))
+      (equalled (sum-valued l (a .1) (x ⊕ number p) (v plus e p) (k + E) (j + J) (omega arith) (omega arith) s) (v plus (e p plus X))
       (plus-is v (e p plus X) (z .is) (plus-is (e p) X (is p) (over-is e is l)))
       (equal-by (v ∷ e p ∷ X ∷ []) (z .is, (is p, (over-is e is l, tt))) (given 0 add given 1 add given 2) (given 0 add (given 1 add given 2)) tt))
-      (k + (K + 522 + forEach (K + 522) l)) (j + 8 * suc (length l)) (t .real) (omega arith) (omega arith)
+      (k + (E + forEach E l)) (j + (J + forEach J l)) (t .real) (omega arith) (omega arith)
 
 zero-first : (x : Number) → IsNumber x → valueOf (bits 0) plus x equals x
 unfolding ofBits
 zero-first x i = equal-by (x ∷ []) (i, tt) (ratio 0 0 add given 0) (given 0) tt
 
--- ---- the strip
+-- ---- integrals from one height to another, which add up
+pub record Additive (I : Float → Float → Number) : Type 0 where
+  pub is : (a b : Float) → IsNumber (I a b)
+  pub adds : (a m b : Float) → I a m plus I m b equals I a b
+
+abbrev pub overPiece : (Float → Float → Number) → Piece → Number
+overPiece I p = I (p .start) (p .end)
+
+pub over-piece : (I : Float → Float → Number) → Additive I → (p : Piece) → IsNumber (overPiece I p)
+over-piece I a p = a .is (p .start) (p .end)
+
+abbrev pub overAll : (I : Float → Float → Number) → Additive I → List Piece → Number
+overAll I a l = exactOver (overPiece I) (over-piece I a) l
+
+-- ---- the strip, of w components
 module _ (root tip span sweep scale : Float) (B : Size) (g : Lengths root tip span sweep scale B) where
   abbrev U : Number
   U = Chord.U root tip span sweep scale B g
@@ -151,89 +159,120 @@ module _ (root tip span sweep scale : Float) (B : Size) (g : Lengths root tip sp
   abbrev Top : Float
   Top = Strip.Top root tip span sweep scale B g
 
-  abbrev width : Number → Number
-  width = Area.width root tip span sweep scale B g
-
-  abbrev unit : Size
-  unit = Values.unit root tip span sweep scale B g
-
   -- the fraction of the strip at which an f64 height lies
   abbrev pub fraction : Float → Number
   fraction x = valueOf x times inverse Top
 
-  fraction-is : (x : Float) → IsNumber (fraction x)
+  pub fraction-is : (x : Float) → IsNumber (fraction x)
   fraction-is x = times-is (valueOf x) (inverse Top) (Counts.value-is x) (inverse-is Top (Strip.top-positive root tip span sweep scale B g))
 
-  -- the exact integral of the width from a to b
-  abbrev pub integralOver : Float → Float → Number
-  integralOver a b = U times ((fraction b less fraction a) times width ((fraction a plus fraction b) times middle))
+  -- the exact integral of a cubic of the fraction
+  abbrev pub integralOver : (Number → Number) → Float → Float → Number
+  integralOver v a b = U times simpson v (fraction a) (fraction b)
 
-  abbrev five : List Number → List Number
-  five l = valueOf sweep ∷ valueOf root ∷ valueOf tip ∷ inverse scale ∷ U ∷ l
+  pub additive : (v : Number → Number) → Cubic v → Additive (integralOver v)
+  additive v c =
+      record {
+        is = λ a b. times-is U (simpson v (fraction a) (fraction b)) U-is (part a b);
+        adds = λ a m b.
+            let x = simpson v (fraction a) (fraction m) in
+            let y = simpson v (fraction m) (fraction b) in
+            trans (times-is U (x plus y) U-is (plus-is x y (part a m) (part m b)))
+            (equal-by (U ∷ x ∷ y ∷ []) (U-is, (part a m, (part m b, tt))) (given 0 mul given 1 add given 0 mul given 2)
+            (given 0 mul (given 1 add given 2)) tt)
+            (by-left U (simpson-adds v c (fraction a) (fraction m) (fraction b) (fraction-is a) (fraction-is m) (fraction-is b)));
+      }
+    where
+      U-is : IsNumber U
+      U-is = Chord.U-is root tip span sweep scale B g
 
-  five-are : (l : List Number) → AllNumbers l → AllNumbers (five l)
-  five-are l i = (
-    Counts.value-is sweep,
-    (Counts.value-is root, (Counts.value-is tip, (inverse-is scale (g .scale-positive), (Chord.U-is root tip span sweep scale B g, i)))),
-  )
+      part : (a b : Float) → IsNumber (simpson v (fraction a) (fraction b))
+      part a b = simpson-is v c (fraction a) (fraction b) (fraction-is a) (fraction-is b)
 
-  pub integral-is : (a b : Float) → IsNumber (integralOver a b)
-  integral-is a b = evaluated-is (five (fraction a ∷ fraction b ∷ [])) (five-are (fraction a ∷ fraction b ∷ []) (fraction-is a, (fraction-is b, tt)))
-      (overE 5 6)
+  -- over a piece, by the fractions of proofs/Cuts
+  abbrev pub startOf : (a b : Float) → InStrip Top a b → Number
+  startOf a b s = number (Strip.cut root tip span sweep scale B g a b s .from) 0 (Strip.cut root tip span sweep scale B g a b s .whole)
 
-  -- additive under cuts
-  halves-add : (a m b : Float) → integralOver a m plus integralOver m b equals integralOver a b
-  halves-add a m b =
-      equal-by (five (fraction a ∷ fraction m ∷ fraction b ∷ []))
-      (five-are (fraction a ∷ fraction m ∷ fraction b ∷ []) (fraction-is a, (fraction-is m, (fraction-is b, tt)))) (overE 5 6 add overE 6 7)
-      (overE 5 7) tt
+  abbrev pub wideOf : (a b : Float) → InStrip Top a b → Number
+  wideOf a b s = number (Strip.cut root tip span sweep scale B g a b s .wide) 0 (Strip.cut root tip span sweep scale B g a b s .whole)
 
-  abbrev pub pieceIntegral : Piece → Number
-  pieceIntegral p = integralOver (p .start) (p .end)
+  pub over-cut : (v : Number → Number) → Cubic v → (a b : Float) (s : InStrip Top a b)
+      → U times simpson v (startOf a b s) (startOf a b s plus wideOf a b s) equals integralOver v a b
+  over-cut v c a b s =
+      let α = startOf a b s in
+      let δ = wideOf a b s in
+      let iα : IsNumber α = Strip.cut root tip span sweep scale B g a b s .whole-real in
+      by-left U (simpson-equal v c α (α plus δ) (fraction a) (fraction b) iα (plus-is α δ iα iα) (fraction-is a) (fraction-is b)
+      (symm (Strip.start-quotient root tip span sweep scale B g a b s)) (symm (Strip.end-quotient root tip span sweep scale B g a b s)))
 
-  pub piece-is : (p : Piece) → IsNumber (pieceIntegral p)
-  piece-is p = integral-is (p .start) (p .end)
+  -- over the whole strip from 0, of what is quadratic about the middle
+  pub over-whole : (v : Number → Number) (q : Number) → Cubic v → Quadratic v q → (lower : Float) → valueOf lower equals zeroNumber
+      → integralOver v lower Top equals U times integral v q
+  over-whole v q c z lower e =
+      let α = fraction lower in
+      let β = fraction Top in
+      let iα = fraction-is lower in
+      let iβ = fraction-is Top in
+      let tp = Strip.top-positive root tip span sweep scale B g in
+      let iι : IsNumber (inverse Top) = inverse-is Top tp in
+      let from : α equals zeroNumber =
+      trans (times-is zeroNumber (inverse Top) (pow-pos 0) iι) (times-equal (Counts.value-is lower) (pow-pos 0) iι iι e (itself {x = inverse Top}))
+      (equal-by (inverse Top ∷ []) (iι, tt) (ratio 0 0 mul given 0) (ratio 0 0) tt) in
+      let to : β equals number 1 0 1 = inverse-times Top tp in
+      let m = (number 0 0 1 plus number 1 0 1) times middle in
+      let S = ((v zeroNumber plus number 4 0 1 times v m) plus v (number 1 0 1)) times number 1 0 6 in
+      let i0 = c .is zeroNumber (pow-pos 0) in
+      let im = c .is m (pow-pos 1) in
+      let i1 = c .is (number 1 0 1) (pow-pos 0) in
+      let iS : IsNumber S = evaluated-is (v zeroNumber ∷ v m ∷ v (number 1 0 1) ∷ []) (i0, (im, (i1, tt)))
+      ((given 0 add ratio 4 0 mul given 1 add given 2) mul ratio 1 5) in
+      by-left U
+      (trans (simpson-is v c zeroNumber (number 1 0 1) (pow-pos 0) (pow-pos 0))
+      (simpson-equal v c α β zeroNumber (number 1 0 1) iα iβ (pow-pos 0) (pow-pos 0) from to)
+      (trans iS (equal-by (S ∷ []) (iS, tt) ((ratio 1 0 take ratio 0 0) mul given 0) (given 0) tt)
+      (three-even v q (v zeroNumber) (v m) (v (number 1 0 1)) z i0 im i1
+      (equally v c zeroNumber (middle less middle) (pow-pos 0) (pow-pos 2) (record { same = refl }))
+      (equally v c m middle (pow-pos 1) (pow-pos 1) (record { same = refl }))
+      (equally v c (number 1 0 1) (middle plus middle) (pow-pos 0) (pow-pos 2) (record { same = refl })))))
 
-  abbrev pub total : List Piece → Number
-  total l = exactOver pieceIntegral piece-is l
-
-  module _ (f : Float → List Float) (widths : Values.Widths root tip span sweep scale B g (λ h. at (f h) 0)) where
-    abbrev valueIn : Piece → Float
-    valueIn p = at (p .value) 0
+  module _ (w : ℕ) (f : Float → List Float) where
+    abbrev pub valueIn : ℕ → Piece → Float
+    valueIn k p = at (p .value) k
 
     -- a piece after n cuts or fewer
-    record Piece· (n : ℕ) (p : Piece) : Type 0 where
-      in-strip : InStrip Top (p .start) (p .end)
-      wide : Wide H U n (valueOf (p .end) less valueOf (p .start))
-      measured : valueIn p ≡ halfWidth (p .start) (p .end) ⊗ sumOf weight f (p .start) (p .end) 0
+    pub record Piece· (n : ℕ) (p : Piece) : Type 0 where
+      pub in-strip : InStrip Top (p .start) (p .end)
+      pub wide : Wide H U n (valueOf (p .end) less valueOf (p .start))
+      pub measured : (k : ℕ) → k < w → valueIn k p ≡ halfWidth (p .start) (p .end) ⊗ sumOf weight f (p .start) (p .end) k
 
     -- what a halving keeps
-    record Kept (lower : Float) (pieces : List Piece) : Type 0 where
-      some : 1 ≤ length pieces
-      each : All (Piece· (length pieces)) pieces
-      sum : total pieces equals integralOver lower Top
+    pub record Kept (lower : Float) (pieces : List Piece) : Type 0 where
+      pub some : 1 ≤ length pieces
+      pub each : All (Piece· (length pieces)) pieces
+      pub sum : (I : Float → Float → Number) (a : Additive I) → overAll I a pieces equals I lower Top
 
-    made : (n : ℕ) (a b : Float) → InStrip Top a b → Wide H U n (valueOf b less valueOf a) → Piece· n (pieceOf 3 f a b)
+    made : (n : ℕ) (a b : Float) → InStrip Top a b → Wide H U n (valueOf b less valueOf a) → Piece· n (pieceOf w f a b)
     unfolding pieceOf
-    made n a b s w = record { in-strip = s; wide = w; measured = at-tabulate 3 (λ k. halfWidth a b ⊗ sumOf weight f a b k) 0 (omega arith) }
+    made n a b s h = record { in-strip = s; wide = h; measured = λ k l. at-tabulate w (λ k. halfWidth a b ⊗ sumOf weight f a b k) k l }
 
     top-finite : T (finite Top)
     top-finite = positive-finite Top (Strip.top-positive root tip span sweep scale B g)
 
-    both : (a m b : Float) → pieceIntegral (pieceOf 3 f a m) plus pieceIntegral (pieceOf 3 f m b) equals integralOver a b
+    both : (I : Float → Float → Number) → Additive I → (a m b : Float)
+        → overPiece I (pieceOf w f a m) plus overPiece I (pieceOf w f m b) equals I a b
     unfolding pieceOf
-    both a m b = halves-add a m b
+    both I i a m b = i .adds a m b
 
-    halves-kept : (lower : Float) (pieces : List Piece) → Kept lower pieces → Kept lower (halvesOfWorst 3 f pieces)
+    halves-kept : (lower : Float) (pieces : List Piece) → Kept lower pieces → Kept lower (halvesOfWorst w f pieces)
     halves-kept lower pieces z =
         let n = length pieces in
-        let place = worstPlace 3 pieces in
-        let p = worstPiece 3 pieces in
+        let place = worstPlace w pieces in
+        let p = worstPiece w pieces in
         let m = middleOf p in
-        let below = worst-below 3 pieces (z .some) in
+        let below = worst-below w pieces (z .some) in
         let i : Piece· n p = all-at (Piece· n) pieces place below (z .each) in
-        let left = pieceOf 3 f (p .start) m in
-        let right = pieceOf 3 f m (p .end) in
+        let left = pieceOf w f (p .start) m in
+        let right = pieceOf w f m (p .end) in
         let l : Piece· (n + 1) left =
         made (n + 1) (p .start) m (left-in-strip Top top-finite (p .start) (p .end) (i .in-strip))
         (Strip.left-wide root tip span sweep scale B g (p .start) (p .end) (i .in-strip) n (i .wide)) in
@@ -250,123 +289,58 @@ module _ (root tip span sweep scale : Float) (B : Size) (g : Lengths root tip sp
         }) pieces
         (z .each) in
         record {
-          some = omega (arith, one-more 3 f pieces);
-          each = subst (λ (k : ℕ). All (Piece· k) (halvesOfWorst 3 f pieces)) (sym (one-more 3 f pieces))
+          some = omega (arith, one-more w f pieces);
+          each = subst (λ (k : ℕ). All (Piece· k) (halvesOfWorst w f pieces)) (sym (one-more w f pieces))
               (all-append (Piece· (n + 1)) (set pieces place left) (right ∷ []) (all-set (Piece· (n + 1)) pieces place left others l) (r, tt));
-          sum = trans (over-is pieceIntegral piece-is pieces)
-              (cut-sum pieceIntegral piece-is pieces place left right below (both (p .start) m (p .end))) (z .sum);
+          sum = λ I a. trans (over-is (overPiece I) (over-piece I a) pieces)
+              (cut-sum (overPiece I) (over-piece I a) pieces place left right below (both I a (p .start) m (p .end))) (z .sum I a);
         }
 
-    alone : (lower : Float) → total (pieceOf 3 f lower Top ∷ []) equals integralOver lower Top
+    alone : (I : Float → Float → Number) (a : Additive I) (lower : Float) → overAll I a (pieceOf w f lower Top ∷ []) equals I lower Top
     unfolding pieceOf
-    alone lower = equal-by (integralOver lower Top ∷ []) (integral-is lower Top, tt) (given 0 add ratio 0 0) (given 0) tt
+    alone I a lower = equal-by (I lower Top ∷ []) (a .is lower Top, tt) (given 0 add ratio 0 0) (given 0) tt
 
-    whole-kept : (lower : Float) → InStrip Top lower Top → valueOf lower equals zeroNumber → Kept lower (pieceOf 3 f lower Top ∷ [])
+    whole-kept : (lower : Float) → InStrip Top lower Top → valueOf lower equals zeroNumber → Kept lower (pieceOf w f lower Top ∷ [])
     whole-kept lower s z =
         record {
           some = le-refl 1;
           each = (made 1 lower Top s (Strip.whole-wide root tip span sweep scale B g lower z), tt);
-          sum = alone lower;
+          sum = λ I a. alone I a lower;
         }
 
-    -- ---- each piece's value, and their sum
-    integral-equal : (a b : Float) (s : InStrip Top a b)
-        → Values.cutIntegral root tip span sweep scale B g a b (Strip.cut root tip span sweep scale B g a b s)
-        (λ h. at (f h) 0) widths equals integralOver a b
-    integral-equal a b s =
-        let c = Strip.cut root tip span sweep scale B g a b s in
-        let α = number (c .from) 0 (c .whole) in
-        let β = α plus number (c .wide) 0 (c .whole) in
-        let iβ = plus-is α (number (c .wide) 0 (c .whole)) (c .whole-real) (c .whole-real) in
-        evaluated-equal (five (α ∷ β ∷ [])) (five (fraction a ∷ fraction b ∷ [])) (five-are (α ∷ β ∷ []) (c .whole-real, (iβ, tt)))
-        (five-are (fraction a ∷ fraction b ∷ []) (fraction-is a, (fraction-is b, tt))) (
-          itself,
-          (
-            itself,
-            (
-              itself,
-              (
-                itself,
-                (
-                  itself,
-                  (
-                    symm (Strip.start-quotient root tip span sweep scale B g a b s),
-                    (symm (Strip.end-quotient root tip span sweep scale B g a b s), tt),
-                  ),
-                ),
-              ),
-            ),
-          ),
-        )
-        (overE 5 6)
-
-    near-any : (n : ℕ) (p : Piece) → Piece· n p → Valued (valueIn p) (pieceIntegral p) 224360 8 unit
-    near-any n p h =
-        let c = Strip.cut root tip span sweep scale B g (p .start) (p .end) (h .in-strip) in
-        subst (λ (x : Float). Valued x (pieceIntegral p) 224360 8 unit) (sym (h .measured))
-        (equalled (Values.piece-valued root tip span sweep scale B g (p .start) (p .end) c (λ y. at (f y) 0) widths) (pieceIntegral p) (piece-is p)
-        (integral-equal (p .start) (p .end) (h .in-strip)))
-
-    near-wide : (n : ℕ) → n ≤ 40 → (p : Piece) → Piece· n p → Valued (valueIn p) (pieceIntegral p) 3128 8 unit
-    near-wide n l p h =
-        let c = Strip.cut root tip span sweep scale B g (p .start) (p .end) (h .in-strip) in
-        subst (λ (x : Float). Valued x (pieceIntegral p) 3128 8 unit) (sym (h .measured))
-        (equalled (Values.wide-valued root tip span sweep scale B g (p .start) (p .end) c (λ y. at (f y) 0) widths
-        (Strip.no-sliver root tip span sweep scale B g (p .start) (p .end) (h .in-strip) n (h .wide) l)) (pieceIntegral p) (piece-is p)
-        (integral-equal (p .start) (p .end) (h .in-strip)))
-
-    abbrev sumIn : List Piece → Float
-    sumIn pieces = sumFrom (bits 0) valueIn pieces
-
-    in-unit : InRange unit
-    in-unit = in-range 99 unit (omega arith) (Values.unit-ranges root tip span sweep scale B g)
-
-    added : (K : ℕ) → K ≤ 2 ^ 20 → (lower : Float) (pieces : List Piece) → Kept lower pieces → length pieces ≤ 64
-        → All (λ p. Valued (valueIn p) (pieceIntegral p) K 8 unit) pieces
-        → Valued (sumIn pieces) (integralOver lower Top) (length pieces * (K + 522)) (8 * length pieces) unit
-    added K few lower pieces z most a =
-        let n = length pieces in
-        let count = for-each (K + 522) pieces in
-        let I = integralOver lower Top in
-        let s = sum-valued pieceIntegral piece-is valueIn unit in-unit K few pieces a (bits 0) (valueOf (bits 0)) 0 0 (omega arith)
-        (at-most n K few most count) (zero-valued unit) in
-        counted-by
-        (equalled s I (integral-is lower Top)
-        (trans (over-is pieceIntegral piece-is pieces) (zero-first (total pieces) (over-is pieceIntegral piece-is pieces)) (z .sum)))
-        (n * (K + 522)) (8 * n) (in-unit .real) (omega (arith, count)) (omega arith)
-      where
-        at-most : (n K : ℕ) → K ≤ 2 ^ 20 → n ≤ 64 → {m : ℕ} → m ≡ n * (K + 522) → 0 + m ≤ 2 ^ 40
-        at-most n K h k {m = m} e = let h' : K + 522 ≤ 2 ^ 20 + 522 = omega arith in omega (arith, e, mul-le-mul k h')
-
-    -- the sum over the pieces of the strip, at most 64 and so at most 512 units in all
-    pub record Summed (lower : Float) (pieces : List Piece) : Type 0 where
-      pub most : length pieces ≤ 64
-      pub least : 1 ≤ length pieces
-      pub near : Valued (sumIn pieces) (integralOver lower Top) (length pieces * 224882) (8 * length pieces) unit
-      -- where there are no slivers
-      pub nearer : length pieces ≤ 40 → Valued (sumIn pieces) (integralOver lower Top) (length pieces * 3650) (8 * length pieces) unit
-
-    summed-of : (lower : Float) (pieces : List Piece) → Kept lower pieces → length pieces ≤ 64 → Summed lower pieces
-    summed-of lower pieces z most =
-        let n = length pieces in
-        record {
-          most = most;
-          least = z .some;
-          near = added 224360 (omega arith) lower pieces z most
-              (all-map (Piece· n) (λ p. Valued (valueIn p) (pieceIntegral p) 224360 8 unit) (near-any n) pieces (z .each));
-          nearer = λ l. added 3128 (omega arith) lower pieces z most
-              (all-map (Piece· n) (λ p. Valued (valueIn p) (pieceIntegral p) 3128 8 unit) (near-wide n l) pieces (z .each));
-        }
-
-    no-more-than : (limit : ℕ) (K : List Piece → List Float → Type 0) (h : Halved) → Outcome 3 f limit K h → length (h .pieces) ≤ limit
+    no-more-than : (limit : ℕ) (K : List Piece → List Float → Type 0) (h : Halved) → Outcome w f limit K h → length (h .pieces) ≤ limit
     no-more-than limit K h (accepts pieces heights k t l) = l
     no-more-than limit K h (full pieces heights k t l) = omega arith
     no-more-than limit K h (uncut pieces heights k t l m) = omega arith
 
-    pub summed : (lower : Float) (limit : ℕ) → eq lower Top ≡ false → InStrip Top lower Top → valueOf lower equals zeroNumber → limit ≤ 64
-        → Summed lower (halving 3 f lower Top limit .pieces)
+    -- so it holds of the strip's pieces, at most 64
+    pub halving-kept : (lower : Float) (limit : ℕ) → eq lower Top ≡ false → InStrip Top lower Top → valueOf lower equals zeroNumber → limit ≤ 64
+        → Kept lower (halving w f lower Top limit .pieces) × (length (halving w f lower Top limit .pieces) ≤ 64)
     unfolding halving
-    summed lower limit e s z l =
-        let o = outcome 3 f (1 + (limit - 1)) (λ pieces heights. Kept lower pieces) (λ pieces heights k h m. halves-kept lower pieces k) (limit - 1)
-        (pieceOf 3 f lower Top ∷ []) (heightsOf lower Top) (whole-kept lower s z) refl in
-        rw e (summed-of lower _ (kept 3 f o) (le-trans (no-more-than (1 + (limit - 1)) (λ pieces heights. Kept lower pieces) _ o) (omega arith)))
+    halving-kept lower limit e s z l =
+        let o = outcome w f (1 + (limit - 1)) (λ pieces heights. Kept lower pieces) (λ pieces heights k h m. halves-kept lower pieces k) (limit - 1)
+        (pieceOf w f lower Top ∷ []) (heightsOf lower Top) (whole-kept lower s z) refl in
+        rw e (kept w f o, le-trans (no-more-than (1 + (limit - 1)) (λ pieces heights. Kept lower pieces) _ o) (omega arith))
+
+    -- ---- the sum of one component, of which each piece has at most J and all together at most M units
+    abbrev pub sumIn : ℕ → List Piece → Float
+    sumIn k pieces = sumFrom (bits 0) (valueIn k) pieces
+
+    pub added : (k K J M : ℕ) (I : Float → Float → Number) (i : Additive I) (unit : Size) → InRange unit → K ≤ 2 ^ 26 → J ≤ 2 ^ 18 → M ≤ 2 ^ 18
+        → (lower : Float) (pieces : List Piece) → Kept lower pieces → length pieces ≤ 64 → length pieces * J ≤ M
+        → All (λ p. Valued (valueIn k p) (overPiece I p) K J unit) pieces
+        → Valued (sumIn k pieces) (I lower Top) (length pieces * (K + (M + J + 2))) (length pieces * J) unit
+    added k K J M I i unit t fk fj fm lower pieces z most all a =
+        let n = length pieces in
+        let E = K + (M + J + 2) in
+        let errors = for-each E pieces in
+        let sizes = for-each J pieces in
+        let X = overAll I i pieces in
+        let iX = over-is (overPiece I) (over-piece I i) pieces in
+        let s = sum-valued (overPiece I) (over-piece I i) (valueIn k) unit t K J M fk fj fm pieces a (bits 0) (valueOf (bits 0)) 0 0
+        (omega (arith, sizes)) (at-most n E (omega arith) most errors) (zero-valued unit) in
+        counted-by (equalled s (I lower Top) (i .is lower Top) (trans iX (zero-first X iX) (z .sum I i)))
+        (n * E) (n * J) (t .real) (omega (arith, errors)) (omega (arith, sizes))
+      where
+        at-most : (n E : ℕ) → E ≤ 2 ^ 28 → n ≤ 64 → {m : ℕ} → m ≡ n * E → 0 + m ≤ 2 ^ 40
+        at-most n E h k {m = m} e = omega (arith, e, mul-le-mul k h)

@@ -1,225 +1,78 @@
--- A piece's value is near the exact integral of the width over it: within 3128 roundoffs of an eighth of span/scale·B/scale where all its samples
--- have chords, and
--- within 224360 if it is a sliver, of which some may have none. Assumes nothing.
-use mathlib.Core.Path.{_≡_, refl, sym, subst}
-use mathlib.Core.Bool.{Bool, true, false, not}
+-- The rule's value over a piece is near the exact integral over it, of samples that are near a cubic of the fraction of the strip. Assumes nothing.
+use mathlib.Core.Bool.{_&&_}
 use mathlib.Core.List.{[], _∷_}
-use Prim.Native.Nat.{ℕ, _+_, _-_, _*_, _^_, _≤_, _<_}
-use native.Mathlib.Nat.{mul-pos, mul-le-mul-right, one-mul, mul-one, zero-mul, mul-zero, zero-add, add-zero, le-of-lt}
+use Prim.Native.Nat.{ℕ, suc, _+_, _*_, _^_, _≤_}
+use native.Mathlib.Nat.{zero-lt-suc as zero-lt}
 use native.Mathlib.Omega.{arith}
-use lib.Dec.{T, leb, leb→le, nleb→lt}
+use lib.Dec.{le→leb}
 use lib.Pow.{pow-pos}
 use lib.Ieee.{Float}
-use lib.Ieee.Scale.{finite}
-use lib.Ieee.Positive.{num, den}
-use Rattle.floats.specs.Operations.{_⊗_, bits}
-use Rattle.floats.proofs.Bools.{of-true}
-use Rattle.chords.specs.Chords.{inSpan}
+use lib.Ieee.Fits.{and-i}
+use Rattle.floats.specs.Operations.{_⊗_}
 use Rattle.quadrature.specs.Rule.{halfSum, halfWidth, minusSide, plusSide, weightedTo, kronrodWeight as weight}
-use Rattle.rounding_error.proofs.Numbers.{Number, number, Size, _per_, _plus_, _less_, _times_, _over_, _and_, _by_, _of_, _roundoffs_, IsNumber}
-use Rattle.rounding_error.proofs.Numbers.{IsSize, Within, Under, valueOf, zeroNumber, InRange, Ranges}
-use Rattle.rounding_error.proofs.Distances.{sorted, within-upto, within-plus, within-sym, within-same, within-trans}
+use Rattle.rounding_error.proofs.Numbers.{Number, number, Size, _plus_, _less_, _times_, _by_, _of_, IsNumber, IsSize, Under, valueOf, InRange}
+use Rattle.rounding_error.proofs.Numbers.{Ranges}
 use Rattle.rounding_error.proofs.Ranges.{ranges-by, in-range}
-use Rattle.rounding_error.proofs.Counts as Counts
-use Rattle.rounding_error.proofs.Chains.{Valued, inverse, inverse-is, over-is-times, equalled, counted, exactly, zero-valued, times-valued}
-use Rattle.rounding_error.proofs.Chains.{under-inverse, reach}
-use Rattle.rounding_error.proofs.Polynomials.{_equals_, trans, itself, by-left, plus-equal, times-equal, plus-is, less-is, times-is, given, ratio}
-use Rattle.rounding_error.proofs.Polynomials.{_add_, _take_, _mul_, AllNumbers, equal-by, evaluated-is}
+use Rattle.rounding_error.proofs.Chains.{Valued, some, few, equalled, counted-by, times-valued}
+use Rattle.rounding_error.proofs.Polynomials.{_equals_, trans, symm, itself, plus-is, times-is, given, ratio, _add_, _take_, _mul_, equal-by}
+use Rattle.rounding_error.proofs.Polynomials.{evaluated-is, evaluated-equal}
 use Rattle.accuracy.proofs.ExactRule.{node}
 use Rattle.accuracy.proofs.Samples.{quarter}
 use Rattle.accuracy.proofs.Given.{Lengths}
 use Rattle.accuracy.proofs.Tables.{node-near-one}
-use Rattle.accuracy.proofs.Trapezoids.{exactWidth}
-use Rattle.accuracy.proofs.Width.{width-near}
-use Rattle.accuracy.proofs.Affine.{width-total}
-use Rattle.accuracy.proofs.Moves.{width-moves}
-use Rattle.accuracy.proofs.Areas.{quarter-ranges, bounded}
-use Rattle.accuracy.proofs.Called.{same-sum}
-use Rattle.accuracy.proofs.Weighted.{middle, lower, upper, SampledAs, Sampled, sumTo, sizeTo, errorTo, weighted-near}
+use Rattle.accuracy.proofs.Areas.{quarter-ranges}
+use Rattle.accuracy.proofs.Weighted.{middle, lower, upper, SampledAs, Sampled, sizeTo, errorTo, error-few, weighted-near}
 use Rattle.accuracy.proofs.Quadratic.{Quadratic, integral, sum-near}
+use Rattle.accuracy.proofs.Integrals.{sumError, sumSize}
+use Rattle.accuracy.proofs.Parts.{simpson, Cubic, equally, simpson-is, three-even}
 use Rattle.accuracy.proofs.ChordEnds as Chord
-use Rattle.accuracy.proofs.AreaSamples as Area
-use Rattle.accuracy.proofs.AreaIntegrals.{widthE, none-under}
 use Rattle.accuracy.proofs.Cuts as Cuts
-use Rattle.accuracy.proofs.Cuts.{Share, Inner, share-under, along-share, middle-inner, lower-inner, upper-inner, NoSliver, Cut}
+use Rattle.accuracy.proofs.Cuts.{Share, Inner, along-share, middle-inner, lower-inner, upper-inner, Cut}
 
-ruleset plain = (sorted, one-mul, mul-one, zero-mul, mul-zero, zero-add, add-zero)
-
--- ---- a mean of two numbers is no larger than both
-part-under : (X Y Z i : ℕ) → X ≤ Y + i → Y ≤ X + i → Under (1 of (i per Z)) (number X Y Z)
-part-under X Y Z i h k = record { below = low (mul-le-mul-right Z h); above = high (mul-le-mul-right Z k) }
-  where
-    low : X * Z ≤ (Y + i) * Z → (X * 1 + 0 * Z) * Z ≤ (0 * Z + Y * 1) * Z + 1 * i * (Z * 1)
-    low h = let x = simp plain at h in simp plain (omega (arith, x))
-
-    high : Y * Z ≤ (X + i) * Z → (0 * Z + Y * 1) * Z ≤ (X * 1 + 0 * Z) * Z + 1 * i * (1 * Z)
-    high h = let x = simp plain at h in simp plain (omega (arith, x))
-
-rest-under : (X Y Z j : ℕ) → Z + Y ≤ X + j → X ≤ Z + Y + j → Under (1 of (j per Z)) (number 1 0 1 less number X Y Z)
-rest-under X Y Z j h k = record { below = low (mul-le-mul-right Z h); above = high (mul-le-mul-right Z k) }
-  where
-    low : (Z + Y) * Z ≤ (X + j) * Z → ((1 * Z + Y * 1) * 1 + 0 * (1 * Z)) * Z ≤ (0 * (1 * Z) + (0 * Z + X * 1) * 1) * Z + 1 * j * (1 * Z * 1)
-    low h = let x = simp plain at h in simp plain (omega (arith, x))
-
-    high : X * Z ≤ (Z + Y + j) * Z → (0 * (1 * Z) + (0 * Z + X * 1) * 1) * Z ≤ ((1 * Z + Y * 1) * 1 + 0 * (1 * Z)) * Z + 1 * j * (1 * (1 * Z))
-    high h = let x = simp plain at h in simp plain (omega (arith, x))
-
-mean-under : (r t τ : Number) (B : Size) → IsSize B → IsNumber τ → Share τ → Under (1 of B) r → Under (1 of B) t
-    → Under (1 of B) ((number 1 0 1 less τ) times r plus τ times t)
-mean-under r t (number X Y Z) (b per d) C z s u v =
-    let τ = number X Y Z in
-    let ω = number 1 0 1 less τ in
-    let i = X - Y in
-    let j = Y + Z - X in
-    let l = s .0 in
-    let m = s .1 in
-    let p : Under ((1 * 1) of ((j per Z) by (b per d))) (ω times r) =
-    Counts.under-times 1 1 (j per Z) (b per d) ω r z C (less-is (number 1 0 1) τ (pow-pos 0) z) (rest-under X Y Z j (omega arith) (omega arith)) u in
-    let q : Under ((1 * 1) of ((i per Z) by (b per d))) (τ times t) =
-    Counts.under-times 1 1 (i per Z) (b per d) τ t z C z (part-under X Y Z i (omega arith) (omega arith)) v in
-    within-upto (((1 * 1) of ((j per Z) by (b per d))) and ((1 * 1) of ((i per Z) by (b per d)))) (1 of (b per d))
-    (ω times r plus τ times t) zeroNumber (mul-pos (mul-pos z C) (mul-pos z C))
-    (go i j (mul-le-mul-right (b * Z * d * d) (both X Y Z l m)))
-    (within-plus ((1 * 1) of ((j per Z) by (b per d))) ((1 * 1) of ((i per Z) by (b per d))) (ω times r) zeroNumber (τ times t) zeroNumber p q)
-  where
-    both : (X Y Z : ℕ) → Y ≤ X → X ≤ Y + Z → Y + Z - X + (X - Y) ≤ Z
-    both X Y Z l m = omega arith
-
-    go : (i j : ℕ) → (j + i) * (b * Z * d * d) ≤ Z * (b * Z * d * d)
-        → (1 * 1 * (j * b) * (Z * d) + 1 * 1 * (i * b) * (Z * d)) * d ≤ 1 * b * (Z * d * (Z * d))
-    go i j h = let x = simp plain at h in simp plain (omega (arith, x))
-
-under-equal : {v w : Number} (e : Size) → IsNumber v → v equals w → Under e v → Under e w
-under-equal {v = v} {w = w} e i h u = within-sym e zeroNumber w (within-same e zeroNumber v w i (within-sym e v zeroNumber u) (h .same))
-
-zero-times : (x : Number) → zeroNumber times x equals zeroNumber
-zero-times (number p n d) = record { same = omega arith }
+-- the errors of a piece's value, for samples of l roundoffs that are at most j, and second coefficients at most r
+abbrev pub pieceError : ℕ → ℕ → ℕ → ℕ
+pieceError l j r = 2 + 11 * sumSize j r + 2 * sumError l j r
 
 module _ (root tip span sweep scale : Float) (B : Size) (g : Lengths root tip span sweep scale B) where
-  abbrev S : Number
-  S = valueOf sweep
-
-  abbrev R : Number
-  R = valueOf root
-
-  abbrev Tp : Number
-  Tp = valueOf tip
-
-  abbrev σ : Number
-  σ = inverse scale
-
   abbrev U : Number
   U = Chord.U root tip span sweep scale B g
 
   abbrev H : Size
   H = Chord.H root tip span sweep scale B g
 
-  abbrev Bs : Size
-  Bs = Chord.Bs root tip span sweep scale B g
-
-  abbrev halfHeight : Size
+  abbrev pub halfHeight : Size
   halfHeight = Cuts.halfHeight root tip span sweep scale B g
-
-  -- an eighth of span/scale times B/scale
-  abbrev pub unit : Size
-  unit = halfHeight by (quarter by Bs)
-
-  quarter-width : Ranges 50 (quarter by Bs)
-  quarter-width = ranges-by 2 48 quarter Bs quarter-ranges (Chord.scaled-ranges root tip span sweep scale B g)
-
-  pub unit-ranges : Ranges 99 unit
-  unit-ranges = ranges-by 49 50 halfHeight (quarter by Bs) (Cuts.half-height-ranges root tip span sweep scale B g) quarter-width
-
-  in-quarter : InRange (quarter by Bs)
-  in-quarter = in-range 50 (quarter by Bs) (omega arith) quarter-width
-
-  in-unit : InRange unit
-  in-unit = in-range 99 unit (omega arith) unit-ranges
 
   half-real : IsSize halfHeight
   half-real = Cuts.half-height-ranges root tip span sweep scale B g .real
 
-  Bs-real : IsSize Bs
-  Bs-real = Chord.scaled-ranges root tip span sweep scale B g .real
-
-  abbrev width : Number → Number
-  width = Area.width root tip span sweep scale B g
-
-  abbrev widthAt : Float → Float
-  widthAt = Area.widthAt root tip span sweep scale B g
-
-  σ-is : IsNumber σ
-  σ-is = inverse-is scale (g .scale-positive)
-
-  pub width-under : (τ : Number) → IsNumber τ → Share τ → Under (1 of Bs) (width τ)
-  width-under τ i s =
-      let ω = number 1 0 1 less τ in
-      let v = ω times R plus τ times Tp in
-      let iω = less-is (number 1 0 1) τ (pow-pos 0) i in
-      let iv : IsNumber v = plus-is (ω times R) (τ times Tp) (times-is ω R iω (Counts.value-is root)) (times-is τ Tp i (Counts.value-is tip)) in
-      under-equal (1 of Bs) (times-is v σ iv σ-is)
-      (equal-by (S ∷ R ∷ Tp ∷ σ ∷ τ ∷ []) (Counts.value-is sweep, (Counts.value-is root, (Counts.value-is tip, (σ-is, (i, tt)))))
-      (((ratio 1 0 take given 4) mul given 1 add given 4 mul given 2) mul given 3) (widthE (given 4)) tt)
-      (under-inverse 1 B v scale (g .ranges .real) iv (g .scale-positive) (mean-under R Tp τ B (g .ranges .real) i s (g .root-under) (g .tip-under)))
-
-  width-is : (τ : Number) → IsNumber τ → IsNumber (width τ)
-  width-is τ i = evaluated-is (S ∷ R ∷ Tp ∷ σ ∷ τ ∷ []) (Counts.value-is sweep, (Counts.value-is root, (Counts.value-is tip, (σ-is, (i, tt)))))
-      (widthE (given 4))
-
-  -- by the height, as proofs/Width has it
-  exact-width : (τ : Number) → IsNumber τ → exactWidth root tip span scale (U times τ) equals width τ
-  exact-width τ i =
-      let G = Tp less R in
-      let x = (U times τ) times valueOf scale in
-      let f = x over span in
-      let iG = less-is Tp R (Counts.value-is tip) (Counts.value-is root) in
-      let ix = times-is (U times τ) (valueOf scale) (times-is U τ (Chord.U-is root tip span sweep scale B g) i) (Counts.value-is scale) in
-      let jf = Counts.over-is x span ix (g .span-positive) in
-      let iF = plus-is R (G times f) (Counts.value-is root) (times-is G f iG jf) in
-      let iT = plus-is R (G times τ) (Counts.value-is root) (times-is G τ iG i) in
-      let fraction : f equals τ = trans (times-is x (inverse span) ix (inverse-is span (g .span-positive))) (over-is-times x span)
-      (Chord.fraction-exact root tip span sweep scale B g τ i) in
-      trans (times-is (R plus G times f) σ iF σ-is) (over-is-times (R plus G times f) scale)
-      (trans (times-is (R plus G times τ) σ iT σ-is) (times-equal iF iT σ-is σ-is (plus-equal (itself {x = R}) (by-left G fraction)) (itself {x = σ}))
-      (equal-by (S ∷ R ∷ Tp ∷ σ ∷ τ ∷ []) (Counts.value-is sweep, (Counts.value-is root, (Counts.value-is tip, (σ-is, (i, tt)))))
-      ((given 1 add (given 2 take given 1) mul given 4) mul given 3) (widthE (given 4)) tt))
-
-  -- the integrand: the width where there is a chord, else 0
-  pub record Widths (y : Float → Float) : Type 0 where
-    pub there : (h : Float) → T (inSpan span (h ⊗ scale)) → y h ≡ widthAt h
-    pub nowhere : (h : Float) → inSpan span (h ⊗ scale) ≡ false → y h ≡ bits 0
+  U-is : IsNumber U
+  U-is = Chord.U-is root tip span sweep scale B g
 
   module _ (a b : Float) (c : Cut U H a b) where
-    abbrev α : Number
+    abbrev pub α : Number
     α = number (c .from) 0 (c .whole)
 
-    abbrev δ : Number
+    abbrev pub δ : Number
     δ = number (c .wide) 0 (c .whole)
 
-    abbrev placed : Number → Number
+    abbrev pub placed : Number → Number
     placed = Cuts.placed root tip span sweep scale B g a b c
 
-    abbrev centre : Float
+    abbrev pub centre : Float
     centre = halfSum a b
 
-    abbrev halfway : Float
+    abbrev pub halfway : Float
     halfway = halfWidth a b
 
-    abbrev v : Number → Number
-    v t = width (placed t)
+    β-is : IsNumber (α plus δ)
+    β-is = plus-is α δ (c .whole-real) (c .whole-real)
 
-    placed-share : (t : Number) → Inner t → Share (placed t)
+    pub placed-share : (t : Number) → Inner t → Share (placed t)
     placed-share t n = along-share (c .from) (c .wide) (c .whole) t (c .inside) n
 
-    width-valued : (h : Float) (t : Number) → IsNumber t → Inner t → Valued h (U times placed t) 16 2 H → Valued (widthAt h) (v t) 170 1 Bs
-    width-valued h t i n z =
-        let s = placed-share t n in
-        let j = Cuts.placed-is root tip span sweep scale B g a b c t i in
-        let w = Area.width-valued root tip span sweep scale B g h (placed t) j (share-under (placed t) s) z in
-        record { near = w .near; size = width-under (placed t) j s; is = w .is }
-
     -- what holds at a height near a fraction t of the piece that is an inner one holds of all samples
-    each : (y : Float → Float) (w : Float → Number → Number) (l j : ℕ) (A : Size)
+    pub each : (y : Float → Float) (w : Float → Number → Number) (l j : ℕ) (A : Size)
         → ((h : Float) (t : Number) → IsNumber t → Inner t → Valued h (U times placed t) 16 2 H → Valued (y h) (w h t) l j A)
         → SampledAs y centre halfway (w centre middle) (λ i. w (minusSide centre halfway i) (lower i))
         (λ i. w (plusSide centre halfway i) (upper i)) l j A
@@ -232,204 +85,79 @@ module _ (root tip span sweep scale : Float) (B : Size) (g : Lengths root tip sp
               (upper-inner (valueOf (node i)) (node-near-one i k)) (Cuts.plus-side-valued root tip span sweep scale B g a b c i k);
         }
 
-    variables : (d : Number) → IsNumber d → AllNumbers (S ∷ R ∷ Tp ∷ σ ∷ U ∷ α ∷ δ ∷ d ∷ [])
-    variables d i = (
-      Counts.value-is sweep,
-      (Counts.value-is root, (Counts.value-is tip, (σ-is, (Chord.U-is root tip span sweep scale B g, (c .whole-real, (c .whole-real, (i, tt))))))),
-    )
+    -- ---- samples y near a cubic v of the fraction of the strip, whose second coefficient over the piece is q
+    module _ (v : Number → Number) (cubic : Cubic v) (q : Number) (z : Quadratic (λ t. v (placed t)) q) where
+      -- half the width times twice the integral over the piece
+      abbrev pub twiceOver : Number
+      twiceOver = number 2 0 1 times integral (λ t. v (placed t)) q
 
-    straight : Quadratic v zeroNumber
-    straight =
-        record {
-          is = λ t i. evaluated-is (S ∷ R ∷ Tp ∷ σ ∷ U ∷ α ∷ δ ∷ t ∷ []) (variables t i) (widthE (given 5 add given 6 mul given 7));
-          q-is = pow-pos 0;
-          even = λ d i.
-              equal-by (S ∷ R ∷ Tp ∷ σ ∷ U ∷ α ∷ δ ∷ d ∷ []) (variables d i)
-              (widthE (given 5 add given 6 mul (ratio 1 1 take given 7)) add widthE (given 5 add given 6 mul (ratio 1 1 add given 7)))
-              (widthE (given 5 add given 6 mul ratio 1 1) add widthE (given 5 add given 6 mul ratio 1 1) add ratio 0 0 mul (given 7 mul given 7)) tt;
-        }
+      abbrev pub halfOver : Number
+      halfOver = ((middle times δ) times U) times twiceOver
 
-    -- half the width times twice the width of the fin in the middle
-    abbrev across : Number
-    across = number 2 0 1 times integral v zeroNumber
+      abbrev pub simpsonOver : Number
+      simpsonOver = U times simpson v α (α plus δ)
 
-    abbrev product : Number
-    product = ((middle times δ) times U) times across
+      pub simpson-over : IsNumber simpsonOver
+      simpson-over = times-is U (simpson v α (α plus δ)) U-is (simpson-is v cubic α (α plus δ) (c .whole-real) β-is)
 
-    sum-valued : (l : ℕ) → l ≤ 2 ^ 20
-        → ((h : Float) (t : Number) → IsNumber t → Inner t → Valued h (U times placed t) 16 2 H → Valued (widthAt h) (v t) l 1 Bs)
-        → Valued (weightedTo 7 weight widthAt centre halfway) across (errorTo l 1 7 + 4) 8 (quarter by Bs)
-    sum-valued l m f =
-        let s : Sampled widthAt v centre halfway l 1 Bs = each widthAt (λ h t. v t) l 1 Bs f in
-        sum-near v zeroNumber straight 1 0 Bs Bs-real (s .at-centre .size) (none-under root tip span sweep scale B g Bs)
-        (weightedTo 7 weight widthAt centre halfway) (errorTo l 1 7) (sizeTo 1 7)
-        (weighted-near widthAt centre halfway (v middle) (λ i. v (lower i)) (λ i. v (upper i)) l 1 Bs Bs-real in-quarter (omega arith) m s 7
-        (omega arith))
+      pub half-over : halfOver equals simpsonOver
+      half-over =
+          let β = α plus δ in
+          let m = (α plus β) times middle in
+          let iα : IsNumber α = c .whole-real in
+          let im : IsNumber m = times-is (α plus β) middle (plus-is α β iα β-is) (pow-pos 1) in
+          let w : Number → Number = λ t. v (placed t) in
+          let I = integral w q in
+          let iI : IsNumber I = plus-is (w middle) (number 1 0 24 times q) (z .is middle (pow-pos 1))
+          (times-is (number 1 0 24) q (zero-lt 23) (z .q-is)) in
+          let S = ((v α plus number 4 0 1 times v m) plus v β) times number 1 0 6 in
+          let iS : IsNumber S = evaluated-is (v α ∷ v m ∷ v β ∷ []) (cubic .is α iα, (cubic .is m im, (cubic .is β β-is, tt)))
+          ((given 0 add ratio 4 0 mul given 1 add given 2) mul ratio 1 5) in
+          let p : (t : Number) → IsNumber t → IsNumber (placed t) = Cuts.placed-is root tip span sweep scale B g a b c in
+          let h : S equals I =
+          three-even w q (v α) (v m) (v β) z (cubic .is α iα) (cubic .is m im) (cubic .is β β-is)
+          (equally v cubic α (placed (middle less middle)) iα (p (middle less middle) (pow-pos 2))
+          (equal-by (α ∷ δ ∷ []) (iα, (iα, tt)) (given 0) (given 0 add given 1 mul (ratio 1 1 take ratio 1 1)) tt))
+          (equally v cubic m (placed middle) im (p middle (pow-pos 1))
+          (equal-by (α ∷ δ ∷ []) (iα, (iα, tt)) ((given 0 add (given 0 add given 1)) mul ratio 1 1) (given 0 add given 1 mul ratio 1 1) tt))
+          (equally v cubic β (placed (middle plus middle)) β-is (p (middle plus middle) (pow-pos 2))
+          (equal-by (α ∷ δ ∷ []) (iα, (iα, tt)) (given 0 add given 1) (given 0 add given 1 mul (ratio 1 1 add ratio 1 1)) tt)) in
+          symm (trans (evaluated-is (U ∷ α ∷ δ ∷ I ∷ []) (U-is, (iα, (iα, (iI, tt)))) (given 0 mul ((given 1 add given 2 take given 1) mul given 3)))
+          (evaluated-equal (U ∷ α ∷ δ ∷ S ∷ []) (U ∷ α ∷ δ ∷ I ∷ []) (U-is, (iα, (iα, (iS, tt)))) (U-is, (iα, (iα, (iI, tt))))
+          (itself, (itself, (itself, (h, tt)))) (given 0 mul ((given 1 add given 2 take given 1) mul given 3)))
+          (equal-by (U ∷ α ∷ δ ∷ I ∷ []) (U-is, (iα, (iα, (iI, tt)))) (given 0 mul ((given 1 add given 2 take given 1) mul given 3))
+          (ratio 1 1 mul given 2 mul given 0 mul (ratio 2 0 mul given 3)) tt))
 
-    across-size : Under (8 of (quarter by Bs)) across
-    across-size = sum-valued 170 (omega arith) width-valued .size
+      module _ (y : Float → Float) (l j r k : ℕ) (A : Size) (few-j : j ≤ 2 ^ 10) (few-r : r ≤ 2 ^ 14) (few-l : l ≤ 2 ^ 20) (few-k : k ≤ 500)
+          (ranges : Ranges k A) (uq : Under (r of A) q)
+          (s : (h : Float) (t : Number) → IsNumber t → Inner t → Valued h (U times placed t) 16 2 H → Valued (y h) (v (placed t)) l j A) where
+        quarter-ranges' : Ranges (2 + k) (quarter by A)
+        quarter-ranges' = ranges-by 2 k quarter A quarter-ranges ranges
 
-    across-is : IsNumber across
-    across-is = sum-valued 170 (omega arith) width-valued .is
+        quarter-in : InRange (quarter by A)
+        quarter-in = in-range (2 + k) (quarter by A) (omega arith) quarter-ranges'
 
-    -- ---- with a chord at each sample
-    module _ (w : NoSliver (c .wide) (c .whole)) where
-      near-width : (h : Float) (t : Number) → IsNumber t → Inner t → Valued h (U times placed t) 16 2 H → Valued (widthAt h) (v t) 89 1 Bs
-      near-width h t i n z =
-          let τ = placed t in
-          let j = Cuts.placed-is root tip span sweep scale B g a b c t i in
-          let e = exactWidth root tip span scale in
-          let bs = bounded root tip span sweep scale B g in
-          let iτ = z .is in
-          let near = width-near root tip span sweep scale h B bs (z .near .finite) (Cuts.in-span root tip span sweep scale B g a b c w h t i n z) in
-          let moved = width-moves root tip span scale B (valueOf h) (U times τ) 16 (g .ranges .real) (g .span-positive) (g .scale-positive)
-          (Counts.under-less 1 1 B Tp R (g .ranges .real) (g .tip-under) (g .root-under)) (z .near .within) in
-          record {
-            near = record {
-              finite = near .finite;
-              within =
-                  within-same (89 roundoffs Bs) (valueOf (widthAt h)) (e (U times τ)) (v t)
-                  (width-total root tip span scale (g .span-positive) (g .scale-positive) (U times τ) iτ)
-                  (Counts.within-roundoffs 57 32 Bs (valueOf (widthAt h)) (e (U times τ)) Bs-real
-                  (within-trans (57 roundoffs Bs) (32 roundoffs Bs) (valueOf (widthAt h)) (e (valueOf h)) (e (U times τ))
-                  (width-total root tip span scale (g .span-positive) (g .scale-positive) (valueOf h) (Counts.value-is h)) (near .within) moved))
-                  (exact-width τ j .same);
-            };
-            size = width-under τ j (placed-share t n);
-            is = width-is τ j;
-          }
+        pub sum-valued : Valued (weightedTo 7 weight y centre halfway) twiceOver (sumError l j r) (sumSize j r) (quarter by A)
+        sum-valued =
+            let w : Number → Number = λ t. v (placed t) in
+            let S : Sampled y w centre halfway l j A = each y (λ h t. w t) l j A s in
+            counted-by
+            (sum-near w q z j r A (ranges .real) (S .at-centre .size) uq (weightedTo 7 weight y centre halfway) (errorTo l j 7) (sizeTo j 7)
+            (weighted-near y centre halfway (w middle) (λ i. w (lower i)) (λ i. w (upper i)) l j A (ranges .real) quarter-in few-j few-l S 7
+            (omega arith)))
+            (sumError l j r) (sumSize j r) (quarter-in .real) (omega arith) (omega arith)
 
-      with-chords : Valued (halfway ⊗ weightedTo 7 weight widthAt centre halfway) product 3128 8 unit
-      with-chords = times-valued {A = halfHeight} {B = quarter by Bs} half-real (in-quarter .real) in-unit tt
-          (Cuts.reach-valued root tip span sweep scale B g a b c) (sum-valued 89 (omega arith) near-width)
-
-    reach-is : IsNumber ((middle times δ) times U)
-    reach-is = Cuts.reach-valued root tip span sweep scale B g a b c .is
-
-    product-is : IsNumber product
-    product-is = times-is ((middle times δ) times U) across reach-is across-is
-
-    product-size : Under (8 of unit) product
-    product-size = Counts.under-times 1 8 halfHeight (quarter by Bs) ((middle times δ) times U) across half-real (in-quarter .real) reach-is
-        (Cuts.reach-valued root tip span sweep scale B g a b c .size) across-size
-
-    -- ---- a sliver: half its width is nearly nothing
-    module _ (thin : c .wide * 2 ^ 53 ≤ 5888 * c .whole) where
-      share-thin : Under (1 of (5888 per (2 * 2 ^ 53))) (middle times δ)
-      share-thin = go (c .wide) (c .whole) (2 ^ 53) thin
-        where
-          go : (D C P : ℕ) → D * P ≤ 5888 * C → Under (1 of (5888 per (2 * P))) (middle times number D 0 C)
-          go D C P h = record { below = low (mul-le-mul-right 2 h); above = simp plain (omega arith) }
-            where
-              low : D * P * 2 ≤ 5888 * C * 2
-                  → ((1 * D + 0 * 0) * 1 + 0 * (2 * C)) * (2 * P) ≤ (0 * (2 * C) + (1 * 0 + 0 * D) * 1) * (2 * P) + 1 * 5888 * (2 * C * 1)
-              low h = let x = simp plain at h in simp plain (omega (arith, x))
-
-      reach-thin : Within (5888 roundoffs halfHeight) ((middle times δ) times U) zeroNumber
-      reach-thin =
-          within-upto ((1 * 1) of ((5888 per (2 * 2 ^ 53)) by H)) (5888 roundoffs halfHeight) ((middle times δ) times U) zeroNumber
-          (Counts.by-is (5888 per (2 * 2 ^ 53)) H (mul-pos (pow-pos 1) (pow-pos 53)) (Chord.height-ranges root tip span sweep scale B g .real))
-          (same (num span * den scale) (num scale * den span) (2 ^ 53))
-          (Counts.under-times 1 1 (5888 per (2 * 2 ^ 53)) H (middle times δ) U (mul-pos (pow-pos 1) (pow-pos 53))
-          (Chord.height-ranges root tip span sweep scale B g .real) (times-is middle δ (pow-pos 1) (c .whole-real)) share-thin
-          (Chord.U-under root tip span sweep scale B g))
-        where
-          same : (a d P : ℕ) → 1 * 1 * (5888 * a) * (2 * d * P) ≤ 5888 * (1 * a) * (2 * P * d)
-          same a d P = simp plain (omega arith)
-
-      halfway-thin : Valued halfway zeroNumber 5897 0 halfHeight
-      halfway-thin =
-          let h = Cuts.reach-valued root tip span sweep scale B g a b c in
-          let w = (middle times δ) times U in
-          record {
-            near = record {
-              finite = h .near .finite;
-              within = Counts.within-roundoffs 9 5888 halfHeight (valueOf halfway) zeroNumber half-real
-                  (within-trans (9 roundoffs halfHeight) (5888 roundoffs halfHeight) (valueOf halfway) w zeroNumber (h .is)
-                  (h .near .within) reach-thin);
-            };
-            size = none-under root tip span sweep scale B g halfHeight;
-            is = pow-pos 0;
-          }
-
-      product-thin : Within (47104 roundoffs unit) product zeroNumber
-      product-thin =
-          let x = (middle times δ) times U in
-          within-same (47104 roundoffs unit) product (zeroNumber times across) zeroNumber (times-is zeroNumber across (pow-pos 0) across-is)
-          (Counts.within-product x across zeroNumber across 1 8 5888 0 halfHeight (quarter by Bs) half-real (in-quarter .real)
-          (Cuts.reach-valued root tip span sweep scale B g a b c .is) across-is reach-thin
-          (Counts.itself-within across (quarter by Bs)) (Cuts.reach-valued root tip span sweep scale B g a b c .size) across-size)
-          (zero-times across .same)
-
-      module _ (y : Float → Float) (f : Widths y) where
-        at-most-two : (h : Float) (t : Number) → IsNumber t → Inner t → Valued h (U times placed t) 16 2 H → Valued (y h) (valueOf (y h)) 0 2 Bs
-        at-most-two h t i n z = look (inSpan span (h ⊗ scale)) refl
-          where
-            look : (b : Bool) → inSpan span (h ⊗ scale) ≡ b → Valued (y h) (valueOf (y h)) 0 2 Bs
-            look true e =
-                let w = width-valued h t i n z in
-                subst (λ (x : Float). Valued x (valueOf x) 0 2 Bs) (sym (f .there h (of-true _ e)))
-                (exactly (widthAt h) 2 Bs (w .near .finite) (reach w Bs-real (omega arith)))
-            look false e = subst (λ (x : Float). Valued x (valueOf x) 0 2 Bs) (sym (f .nowhere h e)) (counted (zero-valued Bs) 0 2 Bs-real tt)
-
-        some-chords : Valued (halfway ⊗ weightedTo 7 weight y centre halfway) product 224360 8 unit
-        some-chords =
-            let vm : ℕ → Number = λ i. valueOf (y (minusSide centre halfway i)) in
-            let vp : ℕ → Number = λ i. valueOf (y (plusSide centre halfway i)) in
-            let K = weightedTo 7 weight y centre halfway in
-            let κ = sumTo 7 (valueOf (y centre)) vm vp in
-            let k : Valued K κ 315 30 (quarter by Bs) =
-            weighted-near y centre halfway (valueOf (y centre)) vm vp 0 2 Bs Bs-real in-quarter (omega arith) (omega arith)
-            (each y (λ h t. valueOf (y h)) 0 2 Bs at-most-two) 7 (omega arith) in
-            let n : Valued (halfway ⊗ K) (zeroNumber times κ) 177256 0 unit =
-            times-valued {A = halfHeight} {B = quarter by Bs} half-real (in-quarter .real) in-unit tt halfway-thin k in
-            let z = within-same (177256 roundoffs unit) (valueOf (halfway ⊗ K)) (zeroNumber times κ) zeroNumber (n .is) (n .near .within)
-            (zero-times κ .same) in
-            record {
-              near = record {
-                finite = n .near .finite;
-                within = Counts.within-roundoffs 177256 47104 unit (valueOf (halfway ⊗ K)) product (in-unit .real)
-                    (within-trans (177256 roundoffs unit) (47104 roundoffs unit) (valueOf (halfway ⊗ K)) zeroNumber product (pow-pos 0) z
-                    (within-sym (47104 roundoffs unit) product zeroNumber product-thin));
-              };
-              size = product-size;
-              is = product-is;
-            }
-
-    -- ---- either
-    module _ (y : Float → Float) (f : Widths y) where
-      all-chords : NoSliver (c .wide) (c .whole) → weightedTo 7 weight y centre halfway ≡ weightedTo 7 weight widthAt centre halfway
-      all-chords w =
-          let chord = Cuts.has-chord root tip span sweep scale B g a b c w in
-          same-sum 7 weight y widthAt centre halfway
-          (f .there centre (chord centre middle (pow-pos 1) middle-inner (Cuts.middle-valued root tip span sweep scale B g a b c)))
-          (λ i k. f .there (minusSide centre halfway i)
-          (chord (minusSide centre halfway i) (lower i) (Chord.lower-is root tip span sweep scale B g i)
-          (lower-inner (valueOf (node i)) (node-near-one i k)) (Cuts.minus-valued root tip span sweep scale B g a b c i k)))
-          (λ i k. f .there (plusSide centre halfway i)
-          (chord (plusSide centre halfway i) (upper i) (Chord.upper-is root tip span sweep scale B g i)
-          (upper-inner (valueOf (node i)) (node-near-one i k)) (Cuts.plus-side-valued root tip span sweep scale B g a b c i k)))
-
-      abbrev pub cutIntegral : Number
-      cutIntegral = U times (((α plus δ) less α) times width ((α plus (α plus δ)) times middle))
-
-      expressed : {x : Float} {k : ℕ} → Valued x product k 8 unit → Valued x cutIntegral k 8 unit
-      expressed h =
-          let l = S ∷ R ∷ Tp ∷ σ ∷ U ∷ α ∷ δ ∷ zeroNumber ∷ [] in
-          let il = variables zeroNumber (pow-pos 0) in
-          let e = given 4 mul (((given 5 add given 6) take given 5) mul widthE ((given 5 add (given 5 add given 6)) mul ratio 1 1)) in
-          equalled h cutIntegral (evaluated-is l il e)
-          (equal-by l il (ratio 1 1 mul given 6 mul given
-          4 mul (ratio 2 0 mul (widthE (given 5 add given 6 mul ratio 1 1) add ratio 1 23 mul ratio 0 0))) e tt)
-
-      pub wide-valued : NoSliver (c .wide) (c .whole) → Valued (halfway ⊗ weightedTo 7 weight y centre halfway) cutIntegral 3128 8 unit
-      wide-valued w = expressed (subst (λ (x : Float). Valued (halfway ⊗ x) product 3128 8 unit) (sym (all-chords w)) (with-chords w))
-
-      pub piece-valued : Valued (halfway ⊗ weightedTo 7 weight y centre halfway) cutIntegral 224360 8 unit
-      piece-valued = look (leb (5888 * c .whole) (c .wide * 2 ^ 53)) (leb→le (5888 * c .whole) (c .wide * 2 ^ 53))
-          (nleb→lt (5888 * c .whole) (c .wide * 2 ^ 53))
-        where
-          look : (b : Bool) → (T b → NoSliver (c .wide) (c .whole)) → (T (not b) → c .wide * 2 ^ 53 < 5888 * c .whole)
-              → Valued (halfway ⊗ weightedTo 7 weight y centre halfway) cutIntegral 224360 8 unit
-          look true h k = counted (wide-valued (h tt)) 224360 8 (in-unit .real) tt
-          look false h k = expressed (some-chords (le-of-lt (k tt)) y f)
+        pub value-valued : Valued (halfway ⊗ weightedTo 7 weight y centre halfway) simpsonOver (pieceError l j r) (sumSize j r)
+            (halfHeight by (quarter by A))
+        value-valued =
+            let e = sumError l j r in
+            let J = sumSize j r in
+            let ee = error-few l j 7 few-j few-l (omega arith) in
+            let inside = in-range (49 + (2 + k)) (halfHeight by (quarter by A)) (omega arith)
+            (ranges-by 49 (2 + k) halfHeight (quarter by A) (Cuts.half-height-ranges root tip span sweep scale B g) quarter-ranges') in
+            counted-by
+            (equalled (times-valued {A = halfHeight} {B = quarter by A} half-real (quarter-in .real) inside
+            (and-i (some 9 && some e) (few (2 * suc J)) (and-i (some 9) (some e) tt (le→leb e (2 ^ 40) (omega arith)))
+            (le→leb (2 * suc J) (2 ^ 20) (omega arith)))
+            (Cuts.reach-valued root tip span sweep scale B g a b c) sum-valued) simpsonOver simpson-over half-over)
+            (pieceError l j r) J (inside .real) (omega arith) (omega arith)
