@@ -350,8 +350,8 @@ module _ (root tip span sweep : Float) (points : List Float) (L : ℕ) (entry : 
         (wide-summed root tip span sweep scale B l (areaThree Shape points) widths low pieces (kept .0) (kept .1)
         (subst (λ (i : ℕ). i ≤ 40) (pieces-counted root tip span sweep points L entry r exit g) h))
 
-    pub any-pieces : Near (r .«area_m2») (exactArea root tip span) ((b * r .intervals * num span) per (d * 2 ^ 38 * den span))
-    any-pieces = area-near 224882 (2 ^ 38) (omega arith) (omega arith)
+    pub any-pieces : Near (r .«area_m2») (exactArea root tip span) ((b * r .intervals * num span) per (d * 2 ^ 43 * den span))
+    any-pieces = area-near 6180 (2 ^ 43) (omega arith) (omega arith)
         (any-summed root tip span sweep scale B l (areaThree Shape points) widths low pieces (kept .0) (kept .1))
 
     pub counted : (1 ≤ r .intervals) × (r .intervals ≤ 64)
@@ -375,7 +375,7 @@ trapezoid-area root tip span sweep points L entry r exit b d g reach = go (leb b
         record {
           pieces = counted root tip span sweep points L entry r exit g b d l;
           near = λ m. fraction (2 ^ 44) (pow-pos 44) (few-pieces root tip span sweep points L entry r exit g b d l m);
-          with-slivers = fraction (2 ^ 38) (pow-pos 38) (any-pieces root tip span sweep points L entry r exit g b d l);
+          with-slivers = fraction (2 ^ 43) (pow-pos 43) (any-pieces root tip span sweep points L entry r exit g b d l);
         }
     go false h k =
         let sixty-four : Reach 64 1 root tip sweep =
@@ -387,8 +387,8 @@ trapezoid-area root tip span sweep points L entry r exit b d g reach = go (leb b
           near = λ m. fraction (2 ^ 44) (pow-pos 44)
               (more-spans root tip span (r .«area_m2») (r .intervals) b d 64 1 (2 ^ 44) (mul-pos (pow-pos 0) (pow-pos 44)) less'
               (few-pieces root tip span sweep points L entry r exit g 64 1 l m));
-          with-slivers = fraction (2 ^ 38) (pow-pos 38)
-              (more-spans root tip span (r .«area_m2») (r .intervals) b d 64 1 (2 ^ 38) (mul-pos (pow-pos 0) (pow-pos 38)) less'
+          with-slivers = fraction (2 ^ 43) (pow-pos 43)
+              (more-spans root tip span (r .«area_m2») (r .intervals) b d 64 1 (2 ^ 43) (mul-pos (pow-pos 0) (pow-pos 43)) less'
               (any-pieces root tip span sweep points L entry r exit g 64 1 l));
         }
       where

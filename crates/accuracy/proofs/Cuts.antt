@@ -364,14 +364,17 @@ module _ (root tip span sweep scale : Float) (B : Size) (g : Lengths root tip sp
         (given 0 mul (given 1 add given 2 mul ratio 1 1) add ratio 1 1 mul given 2 mul given 0 mul given 3)
         (given 0 mul (given 1 add given 2 mul (ratio 1 1 add ratio 1 1 mul given 3))) tt))
 
-    -- a sample at t, where the piece is no sliver
-    pub has-chord : NoSliver (c .wide) (c .whole) → (h : Float) (t : Number) → IsNumber t → Inner t → Valued h (U times placed t) 16 2 H
-        → T (inSpan span (h ⊗ scale))
-    has-chord w h t i n z =
+    -- a sample at t that is clear of both ends of the strip
+    pub clear-chord : (h : Float) (t : Number) → IsNumber t → Clear (placed t) → Valued h (U times placed t) 16 2 H → T (inSpan span (h ⊗ scale))
+    clear-chord h t i w z =
         let y = equalled (Chord.unscaled-valued root tip span sweep scale B g h (placed t) z) (valueOf span times placed t)
         (times-is (valueOf span) (placed t) (Counts.value-is span) (placed-is t i)) (unscaled (placed t) (placed-is t i)) in
-        between (h ⊗ scale) span (placed t) (y .near .finite) (g .span-positive) (placed-is t i)
-        (along-clear (c .from) (c .wide) (c .whole) t (c .inside) w n) (y .near .within)
+        between (h ⊗ scale) span (placed t) (y .near .finite) (g .span-positive) (placed-is t i) w (y .near .within)
+
+    -- as each is where the piece is no sliver
+    pub has-chord : NoSliver (c .wide) (c .whole) → (h : Float) (t : Number) → IsNumber t → Inner t → Valued h (U times placed t) 16 2 H
+        → T (inSpan span (h ⊗ scale))
+    has-chord w h t i n z = clear-chord h t i (along-clear (c .from) (c .wide) (c .whole) t (c .inside) w n) z
 
     -- and its height lies in the span, exactly too
     pub in-span : NoSliver (c .wide) (c .whole) → (h : Float) (t : Number) → IsNumber t → Inner t → Valued h (U times placed t) 16 2 H

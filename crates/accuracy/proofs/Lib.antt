@@ -23,6 +23,7 @@ pub mod AreaSamples
 pub mod Cubics
 pub mod Parts
 pub mod Cuts
+pub mod Slivers
 pub mod PieceValues
 pub mod WidthPieces
 pub mod StripPieces

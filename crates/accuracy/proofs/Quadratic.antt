@@ -14,11 +14,12 @@ use Rattle.rounding_error.proofs.Numbers.{Number, number, Size, _per_, _plus_, 
 use Rattle.rounding_error.proofs.Distances.{sorted, within-upto, within-same, within-sym, within-plus, within-trans}
 use Rattle.rounding_error.proofs.Counts as Counts
 use Rattle.rounding_error.proofs.Chains.{Valued}
-use Rattle.rounding_error.proofs.Polynomials.{_equals_, trans, plus-equal, by-left, plus-is, times-is, given, ratio, _add_, _mul_, equal-by}
+use Rattle.rounding_error.proofs.Polynomials.{_equals_, trans, symm, plus-equal, by-left, plus-is, times-is, given, ratio, _add_, _mul_, equal-by}
 use Rattle.accuracy.proofs.ExactRule.{node, weightsTo}
 use Rattle.accuracy.proofs.Samples.{one, quarter}
 use Rattle.accuracy.proofs.Affine.{weights-is}
 use Rattle.accuracy.proofs.Tables.{withinTest, tested, weights-two}
+use Rattle.accuracy.proofs.Weighted as Weighted
 use Rattle.accuracy.proofs.Weighted.{middle, lower, upper, sumTo, exactSum}
 
 -- how far fraction i is from the middle
@@ -64,12 +65,9 @@ module _ (v : Number → Number) (q : Number) (z : Quadratic v q) where
   middle-is = z .is middle (pow-pos 1)
 
   sum-is : (n : ℕ) → IsNumber (exactSum n v)
-  unfolding sumTo
-  sum-is zero = plus-is (valueOf (bits 0)) (valueOf (weight 7) times v middle) (Counts.value-is (bits 0)) (times-is (valueOf (weight 7)) (v middle) (Counts.value-is (weight 7)) middle-is)
-  sum-is (suc n) =
-      plus-is (exactSum n v plus valueOf (weight n) times v (lower n)) (valueOf (weight n) times v (upper n))
-      (plus-is (exactSum n v) (valueOf (weight n) times v (lower n)) (sum-is n) (times-is (valueOf (weight n)) (v (lower n)) (Counts.value-is (weight n)) (z .is (lower n) (lower-is n))))
-      (times-is (valueOf (weight n)) (v (upper n)) (Counts.value-is (weight n)) (z .is (upper n) (upper-is n)))
+  sum-is n =
+      Weighted.sum-is n (v middle) (λ i. v (lower i)) (λ i. v (upper i)) middle-is (λ i. z .is (lower i) (lower-is i))
+      (λ i. z .is (upper i) (upper-is i))
 
   zero-first : (y : Number) → IsNumber y → valueOf (bits 0) plus y equals y plus (zeroNumber times q)
   unfolding ofBits
@@ -173,19 +171,30 @@ module _ (v : Number → Number) (q : Number) (z : Quadratic v q) (j r : ℕ) (B
       go : (B : Size) → (n of (one by B)) upto ((4 * n) of (quarter by B))
       go (b per d) = quarter-of n b d
 
-  pub sum-near : (x : Float) (e J : ℕ) → Valued x (exactSum 7 v) e J (quarter by B) → Valued x twice (e + 4 * (3 * 0 + j * 1 + (2 * 0 + r * 1))) (4 * (2 * j + 1 * r)) (quarter by B)
-  sum-near x e J h =
+  abbrev offBy : ℕ
+  offBy = 4 * (3 * 0 + j * 1 + (2 * 0 + r * 1))
+
+  -- the exact sum is near twice the integral
+  pub sum-within : Within (offBy roundoffs (quarter by B)) (exactSum 7 v) twice
+  sum-within =
       let P = parts (weightsTo 7 weight) (secondTo 7) in
       let Q = parts (number 2 0 1) (number 1 0 12) in
-      let n = 3 * 0 + j * 1 + (2 * 0 + r * 1) in
+      let e = offBy roundoffs (quarter by B) in
       let iP : IsNumber P = parts-is (weightsTo 7 weight) (secondTo 7) (weights-is 7 weight) (second-is 7) in
       let iQ : IsNumber Q = parts-is (number 2 0 1) (number 1 0 12) (pow-pos 0) (zero-lt 11) in
-      let a : Within (e roundoffs (quarter by B)) (valueOf x) P = within-same (e roundoffs (quarter by B)) (valueOf x) (exactSum 7 v) P (h .is) (h .near .within) (sum-quadratic v q z 7 .same) in
-      let b : Within ((4 * n) roundoffs (quarter by B)) P twice = within-same ((4 * n) roundoffs (quarter by B)) P Q twice iQ (in-quarters n P Q parts-near) (twice-parts .same) in
+      let b : Within e P twice = within-same e P Q twice iQ (in-quarters (3 * 0 + j * 1 + (2 * 0 + r * 1)) P Q parts-near) (twice-parts .same) in
+      within-sym e twice (exactSum 7 v) (within-same e twice P (exactSum 7 v) iP (within-sym e P twice b) (symm (sum-quadratic v q z 7) .same))
+
+  pub sum-near : (x : Float) (e J : ℕ) → Valued x (exactSum 7 v) e J (quarter by B)
+      → Valued x twice (e + offBy) (4 * (2 * j + 1 * r)) (quarter by B)
+  sum-near x e J h =
       record {
         near = record {
           finite = h .near .finite;
-          within = Counts.within-roundoffs e (4 * n) (quarter by B) (valueOf x) twice (Counts.by-is quarter B (pow-pos 2) C) (within-trans (e roundoffs (quarter by B)) ((4 * n) roundoffs (quarter by B)) (valueOf x) P twice iP a b);
+          within =
+              Counts.within-roundoffs e offBy (quarter by B) (valueOf x) twice (Counts.by-is quarter B (pow-pos 2) C)
+              (within-trans (e roundoffs (quarter by B)) (offBy roundoffs (quarter by B)) (valueOf x) (exactSum 7 v) twice (h .is) (h .near .within)
+              sum-within);
         };
         size = size-in-quarters (2 * j + 1 * r) twice twice-under;
         is = twice-is;

@@ -10,10 +10,9 @@ use lib.Ieee.{Float}
 use lib.Ieee.Fits.{and-i}
 use Rattle.floats.specs.Operations.{_⊕_, _⊗_, bits}
 use Rattle.quadrature.specs.Rule.{minusSide, plusSide, weightedTo, kronrodWeight as weight}
-use Rattle.rounding_error.proofs.Numbers.{Number, number, Size, _plus_, _less_, _times_, _by_, IsSize, valueOf, InRange}
+use Rattle.rounding_error.proofs.Numbers.{Number, number, Size, _plus_, _less_, _times_, _by_, IsNumber, IsSize, valueOf, InRange}
 use Rattle.rounding_error.proofs.Counts as Counts
 use Rattle.rounding_error.proofs.Chains.{Valued, some, few, in-bounds, counted-by, zero-valued, plus-valued, exact-times}
-use Rattle.rounding_error.proofs.Polynomials as Polynomials
 use Rattle.accuracy.proofs.ExactRule.{node}
 use Rattle.accuracy.proofs.Samples.{quarter}
 use Rattle.accuracy.proofs.Tables.{weight-finite, weight-under}
@@ -32,6 +31,17 @@ upper i = middle plus (middle times valueOf (node i))
 unfoldable pub sumTo : ℕ → Number → (ℕ → Number) → (ℕ → Number) → Number
 sumTo zero c m p = valueOf (bits 0) plus valueOf (weight 7) times c
 sumTo (suc i) c m p = sumTo i c m p plus valueOf (weight i) times m i plus valueOf (weight i) times p i
+
+pub sum-is : (n : ℕ) (c : Number) (m p : ℕ → Number) → IsNumber c → ((i : ℕ) → IsNumber (m i)) → ((i : ℕ) → IsNumber (p i)) → IsNumber (sumTo n c m p)
+unfolding sumTo
+sum-is zero c m p ic im ip =
+    Counts.plus-is (valueOf (bits 0)) (valueOf (weight 7) times c) (Counts.value-is (bits 0))
+    (Counts.times-is (valueOf (weight 7)) c (Counts.value-is (weight 7)) ic)
+sum-is (suc n) c m p ic im ip =
+    let w = valueOf (weight n) in
+    let iw : IsNumber w = Counts.value-is (weight n) in
+    Counts.plus-is (sumTo n c m p plus w times m n) (w times p n)
+    (Counts.plus-is (sumTo n c m p) (w times m n) (sum-is n c m p ic im ip) (Counts.times-is w (m n) iw (im n))) (Counts.times-is w (p n) iw (ip n))
 
 abbrev pub exactSum : ℕ → (Number → Number) → Number
 exactSum n v = sumTo n (v middle) (λ i. v (lower i)) (λ i. v (upper i))

@@ -1,41 +1,41 @@
 -- The value of the width over a piece of a strip: within 3128 roundoffs of an eighth of span/scale·B/scale from its exact integral where all samples
--- have chords, and within 224360 if it is a sliver, of which some may have none. Assumes nothing.
+-- surely have chords, and within 5658 whether or not they have. Assumes nothing.
 use mathlib.Core.Path.{_≡_, refl, sym, subst}
-use mathlib.Core.Bool.{Bool, true, false, not}
+use mathlib.Core.Logic.{_⊎_, inl, inr}
+use mathlib.Core.Bool.{Bool, true, false}
 use mathlib.Core.List.{[], _∷_}
-use Prim.Native.Nat.{ℕ, _+_, _-_, _*_, _^_, _≤_, _<_, zero-le}
-use native.Mathlib.Nat.{mul-pos, mul-le-mul-right, one-mul, mul-one, zero-mul, mul-zero, zero-add, add-zero, le-of-lt}
+use Prim.Native.Nat.{ℕ, zero, suc, _+_, _-_, _*_, _^_, _≤_, _<_, zero-le}
+use native.Mathlib.Nat.{mul-pos, mul-le-mul-right, one-mul, mul-one, zero-mul, mul-zero, zero-add, add-zero}
 use native.Mathlib.Omega.{arith}
-use lib.Dec.{T, leb, leb→le, nleb→lt}
+use lib.Dec.{T}
 use lib.Pow.{pow-pos}
-use lib.Ieee.{Float}
+use lib.Ieee.{Float, ofBits}
 use lib.Ieee.Scale.{finite}
-use lib.Ieee.Positive.{num, den}
 use Rattle.floats.specs.Operations.{_⊗_, bits}
 use Rattle.floats.proofs.Bools.{of-true}
 use Rattle.chords.specs.Chords.{inSpan}
 use Rattle.quadrature.specs.Rule.{halfSum, halfWidth, minusSide, plusSide, weightedTo, kronrodWeight as weight}
 use Rattle.rounding_error.proofs.Numbers.{Number, number, Size, _per_, _plus_, _less_, _times_, _over_, _and_, _by_, _of_, _roundoffs_, IsNumber}
-use Rattle.rounding_error.proofs.Numbers.{IsSize, Within, Under, valueOf, zeroNumber, InRange, Ranges}
-use Rattle.rounding_error.proofs.Distances.{sorted, within-upto, within-plus, within-sym, within-same, within-trans}
+use Rattle.rounding_error.proofs.Numbers.{_upto_, IsSize, Within, Under, valueOf, zeroNumber, InRange, Ranges}
+use Rattle.rounding_error.proofs.Distances.{sorted, within-upto, within-plus, within-sym, within-same, within-trans, within-times}
 use Rattle.rounding_error.proofs.Ranges.{ranges-by, in-range}
 use Rattle.rounding_error.proofs.Counts as Counts
-use Rattle.rounding_error.proofs.Chains.{Valued, inverse, inverse-is, over-is-times, some, equalled, counted, exactly, zero-valued}
+use Rattle.rounding_error.proofs.Chains.{Valued, inverse, inverse-is, over-is-times, equalled, counted, exactly, zero-valued}
 use Rattle.rounding_error.proofs.Chains.{under-inverse, reach, times-valued}
 use Rattle.rounding_error.proofs.Polynomials.{_equals_, trans, itself, by-left, plus-equal, times-equal, plus-is, less-is, times-is, given, ratio}
 use Rattle.rounding_error.proofs.Polynomials.{_add_, _take_, _mul_, equal-by, evaluated-is}
 use Rattle.accuracy.proofs.ExactRule.{node}
 use Rattle.accuracy.proofs.Samples.{one, quarter}
 use Rattle.accuracy.proofs.Given.{Lengths}
-use Rattle.accuracy.proofs.Tables.{node-near-one}
+use Rattle.accuracy.proofs.Tables.{node-near-one, weight-under}
 use Rattle.accuracy.proofs.Trapezoids.{exactWidth}
 use Rattle.accuracy.proofs.Width.{width-near}
 use Rattle.accuracy.proofs.Affine.{width-total}
 use Rattle.accuracy.proofs.Moves.{width-moves}
 use Rattle.accuracy.proofs.Areas.{quarter-ranges, bounded}
 use Rattle.accuracy.proofs.Called.{same-sum}
-use Rattle.accuracy.proofs.Weighted.{middle, lower, upper, sumTo, weighted-near}
-use Rattle.accuracy.proofs.Quadratic.{Quadratic, integral}
+use Rattle.accuracy.proofs.Weighted.{middle, lower, upper, sumTo, sum-is, exactSum, weighted-near}
+use Rattle.accuracy.proofs.Quadratic.{Quadratic, sum-within}
 use Rattle.accuracy.proofs.Parts.{simpson, Cubic, parabola-on-part, on-part-under}
 use Rattle.accuracy.proofs.ChordEnds as Chord
 use Rattle.accuracy.proofs.AreaSamples as Area
@@ -43,9 +43,33 @@ use Rattle.accuracy.proofs.AreaIntegrals as Totals
 use Rattle.accuracy.proofs.AreaIntegrals.{widthE}
 use Rattle.accuracy.proofs.Cuts as Cuts
 use Rattle.accuracy.proofs.PieceValues as Values
-use Rattle.accuracy.proofs.Cuts.{Share, Inner, share-under, middle-inner, lower-inner, upper-inner, NoSliver, Cut}
+use Rattle.accuracy.proofs.Cuts.{Share, Inner, Clear, share-under, middle-inner, lower-inner, upper-inner, NoSliver, Cut}
+use Rattle.accuracy.proofs.Slivers.{Light, lightOf, centre-light, lower-light, upper-light, clear-or-light}
+use Rattle.accuracy.proofs.Ends.{halfSize}
 
 ruleset plain = (sorted, one-mul, mul-one, zero-mul, mul-zero, zero-add, add-zero)
+
+-- ---- what one sample adds: 170 roundoffs with a chord, and 23·G, which is 92·G of the unit, without
+with-chord : (A B : Size) (G : ℕ) → 2 ≤ G → ((1 of A) by ((1 of quarter) by (170 roundoffs B))) upto ((92 * G) roundoffs (A by (quarter by B)))
+with-chord (a per c) (b per d) G h = go (2 ^ 53) (mul-le-mul-right (a * b * c * d * 2 ^ 53) h)
+  where
+    go : (P : ℕ) → 2 * (a * b * c * d * P) ≤ G * (a * b * c * d * P)
+        → 1 * a * (1 * 1 * (170 * b)) * (c * (4 * d) * P) ≤ 92 * G * (a * (1 * b)) * (c * (4 * (d * P)))
+    go P h = let x = simp plain at h in simp plain (omega (arith, x))
+
+without-chord : (A B : Size) (G : ℕ) → (((23 * G) roundoffs one) by ((1 of A) by (1 of B))) upto ((92 * G) roundoffs (A by (quarter by B)))
+without-chord (a per c) (b per d) G = go (2 ^ 53)
+  where
+    go : (P : ℕ) → 23 * G * 1 * (1 * a * (1 * b)) * (c * (4 * d) * P) ≤ 92 * G * (a * (1 * b)) * (1 * P * (c * d))
+    go P = simp plain (omega arith)
+
+-- all samples together
+abbrev missesTo : ℕ → ℕ
+missesTo zero = 276
+missesTo (suc n) = missesTo n + 92 * lightOf n + 92 * lightOf n
+
+half-half : Under (1 of halfSize) middle
+half-half = record { below = omega arith; above = omega arith }
 
 -- ---- a mean of two numbers is no larger than both
 part-under : (X Y Z i : ℕ) → X ≤ Y + i → Y ≤ X + i → Under (1 of (i per Z)) (number X Y Z)
@@ -81,11 +105,11 @@ mean-under r t (number X Y Z) (b per d) C z s u v =
     Counts.under-times 1 1 (i per Z) (b per d) τ t z C z (part-under X Y Z i (omega arith) (omega arith)) v in
     within-upto (((1 * 1) of ((j per Z) by (b per d))) and ((1 * 1) of ((i per Z) by (b per d)))) (1 of (b per d))
     (ω times r plus τ times t) zeroNumber (mul-pos (mul-pos z C) (mul-pos z C))
-    (go i j (mul-le-mul-right (b * Z * d * d) (both X Y Z l m)))
+    (go i j (mul-le-mul-right (b * Z * d * d) (no-more X Y Z l m)))
     (within-plus ((1 * 1) of ((j per Z) by (b per d))) ((1 * 1) of ((i per Z) by (b per d))) (ω times r) zeroNumber (τ times t) zeroNumber p q)
   where
-    both : (X Y Z : ℕ) → Y ≤ X → X ≤ Y + Z → Y + Z - X + (X - Y) ≤ Z
-    both X Y Z l m = omega arith
+    no-more : (X Y Z : ℕ) → Y ≤ X → X ≤ Y + Z → Y + Z - X + (X - Y) ≤ Z
+    no-more X Y Z l m = omega arith
 
     go : (i j : ℕ) → (j + i) * (b * Z * d * d) ≤ Z * (b * Z * d * d)
         → (1 * 1 * (j * b) * (Z * d) + 1 * 1 * (i * b) * (Z * d)) * d ≤ 1 * b * (Z * d * (Z * d))
@@ -97,8 +121,17 @@ under-equal {v = v} {w = w} e i h u = within-sym e zeroNumber w (within-same e z
 wide-under : (A D C : ℕ) → A + D ≤ C → Under (1 of one) (number D 0 C)
 wide-under A D C h = share-under (number D 0 C) (zero-le, omega arith)
 
-zero-times : (x : Number) → zeroNumber times x equals zeroNumber
-zero-times (number p n d) = record { same = omega arith }
+-- both numbers as others that they equal
+both : (e : Size) (x y x' y' : Number) → IsNumber x → IsNumber y → x equals x' → y equals y' → Within e x y → Within e x' y'
+both e x y x' y' i j h k n = within-same e x' y y' j (within-sym e y x' (within-same e y x x' i (within-sym e x y n) (h .same))) (k .same)
+
+one-of : (A B : Size) (x y : Number) → IsSize A → IsSize B → Within ((1 of A) by (4 roundoffs B)) x y → Within (4 roundoffs (A by B)) x y
+one-of (a per c) (b per d) x y C D h =
+    within-upto ((1 of (a per c)) by (4 roundoffs (b per d))) (4 roundoffs ((a per c) by (b per d))) x y (mul-pos C (mul-pos D (pow-pos 53)))
+    (go (2 ^ 53)) h
+  where
+    go : (P : ℕ) → 1 * a * (4 * b) * (c * d * P) ≤ 4 * (a * b) * (c * (d * P))
+    go P = simp plain (omega arith)
 
 module _ (root tip span sweep scale : Float) (B : Size) (g : Lengths root tip span sweep scale B) where
   abbrev S : Number
@@ -299,91 +332,213 @@ module _ (root tip span sweep scale : Float) (B : Size) (g : Lengths root tip sp
     product-size = Counts.under-times 1 8 halfHeight (quarter by Bs) ((middle times δ) times U) across half-real (in-quarter .real) reach-is
         (Cuts.reach-valued root tip span sweep scale B g a b c .size) across-size
 
-    -- ---- a sliver: half its width is nearly nothing
-    module _ (thin : c .wide * 2 ^ 53 ≤ 5888 * c .whole) where
-      share-thin : Under (1 of (5888 per (2 * 2 ^ 53))) (middle times δ)
-      share-thin = go (c .wide) (c .whole) (2 ^ 53) thin
-        where
-          go : (D C P : ℕ) → D * P ≤ 5888 * C → Under (1 of (5888 per (2 * P))) (middle times number D 0 C)
-          go D C P h = record { below = low (mul-le-mul-right 2 h); above = simp plain (omega arith) }
-            where
-              low : D * P * 2 ≤ 5888 * C * 2
-                  → ((1 * D + 0 * 0) * 1 + 0 * (2 * C)) * (2 * P) ≤ (0 * (2 * C) + (1 * 0 + 0 * D) * 1) * (2 * P) + 1 * 5888 * (2 * C * 1)
-              low h = let x = simp plain at h in simp plain (omega (arith, x))
+    -- ---- with or without a chord: a sample that has none is light
+    module _ (y : Float → Float) (f : Widths y) where
+      abbrev r : Number
+      r = (middle times δ) times U
 
-      reach-thin : Within (5888 roundoffs halfHeight) ((middle times δ) times U) zeroNumber
-      reach-thin =
-          within-upto ((1 * 1) of ((5888 per (2 * 2 ^ 53)) by H)) (5888 roundoffs halfHeight) ((middle times δ) times U) zeroNumber
-          (Counts.by-is (5888 per (2 * 2 ^ 53)) H (mul-pos (pow-pos 1) (pow-pos 53)) (Chord.height-ranges root tip span sweep scale B g .real))
-          (same (num span * den scale) (num scale * den span) (2 ^ 53))
-          (Counts.under-times 1 1 (5888 per (2 * 2 ^ 53)) H (middle times δ) U (mul-pos (pow-pos 1) (pow-pos 53))
-          (Chord.height-ranges root tip span sweep scale B g .real) (times-is middle δ (pow-pos 1) (c .whole-real)) share-thin
-          (Chord.U-under root tip span sweep scale B g))
-        where
-          same : (a d P : ℕ) → 1 * 1 * (5888 * a) * (2 * d * P) ≤ 5888 * (1 * a) * (2 * P * d)
-          same a d P = simp plain (omega arith)
+      abbrev w : ℕ → Number
+      w i = valueOf (weight i)
 
-      halfway-thin : Valued halfway zeroNumber 5897 0 halfHeight
-      halfway-thin =
-          let h = Cuts.reach-valued root tip span sweep scale B g a b c in
-          let w = (middle times δ) times U in
+      -- what a sample of the value x adds
+      abbrev adds : ℕ → Number → Number
+      adds i x = r times (w i times x)
+
+      adds-is : (i : ℕ) (x : Number) → IsNumber x → IsNumber (adds i x)
+      adds-is i x j = times-is r (w i times x) reach-is (times-is (w i) x (Counts.value-is (weight i)) j)
+
+      there : (i G : ℕ) → i < 8 → 2 ≤ G → (h : Float) (t : Number) → Valued (y h) (v t) 170 1 Bs
+          → Within ((92 * G) roundoffs unit) (adds i (valueOf (y h))) (adds i (v t))
+      there i G l m h t n =
+          let e = (1 of halfHeight) by ((1 of quarter) by (170 roundoffs Bs)) in
+          within-upto e ((92 * G) roundoffs unit) (adds i (valueOf (y h))) (adds i (v t))
+          (Counts.by-is (1 of halfHeight) ((1 of quarter) by (170 roundoffs Bs)) (Counts.of-is 1 halfHeight half-real)
+          (Counts.by-is (1 of quarter) (170 roundoffs Bs) (pow-pos 2) (Counts.roundoffs-is 170 Bs Bs-real)))
+          (with-chord halfHeight Bs G m)
+          (within-times (1 of halfHeight) ((1 of quarter) by (170 roundoffs Bs)) r (w i times valueOf (y h)) (w i times v t)
+          (Cuts.reach-valued root tip span sweep scale B g a b c .size)
+          (within-times (1 of quarter) (170 roundoffs Bs) (w i) (valueOf (y h)) (v t) (weight-under i l) (n .near .within)))
+
+      nowhere : (i G : ℕ) → (t : Number) → IsNumber t → Inner t → Under ((23 * G) roundoffs one) (δ times w i)
+          → Within ((92 * G) roundoffs unit) (adds i zeroNumber) (adds i (v t))
+      nowhere i G t j n u =
+          let d = δ times w i in
+          let m = middle times U in
+          let x = v t in
+          let iw : IsNumber (w i) = Counts.value-is (weight i) in
+          let iU = Chord.U-is root tip span sweep scale B g in
+          let τ-is = Cuts.placed-is root tip span sweep scale B g a b c t j in
+          let ix = width-is (placed t) τ-is in
+          let e = ((23 * G) roundoffs one) by ((1 of halfHeight) by (1 of Bs)) in
+          let E = (92 * G) roundoffs unit in
+          let um : Under (1 of halfHeight) m =
+          Counts.under-times 1 1 halfSize H middle U (pow-pos 1) (Chord.height-ranges root tip span sweep scale B g .real) (pow-pos 1) half-half
+          (Chord.U-under root tip span sweep scale B g) in
+          let ux : Under (1 of Bs) x = width-under (placed t) τ-is (placed-share t n) in
+          let z : Within E (d times (m times x)) (d times (m times zeroNumber)) =
+          within-upto e E (d times (m times x)) (d times (m times zeroNumber))
+          (Counts.by-is ((23 * G) roundoffs one) ((1 of halfHeight) by (1 of Bs)) (Counts.roundoffs-is (23 * G) one (pow-pos 0))
+          (Counts.by-is (1 of halfHeight) (1 of Bs) (Counts.of-is 1 halfHeight half-real) (Counts.of-is 1 Bs Bs-real)))
+          (without-chord halfHeight Bs G)
+          (within-times ((23 * G) roundoffs one) ((1 of halfHeight) by (1 of Bs)) d (m times x) (m times zeroNumber) u
+          (within-times (1 of halfHeight) (1 of Bs) m x zeroNumber um ux)) in
+          let turned : (q : Number) → IsNumber q → d times (m times q) equals adds i q =
+          λ q iq. equal-by (δ ∷ w i ∷ U ∷ q ∷ []) (c .whole-real, (iw, (iU, (iq, tt)))) (given 0 mul given 1 mul (ratio 1 1 mul given 2 mul given 3))
+          (ratio 1 1 mul given 0 mul given 2 mul (given 1 mul given 3)) tt in
+          let dm : (q : Number) → IsNumber q → IsNumber (d times (m times q)) =
+          λ q iq. times-is d (m times q) (times-is δ (w i) (c .whole-real) iw) (times-is m q (times-is middle U (pow-pos 1) iU) iq) in
+          within-same E (adds i zeroNumber) (d times (m times x)) (adds i x) (dm x ix)
+          (within-sym E (d times (m times x)) (adds i zeroNumber)
+          (within-same E (d times (m times x)) (d times (m times zeroNumber)) (adds i zeroNumber) (dm zeroNumber (pow-pos 0)) z
+          (turned zeroNumber (pow-pos 0) .same)))
+          (turned x ix .same)
+
+      at-zero : (i G : ℕ) (x : Float) (q : Number) → x ≡ bits 0 → Within ((92 * G) roundoffs unit) (adds i zeroNumber) q
+          → Within ((92 * G) roundoffs unit) (adds i (valueOf x)) q
+      unfolding ofBits
+      at-zero i G x q e h = subst (λ (z : Float). Within ((92 * G) roundoffs unit) (adds i (valueOf z)) q) (sym e) h
+
+      term : (i G : ℕ) → i < 8 → 2 ≤ G → (h : Float) (t : Number) → IsNumber t → Inner t → Light G (w i) t → Valued h (U times placed t) 16 2 H
+          → Within ((92 * G) roundoffs unit) (adds i (valueOf (y h))) (adds i (v t))
+      term i G l m h t j n light z = look (inSpan span (h ⊗ scale)) refl
+        where
+          missing : inSpan span (h ⊗ scale) ≡ false → Clear (placed t) ⊎ Under ((23 * G) roundoffs one) (δ times w i)
+              → Within ((92 * G) roundoffs unit) (adds i (valueOf (y h))) (adds i (v t))
+          missing e (inl clear) = absurd (subst (λ (b : Bool). T b) e (Cuts.clear-chord root tip span sweep scale B g a b c h t j clear z))
+          missing e (inr u) = at-zero i G (y h) (adds i (v t)) (f .nowhere h e) (nowhere i G t j n u)
+
+          look : (b : Bool) → inSpan span (h ⊗ scale) ≡ b → Within ((92 * G) roundoffs unit) (adds i (valueOf (y h))) (adds i (v t))
+          look true e =
+              there i G l m h t (subst (λ (x : Float). Valued x (v t) 170 1 Bs) (sym (f .there h (of-true _ e))) (width-valued h t j n z))
+          look false e = missing e (clear-or-light (c .from) (c .wide) (c .whole) G (w i) t (c .whole-real) (c .inside) j light)
+
+      abbrev ym : ℕ → Number
+      ym i = valueOf (y (minusSide centre halfway i))
+
+      abbrev yp : ℕ → Number
+      yp i = valueOf (y (plusSide centre halfway i))
+
+      abbrev sampledTo : ℕ → Number
+      sampledTo n = sumTo n (valueOf (y centre)) ym yp
+
+      sampled-is : (n : ℕ) → IsNumber (sampledTo n)
+      sampled-is n = sum-is n (valueOf (y centre)) ym yp (Counts.value-is (y centre)) (λ i. Counts.value-is (y (minusSide centre halfway i)))
+          (λ i. Counts.value-is (y (plusSide centre halfway i)))
+
+      lower-number : (i : ℕ) → IsNumber (lower i)
+      lower-number i = Chord.lower-is root tip span sweep scale B g i
+
+      upper-number : (i : ℕ) → IsNumber (upper i)
+      upper-number i = Chord.upper-is root tip span sweep scale B g i
+
+      v-is : (t : Number) → IsNumber t → IsNumber (v t)
+      v-is t j = width-is (placed t) (Cuts.placed-is root tip span sweep scale B g a b c t j)
+
+      exact-is : (n : ℕ) → IsNumber (exactSum n v)
+      exact-is n = sum-is n (v middle) (λ i. v (lower i)) (λ i. v (upper i)) (v-is middle (pow-pos 1)) (λ i. v-is (lower i) (lower-number i))
+          (λ i. v-is (upper i) (upper-number i))
+
+      two-or-more : (i : ℕ) → 2 ≤ lightOf i
+      two-or-more zero = omega arith
+      two-or-more (suc i) = omega arith
+
+      sums-near : (n : ℕ) → n ≤ 7 → Within (missesTo n roundoffs unit) (r times sampledTo n) (r times exactSum n v)
+      unfolding sumTo ofBits
+      sums-near zero l =
+          let e = 276 roundoffs unit in
+          let a = term 7 3 (omega arith) (omega arith) centre middle (pow-pos 1) middle-inner centre-light
+          (Cuts.middle-valued root tip span sweep scale B g a b c) in
+          let same : (x : Number) → IsNumber x → adds 7 x equals r times (zeroNumber plus w 7 times x) =
+          λ x ix. equal-by (r ∷ w 7 ∷ x ∷ []) (reach-is, (Counts.value-is (weight 7), (ix, tt))) (given 0 mul (given 1 mul given 2))
+          (given 0 mul (ratio 0 0 add given 1 mul given 2)) tt in
+          both e (adds 7 (valueOf (y centre))) (adds 7 (v middle)) (r times sampledTo 0) (r times exactSum 0 v)
+          (adds-is 7 (valueOf (y centre)) (Counts.value-is (y centre)))
+          (adds-is 7 (v middle) (v-is middle (pow-pos 1))) (same (valueOf (y centre)) (Counts.value-is (y centre)))
+          (same (v middle) (v-is middle (pow-pos 1))) a
+      sums-near (suc n) l =
+          let G = lightOf n in
+          let k : n < 8 = omega arith in
+          let i : n < 7 = omega arith in
+          let hm = minusSide centre halfway n in
+          let hp = plusSide centre halfway n in
+          let S = sampledTo n in
+          let X = exactSum n v in
+          let iS = sampled-is n in
+          let iX = exact-is n in
+          let tm = term n G k (two-or-more n) hm (lower n) (lower-number n) (lower-inner (valueOf (node n)) (node-near-one n i)) (lower-light n i)
+          (Cuts.minus-valued root tip span sweep scale B g a b c n i) in
+          let tp = term n G k (two-or-more n) hp (upper n) (upper-number n) (upper-inner (valueOf (node n)) (node-near-one n i)) (upper-light n i)
+          (Cuts.plus-side-valued root tip span sweep scale B g a b c n i) in
+          let e = missesTo n in
+          let im : IsNumber (v (lower n)) = v-is (lower n) (lower-number n) in
+          let ip : IsNumber (v (upper n)) = v-is (upper n) (upper-number n) in
+          let jm : IsNumber (valueOf (y hm)) = Counts.value-is (y hm) in
+          let jp : IsNumber (valueOf (y hp)) = Counts.value-is (y hp) in
+          let first = Counts.within-roundoffs e (92 * G) unit (r times S plus adds n (valueOf (y hm))) (r times X plus adds n (v (lower n)))
+          (in-unit .real)
+          (within-plus (e roundoffs unit) ((92 * G) roundoffs unit) (r times S) (r times X) (adds n (valueOf (y hm))) (adds n (v (lower n)))
+          (sums-near n (omega arith)) tm) in
+          let second = Counts.within-roundoffs (e + 92 * G) (92 * G) unit (r times S plus adds n (valueOf (y hm)) plus adds n (valueOf (y hp)))
+          (r times X plus adds n (v (lower n)) plus adds n (v (upper n))) (in-unit .real)
+          (within-plus ((e + 92 * G) roundoffs unit) ((92 * G) roundoffs unit) (r times S plus adds n (valueOf (y hm)))
+          (r times X plus adds n (v (lower n)))
+          (adds n (valueOf (y hp))) (adds n (v (upper n))) first tp) in
+          let same : (x m p : Number) → IsNumber x → IsNumber m → IsNumber p
+          → r times x plus adds n m plus adds n p equals r times (x plus w n times m plus w n times p) =
+          λ x m p ix jm jp. equal-by (r ∷ w n ∷ x ∷ m ∷ p ∷ []) (reach-is, (Counts.value-is (weight n), (ix, (jm, (jp, tt)))))
+          (given 0 mul given 2 add given 0 mul (given 1 mul given 3) add given 0 mul (given 1 mul given 4))
+          (given 0 mul (given 2 add given 1 mul given 3 add given 1 mul given 4)) tt in
+          let sum-number : (x m p : Number) → IsNumber x → IsNumber m → IsNumber p → IsNumber (r times x plus adds n m plus adds n p) =
+          λ x m p ix jm jp. plus-is (r times x plus adds n m) (adds n p) (plus-is (r times x) (adds n m) (times-is r x reach-is ix) (adds-is n m jm))
+          (adds-is n p jp) in
+          both (missesTo (suc n) roundoffs unit) (r times S plus adds n (valueOf (y hm)) plus adds n (valueOf (y hp)))
+          (r times X plus adds n (v (lower n)) plus adds n (v (upper n)))
+          (r times sampledTo (suc n)) (r times exactSum (suc n) v) (sum-number S (valueOf (y hm)) (valueOf (y hp)) iS jm jp)
+          (sum-number X (v (lower n)) (v (upper n)) iX im ip)
+          (same S (valueOf (y hm)) (valueOf (y hp)) iS jm jp) (same X (v (lower n)) (v (upper n)) iX im ip) second
+
+      at-most-two : (h : Float) (t : Number) → IsNumber t → Inner t → Valued h (U times placed t) 16 2 H → Valued (y h) (valueOf (y h)) 0 2 Bs
+      at-most-two h t i n z = look (inSpan span (h ⊗ scale)) refl
+        where
+          look : (b : Bool) → inSpan span (h ⊗ scale) ≡ b → Valued (y h) (valueOf (y h)) 0 2 Bs
+          look true e =
+              let w = width-valued h t i n z in
+              subst (λ (x : Float). Valued x (valueOf x) 0 2 Bs) (sym (f .there h (of-true _ e)))
+              (exactly (widthAt h) 2 Bs (w .near .finite) (reach w Bs-real (omega arith)))
+          look false e = subst (λ (x : Float). Valued x (valueOf x) 0 2 Bs) (sym (f .nowhere h e)) (counted (zero-valued Bs) 0 2 Bs-real tt)
+
+      some-chords : Valued (halfway ⊗ weightedTo 7 weight y centre halfway) product 5658 8 unit
+      some-chords =
+          let K = weightedTo 7 weight y centre halfway in
+          let κ = sampledTo 7 in
+          let X = exactSum 7 v in
+          let x = valueOf (halfway ⊗ K) in
+          let R = Cuts.reach-valued root tip span sweep scale B g a b c in
+          let k : Valued K κ 315 30 (quarter by Bs) =
+          weighted-near y centre halfway (valueOf (y centre)) ym yp 0 2 Bs Bs-real in-quarter (omega arith) (omega arith)
+          (Values.each root tip span sweep scale B g a b c y (λ h t. valueOf (y h)) 0 2 Bs at-most-two) 7 (omega arith) in
+          let n : Valued (halfway ⊗ K) (r times κ) 962 30 unit =
+          times-valued {A = halfHeight} {B = quarter by Bs} half-real (in-quarter .real) in-unit tt R k in
+          let tables : Within (4 roundoffs unit) (r times X) product =
+          one-of halfHeight (quarter by Bs) (r times X) product half-real (in-quarter .real)
+          (within-times (1 of halfHeight) (4 roundoffs (quarter by Bs)) r X across (R .size)
+          (sum-within v second straight 1 0 Bs Bs-real
+          (width-under (placed middle) (Cuts.placed-is root tip span sweep scale B g a b c middle (pow-pos 1)) (placed-share middle middle-inner))
+          none)) in
           record {
             near = record {
-              finite = h .near .finite;
-              within = Counts.within-roundoffs 9 5888 halfHeight (valueOf halfway) zeroNumber half-real
-                  (within-trans (9 roundoffs halfHeight) (5888 roundoffs halfHeight) (valueOf halfway) w zeroNumber (h .is)
-                  (h .near .within) reach-thin);
+              finite = n .near .finite;
+              within =
+                  Counts.within-roundoffs 962 4696 unit x product (in-unit .real)
+                  (within-trans (962 roundoffs unit) (4696 roundoffs unit) x (r times κ) product (n .is) (n .near .within)
+                  (Counts.within-roundoffs 4692 4 unit (r times κ) product (in-unit .real)
+                  (within-trans (4692 roundoffs unit) (4 roundoffs unit) (r times κ) (r times X) product (times-is r X reach-is (exact-is 7))
+                  (sums-near 7 (omega arith)) tables)));
             };
-            size = Totals.none-under root tip span sweep scale B g halfHeight;
-            is = pow-pos 0;
+            size = product-size;
+            is = product-is;
           }
 
-      product-thin : Within (47104 roundoffs unit) product zeroNumber
-      product-thin =
-          let x = (middle times δ) times U in
-          within-same (47104 roundoffs unit) product (zeroNumber times across) zeroNumber (times-is zeroNumber across (pow-pos 0) across-is)
-          (Counts.within-product x across zeroNumber across 1 8 5888 0 halfHeight (quarter by Bs) half-real (in-quarter .real)
-          (Cuts.reach-valued root tip span sweep scale B g a b c .is) across-is reach-thin
-          (Counts.itself-within across (quarter by Bs)) (Cuts.reach-valued root tip span sweep scale B g a b c .size) across-size)
-          (zero-times across .same)
-
-      module _ (y : Float → Float) (f : Widths y) where
-        at-most-two : (h : Float) (t : Number) → IsNumber t → Inner t → Valued h (U times placed t) 16 2 H → Valued (y h) (valueOf (y h)) 0 2 Bs
-        at-most-two h t i n z = look (inSpan span (h ⊗ scale)) refl
-          where
-            look : (b : Bool) → inSpan span (h ⊗ scale) ≡ b → Valued (y h) (valueOf (y h)) 0 2 Bs
-            look true e =
-                let w = width-valued h t i n z in
-                subst (λ (x : Float). Valued x (valueOf x) 0 2 Bs) (sym (f .there h (of-true _ e)))
-                (exactly (widthAt h) 2 Bs (w .near .finite) (reach w Bs-real (omega arith)))
-            look false e = subst (λ (x : Float). Valued x (valueOf x) 0 2 Bs) (sym (f .nowhere h e)) (counted (zero-valued Bs) 0 2 Bs-real tt)
-
-        some-chords : Valued (halfway ⊗ weightedTo 7 weight y centre halfway) product 224360 8 unit
-        some-chords =
-            let vm : ℕ → Number = λ i. valueOf (y (minusSide centre halfway i)) in
-            let vp : ℕ → Number = λ i. valueOf (y (plusSide centre halfway i)) in
-            let K = weightedTo 7 weight y centre halfway in
-            let κ = sumTo 7 (valueOf (y centre)) vm vp in
-            let k : Valued K κ 315 30 (quarter by Bs) =
-            weighted-near y centre halfway (valueOf (y centre)) vm vp 0 2 Bs Bs-real in-quarter (omega arith) (omega arith)
-            (Values.each root tip span sweep scale B g a b c y (λ h t. valueOf (y h)) 0 2 Bs at-most-two) 7 (omega arith) in
-            let n : Valued (halfway ⊗ K) (zeroNumber times κ) 177256 0 unit =
-            times-valued {A = halfHeight} {B = quarter by Bs} half-real (in-quarter .real) in-unit tt halfway-thin k in
-            let z = within-same (177256 roundoffs unit) (valueOf (halfway ⊗ K)) (zeroNumber times κ) zeroNumber (n .is) (n .near .within)
-            (zero-times κ .same) in
-            record {
-              near = record {
-                finite = n .near .finite;
-                within = Counts.within-roundoffs 177256 47104 unit (valueOf (halfway ⊗ K)) product (in-unit .real)
-                    (within-trans (177256 roundoffs unit) (47104 roundoffs unit) (valueOf (halfway ⊗ K)) zeroNumber product (pow-pos 0) z
-                    (within-sym (47104 roundoffs unit) product zeroNumber product-thin));
-              };
-              size = product-size;
-              is = product-is;
-            }
-
-    -- ---- either
-    module _ (y : Float → Float) (f : Widths y) where
       all-chords : NoSliver (c .wide) (c .whole) → weightedTo 7 weight y centre halfway ≡ weightedTo 7 weight widthAt centre halfway
       all-chords w =
           let chord = Cuts.has-chord root tip span sweep scale B g a b c w in
@@ -399,13 +554,6 @@ module _ (root tip span sweep scale : Float) (B : Size) (g : Lengths root tip sp
       pub wide-valued : NoSliver (c .wide) (c .whole) → Valued (halfway ⊗ weightedTo 7 weight y centre halfway) cutIntegral 3128 8 unit
       wide-valued w = subst (λ (x : Float). Valued (halfway ⊗ x) cutIntegral 3128 8 unit) (sym (all-chords w)) (with-chords w)
 
-      pub piece-valued : Valued (halfway ⊗ weightedTo 7 weight y centre halfway) cutIntegral 224360 8 unit
-      piece-valued = look (leb (5888 * c .whole) (c .wide * 2 ^ 53)) (leb→le (5888 * c .whole) (c .wide * 2 ^ 53))
-          (nleb→lt (5888 * c .whole) (c .wide * 2 ^ 53))
-        where
-          look : (b : Bool) → (T b → NoSliver (c .wide) (c .whole)) → (T (not b) → c .wide * 2 ^ 53 < 5888 * c .whole)
-              → Valued (halfway ⊗ weightedTo 7 weight y centre halfway) cutIntegral 224360 8 unit
-          look true h k = counted (wide-valued (h tt)) 224360 8 (in-unit .real) tt
-          look false h k = equalled (some-chords (le-of-lt (k tt)) y f) cutIntegral
-              (Values.simpson-over root tip span sweep scale B g a b c width cubic second straight)
-              (Values.half-over root tip span sweep scale B g a b c width cubic second straight)
+      pub piece-valued : Valued (halfway ⊗ weightedTo 7 weight y centre halfway) cutIntegral 5658 8 unit
+      piece-valued = equalled some-chords cutIntegral (Values.simpson-over root tip span sweep scale B g a b c width cubic second straight)
+          (Values.half-over root tip span sweep scale B g a b c width cubic second straight)

@@ -58,8 +58,8 @@ module _ (root tip span sweep scale : Float) (B : Size) (g : Lengths root tip sp
       (equalled v (overPiece I p) (Sums.additive root tip span sweep scale B g width cubic .is (p .start) (p .end))
       (Sums.over-cut root tip span sweep scale B g width cubic (p .start) (p .end) (h .in-strip)))
 
-  any-near : (n : ℕ) (p : Piece) → Cut n p → Near· 224360 p
-  any-near n p h = by-cut 224360 n p h
+  any-near : (n : ℕ) (p : Piece) → Cut n p → Near· 5658 p
+  any-near n p h = by-cut 5658 n p h
       (Widths.piece-valued root tip span sweep scale B g (p .start) (p .end)
       (Strip.cut root tip span sweep scale B g (p .start) (p .end) (h .in-strip)) (λ y. at (f y) 0) widths)
 
@@ -80,8 +80,8 @@ module _ (root tip span sweep scale : Float) (B : Size) (g : Lengths root tip sp
       (omega arith) lower pieces kept most
       (omega arith) a
 
-  pub any-summed : Valued (Sums.sumIn root tip span sweep scale B g 3 f 0 pieces) (I lower Top) (n * 224882) (n * 8) unit
-  any-summed = added 224360 (omega arith) (all-map (Cut n) (Near· 224360) (any-near n) pieces (kept .each))
+  pub any-summed : Valued (Sums.sumIn root tip span sweep scale B g 3 f 0 pieces) (I lower Top) (n * 6180) (n * 8) unit
+  any-summed = added 5658 (omega arith) (all-map (Cut n) (Near· 5658) (any-near n) pieces (kept .each))
 
   -- where there are no slivers
   pub wide-summed : n ≤ 40 → Valued (Sums.sumIn root tip span sweep scale B g 3 f 0 pieces) (I lower Top) (n * 3650) (n * 8) unit
