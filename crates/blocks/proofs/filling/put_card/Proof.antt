@@ -1,7 +1,6 @@
 -- `blocks::filling::put_card` meets its contract: what is there with what is still to come is the whole. Assumes nothing.
 use Prim.Native.Nat.{_-_}
 use native.Mathlib.Omega.{arith}
-use denote.Ref.{now}
 use lib.ListN.{length}
 use Rattle.blocks.specs.Cards.{card, cardMost}
 use Rattle.blocks.proofs.Said.{card-fits}
@@ -16,22 +15,13 @@ abbrev μ-loop : tie.MeasureT-loop
 μ-loop out₀ n template figures counts p₀ i₀ out p i = length template - i
 
 loop-holds : tie.Need-loop-holds Inv-loop μ-loop
-loop-holds c =
-    let s = c .before .before .before .before in
-    start card cardMost card-fits (now (s .args .out)) (s .args .n) (now (s .args .template)) (now (s .args .figures)) (now (s .args .counts)) (s .pre)
+loop-holds c = start card cardMost card-fits (c .before .before .before .before .pre)
 
 shared-slice-read-put-mark : tie.Need-shared-slice-read-put-mark Inv-loop μ-loop
 shared-slice-read-put-mark c = omega arith
 
 put-mark-requires : tie.Need-put-mark-requires Inv-loop μ-loop
-put-mark-requires c κs =
-    let a = c .before .before .before in
-    let s = a .before .before .before .before .before in
-    let o = now (s .args .out) in
-    let t = now (s .args .template) in
-    let fs = now (s .args .figures) in
-    let ns = now (s .args .counts) in
-    has-room-at card cardMost card-fits o (s .args .n) t fs ns (a .loop .out) (a .loop .p) (a .loop .i) (a .loop .inv) (c .before .before .loop-test .taken)
+put-mark-requires c κs = has-room-at card cardMost card-fits (c .before .before .before .loop .inv) (c .before .before .loop-test .taken)
 
 add-i : tie.Need-add-i Inv-loop μ-loop
 add-i c = omega arith
@@ -41,27 +31,14 @@ loop-less c = omega arith
 
 loop-again : tie.Need-loop-again Inv-loop μ-loop
 loop-again c =
-    let a = c .before .before .before .before .before .before in
-    let s = a .before .before .before .before .before in
-    let o = now (s .args .out) in
-    let t = now (s .args .template) in
-    let fs = now (s .args .figures) in
-    let ns = now (s .args .counts) in
     let f = c .before .before in
-    next card cardMost card-fits o (s .args .n) t fs ns (a .loop .out) (a .loop .p) (a .loop .i) (a .loop .inv) (f .put-mark .last .0) (f .put-mark .result) (f .before .before .before .loop-test .taken) (f .put-mark .ensures) (f .put-mark .kept .0)
+    next card cardMost card-fits (f .before .before .before .before .loop .inv) (f .before .before .before .loop-test .taken) (f .put-mark .ensures) (f .put-mark .kept .0)
 
 same-length : tie.Need-same-length Inv-loop μ-loop
 same-length c = c .before .loop .inv .same
 
 returns : tie.Need-returns Inv-loop μ-loop
-returns c =
-    let a = c .before in
-    let s = a .before .before .before .before .before in
-    let o = now (s .args .out) in
-    let t = now (s .args .template) in
-    let fs = now (s .args .figures) in
-    let ns = now (s .args .counts) in
-    ends card cardMost card-fits o (s .args .n) t fs ns (a .loop .out) (a .loop .p) (a .loop .i) (a .loop .inv) (c .loop-test .left)
+returns c = ends card cardMost card-fits (c .before .loop .inv) (c .loop-test .left)
 
 pub put-card-spec : {M : Type 1} → statement M
 put-card-spec =
