@@ -1,198 +1,106 @@
 // Turns, tensors about a point, body checks and principal moments.
 ghost use Prim.Native.Nat.{_≤_};
 ghost use lib.ListN.{length};
-ghost use Rattle.tokens.specs.Tokens.{lineBytes};
-ghost use Rattle.test_questions.specs.Parts.{lineFigures, Reached};
+ghost use Rattle.test_questions.specs.Parts.{lineFigures};
 use crate::lines;
-use crate::lines::Outcome;
-use crate::reading::Cursor;
 use bodies::BODY_NUMBERS;
 use bodies::Body;
 use bodies::TENSOR_NUMBERS;
-use bodies::Tensor;
 use bodies::Vector;
-use moments::Moments;
 use refusals::Refusal;
 use refusals::Verdict;
 use rotations::Quaternion;
 
-fn vector_of(parts: &[f64]) -> Vector
-    requires { ⌜ 3 ≤ length (now parts) ⌝ }
-{
-    Vector {
-        x: parts[0],
-        y: parts[1],
-        z: parts[2],
+// A turn about the first axis of two, x, or the second, z.
+fn turn_about(axis: usize, angle_rad: f64) -> Quaternion {
+    if axis == 1 {
+        Quaternion::from_rotation_x(angle_rad)
+    } else {
+        Quaternion::from_rotation_z(angle_rad)
     }
 }
 
-fn tensor_agrees(answers: &[f64], tensor: Tensor) -> Outcome {
-    let t = tensor.0;
-    lines::agrees_or_not(lines::agree(answers, &t, TENSOR_NUMBERS))
-}
-
-fn matrix_agrees(turn: Quaternion, values: &[f64]) -> Outcome
+pub(crate) fn matrix_agrees(axis: usize, values: &[f64], answers: &[f64]) -> bool
     requires { ⌜ lineFigures ≤ length (now values) ⌝ }
 {
+    let turn = turn_about(axis, values[0]);
     let matrix = turn.matrix();
     let m = matrix.0;
-    lines::agrees_or_not(lines::agree(&values[1..10], &m, 9))
+    lines::agree(answers, &m, 9)
 }
 
-pub(crate) fn replay_matrix(line: &[u8], values: &mut [f64]) -> Outcome
-    requires { ⌜ (length (now line) ≤ lineBytes) × (lineFigures ≤ length (now values)) ⌝ }
-{
-    if lines::reads(line, b"matrix x F = F F F F F F F F F", values) {
-        return matrix_agrees(Quaternion::from_rotation_x(values[0]), values);
+fn turned(body: Body, axis: usize, angle_rad: f64) -> Body {
+    if axis == 1 {
+        rotations::rotated_x(body, angle_rad)
+    } else {
+        rotations::rolled(body, angle_rad)
     }
-    if lines::reads(line, b"matrix z F = F F F F F F F F F", values) {
-        return matrix_agrees(Quaternion::from_rotation_z(values[0]), values);
-    }
-    Outcome::NoLine
 }
 
-// A line's body, behind its angle, turned by it.
-fn turned_x(values: &[f64]) -> Body
+// The body stands behind its angle.
+pub(crate) fn turn_agrees(axis: usize, values: &[f64], answers: &[f64]) -> bool
     requires { ⌜ lineFigures ≤ length (now values) ⌝ }
 {
-    rotations::rotated_x(bodies::body_of(&values[1..1 + BODY_NUMBERS]), values[0])
-}
-
-fn turned_z(values: &[f64]) -> Body
-    requires { ⌜ lineFigures ≤ length (now values) ⌝ }
-{
-    rotations::rolled(bodies::body_of(&values[1..1 + BODY_NUMBERS]), values[0])
-}
-
-// The answer stands behind the angle and the body.
-fn turn_agrees(turned: Body, values: &[f64]) -> Outcome
-    requires { ⌜ lineFigures ≤ length (now values) ⌝ }
-{
-    let found = turned.numbers();
-    let answer = &values[1 + BODY_NUMBERS..1 + 2 * BODY_NUMBERS];
-    lines::agrees_or_not(lines::agree(answer, &found, BODY_NUMBERS))
-}
-
-pub(crate) fn replay_turn(line: &[u8], values: &mut [f64]) -> Outcome
-    requires { ⌜ (length (now line) ≤ lineBytes) × (lineFigures ≤ length (now values)) ⌝ }
-{
-    if lines::reads(
-        line,
-        b"turn x F F F F F F F F F F F = F F F F F F F F F F",
-        values,
-    ) {
-        return turn_agrees(turned_x(values), values);
-    }
-    if lines::reads(
-        line,
-        b"turn z F F F F F F F F F F F = F F F F F F F F F F",
-        values,
-    ) {
-        return turn_agrees(turned_z(values), values);
-    }
-    Outcome::NoLine
+    let body = bodies::body_of(&values[1..1 + BODY_NUMBERS]);
+    let found = turned(body, axis, values[0]).numbers();
+    lines::agree(answers, &found, BODY_NUMBERS)
 }
 
 // The point, the body, and the tensor of the body about the point.
-fn about_agrees(values: &[f64]) -> Outcome
+pub(crate) fn about_agrees(values: &[f64], answers: &[f64]) -> bool
     requires { ⌜ lineFigures ≤ length (now values) ⌝ }
 {
-    let r = bodies::body_of(&values[3..3 + BODY_NUMBERS]).inertia_about(vector_of(values));
-    tensor_agrees(
-        &values[3 + BODY_NUMBERS..3 + BODY_NUMBERS + TENSOR_NUMBERS],
-        r,
+    let point = Vector {
+        x: values[0],
+        y: values[1],
+        z: values[2],
+    };
+    let tensor = bodies::body_of(&values[3..3 + BODY_NUMBERS]).inertia_about(point);
+    let t = tensor.0;
+    lines::agree(answers, &t, TENSOR_NUMBERS)
+}
+
+// The place of the case of 17 among a to e; 0 of another refusal.
+fn case_place(refusal: Refusal) -> usize {
+    match refusal {
+        Refusal::Tensor(fault) => std::num::wrapping_add_usize(refusals::tensor_case(fault), 1),
+        _ => 0,
+    }
+}
+
+// Whether a verdict has this number, 0 for none, and this place of its case.
+fn verdict_is(verdict: Verdict, number: usize, place: usize) -> bool {
+    match verdict {
+        Verdict::Accepted => number == 0,
+        Verdict::Refused(refusal) => {
+            (refusals::number(refusal) == number) & (case_place(refusal) == place)
+        }
+    }
+}
+
+pub(crate) fn check_agrees(values: &[f64], number: usize, place: usize) -> bool
+    requires { ⌜ lineFigures ≤ length (now values) ⌝ }
+{
+    verdict_is(
+        body_check::check(bodies::body_of(&values[0..BODY_NUMBERS])),
+        number,
+        place,
     )
 }
 
-pub(crate) fn replay_about(line: &[u8], values: &mut [f64]) -> Outcome
-    requires { ⌜ (length (now line) ≤ lineBytes) × (lineFigures ≤ length (now values)) ⌝ }
+pub(crate) fn moments_agree(values: &[f64], answers: &[f64]) -> bool
+    requires { ⌜ lineFigures ≤ length (now values) ⌝ }
 {
-    if !lines::reads(
-        line,
-        b"about F F F F F F F F F F F F F = F F F F F F",
-        values,
-    ) {
-        return Outcome::NoLine;
-    }
-    about_agrees(values)
-}
-
-// The number of a refusal; 0 for none.
-fn number(verdict: Verdict) -> usize {
-    match verdict {
-        Verdict::Accepted => 0,
-        Verdict::Refused(refusal) => refusals::number(refusal),
-    }
-}
-
-// The case of 17: 0 for a, 1 for b, 3 for d, 4 for e.
-fn case(verdict: Verdict) -> usize {
-    match verdict {
-        Verdict::Accepted => 0,
-        Verdict::Refused(refusal) => match refusal {
-            Refusal::Tensor(fault) => refusals::tensor_case(fault),
-            _ => 0,
-        },
-    }
-}
-
-// Whether the rest of the line is the verdict.
-fn says(line: &[u8], c: Cursor, verdict: Verdict, values: &mut [f64]) -> bool
-    requires { ⌜ Reached (now line) c × (lineFigures ≤ length (now values)) ⌝ }
-{
-    match number(verdict) {
-        0 => lines::ends(line, c, b"sound", values),
-        15 => lines::ends(line, c, b"refused 15", values),
-        16 => lines::ends(line, c, b"refused 16", values),
-        17 => says_case(line, c, case(verdict), values),
-        _ => false,
-    }
-}
-
-fn says_case(line: &[u8], c: Cursor, case: usize, values: &mut [f64]) -> bool
-    requires { ⌜ Reached (now line) c × (lineFigures ≤ length (now values)) ⌝ }
-{
-    match case {
-        0 => lines::ends(line, c, b"refused 17 a", values),
-        1 => lines::ends(line, c, b"refused 17 b", values),
-        3 => lines::ends(line, c, b"refused 17 d", values),
-        4 => lines::ends(line, c, b"refused 17 e", values),
-        _ => false,
-    }
-}
-
-pub(crate) fn replay_check(line: &[u8], values: &mut [f64]) -> Outcome
-    requires { ⌜ (length (now line) ≤ lineBytes) × (lineFigures ≤ length (now values)) ⌝ }
-{
-    let asked = lines::begins(line, b"check F F F F F F F F F F =", values);
-    if !asked.ok {
-        return Outcome::NoLine;
-    }
-    let verdict = body_check::check(bodies::body_of(&values[0..BODY_NUMBERS]));
-    lines::agrees_or_not(says(line, asked, verdict, values))
-}
-
-fn moments_agree(line: &[u8], asked: Cursor, found: Moments, values: &mut [f64]) -> bool
-    requires { ⌜ Reached (now line) asked × (lineFigures ≤ length (now values)) ⌝ }
-{
+    let found = moments::principal_moments(bodies::tensor_of(values));
     let verdict = found.verdict;
     let moments = found.moments_kg_m2;
-    if number(verdict) != 0 {
-        return says(line, asked, verdict, values);
-    }
-    if !lines::ends(line, asked, b"F F F", values) {
-        return false;
-    }
-    lines::agree(&values[TENSOR_NUMBERS..TENSOR_NUMBERS + 3], &moments, 3)
+    verdict_is(verdict, 0, 0) & lines::agree(answers, &moments, 3)
 }
 
-pub(crate) fn replay_moments(line: &[u8], values: &mut [f64]) -> Outcome
-    requires { ⌜ (length (now line) ≤ lineBytes) × (lineFigures ≤ length (now values)) ⌝ }
+pub(crate) fn no_moments(values: &[f64], number: usize, place: usize) -> bool
+    requires { ⌜ lineFigures ≤ length (now values) ⌝ }
 {
-    let asked = lines::begins(line, b"moments F F F F F F =", values);
-    if !asked.ok {
-        return Outcome::NoLine;
-    }
     let found = moments::principal_moments(bodies::tensor_of(values));
-    lines::agrees_or_not(moments_agree(line, asked, found, values))
+    let verdict = found.verdict;
+    verdict_is(verdict, number, place)
 }

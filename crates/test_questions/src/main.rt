@@ -9,9 +9,9 @@ mod section_lines;
 
 ghost use Prim.Native.Nat.{_≤_};
 ghost use lib.ListN.{length};
-ghost use Rattle.tokens.specs.Tokens.{lineBytes};
-ghost use Rattle.test_questions.specs.Parts.{lineFigures};
+ghost use Rattle.test_questions.specs.Parts.{lineFigures, Reached};
 use crate::lines::Outcome;
+use crate::reading::Cursor;
 use crate::reading::LINE_FIGURES;
 use libc::STDIN_FILENO;
 use libc::STDOUT_FILENO;
@@ -29,26 +29,90 @@ struct Progress {
     kept: usize,
 }
 
-// The line as one of a kind.
-fn replay_as(kind: usize, line: &[u8], values: &mut [f64]) -> Outcome
-    requires { ⌜ (length (now line) ≤ lineBytes) × (lineFigures ≤ length (now values)) ⌝ }
+// The line read as one of a kind.
+fn read_as(kind: usize, line: &[u8], values: &mut [f64]) -> Cursor
+    requires { ⌜ lineFigures ≤ length (now values) ⌝ }
+    ensures { λ r. ⌜ Reached (now (line .entry)) r ⌝ }
 {
     match kind {
-        0 => number_lines::replay_root(line, values),
-        1 => number_lines::replay_sine(line, values),
-        2 => section_lines::replay_section(line, values),
-        3 => section_lines::replay_tab(line, values),
-        4 => section_lines::replay_touch(line, values),
-        5 => body_lines::replay_matrix(line, values),
-        6 => body_lines::replay_turn(line, values),
-        7 => body_lines::replay_about(line, values),
-        8 => body_lines::replay_check(line, values),
-        9 => body_lines::replay_moments(line, values),
-        10 => planform_lines::replay_chords(line, values),
-        11 => planform_lines::replay_breaks(line, values),
-        12 => planform_lines::replay_area(line, values),
-        13 => planform_lines::replay_plate(line, values),
-        _ => Outcome::NoLine,
+        0 => reading::read(line, b"root F = F", values),
+        1 => reading::read(line, b"sine F = F F", values),
+        2 => reading::read(
+            line,
+            b"section square|rounded|airfoil|airfoil-open F F F = F F F F",
+            values,
+        ),
+        3 => reading::read(line, b"tab F F F F F = F F F F F F F", values),
+        4 => reading::read(line, b"touch F F F F F F F F = yes|no", values),
+        5 => reading::read(line, b"matrix x|z F = F F F F F F F F F", values),
+        6 => reading::read(
+            line,
+            b"turn x|z F F F F F F F F F F F = F F F F F F F F F F",
+            values,
+        ),
+        7 => reading::read(
+            line,
+            b"about F F F F F F F F F F F F F = F F F F F F",
+            values,
+        ),
+        8 => reading::read(line, b"check F F F F F F F F F F = sound", values),
+        9 => reading::read(line, b"check F F F F F F F F F F = refused 15", values),
+        10 => reading::read(line, b"check F F F F F F F F F F = refused 16", values),
+        11 => reading::read(
+            line,
+            b"check F F F F F F F F F F = refused 17 a|b|c|d|e",
+            values,
+        ),
+        12 => reading::read(line, b"moments F F F F F F = F F F", values),
+        13 => reading::read(line, b"moments F F F F F F = refused 17 a|b|c|d|e", values),
+        14 => reading::read(
+            line,
+            b"chords trapezoid|ellipse|outline F.. at F = F..",
+            values,
+        ),
+        15 => reading::read(line, b"breaks trapezoid|ellipse|outline F.. = F..", values),
+        16 => reading::read(
+            line,
+            b"area trapezoid|ellipse|outline F.. at F = F F F",
+            values,
+        ),
+        _ => reading::read(
+            line,
+            b"plate square|rounded|airfoil|airfoil-open F F trapezoid|ellipse|outline F.. at F = F F F F F F F",
+            values,
+        ),
+    }
+}
+
+// Whether the code gives the answers of a line that was read as one of a kind.
+fn agrees(kind: usize, c: Cursor, values: &[f64]) -> bool
+    requires { ⌜ (c .asked ≤ c .figures) × (c .figures ≤ lineFigures) × (lineFigures ≤ length (now values)) ⌝ }
+{
+    let asked = c.asked;
+    let all = c.figures;
+    let word = c.chosen;
+    let answers = &values[asked..all];
+    let end = planform_lines::height_place(asked);
+    let h = values[end];
+    match kind {
+        0 => number_lines::root_agrees(values, answers),
+        1 => number_lines::sine_agrees(values, answers),
+        2 => section_lines::moments_agree(word, values, answers),
+        3 => section_lines::tab_agrees(values, answers),
+        4 => section_lines::touch_agrees(word, values),
+        5 => body_lines::matrix_agrees(word, values, answers),
+        6 => body_lines::turn_agrees(word, values, answers),
+        7 => body_lines::about_agrees(values, answers),
+        8 => body_lines::check_agrees(values, 0, 0),
+        9 => body_lines::check_agrees(values, 15, 0),
+        10 => body_lines::check_agrees(values, 16, 0),
+        11 => body_lines::check_agrees(values, 17, word),
+        12 => body_lines::moments_agree(values, answers),
+        13 => body_lines::no_moments(values, 17, word),
+        14 => planform_lines::chords_agree(word, &values[0..end], h, answers),
+        15 => planform_lines::breaks_agree(word, &values[0..asked], answers),
+        16 => planform_lines::area_agrees(word, &values[0..end], h, answers),
+        _ => planform_lines::plate_agrees(c.earlier, word, values, end, h, answers),
     }
 }
 
@@ -60,10 +124,10 @@ fn replay_line(line: &[u8], values: &mut [f64]) -> Outcome
         return Outcome::NoLine;
     }
     let mut kind: usize = 0;
-    while kind < 14 {
-        let outcome = replay_as(kind, line, values);
-        if !lines::is_none(outcome) {
-            return outcome;
+    while kind < 18 {
+        let c = read_as(kind, line, values);
+        if c.ok {
+            return lines::agrees_or_not(agrees(kind, c, values));
         }
         kind += 1;
     }

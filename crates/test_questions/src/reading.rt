@@ -1,6 +1,5 @@
 // A line of a list held against a template, by a reader of its own, so that the lists do not hang on how a card line is read: `F` stands for the
-// sixteen digits of an f64's bits, `F..` for as many figures as there are, and any other word for itself.
-ghost use mathlib.Core.Path.{_≡_};
+// sixteen digits of an f64's bits, `F..` for as many figures as there are, `x|z` for one of the words between the bars, and any other word for itself.
 ghost use Prim.Native.Nat.{_≤_};
 ghost use lib.ListN.{length};
 ghost use Rattle.test_questions.specs.Parts.{lineFigures, Reached};
@@ -11,35 +10,50 @@ use tokens::LINE_BYTES;
 // How many figures a question and its answer have at most.
 pub(crate) const LINE_FIGURES: usize = 256;
 
-// Where reading stands: whether all templates so far fit, the next byte, how many figures have been read, and the place of the template that
-// was taken among others, from 1 on.
+// Where reading stands: whether all of the template so far fits, the next byte, how many figures have been read, how many of them stood before the
+// last word that is no choice, which is `=` in the end, and the places of the last two words chosen, from 1 on.
 pub(crate) struct Cursor {
     pub(crate) ok: bool,
     pub(crate) at: usize,
     pub(crate) figures: usize,
-    pub(crate) number: usize,
+    pub(crate) asked: usize,
+    pub(crate) earlier: usize,
+    pub(crate) chosen: usize,
 }
 
-// The beginning of a line.
-pub(crate) fn start(line: &[u8]) -> Cursor
-    ensures { λ r. ⌜ Reached (now (line .entry)) r ⌝ }
-{
-    Cursor {
-        ok: true,
-        at: 0,
-        figures: 0,
-        number: 0,
+// The place of a word among those between the bars, from 1 on; 0 where it is none of them.
+fn place_among(word: &[u8], words: &[u8]) -> usize {
+    let mut place: usize = 1;
+    let mut from: usize = 0;
+    let mut i: usize = 0;
+    while i < words.len() {
+        let to = i;
+        i += 1;
+        if words[to] == b'|' {
+            if same_bytes(word, &words[from..to]) {
+                return place;
+            }
+            place += 1;
+            from = i;
+            continue;
+        }
     }
+    if same_bytes(word, &words[from..i]) {
+        return place;
+    }
+    0
 }
 
 // One token of the line against one of a template.
 fn take_one(line: &[u8], c: Cursor, wanted: &[u8], values: &mut [f64]) -> Cursor
     requires { ⌜ Reached (now line) c × (lineFigures ≤ length (now values)) ⌝ }
-    ensures { λ r. ⌜ Reached (now (line .entry)) r × (c .figures ≤ r .figures) ⌝ }
+    ensures { λ r. ⌜ Reached (now (line .entry)) r ⌝ }
 {
     let at = c.at;
     let figures = c.figures;
-    let number = c.number;
+    let asked = c.asked;
+    let earlier = c.earlier;
+    let chosen = c.chosen;
     let found = tokens::next_token(line, at);
     let from = found.from;
     let to = found.to;
@@ -47,19 +61,33 @@ fn take_one(line: &[u8], c: Cursor, wanted: &[u8], values: &mut [f64]) -> Cursor
         ok: false,
         at,
         figures,
-        number,
+        asked,
+        earlier,
+        chosen,
     };
     if to <= from {
         return fails;
     }
     let word = &line[from..to];
     if !same_bytes(wanted, b"F") {
-        let ok = same_bytes(wanted, word);
+        if same_bytes(wanted, word) {
+            return Cursor {
+                ok: true,
+                at: to,
+                figures,
+                asked: figures,
+                earlier,
+                chosen,
+            };
+        }
+        let place = place_among(word, wanted);
         return Cursor {
-            ok,
+            ok: 0 < place,
             at: to,
             figures,
-            number,
+            asked,
+            earlier: chosen,
+            chosen: place,
         };
     }
     if LINE_FIGURES <= figures {
@@ -74,14 +102,16 @@ fn take_one(line: &[u8], c: Cursor, wanted: &[u8], values: &mut [f64]) -> Cursor
         ok: true,
         at: to,
         figures: more,
-        number,
+        asked,
+        earlier,
+        chosen,
     }
 }
 
 // Figures, as many as there are.
-pub(crate) fn take_figures(line: &[u8], c: Cursor, values: &mut [f64]) -> Cursor
+fn take_figures(line: &[u8], c: Cursor, values: &mut [f64]) -> Cursor
     requires { ⌜ Reached (now line) c × (lineFigures ≤ length (now values)) ⌝ }
-    ensures { λ r. ⌜ Reached (now (line .entry)) r × (c .figures ≤ r .figures) ⌝ }
+    ensures { λ r. ⌜ Reached (now (line .entry)) r ⌝ }
 {
     let mut s = c;
     let mut turns = LINE_BYTES;
@@ -97,9 +127,9 @@ pub(crate) fn take_figures(line: &[u8], c: Cursor, values: &mut [f64]) -> Cursor
 }
 
 // A template: its tokens, one after another, as long as they fit.
-pub(crate) fn take_text(line: &[u8], c: Cursor, template: &[u8], values: &mut [f64]) -> Cursor
+fn take_text(line: &[u8], c: Cursor, template: &[u8], values: &mut [f64]) -> Cursor
     requires { ⌜ Reached (now line) c × (lineFigures ≤ length (now values)) ⌝ }
-    ensures { λ r. ⌜ Reached (now (line .entry)) r × (c .figures ≤ r .figures) ⌝ }
+    ensures { λ r. ⌜ Reached (now (line .entry)) r ⌝ }
 {
     let mut s = c;
     let mut i: usize = 0;
@@ -124,38 +154,27 @@ pub(crate) fn take_text(line: &[u8], c: Cursor, template: &[u8], values: &mut [f
     s
 }
 
-// The same place, with a number.
-pub(crate) fn with_number(c: Cursor, number: usize) -> Cursor
-    ensures { λ r. ⌜ (r .at ≡ c .at) × (r .figures ≡ c .figures) ⌝ }
+// The whole line against a template: it fits where the line ends there.
+pub(crate) fn read(line: &[u8], template: &[u8], values: &mut [f64]) -> Cursor
+    requires { ⌜ lineFigures ≤ length (now values) ⌝ }
+    ensures { λ r. ⌜ Reached (now (line .entry)) r ⌝ }
 {
+    let start = Cursor {
+        ok: true,
+        at: 0,
+        figures: 0,
+        asked: 0,
+        earlier: 0,
+        chosen: 0,
+    };
+    let end = take_text(line, start, template, values);
+    let at = end.at;
     Cursor {
-        ok: c.ok,
-        at: c.at,
-        figures: c.figures,
-        number,
+        ok: end.ok & (line.len() <= at),
+        at,
+        figures: end.figures,
+        asked: end.asked,
+        earlier: end.earlier,
+        chosen: end.chosen,
     }
-}
-
-// The first of three templates that fits, and its number.
-pub(crate) fn take_one_of(
-    line: &[u8],
-    c: Cursor,
-    first: &[u8],
-    second: &[u8],
-    third: &[u8],
-    values: &mut [f64],
-) -> Cursor
-    requires { ⌜ Reached (now line) c × (lineFigures ≤ length (now values)) ⌝ }
-    ensures { λ r. ⌜ Reached (now (line .entry)) r × (c .figures ≤ r .figures) ⌝ }
-{
-    let one = take_text(line, c, first, values);
-    if one.ok {
-        return with_number(one, 1);
-    }
-    let two = take_text(line, c, second, values);
-    if two.ok {
-        return with_number(two, 2);
-    }
-    let three = take_text(line, c, third, values);
-    with_number(three, 3)
 }

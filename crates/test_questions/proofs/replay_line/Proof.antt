@@ -1,6 +1,6 @@
 -- `test_questions::replay_line` meets its contract: the kinds are tried one after another. Assumes nothing.
 use mathlib.Core.Path.{_≡_}
-use Prim.Native.Nat.{_-_, _≤_}
+use Prim.Native.Nat.{_-_}
 use native.Mathlib.Omega.{arith}
 use borrow.Author.Needs.{needs}
 use lib.ListN.{length}
@@ -8,10 +8,10 @@ use Rattle.test_questions.proofs.replay_line.Statement.{statement}
 use Rattle.test_questions.proofs.replay_line.Tie as tie
 
 abbrev Inv-loop : tie.InvT-loop
-Inv-loop line values₀ kind₀ values kind = (length line ≤ 4096) × (length values ≡ length values₀)
+Inv-loop line values₀ kind₀ values kind = length values ≡ length values₀
 
 abbrev μ-loop : tie.MeasureT-loop
-μ-loop line values₀ kind₀ values kind = 14 - kind
+μ-loop line values₀ kind₀ values kind = 18 - kind
 
 returns : tie.Need-returns Inv-loop μ-loop
 returns c = search needs
@@ -19,11 +19,14 @@ returns c = search needs
 loop-holds : tie.Need-loop-holds Inv-loop μ-loop
 loop-holds c = omega arith
 
-replay-as-requires : tie.Need-replay-as-requires Inv-loop μ-loop
-replay-as-requires c κs = omega arith
+read-as-requires : tie.Need-read-as-requires Inv-loop μ-loop
+read-as-requires c κs = omega arith
 
-is-none-requires : tie.Need-is-none-requires Inv-loop μ-loop
-is-none-requires c κs = search needs
+agrees-requires : tie.Need-agrees-requires Inv-loop μ-loop
+agrees-requires c κs = omega arith
+
+agrees-or-not-requires : tie.Need-agrees-or-not-requires Inv-loop μ-loop
+agrees-or-not-requires c κs = search needs
 
 same-length : tie.Need-same-length Inv-loop μ-loop
 same-length c = omega arith
@@ -54,8 +57,9 @@ replay-line-spec =
     μ-loop
     returns
     loop-holds
-    replay-as-requires
-    is-none-requires
+    read-as-requires
+    agrees-requires
+    agrees-or-not-requires
     same-length
     returns-2
     add-kind

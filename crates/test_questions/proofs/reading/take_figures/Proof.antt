@@ -9,25 +9,25 @@ use Rattle.test_questions.proofs.reading.take_figures.Statement.{statem
 use Rattle.test_questions.proofs.reading.take_figures.Tie as tie
 
 abbrev Inv-loop : tie.InvT-loop
-Inv-loop line values₀ s₀ turns₀ t7 values s turns = Reached line s × (s₀ .figures ≤ s .figures) × (lineFigures ≤ length values) × (length values ≡ length values₀)
+Inv-loop line values₀ s₀ turns₀ t7 values s turns = Reached line s × (lineFigures ≤ length values) × (length values ≡ length values₀)
 
 abbrev μ-loop : tie.MeasureT-loop
 μ-loop line values₀ s₀ turns₀ t7 values s turns = turns
 
 loop-holds : tie.Need-loop-holds Inv-loop μ-loop
-loop-holds c = let s = c .before .before in (s .pre .0, omega arith, s .pre .1, refl)
+loop-holds c = let s = c .before .before in (s .pre .0, s .pre .1, refl)
 
 slice-aggregate-take-one : tie.Need-slice-aggregate-take-one Inv-loop μ-loop
 slice-aggregate-take-one c = search needs
 
 take-one-requires : tie.Need-take-one-requires Inv-loop μ-loop
-take-one-requires c κs = let v = c .before .before .before .loop .inv in (v .0, v .2)
+take-one-requires c κs = let v = c .before .before .before .loop .inv in (v .0, v .1)
 
 same-length : tie.Need-same-length Inv-loop μ-loop
-same-length c = let t = c .before .before .before .before in t .take-one .kept .1 .1 .1 .0 ∙ t .before .before .before .before .loop .inv .3
+same-length c = let t = c .before .before .before .before in t .take-one .kept .1 .1 .1 .0 ∙ t .before .before .before .before .loop .inv .2
 
 returns : tie.Need-returns Inv-loop μ-loop
-returns c = let v = c .before .before .before .before .before .before .before .before .loop .inv in (v .0, v .1)
+returns c = c .before .before .before .before .before .before .before .before .loop .inv .0
 
 sub-turns : tie.Need-sub-turns Inv-loop μ-loop
 sub-turns c = omega arith
@@ -40,16 +40,14 @@ loop-again c =
     let t = c .before .before .before .before in
     let v = t .before .before .before .before .loop .inv in
     let k = t .take-one .kept .1 .1 .1 .0 in
-    let g = t .take-one .ensures .1 in
-    let a = v .1 in
-    let b = v .2 in
-    (t .take-one .ensures .0, omega arith, omega arith, k ∙ v .3)
+    let b = v .1 in
+    (t .take-one .ensures, omega arith, k ∙ v .2)
 
 same-length-2 : tie.Need-same-length-2 Inv-loop μ-loop
-same-length-2 c = c .before .loop .inv .3
+same-length-2 c = c .before .loop .inv .2
 
 returns-2 : tie.Need-returns-2 Inv-loop μ-loop
-returns-2 c = let v = c .before .loop .inv in (v .0, v .1)
+returns-2 c = c .before .loop .inv .0
 
 pub take-figures-spec : {M : Type 1} → statement M
 take-figures-spec =

@@ -33,12 +33,21 @@ same-bytes-requires-2 c κs = search needs
 
 returns-2 : tie.Need-returns-2
 returns-2 c =
-    let n = c .before .before .before .before .before .before in
+    let n = c .before .before .before .before .before .before .before in
     let s = n .before .before .before .before .pre .0 in
-    (record { within = n .next-token .ensures .within (s .within); few = s .few }, omega arith)
+    record { within = n .next-token .ensures .within (s .within); order = omega arith; few = s .few }
+
+place-among-requires : tie.Need-place-among-requires
+place-among-requires c κs = search needs
 
 returns-3 : tie.Need-returns-3
-returns-3 c = search needs
+returns-3 c =
+    let n = c .before .before .before .before .before .before .before .before in
+    let s = n .before .before .before .before .pre .0 in
+    record { within = n .next-token .ensures .within (s .within); order = s .order; few = s .few }
+
+returns-4 : tie.Need-returns-4
+returns-4 c = search needs
 
 read-figure-requires : tie.Need-read-figure-requires
 read-figure-requires c κs = search needs
@@ -49,8 +58,8 @@ enum-known-x c = search needs
 enum-told : tie.Need-enum-told
 enum-told c = search needs
 
-returns-4 : tie.Need-returns-4
-returns-4 c = search needs
+returns-5 : tie.Need-returns-5
+returns-5 c = search needs
 
 mul-values : tie.Need-mul-values
 mul-values c = search needs
@@ -64,11 +73,11 @@ add-more c = search needs
 same-length : tie.Need-same-length
 same-length c = search needs
 
-returns-5 : tie.Need-returns-5
-returns-5 c =
+returns-6 : tie.Need-returns-6
+returns-6 c =
     let n = c .before .before .before .before .before .before .before .before .before .before in
     let s = n .before .before .before .before .pre .0 in
-    (record { within = n .next-token .ensures .within (s .within); few = omega arith }, omega arith)
+    record { within = n .next-token .ensures .within (s .within); order = omega arith; few = omega arith }
 
 pub take-one-spec : {M : Type 1} → statement M
 take-one-spec =
@@ -83,13 +92,15 @@ take-one-spec =
     same-bytes-requires
     same-bytes-requires-2
     returns-2
+    place-among-requires
     returns-3
+    returns-4
     read-figure-requires
     enum-known-x
     enum-told
-    returns-4
+    returns-5
     mul-values
     slice-write-values
     add-more
     same-length
-    returns-5)
+    returns-6)

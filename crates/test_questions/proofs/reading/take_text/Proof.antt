@@ -11,27 +11,26 @@ use Rattle.test_questions.specs.Parts.{lineFigures, Reached}
 use Rattle.test_questions.proofs.reading.take_text.Statement.{statement}
 use Rattle.test_questions.proofs.reading.take_text.Tie as tie
 
-record SoFar (line template : List ℕ) (before after : List Float) (c s : Cursor) (i : ℕ) : Type 0 where
+record SoFar (line template : List ℕ) (before after : List Float) (s : Cursor) (i : ℕ) : Type 0 where
   place : i ≤ length template
   reached : Reached line s
-  grows : c .figures ≤ s .figures
   room : lineFigures ≤ length after
   same : length after ≡ length before
 
 abbrev Inv-loop : tie.InvT-loop
-Inv-loop line template values₀ s₀ i₀ t10 values s i = SoFar line template values₀ values s₀ s i
+Inv-loop line template values₀ s₀ i₀ t10 values s i = SoFar line template values₀ values s i
 
 abbrev μ-loop : tie.MeasureT-loop
 μ-loop line template values₀ s₀ i₀ t10 values s i = length template - i
 
 loop-holds : tie.Need-loop-holds Inv-loop μ-loop
-loop-holds c = let s = c .before .before .before in record { place = omega arith; reached = s .pre .0; grows = omega arith; room = s .pre .1; same = refl }
+loop-holds c = let s = c .before .before .before in record { place = omega arith; reached = s .pre .0; room = s .pre .1; same = refl }
 
 same-length : tie.Need-same-length Inv-loop μ-loop
 same-length c = c .before .before .before .loop .inv .same
 
 returns : tie.Need-returns Inv-loop μ-loop
-returns c = let v = c .before .before .before .loop .inv in (v .reached, v .grows)
+returns c = let v = c .before .before .before .loop .inv in v .reached
 
 next-token-requires : tie.Need-next-token-requires Inv-loop μ-loop
 next-token-requires c κs = search needs
@@ -40,7 +39,7 @@ same-length-2 : tie.Need-same-length-2 Inv-loop μ-loop
 same-length-2 c = c .before .before .before .before .before .loop .inv .same
 
 returns-2 : tie.Need-returns-2 Inv-loop μ-loop
-returns-2 c = let v = c .before .before .before .before .before .loop .inv in (v .reached, v .grows)
+returns-2 c = let v = c .before .before .before .before .before .loop .inv in v .reached
 
 sub-same-bytes : tie.Need-sub-same-bytes Inv-loop μ-loop
 sub-same-bytes c = omega arith
@@ -76,10 +75,8 @@ loop-again c =
     let n = t .before .before .before .before .before .before .before in
     let v = n .before .before .before .before .loop .inv in
     let k = t .take-figures .kept .1 .1 .0 in
-    let g = t .take-figures .ensures .1 in
-    let a = v .grows in
     let b = v .room in
-    record { place = n .next-token .ensures .within (v .place); reached = t .take-figures .ensures .0; grows = omega arith; room = omega arith; same = k ∙ v .same }
+    record { place = n .next-token .ensures .within (v .place); reached = t .take-figures .ensures; room = omega arith; same = k ∙ v .same }
 
 sub-take-one : tie.Need-sub-take-one Inv-loop μ-loop
 sub-take-one c = omega arith
@@ -109,16 +106,14 @@ loop-again-2 c =
     let n = t .before .before .before .before .before .before .before .before in
     let v = n .before .before .before .before .loop .inv in
     let k = t .take-one .kept .1 .1 .1 .0 in
-    let g = t .take-one .ensures .1 in
-    let a = v .grows in
     let b = v .room in
-    record { place = n .next-token .ensures .within (v .place); reached = t .take-one .ensures .0; grows = omega arith; room = omega arith; same = k ∙ v .same }
+    record { place = n .next-token .ensures .within (v .place); reached = t .take-one .ensures; room = omega arith; same = k ∙ v .same }
 
 same-length-3 : tie.Need-same-length-3 Inv-loop μ-loop
 same-length-3 c = c .before .loop .inv .same
 
 returns-3 : tie.Need-returns-3 Inv-loop μ-loop
-returns-3 c = let v = c .before .loop .inv in (v .reached, v .grows)
+returns-3 c = let v = c .before .loop .inv in v .reached
 
 pub take-text-spec : {M : Type 1} → statement M
 take-text-spec =
