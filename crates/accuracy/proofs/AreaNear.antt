@@ -1,5 +1,5 @@
 -- The area that the call gives for a trapezoid is near the exact one, whatever the number of its strip's pieces. Assumes nothing.
-use mathlib.Core.Path.{_≡_, refl, sym, ap, _∙_, subst}
+use mathlib.Core.Path.{_≡_, sym, ap, _∙_, subst}
 use mathlib.Core.Bool.{Bool, true, false, not, _&&_}
 use mathlib.Core.List.{List, [], _∷_}
 use Prim.Native.Nat.{ℕ, suc, _+_, _*_, _^_, _≤_, _<_}
@@ -9,19 +9,14 @@ use lib.Dec.{T, leb, leb→le, nleb→lt, le→leb, lit≤}
 use lib.ListN.{length}
 use lib.Pow.{pow-pos}
 use lib.IntN.{pos}
-use lib.Ieee.{Float, binary64, ofBits, le}
-use lib.Ieee.Fits.{and-i, div-fits}
+use lib.Ieee.{Float}
+use lib.Ieee.Fits.{and-i}
 use lib.Ieee.Scale.{finite}
 use lib.Ieee.Positive.{num, den, den-pos, positive, positive-finite}
 use Rattle.floats.specs.Operations.{_⊕_, _⊗_, _⊘_, bits, at}
 use Rattle.floats.specs.Fractions.{_over_, _plus_ as sum, _times_ as product, valueOf as fractionOf}
-use Rattle.floats.proofs.Bools.{of-true}
-use Rattle.floats.proofs.Order.{lt-asym, le-of-not}
-use Rattle.rounding.proofs.Monotone.{div-mono}
-use Rattle.rounding.proofs.Ordered.{order→le}
-use Rattle.rounding.proofs.Signed.{over, Leq, leq-same}
-use Rattle.rounding.proofs.Signs.{minus as isMinus, finite-no-nan}
-use Rattle.rounding.proofs.Sizes.{positive-of, div-below, weaker, zero-below}
+use Rattle.rounding.proofs.Signed.{over}
+use Rattle.rounding.proofs.Sizes.{positive-of, weaker}
 use Rattle.rounding_error.specs.Distances.{Within as Apart}
 use Rattle.rounding_error.proofs.Numbers.{Number, number, Size, _per_, _by_, _plus_, _times_, _roundoffs_, Near, IsNumber, valueOf, zeroNumber}
 use Rattle.rounding_error.proofs.Numbers.{sizeOf, Ranges}
@@ -37,7 +32,7 @@ use Rattle.planforms.specs.declared.Planform.{Planform}
 use Rattle.planforms.specs.declared.Planform.the-variants.{Trapezoid}
 use Rattle.planforms.proofs.Sized.{Sized}
 use Rattle.integrands.specs.Integrands.{scaleOf, areaThree}
-use Rattle.integrands.proofs.Scales.{scale-sized}
+use Rattle.integrands.proofs.Scales.{Scale, scale-sized}
 use Rattle.quadrature.specs.declared.Piece.{Piece}
 use Rattle.tolerance.specs.Bounds.{sumFrom, totalOf}
 use Rattle.fins.proofs.Accepted.{area-limit}
@@ -48,7 +43,6 @@ use Rattle.accuracy.proofs.OnePiece.{exactArea}
 use Rattle.accuracy.proofs.Given.{Lengths}
 use Rattle.accuracy.proofs.Whole.{positive-value}
 use Rattle.accuracy.proofs.Called.{total-is, width-there, width-missing}
-use Rattle.accuracy.proofs.StripEnds.{lower-none}
 use Rattle.accuracy.proofs.Integrals.{from-zero}
 use Rattle.accuracy.proofs.Quadratic.{integral}
 use Rattle.accuracy.proofs.Parts.{Cubic}
@@ -58,10 +52,10 @@ use Rattle.accuracy.proofs.AreaIntegrals.{widthE}
 use Rattle.accuracy.proofs.ChordEnds as Chord
 use Rattle.accuracy.proofs.WidthPieces as Widths
 use Rattle.accuracy.proofs.StripPieces as Strip
-use Rattle.accuracy.proofs.StripPieces.{InStrip, value-of}
 use Rattle.accuracy.proofs.PieceSums as Sums
 use Rattle.accuracy.proofs.WidthSums.{any-summed, wide-summed}
-use Rattle.accuracy.proofs.Near.{figures-given, sized, sizes, span-above, ends-apart, stripPieces, pieces-counted}
+use Rattle.accuracy.proofs.WholeStrip.{lower-value, strip-kept}
+use Rattle.accuracy.proofs.Near.{figures-given, sized, sizes, span-above, stripPieces, pieces-counted}
 
 ruleset plain = (sorted, one-mul, mul-one, zero-mul, mul-zero, zero-add, add-zero)
 
@@ -103,13 +97,6 @@ apart root tip span area m c C r t p n =
     (error-is span m c p) (value-fraction area (n .finite)) (exact-is root tip span r t (positive-finite span p)) (n .within)
 
 -- ---- from the strip's sum to the area
--- a number of nothing is nothing
-no-value : (x : Float) → T (finite x) → T (le (bits 0) x) → num x ≡ 0 → valueOf x equals zeroNumber
-no-value x f z e = trans (den-pos x) (value-of x f z) (record { same = go (num x) (den x) e })
-  where
-    go : (N D : ℕ) → N ≡ 0 → N * 1 + 0 * D ≡ 0 * D + 0 * 1
-    go N D e = rw e (omega arith)
-
 -- the counts of the last three operations
 last : (n M : ℕ) → 1 ≤ n → suc (8 * n) * 2 + (suc (8 * n) * 0 + 1 * (4 + 24 * n + n * M)) ≤ n * (M + 46)
 last n M h = simp plain (omega arith)
@@ -245,11 +232,6 @@ more-spans root tip span area n b d c e K E l h =
     go N D h = let x = simp plain at h in simp plain (omega (arith, x))
 
 -- ---- the call
--- nothing has no sign that counts
-none-above : (s : Bool) (X Y : ℕ) → X ≡ 0 → Y ≡ 0 → Leq false X s Y
-none-above true X Y e f = omega (arith, e, f)
-none-above false X Y e f = omega (arith, e, f)
-
 module _ (root tip span sweep : Float) (points : List Float) (L : ℕ) (entry : List Float) (r : Area) (exit : List Float)
     (g : AreaGiven root tip span sweep points L entry r exit) where
   abbrev Shape : Planform
@@ -270,43 +252,6 @@ module _ (root tip span sweep : Float) (points : List Float) (L : ℕ) (entry : 
   span-positive : T (positive span)
   span-positive = positive-of span 20 (shape-sized .1 .1 .0 .not-minus) (shape-sized .1 .1 .0 .above)
 
-  low-none : num low ≡ 0
-  low-none = none (num low) (den low) (lower-none scale (scale-sized Shape points shape-sized .is-positive) .size)
-    where
-      none : (N D : ℕ) → N * 1 ≤ 0 * D → N ≡ 0
-      none N D h = omega arith
-
-  low-finite : T (finite low)
-  low-finite = lower-none scale (scale-sized Shape points shape-sized .is-positive) .finite
-
-  low-from-zero : T (le (bits 0) low)
-  unfolding ofBits
-  low-from-zero = order→le (bits 0) low tt low-finite (none-above (isMinus low) (0 * den low) (num low * 1) (omega arith) (rw low-none (omega arith)))
-
-  in-strip : InStrip high low high
-  in-strip =
-      let q = scale-sized Shape points shape-sized in
-      let zero-below' = weaker (bits 0) 0 6 (omega arith) zero-below in
-      let span-below = shape-sized .1 .1 .0 .length .below in
-      let high-below = div-below span scale 6 20 (omega arith) span-below (q .above) in
-      record {
-        in-order = record {
-          lower-f64 = div-fits binary64 (bits 0) scale;
-          upper-f64 = div-fits binary64 span scale;
-          lower-below = div-below (bits 0) scale 6 20 (omega arith) zero-below' (q .above);
-          upper-below = high-below;
-          ordered = div-mono binary64 (bits 0) span scale (zero-below' .finite) (span-below .finite) (q .is-positive)
-              (of-true _ (le-of-not (bits 0) span (finite-no-nan (bits 0) (zero-below' .finite)) (finite-no-nan span (span-below .finite))
-              (lt-asym (bits 0) span (span-above root tip span sweep points L entry r exit g))));
-        };
-        from-zero = low-from-zero;
-        to-upper = order→le high high (high-below .finite) (high-below .finite)
-            (leq-same (isMinus high) (num high * den high) (num high * den high) refl);
-      }
-
-  low-value : valueOf low equals zeroNumber
-  low-value = no-value low low-finite low-from-zero low-none
-
   abbrev pieces : List Piece
   pieces = stripPieces root tip span sweep points L entry r exit g
 
@@ -320,6 +265,12 @@ module _ (root tip span sweep : Float) (points : List Float) (L : ℕ) (entry : 
       ∙ ap (λ (x : Float). x ⊗ scale ⊗ scale)
       (total-is root tip span sweep points L (span-above root tip span sweep points L entry r exit g) 0 (lit≤ tt))
 
+  scaled : Scale scale
+  scaled = scale-sized Shape points shape-sized
+
+  low-value : valueOf low equals zeroNumber
+  low-value = lower-value span scale (shape-sized .1 .1 .0) scaled
+
   module _ (b d : ℕ) (l : Lengths root tip span sweep scale (b per d)) where
     abbrev B : Size
     B = b per d
@@ -329,9 +280,8 @@ module _ (root tip span sweep : Float) (points : List Float) (L : ℕ) (entry : 
 
     kept : Sums.Kept root tip span sweep scale B l 3 (areaThree Shape points) low pieces × (length pieces ≤ 64)
     kept =
-        Sums.halving-kept root tip span sweep scale B l 3 (areaThree Shape points) low L
-        (ends-apart root tip span sweep points L entry r exit g) in-strip
-        low-value (area-limit Shape points L (length entry) (figures-given root tip span sweep points L entry r exit g .accepted) .1)
+        strip-kept root tip span sweep scale B l (shape-sized .1 .1 .0) scaled 3 (areaThree Shape points) L
+        (area-limit Shape points L (length entry) (figures-given root tip span sweep points L entry r exit g .accepted) .1)
 
     area-near : (M K : ℕ) → M ≤ 2 ^ 20 → (M + 46) * K ≤ 8 * 2 ^ 53
         → Valued sumOver (Sums.integralOver root tip span sweep scale B l (Area.width root tip span sweep scale B l) low high) (length pieces * M)

@@ -1,11 +1,13 @@
 -- The seven volume integrals of a fin as polynomials of its lengths, and what it is that seven f64s are near seven numbers. Assumes nothing.
 use mathlib.Core.List.{List, [], _∷_}
-use Prim.Native.Nat.{ℕ}
+use Prim.Native.Nat.{ℕ, _*_}
+use native.Mathlib.Nat.{mul-le-mul-right}
 use lib.Ieee.{Float}
 use Rattle.floats.specs.Operations.{at}
-use Rattle.rounding_error.proofs.Numbers.{Number, Size, _by_, valueOf}
+use Rattle.rounding_error.proofs.Numbers.{Number, Size, _per_, _by_, _upto_, IsSize, valueOf}
+use Rattle.rounding_error.proofs.Distances.{sorted}
 use Rattle.rounding_error.proofs.Counts as Counts
-use Rattle.rounding_error.proofs.Chains.{Valued}
+use Rattle.rounding_error.proofs.Chains.{Valued, resized}
 use Rattle.rounding_error.proofs.Polynomials.{AllNumbers, Expression, given, ratio, _add_, _take_, _mul_, evaluate, among}
 use Rattle.accuracy.specs.Masses.{Plate}
 
@@ -27,6 +29,35 @@ pub record SevenNear (v : List Float) (n : Seven) (k j : ℕ) (K Λ : Size) : Ty
   pub x2 : Valued (at v 4) (n .x2) k j (K by ((Λ by Λ) by (Λ by Λ)))
   pub rx : Valued (at v 5) (n .rx) k j (K by ((Λ by Λ) by (Λ by Λ)))
   pub tau2 : Valued (at v 6) (n .tau2) k j (K by ((Λ by Λ) by (Λ by Λ)))
+
+-- in a larger unit
+pub seven-resized : {v : List Float} {n : Seven} {k j : ℕ} (K K' Λ : Size) → IsSize K → IsSize Λ → K upto K' → SevenNear v n k j K Λ
+    → SevenNear v n k j K' Λ
+seven-resized K K' Λ C D l h =
+    record {
+      volume = in-larger (Λ by Λ) d2 (h .volume);
+      r1 = in-larger (Λ by (Λ by Λ)) d3 (h .r1);
+      r2 = in-larger ((Λ by Λ) by (Λ by Λ)) d4 (h .r2);
+      x1 = in-larger (Λ by (Λ by Λ)) d3 (h .x1);
+      x2 = in-larger ((Λ by Λ) by (Λ by Λ)) d4 (h .x2);
+      rx = in-larger ((Λ by Λ) by (Λ by Λ)) d4 (h .rx);
+      tau2 = in-larger ((Λ by Λ) by (Λ by Λ)) d4 (h .tau2);
+    }
+  where
+    d2 : IsSize (Λ by Λ)
+    d2 = Counts.by-is Λ Λ D D
+
+    d3 : IsSize (Λ by (Λ by Λ))
+    d3 = Counts.by-is Λ (Λ by Λ) D d2
+
+    d4 : IsSize ((Λ by Λ) by (Λ by Λ))
+    d4 = Counts.by-is (Λ by Λ) (Λ by Λ) d2 d2
+
+    larger : (A B C : Size) → A upto B → (A by C) upto (B by C)
+    larger (a per d) (b per e) (c per f) h = let x = simp sorted at (mul-le-mul-right (c * f) h) in simp sorted x
+
+    in-larger : {x : Float} {w : Number} {k j : ℕ} (X : Size) → IsSize X → Valued x w k j (K by X) → Valued x w k j (K' by X)
+    in-larger X i h = resized (K by X) (K' by X) (Counts.by-is K X C i) (larger K K' X l) h
 
 abbrev pub sevenOf : List Number → Expression → Expression → Expression → Expression → Expression → Expression → Expression → Seven
 sevenOf l a b c d e f g =

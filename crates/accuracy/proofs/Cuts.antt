@@ -4,7 +4,7 @@
 use mathlib.Core.Path.{_≡_, subst}
 use mathlib.Core.Bool.{true, false}
 use mathlib.Core.List.{[], _∷_}
-use Prim.Native.Nat.{ℕ, _+_, _*_, _^_, _≤_, _<_}
+use Prim.Native.Nat.{ℕ, _+_, _*_, _^_, _≤_, _<_, zero-le}
 use native.Mathlib.Nat.{mul-pos, mul-le-mul-right, le-of-mul-le-mul-right, one-mul, mul-one, zero-mul, mul-zero, zero-add, add-zero}
 use native.Mathlib.Omega.{arith}
 use lib.Dec.{T, ltb→lt}
@@ -57,6 +57,9 @@ share-under (number X Y Z) s = record { below = low X Y Z (s .1); above = high X
 
     high : (X Y Z : ℕ) → Y ≤ X → (0 * Z + Y * 1) * 1 ≤ (X * 1 + 0 * Z) * 1 + 1 * 1 * (1 * Z)
     high X Y Z h = omega arith
+
+pub wide-under : (A D C : ℕ) → A + D ≤ C → Under (1 of one) (number D 0 C)
+wide-under A D C h = share-under (number D 0 C) (zero-le, omega arith)
 
 pub middle-inner : Inner middle
 middle-inner = (omega arith, omega arith)

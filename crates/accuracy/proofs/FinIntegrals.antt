@@ -1,30 +1,28 @@
--- The volume integrals of a fin of square section whose strip is one piece are near their closed forms: ∫r, ∫r², ∫x², ∫rx and ∫τ² by one law from
--- their samples, which are polynomials of the fraction of the span, V and ∫x by proofs/PlateIntegrals and proofs/PlateMoments. Assumes nothing.
-use mathlib.Core.Path.{_≡_, sym, subst}
+-- The volume integrals of a fin of square section are near their closed forms: ∫r, ∫r², ∫x², ∫rx and ∫τ² by one law from their samples, which are
+-- polynomials of the fraction of the span, V and ∫x by proofs/PlateIntegrals and proofs/PlateMoments. Assumes nothing.
 use mathlib.Core.Bool.{_&&_}
 use mathlib.Core.List.{List, [], _∷_}
-use Prim.Native.Nat.{ℕ, suc, _+_, _*_, _^_, _≤_}
+use Prim.Native.Nat.{ℕ, suc, _+_, _*_, _≤_}
 use native.Mathlib.Omega.{arith}
 use lib.Dec.{T, lit≤}
-use lib.Pow.{pow-pos}
-use lib.Ieee.{Float, ofBits}
+use lib.Ieee.{Float}
 use lib.Ieee.Scale.{finite}
-use lib.Ieee.Positive.{num, den, den-pos, positive, positive-finite}
+use lib.Ieee.Positive.{num, den, den-pos, positive}
 use Rattle.floats.specs.Operations.{_⊕_, _⊖_, _⊗_, _⊘_, bits, at}
 use Rattle.floats.specs.Constants.{three, twelve}
 use Rattle.floats.specs.Floats.{cube, fourth, fifth}
 use Rattle.plates.specs.Integrals.{unscaledOf}
-use Rattle.rounding_error.proofs.Numbers.{Number, Size, _per_, _plus_, _less_, _times_, _by_, _for_, _of_, _upto_, IsNumber, Under, valueOf}
+use Rattle.rounding_error.proofs.Numbers.{Number, number, Size, _per_, _plus_, _times_, _by_, _for_, _of_, _roundoffs_, _upto_, IsNumber, Within}
+use Rattle.rounding_error.proofs.Numbers.{Under, valueOf, zeroNumber}
 use Rattle.rounding_error.proofs.Numbers.{sizeOf, InRange, Ranges}
 use Rattle.rounding_error.proofs.Ranges.{ranges-by, ranges-for, in-range}
 use Rattle.rounding_error.proofs.Counts as Counts
 use Rattle.rounding_error.proofs.Counts.{value-is}
-use Rattle.rounding_error.proofs.Chains.{Valued, some, few, inverse, under-inverse, counted, equalled, resized, exactly}
-use Rattle.rounding_error.proofs.Chains.{zero-valued, plus-valued, less-valued, times-valued, over-valued}
-use Rattle.rounding_error.proofs.Polynomials.{_equals_, by-left, times-is, AllNumbers, Expression, given, ratio, _add_}
+use Rattle.rounding_error.proofs.Chains.{Valued, some, few, inverse, inverse-is, under-inverse, equalled, resized, exactly}
+use Rattle.rounding_error.proofs.Chains.{plus-valued, less-valued, times-valued, over-valued}
+use Rattle.rounding_error.proofs.Polynomials.{_equals_, trans, by-left, times-is, AllNumbers, Expression, given, ratio, _add_}
 use Rattle.rounding_error.proofs.Polynomials.{_take_, _mul_, evaluate, among, normal, vanishes, equal-by, evaluated-is}
 use Rattle.accuracy.proofs.Samples.{one, quarter}
-use Rattle.accuracy.proofs.OnePiece.{centreOf}
 use Rattle.accuracy.proofs.Given.{Lengths}
 use Rattle.accuracy.proofs.Ends.{halfSize}
 use Rattle.accuracy.proofs.Areas.{half-ranges}
@@ -32,49 +30,49 @@ use Rattle.accuracy.proofs.Weighted.{middle}
 use Rattle.accuracy.proofs.Width.{under-one}
 use Rattle.accuracy.proofs.ChordEnds as Chord
 use Rattle.accuracy.proofs.AreaSamples as Area
-use Rattle.accuracy.proofs.Integrals.{from-zero, parted, totalOver, totalError, sumSize}
+use Rattle.accuracy.proofs.Integrals.{from-zero, parted, totalError, sumSize}
 use Rattle.accuracy.proofs.Unscaled as Unscaled
 use Rattle.accuracy.proofs.Unscaled.{startE, endE, thickE, m0E, m1E, startSlope, endSlope, m1Second, integralE, onesE, fourthE, fifthE}
 use Rattle.accuracy.proofs.PlateIntegrals as Plates
 use Rattle.accuracy.proofs.PlateMoments as Moments
 use Rattle.accuracy.proofs.Constants.{three-inverse, three-positive, three-ranges, twelve-inverse, twelve-positive, twelve-ranges}
-use Rattle.accuracy.proofs.FinUnits.{swapped, third-in, half-in, by-three, by-twelve, per-scale, left-four, left-five, quarters, eighths}
-use Rattle.accuracy.proofs.Cubics.{replaced, halfE, raised, bothE, twiceE, fill, quadratic, second-under}
+use Rattle.accuracy.proofs.FinUnits.{swapped, third-in, half-in, by-three, by-twelve, last-in, twelfth-in, per-scale, left-four, left-five}
+use Rattle.accuracy.proofs.FinUnits.{quarters, eighths}
+use Rattle.accuracy.proofs.Quadratic.{Quadratic, integral}
+use Rattle.accuracy.proofs.Cubics.{replaced, halfE, raised, fill, quadratic}
+use Rattle.accuracy.proofs.Parts.{Cubic, cubic-by, Parabola, parabola-by}
+use Rattle.accuracy.proofs.PlateSamples.{narrow-valued}
 use Rattle.accuracy.proofs.ClosedForms.{SevenNear, sevenOf, volumeE, r1E, r2E, x1E, x2E, rxE, tau2E}
 
-zero-value : (U : Number) → IsNumber U → valueOf (bits 0) equals U times (middle less middle)
-unfolding ofBits
-zero-value U i = equal-by (U ∷ []) (i, tt) (ratio 0 0) (given 0 mul (halfE take halfE)) tt
-
 -- ---- the samples' exact values, in the places of proofs/Unscaled
-abbrev radiusE : Expression
+abbrev pub radiusE : Expression
 radiusE = given 6 mul given 7 add given 3 mul given 7 mul given 0
 
 -- the moments M_2 and T of a chord
-abbrev m2E : Expression
+abbrev pub m2E : Expression
 m2E = thickE mul (endE mul (endE mul endE) take startE mul (startE mul startE)) mul ratio 1 2
 
-abbrev tE : Expression
+abbrev pub tE : Expression
 tE = thickE mul (thickE mul thickE) mul (endE take startE) mul ratio 1 11
 
 -- how radius and width change with the fraction
-abbrev radiusSlope : Expression
+abbrev pub radiusSlope : Expression
 radiusSlope = given 3 mul given 7
 
-abbrev widthSlope : Expression
+abbrev pub widthSlope : Expression
 widthSlope = (given 2 take given 1) mul given 7
 
 -- the second coefficients, at the fraction 1/2
-abbrev r1Second : Expression
+abbrev pub r1Second : Expression
 r1Second = ratio 2 0 mul thickE mul radiusSlope mul widthSlope
 
-abbrev r2Second : Expression
+abbrev pub r2Second : Expression
 r2Second = ratio 2 0 mul thickE mul radiusSlope mul (radiusSlope mul (endE take startE) add ratio 2 0 mul radiusE mul widthSlope)
 
-abbrev x2Second : Expression
+abbrev pub x2Second : Expression
 x2Second = ratio 2 0 mul thickE mul (endE mul endSlope mul endSlope take startE mul startSlope mul startSlope)
 
-abbrev rxSecond : Expression
+abbrev pub rxSecond : Expression
 rxSecond = radiusE mul m1Second add ratio 2 0 mul thickE mul radiusSlope mul (endE mul endSlope take startE mul startSlope)
 
 module _ (root tip span sweep scale : Float) (b d : ℕ) (g : Lengths root tip span sweep scale (b per d)) (thickness : Float)
@@ -111,16 +109,6 @@ module _ (root tip span sweep scale : Float) (b d : ℕ) (g : Lengths root tip s
   abbrev Λ : Size
   Λ = b per d
 
-  -- thickness·Λ², thickness·Λ³ and thickness·Λ⁴
-  abbrev W2 : Size
-  W2 = sizeOf thickness by (Λ by Λ)
-
-  abbrev W3 : Size
-  W3 = sizeOf thickness by (Λ by (Λ by Λ))
-
-  abbrev W4 : Size
-  W4 = sizeOf thickness by ((Λ by Λ) by (Λ by Λ))
-
   sp : T (positive scale)
   sp = g .scale-positive
 
@@ -139,16 +127,16 @@ module _ (root tip span sweep scale : Float) (b d : ℕ) (g : Lengths root tip s
   b3 : Ranges 144 (Bs by (Bs by Bs))
   b3 = ranges-by 48 96 Bs (Bs by Bs) br b2
 
-  abbrev A3 : Size
+  abbrev pub A3 : Size
   A3 = TKs by (Bs by Bs)
 
-  abbrev A4 : Size
+  abbrev pub A4 : Size
   A4 = TKs by (Bs by (Bs by Bs))
 
-  a3 : Ranges 144 A3
+  pub a3 : Ranges 144 A3
   a3 = ranges-by 48 96 TKs (Bs by Bs) ks b2
 
-  a4 : Ranges 192 A4
+  pub a4 : Ranges 192 A4
   a4 = ranges-by 48 144 TKs (Bs by (Bs by Bs)) ks b3
 
   abbrev rest : List Number
@@ -160,10 +148,10 @@ module _ (root tip span sweep scale : Float) (b d : ℕ) (g : Lengths root tip s
   are : AllNumbers rest
   are = Unscaled.are root tip span sweep scale b d g thickness Q (value-is radius)
 
-  abbrev valueAt : Expression → Number → Number
+  abbrev pub valueAt : Expression → Number → Number
   valueAt e τ = fill rest τ e
 
-  abbrev atMiddle : Expression → Number
+  abbrev pub atMiddle : Expression → Number
   atMiddle e = fill rest middle e
 
   abbrev closed : Expression → Number
@@ -171,72 +159,6 @@ module _ (root tip span sweep scale : Float) (b d : ℕ) (g : Lengths root tip s
 
   abbrev At : (Float → Float) → Expression → ℕ → ℕ → Size → Type 0
   At = Unscaled.At root tip span sweep scale b d g thickness Q (value-is radius)
-
-  -- ---- proofs/Unscaled's law, in the unit W; how large the second coefficient is follows from the samples
-  at-start : Valued (bits 0) (U times (middle less middle)) 16 2 H
-  at-start =
-      counted (equalled (zero-valued H) (U times (middle less middle)) (times-is U (middle less middle) iU (pow-pos 2)) (zero-value U iU))
-      16 2 (hr .real) tt
-
-  at-end : Valued (span ⊘ scale) (U times (middle plus middle)) 16 2 H
-  at-end =
-      counted
-      (equalled (over-valued scale sp (den-pos span) (in-range 48 H (omega arith) hr) tt
-      (exactly span 1 (sizeOf span) (positive-finite span (g .span-positive)) (Counts.own-size span (g .span-positive))))
-      (U times (middle plus middle)) (times-is U (middle plus middle) iU (pow-pos 2))
-      (equal-by (U ∷ []) (iU, tt) (given 0) (given 0 mul (halfE add halfE)) tt))
-      16 2 (hr .real) tt
-
-  at-half : Valued (centreOf span scale) (U times middle) 16 2 H
-  at-half = counted (Chord.middle-valued root tip span sweep scale (b per d) g) 16 2 (hr .real) tt
-
-  zero-one : Under (1 of one) (middle less middle)
-  zero-one = record { below = omega arith; above = omega arith }
-
-  one-one : Under (1 of one) (middle plus middle)
-  one-one = record { below = omega arith; above = omega arith }
-
-  module _ (k e m n : ℕ) (power : Float) (powerE : Expression) (A D W : Size) (ar : Ranges k A) (dr : Ranges e D)
-      (fk : k ≤ 500) (fe : 48 + (2 + k) + e ≤ 1000) (pv : Valued power (atMiddle powerE) m 1 D) (left : (4 of (H by (quarter by A) by D)) upto W)
-      (y : Float → Float) (v q exact : Expression) (l j : ℕ) (each : At y v l j A)
-      (even-test : T (vanishes (normal (bothE v take twiceE v q))))
-      (exact-test : T (vanishes (normal (replaced halfE (integralE v q powerE) take replaced halfE (onesE n (raised exact)))))) where
-    abbrev r : ℕ
-    r = 4 * (j + j + (j + j))
-
-    abbrev K : ℕ
-    K = totalError l j r
-
-    abbrev J : ℕ
-    J = sumSize j r
-
-    q-under : Under (r of A) (atMiddle q)
-    q-under =
-        second-under (valueAt v) (atMiddle q) j A (ar .real) (quadratic rest are v q even-test)
-        (each (bits 0) (middle less middle) (pow-pos 2) zero-one at-start .size)
-        (each (span ⊘ scale) (middle plus middle) (pow-pos 2) one-one at-end .size)
-        (each (centreOf span scale) middle (pow-pos 1) Chord.half-one at-half .size)
-
-    integral-near : j ≤ 2 ^ 6 → l ≤ 2 ^ 20 → T (some K && some m && few (suc J * 2)) → suc J * 2 + (suc J * m + 1 * K) ≤ 4 * 60000 → J * 1 ≤ 4 * 400
-        → Valued (totalOver root tip span sweep scale (b per d) g y ⊗ power) (closed exact) 60000 400 W
-    integral-near fj fl within errors sizes =
-        parted 4 60000 400 (H by (quarter by A) by D) W
-        (Unscaled.unit-is root tip span sweep scale b d g thickness Q (value-is radius) A D (ar .real) (dr .real)) left errors sizes
-        (Unscaled.integral-valued root tip span sweep scale b d g thickness Q (value-is radius) k e m n power powerE A D ar dr fk fe pv y v q exact l
-        j r each q-under even-test exact-test
-        (omega arith) (omega arith) fl within)
-
-  left4 : (4 of (H by (quarter by A3) by (SS by SS by (SS by SS)))) upto W3
-  left4 = left-four b d (num span) (den span) (num scale) (den scale) (num thickness) (den thickness) deep
-
-  left5 : (4 of (H by (quarter by A4) by (SS by (SS by SS by (SS by SS))))) upto W4
-  left5 = left-five b d (num span) (den span) (num scale) (den scale) (num thickness) (den thickness) deep
-
-  D5r : Ranges 120 (SS by (SS by SS by (SS by SS)))
-  D5r = Unscaled.fifth-ranges root tip span sweep scale b d g thickness Q (value-is radius)
-
-  D5v : Valued (fifth scale) (atMiddle fifthE) 12 1 (SS by (SS by SS by (SS by SS)))
-  D5v = Unscaled.fifth-valued root tip span sweep scale b d g thickness Q (value-is radius)
 
   -- ---- the samples
   abbrev a′ : Float → Float
@@ -290,7 +212,7 @@ module _ (root tip span sweep scale : Float) (b d : ℕ) (g : Lengths root tip s
   in-b3 : InRange (Bs by (Bs by Bs))
   in-b3 = in-range 144 (Bs by (Bs by Bs)) (omega arith) b3
 
-  abbrev halfThick : Size
+  abbrev pub halfThick : Size
   halfThick = halfSize by TKs by (Bs by Bs)
 
   a1 : Ranges 145 halfThick
@@ -321,10 +243,11 @@ module _ (root tip span sweep scale : Float) (b d : ℕ) (g : Lengths root tip s
     m1-valued : Valued (m1At h) (valueAt m1E τ) 2679 17 halfThick
     m1-valued = Moments.sample-valued root tip span sweep scale b d g thickness tp tr h τ i u zh
 
-    r1-valued : Valued (r1At h) (valueAt (radiusE mul m0E) τ) 1193 10 A3
-    r1-valued =
+    -- with M_0 or M_1 itself, or with 0 where the chord is no wider than that
+    r1-of : {x : Float} → Valued x (valueAt m0E τ) 355 5 (TKs by Bs) → Valued (radiusAt h ⊗ x) (valueAt (radiusE mul m0E) τ) 1193 10 A3
+    r1-of v =
         resized (Bs by (TKs by Bs)) A3 (k1 .real) (swapped Bs TKs Bs)
-        (times-valued {A = Bs} {B = TKs by Bs} (br .real) (k0 .real) (in-range 144 (Bs by (TKs by Bs)) (omega arith) k1) tt radius-valued m0-valued)
+        (times-valued {A = Bs} {B = TKs by Bs} (br .real) (k0 .real) (in-range 144 (Bs by (TKs by Bs)) (omega arith) k1) tt radius-valued v)
       where
         k0 : Ranges 96 (TKs by Bs)
         k0 = ranges-by 48 48 TKs Bs ks br
@@ -332,11 +255,12 @@ module _ (root tip span sweep scale : Float) (b d : ℕ) (g : Lengths root tip s
         k1 : Ranges 144 (Bs by (TKs by Bs))
         k1 = ranges-by 48 96 Bs (TKs by Bs) br k0
 
-    r2-valued : Valued (r2At h) (valueAt (radiusE mul radiusE mul m0E) τ) 2400 20 A4
-    r2-valued =
+    r2-of : {x : Float} → Valued x (valueAt m0E τ) 355 5 (TKs by Bs)
+        → Valued (radiusAt h ⊗ radiusAt h ⊗ x) (valueAt (radiusE mul radiusE mul m0E) τ) 2400 20 A4
+    r2-of v =
         resized (Bs by Bs by (TKs by Bs)) A4 (k1 .real) (third-in Bs Bs TKs Bs)
         (times-valued {A = Bs by Bs} {B = TKs by Bs} (b2 .real) (k0 .real) (in-range 192 (Bs by Bs by (TKs by Bs)) (omega arith) k1) tt
-        (times-valued {A = Bs} {B = Bs} (br .real) (br .real) in-b2 tt radius-valued radius-valued) m0-valued)
+        (times-valued {A = Bs} {B = Bs} (br .real) (br .real) in-b2 tt radius-valued radius-valued) v)
       where
         k0 : Ranges 96 (TKs by Bs)
         k0 = ranges-by 48 48 TKs Bs ks br
@@ -353,7 +277,7 @@ module _ (root tip span sweep scale : Float) (b d : ℕ) (g : Lengths root tip s
         (times-valued {A = Bs} {B = Bs by Bs} (br .real) (b2 .real) in-b3 tt start
         (times-valued {A = Bs} {B = Bs} (br .real) (br .real) in-b2 tt start start))
 
-    x2-valued : Valued (x2At h) (valueAt m2E τ) 5625 22 A4
+    pub x2-valued : Valued (x2At h) (valueAt m2E τ) 5625 22 A4
     x2-valued =
         parted 3 5625 22 (A4 for three) A4 (k3 .real) (by-three A4) (omega arith) (omega arith)
         (from-zero 16806 65 (A4 for three) (in-range 194 (A4 for three) (omega arith) k3) (omega arith) (omega arith)
@@ -366,15 +290,15 @@ module _ (root tip span sweep scale : Float) (b d : ℕ) (g : Lengths root tip s
         k3 : Ranges 194 (A4 for three)
         k3 = ranges-for 192 2 A4 three three-positive a4 three-ranges
 
-    rx-valued : Valued (rxAt h) (valueAt (radiusE mul m1E) τ) 4233 17 A4
-    rx-valued =
+    rx-of : {x : Float} → Valued x (valueAt m1E τ) 2679 17 halfThick → Valued (radiusAt h ⊗ x) (valueAt (radiusE mul m1E) τ) 4233 17 A4
+    rx-of v =
         parted 2 4233 17 (Bs by halfThick) A4 (k1 .real) (half-in Bs TKs Bs Bs) (omega arith) (omega arith)
-        (times-valued {A = Bs} {B = halfThick} (br .real) (a1 .real) (in-range 193 (Bs by halfThick) (omega arith) k1) tt radius-valued m1-valued)
+        (times-valued {A = Bs} {B = halfThick} (br .real) (a1 .real) (in-range 193 (Bs by halfThick) (omega arith) k1) tt radius-valued v)
       where
         k1 : Ranges 193 (Bs by halfThick)
         k1 = ranges-by 48 145 Bs halfThick br a1
 
-    tau2-valued : Valued (tau2At h) (valueAt tE τ) 41 1 A4
+    pub tau2-valued : Valued (tau2At h) (valueAt tE τ) 41 1 A4
     tau2-valued =
         parted 12 41 1 (TT by Bs for twelve) A4 (k12 .real) (by-twelve TKs Bs TKs-upto) (omega arith) (omega arith)
         (from-zero 474 5 (TT by Bs for twelve) (in-range 196 (TT by Bs for twelve) (omega arith) k12) (omega arith) (omega arith)
@@ -399,65 +323,187 @@ module _ (root tip span sweep scale : Float) (b d : ℕ) (g : Lengths root tip s
         k12 : Ranges 196 (TT by Bs for twelve)
         k12 = ranges-for 192 4 (TT by Bs) twelve twelve-positive kb twelve-ranges
 
-  -- ---- the integrals
-  abbrev pub total : (Float → Float) → Float
-  total = totalOver root tip span sweep scale (b per d) g
+    pub r1-valued : Valued (r1At h) (valueAt (radiusE mul m0E) τ) 1193 10 A3
+    r1-valued = r1-of m0-valued
 
-  volume-near : Valued (total m0At ⊗ cube scale) (closed volumeE) 60000 400 W2
-  volume-near =
-      parted 4 60000 400 (Plates.unit root tip span sweep scale b d g thickness tp tr) W2
-      (Plates.unit-ranges root tip span sweep scale b d g thickness tp tr .real)
-      (quarters b d (num span) (den span) (num thickness) (den thickness) deep) (omega arith) (omega arith)
-      (Plates.volume-valued root tip span sweep scale b d g thickness tp tr)
+    pub r2-valued : Valued (r2At h) (valueAt (radiusE mul radiusE mul m0E) τ) 2400 20 A4
+    r2-valued = r2-of m0-valued
 
-  x1-near : Valued (total m1At ⊗ fourth scale) (closed x1E) 60000 400 W3
-  x1-near =
-      parted 8 60000 400 (Moments.momentUnit root tip span sweep scale b d g thickness tp tr) W3
-      (Moments.moment-ranges root tip span sweep scale b d g thickness tp tr .real)
-      (eighths b d (num span) (den span) (num thickness) (den thickness) deep) (omega arith) (omega arith)
-      (Moments.moment-valued root tip span sweep scale b d g thickness tp tr)
+    pub rx-valued : Valued (rxAt h) (valueAt (radiusE mul m1E) τ) 4233 17 A4
+    rx-valued = rx-of m1-valued
 
-  r1-near : Valued (total r1At ⊗ fourth scale) (closed r1E) 60000 400 W3
-  r1-near =
-      integral-near 144 96 10 4 (fourth scale) fourthE A3 (SS by SS by (SS by SS)) W3 a3
-      (Unscaled.fourth-ranges root tip span sweep scale b d g thickness Q (value-is radius))
-      (omega arith) (omega arith) (Unscaled.fourth-valued root tip span sweep scale b d g thickness Q (value-is radius)) left4
-      r1At (radiusE mul m0E) r1Second r1E 1193 10 r1-valued tt tt (omega arith) (omega arith) tt (lit≤ tt) (lit≤ tt)
+    -- ---- where the chord is no wider than 0
+    module _ (n : Within (163 roundoffs Bs) (Area.width root tip span sweep scale (b per d) g τ) zeroNumber) where
+      abbrev none : Float
+      none = bits 0 ⊕ bits 0
 
-  r2-near : Valued (total r2At ⊗ fifth scale) (closed r2E) 60000 400 W4
-  r2-near =
-      integral-near 192 120 12 5 (fifth scale) fifthE A4 (SS by (SS by SS by (SS by SS))) W4 a4 D5r (omega arith) (omega arith) D5v left5
-      r2At (radiusE mul radiusE mul m0E) r2Second r2E 2400 20 r2-valued tt tt (omega arith) (omega arith) tt (lit≤ tt) (lit≤ tt)
+      pub r1-narrow : Valued (radiusAt h ⊗ none) (valueAt (radiusE mul m0E) τ) 1193 10 A3
+      r1-narrow = r1-of (Plates.plate-narrow root tip span sweep scale b d g thickness tp tr h τ i u zh n)
 
-  rx-near : Valued (total rxAt ⊗ fifth scale) (closed rxE) 60000 400 W4
-  rx-near =
-      integral-near 192 120 12 5 (fifth scale) fifthE A4 (SS by (SS by SS by (SS by SS))) W4 a4 D5r (omega arith) (omega arith) D5v left5
-      rxAt (radiusE mul m1E) rxSecond rxE 4233 17 rx-valued tt tt (omega arith) (omega arith) tt (lit≤ tt) (lit≤ tt)
+      pub r2-narrow : Valued (radiusAt h ⊗ radiusAt h ⊗ none) (valueAt (radiusE mul radiusE mul m0E) τ) 2400 20 A4
+      r2-narrow = r2-of (Plates.plate-narrow root tip span sweep scale b d g thickness tp tr h τ i u zh n)
 
-  x2-near : Valued (total x2At ⊗ fifth scale) (closed x2E) 60000 400 W4
-  x2-near =
-      integral-near 192 120 12 5 (fifth scale) fifthE A4 (SS by (SS by SS by (SS by SS))) W4 a4 D5r (omega arith) (omega arith) D5v left5
-      x2At m2E x2Second x2E 5625 22 x2-valued tt tt (omega arith) (omega arith) tt (lit≤ tt) (lit≤ tt)
+      pub rx-narrow : Valued (radiusAt h ⊗ none) (valueAt (radiusE mul m1E) τ) 4233 17 A4
+      rx-narrow = rx-of (Moments.sample-narrow root tip span sweep scale b d g thickness tp tr h τ i u zh n)
 
-  tau2-near : Valued (total tau2At ⊗ fifth scale) (closed tau2E) 60000 400 W4
-  tau2-near =
-      integral-near 192 120 12 5 (fifth scale) fifthE A4 (SS by (SS by SS by (SS by SS))) W4 a4 D5r (omega arith) (omega arith) D5v left5
-      tau2At tE (ratio 0 0) tau2E 41 1 tau2-valued tt tt (omega arith) (omega arith) tt (lit≤ tt) (lit≤ tt)
+      width-number : IsNumber (valueAt (endE take startE) τ)
+      width-number = evaluated-is (τ ∷ rest) (i, are) (endE take startE)
 
-  -- ---- the seven of totals t, in metres
-  called : {x y : Float} {v : Number} {W : Size} (power : Float) → Valued (y ⊗ power) v 60000 400 W → x ≡ y → Valued (x ⊗ power) v 60000 400 W
-  called {v = v} {W = W} power h e = subst (λ (t : Float). Valued (t ⊗ power) v 60000 400 W) (sym e) h
+      -- thickness·(end² + end·start + start²)/3
+      pub x2-narrow : Valued none (valueAt m2E τ) 5625 22 A4
+      x2-narrow =
+          let a = valueAt startE τ in
+          let e = valueAt endE τ in
+          let ia = start .is in
+          let ie = end .is in
+          let three′ = (e times e plus e times a) plus a times a in
+          let it : IsNumber three′ = evaluated-is (e ∷ a ∷ []) (ie, (ia, tt)) (given 0 mul given 0 add given 0 mul given 1 add given 1 mul given 1) in
+          let E = (endE mul endE add endE mul startE add startE mul startE) mul ratio 1 2 in
+          let uT : Under (21 of (Bs by Bs)) three′ =
+          Counts.under-plus 20 1 (Bs by Bs) (e times e plus e times a) (a times a) (b2 .real)
+          (Counts.under-plus 16 4 (Bs by Bs) (e times e) (e times a) (b2 .real)
+          (Counts.under-times 4 4 Bs Bs e e (br .real) (br .real) ie (end .size) (end .size))
+          (Counts.under-times 4 1 Bs Bs e a (br .real) (br .real) ie (end .size) (start .size)))
+          (Counts.under-times 1 1 Bs Bs a a (br .real) (br .real) ia (start .size) (start .size)) in
+          let third : Under (21 of (Bs by Bs)) (valueAt E τ) = under-one 21 1 (Bs by Bs) three′ (number 1 0 3) (b2 .real) it uT third-one in
+          narrow-valued (valueAt m2E τ) (valueAt (thickE mul E) τ) (valueAt (endE take startE) τ) 21 5625 22 1 A3 Bs A4 (a3 .real) (br .real)
+          (in-range 192 (A3 by Bs) (omega arith) (ranges-by 144 48 A3 Bs a3 br)) (last-in TKs Bs Bs Bs) (omega arith)
+          (evaluated-is (τ ∷ rest) (i, are) (thickE mul E)) width-number
+          (equal-by (τ ∷ rest) (i, are) (thickE mul E mul (endE take startE)) m2E tt)
+          (Counts.under-times 1 21 TKs (Bs by Bs) (Tk times σ) (valueAt E τ) (ks .real) (b2 .real) (t-valued .is) (t-valued .size) third) n
+          (x2-valued .size) (x2-valued .is)
+        where
+          third-one : Under (1 of one) (number 1 0 3)
+          third-one = record { below = omega arith; above = omega arith }
 
-  pub seven-near : (t : List Float) → at t 0 ≡ total m0At → at t 1 ≡ total r1At → at t 2 ≡ total r2At → at t 3 ≡ total m1At → at t 4 ≡ total x2At
-      → at t 5 ≡ total rxAt → at t 6 ≡ total tau2At
-      → SevenNear (unscaledOf t scale) (sevenOf rest volumeE r1E r2E x1E x2E rxE tau2E) 60000 400 (sizeOf thickness) (b per d)
-  seven-near t e0 e1 e2 e3 e4 e5 e6 =
-      record {
-        volume = called (cube scale) volume-near e0;
-        r1 = called (fourth scale) r1-near e1;
-        r2 = called (fifth scale) r2-near e2;
-        x1 = called (fourth scale) x1-near e3;
-        x2 = called (fifth scale) x2-near e4;
-        rx = called (fifth scale) rx-near e5;
-        tau2 = called (fifth scale) tau2-near e6;
-      }
+      -- thickness³/12
+      pub tau2-narrow : Valued none (valueAt tE τ) 41 1 A4
+      tau2-narrow =
+          let k2 : Ranges 96 (TKs by TKs) = ranges-by 48 48 TKs TKs ks ks in
+          let k3 : Ranges 144 TT = ranges-by 48 96 TKs (TKs by TKs) ks k2 in
+          let k12 : Ranges 148 (TT for twelve) = ranges-for 144 4 TT twelve twelve-positive k3 twelve-ranges in
+          let T3 = (Tk times σ) times ((Tk times σ) times (Tk times σ)) in
+          let iT : IsNumber T3 = evaluated-is (τ ∷ rest) (i, are) (thickE mul (thickE mul thickE)) in
+          let u2 = Counts.under-times 1 1 TKs TKs (Tk times σ) (Tk times σ) (ks .real) (ks .real) (t-valued .is) (t-valued .size) (t-valued .size) in
+          let u3 = Counts.under-times 1 1 TKs (TKs by TKs) (Tk times σ) ((Tk times σ) times (Tk times σ)) (ks .real) (k2 .real) (t-valued .is)
+          (t-valued .size) u2 in
+          narrow-valued (valueAt tE τ) (T3 times inverse twelve) (valueAt (endE take startE) τ) 1 41 1 12 (TT for twelve) Bs A4 (k12 .real) (br .real)
+          (in-range 196 (TT for twelve by Bs) (omega arith) (ranges-by 148 48 (TT for twelve) Bs k12 br)) (twelfth-in TKs Bs TKs-upto) (omega arith)
+          (times-is T3 (inverse twelve) iT twelve-is) width-number twelfth-of (under-inverse 1 TT T3 twelve (k3 .real) iT twelve-positive u3) n
+          (tau2-valued .size) (tau2-valued .is)
+        where
+          twelve-is : IsNumber (inverse twelve)
+          twelve-is = inverse-is twelve twelve-positive
+
+          twelfth-of : (((Tk times σ) times ((Tk times σ) times (Tk times σ))) times inverse twelve) times valueAt
+              (endE take startE) τ equals valueAt tE τ
+          twelfth-of =
+              let T3 = (Tk times σ) times ((Tk times σ) times (Tk times σ)) in
+              let w = valueAt (endE take startE) τ in
+              let iT : IsNumber T3 = evaluated-is (τ ∷ rest) (i, are) (thickE mul (thickE mul thickE)) in
+              trans (times-is (T3 times w) (inverse twelve) (times-is T3 w iT width-number) twelve-is)
+              (equal-by (T3 ∷ inverse twelve ∷ w ∷ []) (iT, (twelve-is, (width-number, tt))) (given 0 mul given 1 mul given 2)
+              (given 0 mul given 2 mul given 1) tt)
+              (by-left (T3 times w) twelve-inverse)
+
+  -- ---- polynomials of the fraction
+  pub r1-cubic : Cubic (valueAt (radiusE mul m0E))
+  r1-cubic = cubic-by rest are (radiusE mul m0E) tt
+
+  pub r2-cubic : Cubic (valueAt (radiusE mul radiusE mul m0E))
+  r2-cubic = cubic-by rest are (radiusE mul radiusE mul m0E) tt
+
+  pub x2-cubic : Cubic (valueAt m2E)
+  x2-cubic = cubic-by rest are m2E tt
+
+  pub rx-cubic : Cubic (valueAt (radiusE mul m1E))
+  rx-cubic = cubic-by rest are (radiusE mul m1E) tt
+
+  pub tau2-parabola : Parabola (valueAt tE) zeroNumber
+  tau2-parabola = parabola-by rest are tE tt (ratio 0 0) (tt, tt)
+
+  pub r1-even : Quadratic (valueAt (radiusE mul m0E)) (atMiddle r1Second)
+  r1-even = quadratic rest are (radiusE mul m0E) r1Second tt
+
+  pub r2-even : Quadratic (valueAt (radiusE mul radiusE mul m0E)) (atMiddle r2Second)
+  r2-even = quadratic rest are (radiusE mul radiusE mul m0E) r2Second tt
+
+  pub x2-even : Quadratic (valueAt m2E) (atMiddle x2Second)
+  x2-even = quadratic rest are m2E x2Second tt
+
+  pub rx-even : Quadratic (valueAt (radiusE mul m1E)) (atMiddle rxSecond)
+  rx-even = quadratic rest are (radiusE mul m1E) rxSecond tt
+
+  pub tau2-even : Quadratic (valueAt tE) zeroNumber
+  tau2-even = quadratic rest are tE (ratio 0 0) tt
+
+  -- ---- the integrals, from totals over the strip's n pieces
+  module _ (n : ℕ) (high : Ranges 48 (n of H)) where
+    -- n·thickness·Λ², n·thickness·Λ³ and n·thickness·Λ⁴
+    abbrev W2 : Size
+    W2 = (n of sizeOf thickness) by (Λ by Λ)
+
+    abbrev W3 : Size
+    W3 = (n of sizeOf thickness) by (Λ by (Λ by Λ))
+
+    abbrev W4 : Size
+    W4 = (n of sizeOf thickness) by ((Λ by Λ) by (Λ by Λ))
+
+    -- a total t of component v
+    abbrev pub Total : Float → Expression → Expression → ℕ → ℕ → ℕ → Size → Type 0
+    Total t v q l j r A = Valued t (U times integral (valueAt v) (atMiddle q)) (totalError l j r) (sumSize j r) ((n of H) by (quarter by A))
+
+    fourth-near : (t : Float) (v q exact : Expression) (l j r : ℕ) → Total t v q l j r A3
+        → T (vanishes (normal (replaced halfE (integralE v q fourthE) take replaced halfE (onesE 4 (raised exact)))))
+        → T (some (totalError l j r) && some 10 && few (suc (sumSize j r) * 2))
+        → suc (sumSize j r) * 2 + (suc (sumSize j r) * 10 + 1 * totalError l j r) ≤ 4 * 60000 → sumSize j r * 1 ≤ 4 * 400
+        → Valued (t ⊗ fourth scale) (closed exact) 60000 400 W3
+    fourth-near t v q exact l j r total test within errors sizes =
+        let D = SS by SS by (SS by SS) in
+        let dr = Unscaled.fourth-ranges root tip span sweep scale b d g thickness Q (value-is radius) in
+        parted 4 60000 400 ((n of H) by (quarter by A3) by D) W3
+        (Unscaled.unit-is root tip span sweep scale b d g thickness Q (value-is radius) n high A3 D (a3 .real) (dr .real))
+        (left-four n b d (num span) (den span) (num scale) (den scale) (num thickness) (den thickness) deep) errors sizes
+        (Unscaled.integral-valued root tip span sweep scale b d g thickness Q (value-is radius) n high 144 96 10 4 (fourth scale) fourthE A3 D a3 dr
+        (omega arith) (Unscaled.fourth-valued root tip span sweep scale b d g thickness Q (value-is radius)) t v q exact (totalError l j r)
+        (sumSize j r)
+        total test within)
+
+    fifth-near : (t : Float) (v q exact : Expression) (l j r : ℕ) → Total t v q l j r A4
+        → T (vanishes (normal (replaced halfE (integralE v q fifthE) take replaced halfE (onesE 5 (raised exact)))))
+        → T (some (totalError l j r) && some 12 && few (suc (sumSize j r) * 2))
+        → suc (sumSize j r) * 2 + (suc (sumSize j r) * 12 + 1 * totalError l j r) ≤ 4 * 60000 → sumSize j r * 1 ≤ 4 * 400
+        → Valued (t ⊗ fifth scale) (closed exact) 60000 400 W4
+    fifth-near t v q exact l j r total test within errors sizes =
+        let D = SS by (SS by SS by (SS by SS)) in
+        let dr = Unscaled.fifth-ranges root tip span sweep scale b d g thickness Q (value-is radius) in
+        parted 4 60000 400 ((n of H) by (quarter by A4) by D) W4
+        (Unscaled.unit-is root tip span sweep scale b d g thickness Q (value-is radius) n high A4 D (a4 .real) (dr .real))
+        (left-five n b d (num span) (den span) (num scale) (den scale) (num thickness) (den thickness) deep) errors sizes
+        (Unscaled.integral-valued root tip span sweep scale b d g thickness Q (value-is radius) n high 192 120 12 5 (fifth scale) fifthE A4 D a4 dr
+        (omega arith) (Unscaled.fifth-valued root tip span sweep scale b d g thickness Q (value-is radius)) t v q exact (totalError l j r)
+        (sumSize j r)
+        total test within)
+
+    -- ---- the seven of totals t, in metres
+    pub seven-near : (t : List Float) → Total (at t 0) m0E (ratio 0 0) 355 5 0 (TKs by Bs) → Total (at t 1) (radiusE mul m0E) r1Second 1193 10 160 A3
+        → Total (at t 2) (radiusE mul radiusE mul m0E) r2Second 2400 20 320 A4 → Total (at t 3) m1E m1Second 2679 17 20 halfThick
+        → Total (at t 4) m2E x2Second 5625 22 352 A4 → Total (at t 5) (radiusE mul m1E) rxSecond 4233 17 272 A4
+        → Total (at t 6) tE (ratio 0 0) 41 1 0 A4
+        → SevenNear (unscaledOf t scale) (sevenOf rest volumeE r1E r2E x1E x2E rxE tau2E) 60000 400 (n of sizeOf thickness) (b per d)
+    seven-near t v0 v1 v2 v3 v4 v5 v6 =
+        record {
+          volume = parted 4 60000 400 (Plates.unit root tip span sweep scale b d g thickness tp tr n high (at t 0) v0) W2
+              (Plates.unit-is root tip span sweep scale b d g thickness tp tr n high (at t 0) v0)
+              (quarters n b d (num span) (den span) (num thickness) (den thickness) deep) (omega arith) (omega arith)
+              (Plates.volume-valued root tip span sweep scale b d g thickness tp tr n high (at t 0) v0);
+          r1 = fourth-near (at t 1) (radiusE mul m0E) r1Second r1E 1193 10 160 v1 tt tt (lit≤ tt) (lit≤ tt);
+          r2 = fifth-near (at t 2) (radiusE mul radiusE mul m0E) r2Second r2E 2400 20 320 v2 tt tt (lit≤ tt) (lit≤ tt);
+          x1 = parted 8 60000 400 (Moments.momentUnit root tip span sweep scale b d g thickness tp tr n high (at t 0) v0 (at t 3) v3) W3
+              (Moments.unit-is root tip span sweep scale b d g thickness tp tr n high (at t 0) v0 (at t 3) v3)
+              (eighths n b d (num span) (den span) (num thickness) (den thickness) deep) (omega arith) (omega arith)
+              (Moments.moment-valued root tip span sweep scale b d g thickness tp tr n high (at t 0) v0 (at t 3) v3);
+          x2 = fifth-near (at t 4) m2E x2Second x2E 5625 22 352 v4 tt tt (lit≤ tt) (lit≤ tt);
+          rx = fifth-near (at t 5) (radiusE mul m1E) rxSecond rxE 4233 17 272 v5 tt tt (lit≤ tt) (lit≤ tt);
+          tau2 = fifth-near (at t 6) tE (ratio 0 0) tau2E 41 1 0 v6 tt tt (lit≤ tt) (lit≤ tt);
+        }

@@ -42,26 +42,41 @@ by-twelve (a per c) (b per d) h = go (mul-le-mul h h)
     go : a * d * (a * d) ≤ b * c * (b * c) → 12 * (a * (a * a) * b * 1) * (c * (d * (d * d))) ≤ a * (b * (b * b)) * (12 * (c * (c * c) * d))
     go u = let x = simp plain at (mul-le-mul-left (12 * a * b * c * d) u) in simp plain (omega (arith, x))
 
+pub last-in : (A B C D : Size) → (1 of (A by (B by C) by D)) upto (A by (B by (C by D)))
+last-in (a per e) (b per f) (c per g) (d per h) = go a b c d e f g h
+  where
+    go : (a b c d e f g h : ℕ) → 1 * (a * (b * c) * d) * (e * (f * (g * h))) ≤ a * (b * (c * d)) * (e * (f * g) * h)
+    go a b c d e f g h = simp plain (omega arith)
+
+pub twelfth-in : (A B : Size) → A upto B → (12 of (A by (A by A) for twelve by B)) upto (A by (B by (B by B)))
+unfolding ofBits
+twelfth-in (a per c) (b per d) h = go (mul-le-mul h h)
+  where
+    go : a * d * (a * d) ≤ b * c * (b * c) → 12 * (a * (a * a) * 1 * b) * (c * (d * (d * d))) ≤ a * (b * (b * b)) * (12 * (c * (c * c)) * d)
+    go u = let x = simp plain at (mul-le-mul-left (12 * a * b * c * d) u) in simp plain (omega (arith, x))
+
 pub per-scale : (b d Np Dp Ns Ds : ℕ) → Np * d ≤ b * Dp → Np * Ds * (Ns * d) ≤ b * Ds * (Ns * Dp)
 per-scale b d Np Dp Ns Ds h = let x = simp plain at (mul-le-mul-left (Ds * Ns) h) in simp plain (omega (arith, x))
 
-pub left-four : (b d Np Dp Ns Ds Nk Dk : ℕ) → Np * d ≤ b * Dp
-    → 4 * (Np * Ds * (1 * (Nk * Ds * (b * Ds * (b * Ds)))) * (Ns * Ns * (Ns * Ns))) * (Dk * (d * (d * d)))
-    ≤ Nk * (b * (b * b)) * (Ns * Dp * (4 * (Ns * Dk * (Ns * d * (Ns * d)))) * (Ds * Ds * (Ds * Ds)))
-left-four b d Np Dp Ns Ds Nk Dk h =
-    let x = simp plain at (mul-le-mul-left (4 * Ds * Ds * Ds * Ds * Ns * Ns * Ns * Ns * Nk * Dk * b * b * d * d) h) in
+-- of a strip of n pieces
+pub left-four : (n b d Np Dp Ns Ds Nk Dk : ℕ) → Np * d ≤ b * Dp
+    → 4 * (n * (Np * Ds) * (1 * (Nk * Ds * (b * Ds * (b * Ds)))) * (Ns * Ns * (Ns * Ns))) * (Dk * (d * (d * d)))
+    ≤ n * Nk * (b * (b * b)) * (Ns * Dp * (4 * (Ns * Dk * (Ns * d * (Ns * d)))) * (Ds * Ds * (Ds * Ds)))
+left-four n b d Np Dp Ns Ds Nk Dk h =
+    let x = simp plain at (mul-le-mul-left (4 * n * Ds * Ds * Ds * Ds * Ns * Ns * Ns * Ns * Nk * Dk * b * b * d * d) h) in
     simp plain (omega (arith, x))
 
-pub left-five : (b d Np Dp Ns Ds Nk Dk : ℕ) → Np * d ≤ b * Dp
-    → 4 * (Np * Ds * (1 * (Nk * Ds * (b * Ds * (b * Ds * (b * Ds))))) * (Ns * (Ns * Ns * (Ns * Ns)))) * (Dk * (d * d * (d * d)))
-    ≤ Nk * (b * b * (b * b)) * (Ns * Dp * (4 * (Ns * Dk * (Ns * d * (Ns * d * (Ns * d))))) * (Ds * (Ds * Ds * (Ds * Ds))))
-left-five b d Np Dp Ns Ds Nk Dk h =
-    let x = simp plain at (mul-le-mul-left (4 * Ds * Ds * Ds * Ds * Ds * Ns * Ns * Ns * Ns * Ns * Nk * Dk * b * b * b * d * d * d) h) in
+pub left-five : (n b d Np Dp Ns Ds Nk Dk : ℕ) → Np * d ≤ b * Dp
+    → 4 * (n * (Np * Ds) * (1 * (Nk * Ds * (b * Ds * (b * Ds * (b * Ds))))) * (Ns * (Ns * Ns * (Ns * Ns)))) * (Dk * (d * d * (d * d)))
+    ≤ n * Nk * (b * b * (b * b)) * (Ns * Dp * (4 * (Ns * Dk * (Ns * d * (Ns * d * (Ns * d))))) * (Ds * (Ds * Ds * (Ds * Ds))))
+left-five n b d Np Dp Ns Ds Nk Dk h =
+    let x = simp plain at (mul-le-mul-left (4 * n * Ds * Ds * Ds * Ds * Ds * Ns * Ns * Ns * Ns * Ns * Nk * Dk * b * b * b * d * d * d) h) in
     simp plain (omega (arith, x))
 
-pub quarters : (b d Np Dp Nk Dk : ℕ) → Np * d ≤ b * Dp → 4 * (1 * (Nk * (Np * b))) * (Dk * (d * d)) ≤ Nk * (b * b) * (4 * (Dk * (Dp * d)))
-quarters b d Np Dp Nk Dk h = let x = simp plain at (mul-le-mul-left (4 * Nk * Dk * b * d) h) in simp plain (omega (arith, x))
+pub quarters : (n b d Np Dp Nk Dk : ℕ) → Np * d ≤ b * Dp
+    → 4 * (1 * (Nk * (n * Np * b))) * (Dk * (d * d)) ≤ n * Nk * (b * b) * (4 * (Dk * (Dp * d)))
+quarters n b d Np Dp Nk Dk h = let x = simp plain at (mul-le-mul-left (4 * n * Nk * Dk * b * d) h) in simp plain (omega (arith, x))
 
-pub eighths : (b d Np Dp Nk Dk : ℕ) → Np * d ≤ b * Dp
-    → 8 * (1 * (1 * (Nk * (Np * (b * b))))) * (Dk * (d * (d * d))) ≤ Nk * (b * (b * b)) * (4 * (2 * (Dk * (Dp * (d * d)))))
-eighths b d Np Dp Nk Dk h = let x = simp plain at (mul-le-mul-left (8 * Nk * Dk * b * b * d * d) h) in simp plain (omega (arith, x))
+pub eighths : (n b d Np Dp Nk Dk : ℕ) → Np * d ≤ b * Dp
+    → 8 * (1 * (1 * (Nk * (n * Np * (b * b))))) * (Dk * (d * (d * d))) ≤ n * Nk * (b * (b * b)) * (4 * (2 * (Dk * (Dp * (d * d)))))
+eighths n b d Np Dp Nk Dk h = let x = simp plain at (mul-le-mul-left (8 * n * Nk * Dk * b * b * d * d) h) in simp plain (omega (arith, x))

@@ -7,7 +7,7 @@ use lib.Ieee.Positive.{positive}
 use Rattle.floats.specs.Operations.{_⊗_}
 use Rattle.quadrature.specs.Rule.{minusSide, plusSide}
 use Rattle.chords.specs.Chords.{inSpan}
-use Rattle.rounding_error.proofs.Numbers.{Size, _of_, Under, valueOf, sizeOf, Ranges}
+use Rattle.rounding_error.proofs.Numbers.{Size, _of_, _for_, Under, valueOf, sizeOf, Ranges}
 use Rattle.accuracy.proofs.OnePiece.{centreOf, reachOf}
 
 pub record Lengths (root tip span sweep scale : Float) (B : Size) : Type 0 where
@@ -18,6 +18,7 @@ pub record Lengths (root tip span sweep scale : Float) (B : Size) : Type 0 where
   pub scale-positive : T (positive scale)
   pub span-ranges : Ranges 24 (sizeOf span)
   pub scale-ranges : Ranges 24 (sizeOf scale)
+  pub height-ranges : Ranges 40 (sizeOf span for scale)
   pub ranges : Ranges 24 B
   pub root-under : Under (1 of B) (valueOf root)
   pub tip-under : Under (1 of B) (valueOf tip)

@@ -29,6 +29,8 @@ pub mod WidthPieces
 pub mod StripPieces
 pub mod PieceSums
 pub mod WidthSums
+pub mod StripTotals
+pub mod WholeStrip
 pub mod AreaNear
 pub mod AreaIntegrals
 pub mod Centroids
@@ -43,6 +45,7 @@ pub mod FinUnits
 pub mod FinIntegrals
 pub mod SetCalled
 pub mod MassNear
+pub mod BalanceTotals
 pub mod Turned
 pub mod Conditioned
 pub mod PlateTensors

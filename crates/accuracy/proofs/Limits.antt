@@ -14,15 +14,20 @@ use Rattle.rounding.proofs.Sizes.{positive-of}
 use Rattle.limits.proofs.Lengths.{PositiveLength}
 use Rattle.integrands.proofs.Scales.{Scale}
 use Rattle.rounding_error.proofs.Numbers.{_per_, _of_, Under, valueOf, sizeOf, Least, Ranges}
+use Rattle.rounding_error.proofs.Ranges.{ranges-for}
 use Rattle.accuracy.proofs.Given.{Lengths}
 
-pub ranges-of : (x : Float) (p s : ℕ) → p ≤ 24 → s ≤ 24 → Below p x → Above s x → Ranges 24 (sizeOf x)
-ranges-of x p s l k b a =
+pub ranges-to : (n : ℕ) (x : Float) (p s : ℕ) → p ≤ n → s ≤ n → Below p x → Above s x → Ranges n (sizeOf x)
+ranges-to n x p s l k b a =
     record {
       real = den-pos x;
       least = le-trans (le-of-eq (sym (one-mul (den x)))) (le-trans (a .size) (mul-le-mul-left (num x) (pow-mono k)));
-      most = le-trans (le-of-eq (sym (mul-one (num x)))) (le-trans (b .size) (le-trans (mul-le-mul-right (den x) (pow-mono l)) (le-of-eq (mul-comm (2 ^ 24) (den x)))));
+      most = le-trans (le-of-eq (sym (mul-one (num x)))) (le-trans (b .size)
+          (le-trans (mul-le-mul-right (den x) (pow-mono l)) (le-of-eq (mul-comm (2 ^ n) (den x)))));
     }
+
+pub ranges-of : (x : Float) (p s : ℕ) → p ≤ 24 → s ≤ 24 → Below p x → Above s x → Ranges 24 (sizeOf x)
+ranges-of x p s l k b a = ranges-to 24 x p s l k b a
 
 -- |x| <= b / d
 pub most-under : (x : Float) (b d : ℕ) → AtMost b d x → Under (1 of (b per d)) (valueOf x)
@@ -61,6 +66,9 @@ lengths root tip span sweep scale b d D most r s q ur ut us =
       scale-positive = q .is-positive;
       span-ranges = ranges-of span 6 20 (omega arith) (omega arith) (s .length .below) (s .above);
       scale-ranges = ranges-of scale 7 20 (omega arith) (omega arith) (q .below) (q .above);
+      height-ranges = ranges-for 20 20 (sizeOf span) scale (q .is-positive)
+          (ranges-to 20 span 6 20 (omega arith) (omega arith) (s .length .below) (s .above))
+          (ranges-to 20 scale 7 20 (omega arith) (omega arith) (q .below) (q .above));
       ranges = record { real = D; least = least-of root b d (positive-of root 20 (r .not-minus) (r .above)) (r .above) ur; most = omega arith };
       root-under = most-under root b d ur;
       tip-under = most-under tip b d ut;

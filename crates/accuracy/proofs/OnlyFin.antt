@@ -31,7 +31,8 @@ use Rattle.rounding_error.proofs.Polynomials.{AllNumbers, given, ratio, _add_, 
 use Rattle.accuracy.proofs.Centroids.{own-share, range-low, range-high}
 use Rattle.accuracy.proofs.Whole.{positive-value}
 use Rattle.accuracy.proofs.ClosedForms.{Seven}
-use Rattle.accuracy.proofs.PlateMoments.{several, together, naught-valued, minus-number}
+use Rattle.accuracy.proofs.Integrals.{several, together}
+use Rattle.accuracy.proofs.PlateMoments.{naught-valued, minus-number}
 use Rattle.accuracy.proofs.Turned.{zero-most}
 use Rattle.accuracy.proofs.Conditioned.{Condition, Conditioned, roomy, conditioned-as, conditioned-reach, onward}
 use Rattle.accuracy.proofs.Conditioned.{divisor-low, own-number, cleared}

@@ -111,7 +111,7 @@ for-each M (p ∷ l) = one-more' (length l) (forEach M l) (for-each M l)
     one-more' n s e = rw e (omega arith)
 
 module _ (e : Piece → Number) (is : (p : Piece) → IsNumber (e p)) (number : Piece → Float) (unit : Size) (t : InRange unit) (K J M : ℕ)
-    (few-errors : K ≤ 2 ^ 26) (few-sizes : J ≤ 2 ^ 18) (few-all : M ≤ 2 ^ 18) where
+    (few-errors : K ≤ 2 ^ 30) (few-sizes : J ≤ 2 ^ 18) (few-all : M ≤ 2 ^ 19) where
   -- each is within K roundoffs and at most J units, and all sums are at most M
   pub sum-valued : (l : List Piece) → All (λ p. Valued (number p) (e p) K J unit) l → (x : Float) (v : Number) (k j : ℕ) → j + forEach J l ≤ M
       → k + forEach (K + (M + J + 2)) l ≤ 2 ^ 40 → Valued x v k j unit
@@ -326,7 +326,7 @@ module _ (root tip span sweep scale : Float) (B : Size) (g : Lengths root tip sp
     abbrev pub sumIn : ℕ → List Piece → Float
     sumIn k pieces = sumFrom (bits 0) (valueIn k) pieces
 
-    pub added : (k K J M : ℕ) (I : Float → Float → Number) (i : Additive I) (unit : Size) → InRange unit → K ≤ 2 ^ 26 → J ≤ 2 ^ 18 → M ≤ 2 ^ 18
+    pub added : (k K J M : ℕ) (I : Float → Float → Number) (i : Additive I) (unit : Size) → InRange unit → K ≤ 2 ^ 30 → J ≤ 2 ^ 18 → M ≤ 2 ^ 19
         → (lower : Float) (pieces : List Piece) → Kept lower pieces → length pieces ≤ 64 → length pieces * J ≤ M
         → All (λ p. Valued (valueIn k p) (overPiece I p) K J unit) pieces
         → Valued (sumIn k pieces) (I lower Top) (length pieces * (K + (M + J + 2))) (length pieces * J) unit
@@ -342,5 +342,5 @@ module _ (root tip span sweep scale : Float) (B : Size) (g : Lengths root tip sp
         counted-by (equalled s (I lower Top) (i .is lower Top) (trans iX (zero-first X iX) (z .sum I i)))
         (n * E) (n * J) (t .real) (omega (arith, errors)) (omega (arith, sizes))
       where
-        at-most : (n E : ℕ) → E ≤ 2 ^ 28 → n ≤ 64 → {m : ℕ} → m ≡ n * E → 0 + m ≤ 2 ^ 40
+        at-most : (n E : ℕ) → E ≤ 2 ^ 32 → n ≤ 64 → {m : ℕ} → m ≡ n * E → 0 + m ≤ 2 ^ 40
         at-most n E h k {m = m} e = omega (arith, e, mul-le-mul k h)

@@ -2,7 +2,6 @@
 use mathlib.Core.Bool.{_&&_}
 use mathlib.Core.List.{[], _∷_}
 use Prim.Native.Nat.{ℕ, suc, _+_, _*_, _^_, _≤_}
-use native.Mathlib.Nat.{zero-lt-suc as zero-lt}
 use native.Mathlib.Omega.{arith}
 use lib.Dec.{le→leb}
 use lib.Pow.{pow-pos}
@@ -22,7 +21,7 @@ use Rattle.accuracy.proofs.Given.{Lengths}
 use Rattle.accuracy.proofs.Tables.{node-near-one}
 use Rattle.accuracy.proofs.Areas.{quarter-ranges}
 use Rattle.accuracy.proofs.Weighted.{middle, lower, upper, SampledAs, Sampled, sizeTo, errorTo, error-few, weighted-near}
-use Rattle.accuracy.proofs.Quadratic.{Quadratic, integral, sum-near}
+use Rattle.accuracy.proofs.Quadratic.{Quadratic, integral, integral-number, sum-near}
 use Rattle.accuracy.proofs.Integrals.{sumError, sumSize}
 use Rattle.accuracy.proofs.Parts.{simpson, Cubic, equally, simpson-is, three-even}
 use Rattle.accuracy.proofs.ChordEnds as Chord
@@ -108,8 +107,7 @@ module _ (root tip span sweep scale : Float) (B : Size) (g : Lengths root tip sp
           let im : IsNumber m = times-is (α plus β) middle (plus-is α β iα β-is) (pow-pos 1) in
           let w : Number → Number = λ t. v (placed t) in
           let I = integral w q in
-          let iI : IsNumber I = plus-is (w middle) (number 1 0 24 times q) (z .is middle (pow-pos 1))
-          (times-is (number 1 0 24) q (zero-lt 23) (z .q-is)) in
+          let iI : IsNumber I = integral-number w q z in
           let S = ((v α plus number 4 0 1 times v m) plus v β) times number 1 0 6 in
           let iS : IsNumber S = evaluated-is (v α ∷ v m ∷ v β ∷ []) (cubic .is α iα, (cubic .is m im, (cubic .is β β-is, tt)))
           ((given 0 add ratio 4 0 mul given 1 add given 2) mul ratio 1 5) in

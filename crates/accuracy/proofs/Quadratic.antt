@@ -105,6 +105,9 @@ module _ (v : Number → Number) (q : Number) (z : Quadratic v q) where
 abbrev pub integral : (Number → Number) → Number → Number
 integral v q = v middle plus number 1 0 24 times q
 
+pub integral-number : (v : Number → Number) (q : Number) → Quadratic v q → IsNumber (integral v q)
+integral-number v q z = plus-is (v middle) (number 1 0 24 times q) (z .is middle (pow-pos 1)) (times-is (number 1 0 24) q (zero-lt 23) (z .q-is))
+
 pub two-under : Under (2 of one) (number 2 0 1)
 two-under = record { below = omega arith; above = omega arith }
 
@@ -122,7 +125,7 @@ module _ (v : Number → Number) (q : Number) (z : Quadratic v q) (j r : ℕ) (B
   twice = number 2 0 1 times integral v q
 
   pub integral-is : IsNumber (integral v q)
-  integral-is = plus-is (v middle) (number 1 0 24 times q) (z .is middle (pow-pos 1)) (times-is (number 1 0 24) q (zero-lt 23) (z .q-is))
+  integral-is = integral-number v q z
 
   pub twice-is : IsNumber twice
   twice-is = times-is (number 2 0 1) (integral v q) (pow-pos 0) integral-is

@@ -4,12 +4,11 @@ use mathlib.Core.Bool.{Bool, true, false, cond}
 use mathlib.Core.List.{List, [], _∷_}
 use Prim.Native.Nat.{ℕ}
 use lib.Dec.{T}
-use lib.Ieee.{Float, lt, le, eq, ofBits}
+use lib.Ieee.{Float, le, eq, ofBits}
 use lib.Ieee.Bits.{is-true}
 use Rattle.floats.specs.Operations.{_⊕_, _⊖_, _⊗_, _⊘_, bits, at, tabulate}
 use Rattle.floats.specs.Floats.{cube}
 use Rattle.floats.proofs.Bools.{no}
-use Rattle.floats.proofs.Order.{le-not-below}
 use Rattle.refusals.specs.declared.Refusal.the-variants.{NoArea}
 use Rattle.refusals.specs.declared.Verdict.{Verdict}
 use Rattle.refusals.specs.declared.Verdict.the-variants.{Accepted, Refused}
@@ -45,15 +44,8 @@ use Rattle.figures.proofs.Reports.{no-refusal}
 use Rattle.accuracy.specs.Masses.{Plate, Mount, setOf}
 use Rattle.accuracy.proofs.Called.{startBy, endBy, chosen}
 
--- ---- a chord wider than 0, in the span
-positive-over : (c : Float) → lt (bits 0) c ≡ true → le c (bits 0) ≡ false
-positive-over c h = go (le c (bits 0)) refl
-  where
-    go : (b : Bool) → le c (bits 0) ≡ b → b ≡ false
-    go false e = refl
-    go true e = sym h ∙ le-not-below c (bits 0) e
-
--- its moments, added to 0
+-- ---- a chord in the span
+-- the moments of one wider than 0, added to 0
 moments-there : (x : Bool) (root tip sweep f scale h t q : Float) → x ≡ true → le (endBy root tip sweep f scale ⊖ startBy sweep f scale) (bits 0) ≡ false
     → sumsFrom (plateKind Square t q) scale h (tabulate 4 (λ i. bits 0)) (paired (cond x (trapezoidAt root tip sweep f) []))
     ≡ plus (tabulate 4 (λ i. bits 0)) (squareMoments (startBy sweep f scale) (endBy root tip sweep f scale) (endBy root tip sweep f scale ⊖ startBy sweep f scale) t)
@@ -61,20 +53,41 @@ unfolding paired sumsFrom chordMoments
 moments-there true root tip sweep f scale h t q e w = rw w
 moments-there false root tip sweep f scale h t q e w = no (sym e)
 
+-- of any other, 0
+moments-none : (x : Bool) (root tip sweep f scale h t q : Float) → x ≡ true → le (endBy root tip sweep f scale ⊖ startBy sweep f scale) (bits 0) ≡ true
+    → sumsFrom (plateKind Square t q) scale h (tabulate 4 (λ i. bits 0)) (paired (cond x (trapezoidAt root tip sweep f) []))
+    ≡ plus (tabulate 4 (λ i. bits 0)) (tabulate 4 (λ i. bits 0))
+unfolding paired sumsFrom chordMoments
+moments-none true root tip sweep f scale h t q e w = rw w
+moments-none false root tip sweep f scale h t q e w = no (sym e)
+
 -- and the seven values there; f is the fraction of the span
 abbrev pub sevenBy : Float → Float → Float → Float → Float → Float → Float → Float → List Float
 sevenBy root tip sweep f scale t q h =
     plateValues (q ⊕ h) (plus (tabulate 4 (λ i. bits 0)) (squareMoments (startBy sweep f scale) (endBy root tip sweep f scale) (endBy root tip sweep f scale ⊖ startBy sweep f scale) t))
 
+-- and where the chord is no wider than 0, r from the axis
+abbrev pub sevenNone : Float → List Float
+sevenNone r = plateValues r (plus (tabulate 4 (λ i. bits 0)) (tabulate 4 (λ i. bits 0)))
+
 module _ (root tip span sweep thickness radius : Float) (points : List Float) where
   abbrev S : Float
   S = scaleOf (Trapezoid root tip span sweep) points
 
-  pub plate-there : (h : Float) → T (inSpan span (h ⊗ S)) → lt (bits 0) (endBy root tip sweep (h ⊗ S ⊘ span) S ⊖ startBy sweep (h ⊗ S ⊘ span) S) ≡ true
+  pub plate-there : (h : Float) → T (inSpan span (h ⊗ S))
+      → le (endBy root tip sweep (h ⊗ S ⊘ span) S ⊖ startBy sweep (h ⊗ S ⊘ span) S) (bits 0) ≡ false
       → plateOf (Trapezoid root tip span sweep) points Square thickness radius h ≡ sevenBy root tip sweep (h ⊗ S ⊘ span) S (thickness ⊘ S) (radius ⊘ S) h
   unfolding plateOf sampleOf endsAt
   plate-there h t w =
-      ap (plateValues (radius ⊘ S ⊕ h)) (moments-there (inSpan span (h ⊗ S)) root tip sweep (h ⊗ S ⊘ span) S h (thickness ⊘ S) (radius ⊘ S) (is-true _ t) (positive-over _ w))
+      ap (plateValues (radius ⊘ S ⊕ h)) (moments-there (inSpan span (h ⊗ S)) root tip sweep (h ⊗ S ⊘ span) S h (thickness ⊘ S) (radius ⊘ S) (is-true _ t) w)
+
+  pub plate-none : (h : Float) → T (inSpan span (h ⊗ S))
+      → le (endBy root tip sweep (h ⊗ S ⊘ span) S ⊖ startBy sweep (h ⊗ S ⊘ span) S) (bits 0) ≡ true
+      → plateOf (Trapezoid root tip span sweep) points Square thickness radius h
+      ≡ sevenNone (radius ⊘ S ⊕ h)
+  unfolding plateOf sampleOf endsAt
+  plate-none h t w =
+      ap (plateValues (radius ⊘ S ⊕ h)) (moments-none (inSpan span (h ⊗ S)) root tip sweep (h ⊗ S ⊘ span) S h (thickness ⊘ S) (radius ⊘ S) (is-true _ t) w)
 
 -- ---- the answer
 pub record Given (p : Plate) (m : Mount) (points : List Float) (L n : ℕ) (r : Figures) : Type 0 where

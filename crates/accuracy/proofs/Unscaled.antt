@@ -1,9 +1,9 @@
--- The total of one strip's samples that are polynomials of the fraction of the span, times a power of the scale, is near their integral's closed form.
+-- The total of a strip's samples that are polynomials of the fraction of the span, times a power of the scale, is near their integral's closed form.
 -- That the integral has this form is one computed test. Assumes nothing.
 use mathlib.Core.Path.{subst}
 use mathlib.Core.Bool.{_&&_}
 use mathlib.Core.List.{List, [], _∷_}
-use Prim.Native.Nat.{ℕ, zero, suc, _+_, _*_, _^_, _≤_}
+use Prim.Native.Nat.{ℕ, zero, suc, _+_, _*_, _≤_}
 use native.Mathlib.Omega.{arith}
 use lib.Dec.{T}
 use lib.Pow.{pow-pos}
@@ -24,9 +24,7 @@ use Rattle.accuracy.proofs.Areas.{quarter-ranges}
 use Rattle.accuracy.proofs.Weighted.{middle}
 use Rattle.accuracy.proofs.Quadratic.{integral}
 use Rattle.accuracy.proofs.ChordEnds as Chord
-use Rattle.accuracy.proofs.AreaSamples as Area
-use Rattle.accuracy.proofs.Integrals.{totalOver, totalError, sumSize, total-valued}
-use Rattle.accuracy.proofs.Cubics.{replaced, halfE, raised, raised-at, bothE, twiceE, fill, quadratic, at-middle}
+use Rattle.accuracy.proofs.Cubics.{replaced, halfE, raised, raised-at, fill, at-middle}
 
 -- ---- the fraction, root, tip, span, sweep, thickness, radius, 1/scale and scale stand at the places 0 to 8
 -- the ends of the chord, and the thickness
@@ -162,45 +160,32 @@ module _ (root tip span sweep scale : Float) (b d : ℕ) (g : Lengths root tip s
       exact-times scale 1 SS (den-pos scale) (fourth-ranges .real) (in-range 120 (SS by (SS by SS by (SS by SS))) (omega arith) fifth-ranges) tt
       (positive-finite scale sp) (own-size scale sp) fourth-valued
 
-  pub unit-is : (A D : Size) → IsSize A → IsSize D → IsSize (H by (quarter by A) by D)
-  unit-is A D a c =
-      Counts.by-is (H by (quarter by A)) D
-      (Counts.by-is H (quarter by A) (Chord.height-ranges root tip span sweep scale (b per d) g .real) (Counts.by-is quarter A (pow-pos 2) a)) c
+  -- ---- n pieces, whose total x is near the integral of the polynomial v, whose second coefficient is q; D is the unit of the power of the scale
+  module _ (n : ℕ) (high : Ranges 48 (n of H)) where
+    pub unit-is : (A D : Size) → IsSize A → IsSize D → IsSize ((n of H) by (quarter by A) by D)
+    unit-is A D a c =
+        Counts.by-is ((n of H) by (quarter by A)) D (Counts.by-is (n of H) (quarter by A) (high .real) (Counts.by-is quarter A (pow-pos 2) a)) c
 
-  -- ---- samples y near the polynomial v, whose second coefficient is q; D is the unit of the power of the scale
-  module _ (k e m n : ℕ) (power : Float) (powerE : Expression) (A D : Size) (ar : Ranges k A) (dr : Ranges e D) (fk : k ≤ 500)
-      (fe : 48 + (2 + k) + e ≤ 1000)
-      (pv : Valued power (atMiddle powerE) m 1 D)
-      (y : Float → Float) (v q exact : Expression) (l j r : ℕ) (each : At y v l j A) (uq : Under (r of A) (atMiddle q))
-      (even-test : T (vanishes (normal (bothE v take twiceE v q))))
-      (exact-test : T (vanishes (normal (replaced halfE (integralE v q powerE) take replaced halfE (onesE n (raised exact)))))) where
-    abbrev K : ℕ
-    K = totalError l j r
+    module _ (k e m o : ℕ) (power : Float) (powerE : Expression) (A D : Size) (ar : Ranges k A) (dr : Ranges e D) (fe : 48 + (2 + k) + e ≤ 1000)
+        (pv : Valued power (atMiddle powerE) m 1 D) (x : Float) (v q exact : Expression) (K J : ℕ)
+        (total : Valued x (U times integral (valueAt v) (atMiddle q)) K J ((n of H) by (quarter by A)))
+        (exact-test : T (vanishes (normal (replaced halfE (integralE v q powerE) take replaced halfE (onesE o (raised exact)))))) where
+      total-ranges : Ranges (48 + (2 + k)) ((n of H) by (quarter by A))
+      total-ranges = ranges-by 48 (2 + k) (n of H) (quarter by A) high (ranges-by 2 k quarter A quarter-ranges ar)
 
-    abbrev J : ℕ
-    J = sumSize j r
+      product-ranges : Ranges (48 + (2 + k) + e) ((n of H) by (quarter by A) by D)
+      product-ranges = ranges-by (48 + (2 + k)) e ((n of H) by (quarter by A)) D total-ranges dr
 
-    total-ranges : Ranges (48 + (2 + k)) (H by (quarter by A))
-    total-ranges =
-        ranges-by 48 (2 + k) H (quarter by A) (Chord.height-ranges root tip span sweep scale (b per d) g) (ranges-by 2 k quarter A quarter-ranges ar)
+      integral-exact : (U times integral (valueAt v) (atMiddle q)) times atMiddle powerE equals closed exact
+      integral-exact =
+          subst (λ (x : Number). (U times integral (valueAt v) (atMiddle q)) times atMiddle powerE equals x) (raised-at rest middle exact)
+          (trans (evaluated-is (middle ∷ rest) (pow-pos 1, are) (onesE o (raised exact)))
+          (at-middle rest are (integralE v q powerE) (onesE o (raised exact)) exact-test) (all-ones o (raised exact)))
 
-    product-ranges : Ranges (48 + (2 + k) + e) (H by (quarter by A) by D)
-    product-ranges = ranges-by (48 + (2 + k)) e (H by (quarter by A)) D total-ranges dr
-
-    integral-exact : (U times integral (valueAt v) (atMiddle q)) times atMiddle powerE equals closed exact
-    integral-exact =
-        subst (λ (x : Number). (U times integral (valueAt v) (atMiddle q)) times atMiddle powerE equals x) (raised-at rest middle exact)
-        (trans (evaluated-is (middle ∷ rest) (pow-pos 1, are) (onesE n (raised exact)))
-        (at-middle rest are (integralE v q powerE) (onesE n (raised exact)) exact-test) (all-ones n (raised exact)))
-
-    pub integral-valued : j ≤ 2 ^ 10 → r ≤ 2 ^ 10 → l ≤ 2 ^ 20 → T (some K && some m && few (suc J * 2))
-        → Valued (totalOver root tip span sweep scale (b per d) g y ⊗ power) (closed exact) (suc J * 2 + (suc J * m + 1 * K)) (J * 1)
-        (H by (quarter by A) by D)
-    integral-valued fj fr fl within =
-        let total : Valued (totalOver root tip span sweep scale (b per d) g y) (U times integral (valueAt v) (atMiddle q)) K J (H by (quarter by A)) =
-        total-valued root tip span sweep scale (b per d) g y (valueAt v) (atMiddle q) l j r k A fj fr fl fk ar (quadratic rest are v q even-test) uq
-        (Area.sampled root tip span sweep scale (b per d) g y (valueAt v) l j A each) in
-        equalled
-        (times-valued {A = H by (quarter by A)} {B = D} (total-ranges .real) (dr .real)
-        (in-range (48 + (2 + k) + e) (H by (quarter by A) by D) fe product-ranges) within
-        total pv) (closed exact) (evaluated-is rest are exact) integral-exact
+      pub integral-valued : T (some K && some m && few (suc J * 2))
+          → Valued (x ⊗ power) (closed exact) (suc J * 2 + (suc J * m + 1 * K)) (J * 1) ((n of H) by (quarter by A) by D)
+      integral-valued within =
+          equalled
+          (times-valued {A = (n of H) by (quarter by A)} {B = D} (total-ranges .real) (dr .real)
+          (in-range (48 + (2 + k) + e) ((n of H) by (quarter by A) by D) fe product-ranges) within
+          total pv) (closed exact) (evaluated-is rest are exact) integral-exact

@@ -4,7 +4,7 @@ use mathlib.Core.Path.{_≡_, refl, sym, subst}
 use mathlib.Core.Logic.{_⊎_, inl, inr}
 use mathlib.Core.Bool.{Bool, true, false}
 use mathlib.Core.List.{[], _∷_}
-use Prim.Native.Nat.{ℕ, zero, suc, _+_, _-_, _*_, _^_, _≤_, _<_, zero-le}
+use Prim.Native.Nat.{ℕ, zero, suc, _+_, _-_, _*_, _^_, _≤_, _<_}
 use native.Mathlib.Nat.{mul-pos, mul-le-mul-right, one-mul, mul-one, zero-mul, mul-zero, zero-add, add-zero}
 use native.Mathlib.Omega.{arith}
 use lib.Dec.{T}
@@ -115,11 +115,8 @@ mean-under r t (number X Y Z) (b per d) C z s u v =
         → (1 * 1 * (j * b) * (Z * d) + 1 * 1 * (i * b) * (Z * d)) * d ≤ 1 * b * (Z * d * (Z * d))
     go i j h = let x = simp plain at h in simp plain (omega (arith, x))
 
-under-equal : {v w : Number} (e : Size) → IsNumber v → v equals w → Under e v → Under e w
+pub under-equal : {v w : Number} (e : Size) → IsNumber v → v equals w → Under e v → Under e w
 under-equal {v = v} {w = w} e i h u = within-sym e zeroNumber w (within-same e zeroNumber v w i (within-sym e v zeroNumber u) (h .same))
-
-wide-under : (A D C : ℕ) → A + D ≤ C → Under (1 of one) (number D 0 C)
-wide-under A D C h = share-under (number D 0 C) (zero-le, omega arith)
 
 -- both numbers as others that they equal
 both : (e : Size) (x y x' y' : Number) → IsNumber x → IsNumber y → x equals x' → y equals y' → Within e x y → Within e x' y'
@@ -267,7 +264,7 @@ module _ (root tip span sweep scale : Float) (B : Size) (g : Lengths root tip sp
 
     none : Under (0 of Bs) second
     none = on-part-under 0 Bs zeroNumber δ Bs-real (pow-pos 0) (c .whole-real) (Totals.none-under root tip span sweep scale B g Bs)
-        (wide-under (c .from) (c .wide) (c .whole) (c .inside))
+        (Cuts.wide-under (c .from) (c .wide) (c .whole) (c .inside))
 
     -- the exact integral over the piece
     abbrev pub cutIntegral : Number

@@ -36,22 +36,22 @@ abbrev pub TabGiven : Tab → ℕ → ℕ → Type 0
 TabGiven None b d = Unit {0}
 TabGiven (Slab height length offset) b d = T (fits binary64 height) × (T (fits binary64 length) × AtMost b d offset)
 
--- with no cant; B is at most κ root chords, Y = y / e at most ν spans
-pub record Straight (p : Plate) (m : Mount) (b d y e κ ν : ℕ) : Type 0 where
+-- with no cant; B is at most κ root chords, Y = y / e at most ν spans; the strip has n pieces
+pub record Straight (p : Plate) (m : Mount) (b d y e κ ν n : ℕ) : Type 0 where
   pub no-cant : eq (m .cant) (bits 0) ≡ true
   pub radius-f64 : T (fits binary64 (m .radius))
   pub tab-given : TabGiven (p .tab) b d
   pub roots : AtLeast b (d * κ) (p .root)
   pub spans : AtLeast y (e * ν) (p .span)
-  pub few : κ * ν ≤ 2 ^ 26
+  pub few : n * (κ * ν) ≤ 2 ^ 26
 
--- where the strip is one piece: at most (κ·ν)²·2^-32·B from it
-abbrev pub OnePieceBalance : Type 0
-OnePieceBalance =
+-- where the strip has n pieces, at most 40: at most (n·κ·ν)²·2^-32·B from it
+abbrev pub TrapezoidBalance : Type 0
+TrapezoidBalance =
     (p : Plate) (m : Mount) (points : List Float) (L : ℕ) (entry : List Float) (r : Figures) (exit : List Float) (b d y e κ ν : ℕ)
     → SetGiven p m points L entry r exit
-    → r .intervals ≡ 1
+    → r .intervals ≤ 40
     → Extents p b d y e
-    → Straight p m b d y e κ ν
-    → Within ((pos (κ * ν * (κ * ν) * b) over (d * 2 ^ 32)) times exactMass p m)
+    → Straight p m b d y e κ ν (r .intervals)
+    → Within ((pos (r .intervals * (κ * ν) * (r .intervals * (κ * ν)) * b) over (d * 2 ^ 32)) times exactMass p m)
     (valueOf (r .body .«centre_m» .z) times exactMass p m) (minus (exactMoment p m))

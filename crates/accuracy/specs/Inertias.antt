@@ -4,7 +4,7 @@
 use mathlib.Core.Path.{_≡_}
 use mathlib.Core.Bool.{true}
 use mathlib.Core.List.{List}
-use Prim.Native.Nat.{ℕ, _*_, _^_}
+use Prim.Native.Nat.{ℕ, _*_, _^_, _≤_}
 use lib.IntN.{pos}
 use lib.Ieee.{Float, eq}
 use Rattle.floats.specs.Operations.{bits}
@@ -154,47 +154,47 @@ pub record Alone (p : Plate) (m : Mount) (b d : ℕ) : Type 0 where
   pub radius-most : AtMost b d (m .radius)
   pub thickness-most : AtMost b d (p .thickness)
 
--- at most 2^-30·density·thickness·(b / d)⁴ from the exact number
-abbrev pub NumberNear : Plate → Mount → ℕ → ℕ → Float → Fraction → Type 0
-NumberNear p m b d x exact =
+-- at most n·2^-30·density·thickness·(b / d)⁴ from the exact number
+abbrev pub NumberNear : Plate → Mount → ℕ → ℕ → ℕ → Float → Fraction → Type 0
+NumberNear p m b d n x exact =
     Within
-    ((pos (b * b * (b * b)) over (d * d * (d * d) * 2 ^ 30)) times (valueOf (p .density) times valueOf (p .thickness))
+    ((pos (n * (b * b * (b * b))) over (d * d * (d * d) * 2 ^ 30)) times (valueOf (p .density) times valueOf (p .thickness))
     times exactIntegrals p m .volume)
     (valueOf x times exactIntegrals p m .volume) (valueOf (p .density) times exact)
 
 -- xy and yz are 0, as the fin lies evenly on both sides of its middle plane
-pub record TensorNear (p : Plate) (m : Mount) (b d : ℕ) (t : Tensor) : Type 0 where
-  pub xx : NumberNear p m b d (numberAt t 0) (exactXX (exactIntegrals p m))
-  pub yy : NumberNear p m b d (numberAt t 1) (exactYY (exactIntegrals p m))
-  pub zz : NumberNear p m b d (numberAt t 2) (exactZZ (exactIntegrals p m))
+pub record TensorNear (p : Plate) (m : Mount) (b d n : ℕ) (t : Tensor) : Type 0 where
+  pub xx : NumberNear p m b d n (numberAt t 0) (exactXX (exactIntegrals p m))
+  pub yy : NumberNear p m b d n (numberAt t 1) (exactYY (exactIntegrals p m))
+  pub zz : NumberNear p m b d n (numberAt t 2) (exactZZ (exactIntegrals p m))
   pub xy : AtMost 0 1 (numberAt t 3)
-  pub xz : NumberNear p m b d (numberAt t 4) (exactXZ (exactIntegrals p m))
+  pub xz : NumberNear p m b d n (numberAt t 4) (exactXZ (exactIntegrals p m))
   pub yz : AtMost 0 1 (numberAt t 5)
 
--- where the strip is one piece; no length passes b / d, which is at most 64, κ root chords and ν spans
-abbrev pub OnePieceInertia : Type 0
-OnePieceInertia =
+-- where the strip has n pieces, at most 40; no length passes b / d, which is at most 64, κ root chords and ν spans
+abbrev pub TrapezoidInertia : Type 0
+TrapezoidInertia =
     (p : Plate) (m : Mount) (points : List Float) (L : ℕ) (entry : List Float) (r : Figures) (exit : List Float) (b d κ ν : ℕ)
     → SetGiven p m points L entry r exit
-    → r .intervals ≡ 1
+    → r .intervals ≤ 40
     → Extents p b d b d
-    → Straight p m b d b d κ ν
+    → Straight p m b d b d κ ν (r .intervals)
     → Alone p m b d
-    → TensorNear p m b d (r .body .«inertia_kg_m2»)
+    → TensorNear p m b d (r .intervals) (r .body .«inertia_kg_m2»)
 
--- at most κ·ν·2^-33·(b / d) from the exact distance to the axis, and in the fin's middle plane
-pub record OffAxisNear (p : Plate) (m : Mount) (b d κ ν : ℕ) (centre : Vector) : Type 0 where
+-- at most n·κ·ν·2^-33·(b / d) from the exact distance to the axis, and in the fin's middle plane
+pub record OffAxisNear (p : Plate) (m : Mount) (b d κ ν n : ℕ) (centre : Vector) : Type 0 where
   pub outward :
-      Within ((pos (κ * ν * b) over (d * 2 ^ 33)) times exactIntegrals p m .volume) (valueOf (centre .x) times exactIntegrals p m .volume)
+      Within ((pos (n * (κ * ν) * b) over (d * 2 ^ 33)) times exactIntegrals p m .volume) (valueOf (centre .x) times exactIntegrals p m .volume)
       (exactIntegrals p m .r1)
   pub aside : AtMost 0 1 (centre .y)
 
-abbrev pub OnePieceOffAxis : Type 0
-OnePieceOffAxis =
+abbrev pub TrapezoidOffAxis : Type 0
+TrapezoidOffAxis =
     (p : Plate) (m : Mount) (points : List Float) (L : ℕ) (entry : List Float) (r : Figures) (exit : List Float) (b d κ ν : ℕ)
     → SetGiven p m points L entry r exit
-    → r .intervals ≡ 1
+    → r .intervals ≤ 40
     → Extents p b d b d
-    → Straight p m b d b d κ ν
+    → Straight p m b d b d κ ν (r .intervals)
     → Alone p m b d
-    → OffAxisNear p m b d κ ν (r .body .«centre_m»)
+    → OffAxisNear p m b d κ ν (r .intervals) (r .body .«centre_m»)

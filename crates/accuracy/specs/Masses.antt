@@ -90,12 +90,12 @@ pub record Extents (p : Plate) (b d y e : ℕ) : Type 0 where
   pub outward-most : y ≤ 64 * e
   pub tab-within : TabWithin (p .tab) b d y e
 
--- where the strip is one piece: at most 2^-41·count·density·thickness·B·Y from it
-abbrev pub OnePieceMass : Type 0
-OnePieceMass =
+-- where the strip has n pieces, at most 40: at most n·2^-41·count·density·thickness·B·Y from it
+abbrev pub TrapezoidMass : Type 0
+TrapezoidMass =
     (p : Plate) (m : Mount) (points : List Float) (L : ℕ) (entry : List Float) (r : Figures) (exit : List Float) (b d y e : ℕ)
     → SetGiven p m points L entry r exit
-    → r .intervals ≡ 1
+    → r .intervals ≤ 40
     → Extents p b d y e
-    → Within ((pos (m .count * (b * y)) over (d * e * 2 ^ 41)) times (valueOf (p .density) times valueOf (p .thickness)))
+    → Within ((pos (r .intervals * (m .count * (b * y))) over (d * e * 2 ^ 41)) times (valueOf (p .density) times valueOf (p .thickness)))
     (valueOf (r .body .«mass_kg»)) (exactMass p m)
