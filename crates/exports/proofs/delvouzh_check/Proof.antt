@@ -5,7 +5,7 @@ use Rattle.exports.proofs.delvouzh_check.Statement.{statement}
 use Rattle.exports.proofs.delvouzh_check.Tie as tie
 
 returns : tie.Need-returns
-returns c = check-refused _ _ (c .if1 .taken)
+returns c = check-refused (c .if1 .taken)
 
 body-verdict-requires : tie.Need-body-verdict-requires
 body-verdict-requires c κs = search needs
@@ -23,7 +23,7 @@ returns-2 : tie.Need-returns-2
 returns-2 c =
     let w = c .before .before .before in
     let v = w .before .before in
-    check-written _ _ (v .before .if1 .left) (v .body-verdict .result) _ _ (v .body-verdict .ensures) (w .write-values .ensures) (c .number .ensures)
+    check-written (v .before .if1 .left) (v .body-verdict .ensures) (w .write-values .ensures) (c .number .ensures)
 
 pub delvouzh-check-spec : {M : Type 1} → statement M
 delvouzh-check-spec =

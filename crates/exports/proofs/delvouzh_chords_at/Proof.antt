@@ -1,19 +1,14 @@
 -- `exports::delvouzh_chords_at` meets its contract: there is no room, or the chords are listed. Assumes nothing.
 use borrow.Author.Needs.{needs}
-use Rattle.foreign_numbers.proofs.Rooms.{few-figures, few-counts}
-use Rattle.exports.proofs.Calls.{chords-refused, chords-written}
+use Rattle.exports.proofs.Calls.{short-figures, short-counts, chords-refused, chords-written}
 use Rattle.exports.proofs.delvouzh_chords_at.Statement.{statement}
 use Rattle.exports.proofs.delvouzh_chords_at.Tie as tie
 
 returns : tie.Need-returns
-returns c =
-    let a = c .before .before .before .before .args in
-    chords-refused _ _ _ _ _ (few-figures 64 (a .ends .now) 3 (a .counts .now) (c .if1 .taken))
+returns c = chords-refused (short-figures (c .if1 .taken))
 
 returns-2 : tie.Need-returns-2
-returns-2 c =
-    let a = c .before .before .before .before .before .args in
-    chords-refused _ _ _ _ _ (few-counts 64 (a .ends .now) 3 (a .counts .now) (c .before .if1 .left) (c .if2 .taken))
+returns-2 c = chords-refused (short-counts (c .before .if1 .left) (c .if2 .taken))
 
 numbered-planform-requires : tie.Need-numbered-planform-requires
 numbered-planform-requires c κs = search needs
@@ -38,9 +33,7 @@ returns-3 c =
     let w = c .before .before .before in
     let f = w .before .before .before .before in
     let s = f .before .before in
-    let k = s .before in
-    let h = k .before in
-    chords-written _ _ _ _ _ (h .if1 .left) (k .if2 .left) (s .numbered-planform .result) (f .listed-chords .result) _ _ _ (s .numbered-planform .ensures) (f .listed-chords .ensures .0) (f .listed-chords .ensures .1) (w .write-count .ensures) (c .number .ensures)
+    chords-written (s .before .before .if1 .left) (s .before .if2 .left) (s .numbered-planform .ensures) (f .listed-chords .ensures .0) (f .listed-chords .ensures .1) (w .write-count .ensures) (c .number .ensures)
 
 pub delvouzh-chords-at-spec : {M : Type 1} → statement M
 delvouzh-chords-at-spec =

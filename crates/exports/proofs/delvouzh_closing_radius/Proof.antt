@@ -1,20 +1,15 @@
 -- `exports::delvouzh_closing_radius` meets its contract: there is no room, or the radius is written. Assumes nothing.
 use borrow.Author.Needs.{needs}
 use Rattle.foreign_numbers.proofs.Lists.{one-written}
-use Rattle.foreign_numbers.proofs.Rooms.{few-figures, few-counts}
-use Rattle.exports.proofs.Calls.{closing-refused, closing-written}
+use Rattle.exports.proofs.Calls.{short-figures, short-counts, closing-refused, closing-written}
 use Rattle.exports.proofs.delvouzh_closing_radius.Statement.{statement}
 use Rattle.exports.proofs.delvouzh_closing_radius.Tie as tie
 
 returns : tie.Need-returns
-returns c =
-    let a = c .before .before .before .args in
-    closing-refused _ _ _ _ (few-figures 1 (a .radius .now) 2 (a .values .now) (c .if1 .taken))
+returns c = closing-refused (short-figures (c .if1 .taken))
 
 returns-2 : tie.Need-returns-2
-returns-2 c =
-    let a = c .before .before .before .before .args in
-    closing-refused _ _ _ _ (few-counts 1 (a .radius .now) 2 (a .values .now) (c .before .if1 .left) (c .if2 .taken))
+returns-2 c = closing-refused (short-counts (c .before .if1 .left) (c .if2 .taken))
 
 closing-radius-m-requires : tie.Need-closing-radius-m-requires
 closing-radius-m-requires c κs = search needs
@@ -41,7 +36,7 @@ returns-3 c =
     let k = f .before in
     let h = k .before in
     let a = h .before .before .before .args in
-    closing-written _ _ (a .radius .now) _ (h .if1 .left) (k .if2 .left) (f .closing-radius-m .result) _ _ _ (f .closing-radius-m .ensures) (one-written (a .radius .now) _ (h .if1 .left)) (w .write-values .ensures) (c .number .ensures)
+    closing-written (h .if1 .left) (k .if2 .left) (f .closing-radius-m .ensures) (one-written (a .radius .now) _ (h .if1 .left)) (w .write-values .ensures) (c .number .ensures)
 
 pub delvouzh-closing-radius-spec : {M : Type 1} → statement M
 delvouzh-closing-radius-spec =

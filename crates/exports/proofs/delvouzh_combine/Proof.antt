@@ -5,7 +5,7 @@ use Rattle.exports.proofs.delvouzh_combine.Statement.{statement}
 use Rattle.exports.proofs.delvouzh_combine.Tie as tie
 
 returns : tie.Need-returns
-returns c = join-refused _ _ (c .if1 .taken)
+returns c = join-refused (c .if1 .taken)
 
 combine-requires : tie.Need-combine-requires
 combine-requires c κs = search needs
@@ -23,7 +23,7 @@ returns-2 : tie.Need-returns-2
 returns-2 c =
     let b = c .before .before .before in
     let j = b .before .before .before in
-    join-written _ _ (j .before .if1 .left) (j .combine .result) _ _ (j .combine .ensures) (b .write-body .ensures) (c .number .ensures)
+    join-written (j .before .if1 .left) (j .combine .ensures) (b .write-body .ensures) (c .number .ensures)
 
 pub delvouzh-combine-spec : {M : Type 1} → statement M
 delvouzh-combine-spec =

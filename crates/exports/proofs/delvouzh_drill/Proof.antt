@@ -5,7 +5,7 @@ use Rattle.exports.proofs.delvouzh_drill.Statement.{statement}
 use Rattle.exports.proofs.delvouzh_drill.Tie as tie
 
 returns : tie.Need-returns
-returns c = drill-refused _ _ _ _ _ (c .if1 .taken)
+returns c = drill-refused (c .if1 .taken)
 
 numbered-planform-requires : tie.Need-numbered-planform-requires
 numbered-planform-requires c κs = search needs
@@ -39,7 +39,7 @@ returns-2 c =
     let v = p .before .before in
     let d = v .before in
     let s = d .before in
-    drill-written _ _ _ _ _ (s .before .if1 .left) (s .numbered-planform .result) (d .drilled .result) _ _ _ _ _
+    drill-written (s .before .if1 .left)
     (s .numbered-planform .ensures)
     (d .drilled .ensures)
     (v .verdict .ensures)

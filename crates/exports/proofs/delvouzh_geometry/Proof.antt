@@ -1,19 +1,14 @@
 -- `exports::delvouzh_geometry` meets its contract: there is no room, or the figures are written. Assumes nothing.
 use borrow.Author.Needs.{needs}
-use Rattle.foreign_numbers.proofs.Rooms.{few-figures, few-counts}
-use Rattle.exports.proofs.Calls.{area-refused, area-written}
+use Rattle.exports.proofs.Calls.{short-figures, short-counts, area-refused, area-written}
 use Rattle.exports.proofs.delvouzh_geometry.Statement.{statement}
 use Rattle.exports.proofs.delvouzh_geometry.Tie as tie
 
 returns : tie.Need-returns
-returns c =
-    let a = c .before .before .before .before .before .args in
-    area-refused _ _ _ _ _ _ (few-figures 3 (a .area .now) 4 (a .counts .now) (c .if1 .taken))
+returns c = area-refused (short-figures (c .if1 .taken))
 
 returns-2 : tie.Need-returns-2
-returns-2 c =
-    let a = c .before .before .before .before .before .before .args in
-    area-refused _ _ _ _ _ _ (few-counts 3 (a .area .now) 4 (a .counts .now) (c .before .if1 .left) (c .if2 .taken))
+returns-2 c = area-refused (short-counts (c .before .if1 .left) (c .if2 .taken))
 
 numbered-planform-requires : tie.Need-numbered-planform-requires
 numbered-planform-requires c κs = search needs
@@ -45,9 +40,7 @@ returns-3 c =
     let b = w .before .before .before .before in
     let f = b .before .before .before .before in
     let s = f .before .before in
-    let k = s .before in
-    let h = k .before in
-    area-written _ _ _ _ _ _ (h .if1 .left) (k .if2 .left) (s .numbered-planform .result) (f .area-figures .result) _ _ _ _ (s .numbered-planform .ensures) (f .area-figures .ensures .0) (f .area-figures .ensures .1) (b .write-three .ensures) (w .write-counts .ensures) (c .number .ensures)
+    area-written (s .before .before .if1 .left) (s .before .if2 .left) (s .numbered-planform .ensures) (f .area-figures .ensures .0) (f .area-figures .ensures .1) (b .write-three .ensures) (w .write-counts .ensures) (c .number .ensures)
 
 pub delvouzh-geometry-spec : {M : Type 1} → statement M
 delvouzh-geometry-spec =

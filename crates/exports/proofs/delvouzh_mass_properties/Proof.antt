@@ -1,20 +1,14 @@
 -- `exports::delvouzh_mass_properties` meets its contract: there is no room, or the figures are written. Assumes nothing.
 use borrow.Author.Needs.{needs}
-use Rattle.bodies.specs.Layout.{bodyNumbers}
-use Rattle.foreign_numbers.proofs.Rooms.{few-figures, few-counts}
-use Rattle.exports.proofs.Calls.{set-refused, set-written}
+use Rattle.exports.proofs.Calls.{short-figures, short-counts, set-refused, set-written}
 use Rattle.exports.proofs.delvouzh_mass_properties.Statement.{statement}
 use Rattle.exports.proofs.delvouzh_mass_properties.Tie as tie
 
 returns : tie.Need-returns
-returns c =
-    let a = c .before .before .before .before .before .before .before .args in
-    set-refused _ _ _ _ _ _ (few-figures bodyNumbers (a .body .now) 4 (a .counts .now) (c .if1 .taken))
+returns c = set-refused (short-figures (c .if1 .taken))
 
 returns-2 : tie.Need-returns-2
-returns-2 c =
-    let a = c .before .before .before .before .before .before .before .before .args in
-    set-refused _ _ _ _ _ _ (few-counts bodyNumbers (a .body .now) 4 (a .counts .now) (c .before .if1 .left) (c .if2 .taken))
+returns-2 c = set-refused (short-counts (c .before .if1 .left) (c .if2 .taken))
 
 crossed-set-requires : tie.Need-crossed-set-requires
 crossed-set-requires c κs = search needs
@@ -46,9 +40,7 @@ returns-3 c =
     let b = w .before .before .before .before in
     let f = b .before .before .before .before .before in
     let s = f .before .before in
-    let k = s .before in
-    let h = k .before in
-    set-written _ _ _ _ _ _ (h .if1 .left) (k .if2 .left) (s .crossed-set .result) (f .set-figures .result) _ _ _ _ (s .crossed-set .ensures) (f .set-figures .ensures .0) (f .set-figures .ensures .1) (b .write-body .ensures) (w .write-counts .ensures) (c .number .ensures)
+    set-written (s .before .before .if1 .left) (s .before .if2 .left) (s .crossed-set .ensures) (f .set-figures .ensures .0) (f .set-figures .ensures .1) (b .write-body .ensures) (w .write-counts .ensures) (c .number .ensures)
 
 pub delvouzh-mass-properties-spec : {M : Type 1} → statement M
 delvouzh-mass-properties-spec =

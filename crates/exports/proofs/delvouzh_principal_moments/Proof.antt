@@ -1,19 +1,14 @@
 -- `exports::delvouzh_principal_moments` meets its contract: there is no room, or the moments are written. Assumes nothing.
 use borrow.Author.Needs.{needs}
-use Rattle.foreign_numbers.proofs.Rooms.{few-figures, few-counts}
-use Rattle.exports.proofs.Calls.{moments-refused, moments-written}
+use Rattle.exports.proofs.Calls.{short-figures, short-counts, moments-refused, moments-written}
 use Rattle.exports.proofs.delvouzh_principal_moments.Statement.{statement}
 use Rattle.exports.proofs.delvouzh_principal_moments.Tie as tie
 
 returns : tie.Need-returns
-returns c =
-    let a = c .before .before .before .before .args in
-    moments-refused _ _ _ (few-figures 3 (a .moments .now) 2 (a .values .now) (c .if1 .taken))
+returns c = moments-refused (short-figures (c .if1 .taken))
 
 returns-2 : tie.Need-returns-2
-returns-2 c =
-    let a = c .before .before .before .before .before .args in
-    moments-refused _ _ _ (few-counts 3 (a .moments .now) 2 (a .values .now) (c .before .if1 .left) (c .if2 .taken))
+returns-2 c = moments-refused (short-counts (c .before .if1 .left) (c .if2 .taken))
 
 tensor-moments-requires : tie.Need-tensor-moments-requires
 tensor-moments-requires c κs = search needs
@@ -47,9 +42,7 @@ returns-3 c =
     let w = c .before .before .before in
     let b = w .before .before .before .before in
     let m = b .before .before .before in
-    let k = m .before in
-    let h = k .before in
-    moments-written _ _ _ (h .if1 .left) (k .if2 .left) (m .tensor-moments .result) _ _ _ (m .tensor-moments .ensures) (b .write-three .ensures) (w .write-values .ensures) (c .number .ensures)
+    moments-written (m .before .before .if1 .left) (m .before .if2 .left) (m .tensor-moments .ensures) (b .write-three .ensures) (w .write-values .ensures) (c .number .ensures)
 
 pub delvouzh-principal-moments-spec : {M : Type 1} → statement M
 delvouzh-principal-moments-spec =

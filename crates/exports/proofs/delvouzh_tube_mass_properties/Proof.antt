@@ -1,20 +1,14 @@
 -- `exports::delvouzh_tube_mass_properties` meets its contract: there is no room, or the body is written. Assumes nothing.
 use borrow.Author.Needs.{needs}
-use Rattle.bodies.specs.Layout.{bodyNumbers}
-use Rattle.foreign_numbers.proofs.Rooms.{few-figures, few-counts}
-use Rattle.exports.proofs.Calls.{ring-refused, ring-written}
+use Rattle.exports.proofs.Calls.{short-figures, short-counts, ring-refused, ring-written}
 use Rattle.exports.proofs.delvouzh_tube_mass_properties.Statement.{statement}
 use Rattle.exports.proofs.delvouzh_tube_mass_properties.Tie as tie
 
 returns : tie.Need-returns
-returns c =
-    let a = c .before .before .before .before .args in
-    ring-refused _ _ _ _ _ (few-figures bodyNumbers (a .body .now) 2 (a .values .now) (c .if1 .taken))
+returns c = ring-refused (short-figures (c .if1 .taken))
 
 returns-2 : tie.Need-returns-2
-returns-2 c =
-    let a = c .before .before .before .before .before .args in
-    ring-refused _ _ _ _ _ (few-counts bodyNumbers (a .body .now) 2 (a .values .now) (c .before .if1 .left) (c .if2 .taken))
+returns-2 c = ring-refused (short-counts (c .before .if1 .left) (c .if2 .taken))
 
 ring-figures-requires : tie.Need-ring-figures-requires
 ring-figures-requires c κs = search needs
@@ -39,9 +33,7 @@ returns-3 c =
     let w = c .before .before .before in
     let b = w .before .before .before .before in
     let f = b .before .before .before in
-    let k = f .before in
-    let h = k .before in
-    ring-written _ _ _ _ _ (h .if1 .left) (k .if2 .left) (f .ring-figures .result) _ _ _ (f .ring-figures .ensures) (b .write-body .ensures) (w .write-values .ensures) (c .number .ensures)
+    ring-written (f .before .before .if1 .left) (f .before .if2 .left) (f .ring-figures .ensures) (b .write-body .ensures) (w .write-values .ensures) (c .number .ensures)
 
 pub delvouzh-tube-mass-properties-spec : {M : Type 1} → statement M
 delvouzh-tube-mass-properties-spec =
