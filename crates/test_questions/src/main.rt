@@ -9,7 +9,7 @@ mod section_lines;
 
 ghost use Prim.Native.Nat.{_≤_};
 ghost use lib.ListN.{length};
-ghost use Rattle.test_questions.specs.Parts.{lineFigures, Reached};
+ghost use Rattle.test_questions.specs.Parts.{lineFigures};
 use crate::lines::Outcome;
 use crate::reading::Cursor;
 use crate::reading::LINE_FIGURES;
@@ -29,63 +29,8 @@ struct Progress {
     kept: usize,
 }
 
-// The line read as one of a kind.
-fn read_as(kind: usize, line: &[u8], values: &mut [f64]) -> Cursor
-    requires { ⌜ lineFigures ≤ length (now values) ⌝ }
-    ensures { λ r. ⌜ Reached (now (line .entry)) r ⌝ }
-{
-    match kind {
-        0 => reading::read(line, b"root F = F", values),
-        1 => reading::read(line, b"sine F = F F", values),
-        2 => reading::read(
-            line,
-            b"section square|rounded|airfoil|airfoil-open F F F = F F F F",
-            values,
-        ),
-        3 => reading::read(line, b"tab F F F F F = F F F F F F F", values),
-        4 => reading::read(line, b"touch F F F F F F F F = yes|no", values),
-        5 => reading::read(line, b"matrix x|z F = F F F F F F F F F", values),
-        6 => reading::read(
-            line,
-            b"turn x|z F F F F F F F F F F F = F F F F F F F F F F",
-            values,
-        ),
-        7 => reading::read(
-            line,
-            b"about F F F F F F F F F F F F F = F F F F F F",
-            values,
-        ),
-        8 => reading::read(line, b"check F F F F F F F F F F = sound", values),
-        9 => reading::read(line, b"check F F F F F F F F F F = refused 15", values),
-        10 => reading::read(line, b"check F F F F F F F F F F = refused 16", values),
-        11 => reading::read(
-            line,
-            b"check F F F F F F F F F F = refused 17 a|b|c|d|e",
-            values,
-        ),
-        12 => reading::read(line, b"moments F F F F F F = F F F", values),
-        13 => reading::read(line, b"moments F F F F F F = refused 17 a|b|c|d|e", values),
-        14 => reading::read(
-            line,
-            b"chords trapezoid|ellipse|outline F.. at F = F..",
-            values,
-        ),
-        15 => reading::read(line, b"breaks trapezoid|ellipse|outline F.. = F..", values),
-        16 => reading::read(
-            line,
-            b"area trapezoid|ellipse|outline F.. at F = F F F",
-            values,
-        ),
-        _ => reading::read(
-            line,
-            b"plate square|rounded|airfoil|airfoil-open F F trapezoid|ellipse|outline F.. at F = F F F F F F F",
-            values,
-        ),
-    }
-}
-
-// Whether the code gives the answers of a line that was read as one of a kind.
-fn agrees(kind: usize, c: Cursor, values: &[f64]) -> bool
+// Whether the code gives the answers of a line that was read by the template in this place, from 0 on.
+fn agrees(place: usize, c: Cursor, values: &[f64]) -> bool
     requires { ⌜ (c .asked ≤ c .figures) × (c .figures ≤ lineFigures) × (lineFigures ≤ length (now values)) ⌝ }
 {
     let asked = c.asked;
@@ -94,7 +39,7 @@ fn agrees(kind: usize, c: Cursor, values: &[f64]) -> bool
     let answers = &values[asked..all];
     let end = planform_lines::height_place(asked);
     let h = values[end];
-    match kind {
+    match place {
         0 => number_lines::root_agrees(values, answers),
         1 => number_lines::sine_agrees(values, answers),
         2 => section_lines::moments_agree(word, values, answers),
@@ -116,22 +61,50 @@ fn agrees(kind: usize, c: Cursor, values: &[f64]) -> bool
     }
 }
 
-// The kinds are tried in turn: a line is of one at most.
+// The templates are tried in turn, one to a row: a line fits one at most.
+fn replay_by(line: &[u8], templates: &[u8], values: &mut [f64]) -> Outcome
+    requires { ⌜ lineFigures ≤ length (now values) ⌝ }
+{
+    let mut place: usize = 0;
+    let mut from: usize = 0;
+    while from < templates.len() {
+        let to = reading::row_end(templates, from);
+        let c = reading::read(line, &templates[from..to], values);
+        if c.ok {
+            return lines::agrees_or_not(agrees(place, c, values));
+        }
+        place += 1;
+        from = to + 1;
+    }
+    Outcome::NoLine
+}
+
+// How the lists' lines are written; `agrees` goes by the places of these rows.
 fn replay_line(line: &[u8], values: &mut [f64]) -> Outcome
     requires { ⌜ lineFigures ≤ length (now values) ⌝ }
 {
     if LINE_BYTES < line.len() {
         return Outcome::NoLine;
     }
-    let mut kind: usize = 0;
-    while kind < 18 {
-        let c = read_as(kind, line, values);
-        if c.ok {
-            return lines::agrees_or_not(agrees(kind, c, values));
-        }
-        kind += 1;
-    }
-    Outcome::NoLine
+    let templates = b"root F = F\n\
+        sine F = F F\n\
+        section square|rounded|airfoil|airfoil-open F F F = F F F F\n\
+        tab F F F F F = F F F F F F F\n\
+        touch F F F F F F F F = yes|no\n\
+        matrix x|z F = F F F F F F F F F\n\
+        turn x|z F F F F F F F F F F F = F F F F F F F F F F\n\
+        about F F F F F F F F F F F F F = F F F F F F\n\
+        check F F F F F F F F F F = sound\n\
+        check F F F F F F F F F F = refused 15\n\
+        check F F F F F F F F F F = refused 16\n\
+        check F F F F F F F F F F = refused 17 a|b|c|d|e\n\
+        moments F F F F F F = F F F\n\
+        moments F F F F F F = refused 17 a|b|c|d|e\n\
+        chords trapezoid|ellipse|outline F.. at F = F..\n\
+        breaks trapezoid|ellipse|outline F.. = F..\n\
+        area trapezoid|ellipse|outline F.. at F = F F F\n\
+        plate square|rounded|airfoil|airfoil-open F F trapezoid|ellipse|outline F.. at F = F F F F F F F";
+    replay_by(line, templates, values)
 }
 
 fn counted(t: Tally, o: Outcome) -> Tally {

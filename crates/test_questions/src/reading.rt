@@ -1,5 +1,5 @@
 // A line of a list held against a template, by a reader of its own, so that the lists do not hang on how a card line is read: `F` stands for the
-// sixteen digits of an f64's bits, `F..` for as many figures as there are, `x|z` for one of the words between the bars, and any other word for itself.
+// sixteen digits of an f64's bits, `F..` for as many figures as there are, `x|z` for one of two words or more, and any other word for itself.
 ghost use Prim.Native.Nat.{_≤_};
 ghost use lib.ListN.{length};
 ghost use Rattle.test_questions.specs.Parts.{lineFigures, Reached};
@@ -152,6 +152,21 @@ fn take_text(line: &[u8], c: Cursor, template: &[u8], values: &mut [f64]) -> Cur
         s = take_one(line, s, &template[from..to], values);
     }
     s
+}
+
+// Where the row that begins there ends.
+pub(crate) fn row_end(rows: &[u8], from: usize) -> usize
+    requires { ⌜ from ≤ length (now rows) ⌝ }
+    ensures { λ r. ⌜ (from ≤ r) × (r ≤ length (now (rows .entry))) ⌝ }
+{
+    let mut to = from;
+    while to < rows.len() {
+        if rows[to] == b'\n' {
+            return to;
+        }
+        to += 1;
+    }
+    to
 }
 
 // The whole line against a template: it fits where the line ends there.
