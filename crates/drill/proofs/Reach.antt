@@ -1,14 +1,16 @@
 -- How far a length reaches in steps, and so that the coordinates of an accepted planform and point are small enough for `polygons`. Assumes nothing.
 use mathlib.Core.Bool.{true}
-use mathlib.Core.Path.{_≡_, refl, sym, ap, subst, _∙_}
+use mathlib.Core.Path.{_≡_, refl, ap, _∙_}
 use mathlib.Core.List.{List, [], _∷_, map}
-use mathlib.Core.Logic.{_⊎_, inl, inr, ⊎-elim}
 use Prim.Native.Nat.{ℕ, zero, suc, _+_, _^_, _≤_, _<_, zero-le}
-use native.Mathlib.Nat.{not-suc-le-zero, le-of-suc-le-suc, le-of-eq, le-trans}
+use native.Mathlib.Nat.{not-suc-le-zero, le-of-suc-le-suc}
 use native.Mathlib.Omega.{arith}
 use lib.IntN.{ℤ, pos, natAbs, _+ℤ_}
-use lib.ListN.{length, getD, List·getD-map}
+use lib.ListN.{getD, List·getD-map}
 use lib.Ieee.{Float, nan}
+use lib.Signed.{mag}
+use mir.Syntax.{w64}
+use mir.Val.{ofZ, toZ}
 use Rattle.floats.specs.Operations.{at}
 use Rattle.steps.specs.Parts.{IsLength}
 use Rattle.steps.specs.Steps.{exactOf, isWhole, stepsOf}
@@ -16,7 +18,7 @@ use Rattle.steps.proofs.Lengths.{few-steps}
 use Rattle.steps.proofs.Sums.{steps-of-sum}
 use Rattle.planforms.specs.declared.Planform.the-variants.{Trapezoid}
 use Rattle.polygons.specs.Bounds.{IsCoordinate}
-use Rattle.polygons.proofs.Sizes.{abs-add}
+use Rattle.polygons.proofs.Sizes.{abs-add, result-back}
 use Rattle.drill.specs.Drill.{cornersOf}
 use Rattle.drill.specs.InSteps.{AreLengths}
 
@@ -54,6 +56,13 @@ steps-of-zero = refl
 
 pub reaches : (x : Float) → IsLength x → IsCoordinate (stepsOf (exactOf x))
 reaches x h = let s = few-steps x h in omega (arith, s)
+
+-- the same of an i64 that holds them
+pub steps-back : {z y : ℤ} → mag z < 2 ^ 63 → z ≡ y → toZ w64 (ofZ w64 z) ≡ y
+steps-back {z} ok e = result-back z ok ∙ e
+
+pub steps-reach : (x : Float) {z : ℤ} → mag z < 2 ^ 63 → z ≡ stepsOf (exactOf x) → IsLength x → IsCoordinate (toZ w64 (ofZ w64 z))
+steps-reach x ok e h = rw (steps-back ok e) (reaches x h)
 
 pub sum-reaches : (a b : ℤ) → natAbs a ≤ 2 ^ 26 → natAbs b ≤ 2 ^ 26 → IsCoordinate (a +ℤ b)
 sum-reaches a b h k = omega (arith, abs-add a b)

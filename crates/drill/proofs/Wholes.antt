@@ -4,14 +4,15 @@ use mathlib.Core.Path.{_≡_, refl, sym, ap, _∙_}
 use mathlib.Core.Bool.{Bool, true, false, not, _&&_}
 use mathlib.Core.List.{List, [], _∷_, map}
 use Prim.Native.Nat.{ℕ, zero, suc, _+_}
-use native.Mathlib.Numerals.{add-one}
 use lib.IntN.{ℤ, pos, _+ℤ_}
 use lib.ListN.{length, getD}
-use lib.Ieee.{Float}
 use Rattle.floats.specs.Operations.{every}
-use Rattle.steps.specs.Steps.{exactOf, isWhole}
+use Rattle.refusals.specs.declared.Refusal.the-variants.{NotWholeSteps}
+use Rattle.steps.specs.Steps.{isWhole, stepsOf}
 use Rattle.steps.proofs.Sums.{whole-part}
-use Rattle.drill.specs.Drill.{areWhole}
+use Rattle.drill.specs.declared.Answer.the-variants.{Refused}
+use Rattle.drill.specs.Drill.{areWhole, placeOf}
+use Rattle.drill.specs.InSteps.{inSteps}
 
 -- ---- a trapezoid
 
@@ -62,3 +63,14 @@ not-true false h = refl
 pub not-false : (t : Bool) → not t ≡ false → t ≡ true
 not-false true h = refl
 not-false false h = sym h
+
+-- ---- the answer, whichever way the test t went
+
+module _ (x h : ℤ) (corners : List ℤ) {t : Bool} (tested : t ≡ areWhole (x ∷ h ∷ corners)) where
+  pub refused : not t ≡ true → Refused NotWholeSteps ≡ inSteps corners x h
+  unfolding inSteps
+  refused o = sym (rw (sym tested ∙ not-true t o))
+
+  pub placed : not t ≡ false → {l : List ℤ} {z y : ℤ} → l ≡ map stepsOf corners → z ≡ stepsOf x → y ≡ stepsOf h → placeOf l z y ≡ inSteps corners x h
+  unfolding inSteps
+  placed o e f g = rw (e, f, g, sym tested ∙ not-false t o)

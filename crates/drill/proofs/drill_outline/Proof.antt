@@ -1,19 +1,17 @@
 -- `drill::drill_outline` meets its contract: the corners in steps are the array's first numbers. Assumes nothing.
-use mathlib.Core.Bool.{true, _&&_}
+use mathlib.Core.Bool.{_&&_}
 use mathlib.Core.List.{_∷_, map}
 use mathlib.Core.Path.{_≡_, sym, ap, _∙_}
-use Prim.Native.Nat.{ℕ, suc, _/_, _<_}
+use Prim.Native.Nat.{suc}
 use native.Mathlib.Omega.{arith}
 use borrow.Author.Needs.{needs}
 use denote.Ref.{now}
 use lib.ListN.{length, length-map}
-use Rattle.polygons.specs.Polygons.{cornerCount}
-use Rattle.polygons.proofs.Sizes.{result-back}
 use Rattle.steps.specs.Steps.{exactOf, stepsOf}
 use Rattle.drill.specs.Drill.{areWhole}
-use Rattle.drill.specs.InSteps.{AreLengths, inSteps}
-use Rattle.drill.proofs.Reach.{reaches, all-reach}
-use Rattle.drill.proofs.Wholes.{two-in-front, not-true, not-false}
+use Rattle.drill.specs.InSteps.{AreLengths}
+use Rattle.drill.proofs.Reach.{all-reach, steps-back, steps-reach}
+use Rattle.drill.proofs.Wholes.{two-in-front, refused, placed}
 use Rattle.drill.proofs.drill_outline.Statement.{statement}
 use Rattle.drill.proofs.drill_outline.Tie as tie
 
@@ -36,8 +34,7 @@ tested c =
     rw (c .before .before .is-whole .ensures, c .before .is-whole2 .ensures, c .are-whole .ensures) (sym (two-in-front (exactOf (a .x-m)) (exactOf (a .height-m)) (map exactOf (now (a .points)))))
 
 returns : tie.Need-returns
-unfolding inSteps
-returns c = sym (rw (sym (tested (c .before)) ∙ not-true _ (c .if1 .taken)))
+returns c = refused _ _ _ (tested (c .before)) (c .if1 .taken)
 
 steps-of-requires : tie.Need-steps-of-requires
 steps-of-requires c κs = (drawn (c .before .before .before .before .before), c .before .before .before .before .before .pre .1)
@@ -66,26 +63,18 @@ place-requires c κs =
       rw (corners, length-map (map exactOf points) stepsOf, length-map points exactOf) (at .pre .2),
       record {
         all = rw corners (all-reach points (drawn at));
-        across = rw (result-back (x .result) (x .ok), x .ensures) (reaches (at .args .x-m) (at .pre .0 0 (omega arith)));
-        up = rw (result-back (height .result) (height .ok), height .ensures) (reaches (at .args .height-m) (at .pre .0 1 (omega arith)));
+        across = steps-reach _ (x .ok) (x .ensures) (at .pre .0 0 (omega arith));
+        up = steps-reach _ (height .ok) (height .ensures) (at .pre .0 1 (omega arith));
       },
     )
 
 returns-2 : tie.Need-returns-2
-unfolding inSteps
 returns-2 c =
     let x = c .before .before .steps in
     let height = c .before .steps2 in
     let past = c .before .before .before .before .before in
-    c .place .ensures
-    ∙ rw (
-      c .before .before .before .before .steps-of .ensures,
-      result-back (x .result) (x .ok),
-      x .ensures,
-      result-back (height .result) (height .ok),
-      height .ensures,
-      sym (tested (past .before)) ∙ not-false _ (past .if1 .left),
-    )
+    let corners = c .before .before .before .before .steps-of .ensures in
+    c .place .ensures ∙ placed _ _ _ (tested (past .before)) (past .if1 .left) corners (steps-back (x .ok) (x .ensures)) (steps-back (height .ok) (height .ensures))
 
 pub drill-outline-spec : {M : Type 1} → statement M
 drill-outline-spec =

@@ -5,13 +5,11 @@ use mathlib.Core.Path.{_≡_, sym, _∙_}
 use native.Mathlib.Omega.{arith}
 use borrow.Author.Needs.{needs}
 use Rattle.refusals.proofs.Accepted.{both-true}
-use Rattle.polygons.proofs.Sizes.{result-back}
 use Rattle.steps.specs.Steps.{exactOf, isWhole}
 use Rattle.planforms.specs.declared.Planform.the-variants.{Trapezoid}
 use Rattle.drill.specs.Drill.{cornersOf, areWhole}
-use Rattle.drill.specs.InSteps.{inSteps}
-use Rattle.drill.proofs.Reach.{four, reaches, trapezoid-reach}
-use Rattle.drill.proofs.Wholes.{trapezoid, not-true, not-false}
+use Rattle.drill.proofs.Reach.{four, trapezoid-reach, steps-back, steps-reach}
+use Rattle.drill.proofs.Wholes.{trapezoid, not-false, refused, placed}
 use Rattle.drill.proofs.drill_trapezoid.Statement.{statement}
 use Rattle.drill.proofs.drill_trapezoid.Tie as tie
 
@@ -48,8 +46,7 @@ tested c =
     (sym (trapezoid (exactOf (a .x-m)) (exactOf (a .height-m)) (exactOf (a .sweep-m)) (exactOf (a .span-m)) (exactOf (a .tip-chord-m)) (exactOf (a .root-chord-m))))
 
 returns : tie.Need-returns
-unfolding inSteps
-returns c = sym (rw (sym (tested (c .before)) ∙ not-true _ (c .if1 .taken)))
+returns c = refused _ _ _ (tested (c .before)) (c .if1 .taken)
 
 -- past the test sweep and tip are whole
 tip-whole : (c : tie.Else1) → let a = c .before .before .before .before .before .before .before .args in (isWhole (exactOf (a .sweep-m)) ≡ true) × (isWhole (exactOf (a .tip-chord-m)) ≡ true)
@@ -89,26 +86,18 @@ place-requires c κs =
       rw (corners .ensures) (omega arith),
       record {
         all = rw (corners .ensures) (trapezoid-reach (a .root-chord-m) (a .tip-chord-m) (a .span-m) (a .sweep-m) (a .x-m ∷ a .height-m ∷ []) (at .pre) (w .0) (w .1));
-        across = rw (result-back (x .result) (x .ok), x .ensures) (reaches (a .x-m) (at .pre 4 (omega arith)));
-        up = rw (result-back (height .result) (height .ok), height .ensures) (reaches (a .height-m) (at .pre 5 (omega arith)));
+        across = steps-reach _ (x .ok) (x .ensures) (at .pre 4 (omega arith));
+        up = steps-reach _ (height .ok) (height .ensures) (at .pre 5 (omega arith));
       },
     )
 
 returns-2 : tie.Need-returns-2
-unfolding inSteps
 returns-2 c =
     let x = c .before .before .steps in
     let height = c .before .steps2 in
     let past = c .before .before .before .before .before in
-    c .place .ensures
-    ∙ rw (
-      c .before .before .before .before .trapezoid-corners .ensures,
-      result-back (x .result) (x .ok),
-      x .ensures,
-      result-back (height .result) (height .ok),
-      height .ensures,
-      sym (tested (past .before)) ∙ not-false _ (past .if1 .left),
-    )
+    let corners = c .before .before .before .before .trapezoid-corners .ensures in
+    c .place .ensures ∙ placed _ _ _ (tested (past .before)) (past .if1 .left) corners (steps-back (x .ok) (x .ensures)) (steps-back (height .ok) (height .ensures))
 
 pub drill-trapezoid-spec : {M : Type 1} → statement M
 drill-trapezoid-spec =
