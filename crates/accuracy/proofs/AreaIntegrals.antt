@@ -1,4 +1,4 @@
--- The three components of the area are quadratics of the fraction of the span, and their totals are near the exact integrals. Assumes nothing.
+-- The three components of the area are parabolas of the fraction of the span, and how large their second coefficients are. Assumes nothing.
 use mathlib.Core.Path.{subst}
 use mathlib.Core.List.{List, [], _∷_}
 use Prim.Native.Nat.{ℕ, _+_, _*_, _≤_}
@@ -6,21 +6,22 @@ use native.Mathlib.Nat.{one-mul}
 use native.Mathlib.Omega.{arith}
 use lib.Pow.{pow-pos}
 use lib.Ieee.{Float}
-use Rattle.rounding_error.proofs.Numbers.{Number, number, Size, _per_, _plus_, _less_, _times_, _by_, _of_, IsNumber, IsSize, Under, valueOf, zeroNumber}
+use Rattle.rounding_error.proofs.Numbers.{Number, number, Size, _per_, _plus_, _less_, _times_, _by_, _of_, IsNumber, IsSize, Under, valueOf}
+use Rattle.rounding_error.proofs.Numbers.{zeroNumber}
 use Rattle.rounding_error.proofs.Distances.{sorted, within-upto}
 use Rattle.rounding_error.proofs.Counts as Counts
-use Rattle.rounding_error.proofs.Chains.{Valued, inverse, inverse-is, under-inverse}
-use Rattle.rounding_error.proofs.Polynomials.{plus-is, less-is, times-is, Expression, given, ratio, _add_, _take_, _mul_, AllNumbers, equal-by, evaluated-is}
-use Rattle.accuracy.proofs.Samples.{one, quarter}
+use Rattle.rounding_error.proofs.Chains.{inverse, inverse-is, under-inverse}
+use Rattle.rounding_error.proofs.Polynomials.{plus-is, less-is, times-is, Expression, given, ratio, _add_, _take_, _mul_, AllNumbers, equal-by}
+use Rattle.rounding_error.proofs.Polynomials.{evaluated-is}
+use Rattle.accuracy.proofs.Samples.{one}
 use Rattle.accuracy.proofs.Given.{Lengths}
 use Rattle.accuracy.proofs.Ends.{halfSize}
-use Rattle.accuracy.proofs.Quadratic.{Quadratic, integral, two-under}
+use Rattle.accuracy.proofs.Quadratic.{Quadratic, two-under}
 use Rattle.accuracy.proofs.Weighted.{middle}
 use Rattle.accuracy.proofs.Parts.{Parabola, parabola-from}
 use Rattle.accuracy.proofs.Whole.{one-by}
 use Rattle.accuracy.proofs.ChordEnds as Chord
 use Rattle.accuracy.proofs.AreaSamples as Area
-use Rattle.accuracy.proofs.Integrals.{totalOver, totalError, sumSize, total-valued}
 
 -- the exact chord as an expression of sweep, root, tip, 1/scale, span/scale and the fraction: places 0 to 5
 abbrev pub startE : Expression → Expression
@@ -46,7 +47,8 @@ abbrev pub twiceE : (Expression → Expression) → Expression → Expression
 twiceE v q = v (ratio 1 1) add v (ratio 1 1) add q mul (given 5 mul given 5)
 
 abbrev pub momentSecond : Expression
-momentSecond = (given 0 add (given 2 take given 1)) mul given 3 mul ((given 0 add (given 2 take given 1)) mul given 3) take given 0 mul given 3 mul (given 0 mul given 3)
+momentSecond = (given 0 add (given 2 take given 1)) mul given 3 mul ((given 0 add (given 2 take given 1)) mul given 3) take given 0 mul given 3 mul
+    (given 0 mul given 3)
 
 abbrev pub heightSecond : Expression
 heightSecond = ratio 2 0 mul given 4 mul ((given 2 take given 1) mul given 3)
@@ -74,8 +76,13 @@ module _ (root tip span sweep scale : Float) (B : Size) (g : Lengths root tip sp
   H = Chord.H root tip span sweep scale B g
 
   pub values : (d : Number) → IsNumber d → AllNumbers (S ∷ R ∷ Tp ∷ σ ∷ U ∷ d ∷ [])
-  values d i =
-      (Counts.value-is sweep, (Counts.value-is root, (Counts.value-is tip, (inverse-is scale (g .scale-positive), (Chord.U-is root tip span sweep scale B g, (i, tt))))))
+  values d i = (
+    Counts.value-is sweep,
+    (
+      Counts.value-is root,
+      (Counts.value-is tip, (inverse-is scale (g .scale-positive), (Chord.U-is root tip span sweep scale B g, (i, tt)))),
+    ),
+  )
 
   iσ : IsNumber σ
   iσ = inverse-is scale (g .scale-positive)
@@ -117,8 +124,13 @@ module _ (root tip span sweep scale : Float) (B : Size) (g : Lengths root tip sp
   -- ---- by their coefficients
   pub width-parabola : Parabola (Area.width root tip span sweep scale B g) zeroNumber
   width-parabola =
-      parabola-from (Area.width root tip span sweep scale B g) (R times σ) ((Tp less R) times σ) zeroNumber
-      (times-is R σ (Counts.value-is root) iσ, (times-is (Tp less R) σ (less-is Tp R (Counts.value-is tip) (Counts.value-is root)) iσ, (pow-pos 0, tt)))
+      parabola-from (Area.width root tip span sweep scale B g) (R times σ) ((Tp less R) times σ) zeroNumber (
+        times-is R σ (Counts.value-is root) iσ,
+        (
+          times-is (Tp less R) σ (less-is Tp R (Counts.value-is tip) (Counts.value-is root)) iσ,
+          (pow-pos 0, tt),
+        ),
+      )
       (width-quadratic .is)
       (λ τ i. equal-by (all τ) (values τ i) (widthE (given 5))
       (given 1 mul given 3 add given 5 mul ((given 2 take given 1) mul given 3 add given 5 mul (ratio 1 1 mul ratio 0 0))) tt)
@@ -136,8 +148,13 @@ module _ (root tip span sweep scale : Float) (B : Size) (g : Lengths root tip sp
 
   pub height-parabola : Parabola (Area.height root tip span sweep scale B g) height-q
   height-parabola =
-      parabola-from (Area.height root tip span sweep scale B g) zeroNumber (U times (R times σ)) height-q
-      (pow-pos 0, (times-is U (R times σ) (Chord.U-is root tip span sweep scale B g) (times-is R σ (Counts.value-is root) iσ), (height-quadratic .q-is, tt)))
+      parabola-from (Area.height root tip span sweep scale B g) zeroNumber (U times (R times σ)) height-q (
+        pow-pos 0,
+        (
+          times-is U (R times σ) (Chord.U-is root tip span sweep scale B g) (times-is R σ (Counts.value-is root) iσ),
+          (height-quadratic .q-is, tt),
+        ),
+      )
       (height-quadratic .is)
       (λ τ i. equal-by (all τ) (values τ i) (heightE (given 5))
       (ratio 0 0 add given 5 mul (given 4 mul (given 1 mul given 3) add given 5 mul (ratio 1 1 mul heightSecond))) tt)
@@ -172,39 +189,24 @@ module _ (root tip span sweep scale : Float) (B : Size) (g : Lengths root tip sp
       let uS : Under (1 of Bs) (S times σ) = scaled 1 S (Counts.value-is sweep) (g .sweep-under) in
       let CB = Chord.scaled-ranges root tip span sweep scale B g .real in
       Counts.under-less 9 1 (Bs by Bs) ((G times σ) times (G times σ)) ((S times σ) times (S times σ)) (Counts.by-is Bs Bs CB CB)
-      (Counts.under-times 3 3 Bs Bs (G times σ) (G times σ) CB CB (times-is G σ iG q) uG uG) (Counts.under-times 1 1 Bs Bs (S times σ) (S times σ) CB CB (times-is S σ (Counts.value-is sweep) q) uS uS)
+      (Counts.under-times 3 3 Bs Bs (G times σ) (G times σ) CB CB (times-is G σ iG q) uG uG)
+      (Counts.under-times 1 1 Bs Bs (S times σ) (S times σ) CB CB (times-is S σ (Counts.value-is sweep) q) uS uS)
 
-  in-halves : (A : Size) → IsSize A → (x : Number) → Under (10 of A) x → Under (20 of (halfSize by A)) x
+  pub in-halves : (A : Size) → IsSize A → (x : Number) → Under (10 of A) x → Under (20 of (halfSize by A)) x
   in-halves (a per c) D x u = within-upto (10 of (a per c)) (20 of (halfSize by (a per c))) x zeroNumber D (go a c) u
     where
       go : (a c : ℕ) → 10 * a * (2 * c) ≤ 20 * (1 * a) * c
       go a c = simp (sorted, one-mul) (omega arith)
 
-  height-q-under : Under (4 of (H by Bs)) height-q
+  pub height-q-under : Under (4 of (H by Bs)) height-q
   height-q-under =
       let CB = Chord.scaled-ranges root tip span sweep scale B g .real in
       let CH = Chord.height-ranges root tip span sweep scale B g .real in
-      Counts.under-times 2 2 H Bs (number 2 0 1 times U) ((Tp less R) times σ) CH CB (times-is (number 2 0 1) U (pow-pos 0) (Chord.U-is root tip span sweep scale B g)) double (scaled 2 (Tp less R) taper-is taper-under)
+      Counts.under-times 2 2 H Bs (number 2 0 1 times U) ((Tp less R) times σ) CH CB
+      (times-is (number 2 0 1) U (pow-pos 0) (Chord.U-is root tip span sweep scale B g)) double (scaled 2 (Tp less R) taper-is taper-under)
     where
       double : Under (2 of H) (number 2 0 1 times U)
       double =
           subst (λ (A : Size). Under (2 of A) (number 2 0 1 times U)) (one-by H)
-          (Counts.under-times 2 1 one H (number 2 0 1) U (pow-pos 0) (Chord.height-ranges root tip span sweep scale B g .real) (pow-pos 0) two-under (Chord.U-under root tip span sweep scale B g))
-
-  pub width-total : Valued (totalOver root tip span sweep scale B g (Area.widthAt root tip span sweep scale B g)) (U times integral (Area.width root tip span sweep scale B g) zeroNumber) (totalError 170 5 0) (sumSize 5 0) (H by (quarter by Bs))
-  width-total =
-      total-valued root tip span sweep scale B g (Area.widthAt root tip span sweep scale B g) (Area.width root tip span sweep scale B g) zeroNumber 170 5 0 48 Bs (omega arith) (omega arith) (omega arith) (omega arith)
-      (Chord.scaled-ranges root tip span sweep scale B g) width-quadratic (none-under Bs) (Area.widths-sampled root tip span sweep scale B g)
-
-  pub moment-total : Valued (totalOver root tip span sweep scale B g (Area.momentAt root tip span sweep scale B g)) (U times integral (Area.moment root tip span sweep scale B g) moment-q) (totalError 1315 17 20) (sumSize 17 20)
-      (H by (quarter by (halfSize by (Bs by Bs))))
-  moment-total =
-      total-valued root tip span sweep scale B g (Area.momentAt root tip span sweep scale B g) (Area.moment root tip span sweep scale B g) moment-q 1315 17 20 97 (halfSize by (Bs by Bs)) (omega arith) (omega arith)
-      (omega arith) (omega arith) (Area.moment-ranges root tip span sweep scale B g) moment-quadratic
-      (in-halves (Bs by Bs) (Area.ranges-2 root tip span sweep scale B g .real) moment-q moment-q-under) (Area.moments-sampled root tip span sweep scale B g)
-
-  pub height-total : Valued (totalOver root tip span sweep scale B g (Area.heightAt root tip span sweep scale B g)) (U times integral (Area.height root tip span sweep scale B g) height-q) (totalError 599 10 4) (sumSize 10 4)
-      (H by (quarter by (H by Bs)))
-  height-total =
-      total-valued root tip span sweep scale B g (Area.heightAt root tip span sweep scale B g) (Area.height root tip span sweep scale B g) height-q 599 10 4 96 (H by Bs) (omega arith) (omega arith) (omega arith) (omega arith)
-      (Area.height-ranges root tip span sweep scale B g) height-quadratic height-q-under (Area.heights-sampled root tip span sweep scale B g)
+          (Counts.under-times 2 1 one H (number 2 0 1) U (pow-pos 0) (Chord.height-ranges root tip span sweep scale B g .real) (pow-pos 0) two-under
+          (Chord.U-under root tip span sweep scale B g))

@@ -39,7 +39,6 @@ use Rattle.fins.proofs.Accepted.{area-limit}
 use Rattle.figures.specs.declared.Area.{Area}
 use Rattle.accuracy.specs.Areas.{AreaGiven, Reach, AreaNear, TrapezoidArea}
 use Rattle.accuracy.specs.Areas.{exactArea as exactFraction}
-use Rattle.accuracy.proofs.OnePiece.{exactArea}
 use Rattle.accuracy.proofs.Given.{Lengths}
 use Rattle.accuracy.proofs.Whole.{positive-value}
 use Rattle.accuracy.proofs.Called.{total-is, width-there, width-missing}
@@ -58,6 +57,10 @@ use Rattle.accuracy.proofs.WholeStrip.{lower-value, strip-kept}
 use Rattle.accuracy.proofs.Near.{figures-given, sized, sizes, span-above, stripPieces, pieces-counted}
 
 ruleset plain = (sorted, one-mul, mul-one, zero-mul, mul-zero, zero-add, add-zero)
+
+-- (root + tip)/2·span
+abbrev exactArea : Float → Float → Float → Number
+exactArea root tip span = number 1 0 2 times ((valueOf root plus valueOf tip) times valueOf span)
 
 -- ---- from the numbers of proofs to fractions
 exact-is : (root tip span : Float) → T (finite root) → T (finite tip) → T (finite span)

@@ -1,7 +1,6 @@
--- The three components of the area's integrand at the samples of a strip that is one piece: width, its first moment along the root, and height times
+-- The three components of the area's integrand at a height near a fraction of the span: width, its first moment along the root, and height times
 -- width. Each is near a quadratic of the fraction of the span. Assumes nothing.
 use mathlib.Core.Path.{_≡_, refl, subst}
-use Prim.Native.Nat.{ℕ, _<_}
 use native.Mathlib.Omega.{arith}
 use lib.Dec.{T}
 use lib.Pow.{pow-pos}
@@ -9,21 +8,15 @@ use lib.Ieee.{Float, ofBits}
 use lib.Ieee.Scale.{finite}
 use Rattle.floats.specs.Operations.{_⊕_, _⊖_, _⊗_, _⊘_, bits}
 use Rattle.floats.specs.Constants.{half}
-use Rattle.quadrature.specs.Rule.{minusSide, plusSide}
-use Rattle.rounding_error.proofs.Numbers.{Number, Size, _plus_, _less_, _times_, _by_, _of_, IsNumber, IsSize, Under, valueOf, InRange, Ranges}
+use Rattle.rounding_error.proofs.Numbers.{Number, Size, _less_, _times_, _by_, _of_, IsNumber, Under, valueOf, InRange, Ranges}
 use Rattle.rounding_error.proofs.Ranges.{ranges-by, in-range}
-use Rattle.rounding_error.proofs.Counts as Counts
-use Rattle.rounding_error.proofs.Chains.{Valued, counted, less-valued, times-valued, exact-times}
-use Rattle.accuracy.proofs.ExactRule.{node}
+use Rattle.rounding_error.proofs.Chains.{Valued, less-valued, times-valued, exact-times}
 use Rattle.accuracy.proofs.Samples.{one}
 use Rattle.accuracy.proofs.Trapezoids.{fractionAt}
-use Rattle.accuracy.proofs.OnePiece.{centreOf, reachOf}
 use Rattle.accuracy.proofs.Given.{Lengths}
-use Rattle.accuracy.proofs.Tables.{node-near-one}
-use Rattle.accuracy.proofs.Heights.{one-part}
 use Rattle.accuracy.proofs.Ends.{halfSize}
 use Rattle.accuracy.proofs.Areas.{half-ranges}
-use Rattle.accuracy.proofs.Weighted.{middle, lower, upper, Sampled}
+use Rattle.accuracy.proofs.Weighted.{middle}
 use Rattle.accuracy.proofs.ChordEnds as Chord
 use Rattle.accuracy.proofs.Integrals.{from-zero}
 
@@ -111,39 +104,20 @@ module _ (root tip span sweep scale : Float) (B : Size) (g : Lengths root tip sp
 
     pub squares-valued : Valued (endAt h ⊗ endAt h ⊖ startAt h ⊗ startAt h) (ends τ times ends τ less starts τ times starts τ) 1278 17 (Bs by Bs)
     squares-valued =
-        less-valued (in-range 96 (Bs by Bs) (omega arith) ranges-2) tt (times-valued {A = Bs} {B = Bs} (r1 .real) (r1 .real) (in-range 96 (Bs by Bs) (omega arith) ranges-2) tt end end)
+        less-valued (in-range 96 (Bs by Bs) (omega arith) ranges-2) tt (times-valued {A = Bs} {B = Bs} (r1 .real) (r1 .real)
+        (in-range 96 (Bs by Bs) (omega arith) ranges-2) tt end end)
         (times-valued {A = Bs} {B = Bs} (r1 .real) (r1 .real) (in-range 96 (Bs by Bs) (omega arith) ranges-2) tt start start)
 
-    moment-valued : Valued (momentAt h) (moment τ) 1315 17 (halfSize by (Bs by Bs))
+    pub moment-valued : Valued (momentAt h) (moment τ) 1315 17 (halfSize by (Bs by Bs))
     moment-valued =
         from-zero 1296 17 (halfSize by (Bs by Bs)) (in-range 97 (halfSize by (Bs by Bs)) (omega arith) moment-ranges) (omega arith) (omega arith)
-        (subst (λ (m : Number). Valued (half ⊗ (endAt h ⊗ endAt h ⊖ startAt h ⊗ startAt h)) (m times (ends τ times ends τ less starts τ times starts τ)) 1296 17 (halfSize by (Bs by Bs))) half-value
-        (exact-times half 1 halfSize (pow-pos 1) (ranges-2 .real) (in-range 97 (halfSize by (Bs by Bs)) (omega arith) moment-ranges) tt half-finite half-under squares-valued))
+        (subst (λ (m : Number). Valued (half ⊗ (endAt h ⊗ endAt h ⊖ startAt h ⊗ startAt h))
+        (m times (ends τ times ends τ less starts τ times starts τ)) 1296 17 (halfSize by (Bs by Bs))) half-value
+        (exact-times half 1 halfSize (pow-pos 1) (ranges-2 .real) (in-range 97 (halfSize by (Bs by Bs))
+        (omega arith) moment-ranges) tt half-finite half-under squares-valued))
 
-    height-valued : Valued (heightAt h) (height τ) 599 10 (H by Bs)
+    pub height-valued : Valued (heightAt h) (height τ) 599 10 (H by Bs)
     height-valued =
         from-zero 587 10 (H by Bs) (in-range 96 (H by Bs) (omega arith) height-ranges) (omega arith) (omega arith)
-        (times-valued {A = H} {B = Bs} (Chord.height-ranges root tip span sweep scale B g .real) (r1 .real) (in-range 96 (H by Bs) (omega arith) height-ranges) tt z across-valued)
-
-  -- ---- at each of the samples
-  pub sampled : (y : Float → Float) (v : Number → Number) (l j : ℕ) (A : Size) → ((h : Float) (τ : Number) → IsNumber τ → Under (1 of one) τ → Valued h (U times τ) 16 2 H → Valued (y h) (v τ) l j A)
-      → Sampled y v (centreOf span scale) (reachOf span scale) l j A
-  sampled y v l j A each =
-      let x : (i : ℕ) → i < 7 → Under (1 of one) (valueOf (node i)) = λ i k. one-part (valueOf (node i)) (node-near-one i k) in
-      let C : IsSize H = Chord.height-ranges root tip span sweep scale B g .real in
-      record {
-        at-centre = each (centreOf span scale) middle (pow-pos 1) Chord.half-one (counted (Chord.middle-valued root tip span sweep scale B g) 16 2 C tt);
-        at-minus = λ i k. each (minusSide (centreOf span scale) (reachOf span scale) i) (lower i) (Chord.lower-is root tip span sweep scale B g i) (Chord.lower-under (valueOf (node i)) (x i k))
-            (Chord.minus-valued root tip span sweep scale B g i k);
-        at-plus = λ i k. each (plusSide (centreOf span scale) (reachOf span scale) i) (upper i) (Chord.upper-is root tip span sweep scale B g i) (Chord.upper-under (valueOf (node i)) (x i k))
-            (Chord.plus-side-valued root tip span sweep scale B g i k);
-      }
-
-  pub widths-sampled : Sampled widthAt width (centreOf span scale) (reachOf span scale) 170 5 Bs
-  widths-sampled = sampled widthAt width 170 5 Bs width-valued
-
-  pub moments-sampled : Sampled momentAt moment (centreOf span scale) (reachOf span scale) 1315 17 (halfSize by (Bs by Bs))
-  moments-sampled = sampled momentAt moment 1315 17 (halfSize by (Bs by Bs)) moment-valued
-
-  pub heights-sampled : Sampled heightAt height (centreOf span scale) (reachOf span scale) 599 10 (H by Bs)
-  heights-sampled = sampled heightAt height 599 10 (H by Bs) height-valued
+        (times-valued {A = H} {B = Bs} (Chord.height-ranges root tip span sweep scale B g .real) (r1 .real)
+        (in-range 96 (H by Bs) (omega arith) height-ranges) tt z across-valued)

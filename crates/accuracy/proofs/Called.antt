@@ -1,15 +1,12 @@
--- What the call for an area gives for a trapezoid: one strip from 0 to the span, and where that is one piece, the area of proofs/OnePiece. Assumes
--- nothing.
+-- What the call for an area gives for a trapezoid: one strip from 0 to the span, and the chord's values at a height in it. Assumes nothing.
 use mathlib.Core.Path.{_≡_, refl, sym, ap, _∙_}
-use mathlib.Core.Logic.{_⊎_, inl, inr}
 use mathlib.Core.Bool.{Bool, true, false, cond}
 use mathlib.Core.List.{List, [], _∷_}
-use Prim.Native.Nat.{ℕ, zero, suc, _+_, _-_, _≤_, _<_}
+use Prim.Native.Nat.{ℕ, zero, suc, _<_}
 use native.Mathlib.Nat.{le-refl, add-zero}
 use native.Mathlib.Omega.{arith}
 use lib.Dec.{T, lit≤}
-use lib.ListN.{length}
-use lib.Ieee.{Float, lt, eq, le}
+use lib.Ieee.{Float, lt, le}
 use lib.Ieee.Bits.{is-true}
 use Rattle.floats.specs.Operations.{_⊕_, _⊖_, _⊗_, _⊘_, bits, at}
 use Rattle.floats.specs.Constants.{half}
@@ -26,12 +23,9 @@ use Rattle.breaks.proofs.Listed.{two-heights}
 use Rattle.chords.specs.Chords.{inSpan, trapezoidAt, endsAt, paired}
 use Rattle.integrands.specs.Integrands.{scaleOf, sumsFrom, areaValues, areaThree}
 use Rattle.integrands.specs.declared.Kind.the-variants.{Area as area}
-use Rattle.quadrature.specs.Rule.{halfWidth, minusSide, plusSide, weightedTo, kronrodWeight, sumOf, pieceOf, heightsOf}
-use Rattle.quadrature.specs.declared.Piece.{Piece}
-use Rattle.tolerance.proofs.Numbers.{at-tabulate}
+use Rattle.quadrature.specs.Rule.{minusSide, plusSide, weightedTo}
 use Rattle.tolerance.specs.Bounds.{totalOf}
-use Rattle.halving.specs.Halving.{repeat, halving, verdictOf}
-use Rattle.halving.proofs.Outcomes.{outcome, kept, one-more}
+use Rattle.halving.specs.Halving.{halving, verdictOf}
 use Rattle.strips.specs.Strips.{Worked, workedOf, stripOf, isAccepted, piecesOf, valueFrom, byVerdict, summedOf, totalsOf, givenTotals, refusedTotals, concludedOf, intervalsIn}
 use Rattle.strips.specs.declared.Totals.{Totals}
 use Rattle.halving.specs.Scratch.{intervalsOf}
@@ -97,33 +91,6 @@ unfolding weightedTo
 same-sum zero weight y z centre reach c m p = rw c
 same-sum (suc n) weight y z centre reach c m p =
     rw (same-sum n weight y z centre reach c (λ i l. m i (omega arith)) (λ i l. p i (omega arith)), m n (le-refl (suc n)), p n (le-refl (suc n)))
-
--- ---- the totals of one piece
-pub total-one : (w k : ℕ) → k < w → (f : Float → List Float) (a b : Float) (pieces : List Piece) → pieces ≡ pieceOf w f a b ∷ [] → totalOf pieces k ≡ bits 0 ⊕ halfWidth a b ⊗ sumOf kronrodWeight f a b k
-unfolding totalOf pieceOf
-total-one w k l f a b pieces e = rw e (ap (λ (x : Float). bits 0 ⊕ x) (at-tabulate w (λ j. halfWidth a b ⊗ sumOf kronrodWeight f a b j) k l))
-
--- ---- a halving that ends with one piece has the whole strip
-module _ (w : ℕ) (f : Float → List Float) (lower upper : Float) where
-  abbrev Uncut : List Piece → Type 0
-  Uncut pieces = (pieces ≡ pieceOf w f lower upper ∷ []) ⊎ (2 ≤ length pieces)
-
-  some : (pieces : List Piece) → Uncut pieces → 1 ≤ length pieces
-  some pieces (inl e) = rw e (le-refl 1)
-  some pieces (inr l) = omega arith
-
-  alone : (pieces : List Piece) → Uncut pieces → length pieces ≡ 1 → pieces ≡ pieceOf w f lower upper ∷ []
-  alone pieces (inl e) l = e
-  alone pieces (inr k) l = absurd (let z : ⊥ = omega arith in z)
-
-  pub only-piece : (limit : ℕ) → eq lower upper ≡ false → length (halving w f lower upper limit .pieces) ≡ 1 → halving w f lower upper limit .pieces ≡ pieceOf w f lower upper ∷ []
-  unfolding halving
-  only-piece limit e =
-      rw e
-      (alone (repeat w f (limit - 1) (pieceOf w f lower upper ∷ []) (heightsOf lower upper) .pieces)
-      (kept w f
-      (outcome w f (1 + (limit - 1)) (λ pieces heights. Uncut pieces) (λ pieces heights k l m. inr (omega (arith, one-more w f pieces, some pieces k))) (limit - 1) (pieceOf w f lower upper ∷ [])
-      (heightsOf lower upper) (inl refl) refl)))
 
 -- ---- an answer by a verdict that is no refusal is the one that is given
 pub chosen : {A : Type 0} (verdict : Verdict) (given : A) (withheld : Refusal → A) (verdictIn : A → Verdict) → ((refusal : Refusal) → verdictIn (withheld refusal) ≡ Refused refusal) → (r : A)

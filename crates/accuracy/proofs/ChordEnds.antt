@@ -1,53 +1,27 @@
--- The samples of a strip that is one piece: their heights, the fractions of the span at which they lie, and the ends of the chords there, each near
--- the exact one. Assumes nothing.
+-- At a height near a fraction of the span: that fraction, and the ends of the chord there, each near the exact one. Assumes nothing.
 use mathlib.Core.List.{[], _∷_}
-use Prim.Native.Nat.{ℕ, _+_, _*_, _≤_, _<_}
+use Prim.Native.Nat.{ℕ, _*_, _≤_}
 use native.Mathlib.Nat.{mul-pos, one-mul, mul-one, zero-mul, mul-zero, zero-add, add-zero}
 use native.Mathlib.Omega.{arith}
 use lib.Pow.{pow-pos}
 use lib.Ieee.{Float}
 use lib.Ieee.Positive.{num, den, den-pos, positive-finite}
 use Rattle.floats.specs.Operations.{_⊕_, _⊖_, _⊗_, _⊘_}
-use Rattle.quadrature.specs.Rule.{minusSide, plusSide}
 use Rattle.rounding.proofs.Monotone.{positive-num}
-use Rattle.rounding_error.proofs.Numbers.{Number, number, Size, _per_, _plus_, _less_, _times_, _over_, _by_, _for_, _of_, _roundoffs_, IsNumber, IsSize, Under, valueOf, sizeOf, Near, InRange, Ranges}
+use Rattle.rounding_error.proofs.Numbers.{Number, number, Size, _per_, _plus_, _less_, _times_, _over_, _by_, _for_, _of_, IsNumber, IsSize, Under, valueOf, sizeOf, InRange, Ranges}
 use Rattle.rounding_error.proofs.Distances.{sorted}
 use Rattle.rounding_error.proofs.Ranges.{ranges-by, ranges-for, in-range}
 use Rattle.rounding_error.proofs.Counts as Counts
-use Rattle.rounding_error.proofs.Chains.{Valued, inverse, inverse-is, inverse-times, over-is-times, equalled, resized, exactly, plus-valued, less-valued, times-valued, exact-times, over-valued, under-inverse}
-use Rattle.rounding_error.proofs.Polynomials.{_equals_, trans, itself, by-left, times-equal, plus-is, less-is, times-is, given, ratio, _add_, _take_, _mul_, equal-by}
+use Rattle.rounding_error.proofs.Chains.{Valued, inverse, inverse-is, inverse-times, equalled, resized, exactly, plus-valued, less-valued, times-valued, exact-times, over-valued, under-inverse}
+use Rattle.rounding_error.proofs.Polynomials.{_equals_, trans, itself, times-equal, plus-is, less-is, times-is, given, ratio, _mul_, equal-by}
 use Rattle.accuracy.proofs.ExactRule.{node}
 use Rattle.accuracy.proofs.Samples.{one}
 use Rattle.accuracy.proofs.Trapezoids.{fractionAt}
-use Rattle.accuracy.proofs.OnePiece.{centreOf, reachOf}
 use Rattle.accuracy.proofs.Given.{Lengths}
-use Rattle.accuracy.proofs.Tables.{node-near-one, node-finite}
-use Rattle.accuracy.proofs.Heights.{one-part}
 use Rattle.rounding_error.proofs.Counts.{own-size}
-use Rattle.accuracy.proofs.Whole.{middle-under}
-use Rattle.accuracy.proofs.Ends.{halfSize, centre-near, reach-near}
-use Rattle.accuracy.proofs.Areas.{half-ranges}
 use Rattle.accuracy.proofs.Weighted.{middle, lower, upper}
 
 ruleset plain = (sorted, one-mul, mul-one, zero-mul, mul-zero, zero-add, add-zero)
-
--- ---- a fraction of the span is at most 1
-lower-parts : (p n d : ℕ) → (p * 1 + 0 * d) * 1 ≤ (0 * d + n * 1) * 1 + 1 * 1 * (d * 1) → (0 * d + n * 1) * 1 ≤ (p * 1 + 0 * d) * 1 + 1 * 1 * (1 * d)
-    → Under (1 of one) (middle less (middle times number p n d))
-lower-parts p n d h k = record { below = omega arith; above = omega arith }
-
-pub lower-under : (x : Number) → Under (1 of one) x → Under (1 of one) (middle less (middle times x))
-lower-under (number p n d) u = lower-parts p n d (u .below) (u .above)
-
-upper-parts : (p n d : ℕ) → (p * 1 + 0 * d) * 1 ≤ (0 * d + n * 1) * 1 + 1 * 1 * (d * 1) → (0 * d + n * 1) * 1 ≤ (p * 1 + 0 * d) * 1 + 1 * 1 * (1 * d)
-    → Under (1 of one) (middle plus (middle times number p n d))
-upper-parts p n d h k = record { below = omega arith; above = omega arith }
-
-pub upper-under : (x : Number) → Under (1 of one) x → Under (1 of one) (middle plus (middle times x))
-upper-under (number p n d) u = upper-parts p n d (u .below) (u .above)
-
-pub half-one : Under (1 of one) middle
-half-one = record { below = omega arith; above = omega arith }
 
 by-one : (a c : ℕ) → a * 1 * c ≤ a * (c * 1)
 by-one a c = omega arith
@@ -76,27 +50,6 @@ module _ (root tip span sweep scale : Float) (B : Size) (g : Lengths root tip sp
   hr : InRange H
   hr = in-range 48 H (omega arith) height-ranges
 
-  hhr : InRange (halfSize by H)
-  hhr = in-range 49 (halfSize by H) (omega arith) (ranges-by 1 48 halfSize H half-ranges height-ranges)
-
-  half-span : (x : Float) → Near x (middle times (valueOf span over scale)) (4 roundoffs H) → Valued x (middle times U) 4 1 H
-  half-span x n =
-      equalled
-      (record { near = n; size = middle-under span scale (g .span-positive) (g .scale-positive); is = times-is middle (valueOf span over scale) (pow-pos 1) (Counts.over-is (valueOf span) scale (Counts.value-is span) (g .scale-positive)) })
-      (middle times U) (times-is middle U (pow-pos 1) U-is) (by-left middle (over-is-times (valueOf span) scale))
-
-  pub centre-valued : Valued (centreOf span scale) (middle times U) 4 1 H
-  centre-valued = half-span (centreOf span scale) (centre-near span scale (g .span-positive) (g .scale-positive) hr hhr)
-
-  pub reach-valued : Valued (reachOf span scale) (middle times U) 4 1 H
-  reach-valued = half-span (reachOf span scale) (reach-near span scale (g .span-positive) (g .scale-positive) hr hhr)
-
-  offset-valued : (i : ℕ) → i < 7 → Valued (reachOf span scale ⊗ node i) ((middle times U) times valueOf (node i)) 8 1 H
-  offset-valued i k =
-      at-one H (hr .real)
-      (times-valued {A = H} {B = one} (hr .real) (pow-pos 0) (in-range 48 (H by one) (omega arith) (ranges-by 48 0 H one height-ranges (record { real = pow-pos 0; least = omega arith; most = omega arith }))) tt reach-valued
-      (exactly (node i) 1 one (node-finite i k) (one-part (valueOf (node i)) (node-near-one i k))))
-
   abbrev x : ℕ → Number
   x i = valueOf (node i)
 
@@ -108,20 +61,6 @@ module _ (root tip span sweep scale : Float) (B : Size) (g : Lengths root tip sp
 
   pub upper-is : (i : ℕ) → IsNumber (upper i)
   upper-is i = plus-is middle (middle times x i) (pow-pos 1) (times-is middle (x i) (pow-pos 1) (x-is i))
-
-  -- the heights
-  pub minus-valued : (i : ℕ) → i < 7 → Valued (minusSide (centreOf span scale) (reachOf span scale) i) (U times lower i) 16 2 H
-  minus-valued i k =
-      equalled (less-valued hr tt centre-valued (offset-valued i k)) (U times lower i) (times-is U (lower i) U-is (lower-is i))
-      (equal-by (U ∷ x i ∷ []) (U-is, (x-is i, tt)) (ratio 1 1 mul given 0 take ratio 1 1 mul given 0 mul given 1) (given 0 mul (ratio 1 1 take ratio 1 1 mul given 1)) tt)
-
-  pub plus-side-valued : (i : ℕ) → i < 7 → Valued (plusSide (centreOf span scale) (reachOf span scale) i) (U times upper i) 16 2 H
-  plus-side-valued i k =
-      equalled (plus-valued hr tt centre-valued (offset-valued i k)) (U times upper i) (times-is U (upper i) U-is (upper-is i))
-      (equal-by (U ∷ x i ∷ []) (U-is, (x-is i, tt)) (ratio 1 1 mul given 0 add ratio 1 1 mul given 0 mul given 1) (given 0 mul (ratio 1 1 add ratio 1 1 mul given 1)) tt)
-
-  pub middle-valued : Valued (centreOf span scale) (U times middle) 4 1 H
-  middle-valued = equalled centre-valued (U times middle) (times-is U middle U-is (pow-pos 1)) (equal-by (U ∷ []) (U-is, tt) (ratio 1 1 mul given 0) (given 0 mul ratio 1 1) tt)
 
   -- ---- h·scale / span
   abbrev s : Number

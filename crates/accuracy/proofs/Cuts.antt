@@ -1,7 +1,7 @@
 -- A piece of a strip, by the fractions of the strip at which it starts and how wide it is: the heights of its samples are near the exact ones, and a
 -- sample of
 -- a piece that is no sliver has a chord. Assumes nothing.
-use mathlib.Core.Path.{_≡_, subst}
+use mathlib.Core.Path.{subst}
 use mathlib.Core.Bool.{true, false}
 use mathlib.Core.List.{[], _∷_}
 use Prim.Native.Nat.{ℕ, _+_, _*_, _^_, _≤_, _<_, zero-le}
@@ -18,21 +18,20 @@ use Rattle.floats.specs.Constants.{half}
 use Rattle.chords.specs.Chords.{inSpan}
 use Rattle.quadrature.specs.Rule.{halfSum, halfWidth, minusSide, plusSide}
 use Rattle.rounding.proofs.Ordered.{order→le}
-use Rattle.rounding_error.proofs.Numbers.{Number, number, Size, _per_, _plus_, _less_, _times_, _over_, _by_, _of_, _roundoffs_, IsNumber, IsSize}
+use Rattle.rounding_error.proofs.Numbers.{Number, number, Size, _per_, _plus_, _less_, _times_, _by_, _of_, _roundoffs_, IsNumber, IsSize}
 use Rattle.rounding_error.proofs.Numbers.{Within, Under, valueOf, zeroNumber, InRange, Ranges, sizeOf}
 use Rattle.rounding_error.proofs.Distances.{sorted, within-upto, within-same, within-times, times-comm}
 use Rattle.rounding_error.proofs.Ranges.{ranges-by, in-range}
 use Rattle.rounding_error.proofs.Counts as Counts
-use Rattle.rounding_error.proofs.Chains.{Valued, inverse, inverse-is, inverse-times, over-is-times, equalled, exactly, counted, plus-valued}
+use Rattle.rounding_error.proofs.Chains.{Valued, inverse, inverse-is, inverse-times, equalled, exactly, counted, plus-valued}
 use Rattle.rounding_error.proofs.Chains.{less-valued, times-valued, exact-times}
 use Rattle.rounding_error.proofs.Polynomials.{_equals_, trans, times-equal, itself, plus-is, times-is, given, ratio, _add_, _take_, _mul_, equal-by}
 use Rattle.accuracy.proofs.ExactRule.{node}
 use Rattle.accuracy.proofs.Samples.{one}
-use Rattle.accuracy.proofs.OnePiece.{lowerEnd, upperEnd}
-use Rattle.accuracy.proofs.Given.{Lengths, AllHaveChords}
+use Rattle.accuracy.proofs.Given.{Lengths}
 use Rattle.accuracy.proofs.Tables.{node-near-one, node-finite}
 use Rattle.accuracy.proofs.Heights.{part, one-part}
-use Rattle.accuracy.proofs.Ends.{halfSize, lower-valued, upper-valued}
+use Rattle.accuracy.proofs.Ends.{halfSize}
 use Rattle.accuracy.proofs.Areas.{half-ranges}
 use Rattle.accuracy.proofs.Weighted.{middle, lower, upper}
 use Rattle.accuracy.proofs.ChordEnds as Chord
@@ -236,13 +235,6 @@ to-height {x = x} {v = v} (a per c) C h =
     fewer-of : (a c : ℕ) → 3 * (1 * a) * c ≤ 2 * a * (2 * c)
     fewer-of a c = simp plain (omega arith)
 
-nothing : (x : Number) (y : Float) → valueOf (bits 0) over y equals x times number 0 0 1
-unfolding ofBits
-nothing (number p n d) y = record { same = go p n d (num y) (den y) }
-  where
-    go : (p n d N D : ℕ) → 0 * D * (d * 1) + (p * 0 + n * 0) * (N * 1) ≡ (p * 0 + n * 0) * (N * 1) + 0 * D * (d * 1)
-    go p n d N D = simp plain (omega arith)
-
 -- half of a fraction is at most a half
 half-share : (D C : ℕ) → D ≤ C → Under (1 of halfSize) (middle times number D 0 C)
 half-share D C h = record { below = low D C h; above = omega arith }
@@ -401,39 +393,3 @@ module _ (root tip span sweep scale : Float) (B : Size) (g : Lengths root tip sp
       where
         fewer : (Np Dp Ns Ds P : ℕ) → 1 * Ns * (16 * (Np * Ds)) * (Dp * P) ≤ 22 * Np * (Ds * (Ns * Dp * P))
         fewer Np Dp Ns Ds P = simp plain (omega arith)
-
-  -- a strip that is one piece: each of the fifteen samples has a chord
-  whole : Cut U H (lowerEnd scale) (upperEnd span scale)
-  whole =
-      let p = g .span-positive in
-      let q = g .scale-positive in
-      let l = lower-valued span scale p q in-height in
-      record {
-        from = 0;
-        wide = 1;
-        whole = 1;
-        whole-real = pow-pos 0;
-        inside = omega arith;
-        start = counted (equalled l (U times number 0 0 1) (times-is U (number 0 0 1) U-is (pow-pos 0)) (nothing U scale)) 1 1 (in-height .real) tt;
-        end =
-            equalled (upper-valued span scale p q in-height) (U times (number 0 0 1 plus number 1 0 1))
-            (times-is U (number 0 0 1 plus number 1 0 1) U-is (pow-pos 0))
-            (trans U-is (over-is-times (valueOf span) scale) (equal-by (U ∷ []) (U-is, tt) (given 0) (given 0 mul (ratio 0 0 add ratio 1 0)) tt));
-      }
-
-  no-sliver : NoSliver (whole .wide) (whole .whole)
-  unfolding whole
-  no-sliver = omega arith
-
-  pub all-have-chords : AllHaveChords span scale
-  all-have-chords =
-      let a = lowerEnd scale in
-      let b = upperEnd span scale in
-      let chord = has-chord a b whole no-sliver in
-      record {
-        centre = chord (halfSum a b) middle (pow-pos 1) middle-inner (middle-valued a b whole);
-        minus-side = λ i k. chord (minusSide (halfSum a b) (halfWidth a b) i) (lower i) (Chord.lower-is root tip span sweep scale B g i)
-            (lower-inner (valueOf (node i)) (node-near-one i k)) (minus-valued a b whole i k);
-        plus-side = λ i k. chord (plusSide (halfSum a b) (halfWidth a b) i) (upper i) (Chord.upper-is root tip span sweep scale B g i)
-            (upper-inner (valueOf (node i)) (node-near-one i k)) (plus-side-valued a b whole i k);
-      }

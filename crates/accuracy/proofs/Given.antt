@@ -1,14 +1,9 @@
 -- What an accepted trapezoid gives: lengths far from the ends of f64's range, and a size B that root, tip and sweep do not pass.
-use Prim.Native.Nat.{ℕ, _<_}
 use lib.Dec.{T}
 use lib.Ieee.{Float}
 use lib.Ieee.Scale.{finite}
 use lib.Ieee.Positive.{positive}
-use Rattle.floats.specs.Operations.{_⊗_}
-use Rattle.quadrature.specs.Rule.{minusSide, plusSide}
-use Rattle.chords.specs.Chords.{inSpan}
 use Rattle.rounding_error.proofs.Numbers.{Size, _of_, _for_, Under, valueOf, sizeOf, Ranges}
-use Rattle.accuracy.proofs.OnePiece.{centreOf, reachOf}
 
 pub record Lengths (root tip span sweep scale : Float) (B : Size) : Type 0 where
   pub root-finite : T (finite root)
@@ -23,13 +18,3 @@ pub record Lengths (root tip span sweep scale : Float) (B : Size) : Type 0 where
   pub root-under : Under (1 of B) (valueOf root)
   pub tip-under : Under (1 of B) (valueOf tip)
   pub sweep-under : Under (1 of B) (valueOf sweep)
-
--- there is a chord at h·scale
-abbrev pub HasChord : Float → Float → Float → Type 0
-HasChord span scale h = T (inSpan span (h ⊗ scale))
-
--- so each of the fifteen samples has one
-pub record AllHaveChords (span scale : Float) : Type 0 where
-  pub centre : HasChord span scale (centreOf span scale)
-  pub minus-side : (i : ℕ) → i < 7 → HasChord span scale (minusSide (centreOf span scale) (reachOf span scale) i)
-  pub plus-side : (i : ℕ) → i < 7 → HasChord span scale (plusSide (centreOf span scale) (reachOf span scale) i)

@@ -1,7 +1,6 @@
 pub mod Trapezoids
 pub mod ExactRule
 pub mod Samples
-pub mod OnePiece
 pub mod Given
 pub mod Width
 pub mod Affine
@@ -30,6 +29,7 @@ pub mod StripPieces
 pub mod PieceSums
 pub mod WidthSums
 pub mod StripTotals
+pub mod AreaTotals
 pub mod WholeStrip
 pub mod AreaNear
 pub mod AreaIntegrals

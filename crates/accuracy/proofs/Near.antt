@@ -1,7 +1,7 @@
 -- What the call for a trapezoid's area is worked from: lengths within the limits, and one strip of at least one piece. Assumes nothing.
-use mathlib.Core.Path.{_≡_, sym, ap, _∙_}
+use mathlib.Core.Path.{_≡_, ap, _∙_}
 use mathlib.Core.Bool.{Bool, true, false, cond}
-use mathlib.Core.List.{List, [], _∷_}
+use mathlib.Core.List.{List}
 use Prim.Native.Nat.{ℕ, _*_, _≤_, _<_}
 use native.Mathlib.Nat.{mul-pos}
 use native.Mathlib.Omega.{arith}
@@ -19,8 +19,7 @@ use Rattle.planforms.specs.declared.Planform.{Planform}
 use Rattle.planforms.specs.declared.Planform.the-variants.{Trapezoid}
 use Rattle.planforms.proofs.Sized.{Sized}
 use Rattle.quadrature.specs.declared.Piece.{Piece}
-use Rattle.quadrature.specs.Rule.{pieceOf}
-use Rattle.integrands.specs.Integrands.{scaleOf, areaThree}
+use Rattle.integrands.specs.Integrands.{scaleOf}
 use Rattle.integrands.proofs.Scales.{scale-sized}
 use Rattle.fins.proofs.Accepted.{area-planform}
 use Rattle.fins.proofs.Sized.{planform-sized}
@@ -29,7 +28,7 @@ use Rattle.figures.specs.declared.Area.{Area}
 use Rattle.accuracy.specs.Areas.{AreaGiven, Reach}
 use Rattle.accuracy.proofs.Given.{Lengths}
 use Rattle.accuracy.proofs.Limits.{lengths, ranges-of}
-use Rattle.accuracy.proofs.Called.{Given, area-given, Strip, intervals-are, only-piece}
+use Rattle.accuracy.proofs.Called.{Given, area-given, Strip, intervals-are}
 use Rattle.accuracy.proofs.StripEnds.{ends-differ}
 
 pub positive-above : (x : Float) → T (positive x) → lt (bits 0) x ≡ true
@@ -77,10 +76,6 @@ module _ (root tip span sweep : Float) (points : List Float) (L : ℕ) (entry : 
   pub pieces-counted : r .intervals ≡ length stripPieces
   pieces-counted =
       figures-given .intervals ∙ intervals-are root tip span sweep points L span-above ∙ ap (λ (b : Bool). cond b 1 (length stripPieces)) ends-apart
-
-  -- one interval is one piece, the whole strip
-  pub one-piece : r .intervals ≡ 1 → stripPieces ≡ pieceOf 3 (areaThree Shape points) (bits 0 ⊘ S) (span ⊘ S) ∷ []
-  one-piece one = only-piece 3 (areaThree Shape points) (bits 0 ⊘ S) (span ⊘ S) L ends-apart (sym pieces-counted ∙ one)
 
   module _ (b d : ℕ) (reach : Reach b d root tip sweep) where
     -- B at most 64, which every length is

@@ -37,10 +37,9 @@ use Rattle.rounding_error.proofs.Polynomials.{_equals_, trans, symm, itself, by
 use Rattle.rounding_error.proofs.Polynomials.{times-is, given, ratio, _add_, _take_, _mul_, equal-by}
 use Rattle.accuracy.proofs.Samples.{one}
 use Rattle.accuracy.proofs.Given.{Lengths}
-use Rattle.accuracy.proofs.OnePiece.{upperEnd}
 use Rattle.accuracy.proofs.Width.{under-one}
 use Rattle.accuracy.proofs.Whole.{positive-value}
-use Rattle.accuracy.proofs.Ends.{halfSize, upper-valued}
+use Rattle.accuracy.proofs.Ends.{halfSize, upperEnd, upper-valued}
 use Rattle.accuracy.proofs.StripEnds.{upper-positive}
 use Rattle.accuracy.proofs.ChordEnds as Chord
 use Rattle.accuracy.proofs.Cuts.{Share, share-under, NoSliver, Cut, half-height-ranges}

@@ -24,8 +24,7 @@ alongRoot root tip sweep =
 abbrev pub inHeight : Float → Float → Float → Fraction
 inHeight root tip span = valueOf span times (valueOf root plus (pos 2 over 1) times valueOf tip)
 
--- where the strip is one piece: x is at most κ²·2^-34·B from it, the height κ²·2^-34·span, B = b / d the largest of root, tip and |sweep|, which
--- is at most κ root chords. Within the limits B is at most 64, and κ 2^26 is enough.
+-- x is at most κ²·2^-34·B from it, the height κ²·2^-34·span, B = b / d the largest of root, tip and |sweep|
 pub record CentroidNear (κ b d : ℕ) (root tip span sweep : Float) (r : Area) : Type 0 where
   pub along-root :
       Within ((pos (κ * κ * b) over (d * 2 ^ 34)) times thrice root tip) (valueOf (r .«centroid_x_m») times thrice root tip) (alongRoot root tip sweep)
@@ -33,13 +32,15 @@ pub record CentroidNear (κ b d : ℕ) (root tip span sweep : Float) (r : Area) 
       Within ((pos (κ * κ) over 2 ^ 34) times valueOf span times thrice root tip) (valueOf (r .«centroid_span_m») times thrice root tip)
       (inHeight root tip span)
 
-abbrev pub OnePieceCentroid : Type 0
-OnePieceCentroid =
+-- where the strip has n pieces, at most 40, and B is at most κ root chords: so near with n·κ. Within the limits B is at most 64, and of one piece κ 2^26
+-- is enough.
+abbrev pub TrapezoidCentroid : Type 0
+TrapezoidCentroid =
     (root tip span sweep : Float) (points : List Float) (L : ℕ) (entry : List Float) (r : Area) (exit : List Float) (b d κ : ℕ)
     → AreaGiven root tip span sweep points L entry r exit
-    → r .intervals ≡ 1
+    → r .intervals ≤ 40
     → Reach b d root tip sweep
     → b ≤ 64 * d
     → AtLeast b (d * κ) root
-    → κ ≤ 2 ^ 26
-    → CentroidNear κ b d root tip span sweep r
+    → r .intervals * κ ≤ 2 ^ 26
+    → CentroidNear (r .intervals * κ) b d root tip span sweep r
