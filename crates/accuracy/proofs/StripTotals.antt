@@ -20,7 +20,7 @@ use Rattle.rounding_error.proofs.Distances.{sorted}
 use Rattle.rounding_error.proofs.Ranges.{ranges-by, in-range}
 use Rattle.rounding_error.proofs.Counts as Counts
 use Rattle.rounding_error.proofs.Chains.{Valued, equalled, counted, counted-by}
-use Rattle.rounding_error.proofs.Polynomials.{_equals_, itself, by-left, plus-is, times-is, given, ratio, _add_, _take_, _mul_, equal-by}
+use Rattle.rounding_error.proofs.Polynomials.{_equals_, by-left, plus-is, times-is, given, ratio, _add_, _take_, _mul_, equal-by}
 use Rattle.accuracy.proofs.Samples.{one, quarter}
 use Rattle.accuracy.proofs.Given.{Lengths}
 use Rattle.accuracy.proofs.Ends.{halfSize}
@@ -95,7 +95,6 @@ module _ (root tip span sweep scale : Float) (B : Size) (g : Lengths root tip sp
       (given 0 add given 1 mul (ratio 1 1 take ratio 1 1)) tt in
       let e1 : α plus δ equals t (middle plus middle) =
       equal-by (α ∷ δ ∷ []) (iα, (iα, tt)) (given 0 add given 1) (given 0 add given 1 mul (ratio 1 1 add ratio 1 1)) tt in
-      let em : t middle equals t middle = itself in
       let z = on-part v cubic α δ iα iα in
       record {
         bend = bend v cubic α δ iα iα;
