@@ -45,18 +45,18 @@ pub record SoFar (before : List ℕ) (n : ℕ) (template : List ℕ) (figures : 
   pub counts-left : p .counts ≤ length counts
   pub same : length out ≡ length before
 
-module _ (before : List ℕ) (n : ℕ) (template : List ℕ) (figures : List Float) (counts : List ℕ) where
+module _ {before : List ℕ} {n : ℕ} {template : List ℕ} {figures : List Float} {counts : List ℕ} where
   pub start : n + room template ≤ length before → SoFar before n template figures counts before (record { n = n; figures = 0; counts = 0 }) 0
   start h = record { done = []; put = nothing before n; whole = refl; has-room = h; within = omega arith; figures-left = omega arith; counts-left = omega arith; same = refl }
 
-  module _ (out : List ℕ) (p : Place) (i : ℕ) (v : SoFar before n template figures counts out p i) where
+  module _ {out : List ℕ} {p : Place} {i : ℕ} (v : SoFar before n template figures counts out p i) where
     pub has-room-at : i < length template → HasRoom out p (getD template i 0) figures counts
     has-room-at h =
         let r = room-at template i h in let q = v .has-room in
         record { figures-left = v .figures-left; counts-left = v .counts-left; bytes = omega arith }
 
-    pub next : (after : List ℕ) (r : Place) → i < length template → PutPiece out after p r (getD template i 0) figures counts → length after ≡ length out → SoFar before n template figures counts after r (i + 1)
-    next after r h u l =
+    pub next : {after : List ℕ} {r : Place} → i < length template → PutPiece out after p r (getD template i 0) figures counts → length after ≡ length out → SoFar before n template figures counts after r (i + 1)
+    next {after} {r} h u l =
         let m = room-at template i h in let q = v .has-room in let s = v .same in let e = u .put .ends in
         let k = piece-fits (getD template i 0) (drop (p .figures) figures) (drop (p .counts) counts) in
         record {
