@@ -15,9 +15,6 @@ module _ {A : Type 0} (z : A) (d : List A) (at : ℕ) (s : List A) where
   pub same-count : (j : ℕ) {b : List A} → at + j ≤ length d → j ≤ length s → b ≡ paste d at s j → length b ≡ length d
   same-count j h l e = ap length e ∙ length-paste d at s j h l
 
-  pub as-long : {b : List A} → at + length s ≤ length d → b ≡ paste d at s (length s) → length b ≡ length d
-  as-long h e = same-count (length s) h (omega arith) e
-
 module _ {A : Type 0} where
   -- from the start
   pub one-more-first : (z : A) (d s : List A) (j : ℕ) {b : List A} → j < length d → j < length s → b ≡ paste d 0 s j → set b j (getD s j z) ≡ paste d 0 s (j + 1)

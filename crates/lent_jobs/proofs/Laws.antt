@@ -10,7 +10,6 @@ use lib.ListN.{length, take, drop, drop-of-length-le}
 use lib.Seq.{paste, take-at, drop-cons}
 use lib.Ieee.{Float, nan}
 use Rattle.floats.specs.Operations.{at, tabulate, tabulateFrom}
-use Rattle.bodies.specs.Layout.{numbersOf as bodyNumbersOf}
 use Rattle.refusals.specs.declared.Refusal.{Refusal}
 use Rattle.refusals.specs.declared.Refusal.the-variants.{NoForm}
 use Rattle.refusals.specs.declared.Verdict.{Verdict}
@@ -213,33 +212,25 @@ set-listed set lengths plate tab glue l p t g =
     ∙ ap₂ (λ (x : List Float) (y : Float). Listed set (lengthsOf (set .planform)) (densityFigure (set .density)) x y) t g
 
 module _ (job : Job) (s : Sized job) (numbers : List Float) (counts : List ℕ) where
-  -- four lists over the numbers, one behind another, and one over the counts
-  pub job-written : (of-set first second of-body third numbers' : List Float) (row counts' : List ℕ) →
+  -- three lists over the numbers, one behind another, and one over the counts
+  pub job-written : (of-set first worked second numbers' : List Float) (row counts' : List ℕ) →
       of-set ≡ setNumbers (job .set) → first ≡ paste numbers 0 of-set (length of-set) →
-      second ≡ paste first 14 (job .value) (length (job .value)) →
-      of-body ≡ bodyNumbersOf (job .outcome .body) → third ≡ paste second 21 of-body (length of-body) →
-      numbers' ≡ paste third 31 (job .points .numbers) (length (job .points .numbers)) →
+      worked ≡ workedNumbers job → second ≡ paste first 14 worked (length worked) →
+      numbers' ≡ paste second 31 (job .points .numbers) (length (job .points .numbers)) →
       row ≡ countsOf job → counts' ≡ paste counts 0 row (length row) → Holds job numbers counts numbers' counts'
-  job-written of-set first second of-body third numbers' row counts' s-is first-is second-is b-is third-is n-is row-is c-is =
+  job-written of-set first worked second numbers' row counts' s-is first-is w-is second-is n-is row-is c-is =
       let outline = job .points .numbers in
-      let sums = tabulate 7 (at (job .value)) in
       let figures = setNumbers (job .set) ++ workedNumbers job in
       let one : first ≡ setNumbers (job .set) ++ drop 14 numbers =
       first-is ∙ ap (λ (l : List Float). paste numbers 0 l (length l)) s-is ∙ pasted-first numbers (setNumbers (job .set))
       in
-      let v-is : job .value ≡ sums = sym (elements (job .value) 7 0 (sym (s .sums))) in
-      let two : second ≡ (setNumbers (job .set) ++ sums) ++ drop 21 numbers =
-      second-is ∙ ap₂ (λ (l w : List Float). paste l 14 w (length w)) one v-is ∙ pasted-second numbers (setNumbers (job .set)) sums
-      in
-      let three : third ≡ figures ++ drop 31 numbers =
-      third-is
-      ∙ ap₂ (λ (l w : List Float). paste l 21 w (length w)) two b-is
-      ∙ pasted-second numbers (setNumbers (job .set) ++ sums) (bodyNumbersOf (job .outcome .body))
+      let two : second ≡ figures ++ drop 31 numbers =
+      second-is ∙ ap₂ (λ (l w : List Float). paste l 14 w (length w)) one w-is ∙ pasted-second numbers (setNumbers (job .set)) (workedNumbers job)
       in
       let long : 31 + length outline ≡ jobNumbers = omega (arith, s .outline) in
       let all : numbers' ≡ numbersOf job ++ drop jobNumbers numbers =
       n-is
-      ∙ ap (λ (l : List Float). paste l 31 outline (length outline)) three
+      ∙ ap (λ (l : List Float). paste l 31 outline (length outline)) two
       ∙ pasted-second numbers figures outline
       ∙ ap (λ (n : ℕ). numbersOf job ++ drop n numbers) long
       in

@@ -7,9 +7,9 @@ ghost use Prim.Native.Nat.{_+_, _≤_};
 ghost use lib.ListN.{length};
 ghost use lib.Seq.{paste};
 ghost use Rattle.lent_jobs.specs.Memory.{planformNumber, lengthsOf, sectionNumber, tabNumber, tabFigures, densityNumber, densityFigure};
-ghost use Rattle.lent_jobs.specs.Memory.{verdictRow, flag, setNumbers, countsOf, lengthCount, tabCount, knownSet, setIn, verdictIn, outcomeIn, jobIn};
+ghost use Rattle.lent_jobs.specs.Memory.{verdictRow, flag, setNumbers, workedNumbers, countsOf, lengthCount, tabCount, knownSet, setIn, verdictIn, outcomeIn, jobIn};
 ghost use Rattle.lent_jobs.specs.Lent.{Room, Holds, Makes, Steps, Changes};
-use bodies::BODY_NUMBERS;
+use bodies::Body;
 use figures::Figures;
 use fillets::Fillet;
 use fins::FinSet;
@@ -23,14 +23,14 @@ use planforms::Planform;
 use refusals::Verdict;
 use sections::Section;
 
-// How many numbers and counts a job has. Of the numbers, first the set's, then the sums over the strips worked, the answer's body and the outline.
+// How many numbers and counts a job has. Of the numbers, first the set's, then what is worked, then the outline's.
 pub const JOB_NUMBERS: usize = 159;
 
 pub const JOB_COUNTS: usize = 17;
 
 const SET_NUMBERS: usize = 14;
 
-const BODY: usize = 21;
+const WORKED_NUMBERS: usize = 17;
 
 const OUTLINE: usize = 31;
 
@@ -177,6 +177,35 @@ fn set_numbers(set: FinSet) -> [f64; SET_NUMBERS]
     ]
 }
 
+// The sums over the strips worked, and the answer's body.
+fn worked_numbers(job: Job) -> [f64; WORKED_NUMBERS]
+    ensures { λ r. ⌜ r ≡ workedNumbers job ⌝ }
+{
+    let v = job.value;
+    let outcome = job.outcome;
+    let body = outcome.body;
+    let b = body.numbers();
+    [
+        v[0],
+        v[1],
+        v[2],
+        v[3],
+        v[4],
+        v[5],
+        v[6],
+        b[0],
+        b[1],
+        b[2],
+        b[3],
+        b[4],
+        b[5],
+        b[6],
+        b[7],
+        b[8],
+        b[9],
+    ]
+}
+
 fn counts_of(job: Job) -> [usize; JOB_COUNTS]
     ensures { λ r. ⌜ r ≡ countsOf job ⌝ }
 {
@@ -245,12 +274,8 @@ pub fn write_job(numbers: &mut [f64], counts: &mut [usize], job: Job)
     let set = job.set;
     let of_set = set_numbers(set);
     write_numbers(numbers, 0, &of_set[..SET_NUMBERS]);
-    let sums = job.value;
-    write_numbers(numbers, SET_NUMBERS, &sums[..7]);
-    let outcome = job.outcome;
-    let body = outcome.body;
-    let of_body = body.numbers();
-    write_numbers(numbers, BODY, &of_body[..BODY_NUMBERS]);
+    let worked = worked_numbers(job);
+    write_numbers(numbers, SET_NUMBERS, &worked[..WORKED_NUMBERS]);
     let points = job.points;
     let outline = points.numbers;
     write_numbers(numbers, OUTLINE, &outline[..128]);
@@ -345,7 +370,7 @@ fn read_outcome(numbers: &[f64], counts: &[usize]) -> Figures
     ensures { λ r. ⌜ r ≡ outcomeIn (now (numbers .entry)) (now (counts .entry)) ⌝ }
 {
     let verdict = read_verdict(counts[11], counts[12], counts[13]);
-    let body = bodies::body_of(&numbers[BODY..OUTLINE]);
+    let body = bodies::body_of(&numbers[21..OUTLINE]);
     Figures {
         verdict,
         body,

@@ -1,10 +1,10 @@
--- `lent_jobs::write_job` meets its contract: four lists over the numbers and one over the counts. Assumes nothing.
+-- `lent_jobs::write_job` meets its contract: three lists over the numbers and one over the counts. Assumes nothing.
 use mathlib.Core.Path.{_≡_, sym, ap}
 use native.Mathlib.Omega.{arith}
 use lib.ListN.{length}
 use lib.Ieee.{nan}
 use denote.Ref.{now}
-use Rattle.lent_jobs.proofs.Copying.{as-long}
+use Rattle.lent_jobs.proofs.Copying.{same-count}
 use Rattle.lent_jobs.proofs.Laws.{job-written}
 use Rattle.lent_jobs.proofs.Sized.{sized}
 use borrow.Author.Needs.{needs}
@@ -20,53 +20,36 @@ slice-aggregate-write-numbers c = search needs
 write-numbers-requires : tie.Need-write-numbers-requires
 write-numbers-requires c κs = search needs
 
+worked-numbers-requires : tie.Need-worked-numbers-requires
+worked-numbers-requires c κs = search needs
+
 slice-aggregate-write-numbers-2 : tie.Need-slice-aggregate-write-numbers-2
 slice-aggregate-write-numbers-2 c = search needs
 
 write-numbers-requires-2 : tie.Need-write-numbers-requires-2
-write-numbers-requires-2 c κs =
-    let one = c .before .before .before .before .before in
-    let s = one .before .before .before in
-    let start = s .before .before .before .before in
-    let of-set = s .set-numbers .result in
-    let a : length of-set ≡ 14 = ap length (s .set-numbers .ensures) in
-    let d = as-long nan (now (start .args .numbers)) 0 of-set (omega (arith, a, start .pre .0)) (one .write-numbers .ensures) in
-    omega (arith, sized (start .args .job) _ (start .good .1 .1 .0) .sums, d, start .pre .0)
-
-numbers-requires : tie.Need-numbers-requires
-numbers-requires c κs = search needs
+write-numbers-requires-2 c κs = search needs
 
 slice-aggregate-write-numbers-3 : tie.Need-slice-aggregate-write-numbers-3
-slice-aggregate-write-numbers-3 c = search needs
-
-write-numbers-requires-3 : tie.Need-write-numbers-requires-3
-write-numbers-requires-3 c κs = search needs
-
-slice-aggregate-write-numbers-4 : tie.Need-slice-aggregate-write-numbers-4
-slice-aggregate-write-numbers-4 c =
-    let three = c .before .before .before .before .before .before in
-    let two = three .before .before .before .before .before .before .before .before in
-    let start = two .before .before .before .before .before .before .before .before .before .before .before .before .before in
+slice-aggregate-write-numbers-3 c =
+    let set-known = c .before .before .before .before .before .before .before .before .before .before .before .before .before .before .before .before in
+    let start = set-known .before .before .before in
     sym (sized (start .args .job) _ (start .good .1 .1 .0) .outline)
 
-write-numbers-requires-4 : tie.Need-write-numbers-requires-4
-write-numbers-requires-4 c κs =
-    let three = c .before .before .before .before .before .before in
-    let body = three .before .before .before in
-    let two = body .before .before .before .before .before in
-    let one = two .before .before .before .before .before .before in
+write-numbers-requires-3 : tie.Need-write-numbers-requires-3
+write-numbers-requires-3 c κs =
+    let two = c .before .before .before .before .before .before in
+    let w = two .before .before .before in
+    let one = w .before .before .before in
     let s = one .before .before .before in
     let start = s .before .before .before .before in
-    let job = start .args .job in
-    let size = sized job _ (start .good .1 .1 .0) in
+    let numbers = now (start .args .numbers) in
     let of-set = s .set-numbers .result in
-    let of-body = body .numbers3 .result in
+    let worked = w .worked-numbers .result in
     let a : length of-set ≡ 14 = ap length (s .set-numbers .ensures) in
-    let e : length of-body ≡ 10 = ap length (body .numbers3 .ensures) in
-    let d = as-long nan (now (start .args .numbers)) 0 of-set (omega (arith, a, start .pre .0)) (one .write-numbers .ensures) in
-    let f = as-long nan (one .write-numbers .last .0) 14 (job .value) (omega (arith, size .sums, d, start .pre .0)) (two .write-numbers2 .ensures) in
-    let g = as-long nan (two .write-numbers2 .last .0) 21 of-body (omega (arith, e, d, f, start .pre .0)) (three .write-numbers3 .ensures) in
-    omega (arith, size .outline, d, f, g, start .pre .0)
+    let b : length worked ≡ 17 = ap length (w .worked-numbers .ensures) in
+    let d = same-count nan numbers 0 of-set (length of-set) (omega (arith, a, start .pre .0)) (omega arith) (one .write-numbers .ensures) in
+    let e = same-count nan (one .write-numbers .last .0) 14 worked (length worked) (omega (arith, b, d, start .pre .0)) (omega arith) (two .write-numbers2 .ensures) in
+    omega (arith, sized (start .args .job) _ (start .good .1 .1 .0) .outline, d, e, start .pre .0)
 
 counts-of-requires : tie.Need-counts-of-requires
 counts-of-requires c κs = search needs
@@ -87,16 +70,15 @@ returns : tie.Need-returns
 returns c =
     let k = c .before .before in
     let r = k .before .before .before in
-    let four = r .before .before .before in
-    let three = four .before .before .before .before .before .before .before in
-    let body = three .before .before .before in
-    let two = body .before .before .before .before .before in
-    let one = two .before .before .before .before .before .before in
+    let three = r .before .before .before in
+    let two = three .before .before .before .before .before .before .before in
+    let w = two .before .before .before in
+    let one = w .before .before .before in
     let s = one .before .before .before in
     let start = s .before .before .before .before in
-    job-written (start .args .job) (sized (start .args .job) _ (start .good .1 .1 .0)) _ _ _ _ _ _ _ _ _ _
-    (s .set-numbers .ensures) (one .write-numbers .ensures) (two .write-numbers2 .ensures) (body .numbers3 .ensures) (three .write-numbers3 .ensures)
-    (four .write-numbers4 .ensures) (r .counts-of .ensures) (k .write-counts .ensures)
+    job-written (start .args .job) (sized (start .args .job) _ (start .good .1 .1 .0)) _ _ _ _ _ _ _ _ _
+    (s .set-numbers .ensures) (one .write-numbers .ensures) (w .worked-numbers .ensures) (two .write-numbers2 .ensures) (three .write-numbers3 .ensures)
+    (r .counts-of .ensures) (k .write-counts .ensures)
 
 pub write-job-spec : {M : Type 1} → statement M
 write-job-spec =
@@ -105,13 +87,11 @@ write-job-spec =
     set-numbers-requires
     slice-aggregate-write-numbers
     write-numbers-requires
+    worked-numbers-requires
     slice-aggregate-write-numbers-2
     write-numbers-requires-2
-    numbers-requires
     slice-aggregate-write-numbers-3
     write-numbers-requires-3
-    slice-aggregate-write-numbers-4
-    write-numbers-requires-4
     counts-of-requires
     slice-aggregate-write-counts
     write-counts-requires
