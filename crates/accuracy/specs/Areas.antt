@@ -30,12 +30,16 @@ pub record Reach (b d : ℕ) (root tip sweep : Float) : Type 0 where
 abbrev pub exactArea : Float → Float → Float → Fraction
 exactArea root tip span = (pos 1 over 2) times ((valueOf root plus valueOf tip) times valueOf span)
 
--- at most n·2^-44·span·B from it, n the number of the strip's pieces and B = b / d the largest of root, tip and |sweep|. Of more than 40 pieces some may be
--- slivers, narrower than 2^-40 of the strip, at whose samples h·scale may round past the span, where there is no chord: then at most n·2^-43·span·B.
+-- at most n·2^-44·span·B from it, n the number of the strip's pieces and B = b / d the largest of root, tip and |sweep|. Of more than 40 pieces some
+-- may be slivers, narrower than 2^-40 of the strip, at whose samples h·scale may round past the span, where there is no chord: then at most
+-- n·2^-43·span·B.
 pub record AreaNear (b d : ℕ) (root tip span : Float) (r : Area) : Type 0 where
   pub pieces : (1 ≤ r .intervals) × (r .intervals ≤ 64)
-  pub near : r .intervals ≤ 40 → Within ((pos (b * r .intervals) over (d * 2 ^ 44)) times valueOf span) (valueOf (r .«area_m2»)) (exactArea root tip span)
-  pub with-slivers : Within ((pos (b * r .intervals) over (d * 2 ^ 43)) times valueOf span) (valueOf (r .«area_m2»)) (exactArea root tip span)
+  pub near :
+      r .intervals ≤ 40
+      → Within ((pos (b * r .intervals) over (d * 2 ^ 44)) times valueOf span) (valueOf (r .«area_m2»)) (exactArea root tip span)
+  pub with-slivers :
+      Within ((pos (b * r .intervals) over (d * 2 ^ 43)) times valueOf span) (valueOf (r .«area_m2»)) (exactArea root tip span)
 
 abbrev pub TrapezoidArea : Type 0
 TrapezoidArea =
