@@ -120,7 +120,8 @@ size_t delvouzh_most_samples(void);
 
 /* A planform's chords at a height in metres, which may be any number: the planform is checked as for its area. Writes start and end of each
  * chord over `ends`, which has room for DELVOUZH_CHORDS numbers, and leaves the rest of it, and with a refusal all of it, as it was; as
- * counts two values of a refusal, and how many chords there are. */
+ * counts two values of a refusal, and how many chords there are. At the span, or a few last bits below it, a trapezoid's chord may end before
+ * it starts, by the rounding of its ends: root 0.273, tip 0 and sweep 0.225 give 0.225 and 0.22499999999999998 there. */
 size_t delvouzh_chords_at(size_t planform, const double *lengths, size_t lengths_len, double height_m, double *ends,
                           size_t ends_len, size_t *counts, size_t counts_len);
 

@@ -24,7 +24,6 @@ pub enum Refusal {
     Tensor { case: char },
     NoForm,
     NoFigure,
-    #[allow(dead_code)] // no line gives it yet
     WallOverRadius,
     ThicknessOverRoot,
     FilletRatio,

@@ -266,7 +266,8 @@ pub fn geometry(planform: &Planform, limit: usize, scratch: &mut [f64]) -> Resul
     })
 }
 
-/// A planform's chords at a height: start and end of each, in order. The planform is checked as for its area.
+/// A planform's chords at a height: start and end of each, in order. The planform is checked as for its area. At the
+/// span, or a few last bits below it, a trapezoid's chord may end before it starts, by the rounding of its ends.
 pub fn chords_at(planform: &Planform, height_m: f64) -> Result<Vec<[f64; 2]>, Error> {
     let mut short = [0.0; 4];
     let (number, lengths) = planform.crossing(&mut short);

@@ -3,7 +3,7 @@
 //     K = Σ w_i f(±x_i),   G = Σ v_j f(±x_{2j+1}),   the centre x_7 = 0 counted once.
 //
 // Document 01, "Piece and tally": each rule gives the integral of the even powers within 2^-48, the Kronrod rule up to the
-// 22nd, the Gauss rule up to the 12th (proofs/Moments.antt). Past the end of a table the answer is a NaN.
+// 22nd, the Gauss rule up to the 12th (proofs/RuleMoments.antt). Past the end of a table the answer is a NaN.
 ghost use mathlib.Core.Path.{_≡_};
 ghost use Rattle.floats.specs.Operations.{at};
 ghost use Rattle.gauss_kronrod.specs.Tables.{nodes, kronrodWeights, gaussWeights};
