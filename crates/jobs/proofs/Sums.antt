@@ -32,9 +32,9 @@ ending-with e (x ∷ strips) s = ending-with (x .halved .ending) strips s
 
 -- ---- few intervals and samples
 abbrev pub Few : Worked → Type 0
-Few s = (intervalsOf (s .lower) (s .upper) (s .halved) ≤ 4000) × (samplesOf s ≤ 120000)
+Few s = (intervalsOf (s .lower) (s .upper) (s .halved) ≤ 64) × (samplesOf s ≤ 1905)
 
-pub few-in : (strips : List Worked) → Each Few strips → (intervalsIn strips ≤ 4000 * length strips) × (samplesIn strips ≤ 120000 * length strips)
+pub few-in : (strips : List Worked) → Each Few strips → (intervalsIn strips ≤ 64 * length strips) × (samplesIn strips ≤ 1905 * length strips)
 few-in [] e = (omega arith, omega arith)
 few-in (s ∷ strips) e =
     let rest = few-in strips (e .1) in
@@ -48,7 +48,7 @@ pub each-with : (P : Worked → Type 0) (strips : List Worked) (s : Worked) → 
 each-with P [] s e p = (p, tt)
 each-with P (x ∷ strips) s e p = (e .0, each-with P strips s (e .1) p)
 
-module _ (f : Float → List Float) (L : ℕ) (scale : Float) (some : 1 ≤ L) (most : L ≤ 4000) where
+module _ (f : Float → List Float) (L : ℕ) (scale : Float) (some : 1 ≤ L) (most : L ≤ 64) where
   pub strip-is-few : (lower upper : Float) → Few (stripOf 7 f L lower upper)
   strip-is-few lower upper =
       let n = strip-few f L scale lower upper some in

@@ -76,8 +76,8 @@ module _ (set : FinSet) (points : List Float) (L : ℕ) (made : makingCheck set 
   unfolding makingCheck
   own-checked = both _ _ made .1
 
-  limits : (1 ≤ L) × (L ≤ 4000)
-  limits = let l = limit-within L limit-checked in (l .0, omega (arith, l .1))
+  limits : (1 ≤ L) × (L ≤ 64)
+  limits = limit-within L limit-checked
 
   -- ---- the job of the strips worked so far and a density
   abbrev jobAt : Density → List Worked → Job
