@@ -1,8 +1,9 @@
 -- The calls by cases, as equations over a variable record, so that nothing inside it is rewritten. Assumes nothing.
 use mathlib.Core.Path.{_≡_, refl, sym, ap, subst, _∙_}
-use mathlib.Core.Bool.{Bool, true, false, not, cond, _&&_}
-use mathlib.Core.List.{List, [], _∷_}
-use Prim.Native.Nat.{ℕ}
+use mathlib.Core.Bool.{Bool, true, false, not, cond, _&&_, true≢false}
+use mathlib.Core.List.{List, [], _∷_, _++_}
+use Prim.Native.Nat.{ℕ, _≤_}
+use native.Mathlib.Omega.{arith}
 use lib.Dec.{ltb}
 use lib.ListN.{length, take}
 use lib.Ieee.{Float}
@@ -18,11 +19,12 @@ use Rattle.integrands.specs.Integrands.{plateIntegrand, plateOf}
 use Rattle.strips.specs.Strips.{Run, Worked, byVerdict, isAccepted, runOf, runCheck, stripAt, stripsFrom, onwardOf, scratchOnward, WorksNext}
 use Rattle.strips.specs.declared.Onward.{Onward}
 use Rattle.jobs.specs.declared.Job.{Job}
+use Rattle.jobs.specs.declared.Reply.the-variants.{Answered}
 use Rattle.jobs.specs.declared.Stepped.{Stepped}
 use Rattle.figures.specs.declared.Figures.{Figures}
 use Rattle.figures.specs.Figures.{setRun}
 use Rattle.jobs.specs.Jobs.{heldOf, outlineOf, runOfJob, totalOf, repeated, waits, more, ended, outcomeOf, afterStrip, stepOf, stepScratch, taken, changeOf}
-use Rattle.jobs.specs.Calls.{counts, stripsBy, step}
+use Rattle.jobs.specs.Calls.{Call, steppedBy, afterCalls, counts, stripsBy, step}
 
 pub yes : {A : Type 0} {c : Bool} (a b : A) → c ≡ true → cond c a b ≡ a
 yes {A} {c} a b e = ap (λ (x : Bool). cond x a b) e
@@ -132,3 +134,56 @@ module _ (job : Job) (density : Density) where
   pub change-taken : job .ended ≡ false → densityCheck density ≡ Accepted → changeOf job density ≡ taken job density
   unfolding changeOf
   change-taken e v = no _ _ e ∙ given _ _ v
+
+-- ---- what is answered
+module _ (job : Job) (n : ℕ) where
+  abbrev Went· : Onward
+  Went· = onwardOf (runOfJob job) (job .next) (totalOf job)
+
+  abbrev More· : Bool
+  More· = isAccepted (Went· .total .ending) && ltb 0 (Went· .left)
+
+  -- what holds of a step in each of its ways
+  of-step : (P : Stepped → Type 0) → (job .ended ≡ true → P (repeated job)) → ((r : Refusal) → job .ended ≡ false → P (waits job r))
+      → P (more job (Went· .total))
+      → P (ended job (Went· .total) (outcomeOf (job .set) (outlineOf job) (Went· .total))) → P (stepOf job n)
+  of-step P again waited went done = by-end (job .ended) refl
+    where
+      by-strip : (b : Bool) → More· ≡ b → P (afterStrip job Went·)
+      by-strip true b = subst P (sym (after-more job Went· b)) went
+      by-strip false b = subst P (sym (after-last job Went· b)) done
+
+      by-check : job .ended ≡ false → (v : Verdict) → runCheck (job .limit) n ≡ v → P (stepOf job n)
+      by-check e Accepted v = subst P (sym (step-works job n e v)) (by-strip More· refl)
+      by-check e (Refused r) v = subst P (sym (step-refused job n r e v)) (waited r e)
+
+      by-end : (e : Bool) → job .ended ≡ e → P (stepOf job n)
+      by-end true e = subst P (sym (step-ended job n e)) (again e)
+      by-end false e = by-check e (runCheck (job .limit) n) refl
+
+  -- a step that ends the job, or finds it ended, answers the outcome
+  pub end-answer : stepOf job n .job .ended ≡ true
+      → stepOf job n .answer ≡ record { reply = Answered; figures = stepOf job n .job .outcome }
+  end-answer =
+      of-step (λ (s : Stepped). s .job .ended ≡ true → s .answer ≡ record { reply = Answered; figures = s .job .outcome })
+      (λ e k. refl) (λ r e k. absurd (true≢false (sym k ∙ e))) (λ k. absurd (true≢false (sym k))) (λ k. refl)
+
+  pub step-samples : (most : ℕ) → job .samples ≤ most → (stepOf job n .job .ended ≡ true → stepOf job n .job .outcome .samples ≤ most)
+      → stepOf job n .answer .figures .samples ≤ most
+  step-samples most so-far =
+      of-step (λ (s : Stepped). (s .job .ended ≡ true → s .job .outcome .samples ≤ most) → s .answer .figures .samples ≤ most)
+      (λ e h. h e) (λ r e h. so-far) (λ h. omega arith) (λ h. h refl)
+
+pub change-samples : (job : Job) (density : Density) (most : ℕ) → job .samples ≤ most
+    → changeOf job density .answer .figures .samples ≤ most
+change-samples job density most so-far = by (job .ended) refl (densityCheck density) refl
+  where
+    by : (e : Bool) → job .ended ≡ e → (v : Verdict) → densityCheck density ≡ v → changeOf job density .answer .figures .samples ≤ most
+    by true e v d = subst (λ (s : Stepped). s .answer .figures .samples ≤ most) (sym (change-ended job density e)) so-far
+    by false e (Refused r) d = subst (λ (s : Stepped). s .answer .figures .samples ≤ most) (sym (change-refused job density r e d)) so-far
+    by false e Accepted d = subst (λ (s : Stepped). s .answer .figures .samples ≤ most) (sym (change-taken job density e d)) (omega arith)
+
+-- ---- lists of calls, one behind the other
+pub after-both : (job : Job) (calls later : List Call) → afterCalls job (calls ++ later) ≡ afterCalls (afterCalls job calls) later
+after-both job [] later = refl
+after-both job (call ∷ calls) later = after-both (steppedBy job call .job) calls later

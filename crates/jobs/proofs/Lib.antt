@@ -7,3 +7,5 @@ pub mod Writes
 pub mod Sums
 pub mod Kept
 pub mod Together
+pub mod SampleCount
+pub mod Drawn

@@ -36,16 +36,20 @@ use Rattle.strips.specs.Claim.{Each, StripsAre, AreReported}
 use Rattle.strips.proofs.Upward.{strip-at, none-left, fits-words}
 use Rattle.strips.proofs.Onwards.{onward-works}
 use Rattle.strips.proofs.Claims.{strips-are}
+use Rattle.figures.specs.declared.Figures.{Figures}
 use Rattle.figures.specs.Figures.{setIntegrand, setRun, refusedFigures, concludedSet, workedFigures, setFigures}
 use Rattle.figures.specs.Answers.{setReport}
 use Rattle.figures.proofs.StripCount.{worked-few, heights-some}
 use Rattle.figures.proofs.Answers.{set-reported}
 use Rattle.jobs.specs.declared.Job.{Job}
+use Rattle.jobs.specs.declared.Reply.the-variants.{Answered}
 use Rattle.jobs.specs.declared.Stepped.{Stepped}
 use Rattle.jobs.specs.Jobs.{pointsOf, outlineOf, runOfJob, totalOf, noFigures, waits, more, ended, outcomeOf, afterStrip, stepOf, withDensity, taken, changeOf, makingCheck, madeWith, madeOf}
-use Rattle.jobs.specs.Calls.{Call, step, change, steppedBy, afterCalls, counts, stripsBy, stripsOver, isTaken, densityBy, densityOver, OverCalls}
+use Rattle.jobs.specs.Calls.{Call, step, change, steppedBy, afterCalls, counts, stripsBy, stripsOver}
+use Rattle.jobs.specs.Calls.{isTaken, densityBy, densityOver, runningJob, OverCalls}
 use Rattle.jobs.proofs.Kept.{keptOf, Same, kept-same}
-use Rattle.jobs.proofs.Laws.{yes, step-ended, step-refused, step-works, after-more, after-last, none-ended, none-refused, one-if-there, change-ended, change-refused, change-taken}
+use Rattle.jobs.proofs.Laws.{yes, step-ended, step-refused, step-works, after-more, after-last, end-answer}
+use Rattle.jobs.proofs.Laws.{none-ended, none-refused, one-if-there, change-ended, change-refused, change-taken}
 use Rattle.jobs.proofs.Sums.{Few, summed-with, ending-with, few-in, each-front, each-with, strip-is-few, all-few, worked-all}
 
 not-both : {A : Type 0} (b : Bool) → b ≡ false → b ≡ true → A
@@ -81,18 +85,7 @@ module _ (set : FinSet) (points : List Float) (L : ℕ) (made : makingCheck set 
 
   -- ---- the job of the strips worked so far and a density
   abbrev jobAt : Density → List Worked → Job
-  jobAt d strips =
-      record {
-        set = withDensity set d;
-        points = pointsOf points;
-        limit = L;
-        next = length strips;
-        value = summedOf strips .value;
-        intervals = intervalsIn strips;
-        samples = samplesIn strips;
-        ended = false;
-        outcome = noFigures;
-      }
+  jobAt d strips = runningJob (withDensity set d) points L strips
 
   made-is : madeOf set points L .job ≡ jobAt (set .density) []
   unfolding madeOf isRefused
@@ -136,6 +129,7 @@ module _ (set : FinSet) (points : List Float) (L : ℕ) (made : makingCheck set 
     pub whole : strips ≡ All·
     pub answer : job .outcome ≡ workedFigures (withDensity set d) points L
     pub samples : job .samples ≡ samplesIn strips
+    pub intervals : job .intervals ≡ intervalsIn strips
 
   abbrev State : Density → List Worked → Job → Type 0
   State d strips job = Going d strips job ⊎ Done d strips job
@@ -211,6 +205,7 @@ module _ (set : FinSet) (points : List Float) (L : ℕ) (made : makingCheck set 
               ap₂ (λ (r s : Float). concludedSet (withDensity set d) r s (concludedOf (summedOf With·))) (same .root) (same .scale)
               ∙ ap (λ (l : List Worked). concludedSet (withDensity set d) (rootChordOf (set .planform) points) Scale· (concludedOf (summedOf l))) whole;
           samples = refl;
+          intervals = refl;
         }
 
     last : With· ≡ All· → (isAccepted (summedOf With· .ending) && ltb 0 Left·) ≡ false → State d With· (afterStrip J· (Onward· (summedOf With·)) .job)
@@ -321,6 +316,11 @@ module _ (set : FinSet) (points : List Float) (L : ℕ) (made : makingCheck set 
       (append-assoc strips (stripsBy job call) (stripsOver (steppedBy job call .job) calls))
       (all calls (densityBy job d call) (strips ++ stripsBy job call) (steppedBy job call .job) (one d strips job call s))
 
+  -- a job that has ended is done
+  done-of : (d : Density) (strips : List Worked) (job : Job) → State d strips job → job .ended ≡ true → Done d strips job
+  done-of d strips job (inl g) e = not-both _ (ap (λ (j : Job). j .ended) (g .is)) e
+  done-of d strips job (inr z) e = z
+
   -- ---- what the states promise
   begun : State (set .density) [] (madeOf set points L .job)
   unfolding ownCheck
@@ -340,6 +340,11 @@ module _ (set : FinSet) (points : List Float) (L : ℕ) (made : makingCheck set 
   unfolding scratchCheck
   long-enough = rw (le-leb (16 * L) (16 * L) (omega arith))
 
+  pub made-accepted : setCheck set points L (16 * L) ≡ Accepted
+  unfolding ownCheck
+  made-accepted =
+      accepted-with (set .density) (each-accepts (ownChecks set points) own-checked .1 .1 .1 .1 .1 .1 .1 .1 .1 .1 .0) (16 * L) long-enough
+
   fresh : (d : Density) → densityCheck d ≡ Accepted → (n : ℕ) → scratchCheck L n ≡ Accepted → workedFigures (withDensity set d) points L ≡ setFigures (withDensity set d) points L n
   unfolding setFigures
   fresh d dense n scratch =
@@ -355,15 +360,28 @@ module _ (set : FinSet) (points : List Float) (L : ℕ) (made : makingCheck set 
     abbrev Density· : Density
     Density· = densityOver (madeOf set points L .job) (set .density) calls
 
+    -- what a step answers that leaves the job ended
+    answers-fresh : State Density· Strips· After· → (scratch : List Float) → stepOf After· (length scratch) .job .ended ≡ true
+        → (n : ℕ) → scratchCheck L n ≡ Accepted
+        → stepOf After· (length scratch) .answer ≡ record { reply = Answered; figures = setFigures (withDensity set Density·) points L n }
+    answers-fresh s scratch e n enough =
+        let z = done-of Density· _ (stepOf After· (length scratch) .job) (one Density· Strips· After· (step scratch) s) e in
+        end-answer After· (length scratch) e
+        ∙ ap (λ (f : Figures). record { reply = Answered; figures = f }) (z .answer ∙ fresh Density· (z .dense) n enough)
+
     runs : Going Density· Strips· After· → OverCalls set points L calls
     runs g =
         let still : After· .ended ≡ false = ap (λ (j : Job). j .ended) (g .is) in
         record {
           set-is = ap (λ (j : Job). j .set) (g .is);
-          ends-as-fresh = λ e n s. not-both _ still e;
+          carries = λ e. g .is;
+          worked-so-far = record { to-come = _; are = subst (StripsAre Run·) (sym (g .rest)) (strips-are Run· (limits .0)) };
+          samples-so-far = ap (λ (j : Job). j .samples) (g .is);
+          intervals-so-far = ap (λ (j : Job). j .intervals) (g .is);
           worked = λ e. not-both _ still e;
           reported = λ e. not-both _ still e;
-          samples-so-far = ap (λ (j : Job). j .samples) (g .is);
+          ends-as-fresh = λ e n s. not-both _ still e;
+          answers-as-fresh = answers-fresh (inl g);
           no-more-steps = omega (arith, g .below);
           runs-on = λ e. omega (arith, g .below);
           works-next = λ e n v. subst (λ (j : Job). counts j n ≡ true) (sym (g .is)) (going-counts Density· Strips· n v (g .below));
@@ -374,11 +392,16 @@ module _ (set : FinSet) (points : List Float) (L : ℕ) (made : makingCheck set 
     ended-so z =
         record {
           set-is = z .set-is;
+          carries = λ e. not-both _ e (z .over-now);
+          worked-so-far =
+              record { to-come = []; are = subst (StripsAre Run·) (sym (append-nil Strips· ∙ z .whole)) (strips-are Run· (limits .0)) };
+          samples-so-far = z .samples;
+          intervals-so-far = z .intervals;
           ends-as-fresh = λ e n s. z .answer ∙ fresh Density· (z .dense) n s;
+          answers-as-fresh = answers-fresh (inr z);
           worked = λ e. subst (StripsAre Run·) (sym (z .whole)) (strips-are Run· (limits .0));
           reported = λ e. subst (λ (l : List Worked). AreReported l (setReport (After· .outcome))) (sym (z .whole))
               (set-reported (withDensity set Density·) points L (16 * L) (After· .outcome) (accepted-with Density· (z .dense) (16 * L) long-enough) (z .answer));
-          samples-so-far = z .samples;
           no-more-steps = subst (λ (l : List Worked). length l ≤ stripsFrom Run· 0) (sym (z .whole)) (let n = worked-few 7 f· L Scale· Heights· in omega (arith, n));
           runs-on = λ e. not-both _ e (z .over-now);
           works-next = λ e n v. not-both _ e (z .over-now);

@@ -12,15 +12,17 @@ use Rattle.limits.specs.Limits.{scratchCheck}
 use Rattle.materials.specs.declared.Density.{Density}
 use Rattle.fins.specs.declared.FinSet.{FinSet}
 use Rattle.halving.specs.declared.Ending.the-variants.{Accepted as accepted}
-use Rattle.strips.specs.Strips.{Worked, runCheck, stripAt, stripsFrom, samplesIn, endingOf, scratchAfter}
+use Rattle.strips.specs.Strips.{Run, Worked, runCheck, stripAt, stripsFrom}
+use Rattle.strips.specs.Strips.{samplesIn, intervalsIn, endingOf, summedOf, scratchAfter}
 use Rattle.strips.specs.Claim.{StripsAre, AreReported}
+use Rattle.strips.specs.Rising.{PiecesRise, SamplesFinite, NumbersFinite}
 use Rattle.figures.specs.Figures.{setRun, setFigures}
-use Rattle.figures.specs.Answers.{setReport}
+use Rattle.figures.specs.Answers.{setReport, mostSamples}
 use Rattle.jobs.specs.declared.Job.{Job}
 use Rattle.jobs.specs.declared.Reply.{Reply}
 use Rattle.jobs.specs.declared.Reply.the-variants.{More, Taken, Answered}
 use Rattle.jobs.specs.declared.Stepped.{Stepped}
-use Rattle.jobs.specs.Jobs.{runOfJob, withDensity, stepOf, stepScratch, changeOf, madeOf}
+use Rattle.jobs.specs.Jobs.{pointsOf, runOfJob, noFigures, withDensity, stepOf, stepScratch, changeOf, madeOf}
 
 -- a step over the scratch lent to it, or a change of density
 pub data Call : Type 0 where
@@ -69,6 +71,29 @@ abbrev pub densityOver : Job → Density → List Call → Density
 densityOver job density [] = density
 densityOver job density (call ∷ calls) = densityOver (steppedBy job call .job) (densityBy job density call) calls
 
+-- ---- what is worked so far
+
+-- the first strips of a run: with those to come behind them they are the run's, each as demand 3 has it
+pub record FirstStrips (run : Run) (strips : List Worked) : Type 0 where
+  pub to-come : List Worked
+  pub are : StripsAre run (strips ++ to-come)
+
+-- the record of a job that runs: "of its strips only which is next and the sums and totals over those worked"; it has
+-- no outcome
+abbrev pub runningJob : FinSet → List Float → ℕ → List Worked → Job
+runningJob set points L strips =
+    record {
+      set = set;
+      points = pointsOf points;
+      limit = L;
+      next = length strips;
+      value = summedOf strips .value;
+      intervals = intervalsIn strips;
+      samples = samplesIn strips;
+      ended = false;
+      outcome = noFigures;
+    }
+
 -- ---- a job that was made, and any calls
 
 module _ (set : FinSet) (points : List Float) (L : ℕ) (calls : List Call) where
@@ -85,16 +110,42 @@ module _ (set : FinSet) (points : List Float) (L : ℕ) (calls : List Call) wher
   -- what holds of them together, for a set that is accepted
   pub record OverCalls : Type 0 where
     pub set-is : jobAfter .set ≡ setAfter
-    -- "The answer ending the job equals a fresh run's with the last density accepted", over any scratch that is long enough
-    pub ends-as-fresh : jobAfter .ended ≡ true → (scratchLength : ℕ) → scratchCheck L scratchLength ≡ Accepted → jobAfter .outcome ≡ setFigures setAfter points L scratchLength
-    -- "so the mission's cover and counts must hold over the steps together": demand 3, of the strips of all steps; what was written is `WritesOwnStrip`
+    -- "Until the job ends, the record carries of its strips only which is next and the sums and totals over those
+    -- worked."
+    pub carries : jobAfter .ended ≡ false → jobAfter ≡ runningJob setAfter points L stripsAfter
+    -- "so the mission's cover and counts must hold over the steps together": demand 3 at every moment, of the strips of
+    -- all steps so far
+    pub worked-so-far : FirstStrips (setRun set points L) stripsAfter
+    -- "the job's samples so far", before the end and at it; the intervals likewise
+    pub samples-so-far : jobAfter .samples ≡ samplesIn stripsAfter
+    pub intervals-so-far : jobAfter .intervals ≡ intervalsIn stripsAfter
+    -- at the end they are all strips of the run, and what is reported is of them; what was written is `WritesOwnStrip`
     pub worked : jobAfter .ended ≡ true → StripsAre (setRun set points L) stripsAfter
     pub reported : jobAfter .ended ≡ true → AreReported stripsAfter (setReport (jobAfter .outcome))
-    -- "the job's samples so far", before the end and at it
-    pub samples-so-far : jobAfter .samples ≡ samplesIn stripsAfter
+    -- "The answer ending the job equals a fresh run's with the last density accepted", over any scratch that is long
+    -- enough: the outcome, and what a step answers that ends the job or finds it ended
+    pub ends-as-fresh : jobAfter .ended ≡ true → (scratchLength : ℕ) → scratchCheck L scratchLength ≡ Accepted
+        → jobAfter .outcome ≡ setFigures setAfter points L scratchLength
+    pub answers-as-fresh : (scratch : List Float) → stepOf jobAfter (length scratch) .job .ended ≡ true
+        → (scratchLength : ℕ) → scratchCheck L scratchLength ≡ Accepted
+        → stepOf jobAfter (length scratch) .answer
+        ≡ record { reply = Answered; figures = setFigures setAfter points L scratchLength }
     -- "A job takes as many steps as it has strips, fewer only when one is refused"
     pub no-more-steps : length stripsAfter ≤ stripsFrom (setRun set points L) 0
     pub runs-on : jobAfter .ended ≡ false → length stripsAfter < stripsFrom (setRun set points L) 0
     -- until it ends, a step that is lent enough works a strip
     pub works-next : jobAfter .ended ≡ false → (scratchLength : ℕ) → runCheck L scratchLength ≡ Accepted → counts jobAfter scratchLength ≡ true
     pub as-many-steps : jobAfter .ended ≡ true → endingOf stripsAfter ≡ accepted → length stripsAfter ≡ stripsFrom (setRun set points L) 0
+
+  -- of the strips worked so far, whose pieces the screen draws: these "strictly rise, every cut lying between its
+  -- parent's ends", and "no sample is infinite or NaN" (document 02, Paper 14), nor a number worked from the samples
+  pub record Drawable : Type 0 where
+    pub pieces-rise : PiecesRise stripsAfter
+    pub samples-finite : SamplesFinite (setRun set points L) stripsAfter
+    pub numbers-finite : NumbersFinite (setRun set points L) stripsAfter
+
+-- "no more than .. 118,110 samples, and the screen scales its bar by that" (document 02, Paper 8): what any call on a
+-- job answers, whatever was handed in when it was made
+abbrev pub SamplesAtMost : Type 0
+SamplesAtMost = (set : FinSet) (points : List Float) (L : ℕ) (calls : List Call) (call : Call)
+    → steppedBy (jobAfter set points L calls) call .answer .figures .samples ≤ mostSamples
