@@ -94,6 +94,9 @@ extern "C" {
 #define DELVOUZH_MORE 1000
 #define DELVOUZH_IDLE 1001
 
+/* The samples that scale a bar: no set, no planform, no job and no screen reports more, with figures or refused. */
+#define DELVOUZH_MOST_SAMPLES 118110
+
 /* The bytes of an answer to a line: no answer has more. */
 #define DELVOUZH_ANSWER 320
 
@@ -115,7 +118,7 @@ size_t delvouzh_mass_properties(size_t limit, size_t count, size_t planform, con
 size_t delvouzh_geometry(size_t limit, size_t planform, const double *lengths, size_t lengths_len, double *scratch,
                          size_t scratch_len, double *area, size_t area_len, size_t *counts, size_t counts_len);
 
-/* 118,110: no call of the two above reports more samples, with figures or refused. */
+/* DELVOUZH_MOST_SAMPLES: no call of the two above reports more samples, with figures or refused. */
 size_t delvouzh_most_samples(void);
 
 /* A planform's chords at a height in metres, which may be any number: the planform is checked as for its area. Writes start and end of each

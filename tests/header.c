@@ -134,7 +134,7 @@ static void figures(void) {
     const double tensor[6] = {2, 0, 2, 0, 0, 0};
     at.number = delvouzh_principal_moments(tensor, 6, at.numbers, DELVOUZH_MOMENTS, at.counts, DELVOUZH_VALUES);
     holds("moments", refused(0, 0, 0) && at.numbers[0] == 0.0 && at.numbers[1] == 2.0 && at.numbers[2] == 2.0);
-    holds("the most samples", delvouzh_most_samples() == 62 * 15 * 127);
+    holds("the most samples", delvouzh_most_samples() == DELVOUZH_MOST_SAMPLES);
     holds("the root of 2", bits(delvouzh_sqrt(2.0)) == 0x3ff6a09e667f3bcd);
     answer_to(&at, "(join (point 1.0 #4000000000000000 0 -0))");
     holds("a line", answered("(joined (mass 3ff0000000000000) (centre 4000000000000000 0000000000000000 0000000000000000) (inertia"

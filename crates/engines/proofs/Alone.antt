@@ -20,7 +20,7 @@ use Rattle.jobs.specs.declared.Stepped.{Stepped}
 use Rattle.jobs.specs.Jobs.{stepOf}
 use Rattle.jobs.specs.Calls.{steppedBy}
 use Rattle.jobs.specs.Calls as alone
-use Rattle.jobs.proofs.Laws.{yes, no}
+use Rattle.jobs.proofs.Laws.{yes, no, after-both}
 use Rattle.engines.specs.declared.Engine.{Engine}
 use Rattle.engines.specs.declared.Turned.{Turned}
 use Rattle.engines.specs.declared.Called.{Called}
@@ -92,10 +92,6 @@ module _ (engine : Engine) (w : EightScreens engine) (screen : ℕ) (holds : hol
   own-call (change other density) = let r = own-change other density (eqb screen other) refl in record { job = r .0; answers = r .1 }
 
 -- ---- lists of calls on a job, one behind the other
-pub after-both : (job : Job) (calls more : List alone.Call) → alone.afterCalls job (calls ++ more) ≡ alone.afterCalls (alone.afterCalls job calls) more
-after-both job [] more = refl
-after-both job (call ∷ calls) more = after-both (steppedBy job call .job) calls more
-
 answers-both : (job : Job) (calls more : List alone.Call) → answersAlone job (calls ++ more) ≡ answersAlone job calls ++ answersAlone (alone.afterCalls job calls) more
 unfolding answersAlone
 answers-both job [] more = refl

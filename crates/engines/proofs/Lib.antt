@@ -9,3 +9,5 @@ pub mod InPlace
 pub mod Rows
 pub mod Borrow
 pub mod AtPlace
+pub mod SampleCount
+pub mod Drawn

@@ -24,24 +24,27 @@ use Rattle.materials.specs.Materials.{densityCheck}
 use Rattle.fins.specs.declared.FinSet.{FinSet}
 use Rattle.strips.specs.declared.Onward.{Onward}
 use Rattle.strips.specs.Strips.{isAccepted, runCheck, onwardOf}
-use Rattle.figures.specs.declared.Figures.{Figures}
 use Rattle.figures.specs.Figures.{setFigures}
 use Rattle.jobs.specs.declared.Job.{Job}
 use Rattle.jobs.specs.declared.Stepped.{Stepped}
 use Rattle.jobs.specs.declared.Reply.the-variants.{More, Answered}
-use Rattle.jobs.specs.Jobs.{noFigures, runOfJob, totalOf, afterStrip, stepOf, changeOf, makingCheck, madeOf, withDensity}
-use Rattle.jobs.specs.Calls.{isTaken, counts, steppedBy, densityBy, densityOver, jobAfter, setAfter}
+use Rattle.jobs.specs.Jobs.{noFigures, runOfJob, totalOf, afterStrip, stepOf, changeOf, makingCheck, madeOf}
+use Rattle.jobs.specs.Calls.{isTaken, counts, steppedBy, jobAfter, setAfter}
 use Rattle.jobs.specs.Calls as alone
-use Rattle.jobs.proofs.Laws.{yes, step-ended, step-refused, step-works, after-more, after-last, change-ended, change-refused, change-taken}
+use Rattle.jobs.proofs.Laws.{yes, step-ended, step-refused, step-works, after-more, after-last, after-both}
+use Rattle.jobs.proofs.Laws.{change-ended, change-refused, change-taken}
 use Rattle.jobs.proofs.Together.{over-calls}
 use Rattle.engines.specs.declared.Engine.{Engine}
 use Rattle.engines.specs.declared.Turned.{Turned}
 use Rattle.engines.specs.declared.Called.{Called}
 use Rattle.engines.specs.Engines.{isScreen, placeOf, holdsJob, isFree, nextScreen, stepped, turnedAt, turnOf, submitOf, changeAt}
-use Rattle.engines.specs.Calls.{Call, turn, submit, change, engineBy, afterCalls, EightScreens, jobOf, screenOf, ownBy, ownOver, holdsOver, RunsBy, Submitted, AllSubmitted, Serves, sinceThen, engineNow, OnScreen}
+use Rattle.engines.specs.Calls.{Call, turn, submit, change, engineBy, afterCalls, EightScreens, jobOf}
+use Rattle.engines.specs.Calls.{screenOf, servedOver, ownBy, ownOver, holdsOver}
+use Rattle.engines.specs.Calls.{GetsStrip, StripWithinEight, RunsBy, Submitted, AllSubmitted, Serves, sinceThen, engineNow, OnScreen}
 use Rattle.engines.proofs.Effects.{in-eight, place-below, holds-is-screen, free-is-screen, mark-own, busy-not-taken, refused-not-taken, submit-takes, change-not-held, others-stay, changes-nothing, still-eight}
 use Rattle.engines.proofs.Order.{next-holds}
-use Rattle.engines.proofs.Alone.{own-call, after-both, job-set, served}
+use Rattle.engines.proofs.Alone.{own-call, job-set, served}
+use Rattle.engines.proofs.Rounds.{served-soon}
 
 not-both : {A : Type 0} {b : Bool} → b ≡ true → b ≡ false → A
 not-both p q = absurd (true≢false (sym p ∙ q))
@@ -83,7 +86,7 @@ after-limit : (calls : List alone.Call) (job : Job) → alone.afterCalls job cal
 after-limit [] job = refl
 after-limit (call ∷ calls) job = after-limit calls (steppedBy job call .job) ∙ call-limit job call
 
--- a step over scratch that is long enough: more remain, or the job has ended with its answer
+-- a step over scratch that is long enough, and that does not end the job: more remain
 module _ (job : Job) (n : ℕ) (runs : job .ended ≡ false) (check : runCheck (job .limit) n ≡ Accepted) where
   abbrev Went· : Onward
   Went· = onwardOf (runOfJob job) (job .next) (totalOf job)
@@ -94,17 +97,6 @@ module _ (job : Job) (n : ℕ) (runs : job .ended ≡ false) (check : runCheck (
   goes-on : (b : Bool) → (isAccepted (Went· .total .ending) && ltb 0 (Went· .left)) ≡ b → Worked· .job .ended ≡ false → Worked· .answer ≡ record { reply = More; figures = noFigures }
   goes-on true b e = ap (λ (s : Stepped). s .answer) (step-works job n runs check ∙ after-more job Went· b)
   goes-on false b e = not-both (ap (λ (s : Stepped). s .job .ended) (step-works job n runs check ∙ after-last job Went· b)) e
-
-  ends : (b : Bool) → (isAccepted (Went· .total .ending) && ltb 0 (Went· .left)) ≡ b → Worked· .job .ended ≡ true → Worked· .answer ≡ record { reply = Answered; figures = Worked· .job .outcome }
-  ends true b e = not-both e (ap (λ (s : Stepped). s .job .ended) (step-works job n runs check ∙ after-more job Went· b))
-  ends false b e =
-      let k = step-works job n runs check ∙ after-last job Went· b in
-      ap (λ (s : Stepped). s .answer) k ∙ ap (λ (s : Stepped). record { reply = Answered; figures = s .job .outcome }) (sym k)
-
--- a step behind the calls keeps the density accepted last
-density-behind : (calls : List alone.Call) (job : Job) (density : Density) (scratch : List Float) → densityOver job density (calls ++ alone.step scratch ∷ []) ≡ densityOver job density calls
-density-behind [] job density scratch = refl
-density-behind (call ∷ calls) job density scratch = density-behind calls (steppedBy job call .job) (densityBy job density call) scratch
 
 -- what making tells of a job
 module _ (set : FinSet) (points : List Float) (L : ℕ) where
@@ -216,14 +208,14 @@ module _ (engine : Engine) (w : EightScreens engine) (screen : ℕ) (holds : hol
       abbrev More· : Bool
       More· = isAccepted (Onward·· .total .ending) && ltb 0 (Onward·· .left)
 
-      stepped-is : Step· scratch e .job ≡ jobAfter set points L (own ++ alone.step scratch ∷ [])
-      stepped-is = ap (λ (j : Job). stepOf j (length scratch) .job) (r .is) ∙ sym (after-both Made· own (alone.step scratch ∷ []))
+      abbrev Fresh· : Stepped → Type 0
+      Fresh· s = s .job .ended ≡ true → (n : ℕ) → scratchCheck L n ≡ Accepted
+          → s .answer ≡ record { reply = Answered; figures = setFigures (setAfter set points L own) points L n }
 
-      fresh : Step· scratch e .job .ended ≡ true → (n : ℕ) → scratchCheck L n ≡ Accepted → Step· scratch e .job .outcome ≡ setFigures (setAfter set points L own) points L n
-      fresh h n enough =
-          ap (λ (j : Job). j .outcome) stepped-is
-          ∙ over-calls set points L (r .accepted) (own ++ alone.step scratch ∷ []) .ends-as-fresh (ap (λ (j : Job). j .ended) (sym stepped-is) ∙ h) n enough
-          ∙ ap (λ (d : Density). setFigures (withDensity set d) points L n) (density-behind own Made· (set .density) scratch)
+      fresh : Fresh· (Step· scratch e)
+      fresh =
+          subst (λ (j : Job). Fresh· (stepOf j (length scratch))) (sym (r .is))
+          (over-calls set points L (r .accepted) own .answers-as-fresh scratch)
 
       pub serves : Serves screen set points L own (turnOf engine (length scratch))
       serves =
@@ -232,10 +224,7 @@ module _ (engine : Engine) (w : EightScreens engine) (screen : ℕ) (holds : hol
           record {
             served = ap (λ (x : Turned). x .told .screen) t;
             goes-on = λ h. ap (λ (x : Turned). x .told .answer) t ∙ goes-on Job· (length scratch) (r .runs) checked More· refl (not-true _ (sym holds-is ∙ h));
-            ends-as-fresh = λ h n long.
-                ap (λ (x : Turned). x .told .answer) t
-                ∙ ends Job· (length scratch) (r .runs) checked More· refl (not-false _ (sym holds-is ∙ h))
-                ∙ ap (λ (f : Figures). record { reply = Answered; figures = f }) (fresh (not-false _ (sym holds-is ∙ h)) n long);
+            ends-as-fresh = λ h n long. ap (λ (x : Turned). x .told .answer) t ∙ fresh (not-false _ (sym holds-is ∙ h)) n long;
           }
 
 -- ---- a submission that is taken
@@ -352,3 +341,37 @@ all-submitted (call ∷ calls) engine w all =
 
 pub none-held : (engine : Engine) → ((screen : ℕ) → holdsJob (engine .screens) screen ≡ false) → AllSubmitted engine
 none-held engine none screen h = not-both h (none screen)
+
+-- ---- a waiting screen gets its strip
+held-then : (screen : ℕ) (before : List Call) (engine : Engine) (call : Call) → holdsOver screen engine (before ++ call ∷ []) ≡ true
+    → holdsJob (afterCalls engine before .screens) screen ≡ true
+unfolding holdsOver
+held-then screen [] engine call h = and-left (holdsJob (engine .screens) screen) _ h
+held-then screen (first ∷ before) engine call h =
+    held-then screen before (engineBy engine first) call (and-right (holdsJob (engine .screens) screen) _ h)
+
+-- as every job was submitted, the turn that serves it works a strip
+gets-strip : (engine : Engine) → EightScreens engine → AllSubmitted engine → (screen : ℕ) → holdsJob (engine .screens) screen ≡ true
+    → (calls : List Call) → 8 ≤ length (servedOver engine calls) → GetsStrip engine screen calls
+gets-strip engine w all screen waits calls eight =
+    let r = served-soon engine screen calls waits eight in
+    let then = afterCalls engine (r .before) in
+    let held = held-then screen (r .before) engine (turn (r .scratch)) (r .waits) in
+    let s = all-submitted (r .before) engine w all screen held in
+    record {
+      before = r .before;
+      scratch = r .scratch;
+      after = r .after;
+      calls-are = r .calls-are;
+      within-eight = omega (arith, r .few);
+      waits = r .waits;
+      serves = r .serves;
+      works-strip =
+          let eight-then = eight-behind (r .before) engine w in
+          works-strip then eight-then screen held (s .set) (s .points) (s .limit) (s .calls) (s .runs) (r .scratch) (r .serves);
+    }
+
+pub strip-within-eight : StripWithinEight
+strip-within-eight begun b earlier screen waits calls eight =
+    let all = all-submitted earlier begun (b .eight) (none-held begun (b .no-job)) in
+    gets-strip (afterCalls begun earlier) (eight-behind earlier begun (b .eight)) all screen waits calls eight

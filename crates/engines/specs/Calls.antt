@@ -11,16 +11,19 @@ use Rattle.refusals.specs.declared.Verdict.the-variants.{Accepted}
 use Rattle.limits.specs.Limits.{scratchCheck}
 use Rattle.materials.specs.declared.Density.{Density}
 use Rattle.fins.specs.declared.FinSet.{FinSet}
+use Rattle.strips.specs.Strips.{scratchAfter}
 use Rattle.figures.specs.Figures.{setFigures}
+use Rattle.figures.specs.Answers.{mostSamples}
 use Rattle.jobs.specs.declared.Job.{Job}
 use Rattle.jobs.specs.declared.Reply.the-variants.{More, Answered}
 use Rattle.jobs.specs.declared.Answer.{Answer}
 use Rattle.jobs.specs.Jobs.{noFigures, makingCheck}
-use Rattle.jobs.specs.Calls.{steppedBy, isTaken, jobAfter, setAfter}
+use Rattle.jobs.specs.Calls.{steppedBy, isTaken, jobAfter, setAfter, Drawable}
 use Rattle.jobs.specs.Calls as alone
 use Rattle.engines.specs.declared.Engine.{Engine}
 use Rattle.engines.specs.declared.Turned.{Turned}
-use Rattle.engines.specs.Engines.{isScreen, placeOf, holdsJob, nextScreen, jobAt, turnOf, submitOf, changeAt}
+use Rattle.engines.specs.Engines.{isScreen, placeOf, holdsJob, nextScreen}
+use Rattle.engines.specs.Engines.{jobAt, turnOf, turnScratch, submitOf, changeAt}
 
 -- a turn over the scratch lent to it, a submission to a screen, or a change of a screen's density
 pub data Call : Type 0 where
@@ -43,6 +46,11 @@ pub record EightScreens (engine : Engine) : Type 0 where
   pub screens : length (engine .screens .held) ≡ 8
   pub jobs : length (engine .jobs) ≡ 8
 
+-- an engine to begin with: none of its screens holds a job
+pub record Begins (engine : Engine) : Type 0 where
+  pub eight : EightScreens engine
+  pub no-job : (screen : ℕ) → holdsJob (engine .screens) screen ≡ false
+
 -- the job of a screen
 abbrev pub jobOf : Engine → ℕ → Job
 jobOf engine screen = jobAt engine (placeOf screen)
@@ -59,7 +67,8 @@ unfoldable pub servedOver : Engine → List Call → List ℕ
 servedOver engine [] = []
 servedOver engine (call ∷ calls) = servedBy engine call ++ servedOver (engineBy engine call) calls
 
--- "A waiting screen gets its strip within eight turns, whatever the others submit."
+-- a waiting screen is served "within eight turns, whatever the others submit"; that it gets its strip then:
+-- `StripWithinEight`
 abbrev pub WithinEight : Type 0
 WithinEight = (engine : Engine) (screen : ℕ) (calls : List Call) → holdsJob (engine .screens) screen ≡ true → 8 ≤ length (servedOver engine calls)
     → (i : ℕ) × ((i < 8) × (getD (servedOver engine calls) i 0 ≡ screen))
@@ -117,6 +126,28 @@ unfoldable pub holdsOver : ℕ → Engine → List Call → Bool
 holdsOver screen engine [] = true
 holdsOver screen engine (call ∷ calls) = holdsJob (engine .screens) screen && holdsOver screen (engineBy engine call) calls
 
+-- "A waiting screen gets its strip": one of the calls is a turn that works a strip of the job that the screen held
+-- before them
+pub record GetsStrip (engine : Engine) (screen : ℕ) (calls : List Call) : Type 0 where
+  pub before : List Call
+  pub scratch : List Float
+  pub after : List Call
+  pub calls-are : calls ≡ before ++ turn scratch ∷ after
+  -- "within eight turns": fewer count before it
+  pub within-eight : length (servedOver engine before) < 8
+  -- it serves the screen, which held the job till then, and the step counts
+  pub waits : holdsOver screen engine (before ++ turn scratch ∷ []) ≡ true
+  pub serves : screen ≡ screenOf (afterCalls engine before) (turn scratch)
+  pub works-strip : alone.counts (jobOf (afterCalls engine before) screen) (length scratch) ≡ true
+
+-- "A waiting screen gets its strip within eight turns, whatever the others submit": a screen that holds a job after any
+-- calls on an engine that began with none, in any calls after that of which eight are turns that count
+abbrev pub StripWithinEight : Type 0
+StripWithinEight = (begun : Engine) → Begins begun → (earlier : List Call) (screen : ℕ)
+    → holdsJob (afterCalls begun earlier .screens) screen ≡ true
+    → (calls : List Call) → 8 ≤ length (servedOver (afterCalls begun earlier) calls)
+    → GetsStrip (afterCalls begun earlier) screen calls
+
 -- what a job answers alone
 unfoldable pub answersAlone : Job → List alone.Call → List Answer
 answersAlone job [] = []
@@ -127,6 +158,20 @@ pub record AsAlone (screen : ℕ) (engine : Engine) (calls : List Call) : Type 0
   pub answers : answersOver screen engine calls ≡ answersAlone (jobOf engine screen) (ownOver screen engine calls)
   pub job : holdsOver screen engine calls ≡ true
       → jobOf (afterCalls engine calls) screen ≡ alone.afterCalls (jobOf engine screen) (ownOver screen engine calls)
+
+-- ---- samples
+
+-- what a call answers
+abbrev pub answerBy : Engine → Call → Answer
+answerBy engine (turn scratch) = turnOf engine (length scratch) .told .answer
+answerBy engine (submit screen set points L) = submitOf engine screen set points L .answer
+answerBy engine (change screen density) = changeAt engine screen density .answer
+
+-- "no more than .. 118,110 samples, and the screen scales its bar by that" (Paper 8): what any call answers, after any
+-- calls on an engine that began with no job
+abbrev pub SamplesAtMost : Type 0
+SamplesAtMost = (begun : Engine) → Begins begun → (calls : List Call) (call : Call)
+    → answerBy (afterCalls begun calls) call .figures .samples ≤ mostSamples
 
 -- ---- a job that was submitted
 
@@ -172,3 +217,13 @@ module _ (engine : Engine) (screen : ℕ) (set : FinSet) (points : List Float) (
     pub gets-strip : (scratch : List Float) → screen ≡ screenOf engineNow (turn scratch) → alone.counts (jobOf engineNow screen) (length scratch) ≡ true
     pub next-turn : (scratch : List Float) → screen ≡ screenOf engineNow (turn scratch)
         → Serves screen set points L sinceThen (turnOf engineNow (length scratch))
+
+  -- Paper 14 on the screen, which draws the pieces: of the strips that its turns worked so far, and with them of the
+  -- one that the next turn for it works, whose pieces that turn leaves in the scratch
+  pub record DrawnOnScreen : Type 0 where
+    pub so-far : Drawable set points L sinceThen
+    pub next-turn : (scratch : List Float) → screen ≡ screenOf engineNow (turn scratch)
+        → Drawable set points L (sinceThen ++ alone.step scratch ∷ [])
+    pub written : (scratch : List Float) → screen ≡ screenOf engineNow (turn scratch)
+        → turnScratch engineNow scratch
+        ≡ scratchAfter (alone.stripsBy (jobOf engineNow screen) (alone.step scratch)) scratch
