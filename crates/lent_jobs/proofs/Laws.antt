@@ -45,8 +45,10 @@ use Rattle.fins.specs.declared.NumberedTab.the-variants.{Known as tabKnown}
 use Rattle.fins.specs.Numbered.{numberedTab, numberedSet}
 use Rattle.figures.specs.declared.Figures.{Figures}
 use Rattle.jobs.specs.declared.Job.{Job}
+use Rattle.jobs.specs.declared.Answer.{Answer}
 use Rattle.jobs.specs.declared.Stepped.{Stepped}
-use Rattle.jobs.specs.Jobs.{stepOf, stepScratch, StepsTo, changeOf, madeOf}
+use Rattle.jobs.specs.Jobs.{madeOf}
+use Rattle.jobs.specs.Lent.{StepsLent, ChangesLent}
 use Rattle.lent_jobs.specs.Memory.{planformNumber, lengthsOf, sectionNumber, tabNumber, tabFigures, densityNumber, densityFigure, countAt, verdictRow, flag, jobNumbers, jobCounts, setNumbers, workedNumbers, numbersOf, countsOf, lengthCount, tabCount, knownSet, setIn, verdictIn, outcomeIn, jobIn}
 use Rattle.lent_jobs.specs.Lent.{Holds, Makes, Steps, Changes}
 use Rattle.lent_jobs.proofs.Sized.{Sized}
@@ -241,24 +243,18 @@ module _ (job : Job) (s : Sized job) (numbers : List Float) (counts : List ℕ) 
         held = ap₂ jobIn all counted ∙ job-back job s (drop jobNumbers numbers) (drop jobCounts counts);
       }
 
-module _ (numbers : List Float) (counts : List ℕ) (s : Stepped) (numbers' : List Float) (counts' : List ℕ) (h : Holds (s .job) numbers counts numbers' counts') where
-  kept : (r : Stepped) → s ≡ r → Holds (r .job) numbers counts numbers' counts'
-  kept r e = subst (λ (x : Stepped). Holds (x .job) numbers counts numbers' counts') e h
+pub job-made : (numbers : List Float) (counts : List ℕ) (s : Stepped) (numbers' : List Float) (counts' : List ℕ) → Holds (s .job) numbers counts numbers' counts' →
+    (set : FinSet) (points : List Float) (L : ℕ) → s ≡ madeOf set points L → Makes set points L numbers counts (s .answer) numbers' counts'
+job-made numbers counts s numbers' counts' h set points L e =
+    record { answered = ap (λ (x : Stepped). x .answer) e; holds = subst (λ (x : Stepped). Holds (x .job) numbers counts numbers' counts') e h }
 
-  pub job-made : (set : FinSet) (points : List Float) (L : ℕ) → s ≡ madeOf set points L → Makes set points L numbers counts (s .answer) numbers' counts'
-  job-made set points L e = record { answered = ap (λ (x : Stepped). x .answer) e; holds = kept (madeOf set points L) e }
+-- A lent job, which is the one that the lists held at entry, and what they hold at exit.
+module _ (numbers : List Float) (counts : List ℕ) (after : Job) (r : Answer) (numbers' : List Float) (counts' : List ℕ) (h : Holds after numbers counts numbers' counts') where
+  kept : (j : Job) → after ≡ j → Holds j numbers counts numbers' counts'
+  kept j e = subst (λ (x : Job). Holds x numbers counts numbers' counts') e h
 
-  module _ (job : Job) (is : job ≡ jobIn numbers counts) where
-    pub job-stepped : (scratch scratch' : List Float) → StepsTo job scratch s scratch' → Steps numbers counts scratch (s .answer) numbers' counts' scratch'
-    job-stepped scratch scratch' e =
-        let done = e .stepped ∙ ap (λ (j : Job). stepOf j (length scratch)) is in
-        record {
-          answered = ap (λ (x : Stepped). x .answer) done;
-          holds = kept _ done;
-          lent = e .scratch ∙ ap (λ (j : Job). stepScratch j scratch) is;
-        }
+  pub job-stepped : (scratch scratch' : List Float) → StepsLent (jobIn numbers counts) scratch r after scratch' → Steps numbers counts scratch r numbers' counts' scratch'
+  job-stepped scratch scratch' e = record { answered = e .0; holds = kept _ (e .1 .0); lent = e .1 .1 }
 
-    pub job-changed : (density : Density) → s ≡ changeOf job density → Changes numbers counts density (s .answer) numbers' counts'
-    job-changed density e =
-        let done = e ∙ ap (λ (j : Job). changeOf j density) is in
-        record { answered = ap (λ (x : Stepped). x .answer) done; holds = kept _ done }
+  pub job-changed : (density : Density) → ChangesLent (jobIn numbers counts) density r after → Changes numbers counts density r numbers' counts'
+  job-changed density e = record { answered = e .0; holds = kept _ (e .1) }

@@ -1,3 +1,7 @@
 pub mod Sized
 pub mod Copying
 pub mod Laws
+pub mod Walks
+pub mod LentJob
+pub mod LentLists
+pub mod LentCalls

@@ -1,7 +1,7 @@
 // A job in lent memory: 159 numbers and 17 counts, as C and Rust lend it (document 02, Paper 9; include/delvouzh.h).
 //
-// A call reads the job, works on it by value as `jobs` does, and writes what is left of it back over the start of both lists. A set's parts stand
-// there by the library's numbers; lists that no call wrote hold some job too: a part's unknown number makes it a set of no fins.
+// A call reads the job into a local, lends that to `jobs::step` or `jobs::change_density`, and writes it back over the start of both lists. A set's
+// parts stand there by the library's numbers; lists that no call wrote hold some job too: a part's unknown number makes it a set of no fins.
 ghost use mathlib.Core.Path.{_≡_};
 ghost use Prim.Native.Nat.{_+_, _≤_};
 ghost use lib.ListN.{length};
@@ -437,11 +437,10 @@ pub fn step(numbers: &mut [f64], counts: &mut [usize], scratch: &mut [f64]) -> A
     ensures { λ r. ⌜ Steps (now (numbers .entry)) (now (counts .entry)) (now (scratch .entry)) r
         (now (numbers .exit)) (now (counts .exit)) (now (scratch .exit)) ⌝ }
 {
-    let job = read_job(numbers, counts);
-    let stepped = jobs::step_by_value(job, scratch);
-    let after = stepped.job;
-    write_job(numbers, counts, after);
-    stepped.answer
+    let mut job = read_job(numbers, counts);
+    let answer = jobs::step(&mut job, scratch);
+    write_job(numbers, counts, job);
+    answer
 }
 
 // A change of density of the job there.
@@ -449,9 +448,8 @@ pub fn change_density(numbers: &mut [f64], counts: &mut [usize], density: Densit
     requires { ⌜ Room (now numbers) (now counts) ⌝ }
     ensures { λ r. ⌜ Changes (now (numbers .entry)) (now (counts .entry)) density r (now (numbers .exit)) (now (counts .exit)) ⌝ }
 {
-    let job = read_job(numbers, counts);
-    let changed = jobs::change_by_value(job, density);
-    let after = changed.job;
-    write_job(numbers, counts, after);
-    changed.answer
+    let mut job = read_job(numbers, counts);
+    let answer = jobs::change_density(&mut job, density);
+    write_job(numbers, counts, job);
+    answer
 }

@@ -1,11 +1,14 @@
 // Thousands of jobs, each of a set made up by a row of numbers: between its strips come changes of density, taken and refused, and short
 // steps. Held beside a fresh run with the density accepted last are the answer that ends the job, the scratch, and the same answer again.
+// The jobs stand in lent memory, so that each call runs `jobs::step` or `jobs::change_density` over `&mut Job`.
 ghost use Prim.Native.Nat.{_≤_};
 ghost use lib.ListN.{length};
+ghost use Rattle.lent_jobs.specs.Lent.{Room};
 use figures::Figures;
-use jobs::Job;
+use jobs::Answer;
 use jobs::Reply;
-use jobs::Stepped;
+use lent_jobs::JOB_COUNTS;
+use lent_jobs::JOB_NUMBERS;
 use libc::STDOUT_FILENO;
 use materials::Density;
 use refusals::Verdict;
@@ -13,29 +16,25 @@ use std::num::wrapping_add_u64;
 
 const JOBS: u64 = 4000;
 
-// The calls that each job gets: enough to end it, and some behind its end.
+// The calls that each job gets: enough to end it, and some after its end.
 const CALLS: u64 = 80;
 
 // One call by the row's number: a change, one that is refused, a step lent too little, or a step.
-fn call(job: Job, seed: u64, scratch: &mut [f64]) -> Stepped
-    requires { ⌜ 1024 ≤ length (now scratch) ⌝ }
+fn call(numbers: &mut [f64], counts: &mut [usize], seed: u64, scratch: &mut [f64]) -> Answer
+    requires { ⌜ Room (now numbers) (now counts) × (1024 ≤ length (now scratch)) ⌝ }
 {
     let pick = seed % 8;
     if pick == 0 {
-        return jobs::change_by_value(
-            job,
-            Density::Bulk {
-                kg_m3: test_sets::wood(seed),
-            },
-        );
+        let kg_m3 = test_sets::wood(seed);
+        return lent_jobs::change_density(numbers, counts, Density::Bulk { kg_m3 });
     }
     if pick == 1 {
-        return jobs::change_by_value(job, Density::Surface { kg_m2: 1.0 });
+        return lent_jobs::change_density(numbers, counts, Density::Surface { kg_m2: 1.0 });
     }
     if pick == 2 {
-        return jobs::step_by_value(job, &mut scratch[..15]);
+        return lent_jobs::step(numbers, counts, &mut scratch[..15]);
     }
-    jobs::step_by_value(job, scratch)
+    lent_jobs::step(numbers, counts, scratch)
 }
 
 fn is_taken(reply: Reply) -> bool {
@@ -46,50 +45,31 @@ fn is_taken(reply: Reply) -> bool {
     }
 }
 
-// A job behind its calls, and the density accepted last.
-struct Driven {
-    job: Job,
+// Gives a job its calls, and returns the density that it accepted last.
+fn drive(
+    numbers: &mut [f64],
+    counts: &mut [usize],
+    seed: u64,
     kg_m3: f64,
-}
-
-fn drive(job: Job, seed: u64, kg_m3: f64, scratch: &mut [f64]) -> Driven
-    requires { ⌜ 1024 ≤ length (now scratch) ⌝ }
+    scratch: &mut [f64],
+) -> f64
+    requires { ⌜ Room (now numbers) (now counts) × (1024 ≤ length (now scratch)) ⌝ }
 {
-    let mut driven = Driven { job, kg_m3 };
+    let mut accepted = kg_m3;
     let mut s = seed;
     let mut calls: u64 = 0;
     while calls < CALLS {
         s = test_sets::after(s);
-        let job = driven.job;
-        let stepped = call(job, s, scratch);
-        let answer = stepped.answer;
+        let answer = call(numbers, counts, s, scratch);
         let reply = answer.reply;
-        let job = stepped.job;
-        let kg_m3 = if is_taken(reply) {
+        accepted = if is_taken(reply) {
             test_sets::wood(s)
         } else {
-            driven.kg_m3
+            accepted
         };
-        driven = Driven { job, kg_m3 };
         calls += 1;
     }
-    driven
-}
-
-// Whether an ended job answers the same again, with hardly any scratch, and a change behind its end is 12 with its samples.
-fn stays_ended(job: Job) -> bool {
-    let mut few = [0.0; 4];
-    let again = jobs::step_by_value(job, &mut few);
-    let answer = again.answer;
-    let change = jobs::change_by_value(job, Density::Bulk { kg_m3: 500.0 });
-    let refused = change.answer;
-    let figures = refused.figures;
-    let verdict = figures.verdict;
-    let why = test_sets::reason(verdict);
-    let repeated = answer.figures;
-    let outcome = job.outcome;
-    let same = test_sets::same_figures(repeated, outcome);
-    job.ended & same & (why[0] == 12) & (figures.samples == job.samples)
+    accepted
 }
 
 // How many jobs there were, how many of them ended with figures, and how many not as a fresh run or not at all.
@@ -119,33 +99,117 @@ fn fresh_run(seed: u64, kg_m3: f64, limit: usize, scratch: &mut [f64]) -> Figure
     figures::mass_properties(set, &points, limit, scratch)
 }
 
-// One job beside a fresh run, each over a scratch of its own; the two scratches are the same before.
-fn compare(tally: Tally, seed: u64, scratch: &mut [f64], other: &mut [f64]) -> Tally
-    requires { ⌜ 1024 ≤ length (now scratch) ⌝ }
+// Makes the row's job in the lent lists.
+fn make_job(numbers: &mut [f64], counts: &mut [usize], seed: u64, limit: usize)
+    requires { ⌜ Room (now numbers) (now counts) ⌝ }
 {
     let points = test_sets::outline(seed);
-    let limit = 1 + ((seed >> 30) % 65) as usize;
-    let set = test_sets::set_of(
-        seed,
-        Density::Bulk {
-            kg_m3: test_sets::wood(seed),
-        },
-    );
-    let made = jobs::make(set, &points, limit);
-    let job = made.job;
-    let driven = drive(job, seed, test_sets::wood(seed), scratch);
-    let job = driven.job;
-    let fresh = fresh_run(seed, driven.kg_m3, limit, other);
-    let outcome = job.outcome;
-    let verdict = fresh.verdict;
-    let answers = test_sets::same_figures(outcome, fresh);
-    let stays = stays_ended(job);
-    let numbers = test_sets::same_numbers(scratch, other);
-    counted(tally, verdict, answers & stays & numbers)
+    let kg_m3 = test_sets::wood(seed);
+    let set = test_sets::set_of(seed, Density::Bulk { kg_m3 });
+    lent_jobs::make(numbers, counts, set, &points, limit);
 }
 
-fn compare_all(scratch: &mut [f64], other: &mut [f64]) -> Tally
-    requires { ⌜ 1024 ≤ length (now scratch) ⌝ }
+// Makes the row's job, gives it its calls, and returns the density that it accepted last.
+fn work_job(
+    numbers: &mut [f64],
+    counts: &mut [usize],
+    seed: u64,
+    limit: usize,
+    scratch: &mut [f64],
+) -> f64
+    requires { ⌜ Room (now numbers) (now counts) × (1024 ≤ length (now scratch)) ⌝ }
+{
+    make_job(numbers, counts, seed, limit);
+    drive(numbers, counts, seed, test_sets::wood(seed), scratch)
+}
+
+// Whether the job has ended with these figures.
+fn ended_as(numbers: &[f64], counts: &[usize], fresh: Figures) -> bool
+    requires { ⌜ Room (now numbers) (now counts) ⌝ }
+{
+    let job = lent_jobs::read_job(numbers, counts);
+    let outcome = job.outcome;
+    job.ended & test_sets::same_figures(outcome, fresh)
+}
+
+// Whether a step lent hardly any scratch answers these figures again.
+fn repeats(numbers: &mut [f64], counts: &mut [usize], fresh: Figures) -> bool
+    requires { ⌜ Room (now numbers) (now counts) ⌝ }
+{
+    let mut few = [0.0; 4];
+    let again = lent_jobs::step(numbers, counts, &mut few);
+    let figures = again.figures;
+    test_sets::same_figures(figures, fresh)
+}
+
+// Whether a change of density is answered 12 with so many samples.
+fn refuses_change(numbers: &mut [f64], counts: &mut [usize], samples: usize) -> bool
+    requires { ⌜ Room (now numbers) (now counts) ⌝ }
+{
+    let answer = lent_jobs::change_density(numbers, counts, Density::Bulk { kg_m3: 500.0 });
+    let figures = answer.figures;
+    let verdict = figures.verdict;
+    let why = test_sets::reason(verdict);
+    (why[0] == 12) & (figures.samples == samples)
+}
+
+// Whether the job has ended with these figures, answers them again, and refuses a change after its end.
+fn stays_ended(numbers: &mut [f64], counts: &mut [usize], fresh: Figures) -> bool
+    requires { ⌜ Room (now numbers) (now counts) ⌝ }
+{
+    let samples = fresh.samples;
+    let ended = ended_as(numbers, counts, fresh);
+    let again = repeats(numbers, counts, fresh);
+    let refused = refuses_change(numbers, counts, samples);
+    ended & again & refused
+}
+
+// The job that was worked over the one scratch, beside a fresh run of its set with this density over the other.
+fn held_beside(
+    tally: Tally,
+    seed: u64,
+    kg_m3: f64,
+    limit: usize,
+    numbers: &mut [f64],
+    counts: &mut [usize],
+    scratch: &[f64],
+    other: &mut [f64],
+) -> Tally
+    requires { ⌜ Room (now numbers) (now counts) ⌝ }
+{
+    let fresh = fresh_run(seed, kg_m3, limit, other);
+    let stays = stays_ended(numbers, counts, fresh);
+    let verdict = fresh.verdict;
+    counted(
+        tally,
+        verdict,
+        stays & test_sets::same_numbers(scratch, other),
+    )
+}
+
+// One job beside a fresh run. The two scratches are the same before.
+fn compare(
+    tally: Tally,
+    seed: u64,
+    numbers: &mut [f64],
+    counts: &mut [usize],
+    scratch: &mut [f64],
+    other: &mut [f64],
+) -> Tally
+    requires { ⌜ Room (now numbers) (now counts) × (1024 ≤ length (now scratch)) ⌝ }
+{
+    let limit = 1 + ((seed >> 30) % 65) as usize;
+    let kg_m3 = work_job(numbers, counts, seed, limit, scratch);
+    held_beside(tally, seed, kg_m3, limit, numbers, counts, scratch, other)
+}
+
+fn compare_all(
+    numbers: &mut [f64],
+    counts: &mut [usize],
+    scratch: &mut [f64],
+    other: &mut [f64],
+) -> Tally
+    requires { ⌜ Room (now numbers) (now counts) × (1024 ≤ length (now scratch)) ⌝ }
 {
     let mut tally = Tally {
         figures: 0,
@@ -155,16 +219,18 @@ fn compare_all(scratch: &mut [f64], other: &mut [f64]) -> Tally
     let mut k: u64 = 0;
     while k < JOBS {
         seed = test_sets::after(seed);
-        tally = compare(tally, seed, scratch, other);
+        tally = compare(tally, seed, numbers, counts, scratch, other);
         k += 1;
     }
     tally
 }
 
 fn main() {
+    let mut numbers = [0.0; JOB_NUMBERS];
+    let mut counts = [0; JOB_COUNTS];
     let mut scratch = [0.0; 1024];
     let mut other = [0.0; 1024];
-    let tally = compare_all(&mut scratch, &mut other);
+    let tally = compare_all(&mut numbers, &mut counts, &mut scratch, &mut other);
     io::print_decimal(STDOUT_FILENO, JOBS);
     io::write_all(STDOUT_FILENO, b" jobs, ");
     io::print_decimal(STDOUT_FILENO, tally.figures);

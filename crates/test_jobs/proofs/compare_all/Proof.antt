@@ -1,4 +1,4 @@
--- `test_jobs::compare_all` is safe: so many jobs, and the scratches keep their lengths. Assumes nothing.
+-- `test_jobs::compare_all` is safe: so many jobs, and every list keeps its length. Assumes nothing.
 use mathlib.Core.Path.{_≡_, refl}
 use Prim.Native.Nat.{_-_}
 use native.Mathlib.Omega.{arith}
@@ -8,19 +8,20 @@ use Rattle.test_jobs.proofs.compare_all.Statement.{statement}
 use Rattle.test_jobs.proofs.compare_all.Tie as tie
 
 abbrev Inv-loop : tie.InvT-loop
-Inv-loop scratch₀ other₀ tally₀ seed₀ k₀ scratch other tally seed k = (length scratch ≡ length scratch₀) × (length other ≡ length other₀)
+Inv-loop numbers₀ counts₀ scratch₀ other₀ tally₀ seed₀ k₀ numbers counts scratch other tally seed k =
+    (length numbers ≡ length numbers₀) × ((length counts ≡ length counts₀) × ((length scratch ≡ length scratch₀) × (length other ≡ length other₀)))
 
 abbrev μ-loop : tie.MeasureT-loop
-μ-loop scratch₀ other₀ tally₀ seed₀ k₀ scratch other tally seed k = 4000 - k
+μ-loop numbers₀ counts₀ scratch₀ other₀ tally₀ seed₀ k₀ numbers counts scratch other tally seed k = 4000 - k
 
 loop-holds : tie.Need-loop-holds Inv-loop μ-loop
-loop-holds c = (refl, refl)
+loop-holds c = (refl, (refl, (refl, refl)))
 
 after-requires : tie.Need-after-requires Inv-loop μ-loop
 after-requires c κs = search needs
 
 compare-requires : tie.Need-compare-requires Inv-loop μ-loop
-compare-requires c κs = omega arith
+compare-requires c κs = ((omega arith, omega arith), omega arith)
 
 add-k : tie.Need-add-k Inv-loop μ-loop
 add-k c = omega arith
@@ -29,13 +30,19 @@ loop-less : tie.Need-loop-less Inv-loop μ-loop
 loop-less c = omega arith
 
 loop-again : tie.Need-loop-again Inv-loop μ-loop
-loop-again c = (omega arith, omega arith)
+loop-again c = (omega arith, (omega arith, (omega arith, omega arith)))
 
 same-length : tie.Need-same-length Inv-loop μ-loop
 same-length c = omega arith
 
 same-length-2 : tie.Need-same-length-2 Inv-loop μ-loop
 same-length-2 c = omega arith
+
+same-length-3 : tie.Need-same-length-3 Inv-loop μ-loop
+same-length-3 c = omega arith
+
+same-length-4 : tie.Need-same-length-4 Inv-loop μ-loop
+same-length-4 c = omega arith
 
 returns : tie.Need-returns Inv-loop μ-loop
 returns c = search needs
@@ -54,4 +61,6 @@ compare-all-spec =
     loop-again
     same-length
     same-length-2
+    same-length-3
+    same-length-4
     returns)

@@ -1,4 +1,4 @@
--- `test_jobs::drive` is safe: so many calls, and the scratch keeps its length. Assumes nothing.
+-- `test_jobs::drive` is safe: so many calls, and every list keeps its length. Assumes nothing.
 use mathlib.Core.Path.{_≡_, refl}
 use Prim.Native.Nat.{_-_}
 use native.Mathlib.Omega.{arith}
@@ -8,19 +8,20 @@ use Rattle.test_jobs.proofs.drive.Statement.{statement}
 use Rattle.test_jobs.proofs.drive.Tie as tie
 
 abbrev Inv-loop : tie.InvT-loop
-Inv-loop seed kg-m3 scratch₀ driven₀ s₀ calls₀ scratch driven s calls = length scratch ≡ length scratch₀
+Inv-loop numbers₀ counts₀ seed kg-m3 scratch₀ accepted₀ s₀ calls₀ numbers counts scratch accepted s calls =
+    (length numbers ≡ length numbers₀) × ((length counts ≡ length counts₀) × (length scratch ≡ length scratch₀))
 
 abbrev μ-loop : tie.MeasureT-loop
-μ-loop seed kg-m3 scratch₀ driven₀ s₀ calls₀ scratch driven s calls = 80 - calls
+μ-loop numbers₀ counts₀ seed kg-m3 scratch₀ accepted₀ s₀ calls₀ numbers counts scratch accepted s calls = 80 - calls
 
 loop-holds : tie.Need-loop-holds Inv-loop μ-loop
-loop-holds c = refl
+loop-holds c = (refl, (refl, refl))
 
 after-requires : tie.Need-after-requires Inv-loop μ-loop
 after-requires c κs = search needs
 
 call-requires : tie.Need-call-requires Inv-loop μ-loop
-call-requires c κs = omega arith
+call-requires c κs = ((omega arith, omega arith), omega arith)
 
 is-taken-requires : tie.Need-is-taken-requires Inv-loop μ-loop
 is-taken-requires c κs = search needs
@@ -35,10 +36,16 @@ loop-less : tie.Need-loop-less Inv-loop μ-loop
 loop-less c = omega arith
 
 loop-again : tie.Need-loop-again Inv-loop μ-loop
-loop-again c = omega arith
+loop-again c = (omega arith, (omega arith, omega arith))
 
 same-length : tie.Need-same-length Inv-loop μ-loop
 same-length c = omega arith
+
+same-length-2 : tie.Need-same-length-2 Inv-loop μ-loop
+same-length-2 c = omega arith
+
+same-length-3 : tie.Need-same-length-3 Inv-loop μ-loop
+same-length-3 c = omega arith
 
 returns : tie.Need-returns Inv-loop μ-loop
 returns c = search needs
@@ -58,4 +65,6 @@ drive-spec =
     loop-less
     loop-again
     same-length
+    same-length-2
+    same-length-3
     returns)
