@@ -63,7 +63,7 @@ by-left (number r k f) {x = number p n d} {y = number q m e} h = record { same =
         → (r * p + k * n) * (f * e) + (r * m + k * q) * (f * d) ≡ (r * q + k * m) * (f * d) + (r * n + k * p) * (f * e)
     all u v = let x = simp sorted at u in let y = simp sorted at v in simp sorted (omega (arith, x, y))
 
-commute : (x y : Number) → x times y equals y times x
+pub commute : (x y : Number) → x times y equals y times x
 commute (number p n d) (number q m e) = record { same = simp sorted (omega arith) }
 
 pub times-equal : {x y z w : Number} → IsNumber x → IsNumber y → IsNumber z → IsNumber w → x equals y → z equals w → x times z equals y times w
@@ -80,7 +80,7 @@ assoc-plus (number p n d) (number q m e) (number r k f) = record { same = simp s
 swap-times : (a b c : Number) → a times (b times c) equals b times (a times c)
 swap-times (number p n d) (number q m e) (number r k f) = record { same = simp sorted (omega arith) }
 
-assoc-times : (a b c : Number) → (a times b) times c equals a times (b times c)
+pub assoc-times : (a b c : Number) → (a times b) times c equals a times (b times c)
 assoc-times (number p n d) (number q m e) (number r k f) = record { same = simp sorted (omega arith) }
 
 over-plus : (a b c : Number) → a times (b plus c) equals (a times b) plus (a times c)
@@ -202,14 +202,14 @@ one-more : (d e : ℕ) → suc (times′ d e) ≡ suc d * suc e
 one-more d e = omega arith
 
 module _ (x : ℕ → Number) (is : (i : ℕ) → IsNumber (x i)) where
-  product-is : (l : List ℕ) → IsNumber (product x l)
+  pub product-is : (l : List ℕ) → IsNumber (product x l)
   product-is [] = pow-pos 0
   product-is (i ∷ l) = times-is (x i) (product x l) (is i) (product-is l)
 
-  value-is : (t : Product) → IsNumber (valueOf x t)
+  pub value-is : (t : Product) → IsNumber (valueOf x t)
   value-is (factor p n d l) = times-is (number p n (suc d)) (product x l) (zero-lt-suc d) (product-is l)
 
-  sum-is : (P : List Product) → IsNumber (sumOf x P)
+  pub sum-is : (P : List Product) → IsNumber (sumOf x P)
   sum-is [] = pow-pos 0
   sum-is (t ∷ P) = plus-is (valueOf x t) (sumOf x P) (value-is t) (sum-is P)
 
@@ -239,7 +239,7 @@ module _ (x : ℕ → Number) (is : (i : ℕ) → IsNumber (x i)) where
       (trans (times-is (x i) (product x l times product x k) (is i) (times-is (product x l) (product x k) (product-is l) (product-is k))) (by-left (x i) (merged-product l k))
       (symm (assoc-times (x i) (product x l) (product x k))))
 
-  insert-sum : (t : Product) (P : List Product) → sumOf x (insert t P) equals valueOf x t plus sumOf x P
+  pub insert-sum : (t : Product) (P : List Product) → sumOf x (insert t P) equals valueOf x t plus sumOf x P
   insert-sum t [] = itself
   insert-sum (factor p n d l) (factor q m e k ∷ P) = go (insert-sum (factor p n d l) P) (samePlaces l k) (places-same l k)
     where
@@ -262,14 +262,14 @@ module _ (x : ℕ → Number) (is : (i : ℕ) → IsNumber (x i)) where
           trans (plus-is (valueOf x other) (valueOf x one plus sumOf x P) (value-is other) (plus-is (valueOf x one) (sumOf x P) (value-is one) (sum-is P)))
           (plus-equal (itself {x = valueOf x other}) h) (swap-plus (valueOf x other) (valueOf x one) (sumOf x P))
 
-  added-sum : (P Q : List Product) → sumOf x (added P Q) equals sumOf x P plus sumOf x Q
+  pub added-sum : (P Q : List Product) → sumOf x (added P Q) equals sumOf x P plus sumOf x Q
   added-sum [] Q = zero-first (sumOf x Q)
   added-sum (t ∷ P) Q =
       trans (plus-is (valueOf x t) (sumOf x (added P Q)) (value-is t) (sum-is (added P Q))) (insert-sum t (added P Q))
       (trans (plus-is (valueOf x t) (sumOf x P plus sumOf x Q) (value-is t) (plus-is (sumOf x P) (sumOf x Q) (sum-is P) (sum-is Q))) (plus-equal (itself {x = valueOf x t}) (added-sum P Q))
       (symm (assoc-plus (valueOf x t) (sumOf x P) (sumOf x Q))))
 
-  negated-sum : (P : List Product) → sumOf x (negated P) equals minus (sumOf x P)
+  pub negated-sum : (P : List Product) → sumOf x (negated P) equals minus (sumOf x P)
   negated-sum [] = itself
   negated-sum (factor p n d l ∷ P) =
       trans (plus-is (valueOf x (factor n p d l)) (minus (sumOf x P)) (value-is (factor n p d l)) (minus-is (sumOf x P) (sum-is P)))
@@ -307,7 +307,7 @@ module _ (x : ℕ → Number) (is : (i : ℕ) → IsNumber (x i)) where
       both : (D E : ℕ) (L K : Number) → number (p * q + n * m) (p * m + n * q) (D * E) times (L times K) equals (number p n D times L) times (number q m E times K)
       both D E (number a b c) (number r s f) = record { same = product-parts p n q m D E a b c r s f }
 
-  multiplied-sum : (P Q : List Product) → sumOf x (multiplied P Q) equals sumOf x P times sumOf x Q
+  pub multiplied-sum : (P Q : List Product) → sumOf x (multiplied P Q) equals sumOf x P times sumOf x Q
   multiplied-sum [] Q = none (sumOf x Q)
     where
       none : (Y : Number) → zeroNumber equals zeroNumber times Y
@@ -319,7 +319,7 @@ module _ (x : ℕ → Number) (is : (i : ℕ) → IsNumber (x i)) where
       trans (plus-is (sumOf x (timesEach t Q)) (sumOf x (multiplied P Q)) (sum-is (timesEach t Q)) (sum-is (multiplied P Q))) (added-sum (timesEach t Q) (multiplied P Q))
       (trans (plus-is (A times C) (B times C) (times-is (A) (C) (value-is t) (sum-is Q)) (times-is (B) (C) (sum-is P) (sum-is Q))) (plus-equal (times-each t Q) (multiplied-sum P Q)) (symm (plus-over A B C)))
 
-  normal-sum : (t : Expression) → evaluate x t equals sumOf x (normal t)
+  pub normal-sum : (t : Expression) → evaluate x t equals sumOf x (normal t)
   normal-sum (given i) = alone (x i)
     where
       alone : (y : Number) → y equals (number 1 0 1 times (y times number 1 0 1)) plus zeroNumber

@@ -1,0 +1,10 @@
+pub mod Monomials
+pub mod Laws
+pub mod Terms
+pub mod Judged
+pub mod Shared
+pub mod Entries
+pub mod Floors
+pub mod Orders
+pub mod Shares
+pub mod Sine
