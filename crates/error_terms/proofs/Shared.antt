@@ -1,5 +1,5 @@
 -- Terms with parts that stand in several places and are judged once. Assumes nothing.
-use mathlib.Core.Path.{_≡_, refl, ap, ap₂, _∙_, subst}
+use mathlib.Core.Path.{_≡_, refl, sym, ap, ap₂, _∙_, subst}
 use mathlib.Core.List.{List, [], _∷_}
 use Prim.Native.Nat.{ℕ, zero, suc}
 use lib.Dec.{T}
@@ -74,3 +74,24 @@ pub shared-within : (B : List Size) → AllRanges 32 B → (G : List Given) → 
     → Near (value G (expand [] s)) (evaluate (numbersOf G) target) (K roundoffs unitBy B p q)
 shared-within B r G h s target K p q e = near-within B r G h (expand [] s) target K p q
     (subst (λ (j : Judged). T (nearer G target K p q j)) (shared-is G [] s) e)
+
+-- ---- parts that are judged once for several terms
+abbrev pub judgeAll : List Given → List Judged → List Shared → List Judged
+judgeAll G M [] = M
+judgeAll G M (s ∷ l) = judgeAll G (judgeIn G M s ∷ M) l
+
+abbrev pub bindAll : List Shared → Shared → Shared
+bindAll [] t = t
+bindAll (s ∷ l) t = bind s (bindAll l t)
+
+pub judge-all : (G : List Given) (M : List Judged) (l : List Shared) (t : Shared)
+    → judgeIn G M (bindAll l t) ≡ judgeIn G (judgeAll G M l) t
+judge-all G M [] t = refl
+judge-all G M (s ∷ l) t = judge-all G (judgeIn G M s ∷ M) l t
+
+pub all-within : (B : List Size) → AllRanges 32 B → (G : List Given) → AllKnown B G
+    → (l : List Shared) (s : Shared) (target : Expression) (K : ℕ) (p q : List ℕ)
+    → T (nearer G target K p q (judgeIn G (judgeAll G [] l) s))
+    → Near (value G (expand [] (bindAll l s))) (evaluate (numbersOf G) target) (K roundoffs unitBy B p q)
+all-within B r G h l s target K p q e =
+    shared-within B r G h (bindAll l s) target K p q (subst (λ (j : Judged). T (nearer G target K p q j)) (sym (judge-all G [] l s)) e)

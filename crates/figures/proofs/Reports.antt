@@ -46,7 +46,7 @@ use Rattle.strips.specs.Claim.{Gives, Reported}
 pub no-refusal : {A : Type 0} (refusal : Refusal) → Refused refusal ≡ Accepted → A
 no-refusal refusal e = absurd (let z : _≡_ {A = ℕ} 0 1 = cc in let none : ⊥ = omega arith in none)
 
-abbrev FiguresOr8 : Verdict → Type 0
+abbrev pub FiguresOr8 : Verdict → Type 0
 FiguresOr8 verdict = (verdict ≡ Accepted) ⊎ (verdict ≡ Refused NoArea)
 
 given-8 : (verdict : Verdict) → FiguresOr8 verdict → Reported accepted verdict
@@ -73,7 +73,7 @@ of-density (Surface x) v glue cant pivot h = no-refusal _ h
 of-density (Line x) v glue cant pivot h = no-refusal _ h
 
 -- the count's check accepts, and so does the fin's: the first refusal of the two is the fin's
-fins-joined : (set : FinSet) (root scale : Float) (total : List Float) → countCheck (set .count) ≡ Accepted → densityCheck (set .density) ≡ Accepted
+pub fins-joined : (set : FinSet) (root scale : Float) (total : List Float) → countCheck (set .count) ≡ Accepted → densityCheck (set .density) ≡ Accepted
     → FiguresOr8 (joinedFinsOf set root scale total .verdict)
 unfolding ringOf singleFinOf firstRefusal
 fins-joined set root scale total c d =
