@@ -2,6 +2,7 @@
 use mathlib.Core.Path.{_≡_, sym, ap, _∙_, subst}
 use mathlib.Core.Bool.{Bool, true, false, not, _&&_}
 use mathlib.Core.List.{List, [], _∷_}
+use mathlib.Core.Logic.{inl, inr}
 use Prim.Native.Nat.{ℕ, suc, _+_, _*_, _^_, _≤_, _<_}
 use native.Mathlib.Nat.{mul-pos, mul-le-mul-right, mul-le-mul, one-mul, mul-one, zero-mul, mul-zero, zero-add, add-zero}
 use native.Mathlib.Omega.{arith}
@@ -28,20 +29,29 @@ use Rattle.rounding_error.proofs.Polynomials.{_equals_, trans, itself, times-is
 use Rattle.rounding_error.proofs.Polynomials.{equal-by, evaluated-is, evaluated-equal}
 use Rattle.rounding_error.proofs.Fractions.{IsFraction, plus-fraction, times-fraction, value-fraction, whole-fraction, shifted-fraction}
 use Rattle.rounding_error.proofs.Fractions.{within-fraction}
+use Rattle.refusals.specs.declared.Refusal.the-variants.{NoArea}
+use Rattle.refusals.specs.declared.Verdict.the-variants.{Accepted}
+use Rattle.strips.specs.Claim.{Report}
 use Rattle.planforms.specs.declared.Planform.{Planform}
 use Rattle.planforms.specs.declared.Planform.the-variants.{Trapezoid}
 use Rattle.planforms.proofs.Sized.{Sized}
 use Rattle.integrands.specs.Integrands.{scaleOf, areaThree}
 use Rattle.integrands.proofs.Scales.{Scale, scale-sized}
+use Rattle.quadrature.specs.Rule.{halfWidth, kronrodWeight, sumOf, pieceOf}
 use Rattle.quadrature.specs.declared.Piece.{Piece}
 use Rattle.tolerance.specs.Bounds.{sumFrom, totalOf}
 use Rattle.fins.proofs.Accepted.{area-limit}
 use Rattle.figures.specs.declared.Area.{Area}
-use Rattle.accuracy.specs.Areas.{AreaGiven, Reach, AreaNear, TrapezoidArea}
+use Rattle.figures.specs.Answers.{areaReport}
+use Rattle.figures.proofs.Reports.{no-refusal}
+use Rattle.one_piece.specs.OnePiece.{OnePiece}
+use Rattle.one_piece.proofs.Answers.{area-one-piece}
+use Rattle.accuracy.specs.Areas.{AreaGiven, Reach, AreaNear, TrapezoidArea, OrdinaryArea}
 use Rattle.accuracy.specs.Areas.{exactArea as exactFraction}
 use Rattle.accuracy.proofs.Given.{Lengths}
 use Rattle.accuracy.proofs.Whole.{positive-value}
-use Rattle.accuracy.proofs.Called.{total-is, width-there, width-missing}
+use Rattle.accuracy.proofs.Called.{total-is, threeValues, values-there, width-there, width-missing}
+use Rattle.accuracy.proofs.WholePieces.{whole-piece, value-is, chords-there, area-sum}
 use Rattle.accuracy.proofs.Integrals.{from-zero}
 use Rattle.accuracy.proofs.Quadratic.{integral}
 use Rattle.accuracy.proofs.Parts.{Cubic}
@@ -54,7 +64,7 @@ use Rattle.accuracy.proofs.StripPieces as Strip
 use Rattle.accuracy.proofs.PieceSums as Sums
 use Rattle.accuracy.proofs.WidthSums.{any-summed, wide-summed}
 use Rattle.accuracy.proofs.WholeStrip.{lower-value, strip-kept}
-use Rattle.accuracy.proofs.Near.{figures-given, sized, sizes, span-above, stripPieces, pieces-counted}
+use Rattle.accuracy.proofs.Near.{figures-given, sized, sizes, span-above, ends-apart, stripPieces, pieces-counted}
 
 ruleset plain = (sorted, one-mul, mul-one, zero-mul, mul-zero, zero-add, add-zero)
 
@@ -307,6 +317,23 @@ module _ (root tip span sweep : Float) (points : List Float) (L : ℕ) (entry : 
     any-pieces = area-near 6180 (2 ^ 43) (omega arith) (omega arith)
         (any-summed root tip span sweep scale B l (areaThree Shape points) widths low pieces (kept .0) (kept .1))
 
+    -- of one piece, by the computed bound
+    pub whole-strip : r .intervals ≡ 1 → Near (r .«area_m2») (exactArea root tip span) ((b * 45 * num span) per (d * 2 ^ 53 * den span))
+    whole-strip n =
+        let one : pieces ≡ pieceOf 3 (areaThree Shape points) low high ∷ [] =
+        whole-piece 3 (areaThree Shape points) low high L (ends-apart root tip span sweep points L entry r exit g)
+        (sym (pieces-counted root tip span sweep points L entry r exit g) ∙ n) in
+        let value : at (pieceOf 3 (areaThree Shape points) low high .value) 0
+        ≡ halfWidth low high ⊗ sumOf kronrodWeight (λ h. threeValues root tip sweep (h ⊗ scale ⊘ span) scale h) low high 0 =
+        value-is 3 (areaThree Shape points) low high 0 (lit≤ tt)
+        ∙ ap (λ (x : Float). halfWidth low high ⊗ x)
+        (chords-there root tip span sweep scale b d l (areaThree Shape points) (values-there root tip span sweep points) 0) in
+        subst (λ (x : Float). Near x (exactArea root tip span) ((b * 45 * num span) per (d * 2 ^ 53 * den span)))
+        (sym (area-is
+        ∙ ap (λ (x : Float). (bits 0 ⊕ x) ⊗ scale ⊗ scale)
+        (ap (λ (k : List Piece). sumFrom (bits 0) (λ p. at (p .value) 0) k) one ∙ ap (λ (x : Float). bits 0 ⊕ x) value)))
+        (area-sum root tip span sweep scale b d l)
+
     pub counted : (1 ≤ r .intervals) × (r .intervals ≤ 64)
     counted = let e = pieces-counted root tip span sweep points L entry r exit g in (omega (arith, e, kept .0 .some), omega (arith, e, kept .1))
 
@@ -316,9 +343,9 @@ trapezoid-area root tip span sweep points L entry r exit b d g reach = go (leb b
     s : Sized (Trapezoid root tip span sweep) points
     s = sized root tip span sweep points L entry r exit g
 
-    fraction : (K : ℕ) → 0 < K → Near (r .«area_m2») (exactArea root tip span) ((b * r .intervals * num span) per (d * K * den span))
-        → Apart (product (pos (b * r .intervals) over (d * K)) (fractionOf span)) (fractionOf (r .«area_m2»)) (exactFraction root tip span)
-    fraction K k = apart root tip span (r .«area_m2») (b * r .intervals) (d * K) (mul-pos (reach .is-size) k) (reach .root-most .finite)
+    fraction : (n K : ℕ) → 0 < K → Near (r .«area_m2») (exactArea root tip span) ((b * n * num span) per (d * K * den span))
+        → Apart (product (pos (b * n) over (d * K)) (fractionOf span)) (fractionOf (r .«area_m2»)) (exactFraction root tip span)
+    fraction n K k = apart root tip span (r .«area_m2») (b * n) (d * K) (mul-pos (reach .is-size) k) (reach .root-most .finite)
         (reach .tip-most .finite) (span-positive root tip span sweep points L entry r exit g)
 
     -- B at most 64, which every length is
@@ -327,8 +354,9 @@ trapezoid-area root tip span sweep points L entry r exit b d g reach = go (leb b
         let l = sizes root tip span sweep points L entry r exit g b d reach (h tt) in
         record {
           pieces = counted root tip span sweep points L entry r exit g b d l;
-          near = λ m. fraction (2 ^ 44) (pow-pos 44) (few-pieces root tip span sweep points L entry r exit g b d l m);
-          with-slivers = fraction (2 ^ 43) (pow-pos 43) (any-pieces root tip span sweep points L entry r exit g b d l);
+          one-piece = λ m. fraction 45 (2 ^ 53) (pow-pos 53) (whole-strip root tip span sweep points L entry r exit g b d l m);
+          near = λ m. fraction (r .intervals) (2 ^ 44) (pow-pos 44) (few-pieces root tip span sweep points L entry r exit g b d l m);
+          with-slivers = fraction (r .intervals) (2 ^ 43) (pow-pos 43) (any-pieces root tip span sweep points L entry r exit g b d l);
         }
     go false h k =
         let sixty-four : Reach 64 1 root tip sweep =
@@ -337,13 +365,30 @@ trapezoid-area root tip span sweep points L entry r exit b d g reach = go (leb b
         let less' : 64 * d ≤ b * 1 = less-of (k tt) in
         record {
           pieces = counted root tip span sweep points L entry r exit g 64 1 l;
-          near = λ m. fraction (2 ^ 44) (pow-pos 44)
+          one-piece = λ m. fraction 45 (2 ^ 53) (pow-pos 53)
+              (more-spans root tip span (r .«area_m2») 45 b d 64 1 (2 ^ 53) (mul-pos (pow-pos 0) (pow-pos 53)) less'
+              (whole-strip root tip span sweep points L entry r exit g 64 1 l m));
+          near = λ m. fraction (r .intervals) (2 ^ 44) (pow-pos 44)
               (more-spans root tip span (r .«area_m2») (r .intervals) b d 64 1 (2 ^ 44) (mul-pos (pow-pos 0) (pow-pos 44)) less'
               (few-pieces root tip span sweep points L entry r exit g 64 1 l m));
-          with-slivers = fraction (2 ^ 43) (pow-pos 43)
+          with-slivers = fraction (r .intervals) (2 ^ 43) (pow-pos 43)
               (more-spans root tip span (r .«area_m2») (r .intervals) b d 64 1 (2 ^ 43) (mul-pos (pow-pos 0) (pow-pos 43)) less'
               (any-pieces root tip span sweep points L entry r exit g 64 1 l));
         }
       where
         less-of : 64 * d < b → 64 * d ≤ b * 1
         less-of l = omega arith
+
+-- it is figures, so the one piece that is enough is the one that was counted
+only-piece : (report : Report) → OnePiece report → report .verdict ≡ Accepted → report .intervals ≡ 1
+only-piece report one accepted = elim (one .figures-or-8) [
+  | inl e ↦ e .1
+  | inr e ↦ no-refusal NoArea (sym e ∙ accepted)
+]
+
+pub ordinary-area : OrdinaryArea
+ordinary-area root tip span sweep points L entry r exit b d g reach q =
+    trapezoid-area root tip span sweep points L entry r exit b d g reach .one-piece
+    (only-piece (areaReport r)
+    (area-one-piece root tip span sweep points L entry r exit (g .f64s) (g .answers)
+    (figures-given root tip span sweep points L entry r exit g .accepted) q) (g .given))

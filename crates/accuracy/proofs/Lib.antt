@@ -31,6 +31,7 @@ pub mod WidthSums
 pub mod StripTotals
 pub mod AreaTotals
 pub mod WholeStrip
+pub mod WholePieces
 pub mod AreaNear
 pub mod AreaIntegrals
 pub mod Centroids
