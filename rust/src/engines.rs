@@ -4,6 +4,7 @@ use crate::{raw, Body, Density, Error, Figures, FinSet, RunError};
 
 /// What a turn did.
 #[derive(Debug, Clone, Copy, PartialEq)]
+#[allow(missing_docs)]
 pub enum Turn {
     /// No screen holds a job.
     Idle,
@@ -41,34 +42,31 @@ impl Engine {
 
     /// No screen holds a job from here on, and none was served.
     pub fn clear(&mut self) {
+        // SAFETY: each pointer goes with the length of its own live list; what is written is borrowed by nobody else.
         unsafe { raw::delvouzh_engine_clear(self.counts.as_mut_ptr(), self.counts.len()) };
     }
 
     /// Submits a set to a screen with at most `limit` intervals a strip. A screen that is not 1 to 8 or holds a job is refused before anything else; a
     /// refused submission changes nothing.
     pub fn submit(&mut self, screen: usize, set: &FinSet, limit: usize) -> Result<(), Error> {
-        let mut short = [0.0; 4];
-        let (planform, lengths) = set.planform.crossing(&mut short);
-        let (density, value) = set.density.crossing();
-        let mut figures = [0.0; 8];
-        let (tab, figures) = set.crossing(value, &mut figures);
-        let mut glue = [0.0; 2];
-        let (fillet, glue) = set.glue_crossing(&mut glue);
+        let crossing = set.numbers();
+        let (lengths, figures, glue) = (crossing.planform.lengths(), crossing.figures(), crossing.glue());
         let mut values = [0; raw::VALUES];
+        // SAFETY: each pointer goes with the length of its own live list; what is written is borrowed by nobody else.
         let number = unsafe {
             raw::delvouzh_engine_submit(
                 screen,
                 limit,
                 set.count,
-                planform,
+                crossing.planform.number,
                 lengths.as_ptr(),
                 lengths.len(),
-                set.section.crossing(),
-                tab,
-                density,
+                crossing.section,
+                crossing.tab,
+                crossing.density,
                 figures.as_ptr(),
                 figures.len(),
-                fillet,
+                crossing.fillet,
                 glue.as_ptr(),
                 glue.len(),
                 self.numbers.as_mut_ptr(),
@@ -87,6 +85,7 @@ impl Engine {
     pub fn turn(&mut self, scratch: &mut [f64]) -> Result<Turn, RunError> {
         let mut body = [0.0; raw::BODY];
         let mut counts = [0; raw::TURN_COUNTS];
+        // SAFETY: each pointer goes with the length of its own live list; what is written is borrowed by nobody else.
         let number = unsafe {
             raw::delvouzh_engine_turn(
                 self.numbers.as_mut_ptr(),
@@ -123,8 +122,9 @@ impl Engine {
 
     /// Another density for the plates of a screen's job; a refused one leaves the old one.
     pub fn change_density(&mut self, screen: usize, density: Density) -> Result<(), RunError> {
-        let (density, value) = density.crossing();
+        let (density, value) = density.number();
         let mut counts = [0; raw::COUNTS];
+        // SAFETY: each pointer goes with the length of its own live list; what is written is borrowed by nobody else.
         let number = unsafe {
             raw::delvouzh_engine_change_density(
                 self.numbers.as_mut_ptr(),

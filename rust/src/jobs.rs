@@ -23,31 +23,27 @@ impl Job {
     /// A job of a set with at most `limit` intervals a strip; it keeps its own copy of an outline. Every check of the set is run here, and a refused
     /// set has no job; how long the scratch is, each step checks.
     pub fn new(set: &FinSet, limit: usize) -> Result<Self, Error> {
-        let mut short = [0.0; 4];
-        let (planform, lengths) = set.planform.crossing(&mut short);
-        let (density, value) = set.density.crossing();
-        let mut figures = [0.0; 8];
-        let (tab, figures) = set.crossing(value, &mut figures);
-        let mut glue = [0.0; 2];
-        let (fillet, glue) = set.glue_crossing(&mut glue);
+        let crossing = set.numbers();
+        let (lengths, figures, glue) = (crossing.planform.lengths(), crossing.figures(), crossing.glue());
         let mut job = Self {
             numbers: [0.0; raw::JOB_NUMBERS],
             counts: [0; raw::JOB_COUNTS],
         };
         let mut values = [0; raw::VALUES];
+        // SAFETY: each pointer goes with the length of its own live list; what is written is borrowed by nobody else.
         let number = unsafe {
             raw::delvouzh_job_make(
                 limit,
                 set.count,
-                planform,
+                crossing.planform.number,
                 lengths.as_ptr(),
                 lengths.len(),
-                set.section.crossing(),
-                tab,
-                density,
+                crossing.section,
+                crossing.tab,
+                crossing.density,
                 figures.as_ptr(),
                 figures.len(),
-                fillet,
+                crossing.fillet,
                 glue.as_ptr(),
                 glue.len(),
                 job.numbers.as_mut_ptr(),
@@ -67,6 +63,7 @@ impl Job {
     pub fn step(&mut self, scratch: &mut [f64]) -> Result<Step, RunError> {
         let mut body = [0.0; raw::BODY];
         let mut counts = [0; raw::COUNTS];
+        // SAFETY: each pointer goes with the length of its own live list; what is written is borrowed by nobody else.
         let number = unsafe {
             raw::delvouzh_job_step(
                 self.numbers.as_mut_ptr(),
@@ -96,8 +93,9 @@ impl Job {
 
     /// Another density for the plates, as long as the job has not ended; a refused one leaves the old one.
     pub fn change_density(&mut self, density: Density) -> Result<(), RunError> {
-        let (density, value) = density.crossing();
+        let (density, value) = density.number();
         let mut counts = [0; raw::COUNTS];
+        // SAFETY: each pointer goes with the length of its own live list; what is written is borrowed by nobody else.
         let number = unsafe {
             raw::delvouzh_job_change_density(
                 self.numbers.as_mut_ptr(),

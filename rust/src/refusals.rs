@@ -4,10 +4,15 @@ use std::fmt;
 
 /// What is wrong with a tensor: 17's cases a, b, d and e.
 #[derive(Debug, Clone, Copy, PartialEq, Eq)]
+#[non_exhaustive]
 pub enum TensorFault {
+    /// An entry is not finite, or beyond 2^500.
     Entry,
+    /// The body has no mass, but an entry that is not 0.
     Massless,
+    /// A principal moment is negative.
     Negative,
+    /// Two principal moments are less than the third.
     Triangle,
 }
 
@@ -24,8 +29,38 @@ impl TensorFault {
     }
 }
 
-/// A row of the table of refusals, with its values. Fields have the numbers of include/delvouzh.h; edges and components count from 0.
+/// The name of a field that a refusal of a length or an angle carries, by its number in include/delvouzh.h.
+pub fn field_name(field: usize) -> Option<&'static str> {
+    const NAMES: [&str; 20] = [
+        "root chord",
+        "tip chord",
+        "span",
+        "sweep",
+        "x of an outline's point",
+        "height of an outline's point",
+        "thickness",
+        "tab height",
+        "tab length",
+        "tab offset",
+        "body radius",
+        "cant",
+        "base angle",
+        "tube length",
+        "outer radius",
+        "fillet radius",
+        "x of the drilled point",
+        "height of the drilled point",
+        "offset",
+        "roll",
+    ];
+    NAMES.get(field.wrapping_sub(1)).copied()
+}
+
+/// A row of the table of refusals, with its values. Fields have the numbers of include/delvouzh.h ([`field_name`]); edges and components
+/// count from 0.
 #[derive(Debug, Clone, Copy, PartialEq, Eq)]
+#[non_exhaustive]
+#[allow(missing_docs)] // its sentence is what `Display` writes
 pub enum Refusal {
     Limit,
     Scratch,
@@ -119,21 +154,65 @@ impl Refusal {
     }
 }
 
-impl fmt::Display for Refusal {
+impl fmt::Display for TensorFault {
     fn fmt(&self, f: &mut fmt::Formatter) -> fmt::Result {
-        write!(f, "refused {}: {self:?}", self.number())
+        f.write_str(match self {
+            Self::Entry => "an entry of the body's tensor is not finite, or beyond 2^500",
+            Self::Massless => "the body has no mass, but its tensor is not zero",
+            Self::Negative => "a principal moment of the body is negative",
+            Self::Triangle => "two principal moments of the body are less than the third",
+        })
     }
 }
 
+impl fmt::Display for Refusal {
+    /// The number that the card prints, and what is wrong, with the field's name.
+    fn fmt(&self, f: &mut fmt::Formatter) -> fmt::Result {
+        write!(f, "refused {}: ", self.number())?;
+        let named = |field| field_name(field).unwrap_or("a field of another library");
+        f.write_str(match *self {
+            Self::Length { field } => return write!(f, "the {} is out of its limits", named(field)),
+            Self::Angle { field } => return write!(f, "the {} is not a number, or beyond 4 rad", named(field)),
+            Self::Touches { edges: [i, j] } => return write!(f, "edges {i} and {j} of the outline touch"),
+            Self::NotConverged { component } => {
+                return write!(f, "sum {component} did not settle within the limit's pieces")
+            }
+            Self::Tensor(fault) => return fault.fmt(f),
+            Self::Limit => "the limit is not 1 to 64",
+            Self::Scratch => "the lent scratch is too short for the limit",
+            Self::Count => "the count of fins, tubes, bodies or places is not 1 to 32",
+            Self::Points => "the outline is not 3 to 64 whole points",
+            Self::Ends => "the outline does not begin at (0, 0), or does not end at (c, 0) with c > 0",
+            Self::NoArea => "there is no area, or no volume",
+            Self::TabOffRoot => "the tab begins before the root, or ends past it",
+            Self::TabTooDeep => "the tab is higher than the body's radius",
+            Self::Density => "the density is not bulk, or out of its limits",
+            Self::Mass => "the body's mass is negative or not finite",
+            Self::Centre => "the body's centre is not finite",
+            Self::NoForm => "the line, or what was handed over, is none of the forms",
+            Self::NoFigure => "a word stands where a figure belongs",
+            Self::WallOverRadius => "the tube's wall is thicker than its outer radius",
+            Self::ThicknessOverRoot => "the fin is thicker than its root chord is long",
+            Self::FilletRatio => "the fillet's radius is over 1000 times the body's",
+            Self::Screen => "the screen is not 1 to 8, or already holds a job",
+            Self::NoCorners => "an ellipse has no corners",
+            Self::NotWholeSteps => "a coordinate is no whole number of steps of 2^-20 m",
+            Self::NotHeavier => "the whole is not heavier than the part",
+        })
+    }
+}
+
+impl std::error::Error for Refusal {}
+
 /// Why a call has no figures.
 #[derive(Debug, Clone, Copy, PartialEq, Eq)]
+#[non_exhaustive]
 pub enum Error {
+    /// A row of the table of refusals.
     Refused(Refusal),
-    /// A number, or a case of 17, that this crate does not know: the library that was linked is not the crate's.
-    Unknown {
-        number: usize,
-        values: [usize; 2],
-    },
+    /// A number, a case of 17 or a place that this crate does not know: the library that was linked is not the crate's.
+    #[allow(missing_docs)]
+    Unknown { number: usize, values: [usize; 2] },
 }
 
 impl Error {
@@ -157,12 +236,34 @@ impl fmt::Display for Error {
     }
 }
 
-impl std::error::Error for Error {}
+impl std::error::Error for Error {
+    fn source(&self) -> Option<&(dyn std::error::Error + 'static)> {
+        match self {
+            Self::Refused(refusal) => Some(refusal),
+            Self::Unknown { .. } => None,
+        }
+    }
+}
+
+impl From<Refusal> for Error {
+    fn from(refusal: Refusal) -> Self {
+        Self::Refused(refusal)
+    }
+}
+
+impl From<RunError> for Error {
+    /// Drops the samples, so that `?` works in a function that answers an `Error`.
+    fn from(failed: RunError) -> Self {
+        failed.error
+    }
+}
 
 /// The error of a call that works strips, with the samples taken so far.
 #[derive(Debug, Clone, Copy, PartialEq, Eq)]
 pub struct RunError {
+    /// Why there are no figures.
     pub error: Error,
+    /// The samples taken until then.
     pub samples: usize,
 }
 
@@ -178,7 +279,11 @@ impl fmt::Display for RunError {
     }
 }
 
-impl std::error::Error for RunError {}
+impl std::error::Error for RunError {
+    fn source(&self) -> Option<&(dyn std::error::Error + 'static)> {
+        Some(&self.error)
+    }
+}
 
 #[cfg(test)]
 mod tests {
@@ -213,6 +318,22 @@ mod tests {
             Refusal::from_number(17, [4, 0]),
             Some(Refusal::Tensor(TensorFault::Triangle))
         );
+    }
+
+    #[test]
+    fn a_refusal_is_shown_as_its_sentence() {
+        let tip = Refusal::Length { field: 2 };
+        assert_eq!(tip.to_string(), "refused 4: the tip chord is out of its limits");
+        let failed = RunError {
+            error: tip.into(),
+            samples: 15,
+        };
+        assert_eq!(failed.to_string(), format!("{tip}, after 15 samples"));
+        let source = std::error::Error::source(&failed).map(ToString::to_string);
+        assert_eq!(source, Some(tip.to_string()));
+        assert_eq!(field_name(0), None);
+        assert_eq!(field_name(20), Some("roll"));
+        assert_eq!(field_name(21), None);
     }
 
     #[test]

@@ -1,4 +1,5 @@
 //! Sets made up by numbers that look random.
+#![allow(dead_code)] // each test uses a part of it
 use delvouzh::{Density, Fillet, FinSet, Planform, Section, Tab};
 
 /// Numbers that look random (xorshift).
