@@ -27,7 +27,7 @@
  * too short for what is written over it is 18 too, and then nothing at all is written.
  *
  * What a caller owes, and nothing checks:
- *  - An array goes in as a pointer and how many numbers lie there. The pointer is never null, also where there are none; arrays that are
+ *  - An array goes in as a pointer and how many numbers lie there. Where there are none the pointer may be null; arrays that are
  *    written overlap no other. What they hold on entry, the scratch too, does not matter to an answer; but a job's memory is the job, and an engine's
  *    the engine.
  *  - The floating-point environment is the one that a process starts with: rounding to nearest, subnormal numbers kept (no flushing to
@@ -234,6 +234,189 @@ size_t delvouzh_engine_change_density(double *engine_numbers, size_t engine_numb
 size_t delvouzh_answer_line(const unsigned char *line, size_t line_len, double *scratch, size_t scratch_len, double *engine_numbers,
                             size_t engine_numbers_len, size_t *engine_counts, size_t engine_counts_len, unsigned char *answer, size_t answer_len,
                             size_t *written, size_t written_len);
+
+/* ---- for C alone: names, sentences, and a set as a struct. These are in no archive, and nothing of them is proved. */
+
+/* The refusals by name. */
+enum delvouzh_refusal {
+    DELVOUZH_REFUSED_LIMIT = 1,
+    DELVOUZH_REFUSED_SCRATCH = 2,
+    DELVOUZH_REFUSED_COUNT = 3,
+    DELVOUZH_REFUSED_LENGTH = 4,
+    DELVOUZH_REFUSED_POINTS = 5,
+    DELVOUZH_REFUSED_ENDS = 6,
+    DELVOUZH_REFUSED_TOUCHES = 7,
+    DELVOUZH_REFUSED_NO_AREA = 8,
+    DELVOUZH_REFUSED_ANGLE = 9,
+    DELVOUZH_REFUSED_TAB_OFF_ROOT = 10,
+    DELVOUZH_REFUSED_TAB_TOO_DEEP = 11,
+    DELVOUZH_REFUSED_DENSITY = 12,
+    DELVOUZH_REFUSED_NOT_CONVERGED = 13,
+    DELVOUZH_REFUSED_MASS = 15,
+    DELVOUZH_REFUSED_CENTRE = 16,
+    DELVOUZH_REFUSED_TENSOR = 17,
+    DELVOUZH_REFUSED_NO_FORM = 18,
+    DELVOUZH_REFUSED_NO_FIGURE = 19,
+    DELVOUZH_REFUSED_WALL_OVER_RADIUS = 20,
+    DELVOUZH_REFUSED_THICKNESS_OVER_ROOT = 21,
+    DELVOUZH_REFUSED_FILLET_RATIO = 22,
+    DELVOUZH_REFUSED_SCREEN = 23,
+    DELVOUZH_REFUSED_NO_CORNERS = 24,
+    DELVOUZH_REFUSED_NOT_WHOLE_STEPS = 25,
+    DELVOUZH_REFUSED_NOT_HEAVIER = 26
+};
+
+/* The fields that 4 and 9 carry as their first value. */
+enum delvouzh_field {
+    DELVOUZH_FIELD_ROOT_CHORD = 1,
+    DELVOUZH_FIELD_TIP_CHORD = 2,
+    DELVOUZH_FIELD_SPAN = 3,
+    DELVOUZH_FIELD_SWEEP = 4,
+    DELVOUZH_FIELD_X = 5,
+    DELVOUZH_FIELD_Y = 6,
+    DELVOUZH_FIELD_THICKNESS = 7,
+    DELVOUZH_FIELD_TAB_HEIGHT = 8,
+    DELVOUZH_FIELD_TAB_LENGTH = 9,
+    DELVOUZH_FIELD_TAB_OFFSET = 10,
+    DELVOUZH_FIELD_BODY_RADIUS = 11,
+    DELVOUZH_FIELD_CANT = 12,
+    DELVOUZH_FIELD_BASE_ANGLE = 13,
+    DELVOUZH_FIELD_TUBE_LENGTH = 14,
+    DELVOUZH_FIELD_OUTER_RADIUS = 15,
+    DELVOUZH_FIELD_FILLET_RADIUS = 16,
+    DELVOUZH_FIELD_DRILL_X = 17,
+    DELVOUZH_FIELD_DRILL_HEIGHT = 18,
+    DELVOUZH_FIELD_OFFSET = 19,
+    DELVOUZH_FIELD_ROLL = 20
+};
+
+/* A refusal's sentence, for people; of a number that is none's, that it is not known. */
+static inline const char *delvouzh_sentence(size_t number) {
+    switch (number) {
+    case DELVOUZH_REFUSED_LIMIT:
+        return "the limit is not 1 to 64";
+    case DELVOUZH_REFUSED_SCRATCH:
+        return "the lent scratch is too short for the limit";
+    case DELVOUZH_REFUSED_COUNT:
+        return "the count of fins, tubes, bodies or places is not 1 to 32";
+    case DELVOUZH_REFUSED_LENGTH:
+        return "a length is out of its limits";
+    case DELVOUZH_REFUSED_POINTS:
+        return "the outline is not 3 to 64 whole points";
+    case DELVOUZH_REFUSED_ENDS:
+        return "the outline does not begin at (0, 0), or does not end at (c, 0) with c > 0";
+    case DELVOUZH_REFUSED_TOUCHES:
+        return "the outline touches itself";
+    case DELVOUZH_REFUSED_NO_AREA:
+        return "there is no area, or no volume";
+    case DELVOUZH_REFUSED_ANGLE:
+        return "an angle is not a number, or beyond 4 rad";
+    case DELVOUZH_REFUSED_TAB_OFF_ROOT:
+        return "the tab begins before the root, or ends past it";
+    case DELVOUZH_REFUSED_TAB_TOO_DEEP:
+        return "the tab is higher than the body's radius";
+    case DELVOUZH_REFUSED_DENSITY:
+        return "the density is not bulk, or out of its limits";
+    case DELVOUZH_REFUSED_NOT_CONVERGED:
+        return "the sums did not settle within the limit's pieces";
+    case DELVOUZH_REFUSED_MASS:
+        return "the body's mass is negative or not finite";
+    case DELVOUZH_REFUSED_CENTRE:
+        return "the body's centre is not finite";
+    case DELVOUZH_REFUSED_TENSOR:
+        return "the body's tensor is none that a real body has";
+    case DELVOUZH_REFUSED_NO_FORM:
+        return "the line, or what was handed over, is none of the forms";
+    case DELVOUZH_REFUSED_NO_FIGURE:
+        return "a word stands where a figure belongs";
+    case DELVOUZH_REFUSED_WALL_OVER_RADIUS:
+        return "the tube's wall is thicker than its outer radius";
+    case DELVOUZH_REFUSED_THICKNESS_OVER_ROOT:
+        return "the fin is thicker than its root chord is long";
+    case DELVOUZH_REFUSED_FILLET_RATIO:
+        return "the fillet's radius is over 1000 times the body's";
+    case DELVOUZH_REFUSED_SCREEN:
+        return "the screen is not 1 to 8, or already holds a job";
+    case DELVOUZH_REFUSED_NO_CORNERS:
+        return "an ellipse has no corners";
+    case DELVOUZH_REFUSED_NOT_WHOLE_STEPS:
+        return "a coordinate is no whole number of steps of 2^-20 m";
+    case DELVOUZH_REFUSED_NOT_HEAVIER:
+        return "the whole is not heavier than the part";
+    default:
+        return "the number is not in the table of refusals";
+    }
+}
+
+/* A field's name. */
+static inline const char *delvouzh_field_name(size_t field) {
+    static const char *const names[] = {"root chord", "tip chord", "span", "sweep", "x", "y",
+                                        "thickness", "tab height", "tab length", "tab offset", "body radius",
+                                        "cant", "base angle", "tube length", "outer radius", "fillet radius",
+                                        "drill x", "drill height", "offset", "roll"};
+    return 1 <= field && field <= sizeof names / sizeof *names ? names[field - 1] : "no field";
+}
+
+/* A set of fins. Zeros are no tab and no fillet; `lengths` is the planform's. */
+struct delvouzh_set {
+    size_t count, planform;
+    const double *lengths;
+    size_t lengths_len, section;
+    double thickness_m, cant_rad, base_angle_rad, body_radius_m;
+    size_t density; /* DELVOUZH_BULK, .. */
+    double density_figure;
+    size_t tab; /* DELVOUZH_TAB, or DELVOUZH_NO_TAB */
+    double tab_height_m, tab_length_m, tab_offset_m;
+    size_t fillet; /* its density's number, or DELVOUZH_NO_FILLET */
+    double fillet_radius_m, fillet_density_figure;
+};
+
+/* The figures of a set as the calls take them: eight of the plate and its tab, then two of the fillet. */
+static inline void delvouzh_set_figures(const struct delvouzh_set *set, double figures[10]) {
+    figures[0] = set->thickness_m;
+    figures[1] = set->cant_rad;
+    figures[2] = set->base_angle_rad;
+    figures[3] = set->body_radius_m;
+    figures[4] = set->density_figure;
+    figures[5] = set->tab_height_m;
+    figures[6] = set->tab_length_m;
+    figures[7] = set->tab_offset_m;
+    figures[8] = set->fillet_radius_m;
+    figures[9] = set->fillet_density_figure;
+}
+
+/* delvouzh_mass_properties of a set: `body` has DELVOUZH_BODY numbers, `counts` DELVOUZH_COUNTS. */
+static inline size_t delvouzh_set_mass_properties(const struct delvouzh_set *set, size_t limit, double *scratch, size_t scratch_len,
+                                                  double *body, size_t *counts) {
+    double figures[10];
+    delvouzh_set_figures(set, figures);
+    return delvouzh_mass_properties(limit, set->count, set->planform, set->lengths, set->lengths_len, set->section, set->tab,
+                                    set->density, figures, set->tab == DELVOUZH_NO_TAB ? 5 : 8, set->fillet, figures + 8,
+                                    set->fillet == DELVOUZH_NO_FILLET ? 0 : 2, scratch, scratch_len, body, DELVOUZH_BODY, counts,
+                                    DELVOUZH_COUNTS);
+}
+
+/* delvouzh_job_make of a set: `job_numbers` has DELVOUZH_JOB_NUMBERS numbers, `job_counts` DELVOUZH_JOB_COUNTS, `values` DELVOUZH_VALUES. */
+static inline size_t delvouzh_set_job_make(const struct delvouzh_set *set, size_t limit, double *job_numbers, size_t *job_counts,
+                                           size_t *values) {
+    double figures[10];
+    delvouzh_set_figures(set, figures);
+    return delvouzh_job_make(limit, set->count, set->planform, set->lengths, set->lengths_len, set->section, set->tab, set->density,
+                             figures, set->tab == DELVOUZH_NO_TAB ? 5 : 8, set->fillet, figures + 8,
+                             set->fillet == DELVOUZH_NO_FILLET ? 0 : 2, job_numbers, DELVOUZH_JOB_NUMBERS, job_counts,
+                             DELVOUZH_JOB_COUNTS, values, DELVOUZH_VALUES);
+}
+
+/* delvouzh_engine_submit of a set: `engine_numbers` has DELVOUZH_ENGINE_NUMBERS numbers, `engine_counts` DELVOUZH_ENGINE_COUNTS. */
+static inline size_t delvouzh_set_engine_submit(const struct delvouzh_set *set, size_t screen, size_t limit, double *engine_numbers,
+                                                size_t *engine_counts, size_t *values) {
+    double figures[10];
+    delvouzh_set_figures(set, figures);
+    return delvouzh_engine_submit(screen, limit, set->count, set->planform, set->lengths, set->lengths_len, set->section, set->tab,
+                                  set->density, figures, set->tab == DELVOUZH_NO_TAB ? 5 : 8, set->fillet, figures + 8,
+                                  set->fillet == DELVOUZH_NO_FILLET ? 0 : 2, engine_numbers, DELVOUZH_ENGINE_NUMBERS, engine_counts,
+                                  DELVOUZH_ENGINE_COUNTS, values, DELVOUZH_VALUES);
+}
 
 #ifdef __cplusplus
 }
