@@ -41,6 +41,8 @@
 
 #include <stddef.h>
 
+#define DELVOUZH_VERSION "0.1.0"
+
 #ifdef __cplusplus
 extern "C" {
 #endif
