@@ -45,12 +45,12 @@ const FINS: [(Planform, &str, &[f64]); 3] = [
 const WITH_TAB: &str = " tab 0.02 0.1 0.05";
 
 fn run(words: &str) -> Output {
+    run_with(&words.split(' ').collect::<Vec<_>>())
+}
+
+fn run_with(words: &[&str]) -> Output {
     let example = ["run", "--quiet", "--offline", "--example", "drawing", "--"];
-    Command::new(env!("CARGO"))
-        .args(example)
-        .args(words.split(' '))
-        .output()
-        .unwrap()
+    Command::new(env!("CARGO")).args(example).args(words).output().unwrap()
 }
 
 fn drawn(words: &str) -> String {
@@ -232,6 +232,49 @@ fn dimensions_are_in_millimetres() {
     for label in ["200", "240", "130", "50", "80", "90"] {
         assert_eq!(svg.matches(&format!(">{label}</text>")).count(), 1, "{label}");
     }
+    let named = |(k, [x, height]): (usize, &[f64; 2])| format!("{k} ({:.0}, {:.0})", 1e3 * x, 1e3 * height);
+    for corner in POINTS_M.iter().enumerate().map(named) {
+        assert!(svg.contains(&corner), "{corner}");
+    }
+}
+
+#[test]
+fn it_prints_in_its_true_size() {
+    for (_, words, _) in FINS {
+        let svg = drawn(words);
+        let sheet = tags(&svg)[0];
+        let [_, _, width, height] = numbers(attribute(sheet, "viewBox"))[..] else {
+            panic!("{sheet}")
+        };
+        let (px_per_mm, _) = scale(&svg);
+        for (name, px) in [("width", width), ("height", height)] {
+            let mm: f64 = attribute(sheet, name).strip_suffix("mm").unwrap().parse().unwrap();
+            assert!((mm * px_per_mm - px).abs() < 0.05, "{words}: {name}");
+        }
+    }
+}
+
+/// A line of the card program is drawn, with what the fin is made of.
+#[test]
+fn a_card_line_is_drawn() {
+    let line =
+        "(set (limit 64) (count 3) (outline 0 0 0.06 0.11 0.15 0.11 0.19 0) (thickness 0.003) (section airfoil) \
+                (fillet 0.01 (bulk 1200)) (cant 0.02) (base 0) (radius 0.038) (bulk #4064000000000000))";
+    let output = run_with(&[line]);
+    let svg = String::from_utf8(output.stdout).unwrap();
+    assert!(output.status.success());
+    for said in [
+        "3 mm thick, airfoil section",
+        "wood of 160 kg/m³, on a body of 38 mm radius",
+        "glue included",
+        "3 (190, 0)",
+    ] {
+        assert!(svg.contains(said), "{said}");
+    }
+    let output = run_with(&["(area (limit 64) (ellipse 0.2 0.1))"]);
+    assert!(!output.status.success() && output.stdout.is_empty());
+    let said = String::from_utf8(output.stderr).unwrap();
+    assert_eq!(said, "a line that begins (set is wanted\n");
 }
 
 #[test]
@@ -240,6 +283,9 @@ fn a_refused_fin_is_not_drawn() {
     assert!(!output.status.success() && output.stdout.is_empty());
     let said = String::from_utf8(output.stderr).unwrap();
     assert!(said.lines().any(|line| line.starts_with("refused 11")), "{said}");
+    let output = run("trapezoid 0.2 0.1 ten 0.05");
+    let said = String::from_utf8(output.stderr).unwrap();
+    assert_eq!(said, "\"ten\" is no number: write metres, as 0.15\n");
     for words in [
         "trapezoid 0.2 0.1 0.15",
         "outline 0 0 1",

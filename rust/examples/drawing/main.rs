@@ -1,35 +1,34 @@
-//! A drawing of one fin, as an SVG on standard output:
+//! A drawing of one fin, as an SVG on standard output that prints in its true size:
 //!
 //!     cargo run --example drawing -- trapezoid 0.2 0.1 0.15 0.05 tab 0.02 0.1 0.05 > fin.svg
+//!     cargo run --example drawing -- "$(head -n 1 ../examples/lines.txt)" > fin.svg
 //!
-//! The planform is `trapezoid ROOT TIP SPAN SWEEP`, `ellipse ROOT SPAN` or `outline X Y X Y ..`; behind it may stand `tab HEIGHT LENGTH OFFSET`. All are
-//! metres. The fin is 3 mm plywood of square section on a body of 50 mm radius. Chords, area, centroid, mass and balance point are the library's.
+//! Either the planform in words, `trapezoid ROOT TIP SPAN SWEEP`, `ellipse ROOT SPAN` or `outline X Y X Y ..`, after which `tab HEIGHT LENGTH OFFSET` may
+//! stand, all in metres: then the fin is 3 mm plywood of square section on a body of 50 mm radius. Or one argument that is a whole line
+//! `(set ..)` of the card program. Chords, area, centroid, mass and balance point are the library's.
 use delvouzh::{
     chords_at, geometry, mass_properties, scratch_len, Density, Error, FinSet, Planform, RunError, Section, Tab,
 };
 
+mod line;
 mod sheet;
 mod svg;
 
 const LIMIT: usize = 64;
-const THICKNESS_M: f64 = 0.003;
-const BODY_RADIUS_M: f64 = 0.05;
-const PLYWOOD_KG_M3: f64 = 680.0;
 
-/// What is drawn, x behind the root's front and height above the root, in millimetres.
-pub struct Fin<'a> {
-    pub planform: Planform<'a>,
-    pub tab: Option<Tab>,
-    pub edge: Vec<[f64; 2]>,
+/// What is drawn, x aft of the root's leading edge and height above the root, in millimetres.
+struct Fin<'a> {
+    set: FinSet<'a>,
+    edge: Vec<[f64; 2]>,
     /// Each break height, with the chords there.
-    pub chords: Vec<(f64, Vec<[f64; 2]>)>,
-    pub centroid: [f64; 2],
-    pub balance_point: [f64; 2],
-    pub area_mm2: f64,
-    pub mass_g: f64,
+    chords: Vec<(f64, Vec<[f64; 2]>)>,
+    centroid: [f64; 2],
+    balance_point: [f64; 2],
+    area_mm2: f64,
+    mass_g: f64,
 }
 
-pub fn mm([x_m, y_m]: [f64; 2]) -> [f64; 2] {
+fn mm([x_m, y_m]: [f64; 2]) -> [f64; 2] {
     [1e3 * x_m, 1e3 * y_m]
 }
 
@@ -71,53 +70,53 @@ fn break_heights(planform: &Planform) -> Vec<f64> {
     heights
 }
 
-/// One fin that stands at angle 0: its centre's x is the body radius plus its height above the root, and its z points to the nose.
-fn body_of_one(planform: Planform, tab: Option<Tab>) -> Result<delvouzh::Body, RunError> {
-    let set = FinSet {
+/// One fin of the set, without cant, at angle 0: its centre's x is the body radius plus its height above the root, and its z points to the
+/// nose.
+fn body_of_one(set: &FinSet) -> Result<delvouzh::Body, RunError> {
+    let one = FinSet {
         count: 1,
-        planform,
-        thickness_m: THICKNESS_M,
-        section: Section::Square,
-        tab,
-        fillet: None,
         cant_rad: 0.0,
         base_angle_rad: 0.0,
-        body_radius_m: BODY_RADIUS_M,
-        density: Density::Bulk { kg_m3: PLYWOOD_KG_M3 },
+        ..*set
     };
     let mut scratch = vec![0.0; scratch_len(LIMIT)];
-    Ok(mass_properties(&set, LIMIT, &mut scratch)?.body)
+    Ok(mass_properties(&one, LIMIT, &mut scratch)?.body)
 }
 
-fn fin(planform: Planform, tab: Option<Tab>) -> Result<Fin, Box<dyn std::error::Error>> {
-    let body = body_of_one(planform, tab)?;
+fn fin(set: FinSet) -> Result<Fin, Box<dyn std::error::Error>> {
+    mass_properties(&set, LIMIT, &mut vec![0.0; scratch_len(LIMIT)])?;
+    let body = body_of_one(&set)?;
     let [out_m, _, forward_m] = body.centre_m;
-    let area = geometry(&planform, LIMIT, &mut vec![0.0; scratch_len(LIMIT)])?;
+    let area = geometry(&set.planform, LIMIT, &mut vec![0.0; scratch_len(LIMIT)])?;
     let mut chords = Vec::new();
-    for height in break_heights(&planform) {
-        let there = chords_at(&planform, height)?;
+    for height in break_heights(&set.planform) {
+        let there = chords_at(&set.planform, height)?;
         chords.push((1e3 * height, there.into_iter().map(mm).collect()));
     }
     Ok(Fin {
-        planform,
-        tab,
-        edge: edge(&planform)?.into_iter().map(mm).collect(),
+        set,
+        edge: edge(&set.planform)?.into_iter().map(mm).collect(),
         chords,
         centroid: mm([area.centroid_x_m, area.centroid_span_m]),
-        balance_point: mm([-forward_m, out_m - BODY_RADIUS_M]),
+        balance_point: mm([-forward_m, out_m - set.body_radius_m]),
         area_mm2: 1e6 * area.area_m2,
         mass_g: 1e3 * body.mass_kg,
     })
 }
 
-const USAGE: &str =
-    "usage: drawing trapezoid ROOT TIP SPAN SWEEP | ellipse ROOT SPAN | outline X Y X Y .. [tab HEIGHT LENGTH OFFSET]";
+const USAGE: &str = "usage: drawing trapezoid ROOT TIP SPAN SWEEP | ellipse ROOT SPAN | outline X Y X Y .. [tab HEIGHT LENGTH OFFSET]\n       \
+                     drawing '(set ..)', a line of the card program; lengths are metres";
+
+fn number(word: &str) -> Result<f64, String> {
+    word.parse()
+        .map_err(|_| format!("{word:?} is no number: write metres, as 0.15"))
+}
 
 /// The planform's word, its figures, and the tab.
 fn arguments(words: &[String]) -> Result<(&str, Vec<f64>, Option<Tab>), Box<dyn std::error::Error>> {
     let (planform, rest) = words.split_first().ok_or(USAGE)?;
     let cut = rest.iter().position(|w| w == "tab").unwrap_or(rest.len());
-    let figures = |words: &[String]| words.iter().map(|w| w.parse::<f64>()).collect::<Result<Vec<_>, _>>();
+    let figures = |words: &[String]| words.iter().map(|w| number(w)).collect::<Result<Vec<_>, _>>();
     let tab = match *figures(rest.get(cut + 1..).unwrap_or_default())? {
         [] if cut == rest.len() => None,
         [height_m, length_m, offset_m] => Some(Tab {
@@ -130,10 +129,10 @@ fn arguments(words: &[String]) -> Result<(&str, Vec<f64>, Option<Tab>), Box<dyn 
     Ok((planform, figures(&rest[..cut])?, tab))
 }
 
-/// The drawing that the words ask for.
-fn drawing(words: &[String]) -> Result<String, Box<dyn std::error::Error>> {
+/// The drawing of a fin of 3 mm plywood that the words ask for.
+fn drawing_of_words(words: &[String]) -> Result<String, Box<dyn std::error::Error>> {
     let (word, figures, tab) = arguments(words)?;
-    let points_m: Vec<[f64; 2]> = figures.chunks_exact(2).map(|p| [p[0], p[1]]).collect();
+    let points_m = line::pairs(&figures);
     let planform = match (word, &figures[..]) {
         ("trapezoid", &[root_chord_m, tip_chord_m, span_m, sweep_m]) => Planform::Trapezoid {
             root_chord_m,
@@ -145,7 +144,26 @@ fn drawing(words: &[String]) -> Result<String, Box<dyn std::error::Error>> {
         ("outline", _) if figures.len() % 2 == 0 => Planform::Outline { points_m: &points_m },
         _ => return Err(USAGE.into()),
     };
-    Ok(sheet::drawn(&fin(planform, tab)?))
+    let set = FinSet {
+        count: 1,
+        planform,
+        thickness_m: 0.003,
+        section: Section::Square,
+        tab,
+        fillet: None,
+        cant_rad: 0.0,
+        base_angle_rad: 0.0,
+        body_radius_m: 0.05,
+        density: Density::Bulk { kg_m3: 680.0 },
+    };
+    Ok(sheet::drawn(&fin(set)?))
+}
+
+fn drawing(words: &[String]) -> Result<String, Box<dyn std::error::Error>> {
+    match words {
+        [line] if line.trim_start().starts_with('(') => line::with_set(line, |set| Ok(sheet::drawn(&fin(set)?))),
+        _ => drawing_of_words(words),
+    }
 }
 
 fn main() -> std::process::ExitCode {

@@ -1,10 +1,12 @@
-//! Where things stand on the sheet: the fin in the middle, its dimensions around it, heights of the chords on the left, scale and legend below.
+//! Where things stand on the sheet: the fin in the middle in its true size, its dimensions around it, heights of the chords on the left, a
+//! bar to hold a ruler against and the legend below.
 use crate::svg::{decimals, figure, width_of, Svg, TEXT_PX};
-use crate::{Fin, THICKNESS_M};
-use delvouzh::Planform;
+use crate::Fin;
+use delvouzh::{Density, Planform, Section};
 
-/// The largest picture of a fin, and what stands around it.
-const PLOT_PX: [f64; 2] = [440.0, 320.0];
+/// A pixel of an SVG is a 96th of an inch, so that the fin prints in its true size.
+const PX_PER_MM: f64 = 96.0 / 25.4;
+/// What stands around the fin.
 const LEFT_PX: f64 = 84.0;
 const RIGHT_PX: f64 = 110.0;
 const ROW_PX: f64 = 26.0;
@@ -17,7 +19,7 @@ const STYLE: &str = "text{font:12px 'DejaVu Sans',Verdana,Arial,sans-serif;fill:
 .chord{fill:none;stroke:#2b6cb0}.leader{stroke:#9bb8d8;stroke-width:.8;stroke-dasharray:1 3}\
 .dimension{stroke:#444;stroke-width:.8}.extension{stroke:#999;stroke-width:.6}.arrow{fill:#444}\
 .bar{stroke:#222;stroke-width:2}.centroid{fill:none;stroke:#c02942;stroke-width:1.4}\
-.light{fill:#fff;stroke:#111;stroke-width:1.2}.dark{fill:#111}";
+.corner{fill:#8a4b08;font-weight:bold}.light{fill:#fff;stroke:#111;stroke-width:1.2}.dark{fill:#111}";
 
 /// A fin's box in millimetres, its tab with it, and where it lies on the sheet.
 struct Sheet {
@@ -48,7 +50,7 @@ fn rows(fin: &Fin) -> Rows {
             rows.below.push(([0.0, start], [0.0, -depth]));
         }
     }
-    match fin.planform {
+    match fin.set.planform {
         Planform::Trapezoid {
             root_chord_m,
             tip_chord_m,
@@ -83,7 +85,8 @@ fn rows(fin: &Fin) -> Rows {
 
 /// The tab's front and rear, and its depth below the root.
 fn tab_mm(fin: &Fin) -> Option<[f64; 3]> {
-    fin.tab
+    fin.set
+        .tab
         .map(|tab| [tab.offset_m, tab.offset_m + tab.length_m, tab.height_m].map(|x| 1e3 * x))
 }
 
@@ -104,11 +107,11 @@ fn sheet(fin: &Fin, rows_above: usize, least_width: f64) -> Sheet {
     let right = highest(fin, 0)[0];
     let top = highest(fin, 1)[1];
     let bottom = tab_mm(fin).map_or(0.0, |[_, _, depth]| -depth);
-    let px_per_mm = (PLOT_PX[0] / (right - left)).min(PLOT_PX[1] / (top - bottom));
+    let px_per_mm = PX_PER_MM;
     let needed = LEFT_PX + px_per_mm * (right - left) + RIGHT_PX;
     let width = needed.max(least_width);
     let first_x = LEFT_PX + 0.5 * (width - needed);
-    let first_y = 54.0 + ROW_PX * rows_above as f64;
+    let first_y = 74.0 + ROW_PX * rows_above as f64;
     Sheet {
         left,
         right,
@@ -240,54 +243,97 @@ fn balance_mark(svg: &mut Svg, [x, y]: [f64; 2], id: &str) {
     ));
 }
 
-/// 1, 2 or 5 times a power of ten, some 60 to 150 pixels long.
-fn scale_bar(svg: &mut Svg, s: &Sheet, x: f64, y: f64) {
-    let wanted = 60.0 / s.px_per_mm;
-    let decade = 10f64.powf(wanted.log10().floor());
-    let length = [1.0, 2.0, 5.0, 10.0]
-        .map(|k| k * decade)
-        .into_iter()
-        .find(|&l| l >= wanted)
-        .unwrap_or(10.0 * decade);
-    let end = x + length * s.px_per_mm;
+/// Which way the rocket flies.
+fn nose(svg: &mut Svg, y: f64) {
+    svg.element(&format!(
+        r#"<path id="nose" class="arrow" d="M{MARGIN_PX} {y}l9 -4v2.8h30v2.4h-30v2.8z"/>"#
+    ));
+    svg.text([MARGIN_PX + 46.0, y + 0.35 * TEXT_PX], "start", "to the nose");
+}
+
+/// A line of 50 mm, to hold a ruler against.
+fn scale_bar(svg: &mut Svg, x: f64, y: f64) {
+    let end = x + 50.0 * PX_PER_MM;
     svg.line("bar", [x, y], [end, y]);
     svg.line("dimension", [x, y - 5.0], [x, y + 5.0]);
     svg.line("dimension", [end, y - 5.0], [end, y + 5.0]);
     svg.text(
         [end + 10.0, y + 0.35 * TEXT_PX],
         "start",
-        &format!("{} mm", figure(length)),
+        "50 mm on paper: the drawing prints 1:1",
     );
 }
 
-fn behind_and_above([x, height]: [f64; 2]) -> String {
+/// Numbers beside an outline's corners, as the legend lists them.
+fn corner_numbers(svg: &mut Svg, s: &Sheet, fin: &Fin) {
+    let Planform::Outline { points_m } = fin.set.planform else {
+        return;
+    };
+    let middle = s.at(fin.centroid);
+    for (k, point) in points_m.iter().enumerate() {
+        let [x, y] = s.at(point.map(|v| 1e3 * v));
+        let [dx, dy] = [x - middle[0], y - middle[1]];
+        let away = 11.0 / dx.hypot(dy).max(1.0);
+        let [x, y] = [x + away * dx, y + away * dy + 0.35 * TEXT_PX];
+        svg.element(&format!(
+            r#"<text class="corner" x="{x:.2}" y="{y:.2}" text-anchor="middle">{k}</text>"#
+        ));
+    }
+}
+
+fn aft_and_above([x, height]: [f64; 2]) -> String {
     format!(
-        "{} mm behind the root's front, {} mm above the root",
+        "{} mm aft of the root's leading edge, {} mm above the root",
         figure(x),
         figure(height)
     )
 }
 
+/// An outline's corners, a few to a row.
+fn corner_rows(fin: &Fin) -> Vec<String> {
+    let Planform::Outline { points_m } = fin.set.planform else {
+        return Vec::new();
+    };
+    let named = |(k, point): (usize, &[f64; 2])| {
+        let [x, height] = point.map(|v| figure(1e3 * v));
+        format!("{k} ({x}, {height})")
+    };
+    let corners: Vec<String> = points_m.iter().enumerate().map(named).collect();
+    corners.chunks(5).map(|row| row.join(",  ")).collect()
+}
+
 /// What the marks are, with their numbers.
-fn legend_texts(fin: &Fin) -> [String; 4] {
-    let whole = if fin.tab.is_some() { ", tab included" } else { "" };
-    [
-        "chords at the break heights, which stand on the left".into(),
-        format!("centroid of the planform: {}", behind_and_above(fin.centroid)),
-        format!("balance point{whole}: {}", behind_and_above(fin.balance_point)),
+fn legend_texts(fin: &Fin) -> Vec<String> {
+    let mut whole = String::new();
+    if fin.set.tab.is_some() {
+        whole += ", tab included";
+    }
+    if fin.set.fillet.is_some() {
+        whole += ", glue included";
+    }
+    let mut texts = vec![
+        "chords at the heights on the left".into(),
+        format!("centroid of the planform: {}", aft_and_above(fin.centroid)),
+        format!("balance point of one fin{whole}: {}", aft_and_above(fin.balance_point)),
         format!(
-            "area {} mm², mass {} g; lengths in mm",
+            "area {} mm², mass of one fin {} g; all lengths in mm",
             figure(fin.area_mm2),
             figure(fin.mass_g)
         ),
-    ]
+    ];
+    let rows = corner_rows(fin);
+    if !rows.is_empty() {
+        texts.push("corners: how far aft of the root's leading edge, and how high above the root".into());
+    }
+    texts.extend(rows);
+    texts
 }
 
-/// The scale, and each mark with its text; answers how far down they go.
-fn legend(svg: &mut Svg, s: &Sheet, texts: &[String; 4], first: f64) -> f64 {
+/// The bar, and each mark with its text; answers how far down they go.
+fn legend(svg: &mut Svg, texts: &[String], first: f64) -> f64 {
     let row = |k: usize| first + LEGEND_ROW_PX * k as f64;
     let mark = |k: usize| [MARGIN_PX + 12.0, row(k)];
-    scale_bar(svg, s, MARGIN_PX, row(0));
+    scale_bar(svg, MARGIN_PX, row(0));
     svg.element(&format!(
         r#"<path class="chord" stroke-width="1.5" stroke-dasharray="5 4" d="M{MARGIN_PX} {}h24"/>"#,
         row(1)
@@ -297,41 +343,64 @@ fn legend(svg: &mut Svg, s: &Sheet, texts: &[String; 4], first: f64) -> f64 {
     for (k, text) in (1..).zip(texts) {
         svg.text([MARGIN_PX + LEGEND_TEXT_PX, row(k) + 0.35 * TEXT_PX], "start", text);
     }
-    row(4) + LEGEND_ROW_PX
+    row(texts.len()) + LEGEND_ROW_PX
 }
 
-fn title(fin: &Fin) -> String {
-    let shape = match fin.planform {
+/// What the fin is, and what it is made of.
+fn title(fin: &Fin) -> [String; 2] {
+    let set = &fin.set;
+    let shape = match set.planform {
         Planform::Trapezoid { .. } => "Trapezoid",
         Planform::Ellipse { .. } => "Half ellipse",
         Planform::Outline { .. } => "Drawn outline",
     };
-    let tab = if fin.tab.is_some() { " with a tab" } else { "" };
-    format!("{shape}{tab}, {} mm plywood, square section", figure(1e3 * THICKNESS_M))
+    let section = match set.section {
+        Section::Square => "square",
+        Section::Rounded => "rounded",
+        Section::Airfoil => "airfoil",
+        _ => "airfoil with an open tail",
+    };
+    let tab = if set.tab.is_some() { " with a tab" } else { "" };
+    let wood = match set.density {
+        Density::Bulk { kg_m3: 680.0 } => "plywood of 680 kg/m³".into(),
+        Density::Bulk { kg_m3 } => format!("wood of {} kg/m³", figure(kg_m3)),
+        _ => "a density that is no wood's".into(),
+    };
+    [
+        format!(
+            "{shape}{tab}, {} mm thick, {section} section",
+            figure(1e3 * set.thickness_m)
+        ),
+        format!("{wood}, on a body of {} mm radius", figure(1e3 * set.body_radius_m)),
+    ]
 }
 
 /// The whole drawing. The fin covers the lines that lead to its dimensions.
-pub fn drawn(fin: &Fin) -> String {
+pub(crate) fn drawn(fin: &Fin) -> String {
     let rows = rows(fin);
     let texts = legend_texts(fin);
     let longest = texts.iter().map(|text| width_of(text)).fold(0.0, f64::max);
     let s = sheet(fin, rows.above.len(), 2.0 * MARGIN_PX + LEGEND_TEXT_PX + longest);
-    let title = title(fin);
+    let [what, made_of] = title(fin);
     let mut svg = Svg::default();
-    svg.text([MARGIN_PX, 24.0], "start", &title);
+    svg.text([MARGIN_PX, 24.0], "start", &format!("{what}; {made_of}"));
+    nose(&mut svg, 42.0);
     heights(&mut svg, &s, fin);
     dimensions(&mut svg, &s, fin, &rows);
     shapes(&mut svg, &s, fin);
+    corner_numbers(&mut svg, &s, fin);
     balance_mark(&mut svg, s.at(fin.balance_point), "balance-point");
     centroid_mark(&mut svg, s.at(fin.centroid), 11.0, "centroid");
     let below = s.y(s.bottom) + ROW_PX * (rows.below.len() as f64 + 1.0) + 14.0;
-    let height = legend(&mut svg, &s, &texts, below);
+    let height = legend(&mut svg, &texts, below);
     let size = format!(
-        r#"width="{w:.0}" height="{height:.0}" viewBox="0 0 {w:.0} {height:.0}""#,
+        r#"width="{:.2}mm" height="{:.2}mm" viewBox="0 0 {w:.2} {height:.2}""#,
+        s.width / PX_PER_MM,
+        height / PX_PER_MM,
         w = s.width
     );
     format!(
-        "<svg xmlns=\"http://www.w3.org/2000/svg\" {size} role=\"img\">\n<title>{title}</title>\n<style>{STYLE}</style>\n\
+        "<svg xmlns=\"http://www.w3.org/2000/svg\" {size} role=\"img\">\n<title>{what}</title>\n<style>{STYLE}</style>\n\
          <rect width=\"100%\" height=\"100%\" fill=\"#fff\"/>\n{}</svg>\n",
         svg.elements
     )
