@@ -3,17 +3,16 @@
 -- 1, 2, 3 passes, 1, 1, 3 gives 17e." (document 01, "Reviewer's checklist"): one table, and one theorem that computes every row.
 -- Figures compare by ==. Since document 02, Paper 1, "the tip case in document 01 changes": at the span stands the tip chord.
 -- Since Paper 12 a tensor has six numbers, and "the joined example is reprinted so"; 17e is still the fifth case.
-use mathlib.Core.Bool.{Bool, true, false, _&&_}
+use mathlib.Core.Bool.{Bool, true, false, _&&_, cond}
 use mathlib.Core.List.{List, [], _∷_, _++_, map}
 use Prim.Native.Nat.{ℕ}
 use lib.Dec.{T, eqb}
-use lib.ListN.{take}
-use lib.Ieee.{Float, add, sub, mul, div, neg, ofBits, ofInt, lt, le, eq, ne}
+use lib.ListN.{length, take}
+use lib.Ieee.{Float, add, sub, mul, div, neg, ofBits, ofInt, round, lt, le, eq, ne}
 use Rattle.floats.specs.Operations.{bits, every}
 use Rattle.floats.specs.Floats.{absOf}
 use Rattle.root.specs.Root.{nearRoot, rootOf}
 use Rattle.trig.specs.Trig.{sinCosOf, sinOf, cosOf}
-use Rattle.halving.specs.Cover.{samplesFor}
 use Rattle.refusals.specs.Refusals.{numberOf, valuesOf}
 use Rattle.refusals.specs.declared.Verdict.{Verdict}
 use Rattle.refusals.specs.declared.Verdict.the-variants.{Accepted, Refused}
@@ -22,6 +21,10 @@ use Rattle.planforms.specs.declared.Planform.the-variants.{Trapezoid}
 use Rattle.chords.specs.Chords.{endsAt}
 use Rattle.sections.specs.declared.Section.the-variants.{Square}
 use Rattle.sections.specs.ChordMoments.{chordMoments}
+use Rattle.gauss_kronrod.specs.Tables.{nodes, kronrodWeights, gaussWeights}
+use Rattle.quadrature.specs.Rule.{heightsTo, weightedTo, pieceOf}
+use Rattle.tolerance.specs.Bounds.{totalOf, errorOf, absolute, relative, converged, scoreOf, lastHighest, worstPlace, componentOf}
+use Rattle.halving.specs.Halving.{Halved, repeat, halving}
 use Rattle.bodies.specs.declared.Body.{Body}
 use Rattle.bodies.specs.declared.Tensor.{Tensor}
 use Rattle.bodies.specs.Vectors.{zeroVector}
@@ -68,6 +71,10 @@ diagonalTensor a b c = diagonal (bits a) (bits b) (bits c)
 abbrev body : ℕ → ℕ → ℕ → Body
 body a b c = record { «mass_kg» = bits one; «centre_m» = zeroVector; «inertia_kg_m2» = diagonalTensor a b c }
 
+-- the halving from 0 to 1, with at most so many pieces, of one component that is 0 below a third and 1 from there on: too steep for any few pieces
+abbrev strip : ℕ → Halved
+strip limit = halving 1 (λ h. bits (cond (lt h (bits 0x3fd5_5555_5555_5555)) 0 one) ∷ []) (bits 0) (bits one) limit
+
 abbrev isAccepted : Verdict → Bool
 isAccepted Accepted = true
 isAccepted (Refused refusal) = false
@@ -85,7 +92,7 @@ abbrev holds : Case → Bool
 holds (root x r) = is (rootOf (bits x)) r
 holds (sine x r) = is (sinOf (bits x)) r
 holds (cosine x r) = is (cosOf (bits x)) r
-holds (pieces n samples) = eqb (samplesFor n) samples
+holds (pieces n samples) = eqb (length (strip n .pieces)) n && eqb (length (strip n .heights)) samples
 holds (chord planform h ends) = are (endsAt planform [] (bits h)) ends
 holds (square a b t begins) = are (take 2 (chordMoments Square (bits a) (bits b) (bits t))) begins
 holds (joined given answer) = are (numbersOf (combineOf (map bits given) .body)) answer
@@ -124,5 +131,5 @@ cases =
     []
 
 pub cases-hold : T (allHold cases)
-unfolding ofBits ofInt add sub mul div neg lt le eq ne absOf rootOf nearRoot sinCosOf endsAt chordMoments inOrder sumsOf inertiaOf joinOf inertiaAboutOf every rotate sweep sweeps insertMoment insertAll eigenvaluesOf largestMagnitude checkTensor
+unfolding ofBits ofInt round add sub mul div neg lt le eq ne absOf rootOf nearRoot sinCosOf endsAt chordMoments inOrder sumsOf inertiaOf joinOf inertiaAboutOf every rotate sweep sweeps insertMoment insertAll eigenvaluesOf largestMagnitude checkTensor nodes kronrodWeights gaussWeights heightsTo weightedTo pieceOf totalOf errorOf absolute relative converged scoreOf lastHighest worstPlace componentOf repeat halving
 cases-hold = tt

@@ -10,7 +10,7 @@ ghost use Rattle.pieces.specs.Stored.{piecesIn};
 ghost use Rattle.tolerance.specs.Bounds.{middleOf, middleIsEnd};
 ghost use Rattle.halving.specs.Halving.{verdictOf};
 ghost use Rattle.halving.specs.Scratch.{Integrates};
-ghost use Rattle.halving.specs.Steps.{judgedOf, scratchHalved, Repeats};
+ghost use Rattle.halving.specs.Steps.{judgedOf, HalvesPiece, Repeats};
 use integrands::Integrand;
 use quadrature::Piece;
 use refusals::Refusal;
@@ -99,16 +99,20 @@ fn judge(scratch: &[f64], n: usize, limit: usize) -> Judged
 }
 
 // Measures the left half of the piece at a place, then the right. The left half replaces it and the right is stored behind the n pieces.
-fn halve(scratch: &mut [f64], integrand: Integrand, points: &[f64], n: usize, place: usize)
+// The answer is how many samples both took.
+fn halve(scratch: &mut [f64], integrand: Integrand, points: &[f64], n: usize, place: usize) -> usize
     requires { ⌜ (place < n) × (n * 16 + 16 ≤ length (now scratch)) ⌝ }
-    ensures { λ _. ⌜ now (scratch .exit) ≡ scratchHalved (sampleOf integrand (now (points .entry))) n place (now (scratch .entry)) ⌝ }
+    ensures { λ r. ⌜ HalvesPiece (sampleOf integrand (now (points .entry))) n place (now (scratch .entry)) r (now (scratch .exit)) ⌝ }
 {
     let p = pieces::read(scratch, place);
     let m = middle(p);
     let left = quadrature::rule(integrand, points, p.start, m);
     let right = quadrature::rule(integrand, points, m, p.end);
-    pieces::write(scratch, place, left);
-    pieces::write(scratch, n, right)
+    let l = left.piece;
+    let r = right.piece;
+    pieces::write(scratch, place, l);
+    pieces::write(scratch, n, r);
+    left.samples + right.samples
 }
 
 fn answer(ending: Ending, value: [f64; 7], intervals: usize, samples: usize) -> Integral
@@ -122,22 +126,29 @@ fn answer(ending: Ending, value: [f64; 7], intervals: usize, samples: usize) -> 
     }
 }
 
-// From the first piece in the scratch on. Fifteen samples were taken of it, and each halving takes thirty more.
-fn repeat(scratch: &mut [f64], integrand: Integrand, points: &[f64], limit: usize) -> Integral
-    requires { ⌜ (1 ≤ limit) × (limit ≤ 64) × (limit * 16 ≤ length (now scratch)) ⌝ }
-    ensures { λ r. ⌜ Repeats (sampleOf integrand (now (points .entry))) limit (now (scratch .entry)) r (now (scratch .exit)) ⌝ }
+// From the first piece in the scratch on, of which so many samples were taken. Those of each halving are added.
+fn repeat(
+    scratch: &mut [f64],
+    integrand: Integrand,
+    points: &[f64],
+    limit: usize,
+    taken: usize,
+) -> Integral
+    requires { ⌜ (1 ≤ limit) × (limit ≤ 64) × (limit * 16 ≤ length (now scratch)) × (taken ≤ 15) ⌝ }
+    ensures { λ r. ⌜ Repeats (sampleOf integrand (now (points .entry))) limit taken (now (scratch .entry)) r (now (scratch .exit)) ⌝ }
 {
     let mut n: usize = 1;
+    let mut samples = taken;
     loop {
         let judged = judge(scratch, n, limit);
         let next = judged.next;
         let value = judged.value;
         match next {
             Next::Ended(ending) => {
-                return answer(ending, value, n, 30 * n - 15);
+                return answer(ending, value, n, samples);
             }
             Next::Halve(place) => {
-                halve(scratch, integrand, points, n, place);
+                samples += halve(scratch, integrand, points, n, place);
                 n += 1;
             }
         }
@@ -165,6 +176,7 @@ pub fn integrate(
         };
     }
     let whole = quadrature::rule(integrand, points, lower, upper);
-    pieces::write(scratch, 0, whole);
-    repeat(scratch, integrand, points, limit)
+    let piece = whole.piece;
+    pieces::write(scratch, 0, piece);
+    repeat(scratch, integrand, points, limit, whole.samples)
 }

@@ -6,7 +6,7 @@ ghost use mathlib.Core.Path.{_≡_};
 ghost use Rattle.floats.specs.Operations.{_⊖_, _⊗_, at, tabulate};
 ghost use Rattle.floats.specs.Floats.{absOf};
 ghost use Rattle.integrands.specs.Integrands.{sampleOf};
-ghost use Rattle.quadrature.specs.Rule.{heightsTo, kronrodWeight, gaussWeight, pieceOf};
+ghost use Rattle.quadrature.specs.Rule.{heightsTo, kronrodWeight, gaussWeight, measurementOf};
 ghost use Rattle.quadrature.specs.Tally.{FoundTo, weightsTo, plusWeighted, tallyOf};
 use chords::Chords;
 use integrands::Integrand;
@@ -19,10 +19,17 @@ pub struct Piece {
     pub error: [f64; 7],
 }
 
-// The sums over the samples.
+// The answer of the rule: a piece, and how many samples were taken of it.
+pub struct Measurement {
+    pub piece: Piece,
+    pub samples: usize,
+}
+
+// The sums over the samples, and how many there are.
 struct Tally {
     kronrod: [f64; 7],
     gauss: [f64; 7],
+    samples: usize,
 }
 
 fn plus_weighted(sum: [f64; 7], weight: f64, y: [f64; 7]) -> [f64; 7]
@@ -127,7 +134,8 @@ fn chords_found(integrand: Integrand, points: &[f64], heights: [f64; 15]) -> [Ch
     found
 }
 
-// The sums over the fifteen samples. None is tested: every sample of an accepted fin is finite (document 02, Paper 14).
+// The sums over the fifteen samples, which are counted as they are worked. None is tested: every sample of an accepted fin is finite
+// (document 02, Paper 14).
 fn sums(integrand: Integrand, points: &[f64], centre: f64, half: f64) -> Tally
     ensures { λ r. ⌜ r ≡ tallyOf (sampleOf integrand (now (points .entry))) centre half ⌝ }
 {
@@ -150,7 +158,11 @@ fn sums(integrand: Integrand, points: &[f64], centre: f64, half: f64) -> Tally
         gauss = g;
         j += 1;
     }
-    Tally { kronrod, gauss }
+    Tally {
+        kronrod,
+        gauss,
+        samples: j,
+    }
 }
 
 fn scaled(half: f64, k: [f64; 7]) -> [f64; 7]
@@ -188,8 +200,8 @@ fn differences(half: f64, k: [f64; 7], g: [f64; 7]) -> [f64; 7]
 }
 
 // The piece from start to end.
-pub fn rule(integrand: Integrand, points: &[f64], start: f64, end: f64) -> Piece
-    ensures { λ r. ⌜ r ≡ pieceOf 7 (sampleOf integrand (now (points .entry))) start end ⌝ }
+pub fn rule(integrand: Integrand, points: &[f64], start: f64, end: f64) -> Measurement
+    ensures { λ r. ⌜ r ≡ measurementOf (sampleOf integrand (now (points .entry))) start end ⌝ }
 {
     let centre = 0.5 * (start + end);
     let half = 0.5 * (end - start);
@@ -198,10 +210,14 @@ pub fn rule(integrand: Integrand, points: &[f64], start: f64, end: f64) -> Piece
     let g = tally.gauss;
     let value = scaled(half, k);
     let error = differences(half, k, g);
-    Piece {
+    let piece = Piece {
         start,
         end,
         value,
         error,
+    };
+    Measurement {
+        piece,
+        samples: tally.samples,
     }
 }

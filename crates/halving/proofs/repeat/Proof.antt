@@ -1,22 +1,24 @@
 -- `halving::repeat` meets its contract: from each turn on the halving is the whole one. Assumes nothing.
+use mathlib.Core.Path.{_≡_, _∙_}
 use Prim.Native.Nat.{_-_, _<_, _≤_}
 use native.Mathlib.Omega.{arith}
 use borrow.Author.Needs.{needs}
 use Rattle.integrands.specs.Integrands.{sampleOf}
-use Rattle.halving.proofs.Repeats.{State, begin, turn-ended, room, turn-goes-on}
+use Rattle.pieces.specs.Stored.{readAt}
+use Rattle.halving.proofs.Repeats.{State, begin, turn-ended, room, halves-thirty, turn-goes-on}
 use Rattle.halving.proofs.repeat.Statement.{statement}
 use Rattle.halving.proofs.repeat.Tie as tie
 
 abbrev Inv-loop : tie.InvT-loop
-Inv-loop scratch₀ integrand points limit n₀ scratch n = State (sampleOf integrand points) limit scratch₀ scratch n
+Inv-loop scratch₀ integrand points limit taken n₀ samples₀ scratch n samples = State (sampleOf integrand points) limit taken scratch₀ scratch n samples
 
 abbrev μ-loop : tie.MeasureT-loop
-μ-loop scratch₀ integrand points limit n₀ scratch n = limit - n
+μ-loop scratch₀ integrand points limit taken n₀ samples₀ scratch n samples = limit - n
 
 loop-holds : tie.Need-loop-holds Inv-loop μ-loop
 loop-holds c =
     let z = c .before .before in
-    begin _ _ _ (z .pre .0)
+    begin _ _ _ _ (z .pre .0) (z .pre .3)
 
 judge-requires : tie.Need-judge-requires Inv-loop μ-loop
 judge-requires c κs =
@@ -25,16 +27,6 @@ judge-requires c κs =
 
 enum-known-next : tie.Need-enum-known-next Inv-loop μ-loop
 enum-known-next c = search needs
-
-mul-answer : tie.Need-mul-answer Inv-loop μ-loop
-mul-answer c =
-    let l = c .before .before .before .before .before .before in
-    omega (arith, l .loop .inv .high, l .before .before .before .pre .1)
-
-sub-answer : tie.Need-sub-answer Inv-loop μ-loop
-sub-answer c =
-    let l = c .before .before .before .before .before .before in
-    omega (arith, l .loop .inv .low)
 
 answer-requires : tie.Need-answer-requires Inv-loop μ-loop
 answer-requires c κs = search needs
@@ -47,7 +39,7 @@ returns c =
     let x = c .before .before in
     let j = x .before .before .before in
     let l = j .before .before in
-    rw (c .answer .ensures) (turn-ended _ _ _ _ _ (l .loop .inv) (l .before .before .before .pre .2) _ (j .judge .ensures) _ (x .next .given .1))
+    rw (c .answer .ensures) (turn-ended _ _ _ _ _ _ _ (l .loop .inv) (l .before .before .before .pre .2) _ (j .judge .ensures) _ (x .next .given .1))
 
 enum-known-next-2 : tie.Need-enum-known-next-2 Inv-loop μ-loop
 enum-known-next-2 c = search needs
@@ -60,7 +52,7 @@ halving-room : (x : tie.After-next2 Inv-loop μ-loop) → (Loop· x .loop .n < L
 halving-room x =
     let j = x .before .before .before in
     let l = Loop· x in
-    room _ _ _ _ _ (l .loop .inv) (l .before .before .before .pre .2) _ (j .judge .ensures) _ (x .next2 .given .1)
+    room _ _ _ _ _ _ _ (l .loop .inv) (l .before .before .before .pre .2) _ (j .judge .ensures) _ (x .next2 .given .1)
 
 halve-requires : tie.Need-halve-requires Inv-loop μ-loop
 halve-requires c κs =
@@ -68,6 +60,18 @@ halve-requires c κs =
     let l = Loop· x in
     let r = halving-room x in
     omega (arith, r, l .loop .inv .long, l .before .before .before .pre .2)
+
+-- a halving takes thirty samples
+halving-thirty : (h : tie.After-halve Inv-loop μ-loop) → h .halve .result ≡ 30
+halving-thirty h =
+    let x = h .before .before .before in
+    h .halve .ensures .1 ∙ halves-thirty (readAt (Loop· x .loop .scratch) (x .next2 .given .0 .0))
+
+add-samples : tie.Need-add-samples Inv-loop μ-loop
+add-samples c =
+    let h = c .before .before in
+    let l = Loop· (h .before .before .before) in
+    omega (arith, halving-thirty h, l .loop .inv .few, l .loop .inv .high, l .before .before .before .pre .1)
 
 add-n : tie.Need-add-n Inv-loop μ-loop
 add-n c =
@@ -87,7 +91,7 @@ loop-again c =
     let x = h .before .before .before in
     let j = x .before .before .before in
     let l = Loop· x in
-    turn-goes-on _ _ _ _ _ (l .loop .inv) (l .before .before .before .pre .2) _ (j .judge .ensures) _ (x .next2 .given .1) _ (h .halve .ensures)
+    turn-goes-on _ _ _ _ _ _ _ (l .loop .inv) (l .before .before .before .pre .2) _ (j .judge .ensures) _ (x .next2 .given .1) _ _ (h .halve .ensures)
 
 pub repeat-spec : {M : Type 1} → statement M
 repeat-spec =
@@ -98,13 +102,12 @@ repeat-spec =
     loop-holds
     judge-requires
     enum-known-next
-    mul-answer
-    sub-answer
     answer-requires
     same-length
     returns
     enum-known-next-2
     halve-requires
+    add-samples
     add-n
     loop-less
     loop-again)

@@ -103,7 +103,7 @@ returns : tie.Need-returns Inv-loop μ-loop
 returns c =
     let head = c .before in
     let e : head .loop .j ≡ 15 = omega arith in
-    all-summed (sampleAt head) _ _ _ _ _ _ _ (made head .before .sample-heights .ensures) (head .before .before .kronrod-weights .ensures) (head .before .gauss-weights .ensures) (rw e at (head .loop .inv .1))
+    all-summed (sampleAt head) _ _ _ _ _ _ _ (made head .before .sample-heights .ensures) (head .before .before .kronrod-weights .ensures) (head .before .gauss-weights .ensures) _ e (head .loop .inv .1)
 
 pub sums-spec : {M : Type 1} → statement M
 sums-spec =
