@@ -63,10 +63,6 @@ pub free-is-screen : (screens : Screens) (screen : ℕ) → isFree screens scree
 unfolding isFree
 free-is-screen screens screen h = and-left (isScreen screen) _ h
 
-pub pick-in-eight : (screens : Screens) → pickOf screens < 8
-unfolding pickOf
-pick-in-eight screens = place-below (nextScreen screens)
-
 -- the mark of one screen and of the others
 module _ (screens : Screens) (own : ℕ) (o : isScreen own ≡ true) (holds : Bool) (last : ℕ) where
   pub mark-own : length (screens .held) ≡ 8 → holdsJob (withHeld screens own holds last) own ≡ holds

@@ -4,10 +4,5 @@ pub mod Effects
 pub mod Rounds
 pub mod Alone
 pub mod Submissions
-pub mod Placed
-pub mod InPlace
-pub mod Rows
-pub mod Borrow
-pub mod AtPlace
 pub mod SampleCount
 pub mod Drawn

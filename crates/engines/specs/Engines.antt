@@ -147,10 +147,6 @@ turnOf engine scratchLength =
 unfoldable pub turnScratch : Engine → List Float → List Float
 turnScratch engine scratch = servedScratch (engine .screens) (jobAt engine (pickOf (engine .screens))) scratch
 
-pub record TurnsTo (engine : Engine) (entry : List Float) (r : Turned) (exit : List Float) : Type 0 where
-  pub turned : r ≡ turnOf engine (length entry)
-  pub scratch : exit ≡ turnScratch engine entry
-
 -- a submission of a set with its points and L to a screen
 unfoldable pub submitOf : Engine → ℕ → FinSet → List Float → ℕ → Called
 submitOf engine screen set points L =

@@ -1,4 +1,3 @@
 pub mod NoJob
 pub mod Engines
-pub mod Lent
 pub mod Calls

@@ -1,15 +1,13 @@
 // Eight screens, one engine: each screen may hold a job, and a turn works one strip for the next of them (document 02, Paper 10).
 //
 // A call is worked by value on the screens and on one job, the one at the call's place: who keeps the engine reads and writes that job alone.
-// Screens are 1 to 8; 0 stands for none. Any record, number and scratch may be handed in.
+// `Engine`, `Turned` and `Called` are for the definitions: an engine is kept in lent lists. Screens are 1 to 8; 0 stands for none. Any record,
+// number and scratch may be handed in.
 ghost use mathlib.Core.Path.{_≡_};
 ghost use Prim.Native.Nat.{_<_};
 ghost use lib.ListN.{length};
 ghost use Rattle.engines.specs.Engines.{isScreen, placeOf, holdsJob, isFree, nextScreen, pickOf, withHeld};
 ghost use Rattle.engines.specs.Engines.{refusedShort, idle, stepped, ServesTo, refused, submittedOf, changedOf};
-ghost use Rattle.engines.specs.Engines.{TurnsTo, submitOf, changeAt};
-ghost use Rattle.engines.specs.Lent.{TurnsLent, SubmitsLent, ChangesLent};
-use fins::FinSet;
 use jobs::Answer;
 use jobs::Job;
 use jobs::Reply;
@@ -102,7 +100,7 @@ fn is_free(screens: Screens, screen: usize) -> bool
 }
 
 // The next screen with a job, in ascending order from the one after the last served; 0 with no job.
-pub fn next_screen(screens: Screens) -> usize
+fn next_screen(screens: Screens) -> usize
     ensures { λ r. ⌜ r ≡ nextScreen screens ⌝ }
 {
     let mut screen = screens.last % 8 + 1;
@@ -248,111 +246,4 @@ pub fn change_at(screens: Screens, job: Job, screen: usize, density: Density) ->
         };
     }
     refuse(screens, job, Refusal::Density)
-}
-
-// One turn: a strip for the next screen with a job.
-pub fn turn_by_value(engine: Engine, scratch: &mut [f64]) -> Turned
-    ensures { λ r. ⌜ TurnsTo engine (now (scratch .entry)) r (now (scratch .exit)) ⌝ }
-{
-    let screens = engine.screens;
-    let mut eight = engine.jobs;
-    let place = pick(screens);
-    let job = eight[place];
-    let s = serve(screens, job, scratch);
-    let screens = s.screens;
-    let told = s.told;
-    let job = s.job;
-    eight[place] = job;
-    let engine = Engine {
-        screens,
-        jobs: eight,
-    };
-    Turned { engine, told }
-}
-
-// A submission of a set to a screen: taken, or refused, and then nothing changes.
-pub fn submit_by_value(
-    engine: Engine,
-    screen: usize,
-    set: FinSet,
-    points: &[f64],
-    limit: usize,
-) -> Called
-    ensures { λ r. ⌜ r ≡ submitOf engine screen set (now (points .entry)) limit ⌝ }
-{
-    let screens = engine.screens;
-    let mut eight = engine.jobs;
-    let place = place_of(screen);
-    let job = eight[place];
-    let made = jobs::make(set, points, limit);
-    let s = submit_at(screens, job, screen, made);
-    let screens = s.screens;
-    let answer = s.answer;
-    let job = s.job;
-    eight[place] = job;
-    let engine = Engine {
-        screens,
-        jobs: eight,
-    };
-    Called { engine, answer }
-}
-
-// A change of the density of a screen's job: taken, or 12.
-pub fn change_by_value(engine: Engine, screen: usize, density: Density) -> Called
-    ensures { λ r. ⌜ r ≡ changeAt engine screen density ⌝ }
-{
-    let screens = engine.screens;
-    let mut eight = engine.jobs;
-    let place = place_of(screen);
-    let job = eight[place];
-    let s = change_at(screens, job, screen, density);
-    let screens = s.screens;
-    let answer = s.answer;
-    let job = s.job;
-    eight[place] = job;
-    let engine = Engine {
-        screens,
-        jobs: eight,
-    };
-    Called { engine, answer }
-}
-
-// A turn of a lent engine. The job at one place is read and written where it stands, and so in the next two.
-pub fn turn(engine: &mut Engine, scratch: &mut [f64]) -> Told
-    ensures { λ r. ⌜ TurnsLent (now (engine .entry)) (now (scratch .entry)) r (now (engine .exit)) (now (scratch .exit)) ⌝ }
-{
-    let place = pick(engine.screens);
-    let s = serve(engine.screens, engine.jobs[place], scratch);
-    engine.jobs[place] = s.job;
-    engine.screens = s.screens;
-    s.told
-}
-
-// A submission of a set to a screen of a lent engine.
-pub fn submit(
-    engine: &mut Engine,
-    screen: usize,
-    set: FinSet,
-    points: &[f64],
-    limit: usize,
-) -> Answer
-    ensures { λ r. ⌜ SubmitsLent (now (engine .entry)) screen set (now (points .entry)) limit r (now (engine .exit)) ⌝ }
-{
-    let made = jobs::make(set, points, limit);
-    let place = place_of(screen);
-    let s = submit_at(engine.screens, engine.jobs[place], screen, made);
-    engine.jobs[place] = s.job;
-    engine.screens = s.screens;
-    s.answer
-}
-
-// A change of the density of a screen's job in a lent engine.
-pub fn change_density(engine: &mut Engine, screen: usize, density: Density) -> Answer
-    ensures { λ r. ⌜ ChangesLent (now (engine .entry)) screen density r (now (engine .exit)) ⌝ }
-{
-    let place = place_of(screen);
-    let s = change_at(engine.screens, engine.jobs[place], screen, density);
-    engine.jobs[place] = s.job;
-    engine.screens = s.screens;
-    s.answer
 }
