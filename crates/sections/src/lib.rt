@@ -12,7 +12,7 @@
 // The tail is closed with e = 0.1036, where P(1) = 0, and open with document 01's e = 0.1015 (document 02, Paper 7). PHI is
 // 10·∫₀¹ x^j·P dx for j = 0, 1, 2, and PSI is 1000·∫₀¹ P³ dx, each the f64 nearest to its fraction.
 ghost use mathlib.Core.Path.{_≡_};
-ghost use Rattle.sections.specs.Airfoil.{closedTail, openTail, airfoilConstants};
+ghost use Rattle.sections.specs.Airfoil.{closedTail, openTail, airfoilConstants, AreConstants};
 ghost use Rattle.sections.specs.ChordMoments.{chordMoments, squareMoments, roundedMoments, naca4Moments, tailOf};
 ghost use Rattle.sections.specs.Numbered.{numberedSection};
 
@@ -128,7 +128,7 @@ fn tail(section: Section) -> [f64; 4]
 
 // The constants of the closed tail. Both sides of each fraction are whole numbers below 2^53, so that one division rounds it to the nearest.
 pub fn closed_tail() -> [f64; 4]
-    ensures { λ r. ⌜ r ≡ airfoilConstants closedTail ⌝ }
+    ensures { λ r. ⌜ AreConstants closedTail r ⌝ }
 {
     [
         40853.0 / 60000.0,
@@ -140,7 +140,7 @@ pub fn closed_tail() -> [f64; 4]
 
 // The constants of the open tail.
 pub fn open_tail() -> [f64; 4]
-    ensures { λ r. ⌜ r ≡ airfoilConstants openTail ⌝ }
+    ensures { λ r. ⌜ AreConstants openTail r ⌝ }
 {
     [
         8221.0 / 12000.0,

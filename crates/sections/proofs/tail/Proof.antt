@@ -31,10 +31,10 @@ open-tail-requires : tie.Need-open-tail-requires
 open-tail-requires c κs = search needs
 
 returns : tie.Need-returns
-returns c = c .closed-tail .ensures ∙ ap airfoilConstants (closed (c .before .before .args .section) (c .before .match .keys1))
+returns c = c .closed-tail .ensures .rounded ∙ ap airfoilConstants (closed (c .before .before .args .section) (c .before .match .keys1))
 
 returns-2 : tie.Need-returns-2
-returns-2 c = rw (c .before .enum-told .given .1) (c .open-tail .ensures)
+returns-2 c = rw (c .before .enum-told .given .1) (c .open-tail .ensures .rounded)
 
 pub tail-spec : {M : Type 1} → statement M
 tail-spec = tie.close (tie.spec closed-tail-requires enum-told open-tail-requires returns returns-2)
