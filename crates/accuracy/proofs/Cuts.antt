@@ -1,23 +1,26 @@
 -- A piece of a strip, by the fractions of the strip at which it starts and how wide it is: the heights of its samples are near the exact ones, and a
 -- sample of
 -- a piece that is no sliver has a chord. Assumes nothing.
-use mathlib.Core.Path.{subst}
-use mathlib.Core.Bool.{true, false}
+use mathlib.Core.Path.{_≡_, refl, subst}
+use mathlib.Core.Bool.{Bool, true, false}
 use mathlib.Core.List.{[], _∷_}
 use Prim.Native.Nat.{ℕ, _+_, _*_, _^_, _≤_, _<_, zero-le}
 use native.Mathlib.Nat.{mul-pos, mul-le-mul-right, le-of-mul-le-mul-right, one-mul, mul-one, zero-mul, mul-zero, zero-add, add-zero}
 use native.Mathlib.Omega.{arith}
 use lib.Dec.{T, ltb→lt}
 use lib.Pow.{pow-pos}
-use lib.Ieee.{Float, nan, inf, fin, up, down, ofBits, le}
+use lib.Ieee.{Float, nan, inf, fin, up, down, ofBits, lt, le}
 use lib.Ieee.Fits.{up-pos, down-pos, and-i}
 use lib.Ieee.Scale.{finite}
-use lib.Ieee.Positive.{num, den, den-pos, positive}
+use lib.Ieee.Positive.{num, den, den-pos, positive, positive-finite}
 use Rattle.floats.specs.Operations.{_⊗_, bits}
 use Rattle.floats.specs.Constants.{half}
+use Rattle.floats.proofs.Bools.{of-true}
+use Rattle.floats.proofs.Order.{le-of-not}
 use Rattle.chords.specs.Chords.{inSpan}
 use Rattle.quadrature.specs.Rule.{halfSum, halfWidth, minusSide, plusSide}
-use Rattle.rounding.proofs.Ordered.{order→le}
+use Rattle.rounding.proofs.Ordered.{order→le, le→order}
+use Rattle.rounding.proofs.Signs.{finite-no-nan}
 use Rattle.rounding_error.proofs.Numbers.{Number, number, Size, _per_, _plus_, _less_, _times_, _by_, _of_, _roundoffs_, IsNumber, IsSize}
 use Rattle.rounding_error.proofs.Numbers.{Within, Under, valueOf, zeroNumber, InRange, Ranges, sizeOf}
 use Rattle.rounding_error.proofs.Distances.{sorted, within-upto, within-same, within-times, times-comm}
@@ -185,6 +188,37 @@ between (fin false m e) (fin false n g) (number X Y Z) i p z w h =
   where
     not-above : (a b D : ℕ) → a ≤ 0 * D + b → a + 0 ≤ b + 0
     not-above a b D h = omega arith
+
+-- and below y
+not-past : (M E N D X Y Z P : ℕ) → 0 < Z * (N * (E * D)) → X * P + 23 * Z ≤ (Y + Z) * P
+    → (M * (D * Z) + (N * Y + 0 * X) * E) * (D * P) ≤ ((N * X + 0 * Y) * E + 0 * (D * Z)) * (D * P) + 22 * N * (E * (D * Z)) → N * E ≤ M * D → ⊥
+not-past M E N D X Y Z P s h k l = no (Z * (N * (E * D))) s (go (mul-le-mul-right (N * E * D) h) k (mul-le-mul-right (Z * (D * P)) l))
+  where
+    go : (X * P + 23 * Z) * (N * E * D) ≤ (Y + Z) * P * (N * E * D)
+        → (M * (D * Z) + (N * Y + 0 * X) * E) * (D * P) ≤ ((N * X + 0 * Y) * E + 0 * (D * Z)) * (D * P) + 22 * N * (E * (D * Z))
+        → N * E * (Z * (D * P)) ≤ M * D * (Z * (D * P)) → 23 * (Z * (N * (E * D))) ≤ 22 * (Z * (N * (E * D)))
+    go u v w = let x = simp plain at u in let y = simp plain at v in let z = simp plain at w in simp plain (omega (arith, x, y, z))
+
+    no : (w : ℕ) → 0 < w → 23 * w ≤ 22 * w → ⊥
+    no w a b = omega arith
+
+below : (x y : Float) (τ : Number) → T (finite x) → T (positive y) → IsNumber τ → Clear τ
+    → Within (22 roundoffs (sizeOf y)) (valueOf x) (valueOf y times τ) → T (le y x) → ⊥
+below nan y τ i p z w h l = absurd i
+below (inf s) y τ i p z w h l = absurd i
+below (fin s m e) nan τ i p z w h l = absurd p
+below (fin s m e) (inf t) τ i p z w h l = absurd p
+below (fin s m e) (fin true n g) τ i p z w h l = absurd p
+below (fin true m e) (fin false n g) (number X Y Z) i p z w h l =
+    not-minus (m * up e) (down e) (n * up g) (down g) X Y Z (2 ^ 53)
+    (mul-pos z (mul-pos (mul-pos (ltb→lt 0 n p) (up-pos g)) (mul-pos (down-pos e) (down-pos g)))) (w .0) (h .above)
+below (fin false m e) (fin false n g) (number X Y Z) i p z w h l =
+    not-past (m * up e) (down e) (n * up g) (down g) X Y Z (2 ^ 53)
+    (mul-pos z (mul-pos (mul-pos (ltb→lt 0 n p) (up-pos g)) (mul-pos (down-pos e) (down-pos g)))) (w .1) (h .below)
+    (not-above (n * up g * down e) (m * up e * down g) (le→order (fin false n g) (fin false m e) tt tt l))
+  where
+    not-above : (a b : ℕ) → a + 0 ≤ b + 0 → a ≤ b
+    not-above a b h = omega arith
 
 -- of a piece at least 5888 roundoffs of the strip wide: 23 times 256
 abbrev pub NoSliver : ℕ → ℕ → Type 0
@@ -365,6 +399,19 @@ module _ (root tip span sweep scale : Float) (B : Size) (g : Lengths root tip sp
         let y = equalled (Chord.unscaled-valued root tip span sweep scale B g h (placed t) z) (valueOf span times placed t)
         (times-is (valueOf span) (placed t) (Counts.value-is span) (placed-is t i)) (unscaled (placed t) (placed-is t i)) in
         between (h ⊗ scale) span (placed t) (y .near .finite) (g .span-positive) (placed-is t i) w (y .near .within)
+
+    -- and lies below the span
+    pub clear-below : (h : Float) (t : Number) → IsNumber t → Clear (placed t) → Valued h (U times placed t) 16 2 H → T (lt (h ⊗ scale) span)
+    clear-below h t i w z =
+        let y = equalled (Chord.unscaled-valued root tip span sweep scale B g h (placed t) z) (valueOf span times placed t)
+        (times-is (valueOf span) (placed t) (Counts.value-is span) (placed-is t i)) (unscaled (placed t) (placed-is t i)) in
+        let x = h ⊗ scale in
+        of-true _ (unless (lt x span) (λ e. below x span (placed t) (y .near .finite) (g .span-positive) (placed-is t i) w (y .near .within)
+        (of-true _ (le-of-not span x (finite-no-nan span (positive-finite span (g .span-positive))) (finite-no-nan x (y .near .finite)) e))))
+      where
+        unless : (b : Bool) → (b ≡ false → ⊥) → b ≡ true
+        unless true h = refl
+        unless false h = absurd (h refl)
 
     -- as each is where the piece is no sliver
     pub has-chord : NoSliver (c .wide) (c .whole) → (h : Float) (t : Number) → IsNumber t → Inner t → Valued h (U times placed t) 16 2 H

@@ -59,3 +59,4 @@ pub mod TabIntegrals
 pub mod ExactIntegrals
 pub mod Reaches
 pub mod InertiaNear
+pub mod BelowSpan

@@ -255,7 +255,7 @@ module _ (root tip span sweep scale : Float) (B : Size) (g : Lengths root tip sp
     unfolding pieceOf
     made n a b s h = record { in-strip = s; wide = h; measured = λ k l. at-tabulate w (λ k. halfWidth a b ⊗ sumOf weight f a b k) k l }
 
-    top-finite : T (finite Top)
+    pub top-finite : T (finite Top)
     top-finite = positive-finite Top (Strip.top-positive root tip span sweep scale B g)
 
     both : (I : Float → Float → Number) → Additive I → (a m b : Float)
@@ -263,7 +263,7 @@ module _ (root tip span sweep scale : Float) (B : Size) (g : Lengths root tip sp
     unfolding pieceOf
     both I i a m b = i .adds a m b
 
-    halves-kept : (lower : Float) (pieces : List Piece) → Kept lower pieces → Kept lower (halvesOfWorst w f pieces)
+    pub halves-kept : (lower : Float) (pieces : List Piece) → Kept lower pieces → Kept lower (halvesOfWorst w f pieces)
     halves-kept lower pieces z =
         let n = length pieces in
         let place = worstPlace w pieces in
@@ -300,7 +300,7 @@ module _ (root tip span sweep scale : Float) (B : Size) (g : Lengths root tip sp
     unfolding pieceOf
     alone I a lower = equal-by (I lower Top ∷ []) (a .is lower Top, tt) (given 0 add ratio 0 0) (given 0) tt
 
-    whole-kept : (lower : Float) → InStrip Top lower Top → valueOf lower equals zeroNumber → Kept lower (pieceOf w f lower Top ∷ [])
+    pub whole-kept : (lower : Float) → InStrip Top lower Top → valueOf lower equals zeroNumber → Kept lower (pieceOf w f lower Top ∷ [])
     whole-kept lower s z =
         record {
           some = le-refl 1;

@@ -3,3 +3,4 @@ pub mod Centroids
 pub mod Masses
 pub mod Balances
 pub mod Inertias
+pub mod Tips
