@@ -37,6 +37,7 @@ use Rattle.bodies.specs.Tensors.{numberAt}
 use Rattle.rings.specs.Rings.{joinedCopies}
 use Rattle.plates.specs.Integrals.{tabIntegralsOf}
 use Rattle.plates.specs.Plates.{plateBody}
+use Rattle.sections.specs.declared.Section.the-variants.{Square}
 use Rattle.figures.specs.declared.Figures.{Figures}
 use Rattle.accuracy.specs.Masses.{Plate, Mount, SetGiven, TabWithin, Extents}
 use Rattle.accuracy.specs.Balances.{TabGiven, Straight}
@@ -222,7 +223,7 @@ module _ (p : Plate) (m : Mount) (points : List Float) (L : ℕ) (entry : List F
 
   -- ---- what the call works with
   abbrev worked : List Float
-  worked = integrals p m points L (length entry) r (g .answers .figures) (g .given) (g .no-fillet)
+  worked = integrals Square p m points L (length entry) r (g .answers .figures) (g .given) (g .no-fillet)
 
   near : SevenNear worked exact 65536 512 K (b per d)
   near =
@@ -340,7 +341,7 @@ module _ (p : Plate) (m : Mount) (points : List Float) (L : ℕ) (entry : List F
   -- ---- the fin alone
   body-is : r .body ≡ joinedCopies (plateBody worked (p .density)) (m .base) 1
   body-is =
-      set-body p m points L (length entry) r (g .answers .figures) (g .given) (g .no-fillet) (st .no-cant)
+      set-body Square p m points L (length entry) r (g .answers .figures) (g .given) (g .no-fillet) (st .no-cant)
       ∙ ap (λ (n : ℕ). joinedCopies (plateBody worked (p .density)) (m .base) n) (al .one-fin)
 
   integrated : Integrated worked exact K (b per d) volumeNum volumeDen (2 * κν)

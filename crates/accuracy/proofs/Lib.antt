@@ -46,6 +46,7 @@ pub mod FinUnits
 pub mod FinIntegrals
 pub mod SetCalled
 pub mod MassNear
+pub mod OrdinaryMass
 pub mod BalanceTotals
 pub mod Turned
 pub mod Conditioned

@@ -49,7 +49,7 @@ most-under (fin false m e) b d h = record { below = high (m * up e) (down e) (h 
     low N D = omega arith
 
 -- b / d is at least the root
-least-of : (root : Float) (b d : ℕ) → T (positive root) → Above 20 root → AtMost b d root → Least 24 (b per d)
+pub least-of : (root : Float) (b d : ℕ) → T (positive root) → Above 20 root → AtMost b d root → Least 24 (b per d)
 least-of root b d p a h = le-of-mul-le-mul-right (go (num root) (den root) (mul-le-mul-right b (a .size)) (h .size)) (positive-num root p)
   where
     go : (N D : ℕ) → 1 * D * b ≤ N * 2 ^ 20 * b → N * d ≤ b * D → d * N ≤ b * 2 ^ 24 * N

@@ -88,7 +88,7 @@ use Rattle.accuracy.proofs.SetCalled.{Given, set-given, sevenBy, plate-
 ruleset plain = (sorted, one-mul, mul-one, zero-mul, mul-zero, zero-add, add-zero)
 
 -- ---- a density above 0 within its limits
-density-checked : (x : Float) → densityCheck (Bulk x) ≡ Accepted → lt (bits 0) x ≡ true → T (positive x) × Ranges 24 (sizeOf x)
+pub density-checked : (x : Float) → densityCheck (Bulk x) ≡ Accepted → lt (bits 0) x ≡ true → T (positive x) × Ranges 24 (sizeOf x)
 unfolding densityCheck ofBits
 density-checked x h w = elim (or-yes (eq x (bits 0)) (isWithin lightest heaviest x)
     (of-true (eq x (bits 0) || isWithin lightest heaviest x) (holds (eq x (bits 0) || isWithin lightest heaviest x) density h))) [
@@ -131,8 +131,8 @@ module _ (p : Plate) (m : Mount) (points : List Float) (L : ℕ) (entry : List F
   abbrev pub set : FinSet
   set = setOf p m
 
-  pub figures : Given p m points L (length entry) r
-  figures = set-given p m points L (length entry) r (g .answers .figures) (g .given) (g .no-fillet)
+  pub figures : Given Square p m points L (length entry) r
+  figures = set-given Square p m points L (length entry) r (g .answers .figures) (g .given) (g .no-fillet)
 
   pub checks : AcceptedSet set points L (length entry)
   checks = set-accepted set points L (length entry) (figures .accepted)

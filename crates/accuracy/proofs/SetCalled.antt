@@ -1,4 +1,4 @@
--- What the call for a set's figures gives for trapezoids of square section with no fillet: their mass. Assumes nothing.
+-- What the call for a set's figures gives for trapezoids with no fillet: their mass; and the samples of a square section. Assumes nothing.
 use mathlib.Core.Path.{_≡_, refl, sym, ap, _∙_}
 use mathlib.Core.Bool.{Bool, true, false, cond}
 use mathlib.Core.List.{List, [], _∷_}
@@ -17,6 +17,7 @@ use Rattle.refusals.proofs.Accepted.{each-accepts}
 use Rattle.limits.specs.Limits.{countCheck}
 use Rattle.planforms.specs.declared.Planform.the-variants.{Trapezoid}
 use Rattle.planforms.specs.Planforms.{rootChordOf}
+use Rattle.sections.specs.declared.Section.{Section}
 use Rattle.sections.specs.declared.Section.the-variants.{Square}
 use Rattle.sections.specs.ChordMoments.{squareMoments, chordMoments}
 use Rattle.chords.specs.Chords.{inSpan, trapezoidAt, endsAt, paired}
@@ -41,7 +42,7 @@ use Rattle.plates.specs.Plates.{plateBody, withFillets, cantedOf, bulkFin, sing
 use Rattle.figures.specs.Figures.{setStrips, workedFigures, setFigures, concludedSet, refusedFigures, joinedFigures}
 use Rattle.figures.specs.declared.Figures.{Figures}
 use Rattle.figures.proofs.Reports.{no-refusal}
-use Rattle.accuracy.specs.Masses.{Plate, Mount, setOf}
+use Rattle.accuracy.specs.Masses.{Plate, Mount, setWith}
 use Rattle.accuracy.proofs.Called.{startBy, endBy, chosen}
 
 -- ---- a chord in the span
@@ -90,11 +91,11 @@ module _ (root tip span sweep thickness radius : Float) (points : List Float) wh
       ap (plateValues (radius ⊘ S ⊕ h)) (moments-none (inSpan span (h ⊗ S)) root tip sweep (h ⊗ S ⊘ span) S h (thickness ⊘ S) (radius ⊘ S) (is-true _ t) w)
 
 -- ---- the answer
-pub record Given (p : Plate) (m : Mount) (points : List Float) (L n : ℕ) (r : Figures) : Type 0 where
-  pub accepted : setCheck (setOf p m) points L n ≡ Accepted
-  pub intervals : r .intervals ≡ intervalsIn (setStrips (setOf p m) points L)
+pub record Given (section : Section) (p : Plate) (m : Mount) (points : List Float) (L n : ℕ) (r : Figures) : Type 0 where
+  pub accepted : setCheck (setWith section p m) points L n ≡ Accepted
+  pub intervals : r .intervals ≡ intervalsIn (setStrips (setWith section p m) points L)
   pub mass : r .body .«mass_kg» ≡ inOrder (λ x y. x ⊕ y) (bits 0)
-      (λ k. p .density ⊗ (valueFrom (bits 0) 0 (setStrips (setOf p m) points L) ⊗ cube (scaleOf (setOf p m .planform) points) ⊕ volume (tabIntegralsOf (p .tab) (p .thickness) (m .radius)))) (m .count)
+      (λ k. p .density ⊗ (valueFrom (bits 0) 0 (setStrips (setWith section p m) points L) ⊗ cube (scaleOf (setWith section p m .planform) points) ⊕ volume (tabIntegralsOf (p .tab) (p .thickness) (m .radius)))) (m .count)
 
 -- a join that is no refusal
 unless-accepted : (v : Verdict) (body : Body) → unlessRefused v body .verdict ≡ Accepted → (v ≡ Accepted) × (unlessRefused v body ≡ acceptedBody body)
@@ -144,10 +145,10 @@ no-fillets : (f : Fillet) (radius l : Float) → isNone (f .«radius_m») radius
 unfolding filletsOf
 no-fillets f radius l e = rw e
 
-module _ (p : Plate) (m : Mount) (points : List Float) (L n : ℕ) (r : Figures) (answer : r ≡ setFigures (setOf p m) points L n) (given : r .verdict ≡ Accepted)
+module _ (section : Section) (p : Plate) (m : Mount) (points : List Float) (L n : ℕ) (r : Figures) (answer : r ≡ setFigures (setWith section p m) points L n) (given : r .verdict ≡ Accepted)
     (none : isNone (m .fillet .«radius_m») (m .radius) ≡ true) where
   abbrev set : FinSet
-  set = setOf p m
+  set = setWith section p m
 
   abbrev scale : Float
   scale = scaleOf (set .planform) points
@@ -204,7 +205,7 @@ module _ (p : Plate) (m : Mount) (points : List Float) (L n : ℕ) (r : Figures)
   volume-is : volume (integralsOf set scale (total .value)) ≡ valueFrom (bits 0) 0 strips ⊗ cube scale ⊕ volume (tabIntegralsOf (p .tab) (p .thickness) (m .radius))
   volume-is = ap (λ (t : Totals). at (t .value) 0 ⊗ cube scale ⊕ volume (tabIntegralsOf (p .tab) (p .thickness) (m .radius))) totals-chosen
 
-  pub set-given : Given p m points L n r
+  pub set-given : Given section p m points L n r
   set-given =
       record {
         accepted = set-chosen .0;

@@ -1,17 +1,19 @@
--- A strip of one piece: a halving that ends with one piece made no cut, each of its samples has a chord, and the area that is summed is near the
+-- A strip of one piece: a halving that ends with one piece made no cut, each of its samples has a chord, and the area that is summed is
+-- near the
 -- exact one by a computed bound. Assumes nothing.
-use mathlib.Core.Path.{_≡_, refl, sym, ap, _∙_, subst}
+use mathlib.Core.Path.{_≡_, refl, ap}
 use mathlib.Core.Bool.{false}
 use mathlib.Core.List.{List, [], _∷_}
 use mathlib.Core.Logic.{_⊎_, inl, inr}
-use Prim.Native.Nat.{ℕ, suc, _+_, _-_, _*_, _^_, _≤_, _<_}
-use native.Mathlib.Nat.{le-refl, le-trans, mul-pos, mul-le-mul-left, one-mul, mul-one, zero-mul, mul-zero, zero-add, add-zero, pow-zero, pow-suc}
+use Prim.Native.Nat.{ℕ, _+_, _-_, _*_, _^_, _≤_, _<_}
+use native.Mathlib.Nat.{le-refl, le-trans, mul-pos, mul-le-mul-left, one-mul, mul-one, zero-mul, mul-zero, zero-add, add-zero, pow-zero}
+use native.Mathlib.Nat.{pow-suc}
 use native.Mathlib.Omega.{arith}
 use lib.Dec.{T}
 use lib.ListN.{length}
 use lib.Pow.{pow-pos, pow-mono}
 use lib.Ieee.{Float, eq, round, ofBits}
-use lib.Ieee.Positive.{num, den, positive}
+use lib.Ieee.Positive.{num, den}
 use Rattle.floats.specs.Operations.{_⊕_, _⊗_, _⊘_, bits, at}
 use Rattle.gauss_kronrod.specs.Tables.{nodes, kronrodWeights}
 use Rattle.quadrature.specs.Rule.{halfWidth, weightedTo, kronrodWeight, sumOf, heightsOf, pieceOf}
@@ -20,11 +22,11 @@ use Rattle.chords.specs.Chords.{inSpan}
 use Rattle.tolerance.proofs.Numbers.{at-tabulate}
 use Rattle.halving.specs.Halving.{halving}
 use Rattle.halving.proofs.Outcomes.{outcome, kept, one-more, halvesOfWorst}
-use Rattle.rounding_error.proofs.Numbers.{Number, number, Size, _per_, _plus_, _times_, _roundoffs_, Near, valueOf, sizeOf, Ranges}
+use Rattle.rounding_error.proofs.Numbers.{number, Size, _per_, _plus_, _times_, _roundoffs_, Near, valueOf, sizeOf, Ranges}
 use Rattle.rounding_error.proofs.Distances.{sorted, within-upto}
 use Rattle.rounding_error.proofs.Polynomials.{Expression, given, ratio, _add_, _mul_}
 use Rattle.error_terms.proofs.Monomials.{AllRanges, place}
-use Rattle.error_terms.proofs.Terms.{shape, Given, entry, Term, var, nought, value, AllKnown, unitBy, unit-real}
+use Rattle.error_terms.proofs.Terms.{shape, Given, entry, var, nought, value, AllKnown, unitBy, unit-real}
 use Rattle.error_terms.proofs.Judged.{nearer}
 use Rattle.error_terms.proofs.Shared.{Shared, whole, _⊞_, _⊠_, judgeIn, judgeAll, all-within}
 use Rattle.error_terms.proofs.Entries.{full, sized-entry, own-entry}
@@ -40,7 +42,8 @@ ruleset plain = (sorted, one-mul, mul-one, zero-mul, mul-zero, zero-add, add-zer
 abbrev WholeOrMore : Piece → List Piece → Type 0
 WholeOrMore piece pieces = (pieces ≡ piece ∷ []) ⊎ (2 ≤ length pieces)
 
-cut-more : (w : ℕ) (f : Float → List Float) (piece : Piece) (pieces : List Piece) → WholeOrMore piece pieces → 2 ≤ length (halvesOfWorst w f pieces)
+cut-more : (w : ℕ) (f : Float → List Float) (piece : Piece) (pieces : List Piece) → WholeOrMore piece pieces
+    → 2 ≤ length (halvesOfWorst w f pieces)
 cut-more w f piece pieces (inl e) = let l = one-more w f pieces in let n = ap length e in omega (arith, l, n)
 cut-more w f piece pieces (inr h) = let l = one-more w f pieces in omega (arith, l)
 
@@ -56,7 +59,8 @@ pub whole-piece : (w : ℕ) (f : Float → List Float) (lower upper : Float) (li
 unfolding halving
 whole-piece w f lower upper limit e n =
     let piece = pieceOf w f lower upper in
-    let o = outcome w f (1 + (limit - 1)) (λ pieces heights. WholeOrMore piece pieces) (λ pieces heights k h m. inr (cut-more w f piece pieces k))
+    let o = outcome w f (1 + (limit - 1)) (λ pieces heights. WholeOrMore piece pieces)
+    (λ pieces heights k h m. inr (cut-more w f piece pieces k))
     (limit - 1) (piece ∷ []) (heightsOf lower upper) (inl refl) refl in
     let m = rw e at n in
     rw e (only-whole piece _ (kept w f o) m)
@@ -66,14 +70,20 @@ pub value-is : (w : ℕ) (f : Float → List Float) (lower upper : Float) (k : �
 unfolding pieceOf
 value-is w f lower upper k l = at-tabulate w (λ i. halfWidth lower upper ⊗ sumOf kronrodWeight f lower upper i) k l
 
-wider : (k : ℕ) (S : Size) → k ≤ 32 → Ranges k S → Ranges 32 S
+pub wider : (k : ℕ) (S : Size) → k ≤ 32 → Ranges k S → Ranges 32 S
 wider k (a per c) h s =
-    record { real = s .real; least = le-trans (s .least) (mul-le-mul-left a (pow-mono h)); most = le-trans (s .most) (mul-le-mul-left c (pow-mono h)) }
+    record {
+      real = s .real;
+      least = le-trans (s .least) (mul-le-mul-left a (pow-mono h));
+      most = le-trans (s .most)
+          (mul-le-mul-left c (pow-mono h));
+    }
 
 -- ---- the area: the variables are root, tip, sweep, span, scale
 abbrev areaS : Shared
 areaS =
-    (whole (nought (1 ∷ 1 ∷ []) (0 ∷ 0 ∷ 2 ∷ [])) ⊞ totalS (1 ∷ []) (0 ∷ 0 ∷ 1 ∷ []) (1 ∷ 1 ∷ []) (0 ∷ 0 ∷ 2 ∷ [])) ⊠ whole (var 4) ⊠ whole (var 4)
+    (whole (nought (1 ∷ 1 ∷ []) (0 ∷ 0 ∷ 2 ∷ [])) ⊞ totalS (1 ∷ []) (0 ∷ 0 ∷ 1 ∷ []) (1 ∷ 1 ∷ []) (0 ∷ 0 ∷ 2 ∷ [])) ⊠ whole
+    (var 4) ⊠ whole (var 4)
 
 -- (root + tip)/2·span
 abbrev areaE : Expression
@@ -125,7 +135,8 @@ module _ (root tip span sweep scale : Float) (b d : ℕ) (g : Lengths root tip s
   chords-there f there k =
       let r : AllRanges 32 heightBases = (span-ranges, (span-ranges, (scale-ranges, tt))) in
       same-sums heightBases r heightEntries height-known height-signed f three (insideTest heightEntries)
-      (λ h t. there (value heightEntries h) (inside heightBases r heightEntries height-known height-signed h t)) inside-test kronrodWeight k
+      (λ h t. there (value heightEntries h) (inside heightBases r heightEntries height-known height-signed h t)) inside-test kronrodWeight
+      k
 
   -- ---- the sum
   abbrev bases : List Size
@@ -166,7 +177,8 @@ module _ (root tip span sweep scale : Float) (b d : ℕ) (g : Lengths root tip s
   area-parts = all-within bases ranges entries known (ruleParts widthS) areaS areaE (45 * 2 ^ 30) (1 ∷ 1 ∷ []) [] area-test
 
   -- 45·2^-53 of B and the span
-  fewer : 45 * 2 ^ 30 * (b ^ 1 * (num span ^ 1 * 1) * 1) * (d * 2 ^ 53 * den span) ≤ b * 45 * num span * (d ^ 1 * (den span ^ 1 * 1) * 1 * 2 ^ 30 * 2 ^ 53)
+  fewer : 45 * 2 ^ 30 * (b ^ 1 * (num span ^ 1 * 1) * 1) * (d * 2 ^ 53 * den span) ≤ b * 45 * num span *
+      (d ^ 1 * (den span ^ 1 * 1) * 1 * 2 ^ 30 * 2 ^ 53)
   fewer = rw (first b, first (num span), first d, first (den span)) (go (num span) (den span) (2 ^ 30) (2 ^ 53))
     where
       first : (x : ℕ) → x ^ 1 ≡ x
@@ -182,7 +194,9 @@ module _ (root tip span sweep scale : Float) (b d : ℕ) (g : Lengths root tip s
       record {
         finite = area-parts .finite;
         within =
-            within-upto ((45 * 2 ^ 30) roundoffs unitBy bases (1 ∷ 1 ∷ []) []) ((b * 45 * num span) per (d * 2 ^ 53 * den span)) (valueOf area)
-            (number 1 0 2 times ((valueOf root plus valueOf tip) times valueOf span)) (mul-pos (unit-real bases ranges (1 ∷ 1 ∷ []) []) (pow-pos 53))
+            within-upto ((45 * 2 ^ 30) roundoffs unitBy bases (1 ∷ 1 ∷ []) []) ((b * 45 * num span) per (d * 2 ^ 53 * den span))
+            (valueOf area)
+            (number 1 0 2 times ((valueOf root plus valueOf tip) times valueOf span))
+            (mul-pos (unit-real bases ranges (1 ∷ 1 ∷ []) []) (pow-pos 53))
             fewer (area-parts .within);
       }

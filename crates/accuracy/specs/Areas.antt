@@ -31,9 +31,10 @@ pub record Reach (b d : ℕ) (root tip sweep : Float) : Type 0 where
 abbrev pub exactArea : Float → Float → Float → Fraction
 exactArea root tip span = (pos 1 over 2) times ((valueOf root plus valueOf tip) times valueOf span)
 
--- B = b / d is the largest of root, tip and |sweep|. Where the strip has one piece, the area is at most 45·2^-53·span·B from it; where it has n,
--- at most n·2^-44·span·B. Of more than 40 pieces some may be slivers, narrower than 2^-40 of the strip, at whose samples h·scale may round past
--- the span, where there is no chord: then at most n·2^-43·span·B.
+-- B = b / d is the largest of root, tip and |sweep|. Where the strip has one piece, the area is at most
+-- 45·2^-53·span·B from it; where it has n, at most n·2^-44·span·B. Of more than 40 pieces some may be slivers, narrower
+-- than 2^-40 of the strip, at whose samples h·scale may round past the span, where there is no chord: then at most
+-- n·2^-43·span·B.
 pub record AreaNear (b d : ℕ) (root tip span : Float) (r : Area) : Type 0 where
   pub pieces : (1 ≤ r .intervals) × (r .intervals ≤ 64)
   pub one-piece :
@@ -55,7 +56,8 @@ TrapezoidArea =
 -- of the trapezoids that one piece is enough for (one_piece/specs/OnePiece), with no word on pieces
 abbrev pub OrdinaryArea : Type 0
 OrdinaryArea =
-    (root tip span sweep : Float) (points : List Float) (L : ℕ) (entry : List Float) (r : Area) (exit : List Float) (b d : ℕ)
+    (root tip span sweep : Float) (points : List Float)
+    (L : ℕ) (entry : List Float) (r : Area) (exit : List Float) (b d : ℕ)
     → AreaGiven root tip span sweep points L entry r exit
     → Reach b d root tip sweep
     → Proportions 4 4 root tip sweep

@@ -12,7 +12,9 @@ use Rattle.rounding.specs.Sizes.{AtMost}
 use Rattle.rounding_error.specs.Distances.{Within}
 use Rattle.refusals.specs.declared.Verdict.the-variants.{Accepted}
 use Rattle.materials.specs.declared.Density.the-variants.{Bulk}
-use Rattle.sections.specs.declared.Section.the-variants.{Square}
+use Rattle.sections.specs.Airfoil.{closedTail, openTail, phiExactly}
+use Rattle.sections.specs.declared.Section.{Section}
+use Rattle.sections.specs.declared.Section.the-variants.{Square, Rounded, Airfoil, AirfoilOpen}
 use Rattle.planforms.specs.declared.Planform.the-variants.{Trapezoid}
 use Rattle.fillets.specs.declared.Fillet.{Fillet}
 use Rattle.fillets.specs.Fillets.{isNone}
@@ -21,6 +23,7 @@ use Rattle.fins.specs.declared.Tab.{Tab}
 use Rattle.fins.specs.declared.Tab.the-variants.{None, Slab}
 use Rattle.figures.specs.Answers.{SetAnswers}
 use Rattle.figures.specs.declared.Figures.{Figures}
+use Rattle.one_piece.specs.OnePiece.{NotRounded, tipsOf, Proportions}
 use Rattle.accuracy.specs.Areas.{Reach}
 
 -- what a fin of such a set is made of, and how it is mounted
@@ -40,13 +43,14 @@ pub record Mount : Type 0 where
   pub radius : Float
   pub fillet : Fillet
 
-abbrev pub setOf : Plate → Mount → FinSet
-setOf p m =
+-- with a section; of square section
+abbrev pub setWith : Section → Plate → Mount → FinSet
+setWith section p m =
     record {
       count = m .count;
       planform = Trapezoid (p .root) (p .tip) (p .span) (p .sweep);
       «thickness_m» = p .thickness;
-      «cross_section» = Square;
+      «cross_section» = section;
       tab = p .tab;
       fillet = m .fillet;
       «cant_rad» = m .cant;
@@ -55,15 +59,22 @@ setOf p m =
       density = Bulk (p .density);
     }
 
+abbrev pub setOf : Plate → Mount → FinSet
+setOf p m = setWith Square p m
+
 -- the call for its figures (`figures::mass_properties`) answered r, with figures; its numbers are f64s, there is no fillet, and the density lies
 -- above 0
-pub record SetGiven (p : Plate) (m : Mount) (points : List Float) (L : ℕ) (entry : List Float) (r : Figures) (exit : List Float) : Type 0 where
+pub record SectionGiven (section : Section) (p : Plate) (m : Mount) (points : List Float)
+    (L : ℕ) (entry : List Float) (r : Figures) (exit : List Float) : Type 0 where
   pub f64s : T (fits binary64 (p .root)) × (T (fits binary64 (p .tip)) × (T (fits binary64 (p .span)) × T (fits binary64 (p .sweep))))
   pub thickness-f64 : T (fits binary64 (p .thickness))
-  pub answers : SetAnswers (setOf p m) points L entry r exit
+  pub answers : SetAnswers (setWith section p m) points L entry r exit
   pub given : r .verdict ≡ Accepted
   pub no-fillet : isNone (m .fillet .«radius_m») (m .radius) ≡ true
   pub heavy : lt (bits 0) (p .density) ≡ true
+
+abbrev pub SetGiven : Plate → Mount → List Float → ℕ → List Float → Figures → List Float → Type 0
+SetGiven p m points L entry r exit = SectionGiven Square p m points L entry r exit
 
 -- thickness·span·(root + tip)/2, and thickness·length·height of a tab
 abbrev pub finVolume : Plate → Fraction
@@ -99,3 +110,31 @@ TrapezoidMass =
     → Extents p b d y e
     → Within ((pos (r .intervals * (m .count * (b * y))) over (d * e * 2 ^ 41)) times (valueOf (p .density) times valueOf (p .thickness)))
     (valueOf (r .body .«mass_kg»)) (exactMass p m)
+
+-- how much of thickness × chord a section fills: a square one all, an airfoil the integral of its thickness; of a
+-- rounded one nothing is said
+abbrev pub filled : Section → Fraction
+filled Square = pos 1 over 1
+filled Rounded = pos 0 over 1
+filled Airfoil = phiExactly closedTail 0
+filled AirfoilOpen = phiExactly openTail 0
+
+abbrev pub exactMassWith : Section → Plate → Mount → Fraction
+exactMassWith section p m =
+    (pos (m .count) over 1)
+    times (valueOf (p .density) times (filled section times finVolume p plus tabVolume (p .tab) (p .thickness)))
+
+-- of the sets that one piece is enough for (one_piece/specs/OnePiece): at most 90·2^-53·count·density·thickness·B·Y
+-- from it
+abbrev pub OrdinaryMass : Type 0
+OrdinaryMass =
+    (section : Section) (p : Plate) (m : Mount) (points : List Float)
+    (L : ℕ) (entry : List Float) (r : Figures) (exit : List Float) (b d y e : ℕ)
+    → NotRounded section
+    → SectionGiven section p m points L entry r exit
+    → T (fits binary64 (m .radius))
+    → Proportions (tipsOf section) 4 (p .root) (p .tip) (p .sweep)
+    → Extents p b d y e
+    → Within
+    ((pos (m .count * 90 * (b * y)) over (d * e * 2 ^ 53)) times (valueOf (p .density) times valueOf (p .thickness)))
+    (valueOf (r .body .«mass_kg»)) (exactMassWith section p m)

@@ -11,9 +11,10 @@ use lib.ListN.{getD}
 use lib.Ieee.Scale.{finite}
 use lib.Ieee.Positive.{num, den}
 use lib.Ieee.Fits.{and-l, and-r}
-use Rattle.rounding_error.proofs.Numbers.{Size, _roundoffs_, valueOf, Near}
+use Rattle.rounding_error.proofs.Numbers.{Size, _of_, _roundoffs_, zeroNumber, valueOf, Under, Near}
 use Rattle.rounding_error.proofs.Distances.{sorted, within-trans, within-upto}
 use Rattle.rounding_error.proofs.Counts as Counts
+use Rattle.rounding_error.proofs.Chains.{reach}
 use Rattle.rounding_error.proofs.Polynomials as Poly
 use Rattle.rounding_error.proofs.Polynomials.{Expression, given as at-place, Product, normal, evaluate}
 use Rattle.error_terms.proofs.Monomials.{top, bottom, mono, AllRanges, added, alike}
@@ -153,4 +154,35 @@ near-within B r G h t target K p q e =
             one s = let x = simp sorted at s in simp sorted (omega (arith, x))
 
             two : n * d2 * (K * Q) ≤ n2 * d * (K * Q) → n * d2 * (K * Q) ≤ K * n2 * (d * Q)
+            two s = let x = simp sorted at s in simp sorted (omega (arith, x))
+
+-- how large the f64 itself is, in a unit of one's choice
+abbrev pub reaching : ℕ → List ℕ → List ℕ → Judged → Bool
+reaching J p q (judged a b (shape k i p' q') F) = a && (leb k (2 ^ 53) && (leb (suc i) J && alike (added p' q) (added p q')))
+
+pub reach-within : (B : List Size) → AllRanges 32 B → (G : List Given) → AllKnown B G → (t : Term) (J : ℕ) (p q : List ℕ)
+    → T (reaching J p q (judge G t)) → Under (J of unitBy B p q) (valueOf (value G t))
+reach-within B r G h t J p q e =
+    go (bound G t) (λ z. sound B r G h t z) (subst (λ (j : Judged). T (reaching J p q j)) (judgement G t) e)
+  where
+    go : (s : Shape) → (T (ok G t) → Known B (value G t) (exact G t) s)
+        → T (reaching J p q (judged (ok G t) (plainTerm t) s (normalOf G t))) → Under (J of unitBy B p q) (valueOf (value G t))
+    go (shape k i p' q') s e =
+        let u = alike (added p' q) (added p q') in
+        let m = leb (suc i) J && u in
+        let a = and-r (ok G t) (leb k (2 ^ 53) && m) e in
+        let b = and-r (leb k (2 ^ 53)) m a in
+        within-upto (suc i of unitBy B p' q') (J of unitBy B p q) (valueOf (value G t)) zeroNumber (unit-real B r p' q')
+        (fits (suc i) (mono top B p' * mono bottom B q') (mono bottom B p' * mono top B q' * 2 ^ 30) (mono top B p * mono bottom B q)
+        (mono bottom B p * mono top B q * 2 ^ 30) (leb→le (suc i) J (and-l (leb (suc i) J) u b))
+        (in-unit B r p' q' p q (and-r (leb (suc i) J) u b)))
+        (reach (s (and-l (ok G t) (leb k (2 ^ 53) && m) e)) (unit-real B r p' q') (leb→le k (2 ^ 53) (and-l (leb k (2 ^ 53)) m a)))
+      where
+        fits : (j n d n2 d2 : ℕ) → j ≤ J → n * d2 ≤ n2 * d → j * n * d2 ≤ J * n2 * d
+        fits j n d n2 d2 u v = le-trans (one (mul-le-mul-right (n * d2) u)) (two (mul-le-mul-right J v))
+          where
+            one : j * (n * d2) ≤ J * (n * d2) → j * n * d2 ≤ n * d2 * J
+            one s = simp sorted (omega (arith, s))
+
+            two : n * d2 * J ≤ n2 * d * J → n * d2 * J ≤ J * n2 * d
             two s = let x = simp sorted at s in simp sorted (omega (arith, x))

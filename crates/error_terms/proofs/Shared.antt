@@ -4,13 +4,13 @@ use mathlib.Core.List.{List, [], _∷_}
 use Prim.Native.Nat.{ℕ, zero, suc}
 use lib.Dec.{T}
 use lib.ListN.{getD}
-use Rattle.rounding_error.proofs.Numbers.{Size, _roundoffs_, Near}
+use Rattle.rounding_error.proofs.Numbers.{Size, _of_, _roundoffs_, valueOf, Under, Near}
 use Rattle.rounding_error.proofs.Polynomials.{Expression, evaluate}
 use Rattle.error_terms.proofs.Monomials.{AllRanges}
 use Rattle.error_terms.proofs.Terms.{Given, none, shapeOf, lowOf, Term, var, tight, raised, _add_, _take_, _mul_}
 use Rattle.error_terms.proofs.Terms.{_over_, value, double, AllKnown, unitBy, numbersOf}
 use Rattle.error_terms.proofs.Judged.{Judged, judge, addJudged, takeJudged, mulJudged, overJudged, tightJudged, raisedJudged}
-use Rattle.error_terms.proofs.Judged.{nearer, near-within}
+use Rattle.error_terms.proofs.Judged.{nearer, near-within, reaching, reach-within}
 
 infixl 65 _⊞_
 infixl 65 _⊟_
@@ -95,3 +95,9 @@ pub all-within : (B : List Size) → AllRanges 32 B → (G : List Given) → All
     → Near (value G (expand [] (bindAll l s))) (evaluate (numbersOf G) target) (K roundoffs unitBy B p q)
 all-within B r G h l s target K p q e =
     shared-within B r G h (bindAll l s) target K p q (subst (λ (j : Judged). T (nearer G target K p q j)) (sym (judge-all G [] l s)) e)
+
+pub all-reach : (B : List Size) → AllRanges 32 B → (G : List Given) → AllKnown B G → (l : List Shared) (s : Shared) (J : ℕ) (p q : List ℕ)
+    → T (reaching J p q (judgeIn G (judgeAll G [] l) s)) → Under (J of unitBy B p q) (valueOf (value G (expand [] (bindAll l s))))
+all-reach B r G h l s J p q e =
+    reach-within B r G h (expand [] (bindAll l s)) J p q
+    (subst (λ (j : Judged). T (reaching J p q j)) (sym (judge-all G [] l s) ∙ shared-is G [] (bindAll l s)) e)

@@ -362,7 +362,7 @@ module _ (B : List Size) (r : AllRanges 32 B) where
       go : (n x y : ℕ) → n * x * y ≡ n * (x * y)
       go n x y = simp sorted
 
-  unit-ranges : (p q : List ℕ) → T (leb (32 * total p + 32 * total q) 800) → Ranges 840 (unitBy B p q)
+  pub unit-ranges : (p q : List ℕ) → T (leb (32 * total p + 32 * total q) 800) → Ranges 840 (unitBy B p q)
   unit-ranges p q t = parts-ranges (mono top B p * mono bottom B q) (mono bottom B p * mono top B q) (32 * total p + 32 * total q)
       (ranges-of 32 B r p q) (leb→le (32 * total p + 32 * total q) 800 t)
 

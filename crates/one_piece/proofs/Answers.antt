@@ -96,12 +96,12 @@ unfolding workedOf
 worked-one w f limit scale h k d e = rw (halving-one w f (h ⊘ scale) (k ⊘ scale) limit d e)
 
 -- ---- the strip's ends differ
-lower-none : (scale : Float) → T (positive scale) → AtMost 0 1 (bits 0 ⊘ scale)
+pub lower-none : (scale : Float) → T (positive scale) → AtMost 0 1 (bits 0 ⊘ scale)
 unfolding ofBits
 lower-none scale p = div-most binary64 (bits 0) scale 0 1 (pow-pos 0) (zero-exact binary64) tt (positive-finite scale p)
     (positive-num scale p) (omega arith)
 
-not-equal : (x y : Float) → AtMost 0 1 x → T (positive y) → eq x y ≡ false
+pub not-equal : (x y : Float) → AtMost 0 1 x → T (positive y) → eq x y ≡ false
 not-equal x y a p = go (eq x y) refl
   where
     pick : (s : Bool) (n : ℕ) → n ≡ 0 → above s n ≡ 0
@@ -246,7 +246,7 @@ module _ (root tip span sweep : Float) (points : List Float) (f64s : PlanformF64
   -- ---- a plate's
   module _ (c : Section) (plain-section : NotRounded c) (thickness radius : Float) (thick : PositiveLength thickness)
       (out : Height radius) where
-    plate-fin : Proportions (tipsOf c) 4 root tip sweep → PlateFin (tipsOf c) root tip span sweep S thickness radius
+    pub plate-fin : Proportions (tipsOf c) 4 root tip sweep → PlateFin (tipsOf c) root tip span sweep S thickness radius
     plate-fin q =
         record {
           root-positive = positive-length root root-is;

@@ -16,7 +16,7 @@ use lib.Ieee.Fits.{down-pos}
 use lib.Ieee.Positive.{num, den, den-pos, positive, positive-finite}
 use Rattle.floats.specs.Operations.{_⊘_, bits}
 use Rattle.floats.specs.Constants.{three, twelve}
-use Rattle.quadrature.specs.Rule.{pieceOf}
+use Rattle.quadrature.specs.Rule.{kronrodWeight, gaussWeight, sumOf, pieceOf}
 use Rattle.rounding.proofs.Monotone.{positive-num}
 use Rattle.sections.specs.declared.Section.{Section}
 use Rattle.tolerance.specs.Bounds.{converged}
@@ -30,7 +30,7 @@ use Rattle.error_terms.proofs.Entries.{full, most, sized-entry, many-entry, man
 use Rattle.error_terms.proofs.Floors.{NotBelow, Signed}
 use Rattle.one_piece.proofs.Rule.{Fits, all-converged}
 use Rattle.one_piece.proofs.AreaPiece.{positive-from}
-use Rattle.one_piece.proofs.PlatePiece.{entriesOf, componentTest, sevenAt, fits, scaleIn, plate, room-fits}
+use Rattle.one_piece.proofs.PlatePiece.{entriesOf, componentTest, sevenAt, fits, scaleIn, plate, room-sums}
 use Rattle.one_piece.proofs.PlateTests.{near, Free, Near, Far, Tests, tests}
 use Rattle.one_piece.specs.OnePiece.{NotRounded, tipsOf}
 
@@ -273,17 +273,22 @@ module _ (c : Section) (plain-section : NotRounded c) (root tip span sweep thick
   passed : Tests root tip span sweep S thickness radius c
   passed = tests root tip span sweep S thickness radius c plain-section
 
+  -- each sample has a chord wider than 0, at which the radius does not count
+  pub plate-sums : (w : ℕ → Float) (k : ℕ) → sumOf w (plate c root tip span sweep thickness radius points) (bits 0 ⊘ S) (span ⊘ S) k
+      ≡ sumOf w (sevenAt root tip span sweep S thickness radius 0 0 0 (shape 0 0 [] []) 0 [] c) (bits 0 ⊘ S) (span ⊘ S) k
+  plate-sums w k =
+      room-sums c root tip span sweep thickness radius points span (tipsOf c) 4 0 (shape 0 full (place 1) []) 0 [] inner inner-ranges
+      (near-known 4 0 (g .sweep-under) (λ B e. tt) span (positive-finite span (g .span-positive))
+      (Counts.own-size span (g .span-positive)))
+      (signed span (positive-from span (g .span-positive)) 4 0 (shape 0 full (place 1) []) 0) (passed .room) w k
+
   -- the first piece meets the tolerance in all seven components
   pub fin-converged : converged 7 (pieceOf 7 (plate c root tip span sweep thickness radius points) (bits 0 ⊘ S) (span ⊘ S) ∷ []) ≡ true
   fin-converged = all-converged 7 (plate c root tip span sweep thickness radius points) (bits 0 ⊘ S) (span ⊘ S)
       (λ k l. roomy k (each k l))
     where
       roomy : (k : ℕ) → Fit radius k → Fits (bits 0 ⊘ S) (span ⊘ S) (plate c root tip span sweep thickness radius points) k
-      roomy k h =
-          room-fits c root tip span sweep thickness radius points span (tipsOf c) 4 0 (shape 0 full (place 1) []) 0 [] inner inner-ranges
-          (near-known 4 0 (g .sweep-under) (λ B e. tt) span (positive-finite span (g .span-positive))
-          (Counts.own-size span (g .span-positive)))
-          (signed span (positive-from span (g .span-positive)) 4 0 (shape 0 full (place 1) []) 0) (passed .room) k h
+      roomy k h = rw (plate-sums kronrodWeight k, plate-sums gaussWeight k) h
 
       each : (k : ℕ) → k < 7 → Fit radius k
       each zero l = by-free 4 0 (g .sweep-under) (λ B e. tt) 0 l (passed .free0)

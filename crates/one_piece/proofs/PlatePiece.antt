@@ -16,7 +16,7 @@ use Rattle.floats.specs.Constants.{half, two, three, twelve}
 use Rattle.floats.specs.Floats.{absOf}
 use Rattle.floats.proofs.Bools.{no}
 use Rattle.floats.proofs.Order.{le-not-below}
-use Rattle.quadrature.specs.Rule.{weightedTo}
+use Rattle.quadrature.specs.Rule.{weightedTo, sumOf}
 use Rattle.planforms.specs.declared.Planform.{Planform}
 use Rattle.planforms.specs.declared.Planform.the-variants.{Trapezoid}
 use Rattle.chords.specs.Chords.{inSpan, trapezoidAt, endsAt, paired}
@@ -38,7 +38,7 @@ use Rattle.error_terms.proofs.Entries.{full, most}
 use Rattle.error_terms.proofs.Floors.{Signed}
 use Rattle.error_terms.proofs.Orders.{above, above-zero}
 use Rattle.one_piece.proofs.Rule.{acceptsIn, accepted-in, within-bound, ruleParts, errorS, totalS, atHeights}
-use Rattle.one_piece.proofs.Rule.{Fits, insideTest, inside, fits-same}
+use Rattle.one_piece.proofs.Rule.{Fits, insideTest, inside, same-sums}
 use Rattle.one_piece.proofs.AreaPiece.{chordS}
 use Rattle.one_piece.specs.OnePiece.{NotRounded}
 
@@ -276,5 +276,6 @@ module _ (c : Section) (root tip span sweep thickness radius : Float) (points : 
           plate-there (value H h) (inside B r H all signed h (and-l a b t))
           (not-at-most _ (above-zero B r H all signed (tight (endT h take startT h)) (and-r a b t)))
 
-      pub room-fits : (k : ℕ) → Fits (bits 0 ⊘ scaleIn) (span ⊘ scaleIn) seven k → Fits (bits 0 ⊘ scaleIn) (span ⊘ scaleIn) plate k
-      room-fits k h = fits-same B r H all signed plate seven (roomTest H) same room k h
+      pub room-sums : (w : ℕ → Float) (k : ℕ)
+          → sumOf w plate (bits 0 ⊘ scaleIn) (span ⊘ scaleIn) k ≡ sumOf w seven (bits 0 ⊘ scaleIn) (span ⊘ scaleIn) k
+      room-sums w k = same-sums B r H all signed plate seven (roomTest H) same room w k

@@ -121,7 +121,7 @@ abbrev pub totalS : List ℕ → List ℕ → List ℕ → List ℕ → Shared
 totalS p q p′ q′ = whole (nought p′ q′) ⊞ local 15 ⊠ weightedS p q kronrodWeight 7
 
 -- ---- sums of integrands that are equal at the samples' heights
-same-sum : (n : ℕ) (weight : ℕ → Float) (y z : Float → Float) (centre reach : Float) → y centre ≡ z centre
+pub same-sum : (n : ℕ) (weight : ℕ → Float) (y z : Float → Float) (centre reach : Float) → y centre ≡ z centre
     → ((i : ℕ) → i < n → y (minusSide centre reach i) ≡ z (minusSide centre reach i))
     → ((i : ℕ) → i < n → y (plusSide centre reach i) ≡ z (plusSide centre reach i))
     → weightedTo n weight y centre reach ≡ weightedTo n weight z centre reach

@@ -1,0 +1,623 @@
+-- The mass of a set that one piece is enough for, of square or airfoil section: near the exact one by a computed bound. Assumes nothing.
+use mathlib.Core.Path.{_≡_, refl, sym, ap, _∙_, subst}
+use mathlib.Core.Bool.{Bool, false, _&&_}
+use mathlib.Core.List.{List, [], _∷_}
+use Prim.Native.Nat.{ℕ, zero, suc, _+_, _-_, _*_, _^_, _≤_, _<_}
+use native.Mathlib.Nat.{le-refl, le-trans, mul-pos, mul-le-mul, mul-le-mul-left, mul-le-mul-right}
+use native.Mathlib.Nat.{one-mul, mul-one, zero-mul, mul-zero, zero-add, add-zero, pow-zero, pow-suc}
+use native.Mathlib.Omega.{arith}
+use lib.Dec.{T, ltb, ltb→lt, lit≤}
+use lib.ListN.{length}
+use lib.Pow.{pow-pos, pow-mono}
+use lib.IntN.{pos, negsuc}
+use lib.Ieee.{Float, binary64, fits, round, ofBits}
+use lib.Ieee.Fits.{and-l, and-r}
+use lib.Ieee.Scale.{finite}
+use lib.Ieee.Positive.{num, den, den-pos, positive, positive-finite}
+use Rattle.floats.specs.Operations.{_⊕_, _⊗_, _⊘_, bits, at}
+use Rattle.floats.specs.Floats.{cube}
+use Rattle.floats.specs.Fractions.{Fraction, _over_, _plus_ as sum, _times_ as product, valueOf as fractionOf}
+use Rattle.rounding.specs.Sizes.{AtMost}
+use Rattle.rounding.proofs.Sizes.{positive-of}
+use Rattle.rounding_error.specs.Distances.{Within as Apart}
+use Rattle.rounding_error.proofs.Numbers.{Number, number, Size, _per_, _by_, _and_, _of_, _roundoffs_, _plus_, _times_, IsNumber, IsSize}
+use Rattle.rounding_error.proofs.Numbers.{Within, Under, Near, Ranges, valueOf, sizeOf}
+use Rattle.rounding_error.proofs.Distances.{sorted, within-upto, within-trans, within-times}
+use Rattle.rounding_error.proofs.Counts as Counts
+use Rattle.rounding_error.proofs.Chains.{Valued, exactly, zero-valued, equalled, counted-by}
+use Rattle.rounding_error.proofs.Polynomials.{_equals_, times-is, equal-by, Expression, given, ratio, _add_, _mul_, evaluate}
+use Rattle.rounding_error.proofs.Polynomials.{evaluate-is}
+use Rattle.rounding_error.proofs.Fractions.{IsFraction, plus-fraction, times-fraction, value-fraction, whole-fraction, within-fraction}
+use Rattle.gauss_kronrod.specs.Tables.{nodes, kronrodWeights}
+use Rattle.quadrature.specs.Rule.{halfWidth, weightedTo, kronrodWeight, sumOf}
+use Rattle.sections.specs.Airfoil.{airfoilConstants}
+use Rattle.sections.specs.declared.Section.{Section}
+use Rattle.sections.specs.declared.Section.the-variants.{Square, Rounded, Airfoil, AirfoilOpen}
+use Rattle.planforms.specs.declared.Planform.{Planform}
+use Rattle.planforms.specs.declared.Planform.the-variants.{Trapezoid}
+use Rattle.planforms.proofs.Sized.{Sized}
+use Rattle.limits.specs.Limits.{thicknessField, bodyRadiusField}
+use Rattle.limits.proofs.Lengths.{PositiveLength, Height, field-above, height-checked}
+use Rattle.integrands.specs.Integrands.{scaleOf, plateOf}
+use Rattle.integrands.proofs.Scales.{Scale, scale-sized}
+use Rattle.joins.specs.Joins.{inOrder}
+use Rattle.fins.specs.declared.Tab.{Tab}
+use Rattle.fins.specs.declared.Tab.the-variants.{None, Slab}
+use Rattle.fins.proofs.Accepted.{AcceptedSet, set-accepted, set-count}
+use Rattle.fins.proofs.Sized.{planform-sized}
+use Rattle.tolerance.specs.Bounds.{totalOf}
+use Rattle.plates.specs.Integrals.{volume, tabIntegralsOf}
+use Rattle.strips.specs.Strips.{valueFrom}
+use Rattle.figures.specs.Figures.{setStrips}
+use Rattle.figures.specs.declared.Figures.{Figures}
+use Rattle.error_terms.proofs.Laws.{plus-law}
+use Rattle.error_terms.proofs.Monomials.{AllRanges, place, mono, top, bottom}
+use Rattle.error_terms.proofs.Terms.{shape, Given, entry, larger, var, nought, _mul_ as _mulT_, value, AllKnown, unitBy, unit-real}
+use Rattle.error_terms.proofs.Terms.{unit-ranges}
+use Rattle.error_terms.proofs.Terms.{numbersOf, numbers-are}
+use Rattle.error_terms.proofs.Judged.{Judged, nearer, reaching}
+use Rattle.error_terms.proofs.Shared.{Shared, whole, _⊞_, _⊠_, tightly, raisedBy, judgeIn, judgeAll, bindAll, expand, all-within}
+use Rattle.error_terms.proofs.Shared.{all-reach}
+use Rattle.error_terms.proofs.Entries.{full, sized-entry, own-entry}
+use Rattle.one_piece.specs.OnePiece.{NotRounded, tipsOf, Proportions}
+use Rattle.one_piece.proofs.Rule.{totalS}
+use Rattle.one_piece.proofs.PlatePiece.{sevenAt, partsOf}
+use Rattle.one_piece.proofs.PlateFits.{plate-sums}
+use Rattle.one_piece.proofs.Answers.{plate-fin, plate-strips}
+use Rattle.accuracy.specs.Masses.{Plate, Mount, setWith, SectionGiven, finVolume, tabVolume, filled, exactMassWith, TabWithin}
+use Rattle.accuracy.specs.Masses.{Extents}
+use Rattle.accuracy.specs.Masses.{OrdinaryMass}
+use Rattle.accuracy.proofs.Given.{Lengths}
+use Rattle.accuracy.proofs.Limits.{ranges-of, least-of, lengths, most-under}
+use Rattle.accuracy.proofs.WholePieces.{value-is, wider}
+use Rattle.accuracy.proofs.CentroidNear.{positive-fraction, product-fraction}
+use Rattle.accuracy.proofs.MassNear.{density-checked}
+use Rattle.accuracy.proofs.SetCalled as Called
+use Rattle.accuracy.proofs.SetCalled.{set-given}
+
+ruleset plain = (sorted, one-mul, mul-one, zero-mul, mul-zero, zero-add, add-zero)
+
+-- ---- n copies of an f64, added up
+step-error : (n H : ℕ) → suc (n * (2 * H)) + suc (2 * H) + (n * suc n * H + 2 * n + 0) ≤ suc n * suc (suc n) * H + 2 * suc n
+step-error n H = omega arith
+
+one-more : (n : ℕ) (v : Number) → number n 0 1 times v plus v equals number (suc n) 0 1 times v
+one-more n (number p m d) = record { same = go n p m d }
+  where
+    go : (n p m d : ℕ) → ((n * p + 0 * m) * d + p * (1 * d)) * (1 * d) + (suc n * m + 0 * p) * (1 * d * d)
+        ≡ (suc n * p + 0 * m) * (1 * d * d) + ((n * m + 0 * p) * d + m * (1 * d)) * (1 * d)
+    go n p m d = simp plain (omega arith)
+
+-- n·(n + 1)/2 times the size of one, which is at most 2·H units
+module _ (U : Size) (t : Ranges 900 U) (x : Float) (H : ℕ) (few : H ≤ 2 ^ 32) (f : T (finite x))
+    (u : Under ((2 * H) of U) (valueOf x)) where
+  pub copies : (n : ℕ) → n ≤ 32
+      → Valued (inOrder (λ x y. x ⊕ y) (bits 0) (λ k. x) n) (number n 0 1 times valueOf x) (n * suc n * H + 2 * n) (n * (2 * H)) U
+  unfolding inOrder ofBits
+  copies zero l =
+      counted-by (equalled (zero-valued U) (number 0 0 1 times valueOf x)
+      (times-is (number 0 0 1) (valueOf x) (pow-pos 0) (Counts.value-is x))
+      (equal-by (valueOf x ∷ []) (Counts.value-is x, tt) (ratio 0 0) (ratio 0 0 mul given 0) tt))
+      (0 * suc 0 * H + 2 * 0) (0 * (2 * H)) (t .real) (omega arith) (omega arith)
+  copies (suc n) l =
+      let m = at-most n l in
+      let k : n * H ≤ 31 * 2 ^ 32 = mul-le-mul m few in
+      counted-by
+      (equalled (plus-law U t (most n m k (mul-le-mul-right (n * H) l)) (none 53) (sizes n k) (copies n (lower n l))
+      (exactly x (2 * H) U f u))
+      (number (suc n) 0 1 times valueOf x) (times-is (number (suc n) 0 1) (valueOf x) (pow-pos 0) (Counts.value-is x))
+      (one-more n (valueOf x)))
+      (suc n * suc (suc n) * H + 2 * suc n) (suc n * (2 * H)) (t .real) (step-error n H) (omega arith)
+    where
+      at-most : (n : ℕ) → suc n ≤ 32 → n ≤ 31
+      at-most n h = omega arith
+
+      lower : (n : ℕ) → suc n ≤ 32 → n ≤ 32
+      lower n h = omega arith
+
+      none : (k : ℕ) → 0 ≤ 2 ^ k
+      none k = omega arith
+
+      most : (n : ℕ) → n ≤ 31 → n * H ≤ 31 * 2 ^ 32 → suc n * (n * H) ≤ 32 * (n * H) → n * suc n * H + 2 * n ≤ 2 ^ 53
+      most n l h k = omega arith
+
+      sizes : (n : ℕ) → n * H ≤ 31 * 2 ^ 32 → suc (n * (2 * H)) + suc (2 * H) ≤ 2 ^ 100
+      sizes n k = omega arith
+
+-- ---- the terms: the variables are root, tip, sweep, span, scale, thickness, density, a tab's length and height
+abbrev volumeS : Shared
+volumeS =
+    (whole (nought (1 ∷ 1 ∷ 0 ∷ 1 ∷ []) (0 ∷ 0 ∷ 3 ∷ []))
+    ⊞ totalS (1 ∷ 0 ∷ 0 ∷ 1 ∷ []) (0 ∷ 0 ∷ 2 ∷ []) (1 ∷ 1 ∷ 0 ∷ 1 ∷ []) (0 ∷ 0 ∷ 3 ∷ [])) ⊠ whole (var 4 mulT (var 4 mulT var 4))
+
+abbrev slabS : Tab → Shared
+slabS None = whole (nought (1 ∷ 0 ∷ 0 ∷ 1 ∷ 0 ∷ 1 ∷ []) [])
+slabS (Slab height length offset) = whole (var 5 mulT var 7 mulT var 8)
+
+-- in units of thickness·B·Y, as the span does not pass Y
+abbrev massS : Tab → Shared
+massS tab = whole (var 6) ⊠ (raisedBy 9 (tightly volumeS) ⊞ slabS tab)
+
+abbrev fractionE : Fraction → Expression
+fractionE (pos a over b) = ratio a (b - 1)
+fractionE (negsuc a over b) = ratio 0 0
+
+abbrev slabE : Tab → Expression
+slabE None = ratio 0 0
+slabE (Slab height length offset) = (given 10 mul given 14) mul given 16
+
+abbrev massE : Section → Tab → Expression
+massE section tab =
+    given 12 mul (fractionE (filled section) mul (given 10 mul (given 6 mul ((given 0 add given 2) mul ratio 1 1))) add slabE tab)
+
+abbrev lengthOf : Tab → Float
+lengthOf None = bits 0
+lengthOf (Slab height length offset) = length
+
+abbrev heightOf : Tab → Float
+heightOf None = bits 0
+heightOf (Slab height length offset) = height
+
+-- a unit and a 128th: twice that is what a fin's mass is at most
+abbrev half-most : ℕ
+half-most = 2 ^ 30 + 2 ^ 23
+
+abbrev most : ℕ
+most = 2 * half-most
+
+abbrev unitP : List ℕ
+unitP = 1 ∷ 0 ∷ 0 ∷ 1 ∷ 1 ∷ 1 ∷ []
+
+abbrev massTest : List Given → Expression → Judged → Bool
+massTest G target j = nearer G target (55 * 2 ^ 30) unitP [] j && reaching most unitP [] j
+
+abbrev entriesOf : (root tip sweep span scale thickness density length height : Float) → List Given
+entriesOf root tip sweep span scale thickness density length height =
+    entry root (valueOf root) (shape 0 full (place 0) []) 0 ∷
+    entry tip (valueOf tip) (shape 0 full (place 0) []) 0 ∷
+    entry sweep (valueOf sweep) (shape 0 full (place 0) []) 0 ∷
+    entry span (valueOf span) (shape 0 full (place 1) []) full ∷
+    entry scale (valueOf scale) (shape 0 full (place 2) []) full ∷
+    entry thickness (valueOf thickness) (shape 0 full (place 3) []) full ∷
+    entry density (valueOf density) (shape 0 full (place 4) []) full ∷
+    entry length (valueOf length) (shape 0 full (place 0) []) 0 ∷
+    entry height (valueOf height) (shape 0 full (place 5) []) 0 ∷
+    larger 1 5 ∷
+    []
+
+module _ (root tip sweep span scale thickness density length height : Float) where
+  abbrev G : List Given
+  G = entriesOf root tip sweep span scale thickness density length height
+
+  abbrev Passes : Section → Tab → Type 0
+  Passes section tab = T (massTest G (massE section tab) (judgeIn G (judgeAll G [] (partsOf section 0)) (massS tab)))
+
+  square-none : Passes Square None
+  unfolding round ofBits nodes kronrodWeights
+  square-none = tt
+
+  square-slab : (h l o : Float) → Passes Square (Slab h l o)
+  unfolding round ofBits nodes kronrodWeights
+  square-slab h l o = tt
+
+  foil-none : Passes Airfoil None
+  unfolding round ofBits nodes kronrodWeights airfoilConstants
+  foil-none = tt
+
+  foil-slab : (h l o : Float) → Passes Airfoil (Slab h l o)
+  unfolding round ofBits nodes kronrodWeights airfoilConstants
+  foil-slab h l o = tt
+
+  open-none : Passes AirfoilOpen None
+  unfolding round ofBits nodes kronrodWeights airfoilConstants
+  open-none = tt
+
+  open-slab : (h l o : Float) → Passes AirfoilOpen (Slab h l o)
+  unfolding round ofBits nodes kronrodWeights airfoilConstants
+  open-slab h l o = tt
+
+  passes : (section : Section) → NotRounded section → (tab : Tab) → Passes section tab
+  passes Rounded e tab = absurd e
+  passes Square e None = square-none
+  passes Square e (Slab h l o) = square-slab h l o
+  passes Airfoil e None = foil-none
+  passes Airfoil e (Slab h l o) = foil-slab h l o
+  passes AirfoilOpen e None = open-none
+  passes AirfoilOpen e (Slab h l o) = open-slab h l o
+
+  -- ---- the values of the terms are the program's sums
+  abbrev low : Float
+  low = bits 0 ⊘ scale
+
+  abbrev high : Float
+  high = span ⊘ scale
+
+  -- one fin's mass, from the sum of the samples
+  abbrev massBy : Float → Tab → Float → Float
+  massBy total tab radius = density ⊗ (total ⊗ cube scale ⊕ volume (tabIntegralsOf tab thickness radius))
+
+  abbrev sampled : Section → Float → Float
+  sampled section radius =
+      bits 0 ⊕ (bits 0 ⊕ halfWidth low high ⊗
+      sumOf kronrodWeight (sevenAt root tip span sweep scale thickness radius 0 0 0 (shape 0 0 [] []) 0 [] section) low high 0)
+
+zero-most : (b d : ℕ) → AtMost b d (bits 0)
+unfolding ofBits
+zero-most b d = record { finite = tt; size = omega arith }
+
+mass-is : (root tip sweep span scale thickness density radius : Float) (section : Section) → NotRounded section → (tab : Tab)
+    → value (entriesOf root tip sweep span scale thickness density (lengthOf tab) (heightOf tab))
+    (expand [] (bindAll (partsOf section 0) (massS tab)))
+    ≡ massBy root tip sweep span scale thickness density (lengthOf tab) (heightOf tab)
+    (sampled root tip sweep span scale thickness density (lengthOf tab) (heightOf tab) section radius) tab radius
+unfolding weightedTo tabIntegralsOf
+mass-is root tip sweep span scale thickness density radius Rounded e tab = absurd e
+mass-is root tip sweep span scale thickness density radius Square e None = refl
+mass-is root tip sweep span scale thickness density radius Square e (Slab h l o) = refl
+mass-is root tip sweep span scale thickness density radius Airfoil e None = refl
+mass-is root tip sweep span scale thickness density radius Airfoil e (Slab h l o) = refl
+mass-is root tip sweep span scale thickness density radius AirfoilOpen e None = refl
+mass-is root tip sweep span scale thickness density radius AirfoilOpen e (Slab h l o) = refl
+
+-- ---- fractions
+abbrev plainFraction : Fraction → Bool
+plainFraction (pos a over b) = ltb 0 b
+plainFraction (negsuc a over b) = false
+
+fraction-number : (x : ℕ → Number) (f : Fraction) → T (plainFraction f) → IsFraction (evaluate x (fractionE f)) f
+fraction-number x (pos a over b) t = subst (λ (k : ℕ). IsFraction (number a 0 k) (pos a over b)) (sym (one b (ltb→lt 0 b t)))
+    (whole-fraction a b)
+  where
+    one : (b : ℕ) → 0 < b → suc (b - 1) ≡ b
+    one b h = omega arith
+fraction-number x (negsuc a over b) t = absurd t
+
+fill-fraction : (x : ℕ → Number) (section : Section) → NotRounded section
+    → IsFraction (evaluate x (fractionE (filled section))) (filled section)
+fill-fraction x Rounded e = absurd e
+fill-fraction x Square e = fraction-number x (filled Square) tt
+fill-fraction x Airfoil e = fraction-number x (filled Airfoil) tt
+fill-fraction x AirfoilOpen e = fraction-number x (filled AirfoilOpen) tt
+
+first-power : (x : ℕ) → x ^ 1 ≡ x
+first-power x = rw (pow-suc x 0, pow-zero x) (one-mul x)
+
+unit-parts : (b s S t k y : ℕ) → b ^ 1 * (s ^ 0 * (S ^ 0 * (t ^ 1 * (k ^ 1 * (y ^ 1 * 1))))) * 1 ≡ b * y * (k * t)
+unit-parts b s S t k y = rw (first-power b, pow-zero s, pow-zero S, first-power t, first-power k, first-power y) (simp plain)
+
+-- both errors in one size: those of the sum of copies, and those of the fin
+both-errors : (c E K BY NN DE DD P Q : ℕ) → E + K * P ≤ 90 * P
+    → (c * E * (BY * NN) * (1 * (DE * DD * P * Q)) + c * (K * P * (BY * NN)) * (DE * DD * P * Q)) * (DE * Q * DD)
+    ≤ c * 90 * BY * NN * (DE * DD * P * Q * (1 * (DE * DD * P * Q)))
+both-errors c E K BY NN DE DD P Q h =
+    let x = simp plain at (mul-le-mul-right (c * (BY * NN) * (DE * DD * P * Q) * (DE * DD * Q)) h) in simp plain (omega (arith, x))
+
+module _ (section : Section) (p : Plate) (m : Mount) (points : List Float) (L : ℕ) (entry : List Float) (r : Figures) (exit : List Float)
+    (b d y e : ℕ)
+    (plain-section : NotRounded section) (g : SectionGiven section p m points L entry r exit) (radius-f64 : T (fits binary64 (m .radius)))
+    (proportions : Proportions (tipsOf section) 4 (p .root) (p .tip) (p .sweep)) (x : Extents p b d y e) where
+  abbrev Shape : Planform
+  Shape = Trapezoid (p .root) (p .tip) (p .span) (p .sweep)
+
+  abbrev S : Float
+  S = scaleOf Shape points
+
+  figures : Called.Given section p m points L (length entry) r
+  figures = set-given section p m points L (length entry) r (g .answers .figures) (g .given) (g .no-fillet)
+
+  checks : AcceptedSet (setWith section p m) points L (length entry)
+  checks = set-accepted (setWith section p m) points L (length entry) (figures .accepted)
+
+  sized : Sized Shape points
+  sized = planform-sized Shape points (g .f64s) (checks .planform)
+
+  scaled : Scale S
+  scaled = scale-sized Shape points sized
+
+  N : Lengths (p .root) (p .tip) (p .span) (p .sweep) S (b per d)
+  N =
+      lengths (p .root) (p .tip) (p .span) (p .sweep) S b d (x .along .is-size) (x .along-most) (sized .0) (sized .1 .1 .0) scaled
+      (x .along .root-most) (x .along .tip-most) (x .along .sweep-most)
+
+  thick : PositiveLength (p .thickness)
+  thick = field-above thicknessField (p .thickness) (g .thickness-f64) (checks .thickness) refl refl
+
+  thick-positive : T (positive (p .thickness))
+  thick-positive = positive-of (p .thickness) 20 (thick .not-minus) (thick .above)
+
+  heavy : T (positive (p .density)) × Ranges 24 (sizeOf (p .density))
+  heavy = density-checked (p .density) (checks .density) (g .heavy)
+
+  -- ---- the fin's mass
+  abbrev bases : List Size
+  bases = (b per d) ∷ sizeOf (p .span) ∷ sizeOf S ∷ sizeOf (p .thickness) ∷ sizeOf (p .density) ∷ (y per e) ∷ []
+
+  ranges : AllRanges 32 bases
+  ranges = (
+    wider 24 (b per d) (omega arith) (N .ranges),
+    (
+      wider 24 (sizeOf (p .span)) (omega arith) (N .span-ranges),
+      (
+        wider 24 (sizeOf S) (omega arith) (N .scale-ranges),
+        (
+          wider 24 (sizeOf (p .thickness)) (omega arith)
+              (ranges-of (p .thickness) 6 20 (omega arith) (omega arith) (thick .length .below) (thick .above)),
+          (
+            wider 24 (sizeOf (p .density)) (omega arith) (heavy .1),
+            (
+              wider 24 (y per e) (omega arith)
+                  (record {
+                    real = x .is-size;
+                    least = least-of (p .span) y e (N .span-positive) (sized .1 .1 .0 .above)
+                        (x .span-most);
+                    most = below y e (x .outward-most);
+                  }),
+              tt,
+            ),
+          ),
+        ),
+      ),
+    ),
+  )
+    where
+      below : (y e : ℕ) → y ≤ 64 * e → y ≤ e * 2 ^ 24
+      below y e h = omega arith
+
+  length-most : (tab : Tab) → TabWithin tab b d y e → AtMost b d (lengthOf tab)
+  length-most None w = zero-most b d
+  length-most (Slab h l o) w = w .0
+
+  height-most : (tab : Tab) → TabWithin tab b d y e → AtMost y e (heightOf tab)
+  height-most None w = zero-most y e
+  height-most (Slab h l o) w = w .1
+
+  abbrev entries : List Given
+  entries = entriesOf (p .root) (p .tip) (p .sweep) (p .span) S (p .thickness) (p .density) (lengthOf (p .tab)) (heightOf (p .tab))
+
+  known : AllKnown bases entries
+  known =
+      let l = length-most (p .tab) (x .tab-within) in
+      let h = height-most (p .tab) (x .tab-within) in (
+        (sized-entry bases 0 b d refl (p .root) (N .ranges .real) (N .root-finite) (N .root-under), tt),
+        (
+          (sized-entry bases 0 b d refl (p .tip) (N .ranges .real) (N .tip-finite) (N .tip-under), tt),
+          (
+            (sized-entry bases 0 b d refl (p .sweep) (N .ranges .real) (N .sweep-finite) (N .sweep-under), tt),
+            (
+              own-entry bases 1 (p .span) refl (N .span-positive),
+              (
+                own-entry bases 2 S refl (N .scale-positive),
+                (
+                  own-entry bases 3 (p .thickness) refl thick-positive,
+                  (
+                    own-entry bases 4 (p .density) refl (heavy .0),
+                    (
+                      (sized-entry bases 0 b d refl (lengthOf (p .tab)) (N .ranges .real) (l .finite) (most-under (lengthOf (p .tab)) b d l), tt),
+                      (
+                        (sized-entry bases 5 y e refl (heightOf (p .tab)) (x .is-size) (h .finite) (most-under (heightOf (p .tab)) y e h), tt),
+                        (x .span-most .size, tt),
+                      ),
+                    ),
+                  ),
+                ),
+              ),
+            ),
+          ),
+        ),
+      )
+
+  abbrev one : Float
+  one = massBy (p .root) (p .tip) (p .sweep) (p .span) S (p .thickness) (p .density) (lengthOf (p .tab)) (heightOf (p .tab))
+      (sampled (p .root) (p .tip) (p .sweep) (p .span) S (p .thickness) (p .density) (lengthOf (p .tab)) (heightOf (p .tab)) section
+      (m .radius))
+      (p .tab) (m .radius)
+
+  abbrev X : Number
+  X = evaluate (numbersOf entries) (massE section (p .tab))
+
+  abbrev U : Size
+  U = unitBy bases unitP []
+
+  passed : T (massTest entries (massE section (p .tab)) (judgeIn entries (judgeAll entries [] (partsOf section 0)) (massS (p .tab))))
+  passed = passes (p .root) (p .tip) (p .sweep) (p .span) S (p .thickness) (p .density) (lengthOf (p .tab))
+      (heightOf (p .tab)) section plain-section (p .tab)
+
+  abbrev judgement : Judged
+  judgement = judgeIn entries (judgeAll entries [] (partsOf section 0)) (massS (p .tab))
+
+  is : value entries (expand [] (bindAll (partsOf section 0) (massS (p .tab)))) ≡ one
+  is = mass-is (p .root) (p .tip) (p .sweep) (p .span) S (p .thickness) (p .density) (m .radius) section plain-section (p .tab)
+
+  one-near : Near one X ((55 * 2 ^ 30) roundoffs U)
+  one-near =
+      subst (λ (z : Float). Near z X ((55 * 2 ^ 30) roundoffs U)) is
+      (all-within bases ranges entries known (partsOf section 0) (massS (p .tab)) (massE section (p .tab)) (55 * 2 ^ 30) unitP []
+      (and-l (nearer entries (massE section (p .tab)) (55 * 2 ^ 30) unitP [] judgement) (reaching most unitP [] judgement) passed))
+
+  one-most : Under (most of U) (valueOf one)
+  one-most =
+      subst (λ (z : Float). Under (most of U) (valueOf z)) is
+      (all-reach bases ranges entries known (partsOf section 0) (massS (p .tab)) most unitP []
+      (and-r (nearer entries (massE section (p .tab)) (55 * 2 ^ 30) unitP [] judgement) (reaching most unitP [] judgement) passed))
+
+  -- ---- the set's
+  abbrev plate : Float → List Float
+  plate = plateOf Shape points section (p .thickness) (m .radius)
+
+  out : Height (m .radius)
+  out = height-checked bodyRadiusField (m .radius) radius-f64 (checks .radius) refl refl
+
+  total-is : valueFrom (bits 0) 0 (setStrips (setWith section p m) points L)
+      ≡ sampled (p .root) (p .tip) (p .sweep) (p .span) S (p .thickness) (p .density) (lengthOf (p .tab)) (heightOf (p .tab)) section
+      (m .radius)
+  unfolding totalOf
+  total-is =
+      let low = bits 0 ⊘ S in
+      let high = p .span ⊘ S in
+      ap (valueFrom (bits 0) 0)
+      (plate-strips (p .root) (p .tip) (p .span) (p .sweep) points (g .f64s) (checks .planform) section plain-section (p .thickness)
+      (m .radius) thick out
+      L proportions)
+      ∙ ap (λ (z : Float). bits 0 ⊕ (bits 0 ⊕ z))
+      (value-is 7 plate low high 0 (lit≤ tt)
+      ∙ ap (λ (z : Float). halfWidth low high ⊗ z)
+      (plate-sums section plain-section (p .root) (p .tip) (p .span) (p .sweep) (p .thickness) (m .radius) points
+      (plate-fin (p .root) (p .tip) (p .span) (p .sweep) points (g .f64s) (checks .planform) section plain-section (p .thickness)
+      (m .radius) thick out
+      proportions) kronrodWeight 0))
+
+  abbrev summed : Float
+  summed = inOrder (λ a c. a ⊕ c) (bits 0) (λ k. one) (m .count)
+
+  set-mass-is : r .body .«mass_kg» ≡ summed
+  set-mass-is =
+      figures .mass
+      ∙ ap (λ (z : Float). inOrder (λ a c. a ⊕ c) (bits 0)
+      (λ k. p .density ⊗ (z ⊗ cube S ⊕ volume (tabIntegralsOf (p .tab) (p .thickness) (m .radius)))) (m .count))
+      total-is
+
+  abbrev c : ℕ
+  c = m .count
+
+  unit-range : Ranges 900 U
+  unit-range = in-range-of (unit-ranges bases ranges unitP [] tt)
+    where
+      in-range-of : {A : Size} → Ranges 840 A → Ranges 900 A
+      in-range-of {A = a per k} t =
+          record {
+            real = t .real;
+            least = le-trans (t .least)
+                (mul-le-mul-left a (pow-mono {i = 840} {j = 900} (omega arith)));
+            most =
+                le-trans (t .most) (mul-le-mul-left k (pow-mono {i = 840} {j = 900} (omega arith)));
+          }
+
+  X-is : IsNumber X
+  X-is = evaluate-is (numbersOf entries) (numbers-are bases ranges entries known) (massE section (p .tab))
+
+  few : c ≤ 32
+  few = set-count (setWith section p m) points L (length entry) (figures .accepted) .1
+
+  copied : Valued summed (number c 0 1 times valueOf one) (c * (33 * half-most + 2)) (c * most) U
+  copied = counted-by (copies U unit-range one half-most (lit≤ tt) (one-near .finite) one-most c few) (c * (33 * half-most + 2))
+      (c * most) (unit-range .real)
+      (each c half-most (mul-le-mul-right (c * half-most) (more c few))) (le-refl _)
+    where
+      more : (c : ℕ) → c ≤ 32 → suc c ≤ 33
+      more c h = omega arith
+
+      each : (c H : ℕ) → suc c * (c * H) ≤ 33 * (c * H) → c * suc c * H + 2 * c ≤ c * (33 * H + 2)
+      each c H h = omega arith
+
+  -- the unit, without its powers
+  abbrev top· : ℕ
+  top· = b * y * (num (p .density) * num (p .thickness))
+
+  abbrev bottom· : ℕ
+  bottom· = d * e * (den (p .density) * den (p .thickness))
+
+  in-parts : (Q : Size → Type 0) → Q U → Q (top· per (bottom· * 2 ^ 30))
+  in-parts Q h =
+      subst (λ (k : ℕ). Q (top· per (k * 2 ^ 30))) (unit-parts d (den (p .span)) (den S) (den (p .thickness)) (den (p .density)) e)
+      (subst (λ (k : ℕ). Q (k per (mono bottom bases unitP * mono top bases [] * 2 ^ 30)))
+      (unit-parts b (num (p .span)) (num S) (num (p .thickness)) (num (p .density)) y) h)
+
+  abbrev unit· : Size
+  unit· = top· per (bottom· * 2 ^ 30)
+
+  unit-some : IsSize unit·
+  unit-some = in-parts IsSize (unit-real bases ranges unitP [])
+
+  mass-within : Within ((c * 90 * (b * y) * (num (p .density) * num (p .thickness))) per
+      (d * e * 2 ^ 53 * (den (p .density) * den (p .thickness))))
+      (valueOf summed) (number c 0 1 times X)
+  mass-within =
+      let sum-near : Within ((c * (33 * half-most + 2)) roundoffs unit·) (valueOf summed) (number c 0 1 times valueOf one) =
+      in-parts (λ W. Within ((c * (33 * half-most + 2)) roundoffs W) (valueOf summed) (number c 0 1 times valueOf one))
+      (copied .near .within) in
+      let fin-near : Within ((55 * 2 ^ 30) roundoffs unit·) (valueOf one) X =
+      in-parts (λ W. Within ((55 * 2 ^ 30) roundoffs W) (valueOf one) X) (one-near .within) in
+      let k = (c * (33 * half-most + 2)) roundoffs unit· in
+      let l = (c per 1) by ((55 * 2 ^ 30) roundoffs unit·) in
+      within-upto (k and l) ((c * 90 * (b * y) * (num (p .density) * num (p .thickness))) per
+      (d * e * 2 ^ 53 * (den (p .density) * den (p .thickness))))
+      (valueOf summed) (number c 0 1 times X)
+      (mul-pos (mul-pos unit-some (pow-pos 53)) (mul-pos (pow-pos 0) (mul-pos unit-some (pow-pos 53))))
+      (both-errors c (33 * half-most + 2) 55 (b * y) (num (p .density) * num (p .thickness)) (d * e)
+      (den (p .density) * den (p .thickness)) (2 ^ 30) (2 ^ 53)
+      (lit≤ tt))
+      (within-trans k l (valueOf summed) (number c 0 1 times valueOf one) (number c 0 1 times X)
+      (times-is (number c 0 1) (valueOf one) (pow-pos 0) (Counts.value-is one)) sum-near
+      (within-times (c per 1) ((55 * 2 ^ 30) roundoffs unit·) (number c 0 1) (valueOf one) X (count-under c) fin-near))
+    where
+      count-under : (c : ℕ) → Under (c per 1) (number c 0 1)
+      count-under c = record { below = omega arith; above = omega arith }
+
+  -- ---- in fractions
+  slab-fraction : (tab : Tab) → TabWithin tab b d y e
+      → IsFraction (evaluate (numbersOf (entriesOf (p .root) (p .tip) (p .sweep) (p .span) S (p .thickness) (p .density) (lengthOf tab)
+      (heightOf tab))) (slabE tab))
+      (tabVolume tab (p .thickness))
+  slab-fraction None w = whole-fraction 0 1
+  slab-fraction (Slab height length offset) w =
+      times-fraction (valueOf (p .thickness) times valueOf length) (valueOf height)
+      (product (fractionOf (p .thickness)) (fractionOf length))
+      (fractionOf height)
+      (times-fraction (valueOf (p .thickness)) (valueOf length) (fractionOf (p .thickness)) (fractionOf length)
+      (value-fraction (p .thickness) (positive-finite (p .thickness) thick-positive)) (value-fraction length (w .0 .finite)))
+      (value-fraction height (w .1 .finite))
+
+  abbrev wide : Number
+  wide = (valueOf (p .root) plus valueOf (p .tip)) times number 1 0 2
+
+  volume-fraction : IsFraction (valueOf (p .thickness) times (valueOf (p .span) times wide)) (finVolume p)
+  volume-fraction =
+      let w = product (sum (fractionOf (p .root)) (fractionOf (p .tip))) (pos 1 over 2) in
+      times-fraction (valueOf (p .thickness)) (valueOf (p .span) times wide) (fractionOf (p .thickness))
+      (product (fractionOf (p .span)) w)
+      (value-fraction (p .thickness) (positive-finite (p .thickness) thick-positive))
+      (times-fraction (valueOf (p .span)) wide (fractionOf (p .span)) w
+      (value-fraction (p .span) (positive-finite (p .span) (N .span-positive)))
+      (times-fraction (valueOf (p .root) plus valueOf (p .tip)) (number 1 0 2) (sum (fractionOf (p .root)) (fractionOf (p .tip)))
+      (pos 1 over 2)
+      (plus-fraction (valueOf (p .root)) (valueOf (p .tip)) (fractionOf (p .root)) (fractionOf (p .tip))
+      (value-fraction (p .root) (N .root-finite)) (value-fraction (p .tip) (N .tip-finite)))
+      (whole-fraction 1 2)))
+
+  exact-fraction : IsFraction (number c 0 1 times X) (exactMassWith section p m)
+  exact-fraction =
+      let fill = evaluate (numbersOf entries) (fractionE (filled section)) in
+      let fin' = valueOf (p .thickness) times (valueOf (p .span) times wide) in
+      let slab = evaluate (numbersOf entries) (slabE (p .tab)) in
+      let plate' = product (filled section) (finVolume p) in
+      times-fraction (number c 0 1) X (pos c over 1) (product (fractionOf (p .density)) (sum plate' (tabVolume (p .tab) (p .thickness))))
+      (whole-fraction c 1)
+      (times-fraction (valueOf (p .density)) (fill times fin' plus slab) (fractionOf (p .density))
+      (sum plate' (tabVolume (p .tab) (p .thickness)))
+      (value-fraction (p .density) (positive-finite (p .density) (heavy .0)))
+      (plus-fraction (fill times fin') slab plate' (tabVolume (p .tab) (p .thickness))
+      (times-fraction fill fin' (filled section) (finVolume p) (fill-fraction (numbersOf entries) section plain-section) volume-fraction)
+      (slab-fraction (p .tab) (x .tab-within))))
+
+  pub mass-near : Apart (product (pos (c * 90 * (b * y)) over (d * e * 2 ^ 53))
+      (product (fractionOf (p .density)) (fractionOf (p .thickness))))
+      (fractionOf (r .body .«mass_kg»)) (exactMassWith section p m)
+  mass-near =
+      let k = c * 90 * (b * y) in
+      let q = d * e * 2 ^ 53 in
+      let dw = product (fractionOf (p .density)) (fractionOf (p .thickness)) in
+      let n = num (p .density) * num (p .thickness) in
+      let w = den (p .density) * den (p .thickness) in
+      subst (λ (z : Float). Apart (product (pos k over q) dw) (fractionOf z) (exactMassWith section p m)) (sym set-mass-is)
+      (within-fraction (k * n) (q * w) (valueOf summed) (number c 0 1 times X) (product (pos k over q) dw) (fractionOf summed)
+      (exactMassWith section p m)
+      (mul-pos (mul-pos (mul-pos (x .along .is-size) (x .is-size)) (pow-pos 53))
+      (mul-pos (den-pos (p .density)) (den-pos (p .thickness))))
+      (Counts.value-is summed) (times-is (number c 0 1) X (pow-pos 0) X-is)
+      (product-fraction k q n w (pos k over q) dw (whole-fraction k q)
+      (product-fraction (num (p .density)) (den (p .density)) (num (p .thickness)) (den (p .thickness)) (fractionOf (p .density))
+      (fractionOf (p .thickness)) (positive-fraction (p .density) (heavy .0)) (positive-fraction (p .thickness) thick-positive)))
+      (value-fraction summed (copied .near .finite)) exact-fraction mass-within)
+
+pub ordinary-mass : OrdinaryMass
+ordinary-mass = mass-near
