@@ -119,7 +119,7 @@ impl Vector {
 }
 
 impl Matrix {
-    pub fn transpose(self) -> Matrix
+    fn transpose(self) -> Matrix
         ensures { λ r. ⌜ r ≡ transposeOf self ⌝ }
     {
         let a = self.0;
@@ -127,7 +127,7 @@ impl Matrix {
     }
 
     // Column 1 times x, plus column 2 times y, plus column 3 times z.
-    pub fn times_vector(self, v: Vector) -> Vector
+    fn times_vector(self, v: Vector) -> Vector
         ensures { λ r. ⌜ r ≡ timesVector self v ⌝ }
     {
         let a = self.0;
@@ -139,7 +139,7 @@ impl Matrix {
     }
 
     // The product by columns: each column of `other` is taken through this matrix.
-    pub fn times(self, other: Matrix) -> Matrix
+    fn times(self, other: Matrix) -> Matrix
         ensures { λ r. ⌜ r ≡ timesMatrix self other ⌝ }
     {
         let b = other.0;

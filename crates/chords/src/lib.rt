@@ -11,7 +11,7 @@ ghost use Prim.Native.Nat.{_<_};
 ghost use lib.ListN.{length, take};
 ghost use lib.Ieee.{le};
 ghost use Rattle.sorting.specs.Sorted.{Written};
-ghost use Rattle.planforms.specs.Planforms.{heightAt, pairCount, next};
+ghost use Rattle.planforms.specs.Planforms.{heightAt, pairCount};
 ghost use Rattle.chords.specs.Chords.{inSpan, trapezoidEnds, ellipseEnds, crossed, edgeCrossed, edgeCrossing, outlineCrossings, endsAt, chordsOf};
 ghost use Rattle.chords.specs.Edges.{crossEdge, addFew, fewEdge, fewChords};
 
@@ -187,21 +187,12 @@ fn cross_edge(points: &[f64], h: f64, i: usize, n: usize, xs: &mut [f64], count:
     requires { ⌜ (i < n) × (n ≡ pairCount (now points)) × (count < length (now xs)) ⌝ }
     ensures { λ r. ⌜ Written (crossEdge (now (points .entry)) n h i (take count (now (xs .entry)))) (now (xs .entry)) (now (xs .exit)) r ⌝ }
 {
-    let j = next_point(i, n);
+    let j = planforms::next_point(n, i);
     if !edge_crossed(points, h, i, j) {
         return count;
     }
     sorting::insert(xs, count, edge_crossing(points, h, i, j));
     count + 1
-}
-
-// The point at the other end of edge i: the last edge closes the outline.
-fn next_point(i: usize, n: usize) -> usize
-    requires { ⌜ i < n ⌝ }
-    ensures { λ r. ⌜ (r ≡ next n i) × (r < n) ⌝ }
-{
-    let j = i + 1;
-    if j < n { j } else { 0 }
 }
 
 // Whether the edge from point i to point j is crossed at h.

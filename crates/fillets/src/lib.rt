@@ -94,7 +94,7 @@ fn angle_series(z: f64) -> f64
 }
 
 // The angle of (c, r) from the first axis, for positive r and c (document 02, Paper 6).
-pub fn angle(r: f64, c: f64) -> f64
+fn angle(r: f64, c: f64) -> f64
     ensures { λ a. ⌜ a ≡ angleOf r c ⌝ }
 {
     let t = halved(halved(halved(r / c)));
@@ -122,7 +122,7 @@ fn span_less_sine_series(x: f64) -> f64
 }
 
 // x − sin x, by its series where the difference would cancel.
-pub fn span_less_sine(x: f64) -> f64
+fn span_less_sine(x: f64) -> f64
     ensures { λ r. ⌜ r ≡ spanLessSineOf x ⌝ }
 {
     if 0.25 <= floats::abs(x) {
@@ -159,7 +159,7 @@ fn sector_with(x0: f64, y0: f64, rho: f64, span: f64, middle: f64) -> AreaMoment
 }
 
 // A circular sector about (x0, y0), of radius `rho`, from one angle to another: its area and moments about the origin.
-pub fn sector(x0: f64, y0: f64, rho: f64, from: f64, to: f64) -> AreaMoments
+fn sector(x0: f64, y0: f64, rho: f64, from: f64, to: f64) -> AreaMoments
     ensures { λ r. ⌜ r ≡ sectorOf x0 y0 rho from to ⌝ }
 {
     sector_with(x0, y0, rho, to - from, 0.5 * (to + from))
@@ -189,7 +189,7 @@ fn less(a: AreaMoments, b: AreaMoments) -> AreaMoments
 }
 
 // One fillet's section on one side of a fin, with x outward along the fin, about the body's axis.
-pub fn fillet_section(body_radius_m: f64, radius_m: f64) -> AreaMoments
+fn fillet_section(body_radius_m: f64, radius_m: f64) -> AreaMoments
     ensures { λ r. ⌜ r ≡ filletSectionOf «body_radius_m» «radius_m» ⌝ }
 {
     let rb = body_radius_m;

@@ -27,7 +27,7 @@ pub struct PlanformGeometry {
 }
 
 // The strips' totals, which were worked in lengths over the scale, as volume integrals in metres.
-pub fn unscaled(total: [f64; 7], scale_m: f64) -> [f64; 7]
+fn unscaled(total: [f64; 7], scale_m: f64) -> [f64; 7]
     ensures { λ r. ⌜ r ≡ unscaledOf total «scale_m» ⌝ }
 {
     let cube = floats::powi3(scale_m);

@@ -127,7 +127,7 @@ fn tail(section: Section) -> [f64; 4]
 }
 
 // The constants of the closed tail. Both sides of each fraction are whole numbers below 2^53, so that one division rounds it to the nearest.
-pub fn closed_tail() -> [f64; 4]
+fn closed_tail() -> [f64; 4]
     ensures { λ r. ⌜ AreConstants closedTail r ⌝ }
 {
     [
@@ -139,7 +139,7 @@ pub fn closed_tail() -> [f64; 4]
 }
 
 // The constants of the open tail.
-pub fn open_tail() -> [f64; 4]
+fn open_tail() -> [f64; 4]
     ensures { λ r. ⌜ AreConstants openTail r ⌝ }
 {
     [

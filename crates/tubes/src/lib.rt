@@ -34,7 +34,7 @@ pub struct ClosingRadius {
 }
 
 // A tube on the axis with its forward end at the origin; a wall as thick as the outer radius makes it solid, a wall of 0 massless.
-pub fn hollow_cylinder(kg_m3: f64, length_m: f64, outer_radius_m: f64, thickness_m: f64) -> Body
+fn hollow_cylinder(kg_m3: f64, length_m: f64, outer_radius_m: f64, thickness_m: f64) -> Body
     ensures { λ r. ⌜ r ≡ hollowCylinder «kg_m3» «length_m» «outer_radius_m» «thickness_m» ⌝ }
 {
     let big = outer_radius_m;
@@ -101,7 +101,7 @@ fn check_mount(set: TubeFinSet, body_radius_m: f64) -> Verdict
 }
 
 // The first refusal of a ring of tubes, in the order of document 02, Paper 3.
-pub fn check_tubes(set: TubeFinSet, body_radius_m: f64) -> Verdict
+fn check_tubes(set: TubeFinSet, body_radius_m: f64) -> Verdict
     ensures { λ r. ⌜ r ≡ tubeCheck set «body_radius_m» ⌝ }
 {
     let v = check_mount(set, body_radius_m);
