@@ -4,6 +4,7 @@
 // not negative and obey I₁ + I₂ ≥ I₃, the last two to 1e-9 of the tensor's largest magnitude.
 ghost use mathlib.Core.Path.{_≡_};
 ghost use Rattle.bodies.specs.Layout.{tensorNumbers};
+ghost use Rattle.refusals.specs.Given.{IsVerdict};
 ghost use Rattle.body_check.specs.BodyCheck.{finiteVector, largestMagnitude, masslessInertia, checkMoments, checkTensor, checkOf};
 use bodies::Body;
 use bodies::TENSOR_NUMBERS;
@@ -14,7 +15,7 @@ use refusals::TensorFault;
 use refusals::Verdict;
 
 pub fn check(body: Body) -> Verdict
-    ensures { λ r. ⌜ r ≡ checkOf body ⌝ }
+    ensures { λ r. ⌜ IsVerdict r (checkOf body) ⌝ }
 {
     let mass = body.mass_kg;
     if !floats::is_finite(mass) {

@@ -8,6 +8,7 @@ ghost use mathlib.Core.Bool.{true};
 ghost use lib.IntN.{natAbs, _+ℤ_};
 ghost use lib.ListN.{length, take};
 ghost use mathlib.Core.List.{[], _∷_, map};
+ghost use Rattle.refusals.specs.Given.{IsAnswer};
 ghost use Rattle.planforms.specs.Planforms.{pairCount};
 ghost use Rattle.polygons.specs.Polygons.{cornerCount};
 ghost use Rattle.polygons.specs.Bounds.{InReach};
@@ -131,7 +132,7 @@ fn drill_outline(points: &[f64], x_m: f64, height_m: f64) -> Answer
 
 // Where a point lies beside a planform, and the nearest corner.
 pub fn drill(planform: Planform, points: &[f64], x_m: f64, height_m: f64) -> Answer
-    ensures { λ r. ⌜ r ≡ drillOf planform (now (points .entry)) «x_m» «height_m» ⌝ }
+    ensures { λ r. ⌜ IsAnswer verdictOf r (drillOf planform (now (points .entry)) «x_m» «height_m») ⌝ }
 {
     let v = fins::check_planform(planform, points);
     let v = first_refusal(v, check_length(limits::DRILL_X, x_m));

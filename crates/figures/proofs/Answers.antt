@@ -29,7 +29,8 @@ use Rattle.figures.specs.Answers.{setReport, areaReport, SetWorked, SetA
 use Rattle.figures.proofs.Owned.{SetF64}
 use Rattle.figures.proofs.Rising.{set-pieces-rise, set-samples-finite, set-numbers-finite, area-pieces-rise, area-samples-finite, area-numbers-finite}
 use Rattle.figures.proofs.StripCount.{set-strips-counted, area-strips-counted}
-use Rattle.figures.proofs.Reports.{ZeroFigures, ZeroArea, no-refusal, gives-refusal, concluded-samples, concluded-intervals, concluded-verdict, concluded-zeros, concluded-area-samples, concluded-area-intervals, concluded-area-verdict, concluded-area-zeros}
+use Rattle.refusals.proofs.Given.{gives-row}
+use Rattle.figures.proofs.Reports.{ZeroFigures, ZeroArea, no-refusal, concluded-samples, concluded-intervals, concluded-verdict, concluded-zeros, concluded-area-samples, concluded-area-intervals, concluded-area-verdict, concluded-area-zeros}
 
 -- ---- an accepted set, and a refused one
 pub set-reported : (set : FinSet) (points : List Float) (L n : ℕ) (r : Figures) → setCheck set points L n ≡ Accepted → r ≡ workedFigures set points L
@@ -71,7 +72,7 @@ module _ (set : FinSet) (points : List Float) (L : ℕ) (entry : List Float) (r 
       record {
         figures = rw refuses e;
         scratch = rw refuses s;
-        given-before-strips = λ other h. (gives-refusal (r .verdict) other (ap (λ (x : Figures). x .verdict) e ∙ sym refuses ∙ h), ap (λ (x : Figures). x .samples) e, s);
+        given-before-strips = λ other h. (gives-row (r .verdict) (Refused other) (ap (λ (x : Figures). x .verdict) e ∙ sym refuses ∙ h), ap (λ (x : Figures). x .samples) e, s);
         zero-figures = subst ZeroFigures (sym e) (λ number values g. (refl, refl));
         strip-count = set-strips-counted set points L (length entry);
         demand-3 = λ h. no-refusal refusal (sym refuses ∙ h);
@@ -118,7 +119,7 @@ module _ (planform : Planform) (points : List Float) (L : ℕ) (entry : List Flo
       record {
         figures = rw refuses e;
         scratch = rw refuses s;
-        given-before-strips = λ other h. (gives-refusal (r .verdict) other (ap (λ (x : Area). x .verdict) e ∙ sym refuses ∙ h), ap (λ (x : Area). x .samples) e, s);
+        given-before-strips = λ other h. (gives-row (r .verdict) (Refused other) (ap (λ (x : Area). x .verdict) e ∙ sym refuses ∙ h), ap (λ (x : Area). x .samples) e, s);
         zero-figures = subst ZeroArea (sym e) (λ number values g. (refl, refl, refl, refl));
         strip-count = area-strips-counted planform points L (length entry);
         demand-3 = λ h. no-refusal refusal (sym refuses ∙ h);

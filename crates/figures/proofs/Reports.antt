@@ -13,7 +13,8 @@ use Rattle.refusals.specs.declared.Refusal.the-variants.{NoArea}
 use Rattle.refusals.specs.declared.Verdict.{Verdict}
 use Rattle.refusals.specs.declared.Verdict.the-variants.{Accepted, Refused}
 use Rattle.refusals.specs.Order.{firstRefusal}
-use Rattle.refusals.specs.Refusals.{numberOf, valuesOf}
+use Rattle.refusals.specs.Given.{Gives}
+use Rattle.refusals.proofs.Given.{gives-row}
 use Rattle.limits.specs.Limits.{countCheck}
 use Rattle.materials.specs.Materials.{densityCheck}
 use Rattle.materials.specs.declared.Density.{Density}
@@ -41,7 +42,7 @@ use Rattle.figures.specs.declared.Figures.{Figures}
 use Rattle.figures.specs.declared.Area.{Area}
 use Rattle.figures.specs.Figures.{ofJoined, endedFigures, concludedSet}
 use Rattle.figures.specs.Areas.{ofGeometry, endedArea, concludedArea}
-use Rattle.strips.specs.Claim.{Gives, Reported}
+use Rattle.strips.specs.Claim.{Reported}
 
 pub no-refusal : {A : Type 0} (refusal : Refusal) → Refused refusal ≡ Accepted → A
 no-refusal refusal e = absurd (let z : _≡_ {A = ℕ} 0 1 = cc in let none : ⊥ = omega arith in none)
@@ -51,11 +52,7 @@ FiguresOr8 verdict = (verdict ≡ Accepted) ⊎ (verdict ≡ Refused NoArea)
 
 given-8 : (verdict : Verdict) → FiguresOr8 verdict → Reported accepted verdict
 given-8 verdict (inl e) = inl e
-given-8 verdict (inr e) = inr (subst (λ (v : Verdict). Gives v 8 []) (sym e) (refl, refl))
-
--- what a check refused is given by its number and values
-pub gives-refusal : (verdict : Verdict) (refusal : Refusal) → verdict ≡ Refused refusal → Gives verdict (numberOf refusal) (valuesOf refusal)
-gives-refusal verdict refusal e = subst (λ (v : Verdict). Gives v (numberOf refusal) (valuesOf refusal)) (sym e) (refl, refl)
+given-8 verdict (inr e) = inr (gives-row verdict (Refused NoArea) e)
 
 -- ---- one fin of bulk density, and the fins joined
 bulk-fin : (v : List Float) (glue : Body) (cant : Float) (pivot : Vector) (x : Float) → FiguresOr8 (bulkFin v glue cant pivot x .verdict)

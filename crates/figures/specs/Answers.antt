@@ -7,6 +7,7 @@ use lib.ListN.{length}
 use lib.Ieee.{Float}
 use Rattle.floats.specs.Operations.{bits}
 use Rattle.refusals.specs.Refusals.{numberOf, valuesOf}
+use Rattle.refusals.specs.Given.{Gives}
 use Rattle.refusals.specs.declared.Refusal.{Refusal}
 use Rattle.refusals.specs.declared.Verdict.the-variants.{Accepted, Refused}
 use Rattle.planforms.specs.declared.Planform.{Planform}
@@ -14,7 +15,7 @@ use Rattle.fins.specs.declared.FinSet.{FinSet}
 use Rattle.fins.specs.Fins.{setCheck, areaCheck}
 use Rattle.bodies.specs.Bodies.{emptyBody}
 use Rattle.strips.specs.Strips.{scratchAfter}
-use Rattle.strips.specs.Claim.{Report, Gives, Demand3}
+use Rattle.strips.specs.Claim.{Report, Demand3}
 use Rattle.strips.specs.Rising.{PiecesRise, SamplesFinite, NumbersFinite}
 use Rattle.figures.specs.declared.Figures.{Figures}
 use Rattle.figures.specs.declared.Area.{Area}

@@ -4,6 +4,7 @@
 // directly after the thickness, a fillet's radius before the tab, its density and 22 behind the plate's. Each check stands for itself, and the
 // first refusal is the answer.
 ghost use mathlib.Core.Path.{_≡_};
+ghost use Rattle.refusals.specs.Given.{IsVerdict};
 ghost use Rattle.refusals.specs.Order.{firstOf};
 ghost use Rattle.fins.specs.Fins.{trapezoidCheck, planformCheck, slabCheck, tabCheck, depthCheck, plateChecks, mountChecks, filletChecks, ownCheck, setCheck, areaCheck};
 ghost use Rattle.fins.specs.Numbered.{numberedTab, numberedSet};
@@ -135,7 +136,7 @@ fn check_trapezoid(root_chord_m: f64, tip_chord_m: f64, span_m: f64, sweep_m: f6
 
 // The first refusal of a planform: of its lengths as listed, or of the outline's own checks.
 pub fn check_planform(planform: Planform, points: &[f64]) -> Verdict
-    ensures { λ r. ⌜ r ≡ planformCheck planform (now (points .entry)) ⌝ }
+    ensures { λ r. ⌜ IsVerdict r (planformCheck planform (now (points .entry))) ⌝ }
 {
     match planform {
         Planform::Trapezoid {
@@ -234,7 +235,7 @@ fn check_fillet(fillet: Fillet, body_radius_m: f64) -> Verdict
 
 // The first refusal of the set itself, whatever the interval limit and the scratch: 3, the planform, and so on to 22.
 pub fn check_own(set: FinSet, points: &[f64]) -> Verdict
-    ensures { λ r. ⌜ r ≡ ownCheck set (now (points .entry)) ⌝ }
+    ensures { λ r. ⌜ IsVerdict r (ownCheck set (now (points .entry))) ⌝ }
 {
     let planform = set.planform;
     let tab = set.tab;
@@ -273,7 +274,7 @@ pub fn check_own(set: FinSet, points: &[f64]) -> Verdict
 
 // The first refusal of a set before its strips: of the interval limit, of the length of the lent scratch, of the set itself.
 pub fn check_set(set: FinSet, points: &[f64], limit: usize, scratch_len: usize) -> Verdict
-    ensures { λ r. ⌜ r ≡ setCheck set (now (points .entry)) limit «scratch_len» ⌝ }
+    ensures { λ r. ⌜ IsVerdict r (setCheck set (now (points .entry)) limit «scratch_len») ⌝ }
 {
     let v = limits::check_limit(limit);
     let v = first_refusal(v, limits::check_scratch(limit, scratch_len));
@@ -285,7 +286,7 @@ pub fn check_set(set: FinSet, points: &[f64], limit: usize, scratch_len: usize) 
 
 // The first refusal of a planform of which the area alone is asked.
 pub fn check_area(planform: Planform, points: &[f64], limit: usize, scratch_len: usize) -> Verdict
-    ensures { λ r. ⌜ r ≡ areaCheck planform (now (points .entry)) limit «scratch_len» ⌝ }
+    ensures { λ r. ⌜ IsVerdict r (areaCheck planform (now (points .entry)) limit «scratch_len») ⌝ }
 {
     let room = limits::check_limit(limit);
     let room = first_refusal(room, limits::check_scratch(limit, scratch_len));

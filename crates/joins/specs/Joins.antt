@@ -18,6 +18,7 @@ use Rattle.refusals.specs.declared.Refusal.{Refusal}
 use Rattle.refusals.specs.declared.Refusal.the-variants.{Count}
 use Rattle.refusals.specs.declared.Verdict.{Verdict}
 use Rattle.refusals.specs.declared.Verdict.the-variants.{Accepted, Refused}
+use Rattle.refusals.specs.Given.{IsAnswer}
 use Rattle.limits.specs.Limits.{countCheck}
 use Rattle.joins.specs.Flat.{bodyAt}
 use Rattle.joins.specs.declared.Joined.{Joined}
@@ -69,6 +70,10 @@ acceptedBody body = record { verdict = Accepted; body = body }
 -- "Figures zero" with a refusal
 abbrev pub refusedBody : Refusal → Joined
 refusedBody refusal = record { verdict = Refused refusal; body = emptyBody }
+
+-- a call's answer is the definition's, with the number and values of its verdict
+abbrev pub IsJoined : Joined → Joined → Type 0
+IsJoined r definition = IsAnswer (λ (j : Joined). j .verdict) r definition
 
 abbrev pub unlessRefused : Verdict → Body → Joined
 unlessRefused Accepted body = acceptedBody body

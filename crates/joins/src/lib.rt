@@ -8,7 +8,7 @@ ghost use Prim.Native.Nat.{_+_, _*_, _≤_};
 ghost use lib.ListN.{length};
 ghost use Rattle.bodies.specs.Layout.{bodyNumbers};
 ghost use Rattle.joins.specs.Flat.{bodyAt, withBody};
-ghost use Rattle.joins.specs.Joins.{sumsOf, noSums, addBody, centreOf, atCentre, addInertia, joinOf, twoBodies, acceptedBody, refusedBody, combineOf};
+ghost use Rattle.joins.specs.Joins.{sumsOf, noSums, addBody, centreOf, atCentre, addInertia, joinOf, twoBodies, acceptedBody, refusedBody, IsJoined, combineOf};
 use bodies::BODY_NUMBERS;
 use bodies::Body;
 use bodies::Vector;
@@ -46,7 +46,7 @@ pub fn refused(refusal: Refusal) -> Joined
 
 // One to 32 bodies joined; a slice that holds another number, or no whole number, of them is refused 3.
 pub fn combine(bodies: &[f64]) -> Joined
-    ensures { λ r. ⌜ r ≡ combineOf (now (bodies .entry)) ⌝ }
+    ensures { λ r. ⌜ IsJoined r (combineOf (now (bodies .entry))) ⌝ }
 {
     if bodies.len() % BODY_NUMBERS != 0 {
         return refused(Refusal::Count);

@@ -16,6 +16,7 @@ use Rattle.bodies.specs.Layout.{tensorNumbers}
 use Rattle.refusals.specs.declared.Verdict.the-variants.{Accepted, Refused}
 use Rattle.refusals.specs.declared.Refusal.the-variants.{Tensor as TensorRefused}
 use Rattle.refusals.specs.declared.TensorFault.the-variants.{Entry}
+use Rattle.refusals.specs.Given.{IsAnswer}
 use Rattle.moments.specs.declared.Moments.{Moments}
 use Rattle.moments.specs.declared.Rotation.{Rotation}
 
@@ -97,6 +98,10 @@ eigenvaluesOf t = let a = sweeps 32 (asMatrix t) in ascending (entry a 0 0 ∷ e
 -- "17a first"
 abbrev pub refusedEntry : Moments
 refusedEntry = record { verdict = Refused (TensorRefused Entry); «moments_kg_m2» = bits 0 ∷ bits 0 ∷ bits 0 ∷ [] }
+
+-- a call's answer is the definition's, with the number and values of its verdict
+abbrev pub IsMoments : Moments → Moments → Type 0
+IsMoments r definition = IsAnswer (λ (m : Moments). m .verdict) r definition
 
 abbrev pub principalMomentsOf : Tensor → Moments
 principalMomentsOf t = cond (entriesFit t) (record { verdict = Accepted; «moments_kg_m2» = eigenvaluesOf t }) refusedEntry

@@ -6,7 +6,7 @@
 ghost use mathlib.Core.Path.{_≡_};
 ghost use mathlib.Core.List.{[], _∷_};
 ghost use Prim.Native.Nat.{_<_};
-ghost use Rattle.moments.specs.Moments.{entryFits, entriesFit, tangentOf, rotationOf, turnPair, turnColumns, turnRows, rotate, sweep, offDiagonal, sweeps, insertMoment, ascending, eigenvaluesOf, refusedEntry, principalMomentsOf};
+ghost use Rattle.moments.specs.Moments.{entryFits, entriesFit, tangentOf, rotationOf, turnPair, turnColumns, turnRows, rotate, sweep, offDiagonal, sweeps, insertMoment, ascending, eigenvaluesOf, refusedEntry, IsMoments, principalMomentsOf};
 use bodies::Matrix;
 use bodies::TENSOR_NUMBERS;
 use bodies::Tensor;
@@ -32,7 +32,7 @@ const SWEEPS: usize = 32;
 
 // The principal moments; a tensor with an entry that is not finite, or over 2^500 in magnitude, is refused 17a.
 pub fn principal_moments(tensor: Tensor) -> Moments
-    ensures { λ r. ⌜ r ≡ principalMomentsOf tensor ⌝ }
+    ensures { λ r. ⌜ IsMoments r (principalMomentsOf tensor) ⌝ }
 {
     if entries_fit(tensor) {
         let verdict = Verdict::Accepted;

@@ -10,7 +10,7 @@ ghost use Prim.Native.Nat.{_*_, _≤_, _<_};
 ghost use lib.ListN.{length};
 ghost use Rattle.bodies.specs.Layout.{bodyNumbers};
 ghost use Rattle.joins.specs.Flat.{withBodies};
-ghost use Rattle.joins.specs.Joins.{acceptedBody, joinedOf};
+ghost use Rattle.joins.specs.Joins.{acceptedBody, joinedOf, IsJoined};
 ghost use Rattle.placements.specs.Places.{isHere, placeCount, isWholeList, placeAt, listCheck, placeCheck, placesCheck};
 ghost use Rattle.placements.specs.Copies.{turnedCopy, copyAt, placedOf, copiesCheck, copiesOf, copiedOf, placedAtOf};
 ghost use Rattle.placements.specs.Parts.{partMovedOf, offsetChecks, movedCheck, movedOf, partOffOf, withoutCheck, withoutOf};
@@ -206,7 +206,7 @@ fn placed_copies(body: Body, places: &[f64], rolled: bool) -> Joined
 }
 
 fn copies(body: Body, places: &[f64], rolled: bool) -> Joined
-    ensures { λ r. ⌜ r ≡ copiesOf rolled body (now (places .entry)) ⌝ }
+    ensures { λ r. ⌜ IsJoined r (copiesOf rolled body (now (places .entry))) ⌝ }
 {
     let verdict = check_copies(body, places, rolled);
     match verdict {
@@ -217,14 +217,14 @@ fn copies(body: Body, places: &[f64], rolled: bool) -> Joined
 
 // Copies of a body, one moved by each x and y of a list across the axis, joined.
 pub fn copied(body: Body, offsets_m: &[f64]) -> Joined
-    ensures { λ r. ⌜ r ≡ copiedOf body (now («offsets_m» .entry)) ⌝ }
+    ensures { λ r. ⌜ IsJoined r (copiedOf body (now («offsets_m» .entry))) ⌝ }
 {
     copies(body, offsets_m, false)
 }
 
 // Copies of a body, one at each place of a list, x, y and roll, joined.
 pub fn placed(body: Body, places: &[f64]) -> Joined
-    ensures { λ r. ⌜ r ≡ placedAtOf body (now (places .entry)) ⌝ }
+    ensures { λ r. ⌜ IsJoined r (placedAtOf body (now (places .entry))) ⌝ }
 {
     copies(body, places, true)
 }
@@ -268,7 +268,7 @@ fn check_moved(whole: Body, part: Body, offset_m: Vector) -> Verdict
 
 // The whole with one of its parts moved by an offset inside it.
 pub fn with_part_moved(whole: Body, part: Body, offset_m: Vector) -> Joined
-    ensures { λ r. ⌜ r ≡ movedOf whole part «offset_m» ⌝ }
+    ensures { λ r. ⌜ IsJoined r (movedOf whole part «offset_m») ⌝ }
 {
     let verdict = check_moved(whole, part, offset_m);
     match verdict {
@@ -303,7 +303,7 @@ fn check_without(whole: Body, part: Body) -> Verdict
 
 // The whole with one of its parts taken off.
 pub fn without_part(whole: Body, part: Body) -> Joined
-    ensures { λ r. ⌜ r ≡ withoutOf whole part ⌝ }
+    ensures { λ r. ⌜ IsJoined r (withoutOf whole part) ⌝ }
 {
     let verdict = check_without(whole, part);
     match verdict {

@@ -9,6 +9,7 @@ use lib.Seq.{take-take}
 use lib.Ieee.{Float}
 use Rattle.sorting.specs.Sorted.{over, Written}
 use Rattle.sorting.proofs.Over.{written-take, written-nothing, written-put}
+use Rattle.refusals.proofs.Given.{is-answer}
 use Rattle.refusals.specs.declared.Refusal.{Refusal}
 use Rattle.refusals.specs.declared.Refusal.the-variants.{NoForm}
 use Rattle.refusals.specs.declared.Verdict.the-variants.{Accepted, Refused}
@@ -17,7 +18,7 @@ use Rattle.fins.specs.Fins.{planformCheck}
 use Rattle.chords.specs.declared.Chords.{Chords}
 use Rattle.chords.specs.Chords.{paired, chordsAt, endsOf}
 use Rattle.planform_chords.specs.declared.ChordList.{ChordList}
-use Rattle.planform_chords.specs.PlanformChords.{endsIn, Listed, verdictOf, chordList, endsAfter}
+use Rattle.planform_chords.specs.PlanformChords.{endsIn, Listed, verdictOf, chordList, IsChordList, endsAfter}
 use Rattle.planform_chords.proofs.Pairs.{pairs-count, pairs-ends}
 
 -- ---- the chords written
@@ -41,19 +42,19 @@ several-listed l xs₀ xs s t n w e =
 
 module _ (planform : Planform) (points : List Float) (h : Float) (ends ends' : List Float) (r : ChordList) where
   abbrev pub Answered : Type 0
-  Answered = (r ≡ chordList planform points h (length ends)) × (ends' ≡ endsAfter planform points h ends)
+  Answered = IsChordList r (chordList planform points h (length ends)) × (ends' ≡ endsAfter planform points h ends)
 
   pub no-room : length ends < 64 → ends' ≡ ends → r ≡ record { verdict = Refused NoForm; count = 0 } → Answered
   unfolding chordList endsAfter verdictOf
-  no-room b e f = let t = lt-leb 64 (length ends) b in (rw t f, rw t e)
+  no-room b e f = let t = lt-leb 64 (length ends) b in (is-answer (rw t f), rw t e)
 
   pub refused-so : 64 ≤ length ends → (refusal : Refusal) → planformCheck planform points ≡ Refused refusal → ends' ≡ ends → r ≡ record { verdict = Refused refusal; count = 0 } → Answered
   unfolding chordList endsAfter verdictOf
-  refused-so b refusal v e f = let t = le-leb 64 (length ends) b in (rw (t, v) f, rw (t, v) e)
+  refused-so b refusal v e f = let t = le-leb 64 (length ends) b in (is-answer (rw (t, v) f), rw (t, v) e)
 
   pub listed-so : 64 ≤ length ends → planformCheck planform points ≡ Accepted → (found : Chords) (count : ℕ) → paired (endsOf found points h) ≡ chordsAt planform points h
       → Listed (paired (endsOf found points h)) ends ends' count → r ≡ record { verdict = Accepted; count = count } → Answered
   unfolding chordList endsAfter verdictOf
   listed-so b v found count all w f =
       let t = le-leb 64 (length ends) b in
-      (rw (t, v) (f ∙ ap (λ (n : ℕ). record { verdict = Accepted; count = n }) (w .count ∙ ap length all)), rw (t, v) (w .list ∙ ap (λ (l : List (Float × Float)). over (endsIn l) ends) all))
+      (is-answer (rw (t, v) (f ∙ ap (λ (n : ℕ). record { verdict = Accepted; count = n }) (w .count ∙ ap length all))), rw (t, v) (w .list ∙ ap (λ (l : List (Float × Float)). over (endsIn l) ends) all))

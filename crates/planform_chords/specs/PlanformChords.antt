@@ -10,6 +10,7 @@ use Rattle.sorting.specs.Sorted.{over}
 use Rattle.refusals.specs.declared.Refusal.the-variants.{NoForm}
 use Rattle.refusals.specs.declared.Verdict.{Verdict}
 use Rattle.refusals.specs.declared.Verdict.the-variants.{Accepted, Refused}
+use Rattle.refusals.specs.Given.{IsAnswer}
 use Rattle.planforms.specs.declared.Planform.{Planform}
 use Rattle.fins.specs.Fins.{planformCheck}
 use Rattle.chords.specs.Chords.{chordsAt}
@@ -37,6 +38,10 @@ countChecked (Refused refusal) planform points h = record { verdict = Refused re
 
 unfoldable pub chordList : Planform → List Float → Float → ℕ → ChordList
 chordList planform points h room = countChecked (verdictOf planform points room) planform points h
+
+-- a call's answer is the definition's, with the number and values of its verdict
+abbrev pub IsChordList : ChordList → ChordList → Type 0
+IsChordList r definition = IsAnswer (λ (l : ChordList). l .verdict) r definition
 
 -- the list after the call
 abbrev pub endsChecked : Verdict → Planform → List Float → Float → List Float → List Float

@@ -5,7 +5,7 @@ ghost use Prim.Native.Nat.{_≤_};
 ghost use lib.ListN.{length, take};
 ghost use Rattle.sorting.specs.Sorted.{over};
 ghost use Rattle.chords.specs.Chords.{outlineCrossings, endsOf, paired, chordsAt};
-ghost use Rattle.planform_chords.specs.PlanformChords.{Listed, chordList, endsAfter};
+ghost use Rattle.planform_chords.specs.PlanformChords.{Listed, chordList, IsChordList, endsAfter};
 use chords::Chords;
 use planforms::Planform;
 use refusals::Refusal;
@@ -22,7 +22,7 @@ pub struct ChordList {
 
 // A list without room for 64 numbers is refused as no form (18). Where nothing is listed, the list is left alone.
 pub fn chords_at(planform: Planform, points: &[f64], h: f64, ends: &mut [f64]) -> ChordList
-    ensures { λ r. ⌜ r ≡ chordList planform (now (points .entry)) h (length (now (ends .entry))) ⌝ }
+    ensures { λ r. ⌜ IsChordList r (chordList planform (now (points .entry)) h (length (now (ends .entry)))) ⌝ }
     ensures { λ _. ⌜ now (ends .exit) ≡ endsAfter planform (now (points .entry)) h (now (ends .entry)) ⌝ }
 {
     if ends.len() < ROOM {

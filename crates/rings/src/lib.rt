@@ -4,6 +4,7 @@
 // joined there (document 01, "Body"). An only one is turned and joined like any other.
 ghost use mathlib.Core.Path.{_≡_};
 ghost use Prim.Native.Nat.{_≤_};
+ghost use Rattle.joins.specs.Joins.{IsJoined};
 ghost use Rattle.rings.specs.Rings.{angleOf, TurnsTo, CopiesTo, joinedCopies, ringOf};
 use bodies::Body;
 use joins::Joined;
@@ -69,7 +70,7 @@ fn joined_copies(body: Body, base_angle_rad: f64, count: usize) -> Body
 // `count` copies of a body, evenly turned about the body's axis from the base angle, joined; refused 3 for a count not 1 to 32, and
 // then as the one body is.
 pub fn ring(one: Joined, base_angle_rad: f64, count: usize) -> Joined
-    ensures { λ r. ⌜ r ≡ ringOf one «base_angle_rad» count ⌝ }
+    ensures { λ r. ⌜ IsJoined r (ringOf one «base_angle_rad» count) ⌝ }
 {
     let of_one = one.verdict;
     let body = one.body;

@@ -11,6 +11,7 @@ use Rattle.refusals.specs.declared.Refusal.{Refusal}
 use Rattle.refusals.specs.declared.Verdict.{Verdict}
 use Rattle.refusals.specs.declared.Verdict.the-variants.{Accepted, Refused}
 use Rattle.refusals.specs.Order.{firstOf}
+use Rattle.refusals.specs.Given.{IsAnswer}
 use Rattle.limits.specs.Limits.{bodyRadiusField, lengthCheck, countCheck}
 use Rattle.tubes.specs.declared.ClosingRadius.{ClosingRadius}
 
@@ -28,6 +29,10 @@ closedAt radius = record { verdict = Accepted; «radius_m» = radius }
 -- "Figures zero" with a refusal
 abbrev pub refusedRadius : Refusal → ClosingRadius
 refusedRadius refusal = record { verdict = Refused refusal; «radius_m» = bits 0 }
+
+-- a call's answer is the definition's, with the number and values of its verdict
+abbrev pub IsClosing : ClosingRadius → ClosingRadius → Type 0
+IsClosing r definition = IsAnswer (λ (c : ClosingRadius). c .verdict) r definition
 
 abbrev pub unlessRefused : Verdict → Float → ClosingRadius
 unlessRefused Accepted radius = closedAt radius

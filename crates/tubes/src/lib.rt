@@ -5,8 +5,10 @@
 // apart, so neighbours touch where the outer radius is body radius · s / (1 − s), s = sin(π/n).
 ghost use mathlib.Core.Path.{_≡_};
 ghost use Prim.Native.Nat.{_≤_};
+ghost use Rattle.refusals.specs.Given.{IsVerdict};
+ghost use Rattle.joins.specs.Joins.{IsJoined};
 ghost use Rattle.tubes.specs.Tubes.{hollowCylinder, tubeAt, wallCheck, mountCheck, tubeCheck, oneTube, tubesOf};
-ghost use Rattle.tubes.specs.Closing.{closingValue, closedAt, refusedRadius, closingOf};
+ghost use Rattle.tubes.specs.Closing.{closingValue, closedAt, refusedRadius, IsClosing, closingOf};
 use bodies::Body;
 use bodies::Tensor;
 use bodies::Vector;
@@ -102,7 +104,7 @@ fn check_mount(set: TubeFinSet, body_radius_m: f64) -> Verdict
 
 // The first refusal of a ring of tubes, in the order of document 02, Paper 3.
 fn check_tubes(set: TubeFinSet, body_radius_m: f64) -> Verdict
-    ensures { λ r. ⌜ r ≡ tubeCheck set «body_radius_m» ⌝ }
+    ensures { λ r. ⌜ IsVerdict r (tubeCheck set «body_radius_m») ⌝ }
 {
     let v = check_mount(set, body_radius_m);
     let v = first_refusal(v, limits::check_length(limits::TUBE_LENGTH, set.length_m));
@@ -127,7 +129,7 @@ fn one_tube(set: TubeFinSet, body_radius_m: f64) -> Joined
 
 // The ring's mass, centre and tensor, on a body of the given radius; the frame's origin is on the axis at the tubes' forward end.
 pub fn mass_properties(set: TubeFinSet, body_radius_m: f64) -> Joined
-    ensures { λ r. ⌜ r ≡ tubesOf set «body_radius_m» ⌝ }
+    ensures { λ r. ⌜ IsJoined r (tubesOf set «body_radius_m») ⌝ }
 {
     let one = one_tube(set, body_radius_m);
     rings::ring(one, set.base_angle_rad, set.count)
@@ -148,7 +150,7 @@ fn closing_value(body_radius_m: f64, count: usize) -> f64
 
 // The outer radius of `count` tubes that close the ring around a body, each touching the body and its two neighbours. It is held to no limit.
 pub fn closing_radius_m(body_radius_m: f64, count: usize) -> ClosingRadius
-    ensures { λ r. ⌜ r ≡ closingOf «body_radius_m» count ⌝ }
+    ensures { λ r. ⌜ IsClosing r (closingOf «body_radius_m» count) ⌝ }
 {
     let v = limits::check_count(count);
     let verdict = first_refusal(v, limits::check_length(limits::BODY_RADIUS, body_radius_m));

@@ -2,6 +2,7 @@
 use mathlib.Core.Path.{sym, _∙_}
 use borrow.Author.Tests.{not-true, not-false}
 use borrow.Author.Needs.{needs}
+use Rattle.refusals.proofs.Given.{is-answer}
 use Rattle.body_check.proofs.check.Statement.{statement}
 use Rattle.body_check.proofs.check.Tie as tie
 use Rattle.floats.proofs.is_finite.Reads as is-finite-reads′
@@ -10,12 +11,12 @@ is-finite-requires : tie.Need-is-finite-requires
 is-finite-requires c κs = search needs
 
 returns : tie.Need-returns
-returns c = rw (sym (c .before .is-finite .ensures) ∙ not-true _ (c .if1 .taken))
+returns c = is-answer (rw (sym (c .before .is-finite .ensures) ∙ not-true _ (c .if1 .taken)))
 
 returns-2 : tie.Need-returns-2
 returns-2 c =
     let finite = c .before in
-    rw (sym (finite .before .is-finite .ensures) ∙ not-false _ (finite .if1 .left), c .if2 .taken)
+    is-answer (rw (sym (finite .before .is-finite .ensures) ∙ not-false _ (finite .if1 .left), c .if2 .taken))
 
 is-finite-requires-2 : tie.Need-is-finite-requires-2
 is-finite-requires-2 c κs = search needs
@@ -24,7 +25,7 @@ returns-3 : tie.Need-returns-3
 returns-3 c =
     let positive = c .before .before .before in
     let finite = positive .before in
-    rw (sym (finite .before .is-finite .ensures) ∙ not-false _ (finite .if1 .left), positive .if2 .left, sym (c .before .is-finite2 .ensures) ∙ not-true _ (c .if3 .taken))
+    is-answer (rw (sym (finite .before .is-finite .ensures) ∙ not-false _ (finite .if1 .left), positive .if2 .left, sym (c .before .is-finite2 .ensures) ∙ not-true _ (c .if3 .taken)))
 
 check-tensor-requires : tie.Need-check-tensor-requires
 check-tensor-requires c κs = search needs
@@ -34,8 +35,9 @@ returns-4 c =
     let placed = c .before .before in
     let positive = placed .before .before .before in
     let finite = positive .before in
-    rw (sym (finite .before .is-finite .ensures) ∙ not-false _ (finite .if1 .left), positive .if2 .left, sym (placed .before .is-finite2 .ensures) ∙ not-false _ (placed .if3 .left))
-    (c .check-tensor .ensures)
+    is-answer
+    (rw (sym (finite .before .is-finite .ensures) ∙ not-false _ (finite .if1 .left), positive .if2 .left, sym (placed .before .is-finite2 .ensures) ∙ not-false _ (placed .if3 .left))
+    (c .check-tensor .ensures))
 
 pub check-spec : {M : Type 1} → statement M
 check-spec =

@@ -4,6 +4,7 @@ use mathlib.Core.Path.{_≡_, sym, ap, subst, _∙_}
 use borrow.Author.Needs.{needs}
 use denote.Ref.{now}
 use Rattle.refusals.specs.declared.Verdict.the-variants.{Accepted}
+use Rattle.refusals.proofs.Given.{is-answer}
 use Rattle.planforms.specs.declared.Planform.{Planform}
 use Rattle.fins.specs.Fins.{planformCheck}
 use Rattle.steps.specs.Steps.{exactOf}
@@ -39,7 +40,7 @@ told c = rw (
   c .before .check-length2 .ensures,
   c .before .before .first-refusal .ensures,
   c .before .before .before .check-length .ensures,
-  c .before .before .before .before .check-planform .ensures,
+  c .before .before .before .before .check-planform .ensures .is,
 )
 
 accepted : (c : tie.After-enum-told) → let a = c .before .before .before .before .before .before .before .before .args in before (a .planform) (now (a .points)) (a .x-m) (a .height-m) ≡ Accepted
@@ -48,7 +49,7 @@ accepted c = sym (told (c .before .before)) ∙ c .enum-told .given .1
 returns : tie.Need-returns
 returns c =
     let a = c .before .before .before .before .before .before .before .before .before .args in
-    refused (a .planform) (now (a .points)) (a .x-m) (a .height-m) _ (sym (told (c .before .before .before)) ∙ c .before .v .given .1)
+    is-answer (refused (a .planform) (now (a .points)) (a .x-m) (a .height-m) _ (sym (told (c .before .before .before)) ∙ c .before .v .given .1))
 
 enum-told : tie.Need-enum-told
 enum-told c = search needs
@@ -90,23 +91,25 @@ returns-2 c =
     let a = c .before .before .before .before .before .before .before .before .before .before .before .before .args in
     let points = now (a .points) in
     let e = c .before .before .planform .given .1 in
-    c .drill-trapezoid .ensures
+    is-answer
+    (c .drill-trapezoid .ensures
     ∙ ap (λ (p : Planform). inSteps (cornersOf p points) (exactOf (a .x-m)) (exactOf (a .height-m))) (sym e)
-    ∙ in-steps (a .planform) points (a .x-m) (a .height-m) (accepted (c .before .before .before .before)) (ap hasCorners e)
+    ∙ in-steps (a .planform) points (a .x-m) (a .height-m) (accepted (c .before .before .before .before)) (ap hasCorners e))
 
 returns-3 : tie.Need-returns-3
 returns-3 c =
     let a = c .before .before .before .before .before .before .before .before .before .before .args in
-    no-corners (a .planform) (now (a .points)) (a .x-m) (a .height-m) (accepted (c .before .before)) (ap hasCorners (c .enum-told2 .given .1))
+    is-answer (no-corners (a .planform) (now (a .points)) (a .x-m) (a .height-m) (accepted (c .before .before)) (ap hasCorners (c .enum-told2 .given .1)))
 
 returns-4 : tie.Need-returns-4
 returns-4 c =
     let a = c .before .before .before .before .before .before .before .before .before .before .before .args in
     let points = now (a .points) in
     let e = c .before .enum-told3 .given .1 in
-    c .drill-outline .ensures
+    is-answer
+    (c .drill-outline .ensures
     ∙ ap (λ (p : Planform). inSteps (cornersOf p points) (exactOf (a .x-m)) (exactOf (a .height-m))) (sym e)
-    ∙ in-steps (a .planform) points (a .x-m) (a .height-m) (accepted (c .before .before .before)) (ap hasCorners e)
+    ∙ in-steps (a .planform) points (a .x-m) (a .height-m) (accepted (c .before .before .before)) (ap hasCorners e))
 
 pub drill-spec : {M : Type 1} → statement M
 drill-spec =

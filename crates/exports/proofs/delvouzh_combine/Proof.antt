@@ -23,7 +23,7 @@ returns-2 : tie.Need-returns-2
 returns-2 c =
     let b = c .before .before .before in
     let j = b .before .before .before in
-    join-written (j .before .if1 .left) (j .combine .ensures) (b .write-body .ensures) (c .number .ensures)
+    join-written (j .before .if1 .left) (j .combine .ensures .is) (b .write-body .ensures) (c .number .ensures)
 
 pub delvouzh-combine-spec : {M : Type 1} → statement M
 delvouzh-combine-spec =

@@ -13,7 +13,7 @@ enum-told : tie.Need-enum-told
 enum-told c = search needs
 
 work-set-requires : tie.Need-work-set-requires
-work-set-requires c κs = sym (c .before .before .before .check-set .ensures) ∙ c .before .enum-told .given .1
+work-set-requires c κs = sym (c .before .before .before .check-set .ensures .is) ∙ c .before .enum-told .given .1
 
 enum-known-verdict : tie.Need-enum-known-verdict
 enum-known-verdict c = search needs
@@ -32,14 +32,14 @@ returns c =
     let known = checked .before .before in
     let a = known .before .args in
     let f64s = set-f64 (a .set) _ _ (known .before .good .0) (known .shared-slice-known .given) in
-    set-worked (a .set) (a .points .now) (a .limit) (a .scratch .now) _ _ f64s (sym (checked .check-set .ensures) ∙ told .enum-told .given .1) (w .work-set .ensures)
+    set-worked (a .set) (a .points .now) (a .limit) (a .scratch .now) _ _ f64s (sym (checked .check-set .ensures .is) ∙ told .enum-told .given .1) (w .work-set .ensures)
 
 returns-2 : tie.Need-returns-2
 returns-2 c =
     let v = c .before .before in
     let checked = v .before .before in
     let a = checked .before .before .before .args in
-    set-refused (a .set) (a .points .now) (a .limit) (a .scratch .now) _ _ _ (sym (checked .check-set .ensures) ∙ v .verdict .given .1) (c .refused-figures .ensures) refl
+    set-refused (a .set) (a .points .now) (a .limit) (a .scratch .now) _ _ _ (sym (checked .check-set .ensures .is) ∙ v .verdict .given .1) (c .refused-figures .ensures) refl
 
 pub mass-properties-spec : {M : Type 1} → statement M
 mass-properties-spec =

@@ -1,5 +1,6 @@
 -- `fins::check_area` meets its contract: the calls are in order. Assumes nothing.
 use mathlib.Core.List.{[], _∷_}
+use Rattle.refusals.proofs.Given.{is-answer}
 use Rattle.refusals.proofs.Order.{in-order}
 use Rattle.fins.specs.Fins.{areaCheck}
 use borrow.Author.Needs.{needs}
@@ -23,14 +24,14 @@ first-refusal-requires-2 c κs = search needs
 
 returns : tie.Need-returns
 unfolding areaCheck
-returns c = rw (
+returns c = is-answer (rw (
   c .first-refusal2 .ensures,
-  c .before .check-planform .ensures,
+  c .before .check-planform .ensures .is,
   c .before .before .first-refusal .ensures,
   c .before .before .before .check-scratch .ensures,
   c .before .before .before .before .check-limit .ensures,
 )
-    (in-order _ (_ ∷ _ ∷ []))
+    (in-order _ (_ ∷ _ ∷ [])))
 
 pub check-area-spec : {M : Type 1} → statement M
 check-area-spec =

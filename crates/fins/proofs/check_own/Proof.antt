@@ -3,6 +3,7 @@ use mathlib.Core.Path.{_≡_, refl, sym, ap, _∙_}
 use mathlib.Core.List.{List, _++_}
 use lib.Ieee.{Float}
 use Rattle.refusals.specs.Order.{firstRefusal, firstOf}
+use Rattle.refusals.proofs.Given.{is-answer}
 use Rattle.refusals.proofs.Order.{passed, refused-here, in-two}
 use Rattle.planforms.specs.Planforms.{rootChordOf}
 use Rattle.fins.specs.declared.FinSet.{FinSet}
@@ -43,7 +44,7 @@ is-refused-requires : tie.Need-is-refused-requires
 is-refused-requires c κs = search needs
 
 returns : tie.Need-returns
-returns c = refused-here _ _ (c .before .before .check-count .ensures) (sym (c .before .is-refused .ensures) ∙ c .if1 .taken) ∙ by-group _ _ _ refl
+returns c = is-answer (refused-here _ _ (c .before .before .check-count .ensures) (sym (c .before .is-refused .ensures) ∙ c .if1 .taken) ∙ by-group _ _ _ refl)
 
 check-planform-requires : tie.Need-check-planform-requires
 check-planform-requires c κs = search needs
@@ -54,9 +55,10 @@ is-refused-requires-2 c κs = search needs
 returns-2 : tie.Need-returns-2
 returns-2 c =
     let e = c .before .before .before in
-    refused-here _ _ (c .before .before .check-planform .ensures) (sym (c .before .is-refused2 .ensures) ∙ c .if2 .taken)
+    is-answer
+    (refused-here _ _ (c .before .before .check-planform .ensures .is) (sym (c .before .is-refused2 .ensures) ∙ c .if2 .taken)
     ∙ sym (passed _ _ (e .before .before .check-count .ensures) (sym (e .before .is-refused .ensures) ∙ e .if1 .left))
-    ∙ by-group _ _ _ refl
+    ∙ by-group _ _ _ refl)
 
 root-chord-m-requires : tie.Need-root-chord-m-requires
 root-chord-m-requires c κs = search needs
@@ -72,10 +74,11 @@ returns-3 c =
     let root = c .before .before .before in
     let e = root .before in
     let d = e .before .before .before in
-    refused-here _ _ (c .before .before .check-plate .ensures) (sym (c .before .is-refused3 .ensures) ∙ c .if3 .taken)
-    ∙ sym (passed _ _ (e .before .before .check-planform .ensures) (sym (e .before .is-refused2 .ensures) ∙ e .if2 .left))
+    is-answer
+    (refused-here _ _ (c .before .before .check-plate .ensures) (sym (c .before .is-refused3 .ensures) ∙ c .if3 .taken)
+    ∙ sym (passed _ _ (e .before .before .check-planform .ensures .is) (sym (e .before .is-refused2 .ensures) ∙ e .if2 .left))
     ∙ sym (passed _ _ (d .before .before .check-count .ensures) (sym (d .before .is-refused .ensures) ∙ d .if1 .left))
-    ∙ by-group _ _ _ (root .root-chord-m .ensures)
+    ∙ by-group _ _ _ (root .root-chord-m .ensures))
 
 check-mount-requires : tie.Need-check-mount-requires
 check-mount-requires c κs = search needs
@@ -89,11 +92,12 @@ returns-4 c =
     let root = f .before .before .before in
     let e = root .before in
     let d = e .before .before .before in
-    refused-here _ _ (c .before .before .check-mount .ensures) (sym (c .before .is-refused4 .ensures) ∙ c .if4 .taken)
+    is-answer
+    (refused-here _ _ (c .before .before .check-mount .ensures) (sym (c .before .is-refused4 .ensures) ∙ c .if4 .taken)
     ∙ sym (passed _ _ (f .before .before .check-plate .ensures) (sym (f .before .is-refused3 .ensures) ∙ f .if3 .left))
-    ∙ sym (passed _ _ (e .before .before .check-planform .ensures) (sym (e .before .is-refused2 .ensures) ∙ e .if2 .left))
+    ∙ sym (passed _ _ (e .before .before .check-planform .ensures .is) (sym (e .before .is-refused2 .ensures) ∙ e .if2 .left))
     ∙ sym (passed _ _ (d .before .before .check-count .ensures) (sym (d .before .is-refused .ensures) ∙ d .if1 .left))
-    ∙ by-group _ _ _ (root .root-chord-m .ensures)
+    ∙ by-group _ _ _ (root .root-chord-m .ensures))
 
 check-fillet-requires : tie.Need-check-fillet-requires
 check-fillet-requires c κs = search needs
@@ -105,12 +109,13 @@ returns-5 c =
     let root = f .before .before .before in
     let e = root .before in
     let d = e .before .before .before in
-    c .check-fillet .ensures
+    is-answer
+    (c .check-fillet .ensures
     ∙ sym (passed _ _ (m .before .before .check-mount .ensures) (sym (m .before .is-refused4 .ensures) ∙ m .if4 .left))
     ∙ sym (passed _ _ (f .before .before .check-plate .ensures) (sym (f .before .is-refused3 .ensures) ∙ f .if3 .left))
-    ∙ sym (passed _ _ (e .before .before .check-planform .ensures) (sym (e .before .is-refused2 .ensures) ∙ e .if2 .left))
+    ∙ sym (passed _ _ (e .before .before .check-planform .ensures .is) (sym (e .before .is-refused2 .ensures) ∙ e .if2 .left))
     ∙ sym (passed _ _ (d .before .before .check-count .ensures) (sym (d .before .is-refused .ensures) ∙ d .if1 .left))
-    ∙ by-group _ _ _ (root .root-chord-m .ensures)
+    ∙ by-group _ _ _ (root .root-chord-m .ensures))
 
 pub check-own-spec : {M : Type 1} → statement M
 check-own-spec =

@@ -1,5 +1,6 @@
 -- `fins::check_planform` meets its contract: each arm knows its case. Assumes nothing.
 use mathlib.Core.List.{[], _∷_}
+use Rattle.refusals.proofs.Given.{is-answer}
 use Rattle.refusals.proofs.Order.{in-order}
 use Rattle.fins.specs.Fins.{planformCheck}
 use borrow.Author.Needs.{needs}
@@ -32,21 +33,21 @@ check-outline-requires c κs = search needs
 
 returns : tie.Need-returns
 unfolding planformCheck
-returns c = rw (c .before .before .planform .given .1) (c .check-trapezoid .ensures)
+returns c = is-answer (rw (c .before .before .planform .given .1) (c .check-trapezoid .ensures))
 
 returns-2 : tie.Need-returns-2
 unfolding planformCheck
-returns-2 c = rw (
+returns-2 c = is-answer (rw (
   c .before .before .before .before .planform2 .given .1,
   c .first-refusal .ensures,
   c .before .check-length2 .ensures,
   c .before .before .check-length .ensures,
 )
-    (in-order _ (_ ∷ []))
+    (in-order _ (_ ∷ [])))
 
 returns-3 : tie.Need-returns-3
 unfolding planformCheck
-returns-3 c = rw (c .before .enum-told .given .1) (c .check-outline .ensures)
+returns-3 c = is-answer (rw (c .before .enum-told .given .1) (c .check-outline .ensures))
 
 pub check-planform-spec : {M : Type 1} → statement M
 check-planform-spec =

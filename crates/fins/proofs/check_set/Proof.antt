@@ -3,6 +3,7 @@ use mathlib.Core.Path.{_≡_, refl, sym, ap₂, _∙_}
 use Rattle.refusals.specs.declared.Verdict.{Verdict}
 use Rattle.refusals.specs.declared.Verdict.the-variants.{Accepted, Refused}
 use Rattle.refusals.specs.Order.{firstRefusal}
+use Rattle.refusals.proofs.Given.{is-answer}
 use Rattle.refusals.proofs.Order.{passed, refused-here}
 use Rattle.fins.specs.Fins.{ownCheck, setCheck}
 use borrow.Author.Needs.{needs}
@@ -31,8 +32,9 @@ returns : tie.Need-returns
 unfolding setCheck ownCheck
 returns c =
     let v = c .before .before in
-    refused-here _ _ (v .first-refusal .ensures ∙ ap₂ firstRefusal (v .before .before .check-limit .ensures) (v .before .check-scratch .ensures)) (sym (c .before .is-refused .ensures) ∙ c .if1 .taken)
-    ∙ in-a-row _ _ _
+    is-answer
+    (refused-here _ _ (v .first-refusal .ensures ∙ ap₂ firstRefusal (v .before .before .check-limit .ensures) (v .before .check-scratch .ensures)) (sym (c .before .is-refused .ensures) ∙ c .if1 .taken)
+    ∙ in-a-row _ _ _)
 
 check-own-requires : tie.Need-check-own-requires
 check-own-requires c κs = search needs
@@ -42,9 +44,10 @@ unfolding setCheck ownCheck
 returns-2 c =
     let k = c .before in
     let v = k .before .before in
-    c .check-own .ensures
+    is-answer
+    (c .check-own .ensures .is
     ∙ sym (passed _ _ (v .first-refusal .ensures ∙ ap₂ firstRefusal (v .before .before .check-limit .ensures) (v .before .check-scratch .ensures)) (sym (k .before .is-refused .ensures) ∙ k .if1 .left))
-    ∙ in-a-row _ _ _
+    ∙ in-a-row _ _ _)
 
 pub check-set-spec : {M : Type 1} → statement M
 check-set-spec =

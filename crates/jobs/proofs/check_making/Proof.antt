@@ -17,7 +17,7 @@ first-refusal-requires c κs = search needs
 
 returns : tie.Need-returns
 unfolding makingCheck
-returns c = c .first-refusal .ensures ∙ ap₂ firstRefusal (c .before .before .check-limit .ensures) (c .before .check-own .ensures)
+returns c = c .first-refusal .ensures ∙ ap₂ firstRefusal (c .before .before .check-limit .ensures) (c .before .check-own .ensures .is)
 
 pub check-making-spec : {M : Type 1} → statement M
 check-making-spec =

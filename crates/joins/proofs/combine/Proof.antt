@@ -2,6 +2,7 @@
 use mathlib.Core.Path.{ap, _∙_}
 use borrow.Author.Needs.{needs}
 use borrow.Author.Tests.{eq-eqb, ne-eqb}
+use Rattle.refusals.proofs.Given.{is-answer}
 use Rattle.joins.specs.Joins.{acceptedBody}
 use Rattle.joins.proofs.JoinLaws.{by-verdict}
 use Rattle.joins.proofs.combine.Statement.{statement}
@@ -11,7 +12,7 @@ refused-requires : tie.Need-refused-requires
 refused-requires c κs = search needs
 
 returns : tie.Need-returns
-returns c = simp (ne-eqb _ _ (c .before .if1 .taken)) (c .refused .ensures)
+returns c = is-answer (simp (ne-eqb _ _ (c .before .if1 .taken)) (c .refused .ensures))
 
 check-count-requires : tie.Need-check-count-requires
 check-count-requires c κs = search needs
@@ -32,10 +33,14 @@ refused-requires-2 : tie.Need-refused-requires-2
 refused-requires-2 c κs = search needs
 
 returns-2 : tie.Need-returns-2
-returns-2 c = rw (eq-eqb _ _ (c .before .before .before .before .before .if1 .left)) (by-verdict _ (c .before .before .before .before .check-count .ensures) (c .before .before .enum-told .given .1) (c .accepted .ensures ∙ ap acceptedBody (c .before .join .ensures)))
+returns-2 c =
+    is-answer
+    (rw (eq-eqb _ _ (c .before .before .before .before .before .if1 .left)) (by-verdict _ (c .before .before .before .before .check-count .ensures) (c .before .before .enum-told .given .1) (c .accepted .ensures ∙ ap acceptedBody (c .before .join .ensures))))
 
 returns-3 : tie.Need-returns-3
-returns-3 c = rw (eq-eqb _ _ (c .before .before .before .before .before .if1 .left)) (by-verdict _ (c .before .before .before .before .check-count .ensures) (c .before .before .verdict .given .1) (c .refused2 .ensures))
+returns-3 c =
+    is-answer
+    (rw (eq-eqb _ _ (c .before .before .before .before .before .if1 .left)) (by-verdict _ (c .before .before .before .before .check-count .ensures) (c .before .before .verdict .given .1) (c .refused2 .ensures)))
 
 pub combine-spec : {M : Type 1} → statement M
 combine-spec =

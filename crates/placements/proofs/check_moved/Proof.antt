@@ -40,8 +40,8 @@ returns c =
       second .first-refusal2 .ensures,
       offset .check-offset .ensures,
       bodies .first-refusal .ensures,
-      bodies .before .check2 .ensures,
-      bodies .before .before .check .ensures,
+      bodies .before .check2 .ensures .is,
+      bodies .before .before .check .ensures .is,
     )
     (in-order _ (_ ∷ _ ∷ _ ∷ []))
 

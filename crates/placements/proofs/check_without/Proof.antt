@@ -30,8 +30,8 @@ returns c =
       c .first-refusal2 .ensures,
       asked .refuse-when .ensures,
       bodies .first-refusal .ensures,
-      bodies .before .check2 .ensures,
-      bodies .before .before .check .ensures,
+      bodies .before .check2 .ensures .is,
+      bodies .before .before .check .ensures .is,
     )
     (in-order _ (_ ∷ _ ∷ []))
 

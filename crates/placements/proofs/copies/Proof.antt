@@ -1,5 +1,6 @@
 -- `placements::copies` meets its contract: each arm knows what the checks gave. Assumes nothing.
 use mathlib.Core.Path.{sym, _∙_}
+use Rattle.refusals.proofs.Given.{is-answer}
 use Rattle.joins.proofs.JoinLaws.{by-verdict}
 use Rattle.placements.specs.Copies.{copiesOf}
 use Rattle.placements.proofs.Counts.{counted}
@@ -24,11 +25,11 @@ refused-requires c κs = search needs
 
 returns : tie.Need-returns
 unfolding copiesOf
-returns c = by-verdict _ (c .before .before .before .check-copies .ensures) (c .before .enum-told .given .1) (c .placed-copies .ensures)
+returns c = is-answer (by-verdict _ (c .before .before .before .check-copies .ensures) (c .before .enum-told .given .1) (c .placed-copies .ensures))
 
 returns-2 : tie.Need-returns-2
 unfolding copiesOf
-returns-2 c = by-verdict _ (c .before .before .before .before .check-copies .ensures) (c .before .before .verdict .given .1) (c .refused .ensures)
+returns-2 c = is-answer (by-verdict _ (c .before .before .before .before .check-copies .ensures) (c .before .before .verdict .given .1) (c .refused .ensures))
 
 pub copies-spec : {M : Type 1} → statement M
 copies-spec =

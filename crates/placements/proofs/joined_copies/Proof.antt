@@ -27,7 +27,7 @@ combine-requires : tie.Need-combine-requires
 combine-requires c κs = search needs
 
 returns : tie.Need-returns
-returns c = c .combine .ensures ∙ ap combineOf (first-bodies _ _ _ (c .before .before .before .write-copies .ensures)) ∙ combine-listed _ _
+returns c = c .combine .ensures .is ∙ ap combineOf (first-bodies _ _ _ (c .before .before .before .write-copies .ensures)) ∙ combine-listed _ _
 
 pub joined-copies-spec : {M : Type 1} → statement M
 joined-copies-spec =

@@ -1,6 +1,7 @@
 -- `placements::without_part` meets its contract: each arm knows what the checks gave. Assumes nothing.
 use mathlib.Core.Path.{ap, _∙_}
 use Rattle.joins.specs.Joins.{acceptedBody}
+use Rattle.refusals.proofs.Given.{is-answer}
 use Rattle.joins.proofs.JoinLaws.{by-verdict}
 use Rattle.placements.specs.Parts.{withoutOf}
 use borrow.Author.Needs.{needs}
@@ -27,11 +28,11 @@ refused-requires c κs = search needs
 
 returns : tie.Need-returns
 unfolding withoutOf
-returns c = by-verdict _ (c .before .before .before .before .check-without .ensures) (c .before .before .enum-told .given .1) (c .accepted .ensures ∙ ap acceptedBody (c .before .part-off .ensures))
+returns c = is-answer (by-verdict _ (c .before .before .before .before .check-without .ensures) (c .before .before .enum-told .given .1) (c .accepted .ensures ∙ ap acceptedBody (c .before .part-off .ensures)))
 
 returns-2 : tie.Need-returns-2
 unfolding withoutOf
-returns-2 c = by-verdict _ (c .before .before .before .before .check-without .ensures) (c .before .before .verdict .given .1) (c .refused .ensures)
+returns-2 c = is-answer (by-verdict _ (c .before .before .before .before .check-without .ensures) (c .before .before .verdict .given .1) (c .refused .ensures))
 
 pub without-part-spec : {M : Type 1} → statement M
 without-part-spec =

@@ -42,7 +42,7 @@ returns-2 c =
     let told = found .before in
     let checked = told .before .before in
     let a = checked .before .before .before .before .args in
-    listed-so (a .planform) (a .points .now) (a .h) (a .ends .now) _ _ (checked .before .if1 .left) (sym (checked .check-planform .ensures) ∙ told .enum-told .given .1)
+    listed-so (a .planform) (a .points .now) (a .h) (a .ends .now) _ _ (checked .before .if1 .left) (sym (checked .check-planform .ensures .is) ∙ told .enum-told .given .1)
     (found .chords-found .result) _ (found .chords-found .ensures) (wrote .write-chords .ensures) (c .listed .ensures)
 
 returns-3 : tie.Need-returns-3
@@ -50,7 +50,7 @@ returns-3 c =
     let known = c .before .before in
     let checked = known .before .before in
     let a = checked .before .before .before .before .args in
-    refused-so (a .planform) (a .points .now) (a .h) (a .ends .now) _ _ (checked .before .if1 .left) _ (sym (checked .check-planform .ensures) ∙ known .verdict .given .1) refl (c .refused2 .ensures)
+    refused-so (a .planform) (a .points .now) (a .h) (a .ends .now) _ _ (checked .before .if1 .left) _ (sym (checked .check-planform .ensures .is) ∙ known .verdict .given .1) refl (c .refused2 .ensures)
 
 pub chords-at-spec : {M : Type 1} → statement M
 chords-at-spec =

@@ -15,7 +15,7 @@ closing-radius-m-requires c κs = search needs
 
 returns : tie.Need-returns
 unfolding askedClosing
-returns c = rw (c .closing-radius-m .ensures, c .before .figure .ensures)
+returns c = rw (c .closing-radius-m .ensures .is, c .before .figure .ensures)
 
 pub asked-closing-spec : {M : Type 1} → statement M
 asked-closing-spec =

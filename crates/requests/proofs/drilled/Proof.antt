@@ -15,7 +15,7 @@ enum-told c = search needs
 
 returns : tie.Need-returns
 unfolding numberedDrill
-returns c = rw (c .before .before .planform .given .1) (c .drill .ensures)
+returns c = rw (c .before .before .planform .given .1) (c .drill .ensures .is)
 
 returns-2 : tie.Need-returns-2
 unfolding numberedDrill

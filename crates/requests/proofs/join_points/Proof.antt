@@ -42,7 +42,7 @@ returns-2 : tie.Need-returns-2
 unfolding joinedPointsOf
 returns-2 c =
     let a = c .before .before .before .before .before .before .before .args in
-    c .combine .ensures
+    c .combine .ensures .is
     ∙ ap combineOf (first-bodies _ _ _ (c .before .before .before .write-points .ensures))
     ∙ combine-listed (pointBodyAt (now (a .values))) (length (now (a .values)) / 4)
 

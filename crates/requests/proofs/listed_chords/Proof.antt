@@ -24,7 +24,7 @@ unfolding numberedChords numberedEnds
 returns c =
     let w = c .before .before in
     let told = w .before .before .before .planform .given .1 in
-    (rw told (w .chords-at .ensures .0), rw told (w .chords-at .ensures .1))
+    (rw told (w .chords-at .ensures .0 .is), rw told (w .chords-at .ensures .1))
 
 returns-2 : tie.Need-returns-2
 unfolding numberedChords numberedEnds

@@ -58,7 +58,7 @@ returns-4 c =
     let one = sized .before .before in
     let offset = now (one .before .before .before .before .args .offset) in
     simp (eq-eqb _ _ (one .if1 .left), eq-eqb _ _ (sized .before .if2 .left), eq-eqb _ _ (sized .if3 .left))
-    (c .with-part-moved .ensures
+    (c .with-part-moved .ensures .is
     ∙ ap₂ (λ (w p : Body). movedOf w p (vector (at offset 0) (at offset 1) (at offset 2))) (first .body-of .ensures) (c .before .body-of2 .ensures))
 
 pub moved-by-spec : {M : Type 1} → statement M

@@ -51,7 +51,7 @@ unfolding ringBy
 returns-2 c =
     let known = c .before .before .before .before .before .before .before in
     let density = known .before .before in
-    rw (eq-eqb _ _ (density .before .before .if1 .left), sym (density .numbered-density .ensures) ∙ known .found .given .1) (c .mass-properties .ensures)
+    rw (eq-eqb _ _ (density .before .before .if1 .left), sym (density .numbered-density .ensures) ∙ known .found .given .1) (c .mass-properties .ensures .is)
 
 returns-3 : tie.Need-returns-3
 unfolding ringBy

@@ -10,7 +10,7 @@ ring-requires : tie.Need-ring-requires
 ring-requires c κs = search needs
 
 returns : tie.Need-returns
-returns c = rw (c .ring .ensures, c .before .single-fin .ensures)
+returns c = rw (c .ring .ensures .is, c .before .single-fin .ensures)
 
 pub joined-fins-spec : {M : Type 1} → statement M
 joined-fins-spec = tie.close (tie.spec single-fin-requires ring-requires returns)

@@ -2,6 +2,7 @@
 use borrow.Author.Needs.{needs}
 use mathlib.Core.List.{[], _∷_}
 use mathlib.Core.Path.{_∙_}
+use Rattle.refusals.proofs.Given.{is-answer}
 use Rattle.refusals.proofs.Order.{in-order, in-two}
 use Rattle.tubes.specs.Tubes.{mountCheck, tubeCheck}
 use Rattle.tubes.proofs.check_tubes.Statement.{statement}
@@ -36,7 +37,7 @@ first-refusal-requires-4 c κs = search needs
 
 returns : tie.Need-returns
 unfolding mountCheck tubeCheck
-returns c = rw (
+returns c = is-answer (rw (
   c .first-refusal4 .ensures,
   c .before .refuse-when .ensures,
   c .before .before .before .first-refusal3 .ensures,
@@ -47,7 +48,7 @@ returns c = rw (
   c .before .before .before .before .before .before .before .before .check-length .ensures,
   c .before .before .before .before .before .before .before .before .before .check-mount .ensures,
 )
-    (in-order _ (_ ∷ _ ∷ _ ∷ _ ∷ []) ∙ in-two (_ ∷ _ ∷ _ ∷ _ ∷ []) (_ ∷ _ ∷ _ ∷ _ ∷ []))
+    (in-order _ (_ ∷ _ ∷ _ ∷ _ ∷ []) ∙ in-two (_ ∷ _ ∷ _ ∷ _ ∷ []) (_ ∷ _ ∷ _ ∷ _ ∷ [])))
 
 pub check-tubes-spec : {M : Type 1} → statement M
 check-tubes-spec =

@@ -25,10 +25,10 @@ refused-requires : tie.Need-refused-requires
 refused-requires c κs = search needs
 
 returns : tie.Need-returns
-returns c = by-verdict _ (c .before .before .before .before .check-tubes .ensures) (c .before .before .enum-told .given .1) (c .accepted .ensures ∙ ap acceptedBody (c .before .tube-at .ensures))
+returns c = by-verdict _ (c .before .before .before .before .check-tubes .ensures .is) (c .before .before .enum-told .given .1) (c .accepted .ensures ∙ ap acceptedBody (c .before .tube-at .ensures))
 
 returns-2 : tie.Need-returns-2
-returns-2 c = by-verdict _ (c .before .before .before .before .check-tubes .ensures) (c .before .before .verdict .given .1) (c .refused .ensures)
+returns-2 c = by-verdict _ (c .before .before .before .before .check-tubes .ensures .is) (c .before .before .verdict .given .1) (c .refused .ensures)
 
 pub one-tube-spec : {M : Type 1} → statement M
 one-tube-spec =
