@@ -9,6 +9,9 @@ use lib.ListN.{length, set, getD}
 use lib.Ieee.{Float}
 use Rattle.refusals.specs.declared.Refusal.{Refusal}
 use Rattle.refusals.specs.declared.Refusal.the-variants.{Scratch, Density as notTaken, Screen as notFree}
+use Rattle.refusals.specs.declared.Verdict.{Verdict}
+use Rattle.refusals.specs.declared.Verdict.the-variants.{Accepted, Refused}
+use Rattle.refusals.specs.Given.{GivesRow, IsAnswer}
 use Rattle.materials.specs.declared.Density.{Density}
 use Rattle.fins.specs.declared.FinSet.{FinSet}
 use Rattle.figures.specs.Figures.{refusedFigures}
@@ -16,9 +19,10 @@ use Rattle.jobs.specs.declared.Job.{Job}
 use Rattle.jobs.specs.declared.Reply.the-variants.{Taken, Answered}
 use Rattle.jobs.specs.declared.Answer.{Answer}
 use Rattle.jobs.specs.declared.Stepped.{Stepped}
-use Rattle.jobs.specs.Jobs.{noFigures, stepOf, stepScratch, changeOf, madeOf}
+use Rattle.jobs.specs.Jobs.{noFigures, verdictIn, stepOf, stepScratch, changeOf, madeOf}
 use Rattle.engines.specs.declared.Screens.{Screens}
 use Rattle.engines.specs.declared.Engine.{Engine}
+use Rattle.engines.specs.declared.Service.{Service}
 use Rattle.engines.specs.declared.Service.the-variants.{Short, Idle, Step}
 use Rattle.engines.specs.declared.Told.{Told}
 use Rattle.engines.specs.declared.Served.{Served}
@@ -68,6 +72,15 @@ withHeld screens screen holds last = record { held = set (screens .held) (placeO
 
 -- ---- a turn, on the screens and the job at the place that it works at
 
+-- a short turn gives 2, an idle one no number, and one that serves a screen gives the step's
+abbrev pub verdictBy : Service → Answer → Verdict
+verdictBy Short answer = Refused Scratch
+verdictBy Idle answer = Accepted
+verdictBy Step answer = verdictIn answer
+
+abbrev pub verdictTold : Told → Verdict
+verdictTold told = verdictBy (told .service) (told .answer)
+
 -- "A turn lent under 1,024 numbers answers 2, jobs or none, does nothing and does not count; its samples are 0."
 abbrev pub refusedShort : Screens → Job → Served
 refusedShort screens job =
@@ -99,9 +112,14 @@ servedScratch screens job scratch =
 
 pub record ServesTo (screens : Screens) (job : Job) (entry : List Float) (r : Served) (exit : List Float) : Type 0 where
   pub served : r ≡ servedOf screens job (length entry)
+  pub gives : GivesRow (verdictTold (r .told)) (verdictTold (servedOf screens job (length entry) .told))
   pub scratch : exit ≡ servedScratch screens job entry
 
 -- ---- a submission and a change of density, on the screens and the job at the screen's place
+
+-- what a call leaves and answers is the definition's, with the number and values of its verdict
+abbrev pub IsAtScreen : AtScreen → AtScreen → Type 0
+IsAtScreen r definition = IsAnswer (λ (s : AtScreen). verdictIn (s .answer)) r definition
 
 -- a number with 0 samples, and nothing changes
 abbrev pub refused : Screens → Job → Refusal → AtScreen

@@ -7,7 +7,7 @@ ghost use mathlib.Core.Path.{_≡_};
 ghost use Prim.Native.Nat.{_<_};
 ghost use lib.ListN.{length};
 ghost use Rattle.engines.specs.Engines.{isScreen, placeOf, holdsJob, isFree, nextScreen, pickOf, withHeld};
-ghost use Rattle.engines.specs.Engines.{refusedShort, idle, stepped, ServesTo, refused, submittedOf, changedOf};
+ghost use Rattle.engines.specs.Engines.{refusedShort, idle, stepped, ServesTo, IsAtScreen, refused, submittedOf, changedOf};
 use jobs::Answer;
 use jobs::Job;
 use jobs::Reply;
@@ -209,7 +209,7 @@ fn refuse(screens: Screens, job: Job, refusal: Refusal) -> AtScreen
 
 // A submission of a job as it was made, on the screens and the job at the screen's place.
 pub fn submit_at(screens: Screens, job: Job, screen: usize, made: Stepped) -> AtScreen
-    ensures { λ r. ⌜ r ≡ submittedOf screens job screen made ⌝ }
+    ensures { λ r. ⌜ IsAtScreen r (submittedOf screens job screen made) ⌝ }
 {
     if is_free(screens, screen) {
         let new = made.job;
@@ -233,7 +233,7 @@ pub fn submit_at(screens: Screens, job: Job, screen: usize, made: Stepped) -> At
 
 // A change of density on the screens and the job at the screen's place.
 pub fn change_at(screens: Screens, job: Job, screen: usize, density: Density) -> AtScreen
-    ensures { λ r. ⌜ r ≡ changedOf screens job screen density ⌝ }
+    ensures { λ r. ⌜ IsAtScreen r (changedOf screens job screen density) ⌝ }
 {
     if holds_job(screens, screen) {
         let s = jobs::change_by_value(job, density);

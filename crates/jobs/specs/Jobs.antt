@@ -14,6 +14,7 @@ use Rattle.refusals.specs.declared.Refusal.the-variants.{Density as notTaken}
 use Rattle.refusals.specs.declared.Verdict.{Verdict}
 use Rattle.refusals.specs.declared.Verdict.the-variants.{Accepted}
 use Rattle.refusals.specs.Order.{isRefused, firstRefusal}
+use Rattle.refusals.specs.Given.{GivesRow, IsAnswer}
 use Rattle.limits.specs.Limits.{limitCheck}
 use Rattle.materials.specs.declared.Density.{Density}
 use Rattle.materials.specs.Materials.{densityCheck}
@@ -31,6 +32,7 @@ use Rattle.figures.specs.declared.Figures.{Figures}
 use Rattle.figures.specs.Figures.{setRun, refusedFigures, concludedSet}
 use Rattle.jobs.specs.declared.Points.{Points}
 use Rattle.jobs.specs.declared.Job.{Job}
+use Rattle.jobs.specs.declared.Reply.{Reply}
 use Rattle.jobs.specs.declared.Reply.the-variants.{More, Taken, Answered}
 use Rattle.jobs.specs.declared.Answer.{Answer}
 use Rattle.jobs.specs.declared.Stepped.{Stepped}
@@ -60,6 +62,19 @@ totalOf job = record { ending = accepted; value = job .value; intervals = job .i
 -- the plain answers carry no figures
 abbrev pub noFigures : Figures
 noFigures = record { verdict = Accepted; body = emptyBody; intervals = 0; samples = 0 }
+
+-- "answers only that more remain" and "answered only as taken" give no number; an answer with figures gives its verdict's
+abbrev pub verdictBy : Reply → Figures → Verdict
+verdictBy More figures = Accepted
+verdictBy Taken figures = Accepted
+verdictBy Answered figures = figures .verdict
+
+abbrev pub verdictIn : Answer → Verdict
+verdictIn answer = verdictBy (answer .reply) (answer .figures)
+
+-- what a call leaves and answers is the definition's, with the number and values of its verdict
+abbrev pub IsStepped : Stepped → Stepped → Type 0
+IsStepped r definition = IsAnswer (λ (s : Stepped). verdictIn (s .answer)) r definition
 
 -- "A step on an ended job repeats its answer"
 abbrev pub repeated : Job → Stepped
@@ -135,6 +150,7 @@ stepScratch job scratch =
 -- what a step leaves and answers, and the scratch at exit
 pub record StepsTo (job : Job) (entry : List Float) (r : Stepped) (exit : List Float) : Type 0 where
   pub stepped : r ≡ stepOf job (length entry)
+  pub gives : GivesRow (verdictIn (r .answer)) (verdictIn (stepOf job (length entry) .answer))
   pub scratch : exit ≡ stepScratch job entry
 
 -- ---- a change of density

@@ -5,7 +5,7 @@
 ghost use mathlib.Core.Path.{_≡_};
 ghost use lib.ListN.{length};
 ghost use Rattle.strips.specs.Strips.{Room, WorksNext};
-ghost use Rattle.jobs.specs.Jobs.{heldOf, pointsOf, outlineOf, runOfJob, totalOf, noFigures, outcomeOf, repeated, waits, more, ended, afterStrip, withDensity, taken};
+ghost use Rattle.jobs.specs.Jobs.{heldOf, pointsOf, outlineOf, runOfJob, totalOf, noFigures, outcomeOf, repeated, waits, IsStepped, more, ended, afterStrip, withDensity, taken};
 ghost use Rattle.jobs.specs.Jobs.{makingCheck, firstOutcome, madeOf, StepsTo, changeOf};
 ghost use Rattle.jobs.specs.Lent.{StepsLent, ChangesLent};
 use bodies::Body;
@@ -298,7 +298,7 @@ fn take_density(job: Job, density: Density) -> Stepped
 
 // A change of density: taken, or 12, and any change after the end is 12.
 pub fn change_by_value(job: Job, density: Density) -> Stepped
-    ensures { λ r. ⌜ r ≡ changeOf job density ⌝ }
+    ensures { λ r. ⌜ IsStepped r (changeOf job density) ⌝ }
 {
     let over = job.ended;
     if over {
@@ -339,7 +339,7 @@ fn first_answer(verdict: Verdict) -> Answer
 
 // Makes a job: taken, or the first refusal, with which the record has ended.
 pub fn make(set: FinSet, points: &[f64], limit: usize) -> Stepped
-    ensures { λ r. ⌜ r ≡ madeOf set (now (points .entry)) limit ⌝ }
+    ensures { λ r. ⌜ IsStepped r (madeOf set (now (points .entry)) limit) ⌝ }
 {
     let verdict = check_making(set, points, limit);
     let ended = refusals::is_refused(verdict);

@@ -254,7 +254,7 @@ module _ (numbers : List Float) (counts : List ℕ) (after : Job) (r : Answer) (
   kept j e = subst (λ (x : Job). Holds x numbers counts numbers' counts') e h
 
   pub job-stepped : (scratch scratch' : List Float) → StepsLent (jobIn numbers counts) scratch r after scratch' → Steps numbers counts scratch r numbers' counts' scratch'
-  job-stepped scratch scratch' e = record { answered = e .0; holds = kept _ (e .1 .0); lent = e .1 .1 }
+  job-stepped scratch scratch' e = record { answered = e .0 .is; holds = kept _ (e .1 .0); lent = e .1 .1 }
 
   pub job-changed : (density : Density) → ChangesLent (jobIn numbers counts) density r after → Changes numbers counts density r numbers' counts'
-  job-changed density e = record { answered = e .0; holds = kept _ (e .1) }
+  job-changed density e = record { answered = e .0 .is; holds = kept _ (e .1) }

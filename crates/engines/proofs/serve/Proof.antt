@@ -1,17 +1,27 @@
 -- `engines::serve` meets its contract: 2, a step of the next screen's job, or idle. Assumes nothing.
-use mathlib.Core.Path.{sym, ap, _∙_}
-use Rattle.engines.specs.Engines.{stepped}
+use mathlib.Core.Path.{_≡_, sym, ap, _∙_}
+use mathlib.Core.List.{List}
+use lib.ListN.{length}
+use lib.Ieee.{Float}
+use Rattle.refusals.proofs.Given.{gives-row}
+use Rattle.jobs.specs.declared.Job.{Job}
+use Rattle.engines.specs.declared.Screens.{Screens}
+use Rattle.engines.specs.declared.Served.{Served}
+use Rattle.engines.specs.Engines.{verdictTold, stepped, servedOf, servedScratch, ServesTo}
 use Rattle.engines.proofs.Laws.{served-short, served-step, served-idle, scratch-short, scratch-step, scratch-idle}
 use borrow.Author.Needs.{needs}
 use Rattle.engines.proofs.serve.Statement.{statement}
 use Rattle.engines.proofs.serve.Tie as tie
+
+serves-to : {screens : Screens} {job : Job} {entry exit : List Float} {r : Served} → r ≡ servedOf screens job (length entry) → exit ≡ servedScratch screens job entry → ServesTo screens job entry r exit
+serves-to e s = record { served = e; gives = gives-row _ _ (ap (λ (t : Served). verdictTold (t .told)) e); scratch = s }
 
 refuse-short-requires : tie.Need-refuse-short-requires
 refuse-short-requires c κs = search needs
 
 returns : tie.Need-returns
 returns c = let short = c .before .if1 .taken in
-    record { served = c .refuse-short .ensures ∙ sym (served-short _ _ _ short); scratch = sym (scratch-short _ _ _ short) }
+    serves-to (c .refuse-short .ensures ∙ sym (served-short _ _ _ short)) (sym (scratch-short _ _ _ short))
 
 next-screen-requires : tie.Need-next-screen-requires
 next-screen-requires c κs = search needs
@@ -30,13 +40,11 @@ returns-2 c = let step = c .before .before .before in
     let then2 = step .before .before in
     let next = then2 .before in
     let enough = next .before .if1 .left in
-    record {
-      served =
-          c .after-step .ensures
-          ∙ ap (stepped _ _) (step .step-by-value .ensures .stepped)
-          ∙ sym (served-step _ _ _ _ (next .next-screen .ensures) enough (then2 .if2 .taken));
-      scratch = step .step-by-value .ensures .scratch ∙ sym (scratch-step _ _ _ _ (next .next-screen .ensures) enough (then2 .if2 .taken));
-    }
+    serves-to
+    (c .after-step .ensures
+    ∙ ap (stepped _ _) (step .step-by-value .ensures .stepped)
+    ∙ sym (served-step _ _ _ _ (next .next-screen .ensures) enough (then2 .if2 .taken)))
+    (step .step-by-value .ensures .scratch ∙ sym (scratch-step _ _ _ _ (next .next-screen .ensures) enough (then2 .if2 .taken)))
 
 stay-idle-requires : tie.Need-stay-idle-requires
 stay-idle-requires c κs = search needs
@@ -45,10 +53,9 @@ returns-3 : tie.Need-returns-3
 returns-3 c = let else2 = c .before in
     let next = else2 .before in
     let enough = next .before .if1 .left in
-    record {
-      served = c .stay-idle .ensures ∙ sym (served-idle _ _ _ _ (next .next-screen .ensures) enough (else2 .if2 .left));
-      scratch = sym (scratch-idle _ _ _ _ (next .next-screen .ensures) enough (else2 .if2 .left));
-    }
+    serves-to
+    (c .stay-idle .ensures ∙ sym (served-idle _ _ _ _ (next .next-screen .ensures) enough (else2 .if2 .left)))
+    (sym (scratch-idle _ _ _ _ (next .next-screen .ensures) enough (else2 .if2 .left)))
 
 pub serve-spec : {M : Type 1} → statement M
 serve-spec =

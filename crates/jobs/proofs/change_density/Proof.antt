@@ -46,7 +46,8 @@ use Rattle.materials.proofs.Density.Laws as D′
 use Rattle.jobs.specs.declared.Job.{Job}
 use Rattle.jobs.specs.declared.Stepped.{Stepped}
 use Rattle.jobs.specs.declared.Answer.{Answer}
-use Rattle.jobs.specs.Jobs.{changeOf}
+use Rattle.refusals.proofs.Given.{is-answer}
+use Rattle.jobs.specs.Jobs.{IsStepped, changeOf}
 use Rattle.jobs.proofs.Thin.{Typed, pairTy, thinBy, ToldAt, Told, thin-by-runs}
 use Rattle.jobs.proofs.Rows.{jval, rval, jvals, rvals, svals, jtells, stells, job-is, answer-is}
 use Rattle.jobs.proofs.Job as J
@@ -104,14 +105,14 @@ module _ {M : Type 1} (𝓤 : URA M) (H : Heap 𝓤) (A : Atoms 𝓤) (W : Given
       owned ! J.the-row (Is J.the-row) (LL.makes J.the-type J′.the-plain 𝓤 H A) h _ gh $ fjoin ! $ move ! (1 ∷ 0 ∷ []) $ join ! $ nothing ! $ move ! (1 ∷ 0 ∷ []) $ frame ! $ done !
 
   abbrev Known : Stepped → Type 0
-  Known r = Is S.the-row r (svals r) × (r ≡ changeOf h d)
+  Known r = Is S.the-row r (svals r) × IsStepped r (changeOf h d)
 
   exits : (r : Stepped) → Known r
       → ent 𝓤 (⋆ 𝓤 H A (‵ (fobs γ (J.the-row .coded .code (r .job))) ∷ ‵ (fbor κ (Body (mem J.the-row) b o γ)) ∷ ‵ (flft κ q) ∷ [])) (Post (rval (r .answer)))
   exits r known =
       qed W (‵ (fobs γ (J.the-row .coded .code (r .job))) ∷ ‵ (fbor κ (Body (mem J.the-row) b o γ)) ∷ ‵ (flft κ q) ∷ []) ∵
       suffices ! _ (ends-at 𝓤 H A f.ended stayed (f.clauses 𝓤 H A at-mem run) W (((κ, tt), (q, tt), tt, x, at), tt) (rval (r .answer)) (r .answer) (r .job, (tt, tt)) (tt, (tt, tt))) $
-      says ! (ap (λ (t : Stepped). t .answer) (known .1), ap (λ (t : Stepped). t .job) (known .1)) $ nothing ! $ move ! (3 ∷ 0 ∷ []) $ join ! $
+      says ! (is-answer (ap (λ (t : Stepped). t .answer) (known .1 .is)), ap (λ (t : Stepped). t .job) (known .1 .is)) $ nothing ! $ move ! (3 ∷ 0 ∷ []) $ join ! $
       frame ! $ feqI ! (List Val) (vptr b o ∷ []) (vptr b o ∷ []) refl $ fjoin3 ! $ nothing ! $ owned ! D.the-row (Is D.the-row) (EL.makes D.the-type D′.the-plain 𝓤 H A) d _ gd $ fjoin ! $ move ! (1 ∷ 0 ∷ []) $ fjoin ! $
       owned ! R.the-row (Is R.the-row) (LL.makes R.the-type R′.the-plain 𝓤 H A) (r .answer) _ (answer-is r (svals r) (known .0)) $ move ! (1 ∷ 0 ∷ []) $ done !
 
@@ -144,8 +145,8 @@ module _ {M : Type 1} (𝓤 : URA M) (H : Heap 𝓤) (A : Atoms 𝓤) (W : Given
   told v =
       qed W (raw (ByValue 𝓤 H A at-mem run .post to v) ∷ []) ∵ updating ! $
       use1 W (later (some (λ (r : Stepped). (‵ ftrue ⊛ ‵ (S.the-row .own r (v ∷ []))) ⊛ raw (ensured 𝓤 H A g.ended (g.clauses 𝓤 H A at-mem run) tt (h, (d, tt)) tt r)))) (id⊢ 𝓤 _) $ await ! tt $ pick ! (λ r.
-      split ! $ move ! (1 ∷ []) $ use1 W (some (λ (zs : Unit {0} × (Unit {0} × Unit {0})). ‵ (lasts g.ended tt (h, (d, tt)) zs) ⊛ raw (fact 𝓤 (r ≡ changeOf h d)))) (id⊢ 𝓤 _) $ pick ! (λ zs.
-      split ! $ move ! (1 ∷ []) $ heard ! (r ≡ changeOf h d) (λ e. move ! (1 ∷ []) $ split ! $ move ! (1 ∷ []) $ peeks ! S.the-row (Is S.the-row) (shows 𝓤 H A S.the-row) r (v ∷ []) (λ is. drop ! $
+      split ! $ move ! (1 ∷ []) $ use1 W (some (λ (zs : Unit {0} × (Unit {0} × Unit {0})). ‵ (lasts g.ended tt (h, (d, tt)) zs) ⊛ raw (fact 𝓤 (IsStepped r (changeOf h d))))) (id⊢ 𝓤 _) $ pick ! (λ zs.
+      split ! $ move ! (1 ∷ []) $ heard ! (IsStepped r (changeOf h d)) (λ e. move ! (1 ∷ []) $ split ! $ move ! (1 ∷ []) $ peeks ! S.the-row (Is S.the-row) (shows 𝓤 H A S.the-row) r (v ∷ []) (λ is. drop ! $
       at-once ! $ show ! (λ (u : Val). mean 𝓤 H A (some (λ (w : Val). Now u w))) (jval (r .job)) $ show ! (λ (w : Val). mean 𝓤 H A (Now (jval (r .job)) w)) (rval (r .answer)) $
       check ! (ap only (stells r (v ∷ []) is), (s-typed r is, (j-typed (r .job) (job-is r (v ∷ []) is), r-typed (r .answer) (answer-is r (v ∷ []) is)))) $
       show ! (λ (t : Stepped). mean 𝓤 H A (MidAt (jval (r .job)) (rval (r .answer)) t)) r $ check ! (refl, (refl, (rw (← stells r (v ∷ []) is) is, e))) $ keep ! (0 ∷ []) $ done !))))

@@ -1,4 +1,5 @@
 -- `jobs::make` meets its contract, part by part. Assumes nothing.
+use Rattle.refusals.proofs.Given.{is-answer}
 use Rattle.jobs.specs.Jobs.{madeOf}
 use borrow.Author.Needs.{needs}
 use Rattle.jobs.proofs.make.Statement.{statement}
@@ -20,7 +21,7 @@ returns : tie.Need-returns
 unfolding madeOf
 returns c =
     let first = c .before .before in
-    rw (c .copied .ensures, first .first-answer .ensures, first .before .is-refused .ensures, first .before .before .check-making .ensures)
+    is-answer (rw (c .copied .ensures, first .first-answer .ensures, first .before .is-refused .ensures, first .before .before .check-making .ensures))
 
 pub make-spec : {M : Type 1} → statement M
 make-spec =

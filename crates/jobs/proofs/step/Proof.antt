@@ -41,6 +41,7 @@ use denote.Triple.Walked.{says, Stays, stay-ref, gave-slice, walkOf, goes-gave-s
 use Rattle.jobs.specs.declared.Job.{Job}
 use Rattle.jobs.specs.declared.Stepped.{Stepped}
 use Rattle.jobs.specs.declared.Answer.{Answer}
+use Rattle.refusals.proofs.Given.{is-answer}
 use Rattle.jobs.specs.Jobs.{stepOf, stepScratch, StepsTo}
 use Rattle.jobs.proofs.Thin.{Typed, pairTy, thin, ToldAt, Told, thin-runs}
 use Rattle.jobs.proofs.Rows.{jval, rval, jvals, rvals, svals, jtells, stells, job-is, answer-is}
@@ -104,7 +105,7 @@ module _ {M : Type 1} (𝓤 : URA M) (H : Heap 𝓤) (A : Atoms 𝓤) (W : Given
   exits r vs is zs e l =
       qed W (‵ (fobs γ (J.the-row .coded .code (r .job))) ∷ ‵ (fbor κ (Body (mem J.the-row) b o γ)) ∷ ‵ (flft κ q) ∷ (‵ (flft κ′ q′) ⊛ ‵ ftrue) ∷ ‵ (finally f64 γ′ zs) ∷ []) ∵
       suffices ! _ (ends-at 𝓤 H A f.ended stayed (f.clauses 𝓤 H A at-mem run) W (((κ, (κ′, tt)), (q, (q′, tt)), bounds, x, at), tt) (rval (r .answer)) (r .answer) (r .job, (zs, tt)) (tt, (l, tt))) $
-      says ! (ap (λ (t : Stepped). t .answer) (e .stepped), (ap (λ (t : Stepped). t .job) (e .stepped), e .scratch)) $ move ! (2 ∷ 3 ∷ []) $ join ! $
+      says ! (is-answer (ap (λ (t : Stepped). t .answer) (e .stepped)), (ap (λ (t : Stepped). t .job) (e .stepped), e .scratch)) $ move ! (2 ∷ 3 ∷ []) $ join ! $
       frame ! $ feqI ! (List Val) (vptr b o ∷ []) (vptr b o ∷ []) refl $ fjoin3 ! $ nothing ! $ move ! (2 ∷ 0 ∷ []) $ fjoin ! $ move ! (1 ∷ 0 ∷ []) $ fjoin ! $
       owned ! R.the-row (Is R.the-row) (LL.makes R.the-type R′.the-plain 𝓤 H A) (r .answer) _ (answer-is r vs is) $ move ! (1 ∷ 0 ∷ []) $ done !
 

@@ -1,10 +1,15 @@
 -- `jobs::step_by_value` meets its contract: an answer again, 2, or the next strip. Assumes nothing.
 use mathlib.Core.Path.{_≡_, sym, ap, ap₂, _∙_}
 use lib.ListN.{length}
+use lib.Ieee.{Float}
+use mathlib.Core.List.{List}
 use Rattle.refusals.specs.Order.{firstRefusal}
+use Rattle.refusals.proofs.Given.{gives-row}
 use Rattle.strips.specs.Strips.{runCheck}
 use Rattle.strips.proofs.Reported.{run-within}
-use Rattle.jobs.specs.Jobs.{afterStrip}
+use Rattle.jobs.specs.declared.Job.{Job}
+use Rattle.jobs.specs.declared.Stepped.{Stepped}
+use Rattle.jobs.specs.Jobs.{verdictIn, stepOf, stepScratch, StepsTo, afterStrip}
 use Rattle.jobs.proofs.Laws.{step-ended, step-refused, step-works, scratch-ended, scratch-refused, scratch-works}
 use borrow.Author.Needs.{needs}
 use Rattle.jobs.proofs.step_by_value.Statement.{statement}
@@ -20,6 +25,9 @@ Start· c = Else· c .before .before
 checked : (c : tie.After-first-refusal) → c .first-refusal .result ≡ runCheck (Start· c .args .job .limit) (length (Start· c .args .scratch .now))
 checked c = c .first-refusal .ensures ∙ ap₂ firstRefusal (c .before .before .check-limit .ensures) (c .before .check-scratch .ensures)
 
+steps-to : {job : Job} {entry exit : List Float} {r : Stepped} → r ≡ stepOf job (length entry) → exit ≡ stepScratch job entry → StepsTo job entry r exit
+steps-to e s = record { stepped = e; gives = gives-row _ _ (ap (λ (t : Stepped). verdictIn (t .answer)) e); scratch = s }
+
 repeat-requires : tie.Need-repeat-requires
 repeat-requires c κs = search needs
 
@@ -27,7 +35,7 @@ returns : tie.Need-returns
 returns c =
     let s = c .before .before .before in
     let over = c .before .if1 .taken in
-    record { stepped = c .repeat .ensures ∙ sym (step-ended (s .args .job) _ over); scratch = sym (scratch-ended (s .args .job) _ over) }
+    steps-to (c .repeat .ensures ∙ sym (step-ended (s .args .job) _ over)) (sym (scratch-ended (s .args .job) _ over))
 
 check-limit-requires : tie.Need-check-limit-requires
 check-limit-requires c κs = search needs
@@ -67,10 +75,9 @@ returns-2 c =
     let job = Start· check .args .job in
     let accepted = sym (checked check) ∙ told .enum-told .given .1 in
     let running = Else· check .if1 .left in
-    record {
-      stepped = c .after-strip .ensures ∙ ap (afterStrip job) (work .work-next .ensures .onward) ∙ sym (step-works job _ running accepted);
-      scratch = work .work-next .ensures .scratch ∙ sym (scratch-works job _ running accepted);
-    }
+    steps-to
+    (c .after-strip .ensures ∙ ap (afterStrip job) (work .work-next .ensures .onward) ∙ sym (step-works job _ running accepted))
+    (work .work-next .ensures .scratch ∙ sym (scratch-works job _ running accepted))
 
 returns-3 : tie.Need-returns-3
 returns-3 c =
@@ -79,7 +86,7 @@ returns-3 c =
     let job = Start· check .args .job in
     let refuses = sym (checked check) ∙ told .verdict .given .1 in
     let running = Else· check .if1 .left in
-    record { stepped = c .wait .ensures ∙ sym (step-refused job _ _ running refuses); scratch = sym (scratch-refused job _ _ running refuses) }
+    steps-to (c .wait .ensures ∙ sym (step-refused job _ _ running refuses)) (sym (scratch-refused job _ _ running refuses))
 
 pub step-by-value-spec : {M : Type 1} → statement M
 step-by-value-spec =

@@ -32,7 +32,7 @@ returns c = let write = c .before .before .before .before .before in
     let place = read .before .before .before in
     let screens = place .before in
     changes _ _ _ (screens .read-screens .ensures) _ _ (read .read-at .ensures) _ _ _ (place .place-of .ensures .0) _ (write .write-at .ensures)
-    _ (change .change-at .ensures)
+    _ (change .change-at .ensures .is)
 
 pub change-density-spec : {M : Type 1} → statement M
 change-density-spec =

@@ -38,7 +38,7 @@ returns c = let write = c .before .before .before .before .before in
     let place = read .before .before .before in
     let screens = place .before in
     submits _ _ _ (screens .read-screens .ensures) _ _ (read .read-at .ensures) _ _ _ (place .place-of .ensures .0) _ (write .write-at .ensures)
-    _ _ _ _ (make .make .ensures) (submit .submit-at .ensures)
+    _ _ _ _ (make .make .ensures .is) (submit .submit-at .ensures .is)
 
 pub submit-spec : {M : Type 1} → statement M
 submit-spec =

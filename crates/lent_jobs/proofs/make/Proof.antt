@@ -20,7 +20,7 @@ returns : tie.Need-returns
 returns c =
     let w = c .before .before .before .before .before in
     let m = w .before .before .before .before in
-    job-made _ _ (m .make .result) _ _ (w .write-job .ensures) _ _ _ (m .make .ensures)
+    job-made _ _ (m .make .result) _ _ (w .write-job .ensures) _ _ _ (m .make .ensures .is)
 
 pub make-spec : {M : Type 1} → statement M
 make-spec = tie.close (tie.spec make-requires write-job-requires same-length same-length-2 returns)
