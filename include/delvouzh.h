@@ -203,9 +203,10 @@ size_t delvouzh_job_change_density(double *job_numbers, size_t job_numbers_len, 
                                    size_t density, double figure, size_t *counts, size_t counts_len);
 
 /* An engine of eight screens, 1 to 8, each of which may hold one job. It lies in `engine_numbers` and `engine_counts`, which are lent to every call on
- * it as the one before left them; memory of zeros is an engine with no job, none served.
+ * it as the one before left them; memory of zeros is an engine with no job, none served. A call writes there the job of one screen and the screens' own
+ * counts, which are the first nine; where it changes nothing, no number and no count of the engine is written.
  *
- * Makes such an engine of any memory. Returns 0. */
+ * Makes such an engine of any memory: every count of it is 0 then. Returns 0. */
 size_t delvouzh_engine_clear(size_t *engine_counts, size_t engine_counts_len);
 
 /* Submits a set to a screen, as delvouzh_job_make takes it. Returns 0 where its job is taken; 23 is a screen that is not 1 to 8 or already holds a

@@ -253,18 +253,34 @@ static void scratches(void) {
 static double job_numbers[DELVOUZH_JOB_NUMBERS + 1];
 static size_t job_counts[DELVOUZH_JOB_COUNTS + 1];
 
+/* What it held before the last call on it. */
+static double job_numbers_before[DELVOUZH_JOB_NUMBERS + 1];
+static size_t job_counts_before[DELVOUZH_JOB_COUNTS + 1];
+
+static void keep_job(void) {
+    memcpy(job_numbers_before, job_numbers, sizeof job_numbers);
+    memcpy(job_counts_before, job_counts, sizeof job_counts);
+}
+
+static int job_alone(void) {
+    return memcmp(job_numbers_before, job_numbers, sizeof job_numbers) == 0 && memcmp(job_counts_before, job_counts, sizeof job_counts) == 0;
+}
+
 static void make_job(size_t section, const double *figures) {
     const double outline[8] = {0.0, 0.0, 0.05, 0.15, 0.15, 0.05, 0.2, 0.0};
+    keep_job();
     at.number = delvouzh_job_make(LIMIT, 3, DELVOUZH_OUTLINE, outline, 8, section, DELVOUZH_NO_TAB, DELVOUZH_BULK, figures, 5, DELVOUZH_NO_FILLET,
                                   figures, 0, job_numbers, DELVOUZH_JOB_NUMBERS + 1, job_counts, DELVOUZH_JOB_COUNTS + 1, at.counts, DELVOUZH_VALUES);
 }
 
 static void step_job(size_t scratch_len) {
+    keep_job();
     at.number = delvouzh_job_step(job_numbers, DELVOUZH_JOB_NUMBERS + 1, job_counts, DELVOUZH_JOB_COUNTS + 1, at.scratch, scratch_len, at.numbers,
                                   DELVOUZH_BODY, at.counts, DELVOUZH_COUNTS);
 }
 
 static void change_job(size_t density, double figure) {
+    keep_job();
     at.number = delvouzh_job_change_density(job_numbers, DELVOUZH_JOB_NUMBERS + 1, job_counts, DELVOUZH_JOB_COUNTS + 1, density, figure, at.counts,
                                             DELVOUZH_COUNTS);
 }
@@ -281,34 +297,38 @@ static void jobs(void) {
     lend(&whole, 7.0);
     set_of(&whole, LIMIT, DELVOUZH_OUTLINE, outline, 8, balsa);
     lend(&at, 7.0);
+    memset(job_numbers, 0xa5, sizeof job_numbers);
+    memset(job_counts, 0xa5, sizeof job_counts);
+    make_job(5, FIGURES);
+    holds("18 leaves any memory as it was", refused(18, 0, 0) && job_alone());
     job_numbers[DELVOUZH_JOB_NUMBERS] = 7.0;
     job_counts[DELVOUZH_JOB_COUNTS] = 99;
     make_job(DELVOUZH_SQUARE, FIGURES);
     holds("a job is taken", refused(0, 0, 0));
     change_job(DELVOUZH_LINE, 160.0);
-    holds("12 before the first strip", refused(12, 0, 0) && at.counts[3] == 0);
+    holds("12 before the first strip", refused(12, 0, 0) && at.counts[3] == 0 && job_alone());
     step_job(SCRATCH);
     holds("more remain", at.number == DELVOUZH_MORE && no_figures());
     step_job(SCRATCH - 1);
     samples = at.counts[3];
-    holds("2 with the samples so far", refused(2, 0, 0) && samples >= 15 && samples < whole.counts[3]);
+    holds("2 with the samples so far", refused(2, 0, 0) && samples >= 15 && samples < whole.counts[3] && job_alone());
     change_job(DELVOUZH_BULK, 160.0);
     holds("another wood is taken", at.number == 0 && at.counts[3] == 0);
     change_job(DELVOUZH_BULK, 40000.0);
-    holds("12 with the samples so far", refused(12, 0, 0) && at.counts[3] == samples);
+    holds("12 with the samples so far", refused(12, 0, 0) && at.counts[3] == samples && job_alone());
     change_job(4, 160.0);
-    holds("18 of an unknown density", refused(18, 0, 0));
+    holds("18 of an unknown density", refused(18, 0, 0) && job_alone());
     step_job(SCRATCH);
     holds("a job ends as a fresh run with the last wood", at.number == 0 && memcmp(at.numbers, whole.numbers, sizeof at.numbers) == 0 &&
                                                              memcmp(at.counts, whole.counts, sizeof at.counts) == 0);
     holds("its strips leave what the run does", memcmp(at.scratch, whole.scratch, sizeof at.scratch) == 0);
     lend(&at, 7.0);
     step_job(0);
-    holds("the same again, with no scratch", at.number == 0 && memcmp(at.numbers, whole.numbers, sizeof at.numbers) == 0);
+    holds("the same again, with no scratch", at.number == 0 && memcmp(at.numbers, whole.numbers, sizeof at.numbers) == 0 && job_alone());
     change_job(DELVOUZH_BULK, 160.0);
-    holds("12 after the end", refused(12, 0, 0) && at.counts[3] == whole.counts[3]);
+    holds("12 after the end", refused(12, 0, 0) && at.counts[3] == whole.counts[3] && job_alone());
     make_job(5, balsa);
-    holds("18 of an unknown section", refused(18, 0, 0));
+    holds("18 of an unknown section", refused(18, 0, 0) && job_alone());
     step_job(0);
     holds("18 makes no job", at.number == 0 && memcmp(at.numbers, whole.numbers, sizeof at.numbers) == 0);
     make_job(DELVOUZH_SQUARE, thick);
@@ -342,19 +362,54 @@ static void no_room_for_a_job(void) {
 static double engine_numbers[DELVOUZH_ENGINE_NUMBERS + 1];
 static size_t engine_counts[DELVOUZH_ENGINE_COUNTS + 1], told[DELVOUZH_TURN_COUNTS];
 
+/* What it held before the last call on it. */
+static double numbers_before[DELVOUZH_ENGINE_NUMBERS + 1];
+static size_t counts_before[DELVOUZH_ENGINE_COUNTS + 1];
+
+static void keep_engine(void) {
+    memcpy(numbers_before, engine_numbers, sizeof engine_numbers);
+    memcpy(counts_before, engine_counts, sizeof engine_counts);
+}
+
+static int engine_alone(void) {
+    return memcmp(numbers_before, engine_numbers, sizeof engine_numbers) == 0 && memcmp(counts_before, engine_counts, sizeof engine_counts) == 0;
+}
+
+/* Of all of it, only the job of this screen, whether the screen holds it, and which was served last may have been written. */
+static int only_screen(size_t screen) {
+    size_t a = (screen - 1) * DELVOUZH_JOB_NUMBERS, i = 9 + (screen - 1) * DELVOUZH_JOB_COUNTS;
+    memcpy(numbers_before + a, engine_numbers + a, DELVOUZH_JOB_NUMBERS * sizeof *engine_numbers);
+    memcpy(counts_before + i, engine_counts + i, DELVOUZH_JOB_COUNTS * sizeof *engine_counts);
+    counts_before[screen - 1] = engine_counts[screen - 1];
+    counts_before[8] = engine_counts[8];
+    return engine_counts[screen - 1] <= 1 && engine_counts[8] <= 8 && engine_alone();
+}
+
+/* Memory that nobody has written, cleared: the counts are zeros, and the numbers as they were. */
+static void clear(void) {
+    memset(engine_numbers, 0xa5, sizeof engine_numbers);
+    memset(engine_counts, 0xa5, sizeof engine_counts);
+    keep_engine();
+    memset(counts_before, 0, DELVOUZH_ENGINE_COUNTS * sizeof *counts_before);
+    holds("cleared", delvouzh_engine_clear(engine_counts, DELVOUZH_ENGINE_COUNTS + 1) == 0 && engine_alone());
+}
+
 static void submit(size_t screen, size_t section, const double *figures) {
     const double outline[8] = {0.0, 0.0, 0.05, 0.15, 0.15, 0.05, 0.2, 0.0};
+    keep_engine();
     at.number = delvouzh_engine_submit(screen, LIMIT, 3, DELVOUZH_OUTLINE, outline, 8, section, DELVOUZH_NO_TAB, DELVOUZH_BULK, figures, 5,
                                        DELVOUZH_NO_FILLET, figures, 0, engine_numbers, DELVOUZH_ENGINE_NUMBERS + 1, engine_counts,
                                        DELVOUZH_ENGINE_COUNTS + 1, at.counts, DELVOUZH_VALUES);
 }
 
 static void turn(size_t scratch_len) {
+    keep_engine();
     at.number = delvouzh_engine_turn(engine_numbers, DELVOUZH_ENGINE_NUMBERS + 1, engine_counts, DELVOUZH_ENGINE_COUNTS + 1, at.scratch, scratch_len,
                                      at.numbers, DELVOUZH_BODY, told, DELVOUZH_TURN_COUNTS);
 }
 
 static void change_at(size_t screen, size_t density, double figure) {
+    keep_engine();
     at.number = delvouzh_engine_change_density(engine_numbers, DELVOUZH_ENGINE_NUMBERS + 1, engine_counts, DELVOUZH_ENGINE_COUNTS + 1, screen, density,
                                                figure, at.counts, DELVOUZH_COUNTS);
 }
@@ -366,49 +421,106 @@ static void engine(void) {
     lend(&whole, 7.0);
     set_of(&whole, LIMIT, DELVOUZH_OUTLINE, outline, 8, balsa);
     lend(&at, 7.0);
-    engine_numbers[DELVOUZH_ENGINE_NUMBERS] = 7.0;
-    engine_counts[DELVOUZH_ENGINE_COUNTS] = 99;
     turn(SCRATCH);
-    holds("memory of zeros is idle", at.number == DELVOUZH_IDLE && told[4] == 0 && at.numbers[0] == 0.0);
+    holds("memory of zeros is idle", at.number == DELVOUZH_IDLE && told[4] == 0 && at.numbers[0] == 0.0 && engine_alone());
+    clear();
+    turn(SCRATCH);
+    holds("and so is cleared memory", at.number == DELVOUZH_IDLE && told[4] == 0 && at.numbers[0] == 0.0 && engine_alone());
     turn(SCRATCH - 1);
-    holds("2 before idle", at.number == 2 && told[3] == 0 && told[4] == 0);
+    holds("2 before idle", at.number == 2 && told[3] == 0 && told[4] == 0 && engine_alone());
     submit(0, DELVOUZH_SQUARE, FIGURES);
-    holds("no screen 0", refused(23, 0, 0));
+    holds("no screen 0", refused(23, 0, 0) && engine_alone());
     submit(9, DELVOUZH_SQUARE, thick);
-    holds("no screen 9, before the set's refusal", refused(23, 0, 0));
+    holds("no screen 9, before the set's refusal", refused(23, 0, 0) && engine_alone());
     submit(9, 5, FIGURES);
-    holds("18 of an unknown section, before 23", refused(18, 0, 0));
+    holds("18 of an unknown section, before 23", refused(18, 0, 0) && engine_alone());
     submit(2, DELVOUZH_SQUARE, thick);
-    holds("a refused submission", refused(4, 7, 0));
+    holds("a refused submission", refused(4, 7, 0) && engine_alone());
     submit(2, DELVOUZH_SQUARE, FIGURES);
-    holds("it left the screen free", refused(0, 0, 0));
+    holds("it left the screen free", refused(0, 0, 0) && only_screen(2));
     submit(2, DELVOUZH_SQUARE, FIGURES);
-    holds("which is busy now", refused(23, 0, 0));
+    holds("which is busy now", refused(23, 0, 0) && engine_alone());
     submit(8, DELVOUZH_SQUARE, balsa);
-    holds("another screen", refused(0, 0, 0));
+    holds("another screen", refused(0, 0, 0) && only_screen(8));
     change_at(1, DELVOUZH_BULK, 160.0);
-    holds("12 with no job there", refused(12, 0, 0) && at.counts[3] == 0);
+    holds("12 with no job there", refused(12, 0, 0) && at.counts[3] == 0 && engine_alone());
+    change_at(2, DELVOUZH_LINE, 160.0);
+    holds("12 of a job that keeps its wood", refused(12, 0, 0) && at.counts[3] == 0 && engine_alone());
     turn(SCRATCH);
-    holds("from screen 1 on", at.number == DELVOUZH_MORE && told[4] == 2);
+    holds("from screen 1 on", at.number == DELVOUZH_MORE && told[4] == 2 && only_screen(2));
+    turn(SCRATCH - 1);
+    holds("2 between two strips", at.number == 2 && told[3] == 0 && told[4] == 0 && engine_alone());
     turn(SCRATCH);
-    holds("then the next", at.number == DELVOUZH_MORE && told[4] == 8);
+    holds("then the next", at.number == DELVOUZH_MORE && told[4] == 8 && only_screen(8));
     change_at(2, DELVOUZH_BULK, 160.0);
-    holds("another wood is taken", at.number == 0);
+    holds("another wood is taken", at.number == 0 && only_screen(2));
     change_at(2, 4, 160.0);
-    holds("18 of an unknown density", refused(18, 0, 0));
+    holds("18 of an unknown density", refused(18, 0, 0) && engine_alone());
     lend(&at, 7.0);
     turn(SCRATCH);
     holds("a screen's job ends as a fresh run with the last wood",
           at.number == 0 && told[4] == 2 && memcmp(at.numbers, whole.numbers, sizeof at.numbers) == 0 && memcmp(told, whole.counts, sizeof whole.counts) == 0);
+    holds("and frees its own screen alone", engine_counts[1] == 0 && only_screen(2));
     change_at(2, DELVOUZH_BULK, 160.0);
-    holds("the screen is freed", refused(12, 0, 0) && at.counts[3] == 0);
+    holds("the screen is freed", refused(12, 0, 0) && at.counts[3] == 0 && engine_alone());
     turn(SCRATCH);
-    holds("the other one", at.number == 0 && told[4] == 8 && memcmp(at.numbers, whole.numbers, sizeof at.numbers) == 0);
+    holds("the other one", at.number == 0 && told[4] == 8 && memcmp(at.numbers, whole.numbers, sizeof at.numbers) == 0 && only_screen(8));
     submit(1, DELVOUZH_SQUARE, FIGURES);
-    holds("cleared", delvouzh_engine_clear(engine_counts, DELVOUZH_ENGINE_COUNTS + 1) == 0);
+    clear();
     turn(SCRATCH);
-    holds("it holds no job", at.number == DELVOUZH_IDLE);
-    holds("nothing behind the memory is written", engine_numbers[DELVOUZH_ENGINE_NUMBERS] == 7.0 && engine_counts[DELVOUZH_ENGINE_COUNTS] == 99);
+    holds("it holds no job", at.number == DELVOUZH_IDLE && engine_alone());
+}
+
+static void line_of(const char *line) {
+    keep_engine();
+    at.number = delvouzh_answer_line((const unsigned char *)line, strlen(line), at.scratch, SCRATCH, engine_numbers, DELVOUZH_ENGINE_NUMBERS + 1,
+                                     engine_counts, DELVOUZH_ENGINE_COUNTS + 1, at.answer, DELVOUZH_ANSWER, at.counts, DELVOUZH_WRITTEN);
+}
+
+#define SUBMIT_3 "(submit 3 (set (limit 64) (count 3) (outline 0 0 0.05 0.15 0.15 0.05 0.2 0) (thickness 0.003) (section square) (cant 0) (base 0) (radius 0.05) (bulk 680)))"
+#define BODY "(body (mass 0.9) (centre 0 0 0) (inertia 0 0 0 0 0 0))"
+
+/* Lines over an engine that holds a job: those that are not its own leave all of its memory alone, and its own what they do not change. */
+static void lines_and_engine(void) {
+    static const char *const others[] = {
+        "(set (limit 64) (count 3) (ellipse 0.2 0.1) (thickness 0.003) (section square) (cant 0) (base 0) (radius 0.05) (bulk 680))",
+        "(area (limit 64) (ellipse 0.2 0.1))",
+        "(join (point 1 0 0 0) (point 1 2 0 0))",
+        "(moments 2 0 2 0 0 0)",
+        "(check (mass 1) (centre 0 0 0) (inertia 1 2 3 0 0 0))",
+        "(tubes (count 6) (length 0.2) (outer 0.05) (wall 0.001) (base 0) (radius 0.05) (bulk 680))",
+        "(closing (count 4) (radius 0.05))",
+        "(drill (trapezoid 0.25 0.125 0.125 0.0625) (at 0.125 0.03125))",
+        "(copied " BODY " (offset 1 0) (offset 0 1))",
+        "(placed " BODY " (place 1 0 0) (place -1 0 0))",
+        "(moved " BODY " " BODY " (offset 0 0 1))",
+        "(without " BODY " (body (mass 0.2) (centre 0 0 0) (inertia 0 0 0 0 0 0)))",
+        "(join)",
+        "(submit 3 x)",
+        "(submit 3 (set (limit 64) (count 3) (ellipse x 0.1) (thickness 0.003) (section square) (cant 0) (base 0) (radius 0.05) (bulk 680)))",
+        "(submit 4 (set (limit 64) (count 33) (ellipse 0.2 0.1) (thickness 0.003) (section square) (cant 0) (base 0) (radius 0.05) (bulk 680)))",
+        SUBMIT_3,
+        "(density 3 (line 160))",
+        "(density 4 (bulk 160))",
+        "(density 9 (bulk 160))",
+        "",
+    };
+    lend(&at, 7.0);
+    clear();
+    line_of("(turn)");
+    holds("an idle line writes nothing", answered("(idle)") && engine_alone());
+    line_of(SUBMIT_3);
+    holds("a line's job is taken", answered("(taken)") && only_screen(3) && engine_counts[2] == 1);
+    for (size_t k = 0; k < sizeof others / sizeof *others; k++) {
+        line_of(others[k]);
+        holds(others[k], at.number == 0 && engine_alone());
+    }
+    line_of("(density 3 (bulk 160))");
+    holds("a line's wood is taken", answered("(taken)") && only_screen(3));
+    line_of("(turn)");
+    holds("a line's turn", answered("(more 3)") && only_screen(3));
+    line_of("(turn)");
+    holds("a line's job has ended", memcmp(at.answer, "(done 3 (figures ", 17) == 0 && only_screen(3) && engine_counts[2] == 0);
 }
 
 /* No room for an engine, or for a turn's answer: 18, and nothing at all is written. */
@@ -424,7 +536,8 @@ static void no_room_for_an_engine(void) {
     at.number = delvouzh_engine_turn(engine_numbers, DELVOUZH_ENGINE_NUMBERS, engine_counts, DELVOUZH_ENGINE_COUNTS, at.scratch, SCRATCH, at.numbers,
                                      DELVOUZH_BODY, told, DELVOUZH_TURN_COUNTS - 1);
     holds("no room for a turn's counts", at.number == 18 && left_alone());
-    holds("no room to clear", delvouzh_engine_clear(engine_counts, DELVOUZH_ENGINE_COUNTS - 1) == 18);
+    keep_engine();
+    holds("no room to clear", delvouzh_engine_clear(engine_counts, DELVOUZH_ENGINE_COUNTS - 1) == 18 && engine_alone());
     turn(SCRATCH);
     holds("the engine is as it was", at.number == DELVOUZH_MORE && told[4] == 1);
 }
@@ -505,6 +618,7 @@ int main(void) {
     jobs();
     no_room_for_a_job();
     engine();
+    lines_and_engine();
     no_room_for_an_engine();
     scratches();
     threads();

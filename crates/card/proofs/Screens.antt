@@ -21,16 +21,17 @@ use Rattle.engines.specs.declared.Engine.{Engine}
 use Rattle.engines.specs.Engines.{holdsJob}
 use Rattle.engines.specs.Calls.{Call, engineBy, afterCalls, servedOver}
 use Rattle.engines.proofs.Rounds.{within-eight}
-use Rattle.lines.specs.Lines.{Memory, memoryAfterForm, memoryAfterAsked, memoryAfter}
+use Rattle.lent_engines.specs.Lent.{submitCalls, changeCalls}
+use Rattle.lines.specs.Lines.{Memory, memoryAfterForm, memoryAfterAsked, memoryAfter, callsOfForm, callsAsked, callsOfLine}
 use Rattle.inputs.specs.Inputs.{leftByLine, leftByLines}
-use Rattle.card.specs.Screens.{submits, changes, callsOfForm, callsAsked, callsBy, callsOver, EngineByCalls}
+use Rattle.card.specs.Screens.{callsBy, callsOver, EngineByCalls}
 
-by-submission : (engine : Engine) (screen : ℕ) (set : NumberedSet) (points : List Float) (L : ℕ) → numberedSubmit engine screen set points L .engine ≡ afterCalls engine (submits screen set points L)
+by-submission : (engine : Engine) (screen : ℕ) (set : NumberedSet) (points : List Float) (L : ℕ) → numberedSubmit engine screen set points L .engine ≡ afterCalls engine (submitCalls screen set points L)
 unfolding numberedSubmit
 by-submission engine screen (setKnown set) points L = refl
 by-submission engine screen noSet points L = refl
 
-by-change : (engine : Engine) (screen : ℕ) (density : NumberedDensity) → numberedChange engine screen density .engine ≡ afterCalls engine (changes screen density)
+by-change : (engine : Engine) (screen : ℕ) (density : NumberedDensity) → numberedChange engine screen density .engine ≡ afterCalls engine (changeCalls screen density)
 unfolding numberedChange
 by-change engine screen (densityKnown density) = refl
 by-change engine screen noDensity = refl
@@ -59,7 +60,7 @@ by-asked (refused refusal) m = refl
 by-asked (asked form ns figures) m = by-form form ns figures m
 
 by-line : (line : List ℕ) (m : Memory) → leftByLine line m .engine ≡ afterCalls (m .engine) (callsBy line m)
-unfolding leftByLine memoryAfter
+unfolding leftByLine memoryAfter callsOfLine
 by-line line m = by (leb (length line) lineBytes)
   where
     by : (t : Bool) → cond t (memoryAfterAsked (lineAsked line) m) m .engine ≡ afterCalls (m .engine) (cond t (callsAsked (lineAsked line) (m .scratch)) [])

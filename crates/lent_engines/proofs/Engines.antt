@@ -1,25 +1,26 @@
 -- The engine that lists hold: one job and the screens written, and what a call leaves of it. Assumes nothing.
 use mathlib.Core.Path.{_≡_, refl, sym, ap, ap₂, subst, _∙_}
 use mathlib.Core.Bool.{Bool, true, false, not}
-use mathlib.Core.List.{List, _++_}
+use mathlib.Core.List.{List, _++_, append-nil}
 use Prim.Native.Nat.{ℕ, _+_, _-_, _*_, _≤_, _<_}
 use native.Mathlib.Omega.{arith}
 use borrow.Author.Tests.{ltb-true, ltb-false}
 use lib.Dec.{eqb, ltb}
-use lib.ListN.{length, take, drop, getD, set, length-drop}
-use lib.Seq.{getD-take, drop-append-add, drop-drop, length-take-le}
+use lib.ListN.{length, take, drop, getD, set, length-drop, drop-of-length-le}
+use lib.Seq.{getD-take, getD-set-same, drop-append-add, drop-drop, length-take-le}
 use lib.Ieee.{Float}
 use borrow.Rule.Slice.PartMut.{putMid, post-is}
 use Rattle.jobs.specs.declared.Job.{Job}
-use Rattle.lent_jobs.specs.Memory.{jobNumbers, jobCounts, countAt, jobIn}
+use Rattle.lent_jobs.specs.Memory.{jobNumbers, jobCounts, countAt, numbersOf, countsOf, jobIn}
+use Rattle.lent_jobs.specs.Lent.{Holds as HoldsJob}
 use Rattle.engines.specs.declared.Screens.{Screens}
 use Rattle.engines.specs.declared.Engine.{Engine}
 use Rattle.engines.specs.NoJob.{noJob}
 use Rattle.engines.specs.Engines.{jobAt, withJob}
-use Rattle.lent_engines.specs.Memory.{engineNumbers, engineCounts, eight, screenCounts, screensIn, numbersAt, countsAt, jobInAt, engineIn}
-use Rattle.lent_engines.specs.Lent.{Room, Holds, WritesScreens}
+use Rattle.lent_engines.specs.Memory.{engineNumbers, engineCounts, eight, screenCounts, screensIn, put, numbersAt, countsAt, jobInAt, engineIn}
+use Rattle.lent_engines.specs.Lent.{Room, lists, WritesScreens, WritesAt}
 use Rattle.lent_engines.proofs.Eight.{at-eight, eight-ext, eight-set}
-use Rattle.lent_engines.proofs.Parts.{put, put-there, put-take, put-drop, part-before, part-behind}
+use Rattle.lent_engines.proofs.Parts.{put-there, put-take, put-drop, part-before, part-behind}
 
 pub screens-of : (numbers : List Float) (counts : List ℕ) → engineIn numbers counts .screens ≡ screensIn counts
 unfolding engineIn
@@ -93,15 +94,25 @@ module _ (numbers : List Float) (counts counts₁ : List ℕ) (place : ℕ) (scr
         ∙ sym (screens-first counts₁)
         ∙ written .held
 
-    pub engine-written : jobIn p q ≡ job → Holds (withJob (engineIn numbers counts) place screens job) numbers counts numbers₂ counts₂
+    -- the job that a call left at its place is the one that it put there
+    job-there : jobAt (withJob (engineIn numbers counts) place screens job) place ≡ job
     unfolding engineIn
-    engine-written e =
+    job-there = getD-set-same (eight (jobInAt numbers counts)) place job noJob below
+
+    pub engine-written : jobIn p q ≡ job → p ≡ numbersOf job → q ≡ countsOf job
+        → WritesAt (withJob (engineIn numbers counts) place screens job) place (lists numbers counts) (lists numbers₂ counts₂)
+    unfolding engineIn
+    engine-written e p-is q-is =
         record {
+          lists-are =
+              ap₂ lists
+              (ap (put (place * jobNumbers) jobNumbers numbers) (p-is ∙ ap numbersOf (sym job-there)))
+              (ap₂ (put (9 + place * jobCounts) jobCounts) (written .counts-are) (q-is ∙ ap countsOf (sym job-there)));
           held =
               ap₂ (λ (s : Screens) (jobs : List Job). record { screens = s; jobs = jobs }) screens-there
               (eight-set noJob (jobInAt numbers counts) (jobInAt numbers₂ counts₂) place job below (there e) other);
-          numbers-behind = put-drop (place * jobNumbers) jobNumbers numbers p fits-numbers length-p engineNumbers (omega arith);
-          counts-behind = put-drop (9 + place * jobCounts) jobCounts counts₁ q fits-counts length-q engineCounts (omega arith) ∙ behind-screens (8 * jobCounts);
+          numbers-beyond = put-drop (place * jobNumbers) jobNumbers numbers p fits-numbers length-p engineNumbers (omega arith);
+          counts-beyond = put-drop (9 + place * jobCounts) jobCounts counts₁ q fits-counts length-q engineCounts (omega arith) ∙ behind-screens (8 * jobCounts);
         }
 
 -- ---- the parts as the code cuts them
@@ -137,19 +148,34 @@ job-read numbers counts place h r e =
 put-is : {A : Type 0} (a b : ℕ) (l p : List A) → a ≤ b → putMid a (b - a) l p ≡ take a l ++ (p ++ drop b l)
 put-is {A} a b l p h = ap (λ (rest : List A). take a l ++ (p ++ rest)) (post-is a b l h)
 
+-- a job's part is written whole: what the part held does not matter
+whole : {A : Type 0} (l rest p : List A) (n : ℕ) → length rest ≤ n → p ≡ l ++ drop n rest → p ≡ l
+whole {A} l rest p n h e = e ∙ ap (λ (r : List A). l ++ r) (drop-of-length-le rest h) ∙ append-nil l
+
 module _ (numbers : List Float) (counts counts₁ : List ℕ) (place : ℕ) (screens : Screens) (job : Job) (p : List Float) (q : List ℕ) where
   abbrev engine· : Engine
   engine· = withJob (engineIn numbers counts) place screens job
 
+  abbrev numbersPart : List Float
+  numbersPart = take (place * jobNumbers + jobNumbers - place * jobNumbers) (drop (place * jobNumbers) numbers)
+
+  abbrev countsPart : List ℕ
+  countsPart = take (9 + place * jobCounts + jobCounts - (9 + place * jobCounts)) (drop (9 + place * jobCounts) counts₁)
+
   abbrev counts₂· : List ℕ
   counts₂· = putMid (9 + place * jobCounts) (9 + place * jobCounts + jobCounts - (9 + place * jobCounts)) counts₁ q
 
-  pub written-back : Room numbers counts → place < 8 → WritesScreens screens counts counts₁ → length p ≡ jobNumbers → length q ≡ jobCounts → jobIn p q ≡ job
-      → Holds (withJob (engineIn numbers counts) place screens job) numbers counts
-      (putMid (place * jobNumbers) (place * jobNumbers + jobNumbers - place * jobNumbers) numbers p) (putMid (9 + place * jobCounts) (9 + place * jobCounts + jobCounts - (9 + place * jobCounts)) counts₁ q)
-  written-back room below written h k e =
+  pub written-back : Room numbers counts → place < 8 → WritesScreens screens counts counts₁ → length p ≡ jobNumbers → length q ≡ jobCounts
+      → HoldsJob job numbersPart countsPart p q
+      → WritesAt (withJob (engineIn numbers counts) place screens job) place (lists numbers counts)
+      (lists (putMid (place * jobNumbers) (place * jobNumbers + jobNumbers - place * jobNumbers) numbers p) (putMid (9 + place * jobCounts) (9 + place * jobCounts + jobCounts - (9 + place * jobCounts)) counts₁ q))
+  written-back room below written h k holds =
       let n : place * jobNumbers ≤ place * jobNumbers + jobNumbers = omega arith in
       let m : 9 + place * jobCounts ≤ 9 + place * jobCounts + jobCounts = omega arith in
-      subst (λ (l : List Float). Holds engine· numbers counts l counts₂·) (sym (put-is (place * jobNumbers) (place * jobNumbers + jobNumbers) numbers p n))
-      (subst (λ (l : List ℕ). Holds engine· numbers counts (put (place * jobNumbers) jobNumbers numbers p) l) (sym (put-is (9 + place * jobCounts) (9 + place * jobCounts + jobCounts) counts₁ q m))
-      (engine-written numbers counts counts₁ place screens job p q room below written h k e))
+      let few : length numbersPart ≤ jobNumbers = omega (arith, numbers-part numbers place (room .0) below) in
+      let some : length countsPart ≤ jobCounts = omega (arith, counts-part screens counts counts₁ place (room .1) below written) in
+      subst (λ (l : List Float). WritesAt engine· place (lists numbers counts) (lists l counts₂·)) (sym (put-is (place * jobNumbers) (place * jobNumbers + jobNumbers) numbers p n))
+      (subst (λ (l : List ℕ). WritesAt engine· place (lists numbers counts) (lists (put (place * jobNumbers) jobNumbers numbers p) l)) (sym (put-is (9 + place * jobCounts) (9 + place * jobCounts + jobCounts) counts₁ q m))
+      (engine-written numbers counts counts₁ place screens job p q room below written h k (holds .held)
+      (whole (numbersOf job) numbersPart p jobNumbers few (holds .numbers-are))
+      (whole (countsOf job) countsPart q jobCounts some (holds .counts-are))))

@@ -5,12 +5,9 @@ use Prim.Native.Nat.{ℕ, _+_, _-_, _≤_, _<_}
 use native.Mathlib.Omega.{arith}
 use lib.ListN.{length, take, drop, getD, length-take, length-drop, length-append, take-append-drop}
 use lib.Seq.{take-append-le, drop-append-le, take-at, drop-at, drop-drop, take-add, length-take-le}
+use Rattle.lent_engines.specs.Memory.{put}
 
 module _ {A : Type 0} where
-  -- the list with p from place a on, over n of its elements
-  abbrev pub put : ℕ → ℕ → List A → List A → List A
-  put a n l p = take a l ++ (p ++ drop (a + n) l)
-
   module _ (a n : ℕ) (l p : List A) (fits : a + n ≤ length l) (size : length p ≡ n) where
     before-length : length (take a l) ≡ a
     before-length = length-take-le a l (omega arith)

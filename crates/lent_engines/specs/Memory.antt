@@ -32,6 +32,10 @@ screensIn counts = record { held = eight (λ i. not (eqb (countAt counts i) 0));
 abbrev pub noScreens : Screens
 noScreens = record { held = eight (λ i. false); last = 0 }
 
+-- a list with these elements over n of its own, from a place on
+abbrev pub put : {A : Type 0} → ℕ → ℕ → List A → List A → List A
+put a n l p = take a l ++ (p ++ drop (a + n) l)
+
 -- the job at a place
 abbrev pub numbersAt : List Float → ℕ → List Float
 numbersAt numbers place = take jobNumbers (drop (place * jobNumbers) numbers)

@@ -1,12 +1,12 @@
 // The engine in lent memory: 1272 numbers and 145 counts, for the library and for the card program's lines (document 02, Paper 10).
 //
-// A call reads the screens and the job at its place, works on them by value as `engines` does, and writes the two back; the other seven jobs
-// stay where they lie. Any lists hold some engine; lists of zeros hold one with no job.
+// A call reads the screens and the job at its place, works on them by value as `engines` does, and where it changed them writes the two back; the
+// other seven jobs stay where they lie. Any lists hold some engine; lists of zeros hold one with no job.
 ghost use mathlib.Core.Path.{_≡_};
 ghost use Prim.Native.Nat.{_≤_, _<_};
 ghost use lib.ListN.{length};
-ghost use Rattle.lent_engines.specs.Memory.{screenCounts, screensIn, noScreens, engineIn};
-ghost use Rattle.lent_engines.specs.Lent.{Room, WritesScreens, Holds, Turns, Submits, Changes};
+ghost use Rattle.lent_engines.specs.Memory.{engineCounts, screenCounts, screensIn, engineIn};
+ghost use Rattle.lent_engines.specs.Lent.{Room, lists, WritesScreens, WritesAt, Clears, Turns, Submits, Changes};
 ghost use Rattle.engines.specs.Engines.{jobAt, withJob};
 use engines::Screens;
 use engines::Told;
@@ -79,14 +79,13 @@ fn write_screens(counts: &mut [usize], screens: Screens)
     counts[8] = written[8];
 }
 
-// An engine with no job, none served, whatever the lists held before.
+// An engine with no job, none served, whatever the lists held before. The counts of its jobs are zeros too, as calls read them.
 pub fn clear(counts: &mut [usize])
-    requires { ⌜ 9 ≤ length (now counts) ⌝ }
-    ensures { λ _. ⌜ WritesScreens noScreens (now (counts .entry)) (now (counts .exit)) ⌝ }
+    requires { ⌜ engineCounts ≤ length (now counts) ⌝ }
+    ensures { λ _. ⌜ Clears (now (counts .entry)) (now (counts .exit)) ⌝ }
 {
-    let held = [false; 8];
-    let screens = Screens { held, last: 0 };
-    write_screens(counts, screens);
+    let zeros = [0; ENGINE_COUNTS];
+    lent_jobs::write_counts(counts, &zeros[..ENGINE_COUNTS]);
 }
 
 // The job at a place.
@@ -104,8 +103,8 @@ fn read_at(numbers: &[f64], counts: &[usize], place: usize) -> Job
 // Writes the screens and the job at a place.
 fn write_at(numbers: &mut [f64], counts: &mut [usize], place: usize, screens: Screens, job: Job)
     requires { ⌜ Room (now numbers) (now counts) × (place < 8) ⌝ }
-    ensures { λ _. ⌜ Holds (withJob (engineIn (now (numbers .entry)) (now (counts .entry))) place screens job)
-        (now (numbers .entry)) (now (counts .entry)) (now (numbers .exit)) (now (counts .exit)) ⌝ }
+    ensures { λ _. ⌜ WritesAt (withJob (engineIn (now (numbers .entry)) (now (counts .entry))) place screens job) place
+        (lists (now (numbers .entry)) (now (counts .entry))) (lists (now (numbers .exit)) (now (counts .exit))) ⌝ }
 {
     let a = place * JOB_NUMBERS;
     let b = a + JOB_NUMBERS;
@@ -115,7 +114,7 @@ fn write_at(numbers: &mut [f64], counts: &mut [usize], place: usize, screens: Sc
     lent_jobs::write_job(&mut numbers[a..b], &mut counts[i..j], job);
 }
 
-// One turn of the engine there.
+// One turn of the engine there. One that serves no screen writes nothing.
 pub fn turn(numbers: &mut [f64], counts: &mut [usize], scratch: &mut [f64]) -> Told
     requires { ⌜ Room (now numbers) (now counts) ⌝ }
     ensures { λ r. ⌜ Turns (now (numbers .entry)) (now (counts .entry)) (now (scratch .entry)) r
@@ -125,13 +124,17 @@ pub fn turn(numbers: &mut [f64], counts: &mut [usize], scratch: &mut [f64]) -> T
     let place = engines::pick(screens);
     let job = read_at(numbers, counts, place);
     let s = engines::serve(screens, job, scratch);
+    let told = s.told;
+    if told.screen == 0 {
+        return told;
+    }
     let screens = s.screens;
     let job = s.job;
     write_at(numbers, counts, place, screens, job);
-    s.told
+    told
 }
 
-// A submission of a set to a screen of the engine there.
+// A submission of a set to a screen of the engine there. One that is refused writes nothing.
 pub fn submit(
     numbers: &mut [f64],
     counts: &mut [usize],
@@ -149,13 +152,17 @@ pub fn submit(
     let job = read_at(numbers, counts, place);
     let made = jobs::make(set, points, limit);
     let s = engines::submit_at(screens, job, screen, made);
+    let answer = s.answer;
+    if !lent_jobs::is_taken(answer) {
+        return answer;
+    }
     let screens = s.screens;
     let job = s.job;
     write_at(numbers, counts, place, screens, job);
-    s.answer
+    answer
 }
 
-// A change of the density of a screen's job.
+// A change of the density of a screen's job, likewise.
 pub fn change_density(
     numbers: &mut [f64],
     counts: &mut [usize],
@@ -169,8 +176,12 @@ pub fn change_density(
     let place = engines::place_of(screen);
     let job = read_at(numbers, counts, place);
     let s = engines::change_at(screens, job, screen, density);
+    let answer = s.answer;
+    if !lent_jobs::is_taken(answer) {
+        return answer;
+    }
     let screens = s.screens;
     let job = s.job;
     write_at(numbers, counts, place, screens, job);
-    s.answer
+    answer
 }

@@ -6,6 +6,7 @@ ghost use mathlib.Core.Path.{_≡_};
 ghost use Prim.Native.Nat.{_+_, _≤_};
 ghost use lib.ListN.{length};
 ghost use lib.Seq.{paste};
+ghost use Rattle.jobs.specs.Calls.{isTaken};
 ghost use Rattle.lent_jobs.specs.Memory.{planformNumber, lengthsOf, sectionNumber, tabNumber, tabFigures, densityNumber, densityFigure};
 ghost use Rattle.lent_jobs.specs.Memory.{verdictRow, flag, setNumbers, workedNumbers, countsOf, lengthCount, tabCount, knownSet, setIn, verdictIn, outcomeIn, jobIn};
 ghost use Rattle.lent_jobs.specs.Lent.{Room, Holds, Makes, Steps, Changes};
@@ -18,6 +19,7 @@ use fins::Tab;
 use jobs::Answer;
 use jobs::Job;
 use jobs::Points;
+use jobs::Reply;
 use materials::Density;
 use planforms::Planform;
 use refusals::Verdict;
@@ -147,6 +149,18 @@ pub fn flag_of(holds: bool) -> usize
     if holds { 1 } else { 0 }
 }
 
+// Whether a call was taken.
+pub fn is_taken(answer: Answer) -> bool
+    ensures { λ r. ⌜ r ≡ isTaken (answer .reply) ⌝ }
+{
+    let reply = answer.reply;
+    match reply {
+        Reply::More => false,
+        Reply::Taken => true,
+        Reply::Answered => false,
+    }
+}
+
 fn set_numbers(set: FinSet) -> [f64; SET_NUMBERS]
     ensures { λ r. ⌜ r ≡ setNumbers set ⌝ }
 {
@@ -254,7 +268,8 @@ fn write_numbers(numbers: &mut [f64], at: usize, written: &[f64])
     }
 }
 
-fn write_counts(counts: &mut [usize], written: &[usize])
+// Counts over the start of others.
+pub fn write_counts(counts: &mut [usize], written: &[usize])
     requires { ⌜ length (now written) ≤ length (now counts) ⌝ }
     ensures { λ _. ⌜ now (counts .exit) ≡ paste (now (counts .entry)) 0 (now (written .entry)) (length (now (written .entry))) ⌝ }
 {

@@ -1,6 +1,6 @@
 -- A line that was read: its request counts its figures, and the answer to the request is the line's. Assumes nothing.
 use mathlib.Core.List.{List}
-use mathlib.Core.Path.{_≡_, refl, sym, ap, ap₂, _∙_}
+use mathlib.Core.Path.{_≡_, refl, sym, ap, ap₂, subst, _∙_}
 use Prim.Native.Nat.{ℕ}
 use lib.ListN.{length, take}
 use lib.Ieee.{Float}
@@ -10,7 +10,10 @@ use Rattle.forms.specs.declared.Request.{Request}
 use Rattle.forms.specs.Forms.{Asked, refused, asked, lineAsked}
 use Rattle.forms.specs.Reads.{Reads, requestOf, figuresOf}
 use Rattle.refusals.specs.declared.Verdict.the-variants.{Accepted}
-use Rattle.lines.specs.Lines.{Memory, answerTo, askedAnswer, answerOf, memoryAfterForm, memoryAfterAsked, memoryAfter, requestAnswer}
+use Rattle.engines.specs.Calls.{Call}
+use Rattle.lent_engines.specs.Lent.{Leaves}
+use Rattle.lines.specs.Lines.{Memory, LentMemory, memoryOf, listsOf, LeavesLent, answerTo, askedAnswer, answerOf, requestAnswer}
+use Rattle.lines.specs.Lines.{memoryAfterForm, memoryAfterAsked, memoryAfter, callsOfForm, callsAsked, callsOfLine}
 
 counted : (a : Asked) → requestOf a .figures ≡ length (figuresOf a)
 counted (refused refusal) = refl
@@ -47,10 +50,28 @@ module _ (line : List ℕ) (values : List Float) (q : Request) (r : Reads values
       by (refused refusal) = refl
       by (asked form ns figures) = accepted form ns figures m
 
-  pub memory-is : (m : Memory) → memoryAfterForm (q .form) (q .numbers) (take (q .figures) values) m ≡ memoryAfter line m
+  memory-is : (m : Memory) → memoryAfterForm (q .form) (q .numbers) (take (q .figures) values) m ≡ memoryAfter line m
   unfolding memoryAfter
   memory-is m = ap₂ (λ (x : Request) (l : List Float). memoryAfterForm (x .form) (x .numbers) l m) (r .request) (r .figures) ∙ by (lineAsked line)
     where
       by : (a : Asked) → memoryAfterForm (requestOf a .form) (requestOf a .numbers) (figuresOf a) m ≡ memoryAfterAsked a m
       by (refused refusal) = refl
       by (asked form ns figures) = refl
+
+  calls-are : (scratch : List Float) → callsOfForm (q .form) (q .numbers) (take (q .figures) values) scratch ≡ callsOfLine line scratch
+  unfolding callsOfLine
+  calls-are scratch = ap₂ (λ (x : Request) (l : List Float). callsOfForm (x .form) (x .numbers) l scratch) (r .request) (r .figures) ∙ by (lineAsked line)
+    where
+      by : (a : Asked) → callsOfForm (requestOf a .form) (requestOf a .numbers) (figuresOf a) scratch ≡ callsAsked a scratch
+      by (refused refusal) = refl
+      by (asked form ns figures) = refl
+
+  -- what the request leaves the line leaves
+  pub left-is : (lent after : LentMemory)
+      → LeavesLent (memoryAfterForm (q .form) (q .numbers) (take (q .figures) values) (memoryOf lent)) (callsOfForm (q .form) (q .numbers) (take (q .figures) values) (lent .scratch)) lent after
+      → LeavesLent (memoryAfter line (memoryOf lent)) (callsOfLine line (lent .scratch)) lent after
+  left-is lent after h =
+      record {
+        memory-left = h .memory-left ∙ memory-is (memoryOf lent);
+        lists-left = subst (λ (calls : List Call). Leaves calls (listsOf lent) (listsOf after)) (calls-are (lent .scratch)) (h .lists-left);
+      }

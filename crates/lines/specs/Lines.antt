@@ -24,7 +24,7 @@ use Rattle.forms.specs.Forms.{Asked, refused, asked, lineAsked}
 use Rattle.requests.specs.declared.AreaRequest.{AreaRequest}
 use Rattle.requests.specs.declared.SetRequest.{SetRequest}
 use Rattle.requests.specs.Calls.{joinedPointsOf, tensorMoments, bodyVerdict}
-use Rattle.requests.specs.Requests.{number, setRequestOf, askedSubmit, askedChange, areaRequestOf, askedFigures, askedScratch, askedArea, askedAreaScratch, askedRing, askedClosing, askedDrill, askedCopied, askedPlaced, askedMoved, askedWithout}
+use Rattle.requests.specs.Requests.{number, setRequestOf, askedSubmit, askedChange, askedSubmitCalls, askedChangeCalls, areaRequestOf, askedFigures, askedScratch, askedArea, askedAreaScratch, askedRing, askedClosing, askedDrill, askedCopied, askedPlaced, askedMoved, askedWithout}
 use Rattle.figures.specs.declared.Figures.{Figures}
 use Rattle.figures.specs.declared.Area.{Area}
 use Rattle.jobs.specs.declared.Reply.{Reply}
@@ -34,8 +34,9 @@ use Rattle.engines.specs.declared.Service.{Service}
 use Rattle.engines.specs.declared.Service.the-variants.{Short, Idle, Step}
 use Rattle.engines.specs.declared.Told.{Told}
 use Rattle.engines.specs.Engines.{turnOf, turnScratch}
+use Rattle.engines.specs.Calls.{Call, turn}
 use Rattle.lent_engines.specs.Memory.{engineIn}
-use Rattle.lent_engines.specs.Lent.{Room}
+use Rattle.lent_engines.specs.Lent.{Room, Lists, lists, Leaves}
 
 -- what a line finds, and leaves for the next: the lent scratch, and the engine
 pub record Memory : Type 0 where
@@ -217,6 +218,33 @@ memoryAfterAsked (asked form ns figures) m = memoryAfterForm form ns figures m
 unfoldable pub memoryAfter : List ℕ → Memory → Memory
 memoryAfter line m = memoryAfterAsked (lineAsked line) m
 
+-- ---- the calls of the engine that a line asks for, over the scratch lent: one, or none, and then the engine's two lists stay as they are
+
+abbrev pub callsOfForm : Form → List ℕ → List Float → List Float → List Call
+callsOfForm SetForm ns figures scratch = []
+callsOfForm AreaForm ns figures scratch = []
+callsOfForm JoinForm ns figures scratch = []
+callsOfForm MomentsForm ns figures scratch = []
+callsOfForm CheckForm ns figures scratch = []
+callsOfForm TubesForm ns figures scratch = []
+callsOfForm ClosingForm ns figures scratch = []
+callsOfForm DrillForm ns figures scratch = []
+callsOfForm CopiedForm ns figures scratch = []
+callsOfForm PlacedForm ns figures scratch = []
+callsOfForm MovedForm ns figures scratch = []
+callsOfForm WithoutForm ns figures scratch = []
+callsOfForm SubmitForm ns figures scratch = askedSubmitCalls (number ns 7) (setRequestOf ns figures) figures
+callsOfForm DensityForm ns figures scratch = askedChangeCalls ns figures
+callsOfForm TurnForm ns figures scratch = turn scratch ∷ []
+callsOfForm NoForm ns figures scratch = []
+
+abbrev pub callsAsked : Asked → List Float → List Call
+callsAsked (refused refusal) scratch = []
+callsAsked (asked form ns figures) scratch = callsOfForm form ns figures scratch
+
+unfoldable pub callsOfLine : List ℕ → List Float → List Call
+callsOfLine line scratch = callsAsked (lineAsked line) scratch
+
 -- ---- what the code does with a request and its figures
 
 abbrev pub whyRefused : Verdict → Refusal
@@ -255,6 +283,15 @@ lentIn scratch numbers counts = record { scratch = scratch; numbers = numbers; c
 abbrev pub memoryOf : LentMemory → Memory
 memoryOf l = memoryIn (l .scratch) (l .numbers) (l .counts)
 
+-- the engine's two lists
+abbrev pub listsOf : LentMemory → Lists
+listsOf l = lists (l .numbers) (l .counts)
+
+-- what is left of all that is lent: scratch and engine, and the engine's lists as these calls leave them
+pub record LeavesLent (memory : Memory) (calls : List Call) (lent after : LentMemory) : Type 0 where
+  pub memory-left : memoryOf after ≡ memory
+  pub lists-left : Leaves calls (listsOf lent) (listsOf after)
+
 -- there is room for an answer, and for the engine
 pub record Fits (lent : LentMemory) (out : List ℕ) (n : ℕ) : Type 0 where
   pub answer : AnswerFits out n
@@ -262,5 +299,5 @@ pub record Fits (lent : LentMemory) (out : List ℕ) (n : ℕ) : Type 0 where
 
 pub record Answers (line : List ℕ) (lent after : LentMemory) (out : List ℕ) (n : ℕ) (written : List ℕ) (r : ℕ) : Type 0 where
   pub answer : Fits lent out n → Appended out n (answerOf line (memoryOf lent)) written r
-  pub memory-left : Fits lent out n → memoryOf after ≡ memoryAfter line (memoryOf lent)
+  pub left : Fits lent out n → LeavesLent (memoryAfter line (memoryOf lent)) (callsOfLine line (lent .scratch)) lent after
   pub no-room : (Fits lent out n → ⊥) → (r ≡ n) × (written ≡ out) × (after ≡ lent)

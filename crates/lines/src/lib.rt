@@ -14,7 +14,8 @@ ghost use Rattle.lent_engines.specs.Memory.{engineNumbers, engineCounts};
 ghost use Rattle.lent_engines.specs.Lent.{Room};
 ghost use Rattle.lines.specs.Lines.{printedSet, printedArea, printedJoin, printedRing, printedBody, printedClosing, printedDrill, printedMoments, printedCheck, printedRefusal};
 ghost use Rattle.lines.specs.Lines.{printedCall, printedDone, printedStep, printedTurn};
-ghost use Rattle.lines.specs.Lines.{memoryIn, lentIn, answerOf, memoryAfterForm, memoryAfter, whyRefused, requestAnswer, Answers};
+ghost use Rattle.lines.specs.Lines.{memoryIn, lentIn, answerOf, memoryAfterForm, memoryAfter, callsOfForm, callsOfLine, LeavesLent};
+ghost use Rattle.lines.specs.Lines.{whyRefused, requestAnswer, Answers};
 use answers::ANSWER_BYTES;
 use drill::Answer;
 use engines::Service;
@@ -256,9 +257,12 @@ fn answer_request(
         (requestAnswer (q .form) (q .verdict) (q .numbers) (now (values .entry))
         (memoryIn (now (scratch .entry)) (now («engine_numbers» .entry)) (now («engine_counts» .entry))))
         (now (out .exit)) r ⌝ }
-    ensures { λ _. ⌜ memoryIn (now (scratch .exit)) (now («engine_numbers» .exit)) (now («engine_counts» .exit))
-        ≡ memoryAfterForm (q .form) (q .numbers) (now (values .entry))
-        (memoryIn (now (scratch .entry)) (now («engine_numbers» .entry)) (now («engine_counts» .entry))) ⌝ }
+    ensures { λ _. ⌜ LeavesLent
+        (memoryAfterForm (q .form) (q .numbers) (now (values .entry))
+        (memoryIn (now (scratch .entry)) (now («engine_numbers» .entry)) (now («engine_counts» .entry))))
+        (callsOfForm (q .form) (q .numbers) (now (values .entry)) (now (scratch .entry)))
+        (lentIn (now (scratch .entry)) (now («engine_numbers» .entry)) (now («engine_counts» .entry)))
+        (lentIn (now (scratch .exit)) (now («engine_numbers» .exit)) (now («engine_counts» .exit))) ⌝ }
 {
     let form = q.form;
     let verdict = q.verdict;
@@ -323,8 +327,11 @@ fn answer_read(
     ensures { λ r. ⌜ Appended (now (out .entry)) n
         (answerOf (now (line .entry)) (memoryIn (now (scratch .entry)) (now («engine_numbers» .entry)) (now («engine_counts» .entry))))
         (now (out .exit)) r ⌝ }
-    ensures { λ _. ⌜ memoryIn (now (scratch .exit)) (now («engine_numbers» .exit)) (now («engine_counts» .exit))
-        ≡ memoryAfter (now (line .entry)) (memoryIn (now (scratch .entry)) (now («engine_numbers» .entry)) (now («engine_counts» .entry))) ⌝ }
+    ensures { λ _. ⌜ LeavesLent
+        (memoryAfter (now (line .entry)) (memoryIn (now (scratch .entry)) (now («engine_numbers» .entry)) (now («engine_counts» .entry))))
+        (callsOfLine (now (line .entry)) (now (scratch .entry)))
+        (lentIn (now (scratch .entry)) (now («engine_numbers» .entry)) (now («engine_counts» .entry)))
+        (lentIn (now (scratch .exit)) (now («engine_numbers» .exit)) (now («engine_counts» .exit))) ⌝ }
 {
     let q = forms::read_line(line, values);
     let end = q.figures;

@@ -43,7 +43,8 @@ use Rattle.jobs.specs.declared.Reply.the-variants.{Answered}
 use Rattle.engines.specs.declared.Engine.{Engine}
 use Rattle.engines.specs.declared.Called.{Called}
 use Rattle.engines.specs.Engines.{submitOf, changeAt}
-use Rattle.lent_engines.specs.Memory.{engineIn}
+use Rattle.engines.specs.Calls.{Call}
+use Rattle.lent_engines.specs.Lent.{Lists, engineOf, Leaves}
 
 -- ---- a set's figures, and what is left in the scratch
 
@@ -57,10 +58,11 @@ numberedScratch noSet points L scratch = scratch
 
 -- ---- the engine (document 02, Paper 10): a set submitted to a screen, with its points and L; another density for a screen's job
 
--- what a call of an engine answers, and which engine the lent lists hold then
-pub record CallsEngine (called : Called) (r : Told) (numbers : List Float) (counts : List ℕ) : Type 0 where
+-- what a call of an engine answers, which engine the lent lists hold then, and what it leaves of the lists
+pub record CallsEngine (called : Called) (calls : List Call) (r : Told) (before after : Lists) : Type 0 where
   pub answer : r ≡ called .answer
-  pub engine : engineIn numbers counts ≡ called .engine
+  pub engine : engineOf after ≡ called .engine
+  pub leaves : Leaves calls before after
 
 -- no form changes nothing
 abbrev pub noCall : Engine → Called

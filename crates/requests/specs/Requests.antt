@@ -21,6 +21,8 @@ use Rattle.requests.specs.declared.AreaRequest.{AreaRequest}
 use Rattle.requests.specs.declared.SetRequest.{SetRequest}
 use Rattle.engines.specs.declared.Engine.{Engine}
 use Rattle.engines.specs.declared.Called.{Called}
+use Rattle.engines.specs.Calls.{Call}
+use Rattle.lent_engines.specs.Lent.{submitCalls, changeCalls}
 use Rattle.requests.specs.Calls.{numberedFigures, numberedScratch, numberedSubmit, numberedChange, numberedArea, numberedAreaScratch, numberedDrill, ringBy, copiedBy, placedBy, movedBy, withoutBy}
 
 -- of the count or part k, counted from the form's last: its number, and how many figures stand up to its end
@@ -74,6 +76,13 @@ askedSubmit screen q figures engine = numberedSubmit engine screen (q .set) (bet
 -- "(density N DENSITY)": screen 1, density 0
 unfoldable pub askedChange : List ℕ → List Float → Engine → Called
 askedChange ns figures engine = numberedChange engine (number ns 1) (numberedDensity (number ns 0) (at figures 0))
+
+-- the calls of the engine that these two make
+abbrev pub askedSubmitCalls : ℕ → SetRequest → List Float → List Call
+askedSubmitCalls screen q figures = submitCalls screen (q .set) (between 0 (q .points) figures) (q .limit)
+
+abbrev pub askedChangeCalls : List ℕ → List Float → List Call
+askedChangeCalls ns figures = changeCalls (number ns 1) (numberedDensity (number ns 0) (at figures 0))
 
 unfoldable pub askedArea : AreaRequest → List Float → ℕ → Area
 askedArea q figures scratchLength = numberedArea (q .planform) (between 0 (q .points) figures) (q .limit) scratchLength

@@ -13,9 +13,9 @@ ghost use Rattle.joins.specs.Flat.{withBodies};
 ghost use Rattle.figures.specs.Figures.{refusedFigures};
 ghost use Rattle.figures.specs.Areas.{refusedArea};
 ghost use Rattle.lent_engines.specs.Memory.{engineIn};
-ghost use Rattle.lent_engines.specs.Lent.{Room};
+ghost use Rattle.lent_engines.specs.Lent.{Room, lists, submitCalls, changeCalls};
 ghost use Rattle.requests.specs.Calls.{CallsEngine, numberedFigures, numberedScratch, numberedSubmit, numberedChange, numberedArea, numberedAreaScratch, numberedChords, numberedEnds, numberedDrill, ringBy, copiedBy, placedBy, movedBy, withoutBy, pointBodyAt, joinedPointsOf, tensorMoments, bodyVerdict};
-ghost use Rattle.requests.specs.Requests.{number, between, setRequestOf, askedSubmit, askedChange, areaRequestOf, askedRing, askedClosing, askedDrill, askedCopied, askedPlaced, askedMoved, askedWithout, askedFigures, askedScratch, askedArea, askedAreaScratch};
+ghost use Rattle.requests.specs.Requests.{number, between, setRequestOf, askedSubmit, askedChange, askedSubmitCalls, askedChangeCalls, areaRequestOf, askedRing, askedClosing, askedDrill, askedCopied, askedPlaced, askedMoved, askedWithout, askedFigures, askedScratch, askedArea, askedAreaScratch};
 use bodies::BODY_NUMBERS;
 use bodies::Body;
 use bodies::TENSOR_NUMBERS;
@@ -173,7 +173,8 @@ fn submit_set(
 ) -> jobs::Answer
     requires { ⌜ Room (now numbers) (now counts) ⌝ }
     ensures { λ r. ⌜ CallsEngine (numberedSubmit (engineIn (now (numbers .entry)) (now (counts .entry))) screen set (now (points .entry)) limit)
-        r (now (numbers .exit)) (now (counts .exit)) ⌝ }
+        (submitCalls screen set (now (points .entry)) limit) r
+        (lists (now (numbers .entry)) (now (counts .entry))) (lists (now (numbers .exit)) (now (counts .exit))) ⌝ }
 {
     match set {
         NumberedSet::Known(set) => lent_engines::submit(
@@ -197,7 +198,8 @@ fn change_density(
 ) -> jobs::Answer
     requires { ⌜ Room (now numbers) (now counts) ⌝ }
     ensures { λ r. ⌜ CallsEngine (numberedChange (engineIn (now (numbers .entry)) (now (counts .entry))) screen density)
-        r (now (numbers .exit)) (now (counts .exit)) ⌝ }
+        (changeCalls screen density) r
+        (lists (now (numbers .entry)) (now (counts .entry))) (lists (now (numbers .exit)) (now (counts .exit))) ⌝ }
 {
     match density {
         NumberedDensity::Known(density) => lent_engines::change_density(
@@ -398,7 +400,9 @@ pub fn asked_submit(
 ) -> jobs::Answer
     requires { ⌜ Room (now numbers) (now counts) ⌝ }
     ensures { λ r. ⌜ CallsEngine (askedSubmit (number (q .numbers) 7) (setRequestOf (q .numbers) (now (values .entry))) (now (values .entry))
-        (engineIn (now (numbers .entry)) (now (counts .entry)))) r (now (numbers .exit)) (now (counts .exit)) ⌝ }
+        (engineIn (now (numbers .entry)) (now (counts .entry))))
+        (askedSubmitCalls (number (q .numbers) 7) (setRequestOf (q .numbers) (now (values .entry))) (now (values .entry))) r
+        (lists (now (numbers .entry)) (now (counts .entry))) (lists (now (numbers .exit)) (now (counts .exit))) ⌝ }
 {
     let n = q.numbers;
     let asked = set_request(q, values);
@@ -415,8 +419,9 @@ pub fn asked_change(
     counts: &mut [usize],
 ) -> jobs::Answer
     requires { ⌜ Room (now numbers) (now counts) ⌝ }
-    ensures { λ r. ⌜ CallsEngine (askedChange (q .numbers) (now (values .entry))
-        (engineIn (now (numbers .entry)) (now (counts .entry)))) r (now (numbers .exit)) (now (counts .exit)) ⌝ }
+    ensures { λ r. ⌜ CallsEngine (askedChange (q .numbers) (now (values .entry)) (engineIn (now (numbers .entry)) (now (counts .entry))))
+        (askedChangeCalls (q .numbers) (now (values .entry))) r
+        (lists (now (numbers .entry)) (now (counts .entry))) (lists (now (numbers .exit)) (now (counts .exit))) ⌝ }
 {
     let n = q.numbers;
     let density = materials::numbered_density(n[1], figure(values, 0));

@@ -1,6 +1,6 @@
 -- What a call on an engine in lent memory promises follows from what its parts did, or from a list that has no room. Assumes nothing.
-use mathlib.Core.Path.{_≡_, refl, sym, ap, subst, _∙_}
-use mathlib.Core.Bool.{Bool, true, false, _&&_, true≢false}
+use mathlib.Core.Path.{_≡_, sym, ap, subst, _∙_}
+use mathlib.Core.Bool.{Bool, true, false, true≢false}
 use mathlib.Core.List.{List}
 use Prim.Native.Nat.{ℕ, _≤_, _<_}
 use borrow.Author.Tests.{le-leb, lt-leb}
@@ -16,14 +16,15 @@ use Rattle.fins.specs.declared.NumberedSet.{NumberedSet}
 use Rattle.fins.specs.declared.NumberedSet.the-variants.{Known as setKnown, Unknown as noSet}
 use Rattle.joins.specs.Flat.{withBody}
 use Rattle.jobs.specs.declared.Answer.{Answer}
-use Rattle.engines.specs.declared.Engine.{Engine}
 use Rattle.engines.specs.declared.Service.{Service}
 use Rattle.engines.specs.declared.Told.{Told}
-use Rattle.lent_engines.specs.Memory.{engineNumbers, engineCounts, noScreens}
-use Rattle.lent_engines.specs.Lent.{Holds, WritesScreens, Turns, Submits, Changes}
+use Rattle.engines.specs.Calls.{Call}
+use Rattle.lent_engines.specs.Memory.{engineNumbers, engineCounts}
+use Rattle.lent_engines.specs.Lent.{lists, Leaves, Clears, Turns, Submits, Changes}
+use Rattle.lent_engines.proofs.Calls.{leaves-none}
 use Rattle.foreign_numbers.specs.Numbers.{withValues, withCounts, room, figureCounts}
 use Rattle.screen_exports.specs.JobCalls.{answerNumber}
-use Rattle.screen_exports.specs.EngineCalls.{serviceNumber, toldNumber, submittedBy, densityBy, engineRoom, EngineMemory, EngineCall, clearRoom, ClearCall}
+use Rattle.screen_exports.specs.EngineCalls.{serviceNumber, toldNumber, submittedBy, densityBy, engineRoom, EngineCall, clearRoom, ClearCall}
 use Rattle.screen_exports.specs.EngineCalls.{submitRoom, SubmitCall, turnRoom, toldCounts, TurnCall, densityRoom, DensityCall}
 use Rattle.foreign_numbers.proofs.Rooms.{has-room, few-figures, few-counts}
 
@@ -41,7 +42,7 @@ clear-refused counts few =
     let none : clearRoom counts ≡ false = lt-leb engineCounts (length counts) few in
     record { returned = rw none; cleared = rw none; held = λ e. never e none }
 
-pub clear-written : (counts counts' : List ℕ) → engineCounts ≤ length counts → WritesScreens noScreens counts counts' → ClearCall counts 0 counts'
+pub clear-written : (counts counts' : List ℕ) → engineCounts ≤ length counts → Clears counts counts' → ClearCall counts 0 counts'
 clear-written counts counts' enough w =
     let fits : clearRoom counts ≡ true = le-leb engineCounts (length counts) enough in
     record { returned = rw fits; cleared = rw fits (w .counts-are); held = λ e. w .held }
@@ -56,29 +57,22 @@ module _ (numbers : List Float) (counts : List ℕ) where
   pub few-engine-counts : engineNumbers ≤ length numbers → length counts < engineCounts → engineRoom numbers counts ≡ false
   few-engine-counts h k = few-counts engineNumbers numbers engineCounts counts h k
 
-  unwritten : (written : Bool) (engine : Engine) → written ≡ false → EngineMemory written engine numbers counts numbers counts
-  unwritten written engine none = record { holds = λ e. never e none; numbers-stay = λ e. refl; counts-stay = λ e. refl }
-
-  written-over : (written : Bool) (engine : Engine) (numbers' : List Float) (counts' : List ℕ) → written ≡ true → Holds engine numbers counts numbers' counts' →
-      EngineMemory written engine numbers counts numbers' counts'
-  written-over written engine numbers' counts' all h = record { holds = λ e. h; numbers-stay = λ e. never all e; counts-stay = λ e. never all e }
-
   -- ---- no room
 
-  refused : (fits written : Bool) (number : ℕ) (engine : Engine) → fits ≡ false → EngineCall fits written number engine numbers counts 18 numbers counts
-  refused fits written number engine none = record { returned = rw none; memory = unwritten (fits && written) engine (rw none) }
+  refused : (fits : Bool) (calls : List Call) (number : ℕ) → fits ≡ false → EngineCall fits calls number numbers counts 18 numbers counts
+  refused fits calls number none = record { returned = rw none; leaves = rw none (leaves-none (lists numbers counts)) }
 
   module _ (screen : ℕ) (set : NumberedSet) (points : List Float) (L : ℕ) (values : List ℕ) where
     pub submit-refused : submitRoom numbers counts values ≡ false → SubmitCall numbers counts screen set points L values 18 numbers counts values
-    submit-refused none = record { call = refused _ _ _ _ none; counted = rw none }
+    submit-refused none = record { call = refused _ _ _ none; counted = rw none }
 
   module _ (scratch body : List Float) (told : List ℕ) where
     pub turn-refused : turnRoom numbers counts body told ≡ false → TurnCall numbers counts scratch body told 18 numbers counts scratch body told
-    turn-refused none = record { call = refused _ _ _ _ none; figures = rw none; counted = rw none; lent = rw none }
+    turn-refused none = record { call = refused _ _ _ none; figures = rw none; counted = rw none; lent = rw none }
 
   module _ (density : NumberedDensity) (screen : ℕ) (told : List ℕ) where
     pub density-refused : densityRoom numbers counts told ≡ false → DensityCall numbers counts density screen told 18 numbers counts told
-    density-refused none = record { call = refused _ _ _ _ none; counted = rw none }
+    density-refused none = record { call = refused _ _ _ none; counted = rw none }
 
   -- ---- a number that stands for nothing
 
@@ -88,7 +82,7 @@ module _ (numbers : List Float) (counts : List ℕ) where
     submit-unknown set read same none fits v =
         subst (λ (x : NumberedSet). SubmitCall numbers counts screen x points L values 18 numbers counts values') (sym none ∙ same)
         (unfold submittedBy in
-        record { call = record { returned = rw fits; memory = unwritten _ _ (rw fits) }; counted = rw fits v })
+        record { call = record { returned = rw fits; leaves = rw fits (leaves-none (lists numbers counts)) }; counted = rw fits v })
 
   module _ (screen : ℕ) (told told' : List ℕ) where
     pub density-unknown : (density read : NumberedDensity) → read ≡ density → read ≡ noDensity → densityRoom numbers counts told ≡ true →
@@ -96,15 +90,14 @@ module _ (numbers : List Float) (counts : List ℕ) where
     density-unknown density read same none fits v =
         subst (λ (x : NumberedDensity). DensityCall numbers counts x screen told 18 numbers counts told') (sym none ∙ same)
         (unfold densityBy in
-        record { call = record { returned = rw fits; memory = unwritten _ _ (rw fits) }; counted = rw fits v })
+        record { call = record { returned = rw fits; leaves = rw fits (leaves-none (lists numbers counts)) }; counted = rw fits v })
 
   -- ---- the engine is worked on
 
   module _ (numbers' : List Float) (counts' : List ℕ) where
-    called : (fits written : Bool) (number r : ℕ) (engine : Engine) → fits ≡ true → written ≡ true → r ≡ number → Holds engine numbers counts numbers' counts' →
-        EngineCall fits written number engine numbers counts r numbers' counts'
-    called fits written number r engine f w e h =
-        record { returned = rw f e; memory = written-over (fits && written) engine numbers' counts' (rw (f, w)) h }
+    called : (fits : Bool) (calls : List Call) (number r : ℕ) → fits ≡ true → r ≡ number → Leaves calls (lists numbers counts) (lists numbers' counts') →
+        EngineCall fits calls number numbers counts r numbers' counts'
+    called fits calls number r f e h = record { returned = rw f e; leaves = rw f h }
 
     pub turn-written : (t : Told) (r : ℕ) → r ≡ toldNumber t → (scratch body scratch' body' : List Float) (told told' : List ℕ) →
         turnRoom numbers counts body told ≡ true → Turns numbers counts scratch t numbers' counts' scratch' →
@@ -112,7 +105,7 @@ module _ (numbers : List Float) (counts : List ℕ) where
         TurnCall numbers counts scratch body told r numbers' counts' scratch' body' told'
     turn-written t r r-is scratch body scratch' body' told told' fits s b c =
         record {
-          call = called _ _ _ _ _ fits refl (rw (← s .told) r-is) (s .holds);
+          call = called _ _ _ _ fits (rw (← s .told) r-is) (s .leaves);
           figures = rw (fits, ← s .told) b;
           counted = rw (fits, ← s .told) c;
           lent = rw fits (s .lent);
@@ -125,7 +118,7 @@ module _ (numbers : List Float) (counts : List ℕ) where
       submit-written screen points L values values' asked read set same known fits m v =
           subst (λ (x : NumberedSet). SubmitCall numbers counts screen x points L values r numbers' counts' values') (sym known ∙ same)
           (unfold submittedBy in
-          record { call = called _ _ _ _ _ fits refl (rw (← m .answered) r-is) (m .holds); counted = rw (fits, ← m .answered) v })
+          record { call = called _ _ _ _ fits (rw (← m .answered) r-is) (m .leaves); counted = rw (fits, ← m .answered) v })
 
       pub density-written : (screen : ℕ) (told told' : List ℕ) (asked read : NumberedDensity) (density : Density) →
           read ≡ asked → read ≡ densityKnown density → densityRoom numbers counts told ≡ true → Changes screen density numbers counts a numbers' counts' →
@@ -133,4 +126,4 @@ module _ (numbers : List Float) (counts : List ℕ) where
       density-written screen told told' asked read density same known fits m v =
           subst (λ (x : NumberedDensity). DensityCall numbers counts x screen told r numbers' counts' told') (sym known ∙ same)
           (unfold densityBy in
-          record { call = called _ _ _ _ _ fits refl (rw (← m .answered) r-is) (m .holds); counted = rw (fits, ← m .answered) v })
+          record { call = called _ _ _ _ fits (rw (← m .answered) r-is) (m .leaves); counted = rw (fits, ← m .answered) v })

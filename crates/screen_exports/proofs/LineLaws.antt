@@ -7,7 +7,8 @@ use native.Mathlib.Omega.{arith}
 use lib.ListN.{length, take, drop, take-append-drop}
 use Rattle.answers.specs.Answers.{answerBytes}
 use Rattle.lent_engines.specs.Memory.{engineNumbers, engineCounts}
-use Rattle.lines.specs.Lines.{LentMemory, memoryOf, answerOf, Fits, Answers}
+use Rattle.lent_engines.proofs.Calls.{leaves-none}
+use Rattle.lines.specs.Lines.{LentMemory, memoryOf, listsOf, answerOf, Fits, Answers}
 use Rattle.foreign_numbers.specs.Numbers.{over, room}
 use Rattle.screen_exports.specs.LineCalls.{lineRoom, LineCall}
 use Rattle.foreign_numbers.proofs.Rooms.{has-room}
@@ -26,7 +27,7 @@ module _ (lent : LentMemory) (answer written : List ℕ) where
 
 module _ (line : List ℕ) (lent : LentMemory) (answer written : List ℕ) where
   pub line-refused : lineRoom lent answer written ≡ false → LineCall line lent answer written 18 lent answer written
-  line-refused none = record { returned = rw none; answered = rw none; counted = rw none; memory-left = rw none; untouched = λ _. refl }
+  line-refused none = record { returned = rw none; answered = rw none; counted = rw none; memory-left = rw none; lists-left = rw none (leaves-none (listsOf lent)); untouched = λ _. refl }
 
   pub line-written : engineNumbers ≤ length (lent .numbers) → engineCounts ≤ length (lent .counts) → answerBytes ≤ length answer → 1 ≤ length written → (n : ℕ) (lent' : LentMemory) (answer' written' : List ℕ) →
       Answers line lent lent' answer 0 answer' n → written' ≡ over (n ∷ []) written →
@@ -40,6 +41,7 @@ module _ (line : List ℕ) (lent : LentMemory) (answer written : List ℕ) where
         returned = rw fits;
         answered = rw fits (over-start answer _ answer' n (text .holds) (text .rest) long);
         counted = rw (fits, ← long) w;
-        memory-left = rw fits (a .memory-left all);
+        memory-left = rw fits (a .left all .memory-left);
+        lists-left = rw fits (a .left all .lists-left);
         untouched = λ none. absurd (true≢false (sym fits ∙ none));
       }

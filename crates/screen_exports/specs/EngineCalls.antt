@@ -2,10 +2,10 @@
 -- set's part or of a density is 18, before 23, and the memory stays as it was, as where a list has no room.
 use mathlib.Core.Path.{_≡_}
 use mathlib.Core.Bool.{Bool, true, false, cond, _&&_}
-use mathlib.Core.List.{List, _++_}
+use mathlib.Core.List.{List, [], _∷_, _++_}
 use Prim.Native.Nat.{ℕ}
 use lib.Dec.{leb}
-use lib.ListN.{length, drop, set}
+use lib.ListN.{length, drop, set, replicate}
 use lib.Ieee.{Float}
 use Rattle.refusals.specs.declared.Refusal.the-variants.{NoForm}
 use Rattle.refusals.specs.Refusals.{numberOf}
@@ -25,10 +25,11 @@ use Rattle.engines.specs.declared.Told.{Told}
 use Rattle.engines.specs.declared.Turned.{Turned}
 use Rattle.engines.specs.declared.Called.{Called}
 use Rattle.engines.specs.Engines.{turnOf, turnScratch, submitOf, changeAt}
-use Rattle.lent_engines.specs.Memory.{engineNumbers, engineCounts, screenCounts, screensIn, noScreens, engineIn}
-use Rattle.lent_engines.specs.Lent.{Holds}
+use Rattle.engines.specs.Calls.{Call, turn}
+use Rattle.lent_engines.specs.Memory.{engineNumbers, engineCounts, screensIn, noScreens, engineIn}
+use Rattle.lent_engines.specs.Lent.{lists, Leaves, submitCalls, changeCalls}
 use Rattle.foreign_numbers.specs.Numbers.{withValues, room, figureCounts}
-use Rattle.screen_exports.specs.JobCalls.{answerNumber, isSet, isDensity}
+use Rattle.screen_exports.specs.JobCalls.{answerNumber}
 
 -- an idle turn has a number over all of the refusals', as "more remain" has
 abbrev pub serviceNumber : Service → Answer → ℕ
@@ -62,18 +63,12 @@ densityBy noDensity screen before = noForm before
 abbrev pub engineRoom : List Float → List ℕ → Bool
 engineRoom numbers counts = room engineNumbers numbers engineCounts counts
 
--- where anything is written, the lists hold this engine
-pub record EngineMemory (written : Bool) (engine : Engine) (numbers : List Float) (counts : List ℕ) (numbers' : List Float) (counts' : List ℕ) : Type 0 where
-  pub holds : written ≡ true → Holds engine numbers counts numbers' counts'
-  pub numbers-stay : written ≡ false → numbers' ≡ numbers
-  pub counts-stay : written ≡ false → counts' ≡ counts
-
 -- ---- the calls
 
--- what a call returns of its answer, and what it leaves in the memory
-pub record EngineCall (fits written : Bool) (number : ℕ) (engine : Engine) (numbers : List Float) (counts : List ℕ) (r : ℕ) (numbers' : List Float) (counts' : List ℕ) : Type 0 where
+-- what a call returns of its answer, and what it leaves of the two lists: as these calls of the engine do, and with no room as none does
+pub record EngineCall (fits : Bool) (calls : List Call) (number : ℕ) (numbers : List Float) (counts : List ℕ) (r : ℕ) (numbers' : List Float) (counts' : List ℕ) : Type 0 where
   pub returned : r ≡ cond fits number (numberOf NoForm)
-  pub memory : EngineMemory (fits && written) engine numbers counts numbers' counts'
+  pub leaves : Leaves (cond fits calls []) (lists numbers counts) (lists numbers' counts')
 
 -- an engine with no job, none served, whatever the counts were
 abbrev pub clearRoom : List ℕ → Bool
@@ -81,7 +76,7 @@ clearRoom counts = leb engineCounts (length counts)
 
 pub record ClearCall (counts : List ℕ) (r : ℕ) (counts' : List ℕ) : Type 0 where
   pub returned : r ≡ cond (clearRoom counts) 0 (numberOf NoForm)
-  pub cleared : counts' ≡ cond (clearRoom counts) (screenCounts noScreens ++ drop 9 counts) counts
+  pub cleared : counts' ≡ cond (clearRoom counts) (replicate engineCounts 0 ++ drop engineCounts counts) counts
   pub held : clearRoom counts ≡ true → screensIn counts' ≡ noScreens
 
 module _ (numbers : List Float) (counts : List ℕ) where
@@ -94,7 +89,7 @@ module _ (numbers : List Float) (counts : List ℕ) where
     submitting = submittedBy set points L screen (engineIn numbers counts)
 
     pub record SubmitCall (values : List ℕ) (r : ℕ) (numbers' : List Float) (counts' values' : List ℕ) : Type 0 where
-      pub call : EngineCall (submitRoom values) (isSet set) (answerNumber (submitting .answer)) (submitting .engine) numbers counts r numbers' counts'
+      pub call : EngineCall (submitRoom values) (submitCalls screen set points L) (answerNumber (submitting .answer)) numbers counts r numbers' counts'
       pub counted : values' ≡ cond (submitRoom values) (withValues values (submitting .answer .figures .verdict)) values
 
   -- a turn
@@ -105,7 +100,7 @@ module _ (numbers : List Float) (counts : List ℕ) where
   turning scratch = turnOf (engineIn numbers counts) (length scratch)
 
   pub record TurnCall (scratch body : List Float) (told : List ℕ) (r : ℕ) (numbers' : List Float) (counts' : List ℕ) (scratch' body' : List Float) (told' : List ℕ) : Type 0 where
-    pub call : EngineCall (turnRoom body told) true (toldNumber (turning scratch .told)) (turning scratch .engine) numbers counts r numbers' counts'
+    pub call : EngineCall (turnRoom body told) (turn scratch ∷ []) (toldNumber (turning scratch .told)) numbers counts r numbers' counts'
     pub figures : body' ≡ cond (turnRoom body told) (withBody body 0 (turning scratch .told .answer .figures .body)) body
     pub counted : told' ≡ cond (turnRoom body told) (toldCounts (turning scratch .told) told) told
     pub lent : scratch' ≡ cond (turnRoom body told) (turnScratch (engineIn numbers counts) scratch) scratch
@@ -118,6 +113,5 @@ module _ (numbers : List Float) (counts : List ℕ) where
   densityChange density screen = densityBy density screen (engineIn numbers counts)
 
   pub record DensityCall (density : NumberedDensity) (screen : ℕ) (told : List ℕ) (r : ℕ) (numbers' : List Float) (counts' told' : List ℕ) : Type 0 where
-    pub call : EngineCall (densityRoom told) (isDensity density) (answerNumber (densityChange density screen .answer)) (densityChange density screen .engine)
-        numbers counts r numbers' counts'
+    pub call : EngineCall (densityRoom told) (changeCalls screen density) (answerNumber (densityChange density screen .answer)) numbers counts r numbers' counts'
     pub counted : told' ≡ cond (densityRoom told) (figureCounts (densityChange density screen .answer .figures) told) told

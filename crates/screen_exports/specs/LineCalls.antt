@@ -9,7 +9,8 @@ use Rattle.refusals.specs.declared.Refusal.the-variants.{NoForm}
 use Rattle.refusals.specs.Refusals.{numberOf}
 use Rattle.answers.specs.Answers.{answerBytes}
 use Rattle.lent_engines.specs.Memory.{engineNumbers, engineCounts}
-use Rattle.lines.specs.Lines.{LentMemory, memoryOf, answerOf, memoryAfter}
+use Rattle.lent_engines.specs.Lent.{Leaves}
+use Rattle.lines.specs.Lines.{LentMemory, memoryOf, listsOf, answerOf, memoryAfter, callsOfLine}
 use Rattle.foreign_numbers.specs.Numbers.{over, room}
 
 -- room for the engine, and for the answer
@@ -22,4 +23,6 @@ pub record LineCall (line : List ℕ) (lent : LentMemory) (answer written : List
   pub counted : written' ≡ cond (lineRoom lent answer written) (over (length (answerOf line (memoryOf lent)) ∷ []) written) written
   -- the scratch, and the engine that the two lists hold
   pub memory-left : memoryOf lent' ≡ cond (lineRoom lent answer written) (memoryAfter line (memoryOf lent)) (memoryOf lent)
+  -- and these two lists themselves: a line that is no submission, density or turn makes no call of the engine, and leaves them as they were
+  pub lists-left : Leaves (cond (lineRoom lent answer written) (callsOfLine line (lent .scratch)) []) (listsOf lent) (listsOf lent')
   pub untouched : lineRoom lent answer written ≡ false → lent' ≡ lent

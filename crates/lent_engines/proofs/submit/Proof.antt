@@ -1,5 +1,7 @@
--- `lent_engines::submit` meets its contract: the parts are called in order. Assumes nothing.
-use Rattle.lent_engines.proofs.Calls.{submits}
+-- `lent_engines::submit` meets its contract: the parts are called in order, and a submission that is refused wrote nothing. Assumes nothing.
+use mathlib.Core.Path.{sym, _∙_}
+use borrow.Author.Tests.{not-true, not-false}
+use Rattle.lent_engines.proofs.Calls.{submits-not, submits}
 use borrow.Author.Needs.{needs}
 use Rattle.lent_engines.proofs.submit.Statement.{statement}
 use Rattle.lent_engines.proofs.submit.Tie as tie
@@ -19,10 +21,8 @@ make-requires c κs = search needs
 submit-at-requires : tie.Need-submit-at-requires
 submit-at-requires c κs = search needs
 
-write-at-requires : tie.Need-write-at-requires
-write-at-requires c κs = let place = c .before .before .before .before .before .before .before .before .before in
-    let s = place .before .before .before .before .before .before in
-    (s .pre, place .place-of .ensures .1)
+is-taken-requires : tie.Need-is-taken-requires
+is-taken-requires c κs = search needs
 
 same-length : tie.Need-same-length
 same-length c = search needs
@@ -31,14 +31,37 @@ same-length-2 : tie.Need-same-length-2
 same-length-2 c = search needs
 
 returns : tie.Need-returns
-returns c = let write = c .before .before .before .before .before in
-    let submit = write .before .before .before .before .before in
+returns c = let taken = c .before in
+    let submit = taken .before .before in
     let make = submit .before in
     let read = make .before in
     let place = read .before .before .before in
     let screens = place .before in
-    submits _ _ _ (screens .read-screens .ensures) _ _ (read .read-at .ensures) _ _ _ (place .place-of .ensures .0) _ (write .write-at .ensures)
-    _ _ _ _ (make .make .ensures .is) (submit .submit-at .ensures .is)
+    submits-not _ _ _ (screens .read-screens .ensures) _ _ (read .read-at .ensures) _ (place .place-of .ensures .0) _ _ _ _ _ (make .make .ensures) (submit .submit-at .ensures .is)
+    (sym (taken .is-taken .ensures) ∙ not-true _ (c .if1 .taken))
+
+write-at-requires : tie.Need-write-at-requires
+write-at-requires c κs = let place = c .before .before .before .before .before .before .before .before .before .before .before .before in
+    let s = place .before .before .before .before .before .before in
+    (s .pre, place .place-of .ensures .1)
+
+same-length-3 : tie.Need-same-length-3
+same-length-3 c = search needs
+
+same-length-4 : tie.Need-same-length-4
+same-length-4 c = search needs
+
+returns-2 : tie.Need-returns-2
+returns-2 c = let write = c .before .before .before .before in
+    let goes = write .before .before .before .before .before in
+    let taken = goes .before in
+    let submit = taken .before .before in
+    let make = submit .before in
+    let read = make .before in
+    let place = read .before .before .before in
+    let screens = place .before in
+    submits _ _ _ (screens .read-screens .ensures) _ _ (read .read-at .ensures) _ (place .place-of .ensures .0) _ _ _ _ _ (make .make .ensures) (submit .submit-at .ensures .is)
+    (sym (taken .is-taken .ensures) ∙ not-false _ (goes .if1 .left)) _ _ (write .write-at .ensures)
 
 pub submit-spec : {M : Type 1} → statement M
 submit-spec =
@@ -49,7 +72,11 @@ submit-spec =
     read-at-requires
     make-requires
     submit-at-requires
-    write-at-requires
+    is-taken-requires
     same-length
     same-length-2
-    returns)
+    returns
+    write-at-requires
+    same-length-3
+    same-length-4
+    returns-2)

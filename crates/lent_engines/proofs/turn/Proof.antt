@@ -1,5 +1,5 @@
--- `lent_engines::turn` meets its contract: the parts are called in order. Assumes nothing.
-use Rattle.lent_engines.proofs.Calls.{turns}
+-- `lent_engines::turn` meets its contract: the parts are called in order, and a turn that served no screen wrote nothing. Assumes nothing.
+use Rattle.lent_engines.proofs.Calls.{turns-idle, turns}
 use borrow.Author.Needs.{needs}
 use Rattle.lent_engines.proofs.turn.Statement.{statement}
 use Rattle.lent_engines.proofs.turn.Tie as tie
@@ -16,12 +16,6 @@ read-at-requires c κs = search needs
 serve-requires : tie.Need-serve-requires
 serve-requires c κs = search needs
 
-write-at-requires : tie.Need-write-at-requires
-write-at-requires c κs = let serve = c .before .before .before .before .before .before in
-    let pick = serve .before .before .before .before .before in
-    let s = pick .before .before .before .before .before .before in
-    (s .pre, pick .pick .ensures .1)
-
 same-length : tie.Need-same-length
 same-length c = search needs
 
@@ -32,12 +26,36 @@ same-length-3 : tie.Need-same-length-3
 same-length-3 c = search needs
 
 returns : tie.Need-returns
-returns c = let write = c .before .before .before .before .before in
-    let serve = write .before .before .before .before .before .before .before in
+returns c = let serve = c .before .before .before .before .before in
     let read = serve .before .before in
     let pick = read .before .before .before in
     let screens = pick .before in
-    turns _ _ _ (screens .read-screens .ensures) _ _ (read .read-at .ensures) _ _ (pick .pick .ensures .0) _ _ _ (serve .serve .ensures) (write .write-at .ensures)
+    turns-idle _ _ _ (screens .read-screens .ensures) _ _ (read .read-at .ensures) (pick .pick .ensures .0) _ _ _ (serve .serve .ensures) (c .if1 .taken)
+
+write-at-requires : tie.Need-write-at-requires
+write-at-requires c κs = let serve = c .before .before .before .before .before .before .before .before .before in
+    let pick = serve .before .before .before .before .before in
+    let s = pick .before .before .before .before .before .before in
+    (s .pre, pick .pick .ensures .1)
+
+same-length-4 : tie.Need-same-length-4
+same-length-4 c = search needs
+
+same-length-5 : tie.Need-same-length-5
+same-length-5 c = search needs
+
+same-length-6 : tie.Need-same-length-6
+same-length-6 c = search needs
+
+returns-2 : tie.Need-returns-2
+returns-2 c = let write = c .before .before .before .before in
+    let served = write .before .before .before .before .before in
+    let serve = served .before .before .before .before .before in
+    let read = serve .before .before in
+    let pick = read .before .before .before in
+    let screens = pick .before in
+    turns _ _ _ (screens .read-screens .ensures) _ _ (read .read-at .ensures) (pick .pick .ensures .0) _ _ _ (serve .serve .ensures)
+    _ _ (served .if1 .left) (write .write-at .ensures)
 
 pub turn-spec : {M : Type 1} → statement M
 turn-spec =
@@ -47,8 +65,12 @@ turn-spec =
     pick-requires
     read-at-requires
     serve-requires
-    write-at-requires
     same-length
     same-length-2
     same-length-3
-    returns)
+    returns
+    write-at-requires
+    same-length-4
+    same-length-5
+    same-length-6
+    returns-2)

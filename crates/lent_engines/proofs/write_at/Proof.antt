@@ -71,7 +71,7 @@ returns c = let numbers = c .before .before .before in
     omega (arith, c .before .counts2 .given, counts-part _ _ _ place (s .pre .0 .1) (s .pre .1) (screens .write-screens .ensures))
     in
     written-back (now (s .args .numbers)) (now (s .args .counts)) _ place (s .args .screens) (s .args .job) (job .write-job .last .0) (job .write-job .last .1 .0)
-    (s .pre .0) (s .pre .1) (screens .write-screens .ensures) p q (job .write-job .ensures .held)
+    (s .pre .0) (s .pre .1) (screens .write-screens .ensures) p q (job .write-job .ensures)
 
 pub write-at-spec : {M : Type 1} → statement M
 write-at-spec =

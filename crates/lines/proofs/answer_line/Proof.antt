@@ -22,7 +22,7 @@ returns c =
     let out =
     not-fitting (lentIn (now (s .args .scratch)) (now (s .args .engine-numbers)) (now (s .args .engine-counts))) (now (s .args .out)) (s .args .n) (c .before .before .has-room .result) (c .before .has-engine .result) (c .before .before .has-room .ensures) (c .before .has-engine .ensures)
     (not-true (c .before .before .has-room .result && c .before .has-engine .result) (c .if1 .taken)) in
-    record { answer = λ g. absurd (out g); memory-left = λ g. absurd (out g); no-room = λ g. (refl, refl, refl) }
+    record { answer = λ g. absurd (out g); left = λ g. absurd (out g); no-room = λ g. (refl, refl, refl) }
 
 slice-aggregate-answer-read : tie.Need-slice-aggregate-answer-read
 slice-aggregate-answer-read c = search needs

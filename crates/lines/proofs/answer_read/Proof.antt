@@ -1,11 +1,11 @@
 -- `lines::answer_read` meets its contract: the request that was read is answered. Assumes nothing.
-use mathlib.Core.Path.{sym, _∙_}
+use mathlib.Core.Path.{sym}
 use native.Mathlib.Omega.{arith}
 use denote.Ref.{now}
 use lib.ListN.{length, length-take}
 use Rattle.lines.specs.Lines.{memoryIn}
 use Rattle.lines.proofs.Texts.{same-text}
-use Rattle.lines.proofs.Asking.{all-there, answer-is, memory-is}
+use Rattle.lines.proofs.Asking.{all-there, answer-is, left-is}
 use borrow.Author.Needs.{needs}
 use Rattle.lines.proofs.answer_read.Statement.{statement}
 use Rattle.lines.proofs.answer_read.Tie as tie
@@ -52,7 +52,7 @@ returns c =
     let s = r .before .before .before .before .before .before .before .before in
     let m = memoryIn (now (s .args .scratch)) (now (s .args .engine-numbers)) (now (s .args .engine-counts)) in (
       same-text (answer-is (now (s .args .line)) (r .read-line .last .1 .0) (r .read-line .result) (r .read-line .ensures) m) (a .answer-request .ensures .0),
-      a .answer-request .ensures .1 ∙ memory-is (now (s .args .line)) (r .read-line .last .1 .0) (r .read-line .result) (r .read-line .ensures) m,
+      left-is (now (s .args .line)) (r .read-line .last .1 .0) (r .read-line .result) (r .read-line .ensures) _ _ (a .answer-request .ensures .1),
     )
 
 pub answer-read-spec : {M : Type 1} → statement M

@@ -11,6 +11,7 @@ use Rattle.figures.specs.declared.Area.{Area}
 use Rattle.jobs.specs.declared.Answer.{Answer}
 use Rattle.engines.specs.declared.Engine.{Engine}
 use Rattle.engines.specs.declared.Told.{Told}
+use Rattle.lent_engines.proofs.Calls.{leaves-none}
 use Rattle.lines.specs.Lines.{printedSet, printedArea, printedJoin, printedRing, printedBody, printedClosing, printedDrill, printedMoments, printedCheck, printedRefusal, printedCall, printedTurn}
 use Rattle.lines.specs.Lines.{setAnswer, areaAnswer, joinAnswer, ringAnswer, closingAnswer, drillAnswer, bodyAnswer, momentsAnswer, checkAnswer, submitAnswer, changeAnswer, turnAnswer}
 use Rattle.lines.specs.Lines.{Memory, memoryIn}
@@ -178,8 +179,10 @@ returns c =
     let p = c .before .before in
     let a = p .before .before .before in
     let s = a .before .before .before .before .before .before .before .before .before .before .args in
-    let e = a .before .before .before .enum-told .given .1 in
-    (rw e (same-text (ap (λ (f : Figures). printedSet (f .verdict) f) (a .asked-figures .ensures .0)) (p .put-set .ensures)), rw e (ap (λ (l : List Float). memoryIn l (now (s .engine-numbers)) (now (s .engine-counts))) (a .asked-figures .ensures .1)))
+    let e = a .before .before .before .enum-told .given .1 in (
+      rw e (same-text (ap (λ (f : Figures). printedSet (f .verdict) f) (a .asked-figures .ensures .0)) (p .put-set .ensures)),
+      rw e (record { memory-left = ap (λ (l : List Float). memoryIn l (now (s .engine-numbers)) (now (s .engine-counts))) (a .asked-figures .ensures .1); lists-left = leaves-none _ }),
+    )
 
 same-length-3 : tie.Need-same-length-3
 same-length-3 c = search needs
@@ -193,8 +196,10 @@ returns-2 c =
     let p = c .before .before in
     let a = p .before .before .before in
     let s = a .before .before .before .before .before .before .before .before .before .before .args in
-    let e = a .before .before .before .enum-told2 .given .1 in
-    (rw e (same-text (ap (λ (f : Area). printedArea (f .verdict) f) (a .asked-area .ensures .0)) (p .put-area .ensures)), rw e (ap (λ (l : List Float). memoryIn l (now (s .engine-numbers)) (now (s .engine-counts))) (a .asked-area .ensures .1)))
+    let e = a .before .before .before .enum-told2 .given .1 in (
+      rw e (same-text (ap (λ (f : Area). printedArea (f .verdict) f) (a .asked-area .ensures .0)) (p .put-area .ensures)),
+      rw e (record { memory-left = ap (λ (l : List Float). memoryIn l (now (s .engine-numbers)) (now (s .engine-counts))) (a .asked-area .ensures .1); lists-left = leaves-none _ }),
+    )
 
 same-length-5 : tie.Need-same-length-5
 same-length-5 c = search needs
@@ -204,7 +209,7 @@ unfolding joinAnswer
 returns-3 c =
     let p = c .before .before in
     let e = p .before .before .before .enum-told3 .given .1 in
-    (rw e (same-text (ap (λ (x : Joined). printedJoin (x .verdict) x) (p .before .join-points .ensures)) (p .put-joined .ensures)), rw e refl)
+    (rw e (same-text (ap (λ (x : Joined). printedJoin (x .verdict) x) (p .before .join-points .ensures)) (p .put-joined .ensures)), rw e (record { memory-left = refl; lists-left = leaves-none _ }))
 
 same-length-6 : tie.Need-same-length-6
 same-length-6 c = search needs
@@ -214,7 +219,7 @@ unfolding momentsAnswer
 returns-4 c =
     let p = c .before .before in
     let e = p .before .before .before .enum-told4 .given .1 in
-    (rw e (same-text (ap (λ (x : Moments). printedMoments (x .verdict) x) (p .before .tensor-moments .ensures)) (p .put-moments .ensures)), rw e refl)
+    (rw e (same-text (ap (λ (x : Moments). printedMoments (x .verdict) x) (p .before .tensor-moments .ensures)) (p .put-moments .ensures)), rw e (record { memory-left = refl; lists-left = leaves-none _ }))
 
 same-length-7 : tie.Need-same-length-7
 same-length-7 c = search needs
@@ -224,7 +229,7 @@ unfolding checkAnswer
 returns-5 c =
     let p = c .before .before in
     let e = p .before .before .before .enum-told5 .given .1 in
-    (rw e (same-text (ap printedCheck (p .before .body-verdict .ensures)) (p .put-checked .ensures)), rw e refl)
+    (rw e (same-text (ap printedCheck (p .before .body-verdict .ensures)) (p .put-checked .ensures)), rw e (record { memory-left = refl; lists-left = leaves-none _ }))
 
 same-length-8 : tie.Need-same-length-8
 same-length-8 c = search needs
@@ -234,7 +239,7 @@ unfolding ringAnswer
 returns-6 c =
     let p = c .before .before in
     let e = p .before .before .before .enum-told6 .given .1 in
-    (rw e (same-text (ap (λ (x : Joined). printedRing (x .verdict) x) (p .before .asked-ring .ensures)) (p .put-ring .ensures)), rw e refl)
+    (rw e (same-text (ap (λ (x : Joined). printedRing (x .verdict) x) (p .before .asked-ring .ensures)) (p .put-ring .ensures)), rw e (record { memory-left = refl; lists-left = leaves-none _ }))
 
 same-length-9 : tie.Need-same-length-9
 same-length-9 c = search needs
@@ -244,7 +249,7 @@ unfolding closingAnswer
 returns-7 c =
     let p = c .before .before in
     let e = p .before .before .before .enum-told7 .given .1 in
-    (rw e (same-text (ap (λ (x : ClosingRadius). printedClosing (x .verdict) x) (p .before .asked-closing .ensures)) (p .put-closing .ensures)), rw e refl)
+    (rw e (same-text (ap (λ (x : ClosingRadius). printedClosing (x .verdict) x) (p .before .asked-closing .ensures)) (p .put-closing .ensures)), rw e (record { memory-left = refl; lists-left = leaves-none _ }))
 
 same-length-10 : tie.Need-same-length-10
 same-length-10 c = search needs
@@ -254,7 +259,7 @@ unfolding drillAnswer
 returns-8 c =
     let p = c .before .before in
     let e = p .before .before .before .enum-told8 .given .1 in
-    (rw e (same-text (ap printedDrill (p .before .asked-drill .ensures)) (p .put-drilled .ensures)), rw e refl)
+    (rw e (same-text (ap printedDrill (p .before .asked-drill .ensures)) (p .put-drilled .ensures)), rw e (record { memory-left = refl; lists-left = leaves-none _ }))
 
 same-length-11 : tie.Need-same-length-11
 same-length-11 c = search needs
@@ -264,7 +269,7 @@ unfolding bodyAnswer
 returns-9 c =
     let p = c .before .before in
     let e = p .before .before .before .enum-told9 .given .1 in
-    (rw e (same-text (ap (λ (x : Joined). printedBody (x .verdict) x) (p .before .asked-copied .ensures)) (p .put-body .ensures)), rw e refl)
+    (rw e (same-text (ap (λ (x : Joined). printedBody (x .verdict) x) (p .before .asked-copied .ensures)) (p .put-body .ensures)), rw e (record { memory-left = refl; lists-left = leaves-none _ }))
 
 same-length-12 : tie.Need-same-length-12
 same-length-12 c = search needs
@@ -274,7 +279,7 @@ unfolding bodyAnswer
 returns-10 c =
     let p = c .before .before in
     let e = p .before .before .before .enum-told10 .given .1 in
-    (rw e (same-text (ap (λ (x : Joined). printedBody (x .verdict) x) (p .before .asked-placed .ensures)) (p .put-body2 .ensures)), rw e refl)
+    (rw e (same-text (ap (λ (x : Joined). printedBody (x .verdict) x) (p .before .asked-placed .ensures)) (p .put-body2 .ensures)), rw e (record { memory-left = refl; lists-left = leaves-none _ }))
 
 same-length-13 : tie.Need-same-length-13
 same-length-13 c = search needs
@@ -284,7 +289,7 @@ unfolding bodyAnswer
 returns-11 c =
     let p = c .before .before in
     let e = p .before .before .before .enum-told11 .given .1 in
-    (rw e (same-text (ap (λ (x : Joined). printedBody (x .verdict) x) (p .before .asked-moved .ensures)) (p .put-body3 .ensures)), rw e refl)
+    (rw e (same-text (ap (λ (x : Joined). printedBody (x .verdict) x) (p .before .asked-moved .ensures)) (p .put-body3 .ensures)), rw e (record { memory-left = refl; lists-left = leaves-none _ }))
 
 same-length-14 : tie.Need-same-length-14
 same-length-14 c = search needs
@@ -294,7 +299,7 @@ unfolding bodyAnswer
 returns-12 c =
     let p = c .before .before in
     let e = p .before .before .before .enum-told12 .given .1 in
-    (rw e (same-text (ap (λ (x : Joined). printedBody (x .verdict) x) (p .before .asked-without .ensures)) (p .put-body4 .ensures)), rw e refl)
+    (rw e (same-text (ap (λ (x : Joined). printedBody (x .verdict) x) (p .before .asked-without .ensures)) (p .put-body4 .ensures)), rw e (record { memory-left = refl; lists-left = leaves-none _ }))
 
 same-length-15 : tie.Need-same-length-15
 same-length-15 c = search needs
@@ -311,8 +316,10 @@ returns-13 c =
     let p = c .before .before in
     let a = p .before .before .before .before .before in
     let s = a .before .before .before .before .before .before .before .before .before .before .before .args in
-    let e = a .before .before .before .before .enum-told13 .given .1 in
-    (rw e (same-text (ap (λ (x : Answer). printedCall (x .figures .verdict)) (a .asked-submit .ensures .answer)) (p .put-called .ensures)), rw e (ap (withScratchOf (now (s .scratch))) (a .asked-submit .ensures .engine)))
+    let e = a .before .before .before .before .enum-told13 .given .1 in (
+      rw e (same-text (ap (λ (x : Answer). printedCall (x .figures .verdict)) (a .asked-submit .ensures .answer)) (p .put-called .ensures)),
+      rw e (record { memory-left = ap (withScratchOf (now (s .scratch))) (a .asked-submit .ensures .engine); lists-left = a .asked-submit .ensures .leaves }),
+    )
 
 same-length-18 : tie.Need-same-length-18
 same-length-18 c = search needs
@@ -329,8 +336,10 @@ returns-14 c =
     let p = c .before .before in
     let a = p .before .before .before .before .before in
     let s = a .before .before .before .before .before .before .before .before .before .before .before .args in
-    let e = a .before .before .before .before .enum-told14 .given .1 in
-    (rw e (same-text (ap (λ (x : Answer). printedCall (x .figures .verdict)) (a .asked-change .ensures .answer)) (p .put-called2 .ensures)), rw e (ap (withScratchOf (now (s .scratch))) (a .asked-change .ensures .engine)))
+    let e = a .before .before .before .before .enum-told14 .given .1 in (
+      rw e (same-text (ap (λ (x : Answer). printedCall (x .figures .verdict)) (a .asked-change .ensures .answer)) (p .put-called2 .ensures)),
+      rw e (record { memory-left = ap (withScratchOf (now (s .scratch))) (a .asked-change .ensures .engine); lists-left = a .asked-change .ensures .leaves }),
+    )
 
 same-length-21 : tie.Need-same-length-21
 same-length-21 c = search needs
@@ -349,8 +358,10 @@ unfolding turnAnswer
 returns-15 c =
     let p = c .before .before in
     let t = p .before .before .before .before .before .before .before in
-    let e = t .before .before .before .before .before .enum-told15 .given .1 in
-    (rw e (same-text (ap (λ (x : Told). printedTurn (x .service) x) (t .turn .ensures .told)) (p .put-turn .ensures)), rw e (ap₂ withScratchOf (t .turn .ensures .lent) (t .turn .ensures .holds .held)))
+    let e = t .before .before .before .before .before .enum-told15 .given .1 in (
+      rw e (same-text (ap (λ (x : Told). printedTurn (x .service) x) (t .turn .ensures .told)) (p .put-turn .ensures)),
+      rw e (record { memory-left = ap₂ withScratchOf (t .turn .ensures .lent) (t .turn .ensures .leaves .held); lists-left = t .turn .ensures .leaves }),
+    )
 
 same-length-25 : tie.Need-same-length-25
 same-length-25 c = search needs
@@ -359,7 +370,7 @@ returns-16 : tie.Need-returns-16
 returns-16 c =
     let p = c .before .before in
     let e = p .before .before .before .enum-told16 .given .1 in
-    (rw e (same-text (ap printedRefusal (p .before .why-refused .ensures)) (p .put-refusal .ensures)), rw e refl)
+    (rw e (same-text (ap printedRefusal (p .before .why-refused .ensures)) (p .put-refusal .ensures)), rw e (record { memory-left = refl; lists-left = leaves-none _ }))
 
 pub answer-request-spec : {M : Type 1} → statement M
 answer-request-spec =

@@ -5,6 +5,7 @@ use lib.Ieee.{Float}
 use Rattle.materials.specs.declared.NumberedDensity.{NumberedDensity}
 use Rattle.materials.specs.Numbered.{numberedDensity}
 use Rattle.lent_engines.specs.Memory.{engineIn}
+use Rattle.lent_engines.specs.Lent.{changeCalls}
 use Rattle.requests.specs.Calls.{numberedChange}
 use Rattle.requests.specs.Requests.{number, askedChange}
 use Rattle.requests.proofs.Calling.{same-call}
@@ -42,9 +43,8 @@ returns c =
     let s = x .before .before .before .before .before .args in
     let engine = engineIn (now (s .numbers)) (now (s .counts)) in
     let screen = number (s .q .numbers) 1 in
-    same-call
-    (ap (numberedChange engine screen) (d .numbered-density .ensures ∙ ap (numberedDensity (number (s .q .numbers) 0)) (x .figure .ensures)))
-    (f .change-density .ensures)
+    let density = d .numbered-density .ensures ∙ ap (numberedDensity (number (s .q .numbers) 0)) (x .figure .ensures) in
+    same-call (ap (numberedChange engine screen) density) (ap (changeCalls screen) density) (f .change-density .ensures)
 
 pub asked-change-spec : {M : Type 1} → statement M
 asked-change-spec =

@@ -4,9 +4,10 @@ use mathlib.Core.List.{List}
 use denote.Ref.{now}
 use lib.Ieee.{Float}
 use Rattle.lent_engines.specs.Memory.{engineIn}
+use Rattle.lent_engines.specs.Lent.{submitCalls}
 use Rattle.requests.specs.declared.SetRequest.{SetRequest}
 use Rattle.requests.specs.Calls.{numberedSubmit}
-use Rattle.requests.specs.Requests.{number, askedSubmit}
+use Rattle.requests.specs.Requests.{number, askedSubmit, askedSubmitCalls}
 use Rattle.requests.proofs.Calling.{same-call}
 use borrow.Author.Needs.{needs}
 use Rattle.requests.proofs.asked_submit.Statement.{statement}
@@ -43,6 +44,8 @@ returns c =
     same-call
     (ap (λ (l : List Float). numberedSubmit engine screen (r .set) l (r .limit)) (b .between .ensures)
     ∙ ap (λ (x : SetRequest). askedSubmit screen x (now (s .values)) engine) (q .set-request .ensures))
+    (ap (λ (l : List Float). submitCalls screen (r .set) l (r .limit)) (b .between .ensures)
+    ∙ ap (λ (x : SetRequest). askedSubmitCalls screen x (now (s .values))) (q .set-request .ensures))
     (f .submit-set .ensures)
 
 pub asked-submit-spec : {M : Type 1} → statement M

@@ -1,4 +1,4 @@
--- `screen_exports::delvouzh_engine_clear` meets its contract: there is no room, or the screens are cleared. Assumes nothing.
+-- `screen_exports::delvouzh_engine_clear` meets its contract: there is no room, or the counts are cleared. Assumes nothing.
 use Rattle.screen_exports.proofs.EngineLaws.{clear-refused, clear-written}
 use borrow.Author.Needs.{needs}
 use Rattle.screen_exports.proofs.delvouzh_engine_clear.Statement.{statement}
