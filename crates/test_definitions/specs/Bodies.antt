@@ -19,6 +19,7 @@ use Rattle.bodies.specs.Layout.{bodyOf, numbersOf}
 use Rattle.rotations.specs.declared.Quaternion.{Quaternion}
 use Rattle.rotations.specs.Rotations.{aboutX, aboutZ, matrixOf}
 use Rattle.joins.specs.Joins.{inOrder, sumsOf, inertiaOf, joinOf, acceptedBody, refusedBody, twoBodies, combineOf}
+use Rattle.lent_bodies.specs.LentBodies.{joinList}
 use Rattle.rings.specs.Rings.{angleOf, ringOf}
 use Rattle.test_definitions.specs.Rows.{is, are, refused}
 
@@ -41,6 +42,10 @@ numbers v = v .x ∷ v .y ∷ v .z ∷ []
 -- a mass of 2 at (1, 2, 3)
 abbrev point : Body
 point = pointMass (bits two) (vector (bits one) (bits two) (bits three))
+
+-- a mass on the x axis
+abbrev onAxis : ℕ → ℕ → Body
+onAxis mass x = pointMass (bits mass) (vector (bits x) (bits 0) (bits 0))
 
 -- ---- moved and turned
 
@@ -108,6 +113,11 @@ only-copy-turned =
     (numbers (ringOf (acceptedBody (pointMass (bits one) (vector (bits one) (bits 0) (bits 0)))) (bits one) 1 .body .«centre_m»))
     (0x3fe1_4a28_0fb5_068c ∷ 0x3fea_ed54_8f09_0cee ∷ 0 ∷ [])
 
+-- and joined: of a mass of 3 at 0.1 the join rounds 3·0.1/3 to the f64 after 0.1
+abbrev pub only-copy-joined : Bool
+only-copy-joined =
+    are (numbers (ringOf (acceptedBody (onAxis three 0x3fb9_9999_9999_999a)) (bits 0) 1 .body .«centre_m»)) (0x3fb9_9999_9999_999b ∷ 0 ∷ 0 ∷ [])
+
 -- 3 comes before the one body's refusal
 abbrev pub count-before-the-body : Bool
 count-before-the-body =
@@ -133,6 +143,10 @@ mean-without-mass =
     && is (joinedAt (bits one) (bits minusTwo)) two
     && is (joinedAt nan (bits one)) 0x7ff8_0000_0000_0000
 
+-- every body of a lent list is joined: masses of 1 at 1 and at 3 have their centre at 2, and the first one twice at 1
+abbrev pub each-of-a-list : Bool
+each-of-a-list = is (joinList (onAxis one one ∷ onAxis one three ∷ []) .«centre_m» .x) two
+
 -- "1 to 32", of whole bodies; a refused join has a body of zeros
 abbrev pub joins-counted : Bool
 joins-counted =
@@ -155,8 +169,10 @@ pub bodies-hold :
     && matrix-of-a-turn
     && angles-of-four
     && only-copy-turned
+    && only-copy-joined
     && count-before-the-body
     && mean-without-mass
+    && each-of-a-list
     && joins-counted
     && ten-numbers)
 unfolding ofBits toBits ofInt round add sub mul div neg lt le eq ne isNan mOf sinCosOf firstRefusal firstFrom turnTensor inertiaAboutOf rotatedOf inOrder sumsOf inertiaOf joinOf ringOf

@@ -37,7 +37,8 @@ noFigure word = isNone (figureWord (text word))
     isNone (Number x) = false
     isNone NotFigure = true
 
--- "`0.0032`, `-5`, `+12.50`; not `.5`, `5.`, `1e3`"; 1 to 19 digits in all; sixteen bare digits are none, with a sign or a point they are
+-- "`0.0032`, `-5`, `+12.50`; not `.5`, `5.`, `1e3`"; 1 to 19 digits in all; sixteen bare digits are none, with a sign or a point they
+-- are; before the mark stands no sign
 abbrev pub figure-words : Bool
 figure-words =
     figure 0x3f6a_36e2_eb1c_432d "0.0032"
@@ -52,6 +53,8 @@ figure-words =
     && noFigure "10000000000000000000"
     && noFigure "1.0000000000000000000"
     && noFigure "1234567890123456"
+    && noFigure "-#3ff0000000000000"
+    && noFigure "+#3ff0000000000000"
 
 -- a tie goes to the even last bit; digits as one f64, then divided, end in 5d
 abbrev pub nearest-to-decimals : Bool
