@@ -71,7 +71,8 @@ diagonalTensor a b c = diagonal (bits a) (bits b) (bits c)
 abbrev body : ℕ → ℕ → ℕ → Body
 body a b c = record { «mass_kg» = bits one; «centre_m» = zeroVector; «inertia_kg_m2» = diagonalTensor a b c }
 
--- the halving from 0 to 1, with at most so many pieces, of one component that is 0 below a third and 1 from there on: too steep for any few pieces
+-- the halving from 0 to 1, with at most so many pieces, of one component that is 0 below a third and 1 from there on, which no few pieces
+-- bring within the tolerance
 abbrev strip : ℕ → Halved
 strip limit = halving 1 (λ h. bits (cond (lt h (bits 0x3fd5_5555_5555_5555)) 0 one) ∷ []) (bits 0) (bits one) limit
 

@@ -32,7 +32,8 @@ returns-2 c =
     let g = c .before .before in
     let w = g .before .before .before .before in
     let k = w .before .before .before in
-    goes-on _ _ _ _ _ (k .before .if1 .left) _ (ap (λ (x : Measurement). x .piece) (k .rule .ensures)) _ (ap (λ (x : Measurement). x .samples) (k .rule .ensures)) _ _
+    goes-on _ _ _ _ _ (k .before .if1 .left) _ (ap (λ (x : Measurement). x .piece) (k .rule .ensures)) _
+    (ap (λ (x : Measurement). x .samples) (k .rule .ensures)) _ _
     (rw (w .write .ensures) at (g .repeat .ensures))
 
 pub integrate-spec : {M : Type 1} → statement M

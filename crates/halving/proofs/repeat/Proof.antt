@@ -10,7 +10,8 @@ use Rattle.halving.proofs.repeat.Statement.{statement}
 use Rattle.halving.proofs.repeat.Tie as tie
 
 abbrev Inv-loop : tie.InvT-loop
-Inv-loop scratch₀ integrand points limit taken n₀ samples₀ scratch n samples = State (sampleOf integrand points) limit taken scratch₀ scratch n samples
+Inv-loop scratch₀ integrand points limit taken n₀ samples₀ scratch n samples =
+    State (sampleOf integrand points) limit taken scratch₀ scratch n samples
 
 abbrev μ-loop : tie.MeasureT-loop
 μ-loop scratch₀ integrand points limit taken n₀ samples₀ scratch n samples = limit - n
@@ -39,7 +40,8 @@ returns c =
     let x = c .before .before in
     let j = x .before .before .before in
     let l = j .before .before in
-    rw (c .answer .ensures) (turn-ended _ _ _ _ _ _ _ (l .loop .inv) (l .before .before .before .pre .2) _ (j .judge .ensures) _ (x .next .given .1))
+    rw (c .answer .ensures)
+    (turn-ended _ _ _ _ _ _ _ (l .loop .inv) (l .before .before .before .pre .2) _ (j .judge .ensures) _ (x .next .given .1))
 
 enum-known-next-2 : tie.Need-enum-known-next-2 Inv-loop μ-loop
 enum-known-next-2 c = search needs
@@ -91,7 +93,8 @@ loop-again c =
     let x = h .before .before .before in
     let j = x .before .before .before in
     let l = Loop· x in
-    turn-goes-on _ _ _ _ _ _ _ (l .loop .inv) (l .before .before .before .pre .2) _ (j .judge .ensures) _ (x .next2 .given .1) _ _ (h .halve .ensures)
+    turn-goes-on _ _ _ _ _ _ _ (l .loop .inv) (l .before .before .before .pre .2) _ (j .judge .ensures) _ (x .next2 .given .1) _ _
+    (h .halve .ensures)
 
 pub repeat-spec : {M : Type 1} → statement M
 repeat-spec =
