@@ -3,18 +3,19 @@
 use mathlib.Core.List.{List, []}
 use mathlib.Core.Bool.{Bool, true, cond}
 use mathlib.Core.Path.{_≡_, ap, subst}
-use Prim.Native.Nat.{_<_}
+use Prim.Native.Nat.{ℕ, _<_}
 use native.Mathlib.Omega.{arith}
 use lib.ListN.{length}
 use Rattle.lines.specs.Lines.{Memory}
 use Rattle.input_lines.specs.Lines.{linesWithin, linesOf}
 use Rattle.inputs.specs.States.{Answered}
 use Rattle.inputs.proofs.Lengths.{some-replied}
-use Rattle.card.specs.declared.Ran.{Ran}
+use Rattle.reads.specs.Reads.{atEnd}
+use Rattle.card.specs.declared.End.{End}
 use Rattle.card.specs.Program.{atFirst, Runs}
 
-pub some-handed : (left : Memory) (r : Ran) → Runs left r → r .ended ≡ true → 0 < r .read → 0 < r .handed
-some-handed left r p e h =
+pub some-handed : (left : Memory) (out : List ℕ) (r : End) → Runs left out r → atEnd (r .turn .got) ≡ true → 0 < r .turn .read → 0 < r .handed
+some-handed left out r p e h =
     let a = p .reads in let u = ap length (p .all e) in let c = p .hands in
     let answered : Answered atFirst (linesOf (p .taken)) (p .text) left = subst (λ (t : Bool). Answered atFirst (cond t (linesOf (p .taken)) (linesWithin [] (p .taken))) (p .text) left) e (p .answers) in
     let t = ap length (answered .replied) in

@@ -1,37 +1,44 @@
--- What the program does with the bytes that it reads (document 01, "The card program"). Which bytes a read brings and which a write takes no
--- contract can say (docs/ASSUMED.md). These say of the bytes in the chunk how they are answered, and count: the bytes that were read, and
--- those of replies that were handed to write.
-use mathlib.Core.List.{List, [], _++_}
-use mathlib.Core.Bool.{true, cond}
+-- What the program does with the bytes that it reads (document 01, "The card program"). Which bytes a read brings and
+-- which a write takes no contract can say (docs/ASSUMED.md). These name what each of them gave, say of the bytes in
+-- the chunk how they are answered and of the first bytes of `out`, which are handed to write, which replies they are;
+-- and they count the bytes that were read, and those that were handed to write.
+use mathlib.Core.List.{List, [], _∷_, _++_}
+use mathlib.Core.Bool.{Bool, true, false, _&&_, cond}
 use mathlib.Core.Path.{_≡_}
-use Prim.Native.Nat.{ℕ, _+_, _^_, _<_, _≤_}
-use lib.ListN.{length, take, replicate}
+use Prim.Native.Nat.{ℕ, _+_, _-_, _<_, _≤_}
+use lib.Dec.{leb}
+use lib.ListN.{length, take, drop, replicate}
 use lib.Ieee.{Float}
 use Rattle.floats.specs.Operations.{bits}
 use Rattle.tokens.specs.Tokens.{lineBytes}
+use Rattle.tokens.specs.Text.{text}
+use Rattle.reads.specs.Reads.{brought, atEnd, mostRead}
 use Rattle.lent_engines.specs.Memory.{engineNumbers, engineCounts}
 use Rattle.lent_engines.specs.Lent.{Room}
 use Rattle.lines.specs.Lines.{Memory, memoryIn}
 use Rattle.input_lines.specs.declared.State.{State}
-use Rattle.input_lines.specs.Lines.{linesWithin, begunAfter, linesOf}
+use Rattle.input_lines.specs.Lines.{linesWithin, begunAfter, lastLine, linesOf}
 use Rattle.input_lines.specs.Kept.{Keeps}
-use Rattle.inputs.specs.Inputs.{replyBytes, replies, repliesTo, leftByLines}
+use Rattle.inputs.specs.Inputs.{replyBytes, replies, leftByLines}
 use Rattle.inputs.specs.States.{Answered, Takes}
-use Rattle.card.specs.declared.Replied.{Replied}
+use Rattle.card.specs.declared.Step.{Step}
 use Rattle.card.specs.declared.Turn.{Turn}
-use Rattle.card.specs.declared.Ran.{Ran}
+use Rattle.card.specs.declared.Last.{Last}
+use Rattle.card.specs.declared.End.{End}
 
 -- "no run needs more than 1,024 numbers of scratch; .. the program lends just that many" (document 02, Paper 8)
 abbrev pub scratchLength : ℕ
 scratchLength = 1024
 
--- before the first line: a scratch of zeros, and the engine that lists of zeros hold, with no job and none served (`no-job-at-first`)
+-- before the first line: a scratch of zeros, and the engine that lists of zeros hold, with no job and none served
+-- (`no-job-at-first`)
 unfoldable pub atFirst : Memory
 atFirst = memoryIn (replicate scratchLength (bits 0)) (replicate engineNumbers (bits 0)) (replicate engineCounts 0)
 
--- a proved loop has to end: with so many bytes read, which no run comes to, nothing more is
-abbrev pub mostRead : ℕ
-mostRead = 2 ^ 54
+-- what is told on standard error, by whether every line was answered (docs/FORMS.md, "Where a read or a write fails")
+unfoldable pub told : Bool → List ℕ
+told answered =
+    cond answered [] (text "card: a read or a write failed; send the lines without an answer again" ++ (10 ∷ []))
 
 -- what is lent to the run
 pub record Lends (buffer chunk : List ℕ) (numbers : List Float) (counts out : List ℕ) : Type 0 where
@@ -45,12 +52,12 @@ pub record Lends (buffer chunk : List ℕ) (numbers : List Float) (counts out : 
   -- room for a reply
   pub reply : replyBytes ≤ length out
 
--- where the program stands between two reads
-pub record TakenSoFar (buffer : List ℕ) (s : State) (memory : Memory) (handed : ℕ) : Type 0 where
+-- where the program stands
+pub record Stands (most : ℕ) (buffer : List ℕ) (s : State) (memory : Memory) (handed : ℕ) : Type 0 where
   -- the bytes that it took since it began
   pub taken : List ℕ
   -- they can be counted
-  pub few : length taken ≤ mostRead
+  pub few : length taken ≤ most
   -- the state keeps the line that has begun
   pub keeps : Keeps buffer s (begunAfter [] taken)
   -- so many bytes were handed to write: the replies to the lines that ended
@@ -58,21 +65,22 @@ pub record TakenSoFar (buffer : List ℕ) (s : State) (memory : Memory) (handed 
   -- and scratch and engine are as these left them
   pub leaves : memory ≡ leftByLines (linesWithin [] taken) atFirst
 
--- what may be handed to write, behind so many bytes
-pub record Due (handed : ℕ) (bytes : List ℕ) : Type 0 where
-  -- there is an input, to which the replies are
-  pub input : List ℕ
-  -- others before, these bytes, and others after
-  pub before : List ℕ
-  pub after : List ℕ
-  pub holds : repliesTo input atFirst ≡ before ++ (bytes ++ after)
-  -- those before are as many as were handed to write
-  pub place : length before ≡ handed
-  -- and the next place can be counted
-  pub fits : handed + length bytes < 2 ^ 64
+-- bytes of a chunk taken from where the program stands on
+pub record Steps (buffer after : List ℕ) (s r : Step) (chunk : List ℕ) (memory left : Memory)
+    (out : List ℕ) : Type 0 where
+  -- the first `written` bytes of `out` are the replies to the lines that ended in them
+  pub takes : Takes buffer after (s .state) (r .state) (take (r .taken - s .taken) (drop (s .taken) chunk))
+      (take (r .written) out) memory left
+  pub room : r .written ≤ length out
+  -- they were handed to write
+  pub counts : r .handed ≡ s .handed + r .written
+  -- there is one at least
+  pub more : s .taken < r .taken
+  pub some : r .taken ≤ length chunk
 
--- some bytes taken behind a line that has begun
-pub record HandsOn (buffer after : List ℕ) (s r : State) (bytes : List ℕ) (memory left : Memory) (handed total : ℕ) : Type 0 where
+-- some bytes taken after those of a line that has begun
+pub record HandsOn (buffer after : List ℕ) (s r : State) (bytes : List ℕ) (memory left : Memory)
+    (handed total : ℕ) : Type 0 where
   -- the replies to the lines that ended
   pub text : List ℕ
   pub takes : Takes buffer after s r bytes text memory left
@@ -80,37 +88,63 @@ pub record HandsOn (buffer after : List ℕ) (s r : State) (bytes : List ℕ) (m
   pub counts : total ≡ handed + length text
 
 -- a chunk
-pub record Replies (buffer after : List ℕ) (s : State) (chunk : List ℕ) (memory left : Memory) (handed : ℕ) (r : Replied) : Type 0 where
+pub record Replies (buffer after : List ℕ) (s : State) (chunk : List ℕ) (memory left : Memory) (handed : ℕ)
+    (r : Step) : Type 0 where
   -- its first bytes are taken
   pub hands : HandsOn buffer after s (r .state) (take (r .taken) chunk) memory left handed (r .handed)
   pub some : r .taken ≤ length chunk
-  -- all of them, unless a write failed
+  -- all of them, unless a write did not take all that it was handed
   pub all : r .all ≡ true → r .taken ≡ length chunk
 
 -- a read into the chunk, and the bytes that it brought
-pub record Turns (buffer after : List ℕ) (s : State) (chunk : List ℕ) (memory left : Memory) (handed : ℕ) (r : Turn) : Type 0 where
+pub record Turns (buffer after : List ℕ) (t r : Turn) (chunk : List ℕ) (memory left : Memory) : Type 0 where
+  pub most : brought (r .got) ≤ length chunk
+  pub reads : r .read ≡ t .read + brought (r .got)
   -- the first of these are taken
   pub taken : ℕ
-  pub hands : HandsOn buffer after s (r .state) (take taken chunk) memory left handed (r .handed)
-  pub some : taken ≤ r .read
-  pub most : r .read ≤ length chunk
-  -- to read on, there was a byte, and all are taken
-  pub goes : r .more ≡ true → (0 < r .read) × (taken ≡ r .read)
-  -- at the input's end there was none
-  pub ends : r .ended ≡ true → r .read ≡ 0
+  pub hands : HandsOn buffer after (t .state) (r .state) (take taken chunk) memory left (t .handed) (r .handed)
+  pub some : taken ≤ brought (r .got)
+  -- all of them, unless a write did not take all that it was handed
+  pub all : r .all ≡ true → taken ≡ brought (r .got)
+  -- it reads on if there was a byte, and every write took all
+  pub goes : r .more ≡ leb 1 (brought (r .got)) && r .all
+
+-- the end of the input: the line that has begun is the last, unless it has no byte
+pub record Ends (buffer : List ℕ) (s : State) (memory left : Memory) (out : List ℕ) (r : Last) : Type 0 where
+  -- the first `written` bytes of `out` are the reply to it
+  pub answers : (begun : List ℕ) → Keeps buffer s begun → Answered memory (lastLine begun) (take (r .written) out) left
+  pub room : r .written ≤ length out
+
+-- what is told at the end of a run: that every line was answered, where the last read gave the end and every write
+-- took all
+pub record Tells (out : List ℕ) (r : End) : Type 0 where
+  pub holds : take (r .told) out ≡ told (atEnd (r .turn .got) && r .all)
+  pub room : r .told ≤ length out
+
+-- the end of a run, from the turn that ended it
+pub record Closes (buffer : List ℕ) (t : Turn) (memory left : Memory) (out : List ℕ) (r : End) : Type 0 where
+  pub same : r .turn ≡ t
+  -- at the input's end the reply to the last line is handed to write; else nothing is
+  pub text : List ℕ
+  pub answers : (begun : List ℕ) → Keeps buffer (t .state) begun
+      → Answered memory (cond (atEnd (t .got)) (lastLine begun) []) text left
+  pub counts : r .handed ≡ t .handed + length text
+  pub all : atEnd (t .got) ≡ false → r .all ≡ t .all
+  pub tells : Tells out r
 
 -- a whole run
-pub record Runs (left : Memory) (r : Ran) : Type 0 where
+pub record Runs (left : Memory) (out : List ℕ) (r : End) : Type 0 where
   -- the bytes that were taken, and the rest, which was not, as a write had failed: so many were read
   pub taken : List ℕ
   pub rest : List ℕ
-  pub reads : r .read ≡ length taken + length rest
-  -- all that was handed to write, in order (what each write was handed: `Due`)
+  pub reads : r .turn .read ≡ length taken + length rest
+  -- all that was handed to write, in order (which bytes each write was handed: `Steps`, `Ends`)
   pub text : List ℕ
   pub hands : r .handed ≡ length text
   -- it is the replies to every line at the input's end, and where a read or a write failed, to every line that ended
-  pub answers : Answered atFirst (cond (r .ended) (linesOf taken) (linesWithin [] taken)) text left
+  pub answers : Answered atFirst (cond (atEnd (r .turn .got)) (linesOf taken) (linesWithin [] taken)) text left
   -- at the input's end there is no rest
-  pub all : r .ended ≡ true → rest ≡ []
-  -- only there is it said that all was answered
-  pub told : r .answered ≡ true → r .ended ≡ true
+  pub all : atEnd (r .turn .got) ≡ true → rest ≡ []
+  -- it ends where a read brings nothing or a write does not take all, and else only with so many bytes read
+  pub stops : 0 < brought (r .turn .got) → r .all ≡ true → mostRead ≤ r .turn .read
+  pub tells : Tells out r

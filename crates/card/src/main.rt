@@ -1,69 +1,111 @@
 // The card program: lines of standard input, a reply printed for each (document 01, "The card program").
 //
-// It only reads, feeds and writes: what is replied is `inputs`' to say. It keeps one scratch and one engine from its first line to its last. The replies
-// to what was read are written before it reads on. A read that fails, or a reply that nobody takes, ends it without a reply to the line that had begun,
-// and with a line on standard error.
+// It only reads, feeds and writes: what is replied is `inputs`' to say. It keeps one scratch and one engine from its
+// first line to its last. The replies to what was read are written before it reads on. A read that fails, or a reply
+// that nobody takes, ends it without a reply to the line that had begun, and with a line on standard error.
 //
-// `read` counts the bytes that were read, `handed` those of replies that were handed to write: the contracts say by them what was answered.
+// What the read and each write gave is carried along, and the contracts say by these values how it goes on.
+// `reply_next` and `reply_last` alone write replies: each hands to write the first bytes of `out`, of which its
+// contract says what they are.
 ghost use mathlib.Core.Path.{_≡_};
-ghost use Prim.Native.Nat.{_+_};
+ghost use Prim.Native.Nat.{_+_, _<_};
 ghost use lib.ListN.{length};
+ghost use Rattle.texts.specs.Appended.{Appended};
 ghost use Rattle.lines.specs.Lines.{memoryIn};
-ghost use Rattle.card.specs.Program.{atFirst, Lends, TakenSoFar, Due, Replies, Turns, Runs};
+ghost use Rattle.inputs.specs.Inputs.{ReplyFits};
+ghost use Rattle.inputs.specs.States.{Lent};
+ghost use Rattle.reads.specs.Reads.{mostRead};
+ghost use Rattle.card.specs.Program.{atFirst, told, Lends, Stands, Steps, Replies, Turns, Ends, Closes, Runs};
 use input_lines::State;
 use lent_engines::ENGINE_COUNTS;
 use lent_engines::ENGINE_NUMBERS;
 use libc::STDERR_FILENO;
 use libc::STDIN_FILENO;
 use libc::STDOUT_FILENO;
+use reads::MOST_READ;
 
-// A proved loop has to end: with so many bytes read, which no run comes to, nothing more is.
-const MOST_READ: usize = 18014398509481984;
-
-// Whether every byte was written, and how many bytes were handed to write, since the program began.
-struct Handed {
-    all: bool,
-    handed: usize,
-}
-
-// Whether every reply was written; how many bytes of the chunk were taken; and the line that has begun.
-struct Replied {
-    all: bool,
+// Where the program stands in a chunk: the line that has begun, how many bytes of the chunk are taken, how many bytes
+// of replies were handed to write since the program began, how many of them with the last write, and whether that
+// took them all.
+struct Step {
+    state: State,
     taken: usize,
     handed: usize,
-    state: State,
+    written: usize,
+    all: bool,
 }
 
-// Whether to read on; where not, whether the input is at its end; and the line that has begun.
+// Where the program stands between two reads: what the last one gave, how many bytes were read since the program
+// began, whether every write took all that it was handed, and whether to read on.
 struct Turn {
-    more: bool,
-    ended: bool,
-    read: usize,
-    handed: usize,
     state: State,
-}
-
-// Whether the input came to its end, and whether every reply was written then.
-struct Ran {
-    ended: bool,
-    answered: bool,
+    got: isize,
     read: usize,
     handed: usize,
+    all: bool,
+    more: bool,
 }
 
-// Writes replies, behind those that were handed to write before: the only place where the program writes any.
-fn write_replies(replies: &[u8], handed: usize) -> Handed
-    requires { ⌜ Due handed (now replies) ⌝ }
-    ensures { λ r. ⌜ r .handed ≡ handed + length (now (replies .entry)) ⌝ }
+// The last write: how many bytes it was handed, and whether it took them all.
+struct Last {
+    written: usize,
+    all: bool,
+}
+
+// The end of a run: its last turn, whether every write took all that it was handed, how many bytes these were, and
+// how many bytes are to be told on standard error.
+struct End {
+    turn: Turn,
+    all: bool,
+    handed: usize,
+    told: usize,
+}
+
+// Feeds the bytes of a chunk from where the program stands on, up to the chunk's end or to where `out` is full, and
+// writes the replies.
+fn reply_next(
+    buffer: &mut [u8],
+    s: Step,
+    chunk: &[u8],
+    scratch: &mut [f64],
+    engine_numbers: &mut [f64],
+    engine_counts: &mut [usize],
+    out: &mut [u8],
+) -> Step
+    requires { ⌜ Lends (now buffer) (now chunk) (now «engine_numbers») (now «engine_counts») (now out)
+        × Stands (mostRead + s .taken) (now buffer) (s .state)
+        (memoryIn (now scratch) (now «engine_numbers») (now «engine_counts»)) (s .handed)
+        × (s .taken < length (now chunk)) ⌝ }
+    ensures { λ r. ⌜ Steps (now (buffer .entry)) (now (buffer .exit)) s r (now (chunk .entry))
+        (memoryIn (now (scratch .entry)) (now («engine_numbers» .entry)) (now («engine_counts» .entry)))
+        (memoryIn (now (scratch .exit)) (now («engine_numbers» .exit)) (now («engine_counts» .exit)))
+        (now (out .exit)) ⌝ }
 {
-    let all = io::write_all(STDOUT_FILENO, replies);
-    Handed {
+    let at = s.taken;
+    let begun = s.state;
+    let fed = inputs::feed(
+        buffer,
+        begun,
+        &chunk[at..],
+        scratch,
+        engine_numbers,
+        engine_counts,
+        out,
+        0,
+    );
+    let state = fed.state;
+    let written = fed.written;
+    let all = io::write_all(STDOUT_FILENO, &out[..written]);
+    Step {
+        state,
+        taken: at + fed.taken,
+        handed: s.handed + written,
+        written,
         all,
-        handed: handed + replies.len(),
     }
 }
 
-// The bytes of a chunk. The replies are written as often as out is full, and at the chunk's end.
+// The bytes of a chunk, until all are taken or a write did not take all that it was handed.
 fn reply_to(
     buffer: &mut [u8],
     s: State,
@@ -73,93 +115,160 @@ fn reply_to(
     engine_counts: &mut [usize],
     out: &mut [u8],
     handed: usize,
-) -> Replied
+) -> Step
     requires { ⌜ Lends (now buffer) (now chunk) (now «engine_numbers») (now «engine_counts») (now out)
-        × TakenSoFar (now buffer) s (memoryIn (now scratch) (now «engine_numbers») (now «engine_counts»)) handed ⌝ }
+        × Stands mostRead (now buffer) s
+        (memoryIn (now scratch) (now «engine_numbers») (now «engine_counts»)) handed ⌝ }
     ensures { λ r. ⌜ Replies (now (buffer .entry)) (now (buffer .exit)) s (now (chunk .entry))
         (memoryIn (now (scratch .entry)) (now («engine_numbers» .entry)) (now («engine_counts» .entry)))
         (memoryIn (now (scratch .exit)) (now («engine_numbers» .exit)) (now («engine_counts» .exit))) handed r ⌝ }
 {
-    let mut state = s;
-    let mut at: usize = 0;
-    let mut total = handed;
-    let mut all = true;
-    while all && at < chunk.len() {
-        let fed = inputs::feed(
+    let mut step = Step {
+        state: s,
+        taken: 0,
+        handed,
+        written: 0,
+        all: true,
+    };
+    while step.all && step.taken < chunk.len() {
+        step = reply_next(
             buffer,
-            state,
-            &chunk[at..],
+            step,
+            chunk,
             scratch,
             engine_numbers,
             engine_counts,
             out,
-            0,
         );
-        let written = fed.written;
-        let taken = fed.taken;
-        state = fed.state;
-        at += taken;
-        let h = write_replies(&out[..written], total);
-        total = h.handed;
-        all = h.all;
     }
-    Replied {
-        all,
-        taken: at,
-        handed: total,
-        state,
-    }
+    step
 }
 
-// One read, and its bytes. A read that gives nothing ends the input.
+// One read, and its bytes.
 fn take_turn(
     buffer: &mut [u8],
-    s: State,
+    t: Turn,
     chunk: &mut [u8],
     scratch: &mut [f64],
     engine_numbers: &mut [f64],
     engine_counts: &mut [usize],
     out: &mut [u8],
-    handed: usize,
 ) -> Turn
     requires { ⌜ Lends (now buffer) (now chunk) (now «engine_numbers») (now «engine_counts») (now out)
-        × TakenSoFar (now buffer) s (memoryIn (now scratch) (now «engine_numbers») (now «engine_counts»)) handed ⌝ }
-    ensures { λ r. ⌜ Turns (now (buffer .entry)) (now (buffer .exit)) s (now (chunk .exit))
+        × Stands mostRead (now buffer) (t .state)
+        (memoryIn (now scratch) (now «engine_numbers») (now «engine_counts»)) (t .handed)
+        × (t .read < mostRead) ⌝ }
+    ensures { λ r. ⌜ Turns (now (buffer .entry)) (now (buffer .exit)) t r (now (chunk .exit))
         (memoryIn (now (scratch .entry)) (now («engine_numbers» .entry)) (now («engine_counts» .entry)))
-        (memoryIn (now (scratch .exit)) (now («engine_numbers» .exit)) (now («engine_counts» .exit))) handed r ⌝ }
+        (memoryIn (now (scratch .exit)) (now («engine_numbers» .exit)) (now («engine_counts» .exit))) ⌝ }
 {
     let got = libc::read(STDIN_FILENO, chunk);
     let n = io::count(got, chunk);
+    let state = t.state;
     if n == 0 {
         return Turn {
+            state,
+            got,
+            read: t.read,
+            handed: t.handed,
+            all: true,
             more: false,
-            ended: got == 0,
-            read: 0,
-            handed,
-            state: s,
         };
     }
-    let replied = reply_to(
+    let step = reply_to(
         buffer,
-        s,
+        state,
         &chunk[..n],
         scratch,
         engine_numbers,
         engine_counts,
         out,
-        handed,
+        t.handed,
     );
-    let state = replied.state;
+    let next = step.state;
     Turn {
-        more: replied.all,
-        ended: false,
-        read: n,
-        handed: replied.handed,
-        state,
+        state: next,
+        got,
+        read: t.read + n,
+        handed: step.handed,
+        all: step.all,
+        more: step.all,
     }
 }
 
-// All of the input.
+// The reply to a last line without a newline, where there is one.
+fn reply_last(
+    buffer: &[u8],
+    s: State,
+    scratch: &mut [f64],
+    engine_numbers: &mut [f64],
+    engine_counts: &mut [usize],
+    out: &mut [u8],
+) -> Last
+    requires { ⌜ Lent (now buffer) s (now «engine_numbers») (now «engine_counts») × ReplyFits (now out) 0 ⌝ }
+    ensures { λ r. ⌜ Ends (now (buffer .entry)) s
+        (memoryIn (now (scratch .entry)) (now («engine_numbers» .entry)) (now («engine_counts» .entry)))
+        (memoryIn (now (scratch .exit)) (now («engine_numbers» .exit)) (now («engine_counts» .exit)))
+        (now (out .exit)) r ⌝ }
+{
+    let written = inputs::finish(buffer, s, scratch, engine_numbers, engine_counts, out, 0);
+    let all = io::write_all(STDOUT_FILENO, &out[..written]);
+    Last { written, all }
+}
+
+// What is told on standard error, at the start of out; answers how many bytes it has.
+fn tell(out: &mut [u8], answered: bool) -> usize
+    requires { ⌜ ReplyFits (now out) 0 ⌝ }
+    ensures { λ r. ⌜ Appended (now (out .entry)) 0 (told answered) (now (out .exit)) r ⌝ }
+{
+    if answered {
+        return 0;
+    }
+    texts::put_bytes(
+        out,
+        0,
+        b"card: a read or a write failed; send the lines without an answer again\n",
+    )
+}
+
+// The end of a run: at the end of the input a line without a newline is a line.
+fn end_run(
+    buffer: &[u8],
+    t: Turn,
+    scratch: &mut [f64],
+    engine_numbers: &mut [f64],
+    engine_counts: &mut [usize],
+    out: &mut [u8],
+) -> End
+    requires { ⌜ Lent (now buffer) (t .state) (now «engine_numbers») (now «engine_counts») × ReplyFits (now out) 0
+        × Stands (mostRead + 65536) (now buffer) (t .state)
+        (memoryIn (now scratch) (now «engine_numbers») (now «engine_counts»)) (t .handed) ⌝ }
+    ensures { λ r. ⌜ Closes (now (buffer .entry)) t
+        (memoryIn (now (scratch .entry)) (now («engine_numbers» .entry)) (now («engine_counts» .entry)))
+        (memoryIn (now (scratch .exit)) (now («engine_numbers» .exit)) (now («engine_counts» .exit)))
+        (now (out .exit)) r ⌝ }
+{
+    if reads::is_end(t.got) {
+        let state = t.state;
+        let last = reply_last(buffer, state, scratch, engine_numbers, engine_counts, out);
+        let told = tell(out, last.all);
+        return End {
+            turn: t,
+            all: last.all,
+            handed: t.handed + last.written,
+            told,
+        };
+    }
+    let told = tell(out, false);
+    End {
+        turn: t,
+        all: t.all,
+        handed: t.handed,
+        told,
+    }
+}
+
+// All of the input. Before the first read it stands as if one had failed.
 fn run(
     buffer: &mut [u8],
     chunk: &mut [u8],
@@ -167,57 +276,33 @@ fn run(
     engine_numbers: &mut [f64],
     engine_counts: &mut [usize],
     out: &mut [u8],
-) -> Ran
+) -> End
     requires { ⌜ Lends (now buffer) (now chunk) (now «engine_numbers») (now «engine_counts») (now out)
         × (memoryIn (now scratch) (now «engine_numbers») (now «engine_counts») ≡ atFirst) ⌝ }
-    ensures { λ r. ⌜ Runs (memoryIn (now (scratch .exit)) (now («engine_numbers» .exit)) (now («engine_counts» .exit))) r ⌝ }
+    ensures { λ r. ⌜ Runs (memoryIn (now (scratch .exit)) (now («engine_numbers» .exit)) (now («engine_counts» .exit)))
+        (now (out .exit)) r ⌝ }
 {
-    let mut state = input_lines::no_line();
-    let mut read: usize = 0;
-    let mut handed: usize = 0;
-    let mut more = true;
-    let mut ended = false;
-    while more && read < MOST_READ {
-        let t = take_turn(
+    let state = input_lines::no_line();
+    let mut turn = Turn {
+        state,
+        got: -1,
+        read: 0,
+        handed: 0,
+        all: true,
+        more: true,
+    };
+    while turn.more && turn.read < MOST_READ {
+        turn = take_turn(
             buffer,
-            state,
+            turn,
             chunk,
             scratch,
             engine_numbers,
             engine_counts,
             out,
-            handed,
         );
-        state = t.state;
-        read += t.read;
-        handed = t.handed;
-        more = t.more;
-        ended = t.ended;
     }
-    if ended {
-        let last = inputs::finish(
-            buffer,
-            state,
-            scratch,
-            engine_numbers,
-            engine_counts,
-            out,
-            0,
-        );
-        let h = write_replies(&out[..last], handed);
-        return Ran {
-            ended,
-            answered: h.all,
-            read,
-            handed: h.handed,
-        };
-    }
-    Ran {
-        ended,
-        answered: false,
-        read,
-        handed,
-    }
+    end_run(buffer, turn, scratch, engine_numbers, engine_counts, out)
 }
 
 fn main() {
@@ -227,7 +312,7 @@ fn main() {
     let mut engine_numbers = [0.0; ENGINE_NUMBERS];
     let mut engine_counts = [0; ENGINE_COUNTS];
     let mut out = io::large_buffer();
-    let ran = run(
+    let end = run(
         &mut buffer,
         &mut chunk,
         &mut scratch,
@@ -235,10 +320,6 @@ fn main() {
         &mut engine_counts,
         &mut out,
     );
-    if !ran.answered {
-        io::write_all(
-            STDERR_FILENO,
-            b"card: a read or a write failed; send the lines without an answer again\n",
-        );
-    }
+    let told = end.told;
+    io::write_all(STDERR_FILENO, &out[..told]);
 }

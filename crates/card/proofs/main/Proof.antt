@@ -1,6 +1,7 @@
 -- `card::main` meets its contract: what it lends is what `run` asks for. Assumes nothing.
-use mathlib.Core.Path.{refl}
+use mathlib.Core.Path.{refl, sym}
 use native.Mathlib.Omega.{arith}
+use lib.Seq.{length-take-le}
 use Rattle.card.specs.Program.{atFirst}
 use borrow.Author.Needs.{needs}
 use Rattle.card.proofs.main.Statement.{statement}
@@ -38,17 +39,17 @@ unfolding atFirst
 run-requires c κs =
     (record { line = omega arith; some = omega arith; most = omega arith; engine = (omega arith, omega arith); reply = omega arith }, refl)
 
+array-share-prefix-out : tie.Need-array-share-prefix-out
+array-share-prefix-out c = c .before .before .before .before .before .before .run .ensures .tells .room
+
 slice-aggregate-write-all : tie.Need-slice-aggregate-write-all
-slice-aggregate-write-all c = search needs
+slice-aggregate-write-all c = let r = c .before .before .before .before .before .before .before in sym (length-take-le (r .run .result .told) (r .run .last .1 .1 .1 .1 .1 .0) (r .run .ensures .tells .room))
 
 write-all-requires : tie.Need-write-all-requires
 write-all-requires c κs = search needs
 
 returns : tie.Need-returns
 returns c = search needs
-
-returns-2 : tie.Need-returns-2
-returns-2 c = search needs
 
 pub main-spec : {M : Type 1} → statement M
 main-spec =
@@ -64,7 +65,7 @@ main-spec =
     slice-aggregate-run-5
     slice-aggregate-run-6
     run-requires
+    array-share-prefix-out
     slice-aggregate-write-all
     write-all-requires
-    returns
-    returns-2)
+    returns)

@@ -1,0 +1,141 @@
+-- What the program does with the bytes that it reads. Which bytes a read brings and which a write takes no contract
+-- can say (docs/ASSUMED.md). These name what each of them gave, say of the bytes in the chunk how they are shown and
+-- of the first bytes of `out`, which are handed to write, which block they are; and they count the bytes that were
+-- read, and those that were handed to write.
+use mathlib.Core.List.{List, [], _∷_, _++_}
+use mathlib.Core.Bool.{Bool, true, false, _&&_, cond}
+use mathlib.Core.Path.{_≡_}
+use Prim.Native.Nat.{ℕ, _+_, _-_, _*_, _<_, _≤_}
+use lib.Dec.{leb}
+use lib.ListN.{length, take, drop}
+use Rattle.tokens.specs.Tokens.{lineBytes}
+use Rattle.tokens.specs.Text.{text}
+use Rattle.reads.specs.Reads.{brought, atEnd, mostRead}
+use Rattle.input_lines.specs.declared.State.{State}
+use Rattle.input_lines.specs.Lines.{linesWithin, begunAfter, lastLine, linesOf}
+use Rattle.input_lines.specs.Kept.{Keeps}
+use Rattle.blocks.specs.Cards.{blockBytes, blockOf}
+use Rattle.readable.specs.declared.Last.{Last}
+use Rattle.readable.specs.declared.Step.{Step}
+use Rattle.readable.specs.declared.Turn.{Turn}
+use Rattle.readable.specs.declared.End.{End}
+
+-- one block a line
+unfoldable pub blocksOf : List (List ℕ) → List ℕ
+blocksOf [] = []
+blocksOf (line ∷ lines) = blockOf line ++ blocksOf lines
+
+-- what is told on standard error, by whether every line was shown (docs/FORMS.md, "Where a read or a write fails")
+unfoldable pub told : Bool → List ℕ
+told shown =
+    cond shown [] (text "readable: a read or a write failed; the answers without a block were not shown" ++ (10 ∷ []))
+
+-- what is lent to the run
+pub record Lends (buffer chunk out : List ℕ) : Type 0 where
+  -- room for a line
+  pub line : lineBytes ≤ length buffer
+  -- bytes to read into: into none, every read would answer as at the input's end
+  pub some : 0 < length chunk
+  pub most : length chunk ≤ 65536
+  -- room for a block
+  pub block : length out ≡ blockBytes
+
+-- what was handed to write can be counted, of so many bytes that were taken
+pub record Counted (taken : ℕ) (s : State) (handed : ℕ) : Type 0 where
+  pub within : s .kept ≤ lineBytes
+  pub few : handed ≤ blockBytes * taken
+
+-- some bytes taken after those of a line that has begun, whichever the state keeps: the text is the blocks of the
+-- lines that ended, and the line that has begun then is kept
+pub record Shows (buffer after : List ℕ) (s r : State) (bytes text : List ℕ) : Type 0 where
+  pub blocks : (begun : List ℕ) → Keeps buffer s begun → text ≡ blocksOf (linesWithin begun bytes)
+  pub keeps : (begun : List ℕ) → Keeps buffer s begun → Keeps after r (begunAfter begun bytes)
+
+-- the line that has begun is at its end: the first `written` bytes of `out` are its block
+pub record ShowsLine (buffer : List ℕ) (s : State) (out : List ℕ) (r : Last) : Type 0 where
+  pub block : (begun : List ℕ) → Keeps buffer s begun → take (r .written) out ≡ blockOf begun
+  pub room : r .written ≤ length out
+
+-- bytes of a chunk taken from where the program stands on
+pub record Steps (buffer after : List ℕ) (s r : Step) (chunk out : List ℕ) : Type 0 where
+  -- the first `written` bytes of `out` are the blocks of the lines that ended in them
+  pub shows : Shows buffer after (s .state) (r .state) (take (r .taken - s .taken) (drop (s .taken) chunk))
+      (take (r .written) out)
+  pub within : r .state .kept ≤ lineBytes
+  pub room : r .written ≤ length out
+  -- they were handed to write
+  pub counts : r .handed ≡ s .handed + r .written
+  -- there is one at least
+  pub more : s .taken < r .taken
+  pub some : r .taken ≤ length chunk
+
+-- some bytes taken after those of a line that has begun
+pub record HandsOn (buffer after : List ℕ) (s r : State) (bytes : List ℕ) (handed total : ℕ) : Type 0 where
+  -- the blocks of the lines that ended
+  pub text : List ℕ
+  pub shows : Shows buffer after s r bytes text
+  pub within : r .kept ≤ lineBytes
+  -- were handed to write
+  pub counts : total ≡ handed + length text
+  pub few : length text ≤ blockBytes * length bytes
+
+-- a chunk
+pub record ShowsChunk (buffer after : List ℕ) (s : State) (chunk : List ℕ) (handed : ℕ) (r : Step) : Type 0 where
+  -- its first bytes are taken
+  pub hands : HandsOn buffer after s (r .state) (take (r .taken) chunk) handed (r .handed)
+  pub some : r .taken ≤ length chunk
+  -- all of them, unless a write did not take all that it was handed
+  pub all : r .all ≡ true → r .taken ≡ length chunk
+
+-- a read into the chunk, and the bytes that it brought
+pub record Turns (buffer after : List ℕ) (t r : Turn) (chunk : List ℕ) : Type 0 where
+  pub most : brought (r .got) ≤ length chunk
+  pub reads : r .read ≡ t .read + brought (r .got)
+  -- the first of these are taken
+  pub taken : ℕ
+  pub hands : HandsOn buffer after (t .state) (r .state) (take taken chunk) (t .handed) (r .handed)
+  pub some : taken ≤ brought (r .got)
+  -- all of them, unless a write did not take all that it was handed
+  pub all : r .all ≡ true → taken ≡ brought (r .got)
+  -- it reads on if there was a byte, and every write took all
+  pub goes : r .more ≡ leb 1 (brought (r .got)) && r .all
+
+-- the end of the input: the line that has begun is the last, unless it has no byte
+pub record ShowsLast (buffer : List ℕ) (s : State) (out : List ℕ) (r : Last) : Type 0 where
+  -- the first `written` bytes of `out` are its block
+  pub blocks : (begun : List ℕ) → Keeps buffer s begun → take (r .written) out ≡ blocksOf (lastLine begun)
+  pub room : r .written ≤ length out
+
+-- what is told at the end of a run: that every line was shown, where the last read gave the end and every write took
+-- all
+pub record Tells (out : List ℕ) (r : End) : Type 0 where
+  pub holds : take (r .told) out ≡ told (atEnd (r .turn .got) && r .all)
+  pub room : r .told ≤ length out
+
+-- the end of a run, from the turn that ended it
+pub record Closes (buffer : List ℕ) (t : Turn) (out : List ℕ) (r : End) : Type 0 where
+  pub same : r .turn ≡ t
+  -- at the input's end the last line's block is handed to write; else nothing is
+  pub text : List ℕ
+  pub blocks : (begun : List ℕ) → Keeps buffer (t .state) begun
+      → text ≡ blocksOf (cond (atEnd (t .got)) (lastLine begun) [])
+  pub counts : r .handed ≡ t .handed + length text
+  pub all : atEnd (t .got) ≡ false → r .all ≡ t .all
+  pub tells : Tells out r
+
+-- a whole run
+pub record Runs (out : List ℕ) (r : End) : Type 0 where
+  -- the bytes that were taken, and the rest, which was not, as a write had failed: so many were read
+  pub taken : List ℕ
+  pub rest : List ℕ
+  pub reads : r .turn .read ≡ length taken + length rest
+  -- all that was handed to write, in order (which bytes each write was handed: `ShowsLine`)
+  pub text : List ℕ
+  pub hands : r .handed ≡ length text
+  -- it is the block of every line at the input's end, and where a read or a write failed, of every line that ended
+  pub blocks : text ≡ blocksOf (cond (atEnd (r .turn .got)) (linesOf taken) (linesWithin [] taken))
+  -- at the input's end there is no rest
+  pub all : atEnd (r .turn .got) ≡ true → rest ≡ []
+  -- it ends where a read brings nothing or a write does not take all, and else only with so many bytes read
+  pub stops : 0 < brought (r .turn .got) → r .all ≡ true → mostRead ≤ r .turn .read
+  pub tells : Tells out r
