@@ -3,3 +3,4 @@ pub mod Silence
 pub mod Scratch
 pub mod AtFirst
 pub mod Screens
+pub mod Cards

@@ -19,8 +19,8 @@ use Rattle.requests.specs.Calls.{numberedSubmit, numberedChange}
 use Rattle.requests.specs.Requests.{number, between, setRequestOf, askedSubmit, askedChange}
 use Rattle.engines.specs.declared.Engine.{Engine}
 use Rattle.engines.specs.Engines.{holdsJob}
-use Rattle.engines.specs.Calls.{Call, engineBy, afterCalls, servedOver}
-use Rattle.engines.proofs.Rounds.{within-eight}
+use Rattle.engines.specs.Calls.{afterCalls, servedOver}
+use Rattle.engines.proofs.Rounds.{within-eight, calls-both}
 use Rattle.lent_engines.specs.Lent.{submitCalls, changeCalls}
 use Rattle.lines.specs.Lines.{Memory, memoryAfterForm, memoryAfterAsked, memoryAfter, callsOfForm, callsAsked, callsOfLine}
 use Rattle.inputs.specs.Inputs.{leftByLine, leftByLines}
@@ -67,10 +67,6 @@ by-line line m = by (leb (length line) lineBytes)
     by true = by-asked (lineAsked line) m
     by false = refl
 
-calls-append : (engine : Engine) (a b : List Call) → afterCalls engine (a ++ b) ≡ afterCalls (afterCalls engine a) b
-calls-append engine [] b = refl
-calls-append engine (call ∷ a) b = calls-append (engineBy engine call) a b
-
 pub engine-by-calls : EngineByCalls
 unfolding leftByLines callsOver
 engine-by-calls [] m = refl
@@ -78,7 +74,7 @@ engine-by-calls (line ∷ lines) m =
     let left = leftByLine line m in
     engine-by-calls lines left
     ∙ ap (λ (e : Engine). afterCalls e (callsOver lines left)) (by-line line m)
-    ∙ sym (calls-append (m .engine) (callsBy line m) (callsOver lines left))
+    ∙ sym (calls-both (m .engine) (callsBy line m) (callsOver lines left))
 
 -- of lines from any memory on, among whose turns eight count
 pub served-within-eight : (lines : List (List ℕ)) (m : Memory) (screen : ℕ) → holdsJob (m .engine .screens) screen ≡ true → 8 ≤ length (servedOver (m .engine) (callsOver lines m))

@@ -253,7 +253,7 @@ module _ (engine : Engine) (w : EightScreens engine) (screen : ℕ) (set : FinSe
   taken t = taken-by (isFree (engine .screens) screen) (madeOf set points L .job .ended) refl refl t
 
 -- eight screens stay eight
-eight-behind : (calls : List Call) (engine : Engine) → EightScreens engine → EightScreens (afterCalls engine calls)
+pub eight-behind : (calls : List Call) (engine : Engine) → EightScreens engine → EightScreens (afterCalls engine calls)
 eight-behind [] engine w = w
 eight-behind (call ∷ calls) engine w = eight-behind calls (engineBy engine call) (still-eight engine call w)
 

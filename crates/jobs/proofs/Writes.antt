@@ -1,15 +1,17 @@
 -- Every step writes its own strip's pieces from the start of the scratch and leaves the rest; a step without a strip writes nothing. Assumes nothing.
-use mathlib.Core.Path.{_≡_, refl, sym, ap, _∙_}
+use mathlib.Core.Path.{_≡_, refl, sym, ap, subst, _∙_}
 use mathlib.Core.Bool.{Bool, true, false, cond}
 use mathlib.Core.List.{List, [], _∷_}
-use Prim.Native.Nat.{ℕ}
+use Prim.Native.Nat.{ℕ, _*_, _≤_}
+use native.Mathlib.Omega.{arith}
 use lib.Dec.{ltb}
-use lib.ListN.{length}
+use lib.ListN.{length, drop, length-append, length-drop}
 use lib.Ieee.{Float}
 use Rattle.refusals.specs.declared.Verdict.{Verdict}
 use Rattle.refusals.specs.declared.Verdict.the-variants.{Accepted, Refused}
-use Rattle.pieces.specs.Stored.{written}
-use Rattle.strips.specs.Strips.{Run, Worked, piecesOf, runCheck, stripAt, stripsFrom, scratchOnward, scratchAfter}
+use Rattle.quadrature.specs.declared.Piece.{Piece}
+use Rattle.pieces.specs.Stored.{stored, written}
+use Rattle.strips.specs.Strips.{Run, Worked, piecesOf, runCheck, stripAt, stripsFrom, scratchOnward, scratchAfter, scratchChecked}
 use Rattle.jobs.specs.declared.Job.{Job}
 use Rattle.jobs.specs.Jobs.{runOfJob, stepScratch}
 use Rattle.jobs.specs.Calls.{stripsBy, step, WritesOwnStrip}
@@ -36,3 +38,29 @@ writes-own-strip job scratch = by-end (job .ended) refl
     by-end : (b : Bool) → job .ended ≡ b → stepScratch job scratch ≡ scratchAfter (stripsBy job (step scratch)) scratch
     by-end true e = scratch-ended job scratch e ∙ to [] (none-ended job scratch e)
     by-end false e = by-check e (runCheck (job .limit) (length scratch)) refl
+
+-- ---- no scratch gets shorter
+stored-length : (pieces : List Piece) → length (stored pieces) ≡ length pieces * 16
+stored-length [] = refl
+stored-length (p ∷ pieces) = rw (stored-length pieces) (omega arith)
+
+written-no-shorter : (pieces : List Piece) (scratch : List Float) → length scratch ≤ length (written pieces scratch)
+written-no-shorter pieces scratch =
+    let both = length-append (stored pieces) (drop (length pieces * 16) scratch) in
+    let rest = length-drop (length pieces * 16) scratch in
+    omega (arith, both, rest, stored-length pieces)
+
+after-no-shorter : (strips : List Worked) (scratch : List Float) → length scratch ≤ length (scratchAfter strips scratch)
+after-no-shorter [] scratch = omega arith
+after-no-shorter (s ∷ strips) scratch =
+    omega (arith, written-no-shorter (piecesOf s) scratch, after-no-shorter strips (written (piecesOf s) scratch))
+
+-- whatever a whole run's checks said, and in a step
+pub run-no-shorter : (v : Verdict) (strips : List Worked) (scratch : List Float) → length scratch ≤ length (scratchChecked v strips scratch)
+run-no-shorter Accepted strips scratch = after-no-shorter strips scratch
+run-no-shorter (Refused r) strips scratch = omega arith
+
+pub step-no-shorter : (job : Job) (scratch : List Float) → length scratch ≤ length (stepScratch job scratch)
+step-no-shorter job scratch =
+    subst (λ (l : List Float). length scratch ≤ length l) (sym (writes-own-strip job scratch))
+    (after-no-shorter (stripsBy job (step scratch)) scratch)

@@ -1,0 +1,400 @@
+-- What a line asks is what is replied and left; so the lines since a submission are calls on the engine that the program began with, and
+-- the card that ends the job is that of the set's own line. Assumes nothing.
+use mathlib.Core.Bool.{Bool, true, false, cond, true≢false}
+use mathlib.Core.List.{List, [], _∷_, _++_}
+use mathlib.Core.Path.{_≡_, refl, sym, ap, subst, _∙_}
+use Prim.Native.Nat.{ℕ, _≤_}
+use native.Mathlib.Nat.{le-trans}
+use native.Mathlib.Omega.{arith}
+use borrow.Author.Tests.{le-ltb}
+use lib.Dec.{leb}
+use lib.ListN.{length, getD, length-replicate}
+use lib.Ieee.{Float}
+use Rattle.floats.specs.Operations.{bits}
+use Rattle.tokens.specs.Text.{codes, text}
+use Rattle.tokens.specs.Tokens.{lineBytes}
+use Rattle.refusals.specs.declared.Refusal.{Refusal}
+use Rattle.refusals.specs.declared.Refusal.the-variants.{NoForm as noForm}
+use Rattle.refusals.specs.declared.Verdict.{Verdict}
+use Rattle.refusals.specs.declared.Verdict.the-variants.{Accepted, Refused}
+use Rattle.refusals.specs.Refusals.{numberOf}
+use Rattle.refusals.proofs.Accepted.{both}
+use Rattle.limits.specs.Limits.{limitCheck, scratchCheck}
+use Rattle.fins.specs.declared.FinSet.{FinSet}
+use Rattle.fins.specs.declared.NumberedSet.{NumberedSet}
+use Rattle.fins.specs.declared.NumberedSet.the-variants.{Known as setKnown, Unknown as noSet}
+use Rattle.fins.specs.Fins.{setCheck, areaCheck}
+use Rattle.planforms.specs.declared.NumberedPlanform.{NumberedPlanform}
+use Rattle.planforms.specs.declared.NumberedPlanform.the-variants.{Known as planformKnown, Unknown as noPlanform}
+use Rattle.forms.specs.declared.Form.{Form}
+use Rattle.forms.specs.declared.Form.the-variants.{Set, Area, Join, Moments, Check, Tubes, Closing, Drill}
+use Rattle.forms.specs.declared.Form.the-variants.{Copied, Placed, Moved, Without, Submit, Density, Turn, NoForm}
+use Rattle.forms.specs.Forms.{Asked, refused, asked, pickAsked, anyForm, lineAsked}
+use Rattle.requests.specs.declared.SetRequest.{SetRequest}
+use Rattle.requests.specs.Calls.{numberedFigures, numberedScratch, numberedSubmit, numberedAreaScratch}
+use Rattle.requests.specs.Requests.{number, between, setRequestOf, areaRequestOf}
+use Rattle.requests.specs.Requests.{askedFigures, askedScratch, askedSubmit, askedAreaScratch}
+use Rattle.answers.specs.Filled.{filled}
+use Rattle.answers.specs.Answers.{takenText, moreText, refusedText}
+use Rattle.figures.specs.declared.Figures.{Figures}
+use Rattle.figures.specs.Figures.{setStrips, setFigures, setScratch}
+use Rattle.figures.specs.Areas.{areaSeven, areaScratch}
+use Rattle.jobs.specs.declared.Job.{Job}
+use Rattle.jobs.specs.declared.Answer.{Answer}
+use Rattle.jobs.specs.declared.Stepped.{Stepped}
+use Rattle.jobs.specs.declared.Reply.the-variants.{More, Answered}
+use Rattle.jobs.specs.Jobs.{noFigures, makingCheck, madeWith, madeOf, stepOf}
+use Rattle.jobs.specs.Calls.{isTaken}
+use Rattle.jobs.specs.Calls as alone
+use Rattle.jobs.proofs.Writes.{run-no-shorter}
+use Rattle.jobs.proofs.Together as job
+use Rattle.engines.specs.declared.Engine.{Engine}
+use Rattle.engines.specs.declared.Called.{Called}
+use Rattle.engines.specs.declared.AtScreen.{AtScreen}
+use Rattle.engines.specs.declared.Told.{Told}
+use Rattle.engines.specs.declared.Turned.{Turned}
+use Rattle.engines.specs.declared.Service.the-variants.{Step}
+use Rattle.engines.specs.Engines.{holdsJob, isFree, placeOf, nextScreen, jobAt, turnOf, submitOf}
+use Rattle.engines.specs.Calls.{Call, turn, submit, engineBy, afterCalls, EightScreens, jobOf, screenOf, servedOver, holdsOver}
+use Rattle.engines.specs.Calls.{GetsStrip, Serves, engineNow, OnScreen}
+use Rattle.engines.proofs.Laws.{submit-refused, submit-taken, submit-not-free}
+use Rattle.engines.proofs.Effects.{in-eight, holds-is-screen, turn-serves}
+use Rattle.engines.proofs.Alone as one
+use Rattle.engines.proofs.Submissions.{eight-behind, on-screen, strip-within-eight}
+use Rattle.engines.proofs.Drawn.{turn-no-shorter}
+use Rattle.lines.specs.Lines.{Memory, printedSet, printedCall, printedDone, printedTurn, setAnswer, submitAnswer, turnAnswer}
+use Rattle.lines.specs.Lines.{answerTo, askedAnswer, answerOf, memoryAfterForm, memoryAfterAsked, memoryAfter}
+use Rattle.inputs.specs.Inputs.{reply, leftByLine, leftByLines}
+use Rattle.inputs.proofs.Lines.{left-append}
+use Rattle.card.specs.Program.{scratchLength, atFirst}
+use Rattle.card.specs.Screens.{callsOver}
+use Rattle.card.specs.Cards.{WritesSet, AsksTurn, Replies, foundThen, leftThen, leftNow, HeldSince}
+use Rattle.card.specs.Cards.{ownSince, setNow, cardNow, CardOnLines}
+use Rattle.card.proofs.AtFirst.{begins-at-first}
+use Rattle.card.proofs.Scratch.{enough}
+use Rattle.card.proofs.Screens.{engine-by-calls}
+
+-- ---- a line that asks something
+abbrev isAsked : Asked → Bool
+isAsked (refused refusal) = false
+isAsked (asked form ns figures) = true
+
+module _ (line : List ℕ) (form : Form) (ns : List ℕ) (figures : List Float) (asks : lineAsked line ≡ asked form ns figures) where
+  short : leb (length line) lineBytes ≡ true
+  unfolding lineAsked
+  short = by (leb (length line) lineBytes) asks
+    where
+      by : (b : Bool) → pickAsked b (anyForm line) (refused noForm) ≡ asked form ns figures → b ≡ true
+      by true e = refl
+      by false e = ap isAsked e
+
+  reply-is : (m : Memory) → reply line m ≡ answerTo form ns figures m ++ (10 ∷ [])
+  unfolding reply answerOf
+  reply-is m =
+      ap (λ (b : Bool). cond b (askedAnswer (lineAsked line) m) (refusedText (numberOf noForm)) ++ (10 ∷ [])) short
+      ∙ ap (λ (a : Asked). askedAnswer a m ++ (10 ∷ [])) asks
+
+  left-is : (m : Memory) → leftByLine line m ≡ memoryAfterForm form ns figures m
+  unfolding leftByLine memoryAfter
+  left-is m = ap (λ (b : Bool). cond b (memoryAfterAsked (lineAsked line) m) m) short ∙ ap (λ (a : Asked). memoryAfterAsked a m) asks
+
+-- ---- the scratch stays long enough
+set-no-shorter : (set : NumberedSet) (points : List Float) (L : ℕ) (scratch : List Float)
+    → length scratch ≤ length (numberedScratch set points L scratch)
+unfolding numberedScratch setScratch
+set-no-shorter (setKnown set) points L scratch = run-no-shorter (setCheck set points L (length scratch)) (setStrips set points L) scratch
+set-no-shorter noSet points L scratch = omega arith
+
+area-no-shorter : (planform : NumberedPlanform) (points : List Float) (L : ℕ) (scratch : List Float)
+    → length scratch ≤ length (numberedAreaScratch planform points L scratch)
+unfolding numberedAreaScratch areaScratch
+area-no-shorter (planformKnown planform) points L scratch =
+    run-no-shorter (areaCheck planform points L (length scratch)) (areaSeven planform points L) scratch
+area-no-shorter noPlanform points L scratch = omega arith
+
+form-no-shorter : (form : Form) (ns : List ℕ) (figures : List Float) (m : Memory)
+    → length (m .scratch) ≤ length (memoryAfterForm form ns figures m .scratch)
+unfolding askedScratch askedAreaScratch
+form-no-shorter Set ns figures m = set-no-shorter (setRequestOf ns figures .set) _ _ (m .scratch)
+form-no-shorter Area ns figures m = area-no-shorter (areaRequestOf ns figures .planform) _ _ (m .scratch)
+form-no-shorter Join ns figures m = omega arith
+form-no-shorter Moments ns figures m = omega arith
+form-no-shorter Check ns figures m = omega arith
+form-no-shorter Tubes ns figures m = omega arith
+form-no-shorter Closing ns figures m = omega arith
+form-no-shorter Drill ns figures m = omega arith
+form-no-shorter Copied ns figures m = omega arith
+form-no-shorter Placed ns figures m = omega arith
+form-no-shorter Moved ns figures m = omega arith
+form-no-shorter Without ns figures m = omega arith
+form-no-shorter Submit ns figures m = omega arith
+form-no-shorter Density ns figures m = omega arith
+form-no-shorter Turn ns figures m = turn-no-shorter (m .engine) (m .scratch)
+form-no-shorter NoForm ns figures m = omega arith
+
+asked-no-shorter : (a : Asked) (m : Memory) → length (m .scratch) ≤ length (memoryAfterAsked a m .scratch)
+asked-no-shorter (refused refusal) m = omega arith
+asked-no-shorter (asked form ns figures) m = form-no-shorter form ns figures m
+
+line-no-shorter : (line : List ℕ) (m : Memory) → length (m .scratch) ≤ length (leftByLine line m .scratch)
+unfolding leftByLine memoryAfter
+line-no-shorter line m = by (leb (length line) lineBytes)
+  where
+    by : (b : Bool) → length (m .scratch) ≤ length (cond b (memoryAfterAsked (lineAsked line) m) m .scratch)
+    by true = asked-no-shorter (lineAsked line) m
+    by false = omega arith
+
+lines-no-shorter : (lines : List (List ℕ)) (m : Memory) → length (m .scratch) ≤ length (leftByLines lines m .scratch)
+unfolding leftByLines
+lines-no-shorter [] m = omega arith
+lines-no-shorter (line ∷ lines) m = le-trans (line-no-shorter line m) (lines-no-shorter lines (leftByLine line m))
+
+first-length : length (atFirst .scratch) ≡ scratchLength
+unfolding atFirst
+first-length = length-replicate scratchLength (bits 0)
+
+stays-long : (lines : List (List ℕ)) → scratchLength ≤ length (leftByLines lines atFirst .scratch)
+stays-long lines = omega (arith, first-length, lines-no-shorter lines atFirst)
+
+-- ---- the set's own line
+module _ (form : Form) (line : List ℕ) (set : FinSet) (points : List Float) (L : ℕ) (w : WritesSet form line set points L) where
+  abbrev Request· : SetRequest
+  Request· = setRequestOf (w .numbers) (w .figures)
+
+  abbrev Points· : List Float
+  Points· = between 0 (Request· .points) (w .figures)
+
+  own-figures : (n : ℕ) → askedFigures Request· (w .figures) n ≡ setFigures set points L n
+  unfolding askedFigures numberedFigures
+  own-figures n =
+      ap (λ (s : NumberedSet). numberedFigures s Points· (Request· .limit) n) (w .set-is)
+      ∙ ap (λ (p : List Float). setFigures set p (Request· .limit) n) (w .points-are)
+      ∙ ap (λ (l : ℕ). setFigures set points l n) (w .limit-is)
+
+  own-submit : (engine : Engine) (screen : ℕ) → askedSubmit screen Request· (w .figures) engine ≡ submitOf engine screen set points L
+  unfolding askedSubmit numberedSubmit
+  own-submit engine screen =
+      ap (λ (s : NumberedSet). numberedSubmit engine screen s Points· (Request· .limit)) (w .set-is)
+      ∙ ap (λ (p : List Float). submitOf engine screen set p (Request· .limit)) (w .points-are)
+      ∙ ap (λ (l : ℕ). submitOf engine screen set points l) (w .limit-is)
+
+-- over any scratch that is long enough
+same-figures : (set : FinSet) (points : List Float) (L n m : ℕ) → scratchCheck L n ≡ Accepted → scratchCheck L m ≡ Accepted
+    → setFigures set points L n ≡ setFigures set points L m
+unfolding setFigures setCheck
+same-figures set points L n m e f = rw (e, f)
+
+set-line : (line : List ℕ) (set : FinSet) (points : List Float) (L : ℕ) → WritesSet Set line set points L → limitCheck L ≡ Accepted
+    → (lines : List (List ℕ)) (card : Figures)
+    → card ≡ setFigures set points L scratchLength → Replies line (leftByLines lines atFirst) (printedSet (card .verdict) card)
+unfolding setAnswer
+set-line line set points L w limit lines card c =
+    let m = leftByLines lines atFirst in
+    let n = length (m .scratch) in
+    reply-is line Set (w .numbers) (w .figures) (w .asks) m
+    ∙ ap (λ (f : Figures). printedSet (f .verdict) f ++ (10 ∷ []))
+    (own-figures Set line set points L w n
+    ∙ same-figures set points L n scratchLength (enough L n limit (stays-long lines)) (enough L scratchLength limit (omega arith))
+    ∙ sym c)
+
+-- ---- a submission that is answered taken
+abbrev second : List ℕ → ℕ
+second l = getD l 1 0
+
+refused-other : (r : Refusal) → refusedText (numberOf r) ++ (10 ∷ []) ≡ takenText ++ (10 ∷ []) → ⊥
+unfolding refusedText takenText filled text codes
+refused-other r e = let k : _≡_ {A = ℕ} 114 116 = ap second e in let z : ⊥ = omega (arith, k) in z
+
+accepted-if-taken : (v : Verdict) → printedCall v ++ (10 ∷ []) ≡ takenText ++ (10 ∷ []) → v ≡ Accepted
+accepted-if-taken Accepted e = refl
+accepted-if-taken (Refused r) e = absurd (refused-other r e)
+
+abbrev isAccepted : Verdict → Bool
+isAccepted Accepted = true
+isAccepted (Refused r) = false
+
+module _ (engine : Engine) (screen : ℕ) (set : FinSet) (points : List Float) (L : ℕ) where
+  abbrev Taken· : Answer → Type 0
+  Taken· a = a .figures .verdict ≡ Accepted → isTaken (a .reply) ≡ true
+
+  made-taken : Taken· (madeOf set points L .answer)
+  unfolding madeOf
+  made-taken = by (makingCheck set points L)
+    where
+      by : (v : Verdict) → Taken· (madeWith v set points L .answer)
+      by Accepted e = refl
+      by (Refused r) e = absurd (true≢false (sym (ap isAccepted e)))
+
+  abbrev Job· : Job
+  Job· = jobAt engine (placeOf screen)
+
+  abbrev Made· : Stepped
+  Made· = madeOf set points L
+
+  submit-taken-by : (f e : Bool) → isFree (engine .screens) screen ≡ f → Made· .job .ended ≡ e
+      → Taken· (submitOf engine screen set points L .answer)
+  unfolding submitOf
+  submit-taken-by false e f m =
+      subst (λ (s : AtScreen). Taken· (s .answer)) (sym (submit-not-free (engine .screens) Job· screen Made· f))
+      (λ k. absurd (true≢false (sym (ap isAccepted k))))
+  submit-taken-by true true f m =
+      subst (λ (s : AtScreen). Taken· (s .answer)) (sym (submit-refused (engine .screens) Job· screen Made· f m)) made-taken
+  submit-taken-by true false f m =
+      subst (λ (s : AtScreen). Taken· (s .answer)) (sym (submit-taken (engine .screens) Job· screen Made· f m)) made-taken
+
+  answered-taken : Taken· (submitOf engine screen set points L .answer)
+  answered-taken = submit-taken-by (isFree (engine .screens) screen) (madeOf set points L .job .ended) refl refl
+
+-- ---- the turn that serves a screen, as a line
+module _ (m : Memory) (long : scratchLength ≤ length (m .scratch)) (screen : ℕ) (some : 1 ≤ screen)
+    (next : nextScreen (m .engine .screens) ≡ screen) where
+  abbrev Turned· : Turned
+  Turned· = turnOf (m .engine) (length (m .scratch))
+
+  serves-screen : screen ≡ screenOf (m .engine) (turn (m .scratch))
+  serves-screen = sym next ∙ sym (ap (λ (b : Bool). cond b 0 (nextScreen (m .engine .screens))) (le-ltb (length (m .scratch)) 1024 long))
+
+  abbrev Told· : ℕ → Answer → Told
+  Told· k a = record { service = Step; screen = k; answer = a }
+
+  told-is : (a : Answer) → Turned· .told .answer ≡ a → Turned· .told ≡ Told· screen a
+  told-is a e =
+      let s = turn-serves (m .engine) (length (m .scratch)) long (subst (λ (k : ℕ). 1 ≤ k) (sym next) some) in
+      let step = stepOf (jobOf (m .engine) (nextScreen (m .engine .screens))) (length (m .scratch)) in
+      ap (λ (t : Turned). t .told) s
+      ∙ ap (λ (k : ℕ). Told· k (step .answer)) next
+      ∙ ap (Told· screen) (sym (ap (λ (t : Turned). t .told .answer) s) ∙ e)
+
+  turn-replies : (line : List ℕ) → AsksTurn line → (a : Answer) → Turned· .told .answer ≡ a
+      → Replies line m (printedTurn Step (Told· screen a))
+  unfolding turnAnswer
+  turn-replies line t a e =
+      reply-is line Turn (t .numbers) (t .figures) (t .asks) m ∙ ap (λ (x : Told). printedTurn (x .service) x ++ (10 ∷ [])) (told-is a e)
+
+  held-after : (line : List ℕ) → AsksTurn line → (b : Bool) → holdsJob (leftByLine line m .engine .screens) screen ≡ b
+      → holdsJob (Turned· .engine .screens) screen ≡ b
+  held-after line t b h =
+      ap (λ (x : Memory). holdsJob (x .engine .screens) screen) (sym (left-is line Turn (t .numbers) (t .figures) (t .asks) m)) ∙ h
+
+-- ---- since a submission
+module _ (before : List (List ℕ)) (submission : List ℕ) (since : List (List ℕ)) (screen : ℕ) (set : FinSet) (points : List Float) (L : ℕ)
+    (h : HeldSince before submission since screen set points L) where
+  abbrev Found· : Memory
+  Found· = foundThen before submission since
+
+  abbrev Left· : Memory
+  Left· = leftThen before submission since
+
+  abbrev Now· : Memory
+  Now· = leftNow before submission since
+
+  abbrev Calls· : List Call
+  Calls· = callsOver since Left·
+
+  abbrev Own· : List alone.Call
+  Own· = ownSince before submission since screen set points L
+
+  abbrev Numbers· : List ℕ
+  Numbers· = h .writes .numbers
+
+  abbrev Figures· : List Float
+  Figures· = h .writes .figures
+
+  named : askedSubmit (number Numbers· 7) (setRequestOf Numbers· Figures·) Figures· (Found· .engine)
+      ≡ submitOf (Found· .engine) screen set points L
+  named =
+      own-submit Submit submission set points L (h .writes) (Found· .engine) _
+      ∙ ap (λ (k : ℕ). submitOf (Found· .engine) k set points L) (h .names)
+
+  was-taken : isTaken (submitOf (Found· .engine) screen set points L .answer .reply) ≡ true
+  unfolding submitAnswer
+  was-taken =
+      answered-taken (Found· .engine) screen set points L
+      (ap (λ (c : Called). c .answer .figures .verdict) (sym named)
+      ∙ accepted-if-taken _ (sym (reply-is submission Submit Numbers· Figures· (h .writes .asks) Found·) ∙ h .taken))
+
+  left-engine : Left· .engine ≡ engineBy (Found· .engine) (submit screen set points L)
+  left-engine =
+      ap (λ (m : Memory). m .engine) (left-is submission Submit Numbers· Figures· (h .writes .asks) Found·)
+      ∙ ap (λ (c : Called). c .engine) named
+
+  now-is : Now· ≡ leftByLines since Left·
+  unfolding leftByLines
+  now-is = left-append before (submission ∷ since) atFirst
+
+  engine-now : Now· .engine ≡ engineNow (Found· .engine) screen set points L Calls·
+  engine-now =
+      ap (λ (m : Memory). m .engine) now-is ∙ engine-by-calls since Left· ∙ ap (λ (e : Engine). afterCalls e Calls·) left-engine
+
+  eight-then : EightScreens (Found· .engine)
+  eight-then =
+      subst EightScreens (sym (engine-by-calls before atFirst))
+      (eight-behind (callsOver before atFirst) (atFirst .engine) (begins-at-first .eight))
+
+  on : OnScreen (Found· .engine) screen set points L Calls·
+  on =
+      on-screen (Found· .engine) eight-then screen set points L Calls· was-taken
+      (subst (λ (e : Engine). holdsOver screen e Calls· ≡ true) left-engine (h .holds))
+      (subst (λ (e : Engine). holdsJob (e .screens) screen ≡ true) engine-now (h .holds-now))
+
+  eight-left : EightScreens (Left· .engine)
+  eight-left = subst EightScreens (sym left-engine) (eight-behind (submit screen set points L ∷ []) (Found· .engine) eight-then)
+
+  limit-checked : limitCheck L ≡ Accepted
+  unfolding makingCheck
+  limit-checked = both _ _ (on .job .accepted) .0
+
+  long : scratchLength ≤ length (Now· .scratch)
+  long = stays-long (before ++ submission ∷ since)
+
+  module _ (next : nextScreen (Now· .engine .screens) ≡ screen) where
+    some : 1 ≤ screen
+    some = in-eight screen (holds-is-screen (Now· .engine .screens) screen (h .holds-now)) .0
+
+    serves : Serves screen set points L Own· (turnOf (Now· .engine) (length (Now· .scratch)))
+    serves =
+        subst
+        (λ (e : Engine). screen ≡ screenOf e (turn (Now· .scratch)) → Serves screen set points L Own· (turnOf e (length (Now· .scratch))))
+        (sym engine-now) (on .next-turn (Now· .scratch)) (serves-screen Now· long screen some next)
+
+    abbrev Replied· : (line : List ℕ) → AsksTurn line → (a : Answer) → turnOf (Now· .engine) (length (Now· .scratch)) .told .answer ≡ a
+        → Replies line Now· (printedTurn Step (record { service = Step; screen = screen; answer = a }))
+    Replied· = turn-replies Now· long screen some next
+
+    abbrev Held· : (line : List ℕ) → AsksTurn line → (b : Bool) → holdsJob (leftByLine line Now· .engine .screens) screen ≡ b
+        → holdsJob (turnOf (Now· .engine) (length (Now· .scratch)) .engine .screens) screen ≡ b
+    Held· = held-after Now· long screen some next
+
+    more-replied : (line : List ℕ) → AsksTurn line → holdsJob (leftByLine line Now· .engine .screens) screen ≡ true
+        → Replies line Now· (moreText screen)
+    more-replied line t held = Replied· line t _ (serves .goes-on (Held· line t true held))
+
+    card-replied : (line : List ℕ) → AsksTurn line → holdsJob (leftByLine line Now· .engine .screens) screen ≡ false
+        → (card : Figures) → card ≡ cardNow before submission since screen set points L
+        → Replies line Now· (printedDone (card .verdict) screen card)
+    card-replied line t free card c =
+        let long-enough = enough L scratchLength limit-checked (omega arith) in
+        let ended = serves .ends-as-fresh (Held· line t false free) scratchLength long-enough in
+        Replied· line t _ (ended ∙ ap (λ (f : Figures). record { reply = Answered; figures = f }) (sym c))
+
+  pub card-on-lines : CardOnLines before submission since screen set points L
+  card-on-lines =
+      record {
+        engine-is = engine-now;
+        on-screen = on;
+        over-calls = job.over-calls set points L (on .job .accepted) Own·;
+        as-alone = one.as-alone Calls· (Left· .engine) eight-left screen;
+        goes-on = λ line t next held. more-replied next line t held;
+        ends = λ line t next free. card-replied next line t free _ refl;
+        own-line = λ line w lines. set-line line (setNow before submission since screen set points L) points L w limit-checked lines _ refl;
+      }
+
+-- ---- a waiting screen gets its strip within eight of the lines' turns
+pub strip-on-lines : (earlier lines : List (List ℕ)) (screen : ℕ) → holdsJob (leftByLines earlier atFirst .engine .screens) screen ≡ true
+    → 8 ≤ length (servedOver (leftByLines earlier atFirst .engine) (callsOver lines (leftByLines earlier atFirst)))
+    → GetsStrip (leftByLines earlier atFirst .engine) screen (callsOver lines (leftByLines earlier atFirst))
+strip-on-lines earlier lines screen =
+    let calls = callsOver lines (leftByLines earlier atFirst) in
+    subst (λ (e : Engine). holdsJob (e .screens) screen ≡ true → 8 ≤ length (servedOver e calls) → GetsStrip e screen calls)
+    (sym (engine-by-calls earlier atFirst))
+    (λ waits eight. strip-within-eight (atFirst .engine) begins-at-first (callsOver earlier atFirst) screen waits calls eight)
