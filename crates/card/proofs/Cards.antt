@@ -61,7 +61,7 @@ use Rattle.engines.proofs.Laws.{submit-refused, submit-taken, submit-not-free}
 use Rattle.engines.proofs.Effects.{in-eight, holds-is-screen, turn-serves}
 use Rattle.engines.proofs.Alone as one
 use Rattle.engines.proofs.Submissions.{eight-behind, on-screen, strip-within-eight}
-use Rattle.engines.proofs.Drawn.{turn-no-shorter}
+use Rattle.engines.proofs.Drawn.{turn-no-shorter, drawn-on-screen}
 use Rattle.lines.specs.Lines.{Memory, printedSet, printedCall, printedDone, printedTurn, setAnswer, submitAnswer, turnAnswer}
 use Rattle.lines.specs.Lines.{answerTo, askedAnswer, answerOf, memoryAfterForm, memoryAfterAsked, memoryAfter}
 use Rattle.inputs.specs.Inputs.{reply, leftByLine, leftByLines}
@@ -71,6 +71,7 @@ use Rattle.card.specs.Screens.{callsOver}
 use Rattle.card.specs.Cards.{WritesSet, AsksTurn, Replies, foundThen, leftThen, leftNow, HeldSince}
 use Rattle.card.specs.Cards.{ownSince, setNow, cardNow, CardOnLines}
 use Rattle.card.proofs.AtFirst.{begins-at-first}
+use Rattle.card.proofs.F64s.{written-f64}
 use Rattle.card.proofs.Scratch.{enough}
 use Rattle.card.proofs.Screens.{engine-by-calls}
 
@@ -331,11 +332,14 @@ module _ (before : List (List ℕ)) (submission : List ℕ) (since : List (List 
       subst EightScreens (sym (engine-by-calls before atFirst))
       (eight-behind (callsOver before atFirst) (atFirst .engine) (begins-at-first .eight))
 
+  held-now : holdsJob (engineNow (Found· .engine) screen set points L Calls· .screens) screen ≡ true
+  held-now = subst (λ (e : Engine). holdsJob (e .screens) screen ≡ true) engine-now (h .holds-now)
+
   on : OnScreen (Found· .engine) screen set points L Calls·
   on =
       on-screen (Found· .engine) eight-then screen set points L Calls· was-taken
       (subst (λ (e : Engine). holdsOver screen e Calls· ≡ true) left-engine (h .holds))
-      (subst (λ (e : Engine). holdsJob (e .screens) screen ≡ true) engine-now (h .holds-now))
+      held-now
 
   eight-left : EightScreens (Left· .engine)
   eight-left = subst EightScreens (sym left-engine) (eight-behind (submit screen set points L ∷ []) (Found· .engine) eight-then)
@@ -384,6 +388,7 @@ module _ (before : List (List ℕ)) (submission : List ℕ) (since : List (List 
         on-screen = on;
         over-calls = job.over-calls set points L (on .job .accepted) Own·;
         as-alone = one.as-alone Calls· (Left· .engine) eight-left screen;
+        drawn = drawn-on-screen (Found· .engine) screen set points L Calls· (written-f64 Submit submission set points L (h .writes)) on held-now;
         goes-on = λ line t next held. more-replied next line t held;
         ends = λ line t next free. card-replied next line t free _ refl;
         own-line = λ line w lines. set-line line (setNow before submission since screen set points L) points L w limit-checked lines _ refl;

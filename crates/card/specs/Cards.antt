@@ -17,7 +17,7 @@ use Rattle.figures.specs.Figures.{setFigures}
 use Rattle.jobs.specs.Calls.{setAfter, OverCalls}
 use Rattle.jobs.specs.Calls as alone
 use Rattle.engines.specs.Engines.{holdsJob, nextScreen}
-use Rattle.engines.specs.Calls.{sinceThen, engineNow, holdsOver, AsAlone, OnScreen}
+use Rattle.engines.specs.Calls.{sinceThen, engineNow, holdsOver, AsAlone, OnScreen, DrawnOnScreen}
 use Rattle.lines.specs.Lines.{Memory, printedSet, printedDone}
 use Rattle.inputs.specs.Inputs.{reply, leftByLine, leftByLines}
 use Rattle.card.specs.Program.{scratchLength, atFirst}
@@ -74,12 +74,13 @@ module _ (before : List (List ℕ)) (submission : List ℕ) (since : List (List 
     cardNow = setFigures setNow points L scratchLength
 
     pub record CardOnLines : Type 0 where
-      -- the engine is the one that the calls of these lines leave, so that what holds of a job on its screen, of its calls
-      -- together and of the job alone holds here
+      -- the engine is the one that the calls of these lines leave, so that what holds of a job on its screen, of its
+      -- calls together and of the job alone holds here
       pub engine-is : leftNow .engine ≡ engineNow (foundThen .engine) screen set points L (callsOver since leftThen)
       pub on-screen : OnScreen (foundThen .engine) screen set points L (callsOver since leftThen)
       pub over-calls : OverCalls set points L ownSince
       pub as-alone : AsAlone screen (leftThen .engine) (callsOver since leftThen)
+      pub drawn : DrawnOnScreen (foundThen .engine) screen set points L (callsOver since leftThen)
       -- the turn that serves the screen answers that more strips remain, as long as the screen holds the job
       pub goes-on : (line : List ℕ) → AsksTurn line → nextScreen (leftNow .engine .screens) ≡ screen
           → holdsJob (leftByLine line leftNow .engine .screens) screen ≡ true → Replies line leftNow (moreText screen)
@@ -87,6 +88,7 @@ module _ (before : List (List ℕ)) (submission : List ℕ) (since : List (List 
       pub ends : (line : List ℕ) → AsksTurn line → nextScreen (leftNow .engine .screens) ≡ screen
           → holdsJob (leftByLine line leftNow .engine .screens) screen ≡ false
           → Replies line leftNow (printedDone (cardNow .verdict) screen cardNow)
-      -- "The card is the one that the set's own line would get, with that density": whichever lines the program took before
+      -- "The card is the one that the set's own line would get, with that density": whatever lines the program took
+      -- before
       pub own-line : (line : List ℕ) → WritesSet Set line setNow points L → (lines : List (List ℕ))
           → Replies line (leftByLines lines atFirst) (printedSet (cardNow .verdict) cardNow)
