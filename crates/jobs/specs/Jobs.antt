@@ -63,7 +63,7 @@ totalOf job = record { ending = accepted; value = job .value; intervals = job .i
 abbrev pub noFigures : Figures
 noFigures = record { verdict = Accepted; body = emptyBody; intervals = 0; samples = 0 }
 
--- "answers only that more remain" and "answered only as taken" give no number; an answer with figures gives its verdict's
+-- "answers only that more remain" and "answered only as taken" give no number, an answer with figures its verdict's
 abbrev pub verdictBy : Reply → Figures → Verdict
 verdictBy More figures = Accepted
 verdictBy Taken figures = Accepted

@@ -11,7 +11,9 @@ use Rattle.jobs.specs.Jobs.{verdictIn, stepOf, stepScratch, changeOf}
 
 abbrev pub StepsLent : Job → List Float → Answer → Job → List Float → Type 0
 StepsLent before entry r after exit =
-    IsAnswer verdictIn r (stepOf before (length entry) .answer) × ((after ≡ stepOf before (length entry) .job) × (exit ≡ stepScratch before entry))
+    IsAnswer verdictIn r (stepOf before (length entry) .answer)
+    × ((after ≡ stepOf before (length entry) .job) × (exit ≡ stepScratch before entry))
 
 abbrev pub ChangesLent : Job → Density → Answer → Job → Type 0
-ChangesLent before density r after = IsAnswer verdictIn r (changeOf before density .answer) × (after ≡ changeOf before density .job)
+ChangesLent before density r after =
+    IsAnswer verdictIn r (changeOf before density .answer) × (after ≡ changeOf before density .job)

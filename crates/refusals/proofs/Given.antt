@@ -9,5 +9,7 @@ pub gives-row : (verdict definition : Verdict) → verdict ≡ definition → Gi
 gives-row verdict Accepted e = e
 gives-row verdict (Refused refusal) e = subst (λ (v : Verdict). Gives v (numberOf refusal) (valuesOf refusal)) (sym e) (refl, refl)
 
-pub is-answer : {A : Type 0} {verdictOf : A → Verdict} {answer definition : A} → answer ≡ definition → IsAnswer verdictOf answer definition
-is-answer {A} {verdictOf} {answer} {definition} e = record { is = e; gives = gives-row (verdictOf answer) (verdictOf definition) (ap verdictOf e) }
+pub is-answer : {A : Type 0} {verdictOf : A → Verdict} {answer definition : A} → answer ≡ definition
+    → IsAnswer verdictOf answer definition
+is-answer {A} {verdictOf} {answer} {definition} e =
+    record { is = e; gives = gives-row (verdictOf answer) (verdictOf definition) (ap verdictOf e) }

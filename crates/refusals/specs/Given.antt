@@ -1,5 +1,6 @@
--- What a call promises of a verdict by the table's number and values (document 01, last paragraph: "If an answer is an enum, a definition states
--- this paper's number and values for each of the enum's cases. The promises use that definition.").
+-- What a call promises of a verdict by the table's number and values. Document 01, last paragraph: "If an answer is an
+-- enum, a definition states this paper's number and values for each of the enum's cases. The promises use that
+-- definition."
 use mathlib.Core.Path.{_≡_}
 use mathlib.Core.List.{List}
 use Prim.Native.Nat.{ℕ}
@@ -12,12 +13,13 @@ abbrev pub Gives : Verdict → ℕ → List ℕ → Type 0
 Gives Accepted number values = ⊥
 Gives (Refused refusal) number values = (numberOf refusal ≡ number) × (valuesOf refusal ≡ values)
 
--- a verdict gives what the definition's verdict has in the table: the row of its refusal, and no number where it accepts
+-- a verdict gives what the definition's has in the table: the row of its refusal, and no number where it accepts
 abbrev pub GivesRow : Verdict → Verdict → Type 0
 GivesRow verdict Accepted = verdict ≡ Accepted
 GivesRow verdict (Refused refusal) = Gives verdict (numberOf refusal) (valuesOf refusal)
 
--- A call's answer is the definition's, and gives its number and values. `verdictOf` says, for each case of the answer, which verdict it is.
+-- A call's answer is the definition's, and gives its number and values. `verdictOf` says of each case of the answer
+-- which verdict it is.
 pub record IsAnswer {A : Type 0} (verdictOf : A → Verdict) (answer definition : A) : Type 0 where
   pub is : answer ≡ definition
   pub gives : GivesRow (verdictOf answer) (verdictOf definition)

@@ -13,7 +13,8 @@ use borrow.Author.Needs.{needs}
 use Rattle.engines.proofs.serve.Statement.{statement}
 use Rattle.engines.proofs.serve.Tie as tie
 
-serves-to : {screens : Screens} {job : Job} {entry exit : List Float} {r : Served} → r ≡ servedOf screens job (length entry) → exit ≡ servedScratch screens job entry → ServesTo screens job entry r exit
+serves-to : {screens : Screens} {job : Job} {entry exit : List Float} {r : Served} → r ≡ servedOf screens job (length entry)
+    → exit ≡ servedScratch screens job entry → ServesTo screens job entry r exit
 serves-to e s = record { served = e; gives = gives-row _ _ (ap (λ (t : Served). verdictTold (t .told)) e); scratch = s }
 
 refuse-short-requires : tie.Need-refuse-short-requires

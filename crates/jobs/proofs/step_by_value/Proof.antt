@@ -25,7 +25,8 @@ Start· c = Else· c .before .before
 checked : (c : tie.After-first-refusal) → c .first-refusal .result ≡ runCheck (Start· c .args .job .limit) (length (Start· c .args .scratch .now))
 checked c = c .first-refusal .ensures ∙ ap₂ firstRefusal (c .before .before .check-limit .ensures) (c .before .check-scratch .ensures)
 
-steps-to : {job : Job} {entry exit : List Float} {r : Stepped} → r ≡ stepOf job (length entry) → exit ≡ stepScratch job entry → StepsTo job entry r exit
+steps-to : {job : Job} {entry exit : List Float} {r : Stepped} → r ≡ stepOf job (length entry)
+    → exit ≡ stepScratch job entry → StepsTo job entry r exit
 steps-to e s = record { stepped = e; gives = gives-row _ _ (ap (λ (t : Stepped). verdictIn (t .answer)) e); scratch = s }
 
 repeat-requires : tie.Need-repeat-requires
