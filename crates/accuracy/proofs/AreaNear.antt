@@ -380,7 +380,7 @@ trapezoid-area root tip span sweep points L entry r exit b d g reach = go (leb b
         less-of l = omega arith
 
 -- it is figures, so the one piece that is enough is the one that was counted
-only-piece : (report : Report) → OnePiece report → report .verdict ≡ Accepted → report .intervals ≡ 1
+pub only-piece : (report : Report) → OnePiece report → report .verdict ≡ Accepted → report .intervals ≡ 1
 only-piece report one accepted = elim (one .figures-or-8) [
   | inl e ↦ e .1
   | inr e ↦ no-refusal NoArea (sym e ∙ accepted)

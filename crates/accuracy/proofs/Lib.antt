@@ -47,6 +47,7 @@ pub mod FinIntegrals
 pub mod SetCalled
 pub mod MassNear
 pub mod OrdinaryMass
+pub mod OrdinaryCentroid
 pub mod BalanceTotals
 pub mod Turned
 pub mod Conditioned

@@ -377,30 +377,25 @@ module _ (section : Section) (p : Plate) (m : Mount) (points : List Float) (L : 
   known : AllKnown bases entries
   known =
       let l = length-most (p .tab) (x .tab-within) in
-      let h = height-most (p .tab) (x .tab-within) in (
-        (sized-entry bases 0 b d refl (p .root) (N .ranges .real) (N .root-finite) (N .root-under), tt),
+      let h = height-most (p .tab) (x .tab-within) in
+      let real = N .ranges .real in
+      let root = sized-entry bases 0 b d refl (p .root) real (N .root-finite) (N .root-under) in
+      let tip = sized-entry bases 0 b d refl (p .tip) real (N .tip-finite) (N .tip-under) in
+      let sweep = sized-entry bases 0 b d refl (p .sweep) real (N .sweep-finite) (N .sweep-under) in
+      let span = own-entry bases 1 (p .span) refl (N .span-positive) in
+      let scale = own-entry bases 2 S refl (N .scale-positive) in
+      let thickness = own-entry bases 3 (p .thickness) refl thick-positive in
+      let density = own-entry bases 4 (p .density) refl (heavy .0) in
+      let long = sized-entry bases 0 b d refl (lengthOf (p .tab)) real (l .finite) (most-under (lengthOf (p .tab)) b d l) in
+      let high = sized-entry bases 5 y e refl (heightOf (p .tab)) (x .is-size) (h .finite) (most-under (heightOf (p .tab)) y e h) in (
+        (root, tt),
         (
-          (sized-entry bases 0 b d refl (p .tip) (N .ranges .real) (N .tip-finite) (N .tip-under), tt),
+          (tip, tt),
           (
-            (sized-entry bases 0 b d refl (p .sweep) (N .ranges .real) (N .sweep-finite) (N .sweep-under), tt),
+            (sweep, tt),
             (
-              own-entry bases 1 (p .span) refl (N .span-positive),
-              (
-                own-entry bases 2 S refl (N .scale-positive),
-                (
-                  own-entry bases 3 (p .thickness) refl thick-positive,
-                  (
-                    own-entry bases 4 (p .density) refl (heavy .0),
-                    (
-                      (sized-entry bases 0 b d refl (lengthOf (p .tab)) (N .ranges .real) (l .finite) (most-under (lengthOf (p .tab)) b d l), tt),
-                      (
-                        (sized-entry bases 5 y e refl (heightOf (p .tab)) (x .is-size) (h .finite) (most-under (heightOf (p .tab)) y e h), tt),
-                        (x .span-most .size, tt),
-                      ),
-                    ),
-                  ),
-                ),
-              ),
+              span,
+              (scale, (thickness, (density, ((long, tt), ((high, tt), (x .span-most .size, tt)))))),
             ),
           ),
         ),

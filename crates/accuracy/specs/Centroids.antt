@@ -9,6 +9,7 @@ use Rattle.floats.specs.Fractions.{Fraction, _over_, _plus_, _times_, valueOf}
 use Rattle.rounding.specs.Sizes.{AtLeast}
 use Rattle.rounding_error.specs.Distances.{Within}
 use Rattle.figures.specs.declared.Area.{Area}
+use Rattle.one_piece.specs.OnePiece.{Proportions}
 use Rattle.accuracy.specs.Areas.{AreaGiven, Reach}
 
 abbrev pub thrice : Float → Float → Fraction
@@ -44,3 +45,15 @@ TrapezoidCentroid =
     → AtLeast b (d * κ) root
     → r .intervals * κ ≤ 2 ^ 26
     → CentroidNear (r .intervals * κ) b d root tip span sweep r
+
+-- tip and sweep at most so many root chords, for which one piece is enough (one_piece/specs/OnePiece): x is at most so
+-- many unit roundoffs of the root from it, the height so many of the span
+abbrev pub OrdinaryCentroid : ℕ → ℕ → ℕ → Type 0
+OrdinaryCentroid chords along height =
+    (root tip span sweep : Float) (points : List Float) (L : ℕ) (entry : List Float) (r : Area) (exit : List Float)
+    → AreaGiven root tip span sweep points L entry r exit
+    → Proportions chords chords root tip sweep
+    → Within ((pos along over 2 ^ 53) times valueOf root times thrice root tip)
+    (valueOf (r .«centroid_x_m») times thrice root tip) (alongRoot root tip sweep)
+    × Within ((pos height over 2 ^ 53) times valueOf span times thrice root tip)
+    (valueOf (r .«centroid_span_m») times thrice root tip) (inHeight root tip span)

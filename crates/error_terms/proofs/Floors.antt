@@ -247,7 +247,7 @@ module _ (B : List Size) (r : AllRanges 32 B) where
             (not-below ((a - b) * j / suc d) n1 (d1 * 2 ^ 30) (number a b (suc d) times y)
             (mul-pos (bottom-pos 32 B r p' q') (pow-pos 30)) there)
 
-    sum-low : (p q : List ℕ) (F : List Product) → T (rising F) → ReachesBy B (extent (floorOf G p q F) p q) (sumOf (numbersOf G) F)
+    pub sum-low : (p q : List ℕ) (F : List Product) → T (rising F) → ReachesBy B (extent (floorOf G p q F) p q) (sumOf (numbersOf G) F)
     sum-low p q [] t = reaches-none (mono top B p * mono bottom B q) (mono bottom B p * mono top B q * 2 ^ 30) zeroNumber zero-le
     sum-low p q (factor a b d l ∷ F) t =
         plus-reaches (partLow p q a b d (productLow G l)) (floorOf G p q F) (mono top B p * mono bottom B q)

@@ -21,7 +21,7 @@ use Rattle.error_terms.proofs.Monomials.{top, bottom, mono, AllRanges, 
 use Rattle.error_terms.proofs.Laws.{rounded-up}
 use Rattle.error_terms.proofs.Terms.{Shape, shape, Given, none, shapeOf, lowOf, Term, var, const, nought, tight}
 use Rattle.error_terms.proofs.Terms.{raised, raisedBy, _add_, _take_, _mul_, _over_, value, exact, bound, ok, fine, sumTest}
-use Rattle.error_terms.proofs.Terms.{sumShape, productShape, quotientShape, quotientTest, double, constant, unsigned, normalOf}
+use Rattle.error_terms.proofs.Terms.{sumShape, productShape, quotientShape, quotientTest, double, constant, normalOf}
 use Rattle.error_terms.proofs.Terms.{plainTerm, numbersOf, cancelled, tightSize, tightTest, resizedShape, unitsTest, reachOf}
 use Rattle.error_terms.proofs.Terms.{unitBy, unit-real, in-unit, Known, AllKnown, sound, exact-near}
 
@@ -54,7 +54,7 @@ raisedJudged g (judged a b s F) = judged a b (raisedBy g s) F
 
 abbrev pub judge : List Given → Term → Judged
 judge G (var i) = judged true true (shapeOf (getD G i none)) (normal (at-place (double i)))
-judge G (const c) = judged (finite c) (unsigned c) (shape 0 (rounded-up (num c * 2 ^ 30) (den c)) [] []) (normal (constant c))
+judge G (const c) = judged (finite c) (finite c) (shape 0 (rounded-up (num c * 2 ^ 30) (den c)) [] []) (normal (constant c))
 judge G (nought p q) = judged true true (shape 0 0 p q) []
 judge G (s add t) = addJudged (judge G s) (judge G t)
 judge G (s take t) = takeJudged (judge G s) (judge G t)

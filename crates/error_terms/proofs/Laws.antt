@@ -164,7 +164,8 @@ inverses-apart n d P Q l L J w e N D dd pp h a b k =
         → (D * w) * (n * P * Q) * d ≤ ((e * N) * (n * P * Q) + L * d * (N * w)) * d
     end s t = let x = simp sorted at s in let y = simp sorted at t in simp sorted (omega (arith, x, y))
 
--- ---- the quotient by an f64 y that is near w, where w is at least low parts of its unit n/d. y is at least r parts, 1/y and 1/w are at most
+-- ---- the quotient by an f64 y that is near w, where w is at least low parts of its unit n/d. y is at least r parts, 1/y and 1/w are at
+-- most
 -- J parts of d/n, and L counts how far they are apart
 pub record Divides (n d k low r J L : ℕ) : Type 0 where
   pub some : 0 < r

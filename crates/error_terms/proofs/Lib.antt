@@ -7,4 +7,5 @@ pub mod Entries
 pub mod Floors
 pub mod Orders
 pub mod Shares
+pub mod Stages
 pub mod Sine

@@ -61,7 +61,7 @@ accepts ε G (judged a b (shape k i p q) F) (judged a' b' (shape l j p' q') F') 
     && ((a' && b') && (alike (added p q') (added p' q) &&
     (rising (cancelled G F') && enough ε (k + reachOf G (differenceBy G F zeroE)) l j p' q' (floorOf G p' q' (cancelled G F')))))
 
-weaker : (F K n c : ℕ) (v : Number) → K ≤ F → Reaches F n c v → Reaches K n c v
+pub weaker : (F K n c : ℕ) (v : Number) → K ≤ F → Reaches F n c v → Reaches K n c v
 weaker F K n c (number q m e) u h = go (mul-le-mul-right (n * e) u) h
   where
     go : K * (n * e) ≤ F * (n * e) → F * n * e + m * c ≤ q * c → K * n * e + m * c ≤ q * c

@@ -40,7 +40,8 @@ divisor n = entry (whole n) (valueOf (whole n)) (shape 0 (most (whole n)) [] [])
 -- r, and the divisors 16·17, 14·15, .., 2·3
 abbrev entriesOf : Float → List Given
 entriesOf r =
-    entry r (valueOf r) (shape 0 angle [] []) 0 ∷ divisor 272 ∷ divisor 210 ∷ divisor 156 ∷ divisor 110 ∷ divisor 72 ∷ divisor 42 ∷ divisor 20
+    entry r (valueOf r) (shape 0 angle [] []) 0 ∷ divisor 272 ∷ divisor 210 ∷ divisor 156 ∷ divisor 110 ∷ divisor 72 ∷ divisor 42
+    ∷ divisor 20
     ∷ divisor 6 ∷ []
 
 module _ (r : Float) (h : Known [] r (valueOf r) (shape 0 angle [] [])) where

@@ -1,4 +1,5 @@
--- Rounded expressions: what each is as an f64, what it is exactly, and a bound on the difference that is computed. `sound` is the theorem.
+-- Rounded expressions: what each is as an f64, what it is exactly, and a bound on the difference that is computed. `sound` is the
+-- theorem.
 -- Assumes nothing.
 use mathlib.Core.Path.{_≡_, refl, sym, ap, _∙_, subst}
 use mathlib.Core.Bool.{Bool, true, false, _&&_, _||_, cond}
@@ -112,18 +113,13 @@ double (suc i) = suc (suc (double i))
 abbrev pub constant : Float → Expression
 constant nan = ratio 0 0
 constant (inf s) = ratio 0 0
-constant (fin s m e) = ratio (m * up e) (down e - 1)
+constant (fin true m e) = Poly._take_ (ratio 0 0) (ratio (m * up e) (down e - 1))
+constant (fin false m e) = ratio (m * up e) (down e - 1)
 
-abbrev pub unsigned : Float → Bool
-unsigned nan = false
-unsigned (inf s) = false
-unsigned (fin true m e) = false
-unsigned (fin false m e) = true
-
--- all constants above 0
+-- all constants finite
 abbrev pub plainTerm : Term → Bool
 plainTerm (var i) = true
-plainTerm (const c) = unsigned c
+plainTerm (const c) = finite c
 plainTerm (nought p q) = true
 plainTerm (s add t) = plainTerm s && plainTerm t
 plainTerm (s take t) = plainTerm s && plainTerm t
@@ -767,12 +763,21 @@ module _ (B : List Size) (r : AllRanges 32 B) where
         go (entry x v s low ∷ G) (suc i) = go G i
         go (larger a b ∷ G) (suc i) = go G i
 
-    constant-is : (c : Float) → T (unsigned c) → evaluate (numbersOf G) (constant c) ≡ valueOf c
+    constant-is : (c : Float) → T (finite c) → evaluate (numbersOf G) (constant c) equals valueOf c
     constant-is nan t = absurd t
     constant-is (inf s) t = absurd t
-    constant-is (fin true m e) t = absurd t
-    constant-is (fin false m e) t = ap (λ (d : ℕ). number (m * up e) 0 d) (one (down e) (down-pos e))
+    constant-is (fin true m e) t = record { same = go (m * up e) (down e) (down e - 1) (one (down e) (down-pos e)) }
       where
+        go : (M D E : ℕ) → suc E ≡ D → (0 * suc E + 0 * 1) * D + M * (1 * suc E) ≡ 0 * (1 * suc E) + (0 * suc E + M * 1) * D
+        go M D E h = rw h (simp plain)
+
+        one : (d : ℕ) → 0 < d → suc (d - 1) ≡ d
+        one d h = omega arith
+    constant-is (fin false m e) t = record { same = go (m * up e) (down e) (down e - 1) (one (down e) (down-pos e)) }
+      where
+        go : (M D E : ℕ) → suc E ≡ D → M * D + 0 * suc E ≡ M * suc E + 0 * D
+        go M D E h = rw h refl
+
         one : (d : ℕ) → 0 < d → suc (d - 1) ≡ d
         one d h = omega arith
 
@@ -881,8 +886,7 @@ module _ (B : List Size) (r : AllRanges 32 B) where
 
     pub normal-is : (t : Term) → T (plainTerm t) → sumOf x (normalOf G t) equals exact G t
     normal-is (var i) e = by-place (double i) (numberOf (getD G i none)) (var-is i)
-    normal-is (const c) e = subst (λ (v : Number). sumOf x (normal (constant c)) equals v) (constant-is c e)
-        (symm (Poly.normal-sum x is (constant c)))
+    normal-is (const c) e = Poly.trans (Poly.evaluate-is x is (constant c)) (symm (Poly.normal-sum x is (constant c))) (constant-is c e)
     normal-is (nought p q) e = Poly.itself
     normal-is (s add t) e =
         Poly.trans (Poly.plus-is (sumOf x (normalOf G s)) (sumOf x (normalOf G t)) (sums (normalOf G s)) (sums (normalOf G t)))
@@ -912,7 +916,7 @@ module _ (B : List Size) (r : AllRanges 32 B) where
     normal-is (tight s) e = Poly.trans (sums (normalOf G s)) (cancelled-sum (normalOf G s)) (normal-is s e)
     normal-is (raised k s) e = normal-is s e
 
-    under-equal : (F : List Product) (v : Number) (p q : List ℕ) → T (unitsTest G p q F) → sumOf x F equals v
+    pub under-equal : (F : List Product) (v : Number) (p q : List ℕ) → T (unitsTest G p q F) → sumOf x F equals v
         → Under (reachOf G F roundoffs unitBy B p q) v
     under-equal F v p q t e =
         let K = reachOf G F roundoffs unitBy B p q in
