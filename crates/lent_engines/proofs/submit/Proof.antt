@@ -37,7 +37,7 @@ returns c = let taken = c .before in
     let read = make .before in
     let place = read .before .before .before in
     let screens = place .before in
-    submits-not _ _ _ (screens .read-screens .ensures) _ _ (read .read-at .ensures) _ (place .place-of .ensures .0) _ _ _ _ _ (make .make .ensures) (submit .submit-at .ensures .is)
+    submits-not _ _ _ (screens .read-screens .ensures) _ _ (read .read-at .ensures) _ (place .place-of .ensures .0) _ _ _ _ _ (make .make .ensures .is) (submit .submit-at .ensures .is)
     (sym (taken .is-taken .ensures) ∙ not-true _ (c .if1 .taken))
 
 write-at-requires : tie.Need-write-at-requires
@@ -60,7 +60,7 @@ returns-2 c = let write = c .before .before .before .before in
     let read = make .before in
     let place = read .before .before .before in
     let screens = place .before in
-    submits _ _ _ (screens .read-screens .ensures) _ _ (read .read-at .ensures) _ (place .place-of .ensures .0) _ _ _ _ _ (make .make .ensures) (submit .submit-at .ensures .is)
+    submits _ _ _ (screens .read-screens .ensures) _ _ (read .read-at .ensures) _ (place .place-of .ensures .0) _ _ _ _ _ (make .make .ensures .is) (submit .submit-at .ensures .is)
     (sym (taken .is-taken .ensures) ∙ not-false _ (goes .if1 .left)) _ _ (write .write-at .ensures)
 
 pub submit-spec : {M : Type 1} → statement M
