@@ -9,11 +9,10 @@ use planforms::Planform;
 ghost use mathlib.Core.Path.{_≡_};
 ghost use Prim.Native.Nat.{_<_};
 ghost use lib.ListN.{length, take};
-ghost use lib.Ieee.{le};
 ghost use Rattle.sorting.specs.Sorted.{Written};
-ghost use Rattle.planforms.specs.Planforms.{heightAt, pairCount};
+ghost use Rattle.planforms.specs.Planforms.{pairCount, next};
 ghost use Rattle.chords.specs.Chords.{inSpan, trapezoidEnds, ellipseEnds, crossed, edgeCrossed, edgeCrossing, outlineCrossings, endsAt, chordsOf};
-ghost use Rattle.chords.specs.Edges.{crossEdge, addFew, fewEdge, fewChords};
+ghost use Rattle.chords.specs.Edges.{crossEdge, addFew, fewEdge, fewChords, Holding, Near, Kept};
 
 // What there is at a height: no chord, one with its ends in metres aft of the root's leading edge, or an outline that is
 // crossed more than twice, whose crossings `outline_crossings` lists.
@@ -23,7 +22,9 @@ pub enum Chords {
     Several,
 }
 
-pub fn chords_at(planform: Planform, points: &[f64], h: f64) -> Chords
+// The edges listed have every crossing of an outline at h; for another planform the list is not read.
+pub fn chords_at(planform: Planform, points: &[f64], edges: &[u8], h: f64) -> Chords
+    requires { ⌜ (planform ≡ Planform.Outline → Holding (now points) h (now edges)) ⌝ }
     ensures { λ r. ⌜ r ≡ chordsOf (endsAt planform (now (points .entry)) h) ⌝ }
 {
     match planform {
@@ -37,23 +38,80 @@ pub fn chords_at(planform: Planform, points: &[f64], h: f64) -> Chords
             root_chord_m,
             span_m,
         } => ellipse_chord(root_chord_m, span_m, h),
-        Planform::Outline => outline_chord(points, h),
+        Planform::Outline => outline_chord(points, edges, h),
     }
+}
+
+// Lists the edges that a height from lo to hi can cross, in order, and returns how many there are.
+pub fn edges_near(points: &[f64], lo: f64, hi: f64, edges: &mut [u8; 64]) -> usize
+    ensures { λ r. ⌜ Near (now (points .entry)) lo hi (now (edges .exit)) r ⌝ }
+{
+    let n = points.len() / 2;
+    if n == 0 {
+        return 0;
+    }
+    if 64 < n {
+        return 0;
+    }
+    let first_below = points[1] <= lo;
+    let first_above = hi < points[1];
+    let mut below = first_below;
+    let mut above = first_above;
+    let mut count: usize = 0;
+    let mut i: usize = 1;
+    while i < n {
+        let y = points[2 * i + 1];
+        let next_below = y <= lo;
+        let next_above = hi < y;
+        count = keep_edge(edges, count, i - 1, below & next_below, above & next_above);
+        below = next_below;
+        above = next_above;
+        i += 1;
+    }
+    keep_edge(
+        edges,
+        count,
+        n - 1,
+        below & first_below,
+        above & first_above,
+    )
+}
+
+// Lists edge i after the count listed, unless both of its ends are at most the least height, or both above the largest.
+fn keep_edge(edges: &mut [u8], count: usize, i: usize, below: bool, above: bool) -> usize
+    requires { ⌜ (count < length (now edges)) × (i < 64) ⌝ }
+    ensures { λ r. ⌜ Kept (now (edges .entry)) (now (edges .exit)) count i below above r ⌝ }
+{
+    if below {
+        return count;
+    }
+    if above {
+        return count;
+    }
+    edges[count] = i as u8;
+    count + 1
 }
 
 // Writes the sorted crossings of an outline over the start of xs, and returns how many there are.
 pub fn outline_crossings(points: &[f64], h: f64, xs: &mut [f64; 64]) -> usize
     ensures { λ r. ⌜ Written (outlineCrossings (now (points .entry)) h) (now (xs .entry)) (now (xs .exit)) r ⌝ }
 {
+    let mut edges = [0; 64];
+    let n = edges_near(points, h, h, &mut edges);
+    crossings_of(points, &edges[..n], h, xs)
+}
+
+// The same from a list of edges that has every crossing at h.
+pub fn crossings_of(points: &[f64], edges: &[u8], h: f64, xs: &mut [f64; 64]) -> usize
+    requires { ⌜ Holding (now points) h (now edges) ⌝ }
+    ensures { λ r. ⌜ Written (outlineCrossings (now (points .entry)) h) (now (xs .entry)) (now (xs .exit)) r ⌝ }
+{
     let n = points.len() / 2;
-    if 64 < n {
-        return 0;
-    }
     let mut count: usize = 0;
-    let mut i: usize = 0;
-    while i < n {
-        count = cross_edge(points, h, i, n, xs, count);
-        i += 1;
+    let mut k: usize = 0;
+    while k < edges.len() {
+        count = cross_edge(points, h, edges[k] as usize, n, xs, count);
+        k += 1;
     }
     count
 }
@@ -108,45 +166,35 @@ enum Few {
     More,
 }
 
-// Edge by edge, the one that closes the outline last.
-fn outline_chord(points: &[f64], h: f64) -> Chords
+// Edge by edge of those listed, up to a third crossing.
+fn outline_chord(points: &[f64], edges: &[u8], h: f64) -> Chords
+    requires { ⌜ Holding (now points) h (now edges) ⌝ }
     ensures { λ r. ⌜ r ≡ chordsOf (outlineCrossings (now (points .entry)) h) ⌝ }
 {
     let n = points.len() / 2;
-    if n == 0 {
-        return Chords::Nothing;
-    }
-    if 64 < n {
-        return Chords::Nothing;
-    }
-    let first = points[1] <= h;
     let mut few = Few::Zero;
-    let mut here = first;
-    let mut i: usize = 1;
-    while i < n {
-        let there = points[2 * i + 1] <= h;
-        few = meet_edge(few, points, h, i - 1, i, here, there);
-        here = there;
-        i += 1;
+    let mut k: usize = 0;
+    while k < edges.len() {
+        few = meet_edge(few, points, h, edges[k] as usize, n);
+        if let Few::More = few {
+            return Chords::Several;
+        }
+        k += 1;
     }
-    few_chords(meet_edge(few, points, h, n - 1, 0, here, first))
+    few_chords(few)
 }
 
-// Adds the crossing of the edge from point i to point j, if there is one. `here` and `there` say whether its ends are at
-// most h: with both or neither it is not crossed, so that most edges take one comparison.
-fn meet_edge(few: Few, points: &[f64], h: f64, i: usize, j: usize, here: bool, there: bool) -> Few
-    requires { ⌜ (i < pairCount (now points)) × (j < pairCount (now points)) ⌝ }
-    requires { ⌜ (here ≡ le (heightAt (now points) i) h) × (there ≡ le (heightAt (now points) j) h) ⌝ }
-    ensures { λ r. ⌜ r ≡ fewEdge (now (points .entry)) h i j few ⌝ }
+// Adds the crossing of edge i of n, if there is one.
+fn meet_edge(few: Few, points: &[f64], h: f64, i: usize, n: usize) -> Few
+    requires { ⌜ (i < n) × (n ≡ pairCount (now points)) ⌝ }
+    ensures { λ r. ⌜ r ≡ fewEdge (now (points .entry)) h i (next n i) few ⌝ }
 {
-    if here == there {
-        return few;
-    }
-    if let Few::More = few {
-        return Few::More;
-    }
+    let j = planforms::next_point(n, i);
     if !edge_crossed(points, h, i, j) {
         return few;
+    }
+    if let Few::Pair(_, _) = few {
+        return Few::More;
     }
     add_few(few, edge_crossing(points, h, i, j))
 }

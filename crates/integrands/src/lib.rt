@@ -12,7 +12,8 @@ use sections::Section;
 ghost use mathlib.Core.Path.{_≡_};
 ghost use Rattle.floats.specs.Operations.{_⊗_, _⊘_};
 ghost use Rattle.chords.specs.Chords.{outlineCrossings, paired, endsOf};
-ghost use Rattle.integrands.specs.Integrands.{scaleOf, areaIntegrand, plateIntegrand, termOf, plus, sumsOver, sampleValues, valuesOver, chordsFor, sampleOf};
+ghost use Rattle.chords.specs.Edges.{Holding};
+ghost use Rattle.integrands.specs.Integrands.{scaleOf, areaIntegrand, plateIntegrand, termOf, plus, sumsOver, sampleValues, valuesOver, chordsFor, HoldingAt, sampleOf};
 
 // What is summed over the chords. Thickness and body radius are divided by the scale.
 pub enum Kind {
@@ -77,21 +78,33 @@ pub fn sample(integrand: Integrand, points: &[f64], h: f64) -> [f64; 7]
 {
     let kind = integrand.kind;
     let scale = integrand.scale;
-    let found = chords_at(integrand, points, h);
-    values_over(found, kind, scale, points, h)
+    let mut edges = [0; 64];
+    let n = chords::edges_near(points, h * scale, h * scale, &mut edges);
+    let found = chords_at(integrand, points, &edges[..n], h);
+    values_over(found, kind, scale, points, &edges[..n], h)
 }
 
-// The chords that the values at the height h are summed over, in metres.
-pub fn chords_at(integrand: Integrand, points: &[f64], h: f64) -> Chords
+// The chords that the values at the height h are summed over, in metres. The edges listed have every crossing there of an
+// outline.
+pub fn chords_at(integrand: Integrand, points: &[f64], edges: &[u8], h: f64) -> Chords
+    requires { ⌜ HoldingAt integrand (now points) (now edges) h ⌝ }
     ensures { λ r. ⌜ r ≡ chordsFor integrand (now (points .entry)) h ⌝ }
 {
     let planform = integrand.planform;
     let scale = integrand.scale;
-    chords::chords_at(planform, points, h * scale)
+    chords::chords_at(planform, points, edges, h * scale)
 }
 
 // The seven values at the height h over the chords found there. One chord, as most heights have, needs no list of ends.
-pub fn values_over(found: Chords, kind: Kind, scale: f64, points: &[f64], h: f64) -> [f64; 7]
+pub fn values_over(
+    found: Chords,
+    kind: Kind,
+    scale: f64,
+    points: &[f64],
+    edges: &[u8],
+    h: f64,
+) -> [f64; 7]
+    requires { ⌜ (found ≡ Chords.Several → Holding (now points) (h ⊗ scale) (now edges)) ⌝ }
     ensures { λ r. ⌜ r ≡ valuesOver kind scale h (paired (endsOf found (now (points .entry)) (h ⊗ scale))) ⌝ }
 {
     match found {
@@ -99,16 +112,17 @@ pub fn values_over(found: Chords, kind: Kind, scale: f64, points: &[f64], h: f64
             values(kind, h, add_chord([0.0; 4], kind, scale, h, start_m, end_m))
         }
         Chords::Nothing => values(kind, h, [0.0; 4]),
-        Chords::Several => values_over_several(kind, scale, points, h),
+        Chords::Several => values_over_several(kind, scale, points, edges, h),
     }
 }
 
 // The same where an outline is crossed more than twice.
-fn values_over_several(kind: Kind, scale: f64, points: &[f64], h: f64) -> [f64; 7]
+fn values_over_several(kind: Kind, scale: f64, points: &[f64], edges: &[u8], h: f64) -> [f64; 7]
+    requires { ⌜ Holding (now points) (h ⊗ scale) (now edges) ⌝ }
     ensures { λ r. ⌜ r ≡ valuesOver kind scale h (paired (outlineCrossings (now (points .entry)) (h ⊗ scale))) ⌝ }
 {
     let mut ends = [0.0; 64];
-    let n = chords::outline_crossings(points, h * scale, &mut ends);
+    let n = chords::crossings_of(points, edges, h * scale, &mut ends);
     values(kind, h, chord_sums(kind, scale, h, &ends[..n]))
 }
 

@@ -7,9 +7,10 @@ ghost use Rattle.floats.specs.Operations.{_⊖_, _⊗_, at, tabulate};
 ghost use Rattle.floats.specs.Floats.{absOf};
 ghost use Rattle.integrands.specs.Integrands.{sampleOf};
 ghost use Rattle.quadrature.specs.Rule.{heightsTo, kronrodWeight, gaussWeight, measurementOf};
-ghost use Rattle.quadrature.specs.Tally.{FoundTo, weightsTo, plusWeighted, tallyOf};
+ghost use Rattle.quadrature.specs.Tally.{FoundTo, HoldingTo, EdgesNear, WithinTo, weightsTo, plusWeighted, tallyOf};
 use chords::Chords;
 use integrands::Integrand;
+use planforms::Planform;
 
 // A part of a strip with its integral and that integral's error estimate.
 pub struct Piece {
@@ -119,15 +120,64 @@ fn gauss_weights() -> [f64; 15]
     ]
 }
 
+// The least and the largest of a piece's heights, metres.
+struct Bounds {
+    lo: f64,
+    hi: f64,
+}
+
+fn bounds_m(scale: f64, heights: [f64; 15]) -> Bounds
+    ensures { λ r. ⌜ WithinTo 15 scale heights (r .lo) (r .hi) ⌝ }
+{
+    let mut lo = heights[0] * scale;
+    let mut hi = lo;
+    let mut i: usize = 1;
+    while i < 15 {
+        let h = heights[i] * scale;
+        if h < lo {
+            lo = h;
+        }
+        if hi < h {
+            hi = h;
+        }
+        i += 1;
+    }
+    Bounds { lo, hi }
+}
+
+// Lists the edges of an outline that a height from the least to the largest can cross, once for the whole piece, and
+// returns how many there are. Another planform has no edges.
+fn edges_near(
+    integrand: Integrand,
+    points: &[f64],
+    heights: [f64; 15],
+    edges: &mut [u8; 64],
+) -> usize
+    ensures { λ r. ⌜ EdgesNear integrand (now (points .entry)) heights (now (edges .exit)) r ⌝ }
+{
+    let planform = integrand.planform;
+    if let Planform::Outline = planform {
+        let bounds = bounds_m(integrand.scale, heights);
+        return chords::edges_near(points, bounds.lo, bounds.hi, edges);
+    }
+    0
+}
+
 // The chords at each of the heights. They are found before any sample is worked, so that the root and the divisions of one
 // chord go on beside those of the next.
-fn chords_found(integrand: Integrand, points: &[f64], heights: [f64; 15]) -> [Chords; 15]
+fn chords_found(
+    integrand: Integrand,
+    points: &[f64],
+    edges: &[u8],
+    heights: [f64; 15],
+) -> [Chords; 15]
+    requires { ⌜ HoldingTo 15 integrand (now points) heights (now edges) ⌝ }
     ensures { λ r. ⌜ FoundTo 15 integrand (now (points .entry)) heights r ⌝ }
 {
     let mut found = [Chords::Nothing; 15];
     let mut i: usize = 0;
     while i < 15 {
-        let one = integrands::chords_at(integrand, points, heights[i]);
+        let one = integrands::chords_at(integrand, points, edges, heights[i]);
         found[i] = one;
         i += 1;
     }
@@ -140,7 +190,9 @@ fn sums(integrand: Integrand, points: &[f64], centre: f64, half: f64) -> Tally
     ensures { λ r. ⌜ r ≡ tallyOf (sampleOf integrand (now (points .entry))) centre half ⌝ }
 {
     let heights = sample_heights(centre, half);
-    let found = chords_found(integrand, points, heights);
+    let mut edges = [0; 64];
+    let n = edges_near(integrand, points, heights, &mut edges);
+    let found = chords_found(integrand, points, &edges[..n], heights);
     let kw = kronrod_weights();
     let gw = gauss_weights();
     let mut kronrod = [0.0; 7];
@@ -151,7 +203,7 @@ fn sums(integrand: Integrand, points: &[f64], centre: f64, half: f64) -> Tally
         let scale = integrand.scale;
         let h = heights[j];
         let one = found[j];
-        let y = integrands::values_over(one, kind, scale, points, h);
+        let y = integrands::values_over(one, kind, scale, points, &edges[..n], h);
         let k = plus_weighted(kronrod, kw[j], y);
         let g = plus_weighted(gauss, gw[j], y);
         kronrod = k;

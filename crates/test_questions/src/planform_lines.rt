@@ -26,7 +26,9 @@ fn planform_of(number: usize, points: &[f64]) -> Planform {
 }
 
 fn ends_agree(answers: &[f64], planform: Planform, points: &[f64], h: f64) -> bool {
-    match chords::chords_at(planform, points, h) {
+    let mut edges = [0; 64];
+    let count = chords::edges_near(points, h, h, &mut edges);
+    match chords::chords_at(planform, points, &edges[..count], h) {
         Chords::Nothing => answers.len() == 0,
         Chords::One { start_m, end_m } => {
             let ends = [start_m, end_m];

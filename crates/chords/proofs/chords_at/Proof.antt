@@ -20,7 +20,7 @@ enum-told : tie.Need-enum-told
 enum-told c = search needs
 
 outline-chord-requires : tie.Need-outline-chord-requires
-outline-chord-requires c κs = search needs
+outline-chord-requires c κs = c .before .before .before .before .pre (c .enum-told .given .1)
 
 returns : tie.Need-returns
 unfolding endsAt

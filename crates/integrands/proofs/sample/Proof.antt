@@ -1,19 +1,49 @@
--- `integrands::sample` meets its contract: the chords are found, and the values worked over them. Assumes nothing.
-use borrow.Author.Needs.{needs}
+-- `integrands::sample` meets its contract: the chords are found among the edges that the height alone can cross, and the values worked over them.
+-- Assumes nothing.
+use mathlib.Core.Path.{sym}
+use lib.Seq.{length-take-le}
+use Rattle.chords.proofs.Near.{at-one-height}
 use Rattle.integrands.proofs.Sampled.{sampled}
+use borrow.Author.Needs.{needs}
 use Rattle.integrands.proofs.sample.Statement.{statement}
 use Rattle.integrands.proofs.sample.Tie as tie
 
+edges-near-requires : tie.Need-edges-near-requires
+edges-near-requires c κs = search needs
+
+array-share-prefix-edges : tie.Need-array-share-prefix-edges
+array-share-prefix-edges c = search needs
+
+slice-aggregate-chords-at : tie.Need-slice-aggregate-chords-at
+slice-aggregate-chords-at c = sym (length-take-le _ _ (c .before .edges-near .ensures .room))
+
 chords-at-requires : tie.Need-chords-at-requires
-chords-at-requires c κs = search needs
+chords-at-requires c κs = λ e. at-one-height (c .before .edges-near .ensures)
+
+array-share-prefix-edges-2 : tie.Need-array-share-prefix-edges-2
+array-share-prefix-edges-2 c = search needs
+
+slice-aggregate-values-over : tie.Need-slice-aggregate-values-over
+slice-aggregate-values-over c = sym (length-take-le _ _ (c .before .before .before .edges-near .ensures .room))
 
 values-over-requires : tie.Need-values-over-requires
-values-over-requires c κs = search needs
+values-over-requires c κs = λ e. at-one-height (c .before .before .before .edges-near .ensures)
 
 returns : tie.Need-returns
 returns c =
-    let a = c .before .before .before .args in
-    sampled (a .integrand) (a .points .now) (a .h) (c .before .chords-at .result) _ (c .before .chords-at .ensures) (c .values-over .ensures)
+    let found = c .before .before in
+    let a = found .before .before .before .before .before .args in
+    sampled (a .integrand) (a .points .now) (a .h) (found .chords-at .result) _ (found .chords-at .ensures) (c .values-over .ensures)
 
 pub sample-spec : {M : Type 1} → statement M
-sample-spec = tie.close (tie.spec chords-at-requires values-over-requires returns)
+sample-spec =
+    tie.close
+    (tie.spec
+    edges-near-requires
+    array-share-prefix-edges
+    slice-aggregate-chords-at
+    chords-at-requires
+    array-share-prefix-edges-2
+    slice-aggregate-values-over
+    values-over-requires
+    returns)

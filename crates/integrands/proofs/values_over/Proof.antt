@@ -25,7 +25,7 @@ enum-told-2 : tie.Need-enum-told-2
 enum-told-2 c = search needs
 
 values-over-several-requires : tie.Need-values-over-several-requires
-values-over-several-requires c κs = search needs
+values-over-several-requires c κs = c .before .before .before .before .pre (c .enum-told2 .given .1)
 
 returns : tie.Need-returns
 unfolding sumsFrom paired

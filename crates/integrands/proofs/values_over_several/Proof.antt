@@ -13,13 +13,13 @@ use borrow.Author.Needs.{needs}
 use Rattle.integrands.proofs.values_over_several.Statement.{statement}
 use Rattle.integrands.proofs.values_over_several.Tie as tie
 
-outline-crossings-requires : tie.Need-outline-crossings-requires
-outline-crossings-requires c κs = search needs
+crossings-of-requires : tie.Need-crossings-of-requires
+crossings-of-requires c κs = search needs
 
 array-share-prefix-ends : tie.Need-array-share-prefix-ends
 array-share-prefix-ends c =
-    let a = c .before .before .before .args in
-    let w = c .outline-crossings .ensures in
+    let a = c .before .before .before .before .args in
+    let w = c .crossings-of .ensures in
     let few = at-most-64 (a .points .now) (a .h ⊗ a .scale) in
     let same = written-length w (omega arith) in
     omega (arith, w .count)
@@ -37,16 +37,16 @@ returns : tie.Need-returns
 returns c =
     let summed = c .before in
     let listed = summed .before .before in
-    let a = listed .before .before .before .args in
+    let a = listed .before .before .before .before .args in
     c .values .ensures
     ∙ ap (λ (sums : List Float). sampleValues (a .kind) (a .h) sums) (summed .chord-sums .ensures)
-    ∙ ap (λ (l : List Float). valuesOver (a .kind) (a .scale) (a .h) (paired l)) (written-take (listed .outline-crossings .ensures))
+    ∙ ap (λ (l : List Float). valuesOver (a .kind) (a .scale) (a .h) (paired l)) (written-take (listed .crossings-of .ensures))
 
 pub values-over-several-spec : {M : Type 1} → statement M
 values-over-several-spec =
     tie.close
     (tie.spec
-    outline-crossings-requires
+    crossings-of-requires
     array-share-prefix-ends
     slice-aggregate-chord-sums
     chord-sums-requires

@@ -11,11 +11,11 @@ use Rattle.quadrature.proofs.chords_found.Statement.{statement}
 use Rattle.quadrature.proofs.chords_found.Tie as tie
 
 abbrev Inv-loop : tie.InvT-loop
-Inv-loop integrand points heights found₀ i₀ found i =
+Inv-loop integrand points edges heights found₀ i₀ found i =
     (i ≤ 15) × (length found ≡ 15) × FoundTo i integrand points heights found
 
 abbrev μ-loop : tie.MeasureT-loop
-μ-loop integrand points heights found₀ i₀ found i = 15 - i
+μ-loop integrand points edges heights found₀ i₀ found i = 15 - i
 
 loop-holds : tie.Need-loop-holds Inv-loop μ-loop
 loop-holds c = (omega arith, refl, λ i l. absurd (not-suc-le-zero l))
@@ -27,7 +27,7 @@ array-read-chords-at : tie.Need-array-read-chords-at Inv-loop μ-loop
 array-read-chords-at c = search needs
 
 chords-at-requires : tie.Need-chords-at-requires Inv-loop μ-loop
-chords-at-requires c κs = search needs
+chords-at-requires c κs = c .before .before .before .before .pre (c .before .loop .i) (omega arith)
 
 mul-found : tie.Need-mul-found Inv-loop μ-loop
 mul-found c = search needs

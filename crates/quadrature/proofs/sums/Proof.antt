@@ -1,13 +1,15 @@
 -- `quadrature::sums` meets its contract: after j turns the sums are those of the first j samples. Assumes nothing.
-use mathlib.Core.Path.{_≡_}
+use mathlib.Core.Path.{_≡_, sym, _∙_}
 use mathlib.Core.List.{List}
 use Prim.Native.Nat.{_-_, _≤_}
 use native.Mathlib.Omega.{arith}
 use borrow.Author.Needs.{needs}
 use lib.ListN.{getD}
+use lib.Seq.{length-take-le}
 use lib.Ieee.{Float}
-use Rattle.floats.specs.Operations.{at}
+use Rattle.floats.specs.Operations.{_⊗_, at}
 use Rattle.chords.specs.declared.Chords.the-variants.{Nothing}
+use Rattle.chords.proofs.Answer.{several-outline}
 use Rattle.integrands.specs.Integrands.{sampleOf}
 use Rattle.integrands.proofs.Sampled.{sampled}
 use Rattle.quadrature.proofs.Tallies.{Summed, none-yet, one-more, all-summed}
@@ -15,18 +17,27 @@ use Rattle.quadrature.proofs.sums.Statement.{statement}
 use Rattle.quadrature.proofs.sums.Tie as tie
 
 abbrev Inv-loop : tie.InvT-loop
-Inv-loop integrand points centre half heights found kw gw kronrod₀ gauss₀ j₀ kronrod gauss j =
+Inv-loop integrand points centre half heights edges n found kw gw kronrod₀ gauss₀ j₀ kronrod gauss j =
     (j ≤ 15) × Summed (sampleOf integrand points) heights kw gw j kronrod gauss
 
 abbrev μ-loop : tie.MeasureT-loop
-μ-loop integrand points centre half heights found kw gw kronrod₀ gauss₀ j₀ kronrod gauss j =
+μ-loop integrand points centre half heights edges n found kw gw kronrod₀ gauss₀ j₀ kronrod gauss j =
     15 - j
 
 sample-heights-requires : tie.Need-sample-heights-requires Inv-loop μ-loop
 sample-heights-requires c κs = search needs
 
+edges-near-requires : tie.Need-edges-near-requires Inv-loop μ-loop
+edges-near-requires c κs = search needs
+
+array-share-prefix-edges : tie.Need-array-share-prefix-edges Inv-loop μ-loop
+array-share-prefix-edges c = search needs
+
+slice-aggregate-chords-found : tie.Need-slice-aggregate-chords-found Inv-loop μ-loop
+slice-aggregate-chords-found c = sym (length-take-le _ _ (c .before .edges-near .ensures .room))
+
 chords-found-requires : tie.Need-chords-found-requires Inv-loop μ-loop
-chords-found-requires c κs = search needs
+chords-found-requires c κs = c .before .edges-near .ensures .holding
 
 kronrod-weights-requires : tie.Need-kronrod-weights-requires Inv-loop μ-loop
 kronrod-weights-requires c κs = search needs
@@ -49,24 +60,38 @@ mul-one c = omega arith
 array-copy-out-one : tie.Need-array-copy-out-one Inv-loop μ-loop
 array-copy-out-one c = search needs
 
-values-over-requires : tie.Need-values-over-requires Inv-loop μ-loop
-values-over-requires c κs = search needs
-
 -- what was made before the loop, with the arguments, and the integrand's sample
 abbrev made : tie.At-loop Inv-loop μ-loop → tie.After-chords-found Inv-loop μ-loop
 made head = head .before .before .before
 
+abbrev listed : tie.At-loop Inv-loop μ-loop → tie.After-edges-near Inv-loop μ-loop
+listed head = made head .before .before
+
 abbrev sampleAt : tie.At-loop Inv-loop μ-loop → Float → List Float
-sampleAt head = let a = made head .before .before .before .args in sampleOf (a .integrand) (a .points .now)
+sampleAt head = let a = listed head .before .before .before .before .args in sampleOf (a .integrand) (a .points .now)
 
 abbrev height : tie.At-loop Inv-loop μ-loop → Float
-height head = at (made head .before .sample-heights .result) (head .loop .j)
+height head = at (listed head .before .before .sample-heights .result) (head .loop .j)
+
+array-share-prefix-edges-2 : tie.Need-array-share-prefix-edges-2 Inv-loop μ-loop
+array-share-prefix-edges-2 c = search needs
+
+slice-aggregate-values-over : tie.Need-slice-aggregate-values-over Inv-loop μ-loop
+slice-aggregate-values-over c = sym (length-take-le _ _ (listed (c .before .before .before) .edges-near .ensures .room))
+
+-- only an outline has several chords, and the list has all of its crossings
+values-over-requires : tie.Need-values-over-requires Inv-loop μ-loop
+values-over-requires c κs =
+    let head = c .before .before .before in
+    let a = listed head .before .before .before .before .args in
+    let found = made head .chords-found .ensures (head .loop .j) (omega arith) in
+    λ e. listed head .edges-near .ensures .holding (head .loop .j) (omega arith) (several-outline (a .integrand .planform) (a .points .now) (height head ⊗ a .integrand .scale) (sym found ∙ e))
 
 -- over the chords found there lie the sample's values
-the-sample : (c : tie.After-values-over Inv-loop μ-loop) → let head = c .before .before .before in c .values-over .result ≡ sampleAt head (height head)
+the-sample : (c : tie.After-values-over Inv-loop μ-loop) → let head = c .before .before .before .before in c .values-over .result ≡ sampleAt head (height head)
 the-sample c =
-    let head = c .before .before .before in
-    let a = made head .before .before .before .args in
+    let head = c .before .before .before .before in
+    let a = listed head .before .before .before .before .args in
     sampled (a .integrand) (a .points .now) (height head) (getD (made head .chords-found .result) (head .loop .j) Nothing) _ (made head .chords-found .ensures (head .loop .j) (omega arith)) (c .values-over .ensures)
 
 mul-plus-weighted : tie.Need-mul-plus-weighted Inv-loop μ-loop
@@ -96,14 +121,14 @@ loop-less c = omega arith
 loop-again : tie.Need-loop-again Inv-loop μ-loop
 loop-again c =
     let valued = c .before .before in
-    let head = valued .before .before .before in
+    let head = valued .before .before .before .before in
     (omega arith, one-more (sampleAt head) _ _ _ (head .loop .j) _ _ _ _ _ (head .loop .inv .1) (the-sample valued) (c .before .plus-weighted .ensures) (c .plus-weighted2 .ensures))
 
 returns : tie.Need-returns Inv-loop μ-loop
 returns c =
     let head = c .before in
     let e : head .loop .j ≡ 15 = omega arith in
-    all-summed (sampleAt head) _ _ _ _ _ _ _ (made head .before .sample-heights .ensures) (head .before .before .kronrod-weights .ensures) (head .before .gauss-weights .ensures) _ e (head .loop .inv .1)
+    all-summed (sampleAt head) _ _ _ _ _ _ _ (listed head .before .before .sample-heights .ensures) (head .before .before .kronrod-weights .ensures) (head .before .gauss-weights .ensures) _ e (head .loop .inv .1)
 
 pub sums-spec : {M : Type 1} → statement M
 sums-spec =
@@ -112,6 +137,9 @@ sums-spec =
     Inv-loop
     μ-loop
     sample-heights-requires
+    edges-near-requires
+    array-share-prefix-edges
+    slice-aggregate-chords-found
     chords-found-requires
     kronrod-weights-requires
     gauss-weights-requires
@@ -120,6 +148,8 @@ sums-spec =
     array-read-h
     mul-one
     array-copy-out-one
+    array-share-prefix-edges-2
+    slice-aggregate-values-over
     values-over-requires
     mul-plus-weighted
     array-read-plus-weighted

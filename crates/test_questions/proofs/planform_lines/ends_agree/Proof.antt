@@ -1,13 +1,26 @@
--- `test_questions::planform_lines::ends_agree` meets its contract: the crossings are written over an array's start. Assumes nothing.
+-- `test_questions::planform_lines::ends_agree` meets its contract: the edges that h alone can cross are listed, and the crossings are written over an
+-- array's start. Assumes nothing.
+use mathlib.Core.Path.{sym}
 use native.Mathlib.Omega.{arith}
-use borrow.Author.Needs.{needs}
+use lib.Seq.{length-take-le}
 use Rattle.sorting.proofs.Over.{written-length}
+use Rattle.chords.proofs.Near.{at-one-height}
 use Rattle.chords.proofs.Listed.{at-most-64}
+use borrow.Author.Needs.{needs}
 use Rattle.test_questions.proofs.planform_lines.ends_agree.Statement.{statement}
 use Rattle.test_questions.proofs.planform_lines.ends_agree.Tie as tie
 
+edges-near-requires : tie.Need-edges-near-requires
+edges-near-requires c κs = search needs
+
+array-share-prefix-edges : tie.Need-array-share-prefix-edges
+array-share-prefix-edges c = search needs
+
+slice-aggregate-chords-at : tie.Need-slice-aggregate-chords-at
+slice-aggregate-chords-at c = sym (length-take-le _ _ (c .before .edges-near .ensures .room))
+
 chords-at-requires : tie.Need-chords-at-requires
-chords-at-requires c κs = search needs
+chords-at-requires c κs = λ e. at-one-height (c .before .edges-near .ensures)
 
 enum-told : tie.Need-enum-told
 enum-told c = search needs
@@ -28,10 +41,7 @@ outline-crossings-requires : tie.Need-outline-crossings-requires
 outline-crossings-requires c κs = search needs
 
 slice-aggregate-agree-2 : tie.Need-slice-aggregate-agree-2
-slice-aggregate-agree-2 c =
-    let listed = c .before in
-    let a = listed .before .before .before .before .before .before .before .args in
-    omega (arith, written-length (listed .outline-crossings .ensures) (at-most-64 (a .points .now) (a .h)))
+slice-aggregate-agree-2 c = omega (arith, written-length (c .before .outline-crossings .ensures) (at-most-64 _ _))
 
 agree-requires-2 : tie.Need-agree-requires-2
 agree-requires-2 c κs = search needs
@@ -49,6 +59,9 @@ pub ends-agree-spec : {M : Type 1} → statement M
 ends-agree-spec =
     tie.close
     (tie.spec
+    edges-near-requires
+    array-share-prefix-edges
+    slice-aggregate-chords-at
     chords-at-requires
     enum-told
     enum-known-start-m
