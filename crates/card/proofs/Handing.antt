@@ -25,7 +25,8 @@ use Rattle.card.specs.Program.{atFirst, Lends, Stands, Steps, HandsOn}
 pub none : {buffer : List ℕ} {s : State} {memory : Memory} {handed : ℕ} → HandsOn buffer buffer s s [] memory memory handed handed
 none = record { text = []; takes = taking.none; counts = omega arith }
 
-pub also : {buffer between after : List ℕ} {s t r : State} {a b : List ℕ} {memory first left : Memory} {n m w : ℕ} → HandsOn buffer between s t a memory first n m → HandsOn between after t r b first left m w
+pub also : {buffer between after : List ℕ} {s t r : State} {a b : List ℕ} {memory first left : Memory} {n m w : ℕ}
+    → HandsOn buffer between s t a memory first n m → HandsOn between after t r b first left m w
     → HandsOn buffer after s r (a ++ b) memory left n w
 also p q =
     let e = p .counts in let f = q .counts in let l = length-append (p .text) (q .text) in
@@ -36,11 +37,13 @@ also p q =
     }
 
 -- lines answered over what others left
-replied-over : {memory before left : Memory} {lines : List (List ℕ)} {text : List ℕ} → memory ≡ before → Answered memory lines text left → text ≡ replies lines before
+replied-over : {memory before left : Memory} {lines : List (List ℕ)} {text : List ℕ} → memory ≡ before → Answered memory lines text left
+    → text ≡ replies lines before
 replied-over {lines = lines} e a = a .replied ∙ ap (replies lines) e
 
 -- where the program stands with more bytes taken
-module _ {most : ℕ} {buffer after : List ℕ} {s r : State} {bytes : List ℕ} {memory left : Memory} {handed total : ℕ} (p : Stands most buffer s memory handed) (h : HandsOn buffer after s r bytes memory left handed total) where
+module _ {most : ℕ} {buffer after : List ℕ} {s r : State} {bytes : List ℕ} {memory left : Memory} {handed total : ℕ}
+    (p : Stands most buffer s memory handed) (h : HandsOn buffer after s r bytes memory left handed total) where
   abbrev First : List (List ℕ)
   First = linesWithin [] (p .taken)
 
@@ -51,8 +54,11 @@ module _ {most : ℕ} {buffer after : List ℕ} {s r : State} {bytes : List ℕ}
   counts-on =
       let first = replies First atFirst in
       let next = replies Next (leftByLines First atFirst) in
-      let f : length (h .text) ≡ length next = ap length (replied-over (p .leaves) (h .takes .answers (begunAfter [] (p .taken)) (p .keeps))) in
-      let g : length (replies (linesWithin [] (p .taken ++ bytes)) atFirst) ≡ length first + length next = ap (λ (l : List (List ℕ)). length (replies l atFirst)) (lines-twice [] (p .taken) bytes) ∙ ap length (replies-append First Next atFirst) ∙ length-append first next in
+      let f : length (h .text) ≡ length next = ap length
+      (replied-over (p .leaves) (h .takes .answers (begunAfter [] (p .taken)) (p .keeps))) in
+      let g : length (replies (linesWithin [] (p .taken ++ bytes)) atFirst) ≡ length first + length next = ap
+      (λ (l : List (List ℕ)). length (replies l atFirst)) (lines-twice [] (p .taken) bytes) ∙ ap length (replies-append First Next atFirst)
+      ∙ length-append first next in
       let c = p .counts in let t = h .counts in
       omega arith
 
@@ -75,11 +81,13 @@ module _ {most : ℕ} {buffer after : List ℕ} {s r : State} {bytes : List ℕ}
       }
 
 -- what `feed` and `finish` ask for
-pub lent : {most : ℕ} {buffer chunk : List ℕ} {s : State} {memory : Memory} {handed : ℕ} {numbers : List Float} {counts out : List ℕ} → Stands most buffer s memory handed → Lends buffer chunk numbers counts out → Lent buffer s numbers counts
+pub lent : {most : ℕ} {buffer chunk : List ℕ} {s : State} {memory : Memory} {handed : ℕ} {numbers : List Float} {counts out : List ℕ}
+    → Stands most buffer s memory handed → Lends buffer chunk numbers counts out → Lent buffer s numbers counts
 lent p d = let k = p .keeps .count in record { bytes = d .line; within = omega arith; engine = d .engine }
 
 -- what was handed to write can be counted, with the replies to a chunk's lines too
-pub handed-fits : {most : ℕ} {buffer : List ℕ} {s : State} {memory left : Memory} {handed : ℕ} {lines : List (List ℕ)} {text : List ℕ} → Stands most buffer s memory handed → most ≤ mostRead + 65536
+pub handed-fits : {most : ℕ} {buffer : List ℕ} {s : State} {memory left : Memory} {handed : ℕ} {lines : List (List ℕ)} {text : List ℕ}
+    → Stands most buffer s memory handed → most ≤ mostRead + 65536
     → Answered memory lines text left → length (replies lines memory) ≤ replyBytes * 65536 → handed + length text < 2 ^ 64
 handed-fits p m a l =
     let c = p .counts in let f = p .few in let w = within-short [] (p .taken) atFirst in let e = ap length (a .replied) in
@@ -90,13 +98,22 @@ pub rest-all : (chunk : List ℕ) (at : ℕ) → take (length chunk - at) (drop 
 rest-all chunk at = take-all (length chunk - at) (drop at chunk) (simp length-drop (omega arith))
 
 -- a call of `feed`, with its replies written
-module _ {buffer after : List ℕ} (chunk : List ℕ) (s : Step) {memory left : Memory} {out written : List ℕ} {f : Fed} (h : s .taken < length chunk) (o : replyBytes ≤ length out)
+module _ {buffer after : List ℕ} (chunk : List ℕ) (s : Step) {memory left : Memory} {out written : List ℕ} {f : Fed}
+    (h : s .taken < length chunk) (o : replyBytes ≤ length out)
     (p : Feeds buffer after (s .state) (take (length chunk - s .taken) (drop (s .taken) chunk)) memory left out written 0 f) where
   pub fed : (all : Bool)
-      → Steps buffer after s (record { state = f .state; taken = s .taken + f .taken; handed = s .handed + f .written; written = f .written; all = all }) chunk memory left written
+      → Steps buffer after s
+      (record {
+        state = f .state;
+        taken = s .taken + f .taken;
+        handed = s .handed + f .written;
+        written = f .written;
+        all = all;
+      }) chunk memory left written
   fed all =
       let e : s .taken + f .taken - s .taken ≡ f .taken = omega arith in
-      let l : length (take (length chunk - s .taken) (drop (s .taken) chunk)) ≡ length chunk - s .taken = simp (length-take, length-drop) (omega arith) in
+      let l : length (take (length chunk - s .taken) (drop (s .taken) chunk)) ≡ length chunk - s .taken = simp (length-take, length-drop)
+      (omega arith) in
       let i = p .some in let m = p .moves (omega arith) (omega arith) in
       record {
         takes = rw (e, p .into .appended .holds) (rw (rest-all chunk (s .taken)) at (p .into .takes));
@@ -117,18 +134,24 @@ module _ {buffer after : List ℕ} (chunk : List ℕ) (s : Step) {memory left : 
       omega arith
 
 -- what the first bytes of `out` are, was handed to write
-step-hands : {buffer after : List ℕ} {s r : Step} {chunk : List ℕ} {memory left : Memory} {out : List ℕ} → Steps buffer after s r chunk memory left out
+step-hands : {buffer after : List ℕ} {s r : Step} {chunk : List ℕ} {memory left : Memory} {out : List ℕ}
+    → Steps buffer after s r chunk memory left out
     → HandsOn buffer after (s .state) (r .state) (take (r .taken - s .taken) (drop (s .taken) chunk)) memory left (s .handed) (r .handed)
-step-hands {r = r} {out = out} p = let c = p .counts in let l = length-take-le (r .written) out (p .room) in record { text = take (r .written) out; takes = p .takes; counts = omega arith }
+step-hands {r = r} {out = out} p =
+    let c = p .counts in let l = length-take-le (r .written) out (p .room) in
+    record { text = take (r .written) out; takes = p .takes; counts = omega arith }
 
 -- a step more of a chunk
-pub next-step : {buffer between after : List ℕ} {b : State} {s r : Step} (chunk : List ℕ) {memory first left : Memory} {out : List ℕ} {handed : ℕ}
-    → HandsOn buffer between b (s .state) (take (s .taken) chunk) memory first handed (s .handed) → Steps between after s r chunk first left out
+pub next-step : {buffer between after : List ℕ} {b : State} {s r : Step}
+    (chunk : List ℕ) {memory first left : Memory} {out : List ℕ} {handed : ℕ}
+    → HandsOn buffer between b (s .state) (take (s .taken) chunk) memory first handed (s .handed)
+    → Steps between after s r chunk first left out
     → HandsOn buffer after b (r .state) (take (r .taken) chunk) memory left handed (r .handed)
 next-step {s = s} {r = r} chunk h p =
     let m = p .more in
     let e : s .taken + (r .taken - s .taken) ≡ r .taken = omega arith in
-    let t : take (r .taken) chunk ≡ take (s .taken) chunk ++ take (r .taken - s .taken) (drop (s .taken) chunk) = ap (λ (n : ℕ). take n chunk) (sym e) ∙ take-add (s .taken) (r .taken - s .taken) chunk in
+    let t : take (r .taken) chunk ≡ take (s .taken) chunk ++ take (r .taken - s .taken) (drop (s .taken) chunk) = ap
+    (λ (n : ℕ). take n chunk) (sym e) ∙ take-add (s .taken) (r .taken - s .taken) chunk in
     rw t (also h (step-hands p))
 
 -- what was put at the start of a buffer lies in it

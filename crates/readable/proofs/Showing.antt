@@ -1,4 +1,5 @@
--- The blocks of lines; bytes taken and their blocks handed to write: none, up to a chunk's end, with a newline, and more after others. Assumes nothing.
+-- The blocks of lines; bytes taken and their blocks handed to write: none, up to a chunk's end, with a newline, and more after others.
+-- Assumes nothing.
 use mathlib.Core.List.{List, [], _∷_, _++_, append-nil, append-assoc}
 use mathlib.Core.Bool.{Bool, true, false, cond}
 use mathlib.Core.Path.{_≡_, refl, sym, ap, _∙_}
@@ -25,12 +26,14 @@ use Rattle.readable.specs.Program.{blocksOf, Shows, ShowsLine, Steps, Ha
 pub blocks-append : (l k : List (List ℕ)) → blocksOf (l ++ k) ≡ blocksOf l ++ blocksOf k
 unfolding blocksOf
 blocks-append [] k = refl
-blocks-append (line ∷ l) k = ap (λ (t : List ℕ). blockOf line ++ t) (blocks-append l k) ∙ sym (append-assoc (blockOf line) (blocksOf l) (blocksOf k))
+blocks-append (line ∷ l) k =
+    ap (λ (t : List ℕ). blockOf line ++ t) (blocks-append l k) ∙ sym (append-assoc (blockOf line) (blocksOf l) (blocksOf k))
 
 -- a line of which not all is kept has the block of what is kept: both are too long for an answer
 long-block : (line : List ℕ) → 512 < length line → blockOf line ≡ noAnswer ++ newline
 unfolding blockOf
-long-block line h = ap (λ (t : Bool). cond t (shown (shapeIn line) (figuresIn line) (countsIn line)) (noAnswer ++ newline)) (lt-leb (length line) 512 h)
+long-block line h =
+    ap (λ (t : Bool). cond t (shown (shapeIn line) (figuresIn line) (countsIn line)) (noAnswer ++ newline)) (lt-leb (length line) 512 h)
 
 pub kept-block : {buffer : List ℕ} {s : State} {begun : List ℕ} → Keeps buffer s begun → blockOf (take (s .kept) buffer) ≡ blockOf begun
 kept-block {buffer} {s} {begun} k = by (ltb lineBytes (length begun)) refl
@@ -46,7 +49,8 @@ none : {buffer : List ℕ} {s : State} → Shows buffer buffer s s [] []
 unfolding begunAfter linesWithin blocksOf
 none = record { blocks = λ begun k. refl; keeps = λ begun k. k }
 
-also : {buffer between after : List ℕ} {s t r : State} {a b x y : List ℕ} → Shows buffer between s t a x → Shows between after t r b y → Shows buffer after s r (a ++ b) (x ++ y)
+also : {buffer between after : List ℕ} {s t r : State} {a b x y : List ℕ} → Shows buffer between s t a x → Shows between after t r b y
+    → Shows buffer after s r (a ++ b) (x ++ y)
 also {a = a} {b = b} {x = x} {y = y} p q =
     record {
       blocks = λ begun k.
@@ -59,12 +63,14 @@ also {a = a} {b = b} {x = x} {y = y} p q =
     }
 
 -- bytes of a line: no line ends in them
-line-kept : {buffer after : List ℕ} {s : State} {bytes : List ℕ} {r : KeptLine} → KeepsLine buffer after s bytes r → Shows buffer after s (r .state) (take (r .taken) bytes) []
+line-kept : {buffer after : List ℕ} {s : State} {bytes : List ℕ} {r : KeptLine} → KeepsLine buffer after s bytes r
+    → Shows buffer after s (r .state) (take (r .taken) bytes) []
 unfolding blocksOf
 line-kept p = record { blocks = λ begun k. rw (p .none-ends begun) refl; keeps = p .keeps }
 
 -- its newline
-line-ended : {buffer : List ℕ} {s r : State} {out : List ℕ} {last : Last} (b : ℕ) → b ≡ 10 → Keeps buffer r [] → ShowsLine buffer s out last → Shows buffer buffer s r (b ∷ []) (take (last .written) out)
+line-ended : {buffer : List ℕ} {s r : State} {out : List ℕ} {last : Last} (b : ℕ) → b ≡ 10 → Keeps buffer r [] → ShowsLine buffer s out last
+    → Shows buffer buffer s r (b ∷ []) (take (last .written) out)
 unfolding begunAfter linesWithin blocksOf
 line-ended b h e p =
     let q = eq-eqb b 10 h in
@@ -80,15 +86,32 @@ module _ {buffer after : List ℕ} (chunk : List ℕ) (s : Step) {line : KeptLin
   end-fits = let e = p .some in let l = ap length (rest-all chunk (s .taken)) in let m = length-drop (s .taken) chunk in omega arith
 
   -- its end
-  pub to-end : (out : List ℕ) → s .taken + line .taken ≡ length chunk → Steps buffer after s (record { state = line .state; taken = s .taken + line .taken; handed = s .handed; written = 0; all = true }) chunk out
+  pub to-end : (out : List ℕ) → s .taken + line .taken ≡ length chunk
+      → Steps buffer after s
+      (record { state = line .state; taken = s .taken + line .taken; handed = s .handed; written = 0; all = true }) chunk out
   to-end out g =
       let e : s .taken + line .taken - s .taken ≡ line .taken = omega arith in
       let k = rw (rest-all chunk (s .taken)) at p in
-      record { shows = rw e (line-kept k); within = p .within; room = omega arith; counts = omega arith; more = omega arith; some = omega arith }
+      record {
+        shows = rw e (line-kept k);
+        within = p .within;
+        room = omega arith;
+        counts = omega arith;
+        more = omega arith;
+        some = omega arith;
+      }
 
   -- a newline
-  pub past-newline : {next : State} {out : List ℕ} {last : Last} → (s .taken + line .taken ≡ length chunk → ⊥) → ((b : List ℕ) → Keeps b next []) → ShowsLine after (line .state) out last
-      → Steps buffer after s (record { state = next; taken = s .taken + line .taken + 1; handed = s .handed + last .written; written = last .written; all = last .all }) chunk out
+  pub past-newline : {next : State} {out : List ℕ} {last : Last} → (s .taken + line .taken ≡ length chunk → ⊥)
+      → ((b : List ℕ) → Keeps b next []) → ShowsLine after (line .state) out last
+      → Steps buffer after s
+      (record {
+        state = next;
+        taken = s .taken + line .taken + 1;
+        handed = s .handed + last .written;
+        written = last .written;
+        all = last .all;
+      }) chunk out
   past-newline {next} {out} {last} g e q =
       let f = end-fits in let m = length-drop (s .taken) chunk in
       let k = rw (rest-all chunk (s .taken)) at p in
@@ -96,7 +119,9 @@ module _ {buffer after : List ℕ} (chunk : List ℕ) (s : Step) {line : KeptLin
       let n : s .taken + line .taken + 1 - s .taken ≡ line .taken + 1 = omega arith in
       let c = e [] .count in
       record {
-        shows = rw (n, next-taken (drop (s .taken) chunk) (line .taken) less) (also (line-kept k) (line-ended (getD (drop (s .taken) chunk) (line .taken) 0) (k .ends less) (e after) q));
+        shows =
+            rw (n, next-taken (drop (s .taken) chunk) (line .taken) less)
+            (also (line-kept k) (line-ended (getD (drop (s .taken) chunk) (line .taken) 0) (k .ends less) (e after) q));
         within = omega arith;
         room = q .room;
         counts = refl;
@@ -107,7 +132,8 @@ module _ {buffer after : List ℕ} (chunk : List ℕ) (s : Step) {line : KeptLin
 pub none-handed : {buffer : List ℕ} {s : State} {handed : ℕ} → s .kept ≤ lineBytes → HandsOn buffer buffer s s [] handed handed
 none-handed h = record { text = []; shows = none; within = h; counts = omega arith; few = omega arith }
 
-pub also-handed : {buffer between after : List ℕ} {s t r : State} {a b : List ℕ} {n m w : ℕ} → HandsOn buffer between s t a n m → HandsOn between after t r b m w → HandsOn buffer after s r (a ++ b) n w
+pub also-handed : {buffer between after : List ℕ} {s t r : State} {a b : List ℕ} {n m w : ℕ} → HandsOn buffer between s t a n m
+    → HandsOn between after t r b m w → HandsOn buffer after s r (a ++ b) n w
 also-handed {a = a} {b = b} p q =
     let e = p .counts in let f = q .counts in let l = length-append (p .text) (q .text) in let m = length-append a b in
     let g = p .few in let h = q .few in
@@ -118,16 +144,20 @@ step-hands : {buffer after : List ℕ} {s r : Step} {chunk out : List ℕ} → l
     → HandsOn buffer after (s .state) (r .state) (take (r .taken - s .taken) (drop (s .taken) chunk)) (s .handed) (r .handed)
 step-hands {s = s} {r = r} {chunk = chunk} {out = out} o p =
     let c = p .counts in let l = length-take-le (r .written) out (p .room) in let w = p .room in
-    let m = p .more in let n = p .some in let d = length-take (r .taken - s .taken) (drop (s .taken) chunk) in let e = length-drop (s .taken) chunk in
+    let m = p .more in let n = p .some in let d = length-take (r .taken - s .taken) (drop (s .taken) chunk) in
+    let e = length-drop (s .taken) chunk in
     record { text = take (r .written) out; shows = p .shows; within = p .within; counts = omega arith; few = omega arith }
 
 -- a step more of a chunk
-pub next-step : {buffer between after : List ℕ} {b : State} {s r : Step} (chunk : List ℕ) {out : List ℕ} {handed : ℕ} → length out ≡ blockBytes
-    → HandsOn buffer between b (s .state) (take (s .taken) chunk) handed (s .handed) → Steps between after s r chunk out → HandsOn buffer after b (r .state) (take (r .taken) chunk) handed (r .handed)
+pub next-step : {buffer between after : List ℕ} {b : State} {s r : Step} (chunk : List ℕ) {out : List ℕ} {handed : ℕ}
+    → length out ≡ blockBytes
+    → HandsOn buffer between b (s .state) (take (s .taken) chunk) handed (s .handed) → Steps between after s r chunk out
+    → HandsOn buffer after b (r .state) (take (r .taken) chunk) handed (r .handed)
 next-step {s = s} {r = r} chunk o h p =
     let m = p .more in
     let e : s .taken + (r .taken - s .taken) ≡ r .taken = omega arith in
-    let t : take (r .taken) chunk ≡ take (s .taken) chunk ++ take (r .taken - s .taken) (drop (s .taken) chunk) = ap (λ (n : ℕ). take n chunk) (sym e) ∙ take-add (s .taken) (r .taken - s .taken) chunk in
+    let t : take (r .taken) chunk ≡ take (s .taken) chunk ++ take (r .taken - s .taken) (drop (s .taken) chunk) = ap
+    (λ (n : ℕ). take n chunk) (sym e) ∙ take-add (s .taken) (r .taken - s .taken) chunk in
     rw t (also-handed h (step-hands o p))
 
 -- what was put at the start of a buffer lies in it

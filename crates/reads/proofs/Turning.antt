@@ -1,5 +1,5 @@
--- Turns of a read each: the bytes that it brought are counted, and whether there is another turn, which is so where it brought a byte and every
--- write took all. Assumes nothing.
+-- Turns of a read each: the bytes that it brought are counted, and whether there is another turn, which is so where it brought a byte
+-- and every write took all. Assumes nothing.
 use mathlib.Core.Bool.{Bool, true, false, _&&_, cond, true≢false}
 use mathlib.Core.Path.{_≡_, refl, sym}
 use Prim.Native.Nat.{ℕ, zero, suc, _+_, _-_, _<_}
@@ -39,6 +39,7 @@ some-not-end (pos (suc n)) h = refl
 some-not-end (negsuc n) h = refl
 
 -- each turn that goes on has read a byte
-pub fewer-left : (read n next : ℕ) (more again : Bool) → more ≡ true → read < mostRead → next ≡ read + n → (again ≡ true → 0 < n) → mostRead - next + cond again 1 0 < mostRead - read + cond more 1 0
+pub fewer-left : (read n next : ℕ) (more again : Bool) → more ≡ true → read < mostRead → next ≡ read + n → (again ≡ true → 0 < n)
+    → mostRead - next + cond again 1 0 < mostRead - read + cond more 1 0
 fewer-left read n next more true m l e h = let k = h refl in rw m (omega arith)
 fewer-left read n next more false m l e h = rw m (omega arith)

@@ -24,7 +24,8 @@ use Rattle.card.proofs.end_run.Statement.{statement}
 use Rattle.card.proofs.end_run.Tie as tie
 
 module _ (buffer : List ℕ) (t : Turn) (memory left : Memory) (out after : List ℕ) (n : ℕ) where
-  last-fits : (last : Last) → Stands (mostRead + 65536) buffer (t .state) memory (t .handed) → Ends buffer (t .state) memory left out last → t .handed + last .written < 2 ^ 64
+  last-fits : (last : Last) → Stands (mostRead + 65536) buffer (t .state) memory (t .handed) → Ends buffer (t .state) memory left out last
+      → t .handed + last .written < 2 ^ 64
   last-fits last p e =
       let begun = begunAfter [] (p .taken) in
       let s = last-short begun memory in
@@ -61,7 +62,11 @@ module _ (buffer : List ℕ) (t : Turn) (memory left : Memory) (out after : List
 
 -- what the last read gave, from the call of `is_end`
 is-at-end : (c : tie.After-is-end) → c .is-end .result ≡ atEnd (c .before .before .before .before .before .before .before .args .t .got)
-is-at-end c = c .is-end .ensures ∙ ap atEnd (toZ-ofZ w64 (c .before .before .before .before .before .before .before .args .t .got) (record { sfits = c .before .struct-told .given .1 .0 .1 }))
+is-at-end c =
+    c .is-end .ensures
+    ∙ ap atEnd
+    (toZ-ofZ w64 (c .before .before .before .before .before .before .before .args .t .got)
+    (record { sfits = c .before .struct-told .given .1 .0 .1 }))
 
 is-end-requires : tie.Need-is-end-requires
 is-end-requires c κs = search needs
@@ -74,9 +79,12 @@ tell-requires c κs = search needs
 
 add-t22 : tie.Need-add-t22
 add-t22 c =
-    let r = c .before .before .before .before .before .before .before .before .before .before .before .before .before .before in let s = r .before .before .before .before .before .before .before .before .before .before .before .before .before .before in
+    let r = c .before .before .before .before .before .before .before .before .before .before .before .before .before .before in
+    let s = r .before .before .before .before .before .before .before .before .before .before .before .before .before .before in
     let e =
-    last-fits (now (s .args .buffer)) (s .args .t) (memoryIn (now (s .args .scratch)) (now (s .args .engine-numbers)) (now (s .args .engine-counts))) _ (r .reply-last .last .1 .1 .1 .1 .1 .0) (now (s .args .buffer)) 0
+    last-fits (now (s .args .buffer)) (s .args .t)
+    (memoryIn (now (s .args .scratch)) (now (s .args .engine-numbers)) (now (s .args .engine-counts))) _
+    (r .reply-last .last .1 .1 .1 .1 .1 .0) (now (s .args .buffer)) 0
     (r .reply-last .result) (s .pre .2) (r .reply-last .ensures) in
     omega (arith, e)
 
@@ -94,9 +102,15 @@ same-length-4 c = search needs
 
 returns : tie.Need-returns
 returns c =
-    let t = c .before .before .before .before in let r = t .before .before .before .before .before .before .before .before .before .before in let i = r .before .before .before .before .before .before .before in let s = i .before .before .before .before .before .before .before in
-    at-end (now (s .args .buffer)) (s .args .t) (memoryIn (now (s .args .scratch)) (now (s .args .engine-numbers)) (now (s .args .engine-counts))) _ (r .reply-last .last .1 .1 .1 .1 .1 .0) (t .tell .last .0) (t .tell .result)
-    (r .reply-last .result) (sym (is-at-end i) ∙ r .before .before .before .before .before .before .if1 .taken) (r .reply-last .ensures) (t .tell .ensures)
+    let t = c .before .before .before .before in
+    let r = t .before .before .before .before .before .before .before .before .before .before in
+    let i = r .before .before .before .before .before .before .before in
+    let s = i .before .before .before .before .before .before .before in
+    at-end (now (s .args .buffer)) (s .args .t)
+    (memoryIn (now (s .args .scratch)) (now (s .args .engine-numbers)) (now (s .args .engine-counts))) _
+    (r .reply-last .last .1 .1 .1 .1 .1 .0) (t .tell .last .0) (t .tell .result)
+    (r .reply-last .result) (sym (is-at-end i) ∙ r .before .before .before .before .before .before .if1 .taken) (r .reply-last .ensures)
+    (t .tell .ensures)
 
 tell-requires-2 : tie.Need-tell-requires-2
 tell-requires-2 c κs = search needs

@@ -12,7 +12,9 @@ slice-reshare-prefix-write-all : tie.Need-slice-reshare-prefix-write-all
 slice-reshare-prefix-write-all c = search needs
 
 slice-aggregate-write-all : tie.Need-slice-aggregate-write-all
-slice-aggregate-write-all c = let f = c .before .before .before .before .before .before .before .before .before in sym (length-take-le (f .finish .result) (f .finish .last .1 .1 .1 .1 .1 .0) (f .finish .ensures .room))
+slice-aggregate-write-all c =
+    let f = c .before .before .before .before .before .before .before .before .before in
+    sym (length-take-le (f .finish .result) (f .finish .last .1 .1 .1 .1 .1 .0) (f .finish .ensures .room))
 
 write-all-requires : tie.Need-write-all-requires
 write-all-requires c κs = search needs
@@ -30,7 +32,9 @@ same-length-4 : tie.Need-same-length-4
 same-length-4 c = search needs
 
 returns : tie.Need-returns
-returns c = let f = c .before .before .before .before .before .before .before .before .before .before .finish .ensures in record { answers = λ begun k. rw (f .appended .holds) (f .answers begun k); room = f .room }
+returns c =
+    let f = c .before .before .before .before .before .before .before .before .before .before .finish .ensures in
+    record { answers = λ begun k. rw (f .appended .holds) (f .answers begun k); room = f .room }
 
 pub reply-last-spec : {M : Type 1} → statement M
 reply-last-spec =

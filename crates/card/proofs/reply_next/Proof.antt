@@ -20,9 +20,16 @@ abbrev Stepped : tie.After-feed → Bool → Type 0
 Stepped f all =
     let s = called f in
     Steps (now (s .args .buffer)) (f .feed .last .0) (s .args .s)
-    (record { state = f .feed .result .state; taken = s .args .s .taken + f .feed .result .taken; handed = s .args .s .handed + f .feed .result .written; written = f .feed .result .written; all = all })
+    (record {
+      state = f .feed .result .state;
+      taken = s .args .s .taken + f .feed .result .taken;
+      handed = s .args .s .handed + f .feed .result .written;
+      written = f .feed .result .written;
+      all = all;
+    })
     (now (s .args .chunk)) (memoryIn (now (s .args .scratch)) (now (s .args .engine-numbers)) (now (s .args .engine-counts)))
-    (memoryIn (f .feed .last .1 .1 .1 .0) (f .feed .last .1 .1 .1 .1 .0) (f .feed .last .1 .1 .1 .1 .1 .0)) (f .feed .last .1 .1 .1 .1 .1 .1 .0)
+    (memoryIn (f .feed .last .1 .1 .1 .0) (f .feed .last .1 .1 .1 .1 .0) (f .feed .last .1 .1 .1 .1 .1 .0))
+    (f .feed .last .1 .1 .1 .1 .1 .1 .0)
 
 stepped : (f : tie.After-feed) (all : Bool) → Stepped f all
 stepped f all = let s = called f in fed (now (s .args .chunk)) (s .args .s) (s .pre .2) (s .pre .0 .reply) (f .feed .ensures) all
@@ -43,7 +50,9 @@ slice-reshare-prefix-write-all : tie.Need-slice-reshare-prefix-write-all
 slice-reshare-prefix-write-all c = search needs
 
 slice-aggregate-write-all : tie.Need-slice-aggregate-write-all
-slice-aggregate-write-all c = let f = c .before .before .before .before .before .before .before .before .before .before .before .before in sym (length-take-le (f .feed .result .written) (f .feed .last .1 .1 .1 .1 .1 .1 .0) (f .feed .ensures .into .room))
+slice-aggregate-write-all c =
+    let f = c .before .before .before .before .before .before .before .before .before .before .before .before in
+    sym (length-take-le (f .feed .result .written) (f .feed .last .1 .1 .1 .1 .1 .1 .0) (f .feed .ensures .into .room))
 
 write-all-requires : tie.Need-write-all-requires
 write-all-requires c κs = search needs
@@ -56,7 +65,8 @@ add-t17 c =
 
 add-t30 : tie.Need-add-t30
 add-t30 c =
-    let f = c .before .before .before .before .before .before .before .before .before .before .before .before .before .before .before in let s = called f in
+    let f = c .before .before .before .before .before .before .before .before .before .before .before .before .before .before .before in
+    let s = called f in
     let e = fed-fits (now (s .args .chunk)) (s .args .s) (s .pre .2) (s .pre .0 .reply) (f .feed .ensures) (s .pre .1) (s .pre .0 .most) in
     omega (arith, e)
 
@@ -76,7 +86,9 @@ same-length-5 : tie.Need-same-length-5
 same-length-5 c = search needs
 
 returns : tie.Need-returns
-returns c = stepped (c .before .before .before .before .before .before .before .before .before .before .before .before .before .before .before) (c .before .before .write-all .result)
+returns c =
+    stepped (c .before .before .before .before .before .before .before .before .before .before .before .before .before .before .before)
+    (c .before .before .write-all .result)
 
 pub reply-next-spec : {M : Type 1} → statement M
 reply-next-spec =

@@ -19,13 +19,15 @@ use Rattle.card.proofs.Handing.{none, stands-on, next-step}
 use Rattle.card.proofs.reply_to.Statement.{statement}
 use Rattle.card.proofs.reply_to.Tie as tie
 
-record SoFar (buffer₀ chunk : List ℕ) (memory₀ : Memory) (out₀ : List ℕ) (handed : ℕ) (s : State) (buffer : List ℕ) (memory : Memory) (out : List ℕ) (step : Step) : Type 0 where
+record SoFar (buffer₀ chunk : List ℕ) (memory₀ : Memory) (out₀ : List ℕ) (handed : ℕ) (s : State) (buffer : List ℕ) (memory : Memory)
+    (out : List ℕ) (step : Step) : Type 0 where
   hands : HandsOn buffer₀ buffer s (step .state) (take (step .taken) chunk) memory₀ memory handed (step .handed)
   some : step .taken ≤ length chunk
   buffers : length buffer ≡ length buffer₀
   bytes : length out ≡ length out₀
 
-record Inv (buffer₀ chunk : List ℕ) (scratch₀ numbers₀ : List Float) (counts₀ out₀ : List ℕ) (handed : ℕ) (s : State) (buffer : List ℕ) (scratch numbers : List Float) (counts out : List ℕ) (step : Step) : Type 0 where
+record Inv (buffer₀ chunk : List ℕ) (scratch₀ numbers₀ : List Float) (counts₀ out₀ : List ℕ) (handed : ℕ) (s : State) (buffer : List ℕ)
+    (scratch numbers : List Float) (counts out : List ℕ) (step : Step) : Type 0 where
   so-far : SoFar buffer₀ chunk (memoryIn scratch₀ numbers₀ counts₀) out₀ handed s buffer (memoryIn scratch numbers counts) out step
   lengths : SameLengths scratch₀ numbers₀ counts₀ scratch numbers counts
 
@@ -88,15 +90,24 @@ module _ (x : Top) where
       record { line = omega arith; some = d .some; most = d .most; engine = x .engine; reply = omega arith }
 
   stands : Stands (mostRead + x .step .taken) (x .buffer) (x .step .state) (x .memory) (x .step .handed)
-  stands = let l = length-take (x .step .taken) (x .chunk) in stands-on (x .earlier) (x .so-far .hands) (mostRead + x .step .taken) (omega arith)
+  stands =
+      let l = length-take (x .step .taken) (x .chunk) in stands-on (x .earlier) (x .so-far .hands) (mostRead + x .step .taken) (omega arith)
 
   -- the loop's end: nothing is left, or a write failed
-  ends : (x .step .all ≡ true → length (x .chunk) ≤ x .step .taken) → Replies (x .buffer₀) (x .buffer) (x .s) (x .chunk) (x .memory₀) (x .memory) (x .handed) (x .step)
+  ends : (x .step .all ≡ true → length (x .chunk) ≤ x .step .taken)
+      → Replies (x .buffer₀) (x .buffer) (x .s) (x .chunk) (x .memory₀) (x .memory) (x .handed) (x .step)
   ends h = let m = x .so-far .some in record { hands = x .so-far .hands; some = m; all = λ e. (let l = h e in omega arith) }
 
-  next : {after : List ℕ} {left : Memory} {out : List ℕ} {r : Step} → Steps (x .buffer) after (x .step) r (x .chunk) (x .memory) left out → length after ≡ length (x .buffer) → length out ≡ length (x .out)
+  next : {after : List ℕ} {left : Memory} {out : List ℕ} {r : Step} → Steps (x .buffer) after (x .step) r (x .chunk) (x .memory) left out
+      → length after ≡ length (x .buffer) → length out ≡ length (x .out)
       → SoFar (x .buffer₀) (x .chunk) (x .memory₀) (x .out₀) (x .handed) (x .s) after left out r
-  next p b o = record { hands = next-step (x .chunk) (x .so-far .hands) p; some = p .some; buffers = b ∙ x .so-far .buffers; bytes = o ∙ x .so-far .bytes }
+  next p b o =
+      record {
+        hands = next-step (x .chunk) (x .so-far .hands) p;
+        some = p .some;
+        buffers = b ∙ x .so-far .buffers;
+        bytes = o ∙ x .so-far .bytes;
+      }
 
 -- a step, from the place where the loop goes on
 abbrev stepped : tie.After-slice-known10 Inv-loop μ-loop → tie.After-reply-next Inv-loop μ-loop
@@ -109,7 +120,9 @@ loop-holds : tie.Need-loop-holds Inv-loop μ-loop
 loop-holds c = record { so-far = record { hands = none; some = omega arith; buffers = refl; bytes = refl }; lengths = same-lengths }
 
 reply-next-requires : tie.Need-reply-next-requires Inv-loop μ-loop
-reply-next-requires c κs = let a = c .before .before .before .before .before .before .before .before in (lends-on (top a), stands (top a), ltb-true (a .loop .step .taken) _ (c .before .before .before .before .before .if1 .taken))
+reply-next-requires c κs =
+    let a = c .before .before .before .before .before .before .before .before in
+    (lends-on (top a), stands (top a), ltb-true (a .loop .step .taken) _ (c .before .before .before .before .before .if1 .taken))
 
 loop-less : tie.Need-loop-less Inv-loop μ-loop
 loop-less c = let p = stepped c .reply-next .ensures in let m = p .more in let n = p .some in omega (arith, m, n)
@@ -119,7 +132,13 @@ loop-again c =
     let f = stepped c in let a = topped f in
     record {
       so-far = next (top a) (f .reply-next .ensures) (f .reply-next .kept .0) (f .reply-next .kept .1 .1 .1 .1 .1 .1 .0);
-      lengths = then-same (a .loop .inv .lengths) (record { of-scratch = f .reply-next .kept .1 .1 .1 .0; of-numbers = f .reply-next .kept .1 .1 .1 .1 .0; of-counts = f .reply-next .kept .1 .1 .1 .1 .1 .0 });
+      lengths =
+          then-same (a .loop .inv .lengths)
+          (record {
+            of-scratch = f .reply-next .kept .1 .1 .1 .0;
+            of-numbers = f .reply-next .kept .1 .1 .1 .1 .0;
+            of-counts = f .reply-next .kept .1 .1 .1 .1 .1 .0;
+          });
     }
 
 same-length : tie.Need-same-length Inv-loop μ-loop

@@ -28,7 +28,8 @@ use borrow.Author.Needs.{needs}
 use Rattle.card.proofs.run.Statement.{statement}
 use Rattle.card.proofs.run.Tie as tie
 
-record SoFar (buffer₀ chunk₀ : List ℕ) (memory₀ : Memory) (out₀ : List ℕ) (s : State) (buffer chunk : List ℕ) (memory : Memory) (out : List ℕ) (turn : Turn) : Type 0 where
+record SoFar (buffer₀ chunk₀ : List ℕ) (memory₀ : Memory) (out₀ : List ℕ) (s : State) (buffer chunk : List ℕ) (memory : Memory)
+    (out : List ℕ) (turn : Turn) : Type 0 where
   begins : Keeps buffer₀ s []
   taken : List ℕ
   rest : List ℕ
@@ -42,7 +43,8 @@ record SoFar (buffer₀ chunk₀ : List ℕ) (memory₀ : Memory) (out₀ : List
   chunks : length chunk ≡ length chunk₀
   bytes : length out ≡ length out₀
 
-record Inv (buffer₀ chunk₀ : List ℕ) (scratch₀ numbers₀ : List Float) (counts₀ out₀ : List ℕ) (s : State) (buffer chunk : List ℕ) (scratch numbers : List Float) (counts out : List ℕ) (turn : Turn) : Type 0 where
+record Inv (buffer₀ chunk₀ : List ℕ) (scratch₀ numbers₀ : List Float) (counts₀ out₀ : List ℕ) (s : State) (buffer chunk : List ℕ)
+    (scratch numbers : List Float) (counts out : List ℕ) (turn : Turn) : Type 0 where
   so-far : SoFar buffer₀ chunk₀ (memoryIn scratch₀ numbers₀ counts₀) out₀ s buffer chunk (memoryIn scratch numbers counts) out turn
   lengths : SameLengths scratch₀ numbers₀ counts₀ scratch numbers counts
 
@@ -52,10 +54,12 @@ Inv-loop buffer₀ chunk₀ scratch₀ numbers₀ counts₀ out₀ turn₀ buffe
 
 -- each turn that goes on has read a byte
 abbrev μ-loop : tie.MeasureT-loop
-μ-loop buffer₀ chunk₀ scratch₀ numbers₀ counts₀ out₀ turn₀ buffer chunk scratch numbers counts out turn = mostRead - turn .read + cond (turn .more) 1 0
+μ-loop buffer₀ chunk₀ scratch₀ numbers₀ counts₀ out₀ turn₀ buffer chunk scratch numbers counts out turn =
+    mostRead - turn .read + cond (turn .more) 1 0
 
 start : {buffer chunk : List ℕ} {memory : Memory} {out : List ℕ} (s : State) → Keeps buffer s []
-    → SoFar buffer chunk memory out s buffer chunk memory out (record { state = s; got = negsuc 0; read = 0; handed = 0; all = true; more = true })
+    → SoFar buffer chunk memory out s buffer chunk memory out
+    (record { state = s; got = negsuc 0; read = 0; handed = 0; all = true; more = true })
 start s k =
     record {
       begins = k;
@@ -126,7 +130,9 @@ module _ (x : Top) where
 
   -- what was taken is answered over what the program begins with
   answered : Answered atFirst (linesWithin [] Taken) (x .so-far .hands .text) (x .memory)
-  answered = subst (λ (m : Memory). Answered m (linesWithin [] Taken) (x .so-far .hands .text) (x .memory)) (x .first) (x .so-far .hands .takes .answers [] (x .so-far .begins))
+  answered =
+      subst (λ (m : Memory). Answered m (linesWithin [] Taken) (x .so-far .hands .text) (x .memory)) (x .first)
+      (x .so-far .hands .takes .answers [] (x .so-far .begins))
 
   lends-on : Lends (x .buffer) (x .chunk) (x .numbers) (x .counts) (x .out)
   lends-on =
@@ -140,7 +146,8 @@ module _ (x : Top) where
       record { taken = Taken; few = omega arith; keeps = keeps; counts = omega arith; leaves = answered .leaves }
 
   -- a turn more
-  module _ {after chunk : List ℕ} {left : Memory} (out : List ℕ) {r : Turn} (goes : x .turn .more ≡ true) (few : x .turn .read < mostRead) (p : Turns (x .buffer) after (x .turn) r chunk (x .memory) left)
+  module _ {after chunk : List ℕ} {left : Memory} (out : List ℕ) {r : Turn} (goes : x .turn .more ≡ true) (few : x .turn .read < mostRead)
+      (p : Turns (x .buffer) after (x .turn) r chunk (x .memory) left)
       (b : length after ≡ length (x .buffer)) (c : length chunk ≡ length (x .chunk)) (o : length out ≡ length (x .out)) where
     abbrev Rest : List ℕ
     Rest = take (brought (r .got) - p .taken) (drop (p .taken) chunk)
@@ -173,7 +180,8 @@ module _ (x : Top) where
         }
 
   -- the end of the run
-  closed : {left : Memory} {out : List ℕ} {r : End} → (x .turn .more ≡ false) ⊎ (mostRead ≤ x .turn .read) → Closes (x .buffer) (x .turn) (x .memory) left out r → Runs left out r
+  closed : {left : Memory} {out : List ℕ} {r : End} → (x .turn .more ≡ false) ⊎ (mostRead ≤ x .turn .read)
+      → Closes (x .buffer) (x .turn) (x .memory) left out r → Runs left out r
   closed {left} {out} {r} halted p =
       let h = x .so-far .hands in let c = h .counts in let d = p .counts in let l = length-append (h .text) (p .text) in
       let got : r .turn .got ≡ x .turn .got = ap (λ (t : Turn). t .got) (p .same) in
@@ -190,7 +198,8 @@ module _ (x : Top) where
         tells = p .tells;
       }
     where
-      up-to : (b : Bool) {text : List ℕ} → Answered atFirst (linesWithin [] Taken ++ cond b (lastLine (begunAfter [] Taken)) []) text left → Answered atFirst (cond b (linesOf Taken) (linesWithin [] Taken)) text left
+      up-to : (b : Bool) {text : List ℕ} → Answered atFirst (linesWithin [] Taken ++ cond b (lastLine (begunAfter [] Taken)) []) text left
+          → Answered atFirst (cond b (linesOf Taken) (linesWithin [] Taken)) text left
       up-to true a = a
       up-to false a = rw (append-nil (linesWithin [] Taken)) at a
 
@@ -213,24 +222,43 @@ no-line-requires : tie.Need-no-line-requires Inv-loop μ-loop
 no-line-requires c κs = search needs
 
 loop-holds : tie.Need-loop-holds Inv-loop μ-loop
-loop-holds c = record { so-far = start (c .no-line .result) (c .no-line .ensures (now (c .before .before .before .before .before .before .before .args .buffer))); lengths = same-lengths }
+loop-holds c =
+    record {
+      so-far =
+          start (c .no-line .result) (c .no-line .ensures (now (c .before .before .before .before .before .before .before .args .buffer)));
+      lengths = same-lengths;
+    }
 
 take-turn-requires : tie.Need-take-turn-requires Inv-loop μ-loop
 take-turn-requires c κs =
-    let x = top (c .before .before .before .before .before .before .before .before .before) in let l = ltb-true (x .turn .read) mostRead (c .before .before .before .before .before .before .if1 .taken) in
+    let x = top (c .before .before .before .before .before .before .before .before .before) in
+    let l = ltb-true (x .turn .read) mostRead (c .before .before .before .before .before .before .if1 .taken) in
     (lends-on x, stands x mostRead (omega arith), l)
 
 loop-less : tie.Need-loop-less Inv-loop μ-loop
 loop-less c =
     let t = turned c in let x = top (topped t) in let p = t .take-turn .ensures in let r = t .take-turn .result in
-    fewer-left (x .turn .read) (brought (r .got)) (r .read) (x .turn .more) (r .more) (t .before .before .before .before .before .before .before .before .before .loop-test .taken) (ltb-true (x .turn .read) mostRead (t .before .before .before .before .before .before .before .if1 .taken)) (p .reads) (λ g. some-brought (brought (r .got)) (r .all) (sym (p .goes) ∙ g))
+    fewer-left (x .turn .read) (brought (r .got)) (r .read) (x .turn .more) (r .more)
+    (t .before .before .before .before .before .before .before .before .before .loop-test .taken)
+    (ltb-true (x .turn .read) mostRead (t .before .before .before .before .before .before .before .if1 .taken)) (p .reads)
+    (λ g. some-brought (brought (r .got)) (r .all) (sym (p .goes) ∙ g))
 
 loop-again : tie.Need-loop-again Inv-loop μ-loop
 loop-again c =
     let t = turned c in let a = topped t in
     record {
-      so-far = next (top a) (t .take-turn .last .1 .1 .1 .1 .1 .1 .0) (t .before .before .before .before .before .before .before .before .before .loop-test .taken) (ltb-true (a .loop .turn .read) mostRead (t .before .before .before .before .before .before .before .if1 .taken)) (t .take-turn .ensures) (t .take-turn .kept .0) (t .take-turn .kept .1 .1 .0) (t .take-turn .kept .1 .1 .1 .1 .1 .1 .0);
-      lengths = then-same (a .loop .inv .lengths) (record { of-scratch = t .take-turn .kept .1 .1 .1 .0; of-numbers = t .take-turn .kept .1 .1 .1 .1 .0; of-counts = t .take-turn .kept .1 .1 .1 .1 .1 .0 });
+      so-far =
+          next (top a) (t .take-turn .last .1 .1 .1 .1 .1 .1 .0)
+          (t .before .before .before .before .before .before .before .before .before .loop-test .taken)
+          (ltb-true (a .loop .turn .read) mostRead (t .before .before .before .before .before .before .before .if1 .taken))
+          (t .take-turn .ensures) (t .take-turn .kept .0) (t .take-turn .kept .1 .1 .0) (t .take-turn .kept .1 .1 .1 .1 .1 .1 .0);
+      lengths =
+          then-same (a .loop .inv .lengths)
+          (record {
+            of-scratch = t .take-turn .kept .1 .1 .1 .0;
+            of-numbers = t .take-turn .kept .1 .1 .1 .1 .0;
+            of-counts = t .take-turn .kept .1 .1 .1 .1 .1 .0;
+          });
     }
 
 end-run-requires : tie.Need-end-run-requires Inv-loop μ-loop
@@ -239,25 +267,39 @@ end-run-requires c κs =
     (lent p (lends-on x), omega arith, p)
 
 same-length : tie.Need-same-length Inv-loop μ-loop
-same-length c = c .before .before .before .before .before .before .before .before .before .before .before .before .before .before .before .loop .inv .so-far .buffers
+same-length c =
+    let e = c .before .before .before .before .before .before .before .before in
+    e .before .before .before .before .before .before .before .loop .inv .so-far .buffers
 
 same-length-2 : tie.Need-same-length-2 Inv-loop μ-loop
-same-length-2 c = c .before .before .before .before .before .before .before .before .before .before .before .before .before .before .before .loop .inv .so-far .chunks
+same-length-2 c =
+    let e = c .before .before .before .before .before .before .before .before in
+    e .before .before .before .before .before .before .before .loop .inv .so-far .chunks
 
 same-length-3 : tie.Need-same-length-3 Inv-loop μ-loop
-same-length-3 c = let e = c .before .before .before .before .before .before .before .before in e .end-run .kept .1 .1 .0 ∙ e .before .before .before .before .before .before .before .loop .inv .lengths .of-scratch
+same-length-3 c =
+    let e = c .before .before .before .before .before .before .before .before in
+    e .end-run .kept .1 .1 .0 ∙ e .before .before .before .before .before .before .before .loop .inv .lengths .of-scratch
 
 same-length-4 : tie.Need-same-length-4 Inv-loop μ-loop
-same-length-4 c = let e = c .before .before .before .before .before .before .before .before in e .end-run .kept .1 .1 .1 .0 ∙ e .before .before .before .before .before .before .before .loop .inv .lengths .of-numbers
+same-length-4 c =
+    let e = c .before .before .before .before .before .before .before .before in
+    e .end-run .kept .1 .1 .1 .0 ∙ e .before .before .before .before .before .before .before .loop .inv .lengths .of-numbers
 
 same-length-5 : tie.Need-same-length-5 Inv-loop μ-loop
-same-length-5 c = let e = c .before .before .before .before .before .before .before .before in e .end-run .kept .1 .1 .1 .1 .0 ∙ e .before .before .before .before .before .before .before .loop .inv .lengths .of-counts
+same-length-5 c =
+    let e = c .before .before .before .before .before .before .before .before in
+    e .end-run .kept .1 .1 .1 .1 .0 ∙ e .before .before .before .before .before .before .before .loop .inv .lengths .of-counts
 
 same-length-6 : tie.Need-same-length-6 Inv-loop μ-loop
-same-length-6 c = let e = c .before .before .before .before .before .before .before .before in e .end-run .kept .1 .1 .1 .1 .1 .0 ∙ e .before .before .before .before .before .before .before .loop .inv .so-far .bytes
+same-length-6 c =
+    let e = c .before .before .before .before .before .before .before .before in
+    e .end-run .kept .1 .1 .1 .1 .1 .0 ∙ e .before .before .before .before .before .before .before .loop .inv .so-far .bytes
 
 returns : tie.Need-returns Inv-loop μ-loop
-returns c = let e = c .before .before .before .before .before .before .before .before in let l = e .before .before .before .before .before .before in closed (top (l .before)) (halted l) (e .end-run .ensures)
+returns c =
+    let e = c .before .before .before .before .before .before .before .before in
+    let l = e .before .before .before .before .before .before in closed (top (l .before)) (halted l) (e .end-run .ensures)
 
 pub run-spec : {M : Type 1} → statement M
 run-spec =

@@ -26,7 +26,9 @@ use Rattle.card.proofs.take_turn.Statement.{statement}
 use Rattle.card.proofs.take_turn.Tie as tie
 
 module _ (buffer : List ℕ) (t : Turn) (chunk : List ℕ) (memory : Memory) (got : ℤ) (n : ℕ) (b : n ≡ brought got) where
-  nothing-read : n ≡ 0 → Turns buffer buffer t (record { state = t .state; got = got; read = t .read; handed = t .handed; all = true; more = false }) chunk memory memory
+  nothing-read : n ≡ 0
+      → Turns buffer buffer t
+      (record { state = t .state; got = got; read = t .read; handed = t .handed; all = true; more = false }) chunk memory memory
   nothing-read z =
       let e : brought got ≡ 0 = omega arith in
       record {
@@ -41,11 +43,14 @@ module _ (buffer : List ℕ) (t : Turn) (chunk : List ℕ) (memory : Memory) (go
 
   -- n bytes were read
   module _ (h : n ≤ length chunk) (e : n ≡ length (take n chunk)) (z : n ≡ 0 → ⊥) where
-    part-lent : (before : List ℕ) (numbers : List Float) (counts out : List ℕ) → length chunk ≡ length before → Lends buffer before numbers counts out → Lends buffer (take n chunk) numbers counts out
-    part-lent before numbers counts out l d = let m = d .most in record { line = d .line; some = omega arith; most = omega arith; engine = d .engine; reply = d .reply }
+    part-lent : (before : List ℕ) (numbers : List Float) (counts out : List ℕ) → length chunk ≡ length before
+        → Lends buffer before numbers counts out → Lends buffer (take n chunk) numbers counts out
+    part-lent before numbers counts out l d =
+        let m = d .most in record { line = d .line; some = omega arith; most = omega arith; engine = d .engine; reply = d .reply }
 
     some-read : (after : List ℕ) (left : Memory) (r : Step) → Replies buffer after (t .state) (take n chunk) memory left (t .handed) r
-        → Turns buffer after t (record { state = r .state; got = got; read = t .read + n; handed = r .handed; all = r .all; more = r .all }) chunk memory left
+        → Turns buffer after t
+        (record { state = r .state; got = got; read = t .read + n; handed = r .handed; all = r .all; more = r .all }) chunk memory left
     some-read after left r p =
         let m = p .some in
         let some : r .taken ≤ n = omega arith in
@@ -64,7 +69,8 @@ brings : (k : tie.After-count) → k .count .result ≡ brought (k .before .befo
 brings k =
     let r = k .before .before .before .before in
     counted (r .read .result) (k .count .result) _ (length (r .read .last .1 .0)) (r .read .ensures) (r .read .kept .1 .0)
-    (k .count .ensures .1 ∙ ap (λ (z : ℤ). clamped z (length (r .read .last .1 .0))) (toZ-ofZ w64 (r .read .result) (record { sfits = r .read .ok })))
+    (k .count .ensures .1 ∙ ap (λ (z : ℤ). clamped z (length (r .read .last .1 .0)))
+    (toZ-ofZ w64 (r .read .result) (record { sfits = r .read .ok })))
 
 read-requires : tie.Need-read-requires
 read-requires c κs = search needs
@@ -77,9 +83,12 @@ same-length c = search needs
 
 returns : tie.Need-returns
 returns c =
-    let k = c .before .before in let r = k .before .before .before .before in let s = r .before .before .before .before .before .before .before .before in
+    let k = c .before .before in let r = k .before .before .before .before in
+    let s = r .before .before .before .before .before .before .before .before in
     rw (toZ-ofZ w64 (r .read .result) (record { sfits = r .read .ok }))
-    (nothing-read (now (s .args .buffer)) (s .args .t) (r .read .last .1 .0) (memoryIn (now (s .args .scratch)) (now (s .args .engine-numbers)) (now (s .args .engine-counts))) (r .read .result) (k .count .result) (brings k) (c .if1 .taken))
+    (nothing-read (now (s .args .buffer)) (s .args .t) (r .read .last .1 .0)
+    (memoryIn (now (s .args .scratch)) (now (s .args .engine-numbers)) (now (s .args .engine-counts))) (r .read .result) (k .count .result)
+    (brings k) (c .if1 .taken))
 
 slice-reshare-prefix-reply-to : tie.Need-slice-reshare-prefix-reply-to
 slice-reshare-prefix-reply-to c = search needs
@@ -89,15 +98,22 @@ slice-aggregate-reply-to c = search needs
 
 reply-to-requires : tie.Need-reply-to-requires
 reply-to-requires c κs =
-    let k = c .before .before .before .before .before .before .before .before in let r = k .before .before .before .before in let s = r .before .before .before .before .before .before .before .before in (
-      part-lent (now (s .args .buffer)) (s .args .t) (r .read .last .1 .0) (memoryIn (now (s .args .scratch)) (now (s .args .engine-numbers)) (now (s .args .engine-counts))) (r .read .result) (k .count .result) (brings k) (k .count .ensures .0 .0) (k .count .ensures .0 .1) (c .before .before .before .before .before .before .if1 .left)
-          (now (s .args .chunk)) (now (s .args .engine-numbers)) (now (s .args .engine-counts)) (now (s .args .out)) (r .read .kept .1 .0) (s .pre .0),
+    let k = c .before .before .before .before .before .before .before .before in let r = k .before .before .before .before in
+    let s = r .before .before .before .before .before .before .before .before in (
+      part-lent (now (s .args .buffer)) (s .args .t) (r .read .last .1 .0)
+          (memoryIn (now (s .args .scratch)) (now (s .args .engine-numbers)) (now (s .args .engine-counts))) (r .read .result)
+          (k .count .result) (brings k) (k .count .ensures .0 .0) (k .count .ensures .0 .1)
+          (c .before .before .before .before .before .before .if1 .left)
+          (now (s .args .chunk)) (now (s .args .engine-numbers)) (now (s .args .engine-counts)) (now (s .args .out)) (r .read .kept .1 .0)
+          (s .pre .0),
       s .pre .1,
     )
 
 add-t30 : tie.Need-add-t30
 add-t30 c =
-    let k = c .before .before .before .before .before .before .before .before .before .before .before .before .before .before .before .before .before .before .before .before .before in let r = k .before .before .before .before in let s = r .before .before .before .before .before .before .before .before in
+    let p = c .before .before .before .before .before .before .before .before .before .before .before .before in
+    let k = p .before .before .before .before .before .before .before .before .before in let r = k .before .before .before .before in
+    let s = r .before .before .before .before .before .before .before .before in
     let a = k .count .ensures .0 .0 in let b = r .read .kept .1 .0 in let d = s .pre .0 .most in let e = s .pre .2 in
     omega (arith, a, b, d, e)
 
@@ -121,10 +137,16 @@ same-length-7 c = search needs
 
 returns-2 : tie.Need-returns-2
 returns-2 c =
-    let p = c .before .before .before .before .before .before .before .before .before .before .before .before in let k = p .before .before .before .before .before .before .before .before .before in let r = k .before .before .before .before in let s = r .before .before .before .before .before .before .before .before in
+    let p = c .before .before .before .before .before .before .before .before .before .before .before .before in
+    let k = p .before .before .before .before .before .before .before .before .before in let r = k .before .before .before .before in
+    let s = r .before .before .before .before .before .before .before .before in
     rw (toZ-ofZ w64 (r .read .result) (record { sfits = r .read .ok }))
-    (some-read (now (s .args .buffer)) (s .args .t) (r .read .last .1 .0) (memoryIn (now (s .args .scratch)) (now (s .args .engine-numbers)) (now (s .args .engine-counts))) (r .read .result) (k .count .result) (brings k) (k .count .ensures .0 .0) (k .count .ensures .0 .1) (p .before .before .before .before .before .before .before .if1 .left)
-    (p .reply-to .last .0) (memoryIn (p .reply-to .last .1 .1 .1 .0) (p .reply-to .last .1 .1 .1 .1 .0) (p .reply-to .last .1 .1 .1 .1 .1 .0)) (p .reply-to .result) (p .reply-to .ensures))
+    (some-read (now (s .args .buffer)) (s .args .t) (r .read .last .1 .0)
+    (memoryIn (now (s .args .scratch)) (now (s .args .engine-numbers)) (now (s .args .engine-counts))) (r .read .result) (k .count .result)
+    (brings k) (k .count .ensures .0 .0) (k .count .ensures .0 .1) (p .before .before .before .before .before .before .before .if1 .left)
+    (p .reply-to .last .0)
+    (memoryIn (p .reply-to .last .1 .1 .1 .0) (p .reply-to .last .1 .1 .1 .1 .0) (p .reply-to .last .1 .1 .1 .1 .1 .0))
+    (p .reply-to .result) (p .reply-to .ensures))
 
 pub take-turn-spec : {M : Type 1} → statement M
 take-turn-spec =

@@ -34,7 +34,8 @@ module _ (buffer : List ℕ) (t : Turn) {out after : List ℕ} {n : ℕ} where
       }
 
   -- it is not: nothing more is written
-  before-end : atEnd (t .got) ≡ false → Appended out 0 (told false) after n → Closes buffer t after (record { turn = t; all = t .all; handed = t .handed; told = n })
+  before-end : atEnd (t .got) ≡ false → Appended out 0 (told false) after n
+      → Closes buffer t after (record { turn = t; all = t .all; handed = t .handed; told = n })
   unfolding blocksOf
   before-end g a =
       record {
@@ -48,7 +49,9 @@ module _ (buffer : List ℕ) (t : Turn) {out after : List ℕ} {n : ℕ} where
 
 -- what the last read gave, from the call of `is_end`
 is-at-end : (c : tie.After-is-end) → c .is-end .result ≡ atEnd (c .before .before .before .before .args .t .got)
-is-at-end c = c .is-end .ensures ∙ ap atEnd (toZ-ofZ w64 (c .before .before .before .before .args .t .got) (record { sfits = c .before .struct-told .given .1 .0 .1 }))
+is-at-end c =
+    c .is-end .ensures
+    ∙ ap atEnd (toZ-ofZ w64 (c .before .before .before .before .args .t .got) (record { sfits = c .before .struct-told .given .1 .0 .1 }))
 
 is-end-requires : tie.Need-is-end-requires
 is-end-requires c κs = search needs
@@ -57,11 +60,14 @@ show-last-requires : tie.Need-show-last-requires
 show-last-requires c κs = search needs
 
 tell-requires : tie.Need-tell-requires
-tell-requires c κs = let l = c .before .before .before in l .show-last .kept .1 .1 .0 ∙ l .before .before .before .before .before .before .before .before .pre .1
+tell-requires c κs =
+    let l = c .before .before .before in
+    l .show-last .kept .1 .1 .0 ∙ l .before .before .before .before .before .before .before .before .pre .1
 
 add-t13 : tie.Need-add-t13
 add-t13 c =
-    let l = c .before .before .before .before .before .before .before .before in let s = l .before .before .before .before .before .before .before .before in
+    let l = c .before .before .before .before .before .before .before .before in
+    let s = l .before .before .before .before .before .before .before .before in
     let a = l .show-last .ensures .room in let b = l .show-last .kept .1 .1 .0 in let d = s .pre .1 in let e = s .pre .2 in
     omega (arith, a, b, d, e)
 
@@ -70,8 +76,10 @@ same-length c = search needs
 
 returns : tie.Need-returns
 returns c =
-    let t = c .before .before .before .before in let l = t .before .before .before .before in let i = l .before .before .before .before in let s = i .before .before .before .before in
-    at-end (now (s .args .buffer)) (s .args .t) (l .show-last .result) (sym (is-at-end i) ∙ l .before .before .before .if1 .taken) (l .show-last .ensures) (t .tell .ensures)
+    let t = c .before .before .before .before in let l = t .before .before .before .before in let i = l .before .before .before .before in
+    let s = i .before .before .before .before in
+    at-end (now (s .args .buffer)) (s .args .t) (l .show-last .result) (sym (is-at-end i) ∙ l .before .before .before .if1 .taken)
+    (l .show-last .ensures) (t .tell .ensures)
 
 tell-requires-2 : tie.Need-tell-requires-2
 tell-requires-2 c κs = search needs

@@ -28,7 +28,9 @@ array-share-prefix-out : tie.Need-array-share-prefix-out
 array-share-prefix-out c = c .before .before .before .run .ensures .tells .room
 
 slice-aggregate-write-all : tie.Need-slice-aggregate-write-all
-slice-aggregate-write-all c = let r = c .before .before .before .before in sym (length-take-le (r .run .result .told) (r .run .last .1 .1 .0) (r .run .ensures .tells .room))
+slice-aggregate-write-all c =
+    let r = c .before .before .before .before in
+    sym (length-take-le (r .run .result .told) (r .run .last .1 .1 .0) (r .run .ensures .tells .room))
 
 write-all-requires : tie.Need-write-all-requires
 write-all-requires c κs = search needs

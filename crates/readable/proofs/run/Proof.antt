@@ -43,7 +43,8 @@ Inv-loop buffer₀ chunk₀ out₀ turn₀ buffer chunk out turn = SoFar buffer�
 abbrev μ-loop : tie.MeasureT-loop
 μ-loop buffer₀ chunk₀ out₀ turn₀ buffer chunk out turn = mostRead - turn .read + cond (turn .more) 1 0
 
-start : {buffer chunk out : List ℕ} (s : State) → Keeps buffer s [] → SoFar buffer chunk out s buffer chunk out (record { state = s; got = negsuc 0; read = 0; handed = 0; all = true; more = true })
+start : {buffer chunk out : List ℕ} (s : State) → Keeps buffer s []
+    → SoFar buffer chunk out s buffer chunk out (record { state = s; got = negsuc 0; read = 0; handed = 0; all = true; more = true })
 start s k =
     let c = k .count in
     record {
@@ -106,7 +107,8 @@ module _ (x : Top) where
 
   lends-on : Lends (x .buffer) (x .chunk) (x .out)
   lends-on =
-      let d = x .lends in let a = d .line in let b = d .some in let m = d .most in let i = x .so-far .buffers in let j = x .so-far .chunks in
+      let d = x .lends in let a = d .line in let b = d .some in let m = d .most in let i = x .so-far .buffers in
+      let j = x .so-far .chunks in
       record { line = omega arith; some = omega arith; most = omega arith; block = x .so-far .bytes ∙ d .block }
 
   counted : Counted (x .turn .read) (x .turn .state) (x .turn .handed)
@@ -115,7 +117,8 @@ module _ (x : Top) where
       record { within = h .within; few = omega arith }
 
   -- a turn more
-  module _ {after chunk : List ℕ} (out : List ℕ) {r : Turn} (goes : x .turn .more ≡ true) (few : x .turn .read < mostRead) (p : Turns (x .buffer) after (x .turn) r chunk) (b : length after ≡ length (x .buffer))
+  module _ {after chunk : List ℕ} (out : List ℕ) {r : Turn} (goes : x .turn .more ≡ true) (few : x .turn .read < mostRead)
+      (p : Turns (x .buffer) after (x .turn) r chunk) (b : length after ≡ length (x .buffer))
       (c : length chunk ≡ length (x .chunk)) (o : length out ≡ length (x .out)) where
     abbrev Rest : List ℕ
     Rest = take (brought (r .got) - p .taken) (drop (p .taken) chunk)
@@ -197,21 +200,29 @@ loop-holds : tie.Need-loop-holds Inv-loop μ-loop
 loop-holds c = start (c .no-line .result) (c .no-line .ensures (now (c .before .before .before .before .args .buffer)))
 
 take-turn-requires : tie.Need-take-turn-requires Inv-loop μ-loop
-take-turn-requires c κs = let x = top (c .before .before .before .before .before .before) in (lends-on x, counted x, ltb-true (x .turn .read) mostRead (c .before .before .before .if1 .taken))
+take-turn-requires c κs =
+    let x = top (c .before .before .before .before .before .before) in
+    (lends-on x, counted x, ltb-true (x .turn .read) mostRead (c .before .before .before .if1 .taken))
 
 loop-less : tie.Need-loop-less Inv-loop μ-loop
 loop-less c =
     let t = turned c in let x = top (topped t) in let p = t .take-turn .ensures in let r = t .take-turn .result in
-    fewer-left (x .turn .read) (brought (r .got)) (r .read) (x .turn .more) (r .more) (t .before .before .before .before .before .before .loop-test .taken) (ltb-true (x .turn .read) mostRead (t .before .before .before .before .if1 .taken)) (p .reads) (λ g. some-brought (brought (r .got)) (r .all) (sym (p .goes) ∙ g))
+    fewer-left (x .turn .read) (brought (r .got)) (r .read) (x .turn .more) (r .more)
+    (t .before .before .before .before .before .before .loop-test .taken)
+    (ltb-true (x .turn .read) mostRead (t .before .before .before .before .if1 .taken)) (p .reads)
+    (λ g. some-brought (brought (r .got)) (r .all) (sym (p .goes) ∙ g))
 
 loop-again : tie.Need-loop-again Inv-loop μ-loop
 loop-again c =
     let t = turned c in let a = topped t in
-    next (top a) (t .take-turn .last .1 .1 .1 .0) (t .before .before .before .before .before .before .loop-test .taken) (ltb-true (a .loop .turn .read) mostRead (t .before .before .before .before .if1 .taken)) (t .take-turn .ensures) (t .take-turn .kept .0) (t .take-turn .kept .1 .1 .0) (t .take-turn .kept .1 .1 .1 .0)
+    next (top a) (t .take-turn .last .1 .1 .1 .0) (t .before .before .before .before .before .before .loop-test .taken)
+    (ltb-true (a .loop .turn .read) mostRead (t .before .before .before .before .if1 .taken)) (t .take-turn .ensures)
+    (t .take-turn .kept .0) (t .take-turn .kept .1 .1 .0) (t .take-turn .kept .1 .1 .1 .0)
 
 end-run-requires : tie.Need-end-run-requires Inv-loop μ-loop
 end-run-requires c κs =
-    let x = top (c .before .before .before) in let d = lends-on x in let l = d .line in let w = counted x .within in let f = counted x .few in let m = x .so-far .most in
+    let x = top (c .before .before .before) in let d = lends-on x in let l = d .line in let w = counted x .within in
+    let f = counted x .few in let m = x .so-far .most in
     (omega arith, d .block, omega arith)
 
 same-length : tie.Need-same-length Inv-loop μ-loop

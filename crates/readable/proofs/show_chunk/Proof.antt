@@ -60,34 +60,49 @@ top a =
 
 module _ (x : Top) where
   lends-on : Lends (x .buffer) (x .chunk) (x .out)
-  lends-on = let d = x .lends in let a = d .line in let i = x .so-far .buffers in record { line = omega arith; some = d .some; most = d .most; block = x .so-far .bytes ∙ d .block }
+  lends-on =
+      let d = x .lends in let a = d .line in
+      let i = x .so-far .buffers in record { line = omega arith; some = d .some; most = d .most; block = x .so-far .bytes ∙ d .block }
 
   counted : Counted (mostRead + x .step .taken) (x .step .state) (x .step .handed)
   counted =
-      let h = x .so-far .hands in let c = h .counts in let f = h .few in let e = x .earlier .few in let l = length-take (x .step .taken) (x .chunk) in
+      let h = x .so-far .hands in let c = h .counts in let f = h .few in let e = x .earlier .few in
+      let l = length-take (x .step .taken) (x .chunk) in
       record { within = h .within; few = omega arith }
 
   -- the loop's end: nothing is left, or a write failed
-  ends : (x .step .all ≡ true → length (x .chunk) ≤ x .step .taken) → ShowsChunk (x .buffer₀) (x .buffer) (x .s) (x .chunk) (x .handed) (x .step)
+  ends : (x .step .all ≡ true → length (x .chunk) ≤ x .step .taken)
+      → ShowsChunk (x .buffer₀) (x .buffer) (x .s) (x .chunk) (x .handed) (x .step)
   ends h = let m = x .so-far .some in record { hands = x .so-far .hands; some = m; all = λ e. (let l = h e in omega arith) }
 
-  next : {after out : List ℕ} {r : Step} → Steps (x .buffer) after (x .step) r (x .chunk) out → length after ≡ length (x .buffer) → length out ≡ length (x .out)
+  next : {after out : List ℕ} {r : Step} → Steps (x .buffer) after (x .step) r (x .chunk) out → length after ≡ length (x .buffer)
+      → length out ≡ length (x .out)
       → SoFar (x .buffer₀) (x .chunk) (x .out₀) (x .handed) (x .s) after out r
   next p b o =
       let bytes = o ∙ x .so-far .bytes in
-      record { hands = next-step (x .chunk) (bytes ∙ x .lends .block) (x .so-far .hands) p; some = p .some; buffers = b ∙ x .so-far .buffers; bytes = bytes }
+      record {
+        hands = next-step (x .chunk) (bytes ∙ x .lends .block) (x .so-far .hands) p;
+        some = p .some;
+        buffers = b ∙ x .so-far .buffers;
+        bytes = bytes;
+      }
 
 loop-holds : tie.Need-loop-holds Inv-loop μ-loop
 loop-holds c = record { hands = none-handed (c .before .before .before .pre .1 .within); some = omega arith; buffers = refl; bytes = refl }
 
 show-next-requires : tie.Need-show-next-requires Inv-loop μ-loop
-show-next-requires c κs = let a = c .before .before .before .before .before in (lends-on (top a), counted (top a), ltb-true (a .loop .step .taken) _ (c .before .before .if1 .taken))
+show-next-requires c κs =
+    let a = c .before .before .before .before .before in
+    (lends-on (top a), counted (top a), ltb-true (a .loop .step .taken) _ (c .before .before .if1 .taken))
 
 loop-less : tie.Need-loop-less Inv-loop μ-loop
 loop-less c = let p = c .before .before .before .before .show-next .ensures in let m = p .more in let n = p .some in omega (arith, m, n)
 
 loop-again : tie.Need-loop-again Inv-loop μ-loop
-loop-again c = let f = c .before .before .before .before in next (top (f .before .before .before .before .before .before)) (f .show-next .ensures) (f .show-next .kept .0) (f .show-next .kept .1 .1 .1 .0)
+loop-again c =
+    let f = c .before .before .before .before in
+    next (top (f .before .before .before .before .before .before)) (f .show-next .ensures) (f .show-next .kept .0)
+    (f .show-next .kept .1 .1 .1 .0)
 
 same-length : tie.Need-same-length Inv-loop μ-loop
 same-length c = c .before .before .before .loop .inv .buffers

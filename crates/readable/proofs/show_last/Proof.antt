@@ -27,7 +27,9 @@ unfolding blocksOf
 returns-2 c =
     let l = c .before .before in let s = l .before .before .before .before .before in
     record {
-      blocks = λ begun k. rw (last-line (now (s .args .buffer)) (s .args .s) begun k (l .before .before .if1 .left)) (l .show-line .ensures .block begun k ∙ sym (append-nil (blockOf begun)));
+      blocks =
+          λ begun k. rw (last-line (now (s .args .buffer)) (s .args .s) begun k (l .before .before .if1 .left))
+          (l .show-line .ensures .block begun k ∙ sym (append-nil (blockOf begun)));
       room = l .show-line .ensures .room;
     }
 

@@ -18,7 +18,9 @@ slice-reshare-prefix-write-all : tie.Need-slice-reshare-prefix-write-all
 slice-reshare-prefix-write-all c = put-within (c .before .before .put-block .ensures)
 
 slice-aggregate-write-all : tie.Need-slice-aggregate-write-all
-slice-aggregate-write-all c = let p = c .before .before .before in sym (length-take-le (p .put-block .result) (p .put-block .last .0) (put-within (p .put-block .ensures)))
+slice-aggregate-write-all c =
+    let p = c .before .before .before in
+    sym (length-take-le (p .put-block .result) (p .put-block .last .0) (put-within (p .put-block .ensures)))
 
 write-all-requires : tie.Need-write-all-requires
 write-all-requires c κs = search needs
@@ -27,7 +29,9 @@ same-length : tie.Need-same-length
 same-length c = search needs
 
 returns : tie.Need-returns
-returns c = let p = c .before .before .before .before .put-block .ensures in record { block = λ begun k. p .holds ∙ kept-block k; room = put-within p }
+returns c =
+    let p = c .before .before .before .before .put-block .ensures in
+    record { block = λ begun k. p .holds ∙ kept-block k; room = put-within p }
 
 pub show-line-spec : {M : Type 1} → statement M
 show-line-spec =

@@ -33,7 +33,9 @@ same-length : tie.Need-same-length
 same-length c = search needs
 
 returns : tie.Need-returns
-returns c = let k = c .before .before .before .before .before in let s = called k in to-end (now (s .args .chunk)) (s .args .s) (s .pre .2) (k .keep-line .ensures) (now (s .args .out)) (c .if1 .taken)
+returns c =
+    let k = c .before .before .before .before .before in
+    let s = called k in to-end (now (s .args .chunk)) (s .args .s) (s .pre .2) (k .keep-line .ensures) (now (s .args .out)) (c .if1 .taken)
 
 show-line-requires : tie.Need-show-line-requires
 show-line-requires c κs =
@@ -52,8 +54,10 @@ add-t15 c =
 
 add-t23 : tie.Need-add-t23
 add-t23 c =
-    let l = c .before .before .before .before .before in let k = l .before .before .before .before .before .before .before .before in let s = called k in
-    let a = l .show-line .ensures .room in let b = l .show-line .kept .1 .1 .0 in let d = s .pre .0 .block in let e = s .pre .1 .few in let m = s .pre .0 .most in let n = s .pre .2 in
+    let l = c .before .before .before .before .before in let k = l .before .before .before .before .before .before .before .before in
+    let s = called k in
+    let a = l .show-line .ensures .room in let b = l .show-line .kept .1 .1 .0 in let d = s .pre .0 .block in let e = s .pre .1 .few in
+    let m = s .pre .0 .most in let n = s .pre .2 in
     omega (arith, a, b, d, e, m, n)
 
 same-length-2 : tie.Need-same-length-2
@@ -64,8 +68,10 @@ same-length-3 c = search needs
 
 returns-2 : tie.Need-returns-2
 returns-2 c =
-    let l = c .before .before .before .before .before in let k = l .before .before .before .before .before .before .before .before in let s = called k in
-    past-newline (now (s .args .chunk)) (s .args .s) (s .pre .2) (k .keep-line .ensures) (l .before .before .before .if1 .left) (c .before .before .no-line .ensures) (l .show-line .ensures)
+    let l = c .before .before .before .before .before in let k = l .before .before .before .before .before .before .before .before in
+    let s = called k in
+    past-newline (now (s .args .chunk)) (s .args .s) (s .pre .2) (k .keep-line .ensures) (l .before .before .before .if1 .left)
+    (c .before .before .no-line .ensures) (l .show-line .ensures)
 
 pub show-next-spec : {M : Type 1} → statement M
 show-next-spec =

@@ -25,7 +25,8 @@ use Rattle.readable.proofs.take_turn.Statement.{statement}
 use Rattle.readable.proofs.take_turn.Tie as tie
 
 module _ (buffer : List ℕ) (t : Turn) (chunk : List ℕ) (got : ℤ) (n : ℕ) (b : n ≡ brought got) where
-  nothing-read : n ≡ 0 → t .state .kept ≤ lineBytes → Turns buffer buffer t (record { state = t .state; got = got; read = t .read; handed = t .handed; all = true; more = false }) chunk
+  nothing-read : n ≡ 0 → t .state .kept ≤ lineBytes
+      → Turns buffer buffer t (record { state = t .state; got = got; read = t .read; handed = t .handed; all = true; more = false }) chunk
   nothing-read z w =
       let e : brought got ≡ 0 = omega arith in
       record {
@@ -44,7 +45,8 @@ module _ (buffer : List ℕ) (t : Turn) (chunk : List ℕ) (got : ℤ) (n : ℕ)
     part-lent before out l d = let m = d .most in record { line = d .line; some = omega arith; most = omega arith; block = d .block }
 
     some-read : (after : List ℕ) (r : Step) → ShowsChunk buffer after (t .state) (take n chunk) (t .handed) r
-        → Turns buffer after t (record { state = r .state; got = got; read = t .read + n; handed = r .handed; all = r .all; more = r .all }) chunk
+        → Turns buffer after t
+        (record { state = r .state; got = got; read = t .read + n; handed = r .handed; all = r .all; more = r .all }) chunk
     some-read after r p =
         let m = p .some in
         let some : r .taken ≤ n = omega arith in
@@ -63,7 +65,8 @@ brings : (k : tie.After-count) → k .count .result ≡ brought (k .before .befo
 brings k =
     let r = k .before .before .before .before in
     counted (r .read .result) (k .count .result) _ (length (r .read .last .1 .0)) (r .read .ensures) (r .read .kept .1 .0)
-    (k .count .ensures .1 ∙ ap (λ (z : ℤ). clamped z (length (r .read .last .1 .0))) (toZ-ofZ w64 (r .read .result) (record { sfits = r .read .ok })))
+    (k .count .ensures .1 ∙ ap (λ (z : ℤ). clamped z (length (r .read .last .1 .0)))
+    (toZ-ofZ w64 (r .read .result) (record { sfits = r .read .ok })))
 
 read-requires : tie.Need-read-requires
 read-requires c κs = search needs
@@ -78,7 +81,8 @@ returns : tie.Need-returns
 returns c =
     let k = c .before .before in let r = k .before .before .before .before in let s = r .before .before .before .before .before in
     rw (toZ-ofZ w64 (r .read .result) (record { sfits = r .read .ok }))
-    (nothing-read (now (s .args .buffer)) (s .args .t) (r .read .last .1 .0) (r .read .result) (k .count .result) (brings k) (c .if1 .taken) (s .pre .1 .within))
+    (nothing-read (now (s .args .buffer)) (s .args .t) (r .read .last .1 .0) (r .read .result) (k .count .result) (brings k) (c .if1 .taken)
+    (s .pre .1 .within))
 
 slice-reshare-prefix-show-chunk : tie.Need-slice-reshare-prefix-show-chunk
 slice-reshare-prefix-show-chunk c = search needs
@@ -88,15 +92,19 @@ slice-aggregate-show-chunk c = search needs
 
 show-chunk-requires : tie.Need-show-chunk-requires
 show-chunk-requires c κs =
-    let k = c .before .before .before .before .before in let r = k .before .before .before .before in let s = r .before .before .before .before .before in
+    let k = c .before .before .before .before .before in let r = k .before .before .before .before in
+    let s = r .before .before .before .before .before in
     let f = s .pre .1 .few in let l = s .pre .2 in (
-      part-lent (now (s .args .buffer)) (s .args .t) (r .read .last .1 .0) (r .read .result) (k .count .result) (brings k) (k .count .ensures .0 .0) (k .count .ensures .0 .1) (c .before .before .before .if1 .left) (now (s .args .chunk)) (now (s .args .out)) (r .read .kept .1 .0) (s .pre .0),
+      part-lent (now (s .args .buffer)) (s .args .t) (r .read .last .1 .0) (r .read .result) (k .count .result) (brings k)
+          (k .count .ensures .0 .0) (k .count .ensures .0 .1) (c .before .before .before .if1 .left) (now (s .args .chunk)) (now (s .args .out))
+          (r .read .kept .1 .0) (s .pre .0),
       record { within = s .pre .1 .within; few = omega (arith, f, l) },
     )
 
 add-t21 : tie.Need-add-t21
 add-t21 c =
-    let k = c .before .before .before .before .before .before .before .before .before .before .before .before in let r = k .before .before .before .before in let s = r .before .before .before .before .before in
+    let k = c .before .before .before .before .before .before .before .before .before .before .before .before in
+    let r = k .before .before .before .before in let s = r .before .before .before .before .before in
     let a = k .count .ensures .0 .0 in let b = r .read .kept .1 .0 in let d = s .pre .0 .most in let e = s .pre .2 in
     omega (arith, a, b, d, e)
 
@@ -111,9 +119,12 @@ same-length-4 c = search needs
 
 returns-2 : tie.Need-returns-2
 returns-2 c =
-    let p = c .before .before .before .before .before .before in let k = p .before .before .before .before .before .before in let r = k .before .before .before .before in let s = r .before .before .before .before .before in
+    let p = c .before .before .before .before .before .before in let k = p .before .before .before .before .before .before in
+    let r = k .before .before .before .before in let s = r .before .before .before .before .before in
     rw (toZ-ofZ w64 (r .read .result) (record { sfits = r .read .ok }))
-    (some-read (now (s .args .buffer)) (s .args .t) (r .read .last .1 .0) (r .read .result) (k .count .result) (brings k) (k .count .ensures .0 .0) (k .count .ensures .0 .1) (p .before .before .before .before .if1 .left) (p .show-chunk .last .0) (p .show-chunk .result) (p .show-chunk .ensures))
+    (some-read (now (s .args .buffer)) (s .args .t) (r .read .last .1 .0) (r .read .result) (k .count .result) (brings k)
+    (k .count .ensures .0 .0) (k .count .ensures .0 .1) (p .before .before .before .before .if1 .left) (p .show-chunk .last .0)
+    (p .show-chunk .result) (p .show-chunk .ensures))
 
 pub take-turn-spec : {M : Type 1} → statement M
 take-turn-spec =
