@@ -3,12 +3,15 @@
 // Document 01, refusals 5, 4, 6, 7, 8 in that order (fins.rs, `validate_outline`). Of n points, each an x and a height in a flat
 // slice, edge i runs from point i to point i + 1, and edge n - 1 back to point 0.
 ghost use mathlib.Core.Path.{_≡_};
-ghost use Prim.Native.Nat.{_<_};
+ghost use Prim.Native.Nat.{_+_, _<_};
 ghost use Rattle.planforms.specs.Planforms.{pairCount};
+ghost use Rattle.segments.specs.Segments.{segmentsTouch};
+ghost use Rattle.segments.specs.Places.{placeOf};
 ghost use Rattle.outlines.specs.Outlines.{pointCheck, pointsCheck, endsCheck, pointAt, edgeAt, pairCheck, edgeCheck, edgesCheck, edgeTerm, twiceArea, twiceAreaCheck, outlineCheck};
 use refusals::Refusal;
 use refusals::Verdict;
 use refusals::first_refusal;
+use segments::Place;
 use segments::Point;
 use segments::Segment;
 
@@ -45,20 +48,40 @@ fn check_pair(points: &[f64], i: usize, j: usize) -> Verdict
     refusals::refuse_when(touch, Refusal::Touches(i, j))
 }
 
-// 7 for edge i against each edge behind it.
+// Whether edge j touches the edge beside which its ends have these places. By them most pairs are told apart.
+fn edge_touches(points: &[f64], j: usize, edge: Segment, from: Place, to: Place) -> bool
+    requires { ⌜ j + 1 < pairCount (now points) ⌝ }
+    requires { ⌜ (from ≡ placeOf edge (pointAt (now points) j)) × (to ≡ placeOf edge (pointAt (now points) (j + 1))) ⌝ }
+    ensures { λ r. ⌜ r ≡ segmentsTouch edge (edgeAt (now (points .entry)) j) ⌝ }
+{
+    if segments::are_apart(edge, from, to) {
+        return false;
+    }
+    segments::segments_touch(edge, edge_at(points, j))
+}
+
+// 7 for edge i against each edge after it. Where a point lies beside edge i is worked once for the two edges that meet there.
+// The closing edge is checked last, by itself.
 fn check_edge(points: &[f64], i: usize) -> Verdict
     requires { ⌜ i < pairCount (now points) ⌝ }
     ensures { λ r. ⌜ r ≡ edgeCheck (now (points .entry)) i ⌝ }
 {
     let n = points.len() / 2;
-    let mut j = i + 1;
-    while j < n {
-        if let Verdict::Refused(refusal) = check_pair(points, i, j) {
-            return Verdict::Refused(refusal);
+    let mut j = i + 2;
+    if n <= j {
+        return Verdict::Accepted;
+    }
+    let edge = edge_at(points, i);
+    let mut from = segments::place_beside(edge, point_at(points, j));
+    while j + 1 < n {
+        let to = segments::place_beside(edge, point_at(points, j + 1));
+        if edge_touches(points, j, edge, from, to) {
+            return Verdict::Refused(Refusal::Touches(i, j));
         }
+        from = to;
         j += 1;
     }
-    Verdict::Accepted
+    check_pair(points, i, j)
 }
 
 // 7: no two edges touch.

@@ -6,6 +6,7 @@ ghost use mathlib.Core.Bool.{_&&_};
 ghost use lib.Ieee.{eq};
 ghost use Rattle.floats.specs.Operations.{bits};
 ghost use Rattle.segments.specs.Segments.{crossOf, areOpposite, isInBox, segmentsTouch};
+ghost use Rattle.segments.specs.Places.{placeOf, areBeyond, areApart};
 
 // Metres.
 pub struct Point {
@@ -16,6 +17,15 @@ pub struct Point {
 pub struct Segment {
     pub from: Point,
     pub to: Point,
+}
+
+// Where a point lies beside a segment: on its left or right, before or after both of its ends in x, each strictly; and the point's y.
+pub struct Place {
+    pub left: bool,
+    pub right: bool,
+    pub before: bool,
+    pub after: bool,
+    pub y: f64,
 }
 
 // On which side of a segment c lies: above 0 on its left, below 0 on its right.
@@ -66,4 +76,42 @@ pub fn segments_touch(pq: Segment, rs: Segment) -> bool
         | lies_on(d2, rs, q)
         | lies_on(d3, pq, r)
         | lies_on(d4, pq, s)
+}
+
+// Where c lies beside a segment.
+pub fn place_beside(segment: Segment, c: Point) -> Place
+    ensures { λ r. ⌜ r ≡ placeOf segment c ⌝ }
+{
+    let d = cross(segment, c);
+    let first = floats::min(segment.from.x, segment.to.x);
+    let last = floats::max(segment.from.x, segment.to.x);
+    Place {
+        left: 0.0 < d,
+        right: d < 0.0,
+        before: c.x < first,
+        after: last < c.x,
+        y: c.y,
+    }
+}
+
+// Whether a and b are both below p and q, or both above.
+fn are_beyond(p: f64, q: f64, a: f64, b: f64) -> bool
+    ensures { λ r. ⌜ r ≡ areBeyond p q a b ⌝ }
+{
+    let low = floats::min(p, q);
+    let high = floats::max(p, q);
+    ((a < low) & (b < low)) | ((high < a) & (high < b))
+}
+
+// Whether the segment between two places lies strictly on one side of this one, and its bounding box beside this one's. Two such do not touch.
+pub fn are_apart(segment: Segment, a: Place, b: Place) -> bool
+    ensures { λ r. ⌜ r ≡ areApart segment a b ⌝ }
+{
+    if !((a.left & b.left) | (a.right & b.right)) {
+        return false;
+    }
+    if (a.before & b.before) | (a.after & b.after) {
+        return true;
+    }
+    are_beyond(segment.from.y, segment.to.y, a.y, b.y)
 }
