@@ -17,7 +17,8 @@ use Rattle.significant.specs.Printed.{decimalText}
 use Rattle.significant.proofs.Fits.{decimal-fits}
 use Rattle.blocks.specs.declared.filling.Place.{Place}
 use Rattle.blocks.specs.Filled.{ofFirst, isFigureMark, figureAs, plainPiece, plain, filled, room, plainMost}
-use Rattle.blocks.specs.Cards.{bodyFigures, bodyLines, refusalText, sentences, orElse, cardPiece, card, cardMost}
+use Rattle.blocks.specs.Cards.{massFigures, massLine, momentFigures, momentLine, mixedText, isBodyMark, bodyPiece, bodyMost}
+use Rattle.blocks.specs.Cards.{refusalText, sentences, orElse, cardPiece, card, cardMost}
 use Rattle.blocks.specs.Steps.{HasRoom, PutsPiece}
 
 -- a byte's text has room in what is set aside for it
@@ -26,7 +27,7 @@ plain-fits b figures counts = by (isFigureMark b) (eqb b 78) figures counts
   where
     by : (t u : Bool) (figures : List Float) (counts : List ℕ) → length (cond t (ofFirst (figureAs b) figures) (cond u (ofFirst countText counts) (b ∷ []))) ≤ cond t 44 (cond u 20 1)
     by true u [] counts = omega arith
-    by true u (x ∷ xs) counts = decimal-fits 6 (cond (eqb b 71) 3 0) (eqb b 69) x
+    by true u (x ∷ xs) counts = decimal-fits 6 (cond (eqb b 71) 3 0) false x
     by false true figures [] = omega arith
     by false true figures (n ∷ ns) = twenty n
     by false false figures counts = omega arith
@@ -38,15 +39,15 @@ module _ {A : Type 0} (l : List A) (i : ℕ) where
   cons-left : (d : A) → i < length l → drop i l ≡ getD l i d ∷ drop (suc i) l
   cons-left d h = drop-cons l i d h
 
--- a figure's mark is no other
-not-mark : (b k : ℕ) → isFigureMark b ≡ true → isFigureMark k ≡ false → eqb b k ≡ false
-not-mark b k h e = ne-eqb b k (λ q. true≢false (sym h ∙ ap isFigureMark q ∙ e))
+-- a byte of one kind is none of another
+unlike : (kind : ℕ → Bool) (b k : ℕ) → kind b ≡ true → kind k ≡ false → eqb b k ≡ false
+unlike kind b k h e = ne-eqb b k (λ q. true≢false (sym h ∙ ap kind q ∙ e))
 
 module _ (before : List ℕ) (p : Place) (b : ℕ) (figures : List Float) (counts : List ℕ) where
   -- a figure's mark
   module _ (h : isFigureMark b ≡ true) (k : p .counts ≤ length counts) where
     same-counts : plain .countsAfter b (drop (p .counts) counts) ≡ drop (p .counts) counts
-    same-counts = ap (λ (t : Bool). cond t (drop 1 (drop (p .counts) counts)) (drop (p .counts) counts)) (not-mark b 78 h refl)
+    same-counts = ap (λ (t : Bool). cond t (drop 1 (drop (p .counts) counts)) (drop (p .counts) counts)) (unlike isFigureMark b 78 h refl)
 
     pub no-figure : p .figures ≤ length figures → length figures ≤ p .figures → PutsPiece plain before before p p b figures counts
     no-figure m g =
@@ -117,22 +118,27 @@ module _ (before : List ℕ) (p : Place) (b : ℕ) (figures : List Float) (count
 -- ---- a block's marks
 
 module _ (before : List ℕ) (p : Place) (b : ℕ) (figures : List Float) (counts : List ℕ) (i : p .figures ≤ length figures) (j : p .counts ≤ length counts) where
-  -- `B`
-  pub body-put : b ≡ 66 → (after : List ℕ) (end : ℕ) → Appended before (p .n) (filled plain bodyLines (bodyFigures (take (length figures - p .figures) (drop (p .figures) figures))) []) after end
+  -- a body's mark
+  pub body-put : isBodyMark b ≡ true → (after : List ℕ) (end : ℕ) → Appended before (p .n) (bodyPiece b (take (length figures - p .figures) (drop (p .figures) figures))) after end
       → PutsPiece card before after p (record { n = end; figures = p .figures; counts = p .counts }) b figures counts
   body-put h after end d =
       let k = length-drop (p .figures) figures in
-      let a = subst (λ (fs : List Float). Appended before (p .n) (filled plain bodyLines (bodyFigures fs) []) after end) (take-all (length figures - p .figures) (drop (p .figures) figures) (omega (arith, k))) d in
-      let e = eq-eqb b 66 h in
-      let x : isFigureMark b ≡ false = ap isFigureMark h in
-      let y : eqb b 78 ≡ false = ap (λ (k : ℕ). eqb k 78) h in
-      let z : eqb b 82 ≡ false = ap (λ (k : ℕ). eqb k 82) h in
-      record { put = rw e a; next-figures = rw x; next-counts = rw (y, z); figures-left = i; counts-left = j }
+      let a = subst (λ (fs : List Float). Appended before (p .n) (bodyPiece b fs) after end) (take-all (length figures - p .figures) (drop (p .figures) figures) (omega (arith, k))) d in
+      let u = unlike isBodyMark b in
+      let x : isFigureMark b ≡ false = or-none (eqb b 71) (eqb b 70) (u 71 h refl) (u 70 h refl) in
+      let y = or-none (eqb b 78) (eqb b 82) (u 78 h refl) (u 82 h refl) in
+      record { put = by (isBodyMark b) _ _ h a; next-figures = rw x; next-counts = rw y; figures-left = i; counts-left = j }
+    where
+      or-none : (s t : Bool) → s ≡ false → t ≡ false → (s || t) ≡ false
+      or-none s t e f = rw (e, f)
+
+      by : (t : Bool) (piece other : List ℕ) → t ≡ true → Appended before (p .n) piece after end → Appended before (p .n) (cond t piece other) after end
+      by t piece other e a = subst (λ (t : Bool). Appended before (p .n) (cond t piece other) after end) (sym e) a
 
   -- `R`
   module _ (h : b ≡ 82) where
-    no-b : eqb b 66 ≡ false
-    no-b = ap (λ (k : ℕ). eqb k 66) h
+    no-b : isBodyMark b ≡ false
+    no-b = ap isBodyMark h
 
     no-n : eqb b 78 ≡ false
     no-n = ap (λ (k : ℕ). eqb k 78) h
@@ -160,9 +166,8 @@ module _ (before : List ℕ) (p : Place) (b : ℕ) (figures : List Float) (count
         }
 
   -- any other
-  pub other-put : (b ≡ 66 → ⊥) → (b ≡ 82 → ⊥) → (after : List ℕ) (r : Place) → PutsPiece plain before after p r b figures counts → PutsPiece card before after p r b figures counts
-  other-put f g after r a =
-      let x = ne-eqb b 66 f in
+  pub other-put : isBodyMark b ≡ false → (b ≡ 82 → ⊥) → (after : List ℕ) (r : Place) → PutsPiece plain before after p r b figures counts → PutsPiece card before after p r b figures counts
+  other-put x g after r a =
       let y = ne-eqb b 82 g in
       record {
         put = rw (x, y) (a .put);
@@ -177,8 +182,8 @@ module _ (before : List ℕ) (p : Place) (b : ℕ) (figures : List Float) (count
       or-false false t e = ap (λ (t : Bool). cond t (drop 1 (drop (p .counts) counts)) (drop (p .counts) counts)) e
 
   module _ (m : HasRoom cardMost before p b figures counts) where
-    pub body-room : b ≡ 66 → p .n + 430 ≤ length before
-    body-room h = let q = m .bytes in let e : cardMost b ≡ 430 = rw (eq-eqb b 66 h) in omega (arith, q, e)
+    pub body-room : isBodyMark b ≡ true → p .n + bodyMost b ≤ length before
+    body-room h = let q = m .bytes in let e : cardMost b ≡ bodyMost b = ap (λ (t : Bool). cond t (bodyMost b) (cond (eqb b 82) 180 (plainMost b))) h in omega (arith, q, e)
 
     pub refusal-room : b ≡ 82 → p .n + 180 ≤ length before
     refusal-room h =
@@ -186,9 +191,9 @@ module _ (before : List ℕ) (p : Place) (b : ℕ) (figures : List Float) (count
         let e : cardMost b ≡ 180 = rw (no-b h, eq-eqb b 82 h) in
         omega (arith, q, e)
 
-    pub other-room : (b ≡ 66 → ⊥) → (b ≡ 82 → ⊥) → HasRoom plainMost before p b figures counts
+    pub other-room : isBodyMark b ≡ false → (b ≡ 82 → ⊥) → HasRoom plainMost before p b figures counts
     other-room f g =
-        let e : cardMost b ≡ plainMost b = rw (ne-eqb b 66 f, ne-eqb b 82 g) in
+        let e : cardMost b ≡ plainMost b = rw (f, ne-eqb b 82 g) in
         let q = m .bytes in
         record { figures-left = m .figures-left; counts-left = m .counts-left; bytes = omega (arith, q, e) }
 
@@ -196,10 +201,29 @@ module _ (before : List ℕ) (p : Place) (b : ℕ) (figures : List Float) (count
 
 module _ (out after : List ℕ) (n r b : ℕ) (x : Float) where
   pub marked-thousand : b ≡ 71 → Appended out n (decimalText 6 3 false x) after r → Appended out n (figureAs b x) after r
-  marked-thousand h a =
-      let e = eq-eqb b 71 h in
-      let f : eqb b 69 ≡ false = ap (λ (k : ℕ). eqb k 69) h in
-      rw (e, f) a
+  marked-thousand h a = rw (eq-eqb b 71 h) a
 
-  pub marked-other : (b ≡ 71 → ⊥) → Appended out n (decimalText 6 0 (eqb b 69) x) after r → Appended out n (figureAs b x) after r
+  pub marked-other : (b ≡ 71 → ⊥) → Appended out n (decimalText 6 0 false x) after r → Appended out n (figureAs b x) after r
   marked-other h a = rw (ne-eqb b 71 h) a
+
+-- ---- a part of a body by its mark
+
+module _ (out after : List ℕ) (n r b : ℕ) (f : List Float) where
+  pub mass-put : b ≡ 66 → Appended out n (filled plain massLine (massFigures f) []) after r → Appended out n (bodyPiece b f) after r
+  mass-put h a = rw (eq-eqb b 66 h) a
+
+  pub moments-put : (b ≡ 66 → ⊥) → b ≡ 67 → Appended out n (filled plain momentLine (momentFigures f) []) after r → Appended out n (bodyPiece b f) after r
+  moments-put g h a = rw (ne-eqb b 66 g, eq-eqb b 67 h) a
+
+  pub mixed-put : (b ≡ 66 → ⊥) → (b ≡ 67 → ⊥) → Appended out n (mixedText f) after r → Appended out n (bodyPiece b f) after r
+  mixed-put g h a = rw (ne-eqb b 66 g, ne-eqb b 67 h) a
+
+module _ (n b k : ℕ) (m : n + bodyMost b ≤ k) where
+  pub mass-room : b ≡ 66 → n + 130 ≤ k
+  mass-room h = let e : bodyMost b ≡ 130 = rw (eq-eqb b 66 h) in omega (arith, m, e)
+
+  pub moments-room : (b ≡ 66 → ⊥) → b ≡ 67 → n + 330 ≤ k
+  moments-room g h = let e : bodyMost b ≡ 330 = rw (ne-eqb b 66 g, eq-eqb b 67 h) in omega (arith, m, e)
+
+  pub mixed-room : (b ≡ 66 → ⊥) → (b ≡ 67 → ⊥) → n + 200 ≤ k
+  mixed-room g h = let e : bodyMost b ≡ 200 = rw (ne-eqb b 66 g, ne-eqb b 67 h) in omega (arith, m, e)

@@ -7,10 +7,12 @@ use native.Mathlib.Omega.{arith}
 use borrow.Author.Tests.{le-leb, lt-leb}
 use lib.Dec.{T, eqb, leb, leb→le}
 use lib.ListN.{length, take, length-append}
-use lib.Ieee.{Float}
+use lib.Ieee.{Float, lt}
 use lib.Ieee.Fits.{and-l, and-r}
+use Rattle.floats.specs.Operations.{_⊗_, bits, at}
+use Rattle.floats.specs.Floats.{absOf}
 use Rattle.texts.specs.Appended.{Appended}
-use Rattle.texts.proofs.Appending.{then}
+use Rattle.texts.proofs.Appending.{nothing, then}
 use Rattle.tokens.specs.Text.{text, codes}
 use Rattle.counts.specs.Counts.{countText}
 use Rattle.counts.proofs.Printing.{twenty}
@@ -20,7 +22,8 @@ use Rattle.blocks.specs.Words.{shapeIn, figuresIn, countsIn}
 use Rattle.blocks.specs.Steps.{IsRead}
 use Rattle.blocks.specs.Tables.{textFor, withBars, noBar, noBars}
 use Rattle.blocks.specs.Filled.{ofFirst, plainPiece, plain, filled, room, plainMost}
-use Rattle.blocks.specs.Cards.{all, newline, orElse, sentences, refusalText, bodyFigures, bodyLines, cardPiece, cardMost, card, cards, noAnswer, shown, blockOf}
+use Rattle.blocks.specs.Cards.{all, newline, orElse, sentences, refusalText, cardPiece, cardMost, card, cards, noAnswer, shown, blockOf}
+use Rattle.blocks.specs.Cards.{largestFrom, besideFrom, massFigures, massLine, momentAt, momentFigures, momentLine, allZero, mixedFigures, mixedLine, mixedText, isBodyMark, bodyPiece, bodyMost}
 use Rattle.blocks.proofs.Bars.{cut-into}
 use Rattle.blocks.proofs.Pieces.{plain-fits}
 use Rattle.blocks.proofs.Whole.{filled-fits}
@@ -100,22 +103,45 @@ refusal-fits n =
 
 -- ---- blocks
 
-body-room : room plainMost bodyLines ≤ 430
-unfolding bodyLines room text codes
-body-room = leb→le (room plainMost bodyLines) 430 tt
+-- a line of a body has room, as the definition has it and as the code has it
+module _ (line : List ℕ) (most : ℕ) (h : room plainMost line ≤ most) where
+  line-fits : (figures : List Float) → length (filled plain line figures []) ≤ most
+  line-fits figures = let f = filled-fits plain plainMost plain-fits line figures [] in omega (arith, f, h)
 
--- the same of the code's text
-pub body-text-room : (template : List ℕ) → template ≡ bodyLines → room plainMost template ≤ 430
-body-text-room template e = subst (λ (t : List ℕ). room plainMost t ≤ 430) (sym e) body-room
+  pub line-asked : (n k : ℕ) → n + most ≤ k → n + room plainMost line ≤ k
+  line-asked n k g = omega (arith, g, h)
 
-body-fits : (figures : List Float) → length (filled plain bodyLines (bodyFigures figures) []) ≤ 430
-body-fits figures = let h = filled-fits plain plainMost plain-fits bodyLines (bodyFigures figures) [] in let k = body-room in omega (arith, h, k)
+pub line-said : (out after line : List ℕ) (fs gs : List Float) (n r : ℕ) → gs ≡ fs → Appended out n (filled plain line gs []) after r → Appended out n (filled plain line fs []) after r
+line-said out after line fs gs n r e a = subst (λ (x : List Float). Appended out n (filled plain line x []) after r) e a
+
+pub mass-line-room : room plainMost massLine ≤ 130
+unfolding massLine room text codes
+mass-line-room = leb→le (room plainMost massLine) 130 tt
+
+pub moment-line-room : room plainMost momentLine ≤ 330
+unfolding momentLine room text codes
+moment-line-room = leb→le (room plainMost momentLine) 330 tt
+
+pub mixed-line-room : room plainMost mixedLine ≤ 200
+unfolding mixedLine room text codes
+mixed-line-room = leb→le (room plainMost mixedLine) 200 tt
+
+body-fits : (b : ℕ) (figures : List Float) → length (bodyPiece b figures) ≤ bodyMost b
+body-fits b figures = by (eqb b 66) (eqb b 67) (allZero (momentAt figures 7) (momentAt figures 8) (momentAt figures 9))
+  where
+    by : (s t z : Bool)
+        → length (cond s (filled plain massLine (massFigures figures) []) (cond t (filled plain momentLine (momentFigures figures) []) (cond z [] (filled plain mixedLine (mixedFigures figures) []))))
+        ≤ cond s 130 (cond t 330 200)
+    by true t z = line-fits massLine 130 mass-line-room (massFigures figures)
+    by false true z = line-fits momentLine 330 moment-line-room (momentFigures figures)
+    by false false true = omega arith
+    by false false false = line-fits mixedLine 200 mixed-line-room (mixedFigures figures)
 
 pub card-fits : (b : ℕ) (figures : List Float) (counts : List ℕ) → length (cardPiece b figures counts) ≤ cardMost b
-card-fits b figures counts = by (eqb b 66) (eqb b 82) counts
+card-fits b figures counts = by (isBodyMark b) (eqb b 82) counts
   where
-    by : (s t : Bool) (counts : List ℕ) → length (cond s (filled plain bodyLines (bodyFigures figures) []) (cond t (ofFirst refusalText counts) (plainPiece b figures counts))) ≤ cond s 430 (cond t 180 (plainMost b))
-    by true t counts = body-fits figures
+    by : (s t : Bool) (counts : List ℕ) → length (cond s (bodyPiece b figures) (cond t (ofFirst refusalText counts) (plainPiece b figures counts))) ≤ cond s (bodyMost b) (cond t 180 (plainMost b))
+    by true t counts = body-fits b figures
     by false true [] = omega arith
     by false true (n ∷ ns) = refusal-fits n
     by false false counts = plain-fits b figures counts
@@ -159,14 +185,38 @@ module _ (out between after t other : List ℕ) (n r : ℕ) (first : Appended ou
       empty [] k = refl
       empty (x ∷ xs) k = absurd (let y : ⊥ = omega arith in y)
 
--- ---- a body's lines, as the code has them
+-- ---- a figure beside others, which is shown as 0 where it is small
 
-pub body-asked : (template : List ℕ) (n k : ℕ) → template ≡ bodyLines → n + 430 ≤ k → n + room plainMost template ≤ k
-body-asked template n k e h = let r = body-text-room template e in omega (arith, r, h)
+pub beside : (f : List Float) (k i : ℕ) (x size largest : Float) (t : Bool) → x ≡ at f i → size ≡ absOf x → largest ≡ largestFrom f k
+    → lt (size ⊗ bits 0x4270_0000_0000_0000) largest ≡ t → cond t (bits 0) x ≡ besideFrom f k i
+unfolding besideFrom
+beside f k i x size largest t a s l h =
+    let m = ap (λ (y : Float). lt (y ⊗ bits 0x4270_0000_0000_0000) largest) (s ∙ ap absOf a) in
+    let n = ap (λ (y : Float). lt (absOf (at f i) ⊗ bits 0x4270_0000_0000_0000) y) l in
+    ap (λ (y : Float). cond t (bits 0) y) a ∙ ap (λ (c : Bool). cond c (bits 0) (at f i)) (sym h ∙ m ∙ n)
 
-pub body-said : (out after template : List ℕ) (fs gs : List Float) (n r : ℕ) → template ≡ bodyLines → gs ≡ bodyFigures fs → Appended out n (filled plain template gs []) after r → Appended out n (filled plain bodyLines (bodyFigures fs) []) after r
-body-said out after template fs gs n r e f a =
-    subst (λ (t : List ℕ). Appended out n (filled plain t (bodyFigures fs) []) after r) e (subst (λ (x : List Float). Appended out n (filled plain template x []) after r) f a)
+-- ---- a body's mixed entries, which are left out where they are 0
+
+module _ (out after : List ℕ) (figures : List Float) (n r : ℕ) (xy xz yz : Float) (t : Bool) where
+  module _ (a : xy ≡ momentAt figures 7) (b : xz ≡ momentAt figures 8) (c : yz ≡ momentAt figures 9) (z : t ≡ allZero xy xz yz) where
+    tested : t ≡ allZero (momentAt figures 7) (momentAt figures 8) (momentAt figures 9)
+    tested =
+        z ∙ ap (λ (x : Float). allZero x xz yz) a ∙ ap (λ (x : Float). allZero (momentAt figures 7) x yz) b
+        ∙ ap (λ (x : Float). allZero (momentAt figures 7) (momentAt figures 8) x) c
+
+    same : xy ∷ xz ∷ yz ∷ [] ≡ mixedFigures figures
+    same =
+        ap (λ (x : Float). x ∷ xz ∷ yz ∷ []) a ∙ ap (λ (x : Float). momentAt figures 7 ∷ x ∷ yz ∷ []) b
+        ∙ ap (λ (x : Float). momentAt figures 7 ∷ momentAt figures 8 ∷ x ∷ []) c
+
+    pub none-mixed : t ≡ true → Appended out n (mixedText figures) out n
+    none-mixed h =
+        subst (λ (u : Bool). Appended out n (cond u [] (filled plain mixedLine (mixedFigures figures) [])) out n) (sym h ∙ tested) (nothing out n)
+
+    pub some-mixed : t ≡ false → Appended out n (filled plain mixedLine (xy ∷ xz ∷ yz ∷ []) []) after r → Appended out n (mixedText figures) after r
+    some-mixed h d =
+        subst (λ (u : Bool). Appended out n (cond u [] (filled plain mixedLine (mixedFigures figures) [])) after r) (sym h ∙ tested)
+        (subst (λ (fs : List Float). Appended out n (filled plain mixedLine fs []) after r) same d)
 
 -- ---- the text that is found
 

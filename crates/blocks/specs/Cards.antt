@@ -1,18 +1,19 @@
 -- The block of an answer (docs/FORMS.md has the answers and the refusals' sentences): a table of what each answer looks like and what is shown for it.
 use mathlib.Core.List.{List, [], _∷_, _++_}
-use mathlib.Core.Bool.{_||_, cond}
-use Prim.Native.Nat.{ℕ, _≤_}
+use mathlib.Core.Bool.{Bool, _&&_, _||_, cond}
+use Prim.Native.Nat.{ℕ, _+_, _≤_}
 use lib.Dec.{eqb, leb}
 use lib.ListN.{length, drop}
-use lib.Ieee.{Float, neg}
-use Rattle.floats.specs.Operations.{at}
+use lib.Ieee.{Float, neg, lt, eq}
+use Rattle.floats.specs.Operations.{_⊗_, bits, at}
+use Rattle.floats.specs.Floats.{absOf, maxOf}
 use Rattle.counts.specs.Counts.{countText}
 use Rattle.tokens.specs.Text.{text}
 use Rattle.blocks.specs.Words.{shapeIn, figuresIn, countsIn}
 use Rattle.blocks.specs.Tables.{textFor}
 use Rattle.blocks.specs.Filled.{Marks, ofFirst, plainPiece, plain, filled, plainMost}
 
--- parts of a text, one behind the other; the end of a line, and "kg·m²" and "m²" in UTF-8
+-- parts of a text, one after the other; the end of a line, and "kg·m²" and "m²" in UTF-8
 abbrev pub all : List (List ℕ) → List ℕ
 all [] = []
 all (t ∷ ts) = t ++ all ts
@@ -26,18 +27,68 @@ squareMetre = 109 ∷ 194 ∷ 178 ∷ []
 abbrev pub kilogramSquareMetre : List ℕ
 kilogramSquareMetre = 107 ∷ 103 ∷ 194 ∷ 183 ∷ squareMetre
 
--- ---- a body: mass, how far the balance point lies behind the origin, x and y of it, and the tensor's diagonal
+-- ---- a body: its mass in g, its balance point in mm, and its tensor about that point in kg·m²
 
-abbrev pub bodyFigures : List Float → List Float
-bodyFigures f = at f 0 ∷ neg (at f 3) ∷ at f 1 ∷ at f 2 ∷ at f 4 ∷ at f 5 ∷ at f 6 ∷ []
+-- the largest magnitude of three figures, from place k on
+abbrev pub largestFrom : List Float → ℕ → Float
+largestFrom f k = maxOf (maxOf (absOf (at f k)) (absOf (at f (k + 1)))) (absOf (at f (k + 2)))
 
-unfoldable pub bodyLines : List ℕ
-bodyLines =
+-- the figure at place i beside the three from place k on: 0 where it is below 2^-40 of their largest, as the noise of rounding is.
+-- Times 2^40 no f64 is rounded, unless to infinity.
+unfoldable pub besideFrom : List Float → ℕ → ℕ → Float
+besideFrom f k i = cond (lt (absOf (at f i) ⊗ bits 0x4270_0000_0000_0000) (largestFrom f k)) (bits 0) (at f i)
+
+-- a length beside the centre's x, y and z; an entry of the tensor beside its diagonal
+abbrev pub lengthAt : List Float → ℕ → Float
+lengthAt f i = besideFrom f 1 i
+
+abbrev pub momentAt : List Float → ℕ → Float
+momentAt f i = besideFrom f 4 i
+
+-- the mass, and how far aft the balance point lies: z points to the nose
+abbrev pub massFigures : List Float → List Float
+massFigures f = at f 0 ∷ neg (lengthAt f 3) ∷ []
+
+unfoldable pub massLine : List ℕ
+massLine = all (text "mass G g" ∷ newline ∷ text "balance point G mm aft of " ∷ [])
+
+-- x and y of the balance point, and the tensor's diagonal: about the body's axis, which is z, and about x and y
+abbrev pub momentFigures : List Float → List Float
+momentFigures f = lengthAt f 1 ∷ lengthAt f 2 ∷ momentAt f 6 ∷ momentAt f 4 ∷ momentAt f 5 ∷ []
+
+unfoldable pub momentLine : List ℕ
+momentLine =
     all
-    (text "mass G g" ∷ newline
-    ∷ text "balance point G mm behind the root's front, G mm and G mm off the axis" ∷ newline
-    ∷ text "moments about it E, E, E " ∷ kilogramSquareMetre ∷ newline
+    (text ", off the axis by G mm in x and G mm in y" ∷ newline
+    ∷ text "moments about it: roll (zz) F, pitch (xx) F, yaw (yy) F " ∷ kilogramSquareMetre ∷ newline
     ∷ [])
+
+-- xy, xz and yz, where any of them counts beside the diagonal
+abbrev pub mixedFigures : List Float → List Float
+mixedFigures f = momentAt f 7 ∷ momentAt f 8 ∷ momentAt f 9 ∷ []
+
+abbrev pub allZero : Float → Float → Float → Bool
+allZero a b c = eq a (bits 0) && eq b (bits 0) && eq c (bits 0)
+
+unfoldable pub mixedLine : List ℕ
+mixedLine = all (text "mixed entries of the tensor: xy F, xz F, yz F " ∷ kilogramSquareMetre ∷ newline ∷ [])
+
+abbrev pub mixedText : List Float → List ℕ
+mixedText f = cond (allZero (momentAt f 7) (momentAt f 8) (momentAt f 9)) [] (filled plain mixedLine (mixedFigures f) [])
+
+-- marks of a body: B (66), its mass and its balance point up to the name of the origin; C (67), the rest of that line and the moments;
+-- D (68), the mixed entries
+abbrev pub isBodyMark : ℕ → Bool
+isBodyMark b = eqb b 66 || eqb b 67 || eqb b 68
+
+abbrev pub bodyPiece : ℕ → List Float → List ℕ
+bodyPiece b f =
+    cond (eqb b 66) (filled plain massLine (massFigures f) [])
+    (cond (eqb b 67) (filled plain momentLine (momentFigures f) [])
+    (mixedText f))
+
+abbrev pub bodyMost : ℕ → ℕ
+bodyMost b = cond (eqb b 66) 130 (cond (eqb b 67) 330 200)
 
 -- ---- the sentences of the refusals
 
@@ -51,16 +102,16 @@ sentences =
     ∷ text "6" ∷ text "the outline does not begin at (0, 0), or does not end at (c, 0) with c > 0"
     ∷ text "7" ∷ text "the outline touches itself"
     ∷ text "8" ∷ text "there is no area or no volume"
-    ∷ text "9" ∷ text "cant, base angle or roll is not a number, or beyond 4 rad"
-    ∷ text "10" ∷ text "the tab begins before the root or ends behind it"
+    ∷ text "9" ∷ text "a cant, base angle or roll is not a number, or is beyond 4 rad"
+    ∷ text "10" ∷ text "the tab begins ahead of the root or ends aft of it"
     ∷ text "11" ∷ text "the tab is higher than the body's radius"
-    ∷ text "12" ∷ all (text "the density, of the fins, of the tubes or of a fillet with a radius above 0, is not bulk, or neither 0 nor 2^-10 to 2^15 kg/m" ∷ (194 ∷ 179 ∷ []) ∷ [])
+    ∷ text "12" ∷ all (text "the density of the fins, of the tubes or of a fillet with a radius above 0 is not bulk, or is neither 0 nor 2^-10 to 2^15 kg/m" ∷ (194 ∷ 179 ∷ []) ∷ [])
     ∷ text "13" ∷ text "the sums did not settle within the limit's pieces, or cannot"
     ∷ text "15" ∷ text "a body's mass is negative or not finite"
     ∷ text "16" ∷ text "a body's centre is not finite"
-    ∷ text "17" ∷ text "a body's tensor"
-    ∷ text "18" ∷ text "the line is none of these forms"
-    ∷ text "19" ∷ text "a word of neither shape of a figure, or sixteen decimal digits alone, where a figure belongs"
+    ∷ text "17" ∷ text "a body's tensor is none that a body can have"
+    ∷ text "18" ∷ text "the line is none of the forms in docs/FORMS.md"
+    ∷ text "19" ∷ text "a word where a figure belongs has neither shape of a figure, or is sixteen decimal digits alone"
     ∷ text "20" ∷ text "a tube's wall is thicker than its outer radius"
     ∷ text "21" ∷ text "the fin is thicker than its root chord is long"
     ∷ text "22" ∷ text "the fillet's radius is over 1000 times the body's, whatever its density"
@@ -78,11 +129,11 @@ orElse t other = cond (leb 1 (length t)) t other
 abbrev pub refusalText : ℕ → List ℕ
 refusalText n = countText n ++ (text ": " ++ orElse (textFor (countText n) sentences) (text "no number of the table"))
 
--- ---- blocks: B (66) stands for the lines of a body, R (82) for a refusal
+-- ---- blocks: a body's marks, and R (82) for a refusal
 
 abbrev pub cardPiece : ℕ → List Float → List ℕ → List ℕ
 cardPiece b figures counts =
-    cond (eqb b 66) (filled plain bodyLines (bodyFigures figures) [])
+    cond (isBodyMark b) (bodyPiece b figures)
     (cond (eqb b 82) (ofFirst refusalText counts)
     (plainPiece b figures counts))
 
@@ -91,18 +142,18 @@ card = record { piece = cardPiece; countsAfter = λ b counts. cond (eqb b 78 || 
 
 -- the most bytes that a byte of a block can take
 abbrev pub cardMost : ℕ → ℕ
-cardMost b = cond (eqb b 66) 430 (cond (eqb b 82) 180 (plainMost b))
+cardMost b = cond (isBodyMark b) (bodyMost b) (cond (eqb b 82) 180 (plainMost b))
 
 unfoldable pub cards : List (List ℕ)
 cards =
-    text "(figures (mass F) (centre F F F) (inertia F F F F F F) (intervals N) (samples N))" ∷ all (text "Bpieces N, samples N" ∷ newline ∷ [])
-    ∷ text "(joined (mass F) (centre F F F) (inertia F F F F F F))" ∷ text "B"
-    ∷ text "(ring (mass F) (centre F F F) (inertia F F F F F F))" ∷ text "B"
-    ∷ text "(body (mass F) (centre F F F) (inertia F F F F F F))" ∷ text "B"
+    text "(figures (mass F) (centre F F F) (inertia F F F F F F) (intervals N) (samples N))" ∷ all (text "Bthe root's leading edgeCDpieces N, samples N" ∷ newline ∷ [])
+    ∷ text "(joined (mass F) (centre F F F) (inertia F F F F F F))" ∷ text "Bthe originCD"
+    ∷ text "(ring (mass F) (centre F F F) (inertia F F F F F F))" ∷ text "Bthe tubes' forward endCD"
+    ∷ text "(body (mass F) (centre F F F) (inertia F F F F F F))" ∷ text "Bthe originCD"
     ∷ text "(refused N)" ∷ all (text "refused R" ∷ newline ∷ [])
     ∷ text "(area (area F) (centroid F F) (intervals N) (samples N))"
-    ∷ all (text "area F " ∷ squareMetre ∷ newline ∷ text "centroid G mm behind the root's front, G mm above the root" ∷ newline ∷ text "pieces N, samples N" ∷ newline ∷ [])
-    ∷ text "(moments F F F)" ∷ all (text "principal moments E, E, E " ∷ kilogramSquareMetre ∷ newline ∷ [])
+    ∷ all (text "area F " ∷ squareMetre ∷ newline ∷ text "centroid G mm aft of the root's leading edge, G mm above the root" ∷ newline ∷ text "pieces N, samples N" ∷ newline ∷ [])
+    ∷ text "(moments F F F)" ∷ all (text "principal moments F, F, F " ∷ kilogramSquareMetre ∷ newline ∷ [])
     ∷ text "(closing F)" ∷ all (text "the ring closes at an outer radius of G mm" ∷ newline ∷ [])
     ∷ text "(sound)" ∷ all (text "the body is sound" ∷ newline ∷ [])
     ∷ text "(inside N)" ∷ all (text "inside; the nearest corner is N" ∷ newline ∷ [])
@@ -112,7 +163,7 @@ cards =
     ∷ text "(idle)" ∷ all (text "no screen has a job" ∷ newline ∷ [])
     ∷ text "(more N)" ∷ all (text "screen N: more to come" ∷ newline ∷ [])
     ∷ text "(done N (figures (mass F) (centre F F F) (inertia F F F F F F) (intervals N) (samples N)))"
-    ∷ all (text "screen N: done" ∷ newline ∷ text "Bpieces N, samples N" ∷ newline ∷ [])
+    ∷ all (text "screen N: done" ∷ newline ∷ text "Bthe root's leading edgeCDpieces N, samples N" ∷ newline ∷ [])
     ∷ text "(done N (refused N))" ∷ all (text "screen N: refused R" ∷ newline ∷ [])
     ∷ []
 

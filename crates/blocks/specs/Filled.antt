@@ -1,6 +1,6 @@
 -- A block's text filled in, byte by byte: a mark gives way to the next figure or count, and every other byte stands for itself.
 use mathlib.Core.List.{List, [], _∷_, _++_}
-use mathlib.Core.Bool.{Bool, _||_, cond}
+use mathlib.Core.Bool.{Bool, false, _||_, cond}
 use Prim.Native.Nat.{ℕ, _+_}
 use lib.Dec.{eqb}
 use lib.ListN.{drop}
@@ -13,13 +13,13 @@ abbrev pub ofFirst : {A : Type 0} → (A → List ℕ) → List A → List ℕ
 ofFirst f [] = []
 ofFirst f (x ∷ xs) = f x
 
--- marks of figures: G (71), times a thousand, kilograms as grams, metres as millimetres; F (70), as it is; E (69), with an exponent
+-- marks of figures: G (71), times a thousand, kilograms as grams, metres as millimetres; F (70), as it is
 abbrev pub isFigureMark : ℕ → Bool
-isFigureMark b = eqb b 71 || eqb b 70 || eqb b 69
+isFigureMark b = eqb b 71 || eqb b 70
 
--- to six significant digits
+-- to six significant digits, with an exponent only where the number would be long
 abbrev pub figureAs : ℕ → Float → List ℕ
-figureAs b x = decimalText 6 (cond (eqb b 71) 3 0) (eqb b 69) x
+figureAs b x = decimalText 6 (cond (eqb b 71) 3 0) false x
 
 -- N (78) is the mark of a count
 abbrev pub plainPiece : ℕ → List Float → List ℕ → List ℕ

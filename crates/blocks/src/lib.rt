@@ -46,15 +46,16 @@ fn put_shown(out: &mut [u8], shape: &[u8], figures: &[f64], counts: &[u64]) -> u
 {
     put_from(
         out,
-        b"(figures (mass F) (centre F F F) (inertia F F F F F F) (intervals N) (samples N))|Bpieces N, samples N\n|\
-        (joined (mass F) (centre F F F) (inertia F F F F F F))|B|\
-        (ring (mass F) (centre F F F) (inertia F F F F F F))|B|\
-        (body (mass F) (centre F F F) (inertia F F F F F F))|B|\
+        b"(figures (mass F) (centre F F F) (inertia F F F F F F) (intervals N) (samples N))|\
+        Bthe root's leading edgeCDpieces N, samples N\n|\
+        (joined (mass F) (centre F F F) (inertia F F F F F F))|Bthe originCD|\
+        (ring (mass F) (centre F F F) (inertia F F F F F F))|Bthe tubes' forward endCD|\
+        (body (mass F) (centre F F F) (inertia F F F F F F))|Bthe originCD|\
         (refused N)|refused R\n|\
         (area (area F) (centroid F F) (intervals N) (samples N))|area F m\xc2\xb2\n\
-        centroid G mm behind the root's front, G mm above the root\n\
+        centroid G mm aft of the root's leading edge, G mm above the root\n\
         pieces N, samples N\n|\
-        (moments F F F)|principal moments E, E, E kg\xc2\xb7m\xc2\xb2\n|\
+        (moments F F F)|principal moments F, F, F kg\xc2\xb7m\xc2\xb2\n|\
         (closing F)|the ring closes at an outer radius of G mm\n|\
         (sound)|the body is sound\n|\
         (inside N)|inside; the nearest corner is N\n|\
@@ -64,7 +65,7 @@ fn put_shown(out: &mut [u8], shape: &[u8], figures: &[f64], counts: &[u64]) -> u
         (idle)|no screen has a job\n|\
         (more N)|screen N: more to come\n|\
         (done N (figures (mass F) (centre F F F) (inertia F F F F F F) (intervals N) (samples N)))|screen N: done\n\
-        Bpieces N, samples N\n|\
+        Bthe root's leading edgeCDpieces N, samples N\n|\
         (done N (refused N))|screen N: refused R\n",
         shape,
         figures,

@@ -39,16 +39,16 @@ fn put_sentence(out: &mut [u8], n: usize, key: &[u8]) -> usize
         6|the outline does not begin at (0, 0), or does not end at (c, 0) with c > 0|\
         7|the outline touches itself|\
         8|there is no area or no volume|\
-        9|cant, base angle or roll is not a number, or beyond 4 rad|\
-        10|the tab begins before the root or ends behind it|\
+        9|a cant, base angle or roll is not a number, or is beyond 4 rad|\
+        10|the tab begins ahead of the root or ends aft of it|\
         11|the tab is higher than the body's radius|\
-        12|the density, of the fins, of the tubes or of a fillet with a radius above 0, is not bulk, or neither 0 nor 2^-10 to 2^15 kg/m\xc2\xb3|\
+        12|the density of the fins, of the tubes or of a fillet with a radius above 0 is not bulk, or is neither 0 nor 2^-10 to 2^15 kg/m\xc2\xb3|\
         13|the sums did not settle within the limit's pieces, or cannot|\
         15|a body's mass is negative or not finite|\
         16|a body's centre is not finite|\
-        17|a body's tensor|\
-        18|the line is none of these forms|\
-        19|a word of neither shape of a figure, or sixteen decimal digits alone, where a figure belongs|\
+        17|a body's tensor is none that a body can have|\
+        18|the line is none of the forms in docs/FORMS.md|\
+        19|a word where a figure belongs has neither shape of a figure, or is sixteen decimal digits alone|\
         20|a tube's wall is thicker than its outer radius|\
         21|the fin is thicker than its root chord is long|\
         22|the fillet's radius is over 1000 times the body's, whatever its density|\

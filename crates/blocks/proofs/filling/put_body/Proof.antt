@@ -1,47 +1,58 @@
--- `blocks::filling::put_body` meets its contract: the code's text is the definition's. Assumes nothing.
-use mathlib.Core.Path.{refl}
+-- `blocks::filling::put_body` meets its contract: each part by its mark. Assumes nothing.
 use denote.Ref.{now}
-use Rattle.tokens.specs.Text.{text, codes}
-use Rattle.blocks.specs.Cards.{bodyLines}
-use Rattle.blocks.proofs.Said.{body-asked, body-said}
+use Rattle.blocks.proofs.Pieces.{mass-put, moments-put, mixed-put, mass-room, moments-room, mixed-room}
 use borrow.Author.Needs.{needs}
 use Rattle.blocks.proofs.filling.put_body.Statement.{statement}
 use Rattle.blocks.proofs.filling.put_body.Tie as tie
 
-body-figures-requires : tie.Need-body-figures-requires
-body-figures-requires c κs = search needs
-
-slice-aggregate-put-plain : tie.Need-slice-aggregate-put-plain
-slice-aggregate-put-plain c = search needs
-
-slice-aggregate-put-plain-2 : tie.Need-slice-aggregate-put-plain-2
-slice-aggregate-put-plain-2 c = search needs
-
-slice-aggregate-put-plain-3 : tie.Need-slice-aggregate-put-plain-3
-slice-aggregate-put-plain-3 c = search needs
-
-put-plain-requires : tie.Need-put-plain-requires
-unfolding bodyLines text codes
-put-plain-requires c κs =
-    body-asked _ _ _ refl (c .before .before .before .before .before .before .before .pre)
+put-mass-requires : tie.Need-put-mass-requires
+put-mass-requires c κs = mass-room _ (c .before .before .before .before .args .b) _ (c .before .before .before .before .pre) (c .before .if1 .taken)
 
 same-length : tie.Need-same-length
 same-length c = search needs
 
 returns : tie.Need-returns
-unfolding bodyLines text codes
 returns c =
     let m = c .before .before in
-    body-said _ _ bodyLines (now (m .before .before .before .before .before .before .before .before .args .figures)) _ _ _ refl (m .before .before .before .before .before .body-figures .ensures) (m .put-plain .ensures)
+    let s = m .before .before .before .before .before in
+    mass-put _ _ _ _ (s .args .b) (now (s .args .figures)) (m .before .before .if1 .taken) (m .put-mass .ensures)
+
+put-moments-requires : tie.Need-put-moments-requires
+put-moments-requires c κs = moments-room _ (c .before .before .before .before .before .args .b) _ (c .before .before .before .before .before .pre) (c .before .before .if1 .left) (c .before .if2 .taken)
+
+same-length-2 : tie.Need-same-length-2
+same-length-2 c = search needs
+
+returns-2 : tie.Need-returns-2
+returns-2 c =
+    let m = c .before .before in
+    let t = m .before .before in
+    let s = t .before .before .before .before in
+    moments-put _ _ _ _ (s .args .b) (now (s .args .figures)) (t .before .if1 .left) (t .if2 .taken) (m .put-moments .ensures)
+
+put-mixed-requires : tie.Need-put-mixed-requires
+put-mixed-requires c κs = mixed-room _ (c .before .before .before .before .before .args .b) _ (c .before .before .before .before .before .pre) (c .before .before .if1 .left) (c .before .if2 .left)
+
+same-length-3 : tie.Need-same-length-3
+same-length-3 c = search needs
+
+returns-3 : tie.Need-returns-3
+returns-3 c =
+    let m = c .before .before in
+    let t = m .before .before in
+    let s = t .before .before .before .before in
+    mixed-put _ _ _ _ (s .args .b) (now (s .args .figures)) (t .before .if1 .left) (t .if2 .left) (m .put-mixed .ensures)
 
 pub put-body-spec : {M : Type 1} → statement M
 put-body-spec =
     tie.close
     (tie.spec
-    body-figures-requires
-    slice-aggregate-put-plain
-    slice-aggregate-put-plain-2
-    slice-aggregate-put-plain-3
-    put-plain-requires
+    put-mass-requires
     same-length
-    returns)
+    returns
+    put-moments-requires
+    same-length-2
+    returns-2
+    put-mixed-requires
+    same-length-3
+    returns-3)

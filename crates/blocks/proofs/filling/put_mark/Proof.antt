@@ -1,9 +1,13 @@
 -- `blocks::filling::put_mark` meets its contract: each answer by the law of its case. Assumes nothing.
+use mathlib.Core.Path.{sym, _∙_}
 use denote.Ref.{now}
 use Rattle.blocks.proofs.Pieces.{body-put, no-refusal, refusal-put, other-put, body-room, refusal-room, other-room}
 use borrow.Author.Needs.{needs}
 use Rattle.blocks.proofs.filling.put_mark.Statement.{statement}
 use Rattle.blocks.proofs.filling.put_mark.Tie as tie
+
+is-body-mark-requires : tie.Need-is-body-mark-requires
+is-body-mark-requires c κs = search needs
 
 mul-put-body : tie.Need-mul-put-body
 mul-put-body c = search needs
@@ -19,7 +23,7 @@ part-put-body-end c = search needs
 
 put-body-requires : tie.Need-put-body-requires
 put-body-requires c κs =
-    let s = c .before .before .before .before .before .before in
+    let s = c .before .before .before .before .before .before .before in
     let o = now (s .args .out) in
     let p = s .args .p in
     let b = s .args .b in
@@ -27,14 +31,15 @@ put-body-requires c κs =
     let ns = now (s .args .counts) in
     let i = s .pre .figures-left in
     let j = s .pre .counts-left in
-    body-room o p b fs ns i j (s .pre) (c .before .before .if1 .taken)
+    let t = c .before .before in
+    body-room o p b fs ns i j (s .pre) (sym (t .before .is-body-mark .ensures) ∙ t .if1 .taken)
 
 same-length : tie.Need-same-length
 same-length c = search needs
 
 returns : tie.Need-returns
 returns c =
-    let s = c .before .before .before .before .before .before .before .before .before in
+    let s = c .before .before .before .before .before .before .before .before .before .before in
     let o = now (s .args .out) in
     let p = s .args .p in
     let b = s .args .b in
@@ -43,11 +48,12 @@ returns c =
     let i = s .pre .figures-left in
     let j = s .pre .counts-left in
     let m = c .before .before in
-    body-put o p b fs ns i j (m .before .before .before .if1 .taken) (m .put-body .last .0) (m .put-body .result) (m .put-body .ensures)
+    let t = m .before .before .before in
+    body-put o p b fs ns i j (sym (t .before .is-body-mark .ensures) ∙ t .if1 .taken) (m .put-body .last .0) (m .put-body .result) (m .put-body .ensures)
 
 returns-2 : tie.Need-returns-2
 returns-2 c =
-    let s = c .before .before .before .before .before .before in
+    let s = c .before .before .before .before .before .before .before in
     let o = now (s .args .out) in
     let p = s .args .p in
     let b = s .args .b in
@@ -65,7 +71,7 @@ shared-slice-read-put-refusal c = search needs
 
 put-refusal-requires : tie.Need-put-refusal-requires
 put-refusal-requires c κs =
-    let s = c .before .before .before .before .before .before .before .before in
+    let s = c .before .before .before .before .before .before .before .before .before in
     let o = now (s .args .out) in
     let p = s .args .p in
     let b = s .args .b in
@@ -83,7 +89,7 @@ same-length-2 c = search needs
 
 returns-3 : tie.Need-returns-3
 returns-3 c =
-    let s = c .before .before .before .before .before .before .before .before .before .before .before in
+    let s = c .before .before .before .before .before .before .before .before .before .before .before .before in
     let o = now (s .args .out) in
     let p = s .args .p in
     let b = s .args .b in
@@ -97,7 +103,7 @@ returns-3 c =
 
 put-piece-requires : tie.Need-put-piece-requires
 put-piece-requires c κs =
-    let s = c .before .before .before .before .before .before in
+    let s = c .before .before .before .before .before .before .before in
     let o = now (s .args .out) in
     let p = s .args .p in
     let b = s .args .b in
@@ -106,14 +112,14 @@ put-piece-requires c κs =
     let i = s .pre .figures-left in
     let j = s .pre .counts-left in
     let e = c .before in
-    other-room o p b fs ns i j (s .pre) (e .before .if1 .left) (e .if2 .left)
+    other-room o p b fs ns i j (s .pre) (sym (e .before .before .is-body-mark .ensures) ∙ e .before .if1 .left) (e .if2 .left)
 
 same-length-3 : tie.Need-same-length-3
 same-length-3 c = search needs
 
 returns-4 : tie.Need-returns-4
 returns-4 c =
-    let s = c .before .before .before .before .before .before .before .before .before in
+    let s = c .before .before .before .before .before .before .before .before .before .before in
     let o = now (s .args .out) in
     let p = s .args .p in
     let b = s .args .b in
@@ -123,12 +129,13 @@ returns-4 c =
     let j = s .pre .counts-left in
     let m = c .before .before in
     let e = m .before .before in
-    other-put o p b fs ns i j (e .before .if1 .left) (e .if2 .left) (m .put-piece .last .0) (m .put-piece .result) (m .put-piece .ensures)
+    other-put o p b fs ns i j (sym (e .before .before .is-body-mark .ensures) ∙ e .before .if1 .left) (e .if2 .left) (m .put-piece .last .0) (m .put-piece .result) (m .put-piece .ensures)
 
 pub put-mark-spec : {M : Type 1} → statement M
 put-mark-spec =
     tie.close
     (tie.spec
+    is-body-mark-requires
     mul-put-body
     sub-put-body
     part-put-body-start
