@@ -76,7 +76,7 @@ use Rattle.accuracy.proofs.Turned.{acrossAt, ring-centre, across-naught
 
 ruleset plain = (sorted, one-mul, mul-one, zero-mul, mul-zero, zero-add, add-zero)
 
-times-minus : (x y : Number) → x times minus y ≡ minus (x times y)
+pub times-minus : (x y : Number) → x times minus y ≡ minus (x times y)
 times-minus (number p n d) (number q m e) = refl
 
 both-most : (b y d e κ ν Nr Dr Np Dp : ℕ) → b * Dr ≤ Nr * (d * κ) → y * Dp ≤ Np * (e * ν) → b * y * (Dr * Dp) ≤ κ * ν * (Nr * Np) * (d * e)
@@ -146,13 +146,13 @@ plate-centre : (v : List Float) (density base : Float) (count : ℕ) → T (posi
 unfolding plateBody ofOriginTensor
 plate-centre v density base count h = ring-centre (plateBody v density) base count refl h
 
-plate-naught : (v : List Float) (density base : Float) (count : ℕ) → angleCheck baseAngleField base ≡ Accepted → 1 ≤ count → count ≤ 32 → T
+pub plate-naught : (v : List Float) (density base : Float) (count : ℕ) → angleCheck baseAngleField base ≡ Accepted → 1 ≤ count → count ≤ 32 → T
     (finite (r1 v ⊘ volume v)) → (k : ℕ) → k < count
     → AtMost 0 1 (acrossAt base count (r1 v ⊘ volume v) k)
 unfolding plateBody ofOriginTensor
 plate-naught v density base count h l u f k i = across-naught (plateBody v density) base count baseAngleField h l u f k i
 
-centre-by : (v : List Float) (density base : Float) (count : ℕ) (w u : Float) → volume v ≡ w → x1 v ≡ u → T
+pub centre-by : (v : List Float) (density base : Float) (count : ℕ) (w u : Float) → volume v ≡ w → x1 v ≡ u → T
     (positive (inOrder (λ x y. x ⊕ y) (bits 0) (λ k. density ⊗ w) count))
     → joinedCopies (plateBody v density) base count .«centre_m» .z
     ≡ inOrder (λ x y. x ⊕ y) (bits 0) (λ k. (acrossAt base count (r1 v ⊘ w) k ⊕ oneFloat ⊗ (neg u ⊘ w)) ⊗ (density ⊗ w)) count ⊘ inOrder

@@ -62,3 +62,4 @@ pub mod ExactIntegrals
 pub mod Reaches
 pub mod InertiaNear
 pub mod BelowSpan
+pub mod OrdinaryBalance

@@ -222,7 +222,7 @@ module _ (root tip sweep span scale : Float) where
     four-quotients = record { along = tt; height = tt }
 
 -- ---- the inverse of a number above 0
-inverse-pair : (v : Number) → NotBelow v → v times inverseOf v equals number 1 0 1
+pub inverse-pair : (v : Number) → NotBelow v → v times inverseOf v equals number 1 0 1
 inverse-pair (number q m e) h = record { same = go (q - m) (split h) }
   where
     split : m ≤ q → q ≡ m + (q - m)

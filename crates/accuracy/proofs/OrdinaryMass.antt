@@ -81,7 +81,7 @@ ruleset plain = (sorted, one-mul, mul-one, zero-mul, mul-zero, zero-add, add-zer
 step-error : (n H : ℕ) → suc (n * (2 * H)) + suc (2 * H) + (n * suc n * H + 2 * n + 0) ≤ suc n * suc (suc n) * H + 2 * suc n
 step-error n H = omega arith
 
-one-more : (n : ℕ) (v : Number) → number n 0 1 times v plus v equals number (suc n) 0 1 times v
+pub one-more : (n : ℕ) (v : Number) → number n 0 1 times v plus v equals number (suc n) 0 1 times v
 one-more n (number p m d) = record { same = go n p m d }
   where
     go : (n p m d : ℕ) → ((n * p + 0 * m) * d + p * (1 * d)) * (1 * d) + (suc n * m + 0 * p) * (1 * d * d)
@@ -138,7 +138,7 @@ slabS (Slab height length offset) = whole (var 5 mulT var 7 mulT var 8)
 abbrev massS : Tab → Shared
 massS tab = whole (var 6) ⊠ (raisedBy 9 (tightly volumeS) ⊞ slabS tab)
 
-abbrev fractionE : Fraction → Expression
+abbrev pub fractionE : Fraction → Expression
 fractionE (pos a over b) = ratio a (b - 1)
 fractionE (negsuc a over b) = ratio 0 0
 
@@ -260,11 +260,11 @@ mass-is root tip sweep span scale thickness density radius AirfoilOpen e None = 
 mass-is root tip sweep span scale thickness density radius AirfoilOpen e (Slab h l o) = refl
 
 -- ---- fractions
-abbrev plainFraction : Fraction → Bool
+abbrev pub plainFraction : Fraction → Bool
 plainFraction (pos a over b) = ltb 0 b
 plainFraction (negsuc a over b) = false
 
-fraction-number : (x : ℕ → Number) (f : Fraction) → T (plainFraction f) → IsFraction (evaluate x (fractionE f)) f
+pub fraction-number : (x : ℕ → Number) (f : Fraction) → T (plainFraction f) → IsFraction (evaluate x (fractionE f)) f
 fraction-number x (pos a over b) t = subst (λ (k : ℕ). IsFraction (number a 0 k) (pos a over b)) (sym (one b (ltb→lt 0 b t)))
     (whole-fraction a b)
   where
@@ -272,14 +272,14 @@ fraction-number x (pos a over b) t = subst (λ (k : ℕ). IsFraction (number a 0
     one b h = omega arith
 fraction-number x (negsuc a over b) t = absurd t
 
-fill-fraction : (x : ℕ → Number) (section : Section) → NotRounded section
+pub fill-fraction : (x : ℕ → Number) (section : Section) → NotRounded section
     → IsFraction (evaluate x (fractionE (filled section))) (filled section)
 fill-fraction x Rounded e = absurd e
 fill-fraction x Square e = fraction-number x (filled Square) tt
 fill-fraction x Airfoil e = fraction-number x (filled Airfoil) tt
 fill-fraction x AirfoilOpen e = fraction-number x (filled AirfoilOpen) tt
 
-first-power : (x : ℕ) → x ^ 1 ≡ x
+pub first-power : (x : ℕ) → x ^ 1 ≡ x
 first-power x = rw (pow-suc x 0, pow-zero x) (one-mul x)
 
 unit-parts : (b s S t k y : ℕ) → b ^ 1 * (s ^ 0 * (S ^ 0 * (t ^ 1 * (k ^ 1 * (y ^ 1 * 1))))) * 1 ≡ b * y * (k * t)

@@ -12,11 +12,15 @@ use Rattle.floats.specs.Operations.{bits}
 use Rattle.floats.specs.Fractions.{Fraction, _over_, _plus_, minus, _times_, valueOf}
 use Rattle.rounding.specs.Sizes.{AtMost, AtLeast}
 use Rattle.rounding_error.specs.Distances.{Within}
+use Rattle.sections.specs.Airfoil.{closedTail, openTail, phiExactly}
+use Rattle.sections.specs.declared.Section.{Section}
+use Rattle.sections.specs.declared.Section.the-variants.{Square, Rounded, Airfoil, AirfoilOpen}
 use Rattle.fins.specs.declared.Tab.{Tab}
 use Rattle.fins.specs.declared.Tab.the-variants.{None, Slab}
 use Rattle.figures.specs.declared.Figures.{Figures}
+use Rattle.one_piece.specs.OnePiece.{NotRounded, Proportions}
 use Rattle.accuracy.specs.Centroids.{alongRoot}
-use Rattle.accuracy.specs.Masses.{Plate, Mount, SetGiven, exactMass, Extents}
+use Rattle.accuracy.specs.Masses.{Plate, Mount, SetGiven, exactMass, Extents, SectionGiven, exactMassWith, filled}
 
 -- thickness·span·(root² + root·tip + tip² + sweep·(root + 2·tip))/6, and thickness·height·length·(offset + length/2) of a tab
 abbrev pub finMoment : Plate → Fraction
@@ -55,3 +59,37 @@ TrapezoidBalance =
     → Straight p m b d y e κ ν (r .intervals)
     → Within ((pos (r .intervals * (κ * ν) * (r .intervals * (κ * ν)) * b) over (d * 2 ^ 32)) times exactMass p m)
     (valueOf (r .body .«centre_m» .z) times exactMass p m) (minus (exactMoment p m))
+
+-- ---- other sections
+-- the moment of a section about its leading edge, over thickness × chord²; of a rounded one nothing is said
+abbrev pub forward : Section → Fraction
+forward Square = pos 1 over 2
+forward Rounded = pos 0 over 1
+forward Airfoil = phiExactly closedTail 1
+forward AirfoilOpen = phiExactly openTail 1
+
+-- thickness·span·(σ·sweep·(root + 2·tip)/6 + φ·(root² + root·tip + tip²)/3), σ how much the section fills
+abbrev pub finMomentWith : Section → Plate → Fraction
+finMomentWith section p =
+    valueOf (p .thickness) times (valueOf (p .span) times
+    (filled section times (valueOf (p .sweep) times (valueOf (p .root) plus (pos 2 over 1) times valueOf (p .tip))) times (pos 1 over 6)
+    plus forward section times (valueOf (p .root) times valueOf (p .root) plus valueOf (p .root) times valueOf (p .tip)
+    plus valueOf (p .tip) times valueOf (p .tip)) times (pos 1 over 3)))
+
+abbrev pub exactMomentWith : Section → Plate → Mount → Fraction
+exactMomentWith section p m = (pos (m .count) over 1) times (valueOf (p .density) times finMomentWith section p)
+
+-- of the sets that one piece is enough for (one_piece/specs/OnePiece), with no tab and no cant, tip at most the root chord
+-- and sweep at most so many: at most so many unit roundoffs of the root chord from it
+abbrev pub OrdinaryBalance : ℕ → ℕ → Type 0
+OrdinaryBalance sweeps roundoffs =
+    (section : Section) (p : Plate) (m : Mount) (points : List Float)
+    (L : ℕ) (entry : List Float) (r : Figures) (exit : List Float)
+    → NotRounded section
+    → SectionGiven section p m points L entry r exit
+    → T (fits binary64 (m .radius))
+    → p .tab ≡ None
+    → eq (m .cant) (bits 0) ≡ true
+    → Proportions 1 sweeps (p .root) (p .tip) (p .sweep)
+    → Within ((pos roundoffs over 2 ^ 53) times valueOf (p .root) times exactMassWith section p m)
+    (valueOf (r .body .«centre_m» .z) times exactMassWith section p m) (minus (exactMomentWith section p m))
