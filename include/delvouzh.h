@@ -181,7 +181,7 @@ double delvouzh_sqrt(double x);
 
 /* A job: a set as delvouzh_mass_properties takes it, worked one strip a step, so that its density can still be changed. It lies in `job_numbers`
  * and `job_counts`, which are lent to every call on it as the one before left them, and keeps its own copy of the outline. A copy of both is a
- * job of its own.
+ * job of its own. Where a call changes nothing of the job, no number and no count of it is written.
  *
  * Makes one, and runs every check of the set but 2. Returns 0 where the job is taken. A refused job has ended with its refusal, and every
  * step repeats that; but 18 makes none, and leaves the memory as it was. Writes two values of a refusal. */
@@ -192,13 +192,13 @@ size_t delvouzh_job_make(size_t limit, size_t count, size_t planform, const doub
 
 /* Works the job's next strip, and leaves its pieces in `scratch`, 16 numbers each from its start, the rest as it was. Returns DELVOUZH_MORE where
  * strips are still to come, and writes zeros; with the last strip, or one that is refused, what delvouzh_mass_properties does for the set with its
- * last density, and the job has ended. A step of a job that has ended repeats its answer, with any scratch, and writes none. A scratch under
- * 16 * limit numbers is 2, with the samples so far, and changes nothing. Writes a body and counts as delvouzh_mass_properties does. */
+ * last density, and the job has ended. A step of a job that has ended repeats its answer, with any scratch, writes none and changes nothing. A scratch
+ * under 16 * limit numbers is 2, with the samples so far, and changes nothing. Writes a body and counts as delvouzh_mass_properties does. */
 size_t delvouzh_job_step(double *job_numbers, size_t job_numbers_len, size_t *job_counts, size_t job_counts_len, double *scratch,
                          size_t scratch_len, double *body, size_t body_len, size_t *counts, size_t counts_len);
 
 /* Another density for the plates of a job that has not ended: returns 0 where it is taken. 12 is a density that is not bulk or outside its limits, or
- * a job that has ended, and leaves the old one; its samples are those so far. Writes counts as delvouzh_job_step does. */
+ * a job that has ended, and changes nothing; its samples are those so far. Writes counts as delvouzh_job_step does. */
 size_t delvouzh_job_change_density(double *job_numbers, size_t job_numbers_len, size_t *job_counts, size_t job_counts_len,
                                    size_t density, double figure, size_t *counts, size_t counts_len);
 

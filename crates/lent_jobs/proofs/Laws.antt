@@ -50,7 +50,7 @@ use Rattle.jobs.specs.declared.Stepped.{Stepped}
 use Rattle.jobs.specs.Jobs.{madeOf}
 use Rattle.jobs.specs.Lent.{StepsLent, ChangesLent}
 use Rattle.lent_jobs.specs.Memory.{planformNumber, lengthsOf, sectionNumber, tabNumber, tabFigures, densityNumber, densityFigure, countAt, verdictRow, flag, jobNumbers, jobCounts, setNumbers, workedNumbers, numbersOf, countsOf, lengthCount, tabCount, knownSet, setIn, verdictIn, outcomeIn, jobIn}
-use Rattle.lent_jobs.specs.Lent.{Holds, Makes, Steps, Changes}
+use Rattle.lent_jobs.specs.Lent.{Holds, Makes, StepsThere, ChangesThere}
 use Rattle.lent_jobs.proofs.Sized.{Sized}
 use Rattle.lent_jobs.proofs.Copying.{pasted-first, pasted-second}
 
@@ -253,8 +253,8 @@ module _ (numbers : List Float) (counts : List ℕ) (after : Job) (r : Answer) (
   kept : (j : Job) → after ≡ j → Holds j numbers counts numbers' counts'
   kept j e = subst (λ (x : Job). Holds x numbers counts numbers' counts') e h
 
-  pub job-stepped : (scratch scratch' : List Float) → StepsLent (jobIn numbers counts) scratch r after scratch' → Steps numbers counts scratch r numbers' counts' scratch'
+  pub job-stepped : (scratch scratch' : List Float) → StepsLent (jobIn numbers counts) scratch r after scratch' → StepsThere numbers counts scratch r numbers' counts' scratch'
   job-stepped scratch scratch' e = record { answered = e .0 .is; holds = kept _ (e .1 .0); lent = e .1 .1 }
 
-  pub job-changed : (density : Density) → ChangesLent (jobIn numbers counts) density r after → Changes numbers counts density r numbers' counts'
+  pub job-changed : (density : Density) → ChangesLent (jobIn numbers counts) density r after → ChangesThere numbers counts density r numbers' counts'
   job-changed density e = record { answered = e .0 .is; holds = kept _ (e .1) }

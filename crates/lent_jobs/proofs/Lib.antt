@@ -5,3 +5,4 @@ pub mod Walks
 pub mod LentJob
 pub mod LentLists
 pub mod LentCalls
+pub mod Unchanged

@@ -1,14 +1,19 @@
 -- What the calls on a job in lent memory promise: the answer, the job at exit and what the lists hold, and the scratch at exit.
 use mathlib.Core.Path.{_≡_}
+use mathlib.Core.Bool.{Bool, cond, not, _&&_}
 use mathlib.Core.List.{List, _++_}
 use Prim.Native.Nat.{ℕ, _≤_}
 use lib.ListN.{length, drop}
 use lib.Ieee.{Float}
+use Rattle.refusals.specs.Order.{isRefused}
 use Rattle.materials.specs.declared.Density.{Density}
+use Rattle.materials.specs.Materials.{densityCheck}
+use Rattle.strips.specs.Strips.{runCheck}
 use Rattle.fins.specs.declared.FinSet.{FinSet}
 use Rattle.jobs.specs.declared.Job.{Job}
 use Rattle.jobs.specs.declared.Answer.{Answer}
 use Rattle.jobs.specs.Jobs.{stepOf, stepScratch, changeOf, madeOf}
+use Rattle.jobs.specs.Calls.{isTaken}
 use Rattle.lent_jobs.specs.Memory.{jobNumbers, jobCounts, numbersOf, countsOf, jobIn}
 
 -- lists with room for a job
@@ -25,11 +30,41 @@ pub record Makes (set : FinSet) (points : List Float) (L : ℕ) (numbers : List 
   pub answered : r ≡ madeOf set points L .answer
   pub holds : Holds (madeOf set points L .job) numbers counts numbers' counts'
 
+-- ---- a step and a change of density: the job is written where they change it, else "changes nothing" is said of the lists themselves
+
+-- a step works a strip where the job has not ended and the scratch is long enough
+abbrev pub stripWorked : Bool → ℕ → ℕ → Bool
+stripWorked ended L scratchLength = not ended && not (isRefused (runCheck L scratchLength))
+
+abbrev pub worksStrip : Job → ℕ → Bool
+worksStrip job scratchLength = stripWorked (job .ended) (job .limit) scratchLength
+
+-- a density is taken where the job has not ended and it passes its check
+abbrev pub densityTaken : Bool → Density → Bool
+densityTaken ended density = not ended && not (isRefused (densityCheck density))
+
+-- the lists at exit, by what they were, and the job that they then hold
+pub record Leaves (written : Bool) (job : Job) (numbers : List Float) (counts : List ℕ) (numbers' : List Float) (counts' : List ℕ) : Type 0 where
+  pub numbers-are : numbers' ≡ cond written (numbersOf job ++ drop jobNumbers numbers) numbers
+  pub counts-are : counts' ≡ cond written (countsOf job ++ drop jobCounts counts) counts
+  pub held : jobIn numbers' counts' ≡ job
+
 pub record Steps (numbers : List Float) (counts : List ℕ) (scratch : List Float) (r : Answer) (numbers' : List Float) (counts' : List ℕ) (scratch' : List Float) : Type 0 where
+  pub answered : r ≡ stepOf (jobIn numbers counts) (length scratch) .answer
+  pub leaves : Leaves (worksStrip (jobIn numbers counts) (length scratch)) (stepOf (jobIn numbers counts) (length scratch) .job) numbers counts numbers' counts'
+  pub lent : scratch' ≡ stepScratch (jobIn numbers counts) scratch
+
+pub record Changes (numbers : List Float) (counts : List ℕ) (density : Density) (r : Answer) (numbers' : List Float) (counts' : List ℕ) : Type 0 where
+  pub answered : r ≡ changeOf (jobIn numbers counts) density .answer
+  pub leaves : Leaves (isTaken (changeOf (jobIn numbers counts) density .answer .reply)) (changeOf (jobIn numbers counts) density .job) numbers counts numbers' counts'
+
+-- ---- what functions inside do: the job is written, whatever the call did
+
+pub record StepsThere (numbers : List Float) (counts : List ℕ) (scratch : List Float) (r : Answer) (numbers' : List Float) (counts' : List ℕ) (scratch' : List Float) : Type 0 where
   pub answered : r ≡ stepOf (jobIn numbers counts) (length scratch) .answer
   pub holds : Holds (stepOf (jobIn numbers counts) (length scratch) .job) numbers counts numbers' counts'
   pub lent : scratch' ≡ stepScratch (jobIn numbers counts) scratch
 
-pub record Changes (numbers : List Float) (counts : List ℕ) (density : Density) (r : Answer) (numbers' : List Float) (counts' : List ℕ) : Type 0 where
+pub record ChangesThere (numbers : List Float) (counts : List ℕ) (density : Density) (r : Answer) (numbers' : List Float) (counts' : List ℕ) : Type 0 where
   pub answered : r ≡ changeOf (jobIn numbers counts) density .answer
   pub holds : Holds (changeOf (jobIn numbers counts) density .job) numbers counts numbers' counts'

@@ -1,7 +1,8 @@
 // A job in lent memory: 159 numbers and 17 counts, as C and Rust lend it (document 02, Paper 9; include/delvouzh.h).
 //
-// A call reads the job into a local, lends that to `jobs::step` or `jobs::change_density`, and writes it back over the start of both lists. A set's
-// parts stand there by the library's numbers; lists that no call wrote hold some job too: a part's unknown number makes it a set of no fins.
+// A call reads the job into a local, lends that to `jobs::step` or `jobs::change_density`, and writes it back over the start of both lists; a call
+// that changes nothing writes nothing. A set's parts stand there by the library's numbers; lists that no call wrote hold some job too: a part's unknown
+// number makes it a set of no fins.
 ghost use mathlib.Core.Path.{_≡_};
 ghost use Prim.Native.Nat.{_+_, _≤_};
 ghost use lib.ListN.{length};
@@ -9,7 +10,7 @@ ghost use lib.Seq.{paste};
 ghost use Rattle.jobs.specs.Calls.{isTaken};
 ghost use Rattle.lent_jobs.specs.Memory.{planformNumber, lengthsOf, sectionNumber, tabNumber, tabFigures, densityNumber, densityFigure};
 ghost use Rattle.lent_jobs.specs.Memory.{verdictRow, flag, setNumbers, workedNumbers, countsOf, lengthCount, tabCount, knownSet, setIn, verdictIn, outcomeIn, jobIn};
-ghost use Rattle.lent_jobs.specs.Lent.{Room, Holds, Makes, Steps, Changes};
+ghost use Rattle.lent_jobs.specs.Lent.{Room, Holds, Makes, stripWorked, densityTaken, Steps, Changes, StepsThere, ChangesThere};
 use bodies::Body;
 use figures::Figures;
 use fillets::Fillet;
@@ -23,6 +24,7 @@ use jobs::Reply;
 use materials::Density;
 use planforms::Planform;
 use refusals::Verdict;
+use refusals::first_refusal;
 use sections::Section;
 
 // How many numbers and counts a job has. Of the numbers, first the set's, then what is worked, then the outline's.
@@ -446,10 +448,10 @@ pub fn make(
     made.answer
 }
 
-// One step of the job there.
-pub fn step(numbers: &mut [f64], counts: &mut [usize], scratch: &mut [f64]) -> Answer
+// A step of the job there that works a strip.
+fn step_there(numbers: &mut [f64], counts: &mut [usize], scratch: &mut [f64]) -> Answer
     requires { ⌜ Room (now numbers) (now counts) ⌝ }
-    ensures { λ r. ⌜ Steps (now (numbers .entry)) (now (counts .entry)) (now (scratch .entry)) r
+    ensures { λ r. ⌜ StepsThere (now (numbers .entry)) (now (counts .entry)) (now (scratch .entry)) r
         (now (numbers .exit)) (now (counts .exit)) (now (scratch .exit)) ⌝ }
 {
     let mut job = read_job(numbers, counts);
@@ -458,13 +460,58 @@ pub fn step(numbers: &mut [f64], counts: &mut [usize], scratch: &mut [f64]) -> A
     answer
 }
 
-// A change of density of the job there.
-pub fn change_density(numbers: &mut [f64], counts: &mut [usize], density: Density) -> Answer
+// Whether a step works a strip of a job: not of one that has ended, nor over a scratch that is too short.
+fn works_strip(ended: bool, limit: usize, scratch_len: usize) -> bool
+    ensures { λ r. ⌜ r ≡ stripWorked ended limit «scratch_len» ⌝ }
+{
+    let verdict = first_refusal(
+        limits::check_limit(limit),
+        limits::check_scratch(limit, scratch_len),
+    );
+    !ended & !refusals::is_refused(verdict)
+}
+
+// One step of the job there. One that works no strip writes nothing.
+pub fn step(numbers: &mut [f64], counts: &mut [usize], scratch: &mut [f64]) -> Answer
     requires { ⌜ Room (now numbers) (now counts) ⌝ }
-    ensures { λ r. ⌜ Changes (now (numbers .entry)) (now (counts .entry)) density r (now (numbers .exit)) (now (counts .exit)) ⌝ }
+    ensures { λ r. ⌜ Steps (now (numbers .entry)) (now (counts .entry)) (now (scratch .entry)) r
+        (now (numbers .exit)) (now (counts .exit)) (now (scratch .exit)) ⌝ }
+{
+    if works_strip(counts[10] != 0, counts[6], scratch.len()) {
+        return step_there(numbers, counts, scratch);
+    }
+    let job = read_job(numbers, counts);
+    let stepped = jobs::step_by_value(job, scratch);
+    stepped.answer
+}
+
+// A change of density of the job there that is taken.
+fn change_there(numbers: &mut [f64], counts: &mut [usize], density: Density) -> Answer
+    requires { ⌜ Room (now numbers) (now counts) ⌝ }
+    ensures { λ r. ⌜ ChangesThere (now (numbers .entry)) (now (counts .entry)) density r (now (numbers .exit)) (now (counts .exit)) ⌝ }
 {
     let mut job = read_job(numbers, counts);
     let answer = jobs::change_density(&mut job, density);
     write_job(numbers, counts, job);
     answer
+}
+
+fn takes_density(ended: bool, density: Density) -> bool
+    ensures { λ r. ⌜ r ≡ densityTaken ended density ⌝ }
+{
+    let verdict = materials::check_density(density);
+    !ended & !refusals::is_refused(verdict)
+}
+
+// A change of density of the job there. One that is refused writes nothing.
+pub fn change_density(numbers: &mut [f64], counts: &mut [usize], density: Density) -> Answer
+    requires { ⌜ Room (now numbers) (now counts) ⌝ }
+    ensures { λ r. ⌜ Changes (now (numbers .entry)) (now (counts .entry)) density r (now (numbers .exit)) (now (counts .exit)) ⌝ }
+{
+    if takes_density(counts[10] != 0, density) {
+        return change_there(numbers, counts, density);
+    }
+    let job = read_job(numbers, counts);
+    let changed = jobs::change_by_value(job, density);
+    changed.answer
 }

@@ -1,6 +1,6 @@
 -- What a call on a job in lent memory promises follows from what its parts did, or from a list that has no room. Assumes nothing.
 use mathlib.Core.Path.{_≡_, refl, sym, subst, _∙_}
-use mathlib.Core.Bool.{Bool, true, false, _&&_, true≢false}
+use mathlib.Core.Bool.{Bool, true, false, _&&_}
 use mathlib.Core.List.{List}
 use Prim.Native.Nat.{ℕ, _≤_, _<_}
 use lib.ListN.{length}
@@ -17,10 +17,10 @@ use Rattle.joins.specs.Flat.{withBody}
 use Rattle.jobs.specs.declared.Job.{Job}
 use Rattle.jobs.specs.declared.Answer.{Answer}
 use Rattle.jobs.specs.declared.Stepped.{Stepped}
-use Rattle.lent_jobs.specs.Memory.{jobNumbers, jobCounts}
-use Rattle.lent_jobs.specs.Lent.{Holds, Makes, Steps, Changes}
+use Rattle.lent_jobs.specs.Memory.{jobNumbers, jobCounts, jobIn}
+use Rattle.lent_jobs.specs.Lent.{Holds, Leaves, Makes, Steps, Changes}
 use Rattle.foreign_numbers.specs.Numbers.{withValues, withCounts, room, figureCounts}
-use Rattle.screen_exports.specs.JobCalls.{answerNumber, madeBy, changedBy, jobRoom, Memory, JobCall, makeRoom, MakeCall, stepRoom, StepCall, changeRoom, ChangeCall}
+use Rattle.screen_exports.specs.JobCalls.{answerNumber, madeBy, changedBy, jobRoom, JobCall, makeRoom, MakeCall, stepRoom, StepCall, changeRoom, ChangeCall}
 use Rattle.foreign_numbers.proofs.Rooms.{has-room, few-figures, few-counts}
 
 pub first-not : {a : Bool} (b : Bool) → a ≡ false → (a && b) ≡ false
@@ -42,17 +42,14 @@ module _ (numbers : List Float) (counts : List ℕ) where
   pub few-totals : jobNumbers ≤ length numbers → length counts < jobCounts → jobRoom numbers counts ≡ false
   few-totals h k = few-counts jobNumbers numbers jobCounts counts h k
 
-  unwritten : (written : Bool) (job : Job) → written ≡ false → Memory written job numbers counts numbers counts
-  unwritten written job none = record { numbers-are = rw none; counts-are = rw none; held = λ e. absurd (true≢false (sym e ∙ none)) }
-
-  written-over : (written : Bool) (job : Job) (numbers' : List Float) (counts' : List ℕ) → written ≡ true → Holds job numbers counts numbers' counts' →
-      Memory written job numbers counts numbers' counts'
-  written-over written job numbers' counts' all h = record { numbers-are = rw all (h .numbers-are); counts-are = rw all (h .counts-are); held = λ e. h .held }
+  -- nothing is written, and the job is as it was
+  unwritten : (written : Bool) (job : Job) → written ≡ false → job ≡ jobIn numbers counts → Leaves written job numbers counts numbers counts
+  unwritten written job none e = record { numbers-are = rw none; counts-are = rw none; held = sym e }
 
   -- ---- no room
 
   refused : (fits written : Bool) (s : Stepped) → fits ≡ false → JobCall fits written s numbers counts 18 numbers counts
-  refused fits written s none = record { returned = rw none; memory = unwritten (fits && written) (s .job) (rw none) }
+  refused fits written s none = record { returned = rw none; leaves = unwritten (fits && written) _ (rw none) (rw none) }
 
   module _ (set : NumberedSet) (points : List Float) (L : ℕ) (values : List ℕ) where
     pub make-refused : makeRoom numbers counts values ≡ false → MakeCall numbers counts set points L values 18 numbers counts values
@@ -74,7 +71,7 @@ module _ (numbers : List Float) (counts : List ℕ) where
     make-unknown set read same none fits v =
         subst (λ (x : NumberedSet). MakeCall numbers counts x points L values 18 numbers counts values') (sym none ∙ same)
         (unfold madeBy in
-        record { call = record { returned = rw fits; memory = unwritten _ _ (rw fits) }; counted = rw fits v })
+        record { call = record { returned = rw fits; leaves = unwritten _ _ (rw fits) (rw fits) }; counted = rw fits v })
 
   module _ (told told' : List ℕ) where
     pub change-unknown : (density read : NumberedDensity) → read ≡ density → read ≡ noDensity → changeRoom numbers counts told ≡ true →
@@ -82,15 +79,18 @@ module _ (numbers : List Float) (counts : List ℕ) where
     change-unknown density read same none fits v =
         subst (λ (x : NumberedDensity). ChangeCall numbers counts x told 18 numbers counts told') (sym none ∙ same)
         (unfold changedBy in
-        record { call = record { returned = rw fits; memory = unwritten _ _ (rw fits) }; counted = rw fits v })
+        record { call = record { returned = rw fits; leaves = unwritten _ _ (rw fits) (rw fits) }; counted = rw fits v })
 
   -- ---- the job is worked on
 
   module _ (numbers' : List Float) (counts' : List ℕ) (a : Answer) (r : ℕ) (r-is : r ≡ answerNumber a) where
-    called : (fits written : Bool) (s : Stepped) → fits ≡ true → written ≡ true → a ≡ s .answer → Holds (s .job) numbers counts numbers' counts' →
+    called : (fits written : Bool) (s : Stepped) → fits ≡ true → a ≡ s .answer → Leaves written (s .job) numbers counts numbers' counts' →
         JobCall fits written s numbers counts r numbers' counts'
-    called fits written s f w e h =
-        record { returned = rw (f, ← e) r-is; memory = written-over (fits && written) (s .job) numbers' counts' (rw (f, w)) h }
+    called fits written s f e h = record { returned = rw (f, ← e) r-is; leaves = rw f h }
+
+    -- a job that is made is written
+    made : (job : Job) → Holds job numbers counts numbers' counts' → Leaves true job numbers counts numbers' counts'
+    made job h = record { numbers-are = h .numbers-are; counts-are = h .counts-are; held = h .held }
 
     pub make-written : (points : List Float) (L : ℕ) (values values' : List ℕ) (asked read : NumberedSet) (set : FinSet) →
         read ≡ asked → read ≡ setKnown set → makeRoom numbers counts values ≡ true → Makes set points L numbers counts a numbers' counts' →
@@ -98,7 +98,7 @@ module _ (numbers : List Float) (counts : List ℕ) where
     make-written points L values values' asked read set same known fits m v =
         subst (λ (x : NumberedSet). MakeCall numbers counts x points L values r numbers' counts' values') (sym known ∙ same)
         (unfold madeBy in
-        record { call = called _ _ _ fits refl (m .answered) (m .holds); counted = rw (fits, ← m .answered) v })
+        record { call = called _ _ _ fits (m .answered) (made _ (m .holds)); counted = rw (fits, ← m .answered) v })
 
     pub step-written : (scratch body scratch' body' : List Float) (told told' : List ℕ) →
         stepRoom numbers counts body told ≡ true → Steps numbers counts scratch a numbers' counts' scratch' →
@@ -106,7 +106,7 @@ module _ (numbers : List Float) (counts : List ℕ) where
         StepCall numbers counts scratch body told r numbers' counts' scratch' body' told'
     step-written scratch body scratch' body' told told' fits s b c =
         record {
-          call = called _ _ _ fits refl (s .answered) (s .holds);
+          call = called _ _ _ fits (s .answered) (s .leaves);
           figures = rw (fits, ← s .answered) b;
           counted = rw (fits, ← s .answered) c;
           lent = rw fits (s .lent);
@@ -118,4 +118,4 @@ module _ (numbers : List Float) (counts : List ℕ) where
     change-written told told' asked read density same known fits m v =
         subst (λ (x : NumberedDensity). ChangeCall numbers counts x told r numbers' counts' told') (sym known ∙ same)
         (unfold changedBy in
-        record { call = called _ _ _ fits refl (m .answered) (m .holds); counted = rw (fits, ← m .answered) v })
+        record { call = called _ _ _ fits (m .answered) (m .leaves); counted = rw (fits, ← m .answered) v })

@@ -2,10 +2,10 @@
 -- part or of a density is 18, and the memory stays as it was, as where a list has no room.
 use mathlib.Core.Path.{_≡_}
 use mathlib.Core.Bool.{Bool, true, false, cond, _&&_}
-use mathlib.Core.List.{List, _++_}
+use mathlib.Core.List.{List}
 use Prim.Native.Nat.{ℕ}
 use lib.Dec.{leb}
-use lib.ListN.{length, drop}
+use lib.ListN.{length}
 use lib.Ieee.{Float}
 use Rattle.refusals.specs.declared.Refusal.the-variants.{NoForm}
 use Rattle.refusals.specs.declared.Verdict.{Verdict}
@@ -23,7 +23,9 @@ use Rattle.jobs.specs.declared.Reply.the-variants.{More, Taken, Answered}
 use Rattle.jobs.specs.declared.Answer.{Answer}
 use Rattle.jobs.specs.declared.Stepped.{Stepped}
 use Rattle.jobs.specs.Jobs.{stepOf, stepScratch, changeOf, madeOf}
-use Rattle.lent_jobs.specs.Memory.{jobNumbers, jobCounts, numbersOf, countsOf, jobIn}
+use Rattle.jobs.specs.Calls.{isTaken}
+use Rattle.lent_jobs.specs.Memory.{jobNumbers, jobCounts, jobIn}
+use Rattle.lent_jobs.specs.Lent.{worksStrip, Leaves}
 use Rattle.foreign_numbers.specs.Numbers.{numberIn, withValues, room, figureCounts}
 
 -- "more remain" has a number over all of the refusals'; "taken" is 0
@@ -52,28 +54,19 @@ unfoldable pub changedBy : NumberedDensity → Job → Stepped
 changedBy (densityKnown density) before = changeOf before density
 changedBy noDensity before = noForm before
 
-abbrev pub isDensity : NumberedDensity → Bool
-isDensity (densityKnown density) = true
-isDensity noDensity = false
-
 -- ---- the memory
 
 -- room for a job
 abbrev pub jobRoom : List Float → List ℕ → Bool
 jobRoom numbers counts = room jobNumbers numbers jobCounts counts
 
--- the job is written over its start, where anything is written, and is the one that it then holds
-pub record Memory (written : Bool) (job : Job) (numbers : List Float) (counts : List ℕ) (numbers' : List Float) (counts' : List ℕ) : Type 0 where
-  pub numbers-are : numbers' ≡ cond written (numbersOf job ++ drop jobNumbers numbers) numbers
-  pub counts-are : counts' ≡ cond written (countsOf job ++ drop jobCounts counts) counts
-  pub held : written ≡ true → jobIn numbers' counts' ≡ job
-
 -- ---- the calls
 
--- what a call returns of its answer, and what it leaves in the memory
+-- what a call returns of its answer, and what it leaves in the memory: the job is written over its start, where it changes, and is the one that it then
+-- holds; with no room nothing is written
 pub record JobCall (fits written : Bool) (s : Stepped) (numbers : List Float) (counts : List ℕ) (r : ℕ) (numbers' : List Float) (counts' : List ℕ) : Type 0 where
   pub returned : r ≡ cond fits (answerNumber (s .answer)) (numberOf NoForm)
-  pub memory : Memory (fits && written) (s .job) numbers counts numbers' counts'
+  pub leaves : Leaves (fits && written) (cond fits (s .job) (jobIn numbers counts)) numbers counts numbers' counts'
 
 module _ (numbers : List Float) (counts : List ℕ) where
   -- a job is made, also one that is refused, which has ended with that
@@ -96,7 +89,7 @@ module _ (numbers : List Float) (counts : List ℕ) where
   stepping scratch = stepOf (jobIn numbers counts) (length scratch)
 
   pub record StepCall (scratch body : List Float) (told : List ℕ) (r : ℕ) (numbers' : List Float) (counts' : List ℕ) (scratch' body' : List Float) (told' : List ℕ) : Type 0 where
-    pub call : JobCall (stepRoom body told) true (stepping scratch) numbers counts r numbers' counts'
+    pub call : JobCall (stepRoom body told) (worksStrip (jobIn numbers counts) (length scratch)) (stepping scratch) numbers counts r numbers' counts'
     pub figures : body' ≡ cond (stepRoom body told) (withBody body 0 (stepping scratch .answer .figures .body)) body
     pub counted : told' ≡ cond (stepRoom body told) (figureCounts (stepping scratch .answer .figures) told) told
     pub lent : scratch' ≡ cond (stepRoom body told) (stepScratch (jobIn numbers counts) scratch) scratch
@@ -109,5 +102,5 @@ module _ (numbers : List Float) (counts : List ℕ) where
   changing density = changedBy density (jobIn numbers counts)
 
   pub record ChangeCall (density : NumberedDensity) (told : List ℕ) (r : ℕ) (numbers' : List Float) (counts' told' : List ℕ) : Type 0 where
-    pub call : JobCall (changeRoom told) (isDensity density) (changing density) numbers counts r numbers' counts'
+    pub call : JobCall (changeRoom told) (isTaken (changing density .answer .reply)) (changing density) numbers counts r numbers' counts'
     pub counted : told' ≡ cond (changeRoom told) (figureCounts (changing density .answer .figures) told) told
