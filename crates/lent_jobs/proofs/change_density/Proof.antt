@@ -49,7 +49,7 @@ returns-2 c = let change = c .before in
     let s = takes .before .before .before .before .args in
     changes-none (now (s .numbers)) (now (s .counts)) _ (read .read-job .result) (change .change-by-value .result)
     (density-test (now (s .numbers)) (now (s .counts)) _ _ (takes .takes-density .ensures) ∙ stays .if1 .left)
-    (read .read-job .ensures) (change .change-by-value .ensures)
+    (read .read-job .ensures) (change .change-by-value .ensures .is)
 
 pub change-density-spec : {M : Type 1} → statement M
 change-density-spec =
