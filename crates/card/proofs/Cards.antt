@@ -388,7 +388,9 @@ module _ (before : List (List ℕ)) (submission : List ℕ) (since : List (List 
         on-screen = on;
         over-calls = job.over-calls set points L (on .job .accepted) Own·;
         as-alone = one.as-alone Calls· (Left· .engine) eight-left screen;
-        drawn = drawn-on-screen (Found· .engine) screen set points L Calls· (written-f64 Submit submission set points L (h .writes)) on held-now;
+        drawn =
+            let f64s = written-f64 Submit submission set points L (h .writes) in
+            drawn-on-screen (Found· .engine) screen set points L Calls· f64s on held-now;
         goes-on = λ line t next held. more-replied next line t held;
         ends = λ line t next free. card-replied next line t free _ refl;
         own-line = λ line w lines. set-line line (setNow before submission since screen set points L) points L w limit-checked lines _ refl;

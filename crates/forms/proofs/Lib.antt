@@ -1,1 +1,2 @@
 pub mod NoForms
+pub mod F64s

@@ -183,7 +183,7 @@ change-samples job density most so-far = by (job .ended) refl (densityCheck dens
     by false e (Refused r) d = subst (λ (s : Stepped). s .answer .figures .samples ≤ most) (sym (change-refused job density r e d)) so-far
     by false e Accepted d = subst (λ (s : Stepped). s .answer .figures .samples ≤ most) (sym (change-taken job density e d)) (omega arith)
 
--- ---- lists of calls, one behind the other
+-- ---- lists of calls, one after the other
 pub after-both : (job : Job) (calls later : List Call) → afterCalls job (calls ++ later) ≡ afterCalls (afterCalls job calls) later
 after-both job [] later = refl
 after-both job (call ∷ calls) later = after-both (steppedBy job call .job) calls later

@@ -73,7 +73,7 @@ densityOver job density (call ∷ calls) = densityOver (steppedBy job call .job)
 
 -- ---- what is worked so far
 
--- the first strips of a run: with those to come behind them they are the run's, each as demand 3 has it
+-- the first strips of a run: with those to come after them they are the run's, each as demand 3 has it
 pub record FirstStrips (run : Run) (strips : List Worked) : Type 0 where
   pub to-come : List Worked
   pub are : StripsAre run (strips ++ to-come)
