@@ -37,7 +37,9 @@ returns c = let taken = c .before in
     (sym (taken .is-taken .ensures) ∙ not-true _ (c .if1 .taken))
 
 write-at-requires : tie.Need-write-at-requires
-write-at-requires c κs = search needs
+write-at-requires c κs = let place = c .before .before .before .before .before .before .before .before .before .before .before in
+    let s = place .before .before .before .before .before in
+    (s .pre, place .place-of .ensures .1)
 
 same-length-3 : tie.Need-same-length-3
 same-length-3 c = search needs
