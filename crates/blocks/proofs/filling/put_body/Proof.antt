@@ -6,7 +6,9 @@ use Rattle.blocks.proofs.filling.put_body.Statement.{statement}
 use Rattle.blocks.proofs.filling.put_body.Tie as tie
 
 put-mass-requires : tie.Need-put-mass-requires
-put-mass-requires c κs = mass-room _ (c .before .before .before .before .args .b) _ (c .before .before .before .before .pre) (c .before .if1 .taken)
+put-mass-requires c κs =
+    let s = c .before .before .before .before in
+    mass-room _ (s .args .b) _ (s .pre) (c .before .if1 .taken)
 
 same-length : tie.Need-same-length
 same-length c = search needs
@@ -18,7 +20,9 @@ returns c =
     mass-put _ _ _ _ (s .args .b) (now (s .args .figures)) (m .before .before .if1 .taken) (m .put-mass .ensures)
 
 put-moments-requires : tie.Need-put-moments-requires
-put-moments-requires c κs = moments-room _ (c .before .before .before .before .before .args .b) _ (c .before .before .before .before .before .pre) (c .before .before .if1 .left) (c .before .if2 .taken)
+put-moments-requires c κs =
+    let s = c .before .before .before .before .before in
+    moments-room _ (s .args .b) _ (s .pre) (c .before .before .if1 .left) (c .before .if2 .taken)
 
 same-length-2 : tie.Need-same-length-2
 same-length-2 c = search needs
@@ -31,7 +35,9 @@ returns-2 c =
     moments-put _ _ _ _ (s .args .b) (now (s .args .figures)) (t .before .if1 .left) (t .if2 .taken) (m .put-moments .ensures)
 
 put-mixed-requires : tie.Need-put-mixed-requires
-put-mixed-requires c κs = mixed-room _ (c .before .before .before .before .before .args .b) _ (c .before .before .before .before .before .pre) (c .before .before .if1 .left) (c .before .if2 .left)
+put-mixed-requires c κs =
+    let s = c .before .before .before .before .before in
+    mixed-room _ (s .args .b) _ (s .pre) (c .before .before .if1 .left) (c .before .if2 .left)
 
 same-length-3 : tie.Need-same-length-3
 same-length-3 c = search needs

@@ -26,7 +26,8 @@ returns c =
     let xz = yz .before in
     let xy = xz .before in
     let s = xy .before .before .before in
-    none-mixed _ (now (s .args .out)) (now (s .args .figures)) _ 0 (xy .beside-from .result) (xz .beside-from2 .result) (yz .beside-from3 .result) (z .all-zero .result)
+    none-mixed _ (now (s .args .out)) (now (s .args .figures)) _ 0
+    (xy .beside-from .result) (xz .beside-from2 .result) (yz .beside-from3 .result) (z .all-zero .result)
     (xy .beside-from .ensures) (xz .beside-from2 .ensures) (yz .beside-from3 .ensures) (z .all-zero .ensures) (c .if1 .taken)
 
 slice-aggregate-put-plain : tie.Need-slice-aggregate-put-plain
@@ -41,7 +42,8 @@ slice-aggregate-put-plain-3 c = search needs
 put-plain-requires : tie.Need-put-plain-requires
 unfolding mixedLine text codes
 put-plain-requires c κs =
-    line-asked mixedLine 200 mixed-line-room _ _ (c .before .before .before .before .before .before .before .before .before .before .before .pre)
+    let s = c .before .before .before .before .before .before .before .before .before .before .before in
+    line-asked mixedLine 200 mixed-line-room _ _ (s .pre)
 
 same-length : tie.Need-same-length
 same-length c = search needs
@@ -56,8 +58,10 @@ returns-2 c =
     let xz = yz .before in
     let xy = xz .before in
     let s = xy .before .before .before in
-    some-mixed _ _ (now (s .args .figures)) _ _ (xy .beside-from .result) (xz .beside-from2 .result) (yz .beside-from3 .result) (z .all-zero .result)
-    (xy .beside-from .ensures) (xz .beside-from2 .ensures) (yz .beside-from3 .ensures) (z .all-zero .ensures) (e .if1 .left) (m .put-plain .ensures)
+    some-mixed _ _ (now (s .args .figures)) _ _
+    (xy .beside-from .result) (xz .beside-from2 .result) (yz .beside-from3 .result) (z .all-zero .result)
+    (xy .beside-from .ensures) (xz .beside-from2 .ensures) (yz .beside-from3 .ensures) (z .all-zero .ensures)
+    (e .if1 .left) (m .put-plain .ensures)
 
 pub put-mixed-spec : {M : Type 1} → statement M
 put-mixed-spec =
