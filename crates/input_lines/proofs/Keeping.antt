@@ -1,84 +1,131 @@
--- The state of the line that has begun: empty, one byte longer, and at the input's end. Assumes nothing.
-use mathlib.Core.List.{List, [], _∷_, _++_}
-use mathlib.Core.Bool.{true, false}
+-- The state of the line that has begun: empty, some bytes longer, and at the input's end. Assumes nothing.
+use mathlib.Core.List.{List, [], _∷_, _++_, append-nil, append-assoc}
+use mathlib.Core.Bool.{Bool, true, false, _||_}
 use mathlib.Core.Path.{_≡_, refl, sym, ap, _∙_}
-use Prim.Native.Nat.{ℕ, _+_, _<_, _≤_}
+use Prim.Native.Nat.{ℕ, suc, _+_, _-_, _<_, _≤_, min}
+use native.Mathlib.Nat.{zero-add}
 use native.Mathlib.Numerals.{add-one}
 use native.Mathlib.Omega.{arith}
-use borrow.Author.Tests.{lt-ltb, le-ltb, eq-eqb, ne-eqb}
-use lib.ListN.{length, take, set, getD, length-append}
-use lib.Seq.{take-all, take-suc, take-suc-set, take-append-le}
+use borrow.Author.Tests.{lt-ltb, le-ltb, ltb-true, ltb-false, eqb-true}
+use lib.Dec.{ltb, eqb}
+use lib.ListN.{length, take, getD, length-append}
+use lib.Seq.{take-all, take-length, take-suc, take-at, take-append-le, take-append-add, length-take-le}
+use Rattle.bytes.specs.Bytes.{indexOf, indexAfter, slice}
 use Rattle.tokens.specs.Tokens.{lineBytes}
 use Rattle.input_lines.specs.declared.State.{State}
 use Rattle.input_lines.specs.Lines.{linesWithin, begunAfter, lastLine}
-use Rattle.input_lines.specs.Kept.{Keeps, KeepsByte}
-use Rattle.input_lines.proofs.Cutting.{begun-twice, lines-twice}
+use Rattle.input_lines.specs.Kept.{Keeps, KeepsBytes, KeepsLine}
 
 pub empty : (buffer : List ℕ) → Keeps buffer (record { kept = 0; over = false }) []
 empty buffer = record { count = refl; bytes = refl; over = refl }
 
-module _ (buffer : List ℕ) (s : State) (b : ℕ) where
-  -- there is room for the byte
-  pub one-more : lineBytes ≤ length buffer → s .kept < lineBytes → KeepsByte buffer (set buffer (s .kept) b) s (record { kept = s .kept + 1; over = s .over }) b
-  one-more m h = record { within = omega arith; keeps = by }
+-- ---- more bytes of the line, as many as there is room for
+module _ (begun line : List ℕ) (kept m : ℕ) (count : kept ≡ min lineBytes (length begun)) (most : m ≡ min (length line) (lineBytes - kept)) where
+  first-bytes : take lineBytes begun ++ take m line ≡ take lineBytes (begun ++ line)
+  first-bytes = go (ltb lineBytes (length begun)) refl
     where
-      by : (begun : List ℕ) → Keeps buffer s begun → Keeps (set buffer (s .kept) b) (record { kept = s .kept + 1; over = s .over }) (begun ++ (b ∷ []))
-      by begun k =
-          let n = k .count in
-          let l = length-append begun (b ∷ []) in
-          let j : length begun < lineBytes = omega arith in
-          let t : take (s .kept + 1) (set buffer (s .kept) b) ≡ take (s .kept) buffer ++ (b ∷ []) = ap (λ (i : ℕ). take i (set buffer (s .kept) b)) (add-one (s .kept)) ∙ take-suc-set buffer (s .kept) b (omega arith) in
-          record {
-            count = omega arith;
-            bytes = t ∙ ap (λ (x : List ℕ). x ++ (b ∷ [])) (k .bytes ∙ take-all lineBytes begun (omega arith)) ∙ sym (take-all lineBytes (begun ++ (b ∷ [])) (omega arith));
-            over = k .over ∙ le-ltb lineBytes (length begun) (omega arith) ∙ sym (le-ltb lineBytes (length (begun ++ (b ∷ []))) (omega arith));
-          }
+      go : (t : Bool) → ltb lineBytes (length begun) ≡ t → take lineBytes begun ++ take m line ≡ take lineBytes (begun ++ line)
+      go true t =
+          let l = ltb-true lineBytes (length begun) t in
+          let z : m ≡ 0 = omega arith in
+          ap (λ (k : ℕ). take lineBytes begun ++ take k line) z ∙ append-nil (take lineBytes begun) ∙ sym (take-append-le lineBytes begun line (omega arith))
+      go false t =
+          let l = ltb-false lineBytes (length begun) t in
+          let e : length begun + (lineBytes - length begun) ≡ lineBytes = omega arith in
+          let f : take m line ≡ take (lineBytes - length begun) line = same-bytes (ltb (lineBytes - length begun) (length line)) refl l in
+          ap (λ (a : List ℕ). a ++ take m line) (take-all lineBytes begun l) ∙ ap (λ (a : List ℕ). begun ++ a) f
+          ∙ sym (take-append-add begun line (lineBytes - length begun)) ∙ ap (λ (k : ℕ). take k (begun ++ line)) e
+        where
+          same-bytes : (t : Bool) → ltb (lineBytes - length begun) (length line) ≡ t → length begun ≤ lineBytes → take m line ≡ take (lineBytes - length begun) line
+          same-bytes true t l = let h = ltb-true (lineBytes - length begun) (length line) t in ap (λ (k : ℕ). take k line) (let e : m ≡ lineBytes - length begun = omega arith in e)
+          same-bytes false t l =
+              let h = ltb-false (lineBytes - length begun) (length line) t in
+              take-all m line (omega arith) ∙ sym (take-all (lineBytes - length begun) line h)
 
-  -- there is none
-  pub too-many : s .kept ≤ lineBytes → lineBytes ≤ s .kept → KeepsByte buffer buffer s (record { kept = s .kept; over = true }) b
-  too-many m h = record { within = m; keeps = by }
+  more-over : (ltb lineBytes (length begun) || ltb (lineBytes - kept) (length line)) ≡ ltb lineBytes (length begun + length line)
+  more-over = go (ltb lineBytes (length begun)) (ltb (lineBytes - kept) (length line)) refl refl
     where
-      by : (begun : List ℕ) → Keeps buffer s begun → Keeps buffer (record { kept = s .kept; over = true }) (begun ++ (b ∷ []))
-      by begun k =
-          let n = k .count in
-          let l = length-append begun (b ∷ []) in
-          record {
-            count = omega arith;
-            bytes = k .bytes ∙ sym (take-append-le lineBytes begun (b ∷ []) (omega arith));
-            over = sym (lt-ltb lineBytes (length (begun ++ (b ∷ []))) (omega arith));
-          }
+      go : (t u : Bool) → ltb lineBytes (length begun) ≡ t → ltb (lineBytes - kept) (length line) ≡ u → (t || u) ≡ ltb lineBytes (length begun + length line)
+      go true u t v = let l = ltb-true lineBytes (length begun) t in sym (lt-ltb lineBytes (length begun + length line) (omega arith))
+      go false true t v =
+          let l = ltb-false lineBytes (length begun) t in let h = ltb-true (lineBytes - kept) (length line) v in sym (lt-ltb lineBytes (length begun + length line) (omega arith))
+      go false false t v =
+          let l = ltb-false lineBytes (length begun) t in let h = ltb-false (lineBytes - kept) (length line) v in sym (le-ltb lineBytes (length begun + length line) (omega arith))
 
--- bytes of a line: no line ends in them, and what has begun then is kept
-pub record OfLine (buffer after : List ℕ) (s r : State) (bytes : List ℕ) : Type 0 where
+pub more-kept : (buffer rest line : List ℕ) (s : State) (m : ℕ) → lineBytes ≤ length buffer → s .kept ≤ lineBytes → m ≡ min (length line) (lineBytes - s .kept)
+    → KeepsBytes buffer (take (s .kept) buffer ++ (take m line ++ rest)) s (record { kept = s .kept + m; over = s .over || ltb (lineBytes - s .kept) (length line) }) line
+more-kept buffer rest line s m b w e = record { within = omega arith; keeps = by }
+  where
+    by : (begun : List ℕ) → Keeps buffer s begun → Keeps (take (s .kept) buffer ++ (take m line ++ rest)) (record { kept = s .kept + m; over = s .over || ltb (lineBytes - s .kept) (length line) }) (begun ++ line)
+    by begun k =
+        let n = k .count in
+        let l = length-append begun line in
+        let p = length-take-le (s .kept) buffer (omega arith) in
+        let q = length-take-le m line (omega arith) in
+        let a = length-append (take (s .kept) buffer) (take m line) in
+        record {
+          count = omega arith;
+          bytes = ap (λ (x : List ℕ). take (s .kept + m) x) (sym (append-assoc (take (s .kept) buffer) (take m line) rest)) ∙ take-at (take (s .kept) buffer ++ take m line) rest (s .kept + m) (omega arith) ∙ ap (λ (x : List ℕ). x ++ take m line) (k .bytes) ∙ first-bytes begun line (s .kept) m n e;
+          over = ap (λ (t : Bool). t || ltb (lineBytes - s .kept) (length line)) (k .over) ∙ more-over begun line (s .kept) m n e ∙ ap (ltb lineBytes) (sym l);
+        }
+
+-- the same as `copy` leaves them: it copies `take m line` to the part of the buffer that lies after the bytes kept
+pub copied : (buffer part rest post line : List ℕ) (s : State) (m : ℕ) → lineBytes ≤ length buffer → s .kept ≤ lineBytes → m ≡ min (length line) (lineBytes - s .kept)
+    → part ≡ take (length (take m line)) (take m line) ++ rest
+    → KeepsBytes buffer (take (s .kept) buffer ++ (part ++ post)) s (record { kept = s .kept + m; over = s .over || ltb (lineBytes - s .kept) (length line) }) line
+copied buffer part rest post line s m b w e p =
+    let q : part ++ post ≡ take m line ++ (rest ++ post) = ap (λ (x : List ℕ). x ++ post) (p ∙ ap (λ (x : List ℕ). x ++ rest) (take-length (take m line))) ∙ append-assoc (take m line) rest post in
+    rw q (more-kept buffer (rest ++ post) line s m b w e)
+
+-- ---- up to the first newline no line ends
+pub record OneLine (bytes : List ℕ) : Type 0 where
   pub none-ends : (begun : List ℕ) → linesWithin begun bytes ≡ []
-  pub keeps : (begun : List ℕ) → Keeps buffer s begun → Keeps after r (begunAfter begun bytes)
+  pub goes-on : (begun : List ℕ) → begunAfter begun bytes ≡ begun ++ bytes
 
-pub none : {buffer : List ℕ} {s : State} → OfLine buffer buffer s s []
-unfolding begunAfter linesWithin
-none = record { none-ends = λ begun. refl; keeps = λ begun k. k }
+pub before-newline : (l : List ℕ) → OneLine (take (indexOf 10 l) l)
+unfolding indexOf indexAfter linesWithin begunAfter
+before-newline [] = record { none-ends = λ begun. refl; goes-on = λ begun. sym (append-nil begun) }
+before-newline (x ∷ l) = by (eqb x 10) refl (before-newline l)
+  where
+    by : (t : Bool) → eqb x 10 ≡ t → OneLine (take (indexOf 10 l) l) → OneLine (take (indexAfter t (indexOf 10 l)) (x ∷ l))
+    by true e i = record { none-ends = λ begun. refl; goes-on = λ begun. sym (append-nil begun) }
+    by false e i =
+        record {
+          none-ends = λ begun. rw e (i .none-ends (begun ++ (x ∷ [])));
+          goes-on = λ begun. rw e (i .goes-on (begun ++ (x ∷ [])) ∙ append-assoc begun (x ∷ []) (take (indexOf 10 l) l));
+        }
 
--- any other byte than a newline is kept
-other : {buffer after : List ℕ} {s r : State} (b : ℕ) → (b ≡ 10 → ⊥) → KeepsByte buffer after s r b → OfLine buffer after s r (b ∷ [])
-unfolding begunAfter linesWithin
-other b h k =
-    let q = ne-eqb b 10 h in
-    record { none-ends = λ begun. rw q refl; keeps = λ begun e. rw q (k .keeps begun e) }
+pub at-newline : (l : List ℕ) → indexOf 10 l < length l → getD l (indexOf 10 l) 0 ≡ 10
+unfolding indexOf indexAfter
+at-newline [] h = absurd (let z : ⊥ = omega arith in z)
+at-newline (x ∷ l) h = by (eqb x 10) refl h (at-newline l)
+  where
+    by : (t : Bool) → eqb x 10 ≡ t → indexAfter t (indexOf 10 l) < suc (length l) → (indexOf 10 l < length l → getD l (indexOf 10 l) 0 ≡ 10) → getD (x ∷ l) (indexAfter t (indexOf 10 l)) 0 ≡ 10
+    by true e h i = eqb-true x 10 e
+    by false e h i = i (omega arith)
 
-also : {buffer between after : List ℕ} {s t r : State} {a b : List ℕ} → OfLine buffer between s t a → OfLine between after t r b → OfLine buffer after s r (a ++ b)
-also {a = a} {b = b} p q =
+-- what `find` looks through is all the bytes
+pub in-all : (l : List ℕ) (r : ℕ) → r ≡ 0 + indexOf 10 (slice 0 (length l) l) → r ≡ indexOf 10 l
+unfolding slice
+in-all l r e = e ∙ zero-add (indexOf 10 (take (length l) l)) ∙ ap (indexOf 10) (take-length l)
+
+pub line-kept : (buffer after bytes : List ℕ) (s r : State) (taken : ℕ) → taken ≡ indexOf 10 bytes → taken ≤ length bytes → KeepsBytes buffer after s r (take taken bytes)
+    → KeepsLine buffer after s bytes (record { state = r; taken = taken })
+line-kept buffer after bytes s r taken e some k =
     record {
-      none-ends = λ begun. lines-twice begun a b ∙ rw (p .none-ends begun) (q .none-ends (begunAfter begun a));
-      keeps = λ begun k. rw (begun-twice begun a b) (q .keeps (begunAfter begun a) (p .keeps begun k));
+      none-ends = λ begun. rw e (before-newline bytes .none-ends begun);
+      keeps = λ begun g. rw (goes begun) (k .keeps begun g);
+      within = k .within;
+      some = some;
+      ends = λ h. rw e (at-newline bytes (omega arith));
     }
+  where
+    goes : (begun : List ℕ) → begunAfter begun (take taken bytes) ≡ begun ++ take taken bytes
+    goes begun = rw e (before-newline bytes .goes-on begun)
 
 -- the bytes of a chunk up to the next place
 pub next-taken : (chunk : List ℕ) (i : ℕ) → i < length chunk → take (i + 1) chunk ≡ take i chunk ++ (getD chunk i 0 ∷ [])
 next-taken chunk i h = ap (λ (k : ℕ). take k chunk) (add-one i) ∙ take-suc chunk i 0 h
-
--- one byte more of a line
-pub one-kept : {buffer between after : List ℕ} {s t r : State} (bytes : List ℕ) (i : ℕ) → i < length bytes → OfLine buffer between s t (take i bytes) → (getD bytes i 0 ≡ 10 → ⊥)
-    → KeepsByte between after t r (getD bytes i 0) → OfLine buffer after s r (take (i + 1) bytes)
-one-kept bytes i h p g k = rw (next-taken bytes i h) (also p (other (getD bytes i 0) g k))
 
 -- at the input's end: no byte kept is no line
 pub no-last-line : (buffer : List ℕ) (s : State) (begun : List ℕ) → Keeps buffer s begun → s .kept ≡ 0 → lastLine begun ≡ []

@@ -1,5 +1,5 @@
 -- How the code keeps the line that has begun.
-use mathlib.Core.List.{List, [], _∷_, _++_}
+use mathlib.Core.List.{List, [], _++_}
 use mathlib.Core.Path.{_≡_}
 use Prim.Native.Nat.{ℕ, _<_, _≤_, min}
 use lib.Dec.{ltb}
@@ -15,10 +15,10 @@ pub record Keeps (buffer : List ℕ) (s : State) (begun : List ℕ) : Type 0 whe
   pub bytes : take (s .kept) buffer ≡ take lineBytes begun
   pub over : s .over ≡ ltb lineBytes (length begun)
 
--- one byte kept
-pub record KeepsByte (before after : List ℕ) (s r : State) (b : ℕ) : Type 0 where
+-- more bytes of the line kept
+pub record KeepsBytes (before after : List ℕ) (s r : State) (bytes : List ℕ) : Type 0 where
   pub within : r .kept ≤ lineBytes
-  pub keeps : (begun : List ℕ) → Keeps before s begun → Keeps after r (begun ++ (b ∷ []))
+  pub keeps : (begun : List ℕ) → Keeps before s begun → Keeps after r (begun ++ bytes)
 
 -- the bytes of a line kept, up to its newline or their end: behind whatever has begun, no line ends in them
 pub record KeepsLine (before after : List ℕ) (s : State) (bytes : List ℕ) (r : KeptLine) : Type 0 where
