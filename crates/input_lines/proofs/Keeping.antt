@@ -65,7 +65,10 @@ more-kept buffer rest line s m b w e = record { within = omega arith; keeps = by
         let a = length-append (take (s .kept) buffer) (take m line) in
         record {
           count = omega arith;
-          bytes = ap (λ (x : List ℕ). take (s .kept + m) x) (sym (append-assoc (take (s .kept) buffer) (take m line) rest)) ∙ take-at (take (s .kept) buffer ++ take m line) rest (s .kept + m) (omega arith) ∙ ap (λ (x : List ℕ). x ++ take m line) (k .bytes) ∙ first-bytes begun line (s .kept) m n e;
+          bytes = ap (take (s .kept + m)) (sym (append-assoc (take (s .kept) buffer) (take m line) rest))
+              ∙ take-at (take (s .kept) buffer ++ take m line) rest (s .kept + m) (omega arith)
+              ∙ ap (λ (x : List ℕ). x ++ take m line) (k .bytes)
+              ∙ first-bytes begun line (s .kept) m n e;
           over = ap (λ (t : Bool). t || ltb (lineBytes - s .kept) (length line)) (k .over) ∙ more-over begun line (s .kept) m n e ∙ ap (ltb lineBytes) (sym l);
         }
 

@@ -60,8 +60,8 @@ fn edge_touches(points: &[f64], j: usize, edge: Segment, from: Place, to: Place)
     segments::segments_touch(edge, edge_at(points, j))
 }
 
-// 7 for edge i against each edge after it. Where a point lies beside edge i is worked once for the two edges that meet there.
-// The closing edge is checked last, by itself.
+// 7 for edge i against each edge after it. Where a point lies beside edge i is worked once for the two edges that meet
+// there. The closing edge is checked last, by itself.
 fn check_edge(points: &[f64], i: usize) -> Verdict
     requires { ⌜ i < pairCount (now points) ⌝ }
     ensures { λ r. ⌜ r ≡ edgeCheck (now (points .entry)) i ⌝ }
