@@ -26,8 +26,7 @@ use Rattle.integrands.specs.declared.Kind.the-variants.{Area as area}
 use Rattle.quadrature.specs.Rule.{minusSide, plusSide, weightedTo}
 use Rattle.tolerance.specs.Bounds.{totalOf}
 use Rattle.halving.specs.Halving.{halving, verdictOf}
-use Rattle.strips.specs.Strips.{Worked, workedOf, stripOf, isAccepted, piecesOf, valueFrom, byVerdict, summedOf, totalsOf, givenTotals, refusedTotals, concludedOf, intervalsIn}
-use Rattle.strips.specs.declared.Totals.{Totals}
+use Rattle.strips.specs.Strips.{Worked, workedOf, stripOf, isAccepted, piecesOf, valueFrom, byVerdict, summedOf, intervalsIn}
 use Rattle.halving.specs.Scratch.{intervalsOf}
 use Rattle.widths.proofs.Strips.{intervals-same}
 use Rattle.widths.proofs.Totals.{totals-same}
@@ -126,27 +125,22 @@ module _ (planform : Planform) (points : List Float) (L n : ℕ) (r : Area) (ans
   verdictIn a = a .verdict
 
   pub area-given : Given planform points L n r
-  unfolding areaFigures concludedArea concludedOf
+  unfolding areaFigures concludedArea
   area-given =
       let strips = areaSeven planform points L in
-      let summed = summedOf strips in
+      let total = summedOf strips in
       let scale = scaleOf planform points in
       let a = chosen (areaCheck planform points L n) (workedArea planform points L) (λ refusal. refusedArea refusal 0) verdictIn (λ refusal. refl) r answer given in
-      let total = totalsOf strips in
       let geometry = geometryOf (total .value) scale in
-      let b = chosen (total .verdict) (geometryArea geometry (total .intervals) (total .samples)) (λ refusal. refusedArea refusal (total .samples)) verdictIn (λ refusal. refl) r (a .1) given in
+      let b = chosen (verdictOf (total .ending)) (geometryArea geometry (total .intervals) (total .samples)) (λ refusal. refusedArea refusal (total .samples)) verdictIn (λ refusal. refl) r (a .1) given in
       let c = chosen (geometry .verdict) (givenArea geometry (total .intervals) (total .samples)) (λ refusal. refusedArea refusal (total .samples)) verdictIn (λ refusal. refl) r (b .1) given in
-      let d = chosen (verdictOf (summed .ending)) (givenTotals summed) (λ refusal. refusedTotals refusal (summed .samples)) (λ (t : Totals). t .verdict) (λ refusal. refl) total refl (b .0) in
-      let value : total .value ≡ summed .value = ap (λ (t : Totals). t .value) (d .1) in
       let g = geometry-given (total .value) scale (c .0) in
-      let over : (k : ℕ) → scale ⊗ at (total .value) k ⊘ at (total .value) 0 ≡ scale ⊗ at (summed .value) k ⊘ at (summed .value) 0 =
-      λ k. ap (λ (v : List Float). scale ⊗ at v k ⊘ at v 0) value in
       record {
         accepted = a .0;
-        area = ap (λ (a : Area). a .«area_m2») (c .1) ∙ g .0 ∙ ap (λ (v : List Float). unscaledArea v scale) value;
-        centroid-x = ap (λ (a : Area). a .«centroid_x_m») (c .1) ∙ g .1 ∙ over 1;
-        centroid-height = ap (λ (a : Area). a .«centroid_span_m») (c .1) ∙ g .2 ∙ over 2;
-        intervals = ap (λ (a : Area). a .intervals) (c .1) ∙ ap (λ (t : Totals). t .intervals) (d .1);
+        area = ap (λ (a : Area). a .«area_m2») (c .1) ∙ g .0;
+        centroid-x = ap (λ (a : Area). a .«centroid_x_m») (c .1) ∙ g .1;
+        centroid-height = ap (λ (a : Area). a .«centroid_span_m») (c .1) ∙ g .2;
+        intervals = ap (λ (a : Area). a .intervals) (c .1);
       }
 
 -- ---- of a trapezoid there is one strip, from 0 to the span

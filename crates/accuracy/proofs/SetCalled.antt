@@ -24,8 +24,8 @@ use Rattle.chords.specs.Chords.{inSpan, trapezoidAt, endsAt, paired}
 use Rattle.integrands.specs.Integrands.{scaleOf, plus, sumsFrom, plateValues, sampleOf, plateOf}
 use Rattle.integrands.specs.declared.Kind.the-variants.{Plate as plateKind}
 use Rattle.halving.specs.Halving.{verdictOf}
-use Rattle.strips.specs.Strips.{Worked, valueFrom, summedOf, totalsOf, givenTotals, refusedTotals, concludedOf, intervalsIn}
-use Rattle.strips.specs.declared.Totals.{Totals}
+use Rattle.strips.specs.Strips.{Worked, valueFrom, summedOf, intervalsIn}
+use Rattle.halving.specs.declared.Integral.{Integral}
 use Rattle.bodies.specs.declared.Body.{Body}
 use Rattle.bodies.specs.declared.Vector.{Vector}
 use Rattle.bodies.specs.Bodies.{rotatedOf, ofOriginTensor}
@@ -166,24 +166,20 @@ module _ (section : Section) (p : Plate) (m : Mount) (points : List Float) (L n 
   unfolding setFigures
   set-chosen = chosen (setCheck set points L n) (workedFigures set points L) (λ refusal. refusedFigures refusal 0) verdictIn (λ refusal. refl) r answer given
 
-  abbrev total : Totals
-  total = totalsOf strips
+  abbrev total : Integral
+  total = summedOf strips
 
   abbrev joined : Joined
   joined = joinedFinsOf set root scale (total .value)
 
-  run-chosen : (total .verdict ≡ Accepted) × (r ≡ joinedFigures joined (total .intervals) (total .samples))
+  run-chosen : (verdictOf (total .ending) ≡ Accepted) × (r ≡ joinedFigures joined (total .intervals) (total .samples))
   unfolding concludedSet
-  run-chosen = chosen (total .verdict) (joinedFigures joined (total .intervals) (total .samples)) (λ refusal. refusedFigures refusal (total .samples)) verdictIn (λ refusal. refl) r (set-chosen .1) given
+  run-chosen = chosen (verdictOf (total .ending)) (joinedFigures joined (total .intervals) (total .samples)) (λ refusal. refusedFigures refusal (total .samples)) verdictIn (λ refusal. refl) r (set-chosen .1) given
 
   joined-chosen : (joined .verdict ≡ Accepted) × (r ≡ record { verdict = Accepted; body = joined .body; intervals = total .intervals; samples = total .samples })
   joined-chosen =
       chosen (joined .verdict) (record { verdict = Accepted; body = joined .body; intervals = total .intervals; samples = total .samples }) (λ refusal. refusedFigures refusal (total .samples)) verdictIn
       (λ refusal. refl) r (run-chosen .1) given
-
-  totals-chosen : total ≡ givenTotals (summedOf strips)
-  unfolding concludedOf
-  totals-chosen = chosen (verdictOf (summedOf strips .ending)) (givenTotals (summedOf strips)) (λ refusal. refusedTotals refusal (summedOf strips .samples)) (λ (t : Totals). t .verdict) (λ refusal. refl) total refl (run-chosen .0) .1
 
   abbrev one : Joined
   one = singleFinOf set root scale (total .value)
@@ -203,13 +199,13 @@ module _ (section : Section) (p : Plate) (m : Mount) (points : List Float) (L n 
       ∙ fin-mass (integralsOf set scale (total .value)) (filletsOf (m .fillet) (m .radius) root) (p .density) (m .cant) (pivotOf (m .radius) root) (no-fillets (m .fillet) (m .radius) root none)
 
   volume-is : volume (integralsOf set scale (total .value)) ≡ valueFrom (bits 0) 0 strips ⊗ cube scale ⊕ volume (tabIntegralsOf (p .tab) (p .thickness) (m .radius))
-  volume-is = ap (λ (t : Totals). at (t .value) 0 ⊗ cube scale ⊕ volume (tabIntegralsOf (p .tab) (p .thickness) (m .radius))) totals-chosen
+  volume-is = refl
 
   pub set-given : Given section p m points L n r
   set-given =
       record {
         accepted = set-chosen .0;
-        intervals = ap (λ (a : Figures). a .intervals) (joined-chosen .1) ∙ ap (λ (t : Totals). t .intervals) totals-chosen;
+        intervals = ap (λ (a : Figures). a .intervals) (joined-chosen .1);
         mass =
             ap (λ (a : Figures). a .body .«mass_kg») (joined-chosen .1) ∙ ap (λ (x : Body). x .«mass_kg») (ring-given .1) ∙ ring-mass (one .body) (m .base) (m .count)
             ∙ ap (λ (x : Float). inOrder (λ x y. x ⊕ y) (bits 0) (λ k. x) (m .count)) (one-mass ∙ ap (λ (x : Float). p .density ⊗ x) volume-is);
@@ -225,5 +221,4 @@ module _ (section : Section) (p : Plate) (m : Mount) (points : List Float) (L n 
       ap (λ (a : Figures). a .body) (joined-chosen .1) ∙ ring-given .1
       ∙ ap (λ (x : Body). joinedCopies x (m .base) (m .count))
       (bulk-given (integralsOf set scale (total .value)) (filletsOf (m .fillet) (m .radius) root) (m .cant) (pivotOf (m .radius) root) (p .density) (ring-given .0)
-      ∙ fin-body (integralsOf set scale (total .value)) (filletsOf (m .fillet) (m .radius) root) (p .density) (m .cant) (pivotOf (m .radius) root) (no-fillets (m .fillet) (m .radius) root none) c
-      ∙ ap (λ (t : Totals). plateBody (integralsOf set scale (t .value)) (p .density)) totals-chosen)
+      ∙ fin-body (integralsOf set scale (total .value)) (filletsOf (m .fillet) (m .radius) root) (p .density) (m .cant) (pivotOf (m .radius) root) (no-fillets (m .fillet) (m .radius) root none) c)

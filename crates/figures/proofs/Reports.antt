@@ -26,9 +26,8 @@ use Rattle.fins.specs.declared.FinSet.{FinSet}
 use Rattle.halving.specs.declared.Ending.{Ending}
 use Rattle.halving.specs.declared.Ending.the-variants.{Accepted as accepted, NotConverged as notConverged}
 use Rattle.halving.specs.Halving.{verdictOf}
-use Rattle.strips.specs.declared.Totals.{Totals}
-use Rattle.strips.specs.Strips.{Worked, samplesIn, intervalsIn, endingOf, totalsOf}
-use Rattle.strips.proofs.Reported.{totals-samples, totals-intervals, totals-verdict}
+use Rattle.halving.specs.declared.Integral.{Integral}
+use Rattle.strips.specs.Strips.{Worked, samplesIn, intervalsIn, endingOf, summedOf}
 use Rattle.joins.specs.declared.Joined.{Joined}
 use Rattle.joins.specs.Joins.{refusedBody, unlessRefused}
 use Rattle.plates.specs.declared.PlanformGeometry.{PlanformGeometry}
@@ -90,7 +89,7 @@ fins-joined set root scale total c d =
 abbrev pub ZeroFigures : Figures → Type 0
 ZeroFigures r = (number : ℕ) (values : List ℕ) → Gives (r .verdict) number values → (r .body ≡ emptyBody) × (r .intervals ≡ 0)
 
-module _ (set : FinSet) (root scale : Float) (total : Totals) where
+module _ (set : FinSet) (root scale : Float) (total : Integral) where
   abbrev Joined· : Joined
   Joined· = joinedFinsOf set root scale (total .value)
 
@@ -129,29 +128,29 @@ module _ (set : FinSet) (root scale : Float) (total : Totals) where
   ended-verdict c d (notConverged component) = (refl, refl)
 
 -- of the strips worked
-module _ (set : FinSet) (root scale : Float) (strips : List Worked) (r : Figures) (answer : r ≡ concludedSet set root scale (totalsOf strips)) where
-  abbrev Total· : Totals
-  Total· = totalsOf strips
+module _ (set : FinSet) (root scale : Float) (strips : List Worked) (r : Figures) (answer : r ≡ concludedSet set root scale (summedOf strips)) where
+  abbrev Total· : Integral
+  Total· = summedOf strips
 
   pub concluded-samples : r .samples ≡ samplesIn strips
   unfolding concludedSet
-  concluded-samples = ap (λ (x : Figures). x .samples) answer ∙ ended-samples set root scale Total· (Total· .verdict) ∙ totals-samples strips
+  concluded-samples = ap (λ (x : Figures). x .samples) answer ∙ ended-samples set root scale Total· (verdictOf (endingOf strips))
 
   pub concluded-intervals : r .verdict ≡ Accepted → r .intervals ≡ intervalsIn strips
   unfolding concludedSet
   concluded-intervals h =
-      let given = ended-intervals set root scale Total· (Total· .verdict) (sym (ap (λ (x : Figures). x .verdict) answer) ∙ h) in
-      ap (λ (x : Figures). x .intervals) answer ∙ given .1 ∙ totals-intervals strips (given .0)
+      let given = ended-intervals set root scale Total· (verdictOf (endingOf strips)) (sym (ap (λ (x : Figures). x .verdict) answer) ∙ h) in
+      ap (λ (x : Figures). x .intervals) answer ∙ given .1
 
   pub concluded-verdict : countCheck (set .count) ≡ Accepted → densityCheck (set .density) ≡ Accepted → Reported (endingOf strips) (r .verdict)
   unfolding concludedSet
   concluded-verdict c d =
-      subst (Reported (endingOf strips)) (sym (ap (λ (x : Figures). x .verdict) answer ∙ ap (λ (v : Verdict). endedFigures v set root scale Total· .verdict) (totals-verdict strips)))
+      subst (Reported (endingOf strips)) (sym (ap (λ (x : Figures). x .verdict) answer))
       (ended-verdict set root scale Total· c d (endingOf strips))
 
   pub concluded-zeros : ZeroFigures r
   unfolding concludedSet
-  concluded-zeros = subst ZeroFigures (sym answer) (ended-zeros set root scale Total· (Total· .verdict))
+  concluded-zeros = subst ZeroFigures (sym answer) (ended-zeros set root scale Total· (verdictOf (endingOf strips)))
 
 -- ---- a planform
 
@@ -159,7 +158,7 @@ abbrev pub ZeroArea : Area → Type 0
 ZeroArea r = (number : ℕ) (values : List ℕ) → Gives (r .verdict) number values
     → (r .«area_m2» ≡ bits 0) × (r .«centroid_x_m» ≡ bits 0) × (r .«centroid_span_m» ≡ bits 0) × (r .intervals ≡ 0)
 
-module _ (scale : Float) (total : Totals) where
+module _ (scale : Float) (total : Integral) where
   abbrev Geometry· : PlanformGeometry
   Geometry· = geometryOf (total .value) scale
 
@@ -205,26 +204,26 @@ module _ (scale : Float) (total : Totals) where
   area-verdict accepted = given-8 _ (geometry-verdict (Geometry· .verdict) Geometry· (geometry-or-8 (total .value)))
   area-verdict (notConverged component) = (refl, refl)
 
-module _ (scale : Float) (strips : List Worked) (r : Area) (answer : r ≡ concludedArea scale (totalsOf strips)) where
-  abbrev AreaTotal· : Totals
-  AreaTotal· = totalsOf strips
+module _ (scale : Float) (strips : List Worked) (r : Area) (answer : r ≡ concludedArea scale (summedOf strips)) where
+  abbrev AreaTotal· : Integral
+  AreaTotal· = summedOf strips
 
   pub concluded-area-samples : r .samples ≡ samplesIn strips
   unfolding concludedArea
-  concluded-area-samples = ap (λ (x : Area). x .samples) answer ∙ area-samples scale AreaTotal· (AreaTotal· .verdict) ∙ totals-samples strips
+  concluded-area-samples = ap (λ (x : Area). x .samples) answer ∙ area-samples scale AreaTotal· (verdictOf (endingOf strips))
 
   pub concluded-area-intervals : r .verdict ≡ Accepted → r .intervals ≡ intervalsIn strips
   unfolding concludedArea
   concluded-area-intervals h =
-      let given = area-intervals scale AreaTotal· (AreaTotal· .verdict) (sym (ap (λ (x : Area). x .verdict) answer) ∙ h) in
-      ap (λ (x : Area). x .intervals) answer ∙ given .1 ∙ totals-intervals strips (given .0)
+      let given = area-intervals scale AreaTotal· (verdictOf (endingOf strips)) (sym (ap (λ (x : Area). x .verdict) answer) ∙ h) in
+      ap (λ (x : Area). x .intervals) answer ∙ given .1
 
   pub concluded-area-verdict : Reported (endingOf strips) (r .verdict)
   unfolding concludedArea
   concluded-area-verdict =
-      subst (Reported (endingOf strips)) (sym (ap (λ (x : Area). x .verdict) answer ∙ ap (λ (v : Verdict). endedArea v scale AreaTotal· .verdict) (totals-verdict strips)))
+      subst (Reported (endingOf strips)) (sym (ap (λ (x : Area). x .verdict) answer))
       (area-verdict scale AreaTotal· (endingOf strips))
 
   pub concluded-area-zeros : ZeroArea r
   unfolding concludedArea
-  concluded-area-zeros = subst ZeroArea (sym answer) (area-zeros scale AreaTotal· (AreaTotal· .verdict))
+  concluded-area-zeros = subst ZeroArea (sym answer) (area-zeros scale AreaTotal· (verdictOf (endingOf strips)))

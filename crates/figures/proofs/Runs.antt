@@ -2,7 +2,6 @@
 use mathlib.Core.Path.{_≡_, refl, ap, _∙_}
 use mathlib.Core.List.{List}
 use Prim.Native.Nat.{ℕ}
-use lib.ListN.{length}
 use lib.Ieee.{Float}
 use Rattle.refusals.specs.declared.Verdict.{Verdict}
 use Rattle.refusals.specs.declared.Verdict.the-variants.{Accepted, Refused}
@@ -13,8 +12,9 @@ use Rattle.integrands.specs.declared.Integrand.{Integrand}
 use Rattle.integrands.specs.Integrands.{scaleOf, areaIntegrand, plateIntegrand, sampleOf, plateOf}
 use Rattle.fins.specs.declared.FinSet.{FinSet}
 use Rattle.fins.specs.Fins.{setCheck, areaCheck}
-use Rattle.strips.specs.declared.Totals.{Totals}
-use Rattle.strips.specs.Strips.{Worked, workedOf, totalsOf, scratchAfter, stripsOf, runCheck, WorksStrips}
+use Rattle.halving.specs.declared.Integral.{Integral}
+use Rattle.strips.specs.Strips.{Worked, workedOf, summedOf, scratchAfter, runOf, stripsOf, Room, Runs}
+use Rattle.strips.proofs.Reported.{run-within}
 use Rattle.figures.specs.Figures.{setStrips}
 
 pub plate-strips : (set : FinSet) (points : List Float) (L : ℕ) (integrand : Integrand)
@@ -39,16 +39,15 @@ first-two Accepted Accepted later h = refl
 first-two Accepted (Refused refusal) later h = h
 first-two (Refused refusal) b later h = h
 
-pub set-run : (set : FinSet) (points : List Float) (L n : ℕ) → setCheck set points L n ≡ Accepted → runCheck L n ≡ Accepted
+pub set-run : (set : FinSet) (points : List Float) (L n : ℕ) → setCheck set points L n ≡ Accepted → Room L n
 unfolding setCheck
-set-run set points L n h = first-two _ _ _ h
+set-run set points L n h = run-within L n (first-two _ _ _ h)
 
-pub area-run : (planform : Planform) (points : List Float) (L n : ℕ) → areaCheck planform points L n ≡ Accepted → runCheck L n ≡ Accepted
+pub area-run : (planform : Planform) (points : List Float) (L n : ℕ) → areaCheck planform points L n ≡ Accepted → Room L n
 unfolding areaCheck
-area-run planform points L n h = first-two _ _ _ h
+area-run planform points L n h = run-within L n (first-two _ _ _ h)
 
-pub run-of : (integrand : Integrand) (points : List Float) (L : ℕ) (entry : List Float) (r : Totals) (exit : List Float) {strips : List Worked}
-    → runCheck L (length entry) ≡ Accepted → stripsOf integrand points L ≡ strips → WorksStrips integrand points L entry r exit
-    → (r ≡ totalsOf strips) × (exit ≡ scratchAfter strips entry)
-run-of integrand points L entry r exit accepts same z =
-    ((rw accepts at (z .totals)) ∙ ap totalsOf same, (rw accepts at (z .scratch)) ∙ ap (λ (l : List Worked). scratchAfter l entry) same)
+pub run-of : (integrand : Integrand) (points : List Float) (L : ℕ) (entry : List Float) (r : Integral) (exit : List Float) {strips : List Worked}
+    → stripsOf integrand points L ≡ strips → Runs (runOf integrand points L) entry r exit
+    → (r ≡ summedOf strips) × (exit ≡ scratchAfter strips entry)
+run-of integrand points L entry r exit same z = (z .answer ∙ ap summedOf same, z .scratch ∙ ap (λ (l : List Worked). scratchAfter l entry) same)

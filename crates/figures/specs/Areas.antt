@@ -11,8 +11,9 @@ use Rattle.planforms.specs.declared.Planform.{Planform}
 use Rattle.breaks.specs.Breaks.{breakHeights}
 use Rattle.integrands.specs.Integrands.{scaleOf, areaThree}
 use Rattle.fins.specs.Fins.{areaCheck}
-use Rattle.strips.specs.declared.Totals.{Totals}
-use Rattle.strips.specs.Strips.{Run, Worked, byVerdict, stripsIn, sevenWide, totalsOf, scratchChecked}
+use Rattle.halving.specs.declared.Integral.{Integral}
+use Rattle.halving.specs.Halving.{verdictOf}
+use Rattle.strips.specs.Strips.{Run, Worked, byVerdict, stripsIn, sevenWide, summedOf, scratchChecked}
 use Rattle.plates.specs.declared.PlanformGeometry.{PlanformGeometry}
 use Rattle.plates.specs.Geometry.{geometryOf}
 use Rattle.figures.specs.declared.Area.{Area}
@@ -47,16 +48,16 @@ abbrev pub geometryArea : PlanformGeometry → ℕ → ℕ → Area
 geometryArea g intervals samples = ofGeometry (g .verdict) g intervals samples
 
 -- by how the run of the strips ended: area and centroid, or 13
-abbrev pub endedArea : Verdict → Float → Totals → Area
+abbrev pub endedArea : Verdict → Float → Integral → Area
 endedArea verdict scale total =
     byVerdict verdict (geometryArea (geometryOf (total .value) scale) (total .intervals) (total .samples)) (λ refusal. refusedArea refusal (total .samples))
 
-unfoldable pub concludedArea : Float → Totals → Area
-concludedArea scale total = endedArea (total .verdict) scale total
+unfoldable pub concludedArea : Float → Integral → Area
+concludedArea scale total = endedArea (verdictOf (total .ending)) scale total
 
 -- the answer of a planform that is accepted
 abbrev pub workedArea : Planform → List Float → ℕ → Area
-workedArea planform points L = concludedArea (scaleOf planform points) (totalsOf (areaSeven planform points L))
+workedArea planform points L = concludedArea (scaleOf planform points) (summedOf (areaSeven planform points L))
 
 -- "1, 2, planform, strips, 8": every check before the strips, then the strips
 unfoldable pub areaFigures : Planform → List Float → ℕ → ℕ → Area

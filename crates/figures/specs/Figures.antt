@@ -12,8 +12,9 @@ use Rattle.breaks.specs.Breaks.{breakHeights}
 use Rattle.integrands.specs.Integrands.{scaleOf, plateOf}
 use Rattle.fins.specs.declared.FinSet.{FinSet}
 use Rattle.fins.specs.Fins.{setCheck}
-use Rattle.strips.specs.declared.Totals.{Totals}
-use Rattle.strips.specs.Strips.{Run, Worked, byVerdict, stripsIn, totalsOf, scratchChecked}
+use Rattle.halving.specs.declared.Integral.{Integral}
+use Rattle.halving.specs.Halving.{verdictOf}
+use Rattle.strips.specs.Strips.{Run, Worked, byVerdict, stripsIn, summedOf, scratchChecked}
 use Rattle.joins.specs.declared.Joined.{Joined}
 use Rattle.sets.specs.Sets.{joinedFinsOf}
 use Rattle.figures.specs.declared.Figures.{Figures}
@@ -43,16 +44,16 @@ abbrev pub joinedFigures : Joined → ℕ → ℕ → Figures
 joinedFigures joined intervals samples = ofJoined (joined .verdict) joined intervals samples
 
 -- by how the run of the strips ended: figures, or 13
-abbrev pub endedFigures : Verdict → FinSet → Float → Float → Totals → Figures
+abbrev pub endedFigures : Verdict → FinSet → Float → Float → Integral → Figures
 endedFigures verdict set root scale total =
     byVerdict verdict (joinedFigures (joinedFinsOf set root scale (total .value)) (total .intervals) (total .samples)) (λ refusal. refusedFigures refusal (total .samples))
 
-unfoldable pub concludedSet : FinSet → Float → Float → Totals → Figures
-concludedSet set root scale total = endedFigures (total .verdict) set root scale total
+unfoldable pub concludedSet : FinSet → Float → Float → Integral → Figures
+concludedSet set root scale total = endedFigures (verdictOf (total .ending)) set root scale total
 
 -- the answer of a set that is accepted
 abbrev pub workedFigures : FinSet → List Float → ℕ → Figures
-workedFigures set points L = concludedSet set (rootChordOf (set .planform) points) (scaleOf (set .planform) points) (totalsOf (setStrips set points L))
+workedFigures set points L = concludedSet set (rootChordOf (set .planform) points) (scaleOf (set .planform) points) (summedOf (setStrips set points L))
 
 -- every check before the strips, then the strips
 unfoldable pub setFigures : FinSet → List Float → ℕ → ℕ → Figures

@@ -9,12 +9,12 @@ ghost use Rattle.figures.specs.Areas.{refusedArea, geometryArea, conclud
 ghost use Rattle.figures.specs.Answers.{SetWorked, SetAnswers, AreaWorked, AreaAnswers};
 use bodies::Body;
 use fins::FinSet;
+use halving::Integral;
 use joins::Joined;
 use planforms::Planform;
 use plates::PlanformGeometry;
 use refusals::Refusal;
 use refusals::Verdict;
-use strips::Totals;
 
 // A set's body with the totals of intervals and samples. A refusal carries zero figures, no intervals, and the samples taken so far.
 pub struct Figures {
@@ -67,11 +67,12 @@ fn joined_figures(joined: Joined, intervals: usize, samples: usize) -> Figures
 }
 
 // The answer by how the strips ended.
-pub fn concluded(set: FinSet, root_chord_m: f64, scale_m: f64, total: Totals) -> Figures
+pub fn concluded(set: FinSet, root_chord_m: f64, scale_m: f64, total: Integral) -> Figures
     ensures { λ r. ⌜ r ≡ concludedSet set «root_chord_m» «scale_m» total ⌝ }
 {
-    let verdict = total.verdict;
+    let ending = total.ending;
     let value = total.value;
+    let verdict = halving::verdict_of(ending);
     match verdict {
         Verdict::Accepted => joined_figures(
             sets::joined_fins(set, root_chord_m, scale_m, value),
@@ -100,7 +101,7 @@ fn work_set(set: FinSet, points: &[f64], limit: usize, scratch: &mut [f64]) -> F
     );
     let scale_m = integrands::scale_m(planform, points);
     let root_chord_m = planforms::root_chord_m(planform, points);
-    let total = strips::work_strips(integrand, points, limit, scratch);
+    let total = strips::work_strips(scratch, integrand, points, limit);
     concluded(set, root_chord_m, scale_m, total)
 }
 
@@ -150,11 +151,12 @@ fn area_figures(geometry: PlanformGeometry, intervals: usize, samples: usize) ->
 }
 
 // The answer by how the strips ended.
-fn concluded_area(scale_m: f64, total: Totals) -> Area
+fn concluded_area(scale_m: f64, total: Integral) -> Area
     ensures { λ r. ⌜ r ≡ concludedArea «scale_m» total ⌝ }
 {
-    let verdict = total.verdict;
+    let ending = total.ending;
     let value = total.value;
+    let verdict = halving::verdict_of(ending);
     match verdict {
         Verdict::Accepted => area_figures(
             plates::geometry(value, scale_m),
@@ -172,7 +174,7 @@ fn work_area(planform: Planform, points: &[f64], limit: usize, scratch: &mut [f6
 {
     let integrand = integrands::area_integrand(planform, points);
     let scale_m = integrands::scale_m(planform, points);
-    let total = strips::work_strips(integrand, points, limit, scratch);
+    let total = strips::work_strips(scratch, integrand, points, limit);
     concluded_area(scale_m, total)
 }
 

@@ -31,7 +31,7 @@ use Rattle.fins.specs.Fins.{planformCheck, ownChecks, ownCheck, setCheck}
 use Rattle.halving.specs.declared.Ending.the-variants.{Accepted as accepted}
 use Rattle.halving.specs.declared.Integral.{Integral}
 use Rattle.strips.specs.declared.Onward.{Onward}
-use Rattle.strips.specs.Strips.{Run, Worked, isAccepted, workedOf, stripsIn, stripAt, stripsFrom, runCheck, byVerdict, samplesIn, intervalsIn, endingOf, summedOf, withStrip, inWords, integralIn, concludedOf, onwardOf}
+use Rattle.strips.specs.Strips.{Run, Worked, isAccepted, workedOf, stripsIn, stripAt, stripsFrom, runCheck, byVerdict, samplesIn, intervalsIn, endingOf, summedOf, withStrip, inWords, integralIn, onwardOf}
 use Rattle.strips.specs.Claim.{Each, StripsAre, AreReported}
 use Rattle.strips.proofs.Upward.{strip-at, none-left, fits-words}
 use Rattle.strips.proofs.Onwards.{onward-works}
@@ -202,8 +202,8 @@ module _ (set : FinSet) (points : List Float) (L : ℕ) (made : makingCheck set 
           dense = g .dense;
           whole = whole;
           answer =
-              ap₂ (λ (r s : Float). concludedSet (withDensity set d) r s (concludedOf (summedOf With·))) (same .root) (same .scale)
-              ∙ ap (λ (l : List Worked). concludedSet (withDensity set d) (rootChordOf (set .planform) points) Scale· (concludedOf (summedOf l))) whole;
+              ap₂ (λ (r s : Float). concludedSet (withDensity set d) r s (summedOf With·)) (same .root) (same .scale)
+              ∙ ap (λ (l : List Worked). concludedSet (withDensity set d) (rootChordOf (set .planform) points) Scale· (summedOf l)) whole;
           samples = refl;
           intervals = refl;
         }

@@ -26,7 +26,7 @@ use Rattle.fins.specs.Fins.{ownCheck}
 use Rattle.halving.specs.declared.Integral.{Integral}
 use Rattle.halving.specs.declared.Ending.the-variants.{Accepted as accepted}
 use Rattle.strips.specs.declared.Onward.{Onward}
-use Rattle.strips.specs.Strips.{Run, byVerdict, isAccepted, concludedOf, runCheck, onwardOf, scratchOnward}
+use Rattle.strips.specs.Strips.{Run, byVerdict, isAccepted, runCheck, onwardOf, scratchOnward}
 use Rattle.bodies.specs.Bodies.{emptyBody}
 use Rattle.figures.specs.declared.Figures.{Figures}
 use Rattle.figures.specs.Figures.{setRun, refusedFigures, concludedSet}
@@ -126,7 +126,7 @@ ended job total figures =
 
 -- the answer of a set whose strips add up to these totals: figures or 8, or what refused the last strip
 unfoldable pub outcomeOf : FinSet → List Float → Integral → Figures
-outcomeOf set points total = concludedSet set (rootChordOf (set .planform) points) (scaleOf (set .planform) points) (concludedOf total)
+outcomeOf set points total = concludedSet set (rootChordOf (set .planform) points) (scaleOf (set .planform) points) total
 
 -- "Until the job ends, with its last strip or one refused"
 unfoldable pub afterStrip : Job → Onward → Stepped

@@ -170,8 +170,7 @@ fn conclude(set: FinSet, points: &[f64], total: Integral) -> Figures
     let planform = set.planform;
     let scale_m = integrands::scale_m(planform, points);
     let root_chord_m = planforms::root_chord_m(planform, points);
-    let totals = strips::concluded(total);
-    figures::concluded(set, root_chord_m, scale_m, totals)
+    figures::concluded(set, root_chord_m, scale_m, total)
 }
 
 // The next strip of a job, added to its totals.

@@ -45,7 +45,7 @@ use Rattle.quadrature.specs.declared.Piece.{Piece}
 use Rattle.tolerance.specs.Bounds.{converged}
 use Rattle.halving.specs.Halving.{ended, repeat, halving}
 use Rattle.halving.specs.declared.Ending.the-variants.{Accepted}
-use Rattle.strips.specs.Strips.{Worked, workedOf, summedOf, sevenWide, concludedOf}
+use Rattle.strips.specs.Strips.{Worked, workedOf, summedOf, sevenWide}
 use Rattle.fins.specs.Fins.{planformCheck, areaCheck, setCheck}
 use Rattle.fins.specs.declared.FinSet.{FinSet}
 use Rattle.fins.proofs.Accepted.{area-planform, set-accepted}
@@ -308,7 +308,7 @@ module _ (root tip span sweep : Float) (points : List Float) (L n : ℕ) (f64s :
   pub area-figures : areaCheck shape points L n ≡ accepted → Proportions 4 4 root tip sweep
       → areaFigures shape points L n ≡ geometryArea
       (geometryOf (summedOf (sevenWide 3 (oneWorked 3 (areaThree shape points) (bits 0 ⊘ scale) (span ⊘ scale) ∷ [])) .value) scale) 1 15
-  unfolding areaFigures concludedArea concludedOf heightsTo
+  unfolding areaFigures concludedArea heightsTo
   area-figures c q =
       let checked = area-planform shape points L n c in
       rw (
@@ -326,7 +326,7 @@ module _ (root tip span sweep : Float) (points : List Float) (L n : ℕ) (f64s :
       ≡ joinedFigures (joinedFinsOf set (rootChordOf (set .planform) points) scale
       (summedOf (oneWorked 7 (plateOf shape points (set .«cross_section») (set .«thickness_m») (set .«body_radius_m»)) (bits 0 ⊘ scale)
       (span ⊘ scale) ∷ []) .value)) 1 15
-  unfolding setFigures concludedSet concludedOf heightsTo
+  unfolding setFigures concludedSet heightsTo
   set-figures set e s ft fr c q =
       let a = set-accepted set points L n c in
       let checked = subst (λ (p : Planform). planformCheck p points ≡ accepted) e (a .planform) in

@@ -2,27 +2,15 @@
 //
 // Neighbouring break heights bound a strip, and its ends are divided by the scale. Strips are worked upward, to the last or the first
 // that is not accepted, each over the scratch as the one before left it. Values, intervals and samples are added up from zero.
-// Refused are a limit that is not 1 to 64 (1), a scratch under 16·limit numbers (2) and, by the strips, 13.
+// How the last strip worked ended is told beside them; a limit that is not 1 to 64 and a scratch under 16·limit numbers are the caller's to refuse.
 ghost use Prim.Native.Nat.{_+_, _-_, _<_, _^_};
 ghost use mathlib.Core.Path.{_≡_};
 ghost use lib.ListN.{length};
-ghost use Rattle.strips.specs.Strips.{isAccepted, withStrip, inWords, stripBetween, WorksStrip, Room, runBetween, runOf, WorksNext, Runs, refusedTotals, concludedOf, WorksStrips};
+ghost use Rattle.strips.specs.Strips.{isAccepted, withStrip, inWords, stripBetween, WorksStrip, Room, runBetween, runOf, WorksNext, Runs};
 use halving::Ending;
 use halving::Integral;
 use integrands::Integrand;
-use refusals::Refusal;
-use refusals::Verdict;
-use refusals::first_refusal;
 use std::num::wrapping_add_usize;
-
-// The integral of each component over the strips, with the totals of intervals and samples. A refusal carries zeros, no intervals, and
-// the samples taken so far.
-pub struct Totals {
-    pub verdict: Verdict,
-    pub value: [f64; 7],
-    pub intervals: usize,
-    pub samples: usize,
-}
 
 // The totals after a strip, and how many strips are left behind it.
 pub struct Onward {
@@ -142,8 +130,8 @@ fn work_upward(
     total
 }
 
-// The strips between the break heights of the integrand's planform.
-fn work_planform(
+// The strips between the break heights of the integrand's planform, over a lent scratch of at least 16·limit numbers.
+pub fn work_strips(
     scratch: &mut [f64],
     integrand: Integrand,
     points: &[f64],
@@ -161,60 +149,4 @@ fn work_planform(
     let n = breaks.count;
     let heights = breaks.heights;
     work_upward(scratch, integrand, points, &heights[..n], limit)
-}
-
-fn refused_totals(refusal: Refusal, samples: usize) -> Totals
-    ensures { λ r. ⌜ r ≡ refusedTotals refusal samples ⌝ }
-{
-    let verdict = Verdict::Refused(refusal);
-    Totals {
-        verdict,
-        value: [0.0; 7],
-        intervals: 0,
-        samples,
-    }
-}
-
-// The totals by how the last strip worked ended.
-pub fn concluded(summed: Integral) -> Totals
-    ensures { λ r. ⌜ r ≡ concludedOf summed ⌝ }
-{
-    let ending = summed.ending;
-    let verdict = halving::verdict_of(ending);
-    match verdict {
-        Verdict::Accepted => {
-            let verdict = Verdict::Accepted;
-            let value = summed.value;
-            Totals {
-                verdict,
-                value,
-                intervals: summed.intervals,
-                samples: summed.samples,
-            }
-        }
-        Verdict::Refused(refusal) => refused_totals(refusal, summed.samples),
-    }
-}
-
-// The totals over the strips of the integrand's planform, over a lent scratch of at least 16·limit numbers. Any integrand, points, limit
-// and scratch may be handed in.
-pub fn work_strips(
-    integrand: Integrand,
-    points: &[f64],
-    limit: usize,
-    scratch: &mut [f64],
-) -> Totals
-    ensures { λ r. ⌜ WorksStrips integrand (now (points .entry)) limit (now (scratch .entry)) r (now (scratch .exit)) ⌝ }
-{
-    let verdict = first_refusal(
-        limits::check_limit(limit),
-        limits::check_scratch(limit, scratch.len()),
-    );
-    match verdict {
-        Verdict::Accepted => {
-            let summed = work_planform(scratch, integrand, points, limit);
-            concluded(summed)
-        }
-        Verdict::Refused(refusal) => refused_totals(refusal, 0),
-    }
 }

@@ -14,7 +14,9 @@ scale-m-requires : tie.Need-scale-m-requires
 scale-m-requires c κs = search needs
 
 work-strips-requires : tie.Need-work-strips-requires
-work-strips-requires c κs = search needs
+work-strips-requires c κs =
+    let s = c .before .before .before .before .before in
+    area-run (s .args .planform) (s .args .points .now) (s .args .limit) _ (s .pre)
 
 concluded-area-requires : tie.Need-concluded-area-requires
 concluded-area-requires c κs = search needs
@@ -31,7 +33,6 @@ returns c =
     let a = s .args in
     let f64s = planform-f64 (a .planform) _ _ (s .good .0) (known .shared-slice-known .given) in
     let run = run-of _ (a .points .now) (a .limit) (a .scratch .now) _ _
-    (area-run (a .planform) (a .points .now) (a .limit) _ (s .pre))
     (area-strips (a .planform) (a .points .now) (a .limit) _ (scaled .before .area-integrand .ensures) ∙ area-at-three (a .planform) (a .points .now) (a .limit) _ f64s (s .pre))
     (i .work-strips .ensures) in
     record { figures = c .concluded-area .ensures ∙ rw (scaled .scale-m .ensures, run .0); scratch = run .1 }

@@ -15,7 +15,9 @@ root-chord-m-requires : tie.Need-root-chord-m-requires
 root-chord-m-requires c κs = search needs
 
 work-strips-requires : tie.Need-work-strips-requires
-work-strips-requires c κs = search needs
+work-strips-requires c κs =
+    let s = c .before .before .before .before .before .before in
+    set-run (s .args .set) (s .args .points .now) (s .args .limit) _ (s .pre)
 
 concluded-requires : tie.Need-concluded-requires
 concluded-requires c κs = search needs
@@ -31,7 +33,6 @@ returns c =
     let s = scaled .before .before .before .before in
     let a = s .args in
     let run = run-of _ (a .points .now) (a .limit) (a .scratch .now) _ _
-    (set-run (a .set) (a .points .now) (a .limit) _ (s .pre))
     (plate-strips (a .set) (a .points .now) (a .limit) _ (scaled .before .plate-integrand .ensures))
     (i .work-strips .ensures) in
     record { figures = c .concluded .ensures ∙ rw (root .root-chord-m .ensures, scaled .scale-m .ensures, run .0); scratch = run .1 }

@@ -14,14 +14,11 @@ root-chord-m-requires c κs = search needs
 concluded-requires : tie.Need-concluded-requires
 concluded-requires c κs = search needs
 
-concluded-requires-2 : tie.Need-concluded-requires-2
-concluded-requires-2 c κs = search needs
-
 returns : tie.Need-returns
 unfolding outcomeOf
 returns c =
-    let root = c .before .before in
-    c .concluded2 .ensures ∙ rw (c .before .concluded .ensures, root .root-chord-m .ensures, root .before .scale-m .ensures)
+    let root = c .before in
+    c .concluded .ensures ∙ rw (root .root-chord-m .ensures, root .before .scale-m .ensures)
 
 pub conclude-spec : {M : Type 1} → statement M
 conclude-spec =
@@ -30,5 +27,4 @@ conclude-spec =
     scale-m-requires
     root-chord-m-requires
     concluded-requires
-    concluded-requires-2
     returns)

@@ -1,74 +1,88 @@
--- `strips::work_strips` meets its contract: refused by 1 or 2, or worked. Assumes nothing.
-use mathlib.Core.Path.{_≡_, refl, sym, ap₂, _∙_}
+-- `strips::work_strips` meets its contract: the heights handed on are the planform's break heights, two or a list of them. Assumes nothing.
+use mathlib.Core.Path.{refl, sym, ap, _∙_}
+use mathlib.Core.List.{List, [], _∷_}
+use native.Mathlib.Omega.{arith}
 use lib.ListN.{length}
-use Rattle.refusals.specs.Order.{firstRefusal}
-use Rattle.strips.specs.Strips.{runCheck}
-use Rattle.strips.proofs.Reported.{run-within, worked, refused-first}
+use lib.Ieee.{Float}
+use Rattle.floats.specs.Operations.{bits}
+use Rattle.strips.proofs.Upward.{same-heights}
+use Rattle.breaks.proofs.Listed.{at-most-66, two-heights, heights-taken, heights-count, heights-room}
 use borrow.Author.Needs.{needs}
 use Rattle.strips.proofs.work_strips.Statement.{statement}
 use Rattle.strips.proofs.work_strips.Tie as tie
 
--- what was checked
-abbrev Start· : tie.After-first-refusal → tie.Start
-Start· c = c .before .before .before .before .before
+is-one-strip-requires : tie.Need-is-one-strip-requires
+is-one-strip-requires c κs = search needs
 
-checked : (c : tie.After-first-refusal) → c .first-refusal .result ≡ runCheck (Start· c .args .limit) (length (Start· c .args .scratch .now))
-checked c = c .first-refusal .ensures ∙ ap₂ firstRefusal (c .before .before .check-limit .ensures) (c .before .check-scratch .ensures)
+span-m-requires : tie.Need-span-m-requires
+span-m-requires c κs = search needs
 
-check-limit-requires : tie.Need-check-limit-requires
-check-limit-requires c κs = search needs
+slice-aggregate-work-upward : tie.Need-slice-aggregate-work-upward
+slice-aggregate-work-upward c = search needs
 
-check-scratch-requires : tie.Need-check-scratch-requires
-check-scratch-requires c κs = search needs
-
-first-refusal-requires : tie.Need-first-refusal-requires
-first-refusal-requires c κs = search needs
-
-enum-told : tie.Need-enum-told
-enum-told c = search needs
-
-work-planform-requires : tie.Need-work-planform-requires
-work-planform-requires c κs = run-within _ _ (sym (checked (c .before .before .before)) ∙ c .before .enum-told .given .1)
-
-concluded-requires : tie.Need-concluded-requires
-concluded-requires c κs = search needs
-
-enum-known-verdict : tie.Need-enum-known-verdict
-enum-known-verdict c = search needs
-
-refused-totals-requires : tie.Need-refused-totals-requires
-refused-totals-requires c κs = search needs
+work-upward-requires : tie.Need-work-upward-requires
+work-upward-requires c κs = search needs
 
 same-length : tie.Need-same-length
 same-length c = search needs
 
 returns : tie.Need-returns
 returns c =
-    let run = c .before .before .before in
-    let told = run .before .before in
-    let check = told .before .before in
-    let a = Start· check .args in
-    worked (a .integrand) (a .points .now) (a .limit) (a .scratch .now) _ _ (sym (checked check) ∙ told .enum-told .given .1) _ (run .work-planform .ensures) (c .concluded .ensures)
+    let i = c .before .before in
+    let span = i .before .before .before in
+    let taken = span .before in
+    let a = taken .before .before .before .before .args in
+    let two = ap (λ (x : Float). bits 0 ∷ x ∷ []) (span .span-m .ensures) ∙ sym (two-heights (a .integrand .planform) (a .points .now) (sym (taken .before .is-one-strip .ensures) ∙ taken .if1 .taken)) in
+    same-heights _ _ _ _ _ _ two (i .work-upward .ensures)
+
+break-heights-requires : tie.Need-break-heights-requires
+break-heights-requires c κs = search needs
+
+array-share-prefix-heights : tie.Need-array-share-prefix-heights
+array-share-prefix-heights c =
+    let h = c .before .before in
+    let a = h .before .before .before .before .before .args in
+    omega (arith, heights-count (a .integrand .planform) (a .points .now) (h .break-heights .result) (h .break-heights .ensures), heights-room (a .integrand .planform) (a .points .now) (h .break-heights .result) (h .break-heights .ensures), at-most-66 (a .integrand .planform) (a .points .now))
+
+slice-aggregate-work-upward-2 : tie.Need-slice-aggregate-work-upward-2
+slice-aggregate-work-upward-2 c =
+    let h = c .before .before .before in
+    let a = h .before .before .before .before .before .args in
+    heights-count (a .integrand .planform) (a .points .now) (h .break-heights .result) (h .break-heights .ensures)
+    ∙ sym (ap (λ (l : List Float). length l) (heights-taken (a .integrand .planform) (a .points .now) (h .break-heights .result) (h .break-heights .ensures)))
+
+work-upward-requires-2 : tie.Need-work-upward-requires-2
+work-upward-requires-2 c κs =
+    let h = c .before .before .before in
+    let s = h .before .before .before .before .before in
+    let a = s .args in
+    let few = at-most-66 (a .integrand .planform) (a .points .now) in
+    let taken = heights-taken (a .integrand .planform) (a .points .now) (h .break-heights .result) (h .break-heights .ensures) in
+    (s .pre, rw taken (omega (arith, few)))
+
+same-length-2 : tie.Need-same-length-2
+same-length-2 c = search needs
 
 returns-2 : tie.Need-returns-2
 returns-2 c =
-    let told = c .before .before in
-    let check = told .before .before in
-    let a = Start· check .args in
-    refused-first (a .integrand) (a .points .now) (a .limit) (a .scratch .now) _ _ _ (sym (checked check) ∙ told .verdict .given .1) (c .refused-totals .ensures) refl
+    let i = c .before .before in
+    let h = i .before .before .before .before in
+    let a = h .before .before .before .before .before .args in
+    same-heights _ _ _ _ _ _ (heights-taken (a .integrand .planform) (a .points .now) (h .break-heights .result) (h .break-heights .ensures)) (i .work-upward2 .ensures)
 
 pub work-strips-spec : {M : Type 1} → statement M
 work-strips-spec =
     tie.close
     (tie.spec
-    check-limit-requires
-    check-scratch-requires
-    first-refusal-requires
-    enum-told
-    work-planform-requires
-    concluded-requires
-    enum-known-verdict
-    refused-totals-requires
+    is-one-strip-requires
+    span-m-requires
+    slice-aggregate-work-upward
+    work-upward-requires
     same-length
     returns
+    break-heights-requires
+    array-share-prefix-heights
+    slice-aggregate-work-upward-2
+    work-upward-requires-2
+    same-length-2
     returns-2)
