@@ -21,9 +21,9 @@ use Rattle.drill.specs.declared.Answer.{Answer}
 use Rattle.drill.specs.Drill.{verdictOf, placeNumber, nearestOf}
 use Rattle.planforms.specs.declared.NumberedPlanform.{NumberedPlanform}
 use Rattle.fins.specs.declared.NumberedSet.{NumberedSet}
-use Rattle.requests.specs.Calls.{numberedFigures, numberedScratch, numberedArea, numberedAreaScratch, numberedChords, numberedEnds, numberedDrill, ringBy, tensorMoments, bodyVerdict}
+use Rattle.requests.specs.Calls.{numberedFigures, numberedScratch, numberedArea, numberedAreaScratch, numberedChords, numberedEnds, numberedDrill, tensorMoments, bodyVerdict}
 use Rattle.foreign_numbers.specs.Numbers.{numberIn, over, withValues, withCounts, room, figureCounts}
-use Rattle.exports.specs.Calls.{SetCall, areaNumbers, areaCounts, AreaCall, chordCounts, ChordsCall, DrillCall, RingCall, BodyCall, ClosingCall, JoinCall, momentsNumbers, MomentsCall, CheckCall}
+use Rattle.exports.specs.Calls.{SetCall, areaNumbers, areaCounts, AreaCall, chordCounts, ChordsCall, DrillCall, BodyCall, ClosingCall, JoinCall, momentsNumbers, MomentsCall, CheckCall}
 use Rattle.foreign_numbers.proofs.Rooms.{has-room, few-figures, few-counts}
 
 -- one of the two lists that a call fills is too short
@@ -99,17 +99,6 @@ module _ {planform : NumberedPlanform} {points : List Float} {x height : Float} 
   drill-written h same e f g k c n =
       let fits = le-leb 4 (length counts) h in
       record { returned = rw (fits, ← same, ← e, ← f) n; counted = rw (fits, ← same, ← e, ← f, ← g, ← k) c }
-
-module _ {count density : ℕ} {numbers body : List Float} {values : List ℕ} where
-  pub ring-refused : NoRoom bodyNumbers body 2 values → RingCall count density numbers body values 18 body values
-  ring-refused short = let none = short .none in record { returned = rw none; figures = rw none; counted = rw none }
-
-  pub ring-written : bodyNumbers ≤ length body → 2 ≤ length values → {j : Joined} {r : ℕ} {body' : List Float} {values' : List ℕ} →
-      j ≡ ringBy count density numbers → body' ≡ withBody body 0 (j .body) → values' ≡ withValues values (j .verdict) →
-      r ≡ numberIn (j .verdict) → RingCall count density numbers body values r body' values'
-  ring-written h k e b c n =
-      let fits = has-room bodyNumbers body 2 values h k in
-      record { returned = rw (fits, ← e) n; figures = rw (fits, ← e) b; counted = rw (fits, ← e) c }
 
 module _ {count : ℕ} {bodyRadius : Float} {radius : List Float} {values : List ℕ} where
   pub closing-refused : NoRoom 1 radius 2 values → ClosingCall count bodyRadius radius values 18 radius values

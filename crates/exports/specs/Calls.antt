@@ -22,7 +22,7 @@ use Rattle.joins.specs.Joins.{combineOf}
 use Rattle.tubes.specs.Closing.{closingOf}
 use Rattle.moments.specs.declared.Moments.{Moments}
 use Rattle.figures.specs.declared.Area.{Area}
-use Rattle.requests.specs.Calls.{numberedFigures, numberedScratch, numberedArea, numberedAreaScratch, numberedChords, numberedEnds, numberedDrill, ringBy, tensorMoments, bodyVerdict}
+use Rattle.requests.specs.Calls.{numberedFigures, numberedScratch, numberedArea, numberedAreaScratch, numberedChords, numberedEnds, numberedDrill, tensorMoments, bodyVerdict}
 use Rattle.foreign_numbers.specs.Numbers.{numberIn, over, withValues, withCount, withCounts, room, figureCounts}
 
 -- ---- a set's figures
@@ -66,12 +66,7 @@ pub record DrillCall (planform : NumberedPlanform) (points : List Float) (x heig
   pub returned : r ≡ cond (leb 4 (length counts)) (numberIn (verdictOf (numberedDrill planform points x height))) (numberOf NoForm)
   pub counted : counts' ≡ cond (leb 4 (length counts)) (drillCounts (numberedDrill planform points x height) counts) counts
 
--- ---- a ring of tubes, and the radius that closes one (document 02, Paper 3)
-
-pub record RingCall (count density : ℕ) (numbers body : List Float) (values : List ℕ) (r : ℕ) (body' : List Float) (values' : List ℕ) : Type 0 where
-  pub returned : r ≡ cond (room bodyNumbers body 2 values) (numberIn (ringBy count density numbers .verdict)) (numberOf NoForm)
-  pub figures : body' ≡ cond (room bodyNumbers body 2 values) (withBody body 0 (ringBy count density numbers .body)) body
-  pub counted : values' ≡ cond (room bodyNumbers body 2 values) (withValues values (ringBy count density numbers .verdict)) values
+-- ---- the radius that closes a ring of tubes (document 02, Paper 3)
 
 pub record ClosingCall (count : ℕ) (bodyRadius : Float) (radius : List Float) (values : List ℕ) (r : ℕ) (radius' : List Float) (values' : List ℕ) : Type 0 where
   pub returned : r ≡ cond (room 1 radius 2 values) (numberIn (closingOf bodyRadius count .verdict)) (numberOf NoForm)
@@ -84,7 +79,7 @@ pub record JoinCall (bodies body : List Float) (r : ℕ) (body' : List Float) : 
   pub returned : r ≡ cond (leb bodyNumbers (length body)) (numberIn (combineOf bodies .verdict)) (numberOf NoForm)
   pub figures : body' ≡ cond (leb bodyNumbers (length body)) (withBody body 0 (combineOf bodies .body)) body
 
--- ---- copies of a body, and a part moved or taken off (document 02, Paper 13): the answer as a body, and why it is refused
+-- ---- a ring of tubes (document 02, Paper 3), copies of a body, and a part moved or taken off (Paper 13): the answer as a body, and why it is refused
 
 pub record BodyCall (j : Joined) (body : List Float) (values : List ℕ) (r : ℕ) (body' : List Float) (values' : List ℕ) : Type 0 where
   pub returned : r ≡ cond (room bodyNumbers body 2 values) (numberIn (j .verdict)) (numberOf NoForm)

@@ -14,12 +14,13 @@ ghost use lib.ListN.{length};
 ghost use Rattle.root.specs.Root.{rootOf, IsRoot};
 ghost use Rattle.planforms.specs.Numbered.{numberedPlanform};
 ghost use Rattle.figures.specs.Answers.{mostSamples};
-ghost use Rattle.requests.specs.Calls.{copiedBy, placedBy, movedBy, withoutBy};
+ghost use Rattle.requests.specs.Calls.{ringBy, copiedBy, placedBy, movedBy, withoutBy};
 ghost use Rattle.foreign_numbers.specs.Sets.{crossedSet};
 ghost use Rattle.foreign_numbers.specs.Numbers.{over};
-ghost use Rattle.exports.specs.Calls.{SetCall, AreaCall, ChordsCall, DrillCall, RingCall, BodyCall, ClosingCall, JoinCall, MomentsCall, CheckCall};
+ghost use Rattle.exports.specs.Calls.{SetCall, AreaCall, ChordsCall, DrillCall, BodyCall, ClosingCall, JoinCall, MomentsCall, CheckCall};
 use bodies::BODY_NUMBERS;
 use foreign_numbers::NO_FORM;
+use joins::Joined;
 
 // Writes three figures over the first three numbers.
 fn write_three(figures: &mut [f64], x: f64, y: f64, z: f64)
@@ -29,6 +30,24 @@ fn write_three(figures: &mut [f64], x: f64, y: f64, z: f64)
     figures[0] = x;
     figures[1] = y;
     figures[2] = z;
+}
+
+// A body that is answered: writes its numbers and two values of a refusal, and gives the number that its verdict crosses as. Where a list has no
+// room it is 18, and nothing is written.
+fn told_body(answer: Joined, body: &mut [f64], values: &mut [usize]) -> usize
+    ensures { λ r. ⌜ BodyCall answer (now (body .entry)) (now (values .entry)) r (now (body .exit)) (now (values .exit)) ⌝ }
+{
+    if body.len() < BODY_NUMBERS {
+        return NO_FORM;
+    }
+    if values.len() < 2 {
+        return NO_FORM;
+    }
+    let verdict = answer.verdict;
+    let found = answer.body;
+    joins::write_body(body, 0, found);
+    foreign_numbers::write_values(values, verdict);
+    foreign_numbers::number(verdict)
 }
 
 // The square root of x.
@@ -194,22 +213,11 @@ pub extern "C" fn delvouzh_tube_mass_properties(
     body: &mut [f64],
     values: &mut [usize],
 ) -> usize
-    ensures { λ r. ⌜ RingCall count density (now (figures .entry))
+    ensures { λ r. ⌜ BodyCall (ringBy count density (now (figures .entry)))
         (now (body .entry)) (now (values .entry))
         r (now (body .exit)) (now (values .exit)) ⌝ }
 {
-    if body.len() < BODY_NUMBERS {
-        return NO_FORM;
-    }
-    if values.len() < 2 {
-        return NO_FORM;
-    }
-    let joined = requests::ring_figures(count, density, figures);
-    let verdict = joined.verdict;
-    let found = joined.body;
-    joins::write_body(body, 0, found);
-    foreign_numbers::write_values(values, verdict);
-    foreign_numbers::number(verdict)
+    told_body(requests::ring_figures(count, density, figures), body, values)
 }
 
 // The outer radius of tubes that close the ring around a body: writes it, and two values of a refusal.
@@ -264,18 +272,7 @@ pub extern "C" fn delvouzh_copied(
         (now (joined .entry)) (now (values .entry))
         r (now (joined .exit)) (now (values .exit)) ⌝ }
 {
-    if joined.len() < BODY_NUMBERS {
-        return NO_FORM;
-    }
-    if values.len() < 2 {
-        return NO_FORM;
-    }
-    let answer = requests::copied_by(body, offsets);
-    let verdict = answer.verdict;
-    let found = answer.body;
-    joins::write_body(joined, 0, found);
-    foreign_numbers::write_values(values, verdict);
-    foreign_numbers::number(verdict)
+    told_body(requests::copied_by(body, offsets), joined, values)
 }
 
 // The same, one at each x, y and roll of a list.
@@ -290,18 +287,7 @@ pub extern "C" fn delvouzh_placed(
         (now (joined .entry)) (now (values .entry))
         r (now (joined .exit)) (now (values .exit)) ⌝ }
 {
-    if joined.len() < BODY_NUMBERS {
-        return NO_FORM;
-    }
-    if values.len() < 2 {
-        return NO_FORM;
-    }
-    let answer = requests::placed_by(body, places);
-    let verdict = answer.verdict;
-    let found = answer.body;
-    joins::write_body(joined, 0, found);
-    foreign_numbers::write_values(values, verdict);
-    foreign_numbers::number(verdict)
+    told_body(requests::placed_by(body, places), joined, values)
 }
 
 // A body with a part moved by x, y and z: writes likewise.
@@ -317,18 +303,7 @@ pub extern "C" fn delvouzh_with_part_moved(
         (now (joined .entry)) (now (values .entry))
         r (now (joined .exit)) (now (values .exit)) ⌝ }
 {
-    if joined.len() < BODY_NUMBERS {
-        return NO_FORM;
-    }
-    if values.len() < 2 {
-        return NO_FORM;
-    }
-    let answer = requests::moved_by(whole, part, offset);
-    let verdict = answer.verdict;
-    let found = answer.body;
-    joins::write_body(joined, 0, found);
-    foreign_numbers::write_values(values, verdict);
-    foreign_numbers::number(verdict)
+    told_body(requests::moved_by(whole, part, offset), joined, values)
 }
 
 // A body with a part taken off: writes likewise.
@@ -343,18 +318,7 @@ pub extern "C" fn delvouzh_without_part(
         (now (joined .entry)) (now (values .entry))
         r (now (joined .exit)) (now (values .exit)) ⌝ }
 {
-    if joined.len() < BODY_NUMBERS {
-        return NO_FORM;
-    }
-    if values.len() < 2 {
-        return NO_FORM;
-    }
-    let answer = requests::without_by(whole, part);
-    let verdict = answer.verdict;
-    let found = answer.body;
-    joins::write_body(joined, 0, found);
-    foreign_numbers::write_values(values, verdict);
-    foreign_numbers::number(verdict)
+    told_body(requests::without_by(whole, part), joined, values)
 }
 
 // The principal moments of a tensor by its numbers: writes three moments, ascending, and two values of a refusal.
