@@ -327,7 +327,7 @@ module _ (p : Plate) (m : Mount) (points : List Float) (L : ℕ) (entry : List F
       (slabMoment (p .tab)) xv rp tn κν few-κν slenderer
 
   abbrev v : List Float
-  v = integrals Square p m points L (length entry) r (g .answers .figures) (g .given) (g .no-fillet)
+  v = integrals Square p m points L (length entry) r (g .answers .call .0) (g .given) (g .no-fillet)
 
   volume-is : volume v ≡ volumeSum
   volume-is = refl
@@ -447,7 +447,7 @@ module _ (p : Plate) (m : Mount) (points : List Float) (L : ℕ) (entry : List F
 
   centre-is : r .body .«centre_m» .z ≡ moments ⊘ masses
   centre-is =
-      ap (λ (s : Body). s .«centre_m» .z) (set-body Square p m points L (length entry) r (g .answers .figures) (g .given) (g .no-fillet) (st .no-cant))
+      ap (λ (s : Body). s .«centre_m» .z) (set-body Square p m points L (length entry) r (g .answers .call .0) (g .given) (g .no-fillet) (st .no-cant))
       ∙ centre-by v (p .density) (m .base) (m .count) volumeSum momentSum volume-is moment-is masses-positive
 
   -- ---- in fractions

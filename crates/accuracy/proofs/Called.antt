@@ -15,6 +15,7 @@ use Rattle.refusals.specs.declared.Refusal.{Refusal}
 use Rattle.refusals.specs.declared.Refusal.the-variants.{NoArea}
 use Rattle.refusals.specs.declared.Verdict.{Verdict}
 use Rattle.refusals.specs.declared.Verdict.the-variants.{Accepted, Refused}
+use Rattle.refusals.specs.Calls.{CallOf, leavesAlone, byVerdict}
 use Rattle.planforms.specs.declared.Planform.{Planform}
 use Rattle.planforms.specs.declared.Planform.the-variants.{Trapezoid}
 use Rattle.planforms.specs.Planforms.{spanOf}
@@ -26,14 +27,14 @@ use Rattle.integrands.specs.declared.Kind.the-variants.{Area as area}
 use Rattle.quadrature.specs.Rule.{minusSide, plusSide, weightedTo}
 use Rattle.tolerance.specs.Bounds.{totalOf}
 use Rattle.halving.specs.Halving.{halving, verdictOf}
-use Rattle.strips.specs.Strips.{Worked, workedOf, stripOf, isAccepted, piecesOf, valueFrom, byVerdict, summedOf, intervalsIn}
+use Rattle.strips.specs.Strips.{Worked, workedOf, stripOf, isAccepted, piecesOf, valueFrom, summedOf, intervalsIn}
 use Rattle.halving.specs.Scratch.{intervalsOf}
 use Rattle.widths.proofs.Strips.{intervals-same}
 use Rattle.widths.proofs.Totals.{totals-same}
 use Rattle.fins.specs.Fins.{areaCheck}
 use Rattle.plates.specs.Geometry.{geometryOf, unscaledArea, noGeometry}
 use Rattle.plates.specs.declared.PlanformGeometry.{PlanformGeometry}
-use Rattle.figures.specs.Areas.{areaStrips, areaSeven, workedArea, areaFigures, concludedArea, refusedArea, geometryArea, givenArea}
+use Rattle.figures.specs.Areas.{areaStrips, areaSeven, workedArea, workedPlanform, areaCall, areaFigures, concludedArea, refusedArea, geometryArea, givenArea}
 use Rattle.figures.specs.declared.Area.{Area}
 use Rattle.figures.proofs.Reports.{no-refusal}
 use Rattle.accuracy.proofs.Trapezoids.{widthAt}
@@ -125,18 +126,20 @@ module _ (planform : Planform) (points : List Float) (L n : ℕ) (r : Area) (ans
   verdictIn a = a .verdict
 
   pub area-given : Given planform points L n r
-  unfolding areaFigures concludedArea
+  unfolding areaCall concludedArea
   area-given =
       let strips = areaSeven planform points L in
       let total = summedOf strips in
       let scale = scaleOf planform points in
-      let a = chosen (areaCheck planform points L n) (workedArea planform points L) (λ refusal. refusedArea refusal 0) verdictIn (λ refusal. refl) r answer given in
+      let called = chosen (areaCheck planform points L n) (workedPlanform planform points L) (λ refusal. leavesAlone (refusedArea refusal 0)) (λ (c : CallOf Area). c .answer .verdict) (λ refusal. refl)
+      (areaCall planform points L n) refl (sym (ap verdictIn answer) ∙ given) in
+      let worked : r ≡ workedArea planform points L = answer ∙ ap (λ (c : CallOf Area). c .answer) (called .1) in
       let geometry = geometryOf (total .value) scale in
-      let b = chosen (verdictOf (total .ending)) (geometryArea geometry (total .intervals) (total .samples)) (λ refusal. refusedArea refusal (total .samples)) verdictIn (λ refusal. refl) r (a .1) given in
+      let b = chosen (verdictOf (total .ending)) (geometryArea geometry (total .intervals) (total .samples)) (λ refusal. refusedArea refusal (total .samples)) verdictIn (λ refusal. refl) r worked given in
       let c = chosen (geometry .verdict) (givenArea geometry (total .intervals) (total .samples)) (λ refusal. refusedArea refusal (total .samples)) verdictIn (λ refusal. refl) r (b .1) given in
       let g = geometry-given (total .value) scale (c .0) in
       record {
-        accepted = a .0;
+        accepted = called .0;
         area = ap (λ (a : Area). a .«area_m2») (c .1) ∙ g .0;
         centroid-x = ap (λ (a : Area). a .«centroid_x_m») (c .1) ∙ g .1;
         centroid-height = ap (λ (a : Area). a .«centroid_span_m») (c .1) ∙ g .2;

@@ -223,7 +223,7 @@ module _ (p : Plate) (m : Mount) (points : List Float) (L : ℕ) (entry : List F
 
   -- ---- what the call works with
   abbrev worked : List Float
-  worked = integrals Square p m points L (length entry) r (g .answers .figures) (g .given) (g .no-fillet)
+  worked = integrals Square p m points L (length entry) r (g .answers .call .0) (g .given) (g .no-fillet)
 
   near : SevenNear worked exact 65536 512 K (b per d)
   near =
@@ -341,7 +341,7 @@ module _ (p : Plate) (m : Mount) (points : List Float) (L : ℕ) (entry : List F
   -- ---- the fin alone
   body-is : r .body ≡ joinedCopies (plateBody worked (p .density)) (m .base) 1
   body-is =
-      set-body Square p m points L (length entry) r (g .answers .figures) (g .given) (g .no-fillet) (st .no-cant)
+      set-body Square p m points L (length entry) r (g .answers .call .0) (g .given) (g .no-fillet) (st .no-cant)
       ∙ ap (λ (n : ℕ). joinedCopies (plateBody worked (p .density)) (m .base) n) (al .one-fin)
 
   integrated : Integrated worked exact K (b per d) volumeNum volumeDen (2 * κν)

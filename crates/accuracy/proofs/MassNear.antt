@@ -132,7 +132,7 @@ module _ (p : Plate) (m : Mount) (points : List Float) (L : ℕ) (entry : List F
   set = setOf p m
 
   pub figures : Given Square p m points L (length entry) r
-  figures = set-given Square p m points L (length entry) r (g .answers .figures) (g .given) (g .no-fillet)
+  figures = set-given Square p m points L (length entry) r (g .answers .call .0) (g .given) (g .no-fillet)
 
   pub checks : AcceptedSet set points L (length entry)
   checks = set-accepted set points L (length entry) (figures .accepted)

@@ -51,7 +51,7 @@ module _ (root tip span sweep : Float) (points : List Float) (L : ℕ) (entry : 
   S = scaleOf Shape points
 
   pub figures-given : Given Shape points L (length entry) r
-  figures-given = area-given Shape points L (length entry) r (g .answers .figures) (g .given)
+  figures-given = area-given Shape points L (length entry) r (g .answers .call .0) (g .given)
 
   pub sized : Sized Shape points
   sized = planform-sized Shape points (g .f64s) (area-planform Shape points L (length entry) (figures-given .accepted))

@@ -1013,7 +1013,7 @@ module _ (c : Bounds) (few : c .sweeps ≤ 4) (small : Small c)
     set = setWith section p m
 
     figures : Called.Given section p m points L (length start) r
-    figures = set-given section p m points L (length start) r (g .answers .figures) (g .given) (g .no-fillet)
+    figures = set-given section p m points L (length start) r (g .answers .call .0) (g .given) (g .no-fillet)
 
     checks : AcceptedSet set points L (length start)
     checks = set-accepted set points L (length start) (figures .accepted)
@@ -1126,7 +1126,7 @@ module _ (c : Bounds) (few : c .sweeps ≤ 4) (small : Small c)
         (m .radius) thick out wide) kronrodWeight k)
 
     abbrev v : List Float
-    v = Called.integrals section p m points L (length start) r (g .answers .figures) (g .given) (g .no-fillet)
+    v = Called.integrals section p m points L (length start) r (g .answers .call .0) (g .given) (g .no-fillet)
 
     none-at : (k : ℕ) → k < 7 → at (tabIntegralsOf (p .tab) (p .thickness) (m .radius)) k ≡ bits 0
     unfolding tabIntegralsOf
@@ -1240,7 +1240,7 @@ module _ (c : Bounds) (few : c .sweeps ≤ 4) (small : Small c)
 
     centre-is : r .body .«centre_m» .z ≡ moments· ⊘ masses·
     centre-is =
-        ap (λ (b : Body). b .«centre_m» .z) (set-body section p m points L (length start) r (g .answers .figures) (g .given)
+        ap (λ (b : Body). b .«centre_m» .z) (set-body section p m points L (length start) r (g .answers .call .0) (g .given)
         (g .no-fillet) no-cant)
         ∙ centre-by v (p .density) (m .base) (m .count) w u volume-is moment-is
         (masses-positive c section plain-section (p .root) (p .tip) (p .sweep) (p .span) S (p .thickness) (p .density) (m .radius)

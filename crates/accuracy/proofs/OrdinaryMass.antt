@@ -303,7 +303,7 @@ module _ (section : Section) (p : Plate) (m : Mount) (points : List Float) (L : 
   S = scaleOf Shape points
 
   figures : Called.Given section p m points L (length entry) r
-  figures = set-given section p m points L (length entry) r (g .answers .figures) (g .given) (g .no-fillet)
+  figures = set-given section p m points L (length entry) r (g .answers .call .0) (g .given) (g .no-fillet)
 
   checks : AcceptedSet (setWith section p m) points L (length entry)
   checks = set-accepted (setWith section p m) points L (length entry) (figures .accepted)

@@ -14,6 +14,7 @@ use Rattle.refusals.specs.declared.Verdict.{Verdict}
 use Rattle.refusals.specs.declared.Verdict.the-variants.{Accepted, Refused}
 use Rattle.refusals.specs.Order.{firstOf}
 use Rattle.refusals.proofs.Accepted.{each-accepts}
+use Rattle.refusals.specs.Calls.{CallOf, leavesAlone}
 use Rattle.limits.specs.Limits.{countCheck}
 use Rattle.planforms.specs.declared.Planform.the-variants.{Trapezoid}
 use Rattle.planforms.specs.Planforms.{rootChordOf}
@@ -39,7 +40,7 @@ use Rattle.fins.specs.declared.FinSet.{FinSet}
 use Rattle.fins.specs.Fins.{setCheck}
 use Rattle.plates.specs.Integrals.{volume, unscaledOf, tabIntegralsOf, addIntegrals}
 use Rattle.plates.specs.Plates.{plateBody, withFillets, cantedOf, bulkFin, singleFinOf, integralsOf, pivotOf}
-use Rattle.figures.specs.Figures.{setStrips, workedFigures, setFigures, concludedSet, refusedFigures, joinedFigures}
+use Rattle.figures.specs.Figures.{setStrips, workedFigures, workedSet, setCall, setFigures, concludedSet, refusedFigures, joinedFigures}
 use Rattle.figures.specs.declared.Figures.{Figures}
 use Rattle.figures.proofs.Reports.{no-refusal}
 use Rattle.accuracy.specs.Masses.{Plate, Mount, setWith}
@@ -163,8 +164,11 @@ module _ (section : Section) (p : Plate) (m : Mount) (points : List Float) (L n 
   verdictIn a = a .verdict
 
   set-chosen : (setCheck set points L n ≡ Accepted) × (r ≡ workedFigures set points L)
-  unfolding setFigures
-  set-chosen = chosen (setCheck set points L n) (workedFigures set points L) (λ refusal. refusedFigures refusal 0) verdictIn (λ refusal. refl) r answer given
+  unfolding setCall
+  set-chosen =
+      let c = chosen (setCheck set points L n) (workedSet set points L) (λ refusal. leavesAlone (refusedFigures refusal 0)) (λ (c : CallOf Figures). c .answer .verdict) (λ refusal. refl)
+      (setCall set points L n) refl (sym (ap verdictIn answer) ∙ given) in
+      (c .0, answer ∙ ap (λ (c : CallOf Figures). c .answer) (c .1))
 
   abbrev total : Integral
   total = summedOf strips

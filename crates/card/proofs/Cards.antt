@@ -18,6 +18,7 @@ use Rattle.refusals.specs.declared.Refusal.the-variants.{NoForm as noForm}
 use Rattle.refusals.specs.declared.Verdict.{Verdict}
 use Rattle.refusals.specs.declared.Verdict.the-variants.{Accepted, Refused}
 use Rattle.refusals.specs.Refusals.{numberOf}
+use Rattle.refusals.specs.Calls.{CallOf, leavesAlone, byVerdict}
 use Rattle.refusals.proofs.Accepted.{both}
 use Rattle.limits.specs.Limits.{limitCheck, scratchCheck}
 use Rattle.fins.specs.declared.FinSet.{FinSet}
@@ -31,14 +32,14 @@ use Rattle.forms.specs.declared.Form.the-variants.{Set, Area, Join, Moments, Ch
 use Rattle.forms.specs.declared.Form.the-variants.{Copied, Placed, Moved, Without, Submit, Density, Turn, NoForm}
 use Rattle.forms.specs.Forms.{Asked, refused, asked, pickAsked, anyForm, lineAsked}
 use Rattle.requests.specs.declared.SetRequest.{SetRequest}
-use Rattle.requests.specs.Calls.{numberedFigures, numberedScratch, numberedSubmit, numberedAreaScratch}
+use Rattle.requests.specs.Calls.{numberedCall, numberedSubmit, numberedArea}
 use Rattle.requests.specs.Requests.{number, between, setRequestOf, areaRequestOf}
-use Rattle.requests.specs.Requests.{askedFigures, askedScratch, askedSubmit, askedAreaScratch}
+use Rattle.requests.specs.Requests.{askedSet, askedSubmit, askedArea}
 use Rattle.answers.specs.Filled.{filled}
 use Rattle.answers.specs.Answers.{takenText, moreText, refusedText}
 use Rattle.figures.specs.declared.Figures.{Figures}
-use Rattle.figures.specs.Figures.{setStrips, setFigures, setScratch}
-use Rattle.figures.specs.Areas.{areaSeven, areaScratch}
+use Rattle.figures.specs.Figures.{setStrips, refusedFigures, workedFigures, workedSet, setCall, setFigures}
+use Rattle.figures.specs.Areas.{areaSeven, refusedArea, workedArea, areaCall}
 use Rattle.jobs.specs.declared.Job.{Job}
 use Rattle.jobs.specs.declared.Answer.{Answer}
 use Rattle.jobs.specs.declared.Stepped.{Stepped}
@@ -101,21 +102,22 @@ module _ (line : List ℕ) (form : Form) (ns : List ℕ) (figures : List Float) 
 
 -- ---- the scratch stays long enough
 set-no-shorter : (set : NumberedSet) (points : List Float) (L : ℕ) (scratch : List Float)
-    → length scratch ≤ length (numberedScratch set points L scratch)
-unfolding numberedScratch setScratch
-set-no-shorter (setKnown set) points L scratch = run-no-shorter (setCheck set points L (length scratch)) (setStrips set points L) scratch
+    → length scratch ≤ length (numberedCall set points L (length scratch) .leaves scratch)
+unfolding numberedCall setCall
+set-no-shorter (setKnown set) points L scratch =
+    run-no-shorter (setCheck set points L (length scratch)) (workedFigures set points L) (λ refusal. refusedFigures refusal 0) (setStrips set points L) scratch
 set-no-shorter noSet points L scratch = omega arith
 
 area-no-shorter : (planform : NumberedPlanform) (points : List Float) (L : ℕ) (scratch : List Float)
-    → length scratch ≤ length (numberedAreaScratch planform points L scratch)
-unfolding numberedAreaScratch areaScratch
+    → length scratch ≤ length (numberedArea planform points L (length scratch) .leaves scratch)
+unfolding numberedArea areaCall
 area-no-shorter (planformKnown planform) points L scratch =
-    run-no-shorter (areaCheck planform points L (length scratch)) (areaSeven planform points L) scratch
+    run-no-shorter (areaCheck planform points L (length scratch)) (workedArea planform points L) (λ refusal. refusedArea refusal 0) (areaSeven planform points L) scratch
 area-no-shorter noPlanform points L scratch = omega arith
 
 form-no-shorter : (form : Form) (ns : List ℕ) (figures : List Float) (m : Memory)
     → length (m .scratch) ≤ length (memoryAfterForm form ns figures m .scratch)
-unfolding askedScratch askedAreaScratch
+unfolding askedSet askedArea
 form-no-shorter Set ns figures m = set-no-shorter (setRequestOf ns figures .set) _ _ (m .scratch)
 form-no-shorter Area ns figures m = area-no-shorter (areaRequestOf ns figures .planform) _ _ (m .scratch)
 form-no-shorter Join ns figures m = omega arith
@@ -165,12 +167,12 @@ module _ (form : Form) (line : List ℕ) (set : FinSet) (points : List Float) (L
   abbrev Points· : List Float
   Points· = between 0 (Request· .points) (w .figures)
 
-  own-figures : (n : ℕ) → askedFigures Request· (w .figures) n ≡ setFigures set points L n
-  unfolding askedFigures numberedFigures
-  own-figures n =
-      ap (λ (s : NumberedSet). numberedFigures s Points· (Request· .limit) n) (w .set-is)
-      ∙ ap (λ (p : List Float). setFigures set p (Request· .limit) n) (w .points-are)
-      ∙ ap (λ (l : ℕ). setFigures set points l n) (w .limit-is)
+  own-call : (n : ℕ) → askedSet Request· (w .figures) n ≡ setCall set points L n
+  unfolding askedSet numberedCall
+  own-call n =
+      ap (λ (s : NumberedSet). numberedCall s Points· (Request· .limit) n) (w .set-is)
+      ∙ ap (λ (p : List Float). setCall set p (Request· .limit) n) (w .points-are)
+      ∙ ap (λ (l : ℕ). setCall set points l n) (w .limit-is)
 
   own-submit : (engine : Engine) (screen : ℕ) → askedSubmit screen Request· (w .figures) engine ≡ submitOf engine screen set points L
   unfolding askedSubmit numberedSubmit
@@ -180,10 +182,17 @@ module _ (form : Form) (line : List ℕ) (set : FinSet) (points : List Float) (L
       ∙ ap (λ (l : ℕ). submitOf engine screen set points l) (w .limit-is)
 
 -- over any scratch that is long enough
+same-check : (set : FinSet) (points : List Float) (L n m : ℕ) → scratchCheck L n ≡ Accepted → scratchCheck L m ≡ Accepted
+    → setCheck set points L n ≡ setCheck set points L m
+unfolding setCheck
+same-check set points L n m e f = rw (e, f)
+
 same-figures : (set : FinSet) (points : List Float) (L n m : ℕ) → scratchCheck L n ≡ Accepted → scratchCheck L m ≡ Accepted
     → setFigures set points L n ≡ setFigures set points L m
-unfolding setFigures setCheck
-same-figures set points L n m e f = rw (e, f)
+unfolding setCall
+same-figures set points L n m e f =
+    ap (λ (v : Verdict). byVerdict v (workedSet set points L) (λ refusal. leavesAlone (refusedFigures refusal 0)) .answer)
+    (same-check set points L n m e f)
 
 set-line : (line : List ℕ) (set : FinSet) (points : List Float) (L : ℕ) → WritesSet Set line set points L → limitCheck L ≡ Accepted
     → (lines : List (List ℕ)) (card : Figures)
@@ -194,7 +203,7 @@ set-line line set points L w limit lines card c =
     let n = length (m .scratch) in
     reply-is line Set (w .numbers) (w .figures) (w .asks) m
     ∙ ap (λ (f : Figures). printedSet (f .verdict) f ++ (10 ∷ []))
-    (own-figures Set line set points L w n
+    (ap (λ (c : CallOf Figures). c .answer) (own-call Set line set points L w n)
     ∙ same-figures set points L n scratchLength (enough L n limit (stays-long lines)) (enough L scratchLength limit (omega arith))
     ∙ sym c)
 

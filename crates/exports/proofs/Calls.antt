@@ -7,6 +7,7 @@ use borrow.Author.Tests.{le-leb, lt-leb}
 use lib.ListN.{length}
 use lib.Ieee.{Float}
 use Rattle.refusals.specs.declared.Verdict.{Verdict}
+use Rattle.refusals.specs.Calls.{Does}
 use Rattle.bodies.specs.Layout.{bodyNumbers}
 use Rattle.joins.specs.declared.Joined.{Joined}
 use Rattle.joins.specs.Flat.{withBody}
@@ -21,7 +22,7 @@ use Rattle.drill.specs.declared.Answer.{Answer}
 use Rattle.drill.specs.Drill.{verdictOf, placeNumber, nearestOf}
 use Rattle.planforms.specs.declared.NumberedPlanform.{NumberedPlanform}
 use Rattle.fins.specs.declared.NumberedSet.{NumberedSet}
-use Rattle.requests.specs.Calls.{numberedFigures, numberedScratch, numberedArea, numberedAreaScratch, numberedChords, numberedEnds, numberedDrill, tensorMoments, bodyVerdict}
+use Rattle.requests.specs.Calls.{numberedCall, numberedArea, numberedChords, numberedEnds, numberedDrill, tensorMoments, bodyVerdict}
 use Rattle.foreign_numbers.specs.Numbers.{numberIn, over, withValues, withCounts, room, figureCounts}
 use Rattle.exports.specs.Calls.{SetCall, areaNumbers, areaCounts, AreaCall, chordCounts, ChordsCall, DrillCall, BodyCall, ClosingCall, JoinCall, momentsNumbers, MomentsCall, CheckCall}
 use Rattle.foreign_numbers.proofs.Rooms.{has-room, few-figures, few-counts}
@@ -43,16 +44,16 @@ module _ {set : NumberedSet} {points : List Float} {L : ℕ} {scratch body : Lis
 
   -- `read` is the set as the code has it
   pub set-written : bodyNumbers ≤ length body → 4 ≤ length counts → {read : NumberedSet} {f : Figures} {r : ℕ} {scratch' body' : List Float} {counts' : List ℕ} →
-      read ≡ set → f ≡ numberedFigures read points L (length scratch) → scratch' ≡ numberedScratch read points L scratch →
+      read ≡ set → Does (numberedCall read points L (length scratch)) f scratch scratch' →
       body' ≡ withBody body 0 (f .body) → counts' ≡ figureCounts f counts → r ≡ numberIn (f .verdict) →
       SetCall set points L scratch body counts r scratch' body' counts'
-  set-written h k same e s b c n =
+  set-written h k same e b c n =
       let fits = has-room bodyNumbers body 4 counts h k in
       record {
-        returned = rw (fits, ← same, ← e) n;
-        figures = rw (fits, ← same, ← e) b;
-        counted = rw (fits, ← same, ← e) c;
-        lent = rw (fits, ← same) s;
+        returned = rw (fits, ← same, ← (e .0)) n;
+        figures = rw (fits, ← same, ← (e .0)) b;
+        counted = rw (fits, ← same, ← (e .0)) c;
+        lent = rw (fits, ← same) (e .1);
       }
 
 module _ {planform : NumberedPlanform} {points : List Float} {L : ℕ} {scratch area : List Float} {counts : List ℕ} where
@@ -60,16 +61,16 @@ module _ {planform : NumberedPlanform} {points : List Float} {L : ℕ} {scratch 
   area-refused short = let none = short .none in record { returned = rw none; figures = rw none; counted = rw none; lent = rw none }
 
   pub area-written : 3 ≤ length area → 4 ≤ length counts → {read : NumberedPlanform} {a : Area} {r : ℕ} {scratch' area' : List Float} {counts' : List ℕ} →
-      read ≡ planform → a ≡ numberedArea read points L (length scratch) → scratch' ≡ numberedAreaScratch read points L scratch →
+      read ≡ planform → Does (numberedArea read points L (length scratch)) a scratch scratch' →
       area' ≡ over (areaNumbers a) area → counts' ≡ areaCounts a counts → r ≡ numberIn (a .verdict) →
       AreaCall planform points L scratch area counts r scratch' area' counts'
-  area-written h k same e s b c n =
+  area-written h k same e b c n =
       let fits = has-room 3 area 4 counts h k in
       record {
-        returned = rw (fits, ← same, ← e) n;
-        figures = rw (fits, ← same, ← e) b;
-        counted = rw (fits, ← same, ← e) c;
-        lent = rw (fits, ← same) s;
+        returned = rw (fits, ← same, ← (e .0)) n;
+        figures = rw (fits, ← same, ← (e .0)) b;
+        counted = rw (fits, ← same, ← (e .0)) c;
+        lent = rw (fits, ← same) (e .1);
       }
 
 module _ {planform : NumberedPlanform} {points : List Float} {h : Float} {ends : List Float} {counts : List ℕ} where

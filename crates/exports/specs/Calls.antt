@@ -22,16 +22,16 @@ use Rattle.joins.specs.Joins.{combineOf}
 use Rattle.tubes.specs.Closing.{closingOf}
 use Rattle.moments.specs.declared.Moments.{Moments}
 use Rattle.figures.specs.declared.Area.{Area}
-use Rattle.requests.specs.Calls.{numberedFigures, numberedScratch, numberedArea, numberedAreaScratch, numberedChords, numberedEnds, numberedDrill, tensorMoments, bodyVerdict}
+use Rattle.requests.specs.Calls.{numberedCall, numberedArea, numberedChords, numberedEnds, numberedDrill, tensorMoments, bodyVerdict}
 use Rattle.foreign_numbers.specs.Numbers.{numberIn, over, withValues, withCount, withCounts, room, figureCounts}
 
 -- ---- a set's figures
 
 pub record SetCall (set : NumberedSet) (points : List Float) (L : ℕ) (scratch body : List Float) (counts : List ℕ) (r : ℕ) (scratch' body' : List Float) (counts' : List ℕ) : Type 0 where
-  pub returned : r ≡ cond (room bodyNumbers body 4 counts) (numberIn (numberedFigures set points L (length scratch) .verdict)) (numberOf NoForm)
-  pub figures : body' ≡ cond (room bodyNumbers body 4 counts) (withBody body 0 (numberedFigures set points L (length scratch) .body)) body
-  pub counted : counts' ≡ cond (room bodyNumbers body 4 counts) (figureCounts (numberedFigures set points L (length scratch)) counts) counts
-  pub lent : scratch' ≡ cond (room bodyNumbers body 4 counts) (numberedScratch set points L scratch) scratch
+  pub returned : r ≡ cond (room bodyNumbers body 4 counts) (numberIn (numberedCall set points L (length scratch) .answer .verdict)) (numberOf NoForm)
+  pub figures : body' ≡ cond (room bodyNumbers body 4 counts) (withBody body 0 (numberedCall set points L (length scratch) .answer .body)) body
+  pub counted : counts' ≡ cond (room bodyNumbers body 4 counts) (figureCounts (numberedCall set points L (length scratch) .answer) counts) counts
+  pub lent : scratch' ≡ cond (room bodyNumbers body 4 counts) (numberedCall set points L (length scratch) .leaves scratch) scratch
 
 -- ---- a planform's area
 
@@ -42,10 +42,10 @@ abbrev pub areaCounts : Area → List ℕ → List ℕ
 areaCounts a counts = withCounts counts (a .verdict) (a .intervals) (a .samples)
 
 pub record AreaCall (planform : NumberedPlanform) (points : List Float) (L : ℕ) (scratch area : List Float) (counts : List ℕ) (r : ℕ) (scratch' area' : List Float) (counts' : List ℕ) : Type 0 where
-  pub returned : r ≡ cond (room 3 area 4 counts) (numberIn (numberedArea planform points L (length scratch) .verdict)) (numberOf NoForm)
-  pub figures : area' ≡ cond (room 3 area 4 counts) (over (areaNumbers (numberedArea planform points L (length scratch))) area) area
-  pub counted : counts' ≡ cond (room 3 area 4 counts) (areaCounts (numberedArea planform points L (length scratch)) counts) counts
-  pub lent : scratch' ≡ cond (room 3 area 4 counts) (numberedAreaScratch planform points L scratch) scratch
+  pub returned : r ≡ cond (room 3 area 4 counts) (numberIn (numberedArea planform points L (length scratch) .answer .verdict)) (numberOf NoForm)
+  pub figures : area' ≡ cond (room 3 area 4 counts) (over (areaNumbers (numberedArea planform points L (length scratch) .answer)) area) area
+  pub counted : counts' ≡ cond (room 3 area 4 counts) (areaCounts (numberedArea planform points L (length scratch) .answer) counts) counts
+  pub lent : scratch' ≡ cond (room 3 area 4 counts) (numberedArea planform points L (length scratch) .leaves scratch) scratch
 
 -- ---- a planform's chords at a height (document 02, Paper 1): an outline of 64 points has at most 32, of two ends each
 

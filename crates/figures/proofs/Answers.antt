@@ -23,13 +23,14 @@ use Rattle.strips.proofs.SampleCount.{samples-at-most}
 use Rattle.widths.proofs.Strips.{samples-same, intervals-same, ending-same}
 use Rattle.figures.specs.declared.Figures.{Figures}
 use Rattle.figures.specs.declared.Area.{Area}
-use Rattle.figures.specs.Figures.{setRun, setStrips, refusedFigures, workedFigures, setFigures, setScratch}
-use Rattle.figures.specs.Areas.{areaRun, areaStrips, areaSeven, refusedArea, workedArea, areaFigures, areaScratch}
-use Rattle.figures.specs.Answers.{setReport, areaReport, SetWorked, SetAnswers, AreaWorked, AreaAnswers}
+use Rattle.figures.specs.Figures.{setRun, setStrips, refusedFigures, workedFigures, workedSet, setCall}
+use Rattle.figures.specs.Areas.{areaRun, areaStrips, areaSeven, refusedArea, workedArea, workedPlanform, areaCall}
+use Rattle.figures.specs.Answers.{setReport, areaReport, SetAnswers, AreaAnswers}
 use Rattle.figures.proofs.Owned.{SetF64}
 use Rattle.figures.proofs.Rising.{set-pieces-rise, set-samples-finite, set-numbers-finite, area-pieces-rise, area-samples-finite, area-numbers-finite}
 use Rattle.figures.proofs.StripCount.{set-strips-counted, area-strips-counted}
 use Rattle.refusals.proofs.Given.{gives-row}
+use Rattle.refusals.specs.Calls.{Does}
 use Rattle.figures.proofs.Reports.{ZeroFigures, ZeroArea, no-refusal, concluded-samples, concluded-intervals, concluded-verdict, concluded-zeros, concluded-area-samples, concluded-area-intervals, concluded-area-verdict, concluded-area-zeros}
 
 -- ---- an accepted set, and a refused one
@@ -46,16 +47,15 @@ set-reported set points L n r accepts e =
     }
 
 module _ (set : FinSet) (points : List Float) (L : ℕ) (entry : List Float) (r : Figures) (exit : List Float) where
-  pub set-worked : SetF64 set points → setCheck set points L (length entry) ≡ Accepted → SetWorked set points L entry r exit → SetAnswers set points L entry r exit
-  unfolding setFigures setScratch
+  pub set-worked : SetF64 set points → setCheck set points L (length entry) ≡ Accepted → Does (workedSet set points L) r entry exit → SetAnswers set points L entry r exit
+  unfolding setCall
   set-worked f64s accepts w =
-      let claim = demand-3 (setRun set points L) (set-limit set points L (length entry) accepts .0) (setReport r) entry exit (set-reported set points L (length entry) r accepts (w .figures))
-      (w .scratch ∙ ap (λ (l : List Worked). scratchAfter l entry) (sym (none-behind (setStrips set points L)))) in
+      let claim = demand-3 (setRun set points L) (set-limit set points L (length entry) accepts .0) (setReport r) entry exit (set-reported set points L (length entry) r accepts (w .0))
+      (w .1 ∙ ap (λ (l : List Worked). scratchAfter l entry) (sym (none-behind (setStrips set points L)))) in
       record {
-        figures = rw accepts (w .figures);
-        scratch = rw accepts (w .scratch);
+        call = rw accepts w;
         given-before-strips = λ refusal h. no-refusal refusal (sym h ∙ accepts);
-        zero-figures = concluded-zeros set (rootChordOf (set .planform) points) (scaleOf (set .planform) points) (setStrips set points L) r (w .figures);
+        zero-figures = concluded-zeros set (rootChordOf (set .planform) points) (scaleOf (set .planform) points) (setStrips set points L) r (w .0);
         strip-count = set-strips-counted set points L (length entry);
         demand-3 = λ h. claim;
         samples-at-most = samples-at-most (setRun set points L) (setStrips set points L) (setReport r) entry exit 62 (set-limit set points L (length entry) accepts .1)
@@ -67,11 +67,10 @@ module _ (set : FinSet) (points : List Float) (L : ℕ) (entry : List Float) (r 
 
   pub set-refused : (refusal : Refusal) → setCheck set points L (length entry) ≡ Refused refusal → r ≡ refusedFigures refusal 0 → exit ≡ entry →
       SetAnswers set points L entry r exit
-  unfolding setFigures setScratch
+  unfolding setCall
   set-refused refusal refuses e s =
       record {
-        figures = rw refuses e;
-        scratch = rw refuses s;
+        call = rw refuses (e, s);
         given-before-strips = λ other h. (gives-row (r .verdict) (Refused other) (ap (λ (x : Figures). x .verdict) e ∙ sym refuses ∙ h), ap (λ (x : Figures). x .samples) e, s);
         zero-figures = subst ZeroFigures (sym e) (λ number values g. (refl, refl));
         strip-count = set-strips-counted set points L (length entry);
@@ -94,15 +93,14 @@ module _ (planform : Planform) (points : List Float) (L : ℕ) (entry : List Flo
         ending-reported = subst (λ (ending : Ending). Reported ending (r .verdict)) (ending-same 4 strips) (concluded-area-verdict scale seven r e);
       }
 
-  pub area-worked : PlanformF64 planform points → areaCheck planform points L (length entry) ≡ Accepted → AreaWorked planform points L entry r exit → AreaAnswers planform points L entry r exit
-  unfolding areaFigures areaScratch
+  pub area-worked : PlanformF64 planform points → areaCheck planform points L (length entry) ≡ Accepted → Does (workedPlanform planform points L) r entry exit → AreaAnswers planform points L entry r exit
+  unfolding areaCall
   area-worked f64s accepts w =
-      let claim = demand-3 (areaRun planform points L) (area-limit planform points L (length entry) accepts .0) (areaReport r) entry exit (area-reported (w .figures)) (w .scratch) in
+      let claim = demand-3 (areaRun planform points L) (area-limit planform points L (length entry) accepts .0) (areaReport r) entry exit (area-reported (w .0)) (w .1) in
       record {
-        figures = rw accepts (w .figures);
-        scratch = rw accepts (w .scratch);
+        call = rw accepts w;
         given-before-strips = λ refusal h. no-refusal refusal (sym h ∙ accepts);
-        zero-figures = concluded-area-zeros (scaleOf planform points) (areaSeven planform points L) r (w .figures);
+        zero-figures = concluded-area-zeros (scaleOf planform points) (areaSeven planform points L) r (w .0);
         strip-count = area-strips-counted planform points L (length entry);
         demand-3 = λ h. claim;
         samples-at-most = samples-at-most (areaRun planform points L) (areaStrips planform points L) (areaReport r) entry exit 62 (area-limit planform points L (length entry) accepts .1)
@@ -114,11 +112,10 @@ module _ (planform : Planform) (points : List Float) (L : ℕ) (entry : List Flo
 
   pub area-refused : (refusal : Refusal) → areaCheck planform points L (length entry) ≡ Refused refusal → r ≡ refusedArea refusal 0 → exit ≡ entry →
       AreaAnswers planform points L entry r exit
-  unfolding areaFigures areaScratch
+  unfolding areaCall
   area-refused refusal refuses e s =
       record {
-        figures = rw refuses e;
-        scratch = rw refuses s;
+        call = rw refuses (e, s);
         given-before-strips = λ other h. (gives-row (r .verdict) (Refused other) (ap (λ (x : Area). x .verdict) e ∙ sym refuses ∙ h), ap (λ (x : Area). x .samples) e, s);
         zero-figures = subst ZeroArea (sym e) (λ number values g. (refl, refl, refl, refl));
         strip-count = area-strips-counted planform points L (length entry);

@@ -8,19 +8,19 @@ use lib.Ieee.{Float}
 use Rattle.floats.specs.Operations.{bits}
 use Rattle.refusals.specs.Refusals.{numberOf, valuesOf}
 use Rattle.refusals.specs.Given.{Gives}
+use Rattle.refusals.specs.Calls.{Does}
 use Rattle.refusals.specs.declared.Refusal.{Refusal}
 use Rattle.refusals.specs.declared.Verdict.the-variants.{Accepted, Refused}
 use Rattle.planforms.specs.declared.Planform.{Planform}
 use Rattle.fins.specs.declared.FinSet.{FinSet}
 use Rattle.fins.specs.Fins.{setCheck, areaCheck}
 use Rattle.bodies.specs.Bodies.{emptyBody}
-use Rattle.strips.specs.Strips.{scratchAfter}
 use Rattle.strips.specs.Claim.{Report, Demand3}
 use Rattle.strips.specs.Rising.{PiecesRise, SamplesFinite, NumbersFinite}
 use Rattle.figures.specs.declared.Figures.{Figures}
 use Rattle.figures.specs.declared.Area.{Area}
-use Rattle.figures.specs.Figures.{setRun, setStrips, workedFigures, setFigures, setScratch}
-use Rattle.figures.specs.Areas.{areaRun, areaStrips, areaSeven, workedArea, areaFigures, areaScratch}
+use Rattle.figures.specs.Figures.{setRun, setStrips, setCall}
+use Rattle.figures.specs.Areas.{areaRun, areaStrips, areaCall}
 
 abbrev pub setReport : Figures → Report
 setReport r = record { verdict = r .verdict; samples = r .samples; intervals = r .intervals }
@@ -32,19 +32,9 @@ areaReport r = record { verdict = r .verdict; samples = r .samples; intervals = 
 abbrev pub mostSamples : ℕ
 mostSamples = 62 * 15 * 127
 
--- of a set, and of a planform, that is accepted: the answer, and the scratch at exit
-pub record SetWorked (set : FinSet) (points : List Float) (L : ℕ) (entry : List Float) (r : Figures) (exit : List Float) : Type 0 where
-  pub figures : r ≡ workedFigures set points L
-  pub scratch : exit ≡ scratchAfter (setStrips set points L) entry
-
-pub record AreaWorked (planform : Planform) (points : List Float) (L : ℕ) (entry : List Float) (r : Area) (exit : List Float) : Type 0 where
-  pub figures : r ≡ workedArea planform points L
-  pub scratch : exit ≡ scratchAfter (areaSeven planform points L) entry
-
 -- of a set ("Order: 18, 1, 2, 3; ..", `FinSet::mass_properties`): its figures, the scratch at exit, and demand 3
 pub record SetAnswers (set : FinSet) (points : List Float) (L : ℕ) (entry : List Float) (r : Figures) (exit : List Float) : Type 0 where
-  pub figures : r ≡ setFigures set points L (length entry)
-  pub scratch : exit ≡ setScratch set points L entry
+  pub call : Does (setCall set points L (length entry)) r entry exit
   -- "A number given before the first strip leaves scratch untouched"; no sample is taken
   pub given-before-strips : (refusal : Refusal) → setCheck set points L (length entry) ≡ Refused refusal
       → Gives (r .verdict) (numberOf refusal) (valuesOf refusal) × (r .samples ≡ 0) × (exit ≡ entry)
@@ -63,8 +53,7 @@ pub record SetAnswers (set : FinSet) (points : List Float) (L : ℕ) (entry : Li
 
 -- of a planform ("For area alone: 1, 2, planform, strips, 8", `FinPlanform::geometry`): area and centroid, the scratch at exit, and demand 3
 pub record AreaAnswers (planform : Planform) (points : List Float) (L : ℕ) (entry : List Float) (r : Area) (exit : List Float) : Type 0 where
-  pub figures : r ≡ areaFigures planform points L (length entry)
-  pub scratch : exit ≡ areaScratch planform points L entry
+  pub call : Does (areaCall planform points L (length entry)) r entry exit
   pub given-before-strips : (refusal : Refusal) → areaCheck planform points L (length entry) ≡ Refused refusal
       → Gives (r .verdict) (numberOf refusal) (valuesOf refusal) × (r .samples ≡ 0) × (exit ≡ entry)
   pub zero-figures : (number : ℕ) (values : List ℕ) → Gives (r .verdict) number values

@@ -1,19 +1,19 @@
 -- A planform's area and centroid (document 01, "Order": "For area alone"; fins.rs, `FinPlanform::geometry`).
 use mathlib.Core.List.{List}
 use Prim.Native.Nat.{ℕ}
-use lib.ListN.{length}
 use lib.Ieee.{Float}
 use Rattle.floats.specs.Operations.{bits}
 use Rattle.refusals.specs.declared.Refusal.{Refusal}
 use Rattle.refusals.specs.declared.Verdict.{Verdict}
 use Rattle.refusals.specs.declared.Verdict.the-variants.{Accepted, Refused}
+use Rattle.refusals.specs.Calls.{CallOf, leavesAlone, byVerdict}
 use Rattle.planforms.specs.declared.Planform.{Planform}
 use Rattle.breaks.specs.Breaks.{breakHeights}
 use Rattle.integrands.specs.Integrands.{scaleOf, areaThree}
 use Rattle.fins.specs.Fins.{areaCheck}
 use Rattle.halving.specs.declared.Integral.{Integral}
 use Rattle.halving.specs.Halving.{verdictOf}
-use Rattle.strips.specs.Strips.{Run, Worked, byVerdict, stripsIn, sevenWide, summedOf, scratchChecked}
+use Rattle.strips.specs.Strips.{Run, Worked, stripsIn, sevenWide, summedOf, scratchAfter}
 use Rattle.plates.specs.declared.PlanformGeometry.{PlanformGeometry}
 use Rattle.plates.specs.Geometry.{geometryOf}
 use Rattle.figures.specs.declared.Area.{Area}
@@ -59,10 +59,14 @@ concludedArea scale total = endedArea (verdictOf (total .ending)) scale total
 abbrev pub workedArea : Planform → List Float → ℕ → Area
 workedArea planform points L = concludedArea (scaleOf planform points) (summedOf (areaSeven planform points L))
 
--- "1, 2, planform, strips, 8": every check before the strips, then the strips
-unfoldable pub areaFigures : Planform → List Float → ℕ → ℕ → Area
-areaFigures planform points L scratchLength = byVerdict (areaCheck planform points L scratchLength) (workedArea planform points L) (λ refusal. refusedArea refusal 0)
+abbrev pub workedPlanform : Planform → List Float → ℕ → CallOf Area
+workedPlanform planform points L = record { answer = workedArea planform points L; leaves = scratchAfter (areaSeven planform points L) }
 
--- the scratch after the call
-unfoldable pub areaScratch : Planform → List Float → ℕ → List Float → List Float
-areaScratch planform points L scratch = scratchChecked (areaCheck planform points L (length scratch)) (areaSeven planform points L) scratch
+-- "1, 2, planform, strips, 8": every check before the strips, then the strips
+unfoldable pub areaCall : Planform → List Float → ℕ → ℕ → CallOf Area
+areaCall planform points L scratchLength =
+    byVerdict (areaCheck planform points L scratchLength) (workedPlanform planform points L)
+    (λ refusal. leavesAlone (refusedArea refusal 0))
+
+abbrev pub areaFigures : Planform → List Float → ℕ → ℕ → Area
+areaFigures planform points L scratchLength = areaCall planform points L scratchLength .answer

@@ -1,12 +1,12 @@
 -- A set's figures (document 01, "Set and planform", "Body" and "Refusal numbers"; fins.rs, `FinSet::mass_properties`).
 use mathlib.Core.List.{List}
 use Prim.Native.Nat.{ℕ}
-use lib.ListN.{length}
 use lib.Ieee.{Float}
 use Rattle.bodies.specs.Bodies.{emptyBody}
 use Rattle.refusals.specs.declared.Refusal.{Refusal}
 use Rattle.refusals.specs.declared.Verdict.{Verdict}
 use Rattle.refusals.specs.declared.Verdict.the-variants.{Accepted, Refused}
+use Rattle.refusals.specs.Calls.{CallOf, leavesAlone, byVerdict}
 use Rattle.planforms.specs.Planforms.{rootChordOf}
 use Rattle.breaks.specs.Breaks.{breakHeights}
 use Rattle.integrands.specs.Integrands.{scaleOf, plateOf}
@@ -14,7 +14,7 @@ use Rattle.fins.specs.declared.FinSet.{FinSet}
 use Rattle.fins.specs.Fins.{setCheck}
 use Rattle.halving.specs.declared.Integral.{Integral}
 use Rattle.halving.specs.Halving.{verdictOf}
-use Rattle.strips.specs.Strips.{Run, Worked, byVerdict, stripsIn, summedOf, scratchChecked}
+use Rattle.strips.specs.Strips.{Run, Worked, stripsIn, summedOf, scratchAfter}
 use Rattle.joins.specs.declared.Joined.{Joined}
 use Rattle.sets.specs.Sets.{joinedFinsOf}
 use Rattle.figures.specs.declared.Figures.{Figures}
@@ -55,10 +55,15 @@ concludedSet set root scale total = endedFigures (verdictOf (total .ending)) set
 abbrev pub workedFigures : FinSet → List Float → ℕ → Figures
 workedFigures set points L = concludedSet set (rootChordOf (set .planform) points) (scaleOf (set .planform) points) (summedOf (setStrips set points L))
 
--- every check before the strips, then the strips
-unfoldable pub setFigures : FinSet → List Float → ℕ → ℕ → Figures
-setFigures set points L scratchLength = byVerdict (setCheck set points L scratchLength) (workedFigures set points L) (λ refusal. refusedFigures refusal 0)
+-- "Once strips have run, with figures or a refusal at the end, scratch holds, in storage order from its start, what each
+-- strip wrote over the last one's; elsewhere it is unchanged." ("Refusal numbers")
+abbrev pub workedSet : FinSet → List Float → ℕ → CallOf Figures
+workedSet set points L = record { answer = workedFigures set points L; leaves = scratchAfter (setStrips set points L) }
 
--- the scratch after the call
-unfoldable pub setScratch : FinSet → List Float → ℕ → List Float → List Float
-setScratch set points L scratch = scratchChecked (setCheck set points L (length scratch)) (setStrips set points L) scratch
+-- every check before the strips, then the strips
+unfoldable pub setCall : FinSet → List Float → ℕ → ℕ → CallOf Figures
+setCall set points L scratchLength =
+    byVerdict (setCheck set points L scratchLength) (workedSet set points L) (λ refusal. leavesAlone (refusedFigures refusal 0))
+
+abbrev pub setFigures : FinSet → List Float → ℕ → ℕ → Figures
+setFigures set points L scratchLength = setCall set points L scratchLength .answer

@@ -3,10 +3,11 @@
 ghost use mathlib.Core.Path.{_≡_};
 ghost use lib.ListN.{length};
 ghost use Rattle.refusals.specs.declared.Verdict.the-variants.{Accepted};
+ghost use Rattle.refusals.specs.Calls.{Does};
 ghost use Rattle.fins.specs.Fins.{setCheck, areaCheck};
-ghost use Rattle.figures.specs.Figures.{refusedFigures, joinedFigures, concludedSet};
-ghost use Rattle.figures.specs.Areas.{refusedArea, geometryArea, concludedArea};
-ghost use Rattle.figures.specs.Answers.{SetWorked, SetAnswers, AreaWorked, AreaAnswers};
+ghost use Rattle.figures.specs.Figures.{refusedFigures, joinedFigures, concludedSet, workedSet};
+ghost use Rattle.figures.specs.Areas.{refusedArea, geometryArea, concludedArea, workedPlanform};
+ghost use Rattle.figures.specs.Answers.{SetAnswers, AreaAnswers};
 use bodies::Body;
 use fins::FinSet;
 use halving::Integral;
@@ -86,7 +87,7 @@ pub fn concluded(set: FinSet, root_chord_m: f64, scale_m: f64, total: Integral) 
 // The strips of an accepted set, and its figures.
 fn work_set(set: FinSet, points: &[f64], limit: usize, scratch: &mut [f64]) -> Figures
     requires { ⌜ setCheck set (now points) limit (length (now scratch)) ≡ Accepted ⌝ }
-    ensures { λ r. ⌜ SetWorked set (now (points .entry)) limit (now (scratch .entry)) r (now (scratch .exit)) ⌝ }
+    ensures { λ r. ⌜ Does (workedSet set (now (points .entry)) limit) r (now (scratch .entry)) (now (scratch .exit)) ⌝ }
 {
     let planform = set.planform;
     let section = set.cross_section;
@@ -170,7 +171,8 @@ fn concluded_area(scale_m: f64, total: Integral) -> Area
 // The strips of an accepted planform, and its area.
 fn work_area(planform: Planform, points: &[f64], limit: usize, scratch: &mut [f64]) -> Area
     requires { ⌜ areaCheck planform (now points) limit (length (now scratch)) ≡ Accepted ⌝ }
-    ensures { λ r. ⌜ AreaWorked planform (now (points .entry)) limit (now (scratch .entry)) r (now (scratch .exit)) ⌝ }
+    ensures { λ r. ⌜ Does (workedPlanform planform (now (points .entry)) limit)
+        r (now (scratch .entry)) (now (scratch .exit)) ⌝ }
 {
     let integrand = integrands::area_integrand(planform, points);
     let scale_m = integrands::scale_m(planform, points);

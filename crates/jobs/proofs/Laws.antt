@@ -12,11 +12,12 @@ use Rattle.refusals.specs.declared.Refusal.the-variants.{Density as notTaken}
 use Rattle.refusals.specs.declared.Verdict.{Verdict}
 use Rattle.refusals.specs.declared.Verdict.the-variants.{Accepted, Refused}
 use Rattle.refusals.specs.Order.{isRefused}
+use Rattle.refusals.specs.Calls.{byVerdict}
 use Rattle.materials.specs.declared.Density.{Density}
 use Rattle.materials.specs.Materials.{densityCheck}
 use Rattle.integrands.specs.declared.Integrand.{Integrand}
 use Rattle.integrands.specs.Integrands.{plateIntegrand, plateOf}
-use Rattle.strips.specs.Strips.{Run, Worked, byVerdict, isAccepted, runOf, runCheck, stripAt, stripsFrom, onwardOf, scratchOnward, WorksNext}
+use Rattle.strips.specs.Strips.{Run, Worked, isAccepted, runOf, runCheck, stripAt, stripsFrom, onwardOf, scratchOnward, WorksNext}
 use Rattle.strips.specs.declared.Onward.{Onward}
 use Rattle.jobs.specs.declared.Job.{Job}
 use Rattle.jobs.specs.declared.Reply.the-variants.{Answered}

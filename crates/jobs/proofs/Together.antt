@@ -17,6 +17,7 @@ use Rattle.sorting.specs.Sorted.{over}
 use Rattle.refusals.specs.declared.Verdict.{Verdict}
 use Rattle.refusals.specs.declared.Verdict.the-variants.{Accepted, Refused}
 use Rattle.refusals.specs.Order.{isRefused}
+use Rattle.refusals.specs.Calls.{leavesAlone, byVerdict}
 use Rattle.refusals.proofs.Accepted.{both, each-accepts, where-each-accepts}
 use Rattle.limits.specs.Limits.{limitCheck, scratchCheck}
 use Rattle.limits.proofs.Accepted.{limit-within}
@@ -31,13 +32,13 @@ use Rattle.fins.specs.Fins.{planformCheck, ownChecks, ownCheck, setCheck}
 use Rattle.halving.specs.declared.Ending.the-variants.{Accepted as accepted}
 use Rattle.halving.specs.declared.Integral.{Integral}
 use Rattle.strips.specs.declared.Onward.{Onward}
-use Rattle.strips.specs.Strips.{Run, Worked, isAccepted, workedOf, stripsIn, stripAt, stripsFrom, runCheck, byVerdict, samplesIn, intervalsIn, endingOf, summedOf, withStrip, inWords, integralIn, onwardOf}
+use Rattle.strips.specs.Strips.{Run, Worked, isAccepted, workedOf, stripsIn, stripAt, stripsFrom, runCheck, samplesIn, intervalsIn, endingOf, summedOf, withStrip, inWords, integralIn, onwardOf}
 use Rattle.strips.specs.Claim.{Each, StripsAre, AreReported}
 use Rattle.strips.proofs.Upward.{strip-at, none-left, fits-words}
 use Rattle.strips.proofs.Onwards.{onward-works}
 use Rattle.strips.proofs.Claims.{strips-are}
 use Rattle.figures.specs.declared.Figures.{Figures}
-use Rattle.figures.specs.Figures.{setIntegrand, setRun, refusedFigures, concludedSet, workedFigures, setFigures}
+use Rattle.figures.specs.Figures.{setIntegrand, setRun, refusedFigures, concludedSet, workedFigures, workedSet, setFigures, setCall}
 use Rattle.figures.specs.Answers.{setReport}
 use Rattle.figures.proofs.StripCount.{worked-few, heights-some}
 use Rattle.figures.proofs.Answers.{set-reported}
@@ -346,9 +347,9 @@ module _ (set : FinSet) (points : List Float) (L : ℕ) (made : makingCheck set 
       accepted-with (set .density) (each-accepts (ownChecks set points) own-checked .1 .1 .1 .1 .1 .1 .1 .1 .1 .1 .0) (16 * L) long-enough
 
   fresh : (d : Density) → densityCheck d ≡ Accepted → (n : ℕ) → scratchCheck L n ≡ Accepted → workedFigures (withDensity set d) points L ≡ setFigures (withDensity set d) points L n
-  unfolding setFigures
+  unfolding setCall
   fresh d dense n scratch =
-      sym (ap (λ (v : Verdict). byVerdict v (workedFigures (withDensity set d) points L) (λ refusal. refusedFigures refusal 0)) (accepted-with d dense n scratch))
+      sym (ap (λ (v : Verdict). byVerdict v (workedSet (withDensity set d) points L) (λ refusal. leavesAlone (refusedFigures refusal 0)) .answer) (accepted-with d dense n scratch))
 
   module _ (calls : List Call) where
     abbrev After· : Job

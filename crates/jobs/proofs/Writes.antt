@@ -7,11 +7,13 @@ use native.Mathlib.Omega.{arith}
 use lib.Dec.{ltb}
 use lib.ListN.{length, drop, length-append, length-drop}
 use lib.Ieee.{Float}
+use Rattle.refusals.specs.declared.Refusal.{Refusal}
 use Rattle.refusals.specs.declared.Verdict.{Verdict}
 use Rattle.refusals.specs.declared.Verdict.the-variants.{Accepted, Refused}
+use Rattle.refusals.specs.Calls.{leavesAlone, byVerdict}
 use Rattle.quadrature.specs.declared.Piece.{Piece}
 use Rattle.pieces.specs.Stored.{stored, written}
-use Rattle.strips.specs.Strips.{Run, Worked, piecesOf, runCheck, stripAt, stripsFrom, scratchOnward, scratchAfter, scratchChecked}
+use Rattle.strips.specs.Strips.{Run, Worked, piecesOf, runCheck, stripAt, stripsFrom, scratchOnward, scratchAfter}
 use Rattle.jobs.specs.declared.Job.{Job}
 use Rattle.jobs.specs.Jobs.{runOfJob, stepScratch}
 use Rattle.jobs.specs.Calls.{stripsBy, step, WritesOwnStrip}
@@ -56,9 +58,10 @@ after-no-shorter (s ∷ strips) scratch =
     omega (arith, written-no-shorter (piecesOf s) scratch, after-no-shorter strips (written (piecesOf s) scratch))
 
 -- whatever a whole run's checks said, and in a step
-pub run-no-shorter : (v : Verdict) (strips : List Worked) (scratch : List Float) → length scratch ≤ length (scratchChecked v strips scratch)
-run-no-shorter Accepted strips scratch = after-no-shorter strips scratch
-run-no-shorter (Refused r) strips scratch = omega arith
+pub run-no-shorter : {A : Type 0} (v : Verdict) (given : A) (withheld : Refusal → A) (strips : List Worked) (scratch : List Float)
+    → length scratch ≤ length (byVerdict v (record { answer = given; leaves = scratchAfter strips }) (λ r. leavesAlone (withheld r)) .leaves scratch)
+run-no-shorter Accepted given withheld strips scratch = after-no-shorter strips scratch
+run-no-shorter (Refused r) given withheld strips scratch = omega arith
 
 pub step-no-shorter : (job : Job) (scratch : List Float) → length scratch ≤ length (stepScratch job scratch)
 step-no-shorter job scratch =

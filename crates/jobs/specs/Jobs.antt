@@ -15,6 +15,7 @@ use Rattle.refusals.specs.declared.Verdict.{Verdict}
 use Rattle.refusals.specs.declared.Verdict.the-variants.{Accepted}
 use Rattle.refusals.specs.Order.{isRefused, firstRefusal}
 use Rattle.refusals.specs.Given.{GivesRow, IsAnswer}
+use Rattle.refusals.specs.Calls.{byVerdict}
 use Rattle.limits.specs.Limits.{limitCheck}
 use Rattle.materials.specs.declared.Density.{Density}
 use Rattle.materials.specs.Materials.{densityCheck}
@@ -26,7 +27,7 @@ use Rattle.fins.specs.Fins.{ownCheck}
 use Rattle.halving.specs.declared.Integral.{Integral}
 use Rattle.halving.specs.declared.Ending.the-variants.{Accepted as accepted}
 use Rattle.strips.specs.declared.Onward.{Onward}
-use Rattle.strips.specs.Strips.{Run, byVerdict, isAccepted, runCheck, onwardOf, scratchOnward}
+use Rattle.strips.specs.Strips.{Run, isAccepted, runCheck, onwardOf, scratchOnward}
 use Rattle.bodies.specs.Bodies.{emptyBody}
 use Rattle.figures.specs.declared.Figures.{Figures}
 use Rattle.figures.specs.Figures.{setRun, refusedFigures, concludedSet}

@@ -15,6 +15,7 @@ use Rattle.refusals.specs.declared.Verdict.{Verdict}
 use Rattle.refusals.specs.declared.Verdict.the-variants.{Accepted, Refused}
 use Rattle.counts.specs.Counts.{capped}
 use Rattle.refusals.specs.Order.{refuseUnless, isRefused, firstRefusal}
+use Rattle.refusals.specs.Calls.{CallOf, leavesAlone, byVerdict}
 use Rattle.limits.specs.Limits.{limitCheck, scratchCheck, countCheck}
 use Rattle.planforms.specs.declared.Planform.{Planform}
 use Rattle.fins.specs.declared.FinSet.{FinSet}
@@ -35,13 +36,12 @@ use Rattle.tubes.specs.Closing.{closingOf}
 use Rattle.floats.specs.Operations.{at}
 use Rattle.requests.specs.declared.AreaRequest.{AreaRequest}
 use Rattle.requests.specs.declared.SetRequest.{SetRequest}
-use Rattle.requests.specs.Calls.{numberedFigures, numberedScratch, numberedSubmit, numberedChange, numberedArea, numberedAreaScratch, ringOfKnown, ringBy}
-use Rattle.requests.specs.Requests.{between, askedFigures, askedScratch, askedSubmit, askedArea, askedAreaScratch}
+use Rattle.requests.specs.Calls.{numberedCall, numberedSubmit, numberedChange, numberedArea, ringOfKnown, ringBy}
+use Rattle.requests.specs.Requests.{between, askedSet, askedSubmit, askedArea}
 use Rattle.figures.specs.declared.Figures.{Figures}
 use Rattle.figures.specs.declared.Area.{Area}
-use Rattle.strips.specs.Strips.{byVerdict, scratchAfter}
-use Rattle.figures.specs.Figures.{setStrips, refusedFigures, workedFigures, setFigures, setScratch}
-use Rattle.figures.specs.Areas.{areaFigures, areaScratch}
+use Rattle.figures.specs.Figures.{refusedFigures, workedSet, setCall}
+use Rattle.figures.specs.Areas.{areaCall}
 use Rattle.jobs.specs.declared.Job.{Job}
 use Rattle.jobs.specs.Jobs.{makingCheck, firstOutcome, madeOf}
 use Rattle.engines.specs.declared.Screens.{Screens}
@@ -79,25 +79,14 @@ at-capped f most small same i = by (leb i most) refl
     by false e = let h = leb-false i most e in same (capped i) i (omega arith) h
 
 module _ (set : FinSet) (points : List Float) where
-  figures-limit : (m L : ℕ) → setFigures set points (capped L) m ≡ setFigures set points L m
-  unfolding setFigures
-  figures-limit m = at-capped (λ (k : ℕ). setFigures set points k m) 64 (omega arith) (λ i j h g. rw (set-limit set points m i h, set-limit set points m j g))
-
-  scratch-limit : (scratch : List Float) (L : ℕ) → setScratch set points (capped L) scratch ≡ setScratch set points L scratch
-  unfolding setScratch
-  scratch-limit scratch =
-      at-capped (λ (k : ℕ). setScratch set points k scratch) 64 (omega arith) (λ i j h g. rw (set-limit set points (length scratch) i h, set-limit set points (length scratch) j g))
+  call-limit : (m L : ℕ) → setCall set points (capped L) m ≡ setCall set points L m
+  unfolding setCall
+  call-limit m = at-capped (λ (k : ℕ). setCall set points k m) 64 (omega arith) (λ i j h g. rw (set-limit set points m i h, set-limit set points m j g))
 
 module _ (planform : Planform) (points : List Float) where
-  area-figures-limit : (m L : ℕ) → areaFigures planform points (capped L) m ≡ areaFigures planform points L m
-  unfolding areaFigures
-  area-figures-limit m = at-capped (λ (k : ℕ). areaFigures planform points k m) 64 (omega arith) (λ i j h g. rw (area-limit planform points m i h, area-limit planform points m j g))
-
-  area-scratch-limit : (scratch : List Float) (L : ℕ) → areaScratch planform points (capped L) scratch ≡ areaScratch planform points L scratch
-  unfolding areaScratch
-  area-scratch-limit scratch =
-      at-capped (λ (k : ℕ). areaScratch planform points k scratch) 64 (omega arith)
-      (λ i j h g. rw (area-limit planform points (length scratch) i h, area-limit planform points (length scratch) j g))
+  area-call-limit : (m L : ℕ) → areaCall planform points (capped L) m ≡ areaCall planform points L m
+  unfolding areaCall
+  area-call-limit m = at-capped (λ (k : ℕ). areaCall planform points k m) 64 (omega arith) (λ i j h g. rw (area-limit planform points m i h, area-limit planform points m j g))
 
 -- ---- the count
 
@@ -143,13 +132,9 @@ module _ (set : FinSet) (points : List Float) (L : ℕ) where
       ∙ refused-alike (given i) (given j) withheld (limitCheck L) (scratchCheck L m)
       ∙ sym (ap (λ (v : Verdict). byVerdict v (given j) withheld) (set-count set points L m j g)))
 
-  figures-count : (m n : ℕ) → setFigures (withCount set (capped n)) points L m ≡ setFigures (withCount set n) points L m
-  unfolding setFigures
-  figures-count m = by-count m (λ (k : ℕ). workedFigures (withCount set k) points L) (λ refusal. refusedFigures refusal 0)
-
-  scratch-count : (scratch : List Float) (n : ℕ) → setScratch (withCount set (capped n)) points L scratch ≡ setScratch (withCount set n) points L scratch
-  unfolding setScratch
-  scratch-count scratch = by-count (length scratch) (λ (k : ℕ). scratchAfter (setStrips (withCount set k) points L) scratch) (λ refusal. scratch)
+  call-count : (m n : ℕ) → setCall (withCount set (capped n)) points L m ≡ setCall (withCount set n) points L m
+  unfolding setCall
+  call-count m = by-count m (λ (k : ℕ). workedSet (withCount set k) points L) (λ refusal. leavesAlone (refusedFigures refusal 0))
 
 -- ---- the count of tubes
 
@@ -183,42 +168,32 @@ cappedSetRequest q = record { limit = capped (q .limit); set = cappedSet (q .set
 abbrev pub cappedAreaRequest : AreaRequest → AreaRequest
 cappedAreaRequest q = record { limit = capped (q .limit); planform = q .planform; points = q .points }
 
-set-figures-capped : (set : NumberedSet) (points : List Float) (L m : ℕ) → numberedFigures (cappedSet set) points (capped L) m ≡ numberedFigures set points L m
-unfolding numberedFigures
-set-figures-capped (setKnown set) points L m = figures-limit (withCount set (capped (set .count))) points m L ∙ figures-count set points L m (set .count)
-set-figures-capped noSet points L m = refl
-
-set-scratch-capped : (set : NumberedSet) (points : List Float) (L : ℕ) (scratch : List Float) → numberedScratch (cappedSet set) points (capped L) scratch ≡ numberedScratch set points L scratch
-unfolding numberedScratch
-set-scratch-capped (setKnown set) points L scratch = scratch-limit (withCount set (capped (set .count))) points scratch L ∙ scratch-count set points L scratch (set .count)
-set-scratch-capped noSet points L scratch = refl
+set-capped : (set : NumberedSet) (points : List Float) (L m : ℕ) → numberedCall (cappedSet set) points (capped L) m ≡ numberedCall set points L m
+unfolding numberedCall
+set-capped (setKnown set) points L m = call-limit (withCount set (capped (set .count))) points m L ∙ call-count set points L m (set .count)
+set-capped noSet points L m = refl
 
 area-capped : (planform : NumberedPlanform) (points : List Float) (L m : ℕ) → numberedArea planform points (capped L) m ≡ numberedArea planform points L m
 unfolding numberedArea
-area-capped (planformKnown planform) points L m = area-figures-limit planform points m L
+area-capped (planformKnown planform) points L m = area-call-limit planform points m L
 area-capped noPlanform points L m = refl
 
-area-left-capped : (planform : NumberedPlanform) (points : List Float) (L : ℕ) (scratch : List Float) → numberedAreaScratch planform points (capped L) scratch ≡ numberedAreaScratch planform points L scratch
-unfolding numberedAreaScratch
-area-left-capped (planformKnown planform) points L scratch = area-scratch-limit planform points scratch L
-area-left-capped noPlanform points L scratch = refl
-
 module _ (figures : List Float) where
-  pub answer-capped : (q : SetRequest) (m : ℕ) → setAnswer (cappedSetRequest q) figures m ≡ setAnswer q figures m
-  unfolding setAnswer askedFigures
-  answer-capped q m = ap (λ (f : Figures). printedSet (f .verdict) f) (set-figures-capped (q .set) (between 0 (q .points) figures) (q .limit) m)
+  pub set-asked-capped : (q : SetRequest) (m : ℕ) → askedSet (cappedSetRequest q) figures m ≡ askedSet q figures m
+  unfolding askedSet
+  set-asked-capped q m = set-capped (q .set) (between 0 (q .points) figures) (q .limit) m
 
-  pub scratch-capped : (q : SetRequest) (scratch : List Float) → askedScratch (cappedSetRequest q) figures scratch ≡ askedScratch q figures scratch
-  unfolding askedScratch
-  scratch-capped q scratch = set-scratch-capped (q .set) (between 0 (q .points) figures) (q .limit) scratch
+  pub area-asked-capped : (q : AreaRequest) (m : ℕ) → askedArea (cappedAreaRequest q) figures m ≡ askedArea q figures m
+  unfolding askedArea
+  area-asked-capped q m = area-capped (q .planform) (between 0 (q .points) figures) (q .limit) m
+
+  pub answer-capped : (q : SetRequest) (m : ℕ) → setAnswer (cappedSetRequest q) figures m ≡ setAnswer q figures m
+  unfolding setAnswer
+  answer-capped q m = ap (λ (c : CallOf Figures). printedSet (c .answer .verdict) (c .answer)) (set-asked-capped q m)
 
   pub area-answer-capped : (q : AreaRequest) (m : ℕ) → areaAnswer (cappedAreaRequest q) figures m ≡ areaAnswer q figures m
-  unfolding areaAnswer askedArea
-  area-answer-capped q m = ap (λ (a : Area). printedArea (a .verdict) a) (area-capped (q .planform) (between 0 (q .points) figures) (q .limit) m)
-
-  pub area-scratch-capped : (q : AreaRequest) (scratch : List Float) → askedAreaScratch (cappedAreaRequest q) figures scratch ≡ askedAreaScratch q figures scratch
-  unfolding askedAreaScratch
-  area-scratch-capped q scratch = area-left-capped (q .planform) (between 0 (q .points) figures) (q .limit) scratch
+  unfolding areaAnswer
+  area-answer-capped q m = ap (λ (c : CallOf Area). printedArea (c .answer .verdict) (c .answer)) (area-asked-capped q m)
 
 -- ---- the engine: a number that is no screen's is refused whatever it is, and a set as above
 

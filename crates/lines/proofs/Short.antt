@@ -18,7 +18,7 @@ use Rattle.forms.specs.declared.Form.{Form}
 use Rattle.forms.specs.declared.Form.the-variants.{Set as SetForm, Area as AreaForm, Join as JoinForm, Moments as MomentsForm, Check as CheckForm, Tubes as TubesForm, Closing as ClosingForm, Drill as DrillForm, Copied as CopiedForm, Placed as PlacedForm, Moved as MovedForm, Without as WithoutForm, Submit as SubmitForm, Density as DensityForm, Turn as TurnForm, NoForm}
 use Rattle.forms.specs.Forms.{Asked, refused, asked, lineAsked}
 use Rattle.requests.specs.Calls.{joinedPointsOf, tensorMoments, bodyVerdict}
-use Rattle.requests.specs.Requests.{number, setRequestOf, askedSubmit, askedChange, areaRequestOf, askedFigures, askedArea, askedRing, askedClosing, askedDrill, askedCopied, askedPlaced, askedMoved, askedWithout}
+use Rattle.requests.specs.Requests.{number, setRequestOf, askedSubmit, askedChange, areaRequestOf, askedSet, askedArea, askedRing, askedClosing, askedDrill, askedCopied, askedPlaced, askedMoved, askedWithout}
 use Rattle.figures.specs.declared.Figures.{Figures}
 use Rattle.figures.specs.declared.Area.{Area}
 use Rattle.jobs.specs.declared.Reply.{Reply}
@@ -92,8 +92,8 @@ turn-short Step t = step-short (t .answer .reply) (t .screen) (t .answer .figure
 
 by-form : (form : Form) (ns : List ℕ) (figures : List Float) (m : Memory) → length (answerTo form ns figures m) ≤ answerBytes
 unfolding setAnswer areaAnswer joinAnswer ringAnswer closingAnswer momentsAnswer checkAnswer drillAnswer submitAnswer changeAnswer turnAnswer
-by-form SetForm ns figures m = let f = askedFigures (setRequestOf ns figures) figures (length (m .scratch)) in set-short (f .verdict) f
-by-form AreaForm ns figures m = let a = askedArea (areaRequestOf ns figures) figures (length (m .scratch)) in geometry-short (a .verdict) a
+by-form SetForm ns figures m = let f = askedSet (setRequestOf ns figures) figures (length (m .scratch)) .answer in set-short (f .verdict) f
+by-form AreaForm ns figures m = let a = askedArea (areaRequestOf ns figures) figures (length (m .scratch)) .answer in geometry-short (a .verdict) a
 by-form JoinForm ns figures m = let j = joinedPointsOf figures in join-short (j .verdict) j
 by-form MomentsForm ns figures m = let p = tensorMoments figures in principal-short (p .verdict) p
 by-form CheckForm ns figures m = check-short (bodyVerdict figures)

@@ -24,7 +24,7 @@ use Rattle.forms.specs.Forms.{Asked, refused, asked, lineAsked}
 use Rattle.requests.specs.declared.AreaRequest.{AreaRequest}
 use Rattle.requests.specs.declared.SetRequest.{SetRequest}
 use Rattle.requests.specs.Calls.{joinedPointsOf, tensorMoments, bodyVerdict}
-use Rattle.requests.specs.Requests.{number, setRequestOf, askedSubmit, askedChange, askedSubmitCalls, askedChangeCalls, areaRequestOf, askedFigures, askedScratch, askedArea, askedAreaScratch, askedRing, askedClosing, askedDrill, askedCopied, askedPlaced, askedMoved, askedWithout}
+use Rattle.requests.specs.Requests.{number, setRequestOf, askedSubmit, askedChange, askedSubmitCalls, askedChangeCalls, areaRequestOf, askedSet, askedArea, askedRing, askedClosing, askedDrill, askedCopied, askedPlaced, askedMoved, askedWithout}
 use Rattle.figures.specs.declared.Figures.{Figures}
 use Rattle.figures.specs.declared.Area.{Area}
 use Rattle.jobs.specs.declared.Reply.{Reply}
@@ -120,10 +120,10 @@ printedRefusal refusal = refusedText (numberOf refusal)
 
 -- a limit and a count are capped at a million when a line is read; no answer shows it (proofs/Capped.antt, `answer-capped`)
 unfoldable pub setAnswer : SetRequest → List Float → ℕ → List ℕ
-setAnswer q figures scratchLength = let f = askedFigures q figures scratchLength in printedSet (f .verdict) f
+setAnswer q figures scratchLength = let f = askedSet q figures scratchLength .answer in printedSet (f .verdict) f
 
 unfoldable pub areaAnswer : AreaRequest → List Float → ℕ → List ℕ
-areaAnswer q figures scratchLength = let a = askedArea q figures scratchLength in printedArea (a .verdict) a
+areaAnswer q figures scratchLength = let a = askedArea q figures scratchLength .answer in printedArea (a .verdict) a
 
 unfoldable pub joinAnswer : List Float → List ℕ
 joinAnswer figures = let j = joinedPointsOf figures in printedJoin (j .verdict) j
@@ -194,8 +194,8 @@ abbrev pub turned : Memory → Memory
 turned m = record { scratch = turnScratch (m .engine) (m .scratch); engine = turnOf (m .engine) (length (m .scratch)) .engine }
 
 abbrev pub memoryAfterForm : Form → List ℕ → List Float → Memory → Memory
-memoryAfterForm SetForm ns figures m = withScratch (askedScratch (setRequestOf ns figures) figures (m .scratch)) m
-memoryAfterForm AreaForm ns figures m = withScratch (askedAreaScratch (areaRequestOf ns figures) figures (m .scratch)) m
+memoryAfterForm SetForm ns figures m = withScratch (askedSet (setRequestOf ns figures) figures (length (m .scratch)) .leaves (m .scratch)) m
+memoryAfterForm AreaForm ns figures m = withScratch (askedArea (areaRequestOf ns figures) figures (length (m .scratch)) .leaves (m .scratch)) m
 memoryAfterForm JoinForm ns figures m = m
 memoryAfterForm MomentsForm ns figures m = m
 memoryAfterForm CheckForm ns figures m = m

@@ -1,6 +1,6 @@
 -- A trapezoid that passes the checks, tip and sweep within so many root chords, is worked in one piece by 15 samples, and is never refused 13.
 -- Assumes nothing.
-use mathlib.Core.Path.{_≡_, refl, sym, _∙_, subst}
+use mathlib.Core.Path.{_≡_, refl, sym, ap, _∙_, subst}
 use mathlib.Core.Bool.{Bool, true, false, cond}
 use mathlib.Core.Logic.{inl, inr}
 use mathlib.Core.List.{List, [], _∷_}
@@ -27,6 +27,7 @@ use Rattle.rounding.proofs.Signed.{over as above, under as below}
 use Rattle.rounding.proofs.Sizes.{positive-of}
 use Rattle.refusals.specs.declared.Verdict.{Verdict}
 use Rattle.refusals.specs.declared.Verdict.the-variants.{Accepted as accepted, Refused as refused}
+use Rattle.refusals.specs.Calls.{leavesAlone, byVerdict}
 use Rattle.refusals.proofs.Accepted.{both}
 use Rattle.limits.specs.Limits.{rootChordField, tipChordField, thicknessField, bodyRadiusField, lengthCheck}
 use Rattle.limits.proofs.Lengths.{PositiveLength, Height, field-above, height-checked}
@@ -50,7 +51,7 @@ use Rattle.fins.specs.Fins.{planformCheck, areaCheck, setCheck}
 use Rattle.fins.specs.declared.FinSet.{FinSet}
 use Rattle.fins.proofs.Accepted.{area-planform, set-accepted}
 use Rattle.fins.proofs.Sized.{planform-sized}
-use Rattle.figures.specs.Areas.{areaStrips, areaFigures, concludedArea, geometryArea, ofGeometry}
+use Rattle.figures.specs.Areas.{areaStrips, areaCall, workedArea, workedPlanform, refusedArea, concludedArea, geometryArea, ofGeometry}
 use Rattle.figures.specs.declared.Area.{Area}
 use Rattle.figures.specs.Answers.{setReport, areaReport}
 use Rattle.figures.specs.declared.Figures.{Figures}
@@ -59,7 +60,7 @@ use Rattle.plates.specs.declared.PlanformGeometry.{PlanformGeometry}
 use Rattle.joins.specs.declared.Joined.{Joined}
 use Rattle.plates.specs.Geometry.{geometryOf, noGeometry, unscaledArea}
 use Rattle.sets.specs.Sets.{joinedFinsOf}
-use Rattle.figures.specs.Figures.{setStrips, setFigures, concludedSet, joinedFigures, ofJoined}
+use Rattle.figures.specs.Figures.{setStrips, setCall, workedFigures, workedSet, refusedFigures, concludedSet, joinedFigures, ofJoined}
 use Rattle.rounding_error.proofs.Numbers.{_per_, _of_, Under, valueOf, sizeOf, Ranges}
 use Rattle.error_terms.proofs.Floors.{NotBelow}
 use Rattle.one_piece.proofs.AreaPiece.{Fin, area-converged, high-positive}
@@ -306,13 +307,12 @@ module _ (root tip span sweep : Float) (points : List Float) (L n : ℕ) (f64s :
 
   -- the area: figures or 8, by one piece and 15 samples
   pub area-figures : areaCheck shape points L n ≡ accepted → Proportions 4 4 root tip sweep
-      → areaFigures shape points L n ≡ geometryArea
+      → workedArea shape points L ≡ geometryArea
       (geometryOf (summedOf (sevenWide 3 (oneWorked 3 (areaThree shape points) (bits 0 ⊘ scale) (span ⊘ scale) ∷ [])) .value) scale) 1 15
-  unfolding areaFigures concludedArea heightsTo
+  unfolding concludedArea heightsTo
   area-figures c q =
       let checked = area-planform shape points L n c in
       rw (
-        c,
         area-strips root tip span sweep points f64s checked L q,
         ends-differ root tip span sweep points f64s checked
             (high-positive root tip span sweep scale (area-fin root tip span sweep points f64s checked q)),
@@ -322,11 +322,11 @@ module _ (root tip span sweep : Float) (points : List Float) (L n : ℕ) (f64s :
   pub set-figures : (set : FinSet) → set .planform ≡ shape → NotRounded (set .«cross_section») → T (fits binary64 (set .«thickness_m»))
       → T (fits binary64 (set .«body_radius_m»))
       → setCheck set points L n ≡ accepted → Proportions (tipsOf (set .«cross_section»)) 4 root tip sweep
-      → setFigures set points L n
+      → workedFigures set points L
       ≡ joinedFigures (joinedFinsOf set (rootChordOf (set .planform) points) scale
       (summedOf (oneWorked 7 (plateOf shape points (set .«cross_section») (set .«thickness_m») (set .«body_radius_m»)) (bits 0 ⊘ scale)
       (span ⊘ scale) ∷ []) .value)) 1 15
-  unfolding setFigures concludedSet heightsTo
+  unfolding concludedSet heightsTo
   set-figures set e s ft fr c q =
       let a = set-accepted set points L n c in
       let checked = subst (λ (p : Planform). planformCheck p points ≡ accepted) e (a .planform) in
@@ -341,7 +341,7 @@ module _ (root tip span sweep : Float) (points : List Float) (L n : ℕ) (f64s :
       (area-fin root tip span sweep points f64s checked
       (wider root tip span sweep points f64s checked (set .«cross_section») s (set .«thickness_m»)
       (set .«body_radius_m») thick out q))) in
-      rw (c, strips, e, d)
+      rw (strips, e, d)
 
 -- ---- what is reported: figures by one piece, or 8
 by-geometry : (v : Verdict) (g : PlanformGeometry) → FiguresOr8 v → OnePiece (areaReport (ofGeometry v g 1 15))
@@ -363,16 +363,20 @@ by-joined (refused refusal) j (inl e) = no-refusal refusal e
 by-joined (refused refusal) j (inr e) = record { fifteen = refl; figures-or-8 = inr e }
 
 pub area-one-piece : AreaOnePiece
+unfolding areaCall
 area-one-piece root tip span sweep points L entry r exit f64s answers checked q =
     let planform = Trapezoid root tip span sweep in
     let scale = scaleOf planform points in
     let total = summedOf (sevenWide 3 (oneWorked 3 (areaThree planform points) (bits 0 ⊘ scale) (span ⊘ scale) ∷ [])) .value in
     let g = geometryOf total scale in
     subst (λ (a : Area). OnePiece (areaReport a))
-    (sym (answers .figures ∙ area-figures root tip span sweep points L (length entry) f64s checked q))
+    (sym (answers .call .0
+    ∙ ap (λ (v : Verdict). byVerdict v (workedPlanform planform points L) (λ refusal. leavesAlone (refusedArea refusal 0)) .answer) checked
+    ∙ area-figures root tip span sweep points L (length entry) f64s checked q))
     (by-geometry (g .verdict) g (geometry-verdict total scale))
 
 pub set-one-piece : SetOnePiece
+unfolding setCall
 set-one-piece set root tip span sweep points L entry r exit e plain f64s (thick, out) answers checked q =
     let a = set-accepted set points L (length entry) checked in
     let planform = Trapezoid root tip span sweep in
@@ -381,5 +385,7 @@ set-one-piece set root tip span sweep points L entry r exit e plain f64s (thick,
     let total = summedOf (oneWorked 7 plate (bits 0 ⊘ scale) (span ⊘ scale) ∷ []) .value in
     let j = joinedFinsOf set (rootChordOf (set .planform) points) scale total in
     subst (λ (f : Figures). OnePiece (setReport f))
-    (sym (answers .figures ∙ set-figures root tip span sweep points L (length entry) f64s set e plain thick out checked q))
+    (sym (answers .call .0
+    ∙ ap (λ (v : Verdict). byVerdict v (workedSet set points L) (λ refusal. leavesAlone (refusedFigures refusal 0)) .answer) checked
+    ∙ set-figures root tip span sweep points L (length entry) f64s set e plain thick out checked q))
     (by-joined (j .verdict) j (fins-joined set (rootChordOf (set .planform) points) scale total (a .count) (a .density)))

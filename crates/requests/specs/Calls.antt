@@ -10,6 +10,7 @@ use Rattle.floats.specs.Operations.{bits, at}
 use Rattle.refusals.specs.declared.Refusal.the-variants.{NoForm}
 use Rattle.refusals.specs.declared.Verdict.{Verdict}
 use Rattle.refusals.specs.declared.Verdict.the-variants.{Refused}
+use Rattle.refusals.specs.Calls.{CallOf, leavesAlone}
 use Rattle.planforms.specs.declared.NumberedPlanform.{NumberedPlanform}
 use Rattle.planforms.specs.declared.NumberedPlanform.the-variants.{Known as planformKnown, Unknown as noPlanform}
 use Rattle.planform_chords.specs.declared.ChordList.{ChordList}
@@ -36,8 +37,8 @@ use Rattle.placements.specs.Copies.{copiedOf, placedAtOf}
 use Rattle.placements.specs.Parts.{movedOf, withoutOf}
 use Rattle.figures.specs.declared.Area.{Area}
 use Rattle.figures.specs.declared.Figures.{Figures}
-use Rattle.figures.specs.Figures.{refusedFigures, setFigures, setScratch}
-use Rattle.figures.specs.Areas.{refusedArea, areaFigures, areaScratch}
+use Rattle.figures.specs.Figures.{refusedFigures, setCall}
+use Rattle.figures.specs.Areas.{refusedArea, areaCall}
 use Rattle.jobs.specs.declared.Answer.{Answer as Told}
 use Rattle.jobs.specs.declared.Reply.the-variants.{Answered}
 use Rattle.engines.specs.declared.Engine.{Engine}
@@ -48,13 +49,9 @@ use Rattle.lent_engines.specs.Lent.{Lists, engineOf, Leaves}
 
 -- ---- a set's figures, and what is left in the scratch
 
-unfoldable pub numberedFigures : NumberedSet → List Float → ℕ → ℕ → Figures
-numberedFigures (setKnown set) points L scratchLength = setFigures set points L scratchLength
-numberedFigures noSet points L scratchLength = refusedFigures NoForm 0
-
-unfoldable pub numberedScratch : NumberedSet → List Float → ℕ → List Float → List Float
-numberedScratch (setKnown set) points L scratch = setScratch set points L scratch
-numberedScratch noSet points L scratch = scratch
+unfoldable pub numberedCall : NumberedSet → List Float → ℕ → ℕ → CallOf Figures
+numberedCall (setKnown set) points L scratchLength = setCall set points L scratchLength
+numberedCall noSet points L scratchLength = leavesAlone (refusedFigures NoForm 0)
 
 -- ---- the engine (document 02, Paper 10): a set submitted to a screen, with its points and L; another density for a screen's job
 
@@ -78,13 +75,9 @@ numberedChange engine screen noDensity = noCall engine
 
 -- ---- a planform's area, and what is left in the scratch
 
-unfoldable pub numberedArea : NumberedPlanform → List Float → ℕ → ℕ → Area
-numberedArea (planformKnown planform) points L scratchLength = areaFigures planform points L scratchLength
-numberedArea noPlanform points L scratchLength = refusedArea NoForm 0
-
-unfoldable pub numberedAreaScratch : NumberedPlanform → List Float → ℕ → List Float → List Float
-numberedAreaScratch (planformKnown planform) points L scratch = areaScratch planform points L scratch
-numberedAreaScratch noPlanform points L scratch = scratch
+unfoldable pub numberedArea : NumberedPlanform → List Float → ℕ → ℕ → CallOf Area
+numberedArea (planformKnown planform) points L scratchLength = areaCall planform points L scratchLength
+numberedArea noPlanform points L scratchLength = leavesAlone (refusedArea NoForm 0)
 
 -- ---- a planform's chords at a height, and the list that they are written over (document 02, Paper 1)
 

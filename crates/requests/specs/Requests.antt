@@ -5,6 +5,7 @@ use Prim.Native.Nat.{ℕ, _+_, _-_, _*_}
 use lib.ListN.{take, drop, getD}
 use lib.Ieee.{Float}
 use Rattle.floats.specs.Operations.{at}
+use Rattle.refusals.specs.Calls.{CallOf}
 use Rattle.planforms.specs.Numbered.{numberedPlanform}
 use Rattle.sections.specs.Numbered.{numberedSection}
 use Rattle.materials.specs.Numbered.{numberedDensity}
@@ -23,7 +24,7 @@ use Rattle.engines.specs.declared.Engine.{Engine}
 use Rattle.engines.specs.declared.Called.{Called}
 use Rattle.engines.specs.Calls.{Call}
 use Rattle.lent_engines.specs.Lent.{submitCalls, changeCalls}
-use Rattle.requests.specs.Calls.{numberedFigures, numberedScratch, numberedSubmit, numberedChange, numberedArea, numberedAreaScratch, numberedDrill, ringBy, copiedBy, placedBy, movedBy, withoutBy}
+use Rattle.requests.specs.Calls.{numberedCall, numberedSubmit, numberedChange, numberedArea, numberedDrill, ringBy, copiedBy, placedBy, movedBy, withoutBy}
 
 -- of the count or part k, counted from the form's last: its number, and how many figures stand up to its end
 abbrev pub number : List ℕ → ℕ → ℕ
@@ -63,11 +64,8 @@ areaRequestOf ns figures = record { limit = number ns 1; planform = numberedPlan
 
 -- ---- the call for each; an outline's points are the planform's figures
 
-unfoldable pub askedFigures : SetRequest → List Float → ℕ → Figures
-askedFigures q figures scratchLength = numberedFigures (q .set) (between 0 (q .points) figures) (q .limit) scratchLength
-
-unfoldable pub askedScratch : SetRequest → List Float → List Float → List Float
-askedScratch q figures scratch = numberedScratch (q .set) (between 0 (q .points) figures) (q .limit) scratch
+unfoldable pub askedSet : SetRequest → List Float → ℕ → CallOf Figures
+askedSet q figures scratchLength = numberedCall (q .set) (between 0 (q .points) figures) (q .limit) scratchLength
 
 -- "(submit N SET)": the set's counts and parts stand as in its own form, and the screen is 7
 unfoldable pub askedSubmit : ℕ → SetRequest → List Float → Engine → Called
@@ -84,11 +82,8 @@ askedSubmitCalls screen q figures = submitCalls screen (q .set) (between 0 (q .p
 abbrev pub askedChangeCalls : List ℕ → List Float → List Call
 askedChangeCalls ns figures = changeCalls (number ns 1) (numberedDensity (number ns 0) (at figures 0))
 
-unfoldable pub askedArea : AreaRequest → List Float → ℕ → Area
+unfoldable pub askedArea : AreaRequest → List Float → ℕ → CallOf Area
 askedArea q figures scratchLength = numberedArea (q .planform) (between 0 (q .points) figures) (q .limit) scratchLength
-
-unfoldable pub askedAreaScratch : AreaRequest → List Float → List Float → List Float
-askedAreaScratch q figures scratch = numberedAreaScratch (q .planform) (between 0 (q .points) figures) (q .limit) scratch
 
 -- "(tubes (count N) (length F) (outer F) (wall F) (base F) (radius F) DENSITY)": count 1, density 0
 unfoldable pub askedRing : List ℕ → List Float → Joined

@@ -8,14 +8,15 @@ ghost use mathlib.Core.Path.{_≡_};
 ghost use Prim.Native.Nat.{_+_, _*_, _≤_, min};
 ghost use lib.ListN.{length, drop};
 ghost use Rattle.floats.specs.Operations.{at};
+ghost use Rattle.refusals.specs.Calls.{Does};
 ghost use Rattle.bodies.specs.Layout.{bodyNumbers};
 ghost use Rattle.joins.specs.Flat.{withBodies};
 ghost use Rattle.figures.specs.Figures.{refusedFigures};
 ghost use Rattle.figures.specs.Areas.{refusedArea};
 ghost use Rattle.lent_engines.specs.Memory.{engineIn};
 ghost use Rattle.lent_engines.specs.Lent.{Room, lists, submitCalls, changeCalls};
-ghost use Rattle.requests.specs.Calls.{CallsEngine, numberedFigures, numberedScratch, numberedSubmit, numberedChange, numberedArea, numberedAreaScratch, numberedChords, numberedEnds, numberedDrill, ringBy, copiedBy, placedBy, movedBy, withoutBy, pointBodyAt, joinedPointsOf, tensorMoments, bodyVerdict};
-ghost use Rattle.requests.specs.Requests.{number, between, setRequestOf, askedSubmit, askedChange, askedSubmitCalls, askedChangeCalls, areaRequestOf, askedRing, askedClosing, askedDrill, askedCopied, askedPlaced, askedMoved, askedWithout, askedFigures, askedScratch, askedArea, askedAreaScratch};
+ghost use Rattle.requests.specs.Calls.{CallsEngine, numberedCall, numberedSubmit, numberedChange, numberedArea, numberedChords, numberedEnds, numberedDrill, ringBy, copiedBy, placedBy, movedBy, withoutBy, pointBodyAt, joinedPointsOf, tensorMoments, bodyVerdict};
+ghost use Rattle.requests.specs.Requests.{number, between, setRequestOf, askedSubmit, askedChange, askedSubmitCalls, askedChangeCalls, areaRequestOf, askedRing, askedClosing, askedDrill, askedCopied, askedPlaced, askedMoved, askedWithout, askedSet, askedArea};
 use bodies::BODY_NUMBERS;
 use bodies::Body;
 use bodies::TENSOR_NUMBERS;
@@ -145,8 +146,8 @@ fn no_figures() -> Figures
 
 // A set's figures over a lent scratch.
 pub fn set_figures(set: NumberedSet, points: &[f64], limit: usize, scratch: &mut [f64]) -> Figures
-    ensures { λ r. ⌜ (r ≡ numberedFigures set (now (points .entry)) limit (length (now (scratch .entry))))
-        × (now (scratch .exit) ≡ numberedScratch set (now (points .entry)) limit (now (scratch .entry))) ⌝ }
+    ensures { λ r. ⌜ Does (numberedCall set (now (points .entry)) limit (length (now (scratch .entry))))
+        r (now (scratch .entry)) (now (scratch .exit)) ⌝ }
 {
     match set {
         NumberedSet::Known(set) => figures::mass_properties(set, points, limit, scratch),
@@ -233,8 +234,8 @@ pub fn area_figures(
     limit: usize,
     scratch: &mut [f64],
 ) -> Area
-    ensures { λ r. ⌜ (r ≡ numberedArea planform (now (points .entry)) limit (length (now (scratch .entry))))
-        × (now (scratch .exit) ≡ numberedAreaScratch planform (now (points .entry)) limit (now (scratch .entry))) ⌝ }
+    ensures { λ r. ⌜ Does (numberedArea planform (now (points .entry)) limit (length (now (scratch .entry))))
+        r (now (scratch .entry)) (now (scratch .exit)) ⌝ }
 {
     match planform {
         NumberedPlanform::Known(planform) => figures::geometry(planform, points, limit, scratch),
@@ -380,10 +381,9 @@ pub fn without_by(whole: &[f64], part: &[f64]) -> Joined
 
 // The figures of a set that a line asks, over a lent scratch.
 pub fn asked_figures(q: Request, values: &[f64], scratch: &mut [f64]) -> Figures
-    ensures { λ r. ⌜ r ≡ askedFigures (setRequestOf (q .numbers) (now (values .entry)))
-        (now (values .entry)) (length (now (scratch .entry))) ⌝ }
-    ensures { λ _. ⌜ now (scratch .exit) ≡ askedScratch (setRequestOf (q .numbers) (now (values .entry)))
-        (now (values .entry)) (now (scratch .entry)) ⌝ }
+    ensures { λ r. ⌜ Does (askedSet (setRequestOf (q .numbers) (now (values .entry)))
+        (now (values .entry)) (length (now (scratch .entry))))
+        r (now (scratch .entry)) (now (scratch .exit)) ⌝ }
 {
     let asked = set_request(q, values);
     let set = asked.set;
@@ -430,9 +430,9 @@ pub fn asked_change(
 
 // The area of a planform that a line asks, over a lent scratch.
 pub fn asked_area(q: Request, values: &[f64], scratch: &mut [f64]) -> Area
-    ensures { λ r. ⌜ r ≡ askedArea (areaRequestOf (q .numbers) (now (values .entry))) (now (values .entry)) (length (now (scratch .entry))) ⌝ }
-    ensures { λ _. ⌜ now (scratch .exit) ≡ askedAreaScratch (areaRequestOf (q .numbers) (now (values .entry)))
-        (now (values .entry)) (now (scratch .entry)) ⌝ }
+    ensures { λ r. ⌜ Does (askedArea (areaRequestOf (q .numbers) (now (values .entry)))
+        (now (values .entry)) (length (now (scratch .entry))))
+        r (now (scratch .entry)) (now (scratch .exit)) ⌝ }
 {
     let asked = area_request(q, values);
     let planform = asked.planform;

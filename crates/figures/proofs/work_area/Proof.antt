@@ -35,7 +35,7 @@ returns c =
     let run = run-of _ (a .points .now) (a .limit) (a .scratch .now) _ _
     (area-strips (a .planform) (a .points .now) (a .limit) _ (scaled .before .area-integrand .ensures) ∙ area-at-three (a .planform) (a .points .now) (a .limit) _ f64s (s .pre))
     (i .work-strips .ensures) in
-    record { figures = c .concluded-area .ensures ∙ rw (scaled .scale-m .ensures, run .0); scratch = run .1 }
+    (c .concluded-area .ensures ∙ rw (scaled .scale-m .ensures, run .0), run .1)
 
 pub work-area-spec : {M : Type 1} → statement M
 work-area-spec =

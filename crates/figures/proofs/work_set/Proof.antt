@@ -35,7 +35,7 @@ returns c =
     let run = run-of _ (a .points .now) (a .limit) (a .scratch .now) _ _
     (plate-strips (a .set) (a .points .now) (a .limit) _ (scaled .before .plate-integrand .ensures))
     (i .work-strips .ensures) in
-    record { figures = c .concluded .ensures ∙ rw (root .root-chord-m .ensures, scaled .scale-m .ensures, run .0); scratch = run .1 }
+    (c .concluded .ensures ∙ rw (root .root-chord-m .ensures, scaled .scale-m .ensures, run .0), run .1)
 
 pub work-set-spec : {M : Type 1} → statement M
 work-set-spec =

@@ -1,6 +1,7 @@
 -- `requests::area_figures` meets its contract: each arm knows its case. Assumes nothing.
+use mathlib.Core.Path.{refl}
 use borrow.Author.Needs.{needs}
-use Rattle.requests.specs.Calls.{numberedArea, numberedAreaScratch}
+use Rattle.requests.specs.Calls.{numberedArea}
 use Rattle.requests.proofs.area_figures.Statement.{statement}
 use Rattle.requests.proofs.area_figures.Tie as tie
 
@@ -20,17 +21,17 @@ same-length : tie.Need-same-length
 same-length c = search needs
 
 returns : tie.Need-returns
-unfolding numberedArea numberedAreaScratch
+unfolding numberedArea
 returns c =
     let w = c .before .before in
     let told = w .before .before .before .planform .given .1 in
-    (rw told (w .geometry .ensures .figures), rw told (w .geometry .ensures .scratch))
+    rw told (w .geometry .ensures .call)
 
 returns-2 : tie.Need-returns-2
-unfolding numberedArea numberedAreaScratch
+unfolding numberedArea
 returns-2 c =
     let told = c .before .enum-told .given .1 in
-    (rw told (c .no-area .ensures), rw told)
+    rw told (c .no-area .ensures, refl)
 
 pub area-figures-spec : {M : Type 1} → statement M
 area-figures-spec =

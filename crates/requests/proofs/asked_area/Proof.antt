@@ -5,9 +5,8 @@ use denote.Ref.{now}
 use lib.ListN.{length}
 use lib.Ieee.{Float}
 use Rattle.requests.specs.declared.AreaRequest.{AreaRequest}
-use Rattle.requests.specs.Calls.{numberedArea, numberedAreaScratch}
-use Rattle.requests.specs.Requests.{askedArea, askedAreaScratch}
-use mathlib.Core.Path.{ap₂, _∙_}
+use Rattle.requests.specs.Calls.{numberedArea}
+use Rattle.requests.specs.Requests.{askedArea}
 use borrow.Author.Needs.{needs}
 use Rattle.requests.proofs.asked_area.Statement.{statement}
 use Rattle.requests.proofs.asked_area.Tie as tie
@@ -25,16 +24,15 @@ same-length : tie.Need-same-length
 same-length c = search needs
 
 returns : tie.Need-returns
-unfolding askedArea askedAreaScratch
+unfolding askedArea
 returns c =
     let f = c .before .before in
     let b = f .before .before in
     let q = b .before in
     let s = q .before .before .before .args in
-    let r = q .area-request .result in (
-      f .area-figures .ensures .0 ∙ ap (λ (l : List Float). numberedArea (r .planform) l (r .limit) (length (now (s .scratch)))) (b .between .ensures) ∙ ap (λ (x : AreaRequest). askedArea x (now (s .values)) (length (now (s .scratch)))) (q .area-request .ensures),
-      f .area-figures .ensures .1 ∙ ap (λ (l : List Float). numberedAreaScratch (r .planform) l (r .limit) (now (s .scratch))) (b .between .ensures) ∙ ap (λ (x : AreaRequest). askedAreaScratch x (now (s .values)) (now (s .scratch))) (q .area-request .ensures),
-    )
+    let r = q .area-request .result in
+    let same = ap (λ (l : List Float). numberedArea (r .planform) l (r .limit) (length (now (s .scratch)))) (b .between .ensures) ∙ ap (λ (x : AreaRequest). askedArea x (now (s .values)) (length (now (s .scratch)))) (q .area-request .ensures) in
+    rw (← same) (f .area-figures .ensures)
 
 pub asked-area-spec : {M : Type 1} → statement M
 asked-area-spec =

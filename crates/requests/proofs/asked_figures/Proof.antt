@@ -5,9 +5,8 @@ use denote.Ref.{now}
 use lib.ListN.{length}
 use lib.Ieee.{Float}
 use Rattle.requests.specs.declared.SetRequest.{SetRequest}
-use Rattle.requests.specs.Calls.{numberedFigures, numberedScratch}
-use Rattle.requests.specs.Requests.{askedFigures, askedScratch}
-use mathlib.Core.Path.{ap₂, _∙_}
+use Rattle.requests.specs.Calls.{numberedCall}
+use Rattle.requests.specs.Requests.{askedSet}
 use borrow.Author.Needs.{needs}
 use Rattle.requests.proofs.asked_figures.Statement.{statement}
 use Rattle.requests.proofs.asked_figures.Tie as tie
@@ -25,16 +24,15 @@ same-length : tie.Need-same-length
 same-length c = search needs
 
 returns : tie.Need-returns
-unfolding askedFigures askedScratch
+unfolding askedSet
 returns c =
     let f = c .before .before in
     let b = f .before .before in
     let q = b .before in
     let s = q .before .before .before .args in
-    let r = q .set-request .result in (
-      f .set-figures .ensures .0 ∙ ap (λ (l : List Float). numberedFigures (r .set) l (r .limit) (length (now (s .scratch)))) (b .between .ensures) ∙ ap (λ (x : SetRequest). askedFigures x (now (s .values)) (length (now (s .scratch)))) (q .set-request .ensures),
-      f .set-figures .ensures .1 ∙ ap (λ (l : List Float). numberedScratch (r .set) l (r .limit) (now (s .scratch))) (b .between .ensures) ∙ ap (λ (x : SetRequest). askedScratch x (now (s .values)) (now (s .scratch))) (q .set-request .ensures),
-    )
+    let r = q .set-request .result in
+    let same = ap (λ (l : List Float). numberedCall (r .set) l (r .limit) (length (now (s .scratch)))) (b .between .ensures) ∙ ap (λ (x : SetRequest). askedSet x (now (s .values)) (length (now (s .scratch)))) (q .set-request .ensures) in
+    rw (← same) (f .set-figures .ensures)
 
 pub asked-figures-spec : {M : Type 1} → statement M
 asked-figures-spec =

@@ -1,6 +1,7 @@
 -- `requests::set_figures` meets its contract: each arm knows its case. Assumes nothing.
+use mathlib.Core.Path.{refl}
 use borrow.Author.Needs.{needs}
-use Rattle.requests.specs.Calls.{numberedFigures, numberedScratch}
+use Rattle.requests.specs.Calls.{numberedCall}
 use Rattle.requests.proofs.set_figures.Statement.{statement}
 use Rattle.requests.proofs.set_figures.Tie as tie
 
@@ -20,17 +21,17 @@ same-length : tie.Need-same-length
 same-length c = search needs
 
 returns : tie.Need-returns
-unfolding numberedFigures numberedScratch
+unfolding numberedCall
 returns c =
     let w = c .before .before in
     let told = w .before .before .before .set .given .1 in
-    (rw told (w .mass-properties .ensures .figures), rw told (w .mass-properties .ensures .scratch))
+    rw told (w .mass-properties .ensures .call)
 
 returns-2 : tie.Need-returns-2
-unfolding numberedFigures numberedScratch
+unfolding numberedCall
 returns-2 c =
     let told = c .before .enum-told .given .1 in
-    (rw told (c .no-figures .ensures), rw told)
+    rw told (c .no-figures .ensures, refl)
 
 pub set-figures-spec : {M : Type 1} → statement M
 set-figures-spec =
