@@ -3,3 +3,5 @@ pub mod Listed
 pub mod JoinLaws
 pub mod Parts
 pub mod JoinedSix
+pub mod Each
+pub mod Adds

@@ -1,3 +1,4 @@
 pub mod Flat
 pub mod Joins
+pub mod Lists
 pub mod Nine

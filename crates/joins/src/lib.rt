@@ -1,14 +1,16 @@
 // Several bodies joined into one rigid body (mass.rs, `MassProperties::combine`).
 //
 // m = Σ mₖ, centre = Σ mₖ cₖ / m, I = Σ [Iₖ + mₖ (|dₖ|² E − dₖ dₖᵀ)] with dₖ = cₖ − centre, the sums in order and from +0. A total
-// mass not above 0 takes the mean of the centres, a NaN mass a NaN centre (document 01, "Body"). The steps are by value, for a list of
-// any form; here the bodies lie one after another in a flat slice, as their numbers.
+// mass not above 0 takes the mean of the centres, a NaN mass a NaN centre (document 01, "Body"). The steps are by value. The bodies lie
+// one after another, in a lent list of structs (document 01, "Places and their forms") or, at the library's edge, as their numbers; either is
+// read twice, body by body.
 ghost use mathlib.Core.Path.{_≡_};
 ghost use Prim.Native.Nat.{_+_, _*_, _≤_};
 ghost use lib.ListN.{length};
 ghost use Rattle.bodies.specs.Layout.{bodyNumbers};
 ghost use Rattle.joins.specs.Flat.{bodyAt, withBody};
 ghost use Rattle.joins.specs.Joins.{sumsOf, noSums, addBody, centreOf, atCentre, addInertia, joinOf, twoBodies, acceptedBody, refusedBody, IsJoined, combineOf};
+ghost use Rattle.joins.specs.Lists.{joinList, addEach};
 use bodies::BODY_NUMBERS;
 use bodies::Body;
 use bodies::Vector;
@@ -44,41 +46,89 @@ pub fn refused(refusal: Refusal) -> Joined
     Joined { verdict, body }
 }
 
-// One to 32 bodies joined; a slice that holds another number, or no whole number, of them is refused 3.
-pub fn combine(bodies: &[f64]) -> Joined
-    ensures { λ r. ⌜ IsJoined r (combineOf (now (bodies .entry))) ⌝ }
+// One to 32 bodies joined, by their numbers; numbers of none or of more, or of no whole number of bodies, are refused 3.
+pub fn combine(numbers: &[f64]) -> Joined
+    ensures { λ r. ⌜ IsJoined r (combineOf (now (numbers .entry))) ⌝ }
 {
-    if bodies.len() % BODY_NUMBERS != 0 {
+    if numbers.len() % BODY_NUMBERS != 0 {
         return refused(Refusal::Count);
     }
-    let count = bodies.len() / BODY_NUMBERS;
+    let count = numbers.len() / BODY_NUMBERS;
     let verdict = limits::check_count(count);
     match verdict {
-        Verdict::Accepted => accepted(join(bodies, count)),
+        Verdict::Accepted => accepted(join_numbers(numbers, count)),
         Verdict::Refused(refusal) => refused(refusal),
     }
 }
 
-fn join(bodies: &[f64], count: usize) -> Body
-    requires { ⌜ bodyNumbers * count ≤ length (now bodies) ⌝ }
-    ensures { λ r. ⌜ r ≡ joinOf (bodyAt (now (bodies .entry))) count ⌝ }
+// The bodies are read where they lie: a list of structs would take longer to fill than to join.
+fn join_numbers(numbers: &[f64], count: usize) -> Body
+    requires { ⌜ bodyNumbers * count ≤ length (now numbers) ⌝ }
+    ensures { λ r. ⌜ r ≡ joinOf (bodyAt (now (numbers .entry))) count ⌝ }
 {
-    let mut joined = at_centre(sum_bodies(bodies, count));
+    let mut joined = at_centre(sum_numbers(numbers, count));
     let mut k = 0;
     while k < count {
-        joined = add_inertia(joined, body_at(bodies, k));
+        joined = add_inertia(joined, body_at(numbers, k));
         k += 1;
     }
     joined
 }
 
-fn body_at(bodies: &[f64], k: usize) -> Body
-    requires { ⌜ bodyNumbers * k + bodyNumbers ≤ length (now bodies) ⌝ }
-    ensures { λ r. ⌜ r ≡ bodyAt (now (bodies .entry)) k ⌝ }
+fn sum_numbers(numbers: &[f64], count: usize) -> Sums
+    requires { ⌜ bodyNumbers * count ≤ length (now numbers) ⌝ }
+    ensures { λ r. ⌜ r ≡ sumsOf (bodyAt (now (numbers .entry))) count ⌝ }
+{
+    let mut sums = no_sums();
+    let mut k = 0;
+    while k < count {
+        sums = add_body(sums, body_at(numbers, k));
+        k += 1;
+    }
+    sums
+}
+
+fn body_at(numbers: &[f64], k: usize) -> Body
+    requires { ⌜ bodyNumbers * k + bodyNumbers ≤ length (now numbers) ⌝ }
+    ensures { λ r. ⌜ r ≡ bodyAt (now (numbers .entry)) k ⌝ }
 {
     let o = BODY_NUMBERS * k;
     let e = o + BODY_NUMBERS;
-    bodies::body_of(&bodies[o..e])
+    bodies::body_of(&numbers[o..e])
+}
+
+// The bodies of a lent list, joined; none are the empty body. How many may be joined is the caller's rule.
+pub fn join(bodies: &[Body]) -> Body
+    ensures { λ r. ⌜ r ≡ joinList (now (bodies .entry)) ⌝ }
+{
+    let sums = add_bodies(no_sums(), bodies);
+    add_inertias(at_centre(sums), bodies)
+}
+
+// The sums with every body of the list, in order.
+fn add_bodies(start: Sums, bodies: &[Body]) -> Sums
+    ensures { λ r. ⌜ r ≡ addEach addBody start (now (bodies .entry)) ⌝ }
+{
+    let mut sums = start;
+    let mut k = 0;
+    while k < bodies.len() {
+        sums = add_body(sums, bodies[k]);
+        k += 1;
+    }
+    sums
+}
+
+// The joined body with the tensor of every body of the list, in order.
+fn add_inertias(start: Body, bodies: &[Body]) -> Body
+    ensures { λ r. ⌜ r ≡ addEach addInertia start (now (bodies .entry)) ⌝ }
+{
+    let mut joined = start;
+    let mut k = 0;
+    while k < bodies.len() {
+        joined = add_inertia(joined, bodies[k]);
+        k += 1;
+    }
+    joined
 }
 
 // Writes `body` over body k of the slice.
@@ -94,21 +144,8 @@ pub fn write_body(bodies: &mut [f64], k: usize, body: Body)
     }
 }
 
-fn sum_bodies(bodies: &[f64], count: usize) -> Sums
-    requires { ⌜ bodyNumbers * count ≤ length (now bodies) ⌝ }
-    ensures { λ r. ⌜ r ≡ sumsOf (bodyAt (now (bodies .entry))) count ⌝ }
-{
-    let mut sums = no_sums();
-    let mut k = 0;
-    while k < count {
-        sums = add_body(sums, body_at(bodies, k));
-        k += 1;
-    }
-    sums
-}
-
 // The sums over no bodies, which every join starts from.
-pub fn no_sums() -> Sums
+fn no_sums() -> Sums
     ensures { λ r. ⌜ r ≡ noSums ⌝ }
 {
     let zero = Body::ZERO;
@@ -123,7 +160,7 @@ pub fn no_sums() -> Sums
 }
 
 // The sums with one body more.
-pub fn add_body(sums: Sums, body: Body) -> Sums
+fn add_body(sums: Sums, body: Body) -> Sums
     ensures { λ r. ⌜ r ≡ addBody sums body ⌝ }
 {
     let centre_m = body.centre_m;
@@ -161,7 +198,7 @@ fn centre(sums: Sums) -> Vector
 }
 
 // The sums' mass at their centre: the joined body before any tensor is added.
-pub fn at_centre(sums: Sums) -> Body
+fn at_centre(sums: Sums) -> Body
     ensures { λ r. ⌜ r ≡ atCentre sums ⌝ }
 {
     let zero = Body::ZERO;
@@ -175,7 +212,7 @@ pub fn at_centre(sums: Sums) -> Body
 }
 
 // The joined body with the tensor of one body more, about the joined centre.
-pub fn add_inertia(joined: Body, body: Body) -> Body
+fn add_inertia(joined: Body, body: Body) -> Body
     ensures { λ r. ⌜ r ≡ addInertia joined body ⌝ }
 {
     let centre_m = joined.centre_m;

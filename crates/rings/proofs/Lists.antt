@@ -10,7 +10,7 @@ use Rattle.bodies.specs.declared.Body.{Body}
 use Rattle.bodies.specs.Bodies.{emptyBody}
 use Rattle.joins.specs.Joins.{joinOf}
 use Rattle.joins.proofs.JoinLaws.{join-same}
-use Rattle.lent_bodies.specs.LentBodies.{bodyIn, joinList}
+use Rattle.joins.specs.Lists.{bodyIn, joinList}
 use Rattle.rings.specs.Rings.{rolledCopy, joinedCopies, CopiesTo}
 
 module _ (body : Body) (base : Float) (n : ℕ) (copies : List Body) (long : length copies ≡ 32) (within : n ≤ 32) where

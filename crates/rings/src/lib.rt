@@ -64,7 +64,7 @@ fn joined_copies(body: Body, base_angle_rad: f64, count: usize) -> Body
     ensures { λ r. ⌜ r ≡ joinedCopies body «base_angle_rad» count ⌝ }
 {
     let list = copies(body, base_angle_rad, count);
-    lent_bodies::join(&list[..count])
+    joins::join(&list[..count])
 }
 
 // `count` copies of a body, evenly turned about the body's axis from the base angle, joined; refused 3 for a count not 1 to 32, and

@@ -19,7 +19,7 @@ use Rattle.bodies.specs.Layout.{bodyOf, numbersOf}
 use Rattle.rotations.specs.declared.Quaternion.{Quaternion}
 use Rattle.rotations.specs.Rotations.{aboutX, aboutZ, matrixOf}
 use Rattle.joins.specs.Joins.{inOrder, sumsOf, inertiaOf, joinOf, acceptedBody, refusedBody, twoBodies, combineOf}
-use Rattle.lent_bodies.specs.LentBodies.{joinList}
+use Rattle.joins.specs.Lists.{joinList}
 use Rattle.rings.specs.Rings.{angleOf, ringOf}
 use Rattle.test_definitions.specs.Rows.{is, are, refused}
 

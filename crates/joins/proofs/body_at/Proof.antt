@@ -30,7 +30,7 @@ body-of-requires c κs = search needs
 returns : tie.Need-returns
 returns c =
     let a = c .before .before .before .args in
-    (rw part-size at (c .body-of .ensures)) ∙ part-body (now (a .bodies)) (a .k)
+    (rw part-size at (c .body-of .ensures)) ∙ part-body (now (a .numbers)) (a .k)
 
 pub body-at-spec : {M : Type 1} → statement M
 body-at-spec =

@@ -20,8 +20,8 @@ check-count-requires c κs = search needs
 enum-told : tie.Need-enum-told
 enum-told c = search needs
 
-join-requires : tie.Need-join-requires
-join-requires c κs = search needs
+join-numbers-requires : tie.Need-join-numbers-requires
+join-numbers-requires c κs = search needs
 
 accepted-requires : tie.Need-accepted-requires
 accepted-requires c κs = search needs
@@ -35,7 +35,7 @@ refused-requires-2 c κs = search needs
 returns-2 : tie.Need-returns-2
 returns-2 c =
     is-answer
-    (rw (eq-eqb _ _ (c .before .before .before .before .before .if1 .left)) (by-verdict _ (c .before .before .before .before .check-count .ensures) (c .before .before .enum-told .given .1) (c .accepted .ensures ∙ ap acceptedBody (c .before .join .ensures))))
+    (rw (eq-eqb _ _ (c .before .before .before .before .before .if1 .left)) (by-verdict _ (c .before .before .before .before .check-count .ensures) (c .before .before .enum-told .given .1) (c .accepted .ensures ∙ ap acceptedBody (c .before .join-numbers .ensures))))
 
 returns-3 : tie.Need-returns-3
 returns-3 c =
@@ -50,7 +50,7 @@ combine-spec =
     returns
     check-count-requires
     enum-told
-    join-requires
+    join-numbers-requires
     accepted-requires
     enum-known-verdict
     refused-requires-2

@@ -50,11 +50,11 @@ use denote.Triple.Walked.{says, needs, Stays, stay-none, walkOf, Walks, ends-at,
 use Rattle.bodies.proofs.Body as body
 use Rattle.bodies.proofs.Body.Laws as body-laws
 use Rattle.bodies.specs.declared.Body.{Body}
-use Rattle.lent_bodies.proofs.join as list-join
-use Rattle.lent_bodies.proofs.join.Met as join-met
-use Rattle.lent_bodies.proofs.join.Symbol as join-symbol
-use Rattle.lent_bodies.proofs.join.Symbol.{name as #join}
-use Rattle.lent_bodies.specs.LentBodies.{joinList}
+use Rattle.joins.proofs.join as list-join
+use Rattle.joins.proofs.join.Met as join-met
+use Rattle.joins.proofs.join.Symbol as join-symbol
+use Rattle.joins.proofs.join.Symbol.{name as #join}
+use Rattle.joins.specs.Lists.{joinList}
 use Rattle.rings.proofs.Front.{Rest, cut, glue}
 use Rattle.rings.proofs.Lists.{front-length, front-joined}
 use Rattle.rings.proofs.copies as copies
@@ -260,4 +260,4 @@ joined-copies-spec 𝓤 H 𝓜 𝓖 𝓡 =
     (tables 𝓤 H 𝓜 𝓡 code.env .C) (tables 𝓤 H 𝓜 𝓡 code.env .Λ) #this code.function (code.unfolded 𝓤 H 𝓜 𝓡)
     (meets 𝓤 H (𝓖 .A) W (𝓜 .mem) (𝓡 .run) (tablesOf 𝓤 H 𝓜 (tables 𝓤 H 𝓜 𝓡 code.env))
     (cited 𝓤 H (Copies 𝓤 H (𝓖 .A) W (𝓜 .mem) (𝓡 .run)) 𝓜 𝓡 code.env #copies copies-symbol.routine code.calls-rings·copies (copies-met.met 𝓤 H 𝓜 𝓖 𝓡))
-    (cited 𝓤 H (Join 𝓤 H (𝓖 .A) W (𝓜 .mem) (𝓡 .run)) 𝓜 𝓡 code.env #join join-symbol.routine code.calls-lent-bodies·join (join-met.met 𝓤 H 𝓜 𝓖 𝓡)))
+    (cited 𝓤 H (Join 𝓤 H (𝓖 .A) W (𝓜 .mem) (𝓡 .run)) 𝓜 𝓡 code.env #join join-symbol.routine code.calls-joins·join (join-met.met 𝓤 H 𝓜 𝓖 𝓡)))

@@ -41,8 +41,8 @@ use Rattle.bodies.proofs.Body as body
 use Rattle.bodies.proofs.Body.Laws as body-laws
 use Rattle.bodies.specs.declared.Body.{Body}
 use Rattle.bodies.specs.Bodies.{emptyBody}
 use Rattle.joins.specs.Joins.{inOrder}
-use Rattle.lent_bodies.specs.LentBodies.{bodyIn, addEach}
+use Rattle.joins.specs.Lists.{bodyIn, addEach}
 
 -- ---- the code
 

@@ -1,18 +1,18 @@
--- `lent_bodies::add_bodies` meets its contract: its code is `Each`'s, with add_body for a step (`Adds`). Assumes nothing.
+-- `joins::add_bodies` meets its contract: its code is `Each`'s, with add_body for a step (`Adds`). Assumes nothing.
 use contract.Running.{givenOf, tables, tablesOf}
 use denote.Triple.Spec.{tripleOf}
 use denote.Triple.Table.{entered, cited}
 use Rattle.joins.proofs.Sums as sums
 use Rattle.joins.proofs.Sums.Laws as sums-laws
 use Rattle.joins.proofs.add_body.Met as step-met
 use Rattle.joins.proofs.add_body.Symbol as step-symbol
 use Rattle.joins.proofs.add_body.Symbol.{name as #step}
 use Rattle.joins.specs.Joins.{addBody}
-use Rattle.lent_bodies.proofs.Adds.{Step, adds-each}
-use Rattle.lent_bodies.proofs.add_bodies as this
-use Rattle.lent_bodies.proofs.add_bodies.Code as code
-use Rattle.lent_bodies.proofs.add_bodies.Key.{name as #this}
-use Rattle.lent_bodies.proofs.add_bodies.Statement as stated
+use Rattle.joins.proofs.Adds.{Step, adds-each}
+use Rattle.joins.proofs.add_bodies as this
+use Rattle.joins.proofs.add_bodies.Code as code
+use Rattle.joins.proofs.add_bodies.Key.{name as #this}
+use Rattle.joins.proofs.add_bodies.Statement as stated
 
 pub add-bodies-spec : {M : Type 1} → stated.statement M
 unfolding code.routine tablesOf

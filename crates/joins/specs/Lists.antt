@@ -1,10 +1,10 @@
--- A lent slice of bodies, joined (document 01, "Body").
+-- Bodies in a list of structs, joined (document 01, "Body").
 use mathlib.Core.List.{List}
 use Prim.Native.Nat.{ℕ}
 use lib.ListN.{length, getD}
 use Rattle.bodies.specs.declared.Body.{Body}
 use Rattle.bodies.specs.Bodies.{emptyBody}
 use Rattle.joins.specs.Joins.{inOrder, joinOf}
 
 -- body k of a list
 abbrev pub bodyIn : List Body → ℕ → Body

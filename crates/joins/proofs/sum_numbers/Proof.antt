@@ -1,4 +1,4 @@
--- `joins::sum_bodies` meets its contract: after k turns the first k bodies are in the sums. Assumes nothing.
+-- `joins::sum_numbers` meets its contract: after k turns the first k bodies are in the sums. Assumes nothing.
 use mathlib.Core.Path.{_≡_, ap, _∙_}
 use Prim.Native.Nat.{_≤_, _-_}
 use native.Mathlib.Nat.{le-antisymm}
@@ -7,14 +7,14 @@ use borrow.Author.Needs.{needs}
 use Rattle.joins.specs.Flat.{bodyAt}
 use Rattle.joins.specs.Joins.{sumsOf}
 use Rattle.joins.proofs.InOrder.{no-sums, sums-next}
-use Rattle.joins.proofs.sum_bodies.Statement.{statement}
-use Rattle.joins.proofs.sum_bodies.Tie as tie
+use Rattle.joins.proofs.sum_numbers.Statement.{statement}
+use Rattle.joins.proofs.sum_numbers.Tie as tie
 
 abbrev Inv-loop : tie.InvT-loop
-Inv-loop bodies count sums₀ k₀ sums k = (k ≤ count) × (sums ≡ sumsOf (bodyAt bodies) k)
+Inv-loop numbers count sums₀ k₀ sums k = (k ≤ count) × (sums ≡ sumsOf (bodyAt numbers) k)
 
 abbrev μ-loop : tie.MeasureT-loop
-μ-loop bodies count sums₀ k₀ sums k = count - k
+μ-loop numbers count sums₀ k₀ sums k = count - k
 
 no-sums-requires : tie.Need-no-sums-requires Inv-loop μ-loop
 no-sums-requires c κs = search needs
@@ -40,8 +40,8 @@ loop-again c = (omega arith, sums-next _ _ (c .before .before .before .loop .inv
 returns : tie.Need-returns Inv-loop μ-loop
 returns c = c .before .loop .inv .1 ∙ ap (sumsOf _) (le-antisymm (c .before .loop .inv .0) (c .loop-test .left))
 
-pub sum-bodies-spec : {M : Type 1} → statement M
-sum-bodies-spec =
+pub sum-numbers-spec : {M : Type 1} → statement M
+sum-numbers-spec =
     tie.close
     (tie.spec
     Inv-loop

@@ -1,18 +1,18 @@
--- `lent_bodies::add_inertias` meets its contract: its code is `Each`'s, with add_inertia for a step (`Adds`). Assumes nothing.
+-- `joins::add_inertias` meets its contract: its code is `Each`'s, with add_inertia for a step (`Adds`). Assumes nothing.
 use contract.Running.{givenOf, tables, tablesOf}
 use denote.Triple.Spec.{tripleOf}
 use denote.Triple.Table.{entered, cited}
 use Rattle.bodies.proofs.Body as body
 use Rattle.bodies.proofs.Body.Laws as body-laws
 use Rattle.joins.proofs.add_inertia.Met as step-met
 use Rattle.joins.proofs.add_inertia.Symbol as step-symbol
 use Rattle.joins.proofs.add_inertia.Symbol.{name as #step}
 use Rattle.joins.specs.Joins.{addInertia}
-use Rattle.lent_bodies.proofs.Adds.{Step, adds-each}
-use Rattle.lent_bodies.proofs.add_inertias as this
-use Rattle.lent_bodies.proofs.add_inertias.Code as code
-use Rattle.lent_bodies.proofs.add_inertias.Key.{name as #this}
-use Rattle.lent_bodies.proofs.add_inertias.Statement as stated
+use Rattle.joins.proofs.Adds.{Step, adds-each}
+use Rattle.joins.proofs.add_inertias as this
+use Rattle.joins.proofs.add_inertias.Code as code
+use Rattle.joins.proofs.add_inertias.Key.{name as #this}
+use Rattle.joins.proofs.add_inertias.Statement as stated
 
 pub add-inertias-spec : {M : Type 1} → stated.statement M
 unfolding code.routine tablesOf

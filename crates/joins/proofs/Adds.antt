@@ -29,8 +29,8 @@ use denote.Triple.Walked.{says, Stays, stay-none, stay-none-slice, walkOf, Walks
 use Rattle.bodies.proofs.Body as body
 use Rattle.bodies.proofs.Body.Laws as body-laws
 use Rattle.bodies.specs.declared.Body.{Body}
-use Rattle.lent_bodies.proofs.Each.{body-val, each, Told, each-runs}
-use Rattle.lent_bodies.specs.LentBodies.{addEach}
+use Rattle.joins.proofs.Each.{body-val, each, Told, each-runs}
+use Rattle.joins.specs.Lists.{addEach}
 
 -- ---- the contracts: of g(s: T, b: Body) -> T, and of the loop, f(start: T, bodies: &[Body]) -> T
 
