@@ -38,7 +38,10 @@ atFirst = memoryIn (replicate scratchLength (bits 0)) (replicate engineNumbers (
 -- what is told on standard error, by whether every line was answered (docs/FORMS.md, "Where a read or a write fails")
 unfoldable pub told : Bool → List ℕ
 told answered =
-    cond answered [] (text "card: a read or a write failed; send the lines without an answer again" ++ (10 ∷ []))
+    cond answered
+    []
+    (text "card: a read or a write failed; send the lines without an answer again, "
+    ++ text "and submit again the jobs that had not ended" ++ (10 ∷ []))
 
 -- what is lent to the run
 pub record Lends (buffer chunk : List ℕ) (numbers : List Float) (counts out : List ℕ) : Type 0 where

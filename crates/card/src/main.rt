@@ -16,6 +16,7 @@ ghost use Rattle.inputs.specs.Inputs.{ReplyFits};
 ghost use Rattle.inputs.specs.States.{Lent};
 ghost use Rattle.reads.specs.Reads.{mostRead};
 ghost use Rattle.card.specs.Program.{atFirst, told, Lends, Stands, Steps, Replies, Turns, Ends, Closes, Runs};
+use arguments::Asked;
 use input_lines::State;
 use lent_engines::ENGINE_COUNTS;
 use lent_engines::ENGINE_NUMBERS;
@@ -227,7 +228,8 @@ fn tell(out: &mut [u8], answered: bool) -> usize
     texts::put_bytes(
         out,
         0,
-        b"card: a read or a write failed; send the lines without an answer again\n",
+        b"card: a read or a write failed; send the lines without an answer again, \
+        and submit again the jobs that had not ended\n",
     )
 }
 
@@ -305,7 +307,8 @@ fn run(
     end_run(buffer, turn, scratch, engine_numbers, engine_counts, out)
 }
 
-fn main() {
+// The program without arguments.
+fn answer_input() {
     let mut buffer = io::buffer();
     let mut chunk = io::large_buffer();
     let mut scratch = [0.0; 1024];
@@ -322,4 +325,24 @@ fn main() {
     );
     let told = end.told;
     io::write_all(STDERR_FILENO, &out[..told]);
+}
+
+fn write_help() {
+    arguments::write_text(
+        b"card",
+        b"usage: card < LINES\n\
+        Answers each line of standard input on standard output: figures, or (refused N).\n\
+        card --help prints this, card --version the version; card(1) and FORMS.md have the forms.\n",
+    );
+}
+
+fn main() {
+    match arguments::read() {
+        Asked::Run => answer_input(),
+        Asked::Help => write_help(),
+        Asked::Version => arguments::write_text(b"card", b"card 0.1.0\n"),
+        Asked::Unknown => {
+            io::write_all(STDERR_FILENO, b"card: unknown argument; see card --help\n");
+        }
+    }
 }

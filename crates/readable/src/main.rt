@@ -14,6 +14,7 @@ ghost use Rattle.blocks.specs.Cards.{blockBytes};
 ghost use Rattle.reads.specs.Reads.{mostRead};
 ghost use Rattle.readable.specs.Program.{told, Lends, Counted, ShowsLine, Steps, ShowsChunk};
 ghost use Rattle.readable.specs.Program.{Turns, ShowsLast, Closes, Runs};
+use arguments::Asked;
 use input_lines::State;
 use libc::STDERR_FILENO;
 use libc::STDIN_FILENO;
@@ -226,11 +227,35 @@ fn run(buffer: &mut [u8], chunk: &mut [u8], out: &mut [u8]) -> End
     end_run(buffer, turn, out)
 }
 
-fn main() {
+// The program without arguments.
+fn show_input() {
     let mut buffer = io::buffer();
     let mut chunk = io::large_buffer();
     let mut out = [0; 1024];
     let end = run(&mut buffer, &mut chunk, &mut out);
     let told = end.told;
     io::write_all(STDERR_FILENO, &out[..told]);
+}
+
+fn write_help() {
+    arguments::write_text(
+        b"readable",
+        b"usage: card < LINES | readable\n\
+        Shows each answer of the card program as a block of text for people.\n\
+        readable --help prints this, readable --version the version; readable(1) says more.\n",
+    );
+}
+
+fn main() {
+    match arguments::read() {
+        Asked::Run => show_input(),
+        Asked::Help => write_help(),
+        Asked::Version => arguments::write_text(b"readable", b"readable 0.1.0\n"),
+        Asked::Unknown => {
+            io::write_all(
+                STDERR_FILENO,
+                b"readable: unknown argument; see readable --help\n",
+            );
+        }
+    }
 }

@@ -1,11 +1,11 @@
--- `card::main` meets its contract: what it lends is what `run` asks for. Assumes nothing.
+-- `card::answer_input` meets its contract: what it lends is what `run` asks for. Assumes nothing.
 use mathlib.Core.Path.{refl, sym}
 use native.Mathlib.Omega.{arith}
 use lib.Seq.{length-take-le}
 use Rattle.card.specs.Program.{atFirst}
 use borrow.Author.Needs.{needs}
-use Rattle.card.proofs.main.Statement.{statement}
-use Rattle.card.proofs.main.Tie as tie
+use Rattle.card.proofs.answer_input.Statement.{statement}
+use Rattle.card.proofs.answer_input.Tie as tie
 
 buffer-requires : tie.Need-buffer-requires
 buffer-requires c κs = search needs
@@ -53,8 +53,8 @@ write-all-requires c κs = search needs
 returns : tie.Need-returns
 returns c = search needs
 
-pub main-spec : {M : Type 1} → statement M
-main-spec =
+pub answer-input-spec : {M : Type 1} → statement M
+answer-input-spec =
     tie.close
     (tie.spec
     buffer-requires

@@ -1,10 +1,10 @@
--- `readable::main` meets its contract: what it lends is what `run` asks for. Assumes nothing.
+-- `readable::show_input` meets its contract: what it lends is what `run` asks for. Assumes nothing.
 use mathlib.Core.Path.{sym}
 use native.Mathlib.Omega.{arith}
 use lib.Seq.{length-take-le}
 use borrow.Author.Needs.{needs}
-use Rattle.readable.proofs.main.Statement.{statement}
-use Rattle.readable.proofs.main.Tie as tie
+use Rattle.readable.proofs.show_input.Statement.{statement}
+use Rattle.readable.proofs.show_input.Tie as tie
 
 buffer-requires : tie.Need-buffer-requires
 buffer-requires c κs = search needs
@@ -38,8 +38,8 @@ write-all-requires c κs = search needs
 returns : tie.Need-returns
 returns c = search needs
 
-pub main-spec : {M : Type 1} → statement M
-main-spec =
+pub show-input-spec : {M : Type 1} → statement M
+show-input-spec =
     tie.close
     (tie.spec
     buffer-requires
