@@ -161,25 +161,25 @@ module _ (table key : List ℕ) (e : table ≡ withBars cards) where
   pub room-in-table : room cardMost (textFor key (cutAtBars table)) ≤ 1000
   room-in-table = subst (λ (ts : List (List ℕ)). room cardMost (textFor key ts) ≤ 1000) (sym cards-in) (card-room key)
 
-  pub shown-from : (out after : List ℕ) (figures : List Float) (counts : List ℕ) (r : ℕ)
-      → Appended out 0 (orElse (filled card (textFor key (cutAtBars table)) figures counts) noAnswer ++ newline) after r → Appended out 0 (shown key figures counts) after r
-  shown-from out after figures counts r a = subst (λ (ts : List (List ℕ)). Appended out 0 (orElse (filled card (textFor key ts) figures counts) noAnswer ++ newline) after r) cards-in a
+  pub shown-from : (out after : List ℕ) (figures : List Float) (counts : List ℕ) (n r : ℕ)
+      → Appended out n (orElse (filled card (textFor key (cutAtBars table)) figures counts) noAnswer ++ newline) after r → Appended out n (shown key figures counts) after r
+  shown-from out after figures counts n r a = subst (λ (ts : List (List ℕ)). Appended out n (orElse (filled card (textFor key ts) figures counts) noAnswer ++ newline) after r) cards-in a
 
 -- a block that is there, and its empty line; or that there is none
-module _ (out between after t other : List ℕ) (n r : ℕ) (first : Appended out 0 t between n) where
-  pub block-put : 0 < n → Appended between n newline after r → Appended out 0 (orElse t other ++ newline) after r
+module _ (out between after t other : List ℕ) (n m r : ℕ) (first : Appended out n t between m) where
+  pub block-put : n < m → Appended between m newline after r → Appended out n (orElse t other ++ newline) after r
   block-put h a =
       let e = first .ends in
-      subst (λ (x : List ℕ). Appended out 0 (x ++ newline) after r) (sym (some-text t other (omega (arith, h, e)))) (then out between after 0 n r t newline first a)
+      subst (λ (x : List ℕ). Appended out n (x ++ newline) after r) (sym (some-text t other (omega (arith, h, e)))) (then out between after n m r t newline first a)
 
-  pub none-put : n ≤ 0 → Appended between 0 (other ++ newline) after r → Appended out 0 (orElse t other ++ newline) after r
+  pub none-put : m ≤ n → Appended between n (other ++ newline) after r → Appended out n (orElse t other ++ newline) after r
   none-put h a =
       let e = first .ends in
       let z : length t ≡ 0 = omega (arith, h, e) in
-      let m : n ≡ 0 = omega (arith, h) in
-      subst (λ (x : List ℕ). Appended out 0 (x ++ newline) after r) (sym (no-text t other z))
-      (subst (λ (x : List ℕ). Appended out 0 (x ++ (other ++ newline)) after r) (empty t z)
-      (then out between after 0 0 r t (other ++ newline) (subst (λ (k : ℕ). Appended out 0 t between k) m first) a))
+      let s : m ≡ n = omega (arith, h, e) in
+      subst (λ (x : List ℕ). Appended out n (x ++ newline) after r) (sym (no-text t other z))
+      (subst (λ (x : List ℕ). Appended out n (x ++ (other ++ newline)) after r) (empty t z)
+      (then out between after n n r t (other ++ newline) (subst (λ (k : ℕ). Appended out n t between k) s first) a))
     where
       empty : (l : List ℕ) → length l ≡ 0 → l ≡ []
       empty [] k = refl
@@ -220,15 +220,15 @@ module _ (out after : List ℕ) (figures : List Float) (n r : ℕ) (xy xz yz : F
 
 -- ---- the text that is found
 
-pub found-room : (p t : List ℕ) (k : ℕ) → p ≡ t → room cardMost t ≤ 1000 → 1024 ≤ k → 0 + room cardMost p ≤ k
-found-room p t k e h g = let f = ap (room cardMost) e in omega (arith, f, h, g)
+pub found-room : (p t : List ℕ) (n k : ℕ) → p ≡ t → room cardMost t ≤ 1000 → n + 1024 ≤ k → n + room cardMost p ≤ k
+found-room p t n k e h g = let f = ap (room cardMost) e in omega (arith, f, h, g)
 
-pub found-filled : (out after p t : List ℕ) (figures : List Float) (counts : List ℕ) (n : ℕ) → p ≡ t → Appended out 0 (filled card p figures counts) after n → Appended out 0 (filled card t figures counts) after n
-found-filled out after p t figures counts n e a = subst (λ (x : List ℕ). Appended out 0 (filled card x figures counts) after n) e a
+pub found-filled : (out after p t : List ℕ) (figures : List Float) (counts : List ℕ) (n m : ℕ) → p ≡ t → Appended out n (filled card p figures counts) after m → Appended out n (filled card t figures counts) after m
+found-filled out after p t figures counts n m e a = subst (λ (x : List ℕ). Appended out n (filled card x figures counts) after m) e a
 
 -- a block is no longer than its room
-pub card-short : (out after p t : List ℕ) (figures : List Float) (counts : List ℕ) (n : ℕ) → p ≡ t → room cardMost t ≤ 1000 → Appended out 0 (filled card p figures counts) after n → n ≤ 1000
-card-short out after p t figures counts n e h a =
+pub card-short : (out after p t : List ℕ) (figures : List Float) (counts : List ℕ) (n m : ℕ) → p ≡ t → room cardMost t ≤ 1000 → Appended out n (filled card p figures counts) after m → m ≤ n + 1000
+card-short out after p t figures counts n m e h a =
     let f = filled-fits card cardMost card-fits p figures counts in
     let g = a .ends in
     let k = ap (room cardMost) e in
@@ -236,16 +236,16 @@ card-short out after p t figures counts n e h a =
 
 -- ---- a line
 
-pub long-line : (line out after : List ℕ) (r : ℕ) → 512 < length line → Appended out 0 (noAnswer ++ newline) after r → Appended out 0 (blockOf line) after r
+pub long-line : (line out after : List ℕ) (n r : ℕ) → 512 < length line → Appended out n (noAnswer ++ newline) after r → Appended out n (blockOf line) after r
 unfolding blockOf
-long-line line out after r h a =
-    subst (λ (c : Bool). Appended out 0 (cond c (shown (shapeIn line) (figuresIn line) (countsIn line)) (noAnswer ++ newline)) after r) (sym (lt-leb (length line) 512 h)) a
+long-line line out after n r h a =
+    subst (λ (c : Bool). Appended out n (cond c (shown (shapeIn line) (figuresIn line) (countsIn line)) (noAnswer ++ newline)) after r) (sym (lt-leb (length line) 512 h)) a
 
-pub answer-line : (line : List ℕ) (p : Read) (shape : List ℕ) (figures : List Float) (counts out after : List ℕ) (r : ℕ) → length line ≤ 512 → IsRead line p shape figures counts
-    → Appended out 0 (shown (take (p .bytes) shape) (take (p .figures) figures) (take (p .counts) counts)) after r → Appended out 0 (blockOf line) after r
+pub answer-line : (line : List ℕ) (p : Read) (shape : List ℕ) (figures : List Float) (counts out after : List ℕ) (n r : ℕ) → length line ≤ 512 → IsRead line p shape figures counts
+    → Appended out n (shown (take (p .bytes) shape) (take (p .figures) figures) (take (p .counts) counts)) after r → Appended out n (blockOf line) after r
 unfolding blockOf
-answer-line line p shape figures counts out after r h d a =
-    subst (λ (c : Bool). Appended out 0 (cond c (shown (shapeIn line) (figuresIn line) (countsIn line)) (noAnswer ++ newline)) after r) (sym (le-leb (length line) 512 h))
-    (subst (λ (s : List ℕ). Appended out 0 (shown s (figuresIn line) (countsIn line)) after r) (d .of-shape)
-    (subst (λ (f : List Float). Appended out 0 (shown (take (p .bytes) shape) f (countsIn line)) after r) (d .of-figures)
-    (subst (λ (n : List ℕ). Appended out 0 (shown (take (p .bytes) shape) (take (p .figures) figures) n) after r) (d .of-counts) a)))
+answer-line line p shape figures counts out after n r h d a =
+    subst (λ (c : Bool). Appended out n (cond c (shown (shapeIn line) (figuresIn line) (countsIn line)) (noAnswer ++ newline)) after r) (sym (le-leb (length line) 512 h))
+    (subst (λ (s : List ℕ). Appended out n (shown s (figuresIn line) (countsIn line)) after r) (d .of-shape)
+    (subst (λ (f : List Float). Appended out n (shown (take (p .bytes) shape) f (countsIn line)) after r) (d .of-figures)
+    (subst (λ (k : List ℕ). Appended out n (shown (take (p .bytes) shape) (take (p .figures) figures) k) after r) (d .of-counts) a)))

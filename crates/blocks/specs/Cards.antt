@@ -184,5 +184,12 @@ blockOf line = cond (leb (length line) longestAnswer) (shown (shapeIn line) (fig
 abbrev pub blockBytes : ℕ
 blockBytes = 1024
 
-abbrev pub BlockFits : List ℕ → Type 0
-BlockFits out = blockBytes ≤ length out
+abbrev pub BlockFits : ℕ → List ℕ → Type 0
+BlockFits n out = n + blockBytes ≤ length out
+
+-- the block with its line's number above it, so that a reader can pair them: a word, a number of at most twenty digits, a newline
+unfoldable pub numberedBlock : ℕ → List ℕ → List ℕ
+numberedBlock number line = text "line " ++ (countText number ++ (newline ++ blockOf line))
+
+abbrev pub numberedBytes : ℕ
+numberedBytes = 26 + blockBytes

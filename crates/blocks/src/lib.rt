@@ -15,37 +15,45 @@ ghost use Rattle.templates.specs.Matching.{cutAtBars};
 ghost use Rattle.blocks.specs.Tables.{textFor};
 ghost use Rattle.blocks.specs.Filled.{filled, room};
 ghost use Rattle.blocks.specs.Cards.{orElse, newline, card, cardMost, noAnswer, shown, blockOf, BlockFits};
+ghost use Rattle.blocks.specs.Cards.{numberedBlock, numberedBytes};
 
 // No answer has more bytes.
 const LONGEST: usize = 512;
 
-// No block has more bytes.
-pub const BLOCK_BYTES: usize = 1024;
-
-// The block of the answer that has this shape in the table, and an empty line.
-fn put_from(out: &mut [u8], table: &[u8], shape: &[u8], figures: &[f64], counts: &[u64]) -> usize
-    requires { ⌜ BlockFits (now out) × (length (now table) ≤ 4096) × (room cardMost (textFor (now shape) (cutAtBars (now table))) ≤ 1000) ⌝ }
-    ensures { λ r. ⌜ Appended (now (out .entry)) 0
+// Appends the block of the answer that has this shape in the table, and an empty line.
+fn put_from(
+    out: &mut [u8],
+    n: usize,
+    table: &[u8],
+    shape: &[u8],
+    figures: &[f64],
+    counts: &[u64],
+) -> usize
+    requires { ⌜ BlockFits n (now out) × (length (now table) ≤ 4096)
+        × (room cardMost (textFor (now shape) (cutAtBars (now table))) ≤ 1000) ⌝ }
+    ensures { λ r. ⌜ Appended (now (out .entry)) n
         (orElse (filled card (textFor (now (shape .entry)) (cutAtBars (now (table .entry)))) (now (figures .entry)) (now (counts .entry))) noAnswer
         ++ newline) (now (out .exit)) r ⌝ }
 {
     let p = lookup::find(table, shape);
     let from = p.from;
     let to = p.to;
-    let n = filling::put_card(out, 0, &table[from..to], figures, counts);
-    if 0 < n {
-        return texts::put_bytes(out, n, b"\n");
+    let end = filling::put_card(out, n, &table[from..to], figures, counts);
+    if n < end {
+        return texts::put_bytes(out, end, b"\n");
     }
-    texts::put_bytes(out, 0, b"no answer of the card program\n\n")
+    texts::put_bytes(out, n, b"no answer of the card program\n\n")
 }
 
-// What is shown for an answer's shape, figures and counts.
-fn put_shown(out: &mut [u8], shape: &[u8], figures: &[f64], counts: &[u64]) -> usize
-    requires { ⌜ BlockFits (now out) ⌝ }
-    ensures { λ r. ⌜ Appended (now (out .entry)) 0 (shown (now (shape .entry)) (now (figures .entry)) (now (counts .entry))) (now (out .exit)) r ⌝ }
+// Appends what is shown for an answer's shape, figures and counts.
+fn put_shown(out: &mut [u8], n: usize, shape: &[u8], figures: &[f64], counts: &[u64]) -> usize
+    requires { ⌜ BlockFits n (now out) ⌝ }
+    ensures { λ r. ⌜ Appended (now (out .entry)) n
+        (shown (now (shape .entry)) (now (figures .entry)) (now (counts .entry))) (now (out .exit)) r ⌝ }
 {
     put_from(
         out,
+        n,
         b"(figures (mass F) (centre F F F) (inertia F F F F F F) (intervals N) (samples N))|\
         Bthe root's leading edgeCDpieces N, samples N\n|\
         (joined (mass F) (centre F F F) (inertia F F F F F F))|Bthe originCD|\
@@ -73,20 +81,31 @@ fn put_shown(out: &mut [u8], shape: &[u8], figures: &[f64], counts: &[u64]) -> u
     )
 }
 
-// The block of a line, at the start of out; answers how many bytes it has.
-pub fn put_block(out: &mut [u8], line: &[u8]) -> usize
-    requires { ⌜ BlockFits (now out) ⌝ }
-    ensures { λ r. ⌜ Appended (now (out .entry)) 0 (blockOf (now (line .entry))) (now (out .exit)) r ⌝ }
+// Appends the block of a line to the n bytes at the start of out, and answers how many there are then.
+fn put_block(out: &mut [u8], n: usize, line: &[u8]) -> usize
+    requires { ⌜ BlockFits n (now out) ⌝ }
+    ensures { λ r. ⌜ Appended (now (out .entry)) n (blockOf (now (line .entry))) (now (out .exit)) r ⌝ }
 {
     if LONGEST < line.len() {
-        return texts::put_bytes(out, 0, b"no answer of the card program\n\n");
+        return texts::put_bytes(out, n, b"no answer of the card program\n\n");
     }
     let mut shape = [0u8; 512];
     let mut figures = [0.0; 512];
     let mut counts = [0u64; 512];
     let r = words::read_answer(line, &mut shape, &mut figures, &mut counts);
-    let n = r.bytes;
+    let k = r.bytes;
     let i = r.figures;
     let j = r.counts;
-    put_shown(out, &shape[..n], &figures[..i], &counts[..j])
+    put_shown(out, n, &shape[..k], &figures[..i], &counts[..j])
+}
+
+// The number of a line and its block, at the start of out; answers how many bytes they have.
+pub fn put_numbered(out: &mut [u8], number: u64, line: &[u8]) -> usize
+    requires { ⌜ numberedBytes ≤ length (now out) ⌝ }
+    ensures { λ r. ⌜ Appended (now (out .entry)) 0 (numberedBlock number (now (line .entry))) (now (out .exit)) r ⌝ }
+{
+    let word = texts::put_bytes(out, 0, b"line ");
+    let digits = counts::put_count(out, word, number);
+    let heading = texts::put_bytes(out, digits, b"\n");
+    put_block(out, heading, line)
 }

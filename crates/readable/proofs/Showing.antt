@@ -18,16 +18,21 @@ use Rattle.input_lines.specs.Kept.{Keeps, KeepsLine}
 use Rattle.input_lines.proofs.Cutting.{begun-twice, lines-twice}
 use Rattle.input_lines.proofs.Keeping.{next-taken}
 use Rattle.blocks.specs.Words.{shapeIn, figuresIn, countsIn}
-use Rattle.blocks.specs.Cards.{newline, noAnswer, shown, blockOf, blockBytes}
+use Rattle.tokens.specs.Text.{text}
+use Rattle.counts.specs.Counts.{countText}
+use Rattle.blocks.specs.Cards.{newline, noAnswer, shown, blockOf, numberedBlock, numberedBytes}
 use Rattle.readable.specs.declared.Last.{Last}
 use Rattle.readable.specs.declared.Step.{Step}
-use Rattle.readable.specs.Program.{blocksOf, Shows, ShowsLine, Steps, HandsOn}
+use Rattle.readable.specs.Program.{blocksFrom, Shows, ShowsLine, Steps, HandsOn}
 
-pub blocks-append : (l k : List (List ℕ)) → blocksOf (l ++ k) ≡ blocksOf l ++ blocksOf k
-unfolding blocksOf
-blocks-append [] k = refl
-blocks-append (line ∷ l) k =
-    ap (λ (t : List ℕ). blockOf line ++ t) (blocks-append l k) ∙ sym (append-assoc (blockOf line) (blocksOf l) (blocksOf k))
+pub blocks-append : (n : ℕ) (l k : List (List ℕ)) → blocksFrom n (l ++ k) ≡ blocksFrom n l ++ blocksFrom (n + length l) k
+unfolding blocksFrom
+blocks-append n [] k = let e : n ≡ n + 0 = omega arith in ap (λ (i : ℕ). blocksFrom i k) e
+blocks-append n (line ∷ l) k =
+    let e : n + 1 + length l ≡ n + length (line ∷ l) = omega arith in
+    ap (λ (t : List ℕ). numberedBlock n line ++ t)
+    (blocks-append (n + 1) l k ∙ ap (λ (i : ℕ). blocksFrom (n + 1) l ++ blocksFrom i k) e)
+    ∙ sym (append-assoc (numberedBlock n line) (blocksFrom (n + 1) l) (blocksFrom (n + length (line ∷ l)) k))
 
 -- a line of which not all is kept has the block of what is kept: both are too long for an answer
 long-block : (line : List ℕ) → 512 < length line → blockOf line ≡ noAnswer ++ newline
@@ -35,8 +40,8 @@ unfolding blockOf
 long-block line h =
     ap (λ (t : Bool). cond t (shown (shapeIn line) (figuresIn line) (countsIn line)) (noAnswer ++ newline)) (lt-leb (length line) 512 h)
 
-pub kept-block : {buffer : List ℕ} {s : State} {begun : List ℕ} → Keeps buffer s begun → blockOf (take (s .kept) buffer) ≡ blockOf begun
-kept-block {buffer} {s} {begun} k = by (ltb lineBytes (length begun)) refl
+same-block : {buffer : List ℕ} {s : State} {begun : List ℕ} → Keeps buffer s begun → blockOf (take (s .kept) buffer) ≡ blockOf begun
+same-block {buffer} {s} {begun} k = by (ltb lineBytes (length begun)) refl
   where
     by : (t : Bool) → ltb lineBytes (length begun) ≡ t → blockOf (take (s .kept) buffer) ≡ blockOf begun
     by false e = ap blockOf (k .bytes ∙ take-all lineBytes begun (ltb-false lineBytes (length begun) e))
@@ -45,36 +50,57 @@ kept-block {buffer} {s} {begun} k = by (ltb lineBytes (length begun)) refl
         let l = ap length (k .bytes) in let m = length-take lineBytes begun in
         long-block (take (s .kept) buffer) (omega arith) ∙ sym (long-block begun (omega arith))
 
-none : {buffer : List ℕ} {s : State} → Shows buffer buffer s s [] []
-unfolding begunAfter linesWithin blocksOf
-none = record { blocks = λ begun k. refl; keeps = λ begun k. k }
+pub kept-block : {buffer : List ℕ} {s : State} {begun : List ℕ} (n : ℕ) → Keeps buffer s begun
+    → numberedBlock n (take (s .kept) buffer) ≡ numberedBlock n begun
+unfolding numberedBlock
+kept-block n k = ap (λ (b : List ℕ). text "line " ++ (countText n ++ (newline ++ b))) (same-block k)
 
-also : {buffer between after : List ℕ} {s t r : State} {a b x y : List ℕ} → Shows buffer between s t a x → Shows between after t r b y
-    → Shows buffer after s r (a ++ b) (x ++ y)
-also {a = a} {b = b} {x = x} {y = y} p q =
+none : {buffer : List ℕ} {s : State} {n : ℕ} → Shows buffer buffer s s n n [] []
+unfolding begunAfter linesWithin blocksFrom
+none = record { blocks = λ begun k. refl; ends = λ begun k. omega arith; keeps = λ begun k. k }
+
+also : {buffer between after : List ℕ} {s t r : State} {m n o : ℕ} {a b x y : List ℕ} → Shows buffer between s t m n a x
+    → Shows between after t r n o b y → Shows buffer after s r m o (a ++ b) (x ++ y)
+also {m = m} {n = n} {a = a} {b = b} {x = x} {y = y} p q =
     record {
       blocks = λ begun k.
           (let first = linesWithin begun a in let second = linesWithin (begunAfter begun a) b in
+          let e = p .ends begun k in let i : n + 1 ≡ m + 1 + length first = omega (arith, e) in
           ap (λ (t : List ℕ). t ++ y) (p .blocks begun k)
-          ∙ ap (λ (t : List ℕ). blocksOf first ++ t) (q .blocks (begunAfter begun a) (p .keeps begun k))
-          ∙ sym (blocks-append first second)
-          ∙ ap blocksOf (sym (lines-twice begun a b)));
+          ∙ ap (λ (t : List ℕ). blocksFrom (m + 1) first ++ t)
+          (q .blocks (begunAfter begun a) (p .keeps begun k) ∙ ap (λ (j : ℕ). blocksFrom j second) i)
+          ∙ sym (blocks-append (m + 1) first second)
+          ∙ ap (blocksFrom (m + 1)) (sym (lines-twice begun a b)));
+      ends = λ begun k.
+          (let e = p .ends begun k in let f = q .ends (begunAfter begun a) (p .keeps begun k) in
+          let l = ap length (lines-twice begun a b) in
+          let g = length-append (linesWithin begun a) (linesWithin (begunAfter begun a) b) in
+          omega (arith, e, f, l, g));
       keeps = λ begun k. rw (begun-twice begun a b) (q .keeps (begunAfter begun a) (p .keeps begun k));
     }
 
 -- bytes of a line: no line ends in them
-line-kept : {buffer after : List ℕ} {s : State} {bytes : List ℕ} {r : KeptLine} → KeepsLine buffer after s bytes r
-    → Shows buffer after s (r .state) (take (r .taken) bytes) []
-unfolding blocksOf
-line-kept p = record { blocks = λ begun k. rw (p .none-ends begun) refl; keeps = p .keeps }
+line-kept : {buffer after : List ℕ} {s : State} {n : ℕ} {bytes : List ℕ} {r : KeptLine} → KeepsLine buffer after s bytes r
+    → Shows buffer after s (r .state) n n (take (r .taken) bytes) []
+unfolding blocksFrom
+line-kept p =
+    record {
+      blocks = λ begun k. rw (p .none-ends begun) refl;
+      ends = λ begun k. rw (p .none-ends begun) (omega arith);
+      keeps = p .keeps;
+    }
 
 -- its newline
-line-ended : {buffer : List ℕ} {s r : State} {out : List ℕ} {last : Last} (b : ℕ) → b ≡ 10 → Keeps buffer r [] → ShowsLine buffer s out last
-    → Shows buffer buffer s r (b ∷ []) (take (last .written) out)
-unfolding begunAfter linesWithin blocksOf
-line-ended b h e p =
+line-ended : {buffer : List ℕ} {s r : State} {n : ℕ} {out : List ℕ} {last : Last} (b : ℕ) → b ≡ 10 → Keeps buffer r []
+    → ShowsLine buffer s (n + 1) out last → Shows buffer buffer s r n (n + 1) (b ∷ []) (take (last .written) out)
+unfolding begunAfter linesWithin blocksFrom
+line-ended {n = n} b h e p =
     let q = eq-eqb b 10 h in
-    record { blocks = λ begun k. rw q (p .block begun k ∙ sym (append-nil (blockOf begun))); keeps = λ begun k. rw q e }
+    record {
+      blocks = λ begun k. rw q (p .block begun k ∙ sym (append-nil (numberedBlock (n + 1) begun)));
+      ends = λ begun k. rw q refl;
+      keeps = λ begun k. rw q e;
+    }
 
 -- the next bytes of a chunk, as `keep_line` is handed them
 rest-all : (chunk : List ℕ) (at : ℕ) → take (length chunk - at) (drop at chunk) ≡ drop at chunk
@@ -88,12 +114,13 @@ module _ {buffer after : List ℕ} (chunk : List ℕ) (s : Step) {line : KeptLin
   -- its end
   pub to-end : (out : List ℕ) → s .taken + line .taken ≡ length chunk
       → Steps buffer after s
-      (record { state = line .state; taken = s .taken + line .taken; handed = s .handed; written = 0; all = true }) chunk out
+      (record { state = line .state; ended = s .ended; taken = s .taken + line .taken; handed = s .handed; written = 0; all = true }) chunk out
   to-end out g =
       let e : s .taken + line .taken - s .taken ≡ line .taken = omega arith in
       let k = rw (rest-all chunk (s .taken)) at p in
       record {
         shows = rw e (line-kept k);
+        lines = omega arith;
         within = p .within;
         room = omega arith;
         counts = omega arith;
@@ -103,10 +130,11 @@ module _ {buffer after : List ℕ} (chunk : List ℕ) (s : Step) {line : KeptLin
 
   -- a newline
   pub past-newline : {next : State} {out : List ℕ} {last : Last} → (s .taken + line .taken ≡ length chunk → ⊥)
-      → ((b : List ℕ) → Keeps b next []) → ShowsLine after (line .state) out last
+      → ((b : List ℕ) → Keeps b next []) → ShowsLine after (line .state) (s .ended + 1) out last
       → Steps buffer after s
       (record {
         state = next;
+        ended = s .ended + 1;
         taken = s .taken + line .taken + 1;
         handed = s .handed + last .written;
         written = last .written;
@@ -122,6 +150,7 @@ module _ {buffer after : List ℕ} (chunk : List ℕ) (s : Step) {line : KeptLin
         shows =
             rw (n, next-taken (drop (s .taken) chunk) (line .taken) less)
             (also (line-kept k) (line-ended (getD (drop (s .taken) chunk) (line .taken) 0) (k .ends less) (e after) q));
+        lines = omega arith;
         within = omega arith;
         room = q .room;
         counts = refl;
@@ -129,30 +158,44 @@ module _ {buffer after : List ℕ} (chunk : List ℕ) (s : Step) {line : KeptLin
         some = omega arith;
       }
 
-pub none-handed : {buffer : List ℕ} {s : State} {handed : ℕ} → s .kept ≤ lineBytes → HandsOn buffer buffer s s [] handed handed
-none-handed h = record { text = []; shows = none; within = h; counts = omega arith; few = omega arith }
+pub none-handed : {buffer : List ℕ} {s : State} {n handed : ℕ} → s .kept ≤ lineBytes → HandsOn buffer buffer s s n n [] handed handed
+none-handed h = record { text = []; shows = none; within = h; lines = omega arith; counts = omega arith; few = omega arith }
 
-pub also-handed : {buffer between after : List ℕ} {s t r : State} {a b : List ℕ} {n m w : ℕ} → HandsOn buffer between s t a n m
-    → HandsOn between after t r b m w → HandsOn buffer after s r (a ++ b) n w
+pub also-handed : {buffer between after : List ℕ} {s t r : State} {a b : List ℕ} {i j k n m w : ℕ} → HandsOn buffer between s t i j a n m
+    → HandsOn between after t r j k b m w → HandsOn buffer after s r i k (a ++ b) n w
 also-handed {a = a} {b = b} p q =
     let e = p .counts in let f = q .counts in let l = length-append (p .text) (q .text) in let m = length-append a b in
-    let g = p .few in let h = q .few in
-    record { text = p .text ++ q .text; shows = also (p .shows) (q .shows); within = q .within; counts = omega arith; few = omega arith }
+    let g = p .few in let h = q .few in let c = p .lines in let d = q .lines in
+    record {
+      text = p .text ++ q .text;
+      shows = also (p .shows) (q .shows);
+      within = q .within;
+      lines = omega arith;
+      counts = omega arith;
+      few = omega arith;
+    }
 
 -- what the first bytes of `out` are, was handed to write
-step-hands : {buffer after : List ℕ} {s r : Step} {chunk out : List ℕ} → length out ≡ blockBytes → Steps buffer after s r chunk out
-    → HandsOn buffer after (s .state) (r .state) (take (r .taken - s .taken) (drop (s .taken) chunk)) (s .handed) (r .handed)
+step-hands : {buffer after : List ℕ} {s r : Step} {chunk out : List ℕ} → length out ≡ numberedBytes → Steps buffer after s r chunk out
+    → HandsOn buffer after (s .state) (r .state) (s .ended) (r .ended) (take (r .taken - s .taken) (drop (s .taken) chunk)) (s .handed) (r .handed)
 step-hands {s = s} {r = r} {chunk = chunk} {out = out} o p =
     let c = p .counts in let l = length-take-le (r .written) out (p .room) in let w = p .room in
     let m = p .more in let n = p .some in let d = length-take (r .taken - s .taken) (drop (s .taken) chunk) in
-    let e = length-drop (s .taken) chunk in
-    record { text = take (r .written) out; shows = p .shows; within = p .within; counts = omega arith; few = omega arith }
+    let e = length-drop (s .taken) chunk in let i = p .lines in
+    record {
+      text = take (r .written) out;
+      shows = p .shows;
+      within = p .within;
+      lines = omega arith;
+      counts = omega arith;
+      few = omega arith;
+    }
 
 -- a step more of a chunk
-pub next-step : {buffer between after : List ℕ} {b : State} {s r : Step} (chunk : List ℕ) {out : List ℕ} {handed : ℕ}
-    → length out ≡ blockBytes
-    → HandsOn buffer between b (s .state) (take (s .taken) chunk) handed (s .handed) → Steps between after s r chunk out
-    → HandsOn buffer after b (r .state) (take (r .taken) chunk) handed (r .handed)
+pub next-step : {buffer between after : List ℕ} {b : State} {n : ℕ} {s r : Step} (chunk : List ℕ) {out : List ℕ} {handed : ℕ}
+    → length out ≡ numberedBytes
+    → HandsOn buffer between b (s .state) n (s .ended) (take (s .taken) chunk) handed (s .handed) → Steps between after s r chunk out
+    → HandsOn buffer after b (r .state) n (r .ended) (take (r .taken) chunk) handed (r .handed)
 next-step {s = s} {r = r} chunk o h p =
     let m = p .more in
     let e : s .taken + (r .taken - s .taken) ≡ r .taken = omega arith in

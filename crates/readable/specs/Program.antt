@@ -14,16 +14,16 @@ use Rattle.reads.specs.Reads.{brought, atEnd, mostRead}
 use Rattle.input_lines.specs.declared.State.{State}
 use Rattle.input_lines.specs.Lines.{linesWithin, begunAfter, lastLine, linesOf}
 use Rattle.input_lines.specs.Kept.{Keeps}
-use Rattle.blocks.specs.Cards.{blockBytes, blockOf}
+use Rattle.blocks.specs.Cards.{numberedBytes, numberedBlock}
 use Rattle.readable.specs.declared.Last.{Last}
 use Rattle.readable.specs.declared.Step.{Step}
 use Rattle.readable.specs.declared.Turn.{Turn}
 use Rattle.readable.specs.declared.End.{End}
 
--- one block a line
-unfoldable pub blocksOf : List (List ℕ) → List ℕ
-blocksOf [] = []
-blocksOf (line ∷ lines) = blockOf line ++ blocksOf lines
+-- one block a line, numbered from n on
+unfoldable pub blocksFrom : ℕ → List (List ℕ) → List ℕ
+blocksFrom n [] = []
+blocksFrom n (line ∷ lines) = numberedBlock n line ++ blocksFrom (n + 1) lines
 
 -- what is told on standard error, by whether every line was shown (docs/FORMS.md, "Where a read or a write fails")
 unfoldable pub told : Bool → List ℕ
@@ -38,29 +38,32 @@ pub record Lends (buffer chunk out : List ℕ) : Type 0 where
   pub some : 0 < length chunk
   pub most : length chunk ≤ 65536
   -- room for a block
-  pub block : length out ≡ blockBytes
+  pub block : length out ≡ numberedBytes
 
--- what was handed to write can be counted, of so many bytes that were taken
-pub record Counted (taken : ℕ) (s : State) (handed : ℕ) : Type 0 where
+-- the lines that ended, and what was handed to write, can be counted, of so many bytes that were taken
+pub record Counted (taken : ℕ) (s : State) (ended handed : ℕ) : Type 0 where
   pub within : s .kept ≤ lineBytes
-  pub few : handed ≤ blockBytes * taken
+  pub lines : ended ≤ taken
+  pub few : handed ≤ numberedBytes * taken
 
--- some bytes taken after those of a line that has begun, whichever the state keeps: the text is the blocks of the
--- lines that ended, and the line that has begun then is kept
-pub record Shows (buffer after : List ℕ) (s r : State) (bytes text : List ℕ) : Type 0 where
-  pub blocks : (begun : List ℕ) → Keeps buffer s begun → text ≡ blocksOf (linesWithin begun bytes)
+-- some bytes taken after those of a line that has begun, whichever the state keeps, and after m lines that ended: the
+-- text is the blocks of the lines that ended in them, n have ended then, and the line that has begun then is kept
+pub record Shows (buffer after : List ℕ) (s r : State) (m n : ℕ) (bytes text : List ℕ) : Type 0 where
+  pub blocks : (begun : List ℕ) → Keeps buffer s begun → text ≡ blocksFrom (m + 1) (linesWithin begun bytes)
+  pub ends : (begun : List ℕ) → Keeps buffer s begun → n ≡ m + length (linesWithin begun bytes)
   pub keeps : (begun : List ℕ) → Keeps buffer s begun → Keeps after r (begunAfter begun bytes)
 
 -- the line that has begun is at its end: the first `written` bytes of `out` are its block
-pub record ShowsLine (buffer : List ℕ) (s : State) (out : List ℕ) (r : Last) : Type 0 where
-  pub block : (begun : List ℕ) → Keeps buffer s begun → take (r .written) out ≡ blockOf begun
+pub record ShowsLine (buffer : List ℕ) (s : State) (number : ℕ) (out : List ℕ) (r : Last) : Type 0 where
+  pub block : (begun : List ℕ) → Keeps buffer s begun → take (r .written) out ≡ numberedBlock number begun
   pub room : r .written ≤ length out
 
 -- bytes of a chunk taken from where the program stands on
 pub record Steps (buffer after : List ℕ) (s r : Step) (chunk out : List ℕ) : Type 0 where
   -- the first `written` bytes of `out` are the blocks of the lines that ended in them
-  pub shows : Shows buffer after (s .state) (r .state) (take (r .taken - s .taken) (drop (s .taken) chunk))
-      (take (r .written) out)
+  pub shows : Shows buffer after (s .state) (r .state) (s .ended) (r .ended)
+      (take (r .taken - s .taken) (drop (s .taken) chunk)) (take (r .written) out)
+  pub lines : r .ended ≤ s .ended + 1
   pub within : r .state .kept ≤ lineBytes
   pub room : r .written ≤ length out
   -- they were handed to write
@@ -70,19 +73,21 @@ pub record Steps (buffer after : List ℕ) (s r : Step) (chunk out : List ℕ) :
   pub some : r .taken ≤ length chunk
 
 -- some bytes taken after those of a line that has begun
-pub record HandsOn (buffer after : List ℕ) (s r : State) (bytes : List ℕ) (handed total : ℕ) : Type 0 where
+pub record HandsOn (buffer after : List ℕ) (s r : State) (m n : ℕ) (bytes : List ℕ) (handed total : ℕ) : Type 0 where
   -- the blocks of the lines that ended
   pub text : List ℕ
-  pub shows : Shows buffer after s r bytes text
+  pub shows : Shows buffer after s r m n bytes text
   pub within : r .kept ≤ lineBytes
+  pub lines : n ≤ m + length bytes
   -- were handed to write
   pub counts : total ≡ handed + length text
-  pub few : length text ≤ blockBytes * length bytes
+  pub few : length text ≤ numberedBytes * length bytes
 
 -- a chunk
-pub record ShowsChunk (buffer after : List ℕ) (s : State) (chunk : List ℕ) (handed : ℕ) (r : Step) : Type 0 where
+pub record ShowsChunk (buffer after : List ℕ) (s : State) (ended : ℕ) (chunk : List ℕ) (handed : ℕ)
+    (r : Step) : Type 0 where
   -- its first bytes are taken
-  pub hands : HandsOn buffer after s (r .state) (take (r .taken) chunk) handed (r .handed)
+  pub hands : HandsOn buffer after s (r .state) ended (r .ended) (take (r .taken) chunk) handed (r .handed)
   pub some : r .taken ≤ length chunk
   -- all of them, unless a write did not take all that it was handed
   pub all : r .all ≡ true → r .taken ≡ length chunk
@@ -93,7 +98,8 @@ pub record Turns (buffer after : List ℕ) (t r : Turn) (chunk : List ℕ) : Typ
   pub reads : r .read ≡ t .read + brought (r .got)
   -- the first of these are taken
   pub taken : ℕ
-  pub hands : HandsOn buffer after (t .state) (r .state) (take taken chunk) (t .handed) (r .handed)
+  pub hands : HandsOn buffer after (t .state) (r .state) (t .ended) (r .ended) (take taken chunk) (t .handed)
+      (r .handed)
   pub some : taken ≤ brought (r .got)
   -- all of them, unless a write did not take all that it was handed
   pub all : r .all ≡ true → taken ≡ brought (r .got)
@@ -101,9 +107,10 @@ pub record Turns (buffer after : List ℕ) (t r : Turn) (chunk : List ℕ) : Typ
   pub goes : r .more ≡ leb 1 (brought (r .got)) && r .all
 
 -- the end of the input: the line that has begun is the last, unless it has no byte
-pub record ShowsLast (buffer : List ℕ) (s : State) (out : List ℕ) (r : Last) : Type 0 where
+pub record ShowsLast (buffer : List ℕ) (s : State) (ended : ℕ) (out : List ℕ) (r : Last) : Type 0 where
   -- the first `written` bytes of `out` are its block
-  pub blocks : (begun : List ℕ) → Keeps buffer s begun → take (r .written) out ≡ blocksOf (lastLine begun)
+  pub blocks : (begun : List ℕ) → Keeps buffer s begun
+      → take (r .written) out ≡ blocksFrom (ended + 1) (lastLine begun)
   pub room : r .written ≤ length out
 
 -- what is told at the end of a run: that every line was shown, where the last read gave the end and every write took
@@ -118,7 +125,7 @@ pub record Closes (buffer : List ℕ) (t : Turn) (out : List ℕ) (r : End) : Ty
   -- at the input's end the last line's block is handed to write; else nothing is
   pub text : List ℕ
   pub blocks : (begun : List ℕ) → Keeps buffer (t .state) begun
-      → text ≡ blocksOf (cond (atEnd (t .got)) (lastLine begun) [])
+      → text ≡ blocksFrom (t .ended + 1) (cond (atEnd (t .got)) (lastLine begun) [])
   pub counts : r .handed ≡ t .handed + length text
   pub all : atEnd (t .got) ≡ false → r .all ≡ t .all
   pub tells : Tells out r
@@ -133,7 +140,7 @@ pub record Runs (out : List ℕ) (r : End) : Type 0 where
   pub text : List ℕ
   pub hands : r .handed ≡ length text
   -- it is the block of every line at the input's end, and where a read or a write failed, of every line that ended
-  pub blocks : text ≡ blocksOf (cond (atEnd (r .turn .got)) (linesOf taken) (linesWithin [] taken))
+  pub blocks : text ≡ blocksFrom 1 (cond (atEnd (r .turn .got)) (linesOf taken) (linesWithin [] taken))
   -- at the input's end there is no rest
   pub all : atEnd (r .turn .got) ≡ true → rest ≡ []
   -- it ends where a read brings nothing or a write does not take all, and else only with so many bytes read

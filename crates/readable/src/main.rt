@@ -10,7 +10,7 @@ ghost use Prim.Native.Nat.{_+_, _*_, _<_, _≤_};
 ghost use lib.ListN.{length};
 ghost use Rattle.texts.specs.Appended.{Appended};
 ghost use Rattle.tokens.specs.Tokens.{lineBytes};
-ghost use Rattle.blocks.specs.Cards.{blockBytes};
+ghost use Rattle.blocks.specs.Cards.{numberedBytes};
 ghost use Rattle.reads.specs.Reads.{mostRead};
 ghost use Rattle.readable.specs.Program.{told, Lends, Counted, ShowsLine, Steps, ShowsChunk};
 ghost use Rattle.readable.specs.Program.{Turns, ShowsLast, Closes, Runs};
@@ -27,21 +27,23 @@ struct Last {
     all: bool,
 }
 
-// Where the program stands in a chunk: the line that has begun, how many bytes of the chunk are taken, how many bytes
-// of blocks were handed to write since the program began, how many of them with the last write, and whether that took
-// them all.
+// Where the program stands in a chunk: the line that has begun, how many lines ended since the program began, how many
+// bytes of the chunk are taken, how many bytes of blocks were handed to write since the program began, how many of them
+// with the last write, and whether that took them all.
 struct Step {
     state: State,
+    ended: u64,
     taken: usize,
     handed: usize,
     written: usize,
     all: bool,
 }
 
-// Where the program stands between two reads: what the last one gave, how many bytes were read since the program
-// began, whether every write took all that it was handed, and whether to read on.
+// Where the program stands between two reads: what the last one gave, how many lines ended and how many bytes were
+// read since the program began, whether every write took all that it was handed, and whether to read on.
 struct Turn {
     state: State,
+    ended: u64,
     got: isize,
     read: usize,
     handed: usize,
@@ -58,14 +60,14 @@ struct End {
     told: usize,
 }
 
-// Writes the block of the line that is kept, which is at its end. A line of which not all is kept is no answer, as
-// what is kept is too long for one.
-fn show_line(buffer: &[u8], s: State, out: &mut [u8]) -> Last
-    requires { ⌜ (s .kept ≤ length (now buffer)) × (length (now out) ≡ blockBytes) ⌝ }
-    ensures { λ r. ⌜ ShowsLine (now (buffer .entry)) s (now (out .exit)) r ⌝ }
+// Writes the block of the line that is kept, which is at its end and has this number. A line of which not all is kept
+// is no answer, as what is kept is too long for one.
+fn show_line(buffer: &[u8], s: State, number: u64, out: &mut [u8]) -> Last
+    requires { ⌜ (s .kept ≤ length (now buffer)) × (length (now out) ≡ numberedBytes) ⌝ }
+    ensures { λ r. ⌜ ShowsLine (now (buffer .entry)) s number (now (out .exit)) r ⌝ }
 {
     let kept = s.kept;
-    let written = blocks::put_block(out, &buffer[..kept]);
+    let written = blocks::put_numbered(out, number, &buffer[..kept]);
     let all = io::write_all(STDOUT_FILENO, &out[..written]);
     Last { written, all }
 }
@@ -73,7 +75,7 @@ fn show_line(buffer: &[u8], s: State, out: &mut [u8]) -> Last
 // The bytes of a chunk from where the program stands on, up to the next newline or the chunk's end; at a newline the
 // line's block is written.
 fn show_next(buffer: &mut [u8], s: Step, chunk: &[u8], out: &mut [u8]) -> Step
-    requires { ⌜ Lends (now buffer) (now chunk) (now out) × Counted (mostRead + s .taken) (s .state) (s .handed)
+    requires { ⌜ Lends (now buffer) (now chunk) (now out) × Counted (mostRead + s .taken) (s .state) (s .ended) (s .handed)
         × (s .taken < length (now chunk)) ⌝ }
     ensures { λ r. ⌜ Steps (now (buffer .entry)) (now (buffer .exit)) s r (now (chunk .entry)) (now (out .exit)) ⌝ }
 {
@@ -85,16 +87,19 @@ fn show_next(buffer: &mut [u8], s: Step, chunk: &[u8], out: &mut [u8]) -> Step
     if end == chunk.len() {
         return Step {
             state,
+            ended: s.ended,
             taken: end,
             handed: s.handed,
             written: 0,
             all: true,
         };
     }
-    let last = show_line(buffer, state, out);
+    let number = s.ended + 1;
+    let last = show_line(buffer, state, number, out);
     let next = input_lines::no_line();
     Step {
         state: next,
+        ended: number,
         taken: end + 1,
         handed: s.handed + last.written,
         written: last.written,
@@ -103,12 +108,20 @@ fn show_next(buffer: &mut [u8], s: Step, chunk: &[u8], out: &mut [u8]) -> Step
 }
 
 // The bytes of a chunk, until all are taken or a write did not take all that it was handed.
-fn show_chunk(buffer: &mut [u8], s: State, chunk: &[u8], out: &mut [u8], handed: usize) -> Step
-    requires { ⌜ Lends (now buffer) (now chunk) (now out) × Counted mostRead s handed ⌝ }
-    ensures { λ r. ⌜ ShowsChunk (now (buffer .entry)) (now (buffer .exit)) s (now (chunk .entry)) handed r ⌝ }
+fn show_chunk(
+    buffer: &mut [u8],
+    s: State,
+    ended: u64,
+    chunk: &[u8],
+    out: &mut [u8],
+    handed: usize,
+) -> Step
+    requires { ⌜ Lends (now buffer) (now chunk) (now out) × Counted mostRead s ended handed ⌝ }
+    ensures { λ r. ⌜ ShowsChunk (now (buffer .entry)) (now (buffer .exit)) s ended (now (chunk .entry)) handed r ⌝ }
 {
     let mut step = Step {
         state: s,
+        ended,
         taken: 0,
         handed,
         written: 0,
@@ -122,7 +135,7 @@ fn show_chunk(buffer: &mut [u8], s: State, chunk: &[u8], out: &mut [u8], handed:
 
 // One read, and its bytes.
 fn take_turn(buffer: &mut [u8], t: Turn, chunk: &mut [u8], out: &mut [u8]) -> Turn
-    requires { ⌜ Lends (now buffer) (now chunk) (now out) × Counted (t .read) (t .state) (t .handed)
+    requires { ⌜ Lends (now buffer) (now chunk) (now out) × Counted (t .read) (t .state) (t .ended) (t .handed)
         × (t .read < mostRead) ⌝ }
     ensures { λ r. ⌜ Turns (now (buffer .entry)) (now (buffer .exit)) t r (now (chunk .exit)) ⌝ }
 {
@@ -132,6 +145,7 @@ fn take_turn(buffer: &mut [u8], t: Turn, chunk: &mut [u8], out: &mut [u8]) -> Tu
     if n == 0 {
         return Turn {
             state,
+            ended: t.ended,
             got,
             read: t.read,
             handed: t.handed,
@@ -139,10 +153,11 @@ fn take_turn(buffer: &mut [u8], t: Turn, chunk: &mut [u8], out: &mut [u8]) -> Tu
             more: false,
         };
     }
-    let step = show_chunk(buffer, state, &chunk[..n], out, t.handed);
+    let step = show_chunk(buffer, state, t.ended, &chunk[..n], out, t.handed);
     let next = step.state;
     Turn {
         state: next,
+        ended: step.ended,
         got,
         read: t.read + n,
         handed: step.handed,
@@ -152,9 +167,9 @@ fn take_turn(buffer: &mut [u8], t: Turn, chunk: &mut [u8], out: &mut [u8]) -> Tu
 }
 
 // The block of a last line without a newline, where there is one.
-fn show_last(buffer: &[u8], s: State, out: &mut [u8]) -> Last
-    requires { ⌜ (s .kept ≤ length (now buffer)) × (length (now out) ≡ blockBytes) ⌝ }
-    ensures { λ r. ⌜ ShowsLast (now (buffer .entry)) s (now (out .exit)) r ⌝ }
+fn show_last(buffer: &[u8], s: State, ended: u64, out: &mut [u8]) -> Last
+    requires { ⌜ (s .kept ≤ length (now buffer)) × (length (now out) ≡ numberedBytes) × (ended ≤ mostRead + 65536) ⌝ }
+    ensures { λ r. ⌜ ShowsLast (now (buffer .entry)) s ended (now (out .exit)) r ⌝ }
 {
     let kept = s.kept;
     if kept == 0 {
@@ -163,12 +178,12 @@ fn show_last(buffer: &[u8], s: State, out: &mut [u8]) -> Last
             all: true,
         };
     }
-    show_line(buffer, s, out)
+    show_line(buffer, s, ended + 1, out)
 }
 
 // What is told on standard error, at the start of out; answers how many bytes it has.
 fn tell(out: &mut [u8], shown: bool) -> usize
-    requires { ⌜ length (now out) ≡ blockBytes ⌝ }
+    requires { ⌜ length (now out) ≡ numberedBytes ⌝ }
     ensures { λ r. ⌜ Appended (now (out .entry)) 0 (told shown) (now (out .exit)) r ⌝ }
 {
     if shown {
@@ -183,13 +198,13 @@ fn tell(out: &mut [u8], shown: bool) -> usize
 
 // The end of a run: at the end of the input a line without a newline is a line.
 fn end_run(buffer: &[u8], t: Turn, out: &mut [u8]) -> End
-    requires { ⌜ (t .state .kept ≤ length (now buffer)) × (length (now out) ≡ blockBytes)
-        × (t .handed ≤ blockBytes * (mostRead + 65536)) ⌝ }
+    requires { ⌜ (t .state .kept ≤ length (now buffer)) × (length (now out) ≡ numberedBytes)
+        × (t .ended ≤ mostRead + 65536) × (t .handed ≤ numberedBytes * (mostRead + 65536)) ⌝ }
     ensures { λ r. ⌜ Closes (now (buffer .entry)) t (now (out .exit)) r ⌝ }
 {
     if reads::is_end(t.got) {
         let state = t.state;
-        let last = show_last(buffer, state, out);
+        let last = show_last(buffer, state, t.ended, out);
         let told = tell(out, last.all);
         return End {
             turn: t,
@@ -215,6 +230,7 @@ fn run(buffer: &mut [u8], chunk: &mut [u8], out: &mut [u8]) -> End
     let state = input_lines::no_line();
     let mut turn = Turn {
         state,
+        ended: 0,
         got: -1,
         read: 0,
         handed: 0,
@@ -231,7 +247,7 @@ fn run(buffer: &mut [u8], chunk: &mut [u8], out: &mut [u8]) -> End
 fn show_input() {
     let mut buffer = io::buffer();
     let mut chunk = io::large_buffer();
-    let mut out = [0; 1024];
+    let mut out = [0; 1050];
     let end = run(&mut buffer, &mut chunk, &mut out);
     let told = end.told;
     io::write_all(STDERR_FILENO, &out[..told]);

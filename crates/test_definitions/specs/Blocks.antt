@@ -14,7 +14,7 @@ use Rattle.significant.specs.Significant.{digitsUpTo, digitCount, nearestWhole,
 use Rattle.blocks.specs.Words.{overWords}
 use Rattle.blocks.specs.Tables.{textFor}
 use Rattle.blocks.specs.Filled.{filled}
-use Rattle.blocks.specs.Cards.{all, newline, kilogramSquareMetre, besideFrom, massLine, momentLine, mixedLine, sentences, cards, blockOf}
+use Rattle.blocks.specs.Cards.{all, newline, kilogramSquareMetre, besideFrom, massLine, momentLine, mixedLine, sentences, cards, blockOf, numberedBlock}
 use Rattle.test_definitions.specs.Rows.{is, same}
 
 -- one line, and an empty one after it
@@ -65,8 +65,13 @@ body-shown =
     ∷ newline
     ∷ []))
 
-pub blocks-hold : T (answers-shown && no-answers)
-unfolding ofBits text codes overWords textFor filled massLine momentLine mixedLine besideFrom sentences cards blockOf hex.figureOf hex.readDigits counts.countOf counts.readDigits counts.digits counts.countText
+-- the number of the line stands above its block
+abbrev pub line-numbered : Bool
+line-numbered =
+    same (numberedBlock 12 (text "(idle)")) (all (text "line 12" ∷ newline ∷ text "no screen has a job" ∷ newline ∷ newline ∷ []))
+
+pub blocks-hold : T (answers-shown && no-answers && line-numbered)
+unfolding ofBits text codes overWords textFor filled massLine momentLine mixedLine besideFrom sentences cards blockOf numberedBlock hex.figureOf hex.readDigits counts.countOf counts.readDigits counts.digits counts.countText
 blocks-hold = tt
 
 pub millimetres-hold : T millimetres

@@ -23,7 +23,7 @@ unfolding text codes
 returns c =
     let m = c .before .before in
     let t = m .before .before .before in
-    long-line (now (t .before .before .before .args .line)) _ _ _ (t .if1 .taken) (m .put-bytes .ensures)
+    long-line (now (t .before .before .before .args .line)) _ _ _ _ (t .if1 .taken) (m .put-bytes .ensures)
 
 slice-aggregate-read-answer : tie.Need-slice-aggregate-read-answer
 slice-aggregate-read-answer c = search needs
@@ -84,7 +84,7 @@ returns-2 c =
     let m = c .before .before in
     let a = m .before .before .before .before .before .before .before .before in
     let e = a .before .before .before .before in
-    answer-line (now (e .before .before .before .args .line)) (a .read-answer .result) _ _ _ _ _ _ (e .if1 .left) (a .read-answer .ensures) (m .put-shown .ensures)
+    answer-line (now (e .before .before .before .args .line)) (a .read-answer .result) _ _ _ _ _ _ _ (e .if1 .left) (a .read-answer .ensures) (m .put-shown .ensures)
 
 pub put-block-spec : {M : Type 1} → statement M
 put-block-spec =

@@ -23,7 +23,7 @@ put-card-requires : tie.Need-put-card-requires
 put-card-requires c κs =
     let f = c .before .before in
     let s = f .before .before .before .before .before .before in
-    found-room _ _ _ (f .find .ensures .is) (s .pre .2) (s .pre .0)
+    found-room _ _ _ _ (f .find .ensures .is) (s .pre .2) (s .pre .0)
 
 slice-aggregate-put-bytes : tie.Need-slice-aggregate-put-bytes
 slice-aggregate-put-bytes c = search needs
@@ -33,7 +33,7 @@ put-bytes-requires c κs =
     let m = c .before .before .before .before .before in
     let f = m .before .before .before in
     let s = f .before .before .before .before .before .before in
-    let k = card-short _ _ _ _ _ _ _ (f .find .ensures .is) (s .pre .2) (m .put-card .ensures) in
+    let k = card-short _ _ _ _ _ _ _ _ (f .find .ensures .is) (s .pre .2) (m .put-card .ensures) in
     let l = m .put-card .kept .0 in
     omega (arith, k, l, s .pre .0)
 
@@ -46,7 +46,7 @@ returns c =
     let t = b .before .before .before in
     let m = t .before .before .before in
     let f = m .before .before .before in
-    block-put _ _ _ _ noAnswer _ _ (found-filled _ _ _ _ _ _ _ (f .find .ensures .is) (m .put-card .ensures)) (t .if1 .taken) (b .put-bytes .ensures)
+    block-put _ _ _ _ noAnswer _ _ _ (found-filled _ _ _ _ _ _ _ _ (f .find .ensures .is) (m .put-card .ensures)) (t .if1 .taken) (b .put-bytes .ensures)
 
 slice-aggregate-put-bytes-2 : tie.Need-slice-aggregate-put-bytes-2
 slice-aggregate-put-bytes-2 c = search needs
@@ -64,7 +64,7 @@ returns-2 c =
     let t = b .before .before .before in
     let m = t .before .before .before in
     let f = m .before .before .before in
-    none-put _ _ _ _ noAnswer _ _ (found-filled _ _ _ _ _ _ _ (f .find .ensures .is) (m .put-card .ensures)) (t .if1 .left) (b .put-bytes2 .ensures)
+    none-put _ _ _ _ noAnswer _ _ _ (found-filled _ _ _ _ _ _ _ _ (f .find .ensures .is) (m .put-card .ensures)) (t .if1 .left) (b .put-bytes2 .ensures)
 
 pub put-from-spec : {M : Type 1} → statement M
 put-from-spec =

@@ -27,7 +27,7 @@ unfolding withBars cards text codes
 returns c =
     let m = c .before .before in
     let s = m .before .before .before .before .before .before .before in
-    shown-from _ (now (s .args .shape)) refl _ _ _ _ _ (m .put-from .ensures)
+    shown-from _ (now (s .args .shape)) refl _ _ _ _ _ _ (m .put-from .ensures)
 
 pub put-shown-spec : {M : Type 1} → statement M
 put-shown-spec =

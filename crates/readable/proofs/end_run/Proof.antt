@@ -13,7 +13,7 @@ use Rattle.texts.specs.Appended.{Appended}
 use Rattle.reads.specs.Reads.{atEnd}
 use Rattle.readable.specs.declared.Turn.{Turn}
 use Rattle.readable.specs.declared.Last.{Last}
-use Rattle.readable.specs.Program.{blocksOf, told, ShowsLast, Closes}
+use Rattle.readable.specs.Program.{blocksFrom, told, ShowsLast, Closes}
 use Rattle.readable.proofs.Showing.{put-within}
 use borrow.Author.Needs.{needs}
 use Rattle.readable.proofs.end_run.Statement.{statement}
@@ -21,7 +21,7 @@ use Rattle.readable.proofs.end_run.Tie as tie
 
 module _ (buffer : List ℕ) (t : Turn) {out after : List ℕ} {n : ℕ} where
   -- the input is at its end
-  at-end : (last : Last) → atEnd (t .got) ≡ true → ShowsLast buffer (t .state) out last → Appended out 0 (told (last .all)) after n
+  at-end : (last : Last) → atEnd (t .got) ≡ true → ShowsLast buffer (t .state) (t .ended) out last → Appended out 0 (told (last .all)) after n
       → Closes buffer t after (record { turn = t; all = last .all; handed = t .handed + last .written; told = n })
   at-end last g e a =
       record {
@@ -36,7 +36,7 @@ module _ (buffer : List ℕ) (t : Turn) {out after : List ℕ} {n : ℕ} where
   -- it is not: nothing more is written
   before-end : atEnd (t .got) ≡ false → Appended out 0 (told false) after n
       → Closes buffer t after (record { turn = t; all = t .all; handed = t .handed; told = n })
-  unfolding blocksOf
+  unfolding blocksFrom
   before-end g a =
       record {
         same = refl;
@@ -51,7 +51,7 @@ module _ (buffer : List ℕ) (t : Turn) {out after : List ℕ} {n : ℕ} where
 is-at-end : (c : tie.After-is-end) → c .is-end .result ≡ atEnd (c .before .before .before .before .args .t .got)
 is-at-end c =
     c .is-end .ensures
-    ∙ ap atEnd (toZ-ofZ w64 (c .before .before .before .before .args .t .got) (record { sfits = c .before .struct-told .given .1 .0 .1 }))
+    ∙ ap atEnd (toZ-ofZ w64 (c .before .before .before .before .args .t .got) (record { sfits = c .before .struct-told .given .1 .1 .0 .1 }))
 
 is-end-requires : tie.Need-is-end-requires
 is-end-requires c κs = search needs
@@ -62,13 +62,13 @@ show-last-requires c κs = search needs
 tell-requires : tie.Need-tell-requires
 tell-requires c κs =
     let l = c .before .before .before in
-    l .show-last .kept .1 .1 .0 ∙ l .before .before .before .before .before .before .before .before .pre .1
+    l .show-last .kept .1 .1 .1 .0 ∙ l .before .before .before .before .before .before .before .before .pre .1
 
 add-t13 : tie.Need-add-t13
 add-t13 c =
     let l = c .before .before .before .before .before .before .before .before in
     let s = l .before .before .before .before .before .before .before .before in
-    let a = l .show-last .ensures .room in let b = l .show-last .kept .1 .1 .0 in let d = s .pre .1 in let e = s .pre .2 in
+    let a = l .show-last .ensures .room in let b = l .show-last .kept .1 .1 .1 .0 in let d = s .pre .1 in let e = s .pre .3 in
     omega (arith, a, b, d, e)
 
 same-length : tie.Need-same-length

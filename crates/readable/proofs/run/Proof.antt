@@ -16,7 +16,7 @@ use Rattle.reads.specs.Reads.{brought, atEnd, mostRead}
 use Rattle.reads.proofs.Turning.{some-brought, all-taken, not-all-taken, none-at-end, some-not-end, fewer-left}
 use Rattle.readable.specs.declared.Turn.{Turn}
 use Rattle.readable.specs.declared.End.{End}
-use Rattle.readable.specs.Program.{blocksOf, Lends, Counted, HandsOn, Turns, Closes, Runs}
+use Rattle.readable.specs.Program.{blocksFrom, Lends, Counted, HandsOn, Turns, Closes, Runs}
 use Rattle.readable.proofs.Showing.{blocks-append, none-handed, also-handed}
 use borrow.Author.Needs.{needs}
 use Rattle.readable.proofs.run.Statement.{statement}
@@ -26,7 +26,7 @@ record SoFar (buffer₀ chunk₀ out₀ : List ℕ) (s : State) (buffer chunk ou
   begins : Keeps buffer₀ s []
   taken : List ℕ
   rest : List ℕ
-  hands : HandsOn buffer₀ buffer s (turn .state) taken 0 (turn .handed)
+  hands : HandsOn buffer₀ buffer s (turn .state) 0 (turn .ended) taken 0 (turn .handed)
   reads : turn .read ≡ length taken + length rest
   most : turn .read ≤ mostRead + 65536
   goes : turn .more ≡ true → rest ≡ []
@@ -44,7 +44,7 @@ abbrev μ-loop : tie.MeasureT-loop
 μ-loop buffer₀ chunk₀ out₀ turn₀ buffer chunk out turn = mostRead - turn .read + cond (turn .more) 1 0
 
 start : {buffer chunk out : List ℕ} (s : State) → Keeps buffer s []
-    → SoFar buffer chunk out s buffer chunk out (record { state = s; got = negsuc 0; read = 0; handed = 0; all = true; more = true })
+    → SoFar buffer chunk out s buffer chunk out (record { state = s; ended = 0; got = negsuc 0; read = 0; handed = 0; all = true; more = true })
 start s k =
     let c = k .count in
     record {
@@ -111,10 +111,10 @@ module _ (x : Top) where
       let j = x .so-far .chunks in
       record { line = omega arith; some = omega arith; most = omega arith; block = x .so-far .bytes ∙ d .block }
 
-  counted : Counted (x .turn .read) (x .turn .state) (x .turn .handed)
+  counted : Counted (x .turn .read) (x .turn .state) (x .turn .ended) (x .turn .handed)
   counted =
-      let h = x .so-far .hands in let c = h .counts in let f = h .few in let r = x .so-far .reads in
-      record { within = h .within; few = omega arith }
+      let h = x .so-far .hands in let c = h .counts in let f = h .few in let r = x .so-far .reads in let l = h .lines in
+      record { within = h .within; lines = omega arith; few = omega arith }
 
   -- a turn more
   module _ {after chunk : List ℕ} (out : List ℕ) {r : Turn} (goes : x .turn .more ≡ true) (few : x .turn .read < mostRead)
@@ -162,17 +162,20 @@ module _ (x : Top) where
         reads = read ∙ x .so-far .reads;
         text = h .text ++ p .text;
         hands = omega arith;
-        blocks = rw got (joined ∙ ap blocksOf (up-to (atEnd (x .turn .got))));
+        blocks = rw got (joined ∙ ap (blocksFrom 1) (up-to (atEnd (x .turn .got))));
         all = λ e. x .so-far .stops (sym (ap atEnd got) ∙ e);
         stops = λ b a. rw read (by (rw got at b) a halted);
         tells = p .tells;
       }
     where
-      joined : x .so-far .hands .text ++ p .text ≡ blocksOf (Ended ++ cond (atEnd (x .turn .got)) Last [])
+      joined : x .so-far .hands .text ++ p .text ≡ blocksFrom 1 (Ended ++ cond (atEnd (x .turn .got)) Last [])
       joined =
+          let e = x .so-far .hands .shows .ends [] (x .so-far .begins) in
+          let i : x .turn .ended + 1 ≡ 1 + length Ended = omega (arith, e) in
           ap (λ (t : List ℕ). t ++ p .text) (x .so-far .hands .shows .blocks [] (x .so-far .begins))
-          ∙ ap (λ (t : List ℕ). blocksOf Ended ++ t) (p .blocks (begunAfter [] Taken) keeps)
-          ∙ sym (blocks-append Ended (cond (atEnd (x .turn .got)) Last []))
+          ∙ ap (λ (t : List ℕ). blocksFrom 1 Ended ++ t)
+          (p .blocks (begunAfter [] Taken) keeps ∙ ap (λ (j : ℕ). blocksFrom j (cond (atEnd (x .turn .got)) Last [])) i)
+          ∙ sym (blocks-append 1 Ended (cond (atEnd (x .turn .got)) Last []))
 
       up-to : (b : Bool) → Ended ++ cond b Last [] ≡ cond b (linesOf Taken) Ended
       up-to true = refl
@@ -222,8 +225,8 @@ loop-again c =
 end-run-requires : tie.Need-end-run-requires Inv-loop μ-loop
 end-run-requires c κs =
     let x = top (c .before .before .before) in let d = lends-on x in let l = d .line in let w = counted x .within in
-    let f = counted x .few in let m = x .so-far .most in
-    (omega arith, d .block, omega arith)
+    let f = counted x .few in let e = counted x .lines in let m = x .so-far .most in
+    (omega arith, d .block, omega arith, omega arith)
 
 same-length : tie.Need-same-length Inv-loop μ-loop
 same-length c = c .before .before .before .before .before .before .loop .inv .buffers

@@ -15,37 +15,39 @@ use Rattle.readable.proofs.Showing.{none-handed, next-step}
 use Rattle.readable.proofs.show_chunk.Statement.{statement}
 use Rattle.readable.proofs.show_chunk.Tie as tie
 
-record SoFar (buffer₀ chunk out₀ : List ℕ) (handed : ℕ) (s : State) (buffer out : List ℕ) (step : Step) : Type 0 where
-  hands : HandsOn buffer₀ buffer s (step .state) (take (step .taken) chunk) handed (step .handed)
+record SoFar (buffer₀ : List ℕ) (ended : ℕ) (chunk out₀ : List ℕ) (handed : ℕ) (s : State) (buffer out : List ℕ) (step : Step) : Type 0 where
+  hands : HandsOn buffer₀ buffer s (step .state) ended (step .ended) (take (step .taken) chunk) handed (step .handed)
   some : step .taken ≤ length chunk
   buffers : length buffer ≡ length buffer₀
   bytes : length out ≡ length out₀
 
 abbrev Inv-loop : tie.InvT-loop
-Inv-loop buffer₀ chunk out₀ handed step₀ buffer out step = SoFar buffer₀ chunk out₀ handed (step₀ .state) buffer out step
+Inv-loop buffer₀ ended chunk out₀ handed step₀ buffer out step = SoFar buffer₀ ended chunk out₀ handed (step₀ .state) buffer out step
 
 abbrev μ-loop : tie.MeasureT-loop
-μ-loop buffer₀ chunk out₀ handed step₀ buffer out step = length chunk - step .taken
+μ-loop buffer₀ ended chunk out₀ handed step₀ buffer out step = length chunk - step .taken
 
 -- at the top of the loop
 record Top : Type 0 where
   buffer₀ : List ℕ
+  ended : ℕ
   chunk : List ℕ
   out₀ : List ℕ
   handed : ℕ
   s : State
   lends : Lends buffer₀ chunk out₀
-  earlier : Counted mostRead s handed
+  earlier : Counted mostRead s ended handed
   buffer : List ℕ
   out : List ℕ
   step : Step
-  so-far : SoFar buffer₀ chunk out₀ handed s buffer out step
+  so-far : SoFar buffer₀ ended chunk out₀ handed s buffer out step
 
 abbrev top : tie.At-loop Inv-loop μ-loop → Top
 top a =
     let s = a .before .before .before .before in
     record {
       buffer₀ = now (s .args .buffer);
+      ended = s .args .ended;
       chunk = now (s .args .chunk);
       out₀ = now (s .args .out);
       handed = s .args .handed;
@@ -64,20 +66,20 @@ module _ (x : Top) where
       let d = x .lends in let a = d .line in
       let i = x .so-far .buffers in record { line = omega arith; some = d .some; most = d .most; block = x .so-far .bytes ∙ d .block }
 
-  counted : Counted (mostRead + x .step .taken) (x .step .state) (x .step .handed)
+  counted : Counted (mostRead + x .step .taken) (x .step .state) (x .step .ended) (x .step .handed)
   counted =
       let h = x .so-far .hands in let c = h .counts in let f = h .few in let e = x .earlier .few in
-      let l = length-take (x .step .taken) (x .chunk) in
-      record { within = h .within; few = omega arith }
+      let l = length-take (x .step .taken) (x .chunk) in let n = h .lines in let m = x .earlier .lines in
+      record { within = h .within; lines = omega arith; few = omega arith }
 
   -- the loop's end: nothing is left, or a write failed
   ends : (x .step .all ≡ true → length (x .chunk) ≤ x .step .taken)
-      → ShowsChunk (x .buffer₀) (x .buffer) (x .s) (x .chunk) (x .handed) (x .step)
+      → ShowsChunk (x .buffer₀) (x .buffer) (x .s) (x .ended) (x .chunk) (x .handed) (x .step)
   ends h = let m = x .so-far .some in record { hands = x .so-far .hands; some = m; all = λ e. (let l = h e in omega arith) }
 
   next : {after out : List ℕ} {r : Step} → Steps (x .buffer) after (x .step) r (x .chunk) out → length after ≡ length (x .buffer)
       → length out ≡ length (x .out)
-      → SoFar (x .buffer₀) (x .chunk) (x .out₀) (x .handed) (x .s) after out r
+      → SoFar (x .buffer₀) (x .ended) (x .chunk) (x .out₀) (x .handed) (x .s) after out r
   next p b o =
       let bytes = o ∙ x .so-far .bytes in
       record {

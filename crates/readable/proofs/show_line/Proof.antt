@@ -1,4 +1,4 @@
--- `readable::show_line` meets its contract: what `put_block` put at the start of `out` is what is written. Assumes nothing.
+-- `readable::show_line` meets its contract: what `put_numbered` put at the start of `out` is what is written. Assumes nothing.
 use mathlib.Core.Path.{_≡_, sym, _∙_}
 use native.Mathlib.Omega.{arith}
 use lib.ListN.{length-take}
@@ -8,19 +8,19 @@ use borrow.Author.Needs.{needs}
 use Rattle.readable.proofs.show_line.Statement.{statement}
 use Rattle.readable.proofs.show_line.Tie as tie
 
-slice-aggregate-put-block : tie.Need-slice-aggregate-put-block
-slice-aggregate-put-block c = simp length-take (omega arith)
+slice-aggregate-put-numbered : tie.Need-slice-aggregate-put-numbered
+slice-aggregate-put-numbered c = simp length-take (omega arith)
 
-put-block-requires : tie.Need-put-block-requires
-put-block-requires c κs = search needs
+put-numbered-requires : tie.Need-put-numbered-requires
+put-numbered-requires c κs = search needs
 
 slice-reshare-prefix-write-all : tie.Need-slice-reshare-prefix-write-all
-slice-reshare-prefix-write-all c = put-within (c .before .before .put-block .ensures)
+slice-reshare-prefix-write-all c = put-within (c .before .before .put-numbered .ensures)
 
 slice-aggregate-write-all : tie.Need-slice-aggregate-write-all
 slice-aggregate-write-all c =
     let p = c .before .before .before in
-    sym (length-take-le (p .put-block .result) (p .put-block .last .0) (put-within (p .put-block .ensures)))
+    sym (length-take-le (p .put-numbered .result) (p .put-numbered .last .0) (put-within (p .put-numbered .ensures)))
 
 write-all-requires : tie.Need-write-all-requires
 write-all-requires c κs = search needs
@@ -30,15 +30,15 @@ same-length c = search needs
 
 returns : tie.Need-returns
 returns c =
-    let p = c .before .before .before .before .put-block .ensures in
-    record { block = λ begun k. p .holds ∙ kept-block k; room = put-within p }
+    let b = c .before .before .before .before in let p = b .put-numbered .ensures in let s = b .before .before .before .before .before in
+    record { block = λ begun k. p .holds ∙ kept-block (s .args .number) k; room = put-within p }
 
 pub show-line-spec : {M : Type 1} → statement M
 show-line-spec =
     tie.close
     (tie.spec
-    slice-aggregate-put-block
-    put-block-requires
+    slice-aggregate-put-numbered
+    put-numbered-requires
     slice-reshare-prefix-write-all
     slice-aggregate-write-all
     write-all-requires

@@ -2,14 +2,17 @@
 use mathlib.Core.Path.{_≡_}
 use native.Mathlib.Omega.{arith}
 use denote.Ref.{now}
-use Rattle.readable.proofs.Showing.{end-fits, to-end, past-newline}
+use Rattle.readable.proofs.Showing.{to-end, past-newline}
 use borrow.Author.Needs.{needs}
 use Rattle.readable.proofs.show_next.Statement.{statement}
 use Rattle.readable.proofs.show_next.Tie as tie
 
--- the call, from `keep_line`
+-- the call, from `keep_line`; `keep_line`, from `show_line`
 abbrev called : tie.After-keep-line → tie.Start
 called k = k .before .before .before .before .before .before .before
+
+abbrev kept : tie.After-show-line → tie.After-keep-line
+kept l = l .before .before .before .before .before .before .before .before .before
 
 sub-keep-line : tie.Need-sub-keep-line
 sub-keep-line c = search needs
@@ -21,13 +24,10 @@ part-keep-line-end : tie.Need-part-keep-line-end
 part-keep-line-end c = search needs
 
 keep-line-requires : tie.Need-keep-line-requires
-keep-line-requires c κs = let s = c .before .before .before .before .before .before in (s .pre .0 .line, s .pre .1 .within)
+keep-line-requires c κs = search needs
 
 add-end : tie.Need-add-end
-add-end c =
-    let k = c .before .before .before .before in let s = called k in
-    let e = end-fits (now (s .args .chunk)) (s .args .s) (s .pre .2) (k .keep-line .ensures) in let m = s .pre .0 .most in
-    omega (arith, e, m)
+add-end c = search needs
 
 same-length : tie.Need-same-length
 same-length c = search needs
@@ -37,26 +37,22 @@ returns c =
     let k = c .before .before .before .before .before in
     let s = called k in to-end (now (s .args .chunk)) (s .args .s) (s .pre .2) (k .keep-line .ensures) (now (s .args .out)) (c .if1 .taken)
 
+add-number : tie.Need-add-number
+add-number c = search needs
+
 show-line-requires : tie.Need-show-line-requires
-show-line-requires c κs =
-    let k = c .before .before .before .before .before .before .before in let s = called k in
-    let a = k .keep-line .ensures .within in let b = k .keep-line .kept .0 in let d = s .pre .0 .line in
-    (omega (arith, a, b, d), s .pre .0 .block)
+show-line-requires c κs = search needs
 
 no-line-requires : tie.Need-no-line-requires
 no-line-requires c κs = search needs
 
-add-t15 : tie.Need-add-t15
-add-t15 c =
-    let k = c .before .before .before .before .before .before .before .before .before .before .before in let s = called k in
-    let e = end-fits (now (s .args .chunk)) (s .args .s) (s .pre .2) (k .keep-line .ensures) in let m = s .pre .0 .most in
-    omega (arith, e, m)
+add-t16 : tie.Need-add-t16
+add-t16 c = search needs
 
-add-t23 : tie.Need-add-t23
-add-t23 c =
-    let l = c .before .before .before .before .before in let k = l .before .before .before .before .before .before .before .before in
-    let s = called k in
-    let a = l .show-line .ensures .room in let b = l .show-line .kept .1 .1 .0 in let d = s .pre .0 .block in let e = s .pre .1 .few in
+add-t24 : tie.Need-add-t24
+add-t24 c =
+    let l = c .before .before .before .before .before in let s = called (kept l) in
+    let a = l .show-line .ensures .room in let b = l .show-line .kept .1 .1 .1 .0 in let d = s .pre .0 .block in let e = s .pre .1 .few in
     let m = s .pre .0 .most in let n = s .pre .2 in
     omega (arith, a, b, d, e, m, n)
 
@@ -68,9 +64,8 @@ same-length-3 c = search needs
 
 returns-2 : tie.Need-returns-2
 returns-2 c =
-    let l = c .before .before .before .before .before in let k = l .before .before .before .before .before .before .before .before in
-    let s = called k in
-    past-newline (now (s .args .chunk)) (s .args .s) (s .pre .2) (k .keep-line .ensures) (l .before .before .before .if1 .left)
+    let l = c .before .before .before .before .before in let k = kept l in let s = called k in
+    past-newline (now (s .args .chunk)) (s .args .s) (s .pre .2) (k .keep-line .ensures) (l .before .before .before .before .if1 .left)
     (c .before .before .no-line .ensures) (l .show-line .ensures)
 
 pub show-next-spec : {M : Type 1} → statement M
@@ -84,10 +79,11 @@ show-next-spec =
     add-end
     same-length
     returns
+    add-number
     show-line-requires
     no-line-requires
-    add-t15
-    add-t23
+    add-t16
+    add-t24
     same-length-2
     same-length-3
     returns-2)

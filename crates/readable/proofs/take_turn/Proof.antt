@@ -26,7 +26,7 @@ use Rattle.readable.proofs.take_turn.Tie as tie
 
 module _ (buffer : List ℕ) (t : Turn) (chunk : List ℕ) (got : ℤ) (n : ℕ) (b : n ≡ brought got) where
   nothing-read : n ≡ 0 → t .state .kept ≤ lineBytes
-      → Turns buffer buffer t (record { state = t .state; got = got; read = t .read; handed = t .handed; all = true; more = false }) chunk
+      → Turns buffer buffer t (record { state = t .state; ended = t .ended; got = got; read = t .read; handed = t .handed; all = true; more = false }) chunk
   nothing-read z w =
       let e : brought got ≡ 0 = omega arith in
       record {
@@ -44,9 +44,9 @@ module _ (buffer : List ℕ) (t : Turn) (chunk : List ℕ) (got : ℤ) (n : ℕ)
     part-lent : (before out : List ℕ) → length chunk ≡ length before → Lends buffer before out → Lends buffer (take n chunk) out
     part-lent before out l d = let m = d .most in record { line = d .line; some = omega arith; most = omega arith; block = d .block }
 
-    some-read : (after : List ℕ) (r : Step) → ShowsChunk buffer after (t .state) (take n chunk) (t .handed) r
+    some-read : (after : List ℕ) (r : Step) → ShowsChunk buffer after (t .state) (t .ended) (take n chunk) (t .handed) r
         → Turns buffer after t
-        (record { state = r .state; got = got; read = t .read + n; handed = r .handed; all = r .all; more = r .all }) chunk
+        (record { state = r .state; ended = r .ended; got = got; read = t .read + n; handed = r .handed; all = r .all; more = r .all }) chunk
     some-read after r p =
         let m = p .some in
         let some : r .taken ≤ n = omega arith in
@@ -94,11 +94,11 @@ show-chunk-requires : tie.Need-show-chunk-requires
 show-chunk-requires c κs =
     let k = c .before .before .before .before .before in let r = k .before .before .before .before in
     let s = r .before .before .before .before .before in
-    let f = s .pre .1 .few in let l = s .pre .2 in (
+    let f = s .pre .1 .few in let e = s .pre .1 .lines in let l = s .pre .2 in (
       part-lent (now (s .args .buffer)) (s .args .t) (r .read .last .1 .0) (r .read .result) (k .count .result) (brings k)
           (k .count .ensures .0 .0) (k .count .ensures .0 .1) (c .before .before .before .if1 .left) (now (s .args .chunk)) (now (s .args .out))
           (r .read .kept .1 .0) (s .pre .0),
-      record { within = s .pre .1 .within; few = omega (arith, f, l) },
+      record { within = s .pre .1 .within; lines = omega (arith, e, l); few = omega (arith, f, l) },
     )
 
 add-t21 : tie.Need-add-t21
