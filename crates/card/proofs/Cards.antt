@@ -36,7 +36,9 @@ use Rattle.requests.specs.Calls.{numberedCall, numberedSubmit, numberedArea}
 use Rattle.requests.specs.Requests.{number, between, setRequestOf, areaRequestOf}
 use Rattle.requests.specs.Requests.{askedSet, askedSubmit, askedArea}
 use Rattle.answers.specs.Filled.{filled}
-use Rattle.answers.specs.Answers.{takenText, moreText, refusedText}
+use Rattle.answers.specs.declared.Reply.{Reply}
+use Rattle.answers.specs.declared.Shape.the-variants.{Taken as TakenShape, More as MoreShape}
+use Rattle.answers.specs.Answers.{textOf, reply as answered}
 use Rattle.figures.specs.declared.Figures.{Figures}
 use Rattle.figures.specs.Figures.{setStrips, refusedFigures, workedFigures, workedSet, setCall, setFigures}
 use Rattle.figures.specs.Areas.{areaSeven, refusedArea, workedArea, areaCall}
@@ -63,8 +65,8 @@ use Rattle.engines.proofs.Effects.{in-eight, holds-is-screen, turn-serves}
 use Rattle.engines.proofs.Alone as one
 use Rattle.engines.proofs.Submissions.{eight-behind, on-screen, strip-within-eight}
 use Rattle.engines.proofs.Drawn.{turn-no-shorter, drawn-on-screen}
-use Rattle.lines.specs.Lines.{Memory, printedSet, printedCall, printedDone, printedTurn, setAnswer, submitAnswer, turnAnswer}
-use Rattle.lines.specs.Lines.{answerTo, askedAnswer, answerOf, memoryAfterForm, memoryAfterAsked, memoryAfter}
+use Rattle.lines.specs.Lines.{Memory, Effect, refusedReply, plainReply, setReply, doneReply, turnReply}
+use Rattle.lines.specs.Lines.{setEffect, areaEffect, submitEffect, changeEffect, turnEffect, effectOf, askedEffect, lineEffect}
 use Rattle.inputs.specs.Inputs.{reply, leftByLine, leftByLines}
 use Rattle.inputs.proofs.Lines.{left-append}
 use Rattle.card.specs.Program.{scratchLength, atFirst}
@@ -90,15 +92,15 @@ module _ (line : List ℕ) (form : Form) (ns : List ℕ) (figures : List Float) 
       by true e = refl
       by false e = ap isAsked e
 
-  reply-is : (m : Memory) → reply line m ≡ answerTo form ns figures m ++ (10 ∷ [])
-  unfolding reply answerOf
+  reply-is : (m : Memory) → reply line m ≡ textOf (effectOf form Accepted ns figures m .reply) ++ (10 ∷ [])
+  unfolding reply lineEffect
   reply-is m =
-      ap (λ (b : Bool). cond b (askedAnswer (lineAsked line) m) (refusedText (numberOf noForm)) ++ (10 ∷ [])) short
-      ∙ ap (λ (a : Asked). askedAnswer a m ++ (10 ∷ [])) asks
+      ap (λ (b : Bool). cond b (textOf (askedEffect (lineAsked line) m .reply)) (textOf (refusedReply noForm)) ++ (10 ∷ [])) short
+      ∙ ap (λ (a : Asked). textOf (askedEffect a m .reply) ++ (10 ∷ [])) asks
 
-  left-is : (m : Memory) → leftByLine line m ≡ memoryAfterForm form ns figures m
-  unfolding leftByLine memoryAfter
-  left-is m = ap (λ (b : Bool). cond b (memoryAfterAsked (lineAsked line) m) m) short ∙ ap (λ (a : Asked). memoryAfterAsked a m) asks
+  left-is : (m : Memory) → leftByLine line m ≡ effectOf form Accepted ns figures m .memory
+  unfolding leftByLine lineEffect
+  left-is m = ap (λ (b : Bool). cond b (askedEffect (lineAsked line) m .memory) m) short ∙ ap (λ (a : Asked). askedEffect a m .memory) asks
 
 -- ---- the scratch stays long enough
 set-no-shorter : (set : NumberedSet) (points : List Float) (L : ℕ) (scratch : List Float)
@@ -116,8 +118,8 @@ area-no-shorter (planformKnown planform) points L scratch =
 area-no-shorter noPlanform points L scratch = omega arith
 
 form-no-shorter : (form : Form) (ns : List ℕ) (figures : List Float) (m : Memory)
-    → length (m .scratch) ≤ length (memoryAfterForm form ns figures m .scratch)
-unfolding askedSet askedArea
+    → length (m .scratch) ≤ length (effectOf form Accepted ns figures m .memory .scratch)
+unfolding setEffect areaEffect submitEffect changeEffect turnEffect askedSet askedArea
 form-no-shorter Set ns figures m = set-no-shorter (setRequestOf ns figures .set) _ _ (m .scratch)
 form-no-shorter Area ns figures m = area-no-shorter (areaRequestOf ns figures .planform) _ _ (m .scratch)
 form-no-shorter Join ns figures m = omega arith
@@ -135,15 +137,15 @@ form-no-shorter Density ns figures m = omega arith
 form-no-shorter Turn ns figures m = turn-no-shorter (m .engine) (m .scratch)
 form-no-shorter NoForm ns figures m = omega arith
 
-asked-no-shorter : (a : Asked) (m : Memory) → length (m .scratch) ≤ length (memoryAfterAsked a m .scratch)
+asked-no-shorter : (a : Asked) (m : Memory) → length (m .scratch) ≤ length (askedEffect a m .memory .scratch)
 asked-no-shorter (refused refusal) m = omega arith
 asked-no-shorter (asked form ns figures) m = form-no-shorter form ns figures m
 
 line-no-shorter : (line : List ℕ) (m : Memory) → length (m .scratch) ≤ length (leftByLine line m .scratch)
-unfolding leftByLine memoryAfter
+unfolding leftByLine lineEffect
 line-no-shorter line m = by (leb (length line) lineBytes)
   where
-    by : (b : Bool) → length (m .scratch) ≤ length (cond b (memoryAfterAsked (lineAsked line) m) m .scratch)
+    by : (b : Bool) → length (m .scratch) ≤ length (cond b (askedEffect (lineAsked line) m .memory) m .scratch)
     by true = asked-no-shorter (lineAsked line) m
     by false = omega arith
 
@@ -196,13 +198,13 @@ same-figures set points L n m e f =
 
 set-line : (line : List ℕ) (set : FinSet) (points : List Float) (L : ℕ) → WritesSet Set line set points L → limitCheck L ≡ Accepted
     → (lines : List (List ℕ)) (card : Figures)
-    → card ≡ setFigures set points L scratchLength → Replies line (leftByLines lines atFirst) (printedSet (card .verdict) card)
-unfolding setAnswer
+    → card ≡ setFigures set points L scratchLength → Replies line (leftByLines lines atFirst) (setReply card)
+unfolding setEffect
 set-line line set points L w limit lines card c =
     let m = leftByLines lines atFirst in
     let n = length (m .scratch) in
     reply-is line Set (w .numbers) (w .figures) (w .asks) m
-    ∙ ap (λ (f : Figures). printedSet (f .verdict) f ++ (10 ∷ []))
+    ∙ ap (λ (f : Figures). textOf (setReply f) ++ (10 ∷ []))
     (ap (λ (c : CallOf Figures). c .answer) (own-call Set line set points L w n)
     ∙ same-figures set points L n scratchLength (enough L n limit (stays-long lines)) (enough L scratchLength limit (omega arith))
     ∙ sym c)
@@ -211,11 +213,11 @@ set-line line set points L w limit lines card c =
 abbrev second : List ℕ → ℕ
 second l = getD l 1 0
 
-refused-other : (r : Refusal) → refusedText (numberOf r) ++ (10 ∷ []) ≡ takenText ++ (10 ∷ []) → ⊥
-unfolding refusedText takenText filled text codes
+refused-other : (r : Refusal) → textOf (refusedReply r) ++ (10 ∷ []) ≡ textOf (answered TakenShape [] []) ++ (10 ∷ []) → ⊥
+unfolding textOf filled text codes
 refused-other r e = let k : _≡_ {A = ℕ} 114 116 = ap second e in let z : ⊥ = omega (arith, k) in z
 
-accepted-if-taken : (v : Verdict) → printedCall v ++ (10 ∷ []) ≡ takenText ++ (10 ∷ []) → v ≡ Accepted
+accepted-if-taken : (v : Verdict) → textOf (plainReply v TakenShape) ++ (10 ∷ []) ≡ textOf (answered TakenShape [] []) ++ (10 ∷ []) → v ≡ Accepted
 accepted-if-taken Accepted e = refl
 accepted-if-taken (Refused r) e = absurd (refused-other r e)
 
@@ -276,10 +278,10 @@ module _ (m : Memory) (long : scratchLength ≤ length (m .scratch)) (screen : �
       ∙ ap (Told· screen) (sym (ap (λ (t : Turned). t .told .answer) s) ∙ e)
 
   turn-replies : (line : List ℕ) → AsksTurn line → (a : Answer) → Turned· .told .answer ≡ a
-      → Replies line m (printedTurn Step (Told· screen a))
-  unfolding turnAnswer
+      → Replies line m (turnReply Step (Told· screen a))
+  unfolding turnEffect
   turn-replies line t a e =
-      reply-is line Turn (t .numbers) (t .figures) (t .asks) m ∙ ap (λ (x : Told). printedTurn (x .service) x ++ (10 ∷ [])) (told-is a e)
+      reply-is line Turn (t .numbers) (t .figures) (t .asks) m ∙ ap (λ (x : Told). textOf (turnReply (x .service) x) ++ (10 ∷ [])) (told-is a e)
 
   held-after : (line : List ℕ) → AsksTurn line → (b : Bool) → holdsJob (leftByLine line m .engine .screens) screen ≡ b
       → holdsJob (Turned· .engine .screens) screen ≡ b
@@ -317,7 +319,7 @@ module _ (before : List (List ℕ)) (submission : List ℕ) (since : List (List 
       ∙ ap (λ (k : ℕ). submitOf (Found· .engine) k set points L) (h .names)
 
   was-taken : isTaken (submitOf (Found· .engine) screen set points L .answer .reply) ≡ true
-  unfolding submitAnswer
+  unfolding submitEffect
   was-taken =
       answered-taken (Found· .engine) screen set points L
       (ap (λ (c : Called). c .answer .figures .verdict) (sym named)
@@ -371,7 +373,7 @@ module _ (before : List (List ℕ)) (submission : List ℕ) (since : List (List 
         (sym engine-now) (on .next-turn (Now· .scratch)) (serves-screen Now· long screen some next)
 
     abbrev Replied· : (line : List ℕ) → AsksTurn line → (a : Answer) → turnOf (Now· .engine) (length (Now· .scratch)) .told .answer ≡ a
-        → Replies line Now· (printedTurn Step (record { service = Step; screen = screen; answer = a }))
+        → Replies line Now· (turnReply Step (record { service = Step; screen = screen; answer = a }))
     Replied· = turn-replies Now· long screen some next
 
     abbrev Held· : (line : List ℕ) → AsksTurn line → (b : Bool) → holdsJob (leftByLine line Now· .engine .screens) screen ≡ b
@@ -379,12 +381,12 @@ module _ (before : List (List ℕ)) (submission : List ℕ) (since : List (List 
     Held· = held-after Now· long screen some next
 
     more-replied : (line : List ℕ) → AsksTurn line → holdsJob (leftByLine line Now· .engine .screens) screen ≡ true
-        → Replies line Now· (moreText screen)
+        → Replies line Now· (answered MoreShape [] (screen ∷ []))
     more-replied line t held = Replied· line t _ (serves .goes-on (Held· line t true held))
 
     card-replied : (line : List ℕ) → AsksTurn line → holdsJob (leftByLine line Now· .engine .screens) screen ≡ false
         → (card : Figures) → card ≡ cardNow before submission since screen set points L
-        → Replies line Now· (printedDone (card .verdict) screen card)
+        → Replies line Now· (doneReply screen (card .verdict) card)
     card-replied line t free card c =
         let long-enough = enough L scratchLength limit-checked (omega arith) in
         let ended = serves .ends-as-fresh (Held· line t false free) scratchLength long-enough in

@@ -8,6 +8,8 @@ use lib.Dec.{leb}
 use lib.ListN.{length, getD}
 use lib.Ieee.{Float}
 use Rattle.tokens.specs.Tokens.{lineBytes}
+use Rattle.refusals.specs.declared.Verdict.{Verdict}
+use Rattle.refusals.specs.declared.Verdict.the-variants.{Accepted}
 use Rattle.materials.specs.declared.NumberedDensity.{NumberedDensity}
 use Rattle.materials.specs.declared.NumberedDensity.the-variants.{Known as densityKnown, Unknown as noDensity}
 use Rattle.fins.specs.declared.NumberedSet.{NumberedSet}
@@ -22,7 +24,7 @@ use Rattle.engines.specs.Engines.{holdsJob}
 use Rattle.engines.specs.Calls.{afterCalls, servedOver}
 use Rattle.engines.proofs.Rounds.{within-eight, calls-both}
 use Rattle.lent_engines.specs.Lent.{submitCalls, changeCalls}
-use Rattle.lines.specs.Lines.{Memory, memoryAfterForm, memoryAfterAsked, memoryAfter, callsOfForm, callsAsked, callsOfLine}
+use Rattle.lines.specs.Lines.{Memory, Effect, submitEffect, changeEffect, turnEffect, setEffect, areaEffect, effectOf, askedEffect, lineEffect}
 use Rattle.inputs.specs.Inputs.{leftByLine, leftByLines}
 use Rattle.card.specs.Screens.{callsBy, callsOver, EngineByCalls}
 
@@ -36,34 +38,34 @@ unfolding numberedChange
 by-change engine screen (densityKnown density) = refl
 by-change engine screen noDensity = refl
 
-by-form : (form : Form) (ns : List ℕ) (figures : List Float) (m : Memory) → memoryAfterForm form ns figures m .engine ≡ afterCalls (m .engine) (callsOfForm form ns figures (m .scratch))
-unfolding askedSubmit askedChange
-by-form Set ns figures m = refl
-by-form Area ns figures m = refl
-by-form Join ns figures m = refl
-by-form Moments ns figures m = refl
-by-form Check ns figures m = refl
-by-form Tubes ns figures m = refl
-by-form Closing ns figures m = refl
-by-form Drill ns figures m = refl
-by-form Copied ns figures m = refl
-by-form Placed ns figures m = refl
-by-form Moved ns figures m = refl
-by-form Without ns figures m = refl
-by-form Submit ns figures m = by-submission (m .engine) (number ns 7) (setRequestOf ns figures .set) (between 0 (setRequestOf ns figures .points) figures) (setRequestOf ns figures .limit)
-by-form Density ns figures m = by-change (m .engine) (number ns 1) _
-by-form Turn ns figures m = refl
-by-form NoForm ns figures m = refl
+by-form : (form : Form) (verdict : Verdict) (ns : List ℕ) (figures : List Float) (m : Memory) → effectOf form verdict ns figures m .memory .engine ≡ afterCalls (m .engine) (effectOf form verdict ns figures m .calls)
+unfolding setEffect areaEffect submitEffect changeEffect turnEffect askedSubmit askedChange
+by-form Set verdict ns figures m = refl
+by-form Area verdict ns figures m = refl
+by-form Join verdict ns figures m = refl
+by-form Moments verdict ns figures m = refl
+by-form Check verdict ns figures m = refl
+by-form Tubes verdict ns figures m = refl
+by-form Closing verdict ns figures m = refl
+by-form Drill verdict ns figures m = refl
+by-form Copied verdict ns figures m = refl
+by-form Placed verdict ns figures m = refl
+by-form Moved verdict ns figures m = refl
+by-form Without verdict ns figures m = refl
+by-form Submit verdict ns figures m = by-submission (m .engine) (number ns 7) (setRequestOf ns figures .set) (between 0 (setRequestOf ns figures .points) figures) (setRequestOf ns figures .limit)
+by-form Density verdict ns figures m = by-change (m .engine) (number ns 1) _
+by-form Turn verdict ns figures m = refl
+by-form NoForm verdict ns figures m = refl
 
-by-asked : (a : Asked) (m : Memory) → memoryAfterAsked a m .engine ≡ afterCalls (m .engine) (callsAsked a (m .scratch))
+by-asked : (a : Asked) (m : Memory) → askedEffect a m .memory .engine ≡ afterCalls (m .engine) (askedEffect a m .calls)
 by-asked (refused refusal) m = refl
-by-asked (asked form ns figures) m = by-form form ns figures m
+by-asked (asked form ns figures) m = by-form form Accepted ns figures m
 
 by-line : (line : List ℕ) (m : Memory) → leftByLine line m .engine ≡ afterCalls (m .engine) (callsBy line m)
-unfolding leftByLine memoryAfter callsOfLine
+unfolding leftByLine lineEffect
 by-line line m = by (leb (length line) lineBytes)
   where
-    by : (t : Bool) → cond t (memoryAfterAsked (lineAsked line) m) m .engine ≡ afterCalls (m .engine) (cond t (callsAsked (lineAsked line) (m .scratch)) [])
+    by : (t : Bool) → cond t (askedEffect (lineAsked line) m .memory) m .engine ≡ afterCalls (m .engine) (cond t (askedEffect (lineAsked line) m .calls) [])
     by true = by-asked (lineAsked line) m
     by false = refl
 

@@ -11,14 +11,16 @@ use Rattle.forms.specs.declared.Form.{Form}
 use Rattle.forms.specs.declared.Form.the-variants.{Set, Submit, Turn}
 use Rattle.forms.specs.Forms.{asked, lineAsked}
 use Rattle.requests.specs.Requests.{number, between, setRequestOf}
-use Rattle.answers.specs.Answers.{takenText, moreText}
+use Rattle.answers.specs.declared.Shape.the-variants.{Taken as TakenShape, More as MoreShape}
+use Rattle.answers.specs.declared.Reply.{Reply}
+use Rattle.answers.specs.Answers.{textOf, reply as answered}
 use Rattle.figures.specs.declared.Figures.{Figures}
 use Rattle.figures.specs.Figures.{setFigures}
 use Rattle.jobs.specs.Calls.{setAfter, OverCalls}
 use Rattle.jobs.specs.Calls as alone
 use Rattle.engines.specs.Engines.{holdsJob, nextScreen}
 use Rattle.engines.specs.Calls.{sinceThen, engineNow, holdsOver, AsAlone, OnScreen, DrawnOnScreen}
-use Rattle.lines.specs.Lines.{Memory, printedSet, printedDone}
+use Rattle.lines.specs.Lines.{Memory, setReply, doneReply}
 use Rattle.inputs.specs.Inputs.{reply, leftByLine, leftByLines}
 use Rattle.card.specs.Program.{scratchLength, atFirst}
 use Rattle.card.specs.Screens.{callsOver}
@@ -38,9 +40,9 @@ pub record AsksTurn (line : List ℕ) : Type 0 where
   pub figures : List Float
   pub asks : lineAsked line ≡ asked Turn numbers figures
 
--- a line is replied by this text, and a newline
-abbrev pub Replies : List ℕ → Memory → List ℕ → Type 0
-Replies line memory text = reply line memory ≡ text ++ (10 ∷ [])
+-- a line is replied by this answer, and a newline
+abbrev pub Replies : List ℕ → Memory → Reply → Type 0
+Replies line memory answer = reply line memory ≡ textOf answer ++ (10 ∷ [])
 
 -- lines before a submission, the submission, and lines after it
 module _ (before : List (List ℕ)) (submission : List ℕ) (since : List (List ℕ)) where
@@ -59,7 +61,7 @@ module _ (before : List (List ℕ)) (submission : List ℕ) (since : List (List 
     pub record HeldSince : Type 0 where
       pub writes : WritesSet Submit submission set points L
       pub names : number (writes .numbers) 7 ≡ screen
-      pub taken : Replies submission foundThen takenText
+      pub taken : Replies submission foundThen (answered TakenShape [] [])
       pub holds : holdsOver screen (leftThen .engine) (callsOver since leftThen) ≡ true
       pub holds-now : holdsJob (leftNow .engine .screens) screen ≡ true
 
@@ -83,12 +85,12 @@ module _ (before : List (List ℕ)) (submission : List ℕ) (since : List (List 
       pub drawn : DrawnOnScreen (foundThen .engine) screen set points L (callsOver since leftThen)
       -- the turn that serves the screen answers that more strips remain, as long as the screen holds the job
       pub goes-on : (line : List ℕ) → AsksTurn line → nextScreen (leftNow .engine .screens) ≡ screen
-          → holdsJob (leftByLine line leftNow .engine .screens) screen ≡ true → Replies line leftNow (moreText screen)
+          → holdsJob (leftByLine line leftNow .engine .screens) screen ≡ true → Replies line leftNow (answered MoreShape [] (screen ∷ []))
       -- or it ends the job and answers the card
       pub ends : (line : List ℕ) → AsksTurn line → nextScreen (leftNow .engine .screens) ≡ screen
           → holdsJob (leftByLine line leftNow .engine .screens) screen ≡ false
-          → Replies line leftNow (printedDone (cardNow .verdict) screen cardNow)
+          → Replies line leftNow (doneReply screen (cardNow .verdict) cardNow)
       -- "The card is the one that the set's own line would get, with that density": whatever lines the program took
       -- before
       pub own-line : (line : List ℕ) → WritesSet Set line setNow points L → (lines : List (List ℕ))
-          → Replies line (leftByLines lines atFirst) (printedSet (cardNow .verdict) cardNow)
+          → Replies line (leftByLines lines atFirst) (setReply cardNow)

@@ -13,7 +13,7 @@ use Rattle.inputs.specs.Inputs.{leftByLine, leftByLines}
 
 -- a line of more than 4,096 bytes asks for none
 abbrev pub callsBy : List ℕ → Memory → List Call
-callsBy line memory = cond (leb (length line) lineBytes) (callsOfLine line (memory .scratch)) []
+callsBy line memory = cond (leb (length line) lineBytes) (callsOfLine line memory) []
 
 unfoldable pub callsOver : List (List ℕ) → Memory → List Call
 callsOver [] memory = []

@@ -217,7 +217,11 @@ pub extern "C" fn delvouzh_tube_mass_properties(
         (now (body .entry)) (now (values .entry))
         r (now (body .exit)) (now (values .exit)) ⌝ }
 {
-    told_body(requests::ring_figures(count, density, figures), body, values)
+    told_body(
+        requests::ring_figures(count, density, figures),
+        body,
+        values,
+    )
 }
 
 // The outer radius of tubes that close the ring around a body: writes it, and two values of a refusal.

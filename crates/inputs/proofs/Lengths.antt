@@ -8,12 +8,10 @@ use lib.Dec.{eqb, leb}
 use lib.ListN.{length, take, drop, length-append}
 use lib.Seq.{take-add}
 use Rattle.refusals.specs.declared.Refusal.the-variants.{NoForm}
-use Rattle.refusals.specs.Refusals.{numberOf}
 use Rattle.tokens.specs.Tokens.{lineBytes}
-use Rattle.answers.specs.Answers.{answerBytes, refusedText}
-use Rattle.answers.proofs.Lengths.{refused-short}
-use Rattle.lines.specs.Lines.{Memory, answerOf}
-use Rattle.lines.proofs.Short.{answer-short}
+use Rattle.answers.specs.Answers.{answerBytes, textOf}
+use Rattle.answers.proofs.Lengths.{text-short}
+use Rattle.lines.specs.Lines.{Memory, refusedReply, lineEffect, answerOf}
 use Rattle.input_lines.specs.Lines.{linesWithin, begunAfter, lastLine, linesOf}
 use Rattle.input_lines.proofs.Cutting.{lines-twice}
 use Rattle.inputs.specs.Inputs.{replyBytes, reply, leftByLine, leftByLines, replies, repliesTo}
@@ -22,13 +20,13 @@ use Rattle.inputs.proofs.Lines.{replies-append}
 one-short : (line : List ℕ) (m : Memory) → length (reply line m) ≤ replyBytes
 unfolding reply
 one-short line m =
-    let e = length-append (cond (leb (length line) lineBytes) (answerOf line m) (refusedText (numberOf NoForm))) (10 ∷ []) in
+    let e = length-append (cond (leb (length line) lineBytes) (answerOf line m) (textOf (refusedReply NoForm))) (10 ∷ []) in
     let h = by (leb (length line) lineBytes) in
     omega arith
   where
-    by : (t : Bool) → length (cond t (answerOf line m) (refusedText (numberOf NoForm))) ≤ answerBytes
-    by true = answer-short line m
-    by false = refused-short (numberOf NoForm)
+    by : (t : Bool) → length (cond t (answerOf line m) (textOf (refusedReply NoForm))) ≤ answerBytes
+    by true = text-short (lineEffect line m .reply)
+    by false = text-short (refusedReply NoForm)
 
 all-short : (lines : List (List ℕ)) (m : Memory) → length (replies lines m) ≤ replyBytes * length lines
 unfolding replies
@@ -89,7 +87,7 @@ some-lines begun (b ∷ bs) h = by (eqb b 10) refl (some-lines (begun ++ (b ∷ 
 -- a reply has a byte, its newline
 some-reply : (line : List ℕ) (m : Memory) → 0 < length (reply line m)
 unfolding reply
-some-reply line m = by (cond (leb (length line) lineBytes) (answerOf line m) (refusedText (numberOf NoForm)))
+some-reply line m = by (cond (leb (length line) lineBytes) (answerOf line m) (textOf (refusedReply NoForm)))
   where
     by : (text : List ℕ) → 0 < length (text ++ (10 ∷ []))
     by text = let e = length-append text (10 ∷ []) in omega arith

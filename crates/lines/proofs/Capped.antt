@@ -48,7 +48,7 @@ use Rattle.engines.specs.declared.Screens.{Screens}
 use Rattle.engines.specs.declared.AtScreen.{AtScreen}
 use Rattle.engines.specs.declared.Engine.{Engine}
 use Rattle.engines.specs.Engines.{isScreen, placeOf, isFree, holdsJob, refused as refusedAt, submittedOf, changedOf, jobAt, calledAt, submitOf, changeAt}
-use Rattle.lines.specs.Lines.{printedSet, printedArea, setAnswer, areaAnswer}
+use Rattle.lines.specs.Lines.{Memory, setReply, areaReply, works, setEffect, areaEffect}
 
 -- ---- the two checks
 
@@ -187,13 +187,13 @@ module _ (figures : List Float) where
   unfolding askedArea
   area-asked-capped q m = area-capped (q .planform) (between 0 (q .points) figures) (q .limit) m
 
-  pub answer-capped : (q : SetRequest) (m : ℕ) → setAnswer (cappedSetRequest q) figures m ≡ setAnswer q figures m
-  unfolding setAnswer
-  answer-capped q m = ap (λ (c : CallOf Figures). printedSet (c .answer .verdict) (c .answer)) (set-asked-capped q m)
+  pub set-effect-capped : (q : SetRequest) (m : Memory) → setEffect (cappedSetRequest q) figures m ≡ setEffect q figures m
+  unfolding setEffect
+  set-effect-capped q m = ap (λ (c : CallOf Figures). works c setReply m) (set-asked-capped q (length (m .scratch)))
 
-  pub area-answer-capped : (q : AreaRequest) (m : ℕ) → areaAnswer (cappedAreaRequest q) figures m ≡ areaAnswer q figures m
-  unfolding areaAnswer
-  area-answer-capped q m = ap (λ (c : CallOf Area). printedArea (c .answer .verdict) (c .answer)) (area-asked-capped q m)
+  pub area-effect-capped : (q : AreaRequest) (m : Memory) → areaEffect (cappedAreaRequest q) figures m ≡ areaEffect q figures m
+  unfolding areaEffect
+  area-effect-capped q m = ap (λ (c : CallOf Area). works c areaReply m) (area-asked-capped q (length (m .scratch)))
 
 -- ---- the engine: a number that is no screen's is refused whatever it is, and a set as above
 

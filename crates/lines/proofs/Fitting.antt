@@ -10,7 +10,7 @@ use Rattle.floats.proofs.Bools.{and-left, and-right}
 use Rattle.texts.specs.Appended.{Appended}
 use Rattle.answers.specs.Answers.{answerBytes}
 use Rattle.lent_engines.specs.Memory.{engineNumbers, engineCounts}
-use Rattle.lines.specs.Lines.{LentMemory, Fits, Answers, memoryOf, LeavesLent, answerOf, memoryAfter, callsOfLine}
+use Rattle.lines.specs.Lines.{LentMemory, Fits, Answers, memoryOf, LeavesLent, lineEffect, answerOf}
 
 abbrev engineTest : LentMemory → Bool
 engineTest lent = leb engineNumbers (length (lent .numbers)) && leb engineCounts (length (lent .counts))
@@ -34,6 +34,6 @@ module _ (lent : LentMemory) (out : List ℕ) (n : ℕ) (room engine : Bool) (e 
 
 -- where they do, the line is answered
 pub answered : (line : List ℕ) (lent after : LentMemory) (out : List ℕ) (n : ℕ) (written : List ℕ) (r : ℕ) → Fits lent out n
-    → Appended out n (answerOf line (memoryOf lent)) written r × LeavesLent (memoryAfter line (memoryOf lent)) (callsOfLine line (lent .scratch)) lent after
+    → Appended out n (answerOf line (memoryOf lent)) written r × LeavesLent (lineEffect line (memoryOf lent)) lent after
     → Answers line lent after out n written r
 answered line lent after out n written r h a = record { answer = λ _. a .0; left = λ _. a .1; no-room = λ g. absurd (g h) }

@@ -5,11 +5,13 @@ use mathlib.Core.Path.{_≡_}
 use Prim.Native.Nat.{ℕ, _+_, _<_}
 use lib.ListN.{length}
 use lib.Ieee.{Float}
+use Rattle.floats.specs.Operations.{at}
 use Rattle.refusals.specs.declared.Refusal.{Refusal}
 use Rattle.refusals.specs.declared.Refusal.the-variants.{NoForm as noForm, Scratch as short}
 use Rattle.refusals.specs.declared.Verdict.{Verdict}
 use Rattle.refusals.specs.declared.Verdict.the-variants.{Accepted, Refused}
 use Rattle.refusals.specs.Refusals.{numberOf}
+use Rattle.refusals.specs.Calls.{CallOf}
 use Rattle.bodies.specs.Layout.{numbersOf}
 use Rattle.joins.specs.declared.Joined.{Joined}
 use Rattle.tubes.specs.declared.ClosingRadius.{ClosingRadius}
@@ -17,7 +19,12 @@ use Rattle.drill.specs.declared.Answer.{Answer}
 use Rattle.drill.specs.declared.Answer.the-variants.{Inside, Edge, Outside, Refused as refusedPoint}
 use Rattle.moments.specs.declared.Moments.{Moments}
 use Rattle.texts.specs.Appended.{Appended}
-use Rattle.answers.specs.Answers.{answerBytes, AnswerFits, figuresText, areaText, joinedText, ringText, bodyText, closingText, insideText, edgeText, outsideText, momentsText, soundText, takenText, idleText, moreText, doneText, doneRefusedText, refusedText}
+use Rattle.answers.specs.declared.Reply.{Reply}
+use Rattle.answers.specs.declared.Shape.{Shape}
+use Rattle.answers.specs.declared.Shape.the-variants.{Figures as FiguresShape, Area as AreaShape, Joined as JoinedShape, Ring as RingShape, Body as BodyShape, Closing as ClosingShape}
+use Rattle.answers.specs.declared.Shape.the-variants.{Inside as InsideShape, Edge as EdgeShape, Outside as OutsideShape, Moments as MomentsShape, Sound as SoundShape, Taken as TakenShape, Idle as IdleShape}
+use Rattle.answers.specs.declared.Shape.the-variants.{More as MoreShape, Done as DoneShape, DoneRefused as DoneRefusedShape, Refused as RefusedShape}
+use Rattle.answers.specs.Answers.{AnswerFits, textOf, reply}
 use Rattle.forms.specs.declared.Form.{Form}
 use Rattle.forms.specs.declared.Form.the-variants.{Set as SetForm, Area as AreaForm, Join as JoinForm, Moments as MomentsForm, Check as CheckForm, Tubes as TubesForm, Closing as ClosingForm, Drill as DrillForm, Copied as CopiedForm, Placed as PlacedForm, Moved as MovedForm, Without as WithoutForm, Submit as SubmitForm, Density as DensityForm, Turn as TurnForm, NoForm}
 use Rattle.forms.specs.Forms.{Asked, refused, asked, lineAsked}
@@ -27,12 +34,13 @@ use Rattle.requests.specs.Calls.{joinedPointsOf, tensorMoments, bodyVerdict}
 use Rattle.requests.specs.Requests.{number, setRequestOf, askedSubmit, askedChange, askedSubmitCalls, askedChangeCalls, areaRequestOf, askedSet, askedArea, askedRing, askedClosing, askedDrill, askedCopied, askedPlaced, askedMoved, askedWithout}
 use Rattle.figures.specs.declared.Figures.{Figures}
 use Rattle.figures.specs.declared.Area.{Area}
-use Rattle.jobs.specs.declared.Reply.{Reply}
+use Rattle.jobs.specs.declared.Reply.{Reply as Step}
 use Rattle.jobs.specs.declared.Reply.the-variants.{More, Taken, Answered}
 use Rattle.engines.specs.declared.Engine.{Engine}
 use Rattle.engines.specs.declared.Service.{Service}
-use Rattle.engines.specs.declared.Service.the-variants.{Short, Idle, Step}
+use Rattle.engines.specs.declared.Service.the-variants.{Short, Idle, Step as Stepped}
 use Rattle.engines.specs.declared.Told.{Told}
+use Rattle.engines.specs.declared.Called.{Called}
 use Rattle.engines.specs.Engines.{turnOf, turnScratch}
 use Rattle.engines.specs.Calls.{Call, turn}
 use Rattle.lent_engines.specs.Memory.{engineIn}
@@ -47,229 +55,155 @@ pub record Memory : Type 0 where
 abbrev pub memoryIn : List Float → List Float → List ℕ → Memory
 memoryIn scratch numbers counts = record { scratch = scratch; engine = engineIn numbers counts }
 
--- ---- what is printed: the figures, or "A refused line prints `(refused N)`"
+-- ---- what is answered: figures, or "A refused line prints `(refused N)`"
+
+abbrev pub refusedReply : Refusal → Reply
+refusedReply refusal = reply RefusedShape [] (numberOf refusal ∷ [])
+
+-- an answer that a verdict may refuse
+abbrev pub unlessRefused : Verdict → Reply → Reply
+unlessRefused Accepted answer = answer
+unlessRefused (Refused refusal) answer = refusedReply refusal
+
+-- an answer of words alone: "the body check passed"; a submission or a change of density is taken
+abbrev pub plainReply : Verdict → Shape → Reply
+plainReply verdict shape = unlessRefused verdict (reply shape [] [])
 
 -- mass, centre and the tensor's six numbers
-abbrev pub printedSet : Verdict → Figures → List ℕ
-printedSet Accepted f = figuresText (numbersOf (f .body)) (f .intervals) (f .samples)
-printedSet (Refused refusal) f = refusedText (numberOf refusal)
+abbrev pub setReply : Figures → Reply
+setReply f = unlessRefused (f .verdict) (reply FiguresShape (numbersOf (f .body)) (f .intervals ∷ f .samples ∷ []))
 
 -- "centroid: x, then height"
-abbrev pub printedArea : Verdict → Area → List ℕ
-printedArea Accepted a = areaText (a .«area_m2» ∷ a .«centroid_x_m» ∷ a .«centroid_span_m» ∷ []) (a .intervals) (a .samples)
-printedArea (Refused refusal) a = refusedText (numberOf refusal)
+abbrev pub areaReply : Area → Reply
+areaReply a = unlessRefused (a .verdict) (reply AreaShape (a .«area_m2» ∷ a .«centroid_x_m» ∷ a .«centroid_span_m» ∷ []) (a .intervals ∷ a .samples ∷ []))
 
-abbrev pub printedJoin : Verdict → Joined → List ℕ
-printedJoin Accepted j = joinedText (numbersOf (j .body))
-printedJoin (Refused refusal) j = refusedText (numberOf refusal)
+-- a body of points joined, of a ring, or of copies and parts
+abbrev pub bodyReply : Shape → Joined → Reply
+bodyReply shape joined = unlessRefused (joined .verdict) (reply shape (numbersOf (joined .body)) [])
 
-abbrev pub printedRing : Verdict → Joined → List ℕ
-printedRing Accepted j = ringText (numbersOf (j .body))
-printedRing (Refused refusal) j = refusedText (numberOf refusal)
+abbrev pub closingReply : ClosingRadius → Reply
+closingReply c = unlessRefused (c .verdict) (reply ClosingShape (c .«radius_m» ∷ []) [])
 
-abbrev pub printedBody : Verdict → Joined → List ℕ
-printedBody Accepted j = bodyText (numbersOf (j .body))
-printedBody (Refused refusal) j = refusedText (numberOf refusal)
+-- ascending
+abbrev pub momentsReply : Moments → Reply
+momentsReply m =
+    let moments = m .«moments_kg_m2» in
+    unlessRefused (m .verdict) (reply MomentsShape (at moments 0 ∷ at moments 1 ∷ at moments 2 ∷ []) [])
 
-abbrev pub printedClosing : Verdict → ClosingRadius → List ℕ
-printedClosing Accepted c = closingText (c .«radius_m» ∷ [])
-printedClosing (Refused refusal) c = refusedText (numberOf refusal)
-
-abbrev pub printedDrill : Answer → List ℕ
-printedDrill (Inside nearest) = insideText nearest
-printedDrill (Edge nearest) = edgeText nearest
-printedDrill (Outside nearest) = outsideText nearest
-printedDrill (refusedPoint refusal) = refusedText (numberOf refusal)
-
-abbrev pub printedMoments : Verdict → Moments → List ℕ
-printedMoments Accepted m = momentsText (m .«moments_kg_m2»)
-printedMoments (Refused refusal) m = refusedText (numberOf refusal)
-
--- "the body check passed"
-abbrev pub printedCheck : Verdict → List ℕ
-printedCheck Accepted = soundText
-printedCheck (Refused refusal) = refusedText (numberOf refusal)
-
--- a submission or a change of density: taken, or a refusal
-abbrev pub printedCall : Verdict → List ℕ
-printedCall Accepted = takenText
-printedCall (Refused refusal) = refusedText (numberOf refusal)
+abbrev pub drillReply : Answer → Reply
+drillReply (Inside nearest) = reply InsideShape [] (nearest ∷ [])
+drillReply (Edge nearest) = reply EdgeShape [] (nearest ∷ [])
+drillReply (Outside nearest) = reply OutsideShape [] (nearest ∷ [])
+drillReply (refusedPoint refusal) = refusedReply refusal
 
 -- a step of the screen served: more strips remain, or its job has ended; no step answers that it is taken
-abbrev pub printedDone : Verdict → ℕ → Figures → List ℕ
-printedDone Accepted screen f = doneText screen (numbersOf (f .body)) (f .intervals) (f .samples)
-printedDone (Refused refusal) screen f = doneRefusedText screen (numberOf refusal)
+abbrev pub doneReply : ℕ → Verdict → Figures → Reply
+doneReply screen Accepted f = reply DoneShape (numbersOf (f .body)) (screen ∷ f .intervals ∷ f .samples ∷ [])
+doneReply screen (Refused refusal) f = reply DoneRefusedShape [] (screen ∷ numberOf refusal ∷ [])
 
-abbrev pub printedStep : Reply → ℕ → Figures → List ℕ
-printedStep More screen f = moreText screen
-printedStep Taken screen f = takenText
-printedStep Answered screen f = printedDone (f .verdict) screen f
+abbrev pub stepReply : Step → ℕ → Figures → Reply
+stepReply More screen f = reply MoreShape [] (screen ∷ [])
+stepReply Taken screen f = reply TakenShape [] []
+stepReply Answered screen f = doneReply screen (f .verdict) f
 
 -- "A turn lent under 1,024 numbers answers 2"; "with no jobs a turn does nothing and says so"; "otherwise it answers the screen served and the step's
 -- answer" (document 02, Paper 10)
-abbrev pub printedTurn : Service → Told → List ℕ
-printedTurn Short t = refusedText (numberOf short)
-printedTurn Idle t = idleText
-printedTurn Step t = printedStep (t .answer .reply) (t .screen) (t .answer .figures)
+abbrev pub turnReply : Service → Told → Reply
+turnReply Short t = refusedReply short
+turnReply Idle t = reply IdleShape [] []
+turnReply Stepped t = stepReply (t .answer .reply) (t .screen) (t .answer .figures)
 
--- "18: line is no form"
-abbrev pub printedRefusal : Refusal → List ℕ
-printedRefusal refusal = refusedText (numberOf refusal)
+-- ---- what a line does: its answer; the memory that it leaves, of which only the strips of a set, an area or a turn write to the scratch ("Refusal
+-- numbers") and only the engine's own lines change the engine; and the calls of the engine that it asks for, one or none, without which the engine's two
+-- lists stay as they are
 
--- ---- the call for each form, of its counts and parts, and of its figures: over a scratch of the length that is lent, or over the engine
+pub record Effect : Type 0 where
+  pub reply : Reply
+  pub memory : Memory
+  pub calls : List Call
 
--- a limit and a count are capped at a million when a line is read; no answer shows it (proofs/Capped.antt, `answer-capped`)
-unfoldable pub setAnswer : SetRequest → List Float → ℕ → List ℕ
-setAnswer q figures scratchLength = let f = askedSet q figures scratchLength .answer in printedSet (f .verdict) f
+-- an answer that leaves everything as it is
+abbrev pub answers : Reply → Memory → Effect
+answers r m = record { reply = r; memory = m; calls = [] }
 
-unfoldable pub areaAnswer : AreaRequest → List Float → ℕ → List ℕ
-areaAnswer q figures scratchLength = let a = askedArea q figures scratchLength .answer in printedArea (a .verdict) a
+-- an answer worked in the scratch
+abbrev pub works : {A : Type 0} → CallOf A → (A → Reply) → Memory → Effect
+works call replyTo m =
+    record { reply = replyTo (call .answer); memory = record { scratch = call .leaves (m .scratch); engine = m .engine }; calls = [] }
 
-unfoldable pub joinAnswer : List Float → List ℕ
-joinAnswer figures = let j = joinedPointsOf figures in printedJoin (j .verdict) j
+-- a submission or a change of density
+abbrev pub engages : Called → List Call → Memory → Effect
+engages c calls m =
+    record {
+      reply = plainReply (c .answer .figures .verdict) TakenShape;
+      memory = record { scratch = m .scratch; engine = c .engine };
+      calls = calls;
+    }
 
-unfoldable pub momentsAnswer : List Float → List ℕ
-momentsAnswer figures = let m = tensorMoments figures in printedMoments (m .verdict) m
+-- a limit and a count are capped at a million when a line is read; no answer shows it (proofs/Capped)
+unfoldable pub setEffect : SetRequest → List Float → Memory → Effect
+setEffect q figures m = works (askedSet q figures (length (m .scratch))) setReply m
 
-unfoldable pub checkAnswer : List Float → List ℕ
-checkAnswer figures = printedCheck (bodyVerdict figures)
+unfoldable pub areaEffect : AreaRequest → List Float → Memory → Effect
+areaEffect q figures m = works (askedArea q figures (length (m .scratch))) areaReply m
 
-unfoldable pub ringAnswer : List ℕ → List Float → List ℕ
-ringAnswer ns figures = let j = askedRing ns figures in printedRing (j .verdict) j
+unfoldable pub submitEffect : ℕ → SetRequest → List Float → Memory → Effect
+submitEffect screen q figures m = engages (askedSubmit screen q figures (m .engine)) (askedSubmitCalls screen q figures) m
 
-unfoldable pub closingAnswer : List ℕ → List Float → List ℕ
-closingAnswer ns figures = let c = askedClosing ns figures in printedClosing (c .verdict) c
+unfoldable pub changeEffect : List ℕ → List Float → Memory → Effect
+changeEffect ns figures m = engages (askedChange ns figures (m .engine)) (askedChangeCalls ns figures) m
 
-unfoldable pub drillAnswer : List ℕ → List Float → List ℕ
-drillAnswer ns figures = printedDrill (askedDrill ns figures)
+unfoldable pub turnEffect : Memory → Effect
+turnEffect m =
+    let t = turnOf (m .engine) (length (m .scratch)) in
+    record {
+      reply = turnReply (t .told .service) (t .told);
+      memory = record { scratch = turnScratch (m .engine) (m .scratch); engine = t .engine };
+      calls = turn (m .scratch) ∷ [];
+    }
 
--- copies of a body, or a body with a part moved or taken off
-unfoldable pub bodyAnswer : Joined → List ℕ
-bodyAnswer j = printedBody (j .verdict) j
-
-unfoldable pub submitAnswer : ℕ → SetRequest → List Float → Engine → List ℕ
-submitAnswer screen q figures engine = printedCall (askedSubmit screen q figures engine .answer .figures .verdict)
-
-unfoldable pub changeAnswer : List ℕ → List Float → Engine → List ℕ
-changeAnswer ns figures engine = printedCall (askedChange ns figures engine .answer .figures .verdict)
-
-unfoldable pub turnAnswer : Engine → ℕ → List ℕ
-turnAnswer engine scratchLength = let t = turnOf engine scratchLength .told in printedTurn (t .service) t
-
-abbrev pub answerTo : Form → List ℕ → List Float → Memory → List ℕ
-answerTo SetForm ns figures m = setAnswer (setRequestOf ns figures) figures (length (m .scratch))
-answerTo AreaForm ns figures m = areaAnswer (areaRequestOf ns figures) figures (length (m .scratch))
-answerTo JoinForm ns figures m = joinAnswer figures
-answerTo MomentsForm ns figures m = momentsAnswer figures
-answerTo CheckForm ns figures m = checkAnswer figures
-answerTo TubesForm ns figures m = ringAnswer ns figures
-answerTo ClosingForm ns figures m = closingAnswer ns figures
-answerTo DrillForm ns figures m = drillAnswer ns figures
-answerTo CopiedForm ns figures m = bodyAnswer (askedCopied figures)
-answerTo PlacedForm ns figures m = bodyAnswer (askedPlaced figures)
-answerTo MovedForm ns figures m = bodyAnswer (askedMoved figures)
-answerTo WithoutForm ns figures m = bodyAnswer (askedWithout figures)
-answerTo SubmitForm ns figures m = submitAnswer (number ns 7) (setRequestOf ns figures) figures (m .engine)
-answerTo DensityForm ns figures m = changeAnswer ns figures (m .engine)
-answerTo TurnForm ns figures m = turnAnswer (m .engine) (length (m .scratch))
-answerTo NoForm ns figures m = printedRefusal noForm
-
-abbrev pub askedAnswer : Asked → Memory → List ℕ
-askedAnswer (refused refusal) m = printedRefusal refusal
-askedAnswer (asked form ns figures) m = answerTo form ns figures m
-
-unfoldable pub answerOf : List ℕ → Memory → List ℕ
-answerOf line m = askedAnswer (lineAsked line) m
-
--- ---- what is left: the scratch, which only the strips of a set, an area or a turn write to ("Refusal numbers"); and the engine, which only its own
--- lines change
-
-abbrev pub withScratch : List Float → Memory → Memory
-withScratch scratch m = record { scratch = scratch; engine = m .engine }
-
-abbrev pub withEngine : Engine → Memory → Memory
-withEngine engine m = record { scratch = m .scratch; engine = engine }
-
-abbrev pub turned : Memory → Memory
-turned m = record { scratch = turnScratch (m .engine) (m .scratch); engine = turnOf (m .engine) (length (m .scratch)) .engine }
-
-abbrev pub memoryAfterForm : Form → List ℕ → List Float → Memory → Memory
-memoryAfterForm SetForm ns figures m = withScratch (askedSet (setRequestOf ns figures) figures (length (m .scratch)) .leaves (m .scratch)) m
-memoryAfterForm AreaForm ns figures m = withScratch (askedArea (areaRequestOf ns figures) figures (length (m .scratch)) .leaves (m .scratch)) m
-memoryAfterForm JoinForm ns figures m = m
-memoryAfterForm MomentsForm ns figures m = m
-memoryAfterForm CheckForm ns figures m = m
-memoryAfterForm TubesForm ns figures m = m
-memoryAfterForm ClosingForm ns figures m = m
-memoryAfterForm DrillForm ns figures m = m
-memoryAfterForm CopiedForm ns figures m = m
-memoryAfterForm PlacedForm ns figures m = m
-memoryAfterForm MovedForm ns figures m = m
-memoryAfterForm WithoutForm ns figures m = m
-memoryAfterForm SubmitForm ns figures m = withEngine (askedSubmit (number ns 7) (setRequestOf ns figures) figures (m .engine) .engine) m
-memoryAfterForm DensityForm ns figures m = withEngine (askedChange ns figures (m .engine) .engine) m
-memoryAfterForm TurnForm ns figures m = turned m
-memoryAfterForm NoForm ns figures m = m
-
-abbrev pub memoryAfterAsked : Asked → Memory → Memory
-memoryAfterAsked (refused refusal) m = m
-memoryAfterAsked (asked form ns figures) m = memoryAfterForm form ns figures m
-
-unfoldable pub memoryAfter : List ℕ → Memory → Memory
-memoryAfter line m = memoryAfterAsked (lineAsked line) m
-
--- ---- the calls of the engine that a line asks for, over the scratch lent: one, or none, and then the engine's two lists stay as they are
-
-abbrev pub callsOfForm : Form → List ℕ → List Float → List Float → List Call
-callsOfForm SetForm ns figures scratch = []
-callsOfForm AreaForm ns figures scratch = []
-callsOfForm JoinForm ns figures scratch = []
-callsOfForm MomentsForm ns figures scratch = []
-callsOfForm CheckForm ns figures scratch = []
-callsOfForm TubesForm ns figures scratch = []
-callsOfForm ClosingForm ns figures scratch = []
-callsOfForm DrillForm ns figures scratch = []
-callsOfForm CopiedForm ns figures scratch = []
-callsOfForm PlacedForm ns figures scratch = []
-callsOfForm MovedForm ns figures scratch = []
-callsOfForm WithoutForm ns figures scratch = []
-callsOfForm SubmitForm ns figures scratch = askedSubmitCalls (number ns 7) (setRequestOf ns figures) figures
-callsOfForm DensityForm ns figures scratch = askedChangeCalls ns figures
-callsOfForm TurnForm ns figures scratch = turn scratch ∷ []
-callsOfForm NoForm ns figures scratch = []
-
-abbrev pub callsAsked : Asked → List Float → List Call
-callsAsked (refused refusal) scratch = []
-callsAsked (asked form ns figures) scratch = callsOfForm form ns figures scratch
-
-unfoldable pub callsOfLine : List ℕ → List Float → List Call
-callsOfLine line scratch = callsAsked (lineAsked line) scratch
-
--- ---- what the code does with a request and its figures
-
+-- why a line is no form
 abbrev pub whyRefused : Verdict → Refusal
 whyRefused Accepted = noForm
 whyRefused (Refused refusal) = refusal
 
-abbrev pub requestAnswer : Form → Verdict → List ℕ → List Float → Memory → List ℕ
-requestAnswer SetForm verdict ns figures m = answerTo SetForm ns figures m
-requestAnswer AreaForm verdict ns figures m = answerTo AreaForm ns figures m
-requestAnswer JoinForm verdict ns figures m = answerTo JoinForm ns figures m
-requestAnswer MomentsForm verdict ns figures m = answerTo MomentsForm ns figures m
-requestAnswer CheckForm verdict ns figures m = answerTo CheckForm ns figures m
-requestAnswer TubesForm verdict ns figures m = answerTo TubesForm ns figures m
-requestAnswer ClosingForm verdict ns figures m = answerTo ClosingForm ns figures m
-requestAnswer DrillForm verdict ns figures m = answerTo DrillForm ns figures m
-requestAnswer CopiedForm verdict ns figures m = answerTo CopiedForm ns figures m
-requestAnswer PlacedForm verdict ns figures m = answerTo PlacedForm ns figures m
-requestAnswer MovedForm verdict ns figures m = answerTo MovedForm ns figures m
-requestAnswer WithoutForm verdict ns figures m = answerTo WithoutForm ns figures m
-requestAnswer SubmitForm verdict ns figures m = answerTo SubmitForm ns figures m
-requestAnswer DensityForm verdict ns figures m = answerTo DensityForm ns figures m
-requestAnswer TurnForm verdict ns figures m = answerTo TurnForm ns figures m
-requestAnswer NoForm verdict ns figures m = printedRefusal (whyRefused verdict)
+-- each form, of its counts and parts and of its figures
+abbrev pub effectOf : Form → Verdict → List ℕ → List Float → Memory → Effect
+effectOf SetForm verdict ns figures m = setEffect (setRequestOf ns figures) figures m
+effectOf AreaForm verdict ns figures m = areaEffect (areaRequestOf ns figures) figures m
+effectOf JoinForm verdict ns figures m = answers (bodyReply JoinedShape (joinedPointsOf figures)) m
+effectOf MomentsForm verdict ns figures m = answers (momentsReply (tensorMoments figures)) m
+effectOf CheckForm verdict ns figures m = answers (plainReply (bodyVerdict figures) SoundShape) m
+effectOf TubesForm verdict ns figures m = answers (bodyReply RingShape (askedRing ns figures)) m
+effectOf ClosingForm verdict ns figures m = answers (closingReply (askedClosing ns figures)) m
+effectOf DrillForm verdict ns figures m = answers (drillReply (askedDrill ns figures)) m
+effectOf CopiedForm verdict ns figures m = answers (bodyReply BodyShape (askedCopied figures)) m
+effectOf PlacedForm verdict ns figures m = answers (bodyReply BodyShape (askedPlaced figures)) m
+effectOf MovedForm verdict ns figures m = answers (bodyReply BodyShape (askedMoved figures)) m
+effectOf WithoutForm verdict ns figures m = answers (bodyReply BodyShape (askedWithout figures)) m
+effectOf SubmitForm verdict ns figures m = submitEffect (number ns 7) (setRequestOf ns figures) figures m
+effectOf DensityForm verdict ns figures m = changeEffect ns figures m
+effectOf TurnForm verdict ns figures m = turnEffect m
+effectOf NoForm verdict ns figures m = answers (refusedReply (whyRefused verdict)) m
 
--- ---- what answering a line does, behind the n bytes at the start of `out`: where an answer may not fit, or the engine's lists are too short, nothing
+abbrev pub askedEffect : Asked → Memory → Effect
+askedEffect (refused refusal) m = answers (refusedReply refusal) m
+askedEffect (asked form ns figures) m = effectOf form Accepted ns figures m
+
+unfoldable pub lineEffect : List ℕ → Memory → Effect
+lineEffect line m = askedEffect (lineAsked line) m
+
+-- the bytes of a line's answer, the memory that the line leaves, and its calls of the engine
+abbrev pub answerOf : List ℕ → Memory → List ℕ
+answerOf line m = textOf (lineEffect line m .reply)
+
+abbrev pub memoryAfter : List ℕ → Memory → Memory
+memoryAfter line m = lineEffect line m .memory
+
+abbrev pub callsOfLine : List ℕ → Memory → List Call
+callsOfLine line m = lineEffect line m .calls
+
+-- ---- what answering a line does, after the n bytes at the start of `out`: where an answer may not fit, or the engine's lists are too short, nothing
 
 -- scratch and engine as they are lent
 pub record LentMemory : Type 0 where
@@ -287,10 +221,15 @@ memoryOf l = memoryIn (l .scratch) (l .numbers) (l .counts)
 abbrev pub listsOf : LentMemory → Lists
 listsOf l = lists (l .numbers) (l .counts)
 
--- what is left of all that is lent: scratch and engine, and the engine's lists as these calls leave them
-pub record LeavesLent (memory : Memory) (calls : List Call) (lent after : LentMemory) : Type 0 where
-  pub memory-left : memoryOf after ≡ memory
-  pub lists-left : Leaves calls (listsOf lent) (listsOf after)
+-- what is left of all that is lent: scratch and engine, and the engine's lists as the calls leave them
+pub record LeavesLent (effect : Effect) (lent after : LentMemory) : Type 0 where
+  pub memory-left : memoryOf after ≡ effect .memory
+  pub lists-left : Leaves (effect .calls) (listsOf lent) (listsOf after)
+
+-- the answer, and what is left
+pub record Serves (effect : Effect) (lent after : LentMemory) (r : Reply) : Type 0 where
+  pub replies : r ≡ effect .reply
+  pub left : LeavesLent effect lent after
 
 -- there is room for an answer, and for the engine
 pub record Fits (lent : LentMemory) (out : List ℕ) (n : ℕ) : Type 0 where
@@ -299,5 +238,5 @@ pub record Fits (lent : LentMemory) (out : List ℕ) (n : ℕ) : Type 0 where
 
 pub record Answers (line : List ℕ) (lent after : LentMemory) (out : List ℕ) (n : ℕ) (written : List ℕ) (r : ℕ) : Type 0 where
   pub answer : Fits lent out n → Appended out n (answerOf line (memoryOf lent)) written r
-  pub left : Fits lent out n → LeavesLent (memoryAfter line (memoryOf lent)) (callsOfLine line (lent .scratch)) lent after
+  pub left : Fits lent out n → LeavesLent (lineEffect line (memoryOf lent)) lent after
   pub no-room : (Fits lent out n → ⊥) → (r ≡ n) × (written ≡ out) × (after ≡ lent)

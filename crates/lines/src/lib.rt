@@ -3,20 +3,23 @@
 // The engine of eight screens is lent as two lists. Where these are too short, or the buffer has no room for the bytes that an answer may have, no
 // call is made.
 ghost use mathlib.Core.Bool.{_&&_};
+ghost use mathlib.Core.List.{[], _∷_};
 ghost use mathlib.Core.Path.{_≡_};
 ghost use Prim.Native.Nat.{_+_, _≤_};
 ghost use lib.Dec.{leb};
 ghost use lib.ListN.{length};
 ghost use Rattle.texts.specs.Appended.{Appended};
 ghost use Rattle.tokens.specs.Tokens.{lineBytes};
-ghost use Rattle.answers.specs.Answers.{answerBytes, AnswerFits};
+ghost use Rattle.answers.specs.declared.Shape.the-variants.{Taken};
+ghost use Rattle.answers.specs.Answers.{answerBytes, AnswerFits, textOf, reply};
 ghost use Rattle.lent_engines.specs.Memory.{engineNumbers, engineCounts};
 ghost use Rattle.lent_engines.specs.Lent.{Room};
-ghost use Rattle.lines.specs.Lines.{printedSet, printedArea, printedJoin, printedRing, printedBody, printedClosing, printedDrill, printedMoments, printedCheck, printedRefusal};
-ghost use Rattle.lines.specs.Lines.{printedCall, printedDone, printedStep, printedTurn};
-ghost use Rattle.lines.specs.Lines.{memoryIn, lentIn, answerOf, memoryAfterForm, memoryAfter, callsOfForm, callsOfLine, LeavesLent};
-ghost use Rattle.lines.specs.Lines.{whyRefused, requestAnswer, Answers};
+ghost use Rattle.lines.specs.Lines.{refusedReply, unlessRefused, plainReply, setReply, areaReply, bodyReply, closingReply, momentsReply};
+ghost use Rattle.lines.specs.Lines.{drillReply, doneReply, stepReply, turnReply, whyRefused, effectOf, lineEffect};
+ghost use Rattle.lines.specs.Lines.{memoryIn, lentIn, Serves, LeavesLent, Answers};
 use answers::ANSWER_BYTES;
+use answers::Reply;
+use answers::Shape;
 use drill::Answer;
 use engines::Service;
 use engines::Told;
@@ -24,7 +27,6 @@ use figures::Area;
 use figures::Figures;
 use forms::Form;
 use forms::Request;
-use jobs::Reply;
 use joins::Joined;
 use lent_engines::ENGINE_COUNTS;
 use lent_engines::ENGINE_NUMBERS;
@@ -37,199 +39,219 @@ use tubes::ClosingRadius;
 // Most lines have no more bytes than this, and so no more figures: room for these is cleared in less time.
 const SHORT_LINE: usize = 512;
 
-fn put_refusal(out: &mut [u8], n: usize, refusal: Refusal) -> usize
-    requires { ⌜ AnswerFits (now out) n ⌝ }
-    ensures { λ r. ⌜ Appended (now (out .entry)) n (printedRefusal refusal) (now (out .exit)) r ⌝ }
+// The answer to what is refused.
+pub fn refused_reply(refusal: Refusal) -> Reply
+    ensures { λ r. ⌜ r ≡ refusedReply refusal ⌝ }
 {
-    answers::put_refused(out, n, refusals::number(refusal) as u64)
+    let shape = Shape::Refused;
+    let number = refusals::number(refusal) as u64;
+    let figures = [0.0; 10];
+    Reply {
+        shape,
+        figures,
+        counts: [number, 0, 0],
+    }
 }
 
-// The answer to a set, by its verdict; the next eight likewise.
-fn put_set(out: &mut [u8], n: usize, f: Figures) -> usize
-    requires { ⌜ AnswerFits (now out) n ⌝ }
-    ensures { λ r. ⌜ Appended (now (out .entry)) n (printedSet (f .verdict) f) (now (out .exit)) r ⌝ }
+// An answer that a verdict may refuse.
+fn unless_refused(verdict: Verdict, answer: Reply) -> Reply
+    ensures { λ r. ⌜ r ≡ unlessRefused verdict answer ⌝ }
+{
+    match verdict {
+        Verdict::Accepted => answer,
+        Verdict::Refused(refusal) => refused_reply(refusal),
+    }
+}
+
+// An answer of words alone, unless it is refused.
+fn plain_reply(verdict: Verdict, shape: Shape) -> Reply
+    ensures { λ r. ⌜ r ≡ plainReply verdict shape ⌝ }
+{
+    let figures = [0.0; 10];
+    unless_refused(
+        verdict,
+        Reply {
+            shape,
+            figures,
+            counts: [0; 3],
+        },
+    )
+}
+
+fn set_reply(f: Figures) -> Reply
+    ensures { λ r. ⌜ r ≡ setReply f ⌝ }
 {
     let verdict = f.verdict;
     let body = f.body;
-    match verdict {
-        Verdict::Accepted => {
-            let numbers = body.numbers();
-            answers::put_figures(out, n, &numbers, f.intervals as u64, f.samples as u64)
-        }
-        Verdict::Refused(refusal) => put_refusal(out, n, refusal),
-    }
+    let shape = Shape::Figures;
+    let figures = body.numbers();
+    unless_refused(
+        verdict,
+        Reply {
+            shape,
+            figures,
+            counts: [f.intervals as u64, f.samples as u64, 0],
+        },
+    )
 }
 
-fn put_area(out: &mut [u8], n: usize, a: Area) -> usize
-    requires { ⌜ AnswerFits (now out) n ⌝ }
-    ensures { λ r. ⌜ Appended (now (out .entry)) n (printedArea (a .verdict) a) (now (out .exit)) r ⌝ }
+fn area_reply(a: Area) -> Reply
+    ensures { λ r. ⌜ r ≡ areaReply a ⌝ }
 {
     let verdict = a.verdict;
-    match verdict {
-        Verdict::Accepted => {
-            let numbers = [a.area_m2, a.centroid_x_m, a.centroid_span_m];
-            answers::put_area(out, n, &numbers, a.intervals as u64, a.samples as u64)
-        }
-        Verdict::Refused(refusal) => put_refusal(out, n, refusal),
-    }
+    let shape = Shape::Area;
+    let mut figures = [0.0; 10];
+    figures[0] = a.area_m2;
+    figures[1] = a.centroid_x_m;
+    figures[2] = a.centroid_span_m;
+    unless_refused(
+        verdict,
+        Reply {
+            shape,
+            figures,
+            counts: [a.intervals as u64, a.samples as u64, 0],
+        },
+    )
 }
 
-fn put_joined(out: &mut [u8], n: usize, joined: Joined) -> usize
-    requires { ⌜ AnswerFits (now out) n ⌝ }
-    ensures { λ r. ⌜ Appended (now (out .entry)) n (printedJoin (joined .verdict) joined) (now (out .exit)) r ⌝ }
+// A body: of points joined, of a ring, or of copies and parts.
+fn body_reply(shape: Shape, joined: Joined) -> Reply
+    ensures { λ r. ⌜ r ≡ bodyReply shape joined ⌝ }
 {
     let verdict = joined.verdict;
     let body = joined.body;
-    match verdict {
-        Verdict::Accepted => {
-            let numbers = body.numbers();
-            answers::put_joined(out, n, &numbers)
-        }
-        Verdict::Refused(refusal) => put_refusal(out, n, refusal),
-    }
+    let figures = body.numbers();
+    unless_refused(
+        verdict,
+        Reply {
+            shape,
+            figures,
+            counts: [0; 3],
+        },
+    )
 }
 
-fn put_ring(out: &mut [u8], n: usize, joined: Joined) -> usize
-    requires { ⌜ AnswerFits (now out) n ⌝ }
-    ensures { λ r. ⌜ Appended (now (out .entry)) n (printedRing (joined .verdict) joined) (now (out .exit)) r ⌝ }
-{
-    let verdict = joined.verdict;
-    let body = joined.body;
-    match verdict {
-        Verdict::Accepted => {
-            let numbers = body.numbers();
-            answers::put_ring(out, n, &numbers)
-        }
-        Verdict::Refused(refusal) => put_refusal(out, n, refusal),
-    }
-}
-
-fn put_body(out: &mut [u8], n: usize, joined: Joined) -> usize
-    requires { ⌜ n + 320 ≤ length (now out) ⌝ }
-    ensures { λ r. ⌜ Appended (now (out .entry)) n (printedBody (joined .verdict) joined) (now (out .exit)) r ⌝ }
-{
-    let verdict = joined.verdict;
-    let body = joined.body;
-    match verdict {
-        Verdict::Accepted => {
-            let numbers = body.numbers();
-            answers::put_body(out, n, &numbers)
-        }
-        Verdict::Refused(refusal) => put_refusal(out, n, refusal),
-    }
-}
-
-fn put_closing(out: &mut [u8], n: usize, found: ClosingRadius) -> usize
-    requires { ⌜ AnswerFits (now out) n ⌝ }
-    ensures { λ r. ⌜ Appended (now (out .entry)) n (printedClosing (found .verdict) found) (now (out .exit)) r ⌝ }
+fn closing_reply(found: ClosingRadius) -> Reply
+    ensures { λ r. ⌜ r ≡ closingReply found ⌝ }
 {
     let verdict = found.verdict;
-    match verdict {
-        Verdict::Accepted => {
-            let numbers = [found.radius_m];
-            answers::put_closing(out, n, &numbers)
-        }
-        Verdict::Refused(refusal) => put_refusal(out, n, refusal),
-    }
+    let shape = Shape::Closing;
+    let mut figures = [0.0; 10];
+    figures[0] = found.radius_m;
+    unless_refused(
+        verdict,
+        Reply {
+            shape,
+            figures,
+            counts: [0; 3],
+        },
+    )
 }
 
-fn put_drilled(out: &mut [u8], n: usize, found: Answer) -> usize
-    requires { ⌜ AnswerFits (now out) n ⌝ }
-    ensures { λ r. ⌜ Appended (now (out .entry)) n (printedDrill found) (now (out .exit)) r ⌝ }
-{
-    match found {
-        Answer::Inside(nearest) => answers::put_inside(out, n, nearest as u64),
-        Answer::Edge(nearest) => answers::put_edge(out, n, nearest as u64),
-        Answer::Outside(nearest) => answers::put_outside(out, n, nearest as u64),
-        Answer::Refused(refusal) => put_refusal(out, n, refusal),
-    }
-}
-
-fn put_moments(out: &mut [u8], n: usize, m: Moments) -> usize
-    requires { ⌜ AnswerFits (now out) n ⌝ }
-    ensures { λ r. ⌜ Appended (now (out .entry)) n (printedMoments (m .verdict) m) (now (out .exit)) r ⌝ }
+fn moments_reply(m: Moments) -> Reply
+    ensures { λ r. ⌜ r ≡ momentsReply m ⌝ }
 {
     let verdict = m.verdict;
-    let numbers = m.moments_kg_m2;
-    match verdict {
-        Verdict::Accepted => answers::put_moments(out, n, &numbers),
-        Verdict::Refused(refusal) => put_refusal(out, n, refusal),
+    let shape = Shape::Moments;
+    let moments = m.moments_kg_m2;
+    let mut figures = [0.0; 10];
+    figures[0] = moments[0];
+    figures[1] = moments[1];
+    figures[2] = moments[2];
+    unless_refused(
+        verdict,
+        Reply {
+            shape,
+            figures,
+            counts: [0; 3],
+        },
+    )
+}
+
+// An answer of one count.
+fn count_reply(shape: Shape, count: usize) -> Reply
+    ensures { λ r. ⌜ r ≡ reply shape [] (count ∷ []) ⌝ }
+{
+    let figures = [0.0; 10];
+    Reply {
+        shape,
+        figures,
+        counts: [count as u64, 0, 0],
     }
 }
 
-fn put_checked(out: &mut [u8], n: usize, verdict: Verdict) -> usize
-    requires { ⌜ AnswerFits (now out) n ⌝ }
-    ensures { λ r. ⌜ Appended (now (out .entry)) n (printedCheck verdict) (now (out .exit)) r ⌝ }
+// Where a point lies.
+fn drill_reply(found: Answer) -> Reply
+    ensures { λ r. ⌜ r ≡ drillReply found ⌝ }
 {
-    match verdict {
-        Verdict::Accepted => answers::put_sound(out, n),
-        Verdict::Refused(refusal) => put_refusal(out, n, refusal),
+    match found {
+        Answer::Inside(nearest) => count_reply(Shape::Inside, nearest),
+        Answer::Edge(nearest) => count_reply(Shape::Edge, nearest),
+        Answer::Outside(nearest) => count_reply(Shape::Outside, nearest),
+        Answer::Refused(refusal) => refused_reply(refusal),
     }
 }
 
 // A submission or a change of density.
-fn put_called(out: &mut [u8], n: usize, called: jobs::Answer) -> usize
-    requires { ⌜ AnswerFits (now out) n ⌝ }
-    ensures { λ r. ⌜ Appended (now (out .entry)) n (printedCall (called .figures .verdict)) (now (out .exit)) r ⌝ }
+fn taken_reply(called: jobs::Answer) -> Reply
+    ensures { λ r. ⌜ r ≡ plainReply (called .figures .verdict) Taken ⌝ }
 {
     let f = called.figures;
     let verdict = f.verdict;
-    match verdict {
-        Verdict::Accepted => answers::put_taken(out, n),
-        Verdict::Refused(refusal) => put_refusal(out, n, refusal),
-    }
+    plain_reply(verdict, Shape::Taken)
 }
 
-// A job that has ended.
-fn put_done(out: &mut [u8], n: usize, screen: usize, f: Figures) -> usize
-    requires { ⌜ AnswerFits (now out) n ⌝ }
-    ensures { λ r. ⌜ Appended (now (out .entry)) n (printedDone (f .verdict) screen f) (now (out .exit)) r ⌝ }
+// A job that has ended at a screen.
+fn done_reply(screen: usize, f: Figures) -> Reply
+    ensures { λ r. ⌜ r ≡ doneReply screen (f .verdict) f ⌝ }
 {
     let verdict = f.verdict;
     let body = f.body;
     match verdict {
         Verdict::Accepted => {
-            let numbers = body.numbers();
-            answers::put_done(
-                out,
-                n,
-                screen as u64,
-                &numbers,
-                f.intervals as u64,
-                f.samples as u64,
-            )
+            let shape = Shape::Done;
+            let figures = body.numbers();
+            Reply {
+                shape,
+                figures,
+                counts: [screen as u64, f.intervals as u64, f.samples as u64],
+            }
         }
         Verdict::Refused(refusal) => {
-            answers::put_done_refused(out, n, screen as u64, refusals::number(refusal) as u64)
+            let shape = Shape::DoneRefused;
+            let figures = [0.0; 10];
+            let number = refusals::number(refusal) as u64;
+            Reply {
+                shape,
+                figures,
+                counts: [screen as u64, number, 0],
+            }
         }
     }
 }
 
 // A step of a screen's job.
-fn put_step(out: &mut [u8], n: usize, screen: usize, answer: jobs::Answer) -> usize
-    requires { ⌜ AnswerFits (now out) n ⌝ }
-    ensures { λ r. ⌜ Appended (now (out .entry)) n (printedStep (answer .reply) screen (answer .figures)) (now (out .exit)) r ⌝ }
+fn step_reply(screen: usize, answer: jobs::Answer) -> Reply
+    ensures { λ r. ⌜ r ≡ stepReply (answer .reply) screen (answer .figures) ⌝ }
 {
-    let reply = answer.reply;
+    let step = answer.reply;
     let f = answer.figures;
-    match reply {
-        Reply::More => answers::put_more(out, n, screen as u64),
-        Reply::Taken => answers::put_taken(out, n),
-        Reply::Answered => put_done(out, n, screen, f),
+    match step {
+        jobs::Reply::More => count_reply(Shape::More, screen),
+        jobs::Reply::Taken => plain_reply(Verdict::Accepted, Shape::Taken),
+        jobs::Reply::Answered => done_reply(screen, f),
     }
 }
 
-// A turn.
-fn put_turn(out: &mut [u8], n: usize, told: Told) -> usize
-    requires { ⌜ AnswerFits (now out) n ⌝ }
-    ensures { λ r. ⌜ Appended (now (out .entry)) n (printedTurn (told .service) told) (now (out .exit)) r ⌝ }
+fn turn_reply(told: Told) -> Reply
+    ensures { λ r. ⌜ r ≡ turnReply (told .service) told ⌝ }
 {
     let service = told.service;
     let answer = told.answer;
     match service {
-        Service::Short => put_refusal(out, n, Refusal::Scratch),
-        Service::Idle => answers::put_idle(out, n),
-        Service::Step => put_step(out, n, told.screen, answer),
+        Service::Short => refused_reply(Refusal::Scratch),
+        Service::Idle => plain_reply(Verdict::Accepted, Shape::Idle),
+        Service::Step => step_reply(told.screen, answer),
     }
 }
 
@@ -243,58 +265,49 @@ fn why_refused(verdict: Verdict) -> Refusal
 }
 
 // The answer to a request and its figures.
-fn answer_request(
+fn request_reply(
     q: Request,
     values: &[f64],
     scratch: &mut [f64],
     engine_numbers: &mut [f64],
     engine_counts: &mut [usize],
-    out: &mut [u8],
-    n: usize,
-) -> usize
-    requires { ⌜ AnswerFits (now out) n × Room (now «engine_numbers») (now «engine_counts») ⌝ }
-    ensures { λ r. ⌜ Appended (now (out .entry)) n
-        (requestAnswer (q .form) (q .verdict) (q .numbers) (now (values .entry))
+) -> Reply
+    requires { ⌜ Room (now «engine_numbers») (now «engine_counts») ⌝ }
+    ensures { λ r. ⌜ Serves
+        (effectOf (q .form) (q .verdict) (q .numbers) (now (values .entry))
         (memoryIn (now (scratch .entry)) (now («engine_numbers» .entry)) (now («engine_counts» .entry))))
-        (now (out .exit)) r ⌝ }
-    ensures { λ _. ⌜ LeavesLent
-        (memoryAfterForm (q .form) (q .numbers) (now (values .entry))
-        (memoryIn (now (scratch .entry)) (now («engine_numbers» .entry)) (now («engine_counts» .entry))))
-        (callsOfForm (q .form) (q .numbers) (now (values .entry)) (now (scratch .entry)))
         (lentIn (now (scratch .entry)) (now («engine_numbers» .entry)) (now («engine_counts» .entry)))
-        (lentIn (now (scratch .exit)) (now («engine_numbers» .exit)) (now («engine_counts» .exit))) ⌝ }
+        (lentIn (now (scratch .exit)) (now («engine_numbers» .exit)) (now («engine_counts» .exit))) r ⌝ }
 {
     let form = q.form;
     let verdict = q.verdict;
     match form {
-        Form::Set => put_set(out, n, requests::asked_figures(q, values, scratch)),
-        Form::Area => put_area(out, n, requests::asked_area(q, values, scratch)),
-        Form::Join => put_joined(out, n, requests::join_points(values)),
-        Form::Moments => put_moments(out, n, requests::tensor_moments(values)),
-        Form::Check => put_checked(out, n, requests::body_verdict(values)),
-        Form::Tubes => put_ring(out, n, requests::asked_ring(q, values)),
-        Form::Closing => put_closing(out, n, requests::asked_closing(q, values)),
-        Form::Drill => put_drilled(out, n, requests::asked_drill(q, values)),
-        Form::Copied => put_body(out, n, requests::asked_copied(values)),
-        Form::Placed => put_body(out, n, requests::asked_placed(values)),
-        Form::Moved => put_body(out, n, requests::asked_moved(values)),
-        Form::Without => put_body(out, n, requests::asked_without(values)),
-        Form::Submit => put_called(
-            out,
-            n,
-            requests::asked_submit(q, values, engine_numbers, engine_counts),
-        ),
-        Form::Density => put_called(
-            out,
-            n,
-            requests::asked_change(q, values, engine_numbers, engine_counts),
-        ),
-        Form::Turn => put_turn(
-            out,
-            n,
-            lent_engines::turn(engine_numbers, engine_counts, scratch),
-        ),
-        Form::NoForm => put_refusal(out, n, why_refused(verdict)),
+        Form::Set => set_reply(requests::asked_figures(q, values, scratch)),
+        Form::Area => area_reply(requests::asked_area(q, values, scratch)),
+        Form::Join => body_reply(Shape::Joined, requests::join_points(values)),
+        Form::Moments => moments_reply(requests::tensor_moments(values)),
+        Form::Check => plain_reply(requests::body_verdict(values), Shape::Sound),
+        Form::Tubes => body_reply(Shape::Ring, requests::asked_ring(q, values)),
+        Form::Closing => closing_reply(requests::asked_closing(q, values)),
+        Form::Drill => drill_reply(requests::asked_drill(q, values)),
+        Form::Copied => body_reply(Shape::Body, requests::asked_copied(values)),
+        Form::Placed => body_reply(Shape::Body, requests::asked_placed(values)),
+        Form::Moved => body_reply(Shape::Body, requests::asked_moved(values)),
+        Form::Without => body_reply(Shape::Body, requests::asked_without(values)),
+        Form::Submit => taken_reply(requests::asked_submit(
+            q,
+            values,
+            engine_numbers,
+            engine_counts,
+        )),
+        Form::Density => taken_reply(requests::asked_change(
+            q,
+            values,
+            engine_numbers,
+            engine_counts,
+        )),
+        Form::Turn => turn_reply(lent_engines::turn(engine_numbers, engine_counts, scratch)),
+        Form::NoForm => refused_reply(why_refused(verdict)),
     }
 }
 
@@ -325,25 +338,17 @@ fn answer_read(
     requires { ⌜ AnswerFits (now out) n × Room (now «engine_numbers») (now «engine_counts»)
         × (length (now line) ≤ lineBytes → length (now line) ≤ length (now values)) ⌝ }
     ensures { λ r. ⌜ Appended (now (out .entry)) n
-        (answerOf (now (line .entry)) (memoryIn (now (scratch .entry)) (now («engine_numbers» .entry)) (now («engine_counts» .entry))))
+        (textOf (lineEffect (now (line .entry)) (memoryIn (now (scratch .entry)) (now («engine_numbers» .entry)) (now («engine_counts» .entry))) .reply))
         (now (out .exit)) r ⌝ }
     ensures { λ _. ⌜ LeavesLent
-        (memoryAfter (now (line .entry)) (memoryIn (now (scratch .entry)) (now («engine_numbers» .entry)) (now («engine_counts» .entry))))
-        (callsOfLine (now (line .entry)) (now (scratch .entry)))
+        (lineEffect (now (line .entry)) (memoryIn (now (scratch .entry)) (now («engine_numbers» .entry)) (now («engine_counts» .entry))))
         (lentIn (now (scratch .entry)) (now («engine_numbers» .entry)) (now («engine_counts» .entry)))
         (lentIn (now (scratch .exit)) (now («engine_numbers» .exit)) (now («engine_counts» .exit))) ⌝ }
 {
     let q = forms::read_line(line, values);
     let end = q.figures;
-    answer_request(
-        q,
-        &values[..end],
-        scratch,
-        engine_numbers,
-        engine_counts,
-        out,
-        n,
-    )
+    let reply = request_reply(q, &values[..end], scratch, engine_numbers, engine_counts);
+    answers::put_reply(out, n, reply)
 }
 
 // Appends the answer to a line to the n bytes at the start of out, and answers how many there are then.

@@ -24,5 +24,5 @@ pub record LineCall (line : List ℕ) (lent : LentMemory) (answer written : List
   -- the scratch, and the engine that the two lists hold
   pub memory-left : memoryOf lent' ≡ cond (lineRoom lent answer written) (memoryAfter line (memoryOf lent)) (memoryOf lent)
   -- and these two lists themselves: a line that is no submission, density or turn makes no call of the engine, and leaves them as they were
-  pub lists-left : Leaves (cond (lineRoom lent answer written) (callsOfLine line (lent .scratch)) []) (listsOf lent) (listsOf lent')
+  pub lists-left : Leaves (cond (lineRoom lent answer written) (callsOfLine line (memoryOf lent)) []) (listsOf lent) (listsOf lent')
   pub untouched : lineRoom lent answer written ≡ false → lent' ≡ lent

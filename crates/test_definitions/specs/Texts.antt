@@ -18,7 +18,9 @@ use Rattle.figure_words.specs.FigureWords.{leadingDigits, behindDigits, numberF
 use Rattle.templates.specs.Matching.{isWordByte, isWord, takeWord, takeOne, takeToken, takeTokens, takeText, firstOf}
 use Rattle.forms.specs.Forms.{Asked, asked, refused as refusedBy, part, laterPart, density, readItems, engineForm, bodyForm, laterForm, anyForm, lineAsked}
 use Rattle.answers.specs.Filled.{filled}
-use Rattle.answers.specs.Answers.{areaText, joinedText, momentsText, soundText, takenText, idleText, moreText, doneText, doneRefusedText, refusedText}
+use Rattle.answers.specs.declared.Shape.{Shape}
+use Rattle.answers.specs.declared.Shape.the-variants.{Area, Joined, Moments, Sound, Taken, Idle, More, Done, DoneRefused, Refused as RefusedShape}
+use Rattle.answers.specs.Answers.{textOf, reply}
 use Rattle.test_definitions.specs.Rows.{is, same, refused}
 
 -- ---- words
@@ -104,7 +106,7 @@ numbered ns (asked form numbers figures) = starts ns numbers
     starts [] numbers = true
     starts (k ∷ ks) numbers = eqb (getD numbers 0 0) k && starts ks (drop 1 numbers)
 
--- of a density's line the screen stands before the density, a bulk one; a turn has nothing behind its word
+-- of a density's line the screen stands before the density, a bulk one; a turn has nothing after its word
 abbrev pub engine-lines : Bool
 engine-lines =
     isAsked (lineAsked (text "(turn)"))
@@ -115,28 +117,31 @@ engine-lines =
 
 -- ---- answers
 
+abbrev prints : Shape → List Float → List ℕ → List ℕ → Bool
+prints shape figures counts line = same (textOf (reply shape figures counts)) line
+
 -- the intervals before the samples; three numbers of a centre, three moments, ten numbers of a body
 abbrev pub answers-printed : Bool
 answers-printed =
-    same (refusedText 18) (text "(refused 18)")
-    && same soundText (text "(sound)")
-    && same (momentsText (bits 1 ∷ bits 2 ∷ bits 3 ∷ [])) (text "(moments 0000000000000001 0000000000000002 0000000000000003)")
-    && same (areaText (bits 1 ∷ bits 2 ∷ bits 3 ∷ []) 4 105)
+    prints RefusedShape [] (18 ∷ []) (text "(refused 18)")
+    && prints Sound [] [] (text "(sound)")
+    && prints Moments (bits 1 ∷ bits 2 ∷ bits 3 ∷ []) [] (text "(moments 0000000000000001 0000000000000002 0000000000000003)")
+    && prints Area (bits 1 ∷ bits 2 ∷ bits 3 ∷ []) (4 ∷ 105 ∷ [])
     (text "(area (area 0000000000000001) (centroid 0000000000000002 0000000000000003) (intervals 4) (samples 105))")
-    && same (joinedText (tabulate 10 (λ i. bits i)))
+    && prints Joined (tabulate 10 (λ i. bits i)) []
     (text "(joined (mass 0000000000000000) (centre 0000000000000001 0000000000000002 0000000000000003) (inertia 0000000000000004 0000000000000005 0000000000000006 0000000000000007 0000000000000008 0000000000000009))")
 
 -- the screen first, then intervals and samples, or the refusal's number
 abbrev pub engine-answers : Bool
 engine-answers =
-    same takenText (text "(taken)")
-    && same idleText (text "(idle)")
-    && same (moreText 3) (text "(more 3)")
-    && same (doneRefusedText 3 13) (text "(done 3 (refused 13))")
-    && same (doneText 8 (tabulate 10 (λ i. bits i)) 2 30)
+    prints Taken [] [] (text "(taken)")
+    && prints Idle [] [] (text "(idle)")
+    && prints More [] (3 ∷ []) (text "(more 3)")
+    && prints DoneRefused [] (3 ∷ 13 ∷ []) (text "(done 3 (refused 13))")
+    && prints Done (tabulate 10 (λ i. bits i)) (8 ∷ 2 ∷ 30 ∷ [])
     (text "(done 8 (figures (mass 0000000000000000) (centre 0000000000000001 0000000000000002 0000000000000003) (inertia 0000000000000004 0000000000000005 0000000000000006 0000000000000007 0000000000000008 0000000000000009) (intervals 2) (samples 30)))")
 
 pub texts-hold :
     T (figure-words && nearest-to-decimals && word-bytes && tokens-cut && no-form-first && engine-lines && answers-printed && engine-answers)
-unfolding ofBits toBits round isNan eq text codes tokensAfter leadingDigits behindDigits numberFrom unsignedFigure decimalFigure figureWord isWord takeWord takeOne takeToken takeTokens takeText firstOf part laterPart readItems density engineForm bodyForm laterForm anyForm lineAsked filled areaText joinedText momentsText soundText takenText idleText moreText doneText doneRefusedText refusedText hex.figureOf hex.readDigits hex.digits hex.figureText counts.countOf counts.readDigits counts.digits counts.countText
+unfolding ofBits toBits round isNan eq text codes tokensAfter leadingDigits behindDigits numberFrom unsignedFigure decimalFigure figureWord isWord takeWord takeOne takeToken takeTokens takeText firstOf part laterPart readItems density engineForm bodyForm laterForm anyForm lineAsked filled textOf hex.figureOf hex.readDigits hex.digits hex.figureText counts.countOf counts.readDigits counts.digits counts.countText
 texts-hold = tt
