@@ -12,7 +12,6 @@ use Rattle.floats.specs.Operations.{_⊕_, _⊖_, _⊗_, _⊘_, bits, at}
 use Rattle.floats.specs.Constants.{half}
 use Rattle.floats.proofs.Bools.{no}
 use Rattle.refusals.specs.declared.Refusal.{Refusal}
-use Rattle.refusals.specs.declared.Refusal.the-variants.{NoArea}
 use Rattle.refusals.specs.declared.Verdict.{Verdict}
 use Rattle.refusals.specs.declared.Verdict.the-variants.{Accepted, Refused}
 use Rattle.refusals.specs.Calls.{CallOf, leavesAlone, byVerdict}
@@ -26,15 +25,14 @@ use Rattle.integrands.specs.Integrands.{scaleOf, sumsFrom, areaValues, areaThre
 use Rattle.integrands.specs.declared.Kind.the-variants.{Area as area}
 use Rattle.quadrature.specs.Rule.{minusSide, plusSide, weightedTo}
 use Rattle.tolerance.specs.Bounds.{totalOf}
-use Rattle.halving.specs.Halving.{halving, verdictOf}
+use Rattle.halving.specs.Halving.{halving}
 use Rattle.strips.specs.Strips.{Worked, workedOf, stripOf, isAccepted, piecesOf, valueFrom, summedOf, intervalsIn}
 use Rattle.halving.specs.Scratch.{intervalsOf}
 use Rattle.widths.proofs.Strips.{intervals-same}
 use Rattle.widths.proofs.Totals.{totals-same}
 use Rattle.fins.specs.Fins.{areaCheck}
-use Rattle.plates.specs.Geometry.{geometryOf, unscaledArea, noGeometry}
-use Rattle.plates.specs.declared.PlanformGeometry.{PlanformGeometry}
-use Rattle.figures.specs.Areas.{areaStrips, areaSeven, workedArea, workedPlanform, areaCall, areaFigures, concludedArea, refusedArea, geometryArea, givenArea}
+use Rattle.figures.specs.Areas.{areaStrips, areaSeven, workedArea, workedPlanform, areaCall, areaFigures, concludedArea, refusedArea, unscaledArea, areaBy}
+use Rattle.figures.specs.Figures.{conclusionOf}
 use Rattle.figures.specs.declared.Area.{Area}
 use Rattle.figures.proofs.Reports.{no-refusal}
 use Rattle.accuracy.proofs.Trapezoids.{widthAt}
@@ -101,25 +99,10 @@ chosen (Refused refusal) given withheld verdictIn refuses r e a = no-refusal ref
 -- what an answer that gives figures says
 pub record Given (planform : Planform) (points : List Float) (L n : ℕ) (r : Area) : Type 0 where
   pub accepted : areaCheck planform points L n ≡ Accepted
-  pub area : r .«area_m2» ≡ unscaledArea (summedOf (areaSeven planform points L) .value) (scaleOf planform points)
+  pub area : r .«area_m2» ≡ unscaledArea (scaleOf planform points) (summedOf (areaSeven planform points L) .value)
   pub centroid-x : r .«centroid_x_m» ≡ scaleOf planform points ⊗ at (summedOf (areaSeven planform points L) .value) 1 ⊘ at (summedOf (areaSeven planform points L) .value) 0
   pub centroid-height : r .«centroid_span_m» ≡ scaleOf planform points ⊗ at (summedOf (areaSeven planform points L) .value) 2 ⊘ at (summedOf (areaSeven planform points L) .value) 0
   pub intervals : r .intervals ≡ intervalsIn (areaSeven planform points L)
-
-geometry-given : (total : List Float) (scale : Float) → geometryOf total scale .verdict ≡ Accepted
-    → (geometryOf total scale .«area_m2» ≡ unscaledArea total scale) × (geometryOf total scale .«centroid_x_m» ≡ scale ⊗ at total 1 ⊘ at total 0) × (geometryOf total scale .«centroid_span_m» ≡ scale ⊗ at total 2 ⊘ at total 0)
-unfolding geometryOf
-geometry-given total scale = go (le (unscaledArea total scale) (bits 0))
-  where
-    Cond : Bool → PlanformGeometry
-    Cond b =
-        cond b noGeometry
-        (record { verdict = Accepted; «area_m2» = unscaledArea total scale; «centroid_x_m» = scale ⊗ at total 1 ⊘ at total 0; «centroid_span_m» = scale ⊗ at total 2 ⊘ at total 0 })
-
-    go : (b : Bool) → Cond b .verdict ≡ Accepted
-        → (Cond b .«area_m2» ≡ unscaledArea total scale) × (Cond b .«centroid_x_m» ≡ scale ⊗ at total 1 ⊘ at total 0) × (Cond b .«centroid_span_m» ≡ scale ⊗ at total 2 ⊘ at total 0)
-    go true e = no-refusal NoArea e
-    go false e = (refl, refl, refl)
 
 module _ (planform : Planform) (points : List Float) (L n : ℕ) (r : Area) (answer : r ≡ areaFigures planform points L n) (given : r .verdict ≡ Accepted) where
   abbrev verdictIn : Area → Verdict
@@ -134,16 +117,14 @@ module _ (planform : Planform) (points : List Float) (L n : ℕ) (r : Area) (ans
       let called = chosen (areaCheck planform points L n) (workedPlanform planform points L) (λ refusal. leavesAlone (refusedArea refusal 0)) (λ (c : CallOf Area). c .answer .verdict) (λ refusal. refl)
       (areaCall planform points L n) refl (sym (ap verdictIn answer) ∙ given) in
       let worked : r ≡ workedArea planform points L = answer ∙ ap (λ (c : CallOf Area). c .answer) (called .1) in
-      let geometry = geometryOf (total .value) scale in
-      let b = chosen (verdictOf (total .ending)) (geometryArea geometry (total .intervals) (total .samples)) (λ refusal. refusedArea refusal (total .samples)) verdictIn (λ refusal. refl) r worked given in
-      let c = chosen (geometry .verdict) (givenArea geometry (total .intervals) (total .samples)) (λ refusal. refusedArea refusal (total .samples)) verdictIn (λ refusal. refl) r (b .1) given in
-      let g = geometry-given (total .value) scale (c .0) in
+      let concluded = chosen (conclusionOf total (unscaledArea scale (total .value))) (areaBy Accepted scale total) (λ refusal. refusedArea refusal (total .samples)) verdictIn
+      (λ refusal. refl) r worked given .1 in
       record {
         accepted = called .0;
-        area = ap (λ (a : Area). a .«area_m2») (c .1) ∙ g .0;
-        centroid-x = ap (λ (a : Area). a .«centroid_x_m») (c .1) ∙ g .1;
-        centroid-height = ap (λ (a : Area). a .«centroid_span_m») (c .1) ∙ g .2;
-        intervals = ap (λ (a : Area). a .intervals) (c .1);
+        area = ap (λ (a : Area). a .«area_m2») concluded;
+        centroid-x = ap (λ (a : Area). a .«centroid_x_m») concluded;
+        centroid-height = ap (λ (a : Area). a .«centroid_span_m») concluded;
+        intervals = ap (λ (a : Area). a .intervals) concluded;
       }
 
 -- ---- of a trapezoid there is one strip, from 0 to the span

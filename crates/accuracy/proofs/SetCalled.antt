@@ -9,13 +9,9 @@ use lib.Ieee.Bits.{is-true}
 use Rattle.floats.specs.Operations.{_⊕_, _⊖_, _⊗_, _⊘_, bits, at, tabulate}
 use Rattle.floats.specs.Floats.{cube}
 use Rattle.floats.proofs.Bools.{no}
-use Rattle.refusals.specs.declared.Refusal.the-variants.{NoArea}
 use Rattle.refusals.specs.declared.Verdict.{Verdict}
-use Rattle.refusals.specs.declared.Verdict.the-variants.{Accepted, Refused}
-use Rattle.refusals.specs.Order.{firstOf}
-use Rattle.refusals.proofs.Accepted.{each-accepts}
+use Rattle.refusals.specs.declared.Verdict.the-variants.{Accepted}
 use Rattle.refusals.specs.Calls.{CallOf, leavesAlone}
-use Rattle.limits.specs.Limits.{countCheck}
 use Rattle.planforms.specs.declared.Planform.the-variants.{Trapezoid}
 use Rattle.planforms.specs.Planforms.{rootChordOf}
 use Rattle.sections.specs.declared.Section.{Section}
@@ -24,25 +20,21 @@ use Rattle.sections.specs.ChordMoments.{squareMoments, chordMoments}
 use Rattle.chords.specs.Chords.{inSpan, trapezoidAt, endsAt, paired}
 use Rattle.integrands.specs.Integrands.{scaleOf, plus, sumsFrom, plateValues, sampleOf, plateOf}
 use Rattle.integrands.specs.declared.Kind.the-variants.{Plate as plateKind}
-use Rattle.halving.specs.Halving.{verdictOf}
 use Rattle.strips.specs.Strips.{Worked, valueFrom, summedOf, intervalsIn}
 use Rattle.halving.specs.declared.Integral.{Integral}
 use Rattle.bodies.specs.declared.Body.{Body}
 use Rattle.bodies.specs.declared.Vector.{Vector}
 use Rattle.bodies.specs.Bodies.{rotatedOf, ofOriginTensor}
-use Rattle.joins.specs.declared.Joined.{Joined}
-use Rattle.joins.specs.Joins.{inOrder, sumsOf, joinOf, unlessRefused, acceptedBody, refusedBody, twoBodies}
-use Rattle.rings.specs.Rings.{ringOf, joinedCopies}
+use Rattle.joins.specs.Joins.{inOrder, sumsOf, joinOf, twoBodies}
+use Rattle.rings.specs.Rings.{joinedCopies}
 use Rattle.fillets.specs.declared.Fillet.{Fillet}
 use Rattle.fillets.specs.Fillets.{isNone, filletsOf}
-use Rattle.sets.specs.Sets.{joinedFinsOf}
 use Rattle.fins.specs.declared.FinSet.{FinSet}
 use Rattle.fins.specs.Fins.{setCheck}
 use Rattle.plates.specs.Integrals.{volume, unscaledOf, tabIntegralsOf, addIntegrals}
-use Rattle.plates.specs.Plates.{plateBody, withFillets, cantedOf, bulkFin, singleFinOf, integralsOf, pivotOf}
-use Rattle.figures.specs.Figures.{setStrips, workedFigures, workedSet, setCall, setFigures, concludedSet, refusedFigures, joinedFigures}
+use Rattle.plates.specs.Plates.{plateBody, withFillets, cantedOf, finOf, integralsOf, pivotOf}
+use Rattle.figures.specs.Figures.{setStrips, workedFigures, workedSet, setCall, setFigures, conclusionOf, figuresBy, finsOf, concludedSet, refusedFigures}
 use Rattle.figures.specs.declared.Figures.{Figures}
-use Rattle.figures.proofs.Reports.{no-refusal}
 use Rattle.accuracy.specs.Masses.{Plate, Mount, setWith}
 use Rattle.accuracy.proofs.Called.{startBy, endBy, chosen}
 
@@ -98,11 +90,6 @@ pub record Given (section : Section) (p : Plate) (m : Mount) (points : List Floa
   pub mass : r .body .«mass_kg» ≡ inOrder (λ x y. x ⊕ y) (bits 0)
       (λ k. p .density ⊗ (valueFrom (bits 0) 0 (setStrips (setWith section p m) points L) ⊗ cube (scaleOf (setWith section p m .planform) points) ⊕ volume (tabIntegralsOf (p .tab) (p .thickness) (m .radius)))) (m .count)
 
--- a join that is no refusal
-unless-accepted : (v : Verdict) (body : Body) → unlessRefused v body .verdict ≡ Accepted → (v ≡ Accepted) × (unlessRefused v body ≡ acceptedBody body)
-unless-accepted Accepted body e = (refl, refl)
-unless-accepted (Refused refusal) body e = no-refusal refusal e
-
 turned-mass : (x : Bool) (a b : Body) → a .«mass_kg» ≡ b .«mass_kg» → cond x a b .«mass_kg» ≡ a .«mass_kg»
 turned-mass true a b e = refl
 turned-mass false a b e = sym e
@@ -124,18 +111,6 @@ fin-body : (v : List Float) (fillets : Body) (kgPerM3 cant : Float) (pivot : Vec
     → cantedOf (withFillets (plateBody v kgPerM3) fillets) cant pivot ≡ plateBody v kgPerM3
 unfolding cantedOf withFillets
 fin-body v fillets kgPerM3 cant pivot e c = rw (c, e, zero-equal)
-
-bulk-given : (v : List Float) (fillets : Body) (cant : Float) (pivot : Vector) (kgPerM3 : Float) → bulkFin v fillets cant pivot kgPerM3 .verdict ≡ Accepted
-    → bulkFin v fillets cant pivot kgPerM3 .body ≡ cantedOf (withFillets (plateBody v kgPerM3) fillets) cant pivot
-unfolding bulkFin
-bulk-given v fillets cant pivot kgPerM3 = go (le (volume v) (bits 0))
-  where
-    body : Body
-    body = cantedOf (withFillets (plateBody v kgPerM3) fillets) cant pivot
-
-    go : (b : Bool) → cond b (refusedBody NoArea) (acceptedBody body) .verdict ≡ Accepted → cond b (refusedBody NoArea) (acceptedBody body) .body ≡ body
-    go true e = no-refusal NoArea e
-    go false e = refl
 
 -- copies of it, turned and joined
 ring-mass : (body : Body) (base : Float) (count : ℕ) → joinedCopies body base count .«mass_kg» ≡ inOrder (λ x y. x ⊕ y) (bits 0) (λ k. body .«mass_kg») count
@@ -173,46 +148,27 @@ module _ (section : Section) (p : Plate) (m : Mount) (points : List Float) (L n 
   abbrev total : Integral
   total = summedOf strips
 
-  abbrev joined : Joined
-  joined = joinedFinsOf set root scale (total .value)
+  abbrev v : List Float
+  v = integralsOf set scale (total .value)
 
-  run-chosen : (verdictOf (total .ending) ≡ Accepted) × (r ≡ joinedFigures joined (total .intervals) (total .samples))
+  concluded : r ≡ figuresBy Accepted (finsOf set root v) total
   unfolding concludedSet
-  run-chosen = chosen (verdictOf (total .ending)) (joinedFigures joined (total .intervals) (total .samples)) (λ refusal. refusedFigures refusal (total .samples)) verdictIn (λ refusal. refl) r (set-chosen .1) given
+  concluded =
+      chosen (conclusionOf total (volume v)) (figuresBy Accepted (finsOf set root v) total) (λ refusal. refusedFigures refusal (total .samples)) verdictIn (λ refusal. refl) r
+      (set-chosen .1) given .1
 
-  joined-chosen : (joined .verdict ≡ Accepted) × (r ≡ record { verdict = Accepted; body = joined .body; intervals = total .intervals; samples = total .samples })
-  joined-chosen =
-      chosen (joined .verdict) (record { verdict = Accepted; body = joined .body; intervals = total .intervals; samples = total .samples }) (λ refusal. refusedFigures refusal (total .samples)) verdictIn
-      (λ refusal. refl) r (run-chosen .1) given
-
-  abbrev one : Joined
-  one = singleFinOf set root scale (total .value)
-
-  ring-given : (one .verdict ≡ Accepted) × (joined .body ≡ joinedCopies (one .body) (m .base) (m .count))
-  unfolding ringOf
-  ring-given =
-      let u = unless-accepted (firstOf (countCheck (m .count) ∷ one .verdict ∷ [])) (joinedCopies (one .body) (m .base) (m .count)) (joined-chosen .0) in
-      let (a, (b, c)) = each-accepts (countCheck (m .count) ∷ one .verdict ∷ []) (u .0) in
-      (b, ap (λ (j : Joined). j .body) (u .1))
-
-  one-mass : one .body .«mass_kg» ≡ p .density ⊗ volume (integralsOf set scale (total .value))
-  unfolding singleFinOf
-  one-mass =
-      ap (λ (x : Body). x .«mass_kg»)
-      (bulk-given (integralsOf set scale (total .value)) (filletsOf (m .fillet) (m .radius) root) (m .cant) (pivotOf (m .radius) root) (p .density) (ring-given .0))
-      ∙ fin-mass (integralsOf set scale (total .value)) (filletsOf (m .fillet) (m .radius) root) (p .density) (m .cant) (pivotOf (m .radius) root) (no-fillets (m .fillet) (m .radius) root none)
-
-  volume-is : volume (integralsOf set scale (total .value)) ≡ valueFrom (bits 0) 0 strips ⊗ cube scale ⊕ volume (tabIntegralsOf (p .tab) (p .thickness) (m .radius))
-  volume-is = refl
+  one-mass : finOf set root v .«mass_kg» ≡ p .density ⊗ volume v
+  unfolding finOf
+  one-mass = fin-mass v (filletsOf (m .fillet) (m .radius) root) (p .density) (m .cant) (pivotOf (m .radius) root) (no-fillets (m .fillet) (m .radius) root none)
 
   pub set-given : Given section p m points L n r
   set-given =
       record {
         accepted = set-chosen .0;
-        intervals = ap (λ (a : Figures). a .intervals) (joined-chosen .1);
+        intervals = ap (λ (a : Figures). a .intervals) concluded;
         mass =
-            ap (λ (a : Figures). a .body .«mass_kg») (joined-chosen .1) ∙ ap (λ (x : Body). x .«mass_kg») (ring-given .1) ∙ ring-mass (one .body) (m .base) (m .count)
-            ∙ ap (λ (x : Float). inOrder (λ x y. x ⊕ y) (bits 0) (λ k. x) (m .count)) (one-mass ∙ ap (λ (x : Float). p .density ⊗ x) volume-is);
+            ap (λ (a : Figures). a .body .«mass_kg») concluded ∙ ring-mass (finOf set root v) (m .base) (m .count)
+            ∙ ap (λ (x : Float). inOrder (λ x y. x ⊕ y) (bits 0) (λ k. x) (m .count)) one-mass;
       }
 
   -- ---- and with no cant its centre: that of copies of the plate, turned and joined
@@ -220,9 +176,8 @@ module _ (section : Section) (p : Plate) (m : Mount) (points : List Float) (L n 
   integrals = addIntegrals (unscaledOf (tabulate 7 (λ k. valueFrom (bits 0) k strips)) scale) (tabIntegralsOf (p .tab) (p .thickness) (m .radius))
 
   pub set-body : eq (m .cant) (bits 0) ≡ true → r .body ≡ joinedCopies (plateBody integrals (p .density)) (m .base) (m .count)
-  unfolding singleFinOf
+  unfolding finOf
   set-body c =
-      ap (λ (a : Figures). a .body) (joined-chosen .1) ∙ ring-given .1
+      ap (λ (a : Figures). a .body) concluded
       ∙ ap (λ (x : Body). joinedCopies x (m .base) (m .count))
-      (bulk-given (integralsOf set scale (total .value)) (filletsOf (m .fillet) (m .radius) root) (m .cant) (pivotOf (m .radius) root) (p .density) (ring-given .0)
-      ∙ fin-body (integralsOf set scale (total .value)) (filletsOf (m .fillet) (m .radius) root) (p .density) (m .cant) (pivotOf (m .radius) root) (no-fillets (m .fillet) (m .radius) root none) c)
+      (fin-body v (filletsOf (m .fillet) (m .radius) root) (p .density) (m .cant) (pivotOf (m .radius) root) (no-fillets (m .fillet) (m .radius) root none) c)

@@ -43,7 +43,7 @@ set-reported set points L n r accepts e =
     record {
       samples-reported = concluded-samples set root scale strips r e;
       intervals-reported = concluded-intervals set root scale strips r e;
-      ending-reported = concluded-verdict set root scale strips r e (set-count-check set points L n accepts) (set-density set points L n accepts);
+      ending-reported = concluded-verdict set root scale strips r e;
     }
 
 module _ (set : FinSet) (points : List Float) (L : ℕ) (entry : List Float) (r : Figures) (exit : List Float) where

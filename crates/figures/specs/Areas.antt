@@ -2,7 +2,7 @@
 use mathlib.Core.List.{List}
 use Prim.Native.Nat.{ℕ}
 use lib.Ieee.{Float}
-use Rattle.floats.specs.Operations.{bits}
+use Rattle.floats.specs.Operations.{_⊗_, _⊘_, bits, at}
 use Rattle.refusals.specs.declared.Refusal.{Refusal}
 use Rattle.refusals.specs.declared.Verdict.{Verdict}
 use Rattle.refusals.specs.declared.Verdict.the-variants.{Accepted, Refused}
@@ -12,11 +12,9 @@ use Rattle.breaks.specs.Breaks.{breakHeights}
 use Rattle.integrands.specs.Integrands.{scaleOf, areaThree}
 use Rattle.fins.specs.Fins.{areaCheck}
 use Rattle.halving.specs.declared.Integral.{Integral}
-use Rattle.halving.specs.Halving.{verdictOf}
 use Rattle.strips.specs.Strips.{Run, Worked, stripsIn, sevenWide, summedOf, scratchAfter}
-use Rattle.plates.specs.declared.PlanformGeometry.{PlanformGeometry}
-use Rattle.plates.specs.Geometry.{geometryOf}
 use Rattle.figures.specs.declared.Area.{Area}
+use Rattle.figures.specs.Figures.{conclusionOf}
 
 -- what the strips are worked from, with the area's integrand of three components, between the break heights, "divided by root chord plus span"
 -- ("Set and planform"; "Const generics become two widths"); and every strip worked
@@ -31,29 +29,30 @@ areaStrips planform points L = stripsIn (areaRun planform points L)
 abbrev pub areaSeven : Planform → List Float → ℕ → List Worked
 areaSeven planform points L = sevenWide 3 (areaStrips planform points L)
 
--- "Figures zero; intervals 0; samples taken so far" ("Refusal numbers")
 abbrev pub refusedArea : Refusal → ℕ → Area
 refusedArea refusal samples =
     record { verdict = Refused refusal; «area_m2» = bits 0; «centroid_x_m» = bits 0; «centroid_span_m» = bits 0; intervals = 0; samples = samples }
 
--- the totals made area and centroid: "strips, 8"
-abbrev pub givenArea : PlanformGeometry → ℕ → ℕ → Area
-givenArea g intervals samples =
-    record { verdict = Accepted; «area_m2» = g .«area_m2»; «centroid_x_m» = g .«centroid_x_m»; «centroid_span_m» = g .«centroid_span_m»; intervals = intervals; samples = samples }
+-- the strips' area, x and height summed over it, as they were before they were divided by the scale; "Figures zero; intervals 0; samples taken so far"
+abbrev pub unscaledArea : Float → List Float → Float
+unscaledArea scale v = at v 0 ⊗ scale ⊗ scale
 
-abbrev pub ofGeometry : Verdict → PlanformGeometry → ℕ → ℕ → Area
-ofGeometry verdict g intervals samples = byVerdict verdict (givenArea g intervals samples) (λ refusal. refusedArea refusal samples)
+abbrev pub areaBy : Verdict → Float → Integral → Area
+areaBy verdict scale total =
+    byVerdict verdict
+    (record {
+      verdict = Accepted;
+      «area_m2» = unscaledArea scale (total .value);
+      «centroid_x_m» = scale ⊗ at (total .value) 1 ⊘ at (total .value) 0;
+      «centroid_span_m» = scale ⊗ at (total .value) 2 ⊘ at (total .value) 0;
+      intervals = total .intervals;
+      samples = total .samples;
+    })
+    (λ refusal. refusedArea refusal (total .samples))
 
-abbrev pub geometryArea : PlanformGeometry → ℕ → ℕ → Area
-geometryArea g intervals samples = ofGeometry (g .verdict) g intervals samples
-
--- by how the run of the strips ended: area and centroid, or 13
-abbrev pub endedArea : Verdict → Float → Integral → Area
-endedArea verdict scale total =
-    byVerdict verdict (geometryArea (geometryOf (total .value) scale) (total .intervals) (total .samples)) (λ refusal. refusedArea refusal (total .samples))
-
+-- the answer of a planform whose strips add up to these totals: area and centroid, 13 or 8
 unfoldable pub concludedArea : Float → Integral → Area
-concludedArea scale total = endedArea (verdictOf (total .ending)) scale total
+concludedArea scale total = areaBy (conclusionOf total (unscaledArea scale (total .value))) scale total
 
 -- the answer of a planform that is accepted
 abbrev pub workedArea : Planform → List Float → ℕ → Area

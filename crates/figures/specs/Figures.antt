@@ -1,11 +1,15 @@
 -- A set's figures (document 01, "Set and planform", "Body" and "Refusal numbers"; fins.rs, `FinSet::mass_properties`).
 use mathlib.Core.List.{List}
 use Prim.Native.Nat.{ℕ}
-use lib.Ieee.{Float}
+use lib.Ieee.{Float, le}
+use Rattle.floats.specs.Operations.{bits}
+use Rattle.bodies.specs.declared.Body.{Body}
 use Rattle.bodies.specs.Bodies.{emptyBody}
 use Rattle.refusals.specs.declared.Refusal.{Refusal}
+use Rattle.refusals.specs.declared.Refusal.the-variants.{NoArea}
 use Rattle.refusals.specs.declared.Verdict.{Verdict}
 use Rattle.refusals.specs.declared.Verdict.the-variants.{Accepted, Refused}
+use Rattle.refusals.specs.Order.{refuseWhen, firstRefusal}
 use Rattle.refusals.specs.Calls.{CallOf, leavesAlone, byVerdict}
 use Rattle.planforms.specs.Planforms.{rootChordOf}
 use Rattle.breaks.specs.Breaks.{breakHeights}
@@ -15,8 +19,9 @@ use Rattle.fins.specs.Fins.{setCheck}
 use Rattle.halving.specs.declared.Integral.{Integral}
 use Rattle.halving.specs.Halving.{verdictOf}
 use Rattle.strips.specs.Strips.{Run, Worked, stripsIn, summedOf, scratchAfter}
-use Rattle.joins.specs.declared.Joined.{Joined}
-use Rattle.sets.specs.Sets.{joinedFinsOf}
+use Rattle.plates.specs.Integrals.{volume}
+use Rattle.plates.specs.Plates.{integralsOf, finOf}
+use Rattle.rings.specs.Rings.{joinedCopies}
 use Rattle.figures.specs.declared.Figures.{Figures}
 
 -- the plate's integrand, which the halving is fed: worked from the set alone
@@ -31,25 +36,32 @@ setRun set points L =
 abbrev pub setStrips : FinSet → List Float → ℕ → List Worked
 setStrips set points L = stripsIn (setRun set points L)
 
--- "Figures zero; intervals 0; samples taken so far"
 abbrev pub refusedFigures : Refusal → ℕ → Figures
 refusedFigures refusal samples = record { verdict = Refused refusal; body = emptyBody; intervals = 0; samples = samples }
 
--- the totals made a set's body: "strips; 8"
-abbrev pub ofJoined : Verdict → Joined → ℕ → ℕ → Figures
-ofJoined verdict joined intervals samples =
-    byVerdict verdict (record { verdict = Accepted; body = joined .body; intervals = intervals; samples = samples }) (λ refusal. refusedFigures refusal samples)
+-- 8: "area or volume <= 0"; not a NaN
+abbrev pub sizeCheck : Float → Verdict
+sizeCheck size = refuseWhen (le size (bits 0)) NoArea
 
-abbrev pub joinedFigures : Joined → ℕ → ℕ → Figures
-joinedFigures joined intervals samples = ofJoined (joined .verdict) joined intervals samples
+-- "strips; 8": what the last strip worked ended in, and then the size that the strips add up to
+abbrev pub conclusionOf : Integral → Float → Verdict
+conclusionOf total size = firstRefusal (verdictOf (total .ending)) (sizeCheck size)
 
--- by how the run of the strips ended: figures, or 13
-abbrev pub endedFigures : Verdict → FinSet → Float → Float → Integral → Figures
-endedFigures verdict set root scale total =
-    byVerdict verdict (joinedFigures (joinedFinsOf set root scale (total .value)) (total .intervals) (total .samples)) (λ refusal. refusedFigures refusal (total .samples))
+-- "Figures zero; intervals 0; samples taken so far"
+abbrev pub figuresBy : Verdict → Body → Integral → Figures
+figuresBy verdict body total =
+    byVerdict verdict (record { verdict = Accepted; body = body; intervals = total .intervals; samples = total .samples })
+    (λ refusal. refusedFigures refusal (total .samples))
 
+-- a set's body from the integrals of one fin and the root chord
+abbrev pub finsOf : FinSet → Float → List Float → Body
+finsOf set root v = joinedCopies (finOf set root v) (set .«base_angle_rad») (set .count)
+
+-- the answer of a set whose strips add up to these totals: figures, 13 or 8
 unfoldable pub concludedSet : FinSet → Float → Float → Integral → Figures
-concludedSet set root scale total = endedFigures (verdictOf (total .ending)) set root scale total
+concludedSet set root scale total =
+    let v = integralsOf set scale (total .value) in
+    figuresBy (conclusionOf total (volume v)) (finsOf set root v) total
 
 -- the answer of a set that is accepted
 abbrev pub workedFigures : FinSet → List Float → ℕ → Figures

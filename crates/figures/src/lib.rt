@@ -1,19 +1,18 @@
 // A set's figures and a planform's area: every check, then the strips over the lent scratch, then one fin's body, turned and joined
 // (fins.rs, `FinSet::mass_properties` and `FinPlanform::geometry`). Any set, points, limit and scratch may be handed in.
 ghost use mathlib.Core.Path.{_≡_};
+ghost use Prim.Native.Nat.{_≤_};
 ghost use lib.ListN.{length};
 ghost use Rattle.refusals.specs.declared.Verdict.the-variants.{Accepted};
 ghost use Rattle.refusals.specs.Calls.{Does};
 ghost use Rattle.fins.specs.Fins.{setCheck, areaCheck};
-ghost use Rattle.figures.specs.Figures.{refusedFigures, joinedFigures, concludedSet, workedSet};
-ghost use Rattle.figures.specs.Areas.{refusedArea, geometryArea, concludedArea, workedPlanform};
+ghost use Rattle.figures.specs.Figures.{refusedFigures, sizeCheck, conclusionOf, concludedSet, workedSet};
+ghost use Rattle.figures.specs.Areas.{refusedArea, concludedArea, workedPlanform};
 ghost use Rattle.figures.specs.Answers.{SetAnswers, AreaAnswers};
 use bodies::Body;
 use fins::FinSet;
 use halving::Integral;
-use joins::Joined;
 use planforms::Planform;
-use plates::PlanformGeometry;
 use refusals::Refusal;
 use refusals::Verdict;
 
@@ -48,38 +47,42 @@ pub fn refused_figures(refusal: Refusal, samples: usize) -> Figures
     }
 }
 
-fn joined_figures(joined: Joined, intervals: usize, samples: usize) -> Figures
-    ensures { λ r. ⌜ r ≡ joinedFigures joined intervals samples ⌝ }
+// 8: an area or a volume not above 0, but not a NaN.
+fn check_size(size: f64) -> Verdict
+    ensures { λ r. ⌜ r ≡ sizeCheck size ⌝ }
 {
-    let verdict = joined.verdict;
-    let body = joined.body;
+    refusals::refuse_when(size <= 0.0, Refusal::NoArea)
+}
+
+// What the last strip worked ended in, and then the size that the strips add up to.
+fn conclusion(total: Integral, size: f64) -> Verdict
+    ensures { λ r. ⌜ r ≡ conclusionOf total size ⌝ }
+{
+    let ending = total.ending;
+    refusals::first_refusal(halving::verdict_of(ending), check_size(size))
+}
+
+// The figures of a set whose strips add up to these totals, or 13 or 8: the one place where this is decided. `scale_m` is what every length of a
+// strip was divided by.
+pub fn concluded(set: FinSet, root_chord_m: f64, scale_m: f64, total: Integral) -> Figures
+    requires { ⌜ set .count ≤ 32 ⌝ }
+    ensures { λ r. ⌜ r ≡ concludedSet set «root_chord_m» «scale_m» total ⌝ }
+{
+    let value = total.value;
+    let v = plates::integrals(set, scale_m, value);
+    let verdict = conclusion(total, v[0]);
     match verdict {
         Verdict::Accepted => {
+            let fin = plates::fin(set, root_chord_m, v);
+            let body = rings::ring(fin, set.base_angle_rad, set.count);
             let verdict = Verdict::Accepted;
             Figures {
                 verdict,
                 body,
-                intervals,
-                samples,
+                intervals: total.intervals,
+                samples: total.samples,
             }
         }
-        Verdict::Refused(refusal) => refused_figures(refusal, samples),
-    }
-}
-
-// The answer by how the strips ended.
-pub fn concluded(set: FinSet, root_chord_m: f64, scale_m: f64, total: Integral) -> Figures
-    ensures { λ r. ⌜ r ≡ concludedSet set «root_chord_m» «scale_m» total ⌝ }
-{
-    let ending = total.ending;
-    let value = total.value;
-    let verdict = halving::verdict_of(ending);
-    match verdict {
-        Verdict::Accepted => joined_figures(
-            sets::joined_fins(set, root_chord_m, scale_m, value),
-            total.intervals,
-            total.samples,
-        ),
         Verdict::Refused(refusal) => refused_figures(refusal, total.samples),
     }
 }
@@ -100,10 +103,9 @@ fn work_set(set: FinSet, points: &[f64], limit: usize, scratch: &mut [f64]) -> F
         thickness_m,
         body_radius_m,
     );
-    let scale_m = integrands::scale_m(planform, points);
     let root_chord_m = planforms::root_chord_m(planform, points);
     let total = strips::work_strips(scratch, integrand, points, limit);
-    concluded(set, root_chord_m, scale_m, total)
+    concluded(set, root_chord_m, integrand.scale, total)
 }
 
 // A set's figures, over a lent scratch of at least 16·limit numbers.
@@ -131,39 +133,25 @@ fn refused_area(refusal: Refusal, samples: usize) -> Area
     }
 }
 
-fn area_figures(geometry: PlanformGeometry, intervals: usize, samples: usize) -> Area
-    ensures { λ r. ⌜ r ≡ geometryArea geometry intervals samples ⌝ }
+// The area of a planform whose strips add up to these totals, or 13 or 8.
+fn concluded_area(scale_m: f64, total: Integral) -> Area
+    ensures { λ r. ⌜ r ≡ concludedArea «scale_m» total ⌝ }
 {
-    let verdict = geometry.verdict;
+    let value = total.value;
+    let area_m2 = value[0] * scale_m * scale_m;
+    let verdict = conclusion(total, area_m2);
     match verdict {
         Verdict::Accepted => {
             let verdict = Verdict::Accepted;
             Area {
                 verdict,
-                area_m2: geometry.area_m2,
-                centroid_x_m: geometry.centroid_x_m,
-                centroid_span_m: geometry.centroid_span_m,
-                intervals,
-                samples,
+                area_m2,
+                centroid_x_m: scale_m * value[1] / value[0],
+                centroid_span_m: scale_m * value[2] / value[0],
+                intervals: total.intervals,
+                samples: total.samples,
             }
         }
-        Verdict::Refused(refusal) => refused_area(refusal, samples),
-    }
-}
-
-// The answer by how the strips ended.
-fn concluded_area(scale_m: f64, total: Integral) -> Area
-    ensures { λ r. ⌜ r ≡ concludedArea «scale_m» total ⌝ }
-{
-    let ending = total.ending;
-    let value = total.value;
-    let verdict = halving::verdict_of(ending);
-    match verdict {
-        Verdict::Accepted => area_figures(
-            plates::geometry(value, scale_m),
-            total.intervals,
-            total.samples,
-        ),
         Verdict::Refused(refusal) => refused_area(refusal, total.samples),
     }
 }
@@ -175,9 +163,8 @@ fn work_area(planform: Planform, points: &[f64], limit: usize, scratch: &mut [f6
         r (now (scratch .entry)) (now (scratch .exit)) ⌝ }
 {
     let integrand = integrands::area_integrand(planform, points);
-    let scale_m = integrands::scale_m(planform, points);
     let total = strips::work_strips(scratch, integrand, points, limit);
-    concluded_area(scale_m, total)
+    concluded_area(integrand.scale, total)
 }
 
 // A planform's area and centroid, over a lent scratch of at least 16·limit numbers.

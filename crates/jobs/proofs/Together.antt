@@ -16,10 +16,10 @@ use Rattle.floats.specs.Operations.{at}
 use Rattle.sorting.specs.Sorted.{over}
 use Rattle.refusals.specs.declared.Verdict.{Verdict}
 use Rattle.refusals.specs.declared.Verdict.the-variants.{Accepted, Refused}
-use Rattle.refusals.specs.Order.{isRefused}
+use Rattle.refusals.specs.Order.{isRefused, firstRefusal}
 use Rattle.refusals.specs.Calls.{leavesAlone, byVerdict}
 use Rattle.refusals.proofs.Accepted.{both, each-accepts, where-each-accepts}
-use Rattle.limits.specs.Limits.{limitCheck, scratchCheck}
+use Rattle.limits.specs.Limits.{limitCheck, scratchCheck, countCheck}
 use Rattle.limits.proofs.Accepted.{limit-within}
 use Rattle.materials.specs.declared.Density.{Density}
 use Rattle.materials.specs.Materials.{densityCheck}
@@ -49,7 +49,7 @@ use Rattle.jobs.specs.Jobs.{pointsOf, outlineOf, runOfJob, totalOf, noFi
 use Rattle.jobs.specs.Calls.{Call, step, change, steppedBy, afterCalls, counts, stripsBy, stripsOver}
 use Rattle.jobs.specs.Calls.{isTaken, densityBy, densityOver, runningJob, OverCalls}
 use Rattle.jobs.proofs.Kept.{keptOf, Same, kept-same}
-use Rattle.jobs.proofs.Laws.{yes, step-ended, step-refused, step-works, after-more, after-last, end-answer}
+use Rattle.jobs.proofs.Laws.{yes, given, step-ended, step-refused, step-works, after-more, after-last, end-answer}
 use Rattle.jobs.proofs.Laws.{none-ended, none-refused, one-if-there, change-ended, change-refused, change-taken}
 use Rattle.jobs.proofs.Sums.{Few, summed-with, ending-with, few-in, each-front, each-with, strip-is-few, all-few, worked-all}
 
@@ -194,6 +194,10 @@ module _ (set : FinSet) (points : List Float) (L : ℕ) (made : makingCheck set 
         ∙ ap (λ (l : List Worked). S· ∷ l) t))
         ∙ g .rest
 
+    checked-again : firstRefusal (countCheck (set .count)) (densityCheck d) ≡ Accepted
+    unfolding firstRefusal ownCheck
+    checked-again = ap₂ firstRefusal (each-accepts (ownChecks set points) own-checked .0) (g .dense)
+
     ends : With· ≡ All· → Done d With· (ended J· (summedOf With·) (outcomeOf (J· .set) (outlineOf J·) (summedOf With·)) .job)
     unfolding outcomeOf
     ends whole =
@@ -203,7 +207,8 @@ module _ (set : FinSet) (points : List Float) (L : ℕ) (made : makingCheck set 
           dense = g .dense;
           whole = whole;
           answer =
-              ap₂ (λ (r s : Float). concludedSet (withDensity set d) r s (summedOf With·)) (same .root) (same .scale)
+              given _ _ checked-again
+              ∙ ap₂ (λ (r s : Float). concludedSet (withDensity set d) r s (summedOf With·)) (same .root) (same .scale)
               ∙ ap (λ (l : List Worked). concludedSet (withDensity set d) (rootChordOf (set .planform) points) Scale· (summedOf l)) whole;
           samples = refl;
           intervals = refl;

@@ -16,7 +16,7 @@ use Rattle.refusals.specs.declared.Verdict.the-variants.{Accepted}
 use Rattle.refusals.specs.Order.{isRefused, firstRefusal}
 use Rattle.refusals.specs.Given.{GivesRow, IsAnswer}
 use Rattle.refusals.specs.Calls.{byVerdict}
-use Rattle.limits.specs.Limits.{limitCheck}
+use Rattle.limits.specs.Limits.{limitCheck, countCheck}
 use Rattle.materials.specs.declared.Density.{Density}
 use Rattle.materials.specs.Materials.{densityCheck}
 use Rattle.planforms.specs.Planforms.{rootChordOf}
@@ -125,9 +125,13 @@ ended job total figures =
 
 -- ---- a step
 
--- the answer of a set whose strips add up to these totals: figures or 8, or what refused the last strip
+-- the answer of a set whose strips add up to these totals: figures or 8, or what refused the last strip; 3 and 12 again, which no job that was
+-- made is given
 unfoldable pub outcomeOf : FinSet → List Float → Integral → Figures
-outcomeOf set points total = concludedSet set (rootChordOf (set .planform) points) (scaleOf (set .planform) points) total
+outcomeOf set points total =
+    byVerdict (firstRefusal (countCheck (set .count)) (densityCheck (set .density)))
+    (concludedSet set (rootChordOf (set .planform) points) (scaleOf (set .planform) points) total)
+    (λ refusal. refusedFigures refusal (total .samples))
 
 -- "Until the job ends, with its last strip or one refused"
 unfoldable pub afterStrip : Job → Onward → Stepped

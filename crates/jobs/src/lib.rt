@@ -163,14 +163,24 @@ fn end(job: Job, total: Integral, figures: Figures) -> Stepped
     Stepped { job, answer }
 }
 
-// The answer of a set whose strips add up to these totals.
+// The answer of a set whose strips add up to these totals. Count and density are asked again, since a record that no making gave is taken too.
 fn conclude(set: FinSet, points: &[f64], total: Integral) -> Figures
     ensures { λ r. ⌜ r ≡ outcomeOf set (now (points .entry)) total ⌝ }
 {
     let planform = set.planform;
-    let scale_m = integrands::scale_m(planform, points);
-    let root_chord_m = planforms::root_chord_m(planform, points);
-    figures::concluded(set, root_chord_m, scale_m, total)
+    let density = set.density;
+    let verdict = first_refusal(
+        limits::check_count(set.count),
+        materials::check_density(density),
+    );
+    match verdict {
+        Verdict::Accepted => {
+            let scale_m = integrands::scale_m(planform, points);
+            let root_chord_m = planforms::root_chord_m(planform, points);
+            figures::concluded(set, root_chord_m, scale_m, total)
+        }
+        Verdict::Refused(refusal) => figures::refused_figures(refusal, total.samples),
+    }
 }
 
 // The next strip of a job, added to its totals.

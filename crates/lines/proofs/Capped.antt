@@ -29,9 +29,9 @@ use Rattle.materials.specs.declared.Density.{Density}
 use Rattle.materials.specs.declared.NumberedDensity.{NumberedDensity}
 use Rattle.materials.specs.declared.NumberedDensity.the-variants.{Known as densityKnown, Unknown as noDensity}
 use Rattle.materials.specs.Numbered.{numberedDensity}
-use Rattle.joins.specs.declared.Joined.{Joined}
 use Rattle.joins.specs.Joins.{refusedBody}
-use Rattle.rings.specs.Rings.{ringOf}
+use Rattle.tubes.specs.declared.TubeFinSet.{TubeFinSet}
+use Rattle.tubes.specs.Tubes.{tubeCheck, tubesOf}
 use Rattle.tubes.specs.Closing.{closingOf}
 use Rattle.floats.specs.Operations.{at}
 use Rattle.requests.specs.declared.AreaRequest.{AreaRequest}
@@ -138,14 +138,13 @@ module _ (set : FinSet) (points : List Float) (L : ℕ) where
 
 -- ---- the count of tubes
 
-module _ (base : Float) (one : Joined) where
-  ring-many : (n : ℕ) → 32 < n → ringOf one base n ≡ refusedBody Count
-  unfolding ringOf firstRefusal
-  ring-many n h = rw (too-many n h)
+tubes-many : (set : TubeFinSet) (radius : Float) → 32 < set .count → tubesOf set radius ≡ refusedBody Count
+unfolding tubeCheck firstRefusal
+tubes-many set radius h = rw (too-many (set .count) h)
 
 module _ (figures : List Float) where
   same-ring : (i j : ℕ) → 32 < i → 32 < j → (density : NumberedDensity) → ringOfKnown i density figures ≡ ringOfKnown j density figures
-  same-ring i j h g (densityKnown density) = ring-many _ _ i h ∙ sym (ring-many _ _ j g)
+  same-ring i j h g (densityKnown density) = tubes-many _ _ h ∙ sym (tubes-many _ _ g)
   same-ring i j h g noDensity = refl
 
   pub ring-capped : (density count : ℕ) → ringBy (capped count) density figures ≡ ringBy count density figures

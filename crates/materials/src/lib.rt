@@ -1,7 +1,7 @@
 // A material's density, with its units in the case (material.rs, `Density`), and its check. Only bulk is taken.
 ghost use mathlib.Core.Path.{_≡_};
 ghost use Rattle.materials.specs.Materials.{densityCheck};
-ghost use Rattle.materials.specs.Numbered.{numberedDensity};
+ghost use Rattle.materials.specs.Numbered.{densityFigure, numberedDensity};
 use refusals::Refusal;
 use refusals::Verdict;
 
@@ -15,6 +15,17 @@ pub enum Density {
 pub enum NumberedDensity {
     Known(Density),
     Unknown,
+}
+
+// Its figure, in its own units.
+pub fn figure_of(density: Density) -> f64
+    ensures { λ r. ⌜ r ≡ densityFigure density ⌝ }
+{
+    match density {
+        Density::Bulk { kg_m3 } => kg_m3,
+        Density::Surface { kg_m2 } => kg_m2,
+        Density::Line { kg_m } => kg_m,
+    }
 }
 
 // 1 bulk, 2 surface, 3 line.

@@ -25,8 +25,10 @@ use Rattle.rounding.proofs.Ordered.{le→order}
 use Rattle.rounding.proofs.Signs.{minus, finite-no-nan, positive-plus}
 use Rattle.rounding.proofs.Signed.{over as above, under as below}
 use Rattle.rounding.proofs.Sizes.{positive-of}
+use Rattle.refusals.specs.declared.Refusal.the-variants.{NoArea}
 use Rattle.refusals.specs.declared.Verdict.{Verdict}
-use Rattle.refusals.specs.declared.Verdict.the-variants.{Accepted as accepted, Refused as refused}
+use Rattle.refusals.specs.declared.Verdict.the-variants.{Accepted as accepted}
+use Rattle.refusals.specs.Order.{refuseWhen, firstRefusal}
 use Rattle.refusals.specs.Calls.{leavesAlone, byVerdict}
 use Rattle.refusals.proofs.Accepted.{both}
 use Rattle.limits.specs.Limits.{rootChordField, tipChordField, thicknessField, bodyRadiusField, lengthCheck}
@@ -46,21 +48,20 @@ use Rattle.quadrature.specs.declared.Piece.{Piece}
 use Rattle.tolerance.specs.Bounds.{converged}
 use Rattle.halving.specs.Halving.{ended, repeat, halving}
 use Rattle.halving.specs.declared.Ending.the-variants.{Accepted}
+use Rattle.halving.specs.declared.Integral.{Integral}
 use Rattle.strips.specs.Strips.{Worked, workedOf, summedOf, sevenWide}
+use Rattle.bodies.specs.declared.Body.{Body}
 use Rattle.fins.specs.Fins.{planformCheck, areaCheck, setCheck}
 use Rattle.fins.specs.declared.FinSet.{FinSet}
 use Rattle.fins.proofs.Accepted.{area-planform, set-accepted}
 use Rattle.fins.proofs.Sized.{planform-sized}
-use Rattle.figures.specs.Areas.{areaStrips, areaCall, workedArea, workedPlanform, refusedArea, concludedArea, geometryArea, ofGeometry}
+use Rattle.figures.specs.Areas.{areaStrips, areaCall, workedArea, workedPlanform, refusedArea, concludedArea, unscaledArea, areaBy}
 use Rattle.figures.specs.declared.Area.{Area}
 use Rattle.figures.specs.Answers.{setReport, areaReport}
 use Rattle.figures.specs.declared.Figures.{Figures}
-use Rattle.figures.proofs.Reports.{no-refusal, FiguresOr8, fins-joined}
-use Rattle.plates.specs.declared.PlanformGeometry.{PlanformGeometry}
-use Rattle.joins.specs.declared.Joined.{Joined}
-use Rattle.plates.specs.Geometry.{geometryOf, noGeometry, unscaledArea}
-use Rattle.sets.specs.Sets.{joinedFinsOf}
-use Rattle.figures.specs.Figures.{setStrips, setCall, workedFigures, workedSet, refusedFigures, concludedSet, joinedFigures, ofJoined}
+use Rattle.plates.specs.Integrals.{volume}
+use Rattle.plates.specs.Plates.{integralsOf}
+use Rattle.figures.specs.Figures.{setStrips, setCall, workedFigures, workedSet, refusedFigures, sizeCheck, figuresBy, finsOf, concludedSet}
 use Rattle.rounding_error.proofs.Numbers.{_per_, _of_, Under, valueOf, sizeOf, Ranges}
 use Rattle.error_terms.proofs.Floors.{NotBelow}
 use Rattle.one_piece.proofs.AreaPiece.{Fin, area-converged, high-positive}
@@ -297,7 +298,17 @@ module _ (root tip span sweep : Float) (points : List Float) (f64s : PlanformF64
         (ends-differ (high-positive root tip span sweep S (area-fin (wider q))))
         (fin-converged c plain-section root tip span sweep thickness radius points (plate-fin q)))
 
--- ---- the answers of the two calls
+-- ---- the answers of the two calls: figures or 8, by one piece and 15 samples
+abbrev oneTotal : List Float → Integral
+oneTotal value = record { ending = Accepted; value = value; intervals = 1; samples = 15 }
+
+abbrev oneArea : Float → List Float → Area
+oneArea scale value = areaBy (sizeCheck (unscaledArea scale value)) scale (oneTotal value)
+
+abbrev oneSet : FinSet → Float → Float → List Float → Figures
+oneSet set root scale value =
+    let v = integralsOf set scale value in figuresBy (sizeCheck (volume v)) (finsOf set root v) (oneTotal value)
+
 module _ (root tip span sweep : Float) (points : List Float) (L n : ℕ) (f64s : PlanformF64 (Trapezoid root tip span sweep) points) where
   abbrev shape : Planform
   shape = Trapezoid root tip span sweep
@@ -307,9 +318,9 @@ module _ (root tip span sweep : Float) (points : List Float) (L n : ℕ) (f64s :
 
   -- the area: figures or 8, by one piece and 15 samples
   pub area-figures : areaCheck shape points L n ≡ accepted → Proportions 4 4 root tip sweep
-      → workedArea shape points L ≡ geometryArea
-      (geometryOf (summedOf (sevenWide 3 (oneWorked 3 (areaThree shape points) (bits 0 ⊘ scale) (span ⊘ scale) ∷ [])) .value) scale) 1 15
-  unfolding concludedArea heightsTo
+      → workedArea shape points L
+      ≡ oneArea scale (summedOf (sevenWide 3 (oneWorked 3 (areaThree shape points) (bits 0 ⊘ scale) (span ⊘ scale) ∷ [])) .value)
+  unfolding concludedArea firstRefusal heightsTo
   area-figures c q =
       let checked = area-planform shape points L n c in
       rw (
@@ -323,10 +334,10 @@ module _ (root tip span sweep : Float) (points : List Float) (L n : ℕ) (f64s :
       → T (fits binary64 (set .«body_radius_m»))
       → setCheck set points L n ≡ accepted → Proportions (tipsOf (set .«cross_section»)) 4 root tip sweep
       → workedFigures set points L
-      ≡ joinedFigures (joinedFinsOf set (rootChordOf (set .planform) points) scale
+      ≡ oneSet set (rootChordOf (set .planform) points) scale
       (summedOf (oneWorked 7 (plateOf shape points (set .«cross_section») (set .«thickness_m») (set .«body_radius_m»)) (bits 0 ⊘ scale)
-      (span ⊘ scale) ∷ []) .value)) 1 15
-  unfolding concludedSet heightsTo
+      (span ⊘ scale) ∷ []) .value)
+  unfolding concludedSet firstRefusal heightsTo
   set-figures set e s ft fr c q =
       let a = set-accepted set points L n c in
       let checked = subst (λ (p : Planform). planformCheck p points ≡ accepted) e (a .planform) in
@@ -344,23 +355,13 @@ module _ (root tip span sweep : Float) (points : List Float) (L n : ℕ) (f64s :
       rw (strips, e, d)
 
 -- ---- what is reported: figures by one piece, or 8
-by-geometry : (v : Verdict) (g : PlanformGeometry) → FiguresOr8 v → OnePiece (areaReport (ofGeometry v g 1 15))
-by-geometry accepted g f = record { fifteen = refl; figures-or-8 = inl (refl, refl) }
-by-geometry (refused refusal) g (inl e) = no-refusal refusal e
-by-geometry (refused refusal) g (inr e) = record { fifteen = refl; figures-or-8 = inr e }
+by-area : (b : Bool) (scale : Float) (value : List Float) → OnePiece (areaReport (areaBy (refuseWhen b NoArea) scale (oneTotal value)))
+by-area true scale value = record { fifteen = refl; figures-or-8 = inr refl }
+by-area false scale value = record { fifteen = refl; figures-or-8 = inl (refl, refl) }
 
-geometry-verdict : (total : List Float) (scale : Float) → FiguresOr8 (geometryOf total scale .verdict)
-unfolding geometryOf
-geometry-verdict total scale = go (le (unscaledArea total scale) (bits 0)) _ refl
-  where
-    go : (b : Bool) (g : PlanformGeometry) → g .verdict ≡ accepted → FiguresOr8 (cond b noGeometry g .verdict)
-    go true g e = inr refl
-    go false g e = inl e
-
-by-joined : (v : Verdict) (j : Joined) → FiguresOr8 v → OnePiece (setReport (ofJoined v j 1 15))
-by-joined accepted j f = record { fifteen = refl; figures-or-8 = inl (refl, refl) }
-by-joined (refused refusal) j (inl e) = no-refusal refusal e
-by-joined (refused refusal) j (inr e) = record { fifteen = refl; figures-or-8 = inr e }
+by-set : (b : Bool) (body : Body) (value : List Float) → OnePiece (setReport (figuresBy (refuseWhen b NoArea) body (oneTotal value)))
+by-set true body value = record { fifteen = refl; figures-or-8 = inr refl }
+by-set false body value = record { fifteen = refl; figures-or-8 = inl (refl, refl) }
 
 pub area-one-piece : AreaOnePiece
 unfolding areaCall
@@ -368,24 +369,22 @@ area-one-piece root tip span sweep points L entry r exit f64s answers checked q 
     let planform = Trapezoid root tip span sweep in
     let scale = scaleOf planform points in
     let total = summedOf (sevenWide 3 (oneWorked 3 (areaThree planform points) (bits 0 ⊘ scale) (span ⊘ scale) ∷ [])) .value in
-    let g = geometryOf total scale in
     subst (λ (a : Area). OnePiece (areaReport a))
     (sym (answers .call .0
     ∙ ap (λ (v : Verdict). byVerdict v (workedPlanform planform points L) (λ refusal. leavesAlone (refusedArea refusal 0)) .answer) checked
     ∙ area-figures root tip span sweep points L (length entry) f64s checked q))
-    (by-geometry (g .verdict) g (geometry-verdict total scale))
+    (by-area (le (unscaledArea scale total) (bits 0)) scale total)
 
 pub set-one-piece : SetOnePiece
 unfolding setCall
 set-one-piece set root tip span sweep points L entry r exit e plain f64s (thick, out) answers checked q =
-    let a = set-accepted set points L (length entry) checked in
     let planform = Trapezoid root tip span sweep in
     let scale = scaleOf planform points in
     let plate = plateOf planform points (set .«cross_section») (set .«thickness_m») (set .«body_radius_m») in
     let total = summedOf (oneWorked 7 plate (bits 0 ⊘ scale) (span ⊘ scale) ∷ []) .value in
-    let j = joinedFinsOf set (rootChordOf (set .planform) points) scale total in
+    let v = integralsOf set scale total in
     subst (λ (f : Figures). OnePiece (setReport f))
     (sym (answers .call .0
     ∙ ap (λ (v : Verdict). byVerdict v (workedSet set points L) (λ refusal. leavesAlone (refusedFigures refusal 0)) .answer) checked
     ∙ set-figures root tip span sweep points L (length entry) f64s set e plain thick out checked q))
-    (by-joined (j .verdict) j (fins-joined set (rootChordOf (set .planform) points) scale total (a .count) (a .density)))
+    (by-set (le (volume v) (bits 0)) (finsOf set (rootChordOf (set .planform) points) v) total)

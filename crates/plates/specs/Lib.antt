@@ -1,3 +1,2 @@
 pub mod Integrals
 pub mod Plates
-pub mod Geometry

@@ -1,7 +1,7 @@
 -- One fin's body from its volume integrals (document 01, "Set and planform" and "Refusal numbers"; document 02, Paper 6; fins.rs, `single_fin`).
 use mathlib.Core.Bool.{cond}
 use mathlib.Core.List.{List}
-use lib.Ieee.{Float, neg, eq, le}
+use lib.Ieee.{Float, neg, eq}
 use Rattle.floats.specs.Operations.{_⊕_, _⊗_, _⊘_, bits}
 use Rattle.floats.specs.Constants.{half}
 use Rattle.bodies.specs.declared.Body.{Body}
@@ -11,13 +11,10 @@ use Rattle.bodies.specs.Vectors.{vector}
 use Rattle.bodies.specs.Tensors.{symmetric, scaleTensor}
 use Rattle.bodies.specs.Bodies.{translatedOf, ofOriginTensor}
 use Rattle.rotations.specs.Rotations.{rotatedXOf}
-use Rattle.refusals.specs.declared.Refusal.the-variants.{NoArea, Density as density}
-use Rattle.materials.specs.declared.Density.{Density}
-use Rattle.materials.specs.declared.Density.the-variants.{Bulk, Surface, Line}
+use Rattle.materials.specs.Numbered.{densityFigure}
 use Rattle.fillets.specs.Fillets.{filletsOf}
 use Rattle.fins.specs.declared.FinSet.{FinSet}
-use Rattle.joins.specs.declared.Joined.{Joined}
-use Rattle.joins.specs.Joins.{joinOf, twoBodies, acceptedBody, refusedBody}
+use Rattle.joins.specs.Joins.{joinOf, twoBodies}
 use Rattle.plates.specs.Integrals.{volume, r1, r2, x1, x2, rx, tau2, unscaledOf, tabIntegralsOf, addIntegrals}
 
 -- the tensor about the origin, of points at (r, τ, −x); its entries are summed first, then times the density
@@ -45,24 +42,12 @@ pivotOf radius root = vector radius (bits 0) (neg half ⊗ root)
 unfoldable pub cantedOf : Body → Float → Vector → Body
 cantedOf fin cant pivot = cond (eq cant (bits 0)) fin (translatedOf (rotatedXOf (translatedOf fin (negateVector pivot)) cant) pivot)
 
--- 8: "area or volume <= 0"
-unfoldable pub bulkFin : List Float → Body → Float → Vector → Float → Joined
-bulkFin v fillets cant pivot kgPerM3 =
-    cond (le (volume v) (bits 0)) (refusedBody NoArea)
-    (acceptedBody (cantedOf (withFillets (plateBody v kgPerM3) fillets) cant pivot))
-
--- 12: "density not bulk"
-abbrev pub ofDensity : Density → (Float → Joined) → Joined
-ofDensity (Bulk x) fin = fin x
-ofDensity (Surface x) fin = refusedBody density
-ofDensity (Line x) fin = refusedBody density
-
 -- fin and tab together
 abbrev pub integralsOf : FinSet → Float → List Float → List Float
 integralsOf set scale total = addIntegrals (unscaledOf total scale) (tabIntegralsOf (set .tab) (set .«thickness_m») (set .«body_radius_m»))
 
--- one fin with its tab and fillets, at roll 0, from the strips' scaled totals and the root chord
-unfoldable pub singleFinOf : FinSet → Float → Float → List Float → Joined
-singleFinOf set root scale total =
-    ofDensity (set .density)
-    (bulkFin (integralsOf set scale total) (filletsOf (set .fillet) (set .«body_radius_m») root) (set .«cant_rad») (pivotOf (set .«body_radius_m») root))
+-- one fin with its tab and fillets, at roll 0, from its integrals and the root chord; a density that is taken is bulk
+unfoldable pub finOf : FinSet → Float → List Float → Body
+finOf set root v =
+    cantedOf (withFillets (plateBody v (densityFigure (set .density))) (filletsOf (set .fillet) (set .«body_radius_m») root)) (set .«cant_rad»)
+    (pivotOf (set .«body_radius_m») root)

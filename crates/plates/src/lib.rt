@@ -1,4 +1,4 @@
-// One fin from the integrals of its strips (fins.rs, `fin_integrals`, `tab_integrals`, `single_fin`; the end of `geometry`).
+// One fin from the integrals of its strips (fins.rs, `fin_integrals`, `tab_integrals`, `single_fin`).
 //
 // A point of the fin lies at (r, τ, −x): r outward from the body's axis, x aft of the root's leading edge, τ across the plate. With V,
 // ∫r, ∫r², ∫x, ∫x², ∫rx, ∫τ² over the volume and a density ρ, about the origin I = ρ [τ²+x², 0, rx; 0, r²+x², 0; rx, 0, r²+τ²], and
@@ -6,25 +6,12 @@
 // its span axis through the root's middle.
 ghost use mathlib.Core.Path.{_≡_};
 ghost use Rattle.plates.specs.Integrals.{unscaledOf, slabOf, tabIntegralsOf, addIntegrals};
-ghost use Rattle.plates.specs.Plates.{aboutOrigin, plateBody, withFillets, cantedOf, bulkFin, singleFinOf};
-ghost use Rattle.plates.specs.Geometry.{geometryOf};
+ghost use Rattle.plates.specs.Plates.{aboutOrigin, plateBody, withFillets, cantedOf, integralsOf, finOf};
 use bodies::Body;
 use bodies::Tensor;
 use bodies::Vector;
 use fins::FinSet;
 use fins::Tab;
-use joins::Joined;
-use materials::Density;
-use refusals::Refusal;
-use refusals::Verdict;
-
-// Area of one fin and its centroid, aft of the root's leading edge and outward from the root; with a refusal, zeros.
-pub struct PlanformGeometry {
-    pub verdict: Verdict,
-    pub area_m2: f64,
-    pub centroid_x_m: f64,
-    pub centroid_span_m: f64,
-}
 
 // The strips' totals, which were worked in lengths over the scale, as volume integrals in metres.
 fn unscaled(total: [f64; 7], scale_m: f64) -> [f64; 7]
@@ -151,61 +138,27 @@ fn canted(fin: Body, cant_rad: f64, pivot_m: Vector) -> Body
     rotations::rotated_x(fin.translated(back_m), cant_rad).translated(pivot_m)
 }
 
-// The fin with the integrals v and its fillets; refused 8 for a volume not above 0, but not for a NaN.
-fn bulk_fin(v: [f64; 7], glue: Body, cant_rad: f64, pivot_m: Vector, kg_m3: f64) -> Joined
-    ensures { λ r. ⌜ r ≡ bulkFin v glue «cant_rad» «pivot_m» «kg_m3» ⌝ }
-{
-    if v[0] <= 0.0 {
-        return joins::refused(Refusal::NoArea);
-    }
-    let fin = with_fillets(plate(v, kg_m3), glue);
-    joins::accepted(canted(fin, cant_rad, pivot_m))
-}
-
-// One fin with its tab and fillets at roll angle 0, canted, from the strips' totals; `scale_m` is what every length of a strip was divided by.
-pub fn single_fin(set: FinSet, root_chord_m: f64, scale_m: f64, total: [f64; 7]) -> Joined
-    ensures { λ r. ⌜ r ≡ singleFinOf set «root_chord_m» «scale_m» total ⌝ }
+// The integrals of a fin and its tab from the strips' totals; `scale_m` is what every length of a strip was divided by.
+pub fn integrals(set: FinSet, scale_m: f64, total: [f64; 7]) -> [f64; 7]
+    ensures { λ r. ⌜ r ≡ integralsOf set «scale_m» total ⌝ }
 {
     let tab = set.tab;
     let below = tab_integrals(tab, set.thickness_m, set.body_radius_m);
-    let v = sum(unscaled(total, scale_m), below);
+    sum(unscaled(total, scale_m), below)
+}
+
+// One fin with the integrals v and its fillets at roll angle 0, canted. A density that is taken is bulk.
+pub fn fin(set: FinSet, root_chord_m: f64, v: [f64; 7]) -> Body
+    ensures { λ r. ⌜ r ≡ finOf set «root_chord_m» v ⌝ }
+{
     let pivot_m = Vector {
         x: set.body_radius_m,
         y: 0.0,
         z: -0.5 * root_chord_m,
     };
     let fillet = set.fillet;
-    let glue = fillets::fillets(fillet, set.body_radius_m, root_chord_m);
     let density = set.density;
-    match density {
-        Density::Bulk { kg_m3 } => bulk_fin(v, glue, set.cant_rad, pivot_m, kg_m3),
-        Density::Surface { kg_m2: _ } => joins::refused(Refusal::Density),
-        Density::Line { kg_m: _ } => joins::refused(Refusal::Density),
-    }
-}
-
-// Area and centroid from the strips' totals of an area run; refused 8 for an area not above 0, but not for a NaN.
-pub fn geometry(total: [f64; 7], scale_m: f64) -> PlanformGeometry
-    ensures { λ r. ⌜ r ≡ geometryOf total «scale_m» ⌝ }
-{
-    let area = total[0];
-    let x1 = total[1];
-    let h1 = total[2];
-    let area_m2 = area * scale_m * scale_m;
-    if area_m2 <= 0.0 {
-        let verdict = Verdict::Refused(Refusal::NoArea);
-        return PlanformGeometry {
-            verdict,
-            area_m2: 0.0,
-            centroid_x_m: 0.0,
-            centroid_span_m: 0.0,
-        };
-    }
-    let verdict = Verdict::Accepted;
-    PlanformGeometry {
-        verdict,
-        area_m2,
-        centroid_x_m: scale_m * x1 / area,
-        centroid_span_m: scale_m * h1 / area,
-    }
+    let glue = fillets::fillets(fillet, set.body_radius_m, root_chord_m);
+    let fin = with_fillets(plate(v, materials::figure_of(density)), glue);
+    canted(fin, set.cant_rad, pivot_m)
 }

@@ -1,5 +1,5 @@
 -- Copies of one body, turned about the body's axis and joined (document 01, "Set and planform" and "Body"; fins.rs, `mass_properties`).
-use mathlib.Core.List.{List, [], _∷_}
+use mathlib.Core.List.{List}
 use Prim.Native.Nat.{ℕ}
 use lib.Ieee.{Float, nan}
 use Rattle.floats.specs.Operations.{_⊕_, _⊗_, _⊘_, whole, Filled}
@@ -8,10 +8,7 @@ use Rattle.bodies.specs.declared.Body.{Body}
 use Rattle.bodies.specs.Bodies.{emptyBody}
 use Rattle.rotations.specs.declared.Quaternion.{Quaternion}
 use Rattle.rotations.specs.Rotations.{aboutZ, rolledOf}
-use Rattle.refusals.specs.Order.{firstOf}
-use Rattle.limits.specs.Limits.{countCheck}
-use Rattle.joins.specs.declared.Joined.{Joined}
-use Rattle.joins.specs.Joins.{joinOf, unlessRefused}
+use Rattle.joins.specs.Joins.{joinOf}
 
 -- the roll of copy k: base + ((2·π)·k)/count
 abbrev pub angleOf : Float → ℕ → ℕ → Float
@@ -23,10 +20,6 @@ rolledCopy body base count k = rolledOf body (angleOf base count k)
 -- every copy, also an only one, is turned and joined
 abbrev pub joinedCopies : Body → Float → ℕ → Body
 joinedCopies body base count = joinOf (rolledCopy body base count) count
-
--- 3: "count of fins .. not 1 to 32"; that refusal comes before the one body's
-unfoldable pub ringOf : Joined → Float → ℕ → Joined
-ringOf one base count = unlessRefused (firstOf (countCheck count ∷ one .verdict ∷ [])) (joinedCopies (one .body) base count)
 
 -- ---- what the steps do
 

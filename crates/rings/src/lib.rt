@@ -4,11 +4,8 @@
 // joined there (document 01, "Body"). An only one is turned and joined like any other.
 ghost use mathlib.Core.Path.{_≡_};
 ghost use Prim.Native.Nat.{_≤_};
-ghost use Rattle.joins.specs.Joins.{IsJoined};
-ghost use Rattle.rings.specs.Rings.{angleOf, TurnsTo, CopiesTo, joinedCopies, ringOf};
+ghost use Rattle.rings.specs.Rings.{angleOf, TurnsTo, CopiesTo, joinedCopies};
 use bodies::Body;
-use joins::Joined;
-use refusals::Verdict;
 use rotations::Quaternion;
 
 const PI: f64 = 3.141592653589793;
@@ -67,16 +64,10 @@ fn joined_copies(body: Body, base_angle_rad: f64, count: usize) -> Body
     joins::join(&list[..count])
 }
 
-// `count` copies of a body, evenly turned about the body's axis from the base angle, joined; refused 3 for a count not 1 to 32, and
-// then as the one body is.
-pub fn ring(one: Joined, base_angle_rad: f64, count: usize) -> Joined
-    ensures { λ r. ⌜ IsJoined r (ringOf one «base_angle_rad» count) ⌝ }
+// `count` copies of a body, evenly turned about the body's axis from the base angle, joined. A count not 1 to 32 is the caller's to refuse.
+pub fn ring(one: Body, base_angle_rad: f64, count: usize) -> Body
+    requires { ⌜ count ≤ 32 ⌝ }
+    ensures { λ r. ⌜ r ≡ joinedCopies one «base_angle_rad» count ⌝ }
 {
-    let of_one = one.verdict;
-    let body = one.body;
-    let verdict = refusals::first_refusal(limits::check_count(count), of_one);
-    match verdict {
-        Verdict::Accepted => joins::accepted(joined_copies(body, base_angle_rad, count)),
-        Verdict::Refused(refusal) => joins::refused(refusal),
-    }
+    joined_copies(one, base_angle_rad, count)
 }

@@ -6,7 +6,6 @@ use lib.Dec.{T}
 use lib.Ieee.{Float, nan, add, sub, mul, div, neg, ofBits, toBits, ofInt, round, isNan, lt, le, eq, ne}
 use Rattle.floats.specs.Operations.{bits, tabulate}
 use Rattle.trig.specs.Trig.{mOf, sinCosOf}
-use Rattle.refusals.specs.declared.Refusal.the-variants.{NoArea}
 use Rattle.refusals.specs.Order.{firstRefusal, firstFrom}
 use Rattle.bodies.specs.declared.Body.{Body}
 use Rattle.bodies.specs.declared.Matrix.{Matrix}
@@ -18,9 +17,9 @@ use Rattle.bodies.specs.Bodies.{inertiaAboutOf, translatedOf, rotatedOf, pointM
 use Rattle.bodies.specs.Layout.{bodyOf, numbersOf}
 use Rattle.rotations.specs.declared.Quaternion.{Quaternion}
 use Rattle.rotations.specs.Rotations.{aboutX, aboutZ, matrixOf}
-use Rattle.joins.specs.Joins.{inOrder, sumsOf, inertiaOf, joinOf, acceptedBody, refusedBody, twoBodies, combineOf}
+use Rattle.joins.specs.Joins.{inOrder, sumsOf, inertiaOf, joinOf, twoBodies, combineOf}
 use Rattle.joins.specs.Lists.{joinList}
-use Rattle.rings.specs.Rings.{angleOf, ringOf}
+use Rattle.rings.specs.Rings.{angleOf, joinedCopies}
 use Rattle.test_definitions.specs.Rows.{is, are, refused}
 
 -- the bits of 1, 2 and 3, and of minus 2
@@ -110,20 +109,13 @@ angles-of-four =
 abbrev pub only-copy-turned : Bool
 only-copy-turned =
     are
-    (numbers (ringOf (acceptedBody (pointMass (bits one) (vector (bits one) (bits 0) (bits 0)))) (bits one) 1 .body .«centre_m»))
+    (numbers (joinedCopies (pointMass (bits one) (vector (bits one) (bits 0) (bits 0))) (bits one) 1 .«centre_m»))
     (0x3fe1_4a28_0fb5_068c ∷ 0x3fea_ed54_8f09_0cee ∷ 0 ∷ [])
 
 -- and joined: of a mass of 3 at 0.1 the join rounds 3·0.1/3 to the f64 after 0.1
 abbrev pub only-copy-joined : Bool
 only-copy-joined =
-    are (numbers (ringOf (acceptedBody (onAxis three 0x3fb9_9999_9999_999a)) (bits 0) 1 .body .«centre_m»)) (0x3fb9_9999_9999_999b ∷ 0 ∷ 0 ∷ [])
-
--- 3 comes before the one body's refusal
-abbrev pub count-before-the-body : Bool
-count-before-the-body =
-    refused 3 [] (ringOf (refusedBody NoArea) (bits 0) 33 .verdict)
-    && refused 3 [] (ringOf (refusedBody NoArea) (bits 0) 0 .verdict)
-    && refused 8 [] (ringOf (refusedBody NoArea) (bits 0) 3 .verdict)
+    are (numbers (joinedCopies (onAxis three 0x3fb9_9999_9999_999a) (bits 0) 1 .«centre_m»)) (0x3fb9_9999_9999_999b ∷ 0 ∷ 0 ∷ [])
 
 -- ---- joins
 
@@ -170,10 +162,9 @@ pub bodies-hold :
     && angles-of-four
     && only-copy-turned
     && only-copy-joined
-    && count-before-the-body
     && mean-without-mass
     && each-of-a-list
     && joins-counted
     && ten-numbers)
-unfolding ofBits toBits ofInt round add sub mul div neg lt le eq ne isNan mOf sinCosOf firstRefusal firstFrom turnTensor inertiaAboutOf rotatedOf inOrder sumsOf inertiaOf joinOf ringOf
+unfolding ofBits toBits ofInt round add sub mul div neg lt le eq ne isNan mOf sinCosOf firstRefusal firstFrom turnTensor inertiaAboutOf rotatedOf inOrder sumsOf inertiaOf joinOf
 bodies-hold = tt

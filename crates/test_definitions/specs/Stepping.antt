@@ -32,6 +32,7 @@ use Rattle.halving.specs.declared.Ending.the-variants.{Accepted, NotConverged}
 use Rattle.halving.specs.Halving.{repeat, halving}
 use Rattle.strips.specs.declared.Onward.{Onward}
 use Rattle.strips.specs.Strips.{withStrip, onwardOf, scratchOnward}
+use Rattle.figures.specs.declared.Figures.{Figures}
 use Rattle.figures.specs.Figures.{refusedFigures, concludedSet}
 use Rattle.jobs.specs.declared.Job.{Job}
 use Rattle.jobs.specs.declared.Stepped.{Stepped}
@@ -59,10 +60,10 @@ plywood = Bulk (bits 0x4085_4000_0000_0000)
 abbrev balsa : Density
 balsa = Bulk (bits 0x4064_0000_0000_0000)
 
-abbrev set : FinSet
-set =
+abbrev setOf : ℕ → Density → FinSet
+setOf count density =
     record {
-      count = 3;
+      count = count;
       planform = Outline;
       «thickness_m» = bits 0x3fe0_0000_0000_0000;
       «cross_section» = Square;
@@ -71,8 +72,11 @@ set =
       «cant_rad» = bits 0;
       «base_angle_rad» = bits 0;
       «body_radius_m» = bits one;
-      density = plywood;
+      density = density;
     }
+
+abbrev set : FinSet
+set = setOf 3 plywood
 
 -- a job of which so many strips are worked, 15 samples each, with these sums
 abbrev worked : ℕ → ℕ → List Float → Job
@@ -179,6 +183,16 @@ job-ends =
     && afterStrip job (totals (NotConverged 3) 5) .job .ended
     && refused 13 (3 ∷ []) (afterStrip job (totals (NotConverged 3) 5) .answer .figures .verdict)
 
+-- of a set that no making took: 3, then 12, then what the strips come to, with their samples
+abbrev pub asked-again : Bool
+asked-again =
+    let answer : ℕ → Density → Figures = λ count density. outcomeOf (setOf count density) points (totals (NotConverged 3) 0 .total) in
+    refused 3 [] (answer 33 (Line (bits one)) .verdict)
+    && refused 3 [] (answer 0 plywood .verdict)
+    && refused 12 [] (answer 32 (Line (bits one)) .verdict)
+    && refused 13 (3 ∷ []) (answer 32 plywood .verdict)
+    && eqb (answer 33 plywood .samples) 30
+
 -- ---- steps that work one
 
 -- "one strip a step": the first leaves one strip worked, with its fifteen samples, and more to come
@@ -195,7 +209,7 @@ abbrev pub last-strip-written : List Float → Bool
 last-strip-written scratch =
     eqb (length scratch) 128 && are (take 2 scratch) (third ∷ 0x3fe5_5555_5555_5555 ∷ []) && are (take 2 (drop 16 scratch)) (one ∷ one ∷ [])
 
-pub calls-hold : T (short-step && repeats && density-taken && density-left && job-ends)
+pub calls-hold : T (short-step && repeats && density-taken && density-left && job-ends && asked-again)
 unfolding ofBits toBits ofInt round add sub mul div lt le eq ne absOf every belowAll insert sorted isRefused firstRefusal scratchCheck densityCheck chordMoments largestHeight rootChordOf spanOf heights everyY once breakHeights crossed crossings outlineCrossings endsAt paired scaleOf sumsFrom sampleOf plateOf nodes kronrodWeights gaussWeights heightsTo weightedTo pieceOf totalOf errorOf absolute relative converged scoreOf lastHighest worstPlace componentOf repeat halving withStrip onwardOf scratchOnward outcomeOf concludedSet afterStrip stepOf stepScratch changeOf
 calls-hold = tt
 

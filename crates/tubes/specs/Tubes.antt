@@ -7,17 +7,16 @@ use Rattle.floats.specs.Constants.{half, twelve, pi}
 use Rattle.bodies.specs.declared.Body.{Body}
 use Rattle.bodies.specs.Vectors.{vector}
 use Rattle.bodies.specs.Tensors.{diagonal}
-use Rattle.bodies.specs.Bodies.{emptyBody, translatedOf}
+use Rattle.bodies.specs.Bodies.{translatedOf}
 use Rattle.refusals.specs.declared.Refusal.the-variants.{Length, WallOverRadius}
 use Rattle.refusals.specs.declared.Verdict.{Verdict}
 use Rattle.refusals.specs.Order.{refuseUnless, refuseWhen, firstOf}
 use Rattle.limits.specs.Limits.{thicknessField, bodyRadiusField, baseAngleField, tubeLengthField, outerRadiusField, lengthWithin, lengthCheck, angleCheck, countCheck}
-use Rattle.materials.specs.declared.Density.{Density}
-use Rattle.materials.specs.declared.Density.the-variants.{Bulk, Surface, Line}
 use Rattle.materials.specs.Materials.{densityCheck}
+use Rattle.materials.specs.Numbered.{densityFigure}
 use Rattle.joins.specs.declared.Joined.{Joined}
 use Rattle.joins.specs.Joins.{unlessRefused}
-use Rattle.rings.specs.Rings.{ringOf}
+use Rattle.rings.specs.Rings.{joinedCopies}
 use Rattle.tubes.specs.declared.TubeFinSet.{TubeFinSet}
 
 -- 0.25
@@ -55,14 +54,11 @@ hollowCylinder kgPerM3 length outer wall =
     (axialMoment (tubeMass kgPerM3 length outer (outer ⊖ wall)) (radiiSquared outer (outer ⊖ wall)))
     (transverseMoment (tubeMass kgPerM3 length outer (outer ⊖ wall)) (radiiSquared outer (outer ⊖ wall)) length)
 
--- the first tube at roll 0: its axis at body radius + outer radius; the density's check takes bulk alone
+-- the first tube at roll 0: its axis at body radius + outer radius; a density that is taken is bulk
 unfoldable pub tubeAt : TubeFinSet → Float → Body
-tubeAt set radius = ofDensity (set .density)
-  where
-    ofDensity : Density → Body
-    ofDensity (Bulk x) = translatedOf (hollowCylinder x (set .«length_m») (set .«outer_radius_m») (set .«thickness_m»)) (vector (radius ⊕ set .«outer_radius_m») (bits 0) (bits 0))
-    ofDensity (Surface x) = emptyBody
-    ofDensity (Line x) = emptyBody
+tubeAt set radius =
+    translatedOf (hollowCylinder (densityFigure (set .density)) (set .«length_m») (set .«outer_radius_m») (set .«thickness_m»))
+    (vector (radius ⊕ set .«outer_radius_m») (bits 0) (bits 0))
 
 -- "the wall takes 7 and may be zero"
 abbrev pub wallCheck : Float → Verdict
@@ -87,9 +83,6 @@ tubeCheck set radius =
     ∷ refuseWhen (lt (set .«outer_radius_m») (set .«thickness_m»)) WallOverRadius
     ∷ [])
 
-abbrev pub oneTube : TubeFinSet → Float → Joined
-oneTube set radius = unlessRefused (tubeCheck set radius) (tubeAt set radius)
-
 -- the ring of the fins: a tube is turned although it is round
 abbrev pub tubesOf : TubeFinSet → Float → Joined
-tubesOf set radius = ringOf (oneTube set radius) (set .«base_angle_rad») (set .count)
+tubesOf set radius = unlessRefused (tubeCheck set radius) (joinedCopies (tubeAt set radius) (set .«base_angle_rad») (set .count))

@@ -7,7 +7,7 @@ ghost use mathlib.Core.Path.{_≡_};
 ghost use Prim.Native.Nat.{_≤_};
 ghost use Rattle.refusals.specs.Given.{IsVerdict};
 ghost use Rattle.joins.specs.Joins.{IsJoined};
-ghost use Rattle.tubes.specs.Tubes.{hollowCylinder, tubeAt, wallCheck, mountCheck, tubeCheck, oneTube, tubesOf};
+ghost use Rattle.tubes.specs.Tubes.{hollowCylinder, tubeAt, wallCheck, mountCheck, tubeCheck, tubesOf};
 ghost use Rattle.tubes.specs.Closing.{closingValue, closedAt, refusedRadius, IsClosing, closingOf};
 use bodies::Body;
 use bodies::Tensor;
@@ -57,7 +57,7 @@ fn hollow_cylinder(kg_m3: f64, length_m: f64, outer_radius_m: f64, thickness_m: 
     }
 }
 
-// The first tube at roll 0, its axis at body radius + outer radius. Only bulk is taken.
+// The first tube at roll 0, its axis at body radius + outer radius; a density that is taken is bulk.
 fn tube_at(set: TubeFinSet, body_radius_m: f64) -> Body
     ensures { λ r. ⌜ r ≡ tubeAt set «body_radius_m» ⌝ }
 {
@@ -67,15 +67,8 @@ fn tube_at(set: TubeFinSet, body_radius_m: f64) -> Body
         z: 0.0,
     };
     let density = set.density;
-    match density {
-        Density::Bulk { kg_m3 } => {
-            hollow_cylinder(kg_m3, set.length_m, set.outer_radius_m, set.thickness_m).translated(
-                axis_m,
-            )
-        }
-        Density::Surface { kg_m2: _ } => Body::ZERO,
-        Density::Line { kg_m: _ } => Body::ZERO,
-    }
+    let kg_m3 = materials::figure_of(density);
+    hollow_cylinder(kg_m3, set.length_m, set.outer_radius_m, set.thickness_m).translated(axis_m)
 }
 
 // The wall's limits, under the thickness's field; zero passes here alone.
@@ -117,22 +110,18 @@ fn check_tubes(set: TubeFinSet, body_radius_m: f64) -> Verdict
     first_refusal(v, refusals::refuse_when(over, Refusal::WallOverRadius))
 }
 
-fn one_tube(set: TubeFinSet, body_radius_m: f64) -> Joined
-    ensures { λ r. ⌜ r ≡ oneTube set «body_radius_m» ⌝ }
-{
-    let verdict = check_tubes(set, body_radius_m);
-    match verdict {
-        Verdict::Accepted => joins::accepted(tube_at(set, body_radius_m)),
-        Verdict::Refused(refusal) => joins::refused(refusal),
-    }
-}
-
 // The ring's mass, centre and tensor, on a body of the given radius; the frame's origin is on the axis at the tubes' forward end.
 pub fn mass_properties(set: TubeFinSet, body_radius_m: f64) -> Joined
     ensures { λ r. ⌜ IsJoined r (tubesOf set «body_radius_m») ⌝ }
 {
-    let one = one_tube(set, body_radius_m);
-    rings::ring(one, set.base_angle_rad, set.count)
+    let verdict = check_tubes(set, body_radius_m);
+    match verdict {
+        Verdict::Accepted => {
+            let one = tube_at(set, body_radius_m);
+            joins::accepted(rings::ring(one, set.base_angle_rad, set.count))
+        }
+        Verdict::Refused(refusal) => joins::refused(refusal),
+    }
 }
 
 // The radius itself: no ring of one or two tubes closes, and theirs is the body's.

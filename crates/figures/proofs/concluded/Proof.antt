@@ -1,22 +1,31 @@
 -- `figures::concluded` meets its contract: each arm knows its case. Assumes nothing.
 use mathlib.Core.Path.{sym, ap, _∙_}
-use Rattle.joins.specs.declared.Joined.{Joined}
-use Rattle.figures.specs.Figures.{joinedFigures, concludedSet}
+use Rattle.refusals.specs.declared.Verdict.the-variants.{Accepted}
+use Rattle.bodies.specs.declared.Body.{Body}
+use Rattle.rings.specs.Rings.{joinedCopies}
+use Rattle.figures.specs.Figures.{figuresBy}
+use Rattle.figures.proofs.Reports.{set-concluded}
 use borrow.Author.Needs.{needs}
 use Rattle.figures.proofs.concluded.Statement.{statement}
 use Rattle.figures.proofs.concluded.Tie as tie
 
-verdict-of-requires : tie.Need-verdict-of-requires
-verdict-of-requires c κs = search needs
+integrals-requires : tie.Need-integrals-requires
+integrals-requires c κs = search needs
+
+array-read-conclusion : tie.Need-array-read-conclusion
+array-read-conclusion c = search needs
+
+conclusion-requires : tie.Need-conclusion-requires
+conclusion-requires c κs = search needs
 
 enum-told : tie.Need-enum-told
 enum-told c = search needs
 
-joined-fins-requires : tie.Need-joined-fins-requires
-joined-fins-requires c κs = search needs
+fin-requires : tie.Need-fin-requires
+fin-requires c κs = search needs
 
-joined-figures-requires : tie.Need-joined-figures-requires
-joined-figures-requires c κs = search needs
+ring-requires : tie.Need-ring-requires
+ring-requires c κs = search needs
 
 enum-known-verdict : tie.Need-enum-known-verdict
 enum-known-verdict c = search needs
@@ -25,26 +34,32 @@ refused-figures-requires : tie.Need-refused-figures-requires
 refused-figures-requires c κs = search needs
 
 returns : tie.Need-returns
-unfolding concludedSet
 returns c =
     let told = c .before .before in
-    let total = told .before .before .before .before .args .total in
-    rw (sym (told .before .before .verdict-of .ensures) ∙ told .enum-told .given .1) (c .joined-figures .ensures ∙ ap (λ (j : Joined). joinedFigures j (total .intervals) (total .samples)) (c .before .joined-fins .ensures))
+    let v = told .before .before in
+    let s = v .before .before .before .args in
+    set-concluded (s .set) _ _ (s .total) (v .before .integrals .ensures) (sym (v .conclusion .ensures) ∙ told .enum-told .given .1)
+    (ap (λ (b : Body). figuresBy Accepted b (s .total))
+    (c .ring .ensures ∙ ap (λ (b : Body). joinedCopies b (s .set .«base_angle_rad») (s .set .count)) (c .before .fin .ensures)))
 
 returns-2 : tie.Need-returns-2
-unfolding concludedSet
 returns-2 c =
     let told = c .before .before in
-    rw (sym (told .before .before .verdict-of .ensures) ∙ told .verdict .given .1) (c .refused-figures .ensures)
+    let v = told .before .before in
+    let s = v .before .before .before .args in
+    set-concluded (s .set) _ _ (s .total) (v .before .integrals .ensures) (sym (v .conclusion .ensures) ∙ told .verdict .given .1)
+    (c .refused-figures .ensures)
 
 pub concluded-spec : {M : Type 1} → statement M
 concluded-spec =
     tie.close
     (tie.spec
-    verdict-of-requires
+    integrals-requires
+    array-read-conclusion
+    conclusion-requires
     enum-told
-    joined-fins-requires
-    joined-figures-requires
+    fin-requires
+    ring-requires
     enum-known-verdict
     refused-figures-requires
     returns

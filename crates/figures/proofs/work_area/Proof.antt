@@ -10,12 +10,9 @@ use Rattle.figures.proofs.work_area.Tie as tie
 area-integrand-requires : tie.Need-area-integrand-requires
 area-integrand-requires c κs = search needs
 
-scale-m-requires : tie.Need-scale-m-requires
-scale-m-requires c κs = search needs
-
 work-strips-requires : tie.Need-work-strips-requires
 work-strips-requires c κs =
-    let s = c .before .before .before .before .before in
+    let s = c .before .before .before .before in
     area-run (s .args .planform) (s .args .points .now) (s .args .limit) _ (s .pre)
 
 concluded-area-requires : tie.Need-concluded-area-requires
@@ -27,22 +24,21 @@ same-length c = search needs
 returns : tie.Need-returns
 returns c =
     let i = c .before .before .before in
-    let scaled = i .before .before in
-    let known = scaled .before .before .before in
+    let area = i .before .before in
+    let known = area .before .before in
     let s = known .before in
     let a = s .args in
     let f64s = planform-f64 (a .planform) _ _ (s .good .0) (known .shared-slice-known .given) in
     let run = run-of _ (a .points .now) (a .limit) (a .scratch .now) _ _
-    (area-strips (a .planform) (a .points .now) (a .limit) _ (scaled .before .area-integrand .ensures) ∙ area-at-three (a .planform) (a .points .now) (a .limit) _ f64s (s .pre))
+    (area-strips (a .planform) (a .points .now) (a .limit) _ (area .area-integrand .ensures) ∙ area-at-three (a .planform) (a .points .now) (a .limit) _ f64s (s .pre))
     (i .work-strips .ensures) in
-    (c .concluded-area .ensures ∙ rw (scaled .scale-m .ensures, run .0), run .1)
+    (c .concluded-area .ensures ∙ rw (area .area-integrand .ensures, run .0), run .1)
 
 pub work-area-spec : {M : Type 1} → statement M
 work-area-spec =
     tie.close
     (tie.spec
     area-integrand-requires
-    scale-m-requires
     work-strips-requires
     concluded-area-requires
     same-length

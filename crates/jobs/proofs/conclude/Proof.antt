@@ -1,9 +1,25 @@
--- `jobs::conclude` meets its contract: its calls in a row. Assumes nothing.
-use mathlib.Core.Path.{_∙_}
+-- `jobs::conclude` meets its contract: each arm knows what the two checks gave. Assumes nothing.
+use mathlib.Core.Path.{sym, ap₂, _∙_}
 use borrow.Author.Needs.{needs}
+use Rattle.refusals.specs.Order.{firstRefusal}
+use Rattle.refusals.proofs.Accepted.{both}
+use Rattle.limits.proofs.Accepted.{count-within}
 use Rattle.jobs.specs.Jobs.{outcomeOf}
+use Rattle.jobs.proofs.Laws.{given, withheld}
 use Rattle.jobs.proofs.conclude.Statement.{statement}
 use Rattle.jobs.proofs.conclude.Tie as tie
+
+check-count-requires : tie.Need-check-count-requires
+check-count-requires c κs = search needs
+
+check-density-requires : tie.Need-check-density-requires
+check-density-requires c κs = search needs
+
+first-refusal-requires : tie.Need-first-refusal-requires
+first-refusal-requires c κs = search needs
+
+enum-told : tie.Need-enum-told
+enum-told c = search needs
 
 scale-m-requires : tie.Need-scale-m-requires
 scale-m-requires c κs = search needs
@@ -12,19 +28,47 @@ root-chord-m-requires : tie.Need-root-chord-m-requires
 root-chord-m-requires c κs = search needs
 
 concluded-requires : tie.Need-concluded-requires
-concluded-requires c κs = search needs
+concluded-requires c κs =
+    let told = c .before .before in
+    let first = told .before .before in
+    count-within _ (sym (first .before .before .check-count .ensures) ∙ both _ _ (sym (first .first-refusal .ensures) ∙ told .enum-told .given .1) .0) .1
+
+enum-known-verdict : tie.Need-enum-known-verdict
+enum-known-verdict c = search needs
+
+refused-figures-requires : tie.Need-refused-figures-requires
+refused-figures-requires c κs = search needs
 
 returns : tie.Need-returns
 unfolding outcomeOf
 returns c =
     let root = c .before in
-    c .concluded .ensures ∙ rw (root .root-chord-m .ensures, root .before .scale-m .ensures)
+    let told = root .before .before in
+    let first = told .before .before in
+    let checked = first .first-refusal .ensures ∙ ap₂ firstRefusal (first .before .before .check-count .ensures) (first .before .check-density .ensures) in
+    c .concluded .ensures
+    ∙ rw (root .root-chord-m .ensures, root .before .scale-m .ensures) (sym (given _ _ (sym checked ∙ told .enum-told .given .1)))
+
+returns-2 : tie.Need-returns-2
+unfolding outcomeOf
+returns-2 c =
+    let told = c .before .before in
+    let first = told .before .before in
+    let checked = first .first-refusal .ensures ∙ ap₂ firstRefusal (first .before .before .check-count .ensures) (first .before .check-density .ensures) in
+    c .refused-figures .ensures ∙ sym (withheld _ _ _ (sym checked ∙ told .verdict .given .1))
 
 pub conclude-spec : {M : Type 1} → statement M
 conclude-spec =
     tie.close
     (tie.spec
+    check-count-requires
+    check-density-requires
+    first-refusal-requires
+    enum-told
     scale-m-requires
     root-chord-m-requires
     concluded-requires
-    returns)
+    enum-known-verdict
+    refused-figures-requires
+    returns
+    returns-2)

@@ -1,17 +1,65 @@
--- `tubes::mass_properties` meets its contract: one tube, and the ring of it. Assumes nothing.
+-- `tubes::mass_properties` meets its contract: each arm knows what the checks gave, and a count that they accept is at most 32. Assumes nothing.
 use borrow.Author.Needs.{needs}
+use mathlib.Core.Path.{sym, ap, _∙_}
+use Rattle.bodies.specs.declared.Body.{Body}
+use Rattle.refusals.proofs.Accepted.{both}
 use Rattle.refusals.proofs.Given.{is-answer}
+use Rattle.limits.proofs.Accepted.{count-within}
+use Rattle.joins.specs.Joins.{acceptedBody}
+use Rattle.joins.proofs.JoinLaws.{by-verdict}
+use Rattle.rings.specs.Rings.{joinedCopies}
+use Rattle.tubes.specs.Tubes.{tubeCheck}
 use Rattle.tubes.proofs.mass_properties.Statement.{statement}
 use Rattle.tubes.proofs.mass_properties.Tie as tie
 
-one-tube-requires : tie.Need-one-tube-requires
-one-tube-requires c κs = search needs
+check-tubes-requires : tie.Need-check-tubes-requires
+check-tubes-requires c κs = search needs
+
+enum-told : tie.Need-enum-told
+enum-told c = search needs
+
+tube-at-requires : tie.Need-tube-at-requires
+tube-at-requires c κs = search needs
 
 ring-requires : tie.Need-ring-requires
-ring-requires c κs = search needs
+unfolding tubeCheck
+ring-requires c κs =
+    let told = c .before in
+    count-within _ (both _ _ (sym (told .before .before .check-tubes .ensures .is) ∙ told .enum-told .given .1) .0) .1
+
+accepted-requires : tie.Need-accepted-requires
+accepted-requires c κs = search needs
+
+enum-known-verdict : tie.Need-enum-known-verdict
+enum-known-verdict c = search needs
+
+refused-requires : tie.Need-refused-requires
+refused-requires c κs = search needs
 
 returns : tie.Need-returns
-returns c = is-answer (rw (c .ring .ensures .is, c .before .one-tube .ensures))
+returns c =
+    let tube = c .before .before in
+    let told = tube .before in
+    let set = told .before .before .before .args .set in
+    is-answer (by-verdict _ (told .before .before .check-tubes .ensures .is) (told .enum-told .given .1)
+    (c .accepted .ensures
+    ∙ ap acceptedBody (c .before .ring .ensures ∙ ap (λ (b : Body). joinedCopies b (set .«base_angle_rad») (set .count)) (tube .tube-at .ensures))))
+
+returns-2 : tie.Need-returns-2
+returns-2 c =
+    let told = c .before .before in
+    is-answer (by-verdict _ (told .before .before .check-tubes .ensures .is) (told .verdict .given .1) (c .refused .ensures))
 
 pub mass-properties-spec : {M : Type 1} → statement M
-mass-properties-spec = tie.close (tie.spec one-tube-requires ring-requires returns)
+mass-properties-spec =
+    tie.close
+    (tie.spec
+    check-tubes-requires
+    enum-told
+    tube-at-requires
+    ring-requires
+    accepted-requires
+    enum-known-verdict
+    refused-requires
+    returns
+    returns-2)
