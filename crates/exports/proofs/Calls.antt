@@ -22,7 +22,7 @@ use Rattle.drill.specs.declared.Answer.{Answer}
 use Rattle.drill.specs.Drill.{verdictOf, placeNumber, nearestOf}
 use Rattle.planforms.specs.declared.NumberedPlanform.{NumberedPlanform}
 use Rattle.fins.specs.declared.NumberedSet.{NumberedSet}
-use Rattle.requests.specs.Calls.{numberedCall, numberedArea, numberedChords, numberedEnds, numberedDrill, tensorMoments, bodyVerdict}
+use Rattle.requests.specs.Calls.{numberedCall, numberedArea, numberedChords, numberedDrill, tensorMoments, bodyVerdict}
 use Rattle.foreign_numbers.specs.Numbers.{numberIn, over, withValues, withCounts, room, figureCounts}
 use Rattle.exports.specs.Calls.{SetCall, areaNumbers, areaCounts, AreaCall, chordCounts, ChordsCall, DrillCall, BodyCall, ClosingCall, JoinCall, momentsNumbers, MomentsCall, CheckCall}
 use Rattle.foreign_numbers.proofs.Rooms.{has-room, few-figures, few-counts}
@@ -78,15 +78,14 @@ module _ {planform : NumberedPlanform} {points : List Float} {h : Float} {ends :
   chords-refused short = let none = short .none in record { returned = rw none; listed = rw none; counted = rw none }
 
   pub chords-written : 64 ≤ length ends → 3 ≤ length counts → {read : NumberedPlanform} {l : ChordList} {r : ℕ} {ends' : List Float} {counts' : List ℕ} →
-      read ≡ planform → l ≡ numberedChords read points h (length ends) → ends' ≡ numberedEnds read points h ends →
-      counts' ≡ chordCounts l counts → r ≡ numberIn (l .verdict) →
+      read ≡ planform → Does (numberedChords read points h) l ends ends' → counts' ≡ chordCounts l counts → r ≡ numberIn (l .verdict) →
       ChordsCall planform points h ends counts r ends' counts'
-  chords-written k j same e s c n =
+  chords-written k j same d c n =
       let fits = has-room 64 ends 3 counts k j in
       record {
-        returned = rw (fits, ← same, ← e) n;
-        listed = rw (fits, ← same) s;
-        counted = rw (fits, ← same, ← e) c;
+        returned = rw (fits, ← same, ← d .0) n;
+        listed = rw (fits, ← same) (d .1);
+        counted = rw (fits, ← same, ← d .0) c;
       }
 
 module _ {planform : NumberedPlanform} {points : List Float} {x height : Float} {counts : List ℕ} where

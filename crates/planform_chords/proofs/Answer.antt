@@ -1,24 +1,23 @@
--- The list and the count by how the call ends: no room, a refusal of the planform, or its chords. Assumes nothing.
+-- The list and the count by how the call ends: a refusal of the planform, or its chords. Assumes nothing.
 use mathlib.Core.Path.{_≡_, refl, sym, ap, _∙_}
 use mathlib.Core.List.{List, [], _∷_}
-use Prim.Native.Nat.{ℕ, _*_, _/_, _≤_, _<_}
+use Prim.Native.Nat.{ℕ, _*_, _/_, _≤_}
 use native.Mathlib.Omega.{arith}
-use borrow.Author.Tests.{le-leb, lt-leb}
 use lib.ListN.{length, take, set}
 use lib.Seq.{take-take}
 use lib.Ieee.{Float}
 use Rattle.sorting.specs.Sorted.{over, Written}
 use Rattle.sorting.proofs.Over.{written-take, written-nothing, written-put}
 use Rattle.refusals.proofs.Given.{is-answer}
-use Rattle.refusals.specs.declared.Refusal.{Refusal}
-use Rattle.refusals.specs.declared.Refusal.the-variants.{NoForm}
-use Rattle.refusals.specs.declared.Verdict.the-variants.{Accepted, Refused}
+use Rattle.refusals.specs.declared.Verdict.{Verdict}
+use Rattle.refusals.specs.declared.Verdict.the-variants.{Accepted}
+use Rattle.refusals.specs.Calls.{Does}
 use Rattle.planforms.specs.declared.Planform.{Planform}
 use Rattle.fins.specs.Fins.{planformCheck}
 use Rattle.chords.specs.declared.Chords.{Chords}
 use Rattle.chords.specs.Chords.{paired, chordsAt, endsOf}
 use Rattle.planform_chords.specs.declared.ChordList.{ChordList}
-use Rattle.planform_chords.specs.PlanformChords.{endsIn, Listed, verdictOf, chordList, IsChordList, endsAfter}
+use Rattle.planform_chords.specs.PlanformChords.{endsIn, Listed, chordsBy, chordsCall, IsChordList}
 use Rattle.planform_chords.proofs.Pairs.{pairs-count, pairs-ends}
 
 -- ---- the chords written
@@ -42,19 +41,15 @@ several-listed l xs₀ xs s t n w e =
 
 module _ (planform : Planform) (points : List Float) (h : Float) (ends ends' : List Float) (r : ChordList) where
   abbrev pub Answered : Type 0
-  Answered = IsChordList r (chordList planform points h (length ends)) × (ends' ≡ endsAfter planform points h ends)
+  Answered = IsChordList r (chordsCall planform points h .answer) × (ends' ≡ chordsCall planform points h .leaves ends)
 
-  pub no-room : length ends < 64 → ends' ≡ ends → r ≡ record { verdict = Refused NoForm; count = 0 } → Answered
-  unfolding chordList endsAfter verdictOf
-  no-room b e f = let t = lt-leb 64 (length ends) b in (is-answer (rw t f), rw t e)
+  pub answered-so : (verdict : Verdict) → planformCheck planform points ≡ verdict → Does (chordsBy verdict planform points h) r ends ends' → Answered
+  unfolding chordsCall
+  answered-so verdict v d =
+      (is-answer (d .0 ∙ ap (λ (v : Verdict). chordsBy v planform points h .answer) (sym v)), d .1 ∙ ap (λ (v : Verdict). chordsBy v planform points h .leaves ends) (sym v))
 
-  pub refused-so : 64 ≤ length ends → (refusal : Refusal) → planformCheck planform points ≡ Refused refusal → ends' ≡ ends → r ≡ record { verdict = Refused refusal; count = 0 } → Answered
-  unfolding chordList endsAfter verdictOf
-  refused-so b refusal v e f = let t = le-leb 64 (length ends) b in (is-answer (rw (t, v) f), rw (t, v) e)
-
-  pub listed-so : 64 ≤ length ends → planformCheck planform points ≡ Accepted → (found : Chords) (count : ℕ) → paired (endsOf found points h) ≡ chordsAt planform points h
+  pub listed-so : planformCheck planform points ≡ Accepted → (found : Chords) (count : ℕ) → paired (endsOf found points h) ≡ chordsAt planform points h
       → Listed (paired (endsOf found points h)) ends ends' count → r ≡ record { verdict = Accepted; count = count } → Answered
-  unfolding chordList endsAfter verdictOf
-  listed-so b v found count all w f =
-      let t = le-leb 64 (length ends) b in
-      (is-answer (rw (t, v) (f ∙ ap (λ (n : ℕ). record { verdict = Accepted; count = n }) (w .count ∙ ap length all))), rw (t, v) (w .list ∙ ap (λ (l : List (Float × Float)). over (endsIn l) ends) all))
+  listed-so v found count all w f =
+      answered-so Accepted v
+      (f ∙ ap (λ (n : ℕ). record { verdict = Accepted; count = n }) (w .count ∙ ap length all), w .list ∙ ap (λ (l : List (Float × Float)). over (endsIn l) ends) all)

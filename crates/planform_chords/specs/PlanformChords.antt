@@ -1,16 +1,14 @@
 -- The chords of a planform at a height, listed for the outline view (document 02, Paper 1).
 use mathlib.Core.Path.{_≡_}
-use mathlib.Core.Bool.{cond}
 use mathlib.Core.List.{List, [], _∷_}
 use Prim.Native.Nat.{ℕ}
-use lib.Dec.{leb}
 use lib.ListN.{length}
 use lib.Ieee.{Float}
 use Rattle.sorting.specs.Sorted.{over}
-use Rattle.refusals.specs.declared.Refusal.the-variants.{NoForm}
 use Rattle.refusals.specs.declared.Verdict.{Verdict}
 use Rattle.refusals.specs.declared.Verdict.the-variants.{Accepted, Refused}
 use Rattle.refusals.specs.Given.{IsAnswer}
+use Rattle.refusals.specs.Calls.{CallOf, leavesAlone, byVerdict}
 use Rattle.planforms.specs.declared.Planform.{Planform}
 use Rattle.fins.specs.Fins.{planformCheck}
 use Rattle.chords.specs.Chords.{chordsAt}
@@ -26,27 +24,20 @@ pub record Listed (chords : List (Float × Float)) (s t : List Float) (n : ℕ) 
   pub count : n ≡ length chords
   pub list : t ≡ over (endsIn chords) s
 
--- the planform's refusals, as for an area; before them 18, where the list lent has no room for the ends of 32 chords: an outline of 64 points
--- has no more
-unfoldable pub verdictOf : Planform → List Float → ℕ → Verdict
-verdictOf planform points room = cond (leb 64 room) (planformCheck planform points) (Refused NoForm)
+-- by what the planform's check gave: how many chords are listed, over the start of the list that is lent; none with a refusal
+abbrev pub chordsBy : Verdict → Planform → List Float → Float → CallOf ChordList
+chordsBy verdict planform points h =
+    byVerdict verdict
+    (record {
+      answer = record { verdict = Accepted; count = length (chordsAt planform points h) };
+      leaves = over (endsIn (chordsAt planform points h));
+    })
+    (λ refusal. leavesAlone (record { verdict = Refused refusal; count = 0 }))
 
--- how many chords are listed, over the room of the list
-abbrev pub countChecked : Verdict → Planform → List Float → Float → ChordList
-countChecked Accepted planform points h = record { verdict = Accepted; count = length (chordsAt planform points h) }
-countChecked (Refused refusal) planform points h = record { verdict = Refused refusal; count = 0 }
-
-unfoldable pub chordList : Planform → List Float → Float → ℕ → ChordList
-chordList planform points h room = countChecked (verdictOf planform points room) planform points h
+-- the planform's refusals are those of an area
+unfoldable pub chordsCall : Planform → List Float → Float → CallOf ChordList
+chordsCall planform points h = chordsBy (planformCheck planform points) planform points h
 
 -- a call's answer is the definition's, with the number and values of its verdict
 abbrev pub IsChordList : ChordList → ChordList → Type 0
 IsChordList r definition = IsAnswer (λ (l : ChordList). l .verdict) r definition
-
--- the list after the call
-abbrev pub endsChecked : Verdict → Planform → List Float → Float → List Float → List Float
-endsChecked Accepted planform points h ends = over (endsIn (chordsAt planform points h)) ends
-endsChecked (Refused refusal) planform points h ends = ends
-
-unfoldable pub endsAfter : Planform → List Float → Float → List Float → List Float
-endsAfter planform points h ends = endsChecked (verdictOf planform points (length ends)) planform points h ends

@@ -5,7 +5,7 @@ ghost use Prim.Native.Nat.{_≤_};
 ghost use lib.ListN.{length, take};
 ghost use Rattle.sorting.specs.Sorted.{over};
 ghost use Rattle.chords.specs.Chords.{outlineCrossings, endsOf, paired, chordsAt};
-ghost use Rattle.planform_chords.specs.PlanformChords.{Listed, chordList, IsChordList, endsAfter};
+ghost use Rattle.planform_chords.specs.PlanformChords.{Listed, chordsCall, IsChordList};
 use chords::Chords;
 use planforms::Planform;
 use refusals::Refusal;
@@ -20,14 +20,12 @@ pub struct ChordList {
     pub count: usize,
 }
 
-// A list without room for 64 numbers is refused as no form (18). Where nothing is listed, the list is left alone.
+// Where nothing is listed, the list is left alone. One without room for 64 numbers is the caller's to refuse.
 pub fn chords_at(planform: Planform, points: &[f64], h: f64, ends: &mut [f64]) -> ChordList
-    ensures { λ r. ⌜ IsChordList r (chordList planform (now (points .entry)) h (length (now (ends .entry)))) ⌝ }
-    ensures { λ _. ⌜ now (ends .exit) ≡ endsAfter planform (now (points .entry)) h (now (ends .entry)) ⌝ }
+    requires { ⌜ 64 ≤ length (now ends) ⌝ }
+    ensures { λ r. ⌜ IsChordList r (chordsCall planform (now (points .entry)) h .answer) ⌝ }
+    ensures { λ _. ⌜ now (ends .exit) ≡ chordsCall planform (now (points .entry)) h .leaves (now (ends .entry)) ⌝ }
 {
-    if ends.len() < ROOM {
-        return refused(Refusal::NoForm);
-    }
     let verdict = fins::check_planform(planform, points);
     match verdict {
         Verdict::Accepted => listed(write_chords(

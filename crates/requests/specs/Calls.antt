@@ -14,7 +14,7 @@ use Rattle.refusals.specs.Calls.{CallOf, leavesAlone}
 use Rattle.planforms.specs.declared.NumberedPlanform.{NumberedPlanform}
 use Rattle.planforms.specs.declared.NumberedPlanform.the-variants.{Known as planformKnown, Unknown as noPlanform}
 use Rattle.planform_chords.specs.declared.ChordList.{ChordList}
-use Rattle.planform_chords.specs.PlanformChords.{chordList, endsAfter}
+use Rattle.planform_chords.specs.PlanformChords.{chordsCall}
 use Rattle.drill.specs.declared.Answer.{Answer}
 use Rattle.drill.specs.declared.Answer.the-variants.{Refused as refusedPoint}
 use Rattle.drill.specs.Drill.{drillOf}
@@ -81,13 +81,9 @@ numberedArea noPlanform points L scratchLength = leavesAlone (refusedArea NoForm
 
 -- ---- a planform's chords at a height, and the list that they are written over (document 02, Paper 1)
 
-unfoldable pub numberedChords : NumberedPlanform → List Float → Float → ℕ → ChordList
-numberedChords (planformKnown planform) points h listLength = chordList planform points h listLength
-numberedChords noPlanform points h listLength = record { verdict = Refused NoForm; count = 0 }
-
-unfoldable pub numberedEnds : NumberedPlanform → List Float → Float → List Float → List Float
-numberedEnds (planformKnown planform) points h ends = endsAfter planform points h ends
-numberedEnds noPlanform points h ends = ends
+unfoldable pub numberedChords : NumberedPlanform → List Float → Float → CallOf ChordList
+numberedChords (planformKnown planform) points h = chordsCall planform points h
+numberedChords noPlanform points h = leavesAlone (record { verdict = Refused NoForm; count = 0 })
 
 -- ---- where a point lies beside a planform (document 02, Paper 11)
 

@@ -15,7 +15,7 @@ ghost use Rattle.figures.specs.Figures.{refusedFigures};
 ghost use Rattle.figures.specs.Areas.{refusedArea};
 ghost use Rattle.lent_engines.specs.Memory.{engineIn};
 ghost use Rattle.lent_engines.specs.Lent.{Room, lists, submitCalls, changeCalls};
-ghost use Rattle.requests.specs.Calls.{CallsEngine, numberedCall, numberedSubmit, numberedChange, numberedArea, numberedChords, numberedEnds, numberedDrill, ringBy, copiedBy, placedBy, movedBy, withoutBy, pointBodyAt, joinedPointsOf, tensorMoments, bodyVerdict};
+ghost use Rattle.requests.specs.Calls.{CallsEngine, numberedCall, numberedSubmit, numberedChange, numberedArea, numberedChords, numberedDrill, ringBy, copiedBy, placedBy, movedBy, withoutBy, pointBodyAt, joinedPointsOf, tensorMoments, bodyVerdict};
 ghost use Rattle.requests.specs.Requests.{number, between, setRequestOf, askedSubmit, askedChange, askedSubmitCalls, askedChangeCalls, areaRequestOf, askedRing, askedClosing, askedDrill, askedCopied, askedPlaced, askedMoved, askedWithout, askedSet, askedArea};
 use bodies::BODY_NUMBERS;
 use bodies::Body;
@@ -257,8 +257,8 @@ pub fn listed_chords(
     h: f64,
     ends: &mut [f64],
 ) -> ChordList
-    ensures { λ r. ⌜ (r ≡ numberedChords planform (now (points .entry)) h (length (now (ends .entry))))
-        × (now (ends .exit) ≡ numberedEnds planform (now (points .entry)) h (now (ends .entry))) ⌝ }
+    requires { ⌜ 64 ≤ length (now ends) ⌝ }
+    ensures { λ r. ⌜ Does (numberedChords planform (now (points .entry)) h) r (now (ends .entry)) (now (ends .exit)) ⌝ }
 {
     match planform {
         NumberedPlanform::Known(planform) => planform_chords::chords_at(planform, points, h, ends),

@@ -16,7 +16,7 @@ use Rattle.chords.specs.Chords.{crossed, crossings, outlineCrossings, endsAt, p
 use Rattle.limits.specs.Limits.{lengthWithin, lengthCheck}
 use Rattle.refusals.specs.Order.{firstRefusal, firstFrom}
 use Rattle.fins.specs.Fins.{planformCheck}
-use Rattle.planform_chords.specs.PlanformChords.{endsIn, verdictOf, chordList, endsAfter}
+use Rattle.planform_chords.specs.PlanformChords.{endsIn, chordsCall}
 use Rattle.segments.specs.declared.Point.{Point}
 use Rattle.segments.specs.declared.Segment.{Segment}
 use Rattle.segments.specs.Segments.{isInBox, segmentsTouch}
@@ -101,12 +101,17 @@ outline-crossings =
     && are (endsAt Outline teeth (bits d3)) []
     && eqb (length (chordsAt Outline teeth (bits d2))) 2
 
--- the outline view lists start, then end, of each chord, over the list that is lent
+-- one that is refused, of root chord 0
+abbrev rootless : Planform
+rootless = Trapezoid (bits 0) (bits d2) (bits d3) (bits d1)
+
+-- the outline view lists start, then end, of each chord, over the list that is lent; of a planform that is refused none
 abbrev pub chords-listed : Bool
 chords-listed =
-    are (endsAfter plate [] (bits 0) (tabulate 64 (λ i. bits i))) (0 ∷ d4 ∷ toBitsFrom 2 62)
-    && eqb (chordList plate [] (bits 0) 64 .count) 1
-    && eqb (chordList plate [] (bits 0) 63 .count) 0
+    are (chordsCall plate [] (bits 0) .leaves (tabulate 64 (λ i. bits i))) (0 ∷ d4 ∷ toBitsFrom 2 62)
+    && eqb (chordsCall plate [] (bits 0) .answer .count) 1
+    && eqb (chordsCall rootless [] (bits 0) .answer .count) 0
+    && are (chordsCall rootless [] (bits 0) .leaves (map bits (d1 ∷ d2 ∷ []))) (d1 ∷ d2 ∷ [])
 
 abbrev point : ℕ → ℕ → Point
 point x y = record { x = bits x; y = bits y }
@@ -153,5 +158,5 @@ plate-values =
     (0x3f8a_1f58_d0fa_c68a ∷ 0x3f70_cb02_3d33_7fa2 ∷ 0x3f55_974c_058b_5af6 ∷ 0x3f6d_daae_a5b0_e2e7 ∷ 0x3f54_de2b_4dee_d67a ∷ 0x3f53_3127_215f_6d4c ∷ 0x3ec0_608e_9e2f_4c33 ∷ [])
 
 pub shapes-hold : T (sorted-lists && outline-lengths && break-heights && outline-crossings && chords-listed && touching-segments && section-moments && area-values && plate-values)
-unfolding ofBits toBits ofInt round add sub mul div neg lt le eq ne absOf belowAll insert sorted largestHeight rootChordOf spanOf heights everyY once breakHeights oneStrip crossed crossings outlineCrossings endsAt paired isInBox segmentsTouch airfoilConstants chordMoments lengthWithin lengthCheck firstRefusal firstFrom planformCheck endsIn verdictOf chordList endsAfter scaleOf sumsFrom sampleOf areaThree plateOf
+unfolding ofBits toBits ofInt round add sub mul div neg lt le eq ne absOf belowAll insert sorted largestHeight rootChordOf spanOf heights everyY once breakHeights oneStrip crossed crossings outlineCrossings endsAt paired isInBox segmentsTouch airfoilConstants chordMoments lengthWithin lengthCheck firstRefusal firstFrom planformCheck endsIn chordsCall scaleOf sumsFrom sampleOf areaThree plateOf
 shapes-hold = tt

@@ -1,6 +1,7 @@
 -- `requests::listed_chords` meets its contract: each arm knows its case. Assumes nothing.
+use mathlib.Core.Path.{refl}
 use borrow.Author.Needs.{needs}
-use Rattle.requests.specs.Calls.{numberedChords, numberedEnds}
+use Rattle.requests.specs.Calls.{numberedChords}
 use Rattle.requests.proofs.listed_chords.Statement.{statement}
 use Rattle.requests.proofs.listed_chords.Tie as tie
 
@@ -20,17 +21,17 @@ same-length : tie.Need-same-length
 same-length c = search needs
 
 returns : tie.Need-returns
-unfolding numberedChords numberedEnds
+unfolding numberedChords
 returns c =
     let w = c .before .before in
     let told = w .before .before .before .planform .given .1 in
-    (rw told (w .chords-at .ensures .0 .is), rw told (w .chords-at .ensures .1))
+    rw told (w .chords-at .ensures .0 .is, w .chords-at .ensures .1)
 
 returns-2 : tie.Need-returns-2
-unfolding numberedChords numberedEnds
+unfolding numberedChords
 returns-2 c =
     let told = c .before .enum-told .given .1 in
-    (rw told (c .no-chords .ensures), rw told)
+    rw told (c .no-chords .ensures, refl)
 
 pub listed-chords-spec : {M : Type 1} → statement M
 listed-chords-spec =
