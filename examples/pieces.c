@@ -30,8 +30,7 @@ int main(void) {
     memset(&set, 0, sizeof set);
     set.count = 3;
     set.planform = DELVOUZH_ELLIPSE;
-    set.lengths = ellipse;
-    set.lengths_len = 2;
+    memcpy(set.lengths, ellipse, sizeof ellipse);
     set.section = DELVOUZH_ROUNDED;
     set.thickness_m = 0.003;
     set.body_radius_m = 0.05;

@@ -21,8 +21,8 @@
  * 11 body radius, 12 cant, 13 base angle, 14 tube length, 15 outer radius, 16 fillet radius,
  * 17 drill x, 18 drill height, 19 offset, 20 roll. Edges and components are counted from 0.
  *
- * 18 is an unknown number of a planform, section, tab, fillet or density, or another count of numbers than it asks for, with two exceptions:
- * an outline's numbers that are not 3 to 64 whole pairs are 5, and a join's that are not 1 to 32 whole bodies, or
+ * 18 is an unknown number of a planform, section, tab, fillet or density, or another count of numbers than a call asks for, with two exceptions:
+ * an outline's points that are not 3 to 64 whole pairs are 5, and a join's that are not 1 to 32 whole bodies, or
  * offsets and places that are not 1 to 32 whole ones, are 3. An array that is
  * too short for what is written over it is 18 too, and then nothing at all is written.
  *
@@ -47,10 +47,11 @@
 extern "C" {
 #endif
 
-/* A planform, and the numbers that `lengths` holds. */
-#define DELVOUZH_TRAPEZOID 1 /* 4: root chord, tip chord, span, sweep */
-#define DELVOUZH_ELLIPSE 2   /* 2: root chord, span */
-#define DELVOUZH_OUTLINE 3   /* x, y of each point; y is the height above the root */
+/* A planform: its number, DELVOUZH_LENGTHS lengths, of which it reads its own, and `points`, which only an outline reads. */
+#define DELVOUZH_TRAPEZOID 1 /* root chord, tip chord, span, sweep */
+#define DELVOUZH_ELLIPSE 2   /* root chord, span */
+#define DELVOUZH_OUTLINE 3   /* no lengths; `points`: x, y of each point; y is the height above the root */
+#define DELVOUZH_LENGTHS 4
 
 #define DELVOUZH_SQUARE 1
 #define DELVOUZH_ROUNDED 2
@@ -60,12 +61,18 @@ extern "C" {
 #define DELVOUZH_NO_TAB 0
 #define DELVOUZH_TAB 1
 
-/* A fillet has its density's number, and `glue` two numbers: radius, density; none has 0, and none. */
+/* A fillet has its density's number, or this one where there is none. */
 #define DELVOUZH_NO_FILLET 0
 
 #define DELVOUZH_BULK 1
 #define DELVOUZH_SURFACE 2
 #define DELVOUZH_LINE 3
+
+/* A set is two arrays: delvouzh_set_lists below fills them from a struct. `set_numbers`: the planform's DELVOUZH_LENGTHS lengths; thickness,
+ * cant, base angle, body radius, density; the tab's height, length and offset; the fillet's radius and density. `set_counts`: how many fins, then
+ * the numbers of planform, section, tab, density and fillet. What a planform, a tab or a fillet does not have is not read. */
+#define DELVOUZH_SET_NUMBERS 14
+#define DELVOUZH_SET_COUNTS 6
 
 /* Where a point lies. */
 #define DELVOUZH_INSIDE 1
@@ -107,18 +114,16 @@ extern "C" {
 
 /* ---- libexports.a: calls on numbers alone */
 
-/* A set's figures. `figures`: thickness, cant, base angle, body radius, density; with a tab also its height, length and offset. `glue`: of a
- * fillet its radius and density.
- * Writes a body, and as counts two values of a refusal, the intervals and the samples. `scratch` has at least 16 * limit numbers; the
- * pieces of the strips are left in it, 16 numbers each from its start, and the rest of it is as it was. */
-size_t delvouzh_mass_properties(size_t limit, size_t count, size_t planform, const double *lengths, size_t lengths_len,
-                                size_t section, size_t tab, size_t density, const double *figures, size_t figures_len,
-                                size_t fillet, const double *glue, size_t glue_len, double *scratch, size_t scratch_len,
+/* A set's figures. Writes a body, and as counts two values of a refusal, the intervals and the samples. `scratch` has at least 16 * limit
+ * numbers; the pieces of the strips are left in it, 16 numbers each from its start, and the rest of it is as it was. */
+size_t delvouzh_mass_properties(size_t limit, const double *set_numbers, size_t set_numbers_len, const size_t *set_counts,
+                                size_t set_counts_len, const double *points, size_t points_len, double *scratch, size_t scratch_len,
                                 double *body, size_t body_len, size_t *counts, size_t counts_len);
 
 /* A planform's area and its centroid, x, then height. Counts and scratch as above. */
-size_t delvouzh_geometry(size_t limit, size_t planform, const double *lengths, size_t lengths_len, double *scratch,
-                         size_t scratch_len, double *area, size_t area_len, size_t *counts, size_t counts_len);
+size_t delvouzh_geometry(size_t limit, size_t planform, const double *lengths, size_t lengths_len, const double *points,
+                         size_t points_len, double *scratch, size_t scratch_len, double *area, size_t area_len, size_t *counts,
+                         size_t counts_len);
 
 /* DELVOUZH_MOST_SAMPLES: no call of the two above reports more samples, with figures or refused. */
 size_t delvouzh_most_samples(void);
@@ -127,14 +132,14 @@ size_t delvouzh_most_samples(void);
  * chord over `ends`, which has room for DELVOUZH_CHORDS numbers, and leaves the rest of it, and with a refusal all of it, as it was; as
  * counts two values of a refusal, and how many chords there are. At the span, or a few last bits below it, a trapezoid's chord may end before
  * it starts, by the rounding of its ends: root 0.273, tip 0 and sweep 0.225 give 0.225 and 0.22499999999999998 there. */
-size_t delvouzh_chords_at(size_t planform, const double *lengths, size_t lengths_len, double height_m, double *ends,
-                          size_t ends_len, size_t *counts, size_t counts_len);
+size_t delvouzh_chords_at(size_t planform, const double *lengths, size_t lengths_len, const double *points, size_t points_len,
+                          double height_m, double *ends, size_t ends_len, size_t *counts, size_t counts_len);
 
 /* Where a point lies beside a trapezoid or an outline, exactly in steps of 2^-20 m, and the nearest corner. Corners, counted from 0: an outline's
  * points, or (0, 0), (sweep, span), (sweep + tip chord, span), (root chord, 0). Writes as counts two values of a refusal, the place, and
  * the nearest corner's position, the lowest of equally near ones; with a refusal the last two are 0. */
-size_t delvouzh_drill(size_t planform, const double *lengths, size_t lengths_len, double x_m, double height_m, size_t *counts,
-                      size_t counts_len);
+size_t delvouzh_drill(size_t planform, const double *lengths, size_t lengths_len, const double *points, size_t points_len, double x_m,
+                      double height_m, size_t *counts, size_t counts_len);
 
 /* A ring of tubes around a body, 1 to 32 of them. `figures`: length, outer radius, wall, which may be 0, base angle, body radius, density.
  * Writes a body, its origin on the axis at the tubes' forward end, and two values of a refusal. */
@@ -185,10 +190,9 @@ double delvouzh_sqrt(double x);
  *
  * Makes one, and runs every check of the set but 2. Returns 0 where the job is taken. A refused job has ended with its refusal, and every
  * step repeats that; but 18 makes none, and leaves the memory as it was. Writes two values of a refusal. */
-size_t delvouzh_job_make(size_t limit, size_t count, size_t planform, const double *lengths, size_t lengths_len, size_t section,
-                         size_t tab, size_t density, const double *figures, size_t figures_len, size_t fillet, const double *glue,
-                         size_t glue_len, double *job_numbers, size_t job_numbers_len, size_t *job_counts, size_t job_counts_len,
-                         size_t *values, size_t values_len);
+size_t delvouzh_job_make(size_t limit, const double *set_numbers, size_t set_numbers_len, const size_t *set_counts,
+                         size_t set_counts_len, const double *points, size_t points_len, double *job_numbers, size_t job_numbers_len,
+                         size_t *job_counts, size_t job_counts_len, size_t *values, size_t values_len);
 
 /* Works the job's next strip, and leaves its pieces in `scratch`, 16 numbers each from its start, the rest as it was. Returns DELVOUZH_MORE where
  * strips are still to come, and writes zeros; with the last strip, or one that is refused, what delvouzh_mass_properties does for the set with its
@@ -211,11 +215,10 @@ size_t delvouzh_engine_clear(size_t *engine_counts, size_t engine_counts_len);
 
 /* Submits a set to a screen, as delvouzh_job_make takes it. Returns 0 where its job is taken; 23 is a screen that is not 1 to 8 or already holds a
  * job, before anything else but 18. A refused submission changes nothing. Writes two values of a refusal. */
-size_t delvouzh_engine_submit(size_t screen, size_t limit, size_t count, size_t planform, const double *lengths,
-                              size_t lengths_len, size_t section, size_t tab, size_t density, const double *figures,
-                              size_t figures_len, size_t fillet, const double *glue, size_t glue_len, double *engine_numbers,
-                              size_t engine_numbers_len, size_t *engine_counts, size_t engine_counts_len, size_t *values,
-                              size_t values_len);
+size_t delvouzh_engine_submit(size_t screen, size_t limit, const double *set_numbers, size_t set_numbers_len,
+                              const size_t *set_counts, size_t set_counts_len, const double *points, size_t points_len,
+                              double *engine_numbers, size_t engine_numbers_len, size_t *engine_counts, size_t engine_counts_len,
+                              size_t *values, size_t values_len);
 
 /* Works one strip for the next screen with a job, in ascending order from the one after the last served, wrapping round. Returns what that job's
  * delvouzh_job_step would, and DELVOUZH_IDLE where no screen holds a job; a job that has ended frees its screen. A scratch under 1,024 numbers is 2, with
@@ -360,11 +363,12 @@ static inline const char *delvouzh_field_name(size_t field) {
     return 1 <= field && field <= sizeof names / sizeof *names ? names[field - 1] : "no field";
 }
 
-/* A set of fins. Zeros are no tab and no fillet; `lengths` is the planform's. */
+/* A set of fins. Zeros are no tab and no fillet; `lengths` are the planform's, `points` an outline's, `points_len` numbers. */
 struct delvouzh_set {
-    size_t count, planform;
-    const double *lengths;
-    size_t lengths_len, section;
+    size_t count, planform, section;
+    double lengths[DELVOUZH_LENGTHS];
+    const double *points;
+    size_t points_len;
     double thickness_m, cant_rad, base_angle_rad, body_radius_m;
     size_t density; /* DELVOUZH_BULK, .. */
     double density_figure;
@@ -374,51 +378,58 @@ struct delvouzh_set {
     double fillet_radius_m, fillet_density_figure;
 };
 
-/* The figures of a set as the calls take them: eight of the plate and its tab, then two of the fillet. */
-static inline void delvouzh_set_figures(const struct delvouzh_set *set, double figures[10]) {
-    figures[0] = set->thickness_m;
-    figures[1] = set->cant_rad;
-    figures[2] = set->base_angle_rad;
-    figures[3] = set->body_radius_m;
-    figures[4] = set->density_figure;
-    figures[5] = set->tab_height_m;
-    figures[6] = set->tab_length_m;
-    figures[7] = set->tab_offset_m;
-    figures[8] = set->fillet_radius_m;
-    figures[9] = set->fillet_density_figure;
+/* A set as the calls take it. */
+static inline void delvouzh_set_lists(const struct delvouzh_set *set, double numbers[DELVOUZH_SET_NUMBERS],
+                                      size_t counts[DELVOUZH_SET_COUNTS]) {
+    size_t i;
+    for (i = 0; i < DELVOUZH_LENGTHS; i++) numbers[i] = set->lengths[i];
+    numbers[4] = set->thickness_m;
+    numbers[5] = set->cant_rad;
+    numbers[6] = set->base_angle_rad;
+    numbers[7] = set->body_radius_m;
+    numbers[8] = set->density_figure;
+    numbers[9] = set->tab_height_m;
+    numbers[10] = set->tab_length_m;
+    numbers[11] = set->tab_offset_m;
+    numbers[12] = set->fillet_radius_m;
+    numbers[13] = set->fillet_density_figure;
+    counts[0] = set->count;
+    counts[1] = set->planform;
+    counts[2] = set->section;
+    counts[3] = set->tab;
+    counts[4] = set->density;
+    counts[5] = set->fillet;
 }
 
 /* delvouzh_mass_properties of a set: `body` has DELVOUZH_BODY numbers, `counts` DELVOUZH_COUNTS. */
 static inline size_t delvouzh_set_mass_properties(const struct delvouzh_set *set, size_t limit, double *scratch, size_t scratch_len,
                                                   double *body, size_t *counts) {
-    double figures[10];
-    delvouzh_set_figures(set, figures);
-    return delvouzh_mass_properties(limit, set->count, set->planform, set->lengths, set->lengths_len, set->section, set->tab,
-                                    set->density, figures, set->tab == DELVOUZH_NO_TAB ? 5 : 8, set->fillet, figures + 8,
-                                    set->fillet == DELVOUZH_NO_FILLET ? 0 : 2, scratch, scratch_len, body, DELVOUZH_BODY, counts,
-                                    DELVOUZH_COUNTS);
+    double set_numbers[DELVOUZH_SET_NUMBERS];
+    size_t set_counts[DELVOUZH_SET_COUNTS];
+    delvouzh_set_lists(set, set_numbers, set_counts);
+    return delvouzh_mass_properties(limit, set_numbers, DELVOUZH_SET_NUMBERS, set_counts, DELVOUZH_SET_COUNTS, set->points,
+                                    set->points_len, scratch, scratch_len, body, DELVOUZH_BODY, counts, DELVOUZH_COUNTS);
 }
 
 /* delvouzh_job_make of a set: `job_numbers` has DELVOUZH_JOB_NUMBERS numbers, `job_counts` DELVOUZH_JOB_COUNTS, `values` DELVOUZH_VALUES. */
 static inline size_t delvouzh_set_job_make(const struct delvouzh_set *set, size_t limit, double *job_numbers, size_t *job_counts,
                                            size_t *values) {
-    double figures[10];
-    delvouzh_set_figures(set, figures);
-    return delvouzh_job_make(limit, set->count, set->planform, set->lengths, set->lengths_len, set->section, set->tab, set->density,
-                             figures, set->tab == DELVOUZH_NO_TAB ? 5 : 8, set->fillet, figures + 8,
-                             set->fillet == DELVOUZH_NO_FILLET ? 0 : 2, job_numbers, DELVOUZH_JOB_NUMBERS, job_counts,
-                             DELVOUZH_JOB_COUNTS, values, DELVOUZH_VALUES);
+    double set_numbers[DELVOUZH_SET_NUMBERS];
+    size_t set_counts[DELVOUZH_SET_COUNTS];
+    delvouzh_set_lists(set, set_numbers, set_counts);
+    return delvouzh_job_make(limit, set_numbers, DELVOUZH_SET_NUMBERS, set_counts, DELVOUZH_SET_COUNTS, set->points, set->points_len,
+                             job_numbers, DELVOUZH_JOB_NUMBERS, job_counts, DELVOUZH_JOB_COUNTS, values, DELVOUZH_VALUES);
 }
 
 /* delvouzh_engine_submit of a set: `engine_numbers` has DELVOUZH_ENGINE_NUMBERS numbers, `engine_counts` DELVOUZH_ENGINE_COUNTS. */
 static inline size_t delvouzh_set_engine_submit(const struct delvouzh_set *set, size_t screen, size_t limit, double *engine_numbers,
                                                 size_t *engine_counts, size_t *values) {
-    double figures[10];
-    delvouzh_set_figures(set, figures);
-    return delvouzh_engine_submit(screen, limit, set->count, set->planform, set->lengths, set->lengths_len, set->section, set->tab,
-                                  set->density, figures, set->tab == DELVOUZH_NO_TAB ? 5 : 8, set->fillet, figures + 8,
-                                  set->fillet == DELVOUZH_NO_FILLET ? 0 : 2, engine_numbers, DELVOUZH_ENGINE_NUMBERS, engine_counts,
-                                  DELVOUZH_ENGINE_COUNTS, values, DELVOUZH_VALUES);
+    double set_numbers[DELVOUZH_SET_NUMBERS];
+    size_t set_counts[DELVOUZH_SET_COUNTS];
+    delvouzh_set_lists(set, set_numbers, set_counts);
+    return delvouzh_engine_submit(screen, limit, set_numbers, DELVOUZH_SET_NUMBERS, set_counts, DELVOUZH_SET_COUNTS, set->points,
+                                  set->points_len, engine_numbers, DELVOUZH_ENGINE_NUMBERS, engine_counts, DELVOUZH_ENGINE_COUNTS,
+                                  values, DELVOUZH_VALUES);
 }
 
 #ifdef __cplusplus

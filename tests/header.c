@@ -15,7 +15,7 @@ enum { LIMIT = 64, SCRATCH = 16 * LIMIT, THREADS = 4, TURNS = 200 };
 
 /* 0.2 m root chord, 3 mm of plywood, a body of 50 mm radius: the examples of docs/FORMS.md */
 static const double TRAPEZOID[4] = {0.2, 0.1, 0.15, 0.05};
-static const double ELLIPSE[2] = {0.2, 0.1};
+static const double ELLIPSE[4] = {0.2, 0.1, 0.0, 0.0};
 static const double TUBES[6] = {0.2, 0.05, 0.001, 0.0, 0.05, 680.0};
 static const double FIGURES[5] = {0.003, 0.0, 0.0, 0.05, 680.0};
 
@@ -52,20 +52,40 @@ static void lend(struct lent *l, double filling) {
     for (int i = 0; i < DELVOUZH_ENGINE_COUNTS; i++) l->engine_counts[i] = 0;
 }
 
-static void set_of(struct lent *l, size_t limit, size_t planform, const double *lengths, size_t len, const double *figures) {
-    l->number = delvouzh_mass_properties(limit, 3, planform, lengths, len, DELVOUZH_SQUARE, DELVOUZH_NO_TAB, DELVOUZH_BULK, figures, 5,
-                                         DELVOUZH_NO_FILLET, figures, 0, l->scratch, SCRATCH, l->numbers, DELVOUZH_BODY, l->counts, DELVOUZH_COUNTS);
+/* A set as the calls take it. */
+struct lists {
+    double numbers[DELVOUZH_SET_NUMBERS];
+    size_t counts[DELVOUZH_SET_COUNTS];
+};
+
+/* Three fins without a tab, whose figures are not read; `lengths` are not an outline's, which has points. */
+static struct lists lists_of(size_t planform, const double *lengths, size_t section, const double *figures, size_t fillet, const double *glue) {
+    struct lists set;
+    const size_t counts[DELVOUZH_SET_COUNTS] = {3, planform, section, DELVOUZH_NO_TAB, DELVOUZH_BULK, fillet};
+    for (int i = 0; i < DELVOUZH_SET_NUMBERS; i++) set.numbers[i] = NAN;
+    if (planform != DELVOUZH_OUTLINE) memcpy(set.numbers, lengths, DELVOUZH_LENGTHS * sizeof *lengths);
+    memcpy(set.numbers + 4, figures, 5 * sizeof *figures);
+    if (glue != NULL) memcpy(set.numbers + 12, glue, 2 * sizeof *glue);
+    memcpy(set.counts, counts, sizeof counts);
+    return set;
 }
 
-static void glued_set_of(struct lent *l, size_t fillet, const double *glue, size_t len) {
-    l->number = delvouzh_mass_properties(LIMIT, 3, DELVOUZH_TRAPEZOID, TRAPEZOID, 4, DELVOUZH_SQUARE, DELVOUZH_NO_TAB, DELVOUZH_BULK,
-                                         FIGURES, 5, fillet, glue, len, l->scratch, SCRATCH, l->numbers, DELVOUZH_BODY, l->counts,
-                                         DELVOUZH_COUNTS);
+/* `lengths` are an outline's points, `len` numbers. */
+static void set_of(struct lent *l, size_t limit, size_t planform, const double *lengths, size_t len, const double *figures) {
+    const struct lists set = lists_of(planform, lengths, DELVOUZH_SQUARE, figures, DELVOUZH_NO_FILLET, NULL);
+    l->number = delvouzh_mass_properties(limit, set.numbers, DELVOUZH_SET_NUMBERS, set.counts, DELVOUZH_SET_COUNTS, lengths, len, l->scratch,
+                                         SCRATCH, l->numbers, DELVOUZH_BODY, l->counts, DELVOUZH_COUNTS);
+}
+
+static void glued_set_of(struct lent *l, size_t fillet, const double *glue, size_t numbers_len, size_t counts_len) {
+    const struct lists set = lists_of(DELVOUZH_TRAPEZOID, TRAPEZOID, DELVOUZH_SQUARE, FIGURES, fillet, glue);
+    l->number = delvouzh_mass_properties(LIMIT, set.numbers, numbers_len, set.counts, counts_len, NULL, 0, l->scratch, SCRATCH, l->numbers,
+                                         DELVOUZH_BODY, l->counts, DELVOUZH_COUNTS);
 }
 
 static void area_of(struct lent *l, size_t planform, const double *lengths, size_t len) {
-    l->number = delvouzh_geometry(LIMIT, planform, lengths, len, l->scratch, SCRATCH, l->numbers, DELVOUZH_AREA, l->counts,
-                                  DELVOUZH_COUNTS);
+    l->number = delvouzh_geometry(LIMIT, planform, lengths, DELVOUZH_LENGTHS, lengths, len, l->scratch, SCRATCH, l->numbers, DELVOUZH_AREA,
+                                  l->counts, DELVOUZH_COUNTS);
 }
 
 static void answer_to(struct lent *l, const char *line) {
@@ -95,7 +115,7 @@ static void figures(void) {
     holds("a set's tensor", bits(at.numbers[4]) == 0x3f561772f7ea12f8 && bits(at.numbers[6]) == 0x3f616435485c1b52);
     holds("a set's counts", refused(0, 0, 0) && at.counts[2] == 1 && at.counts[3] == 15);
     const double glue[2] = {0.01, 1200.0};
-    glued_set_of(&at, DELVOUZH_BULK, glue, 2);
+    glued_set_of(&at, DELVOUZH_BULK, glue, DELVOUZH_SET_NUMBERS, DELVOUZH_SET_COUNTS);
     holds("a set with fillets", refused(0, 0, 0) && bits(at.numbers[0]) == 0x3fc4a28891b0e97b && bits(at.numbers[6]) == 0x3f61e9ed0a3848ba);
     area_of(&at, DELVOUZH_ELLIPSE, ELLIPSE, 2);
     holds("an area", at.number == 0 && bits(at.numbers[0]) == 0x3f9015bf9217273e);
@@ -104,12 +124,12 @@ static void figures(void) {
     const double outline[8] = {0.0, 0.0, 0.05, 0.15, 0.15, 0.15, 0.2, 0.0};
     area_of(&at, DELVOUZH_OUTLINE, outline, 8);
     holds("an outline's area", at.number == 0 && fabs(at.numbers[0] - 0.0225) < 1e-15);
-    at.number = delvouzh_chords_at(DELVOUZH_TRAPEZOID, TRAPEZOID, 4, 0.15, at.scratch, SCRATCH, at.counts, DELVOUZH_CHORD_COUNTS);
+    at.number = delvouzh_chords_at(DELVOUZH_TRAPEZOID, TRAPEZOID, DELVOUZH_LENGTHS, NULL, 0, 0.15, at.scratch, SCRATCH, at.counts, DELVOUZH_CHORD_COUNTS);
     holds("the chord at the span", refused(0, 0, 0) && at.counts[2] == 1 && at.scratch[0] == 0.05 && at.scratch[1] == (0.05 + 0.2) + (0.1 - 0.2));
     const double drilled[4] = {1.0, 0.5, 1.0, 0.5};
-    at.number = delvouzh_drill(DELVOUZH_TRAPEZOID, drilled, 4, 0.25, 0.5, at.counts, DELVOUZH_COUNTS);
+    at.number = delvouzh_drill(DELVOUZH_TRAPEZOID, drilled, DELVOUZH_LENGTHS, NULL, 0, 0.25, 0.5, at.counts, DELVOUZH_COUNTS);
     holds("a point on the edge", refused(0, 0, 0) && at.counts[2] == DELVOUZH_EDGE && at.counts[3] == 0);
-    at.number = delvouzh_drill(DELVOUZH_TRAPEZOID, drilled, 4, 1.25, 1.0, at.counts, DELVOUZH_COUNTS);
+    at.number = delvouzh_drill(DELVOUZH_TRAPEZOID, drilled, DELVOUZH_LENGTHS, NULL, 0, 1.25, 1.0, at.counts, DELVOUZH_COUNTS);
     holds("a point outside", refused(0, 0, 0) && at.counts[2] == DELVOUZH_OUTSIDE && at.counts[3] == 2);
     at.number = delvouzh_tube_mass_properties(6, DELVOUZH_BULK, TUBES, 6, at.numbers, DELVOUZH_BODY, at.counts, DELVOUZH_VALUES);
     holds("a ring of tubes", refused(0, 0, 0) && fabs(at.numbers[0] - 0.2537904) < 1e-7 && fabs(at.numbers[3] + 0.1) < 1e-15);
@@ -149,31 +169,36 @@ static void refusals(void) {
     holds("1", refused(1, 0, 0));
     set_of(&at, LIMIT + 1, DELVOUZH_TRAPEZOID, TRAPEZOID, 4, FIGURES);
     holds("1 of 65 pieces", refused(1, 0, 0));
-    at.number = delvouzh_geometry(LIMIT, DELVOUZH_ELLIPSE, ELLIPSE, 2, at.scratch, SCRATCH - 1, at.numbers, DELVOUZH_AREA, at.counts,
-                                  DELVOUZH_COUNTS);
+    at.number = delvouzh_geometry(LIMIT, DELVOUZH_ELLIPSE, ELLIPSE, DELVOUZH_LENGTHS, NULL, 0, at.scratch, SCRATCH - 1, at.numbers, DELVOUZH_AREA,
+                                  at.counts, DELVOUZH_COUNTS);
     holds("2", refused(2, 0, 0));
     set_of(&at, LIMIT, DELVOUZH_TRAPEZOID, tip, 4, FIGURES);
     holds("4 with its field", refused(4, 2, 0) && at.numbers[0] == 0.0);
     area_of(&at, DELVOUZH_OUTLINE, crossed, 8);
     holds("7 with its edges", refused(7, 0, 2));
     at.scratch[0] = 7.0;
-    at.number = delvouzh_chords_at(DELVOUZH_OUTLINE, crossed, 8, 0.5, at.scratch, SCRATCH, at.counts, DELVOUZH_CHORD_COUNTS);
+    at.number = delvouzh_chords_at(DELVOUZH_OUTLINE, crossed, DELVOUZH_LENGTHS, crossed, 8, 0.5, at.scratch, SCRATCH, at.counts, DELVOUZH_CHORD_COUNTS);
     holds("no chords of a refused planform", refused(7, 0, 2) && at.counts[2] == 0 && at.scratch[0] == 7.0);
-    at.number = delvouzh_drill(DELVOUZH_ELLIPSE, ELLIPSE, 2, 0.5, 65.0, at.counts, DELVOUZH_COUNTS);
+    at.number = delvouzh_drill(DELVOUZH_ELLIPSE, ELLIPSE, DELVOUZH_LENGTHS, NULL, 0, 0.5, 65.0, at.counts, DELVOUZH_COUNTS);
     holds("4 of a point's height", refused(4, 18, 0) && at.counts[2] == 0 && at.counts[3] == 0);
-    at.number = delvouzh_drill(DELVOUZH_ELLIPSE, ELLIPSE, 2, 0.5, 0.5, at.counts, DELVOUZH_COUNTS);
+    at.number = delvouzh_drill(DELVOUZH_ELLIPSE, ELLIPSE, DELVOUZH_LENGTHS, NULL, 0, 0.5, 0.5, at.counts, DELVOUZH_COUNTS);
     holds("24", refused(24, 0, 0));
     set_of(&at, LIMIT, DELVOUZH_TRAPEZOID, TRAPEZOID, 4, cant);
     holds("9 with its field", refused(9, 12, 0));
     const double wide[2] = {51.0, 0.0};
-    glued_set_of(&at, DELVOUZH_BULK, wide, 2);
+    glued_set_of(&at, DELVOUZH_BULK, wide, DELVOUZH_SET_NUMBERS, DELVOUZH_SET_COUNTS);
     holds("22", refused(22, 0, 0));
-    glued_set_of(&at, DELVOUZH_SURFACE, wide, 2);
+    glued_set_of(&at, DELVOUZH_SURFACE, wide, DELVOUZH_SET_NUMBERS, DELVOUZH_SET_COUNTS);
     holds("12 of a fillet", refused(12, 0, 0));
-    glued_set_of(&at, DELVOUZH_BULK, wide, 1);
-    holds("18 of a fillet without its density", refused(18, 0, 0));
-    glued_set_of(&at, DELVOUZH_NO_FILLET, wide, 1);
-    holds("18 of no fillet with a figure", refused(18, 0, 0));
+    glued_set_of(&at, 4, wide, DELVOUZH_SET_NUMBERS, DELVOUZH_SET_COUNTS);
+    holds("18 of an unknown fillet", refused(18, 0, 0));
+    glued_set_of(&at, DELVOUZH_NO_FILLET, wide, DELVOUZH_SET_NUMBERS - 1, DELVOUZH_SET_COUNTS);
+    holds("18 of a set's numbers without the last", refused(18, 0, 0));
+    glued_set_of(&at, DELVOUZH_NO_FILLET, wide, DELVOUZH_SET_NUMBERS, DELVOUZH_SET_COUNTS - 1);
+    holds("18 of a set's counts without the last", refused(18, 0, 0));
+    at.number = delvouzh_geometry(LIMIT, DELVOUZH_ELLIPSE, ELLIPSE, 2, NULL, 0, at.scratch, SCRATCH, at.numbers, DELVOUZH_AREA, at.counts,
+                                  DELVOUZH_COUNTS);
+    holds("18 of two lengths", refused(18, 0, 0));
     set_of(&at, 1, DELVOUZH_ELLIPSE, ELLIPSE, 2, FIGURES);
     holds("13 with its samples", at.number == 13 && at.counts[0] < 7 && at.counts[2] == 0 && at.counts[3] == 15);
     at.number = delvouzh_check(body, DELVOUZH_BODY, at.counts, DELVOUZH_VALUES);
@@ -204,21 +229,21 @@ static void refusals(void) {
 static void no_room(void) {
     const unsigned char line[] = "(area (limit 8) (ellipse 3fc999999999999a 3fb999999999999a))";
     const double body[DELVOUZH_BODY] = {0};
+    const struct lists set = lists_of(DELVOUZH_TRAPEZOID, TRAPEZOID, DELVOUZH_SQUARE, FIGURES, DELVOUZH_NO_FILLET, NULL);
     lend(&at, 7.0);
-    at.number = delvouzh_mass_properties(LIMIT, 3, DELVOUZH_TRAPEZOID, TRAPEZOID, 4, DELVOUZH_SQUARE, DELVOUZH_NO_TAB, DELVOUZH_BULK,
-                                         FIGURES, 5, DELVOUZH_NO_FILLET, FIGURES, 0, at.scratch, SCRATCH, at.numbers, DELVOUZH_BODY - 1,
-                                         at.counts, DELVOUZH_COUNTS);
+    at.number = delvouzh_mass_properties(LIMIT, set.numbers, DELVOUZH_SET_NUMBERS, set.counts, DELVOUZH_SET_COUNTS, NULL, 0, at.scratch, SCRATCH,
+                                         at.numbers, DELVOUZH_BODY - 1, at.counts, DELVOUZH_COUNTS);
     holds("no room for a body", at.number == 18 && left_alone());
-    at.number = delvouzh_geometry(LIMIT, DELVOUZH_ELLIPSE, ELLIPSE, 2, at.scratch, SCRATCH, at.numbers, DELVOUZH_AREA, at.counts,
-                                  DELVOUZH_COUNTS - 1);
+    at.number = delvouzh_geometry(LIMIT, DELVOUZH_ELLIPSE, ELLIPSE, DELVOUZH_LENGTHS, NULL, 0, at.scratch, SCRATCH, at.numbers, DELVOUZH_AREA,
+                                  at.counts, DELVOUZH_COUNTS - 1);
     holds("no room for counts", at.number == 18 && left_alone());
-    at.number = delvouzh_chords_at(DELVOUZH_ELLIPSE, ELLIPSE, 2, 0.1, at.scratch, DELVOUZH_CHORDS - 1, at.counts, DELVOUZH_CHORD_COUNTS);
+    at.number = delvouzh_chords_at(DELVOUZH_ELLIPSE, ELLIPSE, DELVOUZH_LENGTHS, NULL, 0, 0.1, at.scratch, DELVOUZH_CHORDS - 1, at.counts, DELVOUZH_CHORD_COUNTS);
     holds("no room for chords", at.number == 18 && left_alone());
     at.number = delvouzh_tube_mass_properties(6, DELVOUZH_BULK, TUBES, 6, at.numbers, DELVOUZH_BODY - 1, at.counts, DELVOUZH_VALUES);
     holds("no room for a ring", at.number == 18 && left_alone());
     at.number = delvouzh_closing_radius(6, 0.05, at.numbers, 0, at.counts, DELVOUZH_VALUES);
     holds("no room for a radius", at.number == 18 && left_alone());
-    at.number = delvouzh_drill(DELVOUZH_ELLIPSE, ELLIPSE, 2, 0.5, 0.5, at.counts, DELVOUZH_COUNTS - 1);
+    at.number = delvouzh_drill(DELVOUZH_ELLIPSE, ELLIPSE, DELVOUZH_LENGTHS, NULL, 0, 0.5, 0.5, at.counts, DELVOUZH_COUNTS - 1);
     holds("no room for a place", at.number == 18 && left_alone());
     at.number = delvouzh_check(body, DELVOUZH_BODY, at.counts, DELVOUZH_VALUES - 1);
     holds("no room for values", at.number == 18 && left_alone());
@@ -268,9 +293,10 @@ static int job_alone(void) {
 
 static void make_job(size_t section, const double *figures) {
     const double outline[8] = {0.0, 0.0, 0.05, 0.15, 0.15, 0.05, 0.2, 0.0};
+    const struct lists set = lists_of(DELVOUZH_OUTLINE, NULL, section, figures, DELVOUZH_NO_FILLET, NULL);
     keep_job();
-    at.number = delvouzh_job_make(LIMIT, 3, DELVOUZH_OUTLINE, outline, 8, section, DELVOUZH_NO_TAB, DELVOUZH_BULK, figures, 5, DELVOUZH_NO_FILLET,
-                                  figures, 0, job_numbers, DELVOUZH_JOB_NUMBERS + 1, job_counts, DELVOUZH_JOB_COUNTS + 1, at.counts, DELVOUZH_VALUES);
+    at.number = delvouzh_job_make(LIMIT, set.numbers, DELVOUZH_SET_NUMBERS, set.counts, DELVOUZH_SET_COUNTS, outline, 8, job_numbers,
+                                  DELVOUZH_JOB_NUMBERS + 1, job_counts, DELVOUZH_JOB_COUNTS + 1, at.counts, DELVOUZH_VALUES);
 }
 
 static void step_job(size_t scratch_len) {
@@ -396,10 +422,10 @@ static void clear(void) {
 
 static void submit(size_t screen, size_t section, const double *figures) {
     const double outline[8] = {0.0, 0.0, 0.05, 0.15, 0.15, 0.05, 0.2, 0.0};
+    const struct lists set = lists_of(DELVOUZH_OUTLINE, NULL, section, figures, DELVOUZH_NO_FILLET, NULL);
     keep_engine();
-    at.number = delvouzh_engine_submit(screen, LIMIT, 3, DELVOUZH_OUTLINE, outline, 8, section, DELVOUZH_NO_TAB, DELVOUZH_BULK, figures, 5,
-                                       DELVOUZH_NO_FILLET, figures, 0, engine_numbers, DELVOUZH_ENGINE_NUMBERS + 1, engine_counts,
-                                       DELVOUZH_ENGINE_COUNTS + 1, at.counts, DELVOUZH_VALUES);
+    at.number = delvouzh_engine_submit(screen, LIMIT, set.numbers, DELVOUZH_SET_NUMBERS, set.counts, DELVOUZH_SET_COUNTS, outline, 8, engine_numbers,
+                                       DELVOUZH_ENGINE_NUMBERS + 1, engine_counts, DELVOUZH_ENGINE_COUNTS + 1, at.counts, DELVOUZH_VALUES);
 }
 
 static void turn(size_t scratch_len) {

@@ -22,8 +22,7 @@ static struct delvouzh_set plywood(void) {
     memset(&set, 0, sizeof set);
     set.count = 3;
     set.planform = DELVOUZH_TRAPEZOID;
-    set.lengths = TRAPEZOID;
-    set.lengths_len = 4;
+    memcpy(set.lengths, TRAPEZOID, sizeof TRAPEZOID);
     set.section = DELVOUZH_SQUARE;
     set.thickness_m = 0.003;
     set.body_radius_m = 0.05;
@@ -36,23 +35,25 @@ static int same(void) {
     return memcmp(body, other, sizeof body) == 0 && memcmp(counts, other_counts, sizeof counts) == 0;
 }
 
-/* Without a tab and a fillet; the numbers that there are none of stand at a null pointer. */
+static size_t figures_of(const double *numbers, const size_t *of_set) {
+    return delvouzh_mass_properties(64, numbers, DELVOUZH_SET_NUMBERS, of_set, DELVOUZH_SET_COUNTS, NULL, 0, scratch, 1024, other,
+                                    DELVOUZH_BODY, other_counts, DELVOUZH_COUNTS);
+}
+
+/* Without a tab and a fillet, whose figures are not read; the points that there are none of stand at a null pointer. */
 static void plain_set(void) {
-    static const double figures[5] = {0.003, 0.0, 0.0, 0.05, 680.0};
+    static const double numbers[DELVOUZH_SET_NUMBERS] = {0.2, 0.1, 0.15, 0.05, 0.003, 0.0, 0.0, 0.05, 680.0, 9.0, 9.0, 9.0, 9.0, 9.0};
+    static const size_t of_set[DELVOUZH_SET_COUNTS] = {3, DELVOUZH_TRAPEZOID, DELVOUZH_SQUARE, DELVOUZH_NO_TAB, DELVOUZH_BULK, DELVOUZH_NO_FILLET};
     struct delvouzh_set set = plywood();
-    size_t number = delvouzh_mass_properties(64, 3, DELVOUZH_TRAPEZOID, TRAPEZOID, 4, DELVOUZH_SQUARE, DELVOUZH_NO_TAB, DELVOUZH_BULK,
-                                             figures, 5, DELVOUZH_NO_FILLET, NULL, 0, scratch, 1024, other, DELVOUZH_BODY, other_counts,
-                                             DELVOUZH_COUNTS);
-    holds("a set with a null fillet", number == 0 && other_counts[3] == 15);
+    holds("a set with null points", figures_of(numbers, of_set) == 0 && other_counts[3] == 15);
     holds("a set as a struct", delvouzh_set_mass_properties(&set, 64, scratch, 1024, body, counts) == 0 && same());
 }
 
 static void full_set(void) {
-    static const double figures[8] = {0.003, 0.1, 0.2, 0.05, 680.0, 0.02, 0.1, 0.05}, glue[2] = {0.01, 1200.0};
+    static const double numbers[DELVOUZH_SET_NUMBERS] = {0.2, 0.1, 0.15, 0.05, 0.003, 0.1, 0.2, 0.05, 680.0, 0.02, 0.1, 0.05, 0.01, 1200.0};
+    static const size_t of_set[DELVOUZH_SET_COUNTS] = {3, DELVOUZH_TRAPEZOID, DELVOUZH_SQUARE, DELVOUZH_TAB, DELVOUZH_BULK, DELVOUZH_BULK};
     struct delvouzh_set set = plywood();
-    size_t number = delvouzh_mass_properties(64, 3, DELVOUZH_TRAPEZOID, TRAPEZOID, 4, DELVOUZH_SQUARE, DELVOUZH_TAB, DELVOUZH_BULK,
-                                             figures, 8, DELVOUZH_BULK, glue, 2, scratch, 1024, other, DELVOUZH_BODY, other_counts,
-                                             DELVOUZH_COUNTS);
+    size_t number = figures_of(numbers, of_set);
     set.cant_rad = 0.1;
     set.base_angle_rad = 0.2;
     set.tab = DELVOUZH_TAB;

@@ -16,18 +16,12 @@ use sets::{Random, Set};
 unsafe extern "C" {
     fn delvouzh_mass_properties(
         limit: usize,
-        count: usize,
-        planform: usize,
-        lengths: *const f64,
-        lengths_len: usize,
-        section: usize,
-        tab: usize,
-        density: usize,
-        figures: *const f64,
-        figures_len: usize,
-        fillet: usize,
-        glue: *const f64,
-        glue_len: usize,
+        set_numbers: *const f64,
+        set_numbers_len: usize,
+        set_counts: *const usize,
+        set_counts_len: usize,
+        points: *const f64,
+        points_len: usize,
         scratch: *mut f64,
         scratch_len: usize,
         body: *mut f64,
@@ -50,18 +44,12 @@ fn proved(set: &Set, scratch: &mut [f64], limit: usize) -> Answer {
     let number = unsafe {
         delvouzh_mass_properties(
             limit,
-            set.rust.count as usize,
-            set.planform,
-            set.lengths.as_ptr(),
-            set.lengths.len(),
-            set.section,
-            set.tab,
-            set.density,
-            set.figures.as_ptr(),
-            set.figures.len(),
-            0,
-            set.figures.as_ptr(),
-            0,
+            set.numbers.as_ptr(),
+            set.numbers.len(),
+            set.counts.as_ptr(),
+            set.counts.len(),
+            set.points.as_ptr(),
+            set.points.len(),
             scratch.as_mut_ptr(),
             scratch.len(),
             body.as_mut_ptr(),
@@ -74,7 +62,7 @@ fn proved(set: &Set, scratch: &mut [f64], limit: usize) -> Answer {
 }
 
 fn rust(set: &Set) -> Result<MassProperties, DesignError> {
-    set.rust.mass_properties(set.figures[3])
+    set.rust.mass_properties(set.body_radius_m())
 }
 
 fn same(a: f64, b: f64) -> bool {

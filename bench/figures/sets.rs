@@ -30,17 +30,20 @@ impl Random {
 
 pub struct Set {
     pub rust: FinSet,
-    /// The planform's number, and its lengths or points.
-    pub planform: usize,
-    pub lengths: Vec<f64>,
-    pub section: usize,
-    pub tab: usize,
-    pub density: usize,
-    /// Thickness, cant, base angle, body radius, density, and the tab's height, length and offset where it has one.
-    pub figures: Vec<f64>,
+    /// As include/delvouzh.h has them.
+    pub numbers: [f64; 14],
+    pub counts: [usize; 6],
+    pub points: Vec<f64>,
+}
+
+impl Set {
+    pub fn body_radius_m(&self) -> f64 {
+        self.numbers[7]
+    }
 }
 
 /// A set on a planform: three to six fins, every other one with a tab, canted a little.
+/// `lengths` are an outline's points.
 fn on(r: &mut Random, section: usize, number: usize, lengths: Vec<f64>, planform: FinPlanform) -> Set {
     let root = planform.root_chord_m();
     let radius = r.between(0.02, 0.08);
@@ -77,14 +80,17 @@ fn on(r: &mut Random, section: usize, number: usize, lengths: Vec<f64>, planform
         base_angle_rad: figures[2],
         material: Material::bulk("", density),
     };
+    let counts = [rust.count as usize, number, section + 1, usize::from(tab), 1, 0];
+    let mut numbers = [0.0; 14];
+    if number != 3 {
+        numbers[..lengths.len()].copy_from_slice(&lengths);
+    }
+    numbers[4..4 + figures.len()].copy_from_slice(&figures);
     Set {
         rust,
-        planform: number,
-        lengths,
-        section: section + 1,
-        tab: usize::from(tab),
-        density: 1,
-        figures,
+        numbers,
+        counts,
+        points: lengths,
     }
 }
 

@@ -8,18 +8,12 @@ use std::time::{Duration, Instant};
 extern "C" {
     fn delvouzh_mass_properties(
         limit: usize,
-        count: usize,
-        planform: usize,
-        lengths: *const f64,
-        lengths_len: usize,
-        section: usize,
-        tab: usize,
-        density: usize,
-        figures: *const f64,
-        figures_len: usize,
-        fillet: usize,
-        glue: *const f64,
-        glue_len: usize,
+        set_numbers: *const f64,
+        set_numbers_len: usize,
+        set_counts: *const usize,
+        set_counts_len: usize,
+        points: *const f64,
+        points_len: usize,
         scratch: *mut f64,
         scratch_len: usize,
         body: *mut f64,
@@ -30,18 +24,12 @@ extern "C" {
 
     fn delvouzh_job_make(
         limit: usize,
-        count: usize,
-        planform: usize,
-        lengths: *const f64,
-        lengths_len: usize,
-        section: usize,
-        tab: usize,
-        density: usize,
-        figures: *const f64,
-        figures_len: usize,
-        fillet: usize,
-        glue: *const f64,
-        glue_len: usize,
+        set_numbers: *const f64,
+        set_numbers_len: usize,
+        set_counts: *const usize,
+        set_counts_len: usize,
+        points: *const f64,
+        points_len: usize,
         job_numbers: *mut f64,
         job_numbers_len: usize,
         job_counts: *mut usize,
@@ -66,13 +54,13 @@ extern "C" {
 
 const LIMIT: usize = 64;
 const MORE: usize = 1000;
-const FIGURES: [f64; 5] = [0.003, 0.02, 0.5, 0.05, 680.0];
 
+/// As include/delvouzh.h has it.
 struct Set {
     name: &'static str,
-    planform: usize,
-    lengths: Vec<f64>,
-    section: usize,
+    numbers: [f64; 14],
+    counts: [usize; 6],
+    points: Vec<f64>,
 }
 
 #[derive(PartialEq)]
@@ -95,22 +83,16 @@ impl Answer {
 }
 
 fn whole(set: &Set, to: &mut Answer) {
-    let (lengths, figures, scratch) = (&set.lengths, &FIGURES, &mut to.scratch);
+    let scratch = &mut to.scratch;
     to.number = unsafe {
         delvouzh_mass_properties(
             LIMIT,
-            4,
-            set.planform,
-            lengths.as_ptr(),
-            lengths.len(),
-            set.section,
-            0,
-            1,
-            figures.as_ptr(),
-            figures.len(),
-            0,
-            figures.as_ptr(),
-            0,
+            set.numbers.as_ptr(),
+            set.numbers.len(),
+            set.counts.as_ptr(),
+            set.counts.len(),
+            set.points.as_ptr(),
+            set.points.len(),
             scratch.as_mut_ptr(),
             scratch.len(),
             to.body.as_mut_ptr(),
@@ -124,22 +106,16 @@ fn whole(set: &Set, to: &mut Answer) {
 /// Makes the job and steps it to its end; gives the steps.
 fn stepped(set: &Set, to: &mut Answer) -> usize {
     let (mut numbers, mut counts, mut values) = ([0.0; 159], [0usize; 17], [0; 2]);
-    let (lengths, figures, scratch) = (&set.lengths, &FIGURES, &mut to.scratch);
+    let scratch = &mut to.scratch;
     to.number = unsafe {
         delvouzh_job_make(
             LIMIT,
-            4,
-            set.planform,
-            lengths.as_ptr(),
-            lengths.len(),
-            set.section,
-            0,
-            1,
-            figures.as_ptr(),
-            figures.len(),
-            0,
-            figures.as_ptr(),
-            0,
+            set.numbers.as_ptr(),
+            set.numbers.len(),
+            set.counts.as_ptr(),
+            set.counts.len(),
+            set.points.as_ptr(),
+            set.points.len(),
             numbers.as_mut_ptr(),
             numbers.len(),
             counts.as_mut_ptr(),
@@ -186,17 +162,20 @@ fn outline(n: usize) -> Vec<f64> {
 
 fn sets() -> Vec<Set> {
     let kinds = [
-        ("trapezoid", 1, vec![0.2, 0.1, 0.15, 0.05]),
-        ("ellipse", 2, vec![0.2, 0.1]),
-        ("outline of 12 points", 3, outline(12)),
-        ("outline of 64 points", 3, outline(64)),
+        ("trapezoid", 1, [0.2, 0.1, 0.15, 0.05], vec![]),
+        ("ellipse", 2, [0.2, 0.1, 0.0, 0.0], vec![]),
+        ("outline of 12 points", 3, [0.0; 4], outline(12)),
+        ("outline of 64 points", 3, [0.0; 4], outline(64)),
     ];
-    let on = |(name, planform, lengths): &(&'static str, usize, Vec<f64>)| {
+    let on = |(name, planform, lengths, points): &(&'static str, usize, [f64; 4], Vec<f64>)| {
+        let mut numbers = [0.0; 14];
+        numbers[..4].copy_from_slice(lengths);
+        numbers[4..9].copy_from_slice(&[0.003, 0.02, 0.5, 0.05, 680.0]);
         [1, 2].map(|section| Set {
             name,
-            planform: *planform,
-            lengths: lengths.clone(),
-            section,
+            numbers,
+            counts: [4, *planform, section, 0, 1, 0],
+            points: points.clone(),
         })
     };
     kinds.iter().flat_map(on).collect()
@@ -231,7 +210,7 @@ fn main() {
         println!(
             "{}, section {}, {steps}: {run:.2}, {worked:.2}, {:.2}",
             set.name,
-            set.section,
+            set.counts[2],
             (worked - run) / steps as f64
         );
     }

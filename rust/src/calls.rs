@@ -54,25 +54,18 @@ pub const fn scratch_len(limit: usize) -> usize {
 /// A set's figures, with at most `limit` intervals a strip; `scratch` has [`scratch_len`]`(limit)` numbers.
 pub fn mass_properties(set: &FinSet, limit: usize, scratch: &mut [f64]) -> Result<Figures, RunError> {
     let crossing = set.numbers();
-    let (lengths, figures, glue) = (crossing.planform.lengths(), crossing.figures(), crossing.glue());
     let mut body = [0.0; raw::BODY];
     let mut counts = [0; raw::COUNTS];
     // SAFETY: each pointer goes with the length of its own live list; what is written is borrowed by nobody else.
     let number = unsafe {
         raw::delvouzh_mass_properties(
             limit,
-            set.count,
-            crossing.planform.number,
-            lengths.as_ptr(),
-            lengths.len(),
-            crossing.section,
-            crossing.tab,
-            crossing.density,
-            figures.as_ptr(),
-            figures.len(),
-            crossing.fillet,
-            glue.as_ptr(),
-            glue.len(),
+            crossing.numbers.as_ptr(),
+            crossing.numbers.len(),
+            crossing.counts.as_ptr(),
+            crossing.counts.len(),
+            crossing.points.as_ptr(),
+            crossing.points.len(),
             scratch.as_mut_ptr(),
             scratch.len(),
             body.as_mut_ptr(),
@@ -94,7 +87,6 @@ pub fn mass_properties(set: &FinSet, limit: usize, scratch: &mut [f64]) -> Resul
 /// A planform's area and centroid, with at most `limit` intervals a strip.
 pub fn geometry(planform: &Planform, limit: usize, scratch: &mut [f64]) -> Result<Area, RunError> {
     let crossing = planform.numbers();
-    let lengths = crossing.lengths();
     let mut area = [0.0; raw::AREA];
     let mut counts = [0; raw::COUNTS];
     // SAFETY: each pointer goes with the length of its own live list; what is written is borrowed by nobody else.
@@ -102,8 +94,10 @@ pub fn geometry(planform: &Planform, limit: usize, scratch: &mut [f64]) -> Resul
         raw::delvouzh_geometry(
             limit,
             crossing.number,
-            lengths.as_ptr(),
-            lengths.len(),
+            crossing.lengths.as_ptr(),
+            crossing.lengths.len(),
+            crossing.points.as_ptr(),
+            crossing.points.len(),
             scratch.as_mut_ptr(),
             scratch.len(),
             area.as_mut_ptr(),
@@ -128,15 +122,16 @@ pub fn geometry(planform: &Planform, limit: usize, scratch: &mut [f64]) -> Resul
 /// span, or a few last bits below it, a trapezoid's chord may end before it starts, by the rounding of its ends.
 pub fn chords_at(planform: &Planform, height_m: f64) -> Result<Vec<[f64; 2]>, Error> {
     let crossing = planform.numbers();
-    let lengths = crossing.lengths();
     let mut ends = [0.0; raw::CHORDS];
     let mut counts = [0; raw::CHORD_COUNTS];
     // SAFETY: each pointer goes with the length of its own live list; what is written is borrowed by nobody else.
     let number = unsafe {
         raw::delvouzh_chords_at(
             crossing.number,
-            lengths.as_ptr(),
-            lengths.len(),
+            crossing.lengths.as_ptr(),
+            crossing.lengths.len(),
+            crossing.points.as_ptr(),
+            crossing.points.len(),
             height_m,
             ends.as_mut_ptr(),
             ends.len(),
@@ -154,14 +149,15 @@ pub fn chords_at(planform: &Planform, height_m: f64) -> Result<Vec<[f64; 2]>, Er
 /// ones.
 pub fn drill(planform: &Planform, x_m: f64, height_m: f64) -> Result<Place, Error> {
     let crossing = planform.numbers();
-    let lengths = crossing.lengths();
     let mut counts = [0; raw::COUNTS];
     // SAFETY: each pointer goes with the length of its own live list; what is written is borrowed by nobody else.
     let number = unsafe {
         raw::delvouzh_drill(
             crossing.number,
-            lengths.as_ptr(),
-            lengths.len(),
+            crossing.lengths.as_ptr(),
+            crossing.lengths.len(),
+            crossing.points.as_ptr(),
+            crossing.points.len(),
             x_m,
             height_m,
             counts.as_mut_ptr(),

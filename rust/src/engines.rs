@@ -50,25 +50,18 @@ impl Engine {
     /// refused submission changes nothing.
     pub fn submit(&mut self, screen: usize, set: &FinSet, limit: usize) -> Result<(), Error> {
         let crossing = set.numbers();
-        let (lengths, figures, glue) = (crossing.planform.lengths(), crossing.figures(), crossing.glue());
         let mut values = [0; raw::VALUES];
         // SAFETY: each pointer goes with the length of its own live list; what is written is borrowed by nobody else.
         let number = unsafe {
             raw::delvouzh_engine_submit(
                 screen,
                 limit,
-                set.count,
-                crossing.planform.number,
-                lengths.as_ptr(),
-                lengths.len(),
-                crossing.section,
-                crossing.tab,
-                crossing.density,
-                figures.as_ptr(),
-                figures.len(),
-                crossing.fillet,
-                glue.as_ptr(),
-                glue.len(),
+                crossing.numbers.as_ptr(),
+                crossing.numbers.len(),
+                crossing.counts.as_ptr(),
+                crossing.counts.len(),
+                crossing.points.as_ptr(),
+                crossing.points.len(),
                 self.numbers.as_mut_ptr(),
                 self.numbers.len(),
                 self.counts.as_mut_ptr(),

@@ -110,83 +110,59 @@ pub struct TubeFinSet {
     pub density: Density,
 }
 
-/// A set as the library takes it: the number of each choice, and the figures that go with them.
+/// A set as the library takes it: its lengths and figures, how many fins and the number of each choice, and an outline's points.
 pub(crate) struct SetNumbers<'a> {
-    pub(crate) planform: PlanformNumbers<'a>,
-    pub(crate) section: usize,
-    pub(crate) tab: usize,
-    pub(crate) density: usize,
-    pub(crate) fillet: usize,
-    figures: [f64; 8],
-    glue: [f64; 2],
-}
-
-impl SetNumbers<'_> {
-    /// Thickness, cant, base angle, body radius and density; with a tab also its three lengths.
-    pub(crate) fn figures(&self) -> &[f64] {
-        let count = if self.tab == raw::NO_TAB { 5 } else { 8 };
-        &self.figures[..count]
-    }
-
-    /// Of a fillet its radius and density.
-    pub(crate) fn glue(&self) -> &[f64] {
-        let count = if self.fillet == raw::NO_FILLET { 0 } else { 2 };
-        &self.glue[..count]
-    }
+    pub(crate) numbers: [f64; raw::SET_NUMBERS],
+    pub(crate) counts: [usize; raw::SET_COUNTS],
+    pub(crate) points: &'a [f64],
 }
 
 impl FinSet<'_> {
     pub(crate) fn numbers(&self) -> SetNumbers<'_> {
+        let planform = self.planform.numbers();
+        let [root, second, third, fourth] = planform.lengths;
         let (density, value) = self.density.number();
-        let plate = [
-            self.thickness_m,
-            self.cant_rad,
-            self.base_angle_rad,
-            self.body_radius_m,
-            value,
-        ];
-        let mut figures = [0.0; 8];
-        figures[..5].copy_from_slice(&plate);
-        if let Some(tab) = self.tab {
-            figures[5..].copy_from_slice(&[tab.height_m, tab.length_m, tab.offset_m]);
-        }
-        let (fillet, glue) = self.fillet.map_or((raw::NO_FILLET, [0.0; 2]), |fillet| {
+        let (tab, [height, length, offset]) = self.tab.map_or((raw::NO_TAB, [0.0; 3]), |tab| {
+            (raw::TAB, [tab.height_m, tab.length_m, tab.offset_m])
+        });
+        let (fillet, [radius, glue]) = self.fillet.map_or((raw::NO_FILLET, [0.0; 2]), |fillet| {
             let (number, value) = fillet.density.number();
             (number, [fillet.radius_m, value])
         });
         SetNumbers {
-            planform: self.planform.numbers(),
-            section: self.section.number(),
-            tab: if self.tab.is_some() { raw::TAB } else { raw::NO_TAB },
-            density,
-            fillet,
-            figures,
-            glue,
+            numbers: [
+                root,
+                second,
+                third,
+                fourth,
+                self.thickness_m,
+                self.cant_rad,
+                self.base_angle_rad,
+                self.body_radius_m,
+                value,
+                height,
+                length,
+                offset,
+                radius,
+                glue,
+            ],
+            counts: [self.count, planform.number, self.section.number(), tab, density, fillet],
+            points: planform.points,
         }
     }
 }
 
-/// A planform's number and its lengths: an outline's points as they lie, the others' in a short list.
+/// A planform's number and its lengths, zeros behind them; and an outline's points as they lie.
 pub(crate) struct PlanformNumbers<'a> {
     pub(crate) number: usize,
-    short: [f64; 4],
-    points: &'a [f64],
-}
-
-impl PlanformNumbers<'_> {
-    pub(crate) fn lengths(&self) -> &[f64] {
-        match self.number {
-            raw::TRAPEZOID => &self.short,
-            raw::ELLIPSE => &self.short[..2],
-            _ => self.points,
-        }
-    }
+    pub(crate) lengths: [f64; raw::LENGTHS],
+    pub(crate) points: &'a [f64],
 }
 
 impl Planform<'_> {
     pub(crate) fn numbers(&self) -> PlanformNumbers<'_> {
         let none: &[f64] = &[];
-        let (number, short, points) = match *self {
+        let (number, lengths, points) = match *self {
             Self::Trapezoid {
                 root_chord_m,
                 tip_chord_m,
@@ -194,9 +170,13 @@ impl Planform<'_> {
                 sweep_m,
             } => (raw::TRAPEZOID, [root_chord_m, tip_chord_m, span_m, sweep_m], none),
             Self::Ellipse { root_chord_m, span_m } => (raw::ELLIPSE, [root_chord_m, span_m, 0.0, 0.0], none),
-            Self::Outline { points_m } => (raw::OUTLINE, [0.0; 4], points_m.as_flattened()),
+            Self::Outline { points_m } => (raw::OUTLINE, [0.0; raw::LENGTHS], points_m.as_flattened()),
         };
-        PlanformNumbers { number, short, points }
+        PlanformNumbers {
+            number,
+            lengths,
+            points,
+        }
     }
 
     /// The length of the root: of an outline its last point's x, 0 where it has none.

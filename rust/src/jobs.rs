@@ -24,7 +24,6 @@ impl Job {
     /// set has no job; how long the scratch is, each step checks.
     pub fn new(set: &FinSet, limit: usize) -> Result<Self, Error> {
         let crossing = set.numbers();
-        let (lengths, figures, glue) = (crossing.planform.lengths(), crossing.figures(), crossing.glue());
         let mut job = Self {
             numbers: [0.0; raw::JOB_NUMBERS],
             counts: [0; raw::JOB_COUNTS],
@@ -34,18 +33,12 @@ impl Job {
         let number = unsafe {
             raw::delvouzh_job_make(
                 limit,
-                set.count,
-                crossing.planform.number,
-                lengths.as_ptr(),
-                lengths.len(),
-                crossing.section,
-                crossing.tab,
-                crossing.density,
-                figures.as_ptr(),
-                figures.len(),
-                crossing.fillet,
-                glue.as_ptr(),
-                glue.len(),
+                crossing.numbers.as_ptr(),
+                crossing.numbers.len(),
+                crossing.counts.as_ptr(),
+                crossing.counts.len(),
+                crossing.points.as_ptr(),
+                crossing.points.len(),
                 job.numbers.as_mut_ptr(),
                 job.numbers.len(),
                 job.counts.as_mut_ptr(),

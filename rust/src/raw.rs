@@ -3,6 +3,7 @@
 pub const TRAPEZOID: usize = 1;
 pub const ELLIPSE: usize = 2;
 pub const OUTLINE: usize = 3;
+pub const LENGTHS: usize = 4;
 
 pub const SQUARE: usize = 1;
 pub const ROUNDED: usize = 2;
@@ -17,6 +18,9 @@ pub const NO_FILLET: usize = 0;
 pub const BULK: usize = 1;
 pub const SURFACE: usize = 2;
 pub const LINE: usize = 3;
+
+pub const SET_NUMBERS: usize = 14;
+pub const SET_COUNTS: usize = 6;
 
 pub const INSIDE: usize = 1;
 pub const EDGE: usize = 2;
@@ -43,18 +47,12 @@ pub const ANSWER: usize = 320;
 extern "C" {
     pub fn delvouzh_mass_properties(
         limit: usize,
-        count: usize,
-        planform: usize,
-        lengths: *const f64,
-        lengths_len: usize,
-        section: usize,
-        tab: usize,
-        density: usize,
-        figures: *const f64,
-        figures_len: usize,
-        fillet: usize,
-        glue: *const f64,
-        glue_len: usize,
+        set_numbers: *const f64,
+        set_numbers_len: usize,
+        set_counts: *const usize,
+        set_counts_len: usize,
+        points: *const f64,
+        points_len: usize,
         scratch: *mut f64,
         scratch_len: usize,
         body: *mut f64,
@@ -65,18 +63,12 @@ extern "C" {
 
     pub fn delvouzh_job_make(
         limit: usize,
-        count: usize,
-        planform: usize,
-        lengths: *const f64,
-        lengths_len: usize,
-        section: usize,
-        tab: usize,
-        density: usize,
-        figures: *const f64,
-        figures_len: usize,
-        fillet: usize,
-        glue: *const f64,
-        glue_len: usize,
+        set_numbers: *const f64,
+        set_numbers_len: usize,
+        set_counts: *const usize,
+        set_counts_len: usize,
+        points: *const f64,
+        points_len: usize,
         job_numbers: *mut f64,
         job_numbers_len: usize,
         job_counts: *mut usize,
@@ -114,18 +106,12 @@ extern "C" {
     pub fn delvouzh_engine_submit(
         screen: usize,
         limit: usize,
-        count: usize,
-        planform: usize,
-        lengths: *const f64,
-        lengths_len: usize,
-        section: usize,
-        tab: usize,
-        density: usize,
-        figures: *const f64,
-        figures_len: usize,
-        fillet: usize,
-        glue: *const f64,
-        glue_len: usize,
+        set_numbers: *const f64,
+        set_numbers_len: usize,
+        set_counts: *const usize,
+        set_counts_len: usize,
+        points: *const f64,
+        points_len: usize,
         engine_numbers: *mut f64,
         engine_numbers_len: usize,
         engine_counts: *mut usize,
@@ -164,6 +150,8 @@ extern "C" {
         planform: usize,
         lengths: *const f64,
         lengths_len: usize,
+        points: *const f64,
+        points_len: usize,
         scratch: *mut f64,
         scratch_len: usize,
         area: *mut f64,
@@ -176,6 +164,8 @@ extern "C" {
         planform: usize,
         lengths: *const f64,
         lengths_len: usize,
+        points: *const f64,
+        points_len: usize,
         height_m: f64,
         ends: *mut f64,
         ends_len: usize,
@@ -187,6 +177,8 @@ extern "C" {
         planform: usize,
         lengths: *const f64,
         lengths_len: usize,
+        points: *const f64,
+        points_len: usize,
         x_m: f64,
         height_m: f64,
         counts: *mut usize,

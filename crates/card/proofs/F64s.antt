@@ -5,14 +5,14 @@ use mathlib.Core.Bool.{Bool, true, false, cond}
 use mathlib.Core.List.{List}
 use Prim.Native.Nat.{ℕ, _-_}
 use lib.Dec.{eqb}
-use lib.ListN.{length, drop}
+use lib.ListN.{drop}
 use lib.Ieee.{Float}
 use Rattle.floats.specs.Operations.{at}
 use Rattle.templates.proofs.F64s.{F64, AllF64, take-f64, drop-f64}
 use Rattle.planforms.specs.declared.Planform.the-variants.{Trapezoid, Ellipse, Outline}
 use Rattle.planforms.specs.declared.NumberedPlanform.{NumberedPlanform}
 use Rattle.planforms.specs.declared.NumberedPlanform.the-variants.{Known as planformKnown, Unknown as noPlanform}
-use Rattle.planforms.specs.Numbered.{numberedPlanform}
+use Rattle.planforms.specs.Numbered.{planformOf}
 use Rattle.planforms.proofs.Sized.{PlanformF64}
 use Rattle.sections.specs.declared.NumberedSection.{NumberedSection}
 use Rattle.sections.specs.declared.NumberedSection.the-variants.{Known as sectionKnown, Unknown as noSection}
@@ -22,13 +22,13 @@ use Rattle.materials.specs.declared.NumberedDensity.the-variants.{Known as dens
 use Rattle.materials.specs.Numbered.{numberedDensity}
 use Rattle.fillets.specs.declared.NumberedFillet.{NumberedFillet}
 use Rattle.fillets.specs.declared.NumberedFillet.the-variants.{Known as filletKnown, Unknown as noFillet}
-use Rattle.fillets.specs.Numbered.{numberedFillet}
+use Rattle.fillets.specs.Numbered.{filletOf}
 use Rattle.fins.specs.declared.FinSet.{FinSet}
 use Rattle.fins.specs.declared.NumberedTab.{NumberedTab}
 use Rattle.fins.specs.declared.NumberedTab.the-variants.{Known as tabKnown, Unknown as noTab}
 use Rattle.fins.specs.declared.NumberedSet.{NumberedSet}
 use Rattle.fins.specs.declared.NumberedSet.the-variants.{Known as setKnown, Unknown as noSet}
-use Rattle.fins.specs.Numbered.{numberedTab, numberedSet}
+use Rattle.fins.specs.Numbered.{tabOf, numberedSet}
 use Rattle.forms.specs.declared.Form.{Form}
 use Rattle.forms.proofs.F64s.{AskedF64, line-f64}
 use Rattle.requests.specs.Requests.{number, between, end, setRequestOf}
@@ -39,20 +39,18 @@ abbrev KnownPlanform : List Float → NumberedPlanform → Type 0
 KnownPlanform lengths noPlanform = Unit {0}
 KnownPlanform lengths (planformKnown p) = PlanformF64 p lengths
 
-planform-f64 : (number : ℕ) (lengths : List Float) → AllF64 lengths → KnownPlanform lengths (numberedPlanform number lengths)
-unfolding numberedPlanform
-planform-f64 number lengths f = by (eqb number 1) (eqb (length lengths) 4) (eqb number 2) (eqb (length lengths) 2) (eqb number 3)
+planform-f64 : (number : ℕ) (lengths : List Float) → AllF64 lengths → KnownPlanform lengths (planformOf number lengths)
+unfolding planformOf
+planform-f64 number lengths f = by (eqb number 1) (eqb number 2) (eqb number 3)
   where
-    by : (a b c d g : Bool)
+    by : (a b c : Bool)
         → KnownPlanform lengths
-        (cond a (cond b (planformKnown (Trapezoid (at lengths 0) (at lengths 1) (at lengths 2) (at lengths 3))) noPlanform)
-        (cond c (cond d (planformKnown (Ellipse (at lengths 0) (at lengths 1))) noPlanform) (cond g (planformKnown Outline) noPlanform)))
-    by true true c d g = (f 0, (f 1, (f 2, f 3)))
-    by true false c d g = tt
-    by false b true true g = (f 0, f 1)
-    by false b true false g = tt
-    by false b false d true = f
-    by false b false d false = tt
+        (cond a (planformKnown (Trapezoid (at lengths 0) (at lengths 1) (at lengths 2) (at lengths 3)))
+        (cond b (planformKnown (Ellipse (at lengths 0) (at lengths 1))) (cond c (planformKnown Outline) noPlanform)))
+    by true b c = (f 0, (f 1, (f 2, f 3)))
+    by false true c = (f 0, f 1)
+    by false false true = f
+    by false false false = tt
 
 abbrev KnownSet : List Float → NumberedSet → Type 0
 KnownSet lengths noSet = Unit {0}
@@ -78,9 +76,9 @@ request-f64 ns figures e =
     let lengths = between 0 (end ns 4) figures in
     let known = take-f64 (end ns 4 - 0) (drop 0 figures) (drop-f64 0 figures e) in
     known-set lengths (number ns 5) (at figures (end ns 4)) (at later 0) (at later 1) (at later 2) (e (end ns 4))
-    (drop-f64 (end ns 1) figures e 2) (numberedPlanform (number ns 4) lengths) (planform-f64 (number ns 4) lengths known)
-    (numberedSection (number ns 3)) (numberedTab (number ns 2) (between (end ns 3) (end ns 2) figures))
-    (numberedFillet (number ns 1) (between (end ns 2) (end ns 1) figures)) (numberedDensity (number ns 0) (at later 3))
+    (drop-f64 (end ns 1) figures e 2) (planformOf (number ns 4) lengths) (planform-f64 (number ns 4) lengths known)
+    (numberedSection (number ns 3)) (tabOf (number ns 2) (between (end ns 3) (end ns 2) figures))
+    (filletOf (number ns 1) (between (end ns 2) (end ns 1) figures)) (numberedDensity (number ns 0) (at later 3))
 
 pub written-f64 : (form : Form) (line : List ℕ) (set : FinSet) (points : List Float) (L : ℕ) → WritesSet form line set points L
     → SetF64 set points

@@ -23,9 +23,11 @@ use Rattle.drill.specs.Drill.{verdictOf, placeNumber, nearestOf}
 use Rattle.planforms.specs.declared.NumberedPlanform.{NumberedPlanform}
 use Rattle.fins.specs.declared.NumberedSet.{NumberedSet}
 use Rattle.requests.specs.Calls.{numberedCall, numberedArea, numberedChords, numberedDrill, tensorMoments, bodyVerdict}
-use Rattle.foreign_numbers.specs.Numbers.{numberIn, over, withValues, withCounts, room, figureCounts}
+use Rattle.refusals.specs.Numbered.{numberIn}
+use Rattle.refusals.specs.Lent.{over, withValues, withCounts, room}
+use Rattle.figures.specs.Numbered.{figureCounts}
 use Rattle.exports.specs.Calls.{SetCall, areaNumbers, areaCounts, AreaCall, chordCounts, ChordsCall, DrillCall, BodyCall, ClosingCall, JoinCall, momentsNumbers, MomentsCall, CheckCall}
-use Rattle.foreign_numbers.proofs.Rooms.{has-room, few-figures, few-counts}
+use Rattle.refusals.proofs.Rooms.{has-room, few-figures, few-counts}
 
 -- one of the two lists that a call fills is too short
 pub record NoRoom {A : Type 0} (m : ℕ) (figures : List A) (n : ℕ) (counts : List ℕ) : Type 0 where

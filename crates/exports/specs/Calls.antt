@@ -23,7 +23,9 @@ use Rattle.tubes.specs.Closing.{closingOf}
 use Rattle.moments.specs.declared.Moments.{Moments}
 use Rattle.figures.specs.declared.Area.{Area}
 use Rattle.requests.specs.Calls.{numberedCall, numberedArea, numberedChords, numberedDrill, tensorMoments, bodyVerdict}
-use Rattle.foreign_numbers.specs.Numbers.{numberIn, over, withValues, withCount, withCounts, room, figureCounts}
+use Rattle.refusals.specs.Numbered.{numberIn}
+use Rattle.refusals.specs.Lent.{over, withValues, withCount, withCounts, room}
+use Rattle.figures.specs.Numbered.{figureCounts}
 
 -- ---- a set's figures
 

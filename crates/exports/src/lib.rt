@@ -3,24 +3,24 @@
 // of its parts, which the compiler then puts into it (docs/SPEED.md).
 //
 // A call returns 0, or the number of the refusal, and writes its figures and counts over the start of lent slices; a refusal writes
-// zero figures, but of chords none. Only the root returns its f64, and the most samples their number. A planform, a
-// section, a tab and a density cross as a number, with their figures in a slice: an unknown number, or figures of another count, are 18
-// (no form); but points that are not 3 to 64 pairs are 5, and bodies that are not 1 to 32 whole ones are 3. A lent slice that is too short
-// for what is written over it is 18 too, and then nothing at all is written.
+// zero figures, but of chords none. Only the root returns its f64, and the most samples their number. A set is the two lists of
+// `fins::numbers_of` and `fins::counts_of`, a planform its number and four lengths, an outline's points a list of their own: an unknown
+// number, or lists of another count, are 18 (no form); but points that are not 3 to 64 pairs are 5, and bodies that are not 1 to 32 whole
+// ones are 3. A lent slice that is too short for what is written over it is 18 too, and then nothing at all is written.
 ghost use mathlib.Core.Path.{_≡_};
 ghost use mathlib.Core.List.{[], _∷_};
 ghost use Prim.Native.Nat.{_≤_};
 ghost use lib.ListN.{length};
 ghost use Rattle.root.specs.Root.{rootOf, IsRoot};
-ghost use Rattle.planforms.specs.Numbered.{numberedPlanform};
+ghost use Rattle.planforms.specs.Numbered.{listedPlanform};
 ghost use Rattle.figures.specs.Answers.{mostSamples};
 ghost use Rattle.requests.specs.Calls.{ringBy, copiedBy, placedBy, movedBy, withoutBy};
-ghost use Rattle.foreign_numbers.specs.Sets.{crossedSet};
-ghost use Rattle.foreign_numbers.specs.Numbers.{over};
+ghost use Rattle.fins.specs.Numbered.{listedSet};
+ghost use Rattle.refusals.specs.Lent.{over};
 ghost use Rattle.exports.specs.Calls.{SetCall, AreaCall, ChordsCall, DrillCall, BodyCall, ClosingCall, JoinCall, MomentsCall, CheckCall};
 use bodies::BODY_NUMBERS;
-use foreign_numbers::NO_FORM;
 use joins::Joined;
+use refusals::NO_FORM;
 
 // Writes three figures over the first three numbers.
 fn write_three(figures: &mut [f64], x: f64, y: f64, z: f64)
@@ -46,8 +46,8 @@ fn told_body(answer: Joined, body: &mut [f64], values: &mut [usize]) -> usize
     let verdict = answer.verdict;
     let found = answer.body;
     joins::write_body(body, 0, found);
-    foreign_numbers::write_values(values, verdict);
-    foreign_numbers::number(verdict)
+    refusals::write_values(values, verdict);
+    refusals::verdict_number(verdict)
 }
 
 // The square root of x.
@@ -71,22 +71,15 @@ pub extern "C" fn delvouzh_most_samples() -> usize
 #[no_mangle]
 pub extern "C" fn delvouzh_mass_properties(
     limit: usize,
-    count: usize,
-    planform: usize,
-    lengths: &[f64],
-    section: usize,
-    tab: usize,
-    density: usize,
-    figures: &[f64],
-    fillet: usize,
-    glue: &[f64],
+    set_numbers: &[f64],
+    set_counts: &[usize],
+    points: &[f64],
     scratch: &mut [f64],
     body: &mut [f64],
     counts: &mut [usize],
 ) -> usize
     ensures { λ r. ⌜ SetCall
-        (crossedSet count planform (now (lengths .entry)) section tab density (now (figures .entry)) fillet (now (glue .entry)))
-        (now (lengths .entry)) limit
+        (listedSet (now («set_numbers» .entry)) (now («set_counts» .entry))) (now (points .entry)) limit
         (now (scratch .entry)) (now (body .entry)) (now (counts .entry))
         r (now (scratch .exit)) (now (body .exit)) (now (counts .exit)) ⌝ }
 {
@@ -96,23 +89,13 @@ pub extern "C" fn delvouzh_mass_properties(
     if counts.len() < 4 {
         return NO_FORM;
     }
-    let set = foreign_numbers::crossed_set(
-        count,
-        planform,
-        lengths,
-        section,
-        tab,
-        density,
-        figures,
-        fillet,
-        glue,
-    );
-    let found = requests::set_figures(set, lengths, limit, scratch);
+    let set = fins::listed_set(set_numbers, set_counts);
+    let found = requests::set_figures(set, points, limit, scratch);
     let verdict = found.verdict;
     let of_set = found.body;
     joins::write_body(body, 0, of_set);
-    foreign_numbers::write_counts(counts, verdict, found.intervals, found.samples);
-    foreign_numbers::number(verdict)
+    refusals::write_counts(counts, verdict, found.intervals, found.samples);
+    refusals::verdict_number(verdict)
 }
 
 // A planform's area and centroid (x, then height), likewise: writes three figures.
@@ -121,11 +104,12 @@ pub extern "C" fn delvouzh_geometry(
     limit: usize,
     planform: usize,
     lengths: &[f64],
+    points: &[f64],
     scratch: &mut [f64],
     area: &mut [f64],
     counts: &mut [usize],
 ) -> usize
-    ensures { λ r. ⌜ AreaCall (numberedPlanform planform (now (lengths .entry))) (now (lengths .entry)) limit
+    ensures { λ r. ⌜ AreaCall (listedPlanform planform (now (lengths .entry))) (now (points .entry)) limit
         (now (scratch .entry)) (now (area .entry)) (now (counts .entry))
         r (now (scratch .exit)) (now (area .exit)) (now (counts .exit)) ⌝ }
 {
@@ -135,8 +119,8 @@ pub extern "C" fn delvouzh_geometry(
     if counts.len() < 4 {
         return NO_FORM;
     }
-    let asked = planforms::numbered_planform(planform, lengths);
-    let found = requests::area_figures(asked, lengths, limit, scratch);
+    let asked = planforms::listed_planform(planform, lengths);
+    let found = requests::area_figures(asked, points, limit, scratch);
     let verdict = found.verdict;
     write_three(
         area,
@@ -144,8 +128,8 @@ pub extern "C" fn delvouzh_geometry(
         found.centroid_x_m,
         found.centroid_span_m,
     );
-    foreign_numbers::write_counts(counts, verdict, found.intervals, found.samples);
-    foreign_numbers::number(verdict)
+    refusals::write_counts(counts, verdict, found.intervals, found.samples);
+    refusals::verdict_number(verdict)
 }
 
 // A planform's chords at a height in metres: writes start and end of each over a list with room for 32 chords, and as counts two values of
@@ -154,11 +138,12 @@ pub extern "C" fn delvouzh_geometry(
 pub extern "C" fn delvouzh_chords_at(
     planform: usize,
     lengths: &[f64],
+    points: &[f64],
     height_m: f64,
     ends: &mut [f64],
     counts: &mut [usize],
 ) -> usize
-    ensures { λ r. ⌜ ChordsCall (numberedPlanform planform (now (lengths .entry))) (now (lengths .entry)) «height_m»
+    ensures { λ r. ⌜ ChordsCall (listedPlanform planform (now (lengths .entry))) (now (points .entry)) «height_m»
         (now (ends .entry)) (now (counts .entry))
         r (now (ends .exit)) (now (counts .exit)) ⌝ }
 {
@@ -168,11 +153,11 @@ pub extern "C" fn delvouzh_chords_at(
     if counts.len() < 3 {
         return NO_FORM;
     }
-    let asked = planforms::numbered_planform(planform, lengths);
-    let found = requests::listed_chords(asked, lengths, height_m, ends);
+    let asked = planforms::listed_planform(planform, lengths);
+    let found = requests::listed_chords(asked, points, height_m, ends);
     let verdict = found.verdict;
-    foreign_numbers::write_count(counts, verdict, found.count);
-    foreign_numbers::number(verdict)
+    refusals::write_count(counts, verdict, found.count);
+    refusals::verdict_number(verdict)
 }
 
 // Where a point lies beside a planform: writes two values of a refusal, the place (1 inside, 2 on the edge, 3 outside) and the nearest
@@ -181,26 +166,27 @@ pub extern "C" fn delvouzh_chords_at(
 pub extern "C" fn delvouzh_drill(
     planform: usize,
     lengths: &[f64],
+    points: &[f64],
     x_m: f64,
     height_m: f64,
     counts: &mut [usize],
 ) -> usize
-    ensures { λ r. ⌜ DrillCall (numberedPlanform planform (now (lengths .entry))) (now (lengths .entry)) «x_m» «height_m»
+    ensures { λ r. ⌜ DrillCall (listedPlanform planform (now (lengths .entry))) (now (points .entry)) «x_m» «height_m»
         (now (counts .entry)) r (now (counts .exit)) ⌝ }
 {
     if counts.len() < 4 {
         return NO_FORM;
     }
-    let asked = planforms::numbered_planform(planform, lengths);
-    let found = requests::drilled(asked, lengths, x_m, height_m);
+    let asked = planforms::listed_planform(planform, lengths);
+    let found = requests::drilled(asked, points, x_m, height_m);
     let verdict = drill::verdict(found);
-    foreign_numbers::write_counts(
+    refusals::write_counts(
         counts,
         verdict,
         drill::place_number(found),
         drill::nearest(found),
     );
-    foreign_numbers::number(verdict)
+    refusals::verdict_number(verdict)
 }
 
 // A ring of tubes; the figures: length, outer radius, wall, base angle, body radius, density. Writes the body's numbers, and two
@@ -245,8 +231,8 @@ pub extern "C" fn delvouzh_closing_radius(
     let found = tubes::closing_radius_m(body_radius_m, count);
     let verdict = found.verdict;
     radius[0] = found.radius_m;
-    foreign_numbers::write_values(values, verdict);
-    foreign_numbers::number(verdict)
+    refusals::write_values(values, verdict);
+    refusals::verdict_number(verdict)
 }
 
 // One to 32 bodies by their numbers, joined: writes the numbers of the body.
@@ -261,7 +247,7 @@ pub extern "C" fn delvouzh_combine(bodies: &[f64], body: &mut [f64]) -> usize
     let verdict = joined.verdict;
     let found = joined.body;
     joins::write_body(body, 0, found);
-    foreign_numbers::number(verdict)
+    refusals::verdict_number(verdict)
 }
 
 // Copies of a body by its numbers, one moved by each x and y of a list, joined: writes the numbers of the body, and two values of a refusal.
@@ -346,8 +332,8 @@ pub extern "C" fn delvouzh_principal_moments(
     let verdict = found.verdict;
     let m = found.moments_kg_m2;
     write_three(moments, m[0], m[1], m[2]);
-    foreign_numbers::write_values(values, verdict);
-    foreign_numbers::number(verdict)
+    refusals::write_values(values, verdict);
+    refusals::verdict_number(verdict)
 }
 
 // The check of a body by its numbers: writes two values of a refusal.
@@ -359,6 +345,6 @@ pub extern "C" fn delvouzh_check(body: &[f64], values: &mut [usize]) -> usize
         return NO_FORM;
     }
     let verdict = requests::body_verdict(body);
-    foreign_numbers::write_values(values, verdict);
-    foreign_numbers::number(verdict)
+    refusals::write_values(values, verdict);
+    refusals::verdict_number(verdict)
 }

@@ -1,3 +1,4 @@
 pub mod Figures
 pub mod Areas
 pub mod Answers
+pub mod Numbered

@@ -7,7 +7,7 @@
 ghost use mathlib.Core.Path.{_≡_};
 ghost use Rattle.fillets.specs.Angles.{halved, angleSeries, angleOf};
 ghost use Rattle.fillets.specs.FilletSections.{lessMoments, spanLessSineSeries, spanLessSineOf, sectorWith, sectorOf, triangleOf, filletSectionOf};
-ghost use Rattle.fillets.specs.Numbered.{numberedFillet};
+ghost use Rattle.fillets.specs.Numbered.{filletFigures, filletOf};
 ghost use Rattle.fillets.specs.Fillets.{isNone, isSound, isRefused, glueCheck, ratioCheck, aboutOrigin, pairOf, filletsOf};
 use bodies::Body;
 use bodies::Tensor;
@@ -36,21 +36,26 @@ pub enum NumberedFillet {
     Unknown,
 }
 
-// 0 none; 1, 2, 3 of bulk, surface and line density (radius, density).
-pub fn numbered_fillet(number: usize, figures: &[f64]) -> NumberedFillet
-    ensures { λ r. ⌜ r ≡ numberedFillet number (now (figures .entry)) ⌝ }
+// How many figures a fillet has.
+pub const FILLET_FIGURES: usize = 2;
+
+// Its radius and its density's figure. A fillet's number is its density's.
+pub fn figures_of(fillet: Fillet) -> [f64; FILLET_FIGURES]
+    ensures { λ r. ⌜ r ≡ filletFigures fillet ⌝ }
+{
+    let density = fillet.density;
+    [fillet.radius_m, materials::figure_of(density)]
+}
+
+// The fillet of a number, 0 for none, or else its density's, and of these figures.
+pub fn fillet_of(number: usize, figures: [f64; FILLET_FIGURES]) -> NumberedFillet
+    ensures { λ r. ⌜ r ≡ filletOf number figures ⌝ }
 {
     if number == 0 {
-        if figures.len() == 0 {
-            return NumberedFillet::Known(Fillet {
-                radius_m: 0.0,
-                density: Density::Bulk { kg_m3: 0.0 },
-            });
-        }
-        return NumberedFillet::Unknown;
-    }
-    if figures.len() != 2 {
-        return NumberedFillet::Unknown;
+        return NumberedFillet::Known(Fillet {
+            radius_m: 0.0,
+            density: Density::Bulk { kg_m3: 0.0 },
+        });
     }
     let NumberedDensity::Known(density) = materials::numbered_density(number, figures[1]) else {
         return NumberedFillet::Unknown;

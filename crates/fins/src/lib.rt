@@ -7,13 +7,15 @@ ghost use mathlib.Core.Path.{_≡_};
 ghost use Rattle.refusals.specs.Given.{IsVerdict};
 ghost use Rattle.refusals.specs.Order.{firstOf};
 ghost use Rattle.fins.specs.Fins.{trapezoidCheck, planformCheck, slabCheck, tabCheck, depthCheck, plateChecks, mountChecks, filletChecks, ownCheck, setCheck, areaCheck};
-ghost use Rattle.fins.specs.Numbered.{numberedTab, numberedSet};
+ghost use Rattle.fins.specs.Numbered.{tabNumber, tabFigures, tabOf, numberedSet, numbersOf, countsOf, SetRoom, setIn, listedSet, knownSet};
+use fillets::FILLET_FIGURES;
 use fillets::Fillet;
 use fillets::NumberedFillet;
 use limits::check_angle;
 use limits::check_length;
 use materials::Density;
 use materials::NumberedDensity;
+use planforms::LENGTHS;
 use planforms::NumberedPlanform;
 use planforms::Planform;
 use refusals::Refusal;
@@ -58,25 +60,50 @@ pub enum NumberedSet {
     Unknown,
 }
 
-// 0 none; 1 a slab (height, length, offset).
-pub fn numbered_tab(number: usize, figures: &[f64]) -> NumberedTab
-    ensures { λ r. ⌜ r ≡ numberedTab number (now (figures .entry)) ⌝ }
+// How many figures a tab has.
+pub const TAB_FIGURES: usize = 3;
+
+// 0 none, 1 a slab.
+fn tab_number(tab: Tab) -> usize
+    ensures { λ r. ⌜ r ≡ tabNumber tab ⌝ }
+{
+    match tab {
+        Tab::None => 0,
+        Tab::Slab {
+            height_m: _,
+            length_m: _,
+            offset_m: _,
+        } => 1,
+    }
+}
+
+// Height, length and offset.
+fn tab_figures(tab: Tab) -> [f64; TAB_FIGURES]
+    ensures { λ r. ⌜ r ≡ tabFigures tab ⌝ }
+{
+    match tab {
+        Tab::None => [0.0; TAB_FIGURES],
+        Tab::Slab {
+            height_m,
+            length_m,
+            offset_m,
+        } => [height_m, length_m, offset_m],
+    }
+}
+
+// The tab of a number and figures.
+pub fn tab_of(number: usize, figures: [f64; TAB_FIGURES]) -> NumberedTab
+    ensures { λ r. ⌜ r ≡ tabOf number figures ⌝ }
 {
     if number == 0 {
-        if figures.len() == 0 {
-            return NumberedTab::Known(Tab::None);
-        }
-        return NumberedTab::Unknown;
+        return NumberedTab::Known(Tab::None);
     }
     if number == 1 {
-        if figures.len() == 3 {
-            return NumberedTab::Known(Tab::Slab {
-                height_m: figures[0],
-                length_m: figures[1],
-                offset_m: figures[2],
-            });
-        }
-        return NumberedTab::Unknown;
+        return NumberedTab::Known(Tab::Slab {
+            height_m: figures[0],
+            length_m: figures[1],
+            offset_m: figures[2],
+        });
     }
     NumberedTab::Unknown
 }
@@ -123,6 +150,117 @@ pub fn numbered_set(
         body_radius_m,
         density,
     })
+}
+
+// How many numbers and counts a set is in two lists, as C, Rust and a job's memory hold it.
+pub const SET_NUMBERS: usize = LENGTHS + 5 + TAB_FIGURES + FILLET_FIGURES;
+
+pub const SET_COUNTS: usize = 6;
+
+// The lengths and figures of a set.
+pub fn numbers_of(set: FinSet) -> [f64; SET_NUMBERS]
+    ensures { λ r. ⌜ r ≡ numbersOf set ⌝ }
+{
+    let planform = set.planform;
+    let l = planforms::lengths_of(planform);
+    let density = set.density;
+    let plate = materials::figure_of(density);
+    let tab = set.tab;
+    let t = tab_figures(tab);
+    let fillet = set.fillet;
+    let f = fillets::figures_of(fillet);
+    [
+        l[0],
+        l[1],
+        l[2],
+        l[3],
+        set.thickness_m,
+        set.cant_rad,
+        set.base_angle_rad,
+        set.body_radius_m,
+        plate,
+        t[0],
+        t[1],
+        t[2],
+        f[0],
+        f[1],
+    ]
+}
+
+// How many fins, and the numbers of a set's parts.
+pub fn counts_of(set: FinSet) -> [usize; SET_COUNTS]
+    ensures { λ r. ⌜ r ≡ countsOf set ⌝ }
+{
+    let planform = set.planform;
+    let section = set.cross_section;
+    let tab = set.tab;
+    let density = set.density;
+    let fillet = set.fillet;
+    let glue = fillet.density;
+    [
+        set.count,
+        planforms::number_of(planform),
+        sections::number_of(section),
+        tab_number(tab),
+        materials::number_of(density),
+        materials::number_of(glue),
+    ]
+}
+
+// The set that two lists begin with.
+pub fn set_in(numbers: &[f64], counts: &[usize]) -> NumberedSet
+    requires { ⌜ SetRoom (now numbers) (now counts) ⌝ }
+    ensures { λ r. ⌜ r ≡ setIn (now (numbers .entry)) (now (counts .entry)) ⌝ }
+{
+    numbered_set(
+        counts[0],
+        planforms::planform_of(counts[1], [numbers[0], numbers[1], numbers[2], numbers[3]]),
+        numbers[4],
+        sections::numbered_section(counts[2]),
+        tab_of(counts[3], [numbers[9], numbers[10], numbers[11]]),
+        fillets::fillet_of(counts[5], [numbers[12], numbers[13]]),
+        numbers[5],
+        numbers[6],
+        numbers[7],
+        materials::numbered_density(counts[4], numbers[8]),
+    )
+}
+
+// The same of two lists that are this set's and no more; another count of either is no set's.
+pub fn listed_set(numbers: &[f64], counts: &[usize]) -> NumberedSet
+    ensures { λ r. ⌜ r ≡ listedSet (now (numbers .entry)) (now (counts .entry)) ⌝ }
+{
+    if numbers.len() != SET_NUMBERS {
+        return NumberedSet::Unknown;
+    }
+    if counts.len() != SET_COUNTS {
+        return NumberedSet::Unknown;
+    }
+    set_in(numbers, counts)
+}
+
+// The set where there is one, and else one of no fins, which is refused.
+pub fn known_set(set: NumberedSet) -> FinSet
+    ensures { λ r. ⌜ r ≡ knownSet set ⌝ }
+{
+    match set {
+        NumberedSet::Known(set) => set,
+        NumberedSet::Unknown => FinSet {
+            count: 0,
+            planform: Planform::Outline,
+            thickness_m: 0.0,
+            cross_section: Section::Square,
+            tab: Tab::None,
+            fillet: Fillet {
+                radius_m: 0.0,
+                density: Density::Bulk { kg_m3: 0.0 },
+            },
+            cant_rad: 0.0,
+            base_angle_rad: 0.0,
+            body_radius_m: 0.0,
+            density: Density::Bulk { kg_m3: 0.0 },
+        },
+    }
 }
 
 fn check_trapezoid(root_chord_m: f64, tip_chord_m: f64, span_m: f64, sweep_m: f64) -> Verdict

@@ -8,141 +8,57 @@ ghost use Prim.Native.Nat.{_+_, _≤_};
 ghost use lib.ListN.{length};
 ghost use lib.Seq.{paste};
 ghost use Rattle.jobs.specs.Calls.{isTaken};
-ghost use Rattle.lent_jobs.specs.Memory.{planformNumber, lengthsOf, sectionNumber, tabNumber, tabFigures, densityNumber, densityFigure};
-ghost use Rattle.lent_jobs.specs.Memory.{verdictRow, flag, setNumbers, workedNumbers, countsOf, lengthCount, tabCount, knownSet, setIn, verdictIn, outcomeIn, jobIn};
+ghost use Rattle.lent_jobs.specs.Memory.{flag, workedNumbers, countsOf, setIn, outcomeIn, jobIn};
 ghost use Rattle.lent_jobs.specs.Lent.{Room, Holds, Makes, stripWorked, densityTaken, Steps, Changes, StepsThere, ChangesThere};
+use bodies::BODY_NUMBERS;
 use bodies::Body;
 use figures::Figures;
-use fillets::Fillet;
 use fins::FinSet;
-use fins::NumberedSet;
-use fins::Tab;
+use fins::SET_COUNTS;
+use fins::SET_NUMBERS;
 use jobs::Answer;
 use jobs::Job;
 use jobs::Points;
 use jobs::Reply;
 use materials::Density;
-use planforms::Planform;
-use refusals::Verdict;
 use refusals::first_refusal;
-use sections::Section;
 
-// How many numbers and counts a job has. Of the numbers, first the set's, then what is worked, then the outline's.
-pub const JOB_NUMBERS: usize = 159;
+// Where a job's numbers stand behind the set's: the sums over the strips worked, the answer's body, the outline's; and how many numbers it has.
+const SUMS: usize = SET_NUMBERS;
 
-pub const JOB_COUNTS: usize = 17;
+const BODY: usize = SUMS + 7;
 
-const SET_NUMBERS: usize = 14;
+const OUTLINE: usize = BODY + BODY_NUMBERS;
 
-const WORKED_NUMBERS: usize = 17;
+pub const JOB_NUMBERS: usize = OUTLINE + 128;
 
-const OUTLINE: usize = 31;
+const WORKED_NUMBERS: usize = OUTLINE - SUMS;
 
-fn planform_number(planform: Planform) -> usize
-    ensures { λ r. ⌜ r ≡ planformNumber planform ⌝ }
-{
-    match planform {
-        Planform::Trapezoid {
-            root_chord_m: _,
-            tip_chord_m: _,
-            span_m: _,
-            sweep_m: _,
-        } => 1,
-        Planform::Ellipse {
-            root_chord_m: _,
-            span_m: _,
-        } => 2,
-        Planform::Outline => 3,
-    }
-}
+// Where its counts stand behind the set's: L, the next strip, the totals, whether it has ended; of the answer the verdict's number and values, the
+// intervals and the samples; how many numbers are the outline's; and how many counts it has.
+const LIMIT: usize = SET_COUNTS;
 
-fn lengths(planform: Planform) -> [f64; 4]
-    ensures { λ r. ⌜ r ≡ lengthsOf planform ⌝ }
-{
-    match planform {
-        Planform::Trapezoid {
-            root_chord_m,
-            tip_chord_m,
-            span_m,
-            sweep_m,
-        } => [root_chord_m, tip_chord_m, span_m, sweep_m],
-        Planform::Ellipse {
-            root_chord_m,
-            span_m,
-        } => [root_chord_m, span_m, 0.0, 0.0],
-        Planform::Outline => [0.0, 0.0, 0.0, 0.0],
-    }
-}
+const NEXT: usize = LIMIT + 1;
 
-fn section_number(section: Section) -> usize
-    ensures { λ r. ⌜ r ≡ sectionNumber section ⌝ }
-{
-    match section {
-        Section::Square => 1,
-        Section::Rounded => 2,
-        Section::Airfoil => 3,
-        Section::AirfoilOpen => 4,
-    }
-}
+const INTERVALS: usize = NEXT + 1;
 
-fn tab_number(tab: Tab) -> usize
-    ensures { λ r. ⌜ r ≡ tabNumber tab ⌝ }
-{
-    match tab {
-        Tab::None => 0,
-        Tab::Slab {
-            height_m: _,
-            length_m: _,
-            offset_m: _,
-        } => 1,
-    }
-}
+const SAMPLES: usize = INTERVALS + 1;
 
-fn tab_figures(tab: Tab) -> [f64; 3]
-    ensures { λ r. ⌜ r ≡ tabFigures tab ⌝ }
-{
-    match tab {
-        Tab::None => [0.0, 0.0, 0.0],
-        Tab::Slab {
-            height_m,
-            length_m,
-            offset_m,
-        } => [height_m, length_m, offset_m],
-    }
-}
+const ENDED: usize = SAMPLES + 1;
 
-fn density_number(density: Density) -> usize
-    ensures { λ r. ⌜ r ≡ densityNumber density ⌝ }
-{
-    match density {
-        Density::Bulk { kg_m3: _ } => 1,
-        Density::Surface { kg_m2: _ } => 2,
-        Density::Line { kg_m: _ } => 3,
-    }
-}
+const NUMBER: usize = ENDED + 1;
 
-fn density_figure(density: Density) -> f64
-    ensures { λ r. ⌜ r ≡ densityFigure density ⌝ }
-{
-    match density {
-        Density::Bulk { kg_m3 } => kg_m3,
-        Density::Surface { kg_m2 } => kg_m2,
-        Density::Line { kg_m } => kg_m,
-    }
-}
+const FIRST: usize = NUMBER + 1;
 
-// A verdict's number, 0 where nothing is refused, and the two values of a refusal.
-fn verdict_row(verdict: Verdict) -> [usize; 3]
-    ensures { λ r. ⌜ r ≡ verdictRow verdict ⌝ }
-{
-    match verdict {
-        Verdict::Accepted => [0, 0, 0],
-        Verdict::Refused(refusal) => {
-            let values = refusals::values(refusal);
-            [refusals::number(refusal), values[0], values[1]]
-        }
-    }
-}
+const SECOND: usize = FIRST + 1;
+
+const ANSWER_INTERVALS: usize = SECOND + 1;
+
+const ANSWER_SAMPLES: usize = ANSWER_INTERVALS + 1;
+
+const POINTS: usize = ANSWER_SAMPLES + 1;
+
+pub const JOB_COUNTS: usize = POINTS + 1;
 
 // A count that stands for a test.
 pub fn flag_of(holds: bool) -> usize
@@ -161,36 +77,6 @@ pub fn is_taken(answer: Answer) -> bool
         Reply::Taken => true,
         Reply::Answered => false,
     }
-}
-
-fn set_numbers(set: FinSet) -> [f64; SET_NUMBERS]
-    ensures { λ r. ⌜ r ≡ setNumbers set ⌝ }
-{
-    let planform = set.planform;
-    let l = lengths(planform);
-    let density = set.density;
-    let plate = density_figure(density);
-    let tab = set.tab;
-    let t = tab_figures(tab);
-    let fillet = set.fillet;
-    let density = fillet.density;
-    let glue = density_figure(density);
-    [
-        l[0],
-        l[1],
-        l[2],
-        l[3],
-        set.thickness_m,
-        set.cant_rad,
-        set.base_angle_rad,
-        set.body_radius_m,
-        plate,
-        t[0],
-        t[1],
-        t[2],
-        fillet.radius_m,
-        glue,
-    ]
 }
 
 // The sums over the strips worked, and the answer's body.
@@ -226,31 +112,26 @@ fn counts_of(job: Job) -> [usize; JOB_COUNTS]
     ensures { λ r. ⌜ r ≡ countsOf job ⌝ }
 {
     let set = job.set;
-    let planform = set.planform;
-    let section = set.cross_section;
-    let tab = set.tab;
-    let density = set.density;
-    let fillet = set.fillet;
-    let glue = fillet.density;
+    let s = fins::counts_of(set);
     let outcome = job.outcome;
     let verdict = outcome.verdict;
-    let row = verdict_row(verdict);
+    let values = refusals::verdict_values(verdict);
     let points = job.points;
     [
-        set.count,
-        planform_number(planform),
-        section_number(section),
-        tab_number(tab),
-        density_number(density),
-        density_number(glue),
+        s[0],
+        s[1],
+        s[2],
+        s[3],
+        s[4],
+        s[5],
         job.limit,
         job.next,
         job.intervals,
         job.samples,
         flag_of(job.ended),
-        row[0],
-        row[1],
-        row[2],
+        refusals::verdict_number(verdict),
+        values[0],
+        values[1],
         outcome.intervals,
         outcome.samples,
         points.count,
@@ -289,7 +170,7 @@ pub fn write_job(numbers: &mut [f64], counts: &mut [usize], job: Job)
     ensures { λ _. ⌜ Holds job (now (numbers .entry)) (now (counts .entry)) (now (numbers .exit)) (now (counts .exit)) ⌝ }
 {
     let set = job.set;
-    let of_set = set_numbers(set);
+    let of_set = fins::numbers_of(set);
     write_numbers(numbers, 0, &of_set[..SET_NUMBERS]);
     let worked = worked_numbers(job);
     write_numbers(numbers, SET_NUMBERS, &worked[..WORKED_NUMBERS]);
@@ -300,64 +181,11 @@ pub fn write_job(numbers: &mut [f64], counts: &mut [usize], job: Job)
     write_counts(counts, &of_job[..JOB_COUNTS]);
 }
 
-// How many lengths a planform of this number has here, and how many figures a tab.
-fn length_count(planform: usize) -> usize
-    ensures { λ r. ⌜ (r ≡ lengthCount planform) × (r ≤ 4) ⌝ }
-{
-    if planform == 1 { 4 } else { 2 }
-}
-
-fn tab_count(tab: usize) -> usize
-    ensures { λ r. ⌜ (r ≡ tabCount tab) × (r ≤ 3) ⌝ }
-{
-    if tab == 1 { 3 } else { 0 }
-}
-
-// A set whose parts are all known, or one of no fins.
-fn known_set(set: NumberedSet) -> FinSet
-    ensures { λ r. ⌜ r ≡ knownSet set ⌝ }
-{
-    match set {
-        NumberedSet::Known(set) => set,
-        NumberedSet::Unknown => FinSet {
-            count: 0,
-            planform: Planform::Outline,
-            thickness_m: 0.0,
-            cross_section: Section::Square,
-            tab: Tab::None,
-            fillet: Fillet {
-                radius_m: 0.0,
-                density: Density::Bulk { kg_m3: 0.0 },
-            },
-            cant_rad: 0.0,
-            base_angle_rad: 0.0,
-            body_radius_m: 0.0,
-            density: Density::Bulk { kg_m3: 0.0 },
-        },
-    }
-}
-
 fn read_set(numbers: &[f64], counts: &[usize]) -> FinSet
     requires { ⌜ Room (now numbers) (now counts) ⌝ }
     ensures { λ r. ⌜ r ≡ setIn (now (numbers .entry)) (now (counts .entry)) ⌝ }
 {
-    let planform = counts[1];
-    let n = length_count(planform);
-    let tab = counts[3];
-    let e = 9 + tab_count(tab);
-    let set = fins::numbered_set(
-        counts[0],
-        planforms::numbered_planform(planform, &numbers[..n]),
-        numbers[4],
-        sections::numbered_section(counts[2]),
-        fins::numbered_tab(tab, &numbers[9..e]),
-        fillets::numbered_fillet(counts[5], &numbers[12..14]),
-        numbers[5],
-        numbers[6],
-        numbers[7],
-        materials::numbered_density(counts[4], numbers[8]),
-    );
-    known_set(set)
+    fins::known_set(fins::set_in(numbers, counts))
 }
 
 fn read_outline(numbers: &[f64]) -> [f64; 128]
@@ -373,26 +201,17 @@ fn read_outline(numbers: &[f64]) -> [f64; 128]
     outline
 }
 
-fn read_verdict(number: usize, first: usize, second: usize) -> Verdict
-    ensures { λ r. ⌜ r ≡ verdictIn number first second ⌝ }
-{
-    if number == 0 {
-        return Verdict::Accepted;
-    }
-    Verdict::Refused(refusals::refusal_of(number, first, second))
-}
-
 fn read_outcome(numbers: &[f64], counts: &[usize]) -> Figures
     requires { ⌜ Room (now numbers) (now counts) ⌝ }
     ensures { λ r. ⌜ r ≡ outcomeIn (now (numbers .entry)) (now (counts .entry)) ⌝ }
 {
-    let verdict = read_verdict(counts[11], counts[12], counts[13]);
-    let body = bodies::body_of(&numbers[21..OUTLINE]);
+    let verdict = refusals::verdict_of(counts[NUMBER], counts[FIRST], counts[SECOND]);
+    let body = bodies::body_of(&numbers[BODY..OUTLINE]);
     Figures {
         verdict,
         body,
-        intervals: counts[14],
-        samples: counts[15],
+        intervals: counts[ANSWER_INTERVALS],
+        samples: counts[ANSWER_SAMPLES],
     }
 }
 
@@ -405,27 +224,28 @@ pub fn read_job(numbers: &[f64], counts: &[usize]) -> Job
     let outline = read_outline(&numbers[OUTLINE..JOB_NUMBERS]);
     let points = Points {
         numbers: outline,
-        count: counts[16],
+        count: counts[POINTS],
     };
     let outcome = read_outcome(numbers, counts);
+    let sums = &numbers[SUMS..BODY];
     let value = [
-        numbers[14],
-        numbers[15],
-        numbers[16],
-        numbers[17],
-        numbers[18],
-        numbers[19],
-        numbers[20],
+        sums[0],
+        sums[1],
+        sums[2],
+        sums[3],
+        sums[4],
+        sums[5],
+        sums[6],
     ];
     Job {
         set,
         points,
-        limit: counts[6],
-        next: counts[7],
+        limit: counts[LIMIT],
+        next: counts[NEXT],
         value,
-        intervals: counts[8],
-        samples: counts[9],
-        ended: counts[10] != 0,
+        intervals: counts[INTERVALS],
+        samples: counts[SAMPLES],
+        ended: counts[ENDED] != 0,
         outcome,
     }
 }
@@ -477,7 +297,7 @@ pub fn step(numbers: &mut [f64], counts: &mut [usize], scratch: &mut [f64]) -> A
     ensures { λ r. ⌜ Steps (now (numbers .entry)) (now (counts .entry)) (now (scratch .entry)) r
         (now (numbers .exit)) (now (counts .exit)) (now (scratch .exit)) ⌝ }
 {
-    if works_strip(counts[10] != 0, counts[6], scratch.len()) {
+    if works_strip(counts[ENDED] != 0, counts[LIMIT], scratch.len()) {
         return step_there(numbers, counts, scratch);
     }
     let job = read_job(numbers, counts);
@@ -508,7 +328,7 @@ pub fn change_density(numbers: &mut [f64], counts: &mut [usize], density: Densit
     requires { ⌜ Room (now numbers) (now counts) ⌝ }
     ensures { λ r. ⌜ Changes (now (numbers .entry)) (now (counts .entry)) density r (now (numbers .exit)) (now (counts .exit)) ⌝ }
 {
-    if takes_density(counts[10] != 0, density) {
+    if takes_density(counts[ENDED] != 0, density) {
         return change_there(numbers, counts, density);
     }
     let job = read_job(numbers, counts);

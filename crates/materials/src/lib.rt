@@ -1,7 +1,7 @@
 // A material's density, with its units in the case (material.rs, `Density`), and its check. Only bulk is taken.
 ghost use mathlib.Core.Path.{_≡_};
 ghost use Rattle.materials.specs.Materials.{densityCheck};
-ghost use Rattle.materials.specs.Numbered.{densityFigure, numberedDensity};
+ghost use Rattle.materials.specs.Numbered.{densityNumber, densityFigure, numberedDensity};
 use refusals::Refusal;
 use refusals::Verdict;
 
@@ -17,6 +17,17 @@ pub enum NumberedDensity {
     Unknown,
 }
 
+// 1 bulk, 2 surface, 3 line.
+pub fn number_of(density: Density) -> usize
+    ensures { λ r. ⌜ r ≡ densityNumber density ⌝ }
+{
+    match density {
+        Density::Bulk { kg_m3: _ } => 1,
+        Density::Surface { kg_m2: _ } => 2,
+        Density::Line { kg_m: _ } => 3,
+    }
+}
+
 // Its figure, in its own units.
 pub fn figure_of(density: Density) -> f64
     ensures { λ r. ⌜ r ≡ densityFigure density ⌝ }
@@ -28,7 +39,7 @@ pub fn figure_of(density: Density) -> f64
     }
 }
 
-// 1 bulk, 2 surface, 3 line.
+// The density of a number and a figure.
 pub fn numbered_density(number: usize, density: f64) -> NumberedDensity
     ensures { λ r. ⌜ r ≡ numberedDensity number density ⌝ }
 {

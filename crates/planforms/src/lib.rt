@@ -4,7 +4,7 @@
 ghost use mathlib.Core.Path.{_≡_};
 ghost use Prim.Native.Nat.{_<_};
 ghost use Rattle.planforms.specs.Planforms.{rootChordOf, spanOf, lastX, largestHeight, pairCount, next};
-ghost use Rattle.planforms.specs.Numbered.{numberedPlanform};
+ghost use Rattle.planforms.specs.Numbered.{planformNumber, lengthsOf, planformOf, listedPlanform};
 
 // Lengths in metres. The sweep is the axial distance from the root's leading edge aft to the tip's.
 pub enum Planform {
@@ -27,32 +27,77 @@ pub enum NumberedPlanform {
     Unknown,
 }
 
-// 1 a trapezoid (root chord, tip chord, span, sweep), 2 an ellipse (root chord, span), 3 an outline (its points).
-pub fn numbered_planform(number: usize, lengths: &[f64]) -> NumberedPlanform
-    ensures { λ r. ⌜ r ≡ numberedPlanform number (now (lengths .entry)) ⌝ }
+// How many lengths the longest planform has: each is written in so many places, zeros behind its own.
+pub const LENGTHS: usize = 4;
+
+// 1 a trapezoid, 2 an ellipse, 3 an outline.
+pub fn number_of(planform: Planform) -> usize
+    ensures { λ r. ⌜ r ≡ planformNumber planform ⌝ }
+{
+    match planform {
+        Planform::Trapezoid {
+            root_chord_m: _,
+            tip_chord_m: _,
+            span_m: _,
+            sweep_m: _,
+        } => 1,
+        Planform::Ellipse {
+            root_chord_m: _,
+            span_m: _,
+        } => 2,
+        Planform::Outline => 3,
+    }
+}
+
+// A trapezoid's root chord, tip chord, span and sweep; an ellipse's root chord and span; an outline has none here.
+pub fn lengths_of(planform: Planform) -> [f64; LENGTHS]
+    ensures { λ r. ⌜ r ≡ lengthsOf planform ⌝ }
+{
+    match planform {
+        Planform::Trapezoid {
+            root_chord_m,
+            tip_chord_m,
+            span_m,
+            sweep_m,
+        } => [root_chord_m, tip_chord_m, span_m, sweep_m],
+        Planform::Ellipse {
+            root_chord_m,
+            span_m,
+        } => [root_chord_m, span_m, 0.0, 0.0],
+        Planform::Outline => [0.0; LENGTHS],
+    }
+}
+
+// The planform of a number and lengths.
+pub fn planform_of(number: usize, lengths: [f64; LENGTHS]) -> NumberedPlanform
+    ensures { λ r. ⌜ r ≡ planformOf number lengths ⌝ }
 {
     if number == 1 {
-        if lengths.len() == 4 {
-            return NumberedPlanform::Known(Planform::Trapezoid {
-                root_chord_m: lengths[0],
-                tip_chord_m: lengths[1],
-                span_m: lengths[2],
-                sweep_m: lengths[3],
-            });
-        }
-        return NumberedPlanform::Unknown;
+        return NumberedPlanform::Known(Planform::Trapezoid {
+            root_chord_m: lengths[0],
+            tip_chord_m: lengths[1],
+            span_m: lengths[2],
+            sweep_m: lengths[3],
+        });
     }
     if number == 2 {
-        if lengths.len() == 2 {
-            return NumberedPlanform::Known(Planform::Ellipse {
-                root_chord_m: lengths[0],
-                span_m: lengths[1],
-            });
-        }
-        return NumberedPlanform::Unknown;
+        return NumberedPlanform::Known(Planform::Ellipse {
+            root_chord_m: lengths[0],
+            span_m: lengths[1],
+        });
     }
     if number == 3 {
         return NumberedPlanform::Known(Planform::Outline);
+    }
+    NumberedPlanform::Unknown
+}
+
+// The same of a slice that C or Rust lends: another count of lengths is no planform's.
+pub fn listed_planform(number: usize, lengths: &[f64]) -> NumberedPlanform
+    ensures { λ r. ⌜ r ≡ listedPlanform number (now (lengths .entry)) ⌝ }
+{
+    if lengths.len() == LENGTHS {
+        return planform_of(number, [lengths[0], lengths[1], lengths[2], lengths[3]]);
     }
     NumberedPlanform::Unknown
 }

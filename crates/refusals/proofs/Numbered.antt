@@ -1,13 +1,17 @@
--- Reading a refusal back from its row gives the refusal. Assumes nothing.
-use mathlib.Core.Path.{_≡_, refl}
+-- Reading a refusal back from its row gives the refusal, and a verdict from its number and values the verdict. Assumes nothing.
+use mathlib.Core.Path.{_≡_, refl, sym, ap, _∙_}
 use mathlib.Core.List.{List, [], _∷_}
 use Prim.Native.Nat.{ℕ}
+use native.Mathlib.Omega.{arith}
+use borrow.Author.Tests.{ne-eqb}
 use Rattle.refusals.specs.declared.Refusal.{Refusal}
 use Rattle.refusals.specs.declared.Refusal.the-variants.{Limit, Scratch, Count, Length, Points, Ends, Touches, NoArea, Angle, TabOffRoot, TabTooDeep, Density, NotConverged, Mass, Centre, Tensor, NoForm, NoFigure, WallOverRadius, ThicknessOverRoot, FilletRatio, Screen, NoCorners, NotWholeSteps, NotHeavier}
+use Rattle.refusals.specs.declared.Verdict.{Verdict}
+use Rattle.refusals.specs.declared.Verdict.the-variants.{Accepted, Refused}
 use Rattle.refusals.specs.declared.TensorFault.the-variants.{Entry, Massless, Negative, Triangle}
 use lib.ListN.{getD}
 use Rattle.refusals.specs.Refusals.{numberOf, valuesOf, inTwoPlaces}
-use Rattle.refusals.specs.Numbered.{faultFrom, refusalFrom}
+use Rattle.refusals.specs.Numbered.{faultFrom, refusalFrom, numberIn, firstIn, secondIn, verdictFrom}
 
 pub read-back : (refusal : Refusal) → refusalFrom (numberOf refusal) (getD (inTwoPlaces (valuesOf refusal)) 0 0) (getD (inTwoPlaces (valuesOf refusal)) 1 0) ≡ refusal
 unfolding faultFrom refusalFrom
@@ -39,3 +43,17 @@ read-back Screen = refl
 read-back NoCorners = refl
 read-back NotWholeSteps = refl
 read-back NotHeavier = refl
+
+-- no row of the table has the number 0: that is read back as no form, which has another one
+not-zero : (refusal : Refusal) → numberOf refusal ≡ 0 → ⊥
+unfolding refusalFrom
+not-zero refusal e =
+    let values = inTwoPlaces (valuesOf refusal) in
+    let back : NoForm ≡ refusal = sym (ap (λ (n : ℕ). refusalFrom n (getD values 0 0) (getD values 1 0)) e) ∙ read-back refusal in
+    let f : 18 ≡ numberOf refusal = ap numberOf back in
+    omega (arith, e, f)
+
+pub verdict-back : (verdict : Verdict) → verdictFrom (numberIn verdict) (firstIn verdict) (secondIn verdict) ≡ verdict
+unfolding verdictFrom
+verdict-back Accepted = refl
+verdict-back (Refused refusal) = rw (ne-eqb (numberOf refusal) 0 (not-zero refusal), read-back refusal)

@@ -1,10 +1,15 @@
--- A refusal by its number and values, read back: what a record that keeps them as numbers is read by. `read-back` (proofs/Numbered) says that
--- every row of the table gives its own refusal.
+-- A refusal and a verdict by number and values, as C, Rust and lent memory hold them, and back. `read-back` (proofs/Numbered) says that every row
+-- of the table gives its own refusal, `verdict-back` the same of a verdict.
 use mathlib.Core.Bool.{cond}
+use mathlib.Core.List.{List, [], _∷_}
 use Prim.Native.Nat.{ℕ}
 use lib.Dec.{eqb}
+use lib.ListN.{getD}
 use Rattle.refusals.specs.declared.Refusal.{Refusal}
 use Rattle.refusals.specs.declared.Refusal.the-variants.{Limit, Scratch, Count, Length, Points, Ends, Touches, NoArea, Angle, TabOffRoot, TabTooDeep, Density, NotConverged, Mass, Centre, Tensor, NoForm, NoFigure, WallOverRadius, ThicknessOverRoot, FilletRatio, Screen, NoCorners, NotWholeSteps, NotHeavier}
+use Rattle.refusals.specs.declared.Verdict.{Verdict}
+use Rattle.refusals.specs.declared.Verdict.the-variants.{Accepted, Refused}
+use Rattle.refusals.specs.Refusals.{numberOf, valuesOf, inTwoPlaces}
 use Rattle.refusals.specs.declared.TensorFault.{TensorFault}
 use Rattle.refusals.specs.declared.TensorFault.the-variants.{Entry, Massless, Negative, Triangle}
 
@@ -38,3 +43,22 @@ refusalFrom number first second =
     (cond (eqb number 24) NoCorners
     (cond (eqb number 25) NotWholeSteps
     (cond (eqb number 26) NotHeavier NoForm)))))))))))))))))))))))
+
+-- 0 where nothing is refused
+abbrev pub numberIn : Verdict → ℕ
+numberIn Accepted = 0
+numberIn (Refused refusal) = numberOf refusal
+
+-- the values of a refusal in two places, and zeros where nothing is refused
+abbrev pub valuesIn : Verdict → List ℕ
+valuesIn Accepted = 0 ∷ 0 ∷ []
+valuesIn (Refused refusal) = inTwoPlaces (valuesOf refusal)
+
+abbrev pub firstIn : Verdict → ℕ
+firstIn verdict = getD (valuesIn verdict) 0 0
+
+abbrev pub secondIn : Verdict → ℕ
+secondIn verdict = getD (valuesIn verdict) 1 0
+
+unfoldable pub verdictFrom : ℕ → ℕ → ℕ → Verdict
+verdictFrom number first second = cond (eqb number 0) Accepted (Refused (refusalFrom number first second))

@@ -1,12 +1,15 @@
-// The refusals of document 01's table and of document 02, one case for each number, with the values that go with it, and the first
-// refusal of checks in their order.
+// The refusals of document 01's table and of document 02, one case for each number, with the values that go with it, the first
+// refusal of checks in their order, and a verdict as C, Rust and lent memory hold it.
 //
 // The Rust's `DesignError` and `CoreError` have texts instead; the numbers are the kiosk's.
 ghost use mathlib.Core.Path.{_≡_};
+ghost use Prim.Native.Nat.{_≤_};
+ghost use lib.ListN.{length};
 ghost use Rattle.refusals.specs.Order.{refuseUnless, refuseWhen, isRefused, firstRefusal};
 ghost use Rattle.refusals.specs.Refusals.{numberOf, caseOf, valuesOf, inTwoPlaces};
 ghost use Rattle.refusals.specs.Rows.{IsRow};
-ghost use Rattle.refusals.specs.Numbered.{faultFrom, refusalFrom};
+ghost use Rattle.refusals.specs.Numbered.{faultFrom, refusalFrom, numberIn, valuesIn, verdictFrom};
+ghost use Rattle.refusals.specs.Lent.{withValues, withCount, withCounts};
 
 // What is wrong with a tensor: 17's cases a, b, d and e, in their order. Six numbers cannot be asymmetric, which was c.
 pub enum TensorFault {
@@ -163,7 +166,7 @@ fn fault_of(case: usize) -> TensorFault
 }
 
 // The refusal that a row of the table is of: no form where the number is none of the table's.
-pub fn refusal_of(number: usize, first: usize, second: usize) -> Refusal
+fn refusal_of(number: usize, first: usize, second: usize) -> Refusal
     ensures { λ r. ⌜ r ≡ refusalFrom number first second ⌝ }
 {
     match number {
@@ -193,4 +196,70 @@ pub fn refusal_of(number: usize, first: usize, second: usize) -> Refusal
         26 => Refusal::NotHeavier,
         _ => Refusal::NoForm,
     }
+}
+
+// The number of "no form", with which a lent slice that is too short is refused as well.
+pub const NO_FORM: usize = 18;
+
+// The number that a verdict has for C, Rust and lent memory: 0 where nothing is refused.
+pub fn verdict_number(verdict: Verdict) -> usize
+    ensures { λ r. ⌜ r ≡ numberIn verdict ⌝ }
+{
+    match verdict {
+        Verdict::Accepted => 0,
+        Verdict::Refused(refusal) => number(refusal),
+    }
+}
+
+// The values that go with it: zeros where nothing is refused.
+pub fn verdict_values(verdict: Verdict) -> [usize; 2]
+    ensures { λ r. ⌜ r ≡ valuesIn verdict ⌝ }
+{
+    match verdict {
+        Verdict::Accepted => [0, 0],
+        Verdict::Refused(refusal) => values(refusal),
+    }
+}
+
+// The verdict that a number and two values stand for.
+pub fn verdict_of(number: usize, first: usize, second: usize) -> Verdict
+    ensures { λ r. ⌜ r ≡ verdictFrom number first second ⌝ }
+{
+    if number == 0 {
+        return Verdict::Accepted;
+    }
+    Verdict::Refused(refusal_of(number, first, second))
+}
+
+// Writes a verdict's values over the first two numbers.
+pub fn write_values(values: &mut [usize], verdict: Verdict)
+    requires { ⌜ 2 ≤ length (now values) ⌝ }
+    ensures { λ _. ⌜ now (values .exit) ≡ withValues (now (values .entry)) verdict ⌝ }
+{
+    let found = verdict_values(verdict);
+    values[0] = found[0];
+    values[1] = found[1];
+}
+
+// Writes a verdict's values and a count over the first three numbers.
+pub fn write_count(counts: &mut [usize], verdict: Verdict, count: usize)
+    requires { ⌜ 3 ≤ length (now counts) ⌝ }
+    ensures { λ _. ⌜ now (counts .exit) ≡ withCount (now (counts .entry)) verdict count ⌝ }
+{
+    let found = verdict_values(verdict);
+    counts[0] = found[0];
+    counts[1] = found[1];
+    counts[2] = count;
+}
+
+// Writes a verdict's values, the intervals and the samples over the first four numbers.
+pub fn write_counts(counts: &mut [usize], verdict: Verdict, intervals: usize, samples: usize)
+    requires { ⌜ 4 ≤ length (now counts) ⌝ }
+    ensures { λ _. ⌜ now (counts .exit) ≡ withCounts (now (counts .entry)) verdict intervals samples ⌝ }
+{
+    let found = verdict_values(verdict);
+    counts[0] = found[0];
+    counts[1] = found[1];
+    counts[2] = intervals;
+    counts[3] = samples;
 }

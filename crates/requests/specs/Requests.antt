@@ -6,11 +6,11 @@ use lib.ListN.{take, drop, getD}
 use lib.Ieee.{Float}
 use Rattle.floats.specs.Operations.{at}
 use Rattle.refusals.specs.Calls.{CallOf}
-use Rattle.planforms.specs.Numbered.{numberedPlanform}
+use Rattle.planforms.specs.Numbered.{planformOf}
 use Rattle.sections.specs.Numbered.{numberedSection}
 use Rattle.materials.specs.Numbered.{numberedDensity}
-use Rattle.fillets.specs.Numbered.{numberedFillet}
-use Rattle.fins.specs.Numbered.{numberedTab, numberedSet}
+use Rattle.fillets.specs.Numbered.{filletOf}
+use Rattle.fins.specs.Numbered.{tabOf, numberedSet}
 use Rattle.bodies.specs.Layout.{bodyNumbers}
 use Rattle.joins.specs.declared.Joined.{Joined}
 use Rattle.drill.specs.declared.Answer.{Answer}
@@ -46,11 +46,11 @@ setRequestOf ns figures =
       limit = number ns 6;
       set =
           numberedSet (number ns 5)
-          (numberedPlanform (number ns 4) (between 0 (end ns 4) figures))
+          (planformOf (number ns 4) (between 0 (end ns 4) figures))
           (at figures (end ns 4))
           (numberedSection (number ns 3))
-          (numberedTab (number ns 2) (between (end ns 3) (end ns 2) figures))
-          (numberedFillet (number ns 1) (between (end ns 2) (end ns 1) figures))
+          (tabOf (number ns 2) (between (end ns 3) (end ns 2) figures))
+          (filletOf (number ns 1) (between (end ns 2) (end ns 1) figures))
           (at behindFillet 0)
           (at behindFillet 1)
           (at behindFillet 2)
@@ -60,7 +60,7 @@ setRequestOf ns figures =
 
 -- "(area (limit N) PLANFORM)": limit 1, planform 0
 unfoldable pub areaRequestOf : List ℕ → List Float → AreaRequest
-areaRequestOf ns figures = record { limit = number ns 1; planform = numberedPlanform (number ns 0) (between 0 (end ns 0) figures); points = end ns 0 }
+areaRequestOf ns figures = record { limit = number ns 1; planform = planformOf (number ns 0) (between 0 (end ns 0) figures); points = end ns 0 }
 
 -- ---- the call for each; an outline's points are the planform's figures
 
@@ -98,7 +98,7 @@ unfoldable pub askedDrill : List ℕ → List Float → Answer
 askedDrill ns figures =
     let lengths = between 0 (end ns 0) figures in
     let point = drop (end ns 0) figures in
-    numberedDrill (numberedPlanform (number ns 0) lengths) lengths (at point 0) (at point 1)
+    numberedDrill (planformOf (number ns 0) lengths) lengths (at point 0) (at point 1)
 
 -- "(copied BODY OFFSETS)", "(placed BODY PLACES)": the body's figures, then each offset's or place's
 unfoldable pub askedCopied : List Float → Joined

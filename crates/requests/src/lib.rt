@@ -9,6 +9,9 @@ ghost use Prim.Native.Nat.{_+_, _*_, _≤_, min};
 ghost use lib.ListN.{length, drop};
 ghost use Rattle.floats.specs.Operations.{at};
 ghost use Rattle.refusals.specs.Calls.{Does};
+ghost use Rattle.planforms.specs.Numbered.{planformOf};
+ghost use Rattle.fillets.specs.Numbered.{filletOf};
+ghost use Rattle.fins.specs.Numbered.{tabOf};
 ghost use Rattle.bodies.specs.Layout.{bodyNumbers};
 ghost use Rattle.joins.specs.Flat.{withBodies};
 ghost use Rattle.figures.specs.Figures.{refusedFigures};
@@ -24,7 +27,9 @@ use bodies::Vector;
 use drill::Answer;
 use figures::Area;
 use figures::Figures;
+use fillets::NumberedFillet;
 use fins::NumberedSet;
+use fins::NumberedTab;
 use forms::Request;
 use jobs::Reply;
 use joins::Joined;
@@ -90,15 +95,42 @@ fn behind(values: &[f64], from: usize) -> &[f64]
     &values[first..]
 }
 
+// The planform, the tab and the fillet of a line's figures: one past their end is a NaN.
+fn line_planform(number: usize, figures: &[f64]) -> NumberedPlanform
+    ensures { λ r. ⌜ r ≡ planformOf number (now (figures .entry)) ⌝ }
+{
+    let lengths = [
+        figure(figures, 0),
+        figure(figures, 1),
+        figure(figures, 2),
+        figure(figures, 3),
+    ];
+    planforms::planform_of(number, lengths)
+}
+
+fn line_tab(number: usize, figures: &[f64]) -> NumberedTab
+    ensures { λ r. ⌜ r ≡ tabOf number (now (figures .entry)) ⌝ }
+{
+    let slab = [figure(figures, 0), figure(figures, 1), figure(figures, 2)];
+    fins::tab_of(number, slab)
+}
+
+fn line_fillet(number: usize, figures: &[f64]) -> NumberedFillet
+    ensures { λ r. ⌜ r ≡ filletOf number (now (figures .entry)) ⌝ }
+{
+    let glue = [figure(figures, 0), figure(figures, 1)];
+    fillets::fillet_of(number, glue)
+}
+
 // What a set's line asks.
 fn set_request(q: Request, values: &[f64]) -> SetRequest
     ensures { λ r. ⌜ r ≡ setRequestOf (q .numbers) (now (values .entry)) ⌝ }
 {
     let n = q.numbers;
-    let planform = planforms::numbered_planform(n[9], between(values, 0, n[8]));
+    let planform = line_planform(n[9], between(values, 0, n[8]));
     let section = sections::numbered_section(n[7]);
-    let tab = fins::numbered_tab(n[5], between(values, n[6], n[4]));
-    let fillet = fillets::numbered_fillet(n[3], between(values, n[4], n[2]));
+    let tab = line_tab(n[5], between(values, n[6], n[4]));
+    let fillet = line_fillet(n[3], between(values, n[4], n[2]));
     let rest = behind(values, n[2]);
     let density = materials::numbered_density(n[1], figure(rest, 3));
     let set = fins::numbered_set(
@@ -123,7 +155,7 @@ fn area_request(q: Request, values: &[f64]) -> AreaRequest
     ensures { λ r. ⌜ r ≡ areaRequestOf (q .numbers) (now (values .entry)) ⌝ }
 {
     let n = q.numbers;
-    let planform = planforms::numbered_planform(n[1], between(values, 0, n[0]));
+    let planform = line_planform(n[1], between(values, 0, n[0]));
     AreaRequest {
         limit: n[3],
         planform,
@@ -463,7 +495,7 @@ pub fn asked_drill(q: Request, values: &[f64]) -> Answer
     let n = q.numbers;
     let lengths = between(values, 0, n[0]);
     let point = behind(values, n[0]);
-    let planform = planforms::numbered_planform(n[1], lengths);
+    let planform = line_planform(n[1], lengths);
     drilled(planform, lengths, figure(point, 0), figure(point, 1))
 }
 

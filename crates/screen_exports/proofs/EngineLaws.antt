@@ -22,11 +22,12 @@ use Rattle.engines.specs.Calls.{Call}
 use Rattle.lent_engines.specs.Memory.{engineNumbers, engineCounts}
 use Rattle.lent_engines.specs.Lent.{lists, Leaves, Clears, Turns, Submits, Changes}
 use Rattle.lent_engines.proofs.Calls.{leaves-none}
-use Rattle.foreign_numbers.specs.Numbers.{withValues, withCounts, room, figureCounts}
+use Rattle.refusals.specs.Lent.{withValues, withCounts, room}
+use Rattle.figures.specs.Numbered.{figureCounts}
 use Rattle.screen_exports.specs.JobCalls.{answerNumber}
 use Rattle.screen_exports.specs.EngineCalls.{serviceNumber, toldNumber, submittedBy, densityBy, engineRoom, EngineCall, clearRoom, ClearCall}
 use Rattle.screen_exports.specs.EngineCalls.{submitRoom, SubmitCall, turnRoom, toldCounts, TurnCall, densityRoom, DensityCall}
-use Rattle.foreign_numbers.proofs.Rooms.{has-room, few-figures, few-counts}
+use Rattle.refusals.proofs.Rooms.{has-room, few-figures, few-counts}
 
 never : {A : Type 0} {b : Bool} → b ≡ true → b ≡ false → A
 never e f = absurd (true≢false (sym e ∙ f))

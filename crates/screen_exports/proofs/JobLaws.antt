@@ -19,9 +19,10 @@ use Rattle.jobs.specs.declared.Answer.{Answer}
 use Rattle.jobs.specs.declared.Stepped.{Stepped}
 use Rattle.lent_jobs.specs.Memory.{jobNumbers, jobCounts, jobIn}
 use Rattle.lent_jobs.specs.Lent.{Holds, Leaves, Makes, Steps, Changes}
-use Rattle.foreign_numbers.specs.Numbers.{withValues, withCounts, room, figureCounts}
+use Rattle.refusals.specs.Lent.{withValues, withCounts, room}
+use Rattle.figures.specs.Numbered.{figureCounts}
 use Rattle.screen_exports.specs.JobCalls.{answerNumber, madeBy, changedBy, jobRoom, JobCall, makeRoom, MakeCall, stepRoom, StepCall, changeRoom, ChangeCall}
-use Rattle.foreign_numbers.proofs.Rooms.{has-room, few-figures, few-counts}
+use Rattle.refusals.proofs.Rooms.{has-room, few-figures, few-counts}
 
 pub first-not : {a : Bool} (b : Bool) → a ≡ false → (a && b) ≡ false
 first-not b e = rw e

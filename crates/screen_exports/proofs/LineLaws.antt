@@ -9,9 +9,9 @@ use Rattle.answers.specs.Answers.{answerBytes}
 use Rattle.lent_engines.specs.Memory.{engineNumbers, engineCounts}
 use Rattle.lent_engines.proofs.Calls.{leaves-none}
 use Rattle.lines.specs.Lines.{LentMemory, memoryOf, listsOf, answerOf, Fits, Answers}
-use Rattle.foreign_numbers.specs.Numbers.{over, room}
+use Rattle.refusals.specs.Lent.{over, room}
 use Rattle.screen_exports.specs.LineCalls.{lineRoom, LineCall}
-use Rattle.foreign_numbers.proofs.Rooms.{has-room}
+use Rattle.refusals.proofs.Rooms.{has-room}
 
 -- a text of r bytes that stands at the start, with the rest as it was
 over-start : (before text after : List ℕ) (r : ℕ) → take r after ≡ text → drop r after ≡ drop r before → r ≡ length text → after ≡ over text before

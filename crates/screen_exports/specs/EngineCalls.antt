@@ -28,7 +28,8 @@ use Rattle.engines.specs.Engines.{turnOf, turnScratch, submitOf, changeAt}
 use Rattle.engines.specs.Calls.{Call, turn}
 use Rattle.lent_engines.specs.Memory.{engineNumbers, engineCounts, screensIn, noScreens, engineIn}
 use Rattle.lent_engines.specs.Lent.{lists, Leaves, submitCalls, changeCalls}
-use Rattle.foreign_numbers.specs.Numbers.{withValues, room, figureCounts}
+use Rattle.refusals.specs.Lent.{withValues, room}
+use Rattle.figures.specs.Numbered.{figureCounts}
 use Rattle.screen_exports.specs.JobCalls.{answerNumber}
 
 -- an idle turn has a number over all of the refusals', as "more remain" has

@@ -26,7 +26,9 @@ use Rattle.jobs.specs.Jobs.{stepOf, stepScratch, changeOf, madeOf}
 use Rattle.jobs.specs.Calls.{isTaken}
 use Rattle.lent_jobs.specs.Memory.{jobNumbers, jobCounts, jobIn}
 use Rattle.lent_jobs.specs.Lent.{worksStrip, Leaves}
-use Rattle.foreign_numbers.specs.Numbers.{numberIn, withValues, room, figureCounts}
+use Rattle.refusals.specs.Numbered.{numberIn}
+use Rattle.refusals.specs.Lent.{withValues, room}
+use Rattle.figures.specs.Numbered.{figureCounts}
 
 -- "more remain" has a number over all of the refusals'; "taken" is 0
 abbrev pub replyNumber : Reply → Verdict → ℕ

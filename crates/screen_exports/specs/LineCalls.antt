@@ -11,7 +11,7 @@ use Rattle.answers.specs.Answers.{answerBytes}
 use Rattle.lent_engines.specs.Memory.{engineNumbers, engineCounts}
 use Rattle.lent_engines.specs.Lent.{Leaves}
 use Rattle.lines.specs.Lines.{LentMemory, memoryOf, listsOf, answerOf, memoryAfter, callsOfLine}
-use Rattle.foreign_numbers.specs.Numbers.{over, room}
+use Rattle.refusals.specs.Lent.{over, room}
 
 -- room for the engine, and for the answer
 abbrev pub lineRoom : LentMemory → List ℕ → List ℕ → Bool

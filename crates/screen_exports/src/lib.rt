@@ -6,7 +6,7 @@
 ghost use mathlib.Core.Path.{_≡_};
 ghost use Rattle.materials.specs.Numbered.{numberedDensity};
 ghost use Rattle.lines.specs.Lines.{lentIn};
-ghost use Rattle.foreign_numbers.specs.Sets.{crossedSet};
+ghost use Rattle.fins.specs.Numbered.{listedSet};
 ghost use Rattle.screen_exports.specs.LineCalls.{LineCall};
 ghost use Rattle.screen_exports.specs.JobCalls.{answerNumber, MakeCall, StepCall, ChangeCall};
 ghost use Rattle.screen_exports.specs.EngineCalls.{toldNumber, ClearCall, SubmitCall, TurnCall, DensityCall};
@@ -15,7 +15,6 @@ use bodies::BODY_NUMBERS;
 use engines::Service;
 use engines::Told;
 use fins::NumberedSet;
-use foreign_numbers::NO_FORM;
 use jobs::Answer;
 use jobs::Reply;
 use lent_engines::ENGINE_COUNTS;
@@ -23,6 +22,7 @@ use lent_engines::ENGINE_NUMBERS;
 use lent_jobs::JOB_COUNTS;
 use lent_jobs::JOB_NUMBERS;
 use materials::NumberedDensity;
+use refusals::NO_FORM;
 use refusals::Refusal;
 use refusals::Verdict;
 
@@ -40,7 +40,7 @@ fn answer_number(answer: Answer) -> usize
         Reply::Answered => {
             let figures = answer.figures;
             let verdict = figures.verdict;
-            foreign_numbers::number(verdict)
+            refusals::verdict_number(verdict)
         }
     }
 }
@@ -49,22 +49,15 @@ fn answer_number(answer: Answer) -> usize
 #[no_mangle]
 pub extern "C" fn delvouzh_job_make(
     limit: usize,
-    count: usize,
-    planform: usize,
-    lengths: &[f64],
-    section: usize,
-    tab: usize,
-    density: usize,
-    figures: &[f64],
-    fillet: usize,
-    glue: &[f64],
+    set_numbers: &[f64],
+    set_counts: &[usize],
+    points: &[f64],
     job_numbers: &mut [f64],
     job_counts: &mut [usize],
     values: &mut [usize],
 ) -> usize
     ensures { λ r. ⌜ MakeCall (now («job_numbers» .entry)) (now («job_counts» .entry))
-        (crossedSet count planform (now (lengths .entry)) section tab density (now (figures .entry)) fillet (now (glue .entry)))
-        (now (lengths .entry)) limit
+        (listedSet (now («set_numbers» .entry)) (now («set_counts» .entry))) (now (points .entry)) limit
         (now (values .entry)) r (now («job_numbers» .exit)) (now («job_counts» .exit)) (now (values .exit)) ⌝ }
 {
     if job_numbers.len() < JOB_NUMBERS {
@@ -76,25 +69,15 @@ pub extern "C" fn delvouzh_job_make(
     if values.len() < 2 {
         return NO_FORM;
     }
-    let asked = foreign_numbers::crossed_set(
-        count,
-        planform,
-        lengths,
-        section,
-        tab,
-        density,
-        figures,
-        fillet,
-        glue,
-    );
+    let asked = fins::listed_set(set_numbers, set_counts);
     let NumberedSet::Known(set) = asked else {
-        foreign_numbers::write_values(values, Verdict::Refused(Refusal::NoForm));
+        refusals::write_values(values, Verdict::Refused(Refusal::NoForm));
         return NO_FORM;
     };
-    let answer = lent_jobs::make(job_numbers, job_counts, set, lengths, limit);
+    let answer = lent_jobs::make(job_numbers, job_counts, set, points, limit);
     let found = answer.figures;
     let verdict = found.verdict;
-    foreign_numbers::write_values(values, verdict);
+    refusals::write_values(values, verdict);
     answer_number(answer)
 }
 
@@ -129,7 +112,7 @@ pub extern "C" fn delvouzh_job_step(
     let verdict = found.verdict;
     let of_job = found.body;
     joins::write_body(body, 0, of_job);
-    foreign_numbers::write_counts(counts, verdict, found.intervals, found.samples);
+    refusals::write_counts(counts, verdict, found.intervals, found.samples);
     answer_number(answer)
 }
 
@@ -156,13 +139,13 @@ pub extern "C" fn delvouzh_job_change_density(
     }
     let asked = materials::numbered_density(density, figure);
     let NumberedDensity::Known(density) = asked else {
-        foreign_numbers::write_counts(counts, Verdict::Refused(Refusal::NoForm), 0, 0);
+        refusals::write_counts(counts, Verdict::Refused(Refusal::NoForm), 0, 0);
         return NO_FORM;
     };
     let answer = lent_jobs::change_density(job_numbers, job_counts, density);
     let found = answer.figures;
     let verdict = found.verdict;
-    foreign_numbers::write_counts(counts, verdict, found.intervals, found.samples);
+    refusals::write_counts(counts, verdict, found.intervals, found.samples);
     answer_number(answer)
 }
 
@@ -199,22 +182,15 @@ pub extern "C" fn delvouzh_engine_clear(engine_counts: &mut [usize]) -> usize
 pub extern "C" fn delvouzh_engine_submit(
     screen: usize,
     limit: usize,
-    count: usize,
-    planform: usize,
-    lengths: &[f64],
-    section: usize,
-    tab: usize,
-    density: usize,
-    figures: &[f64],
-    fillet: usize,
-    glue: &[f64],
+    set_numbers: &[f64],
+    set_counts: &[usize],
+    points: &[f64],
     engine_numbers: &mut [f64],
     engine_counts: &mut [usize],
     values: &mut [usize],
 ) -> usize
     ensures { λ r. ⌜ SubmitCall (now («engine_numbers» .entry)) (now («engine_counts» .entry)) screen
-        (crossedSet count planform (now (lengths .entry)) section tab density (now (figures .entry)) fillet (now (glue .entry)))
-        (now (lengths .entry)) limit
+        (listedSet (now («set_numbers» .entry)) (now («set_counts» .entry))) (now (points .entry)) limit
         (now (values .entry)) r (now («engine_numbers» .exit)) (now («engine_counts» .exit)) (now (values .exit)) ⌝ }
 {
     if engine_numbers.len() < ENGINE_NUMBERS {
@@ -226,25 +202,15 @@ pub extern "C" fn delvouzh_engine_submit(
     if values.len() < 2 {
         return NO_FORM;
     }
-    let asked = foreign_numbers::crossed_set(
-        count,
-        planform,
-        lengths,
-        section,
-        tab,
-        density,
-        figures,
-        fillet,
-        glue,
-    );
+    let asked = fins::listed_set(set_numbers, set_counts);
     let NumberedSet::Known(set) = asked else {
-        foreign_numbers::write_values(values, Verdict::Refused(Refusal::NoForm));
+        refusals::write_values(values, Verdict::Refused(Refusal::NoForm));
         return NO_FORM;
     };
-    let answer = lent_engines::submit(engine_numbers, engine_counts, screen, set, lengths, limit);
+    let answer = lent_engines::submit(engine_numbers, engine_counts, screen, set, points, limit);
     let found = answer.figures;
     let verdict = found.verdict;
-    foreign_numbers::write_values(values, verdict);
+    refusals::write_values(values, verdict);
     answer_number(answer)
 }
 
@@ -280,7 +246,7 @@ pub extern "C" fn delvouzh_engine_turn(
     let verdict = found.verdict;
     let of_job = found.body;
     joins::write_body(body, 0, of_job);
-    foreign_numbers::write_counts(counts, verdict, found.intervals, found.samples);
+    refusals::write_counts(counts, verdict, found.intervals, found.samples);
     counts[4] = told.screen;
     told_number(told)
 }
@@ -310,13 +276,13 @@ pub extern "C" fn delvouzh_engine_change_density(
     }
     let asked = materials::numbered_density(density, figure);
     let NumberedDensity::Known(density) = asked else {
-        foreign_numbers::write_counts(counts, Verdict::Refused(Refusal::NoForm), 0, 0);
+        refusals::write_counts(counts, Verdict::Refused(Refusal::NoForm), 0, 0);
         return NO_FORM;
     };
     let answer = lent_engines::change_density(engine_numbers, engine_counts, screen, density);
     let found = answer.figures;
     let verdict = found.verdict;
-    foreign_numbers::write_counts(counts, verdict, found.intervals, found.samples);
+    refusals::write_counts(counts, verdict, found.intervals, found.samples);
     answer_number(answer)
 }
 

@@ -14,7 +14,7 @@
 ghost use mathlib.Core.Path.{_≡_};
 ghost use Rattle.sections.specs.Airfoil.{closedTail, openTail, airfoilConstants, AreConstants};
 ghost use Rattle.sections.specs.ChordMoments.{chordMoments, squareMoments, roundedMoments, naca4Moments, tailOf};
-ghost use Rattle.sections.specs.Numbered.{numberedSection};
+ghost use Rattle.sections.specs.Numbered.{sectionNumber, numberedSection};
 
 // The shape of a fin's section along its chord (fins.rs, `FinCrossSection`), the airfoil's tail closed or open.
 pub enum Section {
@@ -31,6 +31,18 @@ pub enum NumberedSection {
 }
 
 // 1 square, 2 rounded, 3 airfoil, 4 airfoil-open.
+pub fn number_of(section: Section) -> usize
+    ensures { λ r. ⌜ r ≡ sectionNumber section ⌝ }
+{
+    match section {
+        Section::Square => 1,
+        Section::Rounded => 2,
+        Section::Airfoil => 3,
+        Section::AirfoilOpen => 4,
+    }
+}
+
+// The section of a number.
 pub fn numbered_section(number: usize) -> NumberedSection
     ensures { λ r. ⌜ r ≡ numberedSection number ⌝ }
 {

@@ -17,9 +17,19 @@ pub(crate) fn height_place(asked: usize) -> usize
     if asked == 0 { 0 } else { asked - 1 }
 }
 
+fn length_at(lengths: &[f64], i: usize) -> f64 {
+    if i < lengths.len() { lengths[i] } else { 0.0 }
+}
+
 // The planform of a number that a line has: one of the three, with as many figures as it takes.
 fn planform_of(number: usize, points: &[f64]) -> Planform {
-    match planforms::numbered_planform(number, points) {
+    let lengths = [
+        length_at(points, 0),
+        length_at(points, 1),
+        length_at(points, 2),
+        length_at(points, 3),
+    ];
+    match planforms::planform_of(number, lengths) {
         NumberedPlanform::Known(planform) => planform,
         NumberedPlanform::Unknown => Planform::Outline,
     }

@@ -27,7 +27,7 @@ pub(crate) fn moments_agree(section: usize, values: &[f64], answers: &[f64]) -> 
 pub(crate) fn tab_agrees(values: &[f64], answers: &[f64]) -> bool
     requires { ⌜ lineFigures ≤ length (now values) ⌝ }
 {
-    let NumberedTab::Known(tab) = fins::numbered_tab(1, &values[2..5]) else {
+    let NumberedTab::Known(tab) = fins::tab_of(1, [values[2], values[3], values[4]]) else {
         return false;
     };
     let r = plates::tab_integrals(tab, values[0], values[1]);

@@ -13,8 +13,8 @@ body-verdict-requires c κs = search needs
 write-values-requires : tie.Need-write-values-requires
 write-values-requires c κs = search needs
 
-number-requires : tie.Need-number-requires
-number-requires c κs = search needs
+verdict-number-requires : tie.Need-verdict-number-requires
+verdict-number-requires c κs = search needs
 
 same-length : tie.Need-same-length
 same-length c = search needs
@@ -23,7 +23,7 @@ returns-2 : tie.Need-returns-2
 returns-2 c =
     let w = c .before .before .before in
     let v = w .before .before in
-    check-written (v .before .if1 .left) (v .body-verdict .ensures) (w .write-values .ensures) (c .number .ensures)
+    check-written (v .before .if1 .left) (v .body-verdict .ensures) (w .write-values .ensures) (c .verdict-number .ensures)
 
 pub delvouzh-check-spec : {M : Type 1} → statement M
 delvouzh-check-spec =
@@ -32,6 +32,6 @@ delvouzh-check-spec =
     returns
     body-verdict-requires
     write-values-requires
-    number-requires
+    verdict-number-requires
     same-length
     returns-2)

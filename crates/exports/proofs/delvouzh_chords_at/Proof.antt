@@ -10,8 +10,8 @@ returns c = chords-refused (short-figures (c .if1 .taken))
 returns-2 : tie.Need-returns-2
 returns-2 c = chords-refused (short-counts (c .before .if1 .left) (c .if2 .taken))
 
-numbered-planform-requires : tie.Need-numbered-planform-requires
-numbered-planform-requires c κs = search needs
+listed-planform-requires : tie.Need-listed-planform-requires
+listed-planform-requires c κs = search needs
 
 listed-chords-requires : tie.Need-listed-chords-requires
 listed-chords-requires c κs = search needs
@@ -19,8 +19,8 @@ listed-chords-requires c κs = search needs
 write-count-requires : tie.Need-write-count-requires
 write-count-requires c κs = search needs
 
-number-requires : tie.Need-number-requires
-number-requires c κs = search needs
+verdict-number-requires : tie.Need-verdict-number-requires
+verdict-number-requires c κs = search needs
 
 same-length : tie.Need-same-length
 same-length c = search needs
@@ -33,7 +33,7 @@ returns-3 c =
     let w = c .before .before .before in
     let f = w .before .before .before .before in
     let s = f .before .before in
-    chords-written (s .before .before .if1 .left) (s .before .if2 .left) (s .numbered-planform .ensures) (f .listed-chords .ensures) (w .write-count .ensures) (c .number .ensures)
+    chords-written (s .before .before .if1 .left) (s .before .if2 .left) (s .listed-planform .ensures) (f .listed-chords .ensures) (w .write-count .ensures) (c .verdict-number .ensures)
 
 pub delvouzh-chords-at-spec : {M : Type 1} → statement M
 delvouzh-chords-at-spec =
@@ -41,10 +41,10 @@ delvouzh-chords-at-spec =
     (tie.spec
     returns
     returns-2
-    numbered-planform-requires
+    listed-planform-requires
     listed-chords-requires
     write-count-requires
-    number-requires
+    verdict-number-requires
     same-length
     same-length-2
     returns-3)

@@ -1,6 +1,6 @@
 -- `exports::delvouzh_closing_radius` meets its contract: there is no room, or the radius is written. Assumes nothing.
 use borrow.Author.Needs.{needs}
-use Rattle.foreign_numbers.proofs.Lists.{one-written}
+use Rattle.refusals.proofs.Lists.{one-written}
 use Rattle.exports.proofs.Calls.{short-figures, short-counts, closing-refused, closing-written}
 use Rattle.exports.proofs.delvouzh_closing_radius.Statement.{statement}
 use Rattle.exports.proofs.delvouzh_closing_radius.Tie as tie
@@ -20,8 +20,8 @@ slice-write-radius c = search needs
 write-values-requires : tie.Need-write-values-requires
 write-values-requires c κs = search needs
 
-number-requires : tie.Need-number-requires
-number-requires c κs = search needs
+verdict-number-requires : tie.Need-verdict-number-requires
+verdict-number-requires c κs = search needs
 
 same-length : tie.Need-same-length
 same-length c = search needs
@@ -36,7 +36,7 @@ returns-3 c =
     let k = f .before in
     let h = k .before in
     let a = h .before .before .before .args in
-    closing-written (h .if1 .left) (k .if2 .left) (f .closing-radius-m .ensures .is) (one-written (a .radius .now) _ (h .if1 .left)) (w .write-values .ensures) (c .number .ensures)
+    closing-written (h .if1 .left) (k .if2 .left) (f .closing-radius-m .ensures .is) (one-written (a .radius .now) _ (h .if1 .left)) (w .write-values .ensures) (c .verdict-number .ensures)
 
 pub delvouzh-closing-radius-spec : {M : Type 1} → statement M
 delvouzh-closing-radius-spec =
@@ -47,7 +47,7 @@ delvouzh-closing-radius-spec =
     closing-radius-m-requires
     slice-write-radius
     write-values-requires
-    number-requires
+    verdict-number-requires
     same-length
     same-length-2
     returns-3)

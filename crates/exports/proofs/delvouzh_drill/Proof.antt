@@ -7,8 +7,8 @@ use Rattle.exports.proofs.delvouzh_drill.Tie as tie
 returns : tie.Need-returns
 returns c = drill-refused (c .if1 .taken)
 
-numbered-planform-requires : tie.Need-numbered-planform-requires
-numbered-planform-requires c κs = search needs
+listed-planform-requires : tie.Need-listed-planform-requires
+listed-planform-requires c κs = search needs
 
 drilled-requires : tie.Need-drilled-requires
 drilled-requires c κs = search needs
@@ -25,8 +25,8 @@ nearest-requires c κs = search needs
 write-counts-requires : tie.Need-write-counts-requires
 write-counts-requires c κs = search needs
 
-number-requires : tie.Need-number-requires
-number-requires c κs = search needs
+verdict-number-requires : tie.Need-verdict-number-requires
+verdict-number-requires c κs = search needs
 
 same-length : tie.Need-same-length
 same-length c = search needs
@@ -40,25 +40,25 @@ returns-2 c =
     let d = v .before in
     let s = d .before in
     drill-written (s .before .if1 .left)
-    (s .numbered-planform .ensures)
+    (s .listed-planform .ensures)
     (d .drilled .ensures)
     (v .verdict .ensures)
     (p .place-number .ensures)
     (n .nearest .ensures)
     (w .write-counts .ensures)
-    (c .number .ensures)
+    (c .verdict-number .ensures)
 
 pub delvouzh-drill-spec : {M : Type 1} → statement M
 delvouzh-drill-spec =
     tie.close
     (tie.spec
     returns
-    numbered-planform-requires
+    listed-planform-requires
     drilled-requires
     verdict-requires
     place-number-requires
     nearest-requires
     write-counts-requires
-    number-requires
+    verdict-number-requires
     same-length
     returns-2)

@@ -10,8 +10,8 @@ returns c = area-refused (short-figures (c .if1 .taken))
 returns-2 : tie.Need-returns-2
 returns-2 c = area-refused (short-counts (c .before .if1 .left) (c .if2 .taken))
 
-numbered-planform-requires : tie.Need-numbered-planform-requires
-numbered-planform-requires c κs = search needs
+listed-planform-requires : tie.Need-listed-planform-requires
+listed-planform-requires c κs = search needs
 
 area-figures-requires : tie.Need-area-figures-requires
 area-figures-requires c κs = search needs
@@ -22,8 +22,8 @@ write-three-requires c κs = search needs
 write-counts-requires : tie.Need-write-counts-requires
 write-counts-requires c κs = search needs
 
-number-requires : tie.Need-number-requires
-number-requires c κs = search needs
+verdict-number-requires : tie.Need-verdict-number-requires
+verdict-number-requires c κs = search needs
 
 same-length : tie.Need-same-length
 same-length c = search needs
@@ -40,7 +40,7 @@ returns-3 c =
     let b = w .before .before .before .before in
     let f = b .before .before .before .before in
     let s = f .before .before in
-    area-written (s .before .before .if1 .left) (s .before .if2 .left) (s .numbered-planform .ensures) (f .area-figures .ensures) (b .write-three .ensures) (w .write-counts .ensures) (c .number .ensures)
+    area-written (s .before .before .if1 .left) (s .before .if2 .left) (s .listed-planform .ensures) (f .area-figures .ensures) (b .write-three .ensures) (w .write-counts .ensures) (c .verdict-number .ensures)
 
 pub delvouzh-geometry-spec : {M : Type 1} → statement M
 delvouzh-geometry-spec =
@@ -48,11 +48,11 @@ delvouzh-geometry-spec =
     (tie.spec
     returns
     returns-2
-    numbered-planform-requires
+    listed-planform-requires
     area-figures-requires
     write-three-requires
     write-counts-requires
-    number-requires
+    verdict-number-requires
     same-length
     same-length-2
     same-length-3

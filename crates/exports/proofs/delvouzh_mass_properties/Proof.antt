@@ -10,8 +10,8 @@ returns c = set-refused (short-figures (c .if1 .taken))
 returns-2 : tie.Need-returns-2
 returns-2 c = set-refused (short-counts (c .before .if1 .left) (c .if2 .taken))
 
-crossed-set-requires : tie.Need-crossed-set-requires
-crossed-set-requires c κs = search needs
+listed-set-requires : tie.Need-listed-set-requires
+listed-set-requires c κs = search needs
 
 set-figures-requires : tie.Need-set-figures-requires
 set-figures-requires c κs = search needs
@@ -22,8 +22,8 @@ write-body-requires c κs = search needs
 write-counts-requires : tie.Need-write-counts-requires
 write-counts-requires c κs = search needs
 
-number-requires : tie.Need-number-requires
-number-requires c κs = search needs
+verdict-number-requires : tie.Need-verdict-number-requires
+verdict-number-requires c κs = search needs
 
 same-length : tie.Need-same-length
 same-length c = search needs
@@ -40,7 +40,7 @@ returns-3 c =
     let b = w .before .before .before .before in
     let f = b .before .before .before .before .before in
     let s = f .before .before in
-    set-written (s .before .before .if1 .left) (s .before .if2 .left) (s .crossed-set .ensures) (f .set-figures .ensures) (b .write-body .ensures) (w .write-counts .ensures) (c .number .ensures)
+    set-written (s .before .before .if1 .left) (s .before .if2 .left) (s .listed-set .ensures) (f .set-figures .ensures) (b .write-body .ensures) (w .write-counts .ensures) (c .verdict-number .ensures)
 
 pub delvouzh-mass-properties-spec : {M : Type 1} → statement M
 delvouzh-mass-properties-spec =
@@ -48,11 +48,11 @@ delvouzh-mass-properties-spec =
     (tie.spec
     returns
     returns-2
-    crossed-set-requires
+    listed-set-requires
     set-figures-requires
     write-body-requires
     write-counts-requires
-    number-requires
+    verdict-number-requires
     same-length
     same-length-2
     same-length-3

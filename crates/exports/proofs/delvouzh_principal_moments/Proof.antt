@@ -28,8 +28,8 @@ write-three-requires c κs = search needs
 write-values-requires : tie.Need-write-values-requires
 write-values-requires c κs = search needs
 
-number-requires : tie.Need-number-requires
-number-requires c κs = search needs
+verdict-number-requires : tie.Need-verdict-number-requires
+verdict-number-requires c κs = search needs
 
 same-length : tie.Need-same-length
 same-length c = search needs
@@ -42,7 +42,7 @@ returns-3 c =
     let w = c .before .before .before in
     let b = w .before .before .before .before in
     let m = b .before .before .before in
-    moments-written (m .before .before .if1 .left) (m .before .if2 .left) (m .tensor-moments .ensures) (b .write-three .ensures) (w .write-values .ensures) (c .number .ensures)
+    moments-written (m .before .before .if1 .left) (m .before .if2 .left) (m .tensor-moments .ensures) (b .write-three .ensures) (w .write-values .ensures) (c .verdict-number .ensures)
 
 pub delvouzh-principal-moments-spec : {M : Type 1} → statement M
 delvouzh-principal-moments-spec =
@@ -56,7 +56,7 @@ delvouzh-principal-moments-spec =
     array-read-write-three-3
     write-three-requires
     write-values-requires
-    number-requires
+    verdict-number-requires
     same-length
     same-length-2
     returns-3)

@@ -17,8 +17,8 @@ write-body-requires c κs = search needs
 write-values-requires : tie.Need-write-values-requires
 write-values-requires c κs = search needs
 
-number-requires : tie.Need-number-requires
-number-requires c κs = search needs
+verdict-number-requires : tie.Need-verdict-number-requires
+verdict-number-requires c κs = search needs
 
 same-length : tie.Need-same-length
 same-length c = search needs
@@ -31,7 +31,7 @@ returns-3 c =
     let w = c .before .before .before in
     let b = w .before .before .before .before in
     let fits = b .before .before .before in
-    body-written (fits .before .if1 .left) (fits .if2 .left) refl (b .write-body .ensures) (w .write-values .ensures) (c .number .ensures)
+    body-written (fits .before .if1 .left) (fits .if2 .left) refl (b .write-body .ensures) (w .write-values .ensures) (c .verdict-number .ensures)
 
 pub told-body-spec : {M : Type 1} → statement M
 told-body-spec =
@@ -41,7 +41,7 @@ told-body-spec =
     returns-2
     write-body-requires
     write-values-requires
-    number-requires
+    verdict-number-requires
     same-length
     same-length-2
     returns-3)

@@ -2,7 +2,7 @@
 use borrow.Author.Needs.{needs}
 use native.Mathlib.Omega.{arith}
 use lib.ListN.{length-set}
-use Rattle.foreign_numbers.proofs.Lists.{three-written}
+use Rattle.refusals.proofs.Lists.{three-written}
 use Rattle.exports.proofs.write_three.Statement.{statement}
 use Rattle.exports.proofs.write_three.Tie as tie
 

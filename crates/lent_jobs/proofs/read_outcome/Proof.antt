@@ -4,17 +4,17 @@ use borrow.Author.Needs.{needs}
 use Rattle.lent_jobs.proofs.read_outcome.Statement.{statement}
 use Rattle.lent_jobs.proofs.read_outcome.Tie as tie
 
-shared-slice-read-read-verdict : tie.Need-shared-slice-read-read-verdict
-shared-slice-read-read-verdict c = search needs
+shared-slice-read-verdict-of : tie.Need-shared-slice-read-verdict-of
+shared-slice-read-verdict-of c = search needs
 
-shared-slice-read-read-verdict-2 : tie.Need-shared-slice-read-read-verdict-2
-shared-slice-read-read-verdict-2 c = search needs
+shared-slice-read-verdict-of-2 : tie.Need-shared-slice-read-verdict-of-2
+shared-slice-read-verdict-of-2 c = search needs
 
-shared-slice-read-read-verdict-3 : tie.Need-shared-slice-read-read-verdict-3
-shared-slice-read-read-verdict-3 c = search needs
+shared-slice-read-verdict-of-3 : tie.Need-shared-slice-read-verdict-of-3
+shared-slice-read-verdict-of-3 c = search needs
 
-read-verdict-requires : tie.Need-read-verdict-requires
-read-verdict-requires c κs = search needs
+verdict-of-requires : tie.Need-verdict-of-requires
+verdict-of-requires c κs = search needs
 
 sub-body-of : tie.Need-sub-body-of
 sub-body-of c = search needs
@@ -38,16 +38,16 @@ returns : tie.Need-returns
 unfolding outcomeIn
 returns c =
     let b = c .before .before in
-    rw (b .body-of .ensures, b .before .before .read-verdict .ensures)
+    rw (b .body-of .ensures, b .before .before .verdict-of .ensures)
 
 pub read-outcome-spec : {M : Type 1} → statement M
 read-outcome-spec =
     tie.close
     (tie.spec
-    shared-slice-read-read-verdict
-    shared-slice-read-read-verdict-2
-    shared-slice-read-read-verdict-3
-    read-verdict-requires
+    shared-slice-read-verdict-of
+    shared-slice-read-verdict-of-2
+    shared-slice-read-verdict-of-3
+    verdict-of-requires
     sub-body-of
     part-body-of-start
     part-body-of-end

@@ -4,6 +4,7 @@ use native.Mathlib.Omega.{arith}
 use lib.ListN.{length}
 use lib.Ieee.{nan}
 use denote.Ref.{now}
+use Rattle.fins.specs.Numbered.{setNumbers}
 use Rattle.lent_jobs.proofs.Copying.{same-count}
 use Rattle.lent_jobs.proofs.Laws.{job-written}
 use Rattle.lent_jobs.proofs.Sized.{sized}
@@ -11,8 +12,8 @@ use borrow.Author.Needs.{needs}
 use Rattle.lent_jobs.proofs.write_job.Statement.{statement}
 use Rattle.lent_jobs.proofs.write_job.Tie as tie
 
-set-numbers-requires : tie.Need-set-numbers-requires
-set-numbers-requires c κs = search needs
+numbers-of-requires : tie.Need-numbers-of-requires
+numbers-of-requires c κs = search needs
 
 slice-aggregate-write-numbers : tie.Need-slice-aggregate-write-numbers
 slice-aggregate-write-numbers c = search needs
@@ -43,12 +44,12 @@ write-numbers-requires-3 c κs =
     let s = one .before .before .before in
     let start = s .before .before .before .before in
     let numbers = now (start .args .numbers) in
-    let of-set = s .set-numbers .result in
+    let of-set = s .numbers-of .result in
     let worked = w .worked-numbers .result in
-    let a : length of-set ≡ 14 = ap length (s .set-numbers .ensures) in
+    let a : length of-set ≡ setNumbers = ap length (s .numbers-of .ensures) in
     let b : length worked ≡ 17 = ap length (w .worked-numbers .ensures) in
     let d = same-count nan numbers 0 of-set (length of-set) (omega (arith, a, start .pre .0)) (omega arith) (one .write-numbers .ensures) in
-    let e = same-count nan (one .write-numbers .last .0) 14 worked (length worked) (omega (arith, b, d, start .pre .0)) (omega arith) (two .write-numbers2 .ensures) in
+    let e = same-count nan (one .write-numbers .last .0) setNumbers worked (length worked) (omega (arith, b, d, start .pre .0)) (omega arith) (two .write-numbers2 .ensures) in
     omega (arith, sized (start .args .job) _ (start .good .1 .1 .0) .outline, d, e, start .pre .0)
 
 counts-of-requires : tie.Need-counts-of-requires
@@ -77,14 +78,14 @@ returns c =
     let s = one .before .before .before in
     let start = s .before .before .before .before in
     job-written (start .args .job) (sized (start .args .job) _ (start .good .1 .1 .0)) _ _ _ _ _ _ _ _ _
-    (s .set-numbers .ensures) (one .write-numbers .ensures) (w .worked-numbers .ensures) (two .write-numbers2 .ensures) (three .write-numbers3 .ensures)
+    (s .numbers-of .ensures) (one .write-numbers .ensures) (w .worked-numbers .ensures) (two .write-numbers2 .ensures) (three .write-numbers3 .ensures)
     (r .counts-of .ensures) (k .write-counts .ensures)
 
 pub write-job-spec : {M : Type 1} → statement M
 write-job-spec =
     tie.close
     (tie.spec
-    set-numbers-requires
+    numbers-of-requires
     slice-aggregate-write-numbers
     write-numbers-requires
     worked-numbers-requires

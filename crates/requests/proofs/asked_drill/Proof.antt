@@ -16,11 +16,11 @@ array-read-behind c = search needs
 behind-requires : tie.Need-behind-requires
 behind-requires c κs = search needs
 
-array-read-numbered-planform : tie.Need-array-read-numbered-planform
-array-read-numbered-planform c = search needs
+array-read-line-planform : tie.Need-array-read-line-planform
+array-read-line-planform c = search needs
 
-numbered-planform-requires : tie.Need-numbered-planform-requires
-numbered-planform-requires c κs = search needs
+line-planform-requires : tie.Need-line-planform-requires
+line-planform-requires c κs = search needs
 
 figure-requires : tie.Need-figure-requires
 figure-requires c κs = search needs
@@ -42,7 +42,7 @@ returns c =
       c .drilled .ensures,
       height .figure2 .ensures,
       x .figure .ensures,
-      planform .numbered-planform .ensures,
+      planform .line-planform .ensures,
       point .behind .ensures,
       point .before .between .ensures,
     )
@@ -55,8 +55,8 @@ asked-drill-spec =
     between-requires
     array-read-behind
     behind-requires
-    array-read-numbered-planform
-    numbered-planform-requires
+    array-read-line-planform
+    line-planform-requires
     figure-requires
     figure-requires-2
     drilled-requires

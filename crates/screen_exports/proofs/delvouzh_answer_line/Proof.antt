@@ -2,8 +2,8 @@
 use Rattle.answers.specs.Answers.{answerBytes}
 use Rattle.lent_engines.specs.Memory.{engineNumbers, engineCounts}
 use Rattle.lines.specs.Lines.{lentIn}
-use Rattle.foreign_numbers.proofs.Lists.{one-written}
-use Rattle.foreign_numbers.proofs.Rooms.{few-figures, few-counts}
+use Rattle.refusals.proofs.Lists.{one-written}
+use Rattle.refusals.proofs.Rooms.{few-figures, few-counts}
 use Rattle.screen_exports.proofs.LineLaws.{no-engine, no-answer, line-refused, line-written}
 use borrow.Author.Needs.{needs}
 use Rattle.screen_exports.proofs.delvouzh_answer_line.Statement.{statement}

@@ -4,7 +4,7 @@ use mathlib.Core.List.{List}
 use Prim.Native.Nat.{ℕ}
 use lib.ListN.{set}
 use Rattle.bodies.specs.Layout.{bodyNumbers}
-use Rattle.foreign_numbers.proofs.Rooms.{has-room, few-figures, few-counts}
+use Rattle.refusals.proofs.Rooms.{has-room, few-figures, few-counts}
 use Rattle.screen_exports.proofs.JobLaws.{first-not, second-not, both}
 use Rattle.screen_exports.proofs.EngineLaws.{engine-room, few-engine-numbers, few-engine-counts, turn-refused, turn-written}
 use borrow.Author.Needs.{needs}

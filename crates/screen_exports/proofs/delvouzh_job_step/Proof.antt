@@ -1,6 +1,6 @@
 -- `screen_exports::delvouzh_job_step` meets its contract: there is no room, or the job answers. Assumes nothing.
 use Rattle.bodies.specs.Layout.{bodyNumbers}
-use Rattle.foreign_numbers.proofs.Rooms.{has-room, few-figures, few-counts}
+use Rattle.refusals.proofs.Rooms.{has-room, few-figures, few-counts}
 use Rattle.screen_exports.proofs.JobLaws.{first-not, second-not, both, job-room, few-numbers, few-totals, step-refused, step-written}
 use borrow.Author.Needs.{needs}
 use Rattle.screen_exports.proofs.delvouzh_job_step.Statement.{statement}
