@@ -35,7 +35,7 @@ use Rattle.limits.proofs.Lengths.{height-checked}
 use Rattle.planforms.specs.declared.Planform.{Planform}
 use Rattle.planforms.specs.declared.Planform.the-variants.{Trapezoid}
 use Rattle.integrands.specs.Integrands.{scaleOf, areaThree}
-use Rattle.fins.specs.Fins.{planformCheck}
+use Rattle.outlines.specs.Outlines.{planformCheck}
 use Rattle.integrands.proofs.Scales.{Scale, scale-sized}
 use Rattle.planforms.proofs.Sized.{Sized}
 use Rattle.fins.proofs.Accepted.{area-planform, area-limit}

@@ -14,7 +14,7 @@ use Rattle.planforms.specs.declared.Planform.the-variants.{Trapezoid, Ellipse}
 use Rattle.planforms.specs.Planforms.{spanOf}
 use Rattle.integrands.specs.Integrands.{scaleOf}
 use Rattle.halving.specs.Halving.{halving}
-use Rattle.fins.specs.Fins.{planformCheck}
+use Rattle.outlines.specs.Outlines.{planformCheck}
 
 -- every sample's height, a sample height times the scale, lies below the span, whatever is integrated over the planform's one strip
 abbrev pub BelowSpan : Planform → List Float → Type 0

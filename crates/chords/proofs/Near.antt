@@ -14,7 +14,8 @@ use lib.Seq.{getD-take, getD-set-same, getD-set-other, length-take-le}
 use lib.Ieee.{Float, lt, le, eq, isNan}
 use Rattle.floats.proofs.Bools.{no, and-left, and-right, or-second}
 use Rattle.floats.proofs.Order.{not-lt-through, below-through, le-not-below, below-nan, not-below-itself, equal-sym, equal-no-nan}
-use Rattle.planforms.specs.Planforms.{heightAt, pairCount, next}
+use Rattle.planforms.specs.Planforms.{heightAt, pairCount}
+use Rattle.segments.specs.Segments.{next}
 use Rattle.sorting.specs.Sorted.{sorted}
 use Rattle.chords.specs.Chords.{crossed, edgeCrossed, edgeCrossing, crossings, outlineCrossings}
 use Rattle.chords.specs.Edges.{crossingsAmong, Holding, Near, Kept}

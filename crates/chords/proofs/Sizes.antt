@@ -25,7 +25,8 @@ use Rattle.rounding.proofs.Roots.{root-below}
 use Rattle.sorting.specs.Sorted.{Each, sorted}
 use Rattle.sorting.proofs.Sorted.{sorted-each, sorted-length}
 use Rattle.limits.proofs.Lengths.{Length, Height, PositiveLength}
-use Rattle.planforms.specs.Planforms.{xAt, heightAt, pairCount, next}
+use Rattle.planforms.specs.Planforms.{xAt, heightAt, pairCount}
+use Rattle.segments.specs.Segments.{next}
 use Rattle.planforms.specs.declared.Planform.{Planform}
 use Rattle.planforms.specs.declared.Planform.the-variants.{Trapezoid, Ellipse, Outline}
 use Rattle.planforms.proofs.Sized.{Sized}

@@ -10,7 +10,8 @@ ghost use mathlib.Core.Path.{_≡_};
 ghost use Prim.Native.Nat.{_<_};
 ghost use lib.ListN.{length, take};
 ghost use Rattle.sorting.specs.Sorted.{Written};
-ghost use Rattle.planforms.specs.Planforms.{pairCount, next};
+ghost use Rattle.planforms.specs.Planforms.{pairCount};
+ghost use Rattle.segments.specs.Segments.{next};
 ghost use Rattle.chords.specs.Chords.{inSpan, trapezoidEnds, ellipseEnds, crossed, edgeCrossed, edgeCrossing, outlineCrossings, endsAt, chordsOf};
 ghost use Rattle.chords.specs.Edges.{crossEdge, addFew, fewEdge, fewChords, Holding, Near, Kept};
 
@@ -189,7 +190,7 @@ fn meet_edge(few: Few, points: &[f64], h: f64, i: usize, n: usize) -> Few
     requires { ⌜ (i < n) × (n ≡ pairCount (now points)) ⌝ }
     ensures { λ r. ⌜ r ≡ fewEdge (now (points .entry)) h i (next n i) few ⌝ }
 {
-    let j = planforms::next_point(n, i);
+    let j = segments::next_point(n, i);
     if !edge_crossed(points, h, i, j) {
         return few;
     }
@@ -235,7 +236,7 @@ fn cross_edge(points: &[f64], h: f64, i: usize, n: usize, xs: &mut [f64], count:
     requires { ⌜ (i < n) × (n ≡ pairCount (now points)) × (count < length (now xs)) ⌝ }
     ensures { λ r. ⌜ Written (crossEdge (now (points .entry)) n h i (take count (now (xs .entry)))) (now (xs .entry)) (now (xs .exit)) r ⌝ }
 {
-    let j = planforms::next_point(n, i);
+    let j = segments::next_point(n, i);
     if !edge_crossed(points, h, i, j) {
         return count;
     }

@@ -25,7 +25,7 @@ use Rattle.planforms.specs.Planforms.{pairCount}
 use Rattle.limits.specs.Limits.{zeroAllowed, negativeAllowed, shortest, longest, isWithin, lengthWithin, lengthCheck, drillXField, drillHeightField, rootChordField, tipChordField, spanField, sweepField, pointXField, pointYField}
 use Rattle.outlines.specs.Outlines.{arePairs, pointCheck, pointsCheck, outlineCheck}
 use Rattle.outlines.proofs.Accepted.{points-within}
-use Rattle.fins.specs.Fins.{planformCheck}
+use Rattle.outlines.specs.Outlines.{planformCheck}
 use Rattle.steps.specs.Parts.{IsLength}
 use Rattle.steps.specs.Steps.{exactOf, stepsOf}
 use Rattle.drill.specs.declared.Answer.{Answer}

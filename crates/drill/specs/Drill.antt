@@ -14,7 +14,7 @@ use Rattle.refusals.specs.Order.{refuseUnless, firstOf}
 use Rattle.planforms.specs.declared.Planform.{Planform}
 use Rattle.planforms.specs.declared.Planform.the-variants.{Trapezoid, Ellipse, Outline}
 use Rattle.limits.specs.Limits.{drillXField, drillHeightField, lengthCheck}
-use Rattle.fins.specs.Fins.{planformCheck}
+use Rattle.outlines.specs.Outlines.{planformCheck}
 use Rattle.steps.specs.Steps.{exactOf, isWhole, stepsOf}
 use Rattle.polygons.specs.Polygons.{isOnEdge, isInside, nearestCorner}
 use Rattle.drill.specs.declared.Answer.{Answer}

@@ -134,7 +134,7 @@ fn drill_outline(points: &[f64], x_m: f64, height_m: f64) -> Answer
 pub fn drill(planform: Planform, points: &[f64], x_m: f64, height_m: f64) -> Answer
     ensures { λ r. ⌜ IsAnswer verdictOf r (drillOf planform (now (points .entry)) «x_m» «height_m») ⌝ }
 {
-    let v = fins::check_planform(planform, points);
+    let v = outlines::check_planform(planform, points);
     let v = first_refusal(v, check_length(limits::DRILL_X, x_m));
     let v = first_refusal(v, check_length(limits::DRILL_HEIGHT, height_m));
     if let Verdict::Refused(refusal) = v {

@@ -16,7 +16,8 @@ use Rattle.floats.specs.Operations.{_⊕_, _⊖_, _⊗_, bits}
 use Rattle.floats.specs.Floats.{absOf}
 use Rattle.floats.proofs.Bools.{no}
 use Rattle.refusals.proofs.Accepted.{both-true}
-use Rattle.planforms.specs.Planforms.{xAt, heightAt, pairCount, next}
+use Rattle.planforms.specs.Planforms.{xAt, heightAt, pairCount}
+use Rattle.segments.specs.Segments.{next}
 use Rattle.limits.specs.Limits.{lengthWithin}
 use Rattle.outlines.specs.Outlines.{edgeAt, edgeTerm, sumOfTerms, twiceArea}
 

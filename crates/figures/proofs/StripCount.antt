@@ -27,7 +27,8 @@ use Rattle.breaks.proofs.Strips.{at-most-63, break-heights-members}
 use Rattle.breaks.proofs.Listed.{at-most-two-more, two-heights}
 use Rattle.integrands.specs.Integrands.{scaleOf, areaThree}
 use Rattle.fins.specs.declared.FinSet.{FinSet}
-use Rattle.fins.specs.Fins.{planformCheck, setCheck, areaCheck}
+use Rattle.outlines.specs.Outlines.{planformCheck}
+use Rattle.fins.specs.Fins.{setCheck, areaCheck}
 use Rattle.fins.proofs.Accepted.{set-planform, area-planform}
 use Rattle.halving.specs.Halving.{halving}
 use Rattle.strips.specs.Strips.{Worked, isAccepted, workedOf}

@@ -10,7 +10,7 @@ use Rattle.planforms.specs.declared.Planform.{Planform}
 use Rattle.planforms.specs.declared.Planform.the-variants.{Trapezoid, Ellipse, Outline}
 use Rattle.planforms.proofs.Sized.{PlanformF64, Sized}
 use Rattle.outlines.proofs.Sized.{outline-sized}
-use Rattle.fins.specs.Fins.{planformCheck}
+use Rattle.outlines.specs.Outlines.{planformCheck}
 
 pub planform-sized : (planform : Planform) (points : List Float) → PlanformF64 planform points → planformCheck planform points ≡ Accepted → Sized planform points
 unfolding planformCheck

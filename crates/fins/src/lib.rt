@@ -6,7 +6,7 @@
 ghost use mathlib.Core.Path.{_≡_};
 ghost use Rattle.refusals.specs.Given.{IsVerdict};
 ghost use Rattle.refusals.specs.Order.{firstOf};
-ghost use Rattle.fins.specs.Fins.{trapezoidCheck, planformCheck, slabCheck, tabCheck, depthCheck, plateChecks, mountChecks, filletChecks, ownCheck, setCheck, areaCheck};
+ghost use Rattle.fins.specs.Fins.{slabCheck, tabCheck, depthCheck, plateChecks, mountChecks, filletChecks, ownCheck, setCheck, areaCheck};
 ghost use Rattle.fins.specs.Numbered.{tabNumber, tabFigures, tabOf, numberedSet, numbersOf, countsOf, SetRoom, setIn, listedSet, knownSet};
 use fillets::FILLET_FIGURES;
 use fillets::Fillet;
@@ -263,37 +263,6 @@ pub fn known_set(set: NumberedSet) -> FinSet
     }
 }
 
-fn check_trapezoid(root_chord_m: f64, tip_chord_m: f64, span_m: f64, sweep_m: f64) -> Verdict
-    ensures { λ r. ⌜ r ≡ trapezoidCheck «root_chord_m» «tip_chord_m» «span_m» «sweep_m» ⌝ }
-{
-    let v = check_length(limits::ROOT_CHORD, root_chord_m);
-    let v = first_refusal(v, check_length(limits::TIP_CHORD, tip_chord_m));
-    let v = first_refusal(v, check_length(limits::SPAN, span_m));
-    first_refusal(v, check_length(limits::SWEEP, sweep_m))
-}
-
-// The first refusal of a planform: of its lengths as listed, or of the outline's own checks.
-pub fn check_planform(planform: Planform, points: &[f64]) -> Verdict
-    ensures { λ r. ⌜ IsVerdict r (planformCheck planform (now (points .entry))) ⌝ }
-{
-    match planform {
-        Planform::Trapezoid {
-            root_chord_m,
-            tip_chord_m,
-            span_m,
-            sweep_m,
-        } => check_trapezoid(root_chord_m, tip_chord_m, span_m, sweep_m),
-        Planform::Ellipse {
-            root_chord_m,
-            span_m,
-        } => {
-            let v = check_length(limits::ROOT_CHORD, root_chord_m);
-            first_refusal(v, check_length(limits::SPAN, span_m))
-        }
-        Planform::Outline => outlines::check_outline(points),
-    }
-}
-
 // The lengths of a tab, and 10: it lies along the root chord.
 fn check_slab(height_m: f64, length_m: f64, offset_m: f64, root_chord_m: f64) -> Verdict
     ensures { λ r. ⌜ r ≡ slabCheck «height_m» «length_m» «offset_m» «root_chord_m» ⌝ }
@@ -383,7 +352,7 @@ pub fn check_own(set: FinSet, points: &[f64]) -> Verdict
     if is_refused(v) {
         return v;
     }
-    let v = check_planform(planform, points);
+    let v = outlines::check_planform(planform, points);
     if is_refused(v) {
         return v;
     }
@@ -428,5 +397,5 @@ pub fn check_area(planform: Planform, points: &[f64], limit: usize, scratch_len:
 {
     let room = limits::check_limit(limit);
     let room = first_refusal(room, limits::check_scratch(limit, scratch_len));
-    first_refusal(room, check_planform(planform, points))
+    first_refusal(room, outlines::check_planform(planform, points))
 }

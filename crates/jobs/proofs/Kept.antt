@@ -23,7 +23,7 @@ use Rattle.breaks.specs.Breaks.{everyY, breakHeights}
 use Rattle.chords.specs.Chords.{endsAt}
 use Rattle.sections.specs.declared.Section.{Section}
 use Rattle.integrands.specs.Integrands.{scaleOf, sampleOf, plateOf}
-use Rattle.fins.specs.Fins.{planformCheck}
+use Rattle.outlines.specs.Outlines.{planformCheck}
 use Rattle.jobs.specs.Jobs.{heldOf, pointsOf}
 
 -- what a job reads of its copy

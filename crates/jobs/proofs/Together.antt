@@ -28,7 +28,8 @@ use Rattle.breaks.specs.Breaks.{breakHeights}
 use Rattle.breaks.proofs.Listed.{at-most-66}
 use Rattle.integrands.specs.Integrands.{scaleOf}
 use Rattle.fins.specs.declared.FinSet.{FinSet}
-use Rattle.fins.specs.Fins.{planformCheck, ownChecks, ownCheck, setCheck}
+use Rattle.outlines.specs.Outlines.{planformCheck}
+use Rattle.fins.specs.Fins.{ownChecks, ownCheck, setCheck}
 use Rattle.halving.specs.declared.Ending.the-variants.{Accepted as accepted}
 use Rattle.halving.specs.declared.Integral.{Integral}
 use Rattle.strips.specs.declared.Onward.{Onward}

@@ -51,7 +51,8 @@ use Rattle.halving.specs.declared.Ending.the-variants.{Accepted}
 use Rattle.halving.specs.declared.Integral.{Integral}
 use Rattle.strips.specs.Strips.{Worked, workedOf, summedOf, sevenWide}
 use Rattle.bodies.specs.declared.Body.{Body}
-use Rattle.fins.specs.Fins.{planformCheck, areaCheck, setCheck}
+use Rattle.outlines.specs.Outlines.{planformCheck}
+use Rattle.fins.specs.Fins.{areaCheck, setCheck}
 use Rattle.fins.specs.declared.FinSet.{FinSet}
 use Rattle.fins.proofs.Accepted.{area-planform, set-accepted}
 use Rattle.fins.proofs.Sized.{planform-sized}

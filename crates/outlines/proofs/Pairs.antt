@@ -14,7 +14,8 @@ use Rattle.refusals.specs.declared.Verdict.{Verdict}
 use Rattle.refusals.specs.declared.Verdict.the-variants.{Accepted, Refused}
 use Rattle.refusals.specs.Order.{firstBetween}
 use Rattle.refusals.proofs.Order.{goes-on, stops, ends}
-use Rattle.planforms.specs.Planforms.{pairCount, next}
+use Rattle.planforms.specs.Planforms.{pairCount}
+use Rattle.segments.specs.Segments.{next}
 use Rattle.segments.specs.Segments.{segmentsTouch}
 use Rattle.outlines.specs.Outlines.{edgeAt, areNeighbours, pairCheck, edgeCheck}
 

@@ -1,13 +1,17 @@
-// The checks of a drawn outline: how many points, their limits, where it starts and ends, that it touches itself nowhere, its area.
+// The checks of a planform: of its lengths, or of a drawn outline how many points, their limits, where it starts and ends, that it touches
+// itself nowhere, its area.
 //
-// Document 01, refusals 5, 4, 6, 7, 8 in that order (fins.rs, `validate_outline`). Of n points, each an x and a height in a flat
+// Of an outline document 01's refusals 5, 4, 6, 7, 8 in that order (fins.rs, `validate_outline`). Of n points, each an x and a height in a flat
 // slice, edge i runs from point i to point i + 1, and edge n - 1 back to point 0.
 ghost use mathlib.Core.Path.{_≡_};
 ghost use Prim.Native.Nat.{_+_, _<_};
+ghost use Rattle.refusals.specs.Given.{IsVerdict};
 ghost use Rattle.planforms.specs.Planforms.{pairCount};
 ghost use Rattle.segments.specs.Segments.{segmentsTouch};
 ghost use Rattle.segments.specs.Places.{placeOf};
-ghost use Rattle.outlines.specs.Outlines.{pointCheck, pointsCheck, endsCheck, pointAt, edgeAt, pairCheck, edgeCheck, edgesCheck, edgeTerm, twiceArea, twiceAreaCheck, outlineCheck};
+ghost use Rattle.outlines.specs.Outlines.{pointCheck, pointsCheck, endsCheck, pointAt, edgeAt, pairCheck, edgeCheck, edgesCheck, edgeTerm, twiceArea, twiceAreaCheck, outlineCheck, trapezoidCheck, planformCheck};
+use limits::check_length;
+use planforms::Planform;
 use refusals::Refusal;
 use refusals::Verdict;
 use refusals::first_refusal;
@@ -31,7 +35,7 @@ fn edge_at(points: &[f64], i: usize) -> Segment
 {
     let n = points.len() / 2;
     let from = point_at(points, i);
-    let to = point_at(points, planforms::next_point(n, i));
+    let to = point_at(points, segments::next_point(n, i));
     Segment { from, to }
 }
 
@@ -104,8 +108,8 @@ fn check_point(points: &[f64], i: usize) -> Verdict
     requires { ⌜ i < pairCount (now points) ⌝ }
     ensures { λ r. ⌜ r ≡ pointCheck (now (points .entry)) i ⌝ }
 {
-    let v = limits::check_length(limits::POINT_X, points[2 * i]);
-    first_refusal(v, limits::check_length(limits::POINT_Y, points[2 * i + 1]))
+    let v = check_length(limits::POINT_X, points[2 * i]);
+    first_refusal(v, check_length(limits::POINT_Y, points[2 * i + 1]))
 }
 
 // 4: every point is within its limits.
@@ -164,7 +168,7 @@ fn check_twice_area(points: &[f64]) -> Verdict
 }
 
 // The first refusal of an outline, whatever slice is lent. Only with 3 to 64 points is anything else looked at.
-pub fn check_outline(points: &[f64]) -> Verdict
+fn check_outline(points: &[f64]) -> Verdict
     ensures { λ r. ⌜ r ≡ outlineCheck (now (points .entry)) ⌝ }
 {
     let n = points.len() / 2;
@@ -175,4 +179,35 @@ pub fn check_outline(points: &[f64]) -> Verdict
     let v = first_refusal(v, check_ends(points));
     let v = first_refusal(v, check_edges(points));
     first_refusal(v, check_twice_area(points))
+}
+
+fn check_trapezoid(root_chord_m: f64, tip_chord_m: f64, span_m: f64, sweep_m: f64) -> Verdict
+    ensures { λ r. ⌜ r ≡ trapezoidCheck «root_chord_m» «tip_chord_m» «span_m» «sweep_m» ⌝ }
+{
+    let v = check_length(limits::ROOT_CHORD, root_chord_m);
+    let v = first_refusal(v, check_length(limits::TIP_CHORD, tip_chord_m));
+    let v = first_refusal(v, check_length(limits::SPAN, span_m));
+    first_refusal(v, check_length(limits::SWEEP, sweep_m))
+}
+
+// The first refusal of a planform: of its lengths as listed, or of the outline's own checks.
+pub fn check_planform(planform: Planform, points: &[f64]) -> Verdict
+    ensures { λ r. ⌜ IsVerdict r (planformCheck planform (now (points .entry))) ⌝ }
+{
+    match planform {
+        Planform::Trapezoid {
+            root_chord_m,
+            tip_chord_m,
+            span_m,
+            sweep_m,
+        } => check_trapezoid(root_chord_m, tip_chord_m, span_m, sweep_m),
+        Planform::Ellipse {
+            root_chord_m,
+            span_m,
+        } => {
+            let v = check_length(limits::ROOT_CHORD, root_chord_m);
+            first_refusal(v, check_length(limits::SPAN, span_m))
+        }
+        Planform::Outline => check_outline(points),
+    }
 }

@@ -13,7 +13,7 @@ use Rattle.refusals.specs.declared.Verdict.{Verdict}
 use Rattle.refusals.specs.declared.Verdict.the-variants.{Accepted}
 use Rattle.refusals.specs.Calls.{Does}
 use Rattle.planforms.specs.declared.Planform.{Planform}
-use Rattle.fins.specs.Fins.{planformCheck}
+use Rattle.outlines.specs.Outlines.{planformCheck}
 use Rattle.chords.specs.declared.Chords.{Chords}
 use Rattle.chords.specs.Chords.{paired, chordsAt, endsOf}
 use Rattle.planform_chords.specs.declared.ChordList.{ChordList}

@@ -11,7 +11,7 @@ use Rattle.refusals.proofs.Accepted.{both}
 use Rattle.limits.specs.Limits.{rootChordField, spanField}
 use Rattle.limits.proofs.Accepted.{length-positive}
 use Rattle.planforms.specs.declared.Planform.the-variants.{Trapezoid, Ellipse}
-use Rattle.fins.specs.Fins.{planformCheck}
+use Rattle.outlines.specs.Outlines.{planformCheck}
 use Rattle.chords.specs.Chords.{paired, chordsAt}
 use Rattle.chords.proofs.Tip.{trapezoid-tip, ellipse-tip}
 

@@ -10,7 +10,7 @@ use Rattle.refusals.specs.declared.Verdict.the-variants.{Accepted, Refused}
 use Rattle.refusals.specs.Given.{IsAnswer}
 use Rattle.refusals.specs.Calls.{CallOf, leavesAlone, byVerdict}
 use Rattle.planforms.specs.declared.Planform.{Planform}
-use Rattle.fins.specs.Fins.{planformCheck}
+use Rattle.outlines.specs.Outlines.{planformCheck}
 use Rattle.chords.specs.Chords.{chordsAt}
 use Rattle.planform_chords.specs.declared.ChordList.{ChordList}
 

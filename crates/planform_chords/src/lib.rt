@@ -26,7 +26,7 @@ pub fn chords_at(planform: Planform, points: &[f64], h: f64, ends: &mut [f64]) -
     ensures { λ r. ⌜ IsChordList r (chordsCall planform (now (points .entry)) h .answer) ⌝ }
     ensures { λ _. ⌜ now (ends .exit) ≡ chordsCall planform (now (points .entry)) h .leaves (now (ends .entry)) ⌝ }
 {
-    let verdict = fins::check_planform(planform, points);
+    let verdict = outlines::check_planform(planform, points);
     match verdict {
         Verdict::Accepted => listed(write_chords(
             chords_found(planform, points, h),

@@ -2,8 +2,7 @@
 //
 // An outline's points lie beside the enum in a lent slice: x, then height, metres, one pair after another.
 ghost use mathlib.Core.Path.{_≡_};
-ghost use Prim.Native.Nat.{_<_};
-ghost use Rattle.planforms.specs.Planforms.{rootChordOf, spanOf, lastX, largestHeight, pairCount, next};
+ghost use Rattle.planforms.specs.Planforms.{rootChordOf, spanOf, lastX, largestHeight, pairCount};
 ghost use Rattle.planforms.specs.Numbered.{planformNumber, lengthsOf, planformOf, listedPlanform};
 
 // Lengths in metres. The sweep is the axial distance from the root's leading edge aft to the tip's.
@@ -138,14 +137,6 @@ pub fn span_m(planform: Planform, points: &[f64]) -> f64
         } => span_m,
         Planform::Outline => largest_height(points),
     }
-}
-
-// The point at which edge i of n ends: the last edge closes the outline.
-pub fn next_point(n: usize, i: usize) -> usize
-    requires { ⌜ i < n ⌝ }
-    ensures { λ r. ⌜ (r ≡ next n i) × (r < n) ⌝ }
-{
-    if i + 1 == n { 0 } else { i + 1 }
 }
 
 fn last_x(points: &[f64]) -> f64

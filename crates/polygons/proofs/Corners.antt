@@ -10,7 +10,7 @@ use lib.Dec.{T, leb, leb→le, le→leb, ltb→lt, leb·zero}
 use lib.IntN.{ℤ, pos, negsuc, negℤ, natAbs, _+ℤ_, _-ℤ_, _*ℤ_, +ℤ-invr, +ℤ-idl, -ℤ-+ℤ-cancel, zero-*ℤ, *ℤ-zero}
 use lib.ListN.{getD}
 use lib.Signed.{leZ, ltZ, _≤ℤ_, _<ℤ_, ≤ℤ-refl, <ℤ-≤ℤ-trans, ltZ-yes, ltZ-no, clashℤ}
-use Rattle.planforms.specs.Planforms.{next}
+use Rattle.segments.specs.Segments.{next}
 use Rattle.polygons.specs.declared.Offset.{Offset}
 use Rattle.polygons.specs.Polygons.{isSame, isZeroBetween, liesOn, squaredDistance, isNearer, cornerCount, offsetOf, isOn, some, isOnEdge, nearerOf, nearestTo, nearestCorner}
 

@@ -10,7 +10,7 @@ use lib.Dec.{T, eqb, leb→le}
 use lib.IntN.{ℤ, pos, negsuc, _-ℤ_, _*ℤ_}
 use lib.ListN.{length, getD}
 use lib.Signed.{leZ, _≤ℤ_}
-use Rattle.planforms.specs.Planforms.{next}
+use Rattle.segments.specs.Segments.{next}
 use Rattle.polygons.specs.declared.Offset.{Offset}
 use Rattle.polygons.specs.Polygons.{isSame, isZeroBetween, liesOn, isCutRising, isCut, squaredDistance, cornerCount, offsetOf, isOn, cuts, some, count, isOnEdge, isInside, nearestCorner}
 use Rattle.polygons.proofs.Corners.{nearest-among, none-nearer}

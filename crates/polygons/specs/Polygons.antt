@@ -7,7 +7,7 @@ use lib.Dec.{eqb}
 use lib.IntN.{ℤ, pos, _+ℤ_, _-ℤ_, _*ℤ_}
 use lib.ListN.{length, getD}
 use lib.Signed.{leZ, ltZ}
-use Rattle.planforms.specs.Planforms.{next}
+use Rattle.segments.specs.Segments.{next}
 use Rattle.polygons.specs.declared.Offset.{Offset}
 
 -- ---- one edge, from a to b as the point sees them

@@ -121,7 +121,7 @@ fn is_on(corners: &[i64], x: i64, height: i64, i: usize) -> bool
 {
     let n = corners.len() / 2;
     let from = offset_of(corners, x, height, i);
-    let to = offset_of(corners, x, height, planforms::next_point(n, i));
+    let to = offset_of(corners, x, height, segments::next_point(n, i));
     lies_on(from, to)
 }
 
@@ -131,7 +131,7 @@ fn cuts(corners: &[i64], x: i64, height: i64, i: usize) -> bool
 {
     let n = corners.len() / 2;
     let from = offset_of(corners, x, height, i);
-    let to = offset_of(corners, x, height, planforms::next_point(n, i));
+    let to = offset_of(corners, x, height, segments::next_point(n, i));
     is_cut(from, to)
 }
 

@@ -1,11 +1,12 @@
-// Whether two segments share a point (fins.rs, `segments_touch`).
+// The edges of an outline as segments: where each ends, and whether two share a point (fins.rs, `segments_touch`).
 //
-// Decided in f64: the cross products and the sums in them are rounded, and exact geometry gives other answers both ways.
+// The latter is decided in f64: the cross products and the sums in them are rounded, and exact geometry gives other answers both ways.
 ghost use mathlib.Core.Path.{_≡_};
 ghost use mathlib.Core.Bool.{_&&_};
+ghost use Prim.Native.Nat.{_<_};
 ghost use lib.Ieee.{eq};
 ghost use Rattle.floats.specs.Operations.{bits};
-ghost use Rattle.segments.specs.Segments.{crossOf, areOpposite, isInBox, segmentsTouch};
+ghost use Rattle.segments.specs.Segments.{next, crossOf, areOpposite, isInBox, segmentsTouch};
 ghost use Rattle.segments.specs.Places.{placeOf, areBeyond, areApart};
 
 // Metres.
@@ -27,6 +28,14 @@ pub struct Place {
     pub before: bool,
     pub after: bool,
     pub y: f64,
+}
+
+// The point at which edge i of n ends: the last edge closes the outline.
+pub fn next_point(n: usize, i: usize) -> usize
+    requires { ⌜ i < n ⌝ }
+    ensures { λ r. ⌜ (r ≡ next n i) × (r < n) ⌝ }
+{
+    if i + 1 == n { 0 } else { i + 1 }
 }
 
 // On which side of a segment c lies: above 0 on its left, below 0 on its right.

@@ -31,7 +31,8 @@ use Rattle.fillets.specs.Fillets.{isNone, isSound, ratioCheck}
 use Rattle.fins.specs.declared.FinSet.{FinSet}
 use Rattle.fins.specs.declared.Tab.{Tab}
 use Rattle.fins.specs.declared.Tab.the-variants.{None, Slab}
-use Rattle.fins.specs.Fins.{planformCheck, tabCheck, depthCheck, setCheck, areaCheck}
+use Rattle.outlines.specs.Outlines.{planformCheck}
+use Rattle.fins.specs.Fins.{tabCheck, depthCheck, setCheck, areaCheck}
 use Rattle.bodies.specs.declared.Body.{Body}
 use Rattle.bodies.specs.declared.Tensor.{Tensor}
 use Rattle.bodies.specs.Vectors.{vector}

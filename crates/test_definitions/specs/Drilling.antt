@@ -13,7 +13,7 @@ use Rattle.planforms.specs.declared.Planform.the-variants.{Trapezoid, Ellipse, 
 use Rattle.limits.specs.Limits.{lengthWithin, lengthCheck}
 use Rattle.segments.specs.Segments.{isInBox, segmentsTouch}
 use Rattle.outlines.specs.Outlines.{sumOfTerms, outlineCheck}
-use Rattle.fins.specs.Fins.{planformCheck}
+use Rattle.outlines.specs.Outlines.{planformCheck}
 use Rattle.steps.specs.Steps.{exactOf, isWhole, stepsOf}
 use Rattle.polygons.specs.Polygons.{isSame, isCrossed, liesOn, isCutRising, isCut, squaredDistance, isNearer, offsetOf, isOn, cuts, some, count, isOnEdge, isInside, nearerOf, nearestTo, nearestCorner}
 use Rattle.drill.specs.declared.Answer.{Answer}

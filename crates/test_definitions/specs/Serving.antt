@@ -18,7 +18,8 @@ use Rattle.planforms.specs.Planforms.{rootChordOf}
 use Rattle.sections.specs.declared.Section.the-variants.{Square}
 use Rattle.fins.specs.declared.Tab.the-variants.{None}
 use Rattle.fins.specs.declared.FinSet.{FinSet}
-use Rattle.fins.specs.Fins.{planformCheck, tabCheck, depthCheck, ownCheck}
+use Rattle.outlines.specs.Outlines.{planformCheck}
+use Rattle.fins.specs.Fins.{tabCheck, depthCheck, ownCheck}
 use Rattle.jobs.specs.declared.Job.{Job}
 use Rattle.jobs.specs.Jobs.{stepOf, changeOf, makingCheck, madeOf}
 use Rattle.engines.specs.declared.Engine.{Engine}

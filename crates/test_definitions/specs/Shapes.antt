@@ -10,12 +10,13 @@ use Rattle.floats.specs.Floats.{absOf}
 use Rattle.sorting.specs.Sorted.{belowAll, insert, sorted, over}
 use Rattle.planforms.specs.declared.Planform.{Planform}
 use Rattle.planforms.specs.declared.Planform.the-variants.{Trapezoid, Outline}
-use Rattle.planforms.specs.Planforms.{next, largestHeight, rootChordOf, spanOf}
+use Rattle.planforms.specs.Planforms.{largestHeight, rootChordOf, spanOf}
+use Rattle.segments.specs.Segments.{next}
 use Rattle.breaks.specs.Breaks.{heights, everyY, once, breakHeights, oneStrip}
 use Rattle.chords.specs.Chords.{crossed, crossings, outlineCrossings, endsAt, paired, chordsAt}
 use Rattle.limits.specs.Limits.{lengthWithin, lengthCheck}
 use Rattle.refusals.specs.Order.{firstRefusal, firstFrom}
-use Rattle.fins.specs.Fins.{planformCheck}
+use Rattle.outlines.specs.Outlines.{planformCheck}
 use Rattle.planform_chords.specs.PlanformChords.{endsIn, chordsCall}
 use Rattle.segments.specs.declared.Point.{Point}
 use Rattle.segments.specs.declared.Segment.{Segment}

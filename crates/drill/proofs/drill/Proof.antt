@@ -6,7 +6,7 @@ use denote.Ref.{now}
 use Rattle.refusals.specs.declared.Verdict.the-variants.{Accepted}
 use Rattle.refusals.proofs.Given.{is-answer}
 use Rattle.planforms.specs.declared.Planform.{Planform}
-use Rattle.fins.specs.Fins.{planformCheck}
+use Rattle.outlines.specs.Outlines.{planformCheck}
 use Rattle.steps.specs.Steps.{exactOf}
 use Rattle.drill.specs.Drill.{cornersOf, hasCorners}
 use Rattle.drill.specs.InSteps.{inSteps}

@@ -8,7 +8,8 @@ use Rattle.refusals.proofs.Order.{passed, refused-here, in-two}
 use Rattle.planforms.specs.Planforms.{rootChordOf}
 use Rattle.fins.specs.declared.FinSet.{FinSet}
 use Rattle.limits.specs.Limits.{countCheck}
-use Rattle.fins.specs.Fins.{planformCheck, plateChecks, mountChecks, filletChecks, ownCheck}
+use Rattle.outlines.specs.Outlines.{planformCheck}
+use Rattle.fins.specs.Fins.{plateChecks, mountChecks, filletChecks, ownCheck}
 use borrow.Author.Needs.{needs}
 use Rattle.fins.proofs.check_own.Statement.{statement}
 use Rattle.fins.proofs.check_own.Tie as tie

@@ -1,11 +1,11 @@
--- `planforms::next_point` meets its contract: n's remainder is 0, and i + 1 below n is its own. Assumes nothing.
+-- `segments::next_point` meets its contract: n's remainder is 0, and i + 1 below n is its own. Assumes nothing.
 use mathlib.Core.Path.{_≡_, sym, ap, _∙_}
 use native.Mathlib.Nat.{mod-eq-of-lt, mod-self}
 use native.Mathlib.Omega.{arith}
 use Prim.Native.Nat.{ℕ, _+_, _%_}
 use borrow.Author.Needs.{needs}
-use Rattle.planforms.proofs.next_point.Statement.{statement}
-use Rattle.planforms.proofs.next_point.Tie as tie
+use Rattle.segments.proofs.next_point.Statement.{statement}
+use Rattle.segments.proofs.next_point.Tie as tie
 
 add-if1 : tie.Need-add-if1
 add-if1 c = search needs

@@ -1,9 +1,9 @@
--- `fins::check_trapezoid` meets its contract: the calls are in order. Assumes nothing.
+-- `outlines::check_trapezoid` meets its contract: the calls are in order. Assumes nothing.
 use mathlib.Core.List.{[], _∷_}
 use Rattle.refusals.proofs.Order.{in-order}
 use borrow.Author.Needs.{needs}
-use Rattle.fins.proofs.check_trapezoid.Statement.{statement}
-use Rattle.fins.proofs.check_trapezoid.Tie as tie
+use Rattle.outlines.proofs.check_trapezoid.Statement.{statement}
+use Rattle.outlines.proofs.check_trapezoid.Tie as tie
 
 check-length-requires : tie.Need-check-length-requires
 check-length-requires c κs = search needs

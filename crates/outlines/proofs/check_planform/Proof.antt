@@ -1,11 +1,11 @@
--- `fins::check_planform` meets its contract: each arm knows its case. Assumes nothing.
+-- `outlines::check_planform` meets its contract: each arm knows its case. Assumes nothing.
 use mathlib.Core.List.{[], _∷_}
 use Rattle.refusals.proofs.Given.{is-answer}
 use Rattle.refusals.proofs.Order.{in-order}
-use Rattle.fins.specs.Fins.{planformCheck}
+use Rattle.outlines.specs.Outlines.{planformCheck}
 use borrow.Author.Needs.{needs}
-use Rattle.fins.proofs.check_planform.Statement.{statement}
-use Rattle.fins.proofs.check_planform.Tie as tie
+use Rattle.outlines.proofs.check_planform.Statement.{statement}
+use Rattle.outlines.proofs.check_planform.Tie as tie
 
 enum-known-planform : tie.Need-enum-known-planform
 enum-known-planform c = search needs
