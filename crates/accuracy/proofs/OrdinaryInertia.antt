@@ -1,0 +1,1386 @@
+-- The inertia and the balance point of a single fin at base angle 0 that one piece is enough for, of square or airfoil
+-- section, with a tab or none: near
+-- the exact ones by computed bounds, from the seven integrals of proofs/SevenIntegrals. Assumes nothing.
+use mathlib.Core.Path.{_≡_, refl, sym, ap, _∙_, subst}
+use mathlib.Core.Bool.{Bool, true, false, true≢false}
+use mathlib.Core.List.{List, [], _∷_}
+use Prim.Native.Nat.{ℕ, zero, suc, _+_, _-_, _*_, _^_, _≤_, _<_}
+use native.Mathlib.Nat.{le-refl, le-trans, mul-pos, mul-le-mul-left, mul-le-mul-right}
+use native.Mathlib.Nat.{one-mul, mul-one, zero-mul, mul-zero, zero-add, add-zero, pow-zero, pow-suc}
+use native.Mathlib.Omega.{arith}
+use lib.Dec.{T, lit≤}
+use lib.ListN.{length, getD}
+use lib.Pow.{pow-pos}
+use lib.IntN.{pos}
+use lib.Ieee.{Float, nan, inf, fin, binary64, fits, neg, up, down, add, sum as sumOfParts, round, ofBits}
+use lib.Ieee.Fits.{down-pos, mul-fits}
+use lib.Ieee.Scale.{finite}
+use lib.Ieee.Positive.{num, den, den-pos, positive, positive-finite}
+use Rattle.floats.specs.Operations.{_⊕_, _⊗_, _⊘_, bits, at}
+use Rattle.floats.specs.Constants.{one, half}
+use Rattle.floats.proofs.Exact.{Plus, product-plus, round-value}
+use Rattle.rounding.specs.Sizes.{AtMost}
+use Rattle.rounding.proofs.Signs.{neg-finite}
+use Rattle.floats.specs.Fractions.{Fraction, _over_, _plus_ as sum, minus as negated, _times_ as product, valueOf as fractionOf}
+use Rattle.rounding_error.specs.Distances.{Within as Apart}
+use Rattle.rounding_error.proofs.Numbers.{Number, number, Size, _per_, _by_, _of_, _roundoffs_, _upto_, _plus_, minus, _less_, _times_}
+use Rattle.rounding_error.proofs.Numbers.{IsNumber, IsSize}
+use Rattle.rounding_error.proofs.Numbers.{Within, Under, Near, Ranges, valueOf, zeroNumber, sizeOf}
+use Rattle.rounding_error.proofs.Distances.{sorted, within-upto, within-minus, within-same, within-times, times-comm}
+use Rattle.rounding_error.proofs.Counts as Counts
+use Rattle.rounding_error.proofs.Chains.{Valued, equalled}
+use Rattle.rounding_error.proofs.Fractions.{IsFraction, plus-fraction, minus-fraction, times-fraction, value-fraction, whole-fraction}
+use Rattle.rounding_error.proofs.Fractions.{shifted-fraction, within-fraction}
+use Rattle.rounding_error.proofs.Polynomials.{_equals_, trans, itself, times-is, less-is, equal-by, AllNumbers, evaluated-is}
+use Rattle.rounding_error.proofs.Polynomials.{evaluated-equal, among}
+use Rattle.rounding_error.proofs.Polynomials.{Expression, given, ratio, _add_, _take_, _mul_, evaluate, evaluate-is, normal, vanishes}
+use Rattle.rounding_error.proofs.Polynomials.{AllEqual}
+use Rattle.sections.specs.declared.Section.{Section}
+use Rattle.sections.specs.declared.Section.the-variants.{Square, Rounded, Airfoil, AirfoilOpen}
+use Rattle.bodies.specs.declared.Body.{Body}
+use Rattle.bodies.specs.declared.Vector.{Vector}
+use Rattle.bodies.specs.declared.Tensor.{Tensor}
+use Rattle.bodies.specs.Vectors.{vector, subtractVectors}
+use Rattle.bodies.specs.Tensors.{numberAt, turnTensor, addTensors, scaleTensor, zeroTensor, offsetTensorOf}
+use Rattle.bodies.specs.Bodies.{rotatedOf, inertiaAboutOf, ofOriginTensor}
+use Rattle.joins.specs.Joins.{joinOf, sumsOf, inertiaOf, inOrder}
+use Rattle.rings.specs.Rings.{joinedCopies, rolledCopy}
+use Rattle.plates.specs.Plates.{plateBody}
+use Rattle.fins.specs.declared.Tab.{Tab}
+use Rattle.fins.specs.declared.Tab.the-variants.{None, Slab}
+use Rattle.error_terms.proofs.Laws.{inverseOf}
+use Rattle.error_terms.proofs.Monomials.{place, added, mono, top, bottom}
+use Rattle.error_terms.proofs.Terms.{Shape, shape, productShape, Given, entry, larger, Term, var, const, nought, value, Known, Lowest}
+use Rattle.error_terms.proofs.Terms.{AllKnown, ok, sound}
+use Rattle.error_terms.proofs.Terms.{numbersOf, unitBy, unit-real, numbers-are, _take_ as _takeT_, _mul_ as _mulT_, _over_ as _overT_}
+use Rattle.error_terms.proofs.Judged.{nearer}
+use Rattle.error_terms.proofs.Shared.{Shared, local, whole, _⊞_, _⊟_, _⊠_, _⊡_, tightly, raisedBy, judgeIn, judgeAll, bindAll, expand}
+use Rattle.error_terms.proofs.Shared.{all-within}
+use Rattle.error_terms.proofs.Stages.{lowTest, target-lowest}
+use Rattle.error_terms.proofs.Entries.{full, own-entry}
+use Rattle.error_terms.proofs.Floors.{NotBelow, not-below}
+use Rattle.one_piece.proofs.AreaPiece.{positive-from}
+use Rattle.one_piece.specs.OnePiece.{NotRounded, tipsOf, Proportions}
+use Rattle.one_piece.proofs.PlateFits.{plate-sums}
+use Rattle.one_piece.proofs.Answers.{plate-fin, plate-strips}
+use Rattle.quadrature.specs.Rule.{halfWidth, kronrodWeight}
+use Rattle.tolerance.specs.Bounds.{totalOf}
+use Rattle.strips.specs.Strips.{valueFrom}
+use Rattle.figures.specs.Figures.{setStrips}
+use Rattle.figures.specs.declared.Figures.{Figures}
+use Rattle.refusals.specs.declared.Verdict.the-variants.{Accepted}
+use Rattle.limits.specs.Limits.{thicknessField, bodyRadiusField}
+use Rattle.limits.proofs.Lengths.{PositiveLength, Height, field-above, height-checked}
+use Rattle.planforms.specs.declared.Planform.{Planform}
+use Rattle.planforms.specs.declared.Planform.the-variants.{Trapezoid}
+use Rattle.planforms.specs.Planforms.{rootChordOf}
+use Rattle.planforms.proofs.Sized.{Sized}
+use Rattle.integrands.specs.Integrands.{scaleOf, plateOf}
+use Rattle.integrands.proofs.Scales.{Scale, scale-sized}
+use Rattle.fins.specs.declared.FinSet.{FinSet}
+use Rattle.fins.specs.Fins.{tabCheck}
+use Rattle.fins.proofs.Accepted.{AcceptedSet, set-accepted}
+use Rattle.fins.proofs.Sized.{planform-sized}
+use Rattle.rounding.proofs.Sizes.{positive-of}
+use Rattle.accuracy.specs.Masses.{Plate, Mount, setWith, SectionGiven}
+use Rattle.accuracy.specs.Inertias.{Integrals, finIntegrals, tabIntegrals, together, exactIntegrals, Alone, TabBeside, TensorNear}
+use Rattle.accuracy.specs.Inertias.{OffAxisNear, FinNear}
+use Rattle.accuracy.specs.Inertias.{tensorError, outwardError, OrdinaryInertia}
+use Rattle.accuracy.proofs.Limits.{ranges-of, least-of, most-under}
+use Rattle.accuracy.proofs.WholePieces.{value-is, wider}
+use Rattle.accuracy.proofs.MassNear.{density-checked}
+use Rattle.accuracy.proofs.BalanceNear.{tab-lengths}
+use Rattle.accuracy.proofs.SetCalled as Called
+use Rattle.accuracy.proofs.SetCalled.{set-given, set-body}
+use Rattle.accuracy.proofs.SevenIntegrals.{Fin, Sizes, unitOf, shapeAt, least-parts, errorIn, bases, seven-known, volume-lowest}
+use Rattle.accuracy.proofs.SevenIntegrals.{integralAt}
+use Rattle.accuracy.proofs.SevenIntegrals.{exactly, exactE, numbersIn, numbers-all, tabNumbers, finIn, tabE, totalAt, TabKnown}
+use Rattle.accuracy.proofs.OrdinaryCentroid.{inverse-pair}
+use Rattle.accuracy.proofs.Turned.{zero-most, none-times, times-none, none-plus, none-less, none-over, heavy-centre}
+use Rattle.accuracy.proofs.NoRoll.{identity, only-copy}
+use Rattle.accuracy.proofs.CentroidNear.{positive-fraction, product-fraction, tip-checked, not-below as from-zero}
+
+ruleset plain = (sorted, one-mul, mul-one, zero-mul, mul-zero, zero-add, add-zero)
+
+-- ---- V, r1, r2, −x1, x2, rx, tau2, density and mass, in the units of proofs/SevenIntegrals
+abbrev massUnit : List ℕ
+massUnit = 1 ∷ 1 ∷ 0 ∷ 1 ∷ 0 ∷ 1 ∷ []
+
+abbrev massShape : Tab → Shape
+massShape tab = productShape (shape 0 full (place 5) []) (shapeAt tab 0)
+
+abbrev bodyList : Tab → (ℕ → Float) → (ℕ → Number) → (density : Float) → List Given
+bodyList tab v n density =
+    entry (v 0) (n 0) (shapeAt tab 0) least-parts ∷
+    entry (v 1) (n 1) (shapeAt tab 1) 0 ∷
+    entry (v 2) (n 2) (shapeAt tab 2) 0 ∷
+    entry (neg (v 3)) (zeroNumber less n 3) (shapeAt tab 3) 0 ∷
+    entry (v 4) (n 4) (shapeAt tab 4) 0 ∷
+    entry (v 5) (n 5) (shapeAt tab 5) 0 ∷
+    entry (v 6) (n 6) (shapeAt tab 6) 0 ∷
+    entry density (valueOf density) (shape 0 full (place 5) []) full ∷
+    entry (density ⊗ v 0) (valueOf density times n 0) (massShape tab) least-parts ∷
+    larger 0 4 ∷
+    larger 3 4 ∷
+    []
+
+-- ---- vectors and tensors of terms
+abbrev noneC : Shared
+noneC = whole (const (bits 0))
+
+abbrev oneC : Shared
+oneC = whole (const one)
+
+abbrev noneV : Shared
+noneV = whole (nought (place 4) [])
+
+abbrev noneS : Shared
+noneS = whole (nought (0 ∷ 0 ∷ 0 ∷ 0 ∷ 2 ∷ []) [])
+
+abbrev tensorUnit : List ℕ
+tensorUnit = 1 ∷ 1 ∷ 0 ∷ 1 ∷ 2 ∷ 1 ∷ []
+
+abbrev noneT : Shared
+noneT = whole (nought tensorUnit [])
+
+-- |d|² E − d dᵀ, number i
+abbrev offset : Shared → Shared → Shared → ℕ → Shared
+offset x y z zero = (x ⊠ x ⊞ y ⊠ y ⊞ z ⊠ z) ⊟ x ⊠ x
+offset x y z (suc zero) = (x ⊠ x ⊞ y ⊠ y ⊞ z ⊠ z) ⊟ y ⊠ y
+offset x y z (suc (suc zero)) = (x ⊠ x ⊞ y ⊠ y ⊞ z ⊠ z) ⊟ z ⊠ z
+offset x y z (suc (suc (suc zero))) = noneS ⊟ x ⊠ y
+offset x y z (suc (suc (suc (suc zero)))) = noneS ⊟ x ⊠ z
+offset x y z (suc (suc (suc (suc (suc i))))) = noneS ⊟ y ⊠ z
+
+-- the centre, and the tensor about the origin
+abbrev centreX : Shared
+centreX = whole (var 1 overT 0)
+
+abbrev centreZ : Shared
+centreZ = raisedBy 9 (whole (var 3 overT 0))
+
+abbrev massS : Shared
+massS = whole (var 8)
+
+abbrev tauS : Shared
+tauS = raisedBy 10 (raisedBy 10 (whole (var 6)))
+
+abbrev alongS : Shared
+alongS = raisedBy 9 (raisedBy 9 (whole (var 4)))
+
+abbrev origin : ℕ → Shared
+origin zero = tauS ⊞ alongS
+origin (suc zero) = whole (var 2) ⊞ alongS
+origin (suc (suc zero)) = whole (var 2) ⊞ tauS
+origin (suc (suc (suc zero))) = whole (nought (1 ∷ 1 ∷ 0 ∷ 1 ∷ 2 ∷ []) [])
+origin (suc (suc (suc (suc zero)))) = raisedBy 9 (whole (var 5))
+origin (suc (suc (suc (suc (suc i))))) = whole (nought (1 ∷ 1 ∷ 0 ∷ 1 ∷ 2 ∷ []) [])
+
+-- the plate's number i, where k numbers stand above the centre less the origin
+abbrev plateS : ℕ → ℕ → Shared
+plateS k i = (origin i ⊠ whole (var 7)) ⊟ (noneT ⊞ offset (local (suc k)) (whole (nought (place 4) [] takeT nought (place 4) []))
+    (local k) i ⊠ massS)
+
+abbrev parts : List Shared
+parts = (centreX ⊟ noneV) ∷ (centreZ ⊟ noneV) ∷ plateS 0 0 ∷ plateS 1 1 ∷ plateS 2 2 ∷ plateS 3 3 ∷ plateS 4 4 ∷ plateS 5 5 ∷ []
+
+-- row and column of a number
+abbrev pick : ℕ → Shared → Shared → Shared → Shared
+pick zero x y z = oneC ⊠ x ⊞ noneC ⊠ y ⊞ noneC ⊠ z
+pick (suc zero) x y z = noneC ⊠ x ⊞ oneC ⊠ y ⊞ noneC ⊠ z
+pick (suc (suc i)) x y z = noneC ⊠ x ⊞ noneC ⊠ y ⊞ oneC ⊠ z
+
+abbrev pickBack : ℕ → Shared → Shared → Shared → Shared
+pickBack zero x y z = x ⊠ oneC ⊞ y ⊠ noneC ⊞ z ⊠ noneC
+pickBack (suc zero) x y z = x ⊠ noneC ⊞ y ⊠ oneC ⊞ z ⊠ noneC
+pickBack (suc (suc i)) x y z = x ⊠ noneC ⊞ y ⊠ noneC ⊞ z ⊠ oneC
+
+-- the numbers stand at local 5 to local 0
+abbrev turnedAt : ℕ → ℕ → Shared
+turnedAt i j = pickBack j (pick i (local 5) (local 2) (local 1)) (pick i (local 2) (local 4) (local 0)) (pick i (local 1) (local 0)
+    (local 3))
+
+abbrev turnedS : ℕ → Shared
+turnedS zero = turnedAt 0 0
+turnedS (suc zero) = turnedAt 1 1
+turnedS (suc (suc zero)) = turnedAt 2 2
+turnedS (suc (suc (suc zero))) = whole (const half) ⊠ (turnedAt 0 1 ⊞ turnedAt 1 0)
+turnedS (suc (suc (suc (suc zero)))) = whole (const half) ⊠ (turnedAt 0 2 ⊞ turnedAt 2 0)
+turnedS (suc (suc (suc (suc (suc i))))) = whole (const half) ⊠ (turnedAt 1 2 ⊞ turnedAt 2 1)
+
+-- the centre turned, joined alone, and what is left of it
+abbrev rolled : ℕ → Shared
+rolled i = pick i centreX noneV centreZ
+
+abbrev pub joinedS : ℕ → Shared
+joinedS i = (whole (nought (1 ∷ 1 ∷ 0 ∷ 1 ∷ 1 ∷ 1 ∷ []) []) ⊞ rolled i ⊠ massS) ⊡ 8
+
+abbrev restS : ℕ → Shared
+restS i = tightly (rolled i ⊟ joinedS i)
+
+abbrev pub tensorS : ℕ → Shared
+tensorS i = noneT ⊞ (turnedS i ⊞ offset (restS 0) (restS 1) (restS 2) i ⊠ massS)
+
+-- ---- exactly: the places are those of `bodyList`
+abbrev squareE : Expression → Expression
+squareE e = e mul e
+
+abbrev tensorE : ℕ → Expression
+tensorE zero = (given 12 add given 8) mul given 14 take squareE (given 6 mul given 1) mul given 16
+tensorE (suc zero) = (given 4 add given 8) mul given 14 take (squareE (given 2 mul given 1) add squareE (given 6 mul given 1)) mul given 16
+tensorE (suc (suc zero)) = (given 4 add given 12) mul given 14 take squareE (given 2 mul given 1) mul given 16
+tensorE (suc (suc (suc i))) = given 10 mul given 14 add (given 2 mul given 1) mul (given 6 mul given 1) mul given 16
+
+-- a row of a matrix of six numbers turned, where they stand at local 5 to local 0
+abbrev rowS : ℕ → ℕ → Shared
+rowS i zero = pick i (local 5) (local 2) (local 1)
+rowS i (suc zero) = pick i (local 2) (local 4) (local 0)
+rowS i (suc (suc j)) = pick i (local 1) (local 0) (local 3)
+
+module _ (tab : Tab) (v : ℕ → Float) (n : ℕ → Number) (density : Float) where
+  abbrev pub G : List Given
+  G = bodyList tab v n density
+
+  abbrev pub Passes : Shared → Expression → ℕ → List ℕ → Type 0
+  Passes s e K p = T (nearer G e (K * 2 ^ 30) p [] (judgeIn G (judgeAll G [] parts) s))
+
+  -- the numbers, and what is finite beside them
+  pub record BodyPass : Type 0 where
+    pub x : Passes (joinedS 0) (given 2 mul given 1) (outwardError tab) (place 4)
+    pub xx : Passes (tensorS 0) (tensorE 0) (tensorError tab) tensorUnit
+    pub yy : Passes (tensorS 1) (tensorE 1) (tensorError tab) tensorUnit
+    pub zz : Passes (tensorS 2) (tensorE 2) (tensorError tab) tensorUnit
+    pub xz : Passes (tensorS 4) (tensorE 4) (tensorError tab) tensorUnit
+    pub centre-x : Passes centreX (given 2 mul given 1) (2 ^ 20) (place 4)
+    pub centre-z : Passes centreZ (given 6 mul given 1) (2 ^ 20) (place 4)
+    pub rest-x : Passes (restS 0) (ratio 0 0) (2 ^ 21) (place 4)
+    pub rest-z : Passes (restS 2) (ratio 0 0) (2 ^ 21) (place 4)
+    pub row-xx : Passes (rowS 0 0) (tensorE 0) (2 ^ 23) tensorUnit
+    pub row-xz : Passes (rowS 0 2) (tensorE 4) (2 ^ 23) tensorUnit
+    pub row-yy : Passes (rowS 1 1) (tensorE 1) (2 ^ 23) tensorUnit
+    pub row-zx : Passes (rowS 2 0) (tensorE 4) (2 ^ 23) tensorUnit
+    pub row-zz : Passes (rowS 2 2) (tensorE 2) (2 ^ 23) tensorUnit
+    pub from-x : Passes (centreX ⊟ noneV) (given 2 mul given 1) (2 ^ 20) (place 4)
+    pub from-z : Passes (centreZ ⊟ noneV) (given 6 mul given 1) (2 ^ 20) (place 4)
+    pub own-xx : Passes (local 5) (tensorE 0) (2 ^ 23) tensorUnit
+    pub own-yy : Passes (local 4) (tensorE 1) (2 ^ 23) tensorUnit
+    pub own-zz : Passes (local 3) (tensorE 2) (2 ^ 23) tensorUnit
+    pub own-xz : Passes (local 1) (tensorE 4) (2 ^ 23) tensorUnit
+
+module _ (v : ℕ → Float) (n : ℕ → Number) (density : Float) where
+  none-pass : BodyPass None v n density
+  unfolding round ofBits
+  none-pass = record {
+    x = tt;
+    xx = tt;
+    yy = tt;
+    zz = tt;
+    xz = tt;
+    centre-x = tt;
+    centre-z = tt;
+    rest-x = tt;
+    rest-z = tt;
+    row-xx = tt;
+    row-xz = tt;
+    row-yy = tt;
+    row-zx = tt;
+    row-zz = tt;
+    from-x = tt;
+    from-z = tt;
+    own-xx = tt;
+    own-yy = tt;
+    own-zz = tt;
+    own-xz = tt;
+  }
+
+  slab-pass : (height length offset : Float) → BodyPass (Slab height length offset) v n density
+  unfolding round ofBits
+  slab-pass height length offset = record {
+    x = tt;
+    xx = tt;
+    yy = tt;
+    zz = tt;
+    xz = tt;
+    centre-x = tt;
+    centre-z = tt;
+    rest-x = tt;
+    rest-z = tt;
+    row-xx = tt;
+    row-xz = tt;
+    row-yy = tt;
+    row-zx = tt;
+    row-zz = tt;
+    from-x = tt;
+    from-z = tt;
+    own-xx = tt;
+    own-yy = tt;
+    own-zz = tt;
+    own-xz = tt;
+  }
+
+  body-pass : (tab : Tab) → BodyPass tab v n density
+  body-pass None = none-pass
+  body-pass (Slab height length offset) = slab-pass height length offset
+
+-- the mass: density times volume
+abbrev massList : Tab → (ℕ → Float) → (ℕ → Number) → (density : Float) → List Given
+massList tab v n density =
+    entry (v 0) (n 0) (shapeAt tab 0) least-parts ∷ entry density (valueOf density) (shape 0 full (place 5) []) full ∷ []
+
+abbrev massTerm : Term
+massTerm = var 1 mulT var 0
+
+mass-okay : (tab : Tab) (v : ℕ → Float) (n : ℕ → Number) (density : Float) → T (ok (massList tab v n density) massTerm)
+mass-okay None v n density = tt
+mass-okay (Slab x y z) v n density = tt
+
+mass-least : (tab : Tab) (v : ℕ → Float) (n : ℕ → Number) (density : Float)
+    → T (lowTest (massList tab v n density) (given 2 mul given 0) (errorIn (massShape tab)) (least-parts - 1) massUnit [])
+mass-least None v n density = tt
+mass-least (Slab x y z) v n density = tt
+
+-- ---- what is known
+neg-value : (x : Float) → valueOf (neg x) ≡ minus (valueOf x)
+unfolding neg
+neg-value nan = refl
+neg-value (inf s) = refl
+neg-value (fin true m e) = refl
+neg-value (fin false m e) = refl
+
+zero-less : (v : Number) → minus v equals zeroNumber less v
+zero-less (number p n d) = record { same = simp plain (omega arith) }
+
+is-minus : (v : Number) → IsNumber v → IsNumber (minus v)
+is-minus (number p n d) h = h
+
+neg-known : {x : Float} {v : Number} {k j : ℕ} (U : Size) → Valued x v k j U → Valued (neg x) (zeroNumber less v) k j U
+neg-known {x = x} {v = v} {k = k} {j = j} U h =
+    equalled
+    (record {
+      near = record {
+        finite = subst (λ (b : Bool). T b) (sym (neg-finite x)) (h .near .finite);
+        within = subst (λ (a : Number). Within (k roundoffs U) a (minus v)) (sym (neg-value x))
+            (within-minus (k roundoffs U) (valueOf x) v (h .near .within));
+      };
+      size = within-minus (j of U) v zeroNumber (h .size);
+      is = is-minus v (h .is);
+    })
+    (zeroNumber less v) (less-is zeroNumber v (pow-pos 0) (h .is)) (zero-less v)
+
+-- ---- an f64 with the sign plus, added to 0
+zero-plus : (x : Float) → T (fits binary64 x) → Plus x → bits 0 ⊕ x ≡ x
+unfolding add sumOfParts ofBits
+zero-plus nan f h = absurd h
+zero-plus (inf s) f h = refl
+zero-plus (fin true m e) f h = absurd (true≢false h)
+zero-plus (fin false m e) f h =
+    round-value false m e (0 * 1 * down e + m * up e * 1) (1 * down e) f (mul-pos (pow-pos 0) (down-pos e)) (go (m * up e) (down e))
+  where
+    go : (N D : ℕ) → (0 * 1 * D + N * 1) * D ≡ N * (1 * D)
+    go N D = simp plain
+
+-- ---- a body turned by nothing and joined alone, its mass w beside its own
+abbrev centreBy : Body → Float → Vector
+centreBy t w =
+    vector ((bits 0 ⊕ t .«centre_m» .x ⊗ t .«mass_kg») ⊘ w) ((bits 0 ⊕ t .«centre_m» .y ⊗ t .«mass_kg») ⊘ w)
+    ((bits 0 ⊕ t .«centre_m» .z ⊗ t .«mass_kg») ⊘ w)
+
+abbrev tensorBy : Body → Float → Tensor
+tensorBy t w =
+    addTensors zeroTensor
+    (addTensors (t .«inertia_kg_m2») (scaleTensor (offsetTensorOf (subtractVectors (t .«centre_m») (centreBy t w))) (t .«mass_kg»)))
+
+-- a join of one asks for the first alone
+first-only : (f : ℕ → Body) → joinOf f 1 ≡ joinOf (λ k. f 0) 1
+unfolding joinOf sumsOf inertiaOf inOrder
+first-only f = refl
+
+module _ (t : Body) (p : T (positive (t .«mass_kg»))) (o : bits 0 ⊕ t .«mass_kg» ≡ t .«mass_kg») where
+  centre-alone : joinOf (λ k. t) 1 .«centre_m» ≡ centreBy t (t .«mass_kg»)
+  unfolding joinOf sumsOf inOrder
+  centre-alone =
+      heavy-centre (sumsOf (λ k. t) 1) (subst (λ (m : Float). T (positive m)) (sym o) p) ∙ ap (λ (w : Float). centreBy t w) o
+
+  tensor-alone : joinOf (λ k. t) 1 .«inertia_kg_m2» ≡ tensorBy t (t .«mass_kg»)
+  unfolding joinOf inertiaOf inertiaAboutOf inOrder
+  tensor-alone = ap (λ (c : Vector). inertiaOf (λ k. t) c 1) centre-alone
+
+abbrev listOf : (ℕ → Float) → List Float
+listOf v = v 0 ∷ v 1 ∷ v 2 ∷ v 3 ∷ v 4 ∷ v 5 ∷ v 6 ∷ []
+
+abbrev turnedOf : (ℕ → Float) → Float → Body
+turnedOf v density = rotatedOf (plateBody (listOf v) density) identity
+
+-- ---- its numbers are the terms' values
+module _ (tab : Tab) (v : ℕ → Float) (n : ℕ → Number) (density : Float) where
+  abbrev at-term : Shared → Float
+  at-term s = value (bodyList tab v n density) (expand [] (bindAll parts s))
+
+  x-term : centreBy (turnedOf v density) (density ⊗ v 0) .x ≡ at-term (joinedS 0)
+  unfolding rotatedOf plateBody ofOriginTensor
+  x-term = refl
+
+  xx-term : numberAt (tensorBy (turnedOf v density) (density ⊗ v 0)) 0 ≡ at-term (tensorS 0)
+  unfolding rotatedOf turnTensor plateBody ofOriginTensor inertiaAboutOf
+  xx-term = refl
+
+  yy-term : numberAt (tensorBy (turnedOf v density) (density ⊗ v 0)) 1 ≡ at-term (tensorS 1)
+  unfolding rotatedOf turnTensor plateBody ofOriginTensor inertiaAboutOf
+  yy-term = refl
+
+  zz-term : numberAt (tensorBy (turnedOf v density) (density ⊗ v 0)) 2 ≡ at-term (tensorS 2)
+  unfolding rotatedOf turnTensor plateBody ofOriginTensor inertiaAboutOf
+  zz-term = refl
+
+  xz-term : numberAt (tensorBy (turnedOf v density) (density ⊗ v 0)) 4 ≡ at-term (tensorS 4)
+  unfolding rotatedOf turnTensor plateBody ofOriginTensor inertiaAboutOf
+  xz-term = refl
+
+-- ---- exactly: times the volume, the tensor is the textbook's. The places are V·(1/V), V, 1/V, r1, r2, x1, x2, rx, tau2 and the density.
+abbrev behindE : Expression
+behindE = ratio 0 0 take given 5
+
+abbrev massE : Expression
+massE = given 9 mul given 1
+
+abbrev timesE : ℕ → Expression
+timesE zero = ((given 8 add given 6) mul given 9 take squareE (behindE mul given 2) mul massE) mul given 1
+timesE (suc zero) = ((given 4 add given 6) mul given 9 take (squareE (given 3 mul given 2) add squareE
+    (behindE mul given 2)) mul massE) mul given 1
+timesE (suc (suc zero)) = ((given 4 add given 8) mul given 9 take squareE (given 3 mul given 2) mul massE) mul given 1
+timesE (suc (suc (suc i))) = (given 7 mul given 9 add (given 3 mul given 2) mul (behindE mul given 2) mul massE) mul given 1
+
+abbrev clearE : ℕ → Expression → Expression
+clearE zero o = given 9 mul ((given 8 add given 6) mul given 1) take given 9 mul squareE (given 5) mul (o mul o)
+clearE (suc zero) o = given 9 mul ((given 4 add given 6) mul given 1) take given 9 mul (squareE (given 3) add squareE (given 5)) mul
+    (o mul o)
+clearE (suc (suc zero)) o = given 9 mul ((given 4 add given 8) mul given 1) take given 9 mul squareE (given 3) mul (o mul o)
+clearE (suc (suc (suc i))) o = given 9 mul (given 7 mul given 1) take given 9 mul (given 3 mul given 5) mul (o mul o)
+
+abbrev bookE : ℕ → Expression
+bookE zero = given 9 mul ((given 8 add given 6) mul given 1 take squareE (given 5))
+bookE (suc zero) = given 9 mul ((given 4 add given 6) mul given 1 take (squareE (given 3) add squareE (given 5)))
+bookE (suc (suc zero)) = given 9 mul ((given 4 add given 8) mul given 1 take squareE (given 3))
+bookE (suc (suc (suc i))) = given 9 mul (given 7 mul given 1 take given 3 mul given 5)
+
+-- the same of fractions V, r1, r2, x1, x2, rx, tau2 and the density
+module _ (U ι : Number) (iU : IsNumber U) (iι : IsNumber ι) (pair : U times ι equals number 1 0 1) (rest : List Number)
+    (ir : AllNumbers rest) where
+  abbrev paired : List Number
+  paired = (U times ι) ∷ U ∷ ι ∷ rest
+
+  abbrev unpaired : List Number
+  unpaired = number 1 0 1 ∷ U ∷ ι ∷ rest
+
+  paired-are : AllNumbers paired
+  paired-are = (times-is U ι iU iι, (iU, (iι, ir)))
+
+  unpaired-are : AllNumbers unpaired
+  unpaired-are = (pow-pos 0, (iU, (iι, ir)))
+
+  all-itself : (l : List Number) → AllEqual l l
+  all-itself [] = tt
+  all-itself (x ∷ l) = (itself, all-itself l)
+
+  cleared : (s m o c t : Expression) → T (vanishes (normal (s take m))) → evaluate (among paired) m ≡ evaluate (among paired) o
+      → evaluate (among unpaired) o ≡ evaluate (among unpaired) c → T (vanishes (normal (c take t)))
+      → evaluate (among paired) s equals evaluate (among unpaired) t
+  cleared s m o c t first e h last =
+      trans (evaluated-is paired paired-are o)
+      (subst (λ (x : Number). evaluate (among paired) s equals x) e (equal-by paired paired-are s m first))
+      (trans (evaluated-is unpaired unpaired-are o)
+      (evaluated-equal paired unpaired paired-are unpaired-are (pair, (itself, (itself, all-itself rest))) o)
+      (subst (λ (x : Number). x equals evaluate (among unpaired) t) (sym h) (equal-by unpaired unpaired-are c t last)))
+
+-- ---- from a number near W, of which W·D is N, to fractions
+above-of : Number → ℕ
+above-of (number p n d) = p - n
+
+below-of : Number → ℕ
+below-of (number p n d) = d
+
+own-parts : (D : Number) → NotBelow D → (f : Fraction) → IsFraction D f
+    → IsFraction (number (above-of D) 0 (below-of D)) f × Under (above-of D per below-of D) D
+unfolding above-of below-of
+own-parts (number p n d) l f h = (
+  shifted-fraction (p - n) 0 p n d f (back l) h,
+  record { below = low (p - n) (split l); above = high (p - n) (split l) },
+)
+  where
+    back : n ≤ p → p - n + n ≡ 0 + p
+    back u = omega arith
+
+    split : n ≤ p → p ≡ n + (p - n)
+    split u = omega arith
+
+    low : (a : ℕ) → p ≡ n + a → (p * 1 + 0 * d) * d ≤ (0 * d + n * 1) * d + a * (d * 1)
+    low a e = subst (λ (p : ℕ). (p * 1 + 0 * d) * d ≤ (0 * d + n * 1) * d + a * (d * 1)) (sym e) (simp plain (omega arith))
+
+    high : (a : ℕ) → p ≡ n + a → (0 * d + n * 1) * d ≤ (p * 1 + 0 * d) * d + a * (1 * d)
+    high a e = subst (λ (p : ℕ). (0 * d + n * 1) * d ≤ (p * 1 + 0 * d) * d + a * (1 * d)) (sym e) (simp plain (omega arith))
+
+is-some : (D : Number) → IsNumber D → 0 < below-of D
+unfolding below-of
+is-some (number p n d) h = h
+
+to-fractions : (x : Float) (W D N : Number) (e : Size) (a c : ℕ) (r f h : Fraction) → IsNumber W → IsNumber D → IsNumber N → NotBelow D
+    → IsSize e → 0 < c → IsFraction (number a 0 c) r → IsFraction D f → IsFraction N h → Near x W e → e upto (a per c) → W times D equals N
+    → Apart (product r f) (product (fractionOf x) f) h
+to-fractions x W D N (k per l) a c r f h iW iD iN from ie C rf df nh near small e =
+    let u = above-of D in
+    let w = below-of D in
+    let o = own-parts D from f df in
+    let E = (u per w) by (k per l) in
+    let turned : Within E (valueOf x times D) (W times D) =
+    subst (λ (s : Number). Within E s (W times D)) (times-comm D (valueOf x))
+    (subst (λ (s : Number). Within E (D times valueOf x) s) (times-comm D W)
+    (within-times (u per w) (k per l) D (valueOf x) W (o .1) (near .within))) in
+    within-fraction (a * u) (c * w) (valueOf x times D) N (product r f) (product (fractionOf x) f) h (mul-pos C (is-some D iD))
+    (times-is (valueOf x) D (Counts.value-is x) iD) iN (product-fraction a c u w r f rf (o .0))
+    (times-fraction (valueOf x) D (fractionOf x) f (value-fraction x (near .finite)) df) nh
+    (within-upto E ((a * u) per (c * w)) (valueOf x times D) N (mul-pos (is-some D iD) ie) (size u w small)
+    (within-same E (valueOf x times D) (W times D) N (times-is W D iW iD) turned (e .same)))
+  where
+    size : (u w : ℕ) → k * c ≤ a * l → u * k * (c * w) ≤ a * u * (w * l)
+    size u w h = let y = simp sorted at (mul-le-mul-left (u * w) h) in simp sorted (omega (arith, y))
+
+-- ---- the units, without their powers
+first-power : (x : ℕ) → x ^ 1 ≡ x
+first-power x = rw (pow-suc x 0, pow-zero x) (one-mul x)
+
+second-power : (x : ℕ) → x ^ 2 ≡ x * x
+second-power x = pow-suc x 1 ∙ ap (λ (y : ℕ). y * x) (first-power x)
+
+module _ (f : Fin) (b d : ℕ) (g : Sizes f b d) where
+  abbrev v : ℕ → Float
+  v i = integralAt f i
+
+  abbrev n : ℕ → Number
+  n i = exactly f i
+
+  abbrev B : List Size
+  B = bases f b d g
+
+  abbrev body : List Given
+  body = bodyList (f .tab) v n (f .density)
+
+  density-own : Known B (f .density) (valueOf (f .density)) (shape 0 full (place 5) [])
+      × Lowest B (f .density) (valueOf (f .density)) (shape 0 full (place 5) []) full
+  density-own = own-entry B 5 (f .density) refl (g .density-positive)
+
+  volume-known : Known B (v 0) (n 0) (shapeAt (f .tab) 0) × Lowest B (v 0) (n 0) (shapeAt (f .tab) 0) least-parts
+  volume-known = (seven-known f b d g 0 (lit≤ tt), volume-lowest f b d g)
+
+  masses : AllKnown B (massList (f .tab) v n (f .density))
+  masses = (volume-known, (density-own, tt))
+
+  mass-known : Known B (f .density ⊗ v 0) (valueOf (f .density) times n 0) (massShape (f .tab))
+  mass-known = sound B (g .ranges) (massList (f .tab) v n (f .density)) masses massTerm (mass-okay (f .tab) v n (f .density))
+
+  pub volume-from-zero : NotBelow (n 0)
+  volume-from-zero = not-below least-parts (mono top B (unitOf 0) * mono bottom B []) (mono bottom B
+      (unitOf 0) * mono top B [] * 2 ^ 30) (n 0)
+      (unit-real B (g .ranges) (unitOf 0) []) (volume-lowest f b d g .1)
+
+  mass-lowest : Lowest B (f .density ⊗ v 0) (valueOf (f .density) times n 0) (massShape (f .tab)) least-parts
+  mass-lowest =
+      target-lowest B (g .ranges) (massList (f .tab) v n (f .density)) masses
+      (volume-from-zero, (positive-from (f .density) (g .density-positive), tt)) (f .density ⊗ v 0) (given 2 mul given 0)
+      (errorIn (massShape (f .tab))) 0 (least-parts - 1) massUnit [] (mass-known .near) (mass-least (f .tab) v n (f .density))
+
+  pub mass-positive : T (positive (f .density ⊗ v 0))
+  mass-positive = mass-lowest .0
+
+  known : AllKnown B body
+  known =
+      let k : (i : ℕ) → i < 7 → Known B (v i) (n i) (shapeAt (f .tab) i) = seven-known f b d g in (
+        volume-known,
+        (
+          (k 1 (lit≤ tt), tt),
+          (
+            (k 2 (lit≤ tt), tt),
+            (
+              (neg-known (unitBy B (unitOf 3) []) (k 3 (lit≤ tt)), tt),
+              (
+                (k 4 (lit≤ tt), tt),
+                (
+                  (k 5 (lit≤ tt), tt),
+                  (
+                    (k 6 (lit≤ tt), tt),
+                    (
+                      density-own,
+                      (
+                        (mass-known, mass-lowest),
+                        (g .root-most, (g .thickness-most, tt)),
+                      ),
+                    ),
+                  ),
+                ),
+              ),
+            ),
+          ),
+        ),
+      )
+
+  pass : BodyPass (f .tab) v n (f .density)
+  pass = body-pass v n (f .density) (f .tab)
+
+  abbrev termOf : Shared → Float
+  termOf s = value body (expand [] (bindAll parts s))
+
+  near : (s : Shared) (e : Expression) (K : ℕ) (p : List ℕ) → Passes (f .tab) v n (f .density) s e K p
+      → Near (termOf s) (evaluate (numbersOf body) e) ((K * 2 ^ 30) roundoffs unitBy B p [])
+  near s e K p t = all-within B (g .ranges) body known parts s e (K * 2 ^ 30) p [] t
+
+  -- ---- the body: turned by nothing and joined alone
+  abbrev μ : Float
+  μ = f .density ⊗ v 0
+
+  abbrev turned : Body
+  turned = turnedOf v (f .density)
+
+  abbrev pub alone : Body
+  alone = joinOf (λ k. turned) 1
+
+  whole-mass : bits 0 ⊕ μ ≡ μ
+  whole-mass = zero-plus μ (mul-fits binary64 (f .density) (v 0)) (product-plus (f .density) (v 0) (g .density-positive)
+      (volume-lowest f b d g .0))
+
+  centre-is : alone .«centre_m» ≡ centreBy turned μ
+  unfolding rotatedOf plateBody ofOriginTensor
+  centre-is = centre-alone turned mass-positive whole-mass
+
+  tensor-is : alone .«inertia_kg_m2» ≡ tensorBy turned μ
+  unfolding rotatedOf plateBody ofOriginTensor
+  tensor-is = tensor-alone turned mass-positive whole-mass
+
+  -- ---- what is exactly 0
+  abbrev outE : Expression
+  outE = given 2 mul given 1
+
+  abbrev backE : Expression
+  backE = given 6 mul given 1
+
+  one-finite : T (finite one)
+  unfolding ofBits
+  one-finite = tt
+
+  half-finite : T (finite half)
+  unfolding ofBits
+  half-finite = tt
+
+  mass-finite : T (finite μ)
+  mass-finite = positive-finite μ mass-positive
+
+  density-finite : T (finite (f .density))
+  density-finite = positive-finite (f .density) (g .density-positive)
+
+  own : (s : Shared) (i : ℕ) → Passes (f .tab) v n (f .density) s (tensorE i) (2 ^ 23) tensorUnit → T (finite (termOf s))
+  own s i t = near s (tensorE i) (2 ^ 23) tensorUnit t .finite
+
+  y-none : AtMost 0 1 (turned .«centre_m» .y)
+  unfolding rotatedOf plateBody ofOriginTensor
+  y-none =
+      none-plus _ _ (none-plus _ _ (none-times (bits 0) _ zero-most (near centreX outE (2 ^ 20) (place 4) (pass .centre-x) .finite))
+      (times-none one (bits 0) one-finite zero-most)) (none-times (bits 0) _ zero-most (near centreZ backE (2 ^ 20) (place 4)
+      (pass .centre-z) .finite))
+
+  middle-none : AtMost 0 1 (centreBy turned μ .y)
+  unfolding rotatedOf plateBody ofOriginTensor
+  middle-none = none-over _ μ (none-plus (bits 0) _ zero-most (none-times _ μ y-none mass-finite)) mass-positive
+
+  -- the plate's own numbers xy and yz, and the rows of its matrix that are turned
+  xy-none : AtMost 0 1 (numberAt (plateBody (listOf v) (f .density) .«inertia_kg_m2») 3)
+  unfolding plateBody ofOriginTensor inertiaAboutOf
+  xy-none =
+      none-less _ _ (none-times (bits 0) (f .density) zero-most density-finite)
+      (none-plus (bits 0) _ zero-most (none-times _ μ (none-less (bits 0) _ zero-most
+      (times-none _ _ (near (centreX ⊟ noneV) outE (2 ^ 20) (place 4) (pass .from-x) .finite) (none-less (bits 0)
+      (bits 0) zero-most zero-most)))
+      mass-finite))
+
+  yz-none : AtMost 0 1 (numberAt (plateBody (listOf v) (f .density) .«inertia_kg_m2») 5)
+  unfolding plateBody ofOriginTensor inertiaAboutOf
+  yz-none =
+      none-less _ _ (none-times (bits 0) (f .density) zero-most density-finite)
+      (none-plus (bits 0) _ zero-most (none-times _ μ (none-less (bits 0) _ zero-most
+      (none-times _ _ (none-less (bits 0) (bits 0) zero-most zero-most) (near (centreZ ⊟ noneV) backE (2 ^ 20) (place 4)
+      (pass .from-z) .finite)))
+      mass-finite))
+
+  -- sums of which one part is 0 times a number, one that number times 0 and one a zero
+  first-none : (x y z : Float) → AtMost 0 1 x → T (finite y) → T (finite z) → AtMost 0 1 (one ⊗ x ⊕ bits 0 ⊗ y ⊕ bits 0 ⊗ z)
+  first-none x y z h i j =
+      none-plus _ _ (none-plus _ _ (times-none one x one-finite h) (none-times (bits 0) y zero-most i)) (none-times (bits 0) z zero-most j)
+
+  second-none : (x y z : Float) → T (finite x) → AtMost 0 1 y → T (finite z) → AtMost 0 1 (bits 0 ⊗ x ⊕ one ⊗ y ⊕ bits 0 ⊗ z)
+  second-none x y z h i j =
+      none-plus _ _ (none-plus _ _ (none-times (bits 0) x zero-most h) (times-none one y one-finite i)) (none-times (bits 0) z zero-most j)
+
+  third-none : (x y z : Float) → T (finite x) → T (finite y) → AtMost 0 1 z → AtMost 0 1 (bits 0 ⊗ x ⊕ bits 0 ⊗ y ⊕ one ⊗ z)
+  third-none x y z h i j =
+      none-plus _ _ (none-plus _ _ (none-times (bits 0) x zero-most h) (none-times (bits 0) y zero-most i)) (times-none one z one-finite j)
+
+  across-first : (x y z : Float) → AtMost 0 1 x → T (finite y) → T (finite z) → AtMost 0 1 (x ⊗ one ⊕ y ⊗ bits 0 ⊕ z ⊗ bits 0)
+  across-first x y z h i j =
+      none-plus _ _ (none-plus _ _ (none-times x one h one-finite) (times-none y (bits 0) i zero-most)) (times-none z (bits 0) j zero-most)
+
+  across-second : (x y z : Float) → T (finite x) → AtMost 0 1 y → T (finite z) → AtMost 0 1 (x ⊗ bits 0 ⊕ y ⊗ one ⊕ z ⊗ bits 0)
+  across-second x y z h i j =
+      none-plus _ _ (none-plus _ _ (times-none x (bits 0) h zero-most) (none-times y one i one-finite)) (times-none z (bits 0) j zero-most)
+
+  across-third : (x y z : Float) → T (finite x) → T (finite y) → AtMost 0 1 z → AtMost 0 1 (x ⊗ bits 0 ⊕ y ⊗ bits 0 ⊕ z ⊗ one)
+  across-third x y z h i j =
+      none-plus _ _ (none-plus _ _ (times-none x (bits 0) h zero-most) (times-none y (bits 0) i zero-most)) (none-times z one j one-finite)
+
+  turned-xy : AtMost 0 1 (numberAt (turned .«inertia_kg_m2») 3)
+  unfolding rotatedOf turnTensor plateBody ofOriginTensor inertiaAboutOf
+  turned-xy =
+      times-none half _ half-finite (none-plus _ _
+      (across-second _ _ _ (own (rowS 0 0) 0 (pass .row-xx)) (first-none _ _ _ xy-none (own (local 4) 1 (pass .own-yy)) (yz-none .finite))
+      (own (rowS 0 2) 4 (pass .row-xz)))
+      (across-first _ _ _ (second-none _ _ _ (own (local 5) 0 (pass .own-xx)) xy-none (own (local 1) 4 (pass .own-xz)))
+      (own (rowS 1 1) 1 (pass .row-yy))
+      (second-none _ _ _ (own (local 1) 4 (pass .own-xz)) yz-none (own (local 3) 2 (pass .own-zz)) .finite)))
+
+  turned-yz : AtMost 0 1 (numberAt (turned .«inertia_kg_m2») 5)
+  unfolding rotatedOf turnTensor plateBody ofOriginTensor inertiaAboutOf
+  turned-yz =
+      times-none half _ half-finite (none-plus _ _
+      (across-third _ _ _ (second-none _ _ _ (own (local 5) 0 (pass .own-xx)) xy-none (own (local 1) 4 (pass .own-xz)) .finite)
+      (own (rowS 1 1) 1 (pass .row-yy)) (second-none _ _ _ (own (local 1) 4 (pass .own-xz)) yz-none (own (local 3) 2 (pass .own-zz))))
+      (across-second _ _ _ (own (rowS 2 0) 4 (pass .row-zx))
+      (third-none _ _ _ (xy-none .finite) (own (local 4) 1 (pass .own-yy)) yz-none) (own (rowS 2 2) 2 (pass .row-zz))))
+
+  pub xy-alone : AtMost 0 1 (numberAt (alone .«inertia_kg_m2») 3)
+  unfolding rotatedOf plateBody ofOriginTensor
+  xy-alone =
+      subst (λ (t : Tensor). AtMost 0 1 (numberAt t 3)) (sym tensor-is)
+      (none-plus (bits 0) _ zero-most (none-plus _ _ turned-xy (none-times _ μ (none-less (bits 0) _ zero-most
+      (times-none _ _ (near (restS 0) (ratio 0 0) (2 ^ 21) (place 4) (pass .rest-x) .finite)
+      (none-less _ _ y-none middle-none))) mass-finite)))
+
+  pub yz-alone : AtMost 0 1 (numberAt (alone .«inertia_kg_m2») 5)
+  unfolding rotatedOf plateBody ofOriginTensor
+  yz-alone =
+      subst (λ (t : Tensor). AtMost 0 1 (numberAt t 5)) (sym tensor-is)
+      (none-plus (bits 0) _ zero-most (none-plus _ _ turned-yz (none-times _ μ (none-less (bits 0) _ zero-most
+      (none-times _ _ (none-less _ _ y-none middle-none) (near (restS 2) (ratio 0 0) (2 ^ 21) (place 4)
+      (pass .rest-z) .finite))) mass-finite)))
+
+  pub y-alone : AtMost 0 1 (alone .«centre_m» .y)
+  y-alone = subst (λ (c : Vector). AtMost 0 1 (c .y)) (sym centre-is) middle-none
+
+  -- ---- exactly
+  abbrev ι : Number
+  ι = inverseOf (n 0)
+
+  n-is : (i : ℕ) → IsNumber (n i)
+  n-is i = evaluated-is (numbersIn f) (numbers-all f) (exactE f i)
+
+  ι-is : IsNumber ι
+  ι-is = numbers-are B (g .ranges) body known 1
+
+  abbrev restList : List Number
+  restList = n 1 ∷ n 2 ∷ n 3 ∷ n 4 ∷ n 5 ∷ n 6 ∷ valueOf (f .density) ∷ []
+
+  rest-are : AllNumbers restList
+  rest-are = (n-is 1, (n-is 2, (n-is 3, (n-is 4, (n-is 5, (n-is 6, (Counts.value-is (f .density), tt)))))))
+
+  abbrev clear : (s m o c t : Expression) → T (vanishes (normal (s take m)))
+      → evaluate (among (paired (n 0) ι (n-is 0) ι-is (inverse-pair (n 0) volume-from-zero) restList rest-are)) m
+      ≡ evaluate (among (paired (n 0) ι (n-is 0) ι-is (inverse-pair (n 0) volume-from-zero) restList rest-are)) o
+      → evaluate (among (unpaired (n 0) ι (n-is 0) ι-is (inverse-pair (n 0) volume-from-zero) restList rest-are)) o
+      ≡ evaluate (among (unpaired (n 0) ι (n-is 0) ι-is (inverse-pair (n 0) volume-from-zero) restList rest-are)) c
+      → T (vanishes (normal (c take t)))
+      → evaluate (among (paired (n 0) ι (n-is 0) ι-is (inverse-pair (n 0) volume-from-zero) restList rest-are)) s
+      equals evaluate (among (unpaired (n 0) ι (n-is 0) ι-is (inverse-pair (n 0) volume-from-zero) restList rest-are)) t
+  clear = cleared (n 0) ι (n-is 0) ι-is (inverse-pair (n 0) volume-from-zero) restList rest-are
+
+  abbrev pub book : ℕ → Number
+  book i = evaluate (among (number 1 0 1 ∷ n 0 ∷ ι ∷ restList)) (bookE i)
+
+  abbrev W : ℕ → Number
+  W i = evaluate (numbersOf body) (tensorE i)
+
+  W-is : (i : ℕ) → IsNumber (W i)
+  W-is i = evaluate-is (numbersOf body) (numbers-are B (g .ranges) body known) (tensorE i)
+
+  book-is : (i : ℕ) → IsNumber (book i)
+  book-is i = evaluated-is (number 1 0 1 ∷ n 0 ∷ ι ∷ restList) (pow-pos 0, (n-is 0, (ι-is, rest-are))) (bookE i)
+
+  times-book : (i : ℕ) → i < 4 → W i times n 0 equals book i
+  times-book zero l = clear (timesE 0) (clearE 0 (given 1 mul given 2)) (clearE 0 (given 0)) (clearE 0 (ratio 1 0))
+      (bookE 0) tt refl refl tt
+  times-book (suc zero) l = clear (timesE 1) (clearE 1 (given 1 mul given 2)) (clearE 1 (given 0)) (clearE 1 (ratio 1 0))
+      (bookE 1) tt refl refl tt
+  times-book (suc (suc zero)) l =
+      clear (timesE 2) (clearE 2 (given 1 mul given 2)) (clearE 2 (given 0)) (clearE 2 (ratio 1 0)) (bookE 2) tt refl refl tt
+  times-book (suc (suc (suc zero))) l =
+      clear (timesE 3) (clearE 3 (given 1 mul given 2)) (clearE 3 (given 0)) (clearE 3 (ratio 1 0)) (bookE 3) tt refl refl tt
+  times-book (suc (suc (suc (suc i)))) l = absurd (past i l)
+    where
+      past : (i : ℕ) → suc (suc (suc (suc i))) < 4 → ⊥
+      past i l = omega arith
+
+  times-out : (n 1 times ι) times n 0 equals n 1
+  times-out = clear ((given 3 mul given 2) mul given 1) (given 3 mul (given 1 mul given 2)) (given 3 mul given 0)
+      (given 3 mul ratio 1 0) (given 3)
+      tt refl refl tt
+
+  -- ---- near
+  abbrev pub tensorNear : ℕ → ℕ → Type 0
+  tensorNear k i = Near (numberAt (alone .«inertia_kg_m2») k) (W i) ((tensorError (f .tab) * 2 ^ 30) roundoffs unitBy B tensorUnit [])
+
+  by-tensor : (k i : ℕ) (s : Shared) → numberAt (tensorBy turned μ) k ≡ termOf s
+      → Passes (f .tab) v n (f .density) s (tensorE i) (tensorError (f .tab)) tensorUnit → tensorNear k i
+  by-tensor k i s e t =
+      subst (λ (x : Float). Near x (W i) ((tensorError (f .tab) * 2 ^ 30) roundoffs unitBy B tensorUnit []))
+      (sym (ap (λ (t : Tensor). numberAt t k) tensor-is ∙ e)) (near s (tensorE i) (tensorError (f .tab)) tensorUnit t)
+
+  xx-near : tensorNear 0 0
+  xx-near = by-tensor 0 0 (tensorS 0) (xx-term (f .tab) v n (f .density)) (pass .xx)
+
+  yy-near : tensorNear 1 1
+  yy-near = by-tensor 1 1 (tensorS 1) (yy-term (f .tab) v n (f .density)) (pass .yy)
+
+  zz-near : tensorNear 2 2
+  zz-near = by-tensor 2 2 (tensorS 2) (zz-term (f .tab) v n (f .density)) (pass .zz)
+
+  xz-near : tensorNear 4 3
+  xz-near = by-tensor 4 3 (tensorS 4) (xz-term (f .tab) v n (f .density)) (pass .xz)
+
+  x-near : Near (alone .«centre_m» .x) (n 1 times ι) ((outwardError (f .tab) * 2 ^ 30) roundoffs unitBy B (place 4) [])
+  x-near =
+      subst (λ (x : Float). Near x (n 1 times ι) ((outwardError (f .tab) * 2 ^ 30) roundoffs unitBy B (place 4) []))
+      (sym (ap (λ (c : Vector). c .x) centre-is ∙ x-term (f .tab) v n (f .density))) (near (joinedS 0) outE (outwardError (f .tab))
+      (place 4) (pass .x))
+
+-- ---- what an expression is of fractions
+abbrev fractionIn : (ℕ → Fraction) → Expression → Fraction
+fractionIn x (given i) = x i
+fractionIn x (ratio p d) = pos p over (suc d)
+fractionIn x (s add t) = sum (fractionIn x s) (fractionIn x t)
+fractionIn x (s take t) = sum (fractionIn x s) (negated (fractionIn x t))
+fractionIn x (s mul t) = product (fractionIn x s) (fractionIn x t)
+
+abbrev amongFractions : List Fraction → ℕ → Fraction
+amongFractions l i = getD l i (pos 0 over 1)
+
+abbrev AreFractions : List Number → List Fraction → Type 0
+AreFractions [] [] = Unit {0}
+AreFractions [] (v ∷ k) = ⊥
+AreFractions (x ∷ l) [] = ⊥
+AreFractions (x ∷ l) (v ∷ k) = IsFraction x v × AreFractions l k
+
+among-fraction : (l : List Number) (k : List Fraction) → AreFractions l k → (i : ℕ) → IsFraction (among l i) (amongFractions k i)
+among-fraction [] [] h i = whole-fraction 0 1
+among-fraction [] (v ∷ k) h i = absurd h
+among-fraction (x ∷ l) [] h i = absurd h
+among-fraction (x ∷ l) (v ∷ k) h zero = h .0
+among-fraction (x ∷ l) (v ∷ k) h (suc i) = among-fraction l k (h .1) i
+
+module _ (l : List Number) (k : List Fraction) (are : AreFractions l k) where
+  abbrev numberOf : Expression → Number
+  numberOf t = evaluate (among l) t
+
+  abbrev fractionBy : Expression → Fraction
+  fractionBy t = fractionIn (amongFractions k) t
+
+  expression-fraction : (t : Expression) → IsFraction (numberOf t) (fractionBy t)
+  expression-fraction (given i) = among-fraction l k are i
+  expression-fraction (ratio p d) = whole-fraction p (suc d)
+  expression-fraction (s add t) =
+      plus-fraction (numberOf s) (numberOf t) (fractionBy s) (fractionBy t) (expression-fraction s) (expression-fraction t)
+  expression-fraction (s take t) =
+      plus-fraction (numberOf s) (minus (numberOf t)) (fractionBy s) (negated (fractionBy t)) (expression-fraction s)
+      (minus-fraction (numberOf t) (fractionBy t) (expression-fraction t))
+  expression-fraction (s mul t) =
+      times-fraction (numberOf s) (numberOf t) (fractionBy s) (fractionBy t) (expression-fraction s) (expression-fraction t)
+
+-- ---- the exact integrals of specs/Inertias
+abbrev tabFractions : Tab → List Fraction
+tabFractions None = []
+tabFractions (Slab height length offset) = fractionOf height ∷ fractionOf length ∷ fractionOf offset ∷ []
+
+abbrev fractionsOf : Plate → Float → List Fraction
+fractionsOf p radius =
+    fractionOf (p .root) ∷ fractionOf (p .tip) ∷ fractionOf (p .span) ∷ fractionOf (p .sweep) ∷ fractionOf (p .thickness) ∷
+    fractionOf radius ∷
+    tabFractions (p .tab)
+
+abbrev fieldOf : Integrals → ℕ → Fraction
+fieldOf v zero = v .volume
+fieldOf v (suc zero) = v .r1
+fieldOf v (suc (suc zero)) = v .r2
+fieldOf v (suc (suc (suc zero))) = v .x1
+fieldOf v (suc (suc (suc (suc zero)))) = v .x2
+fieldOf v (suc (suc (suc (suc (suc zero))))) = v .rx
+fieldOf v (suc (suc (suc (suc (suc (suc i)))))) = v .tau2
+
+past : (i : ℕ) → suc (suc (suc (suc (suc (suc (suc i)))))) < 7 → ⊥
+past i l = omega arith
+
+fin-field : (s : Section) → NotRounded s → (p : Plate) (radius : Float) (i : ℕ) → i < 7
+    → fractionIn (amongFractions (fractionsOf p radius)) (finIn s i) ≡ fieldOf (finIntegrals s p radius) i
+fin-field Rounded e p radius i l = absurd e
+fin-field Square e p radius zero l = refl
+fin-field Square e p radius (suc zero) l = refl
+fin-field Square e p radius (suc (suc zero)) l = refl
+fin-field Square e p radius (suc (suc (suc zero))) l = refl
+fin-field Square e p radius (suc (suc (suc (suc zero)))) l = refl
+fin-field Square e p radius (suc (suc (suc (suc (suc zero))))) l = refl
+fin-field Square e p radius (suc (suc (suc (suc (suc (suc zero)))))) l = refl
+fin-field Square e p radius (suc (suc (suc (suc (suc (suc (suc i))))))) l = absurd (past i l)
+fin-field Airfoil e p radius zero l = refl
+fin-field Airfoil e p radius (suc zero) l = refl
+fin-field Airfoil e p radius (suc (suc zero)) l = refl
+fin-field Airfoil e p radius (suc (suc (suc zero))) l = refl
+fin-field Airfoil e p radius (suc (suc (suc (suc zero)))) l = refl
+fin-field Airfoil e p radius (suc (suc (suc (suc (suc zero))))) l = refl
+fin-field Airfoil e p radius (suc (suc (suc (suc (suc (suc zero)))))) l = refl
+fin-field Airfoil e p radius (suc (suc (suc (suc (suc (suc (suc i))))))) l = absurd (past i l)
+fin-field AirfoilOpen e p radius zero l = refl
+fin-field AirfoilOpen e p radius (suc zero) l = refl
+fin-field AirfoilOpen e p radius (suc (suc zero)) l = refl
+fin-field AirfoilOpen e p radius (suc (suc (suc zero))) l = refl
+fin-field AirfoilOpen e p radius (suc (suc (suc (suc zero)))) l = refl
+fin-field AirfoilOpen e p radius (suc (suc (suc (suc (suc zero))))) l = refl
+fin-field AirfoilOpen e p radius (suc (suc (suc (suc (suc (suc zero)))))) l = refl
+fin-field AirfoilOpen e p radius (suc (suc (suc (suc (suc (suc (suc i))))))) l = absurd (past i l)
+
+-- of a tab, where its numbers stand behind six others
+tab-field : (t : Tab) (a b c d thickness radius : Float) (i : ℕ) → i < 7
+    → fractionIn (amongFractions (fractionOf a ∷ fractionOf b ∷ fractionOf c ∷ fractionOf d ∷ fractionOf thickness ∷
+    fractionOf radius ∷ tabFractions t))
+    (tabE t i) ≡ fieldOf (tabIntegrals t thickness radius) i
+tab-field None a b c d thickness radius zero l = refl
+tab-field None a b c d thickness radius (suc zero) l = refl
+tab-field None a b c d thickness radius (suc (suc zero)) l = refl
+tab-field None a b c d thickness radius (suc (suc (suc zero))) l = refl
+tab-field None a b c d thickness radius (suc (suc (suc (suc zero)))) l = refl
+tab-field None a b c d thickness radius (suc (suc (suc (suc (suc zero))))) l = refl
+tab-field None a b c d thickness radius (suc (suc (suc (suc (suc (suc zero)))))) l = refl
+tab-field None a b c d thickness radius (suc (suc (suc (suc (suc (suc (suc i))))))) l = absurd (past i l)
+tab-field (Slab x y z) a b c d thickness radius zero l = refl
+tab-field (Slab x y z) a b c d thickness radius (suc zero) l = refl
+tab-field (Slab x y z) a b c d thickness radius (suc (suc zero)) l = refl
+tab-field (Slab x y z) a b c d thickness radius (suc (suc (suc zero))) l = refl
+tab-field (Slab x y z) a b c d thickness radius (suc (suc (suc (suc zero)))) l = refl
+tab-field (Slab x y z) a b c d thickness radius (suc (suc (suc (suc (suc zero))))) l = refl
+tab-field (Slab x y z) a b c d thickness radius (suc (suc (suc (suc (suc (suc zero)))))) l = refl
+tab-field (Slab x y z) a b c d thickness radius (suc (suc (suc (suc (suc (suc (suc i))))))) l = absurd (past i l)
+
+both-field : (a b : Integrals) (i : ℕ) → i < 7 → fieldOf (together a b) i ≡ sum (fieldOf a i) (fieldOf b i)
+both-field a b zero l = refl
+both-field a b (suc zero) l = refl
+both-field a b (suc (suc zero)) l = refl
+both-field a b (suc (suc (suc zero))) l = refl
+both-field a b (suc (suc (suc (suc zero)))) l = refl
+both-field a b (suc (suc (suc (suc (suc zero))))) l = refl
+both-field a b (suc (suc (suc (suc (suc (suc zero)))))) l = refl
+both-field a b (suc (suc (suc (suc (suc (suc (suc i))))))) l = absurd (past i l)
+
+exact-field : (s : Section) → NotRounded s → (p : Plate) (m : Mount) (i : ℕ) → i < 7
+    → fractionIn (amongFractions (fractionsOf p (m .radius))) (finIn s i add tabE (p .tab) i) ≡ fieldOf (exactIntegrals s p m) i
+exact-field s e p m i l =
+    ap (λ (x : Fraction). sum x (fractionIn (amongFractions (fractionsOf p (m .radius))) (tabE (p .tab) i))) (fin-field s e p
+    (m .radius) i l)
+    ∙ ap (λ (x : Fraction). sum (fieldOf (finIntegrals s p (m .radius)) i) x)
+    (tab-field (p .tab) (p .root) (p .tip) (p .span) (p .sweep) (p .thickness) (m .radius) i l)
+    ∙ sym (both-field (finIntegrals s p (m .radius)) (tabIntegrals (p .tab) (p .thickness) (m .radius)) i l)
+
+-- ---- sizes without powers
+length-unit : (r s c t b q : ℕ) → r ^ 0 * (s ^ 0 * (c ^ 0 * (t ^ 0 * (b ^ 1 * 1)))) * 1 ≡ b
+length-unit r s c t b q = rw (pow-zero r, pow-zero s, pow-zero c, pow-zero t, first-power b) (simp plain)
+
+tensor-unit : (r s c t b q : ℕ) → r ^ 1 * (s ^ 1 * (c ^ 0 * (t ^ 1 * (b ^ 2 * (q ^ 1 * 1))))) * 1 ≡ b * b * (q * (t * (r * s)))
+tensor-unit r s c t b q = rw (first-power r, first-power s, pow-zero c, first-power t, second-power b, first-power q) (simp plain)
+
+-- ---- the call
+module _ (section : Section) (p : Plate) (m : Mount) (points : List Float) (L : ℕ) (start : List Float) (r : Figures)
+    (exit : List Float) (b d : ℕ)
+    (plain-section : NotRounded section) (g : SectionGiven section p m points L start r exit)
+    (q : Proportions 1 4 (p .root) (p .tip) (p .sweep)) (single : Alone p m b d) (beside : TabBeside (p .tab) p (m .radius)) where
+  abbrev planform : Planform
+  planform = Trapezoid (p .root) (p .tip) (p .span) (p .sweep)
+
+  abbrev S : Float
+  S = scaleOf planform points
+
+  abbrev set : FinSet
+  set = setWith section p m
+
+  figures : Called.Given section p m points L (length start) r
+  figures = set-given section p m points L (length start) r (g .answers .call .0) (g .given) (g .no-fillet)
+
+  checks : AcceptedSet set points L (length start)
+  checks = set-accepted set points L (length start) (figures .accepted)
+
+  sized : Sized planform points
+  sized = planform-sized planform points (g .f64s) (checks .planform)
+
+  scaled : Scale S
+  scaled = scale-sized planform points sized
+
+  thick : PositiveLength (p .thickness)
+  thick = field-above thicknessField (p .thickness) (g .thickness-f64) (checks .thickness) refl refl
+
+  out : Height (m .radius)
+  out = height-checked bodyRadiusField (m .radius) (single .radius-f64) (checks .radius) refl refl
+
+  heavy : T (positive (p .density)) × Ranges 24 (sizeOf (p .density))
+  heavy = density-checked (p .density) (checks .density) (g .heavy)
+
+  long : (x : Float) → PositiveLength x → T (positive x) × Ranges 32 (sizeOf x)
+  long x h = (
+    positive-of x 20 (h .not-minus) (h .above),
+    wider 24 (sizeOf x) (omega arith) (ranges-of x 6 20 (omega arith) (omega arith) (h .length .below) (h .above)),
+  )
+
+  root-positive : T (positive (p .root))
+  root-positive = long (p .root) (sized .0) .0
+
+  chords-under : (k : ℕ) (x : Float) → AtMost (k * num (p .root)) (den (p .root)) x → Under (k of sizeOf (p .root)) (valueOf x)
+  chords-under k x h = subst (λ (n : ℕ). Under (n per den (p .root)) (valueOf x)) (one-mul (k * num (p .root)))
+      (most-under x (k * num (p .root)) (den (p .root)) h)
+
+  wide : Proportions (tipsOf section) 4 (p .root) (p .tip) (p .sweep)
+  wide = record { tip-most = more section plain-section; sweep-most = q .sweep-most; backward = q .backward }
+    where
+      more : (s : Section) → NotRounded s → AtMost (tipsOf s * num (p .root)) (den (p .root)) (p .tip)
+      more Rounded e = absurd e
+      more Square e =
+          record {
+            finite = q .tip-most .finite;
+            size = le-trans (q .tip-most .size) (mul-le-mul-right (den (p .tip)) (mul-le-mul-right (num (p .root)) (lit≤ tt)));
+          }
+      more Airfoil e = q .tip-most
+      more AirfoilOpen e = q .tip-most
+
+  abbrev fin′ : Fin
+  fin′ =
+      record {
+        section = section;
+        root = p .root;
+        tip = p .tip;
+        span = p .span;
+        sweep = p .sweep;
+        scale = S;
+        thickness = p .thickness;
+        radius = m .radius;
+        tab = p .tab;
+        density = p .density;
+      }
+
+  tab-sizes : (t : Tab) → TabBeside t p (m .radius) → tabCheck t (p .root) ≡ Accepted → TabKnown fin′ t
+  tab-sizes None w c = tt
+  tab-sizes (Slab height length offset) w c =
+      let l = tab-lengths height length offset (p .root) (w .0 .0) (w .0 .1) c in
+      let h = w .1 .1 .0 in
+      record {
+        height-finite = h .finite;
+        length-finite = w .1 .0 .0 .finite;
+        offset-finite = w .1 .0 .1 .finite;
+        height-from-zero = positive-from height (long height (l .0) .0);
+        length-from-zero = positive-from length (long length (l .1) .0);
+        height-under = most-under height (num (p .span)) (den (p .span)) h;
+        length-under = most-under length (num (p .root)) (den (p .root)) (w .1 .0 .0);
+        offset-under = most-under offset (num (p .root)) (den (p .root)) (w .1 .0 .1);
+        radius-under = most-under (m .radius) (num (p .span)) (den (p .span)) (w .1 .1 .1);
+      }
+
+  tab-accepted : tabCheck (p .tab) (p .root) ≡ Accepted
+  unfolding rootChordOf
+  tab-accepted = checks .tab
+
+  sizes : Sizes fin′ b d
+  sizes =
+      record {
+        plain-section = plain-section;
+        root-positive = root-positive;
+        span-positive = long (p .span) (sized .1 .1 .0) .0;
+        scale-positive = scaled .is-positive;
+        thickness-positive = long (p .thickness) thick .0;
+        density-positive = heavy .0;
+        tip-finite = q .tip-most .finite;
+        sweep-finite = q .sweep-most .finite;
+        radius-finite = single .radius-most .finite;
+        tip-from-zero = from-zero (p .tip) (q .tip-most .finite)
+            (tip-checked (p .root) (p .tip) (p .span) (p .sweep) points (g .f64s .1 .0) (checks .planform));
+        tip-under = chords-under 1 (p .tip) (q .tip-most);
+        sweep-under = chords-under 4 (p .sweep) (q .sweep-most);
+        is-size = single .is-size;
+        root-most = single .root-most .size;
+        span-most = single .span-most .size;
+        thickness-most = single .thickness-most .size;
+        radius-under = most-under (m .radius) b d (single .radius-most);
+        tab = tab-sizes (p .tab) beside tab-accepted;
+        ranges = (
+          long (p .root) (sized .0) .1,
+          (
+            long (p .span) (sized .1 .1 .0) .1,
+            (
+              wider 24 (sizeOf S) (omega arith) (ranges-of S 7 20 (omega arith) (omega arith) (scaled .below) (scaled .above)),
+              (
+                long (p .thickness) thick .1,
+                (
+                  wider 24 (b per d) (omega arith) size-ranges,
+                  (
+                    wider 24 (sizeOf (p .density))
+                        (omega arith) (heavy .1),
+                    tt,
+                  ),
+                ),
+              ),
+            ),
+          ),
+        );
+      }
+    where
+      size-ranges : Ranges 24 (b per d)
+      size-ranges =
+          record {
+            real = single .is-size;
+            least = least-of (p .root) b d root-positive (sized .0 .above) (single .root-most);
+            most = below b d (single .most);
+          }
+        where
+          below : (b d : ℕ) → b ≤ 64 * d → b ≤ d * 2 ^ 24
+          below b d h = omega arith
+
+  -- ---- what the call works with
+  abbrev f : Float → List Float
+  f = plateOf planform points section (p .thickness) (m .radius)
+
+  abbrev low : Float
+  low = bits 0 ⊘ S
+
+  abbrev high : Float
+  high = p .span ⊘ S
+
+  total-is : (k : ℕ) → k < 7 → valueFrom (bits 0) k (setStrips set points L) ≡ totalAt fin′ section k
+  unfolding totalOf
+  total-is k l =
+      ap (valueFrom (bits 0) k)
+      (plate-strips (p .root) (p .tip) (p .span) (p .sweep) points (g .f64s) (checks .planform) section plain-section
+      (p .thickness) (m .radius) thick out L wide)
+      ∙ ap (λ (z : Float). bits 0 ⊕ (bits 0 ⊕ z)) (value-is 7 f low high k l)
+      ∙ ap (λ (z : Float). bits 0 ⊕ (bits 0 ⊕ halfWidth low high ⊗ z))
+      (plate-sums section plain-section (p .root) (p .tip) (p .span) (p .sweep) (p .thickness) (m .radius) points
+      (plate-fin (p .root) (p .tip) (p .span) (p .sweep) points (g .f64s) (checks .planform) section plain-section (p .thickness)
+      (m .radius) thick out wide) kronrodWeight k)
+
+  integrals-are : Called.integrals section p m points L (length start) r (g .answers .call .0) (g .given) (g .no-fillet) ≡ listOf
+      (integralAt fin′)
+  integrals-are =
+      rw (
+        total-is 0 (lit≤ tt),
+        total-is 1 (lit≤ tt),
+        total-is 2 (lit≤ tt),
+        total-is 3 (lit≤ tt),
+        total-is 4 (lit≤ tt),
+        total-is 5 (lit≤ tt),
+        total-is 6 (lit≤ tt),
+      )
+
+  body-is : r .body ≡ alone fin′ b d sizes
+  body-is =
+      set-body section p m points L (length start) r (g .answers .call .0) (g .given) (g .no-fillet) (single .no-cant)
+      ∙ ap (λ (k : ℕ). joinedCopies (plateBody
+      (Called.integrals section p m points L (length start) r (g .answers .call .0) (g .given) (g .no-fillet)) (p .density))
+      (m .base) k) (single .one-fin)
+      ∙ ap (λ (v : List Float). joinedCopies (plateBody v (p .density)) (m .base) 1) integrals-are
+      ∙ first-only (rolledCopy (plateBody (listOf (integralAt fin′)) (p .density)) (m .base) 1)
+      ∙ ap (λ (x : Body). joinOf (λ k. x) 1) (only-copy (plateBody (listOf (integralAt fin′)) (p .density)) (m .base) (single .no-roll))
+
+  -- ---- in fractions
+  tab-fractions : (t : Tab) → TabKnown fin′ t → AreFractions (tabNumbers t) (tabFractions t)
+  tab-fractions None h = tt
+  tab-fractions (Slab height length offset) h =
+      (value-fraction height (h .height-finite), (value-fraction length (h .length-finite), (value-fraction offset (h .offset-finite), tt)))
+
+  lengths-are : AreFractions (numbersIn fin′) (fractionsOf p (m .radius))
+  lengths-are = (
+    value-fraction (p .root) (positive-finite (p .root) root-positive),
+    (
+      value-fraction (p .tip) (q .tip-most .finite),
+      (
+        value-fraction (p .span) (positive-finite (p .span) (sizes .span-positive)),
+        (
+          value-fraction (p .sweep) (q .sweep-most .finite),
+          (
+            value-fraction (p .thickness) (positive-finite (p .thickness) (sizes .thickness-positive)),
+            (
+              value-fraction (m .radius) (single .radius-most .finite),
+              tab-fractions (p .tab) (sizes .tab),
+            ),
+          ),
+        ),
+      ),
+    ),
+  )
+
+  abbrev exact : Integrals
+  exact = exactIntegrals section p m
+
+  field-is : (i : ℕ) → i < 7 → IsFraction (exactly fin′ i) (fieldOf exact i)
+  field-is i l = subst (λ (x : Fraction). IsFraction (exactly fin′ i) x) (exact-field section plain-section p m i l)
+      (expression-fraction (numbersIn fin′) (fractionsOf p (m .radius)) lengths-are (exactE fin′ i))
+
+  density-fraction : IsFraction (valueOf (p .density)) (fractionOf (p .density))
+  density-fraction = value-fraction (p .density) (positive-finite (p .density) (heavy .0))
+
+  abbrev ι′ : Number
+  ι′ = inverseOf (exactly fin′ 0)
+
+  -- the numbers and fractions of `bookE`, of which the first and the third place are not asked for
+  abbrev bookNumbers : List Number
+  bookNumbers =
+      number 1 0 1 ∷ exactly fin′ 0 ∷ number 1 0 1 ∷ exactly fin′ 1 ∷ exactly fin′ 2 ∷ exactly fin′ 3 ∷ exactly fin′ 4 ∷
+      exactly fin′ 5 ∷ exactly fin′ 6 ∷
+      valueOf (p .density) ∷ []
+
+  abbrev bookFractions : List Fraction
+  bookFractions =
+      (pos 1 over 1) ∷ exact .volume ∷ (pos 1 over 1) ∷ exact .r1 ∷ exact .r2 ∷ exact .x1 ∷ exact .x2 ∷ exact .rx ∷ exact .tau2 ∷
+      fractionOf (p .density) ∷ []
+
+  book-are : AreFractions bookNumbers bookFractions
+  book-are = (
+    whole-fraction 1 1,
+    (
+      field-is 0 (lit≤ tt),
+      (
+        whole-fraction 1 1,
+        (
+          field-is 1 (lit≤ tt),
+          (
+            field-is 2 (lit≤ tt),
+            (
+              field-is 3 (lit≤ tt),
+              (field-is 4 (lit≤ tt), (field-is 5 (lit≤ tt), (field-is 6 (lit≤ tt), (density-fraction, tt)))),
+            ),
+          ),
+        ),
+      ),
+    ),
+  )
+
+  book-fraction : (i : ℕ) → IsFraction (book fin′ b d sizes i) (fractionIn (amongFractions bookFractions) (bookE i))
+  book-fraction zero = expression-fraction bookNumbers bookFractions book-are (bookE 0)
+  book-fraction (suc zero) = expression-fraction bookNumbers bookFractions book-are (bookE 1)
+  book-fraction (suc (suc zero)) = expression-fraction bookNumbers bookFractions book-are (bookE 2)
+  book-fraction (suc (suc (suc i))) = expression-fraction bookNumbers bookFractions book-are (bookE 3)
+
+  abbrev B′ : List Size
+  B′ = bases fin′ b d sizes
+
+  abbrev K : ℕ
+  K = tensorError (p .tab)
+
+  -- K roundoffs of the unit
+  abbrev tops : ℕ
+  tops = K * (b * b) * (num (p .density) * (num (p .thickness) * (num (p .root) * num (p .span))))
+
+  abbrev bottoms : ℕ
+  bottoms = d * d * 2 ^ 53 * (den (p .density) * (den (p .thickness) * (den (p .root) * den (p .span))))
+
+  bottoms-some : 0 < bottoms
+  bottoms-some =
+      mul-pos (mul-pos (mul-pos (single .is-size) (single .is-size)) (pow-pos 53))
+      (mul-pos (den-pos (p .density)) (mul-pos (den-pos (p .thickness)) (mul-pos (den-pos (p .root)) (den-pos (p .span)))))
+
+  abbrev error : Fraction
+  error =
+      product (pos (K * (b * b)) over (d * d * 2 ^ 53))
+      (product (fractionOf (p .density)) (product (fractionOf (p .thickness)) (product (fractionOf (p .root)) (fractionOf (p .span)))))
+
+  error-fraction : IsFraction (number tops 0 bottoms) error
+  error-fraction =
+      let D = p .density in
+      let k = p .thickness in
+      let R = p .root in
+      let P = p .span in
+      product-fraction (K * (b * b)) (d * d * 2 ^ 53) (num D * (num k * (num R * num P))) (den D * (den k * (den R * den P)))
+      (pos (K * (b * b)) over (d * d * 2 ^ 53)) (product (fractionOf D) (product (fractionOf k) (product (fractionOf R) (fractionOf P))))
+      (whole-fraction (K * (b * b)) (d * d * 2 ^ 53))
+      (product-fraction (num D) (den D) (num k * (num R * num P)) (den k * (den R * den P)) (fractionOf D) (product (fractionOf k)
+      (product (fractionOf R) (fractionOf P)))
+      (positive-fraction D (heavy .0))
+      (product-fraction (num k) (den k) (num R * num P) (den R * den P) (fractionOf k) (product (fractionOf R) (fractionOf P))
+      (positive-fraction k (sizes .thickness-positive))
+      (product-fraction (num R) (den R) (num P) (den P) (fractionOf R) (fractionOf P) (positive-fraction R root-positive)
+      (positive-fraction P (sizes .span-positive)))))
+
+  unit-small : ((K * 2 ^ 30) roundoffs unitBy B′ tensorUnit []) upto (tops per bottoms)
+  unit-small =
+      subst (λ (t : ℕ). ((K * 2 ^ 30) roundoffs (t per (mono bottom B′ tensorUnit * mono top B′ [] * 2 ^ 30))) upto (tops per bottoms))
+      (sym (tensor-unit (num (p .root)) (num (p .span)) (num S) (num (p .thickness)) b (num (p .density))))
+      (subst (λ (t : ℕ). ((K * 2 ^ 30) roundoffs ((b * b * (num (p .density) * (num (p .thickness) * (num (p .root) * num
+      (p .span))))) per (t * 2 ^ 30))) upto (tops per bottoms))
+      (sym (tensor-unit (den (p .root)) (den (p .span)) (den S) (den (p .thickness)) d (den (p .density))))
+      (go K (b * b) (num (p .density) * (num (p .thickness) * (num (p .root) * num (p .span)))) (d * d)
+      (den (p .density) * (den (p .thickness) * (den (p .root) * den (p .span)))) (2 ^ 30) (2 ^ 53)))
+    where
+      go : (K b n d e P Q : ℕ) → K * P * (b * n) * (d * Q * e) ≤ K * b * n * (d * e * P * Q)
+      go K b n d e P Q = simp plain (le-refl _)
+
+  number-near : (x : Float) (i : ℕ) → i < 4 → Near x (W fin′ b d sizes i) ((K * 2 ^ 30) roundoffs unitBy B′ tensorUnit []) → (h : Fraction)
+      → IsFraction (book fin′ b d sizes i) h
+      → Apart (product error (exact .volume)) (product (fractionOf x) (exact .volume)) h
+  number-near x i l z h e =
+      to-fractions x (W fin′ b d sizes i) (exactly fin′ 0) (book fin′ b d sizes i) ((K * 2 ^ 30) roundoffs unitBy B′ tensorUnit [])
+      tops bottoms error
+      (exact .volume) h (W-is fin′ b d sizes i) (n-is fin′ b d sizes 0) (book-is fin′ b d sizes i) (volume-from-zero fin′ b d sizes)
+      (Counts.roundoffs-is (K * 2 ^ 30) (unitBy B′ tensorUnit []) (unit-real B′ (sizes .ranges) tensorUnit [])) bottoms-some error-fraction
+      (field-is 0 (lit≤ tt)) e z unit-small (times-book fin′ b d sizes i l)
+
+  tensor-near : TensorNear section p m b d K (alone fin′ b d sizes .«inertia_kg_m2»)
+  tensor-near =
+      record {
+        xx = number-near _ 0 (lit≤ tt) (xx-near fin′ b d sizes) _ (book-fraction 0);
+        yy = number-near _ 1 (lit≤ tt) (yy-near fin′ b d sizes) _ (book-fraction 1);
+        zz = number-near _ 2 (lit≤ tt) (zz-near fin′ b d sizes) _ (book-fraction 2);
+        xy = xy-alone fin′ b d sizes;
+        xz = number-near _ 3 (lit≤ tt) (xz-near fin′ b d sizes) _ (book-fraction 3);
+        yz = yz-alone fin′ b d sizes;
+      }
+
+  abbrev O : ℕ
+  O = outwardError (p .tab)
+
+  length-small : ((O * 2 ^ 30) roundoffs unitBy B′ (place 4) []) upto ((O * b) per (d * 2 ^ 53))
+  length-small =
+      subst (λ (t : ℕ). ((O * 2 ^ 30) roundoffs (t per (mono bottom B′ (place 4) * mono top B′ [] * 2 ^ 30))) upto ((O * b) per
+      (d * 2 ^ 53)))
+      (sym (length-unit (num (p .root)) (num (p .span)) (num S) (num (p .thickness)) b 0))
+      (subst (λ (t : ℕ). ((O * 2 ^ 30) roundoffs (b per (t * 2 ^ 30))) upto ((O * b) per (d * 2 ^ 53)))
+      (sym (length-unit (den (p .root)) (den (p .span)) (den S) (den (p .thickness)) d 0)) (go O b d (2 ^ 30) (2 ^ 53)))
+    where
+      go : (O b d P Q : ℕ) → O * P * b * (d * Q) ≤ O * b * (d * P * Q)
+      go O b d P Q = simp plain (le-refl _)
+
+  centre-near : OffAxisNear section p m b d O (alone fin′ b d sizes .«centre_m»)
+  centre-near =
+      record {
+        outward =
+            to-fractions (alone fin′ b d sizes .«centre_m» .x) (exactly fin′ 1 times ι′) (exactly fin′ 0) (exactly fin′ 1)
+            ((O * 2 ^ 30) roundoffs unitBy B′ (place 4) []) (O * b) (d * 2 ^ 53) (pos (O * b) over (d * 2 ^ 53)) (exact .volume) (exact .r1)
+            (times-is (exactly fin′ 1) ι′ (n-is fin′ b d sizes 1) (ι-is fin′ b d sizes)) (n-is fin′ b d sizes 0) (n-is fin′ b d sizes 1)
+            (volume-from-zero fin′ b d sizes)
+            (Counts.roundoffs-is (O * 2 ^ 30) (unitBy B′ (place 4) []) (unit-real B′ (sizes .ranges) (place 4) []))
+            (mul-pos (single .is-size) (pow-pos 53)) (whole-fraction (O * b) (d * 2 ^ 53)) (field-is 0 (lit≤ tt)) (field-is 1 (lit≤ tt))
+            (x-near fin′ b d sizes) length-small (times-out fin′ b d sizes);
+        aside = y-alone fin′ b d sizes;
+      }
+
+  fin-near : FinNear section p m b d r
+  fin-near =
+      record {
+        tensor = subst (λ (x : Body). TensorNear section p m b d K (x .«inertia_kg_m2»)) (sym body-is) tensor-near;
+        centre = subst (λ (x : Body). OffAxisNear section p m b d O (x .«centre_m»)) (sym body-is) centre-near;
+      }
+
+pub ordinary-inertia : OrdinaryInertia
+ordinary-inertia = fin-near

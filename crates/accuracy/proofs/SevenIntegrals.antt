@@ -1,0 +1,842 @@
+-- The seven volume integrals of a fin that one piece is enough for and of its tab, of square or airfoil section: near
+-- the exact ones by computed bounds.
+-- Assumes nothing.
+use mathlib.Core.Path.{_≡_, refl, sym, ap, subst}
+use mathlib.Core.Bool.{_&&_}
+use mathlib.Core.List.{List, [], _∷_}
+use Prim.Native.Nat.{ℕ, zero, suc, _-_, _*_, _^_, _≤_, _<_, zero-le}
+use native.Mathlib.Omega.{arith}
+use lib.Dec.{T, lit≤}
+use lib.Pow.{pow-pos}
+use lib.Ieee.{Float, round, ofBits}
+use lib.Ieee.Fits.{and-l, and-r}
+use lib.Ieee.Scale.{finite}
+use lib.Ieee.Positive.{num, den, den-pos, positive}
+use Rattle.floats.specs.Operations.{_⊕_, _⊗_, _⊘_, bits, at}
+use Rattle.floats.specs.Constants.{half, three, twelve}
+use Rattle.floats.specs.Floats.{cube, fourth, fifth}
+use Rattle.rounding_error.proofs.Numbers.{Number, number, Size, _per_, _of_, _roundoffs_, _times_, IsNumber, Under, Near}
+use Rattle.rounding_error.proofs.Numbers.{valueOf, sizeOf}
+use Rattle.rounding_error.proofs.Counts as Counts
+use Rattle.rounding_error.proofs.Chains.{Valued, zero-valued, equalled}
+use Rattle.rounding_error.proofs.Polynomials.{_equals_, trans, times-is, times-equal, equal-by, itself, AllNumbers, evaluated-is, among}
+use Rattle.rounding_error.proofs.Polynomials.{Expression, given, ratio, _add_, _take_, _mul_, evaluate}
+use Rattle.quadrature.specs.Rule.{halfWidth, weightedTo, kronrodWeight, sumOf}
+use Rattle.gauss_kronrod.specs.Tables.{nodes, kronrodWeights}
+use Rattle.sections.specs.Airfoil.{airfoilConstants}
+use Rattle.sections.specs.declared.Section.{Section}
+use Rattle.sections.specs.declared.Section.the-variants.{Square, Rounded, Airfoil, AirfoilOpen}
+use Rattle.fins.specs.declared.Tab.{Tab}
+use Rattle.fins.specs.declared.Tab.the-variants.{None, Slab}
+use Rattle.plates.specs.Integrals.{tabIntegralsOf}
+use Rattle.error_terms.proofs.Laws.{inverseOf}
+use Rattle.error_terms.proofs.Monomials.{place, added, AllRanges}
+use Rattle.error_terms.proofs.Terms.{Shape, shape, sumShape, fine, sumTest, sound, Given, entry, larger, Term, var, const, nought, value}
+use Rattle.error_terms.proofs.Terms.{Known, Lowest, AllKnown, numbersOf, unitBy}
+use Rattle.error_terms.proofs.Terms.{_add_ as _addT_, _take_ as _takeT_, _mul_ as _mulT_, _over_ as _overT_, raised as raisedT}
+use Rattle.error_terms.proofs.Terms.{tight as tightT}
+use Rattle.error_terms.proofs.Judged.{judge, nearer, near-within}
+use Rattle.error_terms.proofs.Shared.{Shared, whole, _⊞_, _⊠_, judgeIn, judgeAll, bindAll, expand, all-within}
+use Rattle.error_terms.proofs.Stages.{sizeTest, lowTest, target-known, target-lowest}
+use Rattle.error_terms.proofs.Entries.{full, most, sized-entry, many-entry, own-entry, const-entry}
+use Rattle.error_terms.proofs.Floors.{NotBelow, Signed}
+use Rattle.tolerance.proofs.Numbers.{at-tabulate}
+use Rattle.one_piece.specs.OnePiece.{NotRounded}
+use Rattle.one_piece.proofs.Rule.{totalS}
+use Rattle.one_piece.proofs.PlatePiece.{partsOf, sevenAt, entriesOf, topOf, bottomOf}
+use Rattle.one_piece.proofs.AreaPiece.{positive-from}
+use Rattle.accuracy.specs.Masses.{filled}
+use Rattle.accuracy.specs.Balances.{forward}
+use Rattle.accuracy.specs.Inertias.{forwardSquare, filledCube}
+use Rattle.accuracy.proofs.OrdinaryMass.{fractionE}
+use Rattle.accuracy.proofs.Centroids.{not-below-times}
+
+-- ---- the exact integrals, of root, tip, span, sweep, thickness and radius, in the forms of specs/Inertias
+module _ (s : Section) (r t p w k q : Expression) where
+  abbrev volumeE : Expression
+  volumeE = k mul (p mul ((r add t) mul ratio 1 1))
+
+  abbrev filledE : Expression → Expression
+  filledE e = fractionE (filled s) mul e
+
+  abbrev heightE : Expression
+  heightE = k mul (p mul ((p mul (r add ratio 2 0 mul t)) mul ratio 1 5))
+
+  abbrev heightsE : Expression
+  heightsE = k mul ((p mul (p mul p)) mul ((r add ratio 3 0 mul t) mul ratio 1 11))
+
+  abbrev alongE : Expression
+  alongE =
+      k mul (p mul (filledE (w mul (r add ratio 2 0 mul t)) mul ratio 1 5
+      add fractionE (forward s) mul (r mul r add r mul t add t mul t) mul ratio 1 2))
+
+  abbrev toTipE : Expression
+  toTipE = r add ratio 3 0 mul t
+
+  abbrev toTipSquareE : Expression
+  toTipSquareE = r mul r add ratio 2 0 mul (r mul t) add ratio 3 0 mul (t mul t)
+
+  abbrev toTipCubeE : Expression
+  toTipCubeE = r mul (r mul r) add (r mul r) mul t add r mul (t mul t) add t mul (t mul t)
+
+  abbrev alongsE : Expression
+  alongsE =
+      k mul (p mul (filledE ((w mul w) mul toTipE) mul ratio 1 11 add fractionE (forward s) mul (w mul toTipSquareE) mul ratio 1 5
+      add fractionE (forwardSquare s) mul toTipCubeE mul ratio 1 3))
+
+  abbrev heightAlongE : Expression
+  heightAlongE = k mul ((p mul p) mul ((filledE (w mul toTipE) add fractionE (forward s) mul toTipSquareE) mul ratio 1 11))
+
+  abbrev pub finE : ℕ → Expression
+  finE zero = filledE volumeE
+  finE (suc zero) = q mul filledE volumeE add filledE heightE
+  finE (suc (suc zero)) = (q mul q) mul filledE volumeE add ratio 2 0 mul (q mul filledE heightE) add filledE heightsE
+  finE (suc (suc (suc zero))) = alongE
+  finE (suc (suc (suc (suc zero)))) = alongsE
+  finE (suc (suc (suc (suc (suc zero))))) = q mul alongE add heightAlongE
+  finE (suc (suc (suc (suc (suc (suc i)))))) = ((k mul k) mul ratio 1 11) mul (fractionE (filledCube s) mul volumeE)
+
+-- of a tab's height, length and offset, thickness and radius
+module _ (h l o k q : Expression) where
+  abbrev slabE : Expression
+  slabE = (k mul l) mul h
+
+  abbrev meanE : Expression
+  meanE = q take h mul ratio 1 1
+
+  abbrev slabAlongE : Expression
+  slabAlongE = (k mul h) mul (l mul (o add l mul ratio 1 1))
+
+  abbrev pub slabsE : ℕ → Expression
+  slabsE zero = slabE
+  slabsE (suc zero) = slabE mul meanE
+  slabsE (suc (suc zero)) = slabE mul ((q mul q) take q mul h add (h mul h) mul ratio 1 2)
+  slabsE (suc (suc (suc zero))) = slabAlongE
+  slabsE (suc (suc (suc (suc zero)))) = slabE mul ((o mul o) add o mul l add (l mul l) mul ratio 1 2)
+  slabsE (suc (suc (suc (suc (suc zero))))) = slabAlongE mul meanE
+  slabsE (suc (suc (suc (suc (suc (suc i)))))) = ((k mul k) mul ratio 1 11) mul slabE
+
+abbrev pub tabE : Tab → ℕ → Expression
+tabE None i = ratio 0 0
+tabE (Slab height length offset) i = slabsE (given 6) (given 7) (given 8) (given 4) (given 5) i
+
+-- ---- the fin as terms: the variables of one_piece/proofs/PlatePiece, and a size that radius and span do not pass
+abbrev finList : (root tip span sweep scale thickness radius : Float) → List Given
+finList root tip span sweep scale thickness radius =
+    entriesOf root tip span sweep scale thickness radius 1 4 0 (shape 0 full (place 4) []) 0 (larger 1 4 ∷ [])
+
+abbrev placed : Section → ℕ → Expression
+placed s i = finE s (given 0) (given 2) (given 6) (given 4) (given 10) (given 12) i
+
+-- with 3·(1/3) and 12·(1/12), where the program divides by these
+abbrev thirds : Expression → Expression
+thirds e = (ratio 3 0 mul given 15) mul e
+
+abbrev twelfths : Expression → Expression
+twelfths e = (ratio 12 0 mul given 17) mul e
+
+abbrev finTarget : Section → ℕ → Expression
+finTarget s zero = placed s 0
+finTarget s (suc zero) = placed s 1
+finTarget s (suc (suc zero)) = placed s 2
+finTarget s (suc (suc (suc zero))) = placed s 3
+finTarget Square (suc (suc (suc (suc zero)))) = thirds (placed Square 4)
+finTarget Rounded (suc (suc (suc (suc zero)))) = placed Rounded 4
+finTarget Airfoil (suc (suc (suc (suc zero)))) = placed Airfoil 4
+finTarget AirfoilOpen (suc (suc (suc (suc zero)))) = placed AirfoilOpen 4
+finTarget s (suc (suc (suc (suc (suc zero))))) = placed s 5
+finTarget s (suc (suc (suc (suc (suc (suc i)))))) = twelfths (placed s 6)
+
+abbrev powerT : ℕ → Term
+powerT zero = var 4 mulT (var 4 mulT var 4)
+powerT (suc zero) = (var 4 mulT var 4) mulT (var 4 mulT var 4)
+powerT (suc (suc zero)) = var 4 mulT ((var 4 mulT var 4) mulT (var 4 mulT var 4))
+powerT (suc (suc (suc zero))) = (var 4 mulT var 4) mulT (var 4 mulT var 4)
+powerT (suc (suc (suc (suc zero)))) = var 4 mulT ((var 4 mulT var 4) mulT (var 4 mulT var 4))
+powerT (suc (suc (suc (suc (suc zero))))) = var 4 mulT ((var 4 mulT var 4) mulT (var 4 mulT var 4))
+powerT (suc (suc (suc (suc (suc (suc i)))))) = var 4 mulT ((var 4 mulT var 4) mulT (var 4 mulT var 4))
+
+abbrev powerOf : Float → ℕ → Float
+powerOf scale zero = cube scale
+powerOf scale (suc zero) = fourth scale
+powerOf scale (suc (suc zero)) = fifth scale
+powerOf scale (suc (suc (suc zero))) = fourth scale
+powerOf scale (suc (suc (suc (suc zero)))) = fifth scale
+powerOf scale (suc (suc (suc (suc (suc zero))))) = fifth scale
+powerOf scale (suc (suc (suc (suc (suc (suc i)))))) = fifth scale
+
+-- in units of the root chord, the span, the scale, the thickness, that size and the density
+abbrev pub unitOf : ℕ → List ℕ
+unitOf i = added (topOf (place 4) i) (place 1)
+
+abbrev finS : ℕ → Shared
+finS i =
+    (whole (nought (unitOf i) (added (bottomOf i) (place 2)))
+    ⊞ totalS (topOf (place 4) i) (bottomOf i) (unitOf i) (added (bottomOf i) (place 2))) ⊠ whole (powerT i)
+
+-- errors in roundoffs, and sizes in 1024ths of the unit
+abbrev finError : ℕ → ℕ
+finError zero = 90
+finError (suc zero) = 165
+finError (suc (suc zero)) = 370
+finError (suc (suc (suc zero))) = 250
+finError (suc (suc (suc (suc zero)))) = 900
+finError (suc (suc (suc (suc (suc zero))))) = 550
+finError (suc (suc (suc (suc (suc (suc i)))))) = 16
+
+abbrev finSize : ℕ → ℕ
+finSize zero = 1025
+finSize (suc zero) = 1740
+finSize (suc (suc zero)) = 3100
+finSize (suc (suc (suc zero))) = 3100
+finSize (suc (suc (suc (suc zero)))) = 7900
+finSize (suc (suc (suc (suc (suc zero))))) = 5300
+finSize (suc (suc (suc (suc (suc (suc i)))))) = 90
+
+module _ (root tip span sweep scale thickness radius : Float) where
+  abbrev F : List Given
+  F = finList root tip span sweep scale thickness radius
+
+  abbrev FinPasses : Section → ℕ → Type 0
+  FinPasses s i =
+      T (nearer F (finTarget s i) (finError i * 2 ^ 30) (unitOf i) [] (judgeIn F (judgeAll F [] (partsOf s i)) (finS i))
+      && sizeTest F (finTarget s i) (finSize i * 2 ^ 20) (unitOf i) [])
+
+  square0 : FinPasses Square 0
+  unfolding round ofBits nodes kronrodWeights airfoilConstants
+  square0 = tt
+
+  square1 : FinPasses Square 1
+  unfolding round ofBits nodes kronrodWeights airfoilConstants
+  square1 = tt
+
+  square2 : FinPasses Square 2
+  unfolding round ofBits nodes kronrodWeights airfoilConstants
+  square2 = tt
+
+  square3 : FinPasses Square 3
+  unfolding round ofBits nodes kronrodWeights airfoilConstants
+  square3 = tt
+
+  square4 : FinPasses Square 4
+  unfolding round ofBits nodes kronrodWeights airfoilConstants
+  square4 = tt
+
+  square5 : FinPasses Square 5
+  unfolding round ofBits nodes kronrodWeights airfoilConstants
+  square5 = tt
+
+  square6 : FinPasses Square 6
+  unfolding round ofBits nodes kronrodWeights airfoilConstants
+  square6 = tt
+
+  foil0 : FinPasses Airfoil 0
+  unfolding round ofBits nodes kronrodWeights airfoilConstants
+  foil0 = tt
+
+  foil1 : FinPasses Airfoil 1
+  unfolding round ofBits nodes kronrodWeights airfoilConstants
+  foil1 = tt
+
+  foil2 : FinPasses Airfoil 2
+  unfolding round ofBits nodes kronrodWeights airfoilConstants
+  foil2 = tt
+
+  foil3 : FinPasses Airfoil 3
+  unfolding round ofBits nodes kronrodWeights airfoilConstants
+  foil3 = tt
+
+  foil4 : FinPasses Airfoil 4
+  unfolding round ofBits nodes kronrodWeights airfoilConstants
+  foil4 = tt
+
+  foil5 : FinPasses Airfoil 5
+  unfolding round ofBits nodes kronrodWeights airfoilConstants
+  foil5 = tt
+
+  foil6 : FinPasses Airfoil 6
+  unfolding round ofBits nodes kronrodWeights airfoilConstants
+  foil6 = tt
+
+  open0 : FinPasses AirfoilOpen 0
+  unfolding round ofBits nodes kronrodWeights airfoilConstants
+  open0 = tt
+
+  open1 : FinPasses AirfoilOpen 1
+  unfolding round ofBits nodes kronrodWeights airfoilConstants
+  open1 = tt
+
+  open2 : FinPasses AirfoilOpen 2
+  unfolding round ofBits nodes kronrodWeights airfoilConstants
+  open2 = tt
+
+  open3 : FinPasses AirfoilOpen 3
+  unfolding round ofBits nodes kronrodWeights airfoilConstants
+  open3 = tt
+
+  open4 : FinPasses AirfoilOpen 4
+  unfolding round ofBits nodes kronrodWeights airfoilConstants
+  open4 = tt
+
+  open5 : FinPasses AirfoilOpen 5
+  unfolding round ofBits nodes kronrodWeights airfoilConstants
+  open5 = tt
+
+  open6 : FinPasses AirfoilOpen 6
+  unfolding round ofBits nodes kronrodWeights airfoilConstants
+  open6 = tt
+
+-- ---- the tab as terms: the variables height, length, offset, thickness, radius, 3 and 12
+abbrev tabList : (height length offset thickness radius : Float) → List Given
+tabList height length offset thickness radius =
+    entry height (valueOf height) (shape 0 full (place 1) []) 0 ∷
+    entry length (valueOf length) (shape 0 full (place 0) []) 0 ∷
+    entry offset (valueOf offset) (shape 0 full (place 0) []) 0 ∷
+    entry thickness (valueOf thickness) (shape 0 full (place 3) []) full ∷
+    entry radius (valueOf radius) (shape 0 full (place 1) []) 0 ∷
+    larger 1 4 ∷
+    larger 1 4 ∷
+    entry three (valueOf three) (shape 0 (most three) [] []) (3 * 2 ^ 30) ∷
+    entry twelve (valueOf twelve) (shape 0 (most twelve) [] []) (12 * 2 ^ 30) ∷
+    []
+
+abbrev cubeT : Term → Term
+cubeT t = t mulT (t mulT t)
+
+abbrev innerT : Term
+innerT = tightT (var 4 takeT var 0)
+
+abbrev aftT : Term
+aftT = tightT (var 2 addT var 1)
+
+abbrev firstT : Term → Term → Term
+firstT a b = tightT (const half mulT (b mulT b takeT a mulT a))
+
+abbrev slabT : ℕ → Term
+slabT zero = (var 3 mulT var 1) mulT var 0
+slabT (suc zero) = raisedT 5 ((var 3 mulT var 1) mulT firstT innerT (var 4))
+slabT (suc (suc zero)) = raisedT 5 (raisedT 5 (((var 3 mulT var 1) mulT tightT (cubeT (var 4) takeT cubeT innerT)) overT 7))
+slabT (suc (suc (suc zero))) = (var 3 mulT var 0) mulT firstT (var 2) aftT
+slabT (suc (suc (suc (suc zero)))) = ((var 3 mulT var 0) mulT tightT (cubeT aftT takeT cubeT (var 2))) overT 7
+slabT (suc (suc (suc (suc (suc zero))))) = raisedT 5 ((var 3 mulT firstT (var 2) aftT) mulT firstT innerT (var 4))
+slabT (suc (suc (suc (suc (suc (suc i)))))) = ((cubeT (var 3) overT 8) mulT var 1) mulT var 0
+
+abbrev slabPlaced : ℕ → Expression
+slabPlaced i = slabsE (given 0) (given 2) (given 4) (given 6) (given 8) i
+
+abbrev slabTarget : ℕ → Expression
+slabTarget zero = slabPlaced 0
+slabTarget (suc zero) = slabPlaced 1
+slabTarget (suc (suc zero)) = thirds (slabPlaced 2)
+slabTarget (suc (suc (suc zero))) = slabPlaced 3
+slabTarget (suc (suc (suc (suc zero)))) = thirds (slabPlaced 4)
+slabTarget (suc (suc (suc (suc (suc zero))))) = slabPlaced 5
+slabTarget (suc (suc (suc (suc (suc (suc i)))))) = twelfths (slabPlaced 6)
+
+abbrev slabError : ℕ → ℕ
+slabError zero = 8
+slabError (suc zero) = 20
+slabError (suc (suc zero)) = 60
+slabError (suc (suc (suc zero))) = 20
+slabError (suc (suc (suc (suc zero)))) = 40
+slabError (suc (suc (suc (suc (suc zero))))) = 50
+slabError (suc (suc (suc (suc (suc (suc i)))))) = 8
+
+abbrev slabSize : ℕ → ℕ
+slabSize zero = 1025
+slabSize (suc zero) = 1537
+slabSize (suc (suc zero)) = 2390
+slabSize (suc (suc (suc zero))) = 1537
+slabSize (suc (suc (suc (suc zero)))) = 2390
+slabSize (suc (suc (suc (suc (suc zero))))) = 2310
+slabSize (suc (suc (suc (suc (suc (suc i)))))) = 90
+
+module _ (height length offset thickness radius : Float) where
+  abbrev S : List Given
+  S = tabList height length offset thickness radius
+
+  abbrev SlabPasses : ℕ → Type 0
+  SlabPasses i =
+      T (nearer S (slabTarget i) (slabError i * 2 ^ 30) (unitOf i) [] (judge S (slabT i))
+      && sizeTest S (slabTarget i) (slabSize i * 2 ^ 20) (unitOf i) [])
+
+  slab0 : SlabPasses 0
+  unfolding round ofBits
+  slab0 = tt
+
+  slab1 : SlabPasses 1
+  unfolding round ofBits
+  slab1 = tt
+
+  slab2 : SlabPasses 2
+  unfolding round ofBits
+  slab2 = tt
+
+  slab3 : SlabPasses 3
+  unfolding round ofBits
+  slab3 = tt
+
+  slab4 : SlabPasses 4
+  unfolding round ofBits
+  slab4 = tt
+
+  slab5 : SlabPasses 5
+  unfolding round ofBits
+  slab5 = tt
+
+  slab6 : SlabPasses 6
+  unfolding round ofBits
+  slab6 = tt
+
+-- ---- a fin and its tab, and what is known of their lengths
+pub record Fin : Type 0 where
+  pub section : Section
+  pub root : Float
+  pub tip : Float
+  pub span : Float
+  pub sweep : Float
+  pub scale : Float
+  pub thickness : Float
+  pub radius : Float
+  pub tab : Tab
+  pub density : Float
+
+-- length and offset of a tab do not pass the root chord, height and radius not the span
+pub record TabSizes (f : Fin) (height length offset : Float) : Type 0 where
+  pub height-finite : T (finite height)
+  pub length-finite : T (finite length)
+  pub offset-finite : T (finite offset)
+  pub height-from-zero : NotBelow (valueOf height)
+  pub length-from-zero : NotBelow (valueOf length)
+  pub height-under : Under (1 of sizeOf (f .span)) (valueOf height)
+  pub length-under : Under (1 of sizeOf (f .root)) (valueOf length)
+  pub offset-under : Under (1 of sizeOf (f .root)) (valueOf offset)
+  pub radius-under : Under (1 of sizeOf (f .span)) (valueOf (f .radius))
+
+abbrev pub TabKnown : Fin → Tab → Type 0
+TabKnown f None = Unit {0}
+TabKnown f (Slab height length offset) = TabSizes f height length offset
+
+pub record Sizes (f : Fin) (b d : ℕ) : Type 0 where
+  pub plain-section : NotRounded (f .section)
+  pub root-positive : T (positive (f .root))
+  pub span-positive : T (positive (f .span))
+  pub scale-positive : T (positive (f .scale))
+  pub thickness-positive : T (positive (f .thickness))
+  pub density-positive : T (positive (f .density))
+  pub tip-finite : T (finite (f .tip))
+  pub sweep-finite : T (finite (f .sweep))
+  pub radius-finite : T (finite (f .radius))
+  pub tip-from-zero : NotBelow (valueOf (f .tip))
+  pub tip-under : Under (1 of sizeOf (f .root)) (valueOf (f .tip))
+  pub sweep-under : Under (4 of sizeOf (f .root)) (valueOf (f .sweep))
+  pub is-size : 0 < d
+  pub root-most : num (f .root) * d ≤ b * den (f .root)
+  pub span-most : num (f .span) * d ≤ b * den (f .span)
+  pub thickness-most : num (f .thickness) * d ≤ b * den (f .thickness)
+  pub radius-under : Under (1 of (b per d)) (valueOf (f .radius))
+  pub tab : TabKnown f (f .tab)
+  pub ranges : AllRanges 32 (sizeOf (f .root) ∷ sizeOf (f .span) ∷ sizeOf (f .scale) ∷ sizeOf (f .thickness) ∷ (b per d) ∷ sizeOf
+      (f .density) ∷ [])
+
+-- 3·(1/3) and 12·(1/12) are 1
+three-inverse : number 3 0 1 times inverseOf (valueOf three) equals number 1 0 1
+unfolding ofBits
+three-inverse = record { same = refl }
+
+twelve-inverse : number 12 0 1 times inverseOf (valueOf twelve) equals number 1 0 1
+unfolding ofBits
+twelve-inverse = record { same = refl }
+
+ones-times : (a v : Number) → IsNumber a → IsNumber v → a equals number 1 0 1 → a times v equals v
+ones-times a v ia iv e =
+    trans (times-is (number 1 0 1) v (pow-pos 0) iv) (times-equal ia (pow-pos 0) iv iv e (itself {x = v}))
+    (equal-by (v ∷ []) (iv, tt) (ratio 1 0 mul given 0) (given 0) tt)
+
+abbrev pub tabNumbers : Tab → List Number
+tabNumbers None = []
+tabNumbers (Slab height length offset) = valueOf height ∷ valueOf length ∷ valueOf offset ∷ []
+
+-- root, tip, span, sweep, thickness, radius, and height, length and offset of a tab
+abbrev pub numbersIn : Fin → List Number
+numbersIn f =
+    valueOf (f .root) ∷ valueOf (f .tip) ∷ valueOf (f .span) ∷ valueOf (f .sweep) ∷ valueOf (f .thickness) ∷ valueOf (f .radius) ∷
+    tabNumbers (f .tab)
+
+abbrev pub finIn : Section → ℕ → Expression
+finIn s i = finE s (given 0) (given 1) (given 2) (given 3) (given 4) (given 5) i
+
+-- the exact integrals of fin and tab
+abbrev pub exactE : Fin → ℕ → Expression
+exactE f i = finIn (f .section) i add tabE (f .tab) i
+
+abbrev pub exactly : Fin → ℕ → Number
+exactly f i = evaluate (among (numbersIn f)) (exactE f i)
+
+pub numbers-all : (f : Fin) → AllNumbers (numbersIn f)
+numbers-all f = (
+  Counts.value-is (f .root),
+  (
+    Counts.value-is (f .tip),
+    (
+      Counts.value-is (f .span),
+      (
+        Counts.value-is (f .sweep),
+        (Counts.value-is (f .thickness), (Counts.value-is (f .radius), rest (f .tab))),
+      ),
+    ),
+  ),
+)
+  where
+    rest : (t : Tab) → AllNumbers (tabNumbers t)
+    rest None = tt
+    rest (Slab h l o) = (Counts.value-is h, (Counts.value-is l, (Counts.value-is o, tt)))
+
+-- the f64s, from the sums of one piece's samples
+abbrev pub totalAt : Fin → Section → ℕ → Float
+totalAt f s i =
+    bits 0 ⊕ (bits 0 ⊕ halfWidth (bits 0 ⊘ f .scale) (f .span ⊘ f .scale) ⊗ sumOf kronrodWeight
+    (sevenAt (f .root) (f .tip) (f .span) (f .sweep) (f .scale) (f .thickness) (f .radius) 0 0 0 (shape 0 0 [] []) 0 [] s)
+    (bits 0 ⊘ f .scale) (f .span ⊘ f .scale) i)
+
+abbrev finAt : Fin → Section → ℕ → Float
+finAt f s i = totalAt f s i ⊗ powerOf (f .scale) i
+
+abbrev tabAt : Fin → ℕ → Float
+tabAt f i = at (tabIntegralsOf (f .tab) (f .thickness) (f .radius)) i
+
+abbrev pub integralAt : Fin → ℕ → Float
+integralAt f i = finAt f (f .section) i ⊕ tabAt f i
+
+-- errors and sizes, in the units of `unitOf`
+abbrev finShape : ℕ → Shape
+finShape i = shape (finError i * 2 ^ 30) (finSize i * 2 ^ 20) (unitOf i) []
+
+abbrev tabError : Tab → ℕ → ℕ
+tabError None i = 0
+tabError (Slab height length offset) i = slabError i
+
+abbrev tabSize : Tab → ℕ → ℕ
+tabSize None i = 0
+tabSize (Slab height length offset) i = slabSize i
+
+abbrev tabShape : Tab → ℕ → Shape
+tabShape tab i = shape (tabError tab i * 2 ^ 30) (tabSize tab i * 2 ^ 20) (unitOf i) []
+
+abbrev pub shapeAt : Tab → ℕ → Shape
+shapeAt tab i = sumShape (finShape i) (tabShape tab i)
+
+-- the volume is at least so many parts of its unit
+abbrev pub least-parts : ℕ
+least-parts = 365000000
+
+beyond : (i : ℕ) → suc (suc (suc (suc (suc (suc (suc i)))))) < 7 → ⊥
+beyond i l = omega arith
+
+sums-fine : (tab : Tab) (i : ℕ) → i < 7 → T ((fine (finShape i) && fine (tabShape tab i)) && sumTest (finShape i) (tabShape tab i))
+sums-fine None zero l = tt
+sums-fine None (suc zero) l = tt
+sums-fine None (suc (suc zero)) l = tt
+sums-fine None (suc (suc (suc zero))) l = tt
+sums-fine None (suc (suc (suc (suc zero)))) l = tt
+sums-fine None (suc (suc (suc (suc (suc zero))))) l = tt
+sums-fine None (suc (suc (suc (suc (suc (suc zero)))))) l = tt
+sums-fine None (suc (suc (suc (suc (suc (suc (suc i))))))) l′ = absurd (beyond i l′)
+sums-fine (Slab x y z) zero l = tt
+sums-fine (Slab x y z) (suc zero) l = tt
+sums-fine (Slab x y z) (suc (suc zero)) l = tt
+sums-fine (Slab x y z) (suc (suc (suc zero))) l = tt
+sums-fine (Slab x y z) (suc (suc (suc (suc zero)))) l = tt
+sums-fine (Slab x y z) (suc (suc (suc (suc (suc zero))))) l = tt
+sums-fine (Slab x y z) (suc (suc (suc (suc (suc (suc zero)))))) l = tt
+sums-fine (Slab x y z) (suc (suc (suc (suc (suc (suc (suc i))))))) l′ = absurd (beyond i l′)
+
+-- root, tip, span, thickness and what a tab adds
+abbrev volumeList : (root tip span thickness slab : Float) → Number → Tab → List Given
+volumeList root tip span thickness slab v tab =
+    entry root (valueOf root) (shape 0 full (place 0) []) full ∷
+    entry tip (valueOf tip) (shape 0 (1 * 2 ^ 30) (place 0) []) 0 ∷
+    entry span (valueOf span) (shape 0 full (place 1) []) full ∷
+    entry thickness (valueOf thickness) (shape 0 full (place 3) []) full ∷
+    entry slab v (tabShape tab 0) 0 ∷
+    []
+
+abbrev volumeTarget : Section → Expression
+volumeTarget s = finE s (given 0) (given 2) (given 4) (ratio 0 0) (given 6) (ratio 0 0) 0 add given 8
+
+abbrev pub errorIn : Shape → ℕ
+errorIn (shape k i p q) = k
+
+volumes-least : (s : Section) → NotRounded s → (tab : Tab) (root tip span thickness slab : Float) (v : Number)
+    → T (lowTest (volumeList root tip span thickness slab v tab) (volumeTarget s) (errorIn (shapeAt tab 0)) (least-parts - 1) (unitOf 0) [])
+volumes-least Rounded e tab root tip span thickness slab v = absurd e
+volumes-least Square e None root tip span thickness slab v = tt
+volumes-least Square e (Slab x y z) root tip span thickness slab v = tt
+volumes-least Airfoil e None root tip span thickness slab v = tt
+volumes-least Airfoil e (Slab x y z) root tip span thickness slab v = tt
+volumes-least AirfoilOpen e None root tip span thickness slab v = tt
+volumes-least AirfoilOpen e (Slab x y z) root tip span thickness slab v = tt
+
+module _ (f : Fin) (b d : ℕ) (g : Sizes f b d) where
+  abbrev pub bases : List Size
+  bases = sizeOf (f .root) ∷ sizeOf (f .span) ∷ sizeOf (f .scale) ∷ sizeOf (f .thickness) ∷ (b per d) ∷ sizeOf (f .density) ∷ []
+
+  abbrev fins : List Given
+  fins = finList (f .root) (f .tip) (f .span) (f .sweep) (f .scale) (f .thickness) (f .radius)
+
+  fins-known : AllKnown bases fins
+  unfolding ofBits
+  fins-known =
+      let root = own-entry bases 0 (f .root) refl (g .root-positive) in
+      let tip = many-entry bases 0 (num (f .root)) (den (f .root)) refl (f .tip) 1 (den-pos (f .root)) (g .tip-finite) (g .tip-under) in
+      let sweep = many-entry bases 0 (num (f .root)) (den (f .root)) refl (f .sweep) 4 (den-pos (f .root)) (g .sweep-finite)
+      (g .sweep-under) in
+      let span = own-entry bases 1 (f .span) refl (g .span-positive) in
+      let scale = own-entry bases 2 (f .scale) refl (g .scale-positive) in
+      let thickness = own-entry bases 3 (f .thickness) refl (g .thickness-positive) in
+      let radius = sized-entry bases 4 b d refl (f .radius) (g .is-size) (g .radius-finite) (g .radius-under) in
+      let third = const-entry bases (g .ranges) three (3 * 2 ^ 30 - 1) tt in
+      let twelfth = const-entry bases (g .ranges) twelve (12 * 2 ^ 30 - 1) tt in
+      (root, ((tip, tt), ((sweep, tt), (span, (scale, (thickness, ((radius, tt), (third, (twelfth, (g .span-most, tt))))))))))
+
+  abbrev FinKnown : Section → ℕ → Type 0
+  FinKnown s i = Known bases (finAt f s i) (evaluate (among (numbersIn f)) (finIn s i)) (finShape i)
+
+  abbrev FinPass : Section → ℕ → Type 0
+  FinPass s i = FinPasses (f .root) (f .tip) (f .span) (f .sweep) (f .scale) (f .thickness) (f .radius) s i
+
+  by-test : (s : Section) (i : ℕ) → FinPass s i
+      → Known bases (value fins (expand [] (bindAll (partsOf s i) (finS i)))) (evaluate (numbersOf fins) (finTarget s i)) (finShape i)
+  by-test s i t =
+      let a = nearer fins (finTarget s i) (finError i * 2 ^ 30) (unitOf i) [] (judgeIn fins (judgeAll fins [] (partsOf s i)) (finS i)) in
+      let c = sizeTest fins (finTarget s i) (finSize i * 2 ^ 20) (unitOf i) [] in
+      target-known bases (g .ranges) fins fins-known _ (finTarget s i) (finError i * 2 ^ 30) (finSize i * 2 ^ 20) (unitOf i) []
+      (all-within bases (g .ranges) fins fins-known (partsOf s i) (finS i) (finTarget s i) (finError i * 2 ^ 30) (unitOf i) []
+      (and-l a c t))
+      (and-r a c t)
+
+  is-numbers : (e : Expression) → IsNumber (evaluate (among (numbersIn f)) e)
+  is-numbers e = evaluated-is (numbersIn f) (numbers-all f) e
+
+  by-thirds : {x : Float} {v : Number} {k j : ℕ} {U : Size} → IsNumber v
+      → Valued x ((number 3 0 1 times inverseOf (valueOf three)) times v) k j U → Valued x v k j U
+  unfolding ofBits
+  by-thirds {v = v} i h = equalled h v i (ones-times _ v (lit≤ tt) i three-inverse)
+
+  by-twelfths : {x : Float} {v : Number} {k j : ℕ} {U : Size} → IsNumber v
+      → Valued x ((number 12 0 1 times inverseOf (valueOf twelve)) times v) k j U → Valued x v k j U
+  unfolding ofBits
+  by-twelfths {v = v} i h = equalled h v i (ones-times _ v (lit≤ tt) i twelve-inverse)
+
+  fin-known : (s : Section) → NotRounded s → (i : ℕ) → i < 7 → FinKnown s i
+  unfolding weightedTo
+  fin-known Rounded e i l = absurd e
+  fin-known Square e zero l = by-test Square 0 (square0 (f .root) (f .tip) (f .span) (f .sweep) (f .scale) (f .thickness) (f .radius))
+  fin-known Square e (suc zero) l = by-test Square 1 (square1 (f .root) (f .tip) (f .span) (f .sweep) (f .scale) (f .thickness) (f .radius))
+  fin-known Square e (suc (suc zero)) l = by-test Square 2 (square2 (f .root) (f .tip) (f .span) (f .sweep) (f .scale) (f .thickness)
+      (f .radius))
+  fin-known Square e (suc (suc (suc zero))) l = by-test Square 3 (square3 (f .root) (f .tip) (f .span) (f .sweep) (f .scale)
+      (f .thickness) (f .radius))
+  fin-known Square e (suc (suc (suc (suc zero)))) l = by-thirds (is-numbers (finIn Square 4)) (by-test Square 4 (square4 (f .root)
+      (f .tip) (f .span) (f .sweep) (f .scale) (f .thickness) (f .radius)))
+  fin-known Square e (suc (suc (suc (suc (suc zero))))) l = by-test Square 5 (square5 (f .root) (f .tip) (f .span) (f .sweep)
+      (f .scale) (f .thickness) (f .radius))
+  fin-known Square e (suc (suc (suc (suc (suc (suc zero)))))) l = by-twelfths (is-numbers (finIn Square 6)) (by-test Square 6 (square6
+      (f .root) (f .tip) (f .span) (f .sweep) (f .scale) (f .thickness) (f .radius)))
+  fin-known Square e (suc (suc (suc (suc (suc (suc (suc i))))))) l = absurd (beyond i l)
+  fin-known Airfoil e zero l = by-test Airfoil 0 (foil0 (f .root) (f .tip) (f .span) (f .sweep) (f .scale) (f .thickness) (f .radius))
+  fin-known Airfoil e (suc zero) l = by-test Airfoil 1 (foil1 (f .root) (f .tip) (f .span) (f .sweep) (f .scale) (f .thickness) (f .radius))
+  fin-known Airfoil e (suc (suc zero)) l = by-test Airfoil 2 (foil2 (f .root) (f .tip) (f .span) (f .sweep) (f .scale) (f .thickness)
+      (f .radius))
+  fin-known Airfoil e (suc (suc (suc zero))) l = by-test Airfoil 3 (foil3 (f .root) (f .tip) (f .span) (f .sweep) (f .scale)
+      (f .thickness) (f .radius))
+  fin-known Airfoil e (suc (suc (suc (suc zero)))) l = by-test Airfoil 4 (foil4 (f .root) (f .tip) (f .span) (f .sweep) (f .scale)
+      (f .thickness) (f .radius))
+  fin-known Airfoil e (suc (suc (suc (suc (suc zero))))) l = by-test Airfoil 5 (foil5 (f .root) (f .tip) (f .span) (f .sweep)
+      (f .scale) (f .thickness) (f .radius))
+  fin-known Airfoil e (suc (suc (suc (suc (suc (suc zero)))))) l = by-twelfths (is-numbers (finIn Airfoil 6)) (by-test Airfoil 6
+      (foil6 (f .root) (f .tip) (f .span) (f .sweep) (f .scale) (f .thickness) (f .radius)))
+  fin-known Airfoil e (suc (suc (suc (suc (suc (suc (suc i))))))) l = absurd (beyond i l)
+  fin-known AirfoilOpen e zero l = by-test AirfoilOpen 0 (open0 (f .root) (f .tip) (f .span) (f .sweep) (f .scale) (f .thickness)
+      (f .radius))
+  fin-known AirfoilOpen e (suc zero) l = by-test AirfoilOpen 1 (open1 (f .root) (f .tip) (f .span) (f .sweep) (f .scale)
+      (f .thickness) (f .radius))
+  fin-known AirfoilOpen e (suc (suc zero)) l = by-test AirfoilOpen 2 (open2 (f .root) (f .tip) (f .span) (f .sweep) (f .scale)
+      (f .thickness) (f .radius))
+  fin-known AirfoilOpen e (suc (suc (suc zero))) l = by-test AirfoilOpen 3 (open3 (f .root) (f .tip) (f .span) (f .sweep) (f .scale)
+      (f .thickness) (f .radius))
+  fin-known AirfoilOpen e (suc (suc (suc (suc zero)))) l = by-test AirfoilOpen 4 (open4 (f .root) (f .tip) (f .span) (f .sweep)
+      (f .scale) (f .thickness) (f .radius))
+  fin-known AirfoilOpen e (suc (suc (suc (suc (suc zero))))) l = by-test AirfoilOpen 5 (open5 (f .root) (f .tip) (f .span) (f .sweep)
+      (f .scale) (f .thickness) (f .radius))
+  fin-known AirfoilOpen e (suc (suc (suc (suc (suc (suc zero)))))) l = by-twelfths (is-numbers (finIn AirfoilOpen 6))
+      (by-test AirfoilOpen 6 (open6 (f .root) (f .tip) (f .span) (f .sweep) (f .scale) (f .thickness) (f .radius)))
+  fin-known AirfoilOpen e (suc (suc (suc (suc (suc (suc (suc i))))))) l = absurd (beyond i l)
+
+  -- ---- the tab
+  module _ (height length offset : Float) (t : TabSizes f height length offset) where
+    abbrev slabs : List Given
+    slabs = tabList height length offset (f .thickness) (f .radius)
+
+    slabs-known : AllKnown bases slabs
+    unfolding ofBits
+    slabs-known =
+        let P = f .span in
+        let R = f .root in
+        let tall = sized-entry bases 1 (num P) (den P) refl height (den-pos P) (t .height-finite) (t .height-under) in
+        let long = sized-entry bases 0 (num R) (den R) refl length (den-pos R) (t .length-finite) (t .length-under) in
+        let behind = sized-entry bases 0 (num R) (den R) refl offset (den-pos R) (t .offset-finite) (t .offset-under) in
+        let thickness = own-entry bases 3 (f .thickness) refl (g .thickness-positive) in
+        let radius = sized-entry bases 1 (num P) (den P) refl (f .radius) (den-pos P) (g .radius-finite) (t .radius-under) in
+        let third = const-entry bases (g .ranges) three (3 * 2 ^ 30 - 1) tt in
+        let twelfth = const-entry bases (g .ranges) twelve (12 * 2 ^ 30 - 1) tt in
+        ((tall, tt), ((long, tt), ((behind, tt), (thickness, ((radius, tt), (g .span-most, (g .span-most, (third, (twelfth, tt)))))))))
+
+    abbrev slabNumbers : List Number
+    slabNumbers =
+        valueOf (f .root) ∷ valueOf (f .tip) ∷ valueOf (f .span) ∷ valueOf (f .sweep) ∷ valueOf (f .thickness) ∷ valueOf (f .radius) ∷
+        valueOf height ∷ valueOf length ∷ valueOf offset ∷ []
+
+    slab-numbers : AllNumbers slabNumbers
+    slab-numbers = (
+      Counts.value-is (f .root),
+      (
+        Counts.value-is (f .tip),
+        (
+          Counts.value-is (f .span),
+          (
+            Counts.value-is (f .sweep),
+            (
+              Counts.value-is (f .thickness),
+              (
+                Counts.value-is (f .radius),
+                (
+                  Counts.value-is height,
+                  (
+                    Counts.value-is length,
+                    (Counts.value-is offset, tt),
+                  ),
+                ),
+              ),
+            ),
+          ),
+        ),
+      ),
+    )
+
+    abbrev slabIn : ℕ → Expression
+    slabIn i = slabsE (given 6) (given 7) (given 8) (given 4) (given 5) i
+
+    by-slab : (i : ℕ) → SlabPasses height length offset (f .thickness) (f .radius) i
+        → Known bases (value slabs (slabT i)) (evaluate (numbersOf slabs) (slabTarget i)) (tabShape (Slab height length offset) i)
+    by-slab i p =
+        let a = nearer slabs (slabTarget i) (slabError i * 2 ^ 30) (unitOf i) [] (judge slabs (slabT i)) in
+        let c = sizeTest slabs (slabTarget i) (slabSize i * 2 ^ 20) (unitOf i) [] in
+        target-known bases (g .ranges) slabs slabs-known _ (slabTarget i) (slabError i * 2 ^ 30) (slabSize i * 2 ^ 20) (unitOf i) []
+        (near-within bases (g .ranges) slabs slabs-known (slabT i) (slabTarget i) (slabError i * 2 ^ 30) (unitOf i) [] (and-l a c p))
+        (and-r a c p)
+
+    slab-known : (i : ℕ) → i < 7
+        → Known bases (at (tabIntegralsOf (Slab height length offset) (f .thickness) (f .radius)) i)
+        (evaluate (among slabNumbers) (slabIn i)) (tabShape (Slab height length offset) i)
+    unfolding tabIntegralsOf
+    slab-known zero l = by-slab 0 (slab0 height length offset (f .thickness) (f .radius))
+    slab-known (suc zero) l = by-slab 1 (slab1 height length offset (f .thickness) (f .radius))
+    slab-known (suc (suc zero)) l = by-thirds (evaluated-is slabNumbers slab-numbers (slabIn 2)) (by-slab 2
+        (slab2 height length offset (f .thickness) (f .radius)))
+    slab-known (suc (suc (suc zero))) l = by-slab 3 (slab3 height length offset (f .thickness) (f .radius))
+    slab-known (suc (suc (suc (suc zero)))) l = by-thirds (evaluated-is slabNumbers slab-numbers (slabIn 4)) (by-slab 4
+        (slab4 height length offset (f .thickness) (f .radius)))
+    slab-known (suc (suc (suc (suc (suc zero))))) l = by-slab 5 (slab5 height length offset (f .thickness) (f .radius))
+    slab-known (suc (suc (suc (suc (suc (suc zero)))))) l = by-twelfths (evaluated-is slabNumbers slab-numbers (slabIn 6)) (by-slab 6
+        (slab6 height length offset (f .thickness) (f .radius)))
+    slab-known (suc (suc (suc (suc (suc (suc (suc i))))))) l = absurd (beyond i l)
+
+  -- ---- both
+  none-known : (i : ℕ) → i < 7 → Known bases (at (tabIntegralsOf None (f .thickness) (f .radius)) i) (number 0 0 1) (tabShape None i)
+  unfolding tabIntegralsOf ofBits
+  none-known i l = subst (λ (x : Float). Known bases x (number 0 0 1) (tabShape None i)) (sym (at-tabulate 7 (λ k. bits 0) i l))
+      (zero-valued (unitBy bases (unitOf i) []))
+
+  tab-known : (i : ℕ) → i < 7 → Known bases (tabAt f i) (evaluate (among (numbersIn f)) (tabE (f .tab) i)) (tabShape (f .tab) i)
+  tab-known i l = go (f .tab) refl
+    where
+      go : (t : Tab) → f .tab ≡ t → Known bases (tabAt f i) (evaluate (among (numbersIn f)) (tabE (f .tab) i)) (tabShape (f .tab) i)
+      go None e = rw e (none-known i l)
+      go (Slab height length offset) e =
+          rw e (slab-known height length offset (subst (λ (t : Tab). TabKnown f t) e (g .tab)) i l)
+
+  -- the integrals that the program works with
+  pub seven-known : (i : ℕ) → i < 7 → Known bases (integralAt f i) (exactly f i) (shapeAt (f .tab) i)
+  seven-known i l =
+      sound bases (g .ranges)
+      (entry (finAt f (f .section) i) (evaluate (among (numbersIn f)) (finIn (f .section) i)) (finShape i) 0 ∷
+      entry (tabAt f i) (evaluate (among (numbersIn f)) (tabE (f .tab) i)) (tabShape (f .tab) i) 0 ∷ [])
+      ((fin-known (f .section) (g .plain-section) i l, tt), ((tab-known i l, tt), tt)) (var 0 addT var 1) (sums-fine (f .tab) i l)
+
+  -- ---- what the volume is at least
+  tab-from-zero : NotBelow (evaluate (among (numbersIn f)) (tabE (f .tab) 0))
+  tab-from-zero = go (f .tab) refl
+    where
+      go : (t : Tab) → f .tab ≡ t → NotBelow (evaluate (among (numbersIn f)) (tabE (f .tab) 0))
+      go None e = rw e zero-le
+      go (Slab height length offset) e =
+          let t = subst (λ (t : Tab). TabKnown f t) e (g .tab) in
+          rw e (not-below-times (valueOf (f .thickness) times valueOf length) (valueOf height)
+          (not-below-times (valueOf (f .thickness)) (valueOf length) (positive-from (f .thickness) (g .thickness-positive))
+          (t .length-from-zero))
+          (t .height-from-zero))
+
+  abbrev volumes : List Given
+  volumes = volumeList (f .root) (f .tip) (f .span) (f .thickness) (tabAt f 0) (evaluate (among (numbersIn f)) (tabE (f .tab) 0)) (f .tab)
+
+  volumes-known : AllKnown bases volumes
+  volumes-known =
+      let root = own-entry bases 0 (f .root) refl (g .root-positive) in
+      let tip = many-entry bases 0 (num (f .root)) (den (f .root)) refl (f .tip) 1 (den-pos (f .root)) (g .tip-finite) (g .tip-under) in
+      let span = own-entry bases 1 (f .span) refl (g .span-positive) in
+      (root, ((tip, tt), (span, (own-entry bases 3 (f .thickness) refl (g .thickness-positive), ((tab-known 0 (lit≤ tt), tt), tt)))))
+
+  volumes-signed : Signed volumes
+  volumes-signed = (
+    positive-from (f .root) (g .root-positive),
+    (
+      g .tip-from-zero,
+      (
+        positive-from (f .span) (g .span-positive),
+        (positive-from (f .thickness) (g .thickness-positive), (tab-from-zero, tt)),
+      ),
+    ),
+  )
+
+  pub volume-lowest : Lowest bases (integralAt f 0) (exactly f 0) (shapeAt (f .tab) 0) least-parts
+  volume-lowest = at (f .section) (g .plain-section) refl
+    where
+      near : Near (integralAt f 0) (exactly f 0) (errorIn (shapeAt (f .tab) 0) roundoffs unitBy bases (unitOf 0) [])
+      near = seven-known 0 (lit≤ tt) .near
+
+      by : (s : Section) → f .section ≡ s → evaluate (numbersOf volumes) (volumeTarget s) ≡ exactly f 0
+          → T (lowTest volumes (volumeTarget s) (errorIn (shapeAt (f .tab) 0)) (least-parts - 1) (unitOf 0) [])
+          → Lowest bases (integralAt f 0) (exactly f 0) (shapeAt (f .tab) 0) least-parts
+      by s e same t =
+          subst (λ (v : Number). Lowest bases (integralAt f 0) v (shapeAt (f .tab) 0) least-parts) same
+          (target-lowest bases (g .ranges) volumes volumes-known volumes-signed (integralAt f 0) (volumeTarget s) (errorIn (shapeAt
+          (f .tab) 0)) 0
+          (least-parts - 1) (unitOf 0) []
+          (subst (λ (v : Number). Near (integralAt f 0) v (errorIn (shapeAt (f .tab) 0) roundoffs unitBy bases (unitOf 0) []))
+          (sym same) near) t)
+
+      test : (s : Section) → NotRounded s → T (lowTest volumes (volumeTarget s) (errorIn (shapeAt (f .tab) 0)) (least-parts - 1)
+          (unitOf 0) [])
+      test s e = volumes-least s e (f .tab) (f .root) (f .tip) (f .span) (f .thickness) (tabAt f 0) (evaluate (among (numbersIn f))
+          (tabE (f .tab) 0))
+
+      at : (s : Section) → NotRounded s → f .section ≡ s → Lowest bases (integralAt f 0) (exactly f 0) (shapeAt (f .tab) 0) least-parts
+      at Rounded e q = absurd e
+      at Square e q = by Square q (ap (λ (s : Section). evaluate (among (numbersIn f)) (finIn s 0 add tabE (f .tab) 0)) (sym q))
+          (test Square e)
+      at Airfoil e q = by Airfoil q (ap (λ (s : Section). evaluate (among (numbersIn f)) (finIn s 0 add tabE (f .tab) 0)) (sym q))
+          (test Airfoil e)
+      at AirfoilOpen e q =
+          by AirfoilOpen q (ap (λ (s : Section). evaluate (among (numbersIn f)) (finIn s 0 add tabE (f .tab) 0)) (sym q))
+          (test AirfoilOpen e)
