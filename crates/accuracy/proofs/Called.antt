@@ -2,9 +2,8 @@
 use mathlib.Core.Path.{_≡_, refl, sym, ap, _∙_}
 use mathlib.Core.Bool.{Bool, true, false, cond}
 use mathlib.Core.List.{List, [], _∷_}
-use Prim.Native.Nat.{ℕ, zero, suc, _<_}
-use native.Mathlib.Nat.{le-refl, add-zero}
-use native.Mathlib.Omega.{arith}
+use Prim.Native.Nat.{ℕ, _<_}
+use native.Mathlib.Nat.{add-zero}
 use lib.Dec.{T, lit≤}
 use lib.Ieee.{Float, lt, le}
 use lib.Ieee.Bits.{is-true}
@@ -23,7 +22,6 @@ use Rattle.breaks.proofs.Listed.{two-heights}
 use Rattle.chords.specs.Chords.{inSpan, trapezoidAt, endsAt, paired}
 use Rattle.integrands.specs.Integrands.{scaleOf, sumsFrom, areaValues, areaThree}
 use Rattle.integrands.specs.declared.Kind.the-variants.{Area as area}
-use Rattle.quadrature.specs.Rule.{minusSide, plusSide, weightedTo}
 use Rattle.tolerance.specs.Bounds.{totalOf}
 use Rattle.halving.specs.Halving.{halving}
 use Rattle.strips.specs.Strips.{Worked, workedOf, stripOf, isAccepted, piecesOf, valueFrom, summedOf, intervalsIn}
@@ -81,14 +79,6 @@ module _ (root tip span sweep : Float) (points : List Float) where
   pub width-missing : (h : Float) → inSpan span (h ⊗ Scale·) ≡ false → at (areaThree Shape points h) 0 ≡ bits 0
   unfolding areaThree endsAt
   width-missing h e = ap (λ (l : List Float). at l 0) (chord-missing (inSpan span (h ⊗ Scale·)) root tip sweep (h ⊗ Scale· ⊘ span) Scale· h e)
-
--- ---- a sum of the rule, of two integrands that are equal at its heights
-pub same-sum : (n : ℕ) (weight : ℕ → Float) (y z : Float → Float) (centre reach : Float) → y centre ≡ z centre → ((i : ℕ) → i < n → y (minusSide centre reach i) ≡ z (minusSide centre reach i))
-    → ((i : ℕ) → i < n → y (plusSide centre reach i) ≡ z (plusSide centre reach i)) → weightedTo n weight y centre reach ≡ weightedTo n weight z centre reach
-unfolding weightedTo
-same-sum zero weight y z centre reach c m p = rw c
-same-sum (suc n) weight y z centre reach c m p =
-    rw (same-sum n weight y z centre reach c (λ i l. m i (omega arith)) (λ i l. p i (omega arith)), m n (le-refl (suc n)), p n (le-refl (suc n)))
 
 -- ---- an answer by a verdict that is no refusal is the one that is given
 pub chosen : {A : Type 0} (verdict : Verdict) (given : A) (withheld : Refusal → A) (verdictIn : A → Verdict) → ((refusal : Refusal) → verdictIn (withheld refusal) ≡ Refused refusal) → (r : A)

@@ -50,6 +50,7 @@ pub mod Turned
 pub mod NoRoll
 pub mod BalanceNear
 pub mod BelowSpan
+pub mod ToFractions
 pub mod OrdinaryBalance
 pub mod SevenIntegrals
 pub mod OrdinaryInertia

@@ -67,7 +67,7 @@ use Rattle.accuracy.proofs.Limits.{ranges-of, lengths, most-under}
 use Rattle.accuracy.proofs.ChordEnds as Chord
 use Rattle.accuracy.proofs.AreaSamples as Area
 use Rattle.accuracy.proofs.Called.{one-strip, heights-are}
-use Rattle.accuracy.proofs.Near.{positive-above}
+use Rattle.one_piece.proofs.PlatePiece.{positive-above}
 use Rattle.accuracy.proofs.Centroids.{NotBelow}
 use Rattle.accuracy.proofs.CentroidNear.{not-below, tip-checked, positive-fraction, product-fraction}
 use Rattle.accuracy.proofs.Samples.{one, quarter}

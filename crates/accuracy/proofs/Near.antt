@@ -2,15 +2,10 @@
 use mathlib.Core.Path.{_≡_, ap, _∙_}
 use mathlib.Core.Bool.{Bool, true, false, cond}
 use mathlib.Core.List.{List}
-use Prim.Native.Nat.{ℕ, _*_, _≤_, _<_}
-use native.Mathlib.Nat.{mul-pos}
+use Prim.Native.Nat.{ℕ, _*_, _≤_}
 use native.Mathlib.Omega.{arith}
-use lib.Dec.{T, ltb→lt, lt→ltb}
 use lib.ListN.{length}
-use lib.Ieee.{Float, nan, inf, fin, eq, lt, up, down, ofBits}
-use lib.Ieee.Bits.{is-true}
-use lib.Ieee.Fits.{up-pos}
-use lib.Ieee.Positive.{positive}
+use lib.Ieee.{Float, eq, lt}
 use Rattle.floats.specs.Operations.{_⊘_, bits}
 use Rattle.rounding.proofs.Sizes.{positive-of}
 use Rattle.rounding_error.proofs.Numbers.{_per_, _for_, sizeOf}
@@ -30,16 +25,7 @@ use Rattle.accuracy.proofs.Given.{Lengths}
 use Rattle.accuracy.proofs.Limits.{lengths, ranges-of}
 use Rattle.accuracy.proofs.Called.{Given, area-given, Strip, intervals-are}
 use Rattle.accuracy.proofs.StripEnds.{ends-differ}
-
-pub positive-above : (x : Float) → T (positive x) → lt (bits 0) x ≡ true
-unfolding lt ofBits
-positive-above nan p = absurd p
-positive-above (inf s) p = absurd p
-positive-above (fin true m e) p = absurd p
-positive-above (fin false m e) p = is-true _ (lt→ltb _ _ (go (m * up e) (down e) (mul-pos (ltb→lt 0 m p) (up-pos e))))
-  where
-    go : (N D : ℕ) → 0 < N → 0 * D < N * 1
-    go N D h = omega arith
+use Rattle.one_piece.proofs.PlatePiece.{positive-above}
 
 -- ---- the call
 module _ (root tip span sweep : Float) (points : List Float) (L : ℕ) (entry : List Float) (r : Area) (exit : List Float)

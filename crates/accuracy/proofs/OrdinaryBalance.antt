@@ -26,17 +26,16 @@ use Rattle.joins.specs.Joins.{inOrder}
 use Rattle.sections.specs.Airfoil.{airfoilConstants}
 use Rattle.sections.specs.declared.Section.{Section}
 use Rattle.sections.specs.declared.Section.the-variants.{Square, Rounded, Airfoil, AirfoilOpen}
-use Rattle.rounding_error.proofs.Numbers.{Number, number, Size, _per_, _by_, _of_, _roundoffs_, _plus_, minus, _times_, IsNumber, Within}
+use Rattle.rounding_error.proofs.Numbers.{Number, number, Size, _per_, _of_, _roundoffs_, _plus_, minus, _times_, IsNumber, Within}
 use Rattle.rounding_error.proofs.Numbers.{Under, Near, Ranges}
 use Rattle.rounding_error.proofs.Numbers.{valueOf, zeroNumber, sizeOf}
-use Rattle.rounding_error.proofs.Distances.{sorted, within-upto, within-minus, within-same, within-times, times-comm}
+use Rattle.rounding_error.proofs.Distances.{sorted, within-upto, within-minus}
 use Rattle.rounding_error.proofs.Counts as Counts
 use Rattle.rounding_error.proofs.Chains.{Valued, zero-valued, equalled, counted-by}
 use Rattle.rounding_error.proofs.Polynomials.{_equals_, trans, itself, times-is, plus-is, equal-by, evaluated-is, evaluated-equal}
 use Rattle.rounding_error.proofs.Polynomials.{AllNumbers}
 use Rattle.rounding_error.proofs.Polynomials.{Expression, given, ratio, _add_, _mul_, evaluate}
 use Rattle.rounding_error.proofs.Fractions.{IsFraction, plus-fraction, minus-fraction, times-fraction, value-fraction, whole-fraction}
-use Rattle.rounding_error.proofs.Fractions.{shifted-fraction, within-fraction}
 use Rattle.rounding_error.specs.Distances.{Within as Apart}
 use Rattle.floats.specs.Fractions.{Fraction, _over_, _plus_ as sum, minus as negatedFraction, _times_ as product, valueOf as fractionOf}
 use lib.IntN.{pos}
@@ -94,6 +93,8 @@ use Rattle.accuracy.specs.Balances.{forward, finMomentWith, exactMomentW
 use Rattle.accuracy.proofs.OrdinaryMass.{fractionE, fraction-number, fill-fraction, one-more, first-power}
 use Rattle.accuracy.proofs.OrdinaryCentroid.{inverse-pair}
 use Rattle.accuracy.proofs.CentroidNear.{positive-fraction, product-fraction, not-below, tip-checked, last-fraction}
+use Rattle.rounding_error.proofs.Operations.{neg-value}
+use Rattle.accuracy.proofs.ToFractions.{to-fractions}
 
 ruleset plain = (sorted, one-mul, mul-one, zero-mul, mul-zero, zero-add, add-zero)
 
@@ -483,13 +484,6 @@ naught-known B r (fin false m e) h p =
 
     low : (N D X C : ℕ) → (0 * D + 0 * 1) * C ≤ (N * 1 + 0 * D) * C + 0 * X * (1 * D)
     low N D X C = omega arith
-
-neg-value : (x : Float) → valueOf (neg x) ≡ minus (valueOf x)
-unfolding neg
-neg-value nan = refl
-neg-value (inf s) = refl
-neg-value (fin true m e) = refl
-neg-value (fin false m e) = refl
 
 minus-number : (v : Number) → IsNumber v → IsNumber (minus v)
 minus-number (number p n d) h = h
@@ -899,64 +893,20 @@ module _ (c : Bounds) (section : Section) (plain-section : NotRounded section)
         (itself, (a, (b, tt))) (given 0 mul (given 1 mul given 2)))
         (equal-by (Nn ∷ []) (iN, tt) (given 0 mul (ratio 1 0 mul ratio 1 0)) (given 0) tt))
 
--- ---- to fractions: from a number near W, of which W·D is N, D not below 0
-above-of : Number → ℕ
-above-of (number p n d) = p - n
-
-below-of : Number → ℕ
-below-of (number p n d) = d
-
-own-parts : (D : Number) → NotBelow D → (f : Fraction) → IsFraction D f
-    → IsFraction (number (above-of D) 0 (below-of D)) f × Under (above-of D per below-of D) D
-unfolding above-of below-of
-own-parts (number p n d) l f h = (
-  shifted-fraction (p - n) 0 p n d f (back l) h,
-  record { below = low (p - n) (split l); above = high (p - n) (split l) },
-)
-  where
-    back : n ≤ p → p - n + n ≡ 0 + p
-    back u = omega arith
-
-    split : n ≤ p → p ≡ n + (p - n)
-    split u = omega arith
-
-    low : (a : ℕ) → p ≡ n + a → (p * 1 + 0 * d) * d ≤ (0 * d + n * 1) * d + a * (d * 1)
-    low a e = subst (λ (p : ℕ). (p * 1 + 0 * d) * d ≤ (0 * d + n * 1) * d + a * (d * 1)) (sym e) (simp plain (omega arith))
-
-    high : (a : ℕ) → p ≡ n + a → (0 * d + n * 1) * d ≤ (p * 1 + 0 * d) * d + a * (1 * d)
-    high a e = subst (λ (p : ℕ). (0 * d + n * 1) * d ≤ (p * 1 + 0 * d) * d + a * (1 * d)) (sym e) (simp plain (omega arith))
-
-is-some : (D : Number) → IsNumber D → 0 < below-of D
-unfolding below-of
-is-some (number p n d) h = h
-
-to-fractions : (x z : Float) → T (positive z) → (W D N : Number) (K : ℕ) (f h : Fraction) → IsNumber W → IsNumber D → IsNumber N
-    → NotBelow D
+-- ---- to fractions: K roundoffs of the size of an f64 above 0
+by-size : (x z : Float) → T (positive z) → (W D N : Number) (K : ℕ) (f h : Fraction) → IsNumber W → IsNumber D → IsNumber N → NotBelow D
     → IsFraction D f → IsFraction N h → Near x W ((K * 2 ^ 30) roundoffs (num z per (den z * 2 ^ 30))) → W times D equals N
     → Apart (product (product (pos K over 2 ^ 53) (fractionOf z)) f) (product (fractionOf x) f) h
-to-fractions x z zp W D N K f h iW iD iN l df nh near e =
-    let a = above-of D in
-    let b = below-of D in
-    let o = own-parts D l f df in
-    let E = (a per b) by ((K * 2 ^ 30) roundoffs (num z per (den z * 2 ^ 30))) in
-    let turned : Within E (valueOf x times D) (W times D) =
-    subst (λ (s : Number). Within E s (W times D)) (times-comm D (valueOf x))
-    (subst (λ (s : Number). Within E (D times valueOf x) s) (times-comm D W)
-    (within-times (a per b) ((K * 2 ^ 30) roundoffs (num z per (den z * 2 ^ 30))) D (valueOf x) W (o .1) (near .within))) in
-    within-fraction (K * num z * a) (2 ^ 53 * den z * b) (valueOf x times D) N (product (product (pos K over 2 ^ 53) (fractionOf z)) f)
-    (product (fractionOf x) f) h (mul-pos (mul-pos (pow-pos 53) (den-pos z)) (is-some D iD))
-    (times-is (valueOf x) D (Counts.value-is x) iD) iN
-    (product-fraction (K * num z) (2 ^ 53 * den z) a b (product (pos K over 2 ^ 53) (fractionOf z)) f
-    (product-fraction K (2 ^ 53) (num z) (den z) (pos K over 2 ^ 53) (fractionOf z) (whole-fraction K (2 ^ 53)) (positive-fraction z zp))
-    (o .0))
-    (times-fraction (valueOf x) D (fractionOf x) f (value-fraction x (near .finite)) df) nh
-    (within-upto E ((K * num z * a) per (2 ^ 53 * den z * b)) (valueOf x times D) N
-    (mul-pos (is-some D iD) (mul-pos (mul-pos (den-pos z) (pow-pos 30)) (pow-pos 53)))
-    (size (num z) (den z) (2 ^ 30) (2 ^ 53) a b)
-    (within-same E (valueOf x times D) (W times D) N (times-is W D iW iD) turned (e .same)))
+by-size x z zp W D N K f h iW iD iN from df nh near e =
+    to-fractions x W D N ((K * 2 ^ 30) roundoffs (num z per (den z * 2 ^ 30))) (K * num z) (2 ^ 53 * den z)
+    (product (pos K over 2 ^ 53) (fractionOf z)) f h iW iD iN from (mul-pos (mul-pos (den-pos z) (pow-pos 30)) (pow-pos 53))
+    (mul-pos (pow-pos 53) (den-pos z))
+    (product-fraction K (2 ^ 53) (num z) (den z) (pos K over 2 ^ 53) (fractionOf z) (whole-fraction K (2 ^ 53))
+    (positive-fraction z zp)) df nh near
+    (size (num z) (den z) (2 ^ 30) (2 ^ 53)) e
   where
-    size : (nz dz P Q a b : ℕ) → a * (K * P * nz) * (Q * dz * b) ≤ K * nz * a * (b * (dz * P * Q))
-    size nz dz P Q a b = simp plain (le-refl _)
+    size : (n d P Q : ℕ) → K * P * n * (Q * d) ≤ K * n * (d * P * Q)
+    size n d P Q = simp plain (le-refl _)
 
 -- ---- an f64 near a number of at least R parts of X / Y is at least one part
 one-part : (X Y P Q R l q m e N D : ℕ) → 0 < e → 0 < Q → l + Q ≤ R * Q → R * X * e + m * (Y * P) ≤ q * (Y * P)
@@ -1399,7 +1349,7 @@ module _ (c : Bounds) (few : c .sweeps ≤ 4) (small : Small c)
     set-balance =
         subst (λ (z : Float). Apart (product (product (pos (c .balance) over 2 ^ 53) (fractionOf (p .root))) (exactMassWith section p m))
         (product (fractionOf z) (exactMassWith section p m)) (negatedFraction (exactMomentWith section p m))) (sym centre-is)
-        (to-fractions (moments· ⊘ masses·) (p .root) (sizes .root-positive) W· D· (minus Y) (c .balance) (exactMassWith section p m)
+        (by-size (moments· ⊘ masses·) (p .root) (sizes .root-positive) W· D· (minus Y) (c .balance) (exactMassWith section p m)
         (negatedFraction (exactMomentWith section p m))
         (W-is c section plain-section (p .root) (p .tip) (p .sweep) (p .span) S (p .thickness) (p .density) (m .radius)
         (m .count) sizes pass naught· naughts· small ring·) D-is (minus-number Y Y-is) D-from-zero mass-fraction

@@ -5,7 +5,7 @@ use mathlib.Core.Path.{_≡_, refl, sym, ap, _∙_, subst}
 use mathlib.Core.List.{List, [], _∷_}
 use Prim.Native.Nat.{ℕ, _+_, _-_, _*_, _^_, _≤_, _<_}
 use native.Mathlib.Nat.{le-refl, le-trans, mul-pos, mul-le-mul-right}
-use native.Mathlib.Nat.{one-mul, mul-one, zero-mul, mul-zero, zero-add, add-zero, pow-zero, pow-suc}
+use native.Mathlib.Nat.{one-mul, mul-one, zero-mul, mul-zero, zero-add, add-zero, pow-zero}
 use native.Mathlib.Omega.{arith}
 use lib.Dec.{T, lit≤}
 use lib.ListN.{length}
@@ -68,6 +68,7 @@ use Rattle.accuracy.proofs.Limits.{most-under, ranges-of}
 use Rattle.accuracy.proofs.CentroidNear.{positive-fraction, own-fraction, product-fraction, sum-fraction, last-fraction}
 use Rattle.accuracy.proofs.CentroidNear.{along-fraction, not-below, tip-checked}
 use Rattle.accuracy.proofs.Called.{threeValues, total-is, values-there}
+use Rattle.accuracy.proofs.OrdinaryMass.{first-power}
 
 ruleset plain = (sorted, one-mul, mul-one, zero-mul, mul-zero, zero-add, add-zero)
 
@@ -230,9 +231,6 @@ inverse-pair (number q m e) h = record { same = go (q - m) (split h) }
 
     go : (w : ℕ) → q ≡ m + w → (q * e + m * 0) * 1 + 0 * (e * w) ≡ 1 * (e * w) + (q * 0 + m * e) * 1
     go w f = subst (λ (q : ℕ). (q * e + m * 0) * 1 + 0 * (e * w) ≡ 1 * (e * w) + (q * 0 + m * e) * 1) (sym f) (simp plain (omega arith))
-
-first-power : (x : ℕ) → x ^ 1 ≡ x
-first-power x = rw (pow-suc x 0, pow-zero x) (one-mul x)
 
 -- |x| is its own size
 own-under : (x : Float) → T (finite x) → Under (1 of sizeOf x) (valueOf x)

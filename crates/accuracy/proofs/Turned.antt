@@ -35,7 +35,7 @@ use Rattle.rotations.specs.Rotations.{rolledOf}
 use Rattle.rings.specs.Rings.{angleOf, rolledCopy, joinedCopies}
 use Rattle.joins.specs.Joins.{inOrder, sumsOf, joinOf, centreOf}
 use Rattle.joins.specs.declared.Sums.{Sums}
-use Rattle.accuracy.proofs.Near.{positive-above}
+use Rattle.one_piece.proofs.PlatePiece.{positive-above}
 
 -- ---- zeros
 pub zero-most : AtMost 0 1 (bits 0)

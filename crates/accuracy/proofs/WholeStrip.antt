@@ -26,8 +26,9 @@ use Rattle.rounding_error.proofs.Numbers.{Size, valueOf, zeroNumber}
 use Rattle.rounding_error.proofs.Ranges.{in-range}
 use Rattle.rounding_error.proofs.Polynomials.{_equals_, trans}
 use Rattle.accuracy.proofs.Given.{Lengths}
-use Rattle.accuracy.proofs.Near.{positive-above}
-use Rattle.accuracy.proofs.StripEnds.{lower-none, ends-differ}
+use Rattle.one_piece.proofs.PlatePiece.{positive-above}
+use Rattle.one_piece.proofs.Answers.{lower-none}
+use Rattle.accuracy.proofs.StripEnds.{ends-differ}
 use Rattle.accuracy.proofs.ChordEnds as Chord
 use Rattle.accuracy.proofs.StripPieces.{InStrip, value-of}
 use Rattle.accuracy.proofs.PieceSums as Sums

@@ -33,7 +33,7 @@ use Rattle.accuracy.proofs.Width.{width-near}
 use Rattle.accuracy.proofs.Affine.{width-total}
 use Rattle.accuracy.proofs.Moves.{width-moves}
 use Rattle.accuracy.proofs.Areas.{quarter-ranges, bounded}
-use Rattle.accuracy.proofs.Called.{same-sum}
+use Rattle.one_piece.proofs.Rule.{same-sum}
 use Rattle.accuracy.proofs.Weighted.{middle, lower, upper, sumTo, sum-is, exactSum, weighted-near}
 use Rattle.accuracy.proofs.Quadratic.{Quadratic, sum-within}
 use Rattle.accuracy.proofs.Parts.{simpson, Cubic, parabola-on-part, on-part-under}
