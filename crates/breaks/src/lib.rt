@@ -2,16 +2,23 @@
 // an outline's points, sorted, equal ones once. Neighbours bound a strip, within which no edge ends.
 use planforms::Planform;
 ghost use mathlib.Core.Path.{_≡_};
-ghost use Prim.Native.Nat.{_+_, _<_, _≤_};
+ghost use Prim.Native.Nat.{_+_, _<_, _≤_, _^_};
 ghost use lib.ListN.{length, take};
 ghost use Rattle.sorting.specs.Sorted.{sorted, Written};
-ghost use Rattle.planforms.specs.Planforms.{pairCount};
-ghost use Rattle.breaks.specs.Breaks.{everyY, outlineHeights, oneStrip, breakHeights, keep, once, listed};
+ghost use Rattle.planforms.specs.Planforms.{pairCount, spanOf};
+ghost use Rattle.floats.specs.Operations.{at};
+ghost use Rattle.breaks.specs.Breaks.{everyY, outlineHeights, allHeights, oneStrip, breakHeights, keep, once, listed, leastAbove, foundWith};
 
 // The first `count` heights, metres; zeros stand behind them. An outline of 64 points and the two others make 66 at most.
 pub struct BreakHeights {
     pub count: usize,
     pub heights: [f64; 66],
+}
+
+// A height and where it stands among others.
+pub struct Standing {
+    pub place: usize,
+    pub height: f64,
 }
 
 pub fn break_heights(planform: Planform, points: &[f64]) -> BreakHeights
@@ -107,4 +114,112 @@ fn keep_unless_equal(xs: &mut [f64], count: usize, a: f64, b: f64) -> usize
     }
     xs[count] = a;
     count + 1
+}
+
+// The height at a place among all: 0, the span, then those of an outline's points, the last first. A NaN behind them.
+pub fn height_at(planform: Planform, points: &[f64], place: usize) -> f64
+    ensures { λ r. ⌜ r ≡ at (allHeights planform (now (points .entry))) place ⌝ }
+{
+    if place == 0 {
+        return 0.0;
+    }
+    if place == 1 {
+        return planforms::span_m(planform, points);
+    }
+    match planform {
+        Planform::Outline => outline_height_at(points, place - 2),
+        Planform::Trapezoid {
+            root_chord_m: _,
+            tip_chord_m: _,
+            span_m: _,
+            sweep_m: _,
+        } => 0.0 / 0.0,
+        Planform::Ellipse {
+            root_chord_m: _,
+            span_m: _,
+        } => 0.0 / 0.0,
+    }
+}
+
+fn outline_height_at(points: &[f64], place: usize) -> f64
+    ensures { λ r. ⌜ r ≡ at (outlineHeights (now (points .entry))) place ⌝ }
+{
+    let n = points.len() / 2;
+    if 64 < n {
+        return 0.0 / 0.0;
+    }
+    if place < n {
+        return points[2 * (n - 1 - place) + 1];
+    }
+    0.0 / 0.0
+}
+
+// The least of all heights above h, where there is one: the break height that follows h, found without sorting.
+pub fn least_above(planform: Planform, points: &[f64], span: f64, h: f64) -> Standing
+    requires { ⌜ span ≡ spanOf planform (now points) ⌝ }
+    ensures { λ r. ⌜ r ≡ leastAbove h (allHeights planform (now (points .entry))) ⌝ }
+{
+    let found = least_of_points(planform, points, h);
+    let found = nearer(h, span, found);
+    nearer(h, 0.0, found)
+}
+
+fn least_of_points(planform: Planform, points: &[f64], h: f64) -> Standing
+    ensures { λ r. ⌜ (r ≡ leastAbove h (everyY planform (now (points .entry)))) × (r .place ≤ 64) ⌝ }
+{
+    match planform {
+        Planform::Outline => least_of_outline(points, h),
+        Planform::Trapezoid {
+            root_chord_m: _,
+            tip_chord_m: _,
+            span_m: _,
+            sweep_m: _,
+        } => Standing {
+            place: 0,
+            height: 0.0 / 0.0,
+        },
+        Planform::Ellipse {
+            root_chord_m: _,
+            span_m: _,
+        } => Standing {
+            place: 0,
+            height: 0.0 / 0.0,
+        },
+    }
+}
+
+fn least_of_outline(points: &[f64], h: f64) -> Standing
+    ensures { λ r. ⌜ (r ≡ leastAbove h (outlineHeights (now (points .entry)))) × (r .place ≤ 64) ⌝ }
+{
+    let n = points.len() / 2;
+    let mut found = Standing {
+        place: 0,
+        height: 0.0 / 0.0,
+    };
+    if 64 < n {
+        return found;
+    }
+    let mut i: usize = 0;
+    while i < n {
+        found = nearer(h, points[2 * i + 1], found);
+        i += 1;
+    }
+    found
+}
+
+// What is found once x stands in front: x, where it is above h and nothing found lies below it.
+fn nearer(h: f64, x: f64, found: Standing) -> Standing
+    requires { ⌜ found .place < 2 ^ 32 ⌝ }
+    ensures { λ r. ⌜ r ≡ foundWith h x found ⌝ }
+{
+    if (h < x) & !(found.height < x) {
+        return Standing {
+            place: 0,
+            height: x,
+        };
+    }
+    Standing {
+        place: found.place + 1,
+        height: found.height,
+    }
 }

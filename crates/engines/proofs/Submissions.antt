@@ -64,14 +64,14 @@ module _ (job : Job) (n : ℕ) where
   abbrev Onward· : Onward
   Onward· = onwardOf (runOfJob job) (job .next) (totalOf job)
 
-  strip-limit : (b : Bool) → (isAccepted (Onward· .total .ending) && ltb 0 (Onward· .left)) ≡ b → afterStrip job Onward· .job .limit ≡ job .limit
+  strip-limit : (b : Bool) → (isAccepted (Onward· .total .ending) && Onward· .more) ≡ b → afterStrip job Onward· .job .limit ≡ job .limit
   strip-limit true b = ap (λ (s : Stepped). s .job .limit) (after-more job Onward· b)
   strip-limit false b = ap (λ (s : Stepped). s .job .limit) (after-last job Onward· b)
 
   step-limit : (e : Bool) → job .ended ≡ e → (v : Verdict) → runCheck (job .limit) n ≡ v → stepOf job n .job .limit ≡ job .limit
   step-limit true e v r = ap (λ (s : Stepped). s .job .limit) (step-ended job n e)
   step-limit false e (Refused x) r = ap (λ (s : Stepped). s .job .limit) (step-refused job n x e r)
-  step-limit false e Accepted r = ap (λ (s : Stepped). s .job .limit) (step-works job n e r) ∙ strip-limit (isAccepted (Onward· .total .ending) && ltb 0 (Onward· .left)) refl
+  step-limit false e Accepted r = ap (λ (s : Stepped). s .job .limit) (step-works job n e r) ∙ strip-limit (isAccepted (Onward· .total .ending) && Onward· .more) refl
 
 change-limit : (job : Job) (density : Density) (e : Bool) → job .ended ≡ e → (v : Verdict) → densityCheck density ≡ v → changeOf job density .job .limit ≡ job .limit
 change-limit job density true e v r = ap (λ (s : Stepped). s .job .limit) (change-ended job density e)
@@ -94,7 +94,7 @@ module _ (job : Job) (n : ℕ) (runs : job .ended ≡ false) (check : runCheck (
   abbrev Worked· : Stepped
   Worked· = stepOf job n
 
-  goes-on : (b : Bool) → (isAccepted (Went· .total .ending) && ltb 0 (Went· .left)) ≡ b → Worked· .job .ended ≡ false → Worked· .answer ≡ record { reply = More; figures = noFigures }
+  goes-on : (b : Bool) → (isAccepted (Went· .total .ending) && Went· .more) ≡ b → Worked· .job .ended ≡ false → Worked· .answer ≡ record { reply = More; figures = noFigures }
   goes-on true b e = ap (λ (s : Stepped). s .answer) (step-works job n runs check ∙ after-more job Went· b)
   goes-on false b e = not-both (ap (λ (s : Stepped). s .job .ended) (step-works job n runs check ∙ after-last job Went· b)) e
 
@@ -206,7 +206,7 @@ module _ (engine : Engine) (w : EightScreens engine) (screen : ℕ) (holds : hol
       Onward·· = onwardOf (runOfJob Job·) (Job· .next) (totalOf Job·)
 
       abbrev More· : Bool
-      More· = isAccepted (Onward·· .total .ending) && ltb 0 (Onward·· .left)
+      More· = isAccepted (Onward·· .total .ending) && Onward·· .more
 
       abbrev Fresh· : Stepped → Type 0
       Fresh· s = s .job .ended ≡ true → (n : ℕ) → scratchCheck L n ≡ Accepted

@@ -7,17 +7,17 @@ use native.Mathlib.Omega.{arith}
 use borrow.Author.Tests.{leb-true, leb-false, le-leb, eqb-true, eqb-false}
 use lib.Dec.{leb, eqb}
 use lib.ListN.{length}
-use lib.Ieee.{Float, eq, lt, isNan}
+use lib.Ieee.{Float, eq, lt, ne, isNan}
 use Rattle.floats.specs.Operations.{_⊘_, bits}
 use Rattle.floats.specs.Floats.{absOf}
 use Rattle.refusals.specs.declared.Refusal.the-variants.{Length, Ends}
 use Rattle.refusals.specs.declared.Verdict.the-variants.{Accepted}
-use Rattle.sorting.specs.Sorted.{NoNan, among}
+use Rattle.sorting.specs.Sorted.{NoNan, Each, among}
 use Rattle.floats.proofs.Bools.{or-true}
-use Rattle.floats.proofs.Order.{equal-no-nan, equal-itself, equal-sym, equal-trans, below-nan}
+use Rattle.floats.proofs.Order.{lt-asym, equal-no-nan, equal-itself, equal-sym, equal-trans, equal-not-below, below-nan}
 use Rattle.planforms.specs.declared.Planform.{Planform}
 use Rattle.planforms.specs.declared.Planform.the-variants.{Trapezoid, Ellipse, Outline}
-use Rattle.planforms.specs.Planforms.{xAt, heightAt, pairCount, spanOf}
+use Rattle.planforms.specs.Planforms.{xAt, heightAt, pairCount, largestHeight, spanOf}
 use Rattle.limits.specs.Limits.{spanField, isWithin, shortest, longest, lengthWithin, lengthCheck}
 use Rattle.refusals.proofs.Accepted.{holds, both, both-true, each-accepted}
 use Rattle.outlines.specs.Outlines.{pointCheck, twiceArea, outlineCheck}
@@ -25,6 +25,7 @@ use Rattle.outlines.proofs.Accepted.{points-within}
 use Rattle.breaks.specs.Breaks.{heights, everyY, allHeights, oneStrip, breakHeights}
 use Rattle.breaks.proofs.Strips.{at-most-63, break-heights-members}
 use Rattle.breaks.proofs.Listed.{at-most-two-more, two-heights}
+use Rattle.breaks.proofs.Above.{NotUnder}
 use Rattle.integrands.specs.Integrands.{scaleOf, areaThree}
 use Rattle.fins.specs.declared.FinSet.{FinSet}
 use Rattle.outlines.specs.Outlines.{planformCheck}
@@ -48,23 +49,57 @@ worked-few w f limit scale (h ∷ k ∷ l) = go (isAccepted (halving w f (h ⊘ 
     go false rest few = omega arith
 
 -- ---- an accepted outline: its heights are numbers, and the first and the last lie on the root
-no-nan : (y : Float) → lengthWithin true false y ≡ true → isNan y ≡ false
-unfolding lengthWithin
-no-nan y h = go (eq y (bits 0)) (lt (bits 0) y) (isNan y) refl refl refl
+abbrev Fit : Float → Type 0
+Fit x = (isNan x ≡ false) × (lt x (bits 0) ≡ false)
+
+zero-fit : Fit (bits 0)
+zero-fit = let e = zero-is (bits 0) zero-zero in (equal-no-nan (bits 0) (bits 0) e, equal-not-below (bits 0) (bits 0) e)
+
+above-fit : (y : Float) → lt (bits 0) y ≡ true → Fit y
+above-fit y h = (go (isNan y) refl, lt-asym (bits 0) y h)
   where
-    go : (p q n : Bool) → eq y (bits 0) ≡ p → lt (bits 0) y ≡ q → isNan y ≡ n → isNan y ≡ false
-    go true q n e l m = equal-no-nan y (bits 0) e
-    go false q false e l m = m
-    go false q true e l m = absurd (false≢true (let b : lt (bits 0) y ≡ false = below-nan (bits 0) y m in rw (e, b) at h))
+    go : (n : Bool) → isNan y ≡ n → isNan y ≡ false
+    go true m = absurd (false≢true (sym (below-nan (bits 0) y m) ∙ h))
+    go false m = m
 
-point-no-nan : (points : List Float) (i : ℕ) → pointCheck points i ≡ Accepted → isNan (heightAt points i) ≡ false
+within-fit : (y : Float) → lengthWithin true false y ≡ true → Fit y
+unfolding lengthWithin
+within-fit y h = go (eq y (bits 0)) (lt (bits 0) y) refl refl
+  where
+    go : (p q : Bool) → eq y (bits 0) ≡ p → lt (bits 0) y ≡ q → Fit y
+    go true q e l = (equal-no-nan y (bits 0) e, equal-not-below y (bits 0) e)
+    go false true e l = above-fit y l
+    go false false e l = absurd (false≢true (rw (e, l) at h))
+
+point-fit : (points : List Float) (i : ℕ) → pointCheck points i ≡ Accepted → Fit (heightAt points i)
 unfolding lengthCheck
-point-no-nan points i h = no-nan (heightAt points i) (holds _ _ (both _ _ (both _ _ h .1) .0))
+point-fit points i h = within-fit (heightAt points i) (holds _ _ (both _ _ (both _ _ h .1) .0))
 
-heights-no-nan : (points : List Float) (n : ℕ) → ((k : ℕ) → k < n → pointCheck points k ≡ Accepted) → NoNan (heights points n)
-unfolding heights NoNan
-heights-no-nan points zero f = tt
-heights-no-nan points (suc n) f = (point-no-nan points n (f n (omega arith)), heights-no-nan points n (λ k b. f k (omega (arith, b))))
+heights-fit : (points : List Float) (n : ℕ) → ((k : ℕ) → k < n → pointCheck points k ≡ Accepted) → Each Fit (heights points n)
+unfolding heights
+heights-fit points zero f = tt
+heights-fit points (suc n) f = (point-fit points n (f n (omega arith)), heights-fit points n (λ k b. f k (omega (arith, b))))
+
+each-number : (l : List Float) → Each Fit l → NoNan l
+unfolding NoNan
+each-number [] e = tt
+each-number (x ∷ l) e = (e .0 .0, each-number l (e .1))
+
+each-not-under : (l : List Float) → Each Fit l → Each (NotUnder (bits 0)) l
+each-not-under [] e = tt
+each-not-under (x ∷ l) e = (e .0 .1, each-not-under l (e .1))
+
+largest-fit : (points : List Float) (n : ℕ) → ((k : ℕ) → k < n → pointCheck points k ≡ Accepted) → Fit (largestHeight points n)
+unfolding largestHeight
+largest-fit points zero f = zero-fit
+largest-fit points (suc n) f =
+    go (ne (largestHeight points n) (largestHeight points n)) (lt (largestHeight points n) (heightAt points n)) (largest-fit points n (λ k b. f k (omega (arith, b))))
+    (point-fit points n (f n (omega arith)))
+  where
+    go : (p q : Bool) → Fit (largestHeight points n) → Fit (heightAt points n) → Fit (cond p (heightAt points n) (cond q (heightAt points n) (largestHeight points n)))
+    go true q m y = y
+    go false true m y = y
+    go false false m y = m
 
 outline-points : (points : List Float) → outlineCheck points ≡ Accepted → (k : ℕ) → k < pairCount points → pointCheck points k ≡ Accepted
 unfolding outlineCheck
@@ -87,7 +122,7 @@ outline-few points h =
     let ends : (p && q && c && d) ≡ true = holds (p && q && c && d) Ends (both _ _ (both _ _ after-pairs .1) .0) in
     let first-three = both-true (p && q && c) d ends in
     let first-two = both-true (p && q) c (first-three .0) in
-    at-most-63 points (omega (arith, b)) (b .1) (heights-no-nan points n (outline-points points h)) (both-true p q (first-two .0) .1) (first-three .1)
+    at-most-63 points (omega (arith, b)) (b .1) (each-number (heights points n) (heights-fit points n (outline-points points h))) (both-true p q (first-two .0) .1) (first-three .1)
 
 heights-few : (planform : Planform) (points : List Float) → planformCheck planform points ≡ Accepted → length (breakHeights planform points) ≤ 63
 unfolding planformCheck everyY
@@ -101,6 +136,21 @@ span-above-zero : (span : Float) → lengthCheck spanField span ≡ Accepted →
 unfolding lengthCheck lengthWithin
 span-above-zero span h =
     both-true (lt (bits 0) span) (isWithin shortest longest (absOf span)) (holds (lt (bits 0) span && isWithin shortest longest (absOf span)) (Length spanField) h) .0
+
+-- ---- all heights of an accepted planform are numbers, and none lies below 0
+all-fit : (planform : Planform) (points : List Float) → planformCheck planform points ≡ Accepted → Each Fit (allHeights planform points)
+unfolding planformCheck everyY spanOf
+all-fit (Trapezoid root tip span sweep) points h = (zero-fit, (above-fit span (span-above-zero span (both _ _ (both _ _ (both _ _ h .1) .1) .0)), tt))
+all-fit (Ellipse root span) points h = (zero-fit, (above-fit span (span-above-zero span (both _ _ (both _ _ h .1) .0)), tt))
+all-fit Outline points h =
+    let n = pairCount points in
+    (zero-fit, (largest-fit points n (outline-points points h), rw (le-leb n 64 (points-within points h .1)) (heights-fit points n (outline-points points h))))
+
+pub all-numbers : (planform : Planform) (points : List Float) → planformCheck planform points ≡ Accepted → NoNan (allHeights planform points)
+all-numbers planform points h = each-number (allHeights planform points) (all-fit planform points h)
+
+pub none-under-zero : (planform : Planform) (points : List Float) → planformCheck planform points ≡ Accepted → Each (NotUnder (bits 0)) (allHeights planform points)
+none-under-zero planform points h = each-not-under (allHeights planform points) (all-fit planform points h)
 
 two-listed : (planform : Planform) (points : List Float) → oneStrip planform ≡ true → 2 ≤ length (breakHeights planform points)
 two-listed planform points h = rw (two-heights planform points h) (omega arith)
@@ -149,7 +199,7 @@ outline-some points h = go (leb 2 (length (breakHeights Outline points))) refl
     all-heights k l =
         let y = heightAt points k in
         let found : among y (everyY Outline points) ≡ true =
-        rw (le-leb n 64 (points-within points h .1)) (height-among points n k (point-no-nan points k (outline-points points h k l)) l) in
+        rw (le-leb n 64 (points-within points h .1)) (height-among points n k (point-fit points k (outline-points points h k l) .0) l) in
         or-true (eq y (bits 0)) (eq y (spanOf Outline points) || among y (everyY Outline points)) (or-true (eq y (spanOf Outline points)) (among y (everyY Outline points)) found)
 
     go : (b : Bool) → leb 2 (length (breakHeights Outline points)) ≡ b → 2 ≤ length (breakHeights Outline points)

@@ -19,7 +19,7 @@ use Rattle.planforms.specs.declared.Planform.{Planform}
 use Rattle.planforms.specs.declared.Planform.the-variants.{Trapezoid, Ellipse, Outline}
 use Rattle.planforms.specs.Planforms.{pairCount, rootChordOf, spanOf}
 use Rattle.outlines.specs.Outlines.{arePairs, outlineCheck}
-use Rattle.breaks.specs.Breaks.{everyY, breakHeights}
+use Rattle.breaks.specs.Breaks.{everyY, allHeights}
 use Rattle.chords.specs.Chords.{endsAt}
 use Rattle.sections.specs.declared.Section.{Section}
 use Rattle.integrands.specs.Integrands.{scaleOf, sampleOf, plateOf}
@@ -51,10 +51,10 @@ pub record Same (planform : Planform) (points others : List Float) : Type 0 wher
   pub plate : (section : Section) (thickness radius : Float) → plateOf planform others section thickness radius ≡ plateOf planform points section thickness radius
   pub root : rootChordOf planform others ≡ rootChordOf planform points
   pub scale : scaleOf planform others ≡ scaleOf planform points
-  pub heights : breakHeights planform others ≡ breakHeights planform points
+  pub heights : allHeights planform others ≡ allHeights planform points
 
 pub kept-same : (planform : Planform) (points : List Float) → planformCheck planform points ≡ Accepted → Same planform points (keptOf points)
-unfolding planformCheck rootChordOf spanOf scaleOf everyY breakHeights endsAt sampleOf plateOf
+unfolding planformCheck rootChordOf spanOf scaleOf everyY endsAt sampleOf plateOf
 kept-same (Trapezoid root tip span sweep) points h = record { plate = λ section thickness radius. refl; root = refl; scale = refl; heights = refl }
 kept-same (Ellipse root span) points h = record { plate = λ section thickness radius. refl; root = refl; scale = refl; heights = refl }
 kept-same Outline points h =
@@ -63,5 +63,5 @@ kept-same Outline points h =
       plate = λ section thickness radius. ap (λ (p : List Float). plateOf Outline p section thickness radius) e;
       root = ap (rootChordOf Outline) e;
       scale = ap (scaleOf Outline) e;
-      heights = ap (breakHeights Outline) e;
+      heights = ap (allHeights Outline) e;
     }

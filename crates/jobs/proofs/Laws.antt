@@ -4,7 +4,6 @@ use mathlib.Core.Bool.{Bool, true, false, not, cond, _&&_, true≢false}
 use mathlib.Core.List.{List, [], _∷_, _++_}
 use Prim.Native.Nat.{ℕ, _≤_}
 use native.Mathlib.Omega.{arith}
-use lib.Dec.{ltb}
 use lib.ListN.{length, take}
 use lib.Ieee.{Float}
 use Rattle.refusals.specs.declared.Refusal.{Refusal}
@@ -17,14 +16,13 @@ use Rattle.materials.specs.declared.Density.{Density}
 use Rattle.materials.specs.Materials.{densityCheck}
 use Rattle.integrands.specs.declared.Integrand.{Integrand}
 use Rattle.integrands.specs.Integrands.{plateIntegrand, plateOf}
-use Rattle.strips.specs.Strips.{Run, Worked, isAccepted, runOf, runCheck, stripAt, stripsFrom, onwardOf, scratchOnward, WorksNext}
+use Rattle.strips.specs.Strips.{Run, Worked, isAccepted, stepRunOf, runCheck, hasStrip, stripFrom, onwardOf, scratchOnward, WorksNext}
 use Rattle.strips.specs.declared.Onward.{Onward}
 use Rattle.jobs.specs.declared.Job.{Job}
 use Rattle.jobs.specs.declared.Reply.the-variants.{Answered}
 use Rattle.jobs.specs.declared.Stepped.{Stepped}
 use Rattle.figures.specs.declared.Figures.{Figures}
-use Rattle.figures.specs.Figures.{setRun}
-use Rattle.jobs.specs.Jobs.{heldOf, outlineOf, runOfJob, totalOf, repeated, waits, more, ended, outcomeOf, afterStrip, stepOf, stepScratch, taken, changeOf}
+use Rattle.jobs.specs.Jobs.{heldOf, outlineOf, stepRun, runOfJob, totalOf, repeated, waits, more, ended, outcomeOf, afterStrip, stepOf, stepScratch, taken, changeOf}
 use Rattle.jobs.specs.Calls.{Call, steppedBy, afterCalls, counts, stripsBy, step}
 
 pub yes : {A : Type 0} {c : Bool} (a b : A) → c ≡ true → cond c a b ≡ a
@@ -67,11 +65,11 @@ module _ (job : Job) (scratch : List Float) where
   scratch-works e v = no _ _ e ∙ given _ _ v
 
 module _ (job : Job) (onward : Onward) where
-  pub after-more : (isAccepted (onward .total .ending) && ltb 0 (onward .left)) ≡ true → afterStrip job onward ≡ more job (onward .total)
+  pub after-more : (isAccepted (onward .total .ending) && onward .more) ≡ true → afterStrip job onward ≡ more job (onward .total) (onward .next)
   unfolding afterStrip
   after-more e = yes _ _ e
 
-  pub after-last : (isAccepted (onward .total .ending) && ltb 0 (onward .left)) ≡ false
+  pub after-last : (isAccepted (onward .total .ending) && onward .more) ≡ false
       → afterStrip job onward ≡ ended job (onward .total) (outcomeOf (job .set) (outlineOf job) (onward .total))
   unfolding afterStrip
   after-last e = no _ _ e
@@ -81,31 +79,31 @@ pub both-told : (a b answer : Bool) {t : Bool} → answer ≡ a → (answer && b
 both-told a b answer e h = ap (λ (x : Bool). x && b) (sym e) ∙ h
 
 pub ends-so : (job : Job) (onward : Onward) (n : ℕ) → n ≡ heldOf (job .points .count) → (figures : Figures) → figures ≡ outcomeOf (job .set) (take n (job .points .numbers)) (onward .total)
-    → (r : Stepped) → r ≡ ended job (onward .total) figures → (isAccepted (onward .total .ending) && ltb 0 (onward .left)) ≡ false → r ≡ afterStrip job onward
+    → (r : Stepped) → r ≡ ended job (onward .total) figures → (isAccepted (onward .total .ending) && onward .more) ≡ false → r ≡ afterStrip job onward
 ends-so job onward n e figures f r k h =
     k ∙ ap (ended job (onward .total)) (f ∙ ap (λ (m : ℕ). outcomeOf (job .set) (take m (job .points .numbers)) (onward .total)) e) ∙ sym (after-last job onward h)
 
 -- the strips that the code works are those of the record's set
 same-run : (job : Job) (n : ℕ) → n ≡ heldOf (job .points .count) → (integrand : Integrand)
     → integrand ≡ plateIntegrand (job .set .planform) (take n (job .points .numbers)) (job .set .«cross_section») (job .set .«thickness_m») (job .set .«body_radius_m»)
-    → runOf integrand (take n (job .points .numbers)) (job .limit) ≡ runOfJob job
+    → stepRunOf integrand (take n (job .points .numbers)) (job .limit) ≡ runOfJob job
 unfolding plateOf
 same-run job n e integrand f =
-    ap (λ (g : Integrand). runOf g (take n (job .points .numbers)) (job .limit)) f ∙ ap (λ (m : ℕ). setRun (job .set) (take m (job .points .numbers)) (job .limit)) e
+    ap (λ (g : Integrand). stepRunOf g (take n (job .points .numbers)) (job .limit)) f ∙ ap (λ (m : ℕ). stepRun (job .set) (take m (job .points .numbers)) (job .limit)) e
 
 pub same-next : (job : Job) (n : ℕ) → n ≡ heldOf (job .points .count) → (integrand : Integrand)
     → integrand ≡ plateIntegrand (job .set .planform) (take n (job .points .numbers)) (job .set .«cross_section») (job .set .«thickness_m») (job .set .«body_radius_m»)
-    → (entry : List Float) (r : Onward) (exit : List Float) → WorksNext (runOf integrand (take n (job .points .numbers)) (job .limit)) (job .next) (totalOf job) entry r exit
+    → (entry : List Float) (r : Onward) (exit : List Float) → WorksNext (stepRunOf integrand (take n (job .points .numbers)) (job .limit)) (job .next) (totalOf job) entry r exit
     → WorksNext (runOfJob job) (job .next) (totalOf job) entry r exit
 same-next job n e integrand f entry r exit w = subst (λ (run : Run). WorksNext run (job .next) (totalOf job) entry r exit) (same-run job n e integrand f) w
 
 -- ---- the strip of a step
 module _ (job : Job) (scratch : List Float) where
   abbrev Strip· : List Worked
-  Strip· = stripAt (runOfJob job) (job .next) ∷ []
+  Strip· = stripFrom (runOfJob job) (job .next) ∷ []
 
   abbrev There· : Bool
-  There· = ltb 0 (stripsFrom (runOfJob job) (job .next))
+  There· = hasStrip (runOfJob job) (job .next)
 
   pub none-ended : job .ended ≡ true → stripsBy job (step scratch) ≡ []
   none-ended e = ap (λ (b : Bool). cond (not b && (not (isRefused (runCheck (job .limit) (length scratch))) && There·)) Strip· []) e
@@ -142,11 +140,11 @@ module _ (job : Job) (n : ℕ) where
   Went· = onwardOf (runOfJob job) (job .next) (totalOf job)
 
   abbrev More· : Bool
-  More· = isAccepted (Went· .total .ending) && ltb 0 (Went· .left)
+  More· = isAccepted (Went· .total .ending) && Went· .more
 
   -- what holds of a step in each of its ways
   of-step : (P : Stepped → Type 0) → (job .ended ≡ true → P (repeated job)) → ((r : Refusal) → job .ended ≡ false → P (waits job r))
-      → P (more job (Went· .total))
+      → P (more job (Went· .total) (Went· .next))
       → P (ended job (Went· .total) (outcomeOf (job .set) (outlineOf job) (Went· .total))) → P (stepOf job n)
   of-step P again waited went done = by-end (job .ended) refl
     where

@@ -4,15 +4,15 @@ use mathlib.Core.Path.{_≡_, refl, sym, ap, ap₂, subst, _∙_}
 use mathlib.Core.Bool.{Bool, true, false, not, cond, _&&_, true≢false}
 use mathlib.Core.List.{List, [], _∷_, _++_, append-nil, append-assoc}
 use mathlib.Core.Logic.{_⊎_, inl, inr}
-use Prim.Native.Nat.{ℕ, _+_, _-_, _*_, _^_, _≤_, _<_}
-use native.Mathlib.Nat.{mod-eq-of-lt}
+use Prim.Native.Nat.{ℕ, zero, suc, _+_, _-_, _*_, _≤_, _<_}
+use native.Mathlib.Numerals.{add-one}
 use native.Mathlib.Omega.{arith}
-use borrow.Author.Tests.{le-leb, lt-ltb, ltb-true, ltb-false}
+use borrow.Author.Tests.{le-leb, ltb-true, ltb-false}
 use lib.Dec.{ltb}
 use lib.ListN.{length, drop, length-append}
 use lib.Seq.{append-snoc}
-use lib.Ieee.{Float}
-use Rattle.floats.specs.Operations.{at}
+use lib.Ieee.{Float, lt}
+use Rattle.floats.specs.Operations.{_⊘_, at}
 use Rattle.sorting.specs.Sorted.{over}
 use Rattle.refusals.specs.declared.Verdict.{Verdict}
 use Rattle.refusals.specs.declared.Verdict.the-variants.{Accepted, Refused}
@@ -24,8 +24,9 @@ use Rattle.limits.proofs.Accepted.{limit-within}
 use Rattle.materials.specs.declared.Density.{Density}
 use Rattle.materials.specs.Materials.{densityCheck}
 use Rattle.planforms.specs.Planforms.{rootChordOf}
-use Rattle.breaks.specs.Breaks.{breakHeights}
+use Rattle.breaks.specs.Breaks.{allHeights, breakHeights, placeAbove}
 use Rattle.breaks.proofs.Listed.{at-most-66}
+use Rattle.breaks.proofs.Above.{next-break, next-above, none-above, first-break}
 use Rattle.integrands.specs.Integrands.{scaleOf}
 use Rattle.fins.specs.declared.FinSet.{FinSet}
 use Rattle.outlines.specs.Outlines.{planformCheck}
@@ -33,22 +34,22 @@ use Rattle.fins.specs.Fins.{ownChecks, ownCheck, setCheck}
 use Rattle.halving.specs.declared.Ending.the-variants.{Accepted as accepted}
 use Rattle.halving.specs.declared.Integral.{Integral}
 use Rattle.strips.specs.declared.Onward.{Onward}
-use Rattle.strips.specs.Strips.{Run, Worked, isAccepted, workedOf, stripsIn, stripAt, stripsFrom, runCheck, samplesIn, intervalsIn, endingOf, summedOf, withStrip, inWords, integralIn, onwardOf}
+use Rattle.strips.specs.Strips.{Run, Worked, isAccepted, workedOf, stripsIn, stripOf, stripAt, stripsFrom, nextPlace, hasStrip, stripFrom, runCheck, samplesIn, intervalsIn, endingOf, summedOf, withStrip, inWords, integralIn, onwardOf}
 use Rattle.strips.specs.Claim.{Each, StripsAre, AreReported}
 use Rattle.strips.proofs.Upward.{strip-at, none-left, fits-words}
-use Rattle.strips.proofs.Onwards.{onward-works}
+use Rattle.strips.proofs.Onwards.{WorkedOn, onward-works}
 use Rattle.strips.proofs.Claims.{strips-are}
 use Rattle.figures.specs.declared.Figures.{Figures}
 use Rattle.figures.specs.Figures.{setIntegrand, setRun, refusedFigures, concludedSet, workedFigures, workedSet, setFigures, setCall}
 use Rattle.figures.specs.Answers.{setReport}
-use Rattle.figures.proofs.StripCount.{worked-few, heights-some}
+use Rattle.figures.proofs.StripCount.{worked-few, heights-some, all-numbers, none-under-zero}
 use Rattle.figures.proofs.Answers.{set-reported}
 use Rattle.jobs.specs.declared.Job.{Job}
 use Rattle.jobs.specs.declared.Reply.the-variants.{Answered}
 use Rattle.jobs.specs.declared.Stepped.{Stepped}
-use Rattle.jobs.specs.Jobs.{pointsOf, outlineOf, runOfJob, totalOf, noFigures, waits, more, ended, outcomeOf, afterStrip, stepOf, withDensity, taken, changeOf, makingCheck, madeWith, madeOf}
+use Rattle.jobs.specs.Jobs.{pointsOf, outlineOf, stepRun, runOfJob, totalOf, noFigures, waits, more, ended, outcomeOf, afterStrip, stepOf, withDensity, taken, changeOf, makingCheck, madeWith, madeOf}
 use Rattle.jobs.specs.Calls.{Call, step, change, steppedBy, afterCalls, counts, stripsBy, stripsOver}
-use Rattle.jobs.specs.Calls.{isTaken, densityBy, densityOver, runningJob, OverCalls}
+use Rattle.jobs.specs.Calls.{isTaken, densityBy, densityOver, placeOfStrip, runningJob, OverCalls}
 use Rattle.jobs.proofs.Kept.{keptOf, Same, kept-same}
 use Rattle.jobs.proofs.Laws.{yes, given, step-ended, step-refused, step-works, after-more, after-last, end-answer}
 use Rattle.jobs.proofs.Laws.{none-ended, none-refused, one-if-there, change-ended, change-refused, change-taken}
@@ -63,6 +64,16 @@ module _ (set : FinSet) (points : List Float) (L : ℕ) (made : makingCheck set 
 
   abbrev Heights· : List Float
   Heights· = breakHeights (set .planform) points
+
+  -- the same over all heights, not sorted
+  abbrev Steps· : Run
+  Steps· = stepRun set points L
+
+  abbrev Every· : List Float
+  Every· = allHeights (set .planform) points
+
+  abbrev Place· : ℕ → ℕ
+  Place· k = placeOfStrip (set .planform) points k
 
   abbrev f· : Float → List Float
   f· = setIntegrand set points
@@ -104,19 +115,43 @@ module _ (set : FinSet) (points : List Float) (L : ℕ) (made : makingCheck set 
   abbrev runOf : (Float → List Float) → Float → List Float → Run
   runOf f scale heights = record { width = 7; integrand = f; limit = L; scale = scale; heights = heights }
 
-  run-is : (d : Density) (strips : List Worked) → runOfJob (jobAt d strips) ≡ Run·
+  run-is : (d : Density) (strips : List Worked) → runOfJob (jobAt d strips) ≡ Steps·
   run-is d strips =
-      ap (λ (f : Float → List Float). runOf f (scaleOf (set .planform) (keptOf points)) (breakHeights (set .planform) (keptOf points)))
+      ap (λ (f : Float → List Float). runOf f (scaleOf (set .planform) (keptOf points)) (allHeights (set .planform) (keptOf points)))
       (same .plate (set .«cross_section») (set .«thickness_m») (set .«body_radius_m»))
       ∙ ap₂ (λ (s : Float) (h : List Float). runOf f· s h) (same .scale) (same .heights)
+
+  -- ---- strip by strip, without sorting: the place of each lower end, and the strip from there
+  place-is : (k : ℕ) → k < length Heights· → at Every· (Place· k) ≡ at Heights· k
+  place-is zero b = sym (first-break (set .planform) points (all-numbers (set .planform) points planform-checked) (none-under-zero (set .planform) points planform-checked))
+  place-is (suc k) b = next-break (set .planform) points (all-numbers (set .planform) points planform-checked) k (omega arith)
+
+  next-is : (k : ℕ) → k < length Heights· → nextPlace Steps· (Place· k) ≡ Place· (suc k)
+  next-is k b = ap (λ (h : Float). placeAbove h Every·) (place-is k b)
+
+  upper-is : (k : ℕ) → k < length Heights· → at Every· (nextPlace Steps· (Place· k)) ≡ at Heights· (suc k)
+  upper-is k b = ap (at Every·) (next-is k b) ∙ next-break (set .planform) points (all-numbers (set .planform) points planform-checked) k b
+
+  strip-is : (k : ℕ) → k < length Heights· → stripFrom Steps· (Place· k) ≡ stripAt Run· k
+  strip-is k b =
+      ap₂ (λ (lower upper : Float). stripOf 7 f· L (lower ⊘ Scale·) (upper ⊘ Scale·)) (place-is k b) (upper-is k b ∙ ap (at Heights·) (sym (add-one k)))
+
+  has-is : (k : ℕ) → k < length Heights· → hasStrip Steps· (Place· k) ≡ lt (at Heights· k) (at Heights· (suc k))
+  has-is k b = ap₂ lt (place-is k b) (upper-is k b)
+
+  has-strip : (k : ℕ) → 0 < stripsFrom Run· k → hasStrip Steps· (Place· k) ≡ true
+  has-strip k h = has-is k (omega (arith, h)) ∙ next-above (set .planform) points (all-numbers (set .planform) points planform-checked) k (omega (arith, h))
+
+  no-strip : (k : ℕ) → k < length Heights· → stripsFrom Run· k ≤ 0 → hasStrip Steps· (Place· k) ≡ false
+  no-strip k b h = has-is k b ∙ none-above (set .planform) points (all-numbers (set .planform) points planform-checked) k (omega (arith, h))
 
   -- a step over scratch that is long enough works a strip where one is left
   going-counts : (d : Density) (strips : List Worked) (n : ℕ) → runCheck L n ≡ Accepted → 0 < stripsFrom Run· (length strips) → counts (jobAt d strips) n ≡ true
   unfolding isRefused
   going-counts d strips n v below =
-      ap (λ (x : Verdict). not (isRefused x) && ltb 0 (stripsFrom (runOfJob (jobAt d strips)) (length strips))) v
-      ∙ ap (λ (r : Run). ltb 0 (stripsFrom r (length strips))) (run-is d strips)
-      ∙ lt-ltb 0 (stripsFrom Run· (length strips)) below
+      ap (λ (x : Verdict). not (isRefused x) && hasStrip (runOfJob (jobAt d strips)) (Place· (length strips))) v
+      ∙ ap (λ (r : Run). hasStrip r (Place· (length strips))) (run-is d strips)
+      ∙ has-strip (length strips) below
 
   pub record Going (d : Density) (strips : List Worked) (job : Job) : Type 0 where
     pub is : job ≡ jobAt d strips
@@ -175,13 +210,37 @@ module _ (set : FinSet) (points : List Float) (L : ℕ) (made : makingCheck set 
     unfolding withStrip
     same-sums = refl
 
-    abbrev Onward· : Integral → Onward
-    Onward· total = record { total = total; left = Left· }
+    -- where this strip begins, and the next
+    abbrev Here· : ℕ
+    Here· = Place· (length strips)
 
-    onward-is : onwardOf (runOfJob J·) (length strips) (totalOf J·) ≡ Onward· (summedOf With·)
+    abbrev Next· : ℕ
+    Next· = Place· (suc (length strips))
+
+    more-left : hasStrip Steps· Next· ≡ ltb 0 Left·
+    more-left = go (ltb 0 Left·) refl
+      where
+        go : (b : Bool) → ltb 0 Left· ≡ b → hasStrip Steps· Next· ≡ ltb 0 Left·
+        go true e = has-strip (suc (length strips)) (let h = ltb-true 0 Left· e in omega (arith, h)) ∙ sym e
+        go false e = no-strip (suc (length strips)) (omega (arith, inside)) (let h = ltb-false 0 Left· e in omega (arith, h)) ∙ sym e
+
+    abbrev Onward· : Integral → Onward
+    Onward· total = record { total = total; next = Next·; more = ltb 0 Left· }
+
+    worked-on : WorkedOn Steps· Here· (totalOf J·) ≡ Onward· (inWords (withStrip (totalOf J·) (integralIn S·)))
+    worked-on =
+        ap
+        (λ (s : Worked).
+        record { total = inWords (withStrip (totalOf J·) (integralIn s)); next = nextPlace Steps· Here·; more = hasStrip Steps· (nextPlace Steps· Here·) })
+        (strip-is (length strips) (omega (arith, inside)))
+        ∙ ap (λ (n : ℕ). record { total = inWords (withStrip (totalOf J·) (integralIn S·)); next = n; more = hasStrip Steps· n }) (next-is (length strips) (omega (arith, inside)))
+        ∙ ap (λ (b : Bool). record { total = inWords (withStrip (totalOf J·) (integralIn S·)); next = Next·; more = b }) more-left
+
+    onward-is : onwardOf (runOfJob J·) Here· (totalOf J·) ≡ Onward· (summedOf With·)
     onward-is =
-        ap (λ (r : Run). onwardOf r (length strips) (totalOf J·)) (run-is d strips)
-        ∙ onward-works Run· (length strips) (totalOf J·) (g .below)
+        ap (λ (r : Run). onwardOf r Here· (totalOf J·)) (run-is d strips)
+        ∙ onward-works Steps· Here· (totalOf J·) (has-strip (length strips) (g .below))
+        ∙ worked-on
         ∙ ap (λ (t : Integral). Onward· (inWords t)) (same-sums ∙ summed-with strips S·)
         ∙ ap Onward· fit
 
@@ -218,7 +277,7 @@ module _ (set : FinSet) (points : List Float) (L : ℕ) (made : makingCheck set 
     last : With· ≡ All· → (isAccepted (summedOf With· .ending) && ltb 0 Left·) ≡ false → State d With· (afterStrip J· (Onward· (summedOf With·)) .job)
     last whole e = subst (λ (x : Stepped). State d With· (x .job)) (sym (after-last J· (Onward· (summedOf With·)) e)) (inr (ends whole))
 
-    more-is : more J· (summedOf With·) .job ≡ jobAt d With·
+    more-is : more J· (summedOf With·) Next· .job ≡ jobAt d With·
     more-is =
         ap
         (λ (n : ℕ).
@@ -233,9 +292,9 @@ module _ (set : FinSet) (points : List Float) (L : ℕ) (made : makingCheck set 
           ended = false;
           outcome = noFigures;
         })
-        (mod-eq-of-lt (let h : length strips + 1 < 2 ^ 64 = omega (arith, inside, short) in h) ∙ sym one-longer)
+        (ap Place· (sym (one-longer ∙ add-one (length strips))))
 
-    goes-on : isAccepted (S· .halved .ending) ≡ true → 0 < Left· → Going d With· (more J· (summedOf With·) .job)
+    goes-on : isAccepted (S· .halved .ending) ≡ true → 0 < Left· → Going d With· (more J· (summedOf With·) Next· .job)
     goes-on a b =
         record {
           is = more-is;
@@ -263,8 +322,9 @@ module _ (set : FinSet) (points : List Float) (L : ℕ) (made : makingCheck set 
     one-strip : (scratch : List Float) → runCheck L (length scratch) ≡ Accepted → stripsBy J· (step scratch) ≡ S· ∷ []
     one-strip scratch v =
         one-if-there J· scratch refl v
-        ∙ ap (λ (r : Run). cond (ltb 0 (stripsFrom r (length strips))) (stripAt r (length strips) ∷ []) []) (run-is d strips)
-        ∙ yes _ _ (lt-ltb 0 (stripsFrom Run· (length strips)) (g .below))
+        ∙ ap (λ (r : Run). cond (hasStrip r Here·) (stripFrom r Here· ∷ []) []) (run-is d strips)
+        ∙ yes _ _ (has-strip (length strips) (g .below))
+        ∙ ap (λ (s : Worked). s ∷ []) (strip-is (length strips) (omega (arith, inside)))
 
     works : (scratch : List Float) → runCheck L (length scratch) ≡ Accepted → State d (strips ++ stripsBy J· (step scratch)) (stepOf J· (length scratch) .job)
     works scratch v =

@@ -4,7 +4,6 @@ use mathlib.Core.Bool.{Bool, true, false, cond}
 use mathlib.Core.List.{List, [], _∷_}
 use Prim.Native.Nat.{ℕ, _*_, _≤_}
 use native.Mathlib.Omega.{arith}
-use lib.Dec.{ltb}
 use lib.ListN.{length, drop, length-append, length-drop}
 use lib.Ieee.{Float}
 use Rattle.refusals.specs.declared.Refusal.{Refusal}
@@ -13,17 +12,17 @@ use Rattle.refusals.specs.declared.Verdict.the-variants.{Accepted, Refused}
 use Rattle.refusals.specs.Calls.{leavesAlone, byVerdict}
 use Rattle.quadrature.specs.declared.Piece.{Piece}
 use Rattle.pieces.specs.Stored.{stored, written}
-use Rattle.strips.specs.Strips.{Run, Worked, piecesOf, runCheck, stripAt, stripsFrom, scratchOnward, scratchAfter}
+use Rattle.strips.specs.Strips.{Run, Worked, piecesOf, runCheck, hasStrip, stripFrom, scratchOnward, scratchAfter}
 use Rattle.jobs.specs.declared.Job.{Job}
 use Rattle.jobs.specs.Jobs.{runOfJob, stepScratch}
 use Rattle.jobs.specs.Calls.{stripsBy, step, WritesOwnStrip}
 use Rattle.jobs.proofs.Laws.{scratch-ended, scratch-refused, scratch-works, none-ended, none-refused, one-if-there}
 
-onward-writes : (run : Run) (i : ℕ) (scratch : List Float) → scratchOnward run i scratch ≡ scratchAfter (cond (ltb 0 (stripsFrom run i)) (stripAt run i ∷ []) []) scratch
+onward-writes : (run : Run) (i : ℕ) (scratch : List Float) → scratchOnward run i scratch ≡ scratchAfter (cond (hasStrip run i) (stripFrom run i ∷ []) []) scratch
 unfolding scratchOnward
-onward-writes run i scratch = go (ltb 0 (stripsFrom run i))
+onward-writes run i scratch = go (hasStrip run i)
   where
-    go : (b : Bool) → cond b (written (piecesOf (stripAt run i)) scratch) scratch ≡ scratchAfter (cond b (stripAt run i ∷ []) []) scratch
+    go : (b : Bool) → cond b (written (piecesOf (stripFrom run i)) scratch) scratch ≡ scratchAfter (cond b (stripFrom run i ∷ []) []) scratch
     go true = refl
     go false = refl
 

@@ -2,17 +2,19 @@
 use mathlib.Core.Path.{_≡_}
 use mathlib.Core.Bool.{Bool, true, false, not, cond, _&&_}
 use mathlib.Core.List.{List, [], _∷_, _++_}
-use Prim.Native.Nat.{ℕ, _≤_, _<_}
-use lib.Dec.{ltb}
+use Prim.Native.Nat.{ℕ, zero, suc, _≤_, _<_}
 use lib.ListN.{length}
 use lib.Ieee.{Float}
+use Rattle.floats.specs.Operations.{at}
 use Rattle.refusals.specs.declared.Verdict.the-variants.{Accepted}
 use Rattle.refusals.specs.Order.{isRefused}
 use Rattle.limits.specs.Limits.{scratchCheck}
 use Rattle.materials.specs.declared.Density.{Density}
 use Rattle.fins.specs.declared.FinSet.{FinSet}
+use Rattle.planforms.specs.declared.Planform.{Planform}
+use Rattle.breaks.specs.Breaks.{allHeights, breakHeights, placeAbove}
 use Rattle.halving.specs.declared.Ending.the-variants.{Accepted as accepted}
-use Rattle.strips.specs.Strips.{Run, Worked, runCheck, stripAt, stripsFrom}
+use Rattle.strips.specs.Strips.{Run, Worked, runCheck, stripsFrom, hasStrip, stripFrom}
 use Rattle.strips.specs.Strips.{samplesIn, intervalsIn, endingOf, summedOf, scratchAfter}
 use Rattle.strips.specs.Claim.{StripsAre, AreReported}
 use Rattle.strips.specs.Rising.{PiecesRise, SamplesFinite, NumbersFinite}
@@ -41,11 +43,11 @@ afterCalls job (call ∷ calls) = afterCalls (steppedBy job call .job) calls
 
 -- a step counts where the job has not ended, the scratch is long enough and a strip is there
 abbrev pub counts : Job → ℕ → Bool
-counts job scratchLength = not (job .ended) && (not (isRefused (runCheck (job .limit) scratchLength)) && ltb 0 (stripsFrom (runOfJob job) (job .next)))
+counts job scratchLength = not (job .ended) && (not (isRefused (runCheck (job .limit) scratchLength)) && hasStrip (runOfJob job) (job .next))
 
 -- the strip of a call: one, or none
 abbrev pub stripsBy : Job → Call → List Worked
-stripsBy job (step scratch) = cond (counts job (length scratch)) (stripAt (runOfJob job) (job .next) ∷ []) []
+stripsBy job (step scratch) = cond (counts job (length scratch)) (stripFrom (runOfJob job) (job .next) ∷ []) []
 stripsBy job (change density) = []
 
 abbrev pub stripsOver : Job → List Call → List Worked
@@ -78,6 +80,11 @@ pub record FirstStrips (run : Run) (strips : List Worked) : Type 0 where
   pub to-come : List Worked
   pub are : StripsAre run (strips ++ to-come)
 
+-- where the lower end of strip k stands among all heights: 0 is the first
+abbrev pub placeOfStrip : Planform → List Float → ℕ → ℕ
+placeOfStrip planform points zero = 0
+placeOfStrip planform points (suc k) = placeAbove (at (breakHeights planform points) k) (allHeights planform points)
+
 -- the record of a job that runs: "of its strips only which is next and the sums and totals over those worked"; it has
 -- no outcome
 abbrev pub runningJob : FinSet → List Float → ℕ → List Worked → Job
@@ -86,7 +93,7 @@ runningJob set points L strips =
       set = set;
       points = pointsOf points;
       limit = L;
-      next = length strips;
+      next = placeOfStrip (set .planform) points (length strips);
       value = summedOf strips .value;
       intervals = intervalsIn strips;
       samples = samplesIn strips;

@@ -3,8 +3,8 @@
 use mathlib.Core.Path.{_≡_}
 use mathlib.Core.Bool.{Bool, true, false, cond, _&&_}
 use mathlib.Core.List.{List}
-use Prim.Native.Nat.{ℕ, _+_, _%_, _^_}
-use lib.Dec.{leb, ltb}
+use Prim.Native.Nat.{ℕ}
+use lib.Dec.{leb}
 use lib.ListN.{length, take, replicate}
 use lib.Ieee.{Float}
 use Rattle.floats.specs.Operations.{bits}
@@ -20,6 +20,7 @@ use Rattle.limits.specs.Limits.{limitCheck, countCheck}
 use Rattle.materials.specs.declared.Density.{Density}
 use Rattle.materials.specs.Materials.{densityCheck}
 use Rattle.planforms.specs.Planforms.{rootChordOf}
+use Rattle.breaks.specs.Breaks.{allHeights}
 use Rattle.integrands.specs.Integrands.{scaleOf}
 use Rattle.quadrature.specs.Rule.{zeros}
 use Rattle.fins.specs.declared.FinSet.{FinSet}
@@ -30,13 +31,18 @@ use Rattle.strips.specs.declared.Onward.{Onward}
 use Rattle.strips.specs.Strips.{Run, isAccepted, runCheck, onwardOf, scratchOnward}
 use Rattle.bodies.specs.Bodies.{emptyBody}
 use Rattle.figures.specs.declared.Figures.{Figures}
-use Rattle.figures.specs.Figures.{setRun, refusedFigures, concludedSet}
+use Rattle.figures.specs.Figures.{setIntegrand, refusedFigures, concludedSet}
 use Rattle.jobs.specs.declared.Points.{Points}
 use Rattle.jobs.specs.declared.Job.{Job}
 use Rattle.jobs.specs.declared.Reply.{Reply}
 use Rattle.jobs.specs.declared.Reply.the-variants.{More, Taken, Answered}
 use Rattle.jobs.specs.declared.Answer.{Answer}
 use Rattle.jobs.specs.declared.Stepped.{Stepped}
+
+-- the run of a set whose strips are worked one a step: over all heights, not sorted
+abbrev pub stepRun : FinSet → List Float → ℕ → Run
+stepRun set points L =
+    record { width = 7; integrand = setIntegrand set points; limit = L; scale = scaleOf (set .planform) points; heights = allHeights (set .planform) points }
 
 -- ---- the record
 
@@ -50,9 +56,9 @@ pointsOf points = record { numbers = over (take 128 points) (replicate 128 (bits
 abbrev pub outlineOf : Job → List Float
 outlineOf job = take (heldOf (job .points .count)) (job .points .numbers)
 
--- what its strips are worked from: the copy, at each step anew
+-- what its strips are worked from: the copy, at each step anew, with all heights as they come; `next` is the place of one of them
 abbrev pub runOfJob : Job → Run
-runOfJob job = setRun (job .set) (outlineOf job) (job .limit)
+runOfJob job = stepRun (job .set) (outlineOf job) (job .limit)
 
 -- "the sums and totals over those worked"
 abbrev pub totalOf : Job → Integral
@@ -85,16 +91,16 @@ repeated job = record { job = job; answer = record { reply = Answered; figures =
 abbrev pub waits : Job → Refusal → Stepped
 waits job refusal = record { job = job; answer = record { reply = Answered; figures = refusedFigures refusal (job .samples) } }
 
--- "a step with strips still to come answers only that more remain"; the counts are words of 64 bits
-abbrev pub more : Job → Integral → Stepped
-more job total =
+-- "a step with strips still to come answers only that more remain"
+abbrev pub more : Job → Integral → ℕ → Stepped
+more job total next =
     record {
       job =
           record {
             set = job .set;
             points = job .points;
             limit = job .limit;
-            next = (job .next + 1) % 2 ^ 64;
+            next = next;
             value = total .value;
             intervals = total .intervals;
             samples = total .samples;
@@ -136,8 +142,8 @@ outcomeOf set points total =
 -- "Until the job ends, with its last strip or one refused"
 unfoldable pub afterStrip : Job → Onward → Stepped
 afterStrip job onward =
-    cond (isAccepted (onward .total .ending) && ltb 0 (onward .left))
-    (more job (onward .total))
+    cond (isAccepted (onward .total .ending) && onward .more)
+    (more job (onward .total) (onward .next))
     (ended job (onward .total) (outcomeOf (job .set) (outlineOf job) (onward .total)))
 
 -- "number 2 at each step"; 1 again, which no job that was made is given

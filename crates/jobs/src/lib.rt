@@ -17,7 +17,6 @@ use materials::Density;
 use refusals::Refusal;
 use refusals::Verdict;
 use refusals::first_refusal;
-use std::num::wrapping_add_usize;
 use strips::Onward;
 
 // A copy of an outline: room for 64 points, and how many of the numbers are the outline's.
@@ -26,7 +25,8 @@ pub struct Points {
     pub count: usize,
 }
 
-// The set, its own copy of the outline and L; which strip is next, the sums and totals over those worked; and, once it has ended, its answer.
+// The set, its own copy of the outline and L; which strip is next, by the place of its lower end among all heights; the sums and totals over
+// those worked; and, once it has ended, its answer.
 pub struct Job {
     pub set: FinSet,
     pub points: Points,
@@ -115,13 +115,12 @@ fn wait(job: Job, refusal: Refusal) -> Stepped
 }
 
 // More strips remain behind these totals.
-fn go_on(job: Job, total: Integral) -> Stepped
-    ensures { λ r. ⌜ r ≡ more job total ⌝ }
+fn go_on(job: Job, total: Integral, next: usize) -> Stepped
+    ensures { λ r. ⌜ r ≡ more job total next ⌝ }
 {
     let set = job.set;
     let points = job.points;
     let outcome = job.outcome;
-    let next = wrapping_add_usize(job.next, 1);
     let value = total.value;
     let job = Job {
         set,
@@ -226,8 +225,8 @@ fn after_strip(job: Job, onward: Onward) -> Stepped
     let total = onward.total;
     let ending = total.ending;
     let accepted = strips::is_accepted(ending);
-    if accepted & (0 < onward.left) {
-        return go_on(job, total);
+    if accepted & onward.more {
+        return go_on(job, total, onward.next);
     }
     let set = job.set;
     let points = job.points;

@@ -6,16 +6,17 @@
 ghost use Prim.Native.Nat.{_+_, _-_, _<_, _^_};
 ghost use mathlib.Core.Path.{_≡_};
 ghost use lib.ListN.{length};
-ghost use Rattle.strips.specs.Strips.{isAccepted, withStrip, inWords, stripBetween, WorksStrip, Room, runBetween, runOf, WorksNext, Runs};
+ghost use Rattle.strips.specs.Strips.{isAccepted, withStrip, inWords, stripBetween, WorksStrip, Room, runBetween, runOf, stepRunOf, WorksNext, Runs};
 use halving::Ending;
 use halving::Integral;
 use integrands::Integrand;
 use std::num::wrapping_add_usize;
 
-// The totals after a strip, and how many strips are left behind it.
+// The totals after a strip, where the next one begins, and whether there is a next.
 pub struct Onward {
     pub total: Integral,
-    pub left: usize,
+    pub next: usize,
+    pub more: bool,
 }
 
 pub fn is_accepted(ending: Ending) -> bool
@@ -64,17 +65,7 @@ fn work_strip(
     add_strip(total, strip)
 }
 
-// How many strips there are between n break heights from the one at i on.
-fn strips_from(n: usize, i: usize) -> usize
-    ensures { λ r. ⌜ r ≡ n - i - 1 ⌝ }
-{
-    if i < n {
-        return n - i - 1;
-    }
-    0
-}
-
-// The strip of the integrand's planform from the break height i on, where there is one: the job's step (document 02, Paper 9).
+// The strip of the integrand's planform from the height at a place on, where there is one: the job's step (document 02, Paper 9).
 pub fn work_next(
     scratch: &mut [f64],
     integrand: Integrand,
@@ -84,21 +75,27 @@ pub fn work_next(
     total: Integral,
 ) -> Onward
     requires { ⌜ Room limit (length (now scratch)) ⌝ }
-    ensures { λ r. ⌜ WorksNext (runOf integrand (now (points .entry)) limit) i total (now (scratch .entry)) r (now (scratch .exit)) ⌝ }
+    ensures { λ r. ⌜ WorksNext (stepRunOf integrand (now (points .entry)) limit) i total (now (scratch .entry)) r (now (scratch .exit)) ⌝ }
 {
     let planform = integrand.planform;
-    let breaks = breaks::break_heights(planform, points);
-    let n = breaks.count;
-    let heights = breaks.heights;
-    let left = strips_from(n, i);
-    if 0 < left {
-        let total = work_strip(scratch, integrand, points, &heights[..n], i, limit, total);
+    let span = planforms::span_m(planform, points);
+    let lower = breaks::height_at(planform, points, i);
+    let found = breaks::least_above(planform, points, span, lower);
+    let upper = found.height;
+    if lower < upper {
+        let ends = [lower, upper];
+        let total = work_strip(scratch, integrand, points, &ends, 0, limit, total);
         return Onward {
             total,
-            left: left - 1,
+            next: found.place,
+            more: (upper < span) | (upper < 0.0),
         };
     }
-    Onward { total, left: 0 }
+    Onward {
+        total,
+        next: i,
+        more: false,
+    }
 }
 
 // The strips between the break heights, worked upward, with at most limit pieces to a strip.

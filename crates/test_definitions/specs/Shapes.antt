@@ -12,7 +12,7 @@ use Rattle.planforms.specs.declared.Planform.{Planform}
 use Rattle.planforms.specs.declared.Planform.the-variants.{Trapezoid, Outline}
 use Rattle.planforms.specs.Planforms.{largestHeight, rootChordOf, spanOf}
 use Rattle.segments.specs.Segments.{next}
-use Rattle.breaks.specs.Breaks.{heights, everyY, once, breakHeights, oneStrip}
+use Rattle.breaks.specs.Breaks.{heights, everyY, once, allHeights, breakHeights, placeAbove, oneStrip}
 use Rattle.chords.specs.Chords.{crossed, crossings, outlineCrossings, endsAt, paired, chordsAt}
 use Rattle.limits.specs.Limits.{lengthWithin, lengthCheck}
 use Rattle.refusals.specs.Order.{firstRefusal, firstFrom}
@@ -93,6 +93,12 @@ break-heights =
     && oneStrip plate
     && not (oneStrip Outline)
 
+-- one after the other among all heights, 0.1 behind 0, the span and two points; the span before the points at its height; none above it
+abbrev pub heights-above : Bool
+heights-above =
+    let all = allHeights Outline teeth in
+    eqb (placeAbove (bits 0) all) 4 && eqb (placeAbove (bits d1) all) 1 && eqb (placeAbove (bits d3) all) 7
+
 -- "An outline edge is crossed for lower end <= h < upper end; crossings are sorted and paired": the triangle's closing edge and its second one, four
 -- edges of the teeth, and none at their tips
 abbrev pub outline-crossings : Bool
@@ -158,6 +164,6 @@ plate-values =
     && are (plateOf Outline teeth Square (bits d03) (bits d05) quarter)
     (0x3f8a_1f58_d0fa_c68a ∷ 0x3f70_cb02_3d33_7fa2 ∷ 0x3f55_974c_058b_5af6 ∷ 0x3f6d_daae_a5b0_e2e7 ∷ 0x3f54_de2b_4dee_d67a ∷ 0x3f53_3127_215f_6d4c ∷ 0x3ec0_608e_9e2f_4c33 ∷ [])
 
-pub shapes-hold : T (sorted-lists && outline-lengths && break-heights && outline-crossings && chords-listed && touching-segments && section-moments && area-values && plate-values)
-unfolding ofBits toBits ofInt round add sub mul div neg lt le eq ne absOf belowAll insert sorted largestHeight rootChordOf spanOf heights everyY once breakHeights oneStrip crossed crossings outlineCrossings endsAt paired isInBox segmentsTouch airfoilConstants chordMoments lengthWithin lengthCheck firstRefusal firstFrom planformCheck endsIn chordsCall scaleOf sumsFrom sampleOf areaThree plateOf
+pub shapes-hold : T (sorted-lists && outline-lengths && break-heights && heights-above && outline-crossings && chords-listed && touching-segments && section-moments && area-values && plate-values)
+unfolding ofBits toBits ofInt round add sub mul div neg lt le eq ne absOf belowAll insert sorted largestHeight rootChordOf spanOf heights everyY once breakHeights placeAbove oneStrip crossed crossings outlineCrossings endsAt paired isInBox segmentsTouch airfoilConstants chordMoments lengthWithin lengthCheck firstRefusal firstFrom planformCheck endsIn chordsCall scaleOf sumsFrom sampleOf areaThree plateOf
 shapes-hold = tt

@@ -7,7 +7,6 @@ use lib.ListN.{length, take, drop, replicate}
 use lib.Ieee.{Float, add, sub, mul, div, ofBits, toBits, ofInt, round, lt, le, eq, ne}
 use Rattle.floats.specs.Operations.{bits, at, every}
 use Rattle.floats.specs.Floats.{absOf}
-use Rattle.sorting.specs.Sorted.{belowAll, insert, sorted}
 use Rattle.refusals.specs.declared.Refusal.the-variants as refusal
 use Rattle.refusals.specs.Order.{isRefused, firstRefusal}
 use Rattle.limits.specs.Limits.{scratchCheck}
@@ -18,7 +17,8 @@ use Rattle.sections.specs.declared.Section.the-variants.{Square}
 use Rattle.sections.specs.ChordMoments.{chordMoments}
 use Rattle.planforms.specs.declared.Planform.the-variants.{Outline}
 use Rattle.planforms.specs.Planforms.{largestHeight, rootChordOf, spanOf}
-use Rattle.breaks.specs.Breaks.{heights, everyY, once, breakHeights}
+use Rattle.sorting.specs.Sorted.{belowAll, insert, sorted}
+use Rattle.breaks.specs.Breaks.{heights, everyY, placeAbove}
 use Rattle.chords.specs.Chords.{crossed, crossings, outlineCrossings, endsAt, paired}
 use Rattle.integrands.specs.Integrands.{scaleOf, sumsFrom, sampleOf, plateOf}
 use Rattle.fillets.specs.Numbered.{noFillet}
@@ -78,14 +78,14 @@ setOf count density =
 abbrev set : FinSet
 set = setOf 3 plywood
 
--- a job of which so many strips are worked, 15 samples each, with these sums
-abbrev worked : ℕ → ℕ → List Float → Job
-worked strips samples value =
+-- a job of which so many strips are worked, the next from the height at a place on, with so many samples and these sums
+abbrev worked : ℕ → ℕ → ℕ → List Float → Job
+worked strips next samples value =
     record {
       set = set;
       points = pointsOf points;
       limit = 8;
-      next = strips;
+      next = next;
       value = value;
       intervals = strips;
       samples = samples;
@@ -100,7 +100,7 @@ over =
       set = set;
       points = pointsOf points;
       limit = 8;
-      next = 1;
+      next = 3;
       value = zeros;
       intervals = 1;
       samples = 135;
@@ -133,11 +133,11 @@ isBulk (Line density) b = false
 -- "A step lent under 16·L numbers answers 2, changes nothing and does not count", with "the job's samples so far"; not one of 128 numbers
 abbrev pub short-step : Bool
 short-step =
-    let s = stepOf (worked 1 15 zeros) 127 in
+    let s = stepOf (worked 1 3 15 zeros) 127 in
     isAnswered (s .answer .reply)
     && refused 2 [] (s .answer .figures .verdict)
     && eqb (s .answer .figures .samples) 15
-    && eqb (s .job .next) 1
+    && eqb (s .job .next) 3
     && not (s .job .ended)
 
 -- "A step on an ended job repeats its answer, with any scratch", before 2 is asked; "one that repeats an answer writes nothing"
@@ -152,16 +152,16 @@ repeats =
 -- "the plate's density may be changed, answered only as taken": the density asked for, not the first; nothing else moves
 abbrev pub density-taken : Bool
 density-taken =
-    let s = changeOf (worked 1 15 zeros) balsa in
+    let s = changeOf (worked 1 3 15 zeros) balsa in
     isTaken (s .answer .reply)
     && isBulk (s .job .set .density) 0x4064_0000_0000_0000
-    && eqb (s .job .next) 1
+    && eqb (s .job .next) 3
     && eqb (s .answer .figures .samples) 0
 
 -- "a density not bulk or outside the limits, or any change after the end, answers 12 and leaves the old one", with the samples
 abbrev pub density-left : Bool
 density-left =
-    let line = changeOf (worked 1 15 zeros) (Line (bits one)) in
+    let line = changeOf (worked 1 3 15 zeros) (Line (bits one)) in
     let after = changeOf over balsa in
     refused 12 [] (line .answer .figures .verdict)
     && eqb (line .answer .figures .samples) 15
@@ -171,22 +171,22 @@ density-left =
     && isBulk (after .job .set .density) 0x4085_4000_0000_0000
 
 -- "Until the job ends, with its last strip or one refused": of totals with strips left, with none left, and refused
-abbrev totals : Ending → ℕ → Onward
-totals ending left = record { total = record { ending = ending; value = zeros; intervals = 2; samples = 30 }; left = left }
+abbrev totals : Ending → Bool → Onward
+totals ending more = record { total = record { ending = ending; value = zeros; intervals = 2; samples = 30 }; next = 1; more = more }
 
 abbrev pub job-ends : Bool
 job-ends =
-    let job = worked 1 15 zeros in
-    not (afterStrip job (totals Accepted 1) .job .ended)
-    && isMore (afterStrip job (totals Accepted 1) .answer .reply)
-    && afterStrip job (totals Accepted 0) .job .ended
-    && afterStrip job (totals (NotConverged 3) 5) .job .ended
-    && refused 13 (3 ∷ []) (afterStrip job (totals (NotConverged 3) 5) .answer .figures .verdict)
+    let job = worked 1 3 15 zeros in
+    not (afterStrip job (totals Accepted true) .job .ended)
+    && isMore (afterStrip job (totals Accepted true) .answer .reply)
+    && afterStrip job (totals Accepted false) .job .ended
+    && afterStrip job (totals (NotConverged 3) true) .job .ended
+    && refused 13 (3 ∷ []) (afterStrip job (totals (NotConverged 3) true) .answer .figures .verdict)
 
 -- of a set that no making took: 3, then 12, then what the strips come to, with their samples
 abbrev pub asked-again : Bool
 asked-again =
-    let answer : ℕ → Density → Figures = λ count density. outcomeOf (setOf count density) points (totals (NotConverged 3) 0 .total) in
+    let answer : ℕ → Density → Figures = λ count density. outcomeOf (setOf count density) points (totals (NotConverged 3) false .total) in
     refused 3 [] (answer 33 (Line (bits one)) .verdict)
     && refused 3 [] (answer 0 plywood .verdict)
     && refused 12 [] (answer 32 (Line (bits one)) .verdict)
@@ -195,10 +195,11 @@ asked-again =
 
 -- ---- steps that work one
 
--- "one strip a step": the first leaves one strip worked, with its fifteen samples, and more to come
+-- "one strip a step": the first leaves one strip worked, with its fifteen samples, and more to come, from height 1 on, which stands behind
+-- 0, the span and the last point's
 abbrev pub one-strip-a-step : Stepped → Bool
 one-strip-a-step s =
-    isMore (s .answer .reply) && eqb (s .job .next) 1 && eqb (s .job .samples) 15 && eqb (s .job .intervals) 1 && not (s .job .ended)
+    isMore (s .answer .reply) && eqb (s .job .next) 3 && eqb (s .job .samples) 15 && eqb (s .job .intervals) 1 && not (s .job .ended)
 
 -- "the sums and totals over those worked": the last strip's are added to those of the record, whose first is 1
 abbrev pub sums-go-on : Stepped → Bool
@@ -210,19 +211,19 @@ last-strip-written scratch =
     eqb (length scratch) 128 && are (take 2 scratch) (third ∷ 0x3fe5_5555_5555_5555 ∷ []) && are (take 2 (drop 16 scratch)) (one ∷ one ∷ [])
 
 pub calls-hold : T (short-step && repeats && density-taken && density-left && job-ends && asked-again)
-unfolding ofBits toBits ofInt round add sub mul div lt le eq ne absOf every belowAll insert sorted isRefused firstRefusal scratchCheck densityCheck chordMoments largestHeight rootChordOf spanOf heights everyY once breakHeights crossed crossings outlineCrossings endsAt paired scaleOf sumsFrom sampleOf plateOf nodes kronrodWeights gaussWeights heightsTo weightedTo pieceOf totalOf errorOf absolute relative converged scoreOf lastHighest worstPlace componentOf repeat halving withStrip onwardOf scratchOnward outcomeOf concludedSet afterStrip stepOf stepScratch changeOf
+unfolding ofBits toBits ofInt round add sub mul div lt le eq ne absOf every belowAll insert sorted isRefused firstRefusal scratchCheck densityCheck chordMoments largestHeight rootChordOf spanOf heights everyY placeAbove crossed crossings outlineCrossings endsAt paired scaleOf sumsFrom sampleOf plateOf nodes kronrodWeights gaussWeights heightsTo weightedTo pieceOf totalOf errorOf absolute relative converged scoreOf lastHighest worstPlace componentOf repeat halving withStrip onwardOf scratchOnward outcomeOf concludedSet afterStrip stepOf stepScratch changeOf
 calls-hold = tt
 
 -- each apart, since fifteen samples are worked for each piece, and by a `let`, by which they are worked once
 
-pub first-step-holds : T (let s = stepOf (worked 0 0 zeros) 128 in one-strip-a-step s)
-unfolding ofBits toBits ofInt round add sub mul div lt le eq ne absOf every belowAll insert sorted isRefused firstRefusal scratchCheck densityCheck chordMoments largestHeight rootChordOf spanOf heights everyY once breakHeights crossed crossings outlineCrossings endsAt paired scaleOf sumsFrom sampleOf plateOf nodes kronrodWeights gaussWeights heightsTo weightedTo pieceOf totalOf errorOf absolute relative converged scoreOf lastHighest worstPlace componentOf repeat halving withStrip onwardOf scratchOnward outcomeOf concludedSet afterStrip stepOf stepScratch changeOf
+pub first-step-holds : T (let s = stepOf (worked 0 0 0 zeros) 128 in one-strip-a-step s)
+unfolding ofBits toBits ofInt round add sub mul div lt le eq ne absOf every belowAll insert sorted isRefused firstRefusal scratchCheck densityCheck chordMoments largestHeight rootChordOf spanOf heights everyY placeAbove crossed crossings outlineCrossings endsAt paired scaleOf sumsFrom sampleOf plateOf nodes kronrodWeights gaussWeights heightsTo weightedTo pieceOf totalOf errorOf absolute relative converged scoreOf lastHighest worstPlace componentOf repeat halving withStrip onwardOf scratchOnward outcomeOf concludedSet afterStrip stepOf stepScratch changeOf
 first-step-holds = tt
 
-pub last-step-holds : T (let s = stepOf (worked 1 15 (map bits (one ∷ 0 ∷ 0 ∷ 0 ∷ 0 ∷ 0 ∷ 0 ∷ []))) 128 in sums-go-on s)
-unfolding ofBits toBits ofInt round add sub mul div lt le eq ne absOf every belowAll insert sorted isRefused firstRefusal scratchCheck densityCheck chordMoments largestHeight rootChordOf spanOf heights everyY once breakHeights crossed crossings outlineCrossings endsAt paired scaleOf sumsFrom sampleOf plateOf nodes kronrodWeights gaussWeights heightsTo weightedTo pieceOf totalOf errorOf absolute relative converged scoreOf lastHighest worstPlace componentOf repeat halving withStrip onwardOf scratchOnward outcomeOf concludedSet afterStrip stepOf stepScratch changeOf
+pub last-step-holds : T (let s = stepOf (worked 1 3 15 (map bits (one ∷ 0 ∷ 0 ∷ 0 ∷ 0 ∷ 0 ∷ 0 ∷ []))) 128 in sums-go-on s)
+unfolding ofBits toBits ofInt round add sub mul div lt le eq ne absOf every belowAll insert sorted isRefused firstRefusal scratchCheck densityCheck chordMoments largestHeight rootChordOf spanOf heights everyY placeAbove crossed crossings outlineCrossings endsAt paired scaleOf sumsFrom sampleOf plateOf nodes kronrodWeights gaussWeights heightsTo weightedTo pieceOf totalOf errorOf absolute relative converged scoreOf lastHighest worstPlace componentOf repeat halving withStrip onwardOf scratchOnward outcomeOf concludedSet afterStrip stepOf stepScratch changeOf
 last-step-holds = tt
 
-pub last-scratch-holds : T (let scratch = stepScratch (worked 1 15 zeros) (replicate 128 (bits one)) in last-strip-written scratch)
-unfolding ofBits toBits ofInt round add sub mul div lt le eq ne absOf every belowAll insert sorted isRefused firstRefusal scratchCheck densityCheck chordMoments largestHeight rootChordOf spanOf heights everyY once breakHeights crossed crossings outlineCrossings endsAt paired scaleOf sumsFrom sampleOf plateOf nodes kronrodWeights gaussWeights heightsTo weightedTo pieceOf totalOf errorOf absolute relative converged scoreOf lastHighest worstPlace componentOf repeat halving withStrip onwardOf scratchOnward outcomeOf concludedSet afterStrip stepOf stepScratch changeOf
+pub last-scratch-holds : T (let scratch = stepScratch (worked 1 3 15 zeros) (replicate 128 (bits one)) in last-strip-written scratch)
+unfolding ofBits toBits ofInt round add sub mul div lt le eq ne absOf every belowAll insert sorted isRefused firstRefusal scratchCheck densityCheck chordMoments largestHeight rootChordOf spanOf heights everyY placeAbove crossed crossings outlineCrossings endsAt paired scaleOf sumsFrom sampleOf plateOf nodes kronrodWeights gaussWeights heightsTo weightedTo pieceOf totalOf errorOf absolute relative converged scoreOf lastHighest worstPlace componentOf repeat halving withStrip onwardOf scratchOnward outcomeOf concludedSet afterStrip stepOf stepScratch changeOf
 last-scratch-holds = tt

@@ -3,14 +3,11 @@ use borrow.Author.Needs.{needs}
 use Rattle.jobs.proofs.go_on.Statement.{statement}
 use Rattle.jobs.proofs.go_on.Tie as tie
 
-wrapping-add-usize-requires : tie.Need-wrapping-add-usize-requires
-wrapping-add-usize-requires c κs = search needs
-
 no-figures-requires : tie.Need-no-figures-requires
 no-figures-requires c κs = search needs
 
 returns : tie.Need-returns
-returns c = rw (c .no-figures .ensures, c .before .before .wrapping-add-usize .ensures)
+returns c = rw (c .no-figures .ensures)
 
 pub go-on-spec : {M : Type 1} → statement M
-go-on-spec = tie.close (tie.spec wrapping-add-usize-requires no-figures-requires returns)
+go-on-spec = tie.close (tie.spec no-figures-requires returns)
