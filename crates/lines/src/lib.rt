@@ -36,8 +36,11 @@ use refusals::Verdict;
 use templates::LINE_FIGURES;
 use tubes::ClosingRadius;
 
-// Most lines have no more bytes than this, and so no more figures: room for these is cleared in less time.
+// Most lines have no more bytes than this, and so no more figures: room for these is cleared in less time. With a dozen points they
+// have some more.
 const SHORT_LINE: usize = 512;
+
+const MIDDLE_LINE: usize = 1024;
 
 // The answer to what is refused.
 pub fn refused_reply(refusal: Refusal) -> Reply
@@ -372,6 +375,18 @@ pub fn answer_line(
     }
     if line.len() <= SHORT_LINE {
         let mut values = [0.0; SHORT_LINE];
+        return answer_read(
+            line,
+            &mut values,
+            scratch,
+            engine_numbers,
+            engine_counts,
+            out,
+            n,
+        );
+    }
+    if line.len() <= MIDDLE_LINE {
+        let mut values = [0.0; MIDDLE_LINE];
         return answer_read(
             line,
             &mut values,

@@ -58,10 +58,10 @@ slice-aggregate-answer-read-2 c = search needs
 
 answer-read-requires-2 : tie.Need-answer-read-requires-2
 answer-read-requires-2 c κs =
-    let i = c .before .before .before .before .before .before in
+    let i = c .before .before .before .before .before .before .before in
     let s = i .before .before .before .before .before .before .before .before in
     let fits = fitting (lentIn (now (s .args .scratch)) (now (s .args .engine-numbers)) (now (s .args .engine-counts))) (now (s .args .out)) (s .args .n) (i .before .before .has-room .result) (i .before .has-engine .result) (i .before .before .has-room .ensures) (i .before .has-engine .ensures) (not-false (i .before .before .has-room .result && i .before .has-engine .result) (i .if1 .left)) in
-    (fits .answer, fits .engine, λ h. h)
+    (fits .answer, fits .engine, λ _. c .before .before .before .before .before .if3 .taken)
 
 same-length-5 : tie.Need-same-length-5
 same-length-5 c = search needs
@@ -78,9 +78,38 @@ same-length-8 c = search needs
 returns-3 : tie.Need-returns-3
 returns-3 c =
     let a = c .before .before .before .before .before .before .before .before .before in
-    let i = a .before .before .before .before .before .before .before in
+    let i = a .before .before .before .before .before .before .before .before in
     let s = i .before .before .before .before .before .before .before .before in
     answered _ _ _ _ _ _ _ (fitting (lentIn (now (s .args .scratch)) (now (s .args .engine-numbers)) (now (s .args .engine-counts))) (now (s .args .out)) (s .args .n) (i .before .before .has-room .result) (i .before .has-engine .result) (i .before .before .has-room .ensures) (i .before .has-engine .ensures) (not-false (i .before .before .has-room .result && i .before .has-engine .result) (i .if1 .left))) (a .answer-read2 .ensures)
+
+slice-aggregate-answer-read-3 : tie.Need-slice-aggregate-answer-read-3
+slice-aggregate-answer-read-3 c = search needs
+
+answer-read-requires-3 : tie.Need-answer-read-requires-3
+answer-read-requires-3 c κs =
+    let i = c .before .before .before .before .before .before .before in
+    let s = i .before .before .before .before .before .before .before .before in
+    let fits = fitting (lentIn (now (s .args .scratch)) (now (s .args .engine-numbers)) (now (s .args .engine-counts))) (now (s .args .out)) (s .args .n) (i .before .before .has-room .result) (i .before .has-engine .result) (i .before .before .has-room .ensures) (i .before .has-engine .ensures) (not-false (i .before .before .has-room .result && i .before .has-engine .result) (i .if1 .left)) in
+    (fits .answer, fits .engine, λ h. h)
+
+same-length-9 : tie.Need-same-length-9
+same-length-9 c = search needs
+
+same-length-10 : tie.Need-same-length-10
+same-length-10 c = search needs
+
+same-length-11 : tie.Need-same-length-11
+same-length-11 c = search needs
+
+same-length-12 : tie.Need-same-length-12
+same-length-12 c = search needs
+
+returns-4 : tie.Need-returns-4
+returns-4 c =
+    let a = c .before .before .before .before .before .before .before .before .before in
+    let i = a .before .before .before .before .before .before .before .before in
+    let s = i .before .before .before .before .before .before .before .before in
+    answered _ _ _ _ _ _ _ (fitting (lentIn (now (s .args .scratch)) (now (s .args .engine-numbers)) (now (s .args .engine-counts))) (now (s .args .out)) (s .args .n) (i .before .before .has-room .result) (i .before .has-engine .result) (i .before .before .has-room .ensures) (i .before .has-engine .ensures) (not-false (i .before .before .has-room .result && i .before .has-engine .result) (i .if1 .left))) (a .answer-read3 .ensures)
 
 pub answer-line-spec : {M : Type 1} → statement M
 answer-line-spec =
@@ -102,4 +131,11 @@ answer-line-spec =
     same-length-6
     same-length-7
     same-length-8
-    returns-3)
+    returns-3
+    slice-aggregate-answer-read-3
+    answer-read-requires-3
+    same-length-9
+    same-length-10
+    same-length-11
+    same-length-12
+    returns-4)
