@@ -18,10 +18,11 @@ answerBytes = 320
 abbrev pub AnswerFits : List ℕ → ℕ → Type 0
 AnswerFits out n = n + answerBytes ≤ length out
 
--- what each answer says: a set's mass, centre and tensor, "diagonal first, then xy, xz, yz" (document 02, Paper 12), intervals and samples; an area and
--- its centroid, "x, then height"; a body of points joined, of a ring (Paper 3), of copies or with a part moved or taken off (Paper 13); the radius that
--- closes a ring; where a point lies, with the nearest corner's position (Paper 11); principal moments, ascending; a body that passed its check; what
--- the engine answers (Papers 9 and 10); and "A refused line prints `(refused N)`"
+-- what each answer says: a set's mass, centre and tensor, "diagonal first, then xy, xz, yz" (document 02, Paper 12),
+-- intervals and samples; an area and its centroid, "x, then height"; a body of points joined, of a ring (Paper 3), of
+-- copies or with a part moved or taken off (Paper 13); the radius that closes a ring; where a point lies, with the
+-- nearest corner's position (Paper 11); principal moments, ascending; a body that passed its check; what the engine
+-- answers (Papers 9 and 10); and "A refused line prints `(refused N)`"
 abbrev pub template : Shape → List ℕ
 template Figures = text "(figures (mass F) (centre F F F) (inertia F F F F F F) (intervals N) (samples N))"
 template Area = text "(area (area F) (centroid F F) (intervals N) (samples N))"

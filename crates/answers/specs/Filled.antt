@@ -1,4 +1,5 @@
--- A template filled in: `F` gives way to the next figure, `N` to the next count, and every other byte stands for itself.
+-- A template filled in: `F` gives way to the next figure, `N` to the next count, and every other byte stands for
+-- itself.
 use mathlib.Core.List.{List, [], _∷_, _++_}
 use mathlib.Core.Bool.{cond}
 use Prim.Native.Nat.{ℕ, _+_}
@@ -21,7 +22,7 @@ firstCount (n ∷ ns) = countText n
 abbrev pub piece : ℕ → List Float → List ℕ → List ℕ
 piece b figures counts = cond (eqb b 70) (firstFigure figures) (cond (eqb b 78) (firstCount counts) (b ∷ []))
 
--- the figures and the counts that are left behind it
+-- the figures and the counts that are left after it
 abbrev pub figuresAfter : ℕ → List Float → List Float
 figuresAfter b figures = cond (eqb b 70) (drop 1 figures) figures
 

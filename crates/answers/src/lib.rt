@@ -33,7 +33,8 @@ pub enum Shape {
     Refused,
 }
 
-// An answer: its shape, and the figures and counts that its template takes, from the first on. What is left of them is not printed.
+// An answer: its shape, and the figures and counts that its template takes, from the first on. What is left of them is
+// not printed.
 pub struct Reply {
     pub shape: Shape,
     pub figures: [f64; 10],

@@ -1,4 +1,5 @@
--- The block of an answer (docs/FORMS.md has the answers and the refusals' sentences): a table of what each answer looks like and what is shown for it.
+-- The block of an answer (docs/FORMS.md has the answers and the refusals' sentences): a table of what each answer looks
+-- like and what is shown for it.
 use mathlib.Core.List.{List, [], _∷_, _++_}
 use mathlib.Core.Bool.{Bool, _&&_, _||_, cond}
 use Prim.Native.Nat.{ℕ, _+_, _≤_}
@@ -33,8 +34,8 @@ kilogramSquareMetre = 107 ∷ 103 ∷ 194 ∷ 183 ∷ squareMetre
 abbrev pub largestFrom : List Float → ℕ → Float
 largestFrom f k = maxOf (maxOf (absOf (at f k)) (absOf (at f (k + 1)))) (absOf (at f (k + 2)))
 
--- the figure at place i beside the three from place k on: 0 where it is below 2^-40 of their largest, as the noise of rounding is.
--- Times 2^40 no f64 is rounded, unless to infinity.
+-- the figure at place i beside the three from place k on: 0 where it is below 2^-40 of their largest, as the noise of
+-- rounding is. Times 2^40 no f64 is rounded, unless to infinity.
 unfoldable pub besideFrom : List Float → ℕ → ℕ → Float
 besideFrom f k i = cond (lt (absOf (at f i) ⊗ bits 0x4270_0000_0000_0000) (largestFrom f k)) (bits 0) (at f i)
 
@@ -76,8 +77,8 @@ mixedLine = all (text "mixed entries of the tensor: xy F, xz F, yz F " ∷ kilog
 abbrev pub mixedText : List Float → List ℕ
 mixedText f = cond (allZero (momentAt f 7) (momentAt f 8) (momentAt f 9)) [] (filled plain mixedLine (mixedFigures f) [])
 
--- marks of a body: B (66), its mass and its balance point up to the name of the origin; C (67), the rest of that line and the moments;
--- D (68), the mixed entries
+-- marks of a body: B (66), its mass and its balance point up to the name of the origin; C (67), the rest of that line
+-- and the moments; D (68), the mixed entries
 abbrev pub isBodyMark : ℕ → Bool
 isBodyMark b = eqb b 66 || eqb b 67 || eqb b 68
 
@@ -167,7 +168,8 @@ cards =
     ∷ text "(done N (refused N))" ∷ all (text "screen N: refused R" ∷ newline ∷ [])
     ∷ []
 
--- what is shown for a line: the block of the answer that it looks like, and an empty line; "no answer .." where it is none, or longer than any
+-- what is shown for a line: the block of the answer that it looks like, and an empty line; "no answer .." where it is
+-- none, or longer than any
 abbrev pub longestAnswer : ℕ
 longestAnswer = 512
 
@@ -187,7 +189,8 @@ blockBytes = 1024
 abbrev pub BlockFits : ℕ → List ℕ → Type 0
 BlockFits n out = n + blockBytes ≤ length out
 
--- the block with its line's number above it, so that a reader can pair them: a word, a number of at most twenty digits, a newline
+-- the block with its line's number above it, so that a reader can pair them: a word, a number of at most twenty digits,
+-- a newline
 unfoldable pub numberedBlock : ℕ → List ℕ → List ℕ
 numberedBlock number line = text "line " ++ (countText number ++ (newline ++ blockOf line))
 

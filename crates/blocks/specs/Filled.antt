@@ -1,4 +1,5 @@
--- A block's text filled in, byte by byte: a mark gives way to the next figure or count, and every other byte stands for itself.
+-- A block's text filled in, byte by byte: a mark gives way to the next figure or count, and every other byte stands for
+-- itself.
 use mathlib.Core.List.{List, [], _∷_, _++_}
 use mathlib.Core.Bool.{Bool, false, _||_, cond}
 use Prim.Native.Nat.{ℕ, _+_}
@@ -25,7 +26,7 @@ figureAs b x = decimalText 6 (cond (eqb b 71) 3 0) false x
 abbrev pub plainPiece : ℕ → List Float → List ℕ → List ℕ
 plainPiece b figures counts = cond (isFigureMark b) (ofFirst (figureAs b) figures) (cond (eqb b 78) (ofFirst countText counts) (b ∷ []))
 
--- what a byte gives, and the counts that are left behind it
+-- what a byte gives, and the counts that are left after it
 pub record Marks : Type 0 where
   pub piece : ℕ → List Float → List ℕ → List ℕ
   pub countsAfter : ℕ → List ℕ → List ℕ

@@ -19,7 +19,7 @@ use Rattle.hex.specs.declared.Figure.the-variants.{NotFigure}
 use Rattle.counts.specs.Counts.{countOf, cappedCount}
 use Rattle.blocks.specs.Words.{byKind, otherShape, wordShape, wordFigures, wordCounts, overWords, shapeIn, figuresIn, countsIn}
 
--- behind the first n of a list stands what was added, and r are there then
+-- after the first n of a list stands what was added, and r are there then
 pub record Grown {A : Type 0} (before : List A) (n : ℕ) (added after : List A) (r : ℕ) : Type 0 where
   pub ends : r ≡ n + length added
   pub holds : take r after ≡ take n before ++ added

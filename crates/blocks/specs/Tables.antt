@@ -5,7 +5,7 @@ use Prim.Native.Nat.{ℕ}
 use lib.Dec.{eqb}
 use Rattle.templates.specs.Matching.{sameBytes}
 
--- the text behind the first key that is the same; nothing where there is none
+-- the text after the first key that is the same; nothing where there is none
 unfoldable pub textFor : List ℕ → List (List ℕ) → List ℕ
 textFor key [] = []
 textFor key (k ∷ []) = []

@@ -1,4 +1,5 @@
--- An answer of the card program by its words: in its shape `F` stands for a figure and `N` for a count; figures and counts are kept beside it.
+-- An answer of the card program by its words: in its shape `F` stands for a figure and `N` for a count; figures and
+-- counts are kept beside it.
 use mathlib.Core.List.{List, [], _∷_, _++_}
 use mathlib.Core.Bool.{cond}
 use Prim.Native.Nat.{ℕ}

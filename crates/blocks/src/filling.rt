@@ -1,4 +1,5 @@
-// A block's text filled in, byte by byte: a mark gives way to the next figure or count, and every other byte stands for itself.
+// A block's text filled in, byte by byte: a mark gives way to the next figure or count, and every other byte stands for
+// itself.
 ghost use mathlib.Core.List.{[]};
 ghost use mathlib.Core.Path.{_≡_};
 ghost use Prim.Native.Nat.{_+_, _≤_};
@@ -122,7 +123,8 @@ fn largest_from(figures: &[f64], k: usize) -> f64
     floats::max(floats::max(x, y), z)
 }
 
-// The figure at place i, or 0 where it is below 2^-40 of the largest of the three from place k on, as the noise of rounding is.
+// The figure at place i, or 0 where it is below 2^-40 of the largest of the three from place k on, as the noise of
+// rounding is.
 fn beside_from(figures: &[f64], k: usize, i: usize) -> f64
     requires { ⌜ k ≤ 4 ⌝ }
     ensures { λ r. ⌜ r ≡ besideFrom (now (figures .entry)) k i ⌝ }

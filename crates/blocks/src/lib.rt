@@ -1,7 +1,9 @@
-// Answers of the card program as blocks to read: mass in g, lengths in mm, moments in kg·m² to six significant digits, a refusal as its sentence.
+// Answers of the card program as blocks to read: mass in g, lengths in mm, moments in kg·m² to six significant digits,
+// a refusal as its sentence.
 //
-// A line is brought to its shape, in which `F` stands for a figure and `N` for a count, and the shape is looked up in a table of the answers with
-// their blocks. Every line has a block, whatever its bytes: one that looks like no answer says so.
+// A line is brought to its shape, in which `F` stands for a figure and `N` for a count, and the shape is looked up in a
+// table of the answers with their blocks. Every line has a block, whatever its bytes: one that looks like no answer
+// says so.
 mod filling;
 mod lookup;
 mod sentences;

@@ -12,7 +12,7 @@ pub(crate) struct Part {
     pub(crate) to: usize,
 }
 
-// The text behind the first key that is the same; one of no bytes where there is none.
+// The text after the first key that is the same; one of no bytes where there is none.
 pub(crate) fn find(table: &[u8], key: &[u8]) -> Part
     requires { ⌜ length (now table) ≤ 4096 ⌝ }
     ensures { λ r. ⌜ IsTextFor (now (table .entry)) (now (key .entry)) r ⌝ }

@@ -28,7 +28,7 @@ fn word_end(line: &[u8], at: usize) -> usize
     end
 }
 
-// A figure: `F`, and the figure behind those before it.
+// A figure: `F`, and the figure after those before it.
 fn put_figure(shape: &mut [u8], figures: &mut [f64], p: Read, x: f64) -> Read
     requires { ⌜ (p .bytes < length (now shape)) × (p .figures < length (now figures)) ⌝ }
     ensures { λ r. ⌜ PutsFigure x p r (now (shape .entry)) (now (shape .exit)) (now (figures .entry)) (now (figures .exit)) ⌝ }
@@ -44,7 +44,7 @@ fn put_figure(shape: &mut [u8], figures: &mut [f64], p: Read, x: f64) -> Read
     }
 }
 
-// A count: `N`, and the count behind those before it.
+// A count: `N`, and the count after those before it.
 fn put_count(shape: &mut [u8], counts: &mut [u64], p: Read, n: u64) -> Read
     requires { ⌜ (p .bytes < length (now shape)) × (p .counts < length (now counts)) ⌝ }
     ensures { λ r. ⌜ PutsCount n p r (now (shape .entry)) (now (shape .exit)) (now (counts .entry)) (now (counts .exit)) ⌝ }

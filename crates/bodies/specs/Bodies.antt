@@ -28,7 +28,8 @@ rotatedOf b rotation = record { «mass_kg» = b .«mass_kg»; «centre_m» = tim
 abbrev pub pointMass : Float → Vector → Body
 pointMass mass centre = record { «mass_kg» = mass; «centre_m» = centre; «inertia_kg_m2» = zeroTensor }
 
--- a body by its mass, its centre and its tensor about the origin, which is moved to the centre (fins.rs, `single_fin` and `fillets`)
+-- a body by its mass, its centre and its tensor about the origin, which is moved to the centre (fins.rs, `single_fin`
+-- and `fillets`)
 unfoldable pub ofOriginTensor : Float → Vector → Tensor → Body
 ofOriginTensor mass centre aboutOrigin =
     record {

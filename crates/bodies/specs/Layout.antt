@@ -1,4 +1,5 @@
--- A body as numbers, for lists of bodies, lines and the library: mass, centre, then the tensor's six (document 01, "Body"; document 02, Paper 12).
+-- A body as numbers, for lists of bodies, lines and the library: mass, centre, then the tensor's six (document 01,
+-- "Body"; document 02, Paper 12).
 use mathlib.Core.List.{List, _∷_}
 use Prim.Native.Nat.{ℕ, _+_}
 use lib.Ieee.{Float}

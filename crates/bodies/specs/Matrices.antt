@@ -1,4 +1,5 @@
--- Matrices by their columns, as glam has them (document 01, "Stand-ins"): nine numbers, row i of column j is number 3·j + i.
+-- Matrices by their columns, as glam has them (document 01, "Stand-ins"): nine numbers, row i of column j is number 3·j
+-- + i.
 use mathlib.Core.List.{[], _∷_}
 use Prim.Native.Nat.{ℕ, _+_, _*_}
 use lib.Ieee.{Float}

@@ -1,5 +1,5 @@
--- The tensor of document 01, nine numbers in columns, as joins and moves had it before document 02, Paper 12. Nothing is worked with these:
--- proofs/Six.antt shows that they are symmetric bit for bit, and which six numbers stand in them.
+-- The tensor of document 01, nine numbers in columns, as joins and moves had it before document 02, Paper 12. Nothing
+-- is worked with these: proofs/Six.antt shows that they are symmetric bit for bit, and which six numbers stand in them.
 use Prim.Native.Nat.{ℕ}
 use lib.Ieee.{Float}
 use Rattle.floats.specs.Operations.{_⊕_, _⊖_, _⊗_, bits, tabulate}

@@ -1,4 +1,5 @@
--- Inertia tensors by six numbers, xx, yy, zz, xy, xz, yz, and operations by component (document 02, Paper 12; document 01, "Stand-ins").
+-- Inertia tensors by six numbers, xx, yy, zz, xy, xz, yz, and operations by component (document 02, Paper 12; document
+-- 01, "Stand-ins").
 use Prim.Native.Nat.{ℕ}
 use mathlib.Core.List.{[], _∷_}
 use lib.Ieee.{Float}

@@ -1,9 +1,11 @@
-// Rigid bodies: mass, centre of mass and inertia tensor about the centre, and how a body moves and turns (mass.rs, `MassProperties`).
+// Rigid bodies: mass, centre of mass and inertia tensor about the centre, and how a body moves and turns (mass.rs,
+// `MassProperties`).
 //
-// Axes are the body's: z along the axis toward the nose, x the zero radial direction, y = z × x. The tensor about a point p is
-// I = ∫ (|r|² E − r rᵀ) dm with r = position − p; about another point it is I + m (|d|² E − d dᵀ), d the centre less that point.
-// Vectors, matrices and tensors work by component as glam's do (document 01, "Stand-ins"). As numbers, in lists of bodies, on lines and in the
-// library, a body is its mass, its centre and its tensor's numbers, in that order.
+// Axes are the body's: z along the axis toward the nose, x the zero radial direction, y = z × x. The tensor about a
+// point p is I = ∫ (|r|² E − r rᵀ) dm with r = position − p; about another point it is I + m (|d|² E − d dᵀ), d the
+// centre less that point. Vectors, matrices and tensors work by component as glam's do (document 01, "Stand-ins"). As
+// numbers, in lists of bodies, on lines and in the library, a body is its mass, its centre and its tensor's numbers, in
+// that order.
 ghost use mathlib.Core.Path.{_≡_};
 ghost use Prim.Native.Nat.{_≤_};
 ghost use lib.ListN.{length};
@@ -336,7 +338,8 @@ impl Body {
     }
 }
 
-// The body of a mass at a centre whose tensor about the origin is `about_origin`: I − m (|c|² E − c cᵀ) about the centre c.
+// The body of a mass at a centre whose tensor about the origin is `about_origin`: I − m (|c|² E − c cᵀ) about the
+// centre c.
 pub fn of_origin_tensor(mass_kg: f64, centre_m: Vector, about_origin: Tensor) -> Body
     ensures { λ r. ⌜ r ≡ ofOriginTensor «mass_kg» «centre_m» «about_origin» ⌝ }
 {

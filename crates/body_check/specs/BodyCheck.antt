@@ -1,4 +1,5 @@
--- "The body check runs 15, 16, 17 a to e", since document 02, Paper 12, without c (document 01, "Refusal numbers"; mass.rs, `validate`).
+-- "The body check runs 15, 16, 17 a to e", since document 02, Paper 12, without c (document 01, "Refusal numbers";
+-- mass.rs, `validate`).
 use mathlib.Core.Bool.{Bool, not, cond, _&&_, _||_}
 use mathlib.Core.List.{List}
 use Prim.Native.Nat.{ℕ, zero, suc}
@@ -24,7 +25,8 @@ unfoldable pub largestMagnitude : Tensor → ℕ → Float
 largestMagnitude t zero = bits 0
 largestMagnitude t (suc n) = maxOf (largestMagnitude t n) (absOf (numberAt t n))
 
--- what d and e allow: 1e-9 of the largest magnitude. It is `validate`'s; document 01 writes no tolerance (docs/DECISIONS.md, "Bodies").
+-- what d and e allow: 1e-9 of the largest magnitude. It is `validate`'s; document 01 writes no tolerance
+-- (docs/DECISIONS.md, "Bodies").
 abbrev pub toleranceOf : Tensor → Float
 toleranceOf t = bits 0x3e11_2e0b_e826_d695 ⊗ largestMagnitude t tensorNumbers
 

@@ -1,7 +1,8 @@
-// Whether a body could be a real one (mass.rs, `MassProperties::validate`): refusals 15, 16 and 17 a, b, d and e, in that order.
+// Whether a body could be a real one (mass.rs, `MassProperties::validate`): refusals 15, 16 and 17 a, b, d and e, in
+// that order.
 //
-// The mass is finite and not negative, the centre finite, and the tensor finite, 0 without mass, with principal moments that are
-// not negative and obey I₁ + I₂ ≥ I₃, the last two to 1e-9 of the tensor's largest magnitude.
+// The mass is finite and not negative, the centre finite, and the tensor finite, 0 without mass, with principal moments
+// that are not negative and obey I₁ + I₂ ≥ I₃, the last two to 1e-9 of the tensor's largest magnitude.
 ghost use mathlib.Core.Path.{_≡_};
 ghost use Rattle.bodies.specs.Layout.{tensorNumbers};
 ghost use Rattle.refusals.specs.Given.{IsVerdict};

@@ -1,5 +1,5 @@
-// The break heights of a planform (fins.rs, `breakpoints`; document 01, "Set and planform"): 0, the span and every height of
-// an outline's points, sorted, equal ones once. Neighbours bound a strip, within which no edge ends.
+// The break heights of a planform (fins.rs, `breakpoints`; document 01, "Set and planform"): 0, the span and every
+// height of an outline's points, sorted, equal ones once. Neighbours bound a strip, within which no edge ends.
 use planforms::Planform;
 ghost use mathlib.Core.Path.{_≡_};
 ghost use Prim.Native.Nat.{_+_, _<_, _≤_, _^_};
@@ -9,7 +9,8 @@ ghost use Rattle.planforms.specs.Planforms.{pairCount, spanOf};
 ghost use Rattle.floats.specs.Operations.{at};
 ghost use Rattle.breaks.specs.Breaks.{everyY, outlineHeights, allHeights, oneStrip, breakHeights, keep, once, listed, leastAbove, foundWith};
 
-// The first `count` heights, metres; zeros stand behind them. An outline of 64 points and the two others make 66 at most.
+// The first `count` heights, metres; zeros stand after them. An outline of 64 points and the two others make 66 at
+// most.
 pub struct BreakHeights {
     pub count: usize,
     pub heights: [f64; 66],
@@ -32,7 +33,8 @@ pub fn break_heights(planform: Planform, points: &[f64]) -> BreakHeights
     distinct(&all[..], n + 2)
 }
 
-// Whether 0 and the span are the only break heights, and so need no list: a trapezoid's or an ellipse's with a span above 0.
+// Whether 0 and the span are the only break heights, and so need no list: a trapezoid's or an ellipse's with a span
+// above 0.
 pub fn is_one_strip(planform: Planform) -> bool
     ensures { λ r. ⌜ r ≡ oneStrip planform ⌝ }
 {
@@ -104,7 +106,7 @@ fn distinct(xs: &[f64], n: usize) -> BreakHeights
     }
 }
 
-// Puts a behind the first count of xs, unless the next one, b, is equal.
+// Puts a after the first count of xs, unless the next one, b, is equal.
 fn keep_unless_equal(xs: &mut [f64], count: usize, a: f64, b: f64) -> usize
     requires { ⌜ count < length (now xs) ⌝ }
     ensures { λ r. ⌜ Written (keep (take count (now (xs .entry))) a b) (now (xs .entry)) (now (xs .exit)) r ⌝ }
@@ -116,7 +118,7 @@ fn keep_unless_equal(xs: &mut [f64], count: usize, a: f64, b: f64) -> usize
     count + 1
 }
 
-// The height at a place among all: 0, the span, then those of an outline's points, the last first. A NaN behind them.
+// The height at a place among all: 0, the span, then those of an outline's points, the last first. A NaN after them.
 pub fn height_at(planform: Planform, points: &[f64], place: usize) -> f64
     ensures { λ r. ⌜ r ≡ at (allHeights planform (now (points .entry))) place ⌝ }
 {

@@ -1,8 +1,9 @@
--- "P: root of 0, 4; root of 2 is 3ff6a09e667f3bcd; trapezoid at 0 gives the root chord, at the span none; square a=0, b=2, t=1 begins 2, 2;
--- 1, 2, 8 pieces mean 15, 45, 225 samples; sine 0 is 0, cosine 0 is 1; joined points above; moments of diagonal 2, 0, 2 are 0, 2, 2; diagonal
--- 1, 2, 3 passes, 1, 1, 3 gives 17e." (document 01, "Reviewer's checklist"): one table, and one theorem that computes every row.
--- Figures compare by ==. Since document 02, Paper 1, "the tip case in document 01 changes": at the span stands the tip chord.
--- Since Paper 12 a tensor has six numbers, and "the joined example is reprinted so"; 17e is still the fifth case.
+-- "P: root of 0, 4; root of 2 is 3ff6a09e667f3bcd; trapezoid at 0 gives the root chord, at the span none; square a=0,
+-- b=2, t=1 begins 2, 2; 1, 2, 8 pieces mean 15, 45, 225 samples; sine 0 is 0, cosine 0 is 1; joined points above;
+-- moments of diagonal 2, 0, 2 are 0, 2, 2; diagonal 1, 2, 3 passes, 1, 1, 3 gives 17e." (document 01, "Reviewer's
+-- checklist"): one table, and one theorem that computes every row. Figures compare by ==. Since document 02, Paper 1,
+-- "the tip case in document 01 changes": at the span stands the tip chord. Since Paper 12 a tensor has six numbers, and
+-- "the joined example is reprinted so"; 17e is still the fifth case.
 use mathlib.Core.Bool.{Bool, true, false, _&&_, cond}
 use mathlib.Core.List.{List, [], _∷_, _++_, map}
 use Prim.Native.Nat.{ℕ}
@@ -71,8 +72,8 @@ diagonalTensor a b c = diagonal (bits a) (bits b) (bits c)
 abbrev body : ℕ → ℕ → ℕ → Body
 body a b c = record { «mass_kg» = bits one; «centre_m» = zeroVector; «inertia_kg_m2» = diagonalTensor a b c }
 
--- the halving from 0 to 1, with at most so many pieces, of one component that is 0 below a third and 1 from there on, which no few pieces
--- bring within the tolerance
+-- the halving from 0 to 1, with at most so many pieces, of one component that is 0 below a third and 1 from there on,
+-- which no few pieces bring within the tolerance
 abbrev strip : ℕ → Halved
 strip limit = halving 1 (λ h. bits (cond (lt h (bits 0x3fd5_5555_5555_5555)) 0 one) ∷ []) (bits 0) (bits one) limit
 

@@ -1,8 +1,12 @@
-// The chords of a planform at a height h above the root, metres (fins.rs, `chords_at`; document 01, "Set and planform").
+// The chords of a planform at a height h above the root, metres (fins.rs, `chords_at`; document 01, "Set and
+// planform").
 //
 //     trapezoid, f = h / span: from sweep·f to (sweep·f + root) + (tip − root)·f
 //     ellipse: root·√(1 − f²) wide, centred on the root chord
 //     outline: the edges' crossings with the height, sorted, first to second, third to fourth, ..
+//
+// The planforms are those of S. Niskanen, OpenRocket technical documentation, version 13.05, section 3.2.2, pages 25 to
+// 29.
 //
 // Most outlines are crossed twice: that one chord needs no list. Where there are more crossings, they are listed.
 use planforms::Planform;
@@ -15,8 +19,8 @@ ghost use Rattle.segments.specs.Segments.{next};
 ghost use Rattle.chords.specs.Chords.{inSpan, trapezoidEnds, ellipseEnds, crossed, edgeCrossed, edgeCrossing, outlineCrossings, endsAt, chordsOf};
 ghost use Rattle.chords.specs.Edges.{crossEdge, addFew, fewEdge, fewChords, Holding, Near, Kept};
 
-// What there is at a height: no chord, one with its ends in metres aft of the root's leading edge, or an outline that is
-// crossed more than twice, whose crossings `outline_crossings` lists.
+// What there is at a height: no chord, one with its ends in metres aft of the root's leading edge, or an outline that
+// is crossed more than twice, whose crossings `outline_crossings` lists.
 pub enum Chords {
     Nothing,
     One { start_m: f64, end_m: f64 },

@@ -1,4 +1,5 @@
--- Counts as text (docs/FORMS.md): "one or more decimal digits, of any length; its value is the whole number that they write".
+-- Counts as text (docs/FORMS.md): "one or more decimal digits, of any length; its value is the whole number that they
+-- write".
 use mathlib.Core.List.{List, [], _∷_, _++_}
 use mathlib.Core.Bool.{Bool, true, false, _&&_, cond}
 use Prim.Native.Nat.{ℕ, zero, suc, _+_, _-_, _*_, _/_, _%_, min}
@@ -17,7 +18,7 @@ abbrev pub pick : Bool → Count → Count → Count
 pick true a b = a
 pick false a b = b
 
--- digit by digit, the most significant first, behind the digits that make up n
+-- digit by digit, the most significant first, after the digits that make up n
 unfoldable pub readDigits : List ℕ → ℕ → Count
 readDigits [] n = Whole n
 readDigits (b ∷ bs) n = pick (ltb (digitValue b) 10) (readDigits bs (n * 10 + digitValue b)) NotCount
@@ -27,8 +28,8 @@ unfoldable pub countOf : List ℕ → Count
 countOf [] = NotCount
 countOf (b ∷ bs) = readDigits (b ∷ bs) 0
 
--- The value that the program goes on with. Every limit on a count is far below a million, so a larger count, whatever its length, is
--- refused by the number of its limit all the same.
+-- The value that the program goes on with. Every limit on a count is far below a million, so a larger count, whatever
+-- its length, is refused by the number of its limit all the same.
 abbrev pub capped : ℕ → ℕ
 capped n = min n 1_000_000
 

@@ -1,4 +1,5 @@
-// Counts as text: decimal digits, read and printed (docs/FORMS.md; document 01, "The card program": "Counts are decimal").
+// Counts as text: decimal digits, read and printed (docs/FORMS.md; document 01, "The card program": "Counts are
+// decimal").
 ghost use mathlib.Core.Path.{_≡_};
 ghost use Prim.Native.Nat.{_+_, _≤_};
 ghost use lib.ListN.{length};

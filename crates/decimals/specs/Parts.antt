@@ -1,4 +1,5 @@
--- What the parts of the long division give: the contracts of the crate's own functions, which Decimals.antt does not use.
+-- What the parts of the long division give: the contracts of the crate's own functions, which Decimals.antt does not
+-- use.
 use mathlib.Core.Path.{_≡_}
 use Prim.Native.Nat.{ℕ, _+_, _*_, _^_, _≤_, _<_}
 

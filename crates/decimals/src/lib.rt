@@ -1,8 +1,8 @@
 // The f64 nearest to ±n / 10^k, of two as near the one with the even last bit (document 02, Paper 2).
 //
-// Up to 2^53 every whole number is an f64, and so is 10^k = 5^k * 2^k for every k that comes up: one division of f64s rounds to the
-// nearest. A longer n is divided in whole numbers by 5^k, which leaves room for 22 binary digits a turn, until the quotient has 53, and is
-// then rounded by its rest.
+// Up to 2^53 every whole number is an f64, and so is 10^k = 5^k * 2^k for every k that comes up: one division of f64s
+// rounds to the nearest. A longer n is divided in whole numbers by 5^k, which leaves room for 22 binary digits a turn,
+// until the quotient has 53, and is then rounded by its rest.
 ghost use mathlib.Core.Path.{_≡_};
 ghost use mathlib.Core.Bool.{false};
 ghost use Prim.Native.Nat.{_+_, _*_, _^_, _≤_, _<_, compare};
@@ -151,7 +151,8 @@ fn to_nearest(q: u64, rest: u64, e: u64) -> u64
     q + q % 2
 }
 
-// n / 10^k by its binary digits: (1074 + shift - k - places) * 2^52 + q is the bit pattern of q * 2^(shift - k - places).
+// n / 10^k by its binary digits: (1074 + shift - k - places) * 2^52 + q is the bit pattern of q * 2^(shift - k -
+// places).
 fn long_quotient(n: u64, k: u64) -> f64
     requires { ⌜ (2 ^ 53 ≤ n) × (k ≤ 18) ⌝ }
     ensures { λ r. ⌜ r ≡ round binary64 false n (10 ^ k) ⌝ }

@@ -20,8 +20,8 @@ use Rattle.polygons.specs.Polygons.{isOnEdge, isInside, nearestCorner}
 use Rattle.drill.specs.declared.Answer.{Answer}
 use Rattle.drill.specs.declared.Answer.the-variants.{Inside, Edge, Outside, Refused}
 
--- "Corners in order: the drawn points, or (0,0), (sweep, span), (sweep + tip, span), (root, 0)": exactly, in units of 2^-1074 m, an x
--- and a height for each. An ellipse has none.
+-- "Corners in order: the drawn points, or (0,0), (sweep, span), (sweep + tip, span), (root, 0)": exactly, in units of
+-- 2^-1074 m, an x and a height for each. An ellipse has none.
 abbrev pub cornersOf : Planform → List Float → List ℤ
 cornersOf (Trapezoid root tip span sweep) points =
     pos 0 ∷ pos 0
@@ -36,7 +36,8 @@ cornersOf Outline points = map exactOf points
 unfoldable pub areWhole : List ℤ → Bool
 areWhole l = every (length l) (λ k. isWhole (getD l k (pos 0)))
 
--- "For a point, answer inside, on the edge, or outside, and give the nearest corner"; "Edge comes before inside": corners and point in steps
+-- "For a point, answer inside, on the edge, or outside, and give the nearest corner"; "Edge comes before inside":
+-- corners and point in steps
 unfoldable pub placeOf : List ℤ → ℤ → ℤ → Answer
 placeOf corners x height =
     let nearest = nearestCorner corners x height in
@@ -48,8 +49,9 @@ hasCorners (Trapezoid root tip span sweep) = true
 hasCorners (Ellipse root span) = false
 hasCorners Outline = true
 
--- "The planform is checked first, then the length limits on the point's own x and height, zero or negative allowed, fields 17 and 18.
--- Turned away last: 24, an ellipse; then 25, a coordinate of the point or of a corner that is no whole number of steps."
+-- "The planform is checked first, then the length limits on the point's own x and height, zero or negative allowed,
+-- fields 17 and 18. Turned away last: 24, an ellipse; then 25, a coordinate of the point or of a corner that is no
+-- whole number of steps."
 unfoldable pub drillCheck : Planform → List Float → Float → Float → Verdict
 drillCheck planform points x height =
     firstOf

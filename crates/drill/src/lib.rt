@@ -1,7 +1,8 @@
 // Where may I drill? Whether a point is inside a fin, on its edge or outside, and which corner is nearest.
 //
-// Document 02, "Where may I drill?". Coordinates are read as f64s once, and from then on all is whole numbers of cutter steps of
-// 2^-20 m (`steps`, `polygons`). A length is at most 2^26 steps, and sweep + tip, which is summed in steps, at most 2^27.
+// Document 02, "Where may I drill?". Coordinates are read as f64s once, and from then on all is whole numbers of cutter
+// steps of 2^-20 m (`steps`, `polygons`). A length is at most 2^26 steps, and sweep + tip, which is summed in steps, at
+// most 2^27.
 ghost use mathlib.Core.Path.{_≡_};
 ghost use Prim.Native.Nat.{_^_, _<_, _≤_};
 ghost use mathlib.Core.Bool.{true};

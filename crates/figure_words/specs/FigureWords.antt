@@ -1,6 +1,7 @@
--- "A figure may be an optional `+` or `-`, then 1 to 19 digits in all and one optional point with a digit on each side .. Sixteen hexadecimal digits
--- now need a leading `#` .. Turned away: a word of neither shape where a figure belongs, or sixteen bare digits, which an old line meant
--- otherwise" (document 02, Paper 2). A word is any list of bytes here; `NotFigure` is what is turned away.
+-- "A figure may be an optional `+` or `-`, then 1 to 19 digits in all and one optional point with a digit on each side
+-- .. Sixteen hexadecimal digits now need a leading `#` .. Turned away: a word of neither shape where a figure belongs,
+-- or sixteen bare digits, which an old line meant otherwise" (document 02, Paper 2). A word is any list of bytes here;
+-- `NotFigure` is what is turned away.
 use mathlib.Core.List.{List, [], _∷_}
 use mathlib.Core.Bool.{Bool, true, false, _&&_, not, cond}
 use Prim.Native.Nat.{ℕ, _+_, _*_}
@@ -17,7 +18,7 @@ use Rattle.decimals.specs.Decimals.{decimalOf}
 abbrev pub isDigit : ℕ → Bool
 isDigit b = ltb (digitValue b) 10
 
--- the digits at a text's start, and what stands behind them
+-- the digits at a text's start, and what stands after them
 unfoldable pub leadingDigits : List ℕ → List ℕ
 leadingDigits [] = []
 leadingDigits (b ∷ l) = cond (isDigit b) (b ∷ leadingDigits l) []
@@ -26,7 +27,7 @@ unfoldable pub behindDigits : List ℕ → List ℕ
 behindDigits [] = []
 behindDigits (b ∷ l) = cond (isDigit b) (behindDigits l) (b ∷ l)
 
--- the whole number that digits write behind those that make up n
+-- the whole number that digits write after those that make up n
 unfoldable pub numberFrom : ℕ → List ℕ → ℕ
 numberFrom n [] = n
 numberFrom n (b ∷ l) = numberFrom (n * 10 + digitValue b) l
@@ -37,7 +38,7 @@ numberFrom n (b ∷ l) = numberFrom (n * 10 + digitValue b) l
 abbrev pub wholeFigure : Bool → Bool → ℕ → ℕ → Figure
 wholeFigure bare minus n c = pick (leb 1 c && leb c 19 && not (bare && eqb c 16)) (Number (decimalOf minus n 0)) NotFigure
 
--- behind them stands the byte b, which must be the point (46), then l, which must be digits
+-- after them stands the byte b, which must be the point (46), then l, which must be digits
 abbrev pub pointFigure : Bool → ℕ → ℕ → ℕ → List ℕ → Figure
 pointFigure minus n c b l =
     pick (eqb b 46 && leb 1 c && leb 1 (length (leadingDigits l)) && leb (c + length (leadingDigits l)) 19 && eqb (length (behindDigits l)) 0)

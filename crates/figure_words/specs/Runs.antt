@@ -1,4 +1,5 @@
--- What a run of digits leaves to be read: the contracts of the crate's own functions, which FigureWords.antt does not use.
+-- What a run of digits leaves to be read: the contracts of the crate's own functions, which FigureWords.antt does not
+-- use.
 use mathlib.Core.List.{List}
 use mathlib.Core.Logic.{_⊎_}
 use mathlib.Core.Path.{_≡_}
@@ -12,8 +13,8 @@ pub record Least (a b r : ℕ) : Type 0 where
   pub second : r ≤ b
   pub one : (r ≡ a) ⊎ (r ≡ b)
 
--- the digits from place `at` to e of the word w, behind `before` others that make up n: with them they make up m, and what is left to read
--- from e on is what was left from `at` on
+-- the digits from place `at` to e of the word w, after `before` others that make up n: with them they make up m, and
+-- what is left to read from e on is what was left from `at` on
 pub record Runs (w : List ℕ) (at n before m e : ℕ) : Type 0 where
   pub from : at ≤ e
   pub to : e ≤ length w

@@ -1,6 +1,6 @@
-// Words where a figure belongs (document 02, Paper 2; docs/FORMS.md): `#` and sixteen lowercase hexadecimal digits of an f64's bits, or a
-// decimal: an optional sign, 1 to 19 digits in all, one optional point with a digit on each side. Exactly sixteen digits and nothing
-// else are no figure: they were bits before the mark came.
+// Words where a figure belongs (document 02, Paper 2; docs/FORMS.md): `#` and sixteen lowercase hexadecimal digits of
+// an f64's bits, or a decimal: an optional sign, 1 to 19 digits in all, one optional point with a digit on each side.
+// Exactly sixteen digits and nothing else are no figure: they were bits before the mark came.
 ghost use mathlib.Core.Path.{_≡_};
 ghost use Prim.Native.Nat.{_^_, _<_, _≤_};
 ghost use lib.ListN.{length, drop};
@@ -37,7 +37,7 @@ fn read_decimal(word: &[u8]) -> Figure
     read_unsigned(word, 0, true, false)
 }
 
-// The word from place `at` on, behind its sign; `bare` where it has none.
+// The word from place `at` on, after its sign; `bare` where it has none.
 fn read_unsigned(word: &[u8], at: usize, bare: bool, minus: bool) -> Figure
     requires { ⌜ at ≤ length (now word) ⌝ }
     ensures { λ r. ⌜ r ≡ unsignedFigure bare minus (drop at (now (word .entry))) ⌝ }
@@ -78,13 +78,13 @@ fn whole_figure(bare: bool, minus: bool, n: u64, count: usize) -> Figure
     Figure::Number(decimals::nearest_decimal(minus, n, 0))
 }
 
-// A run of digits: the number that they make up, behind those before them, and the place behind them.
+// A run of digits: the number that they make up, after those before them, and the place after them.
 struct Run {
     number: u64,
     end: usize,
 }
 
-// The digits from place `at` on, behind the `before` digits that make up n, to 19 in all.
+// The digits from place `at` on, after the `before` digits that make up n, to 19 in all.
 fn digits_from(word: &[u8], at: usize, n: u64, before: usize) -> Run
     requires { ⌜ (at ≤ length (now word)) × (before ≤ 19) × (n < 10 ^ before) ⌝ }
     ensures { λ r. ⌜ RunTo (now (word .entry)) at n before (r .number) (r .end) ⌝ }

@@ -1,5 +1,5 @@
--- What the two calls promise: the answer and the scratch, whatever is handed in, and of an accepted set demand 3's one claim about its whole
--- run, that its pieces rise, and that its samples and the numbers worked from them are finite.
+-- What the two calls promise: the answer and the scratch, whatever is handed in, and of an accepted set demand 3's one
+-- claim about its whole run, that its pieces rise, and that its samples and the numbers worked from them are finite.
 use mathlib.Core.Path.{_≡_}
 use mathlib.Core.List.{List}
 use Prim.Native.Nat.{ℕ, _*_, _≤_}
@@ -40,7 +40,8 @@ pub record SetAnswers (set : FinSet) (points : List Float) (L : ℕ) (entry : Li
       → Gives (r .verdict) (numberOf refusal) (valuesOf refusal) × (r .samples ≡ 0) × (exit ≡ entry)
   -- "A refusal carries zero figures" (demand 1); "intervals 0"
   pub zero-figures : (number : ℕ) (values : List ℕ) → Gives (r .verdict) number values → (r .body ≡ emptyBody) × (r .intervals ≡ 0)
-  -- "A set is accepted when it passes every check before the strips": it has a strip, so that demand 3 is about something, and "at most 62 strips"
+  -- "A set is accepted when it passes every check before the strips": it has a strip, so that demand 3 is about
+  -- something, and "at most 62 strips"
   pub strip-count : setCheck set points L (length entry) ≡ Accepted → (1 ≤ length (setStrips set points L)) × (length (setStrips set points L) ≤ 62)
   pub demand-3 : setCheck set points L (length entry) ≡ Accepted
       → Demand3 (setRun set points L) (setStrips set points L) (setReport r) entry exit
@@ -51,7 +52,8 @@ pub record SetAnswers (set : FinSet) (points : List Float) (L : ℕ) (entry : Li
   pub samples-finite : setCheck set points L (length entry) ≡ Accepted → SamplesFinite (setRun set points L) (setStrips set points L)
   pub numbers-finite : setCheck set points L (length entry) ≡ Accepted → NumbersFinite (setRun set points L) (setStrips set points L)
 
--- of a planform ("For area alone: 1, 2, planform, strips, 8", `FinPlanform::geometry`): area and centroid, the scratch at exit, and demand 3
+-- of a planform ("For area alone: 1, 2, planform, strips, 8", `FinPlanform::geometry`): area and centroid, the scratch
+-- at exit, and demand 3
 pub record AreaAnswers (planform : Planform) (points : List Float) (L : ℕ) (entry : List Float) (r : Area) (exit : List Float) : Type 0 where
   pub call : Does (areaCall planform points L (length entry)) r entry exit
   pub given-before-strips : (refusal : Refusal) → areaCheck planform points L (length entry) ≡ Refused refusal

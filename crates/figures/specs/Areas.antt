@@ -16,8 +16,8 @@ use Rattle.strips.specs.Strips.{Run, Worked, stripsIn, sevenWide, summedOf, scr
 use Rattle.figures.specs.declared.Area.{Area}
 use Rattle.figures.specs.Figures.{conclusionOf}
 
--- what the strips are worked from, with the area's integrand of three components, between the break heights, "divided by root chord plus span"
--- ("Set and planform"; "Const generics become two widths"); and every strip worked
+-- what the strips are worked from, with the area's integrand of three components, between the break heights, "divided
+-- by root chord plus span" ("Set and planform"; "Const generics become two widths"); and every strip worked
 abbrev pub areaRun : Planform → List Float → ℕ → Run
 areaRun planform points L =
     record { width = 3; integrand = areaThree planform points; limit = L; scale = scaleOf planform points; heights = breakHeights planform points }
@@ -33,7 +33,8 @@ abbrev pub refusedArea : Refusal → ℕ → Area
 refusedArea refusal samples =
     record { verdict = Refused refusal; «area_m2» = bits 0; «centroid_x_m» = bits 0; «centroid_span_m» = bits 0; intervals = 0; samples = samples }
 
--- the strips' area, x and height summed over it, as they were before they were divided by the scale; "Figures zero; intervals 0; samples taken so far"
+-- the strips' area, x and height summed over it, as they were before they were divided by the scale; "Figures zero;
+-- intervals 0; samples taken so far"
 abbrev pub unscaledArea : Float → List Float → Float
 unscaledArea scale v = at v 0 ⊗ scale ⊗ scale
 

@@ -67,8 +67,8 @@ concludedSet set root scale total =
 abbrev pub workedFigures : FinSet → List Float → ℕ → Figures
 workedFigures set points L = concludedSet set (rootChordOf (set .planform) points) (scaleOf (set .planform) points) (summedOf (setStrips set points L))
 
--- "Once strips have run, with figures or a refusal at the end, scratch holds, in storage order from its start, what each
--- strip wrote over the last one's; elsewhere it is unchanged." ("Refusal numbers")
+-- "Once strips have run, with figures or a refusal at the end, scratch holds, in storage order from its start, what
+-- each strip wrote over the last one's; elsewhere it is unchanged." ("Refusal numbers")
 abbrev pub workedSet : FinSet → List Float → ℕ → CallOf Figures
 workedSet set points L = record { answer = workedFigures set points L; leaves = scratchAfter (setStrips set points L) }
 

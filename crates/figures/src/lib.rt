@@ -1,5 +1,6 @@
-// A set's figures and a planform's area: every check, then the strips over the lent scratch, then one fin's body, turned and joined
-// (fins.rs, `FinSet::mass_properties` and `FinPlanform::geometry`). Any set, points, limit and scratch may be handed in.
+// A set's figures and a planform's area: every check, then the strips over the lent scratch, then one fin's body,
+// turned and joined (fins.rs, `FinSet::mass_properties` and `FinPlanform::geometry`). Any set, points, limit and
+// scratch may be handed in.
 ghost use mathlib.Core.Path.{_≡_};
 ghost use Prim.Native.Nat.{_≤_};
 ghost use lib.ListN.{length};
@@ -16,7 +17,8 @@ use planforms::Planform;
 use refusals::Refusal;
 use refusals::Verdict;
 
-// A set's body with the totals of intervals and samples. A refusal carries zero figures, no intervals, and the samples taken so far.
+// A set's body with the totals of intervals and samples. A refusal carries zero figures, no intervals, and the samples
+// taken so far.
 pub struct Figures {
     pub verdict: Verdict,
     pub body: Body,
@@ -62,8 +64,8 @@ fn conclusion(total: Integral, size: f64) -> Verdict
     refusals::first_refusal(halving::verdict_of(ending), check_size(size))
 }
 
-// The figures of a set whose strips add up to these totals, or 13 or 8: the one place where this is decided. `scale_m` is what every length of a
-// strip was divided by.
+// The figures of a set whose strips add up to these totals, or 13 or 8: the one place where this is decided. `scale_m`
+// is what every length of a strip was divided by.
 pub fn concluded(set: FinSet, root_chord_m: f64, scale_m: f64, total: Integral) -> Figures
     requires { ⌜ set .count ≤ 32 ⌝ }
     ensures { λ r. ⌜ r ≡ concludedSet set «root_chord_m» «scale_m» total ⌝ }

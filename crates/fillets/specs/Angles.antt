@@ -1,4 +1,5 @@
--- "The angle of `atan2`, its arguments r and then c, is worked so" (document 02, Paper 6). Every operation is rounded to f64.
+-- "The angle of `atan2`, its arguments r and then c, is worked so" (document 02, Paper 6). Every operation is rounded
+-- to f64.
 use mathlib.Core.List.{List, [], _∷_, map}
 use lib.Ieee.{Float}
 use Rattle.floats.specs.Operations.{_⊕_, _⊖_, _⊗_, _⊘_, bits, whole}

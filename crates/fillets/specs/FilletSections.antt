@@ -1,5 +1,5 @@
--- One fillet's section beside a fin: its area and moments (document 02, Paper 6; fins.rs, `fillet_section`, `sector`, `span_less_sine`). Every
--- operation is rounded to f64, in the Rust's order.
+-- One fillet's section beside a fin: its area and moments (document 02, Paper 6; fins.rs, `fillet_section`, `sector`,
+-- `span_less_sine`). Every operation is rounded to f64, in the Rust's order.
 use mathlib.Core.Bool.{cond}
 use mathlib.Core.List.{List, [], _∷_, map}
 use lib.Ieee.{Float, neg, le}

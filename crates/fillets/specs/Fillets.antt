@@ -1,4 +1,5 @@
--- The two fillets along one fin's root: when there are any, their refusals, and their body (document 02, Paper 6; fins.rs, `fillets`).
+-- The two fillets along one fin's root: when there are any, their refusals, and their body (document 02, Paper 6;
+-- fins.rs, `fillets`).
 use mathlib.Core.Bool.{Bool, true, false, not, _&&_, _||_, cond}
 use mathlib.Core.List.{List, [], _∷_}
 use lib.Ieee.{Float, neg, eq, lt}

@@ -1,9 +1,10 @@
 // Fillets of glue along both sides of a fin's root (fins.rs, `fillets`, `fillet_section`, `sector`, `span_less_sine`).
 //
-// A fillet's circle of radius r touches the fin's plane and the body's circle of radius rb. Its centre stands at (c, r), c = √(rb² + 2 rb r),
-// and its section is the triangle (0, 0), (c, 0), (c, r) less two circular sectors: the body's of angle θ = atan(r/c) and the fillet's of
-// π/2 − θ. With A, S_x, S_xx, S_yy one section's area and moments about the body's axis, root chord l and density ρ, the two weigh 2ρAl, and
-// about the origin I_xx = 2ρ(S_yy l + A l³/3), I_yy = 2ρ(S_xx l + A l³/3), I_zz = 2ρ(S_xx + S_yy) l, I_xz = ρ S_x l².
+// A fillet's circle of radius r touches the fin's plane and the body's circle of radius rb. Its centre stands at (c,
+// r), c = √(rb² + 2 rb r), and its section is the triangle (0, 0), (c, 0), (c, r) less two circular sectors: the body's
+// of angle θ = atan(r/c) and the fillet's of π/2 − θ. With A, S_x, S_xx, S_yy one section's area and moments about the
+// body's axis, root chord l and density ρ, the two weigh 2ρAl, and about the origin I_xx = 2ρ(S_yy l + A l³/3), I_yy =
+// 2ρ(S_xx l + A l³/3), I_zz = 2ρ(S_xx + S_yy) l, I_xz = ρ S_x l².
 ghost use mathlib.Core.Path.{_≡_};
 ghost use Rattle.fillets.specs.Angles.{halved, angleSeries, angleOf};
 ghost use Rattle.fillets.specs.FilletSections.{lessMoments, spanLessSineSeries, spanLessSineOf, sectorWith, sectorOf, triangleOf, filletSectionOf};
@@ -234,7 +235,8 @@ pub fn check_glue(fillet: Fillet) -> Verdict
     Verdict::Accepted
 }
 
-// 22: it is no more than a thousand times as wide as the body, and its section positive and finite; zero density or not.
+// 22: it is no more than a thousand times as wide as the body, and its section positive and finite; zero density or
+// not.
 pub fn check_ratio(radius_m: f64, body_radius_m: f64) -> Verdict
     ensures { λ r. ⌜ r ≡ ratioCheck «radius_m» «body_radius_m» ⌝ }
 {

@@ -42,7 +42,8 @@ tabFigures (Slab height length offset) = height ∷ length ∷ offset ∷ []
 unfoldable pub tabOf : ℕ → List Float → NumberedTab
 tabOf number figures = cond (eqb number 0) (tabKnown None) (cond (eqb number 1) (tabKnown (Slab (at figures 0) (at figures 1) (at figures 2))) noTab)
 
--- count, planform, thickness, section, tab, fillet, cant, base angle, body radius, density: a set where each part is known
+-- count, planform, thickness, section, tab, fillet, cant, base angle, body radius, density: a set where each part is
+-- known
 abbrev pub numberedSet : ℕ → NumberedPlanform → Float → NumberedSection → NumberedTab → NumberedFillet → Float → Float → Float → NumberedDensity → NumberedSet
 numberedSet count noPlanform thickness section tab fillet cant base radius density = noSet
 numberedSet count (planformKnown planform) thickness noSection tab fillet cant base radius density = noSet
@@ -90,7 +91,7 @@ setCounts = 6
 abbrev pub SetRoom : List Float → List ℕ → Type 0
 SetRoom numbers counts = (setNumbers ≤ length numbers) × (setCounts ≤ length counts)
 
--- and back, whatever stands behind it there (proofs/Numbered: `set-back`)
+-- and back, whatever stands after it there (proofs/Numbered: `set-back`)
 unfoldable pub setIn : List Float → List ℕ → NumberedSet
 setIn numbers counts =
     numberedSet (getD counts 0 0)

@@ -1,8 +1,8 @@
 // A set of fins, and every check of it before the strips (fins.rs, `FinSet::validate` and the checks of `single_fin`).
 //
-// Document 01, "Order": 1, 2, 3; the planform; thickness; cant, base angle; the tab with 10; body radius; 11; 12; and document 02's 21
-// directly after the thickness, a fillet's radius before the tab, its density and 22 behind the plate's. Each check stands for itself, and the
-// first refusal is the answer.
+// Document 01, "Order": 1, 2, 3; the planform; thickness; cant, base angle; the tab with 10; body radius; 11; 12; and
+// document 02's 21 directly after the thickness, a fillet's radius before the tab, its density and 22 after the
+// plate's. Each check stands for itself, and the first refusal is the answer.
 ghost use mathlib.Core.Path.{_≡_};
 ghost use Rattle.refusals.specs.Given.{IsVerdict};
 ghost use Rattle.refusals.specs.Order.{firstOf};
@@ -379,7 +379,8 @@ pub fn check_own(set: FinSet, points: &[f64]) -> Verdict
     check_fillet(fillet, set.body_radius_m)
 }
 
-// The first refusal of a set before its strips: of the interval limit, of the length of the lent scratch, of the set itself.
+// The first refusal of a set before its strips: of the interval limit, of the length of the lent scratch, of the set
+// itself.
 pub fn check_set(set: FinSet, points: &[f64], limit: usize, scratch_len: usize) -> Verdict
     ensures { λ r. ⌜ IsVerdict r (setCheck set (now (points .entry)) limit «scratch_len») ⌝ }
 {

@@ -1,4 +1,5 @@
--- The card program's forms (docs/FORMS.md), each as it is written there. A word of a form in capitals is a part, with alternatives of its own.
+-- The card program's forms (docs/FORMS.md), each as it is written there. A word of a form in capitals is a part, with
+-- alternatives of its own.
 use mathlib.Core.List.{List, [], _∷_}
 use mathlib.Core.Bool.{Bool, true, false, _&&_, not, cond}
 use Prim.Native.Nat.{ℕ}
@@ -82,7 +83,8 @@ abbrev pub numberIn : Reading → ℕ
 numberIn failed = 0
 numberIn (reading ts t) = t .number
 
--- The counts and parts of a form, the last first: of each how many figures stand up to its end, and its number. No form has more than eight.
+-- The counts and parts of a form, the last first: of each how many figures stand up to its end, and its number. No form
+-- has more than eight.
 abbrev pub noNumbers : List ℕ
 noNumbers = 0 ∷ 0 ∷ 0 ∷ 0 ∷ 0 ∷ 0 ∷ 0 ∷ 0 ∷ 0 ∷ 0 ∷ 0 ∷ 0 ∷ 0 ∷ 0 ∷ 0 ∷ 0 ∷ []
 
@@ -107,8 +109,8 @@ abbrev pub pickAsked : Bool → Asked → Asked → Asked
 pickAsked true a b = a
 pickAsked false a b = b
 
--- a form ends where the line's tokens do. "Turned away: 19, a word of neither shape where a figure belongs, or sixteen bare digits ..; after 18 and
--- before 1" (document 02, Paper 2): so the line is a form, and nothing of it is asked
+-- a form ends where the line's tokens do. "Turned away: 19, a word of neither shape where a figure belongs, or sixteen
+-- bare digits ..; after 18 and before 1" (document 02, Paper 2): so the line is a form, and nothing of it is asked
 abbrev pub ended : Form → List ℕ → Reading → Asked
 ended form ns failed = refused noForm
 ended form ns (reading [] t) = pickAsked (t .spoiled) (refused noFigure) (asked form ns (t .figures))
@@ -126,7 +128,7 @@ start line = reading (tokens line) (record { figures = []; number = 0; spoiled =
 abbrev pub readAs : Form → List ℕ → List ℕ → Asked
 readAs form template line = readItems form (tokens template) noNumbers (start line)
 
--- ---- the forms, by the word behind the first bracket
+-- ---- the forms, by the word after the first bracket
 
 abbrev pub wordOf : List ℕ → List ℕ
 wordOf line = getD (tokens line) 1 []
@@ -135,7 +137,8 @@ wordOf line = getD (tokens line) 1 []
 abbrev pub row : List ℕ → String → Form → String → Asked → Asked
 row line word form template others = pickAsked (sameBytes (wordOf line) (text word)) (readAs form (text template) line) others
 
--- the engine on lines (document 02, Papers 9 and 10): a screen's number and a whole set; a density for the job of a screen; a turn
+-- the engine on lines (document 02, Papers 9 and 10): a screen's number and a whole set; a density for the job of a
+-- screen; a turn
 unfoldable pub engineForm : List ℕ → Asked
 engineForm line =
     row line "submit" Submit "(submit N (set (limit N) (count N) PLANFORM (thickness F) (section SECTION) TAB FILLET (cant F) (base F) (radius F) DENSITY))"

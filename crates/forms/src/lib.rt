@@ -1,7 +1,7 @@
 // The card program's forms (docs/FORMS.md): what a line asks, and its figures.
 //
-// The word behind the first bracket says which form a line is, and the form is read by its template; a line that does not fit, or goes on
-// behind the last bracket, is no form.
+// The word after the first bracket says which form a line is, and the form is read by its template; a line that does
+// not fit, or goes on after the last bracket, is no form.
 ghost use mathlib.Core.Path.{_≡_};
 ghost use Prim.Native.Nat.{_≤_};
 ghost use lib.ListN.{length};
@@ -35,8 +35,8 @@ pub enum Form {
     NoForm,
 }
 
-// What a line asks, or why it is refused: how many figures the line has; and its counts and parts, the last first, of each how many figures
-// stand up to its end, and its number.
+// What a line asks, or why it is refused: how many figures the line has; and its counts and parts, the last first, of
+// each how many figures stand up to its end, and its number.
 pub struct Request {
     pub form: Form,
     pub verdict: Verdict,
@@ -216,7 +216,7 @@ fn read_form(line: &[u8], form: Form, template: &[u8], values: &mut [f64]) -> Re
     end_form(line, form, s, items)
 }
 
-// The word behind the line's first bracket.
+// The word after the line's first bracket.
 fn word_of(line: &[u8]) -> Found
     ensures { λ r. ⌜ IsWordOf (now (line .entry)) r ⌝ }
 {
@@ -301,7 +301,8 @@ fn read_later_form(line: &[u8], word: &[u8], values: &mut [f64]) -> Request
     read_body_form(line, word, values)
 }
 
-// What a line asks; its figures go to the start of values, which has room for one of each byte of a line that is not too long.
+// What a line asks; its figures go to the start of values, which has room for one of each byte of a line that is not
+// too long.
 pub fn read_line(line: &[u8], values: &mut [f64]) -> Request
     requires { ⌜ (length (now line) ≤ lineBytes → length (now line) ≤ length (now values)) ⌝ }
     ensures { λ r. ⌜ Reads (now (values .exit)) r (lineAsked (now (line .entry))) ⌝ }

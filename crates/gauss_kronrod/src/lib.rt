@@ -2,14 +2,14 @@
 //
 //     K = Σ w_i f(±x_i),   G = Σ v_j f(±x_{2j+1}),   the centre x_7 = 0 counted once.
 //
-// Document 01, "Piece and tally": each rule gives the integral of the even powers within 2^-48, the Kronrod rule up to the
-// 22nd, the Gauss rule up to the 12th (proofs/RuleMoments.antt). Past the end of a table the answer is a NaN.
+// Document 01, "Piece and tally": each rule gives the integral of the even powers within 2^-48, the Kronrod rule up to
+// the 22nd, the Gauss rule up to the 12th (proofs/RuleMoments.antt). Past the end of a table the answer is a NaN.
 ghost use mathlib.Core.Path.{_≡_};
 ghost use Rattle.floats.specs.Operations.{at};
 ghost use Rattle.gauss_kronrod.specs.Tables.{nodes, kronrodWeights, gaussWeights};
 
-// The published digits; each constant is the nearest f64. The fifth node is QUADPACK's: the Rust has other digits from the
-// 26th place on, and the same f64.
+// The published digits; each constant is the nearest f64. The fifth node is QUADPACK's: the Rust has other digits from
+// the 26th place on, and the same f64.
 const NODES: [f64; 8] = [
     0.991_455_371_120_812_639_206_854_697_526_329,
     0.949_107_912_342_758_524_526_189_684_047_851,

@@ -1,5 +1,5 @@
--- "Sorted by start, the pieces of an accepted strip strictly rise, every cut lying between its parent's ends as f64 compares them" (document
--- 02, Paper 14).
+-- "Sorted by start, the pieces of an accepted strip strictly rise, every cut lying between its parent's ends as f64
+-- compares them" (document 02, Paper 14).
 use mathlib.Core.Path.{_≡_}
 use mathlib.Core.Bool.{true, cond}
 use mathlib.Core.List.{List, [], _∷_}

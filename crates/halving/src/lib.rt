@@ -1,7 +1,11 @@
 // The integral over one strip by halving (quadrature.rs, `integrate`; document 01, "Piece and tally").
 //
-// The worst piece is halved until every component's summed error is within its bound (`tolerance`), or until the limit or the f64s allow no
-// more. The pieces lie in the lent scratch (`pieces`).
+// This is the strategy of QUADPACK's QAG (Piessens and others, QUADPACK, Springer, 1983, sections 2.2 and 3.3), for a
+// vector of components: the piece that is halved is the worst by its error over the component's bound, not by its error
+// alone.
+//
+// The worst piece is halved until every component's summed error is within its bound (`tolerance`), or until the limit
+// or the f64s allow no more. The pieces lie in the lent scratch (`pieces`).
 ghost use mathlib.Core.Path.{_≡_};
 ghost use Prim.Native.Nat.{_+_, _*_, _<_, _≤_};
 ghost use lib.ListN.{length};
@@ -32,7 +36,8 @@ pub fn verdict_of(ending: Ending) -> Verdict
     }
 }
 
-// The answer for one strip, and for the strips of a set: the ending, the integral of each component, the intervals and the samples.
+// The answer for one strip, and for the strips of a set: the ending, the integral of each component, the intervals and
+// the samples.
 pub struct Integral {
     pub ending: Ending,
     pub value: [f64; 7],
@@ -98,8 +103,8 @@ fn judge(scratch: &[f64], n: usize, limit: usize) -> Judged
     }
 }
 
-// Measures the left half of the piece at a place, then the right. The left half replaces it and the right is stored behind the n pieces.
-// The answer is how many samples both took.
+// Measures the left half of the piece at a place, then the right. The left half replaces it and the right is stored
+// after the n pieces. The answer is how many samples both took.
 fn halve(scratch: &mut [f64], integrand: Integrand, points: &[f64], n: usize, place: usize) -> usize
     requires { ⌜ (place < n) × (n * 16 + 16 ≤ length (now scratch)) ⌝ }
     ensures { λ r. ⌜ HalvesPiece (sampleOf integrand (now (points .entry))) n place (now (scratch .entry)) r (now (scratch .exit)) ⌝ }

@@ -1,5 +1,5 @@
--- Figures as text (document 01, "The card program"): "16 lowercase hexadecimal digits of the f64's bits; either zero prints as
--- all 0, a NaN as 7ff8000000000000".
+-- Figures as text (document 01, "The card program"): "16 lowercase hexadecimal digits of the f64's bits; either zero
+-- prints as all 0, a NaN as 7ff8000000000000".
 use mathlib.Core.List.{List, [], _∷_, _++_}
 use mathlib.Core.Bool.{Bool, true, false, _&&_, cond}
 use Prim.Native.Nat.{ℕ, zero, suc, _+_, _-_, _*_, _/_, _%_}
@@ -21,7 +21,7 @@ abbrev pub pick : Bool → Figure → Figure → Figure
 pick true a b = a
 pick false a b = b
 
--- digit by digit, the most significant first, behind the digits that make up n
+-- digit by digit, the most significant first, after the digits that make up n
 unfoldable pub readDigits : List ℕ → ℕ → Figure
 readDigits [] n = Number (bits n)
 readDigits (b ∷ bs) n = pick (ltb (digitValue b) 16) (readDigits bs (n * 16 + digitValue b)) NotFigure
@@ -40,8 +40,9 @@ unfoldable pub digits : ℕ → ℕ → List ℕ
 digits zero n = []
 digits (suc k) n = digits k (n / 16) ++ (digitLetter (n % 16) ∷ [])
 
--- the bits that are printed: 0 for either zero, else x's own. The logic has one NaN, whose bits `toBits` gives as 7ff8000000000000 (a row of
--- test_definitions/Numbers, `printed-figures`, computes its digits); so does `floats::to_bits`, whatever pattern a NaN has in the machine.
+-- the bits that are printed: 0 for either zero, else x's own. The logic has one NaN, whose bits `toBits` gives as
+-- 7ff8000000000000 (a row of test_definitions/Numbers, `printed-figures`, computes its digits); so does
+-- `floats::to_bits`, whatever pattern a NaN has in the machine.
 abbrev pub printedBits : Float → ℕ
 printedBits x = cond (eq x (bits 0)) 0 (toBits binary64 x)
 

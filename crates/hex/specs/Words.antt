@@ -1,5 +1,5 @@
--- What the functions inside `read_figure` do. A machine word is eight bytes as one number, the first byte the most significant; lanes
--- are the parts of a number, k bits each. No promise to a caller uses this file.
+-- What the functions inside `read_figure` do. A machine word is eight bytes as one number, the first byte the most
+-- significant; lanes are the parts of a number, k bits each. No promise to a caller uses this file.
 use mathlib.Core.List.{List, [], _∷_}
 use mathlib.Core.Bool.{Bool, true, _&&_}
 use Prim.Native.Nat.{ℕ, zero, suc, _+_, _*_, _/_, _%_, _^_}
@@ -20,12 +20,13 @@ bytesBefore (suc k) w l = bytesBefore k (w / 256) (w % 256 ∷ l)
 abbrev pub bytesOf : ℕ → List ℕ
 bytesOf w = bytesBefore 8 w []
 
--- n, and behind it f of each of l, k bits each
+-- n, and after it f of each of l, k bits each
 unfoldable pub lanes : ℕ → ℕ → (ℕ → ℕ) → List ℕ → ℕ
 lanes k n f [] = n
 lanes k n f (b ∷ l) = lanes k (n * 2 ^ k + f b) f l
 
--- a byte taken for a digit: its low four bits, and 9 more where it has the bit of weight 64, as letters have; four bits of that
+-- a byte taken for a digit: its low four bits, and 9 more where it has the bit of weight 64, as letters have; four bits
+-- of that
 abbrev pub taken : ℕ → ℕ
 taken b = (b % 16 + 9 * (b / 64 % 2)) % 16
 

@@ -1,7 +1,8 @@
-// Figures as text: sixteen lowercase hexadecimal digits of an f64's bits, read and printed (document 01, "The card program").
+// Figures as text: sixteen lowercase hexadecimal digits of an f64's bits, read and printed (document 01, "The card
+// program").
 //
-// The sixteen digits are read as two machine words of eight bytes each, and an operation on one works on all its bytes at once (document
-// 02, Paper 5): no byte of a sum reaches 256, so that none carries into the next.
+// The sixteen digits are read as two machine words of eight bytes each, and an operation on one works on all its bytes
+// at once (document 02, Paper 5): no byte of a sum reaches 256, so that none carries into the next.
 ghost use mathlib.Core.Path.{_≡_};
 ghost use mathlib.Core.Bool.{true};
 ghost use Prim.Native.Nat.{_+_, _<_, _≤_};
@@ -23,7 +24,8 @@ fn byte_at(text: &[u8], i: usize) -> u64
     text[i] as u64
 }
 
-// The machine word of the eight bytes from place `at` on. The last byte stands first here, as then the eight reads are compiled to one.
+// The machine word of the eight bytes from place `at` on. The last byte stands first here, as then the eight reads are
+// compiled to one.
 fn load(text: &[u8], at: usize) -> u64
     requires { ⌜ at + 8 ≤ length (now text) ⌝ }
     ensures { λ r. ⌜ bytesOf r ≡ take 8 (drop at (now (text .entry))) ⌝ }

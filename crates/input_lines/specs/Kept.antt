@@ -20,7 +20,7 @@ pub record KeepsBytes (before after : List ℕ) (s r : State) (bytes : List ℕ)
   pub within : r .kept ≤ lineBytes
   pub keeps : (begun : List ℕ) → Keeps before s begun → Keeps after r (begun ++ bytes)
 
--- the bytes of a line kept, up to its newline or their end: behind whatever has begun, no line ends in them
+-- the bytes of a line kept, up to its newline or their end: after whatever has begun, no line ends in them
 pub record KeepsLine (before after : List ℕ) (s : State) (bytes : List ℕ) (r : KeptLine) : Type 0 where
   pub none-ends : (begun : List ℕ) → linesWithin begun (take (r .taken) bytes) ≡ []
   pub keeps : (begun : List ℕ) → Keeps before s begun → Keeps after (r .state) (begunAfter begun (take (r .taken) bytes))

@@ -1,5 +1,5 @@
-// The lines of an input that comes byte by byte (document 01, "The card program"): the line that has begun is kept in a lent buffer of 4,096 bytes;
-// of a longer line it is only known that there were more.
+// The lines of an input that comes byte by byte (document 01, "The card program"): the line that has begun is kept in a
+// lent buffer of 4,096 bytes; of a longer line it is only known that there were more.
 ghost use mathlib.Core.Path.{_≡_};
 ghost use mathlib.Core.List.{List, []};
 ghost use Prim.Native.Nat.{ℕ, _≤_, min};

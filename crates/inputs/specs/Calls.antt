@@ -1,5 +1,6 @@
--- Calls in a row: `no_line`, chunks handed to `feed`, and `finish`. Each call is known by its contract alone, with the buffer, the state, the
--- scratch and the engine as the call before it left them. How the input is cut into chunks, and how much room a call finds in `out`, is open.
+-- Calls in a row: `no_line`, chunks handed to `feed`, and `finish`. Each call is known by its contract alone, with the
+-- buffer, the state, the scratch and the engine as the call before it left them. How the input is cut into chunks, and
+-- how much room a call finds in `out`, is open.
 use mathlib.Core.List.{List, [], _++_}
 use Prim.Native.Nat.{ℕ, _≤_}
 use lib.ListN.{length, take, drop}
@@ -13,8 +14,8 @@ use Rattle.inputs.specs.declared.Fed.{Fed}
 abbrev pub appendedIn : List ℕ → ℕ → ℕ → List ℕ
 appendedIn out n w = drop n (take w out)
 
--- the calls so far, over scratch and engine that were `memory₀`: what is left of the last chunk; buffer, state and memory as they are; all chunks
--- joined; and all that was appended, joined
+-- the calls so far, over scratch and engine that were `memory₀`: what is left of the last chunk; buffer, state and
+-- memory as they are; all chunks joined; and all that was appended, joined
 pub data Calls (memory₀ : Memory) : List ℕ → List ℕ → State → Memory → List ℕ → List ℕ → Type 0 where
   -- `no_line` gave the state
   begins : (buffer : List ℕ) (s : State) → ((b : List ℕ) → Keeps b s []) → Calls memory₀ [] buffer s memory₀ [] []

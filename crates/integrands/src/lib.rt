@@ -1,7 +1,8 @@
-// The integrands of a fin's figures: seven values at a height (fins.rs, the closures of `geometry` and `fin_integrals`).
+// The integrands of a fin's figures: seven values at a height (fins.rs, the closures of `geometry` and
+// `fin_integrals`).
 //
-// A strip's lengths are divided by the scale, root chord plus span, and so is the height h that comes in. The chords are
-// worked in metres, at h·scale, and their ends a and b divided. Summed over the chords, from 0:
+// A strip's lengths are divided by the scale, root chord plus span, and so is the height h that comes in. The chords
+// are worked in metres, at h·scale, and their ends a and b divided. Summed over the chords, from 0:
 //
 //     area:  b − a,  (b² − a²)/2,  h·(b − a), and four zeros
 //     plate: M_0, M_1, M_2 and T of each chord (`sections::chord_moments`); with r = body radius + h the values are
@@ -84,8 +85,8 @@ pub fn sample(integrand: Integrand, points: &[f64], h: f64) -> [f64; 7]
     values_over(found, kind, scale, points, &edges[..n], h)
 }
 
-// The chords that the values at the height h are summed over, in metres. The edges listed have every crossing there of an
-// outline.
+// The chords that the values at the height h are summed over, in metres. The edges listed have every crossing there of
+// an outline.
 pub fn chords_at(integrand: Integrand, points: &[f64], edges: &[u8], h: f64) -> Chords
     requires { ⌜ HoldingAt integrand (now points) (now edges) h ⌝ }
     ensures { λ r. ⌜ r ≡ chordsFor integrand (now (points .entry)) h ⌝ }

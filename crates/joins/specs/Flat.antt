@@ -1,4 +1,5 @@
--- "The bodies of one set lie one after another in a lent list" (document 01, "Body"): the numbers of each (bodies/specs/Layout).
+-- "The bodies of one set lie one after another in a lent list" (document 01, "Body"): the numbers of each
+-- (bodies/specs/Layout).
 use mathlib.Core.List.{List, [], _++_}
 use Prim.Native.Nat.{ℕ, zero, suc, _+_, _*_}
 use lib.ListN.{take, drop}

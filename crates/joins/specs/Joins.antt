@@ -39,7 +39,8 @@ sumsOf f n =
       count = inOrder (λ x y. x ⊕ y) (bits 0) (λ k. one) n;
     }
 
--- "a total mass not above 0 takes the mean position; with NaN mass, a NaN centre"; the origin for no bodies (the Rust's)
+-- "a total mass not above 0 takes the mean position; with NaN mass, a NaN centre"; the origin for no bodies (the
+-- Rust's)
 abbrev pub centreOf : Sums → Vector
 centreOf s =
     cond (ne (s .«mass_kg») (s .«mass_kg»)) (vector nan nan nan)

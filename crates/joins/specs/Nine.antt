@@ -1,5 +1,5 @@
--- The tensors of joined bodies by document 01's nine numbers in columns (bodies/specs/Nine). Nothing is worked with these: proofs/JoinedSix.antt
--- shows that they are symmetric bit for bit, and that the join's six stand in them.
+-- The tensors of joined bodies by document 01's nine numbers in columns (bodies/specs/Nine). Nothing is worked with
+-- these: proofs/JoinedSix.antt shows that they are symmetric bit for bit, and that the join's six stand in them.
 use Prim.Native.Nat.{ℕ}
 use Rattle.bodies.specs.declared.Body.{Body}
 use Rattle.bodies.specs.declared.Matrix.{Matrix}

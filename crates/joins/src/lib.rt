@@ -1,9 +1,9 @@
 // Several bodies joined into one rigid body (mass.rs, `MassProperties::combine`).
 //
-// m = Σ mₖ, centre = Σ mₖ cₖ / m, I = Σ [Iₖ + mₖ (|dₖ|² E − dₖ dₖᵀ)] with dₖ = cₖ − centre, the sums in order and from +0. A total
-// mass not above 0 takes the mean of the centres, a NaN mass a NaN centre (document 01, "Body"). The steps are by value. The bodies lie
-// one after another, in a lent list of structs (document 01, "Places and their forms") or, at the library's edge, as their numbers; either is
-// read twice, body by body.
+// m = Σ mₖ, centre = Σ mₖ cₖ / m, I = Σ [Iₖ + mₖ (|dₖ|² E − dₖ dₖᵀ)] with dₖ = cₖ − centre, the sums in order and from
+// +0. A total mass not above 0 takes the mean of the centres, a NaN mass a NaN centre (document 01, "Body"). The steps
+// are by value. The bodies lie one after another, in a lent list of structs (document 01, "Places and their forms") or,
+// at the library's edge, as their numbers; either is read twice, body by body.
 ghost use mathlib.Core.Path.{_≡_};
 ghost use Prim.Native.Nat.{_+_, _*_, _≤_};
 ghost use lib.ListN.{length};
@@ -46,7 +46,8 @@ pub fn refused(refusal: Refusal) -> Joined
     Joined { verdict, body }
 }
 
-// One to 32 bodies joined, by their numbers; numbers of none or of more, or of no whole number of bodies, are refused 3.
+// One to 32 bodies joined, by their numbers; numbers of none or of more, or of no whole number of bodies, are refused
+// 3.
 pub fn combine(numbers: &[f64]) -> Joined
     ensures { λ r. ⌜ IsJoined r (combineOf (now (numbers .entry))) ⌝ }
 {

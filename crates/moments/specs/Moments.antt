@@ -78,8 +78,8 @@ sweeps (suc n) a = cond (eq (offDiagonal a) (bits 0)) a (sweeps n (sweep a))
 
 -- ---- the moments
 
--- ascending, by insertion: in front of the first that is above it, so that equal ones keep their order. sorting's `insert` goes in front
--- of those that are all above it: where one is a NaN the two give other lists.
+-- ascending, by insertion: in front of the first that is above it, so that equal ones keep their order.
+-- sorting's `insert` goes in front of those that are all above it: where one is a NaN the two give other lists.
 unfoldable pub insertMoment : Float → List Float → List Float
 insertMoment x [] = x ∷ []
 insertMoment x (y ∷ ys) = cond (lt x y) (x ∷ y ∷ ys) (y ∷ insertMoment x ys)
@@ -91,7 +91,8 @@ insertAll sorted (x ∷ xs) = insertAll (insertMoment x sorted) xs
 abbrev pub ascending : List Float → List Float
 ascending xs = insertAll [] xs
 
--- the sweeps work on nine entries. The Rust takes the means of opposite entries first, which changes nothing of six (proofs/FirstStep.antt)
+-- the sweeps work on nine entries. The Rust takes the means of opposite entries first, which changes nothing of six
+-- (proofs/FirstStep.antt)
 unfoldable pub eigenvaluesOf : Tensor → List Float
 eigenvaluesOf t = let a = sweeps 32 (asMatrix t) in ascending (entry a 0 0 ∷ entry a 1 1 ∷ entry a 2 2 ∷ [])
 

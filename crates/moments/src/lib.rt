@@ -1,8 +1,9 @@
 // The principal moments of a tensor: its eigenvalues, ascending (mass.rs, `principal_moments_kg_m2`).
 //
-// Cyclic Jacobi: each sweep turns the planes (0, 1), (0, 2), (1, 2) in that order, Jᵀ A J with the rotation J of Golub and Van Loan,
-// Matrix Computations, algorithm 8.5.1, so that the entry of the plane becomes small. The entry is not set to 0, and both triangles
-// are kept, as in the Rust: the sweeps work on nine numbers in columns, row i of column j is number 3 j + i.
+// Cyclic Jacobi: each sweep turns the planes (0, 1), (0, 2), (1, 2) in that order, Jᵀ A J with the rotation J of Golub
+// and Van Loan, Matrix Computations, algorithm 8.5.1, so that the entry of the plane becomes small. The entry is not
+// set to 0, and both triangles are kept, as in the Rust: the sweeps work on nine numbers in columns, row i of column j
+// is number 3 j + i.
 ghost use mathlib.Core.Path.{_≡_};
 ghost use mathlib.Core.List.{[], _∷_};
 ghost use Prim.Native.Nat.{_<_};
@@ -180,7 +181,8 @@ fn tangent(tau: f64) -> f64
     1.0 / (tau - root)
 }
 
-// Three numbers ascending, by insertion; of two zeros, whose order document 01 leaves free, the first given stays first.
+// Three numbers ascending, by insertion; of two zeros, whose order document 01 leaves free, the first given stays
+// first.
 fn sort(x: f64, y: f64, z: f64) -> [f64; 3]
     ensures { λ r. ⌜ r ≡ ascending (x ∷ y ∷ z ∷ []) ⌝ }
 {

@@ -1,8 +1,8 @@
-// The checks of a planform: of its lengths, or of a drawn outline how many points, their limits, where it starts and ends, that it touches
-// itself nowhere, its area.
+// The checks of a planform: of its lengths, or of a drawn outline how many points, their limits, where it starts and
+// ends, that it touches itself nowhere, its area.
 //
-// Of an outline document 01's refusals 5, 4, 6, 7, 8 in that order (fins.rs, `validate_outline`). Of n points, each an x and a height in a flat
-// slice, edge i runs from point i to point i + 1, and edge n - 1 back to point 0.
+// Of an outline document 01's refusals 5, 4, 6, 7, 8 in that order (fins.rs, `validate_outline`). Of n points, each an
+// x and a height in a flat slice, edge i runs from point i to point i + 1, and edge n - 1 back to point 0.
 ghost use mathlib.Core.Path.{_≡_};
 ghost use Prim.Native.Nat.{_+_, _<_};
 ghost use Rattle.refusals.specs.Given.{IsVerdict};

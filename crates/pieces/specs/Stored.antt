@@ -10,7 +10,7 @@ use Rattle.quadrature.specs.declared.Piece.{Piece}
 abbrev pub numbersOf : Piece → List Float
 numbersOf p = p .start ∷ p .end ∷ (tabulate 7 (at (p .value)) ++ tabulate 7 (at (p .error)))
 
--- a piece with d zeros, each +0, behind its values and its errors: "an area run uses three of the seven, the rest zero"
+-- a piece with d zeros, each +0, after its values and its errors: "an area run uses three of the seven, the rest zero"
 abbrev pub widened : ℕ → Piece → Piece
 widened d p = record { start = p .start; end = p .end; value = p .value ++ replicate d (bits 0); error = p .error ++ replicate d (bits 0) }
 
@@ -19,8 +19,8 @@ abbrev pub stored : List Piece → List Float
 stored [] = []
 stored (p ∷ pieces) = numbersOf p ++ stored pieces
 
--- "scratch holds, in storage order from its start, what each strip wrote ..; elsewhere it is unchanged", and "What a strip wrote is the
--- pieces it ended with"
+-- "scratch holds, in storage order from its start, what each strip wrote ..; elsewhere it is unchanged", and "What a
+-- strip wrote is the pieces it ended with"
 abbrev pub written : List Piece → List Float → List Float
 written pieces scratch = stored pieces ++ drop (length pieces * 16) scratch
 

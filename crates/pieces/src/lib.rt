@@ -1,4 +1,5 @@
-// Pieces in the lent scratch (document 01, "Piece and tally"): sixteen numbers each, start, end, seven values, seven errors.
+// Pieces in the lent scratch (document 01, "Piece and tally"): sixteen numbers each, start, end, seven values, seven
+// errors.
 ghost use mathlib.Core.Path.{_≡_};
 ghost use Prim.Native.Nat.{_+_, _*_, _≤_};
 ghost use lib.ListN.{length};

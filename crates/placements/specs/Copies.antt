@@ -25,7 +25,8 @@ turnedCopy b roll = cond (eq roll (bits 0)) b (rolledOf b roll)
 unfoldable pub copyAt : Body → Placement → Body
 copyAt b p = translatedOf (turnedCopy b (p .«roll_rad»)) (vector (p .«offset_x_m») (p .«offset_y_m») (bits 0))
 
--- "One place that neither moves nor turns is `body` itself, bit for bit" (the Rust's): of the first n places of a family
+-- "One place that neither moves nor turns is `body` itself, bit for bit" (the Rust's): of the first n places of a
+-- family
 unfoldable pub placedOf : Body → (ℕ → Placement) → ℕ → Body
 placedOf b places n = cond (eqb n 1 && isHere (places 0)) b (joinOf (λ k. copyAt b (places k)) n)
 

@@ -36,7 +36,8 @@ partMovedOf whole part offset =
 abbrev pub offsetChecks : Vector → List Verdict
 offsetChecks offset = lengthCheck offsetField (offset .x) ∷ lengthCheck offsetField (offset .y) ∷ lengthCheck offsetField (offset .z) ∷ []
 
--- "Each body handed in, the whole before the part, is checked 15 to 17 first"; 26: "a part is moved in a body of mass 0, last"
+-- "Each body handed in, the whole before the part, is checked 15 to 17 first"; 26: "a part is moved in a body of mass
+-- 0, last"
 unfoldable pub movedCheck : Body → Body → Vector → Verdict
 movedCheck whole part offset =
     firstOf

@@ -24,7 +24,7 @@ here = place (bits 0) (bits 0) (bits 0)
 abbrev pub isHere : Placement → Bool
 isHere p = eq (p .«offset_x_m») (here .«offset_x_m») && eq (p .«offset_y_m») (here .«offset_y_m») && eq (p .«roll_rad») (here .«roll_rad»)
 
--- ---- a list of places: x and y of each, and in a list with rolls its roll behind them
+-- ---- a list of places: x and y of each, and in a list with rolls its roll after them
 
 abbrev pub numbersEach : Bool → ℕ
 numbersEach true = 3
@@ -47,7 +47,8 @@ placeAt false numbers k = place (at numbers (2 * k)) (at numbers (2 * k + 1)) (b
 abbrev pub listCheck : Bool → List Float → Verdict
 listCheck rolled numbers = cond (isWholeList rolled numbers) (countCheck (placeCount rolled numbers)) (Refused Count)
 
--- "Offsets obey the length limits, zero and negative allowed, with field 19 for each number of an offset; roll obeys the angle limit, field 20"
+-- "Offsets obey the length limits, zero and negative allowed, with field 19 for each number of an offset; roll obeys
+-- the angle limit, field 20"
 abbrev pub placeCheck : Placement → Verdict
 placeCheck p = firstOf (lengthCheck offsetField (p .«offset_x_m») ∷ lengthCheck offsetField (p .«offset_y_m») ∷ angleCheck rollField (p .«roll_rad») ∷ [])
 

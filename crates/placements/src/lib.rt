@@ -1,9 +1,10 @@
-// Clusters and removals: copies of one body at places across the axis, joined; a part moved inside a body, or taken off it (mass.rs,
-// `Placement`, `copied`, `placed`, `with_part_moved`, `without_part`).
+// Clusters and removals: copies of one body at places across the axis, joined; a part moved inside a body, or taken off
+// it (mass.rs, `Placement`, `copied`, `placed`, `with_part_moved`, `without_part`).
 //
-// A copy is the body rolled about the axis by its place's angle, then moved by its offset. Places stand in a lent list as numbers, x and y
-// of each and, in a list with rolls, the roll behind them. Masses and centres have no upper limit, so a figure may be infinite or NaN, as
-// the Rust's is. Taking a part off and putting it on again conserves mass only up to rounding (docs/DIFFERENCES.md).
+// A copy is the body rolled about the axis by its place's angle, then moved by its offset. Places stand in a lent list
+// as numbers, x and y of each and, in a list with rolls, the roll after them. Masses and centres have no upper limit,
+// so a figure may be infinite or NaN, as the Rust's is. Taking a part off and putting it on again conserves mass only
+// up to rounding (docs/DIFFERENCES.md).
 ghost use mathlib.Core.Bool.{true, false};
 ghost use mathlib.Core.Path.{_≡_};
 ghost use Prim.Native.Nat.{_*_, _≤_, _<_};

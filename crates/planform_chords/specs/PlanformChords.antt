@@ -24,7 +24,8 @@ pub record Listed (chords : List (Float × Float)) (s t : List Float) (n : ℕ) 
   pub count : n ≡ length chords
   pub list : t ≡ over (endsIn chords) s
 
--- by what the planform's check gave: how many chords are listed, over the start of the list that is lent; none with a refusal
+-- by what the planform's check gave: how many chords are listed, over the start of the list that is lent; none with a
+-- refusal
 abbrev pub chordsBy : Verdict → Planform → List Float → Float → CallOf ChordList
 chordsBy verdict planform points h =
     byVerdict verdict

@@ -1,5 +1,6 @@
-// The chords of a planform at a height, for the outline view (document 02, Paper 1): the planform is checked as an area's is, and the ends
-// of its chords are listed, start and end of each in order, in metres. Any f64 may be the height.
+// The chords of a planform at a height, for the outline view (document 02, Paper 1): the planform is checked as an
+// area's is, and the ends of its chords are listed, start and end of each in order, in metres. Any f64 may be the
+// height.
 ghost use mathlib.Core.Path.{_≡_};
 ghost use Prim.Native.Nat.{_≤_};
 ghost use lib.ListN.{length, take};
@@ -38,8 +39,8 @@ pub fn chords_at(planform: Planform, points: &[f64], h: f64, ends: &mut [f64]) -
     }
 }
 
-// The chords of any planform; an outline's crossings are always listed. `chords::chords_at`, which finds the one chord of most heights
-// with no list, has no other caller than the loop over the samples, so that the compiler puts it there.
+// The chords of any planform; an outline's crossings are always listed. `chords::chords_at`, which finds the one chord
+// of most heights with no list, has no other caller than the loop over the samples, so that the compiler puts it there.
 fn chords_found(planform: Planform, points: &[f64], h: f64) -> Chords
     ensures { λ r. ⌜ paired (endsOf r (now (points .entry)) h) ≡ chordsAt planform (now (points .entry)) h ⌝ }
 {

@@ -1,5 +1,5 @@
--- A planform as numbers (docs/FORMS.md; include/delvouzh.h): 1 a trapezoid, of root chord, tip chord, span and sweep; 2 an ellipse, of root chord
--- and span; 3 an outline, whose points stand elsewhere. No planform has another number.
+-- A planform as numbers (docs/FORMS.md; include/delvouzh.h): 1 a trapezoid, of root chord, tip chord, span and sweep; 2
+-- an ellipse, of root chord and span; 3 an outline, whose points stand elsewhere. No planform has another number.
 use mathlib.Core.Bool.{cond}
 use mathlib.Core.List.{List, [], _∷_}
 use Prim.Native.Nat.{ℕ}
@@ -12,7 +12,7 @@ use Rattle.planforms.specs.declared.Planform.the-variants.{Trapezoid, El
 use Rattle.planforms.specs.declared.NumberedPlanform.{NumberedPlanform}
 use Rattle.planforms.specs.declared.NumberedPlanform.the-variants.{Known, Unknown}
 
--- which it is, and its lengths in as many places as the longest has, zeros behind them
+-- which it is, and its lengths in as many places as the longest has, zeros after them
 abbrev pub planformNumber : Planform → ℕ
 planformNumber (Trapezoid root tip span sweep) = 1
 planformNumber (Ellipse root span) = 2

@@ -26,7 +26,7 @@ pub enum NumberedPlanform {
     Unknown,
 }
 
-// How many lengths the longest planform has: each is written in so many places, zeros behind its own.
+// How many lengths the longest planform has: each is written in so many places, zeros after its own.
 pub const LENGTHS: usize = 4;
 
 // 1 a trapezoid, 2 an ellipse, 3 an outline.

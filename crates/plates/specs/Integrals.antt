@@ -57,7 +57,8 @@ slabOf t h l inner outer fore aft =
     ∷ cube t ⊘ twelve ⊗ l ⊗ h
     ∷ []
 
--- a tab's slab reaches from radius − height to the radius and from the offset to offset + length; with no tab they are zeros
+-- a tab's slab reaches from radius − height to the radius and from the offset to offset + length; with no tab they are
+-- zeros
 unfoldable pub tabIntegralsOf : Tab → Float → Float → List Float
 tabIntegralsOf None thickness radius = tabulate 7 (λ k. bits 0)
 tabIntegralsOf (Slab height length offset) thickness radius = slabOf thickness height length (radius ⊖ height) radius offset (offset ⊕ length)

@@ -1,4 +1,5 @@
--- One fin's body from its volume integrals (document 01, "Set and planform" and "Refusal numbers"; document 02, Paper 6; fins.rs, `single_fin`).
+-- One fin's body from its volume integrals (document 01, "Set and planform" and "Refusal numbers"; document 02, Paper
+-- 6; fins.rs, `single_fin`).
 use mathlib.Core.Bool.{cond}
 use mathlib.Core.List.{List}
 use lib.Ieee.{Float, neg, eq}
@@ -27,7 +28,8 @@ unfoldable pub plateBody : List Float → Float → Body
 plateBody v kgPerM3 =
     ofOriginTensor (kgPerM3 ⊗ volume v) (vector (r1 v ⊘ volume v) (bits 0) (neg (x1 v) ⊘ volume v)) (aboutOrigin v kgPerM3)
 
--- plate and fillets of one fin are joined first; "None is added for zero mass" (document 02, Paper 6), and then nothing is joined
+-- plate and fillets of one fin are joined first; "None is added for zero mass" (document 02, Paper 6), and then nothing
+-- is joined
 unfoldable pub withFillets : Body → Body → Body
 withFillets plate fillets = cond (eq (fillets .«mass_kg») (bits 0)) plate (joinOf (twoBodies plate fillets) 2)
 

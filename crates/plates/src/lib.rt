@@ -1,9 +1,9 @@
 // One fin from the integrals of its strips (fins.rs, `fin_integrals`, `tab_integrals`, `single_fin`).
 //
-// A point of the fin lies at (r, τ, −x): r outward from the body's axis, x aft of the root's leading edge, τ across the plate. With V,
-// ∫r, ∫r², ∫x, ∫x², ∫rx, ∫τ² over the volume and a density ρ, about the origin I = ρ [τ²+x², 0, rx; 0, r²+x², 0; rx, 0, r²+τ²], and
-// I − m (|c|² E − c cᵀ) about the centre c = (∫r / V, 0, −∫x / V). The fillets at its root are joined with it; then cant turns the fin about
-// its span axis through the root's middle.
+// A point of the fin lies at (r, τ, −x): r outward from the body's axis, x aft of the root's leading edge, τ across the
+// plate. With V, ∫r, ∫r², ∫x, ∫x², ∫rx, ∫τ² over the volume and a density ρ, about the origin I = ρ [τ²+x², 0, rx; 0,
+// r²+x², 0; rx, 0, r²+τ²], and I − m (|c|² E − c cᵀ) about the centre c = (∫r / V, 0, −∫x / V). The fillets at its root
+// are joined with it; then cant turns the fin about its span axis through the root's middle.
 ghost use mathlib.Core.Path.{_≡_};
 ghost use Rattle.plates.specs.Integrals.{unscaledOf, slabOf, tabIntegralsOf, addIntegrals};
 ghost use Rattle.plates.specs.Plates.{aboutOrigin, plateBody, withFillets, cantedOf, integralsOf, finOf};
@@ -113,7 +113,8 @@ fn plate(v: [f64; 7], kg_m3: f64) -> Body
     bodies::of_origin_tensor(kg_m3 * volume, centre_m, about_origin(v, kg_m3))
 }
 
-// The plate joined with the fillets at its root; where these weigh nothing nothing is joined, and the plate stays bit for bit.
+// The plate joined with the fillets at its root; where these weigh nothing nothing is joined, and the plate stays bit
+// for bit.
 fn with_fillets(plate: Body, fillets: Body) -> Body
     ensures { λ r. ⌜ r ≡ withFillets plate fillets ⌝ }
 {

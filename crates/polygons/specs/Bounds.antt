@@ -1,4 +1,5 @@
--- Which numbers the code takes, so that an i64 holds every product: a coordinate of at most 2^27 steps, which is 128 m, and the difference of two.
+-- Which numbers the code takes, so that an i64 holds every product: a coordinate of at most 2^27 steps, which is 128 m,
+-- and the difference of two.
 use mathlib.Core.List.{List}
 use Prim.Native.Nat.{ℕ, _^_, _≤_}
 use lib.IntN.{ℤ, pos, natAbs}

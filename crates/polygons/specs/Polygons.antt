@@ -1,5 +1,5 @@
--- Where a point lies beside a closed polygon, and the nearest corner, over whole numbers (document 02, "Where may I drill?").
--- Corners are taken as the point sees them: how far to the right, and how far up.
+-- Where a point lies beside a closed polygon, and the nearest corner, over whole numbers (document 02, "Where may I
+-- drill?"). Corners are taken as the point sees them: how far to the right, and how far up.
 use mathlib.Core.Bool.{Bool, true, false, cond, _&&_, _||_}
 use mathlib.Core.List.{List}
 use Prim.Native.Nat.{ℕ, zero, suc, _+_, _-_, _*_, _/_, _%_}
@@ -23,12 +23,13 @@ isZeroBetween a b = leZ a (pos 0) && leZ (pos 0) b || leZ b (pos 0) && leZ (pos 
 unfoldable pub liesOn : Offset → Offset → Bool
 liesOn a b = isSame (a .across *ℤ b .up) (b .across *ℤ a .up) && isZeroBetween (a .across) (b .across) && isZeroBetween (a .up) (b .up)
 
--- "an edge counting from its lower end's height up to, but not at, its upper end's": by how far up the two ends are. A level edge never counts.
+-- "an edge counting from its lower end's height up to, but not at, its upper end's": by how far up the two ends are. A
+-- level edge never counts.
 abbrev pub isCrossed : ℤ → ℤ → Bool
 isCrossed lower upper = leZ lower (pos 0) && ltZ (pos 0) upper
 
--- "cut to the right": at the point's height the edge lies (lower.across · upper.up − upper.across · lower.up) / (upper.up − lower.up) to its right,
--- which has to be above 0. The divisor is above 0 already.
+-- "cut to the right": at the point's height the edge lies (lower.across · upper.up − upper.across · lower.up) /
+-- (upper.up − lower.up) to its right, which has to be above 0. The divisor is above 0 already.
 unfoldable pub isCutRising : Offset → Offset → Bool
 isCutRising lower upper = isCrossed (lower .up) (upper .up) && ltZ (upper .across *ℤ lower .up) (lower .across *ℤ upper .up)
 

@@ -1,9 +1,9 @@
 // Where a point lies beside a closed polygon, and which corner is nearest, exactly over whole numbers.
 //
-// Document 02, "Where may I drill?". A polygon is its corners in order, each an x and a height, one pair after another in a flat
-// slice; an edge joins each corner to the next, the last to the first. Corners are taken as the point sees them: how far to the
-// right, and how far up. A coordinate is at most 2^27 in magnitude, so an offset at most 2^28, a product of two at most 2^56
-// and a sum of two squares at most 2^57: an i64 holds each of them.
+// Document 02, "Where may I drill?". A polygon is its corners in order, each an x and a height, one pair after another
+// in a flat slice; an edge joins each corner to the next, the last to the first. Corners are taken as the point sees
+// them: how far to the right, and how far up. A coordinate is at most 2^27 in magnitude, so an offset at most 2^28, a
+// product of two at most 2^56 and a sum of two squares at most 2^57: an i64 holds each of them.
 ghost use mathlib.Core.Path.{_≡_};
 ghost use Prim.Native.Nat.{_<_};
 ghost use lib.IntN.{_+ℤ_, _*ℤ_, _-ℤ_};

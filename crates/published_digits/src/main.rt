@@ -1,6 +1,7 @@
-// Holds the tables of gauss_kronrod against QUADPACK's published decimals, which stand in the file stdin, one a line, in the
-// tables' order: each entry must be the f64 nearest to its decimal. The decimal must lie between the midpoints to the two
-// neighbouring f64s; nothing rounds it. A midpoint is n / 2^60, so that its own digits come exactly, by times ten.
+// Holds the tables of gauss_kronrod against QUADPACK's published decimals, which stand in the file stdin, one a line,
+// in the tables' order: each entry must be the f64 nearest to its decimal. The decimal must lie between the midpoints
+// to the two neighbouring f64s; nothing rounds it. A midpoint is n / 2^60, so that its own digits come exactly, by
+// times ten.
 //
 // Document 01, "Reviewer's checklist": the published digits are executed and checked.
 ghost use Prim.Native.Nat.{_≤_};
@@ -51,8 +52,8 @@ fn compare(n: u64, digits: &[u8]) -> Order {
     }
 }
 
-// Whether the f64 with the bit pattern b is the nearest to the decimal. It answers no for what no entry is: an f64 other than 0
-// that does not lie between 2^-6 and 1, or that is a power of two, whose lower neighbour is nearer.
+// Whether the f64 with the bit pattern b is the nearest to the decimal. It answers no for what no entry is: an f64
+// other than 0 that does not lie between 2^-6 and 1, or that is a power of two, whose lower neighbour is nearer.
 fn is_nearest(b: u64, digits: &[u8]) -> bool {
     if b == 0 {
         let Order::Equal = compare(0, digits) else {
@@ -68,7 +69,8 @@ fn is_nearest(b: u64, digits: &[u8]) -> bool {
     if 1022 < exponent {
         return false;
     }
-    // In halves of its last place, 2^(exponent − 1016) / 2^60 each, the f64 is even, and the midpoints are one less and one more.
+    // In halves of its last place, 2^(exponent − 1016) / 2^60 each, the f64 is even, and the midpoints are one less and
+    // one more.
     let halves = 2 * (0x10_0000_0000_0000 + fraction);
     let Order::Below = compare((halves - 1) << (exponent - 1016), digits) else {
         return false;
@@ -105,8 +107,8 @@ fn print_name(e: usize) {
     io::print_decimal(STDOUT_FILENO, (e - 16) as u64);
 }
 
-// Reads the next line, `0.` and 33 digits, and prints whether entry e, and neither of its neighbours, is the nearest to it.
-// Answers 1 if so, else 0.
+// Reads the next line, `0.` and 33 digits, and prints whether entry e, and neither of its neighbours, is the nearest to
+// it. Answers 1 if so, else 0.
 fn check_entry(e: usize) -> u64
     ensures { λ r. ⌜ r ≤ 1 ⌝ }
 {

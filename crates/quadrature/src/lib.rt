@@ -1,7 +1,12 @@
 // One piece by the 15-point Gauss-Kronrod rule (quadrature.rs, `rule`; document 01, "Piece and tally").
 //
-// With centre c and half-width h, K and G are the sums of the samples times the Kronrod and the Gauss weights. A component's value
-// is h*K and its error |h*(K - G)|. An integrand gives seven components; an area run uses three of them, the rest are zero.
+// The rule is QUADPACK's qk15: R. Piessens, E. de Doncker-Kapenga, C. Überhuber and D. Kahaner, QUADPACK: A Subroutine
+// Package for Automatic Integration, Springer, 1983. QUADPACK scales the difference of the two sums to estimate the
+// error; here the error is the difference itself.
+//
+// With centre c and half-width h, K and G are the sums of the samples times the Kronrod and the Gauss weights. A
+// component's value is h*K and its error |h*(K - G)|. An integrand gives seven components; an area run uses three of
+// them, the rest are zero.
 ghost use mathlib.Core.Path.{_≡_};
 ghost use Rattle.floats.specs.Operations.{_⊖_, _⊗_, at, tabulate};
 ghost use Rattle.floats.specs.Floats.{absOf};
@@ -92,8 +97,8 @@ fn kronrod_weights() -> [f64; 15]
     [w7, w0, w0, w1, w1, w2, w2, w3, w3, w4, w4, w5, w5, w6, w6]
 }
 
-// Their Gauss weights: the table's four are those of the nodes 1, 3, 5 and 7. An even node's is 0, which is added times the sample as in
-// the Rust.
+// Their Gauss weights: the table's four are those of the nodes 1, 3, 5 and 7. An even node's is 0, which is added times
+// the sample as in the Rust.
 fn gauss_weights() -> [f64; 15]
     ensures { λ r. ⌜ r ≡ weightsTo 7 gaussWeight ⌝ }
 {
@@ -163,8 +168,8 @@ fn edges_near(
     0
 }
 
-// The chords at each of the heights. They are found before any sample is worked, so that the root and the divisions of one
-// chord go on beside those of the next.
+// The chords at each of the heights. They are found before any sample is worked, so that the root and the divisions of
+// one chord go on beside those of the next.
 fn chords_found(
     integrand: Integrand,
     points: &[f64],
@@ -184,8 +189,8 @@ fn chords_found(
     found
 }
 
-// The sums over the fifteen samples, which are counted as they are worked. None is tested: every sample of an accepted fin is finite
-// (document 02, Paper 14).
+// The sums over the fifteen samples, which are counted as they are worked. None is tested: every sample of an accepted
+// fin is finite (document 02, Paper 14).
 fn sums(integrand: Integrand, points: &[f64], centre: f64, half: f64) -> Tally
     ensures { λ r. ⌜ r ≡ tallyOf (sampleOf integrand (now (points .entry))) centre half ⌝ }
 {

@@ -1,5 +1,5 @@
-// The refusals of document 01's table and of document 02, one case for each number, with the values that go with it, the first
-// refusal of checks in their order, and a verdict as C, Rust and lent memory hold it.
+// The refusals of document 01's table and of document 02, one case for each number, with the values that go with it,
+// the first refusal of checks in their order, and a verdict as C, Rust and lent memory hold it.
 //
 // The Rust's `DesignError` and `CoreError` have texts instead; the numbers are the kiosk's.
 ghost use mathlib.Core.Path.{_≡_};

@@ -1,4 +1,5 @@
--- Copies of one body, turned about the body's axis and joined (document 01, "Set and planform" and "Body"; fins.rs, `mass_properties`).
+-- Copies of one body, turned about the body's axis and joined (document 01, "Set and planform" and "Body";
+-- fins.rs, `mass_properties`).
 use mathlib.Core.List.{List}
 use Prim.Native.Nat.{ℕ}
 use lib.Ieee.{Float, nan}

@@ -1,12 +1,12 @@
 // The square root of an f64: the nearest f64, worked from its bit pattern and whole numbers, for every f64.
 //
-// Document 01, "Stand-ins": "Square root: the nearest f64, stated by squares of whole numbers; ±0 gives itself, +infinity
-// itself, negative or NaN gives NaN". A unit is 2^-1074, the smallest positive f64. A positive x of m units has the root
-// √(m * 2^1074) units; that radicand is n * 2^52 * 4^k with an n of 53 or 54 binary digits, and the root is q * 2^k units,
-// where q is the whole number nearest to √(n * 2^52): q * q - q < n * 2^52 <= q * q + q. The first half of its digits is
-// guessed by a cubic in fixed point and the other half worked from it by an exact division. Nothing is proved of the guess:
-// where a test of it fails, q is worked digit by digit. Of f64 operations only comparisons are used, and the divisions that
-// write infinity and NaN.
+// Document 01, "Stand-ins": "Square root: the nearest f64, stated by squares of whole numbers; ±0 gives itself,
+// +infinity itself, negative or NaN gives NaN". A unit is 2^-1074, the smallest positive f64. A positive x of m units
+// has the root √(m * 2^1074) units; that radicand is n * 2^52 * 4^k with an n of 53 or 54 binary digits, and the root
+// is q * 2^k units, where q is the whole number nearest to √(n * 2^52): q * q - q < n * 2^52 <= q * q + q. The first
+// half of its digits is guessed by a cubic in fixed point and the other half worked from it by an exact division.
+// Nothing is proved of the guess: where a test of it fails, q is worked digit by digit. Of f64 operations only
+// comparisons are used, and the divisions that write infinity and NaN.
 ghost use mathlib.Core.Path.{_≡_};
 ghost use Prim.Native.Nat.{_*_, _^_, _≤_, _<_};
 ghost use lib.Dec.{T};
@@ -24,8 +24,8 @@ const HALF: u64 = 0x400_0000;
 // 2^28: the x of a cubic is u / 2^28.
 const UNIT: u64 = 0x1000_0000;
 
-// The whole number nearest to √(n * 2^52), one binary digit a turn from two digits of n * 2^52: s * s + rest is the part of
-// it that has come in.
+// The whole number nearest to √(n * 2^52), one binary digit a turn from two digits of n * 2^52: s * s + rest is the
+// part of it that has come in.
 fn digit_root(n: u64) -> u64
     requires { ⌜ (0 < n) × (n < 2 ^ 54) ⌝ }
     ensures { λ r. ⌜ r ≡ nearRoot (n * 2 ^ 52) ⌝ }
@@ -53,8 +53,9 @@ fn digit_root(n: u64) -> u64
 // The cubic .0 - (.1 * x + .2 * x² + .3 * x³), in units of 1/32.
 struct Cubic(u32, u32, u32, u32);
 
-// The cubic that is √n - 2^26 + 1/2 to within 0.43, in part i of 2^52 <= n < 2^54: sixteen parts up to 2^53, then sixteen of the
-// rest. x falls from 1 to 0 along a part. A match is compiled to a table, where a constant array would be copied at each call.
+// The cubic that is √n - 2^26 + 1/2 to within 0.43, in part i of 2^52 <= n < 2^54: sixteen parts up to 2^53, then
+// sixteen of the rest. x falls from 1 to 0 along a part. A match is compiled to a table, where a constant array would
+// be copied at each call.
 fn cubic_at(i: u64) -> Cubic {
     match i {
         0 => Cubic(66_091_854, 65_105_445, 956_024, 30_360),
@@ -100,8 +101,9 @@ fn decrease(p: Cubic, u: u64) -> u64
     p.1 as u64 * u + u * u / UNIT * (p.2 as u64 + p.3 as u64 * u / UNIT)
 }
 
-// A guess at √(w * (1 + odd)), which has 27 binary digits before its point: the cubic's value, cut to these. That is at most one
-// off, but nothing is claimed of it except its range. 2^62 keeps the difference from falling below 0, and the remainder drops it.
+// A guess at √(w * (1 + odd)), which has 27 binary digits before its point: the cubic's value, cut to these. That is at
+// most one off, but nothing is claimed of it except its range. 2^62 keeps the difference from falling below 0, and the
+// remainder drops it.
 fn guess(w: u64, odd: u64) -> u64
     requires { ⌜ (w < 2 ^ 53) × (odd < 2) ⌝ }
     ensures { λ r. ⌜ (2 ^ 26 ≤ r) × (r < 2 ^ 28) ⌝ }
@@ -111,9 +113,9 @@ fn guess(w: u64, odd: u64) -> u64
     (p.0 as u64 * UNIT + 0x4000_0000_0000_0000 - below) / (32 * UNIT) % (2 * HALF) + HALF
 }
 
-// The whole number nearest to √(n * 2^52), from a guess h at √n. Where (n - h * h) * 2^25 is h * m + c and q is h * 2^26 + m,
-// n * 2^52 - q * q is c * 2^27 - m * m, so that q or q + 1 is nearest. l is m + 2^26, which is not negative where h is at most
-// one off, and the difference is u - v. Where h is further off, the root is worked by its digits.
+// The whole number nearest to √(n * 2^52), from a guess h at √n. Where (n - h * h) * 2^25 is h * m + c and q is h *
+// 2^26 + m, n * 2^52 - q * q is c * 2^27 - m * m, so that q or q + 1 is nearest. l is m + 2^26, which is not negative
+// where h is at most one off, and the difference is u - v. Where h is further off, the root is worked by its digits.
 fn nearest_root(n: u64, h: u64) -> u64
     requires { ⌜ (2 ^ 52 ≤ n) × (n < 2 ^ 54) × (2 ^ 26 ≤ h) × (h < 2 ^ 28) ⌝ }
     ensures { λ r. ⌜ r ≡ nearRoot (n * 2 ^ 52) ⌝ }

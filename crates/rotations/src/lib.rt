@@ -1,7 +1,7 @@
 // A body turned about the x or the z axis through the origin by an angle (mass.rs, `rotated` and `rolled`).
 //
-// The turn is glam's unit quaternion, worked into its matrix R; the centre becomes R c and the tensor R I Rᵀ (document 01,
-// "Stand-ins"). Every product is worked, those with the quaternion's zeros too.
+// The turn is glam's unit quaternion, worked into its matrix R; the centre becomes R c and the tensor R I Rᵀ (document
+// 01, "Stand-ins"). Every product is worked, those with the quaternion's zeros too.
 ghost use mathlib.Core.Path.{_≡_};
 ghost use Rattle.rotations.specs.Rotations.{aboutX, aboutZ, matrixOf, turnedOf, rotatedXOf, rolledOf};
 use bodies::Body;

@@ -1,4 +1,5 @@
--- How large an f64 is: bounds on its absolute value, and the powers of two that it is a multiple of. |x| is the fraction num x / den x.
+-- How large an f64 is: bounds on its absolute value, and the powers of two that it is a multiple of. |x| is the
+-- fraction num x / den x.
 use Prim.Native.Nat.{ℕ, _*_, _^_, _≤_}
 use lib.Dec.{T}
 use lib.Ieee.{Float, binary64, fits, le}

@@ -9,8 +9,9 @@
 //
 //     P(x) = 0.2969·√x − 0.1260·x − 0.3516·x² + 0.2843·x³ − e·x⁴
 //
-// The tail is closed with e = 0.1036, where P(1) = 0, and open with document 01's e = 0.1015 (document 02, Paper 7). PHI is
-// 10·∫₀¹ x^j·P dx for j = 0, 1, 2, and PSI is 1000·∫₀¹ P³ dx, each the f64 nearest to its fraction.
+// P is equation 6.2 of I. H. Abbott and A. E. von Doenhoff, Theory of Wing Sections, Dover, 1959.
+// The tail is closed with e = 0.1036, where P(1) = 0, and open with document 01's e = 0.1015 (document 02, Paper 7).
+// PHI is 10·∫₀¹ x^j·P dx for j = 0, 1, 2, and PSI is 1000·∫₀¹ P³ dx, each the f64 nearest to its fraction.
 ghost use mathlib.Core.Path.{_≡_};
 ghost use Rattle.sections.specs.Airfoil.{closedTail, openTail, airfoilConstants, AreConstants};
 ghost use Rattle.sections.specs.ChordMoments.{chordMoments, squareMoments, roundedMoments, naca4Moments, tailOf};
@@ -89,7 +90,8 @@ fn square_moments(a: f64, b: f64, c: f64, t: f64) -> [f64; 4]
     ]
 }
 
-// d0, d1, d2 are the moments of what one rounded edge takes away, from that edge; e0 is the same for the cubed thickness.
+// d0, d1, d2 are the moments of what one rounded edge takes away, from that edge; e0 is the same for the cubed
+// thickness.
 fn rounded_moments(a: f64, b: f64, c: f64, t: f64) -> [f64; 4]
     ensures { λ r. ⌜ r ≡ roundedMoments a b c t ⌝ }
 {
@@ -127,8 +129,8 @@ fn airfoil_moments(k: [f64; 4], a: f64, c: f64, t: f64) -> [f64; 4]
     ]
 }
 
-// The constants of a section's tail. One call serves both airfoils, so that the code of a chord stays short enough to stand in the rule's
-// loop; no other section asks.
+// The constants of a section's tail. One call serves both airfoils, so that the code of a chord stays short enough to
+// stand in the rule's loop; no other section asks.
 fn tail(section: Section) -> [f64; 4]
     ensures { λ r. ⌜ r ≡ airfoilConstants (tailOf section) ⌝ }
 {
@@ -138,7 +140,8 @@ fn tail(section: Section) -> [f64; 4]
     }
 }
 
-// The constants of the closed tail. Both sides of each fraction are whole numbers below 2^53, so that one division rounds it to the nearest.
+// The constants of the closed tail. Both sides of each fraction are whole numbers below 2^53, so that one division
+// rounds it to the nearest.
 fn closed_tail() -> [f64; 4]
     ensures { λ r. ⌜ AreConstants closedTail r ⌝ }
 {

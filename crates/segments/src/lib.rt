@@ -1,6 +1,7 @@
 // The edges of an outline as segments: where each ends, and whether two share a point (fins.rs, `segments_touch`).
 //
-// The latter is decided in f64: the cross products and the sums in them are rounded, and exact geometry gives other answers both ways.
+// The latter is decided in f64: the cross products and the sums in them are rounded, and exact geometry gives other
+// answers both ways.
 ghost use mathlib.Core.Path.{_≡_};
 ghost use mathlib.Core.Bool.{_&&_};
 ghost use Prim.Native.Nat.{_<_};
@@ -20,8 +21,8 @@ pub struct Segment {
     pub to: Point,
 }
 
-// Where a point lies beside a segment: on its left or right, before or after both of its ends in x, each strictly; and the
-// point's y.
+// Where a point lies beside a segment: on its left or right, before or after both of its ends in x, each strictly; and
+// the point's y.
 pub struct Place {
     pub left: bool,
     pub right: bool,
@@ -113,8 +114,8 @@ fn are_beyond(p: f64, q: f64, a: f64, b: f64) -> bool
     ((a < low) & (b < low)) | ((high < a) & (high < b))
 }
 
-// Whether the segment between two places lies strictly on one side of this one, and its bounding box beside this one's. Two
-// such do not touch.
+// Whether the segment between two places lies strictly on one side of this one, and its bounding box beside this one's.
+// Two such do not touch.
 pub fn are_apart(segment: Segment, a: Place, b: Place) -> bool
     ensures { λ r. ⌜ r ≡ areApart segment a b ⌝ }
 {

@@ -1,4 +1,5 @@
--- Digits in a list, the least significant first: what the functions inside do. The definitions of Significant.antt do not use these.
+-- Digits in a list, the least significant first: what the functions inside do. The definitions of Significant.antt do
+-- not use these.
 use mathlib.Core.List.{List, [], _∷_}
 use mathlib.Core.Bool.{Bool, cond}
 use mathlib.Core.Logic.{_⊎_}
@@ -35,7 +36,8 @@ pub record Scales (before after : List ℕ) (s : ℕ) : Type 0 where
   pub digits : Digits after
   pub is : value after ≡ value before * s
 
--- d digits, the next behind them, and whether there is more behind that: to the nearest whole number, a tie to the even one
+-- d digits, the next after them, and whether there is more after that: to the nearest whole number, a tie to the even
+-- one
 abbrev pub nearestDigit : ℕ → ℕ → Bool → ℕ
 nearestDigit d next more = cond (ltb next 5) d (cond (ltb 5 next) (d + 1) (cond more (d + 1) (d + d % 2)))
 

@@ -11,7 +11,7 @@ use Rattle.counts.specs.Counts.{countText}
 use Rattle.tokens.specs.Text.{text}
 use Rattle.significant.specs.Significant.{decimalUnitsOf, digitsOf, placeOf}
 
--- digits with a point behind the first i
+-- digits with a point after the first i
 abbrev pub pointed : List ℕ → ℕ → List ℕ
 pointed ds i = take i ds ++ (text "." ++ drop i ds)
 
@@ -26,7 +26,7 @@ exponentText w = text "e" ++ cond (leb 1075 w) (countText (w - 1075)) (text "-" 
 abbrev pub scientific : List ℕ → ℕ → List ℕ
 scientific ds w = pointed ds 1 ++ exponentText w
 
--- of which w − 1074 stand before the point; with an exponent where all would, or more than two zeros behind the point
+-- of which w − 1074 stand before the point; with an exponent where all would, or more than two zeros after the point
 abbrev pub placed : List ℕ → ℕ → List ℕ
 placed ds w =
     cond (leb w 1074)

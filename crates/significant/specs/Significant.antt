@@ -1,5 +1,6 @@
--- An f64 to n significant digits, correctly rounded, of two as near the one whose last digit is even: over whole numbers of a unit, 10 ^ -1074.
--- The smallest positive f64, 2 ^ -1074, is 5 ^ 1074 units, so that every finite f64 is a whole number of them.
+-- An f64 to n significant digits, correctly rounded, of two as near the one whose last digit is even: over whole
+-- numbers of a unit, 10 ^ -1074. The smallest positive f64, 2 ^ -1074, is 5 ^ 1074 units, so that every finite f64 is a
+-- whole number of them.
 use mathlib.Core.Bool.{cond}
 use Prim.Native.Nat.{ℕ, zero, suc, _+_, _-_, _*_, _/_, _%_, _^_, _≤_, _<_}
 use lib.Dec.{eqb, leb, ltb}
@@ -19,7 +20,8 @@ digitsUpTo (suc k) u = cond (leb (10 ^ k) u) (suc k) (digitsUpTo k u)
 unfoldable pub digitCount : ℕ → ℕ
 digitCount u = digitsUpTo 2100 u
 
--- a / b to the nearest whole number, of two as near the even one: cut off where the rest is less than half of b, up where it is more
+-- a / b to the nearest whole number, of two as near the even one: cut off where the rest is less than half of b, up
+-- where it is more
 unfoldable pub nearestWhole : ℕ → ℕ → ℕ
 nearestWhole a b = cond (ltb (a % b * 2) b) (a / b) (cond (ltb b (a % b * 2)) (suc (a / b)) (a / b + a / b % 2))
 
@@ -30,7 +32,8 @@ firstPlace n u = digitCount u - n
 abbrev pub firstDigits : ℕ → ℕ → ℕ
 firstDigits n u = nearestWhole u (10 ^ firstPlace n u)
 
--- the n digits as one whole number, and their last one's place; where they were rounded up to 10 ^ n, they are 10 .. 0 one place higher
+-- the n digits as one whole number, and their last one's place; where they were rounded up to 10 ^ n, they are 10 .. 0
+-- one place higher
 unfoldable pub digitsOf : ℕ → ℕ → ℕ
 digitsOf n u = cond (eqb (firstDigits n u) (10 ^ n)) (10 ^ (n - 1)) (firstDigits n u)
 

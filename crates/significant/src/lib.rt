@@ -1,8 +1,9 @@
-// An f64 to some significant digits, correctly rounded, of two as near the one whose last digit is even: the counterpart of reading a decimal.
+// An f64 to some significant digits, correctly rounded, of two as near the one whose last digit is even: the
+// counterpart of reading a decimal.
 //
-// A unit is 10^-1074. The smallest positive f64, 2^-1074, is 5^1074 units, so every finite f64 is a whole number of them, m * 2^j * 5^1074 with
-// an m below 2^53: m * 5^(1074 - j) * 10^j, or m * 2^(j - 1074) * 10^1074. The digits of m * 5^k or m * 2^k are worked out, all of them, and the
-// first few are rounded by the rest.
+// A unit is 10^-1074. The smallest positive f64, 2^-1074, is 5^1074 units, so every finite f64 is a whole number of
+// them, m * 2^j * 5^1074 with an m below 2^53: m * 5^(1074 - j) * 10^j, or m * 2^(j - 1074) * 10^1074. The digits of m
+// * 5^k or m * 2^k are worked out, all of them, and the first few are rounded by the rest.
 ghost use mathlib.Core.List.{_++_};
 ghost use mathlib.Core.Path.{_≡_};
 ghost use Prim.Native.Nat.{_+_, _-_, _*_, _^_, _≤_, _<_};
@@ -44,7 +45,8 @@ fn narrow(d: u64) -> u8
     d as u8
 }
 
-// The number that the digits write, the least significant first, times `by`, and `plus` added: over as many digits as there are.
+// The number that the digits write, the least significant first, times `by`, and `plus` added: over as many digits as
+// there are.
 fn times_plus(digits: &mut [u8], by: u64, plus: u64)
     requires { ⌜ (by ≤ 2 ^ 54) × (plus ≤ 2 ^ 59) ⌝ }
     ensures { λ _. ⌜ now (digits .exit) ≡ timesPlus by plus (now (digits .entry)) ⌝ }
@@ -121,8 +123,8 @@ fn number(digits: &[u8]) -> u64
     d
 }
 
-// The first digits to the nearest whole number of their last place, a tie to the even one: by the digit behind them, and by whether there is more
-// behind that.
+// The first digits to the nearest whole number of their last place, a tie to the even one: by the digit after them, and
+// by whether there is more after that.
 fn to_nearest(d: u64, next: u8, more: bool) -> u64
     requires { ⌜ d < 10 ^ 16 ⌝ }
     ensures { λ r. ⌜ r ≡ nearestDigit d next more ⌝ }
@@ -224,7 +226,7 @@ fn significant_digits(x: f64, n: usize) -> Significant
     worked(0, 0, n)
 }
 
-// Three texts, one behind the other, appended to the `at` bytes at the start of out.
+// Three texts, one after the other, appended to the `at` bytes at the start of out.
 fn put_three(out: &mut [u8], at: usize, a: &[u8], b: &[u8], c: &[u8]) -> usize
     requires { ⌜ at + (length (now a) + (length (now b) + length (now c))) ≤ length (now out) ⌝ }
     ensures { λ r. ⌜ Appended (now (out .entry)) at (now (a .entry) ++ (now (b .entry) ++ now (c .entry))) (now (out .exit)) r ⌝ }
@@ -234,7 +236,7 @@ fn put_three(out: &mut [u8], at: usize, a: &[u8], b: &[u8], c: &[u8]) -> usize
     texts::put_bytes(out, second, c)
 }
 
-// Digits with a point behind the first i.
+// Digits with a point after the first i.
 fn put_pointed(out: &mut [u8], at: usize, ds: &[u8], i: usize) -> usize
     requires { ⌜ (i ≤ length (now ds)) × (at + length (now ds) + 1 ≤ length (now out)) ⌝ }
     ensures { λ r. ⌜ Appended (now (out .entry)) at (pointed (now (ds .entry)) i) (now (out .exit)) r ⌝ }
@@ -334,8 +336,8 @@ fn put_signed(out: &mut [u8], at: usize, x: f64, n: usize, scale: usize, power: 
     texts::put_bytes(out, start, b"infinite")
 }
 
-// Appends x * 10^scale to the `at` bytes at the start of out, to n significant digits, with an exponent always or where it is shorter, and answers
-// how many bytes there are then.
+// Appends x * 10^scale to the `at` bytes at the start of out, to n significant digits, with an exponent always or where
+// it is shorter, and answers how many bytes there are then.
 pub fn put_decimal(out: &mut [u8], at: usize, x: f64, n: usize, scale: usize, power: bool) -> usize
     requires { ⌜ (1 ≤ n) × (n ≤ 16) × (scale ≤ 16) × (at + 44 ≤ length (now out)) ⌝ }
     ensures { λ r. ⌜ Appended (now (out .entry)) at (decimalText n scale power x) (now (out .exit)) r ⌝ }

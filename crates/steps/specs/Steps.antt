@@ -1,5 +1,6 @@
--- A coordinate in cutter steps of 2^-20 m, exactly (document 02, "Where may I drill?": "All is exact in cutter steps of 2^-20 m over whole numbers").
--- A unit is 2^-1074, the smallest positive f64, so every finite f64 is a whole number of units (floats/specs/Units), and so is the exact sum of two.
+-- A coordinate in cutter steps of 2^-20 m, exactly (document 02, "Where may I drill?": "All is exact in cutter steps of
+-- 2^-20 m over whole numbers"). A unit is 2^-1074, the smallest positive f64, so every finite f64 is a whole number of
+-- units (floats/specs/Units), and so is the exact sum of two.
 use mathlib.Core.Bool.{Bool, cond}
 use Prim.Native.Nat.{ℕ, _%_, _^_}
 use lib.Dec.{eqb}

@@ -1,5 +1,5 @@
--- What document 02, Paper 14, says of the strips worked of a fin that passed the checks: their pieces rise, and their samples are finite. So are
--- the numbers worked from these.
+-- What document 02, Paper 14, says of the strips worked of a fin that passed the checks: their pieces rise, and their
+-- samples are finite. So are the numbers worked from these.
 use mathlib.Core.Path.{_≡_}
 use mathlib.Core.Bool.{true}
 use mathlib.Core.List.{List, [], _∷_}
@@ -12,8 +12,8 @@ use Rattle.halving.specs.Rising.{Rises}
 use Rattle.strips.specs.Strips.{Run, Worked, piecesOf, valueFrom}
 use Rattle.strips.specs.Claim.{Each, OtherEnds}
 
--- "Sorted by start, the pieces of an accepted strip strictly rise, every cut lying between its parent's ends as f64 compares them": so do those
--- of a strip that ends in 13; one with equal ends has none
+-- "Sorted by start, the pieces of an accepted strip strictly rise, every cut lying between its parent's ends as f64
+-- compares them": so do those of a strip that ends in 13; one with equal ends has none
 abbrev pub PiecesRise : List Worked → Type 0
 PiecesRise strips = Each (λ s. OtherEnds s → Rises (s .lower) (s .upper) (piecesOf s)) strips
 

@@ -1,8 +1,10 @@
-// The integrals over the strips of a set (fins.rs, the loop of `fin_integrals` and of `geometry`; document 01, "Piece and tally").
+// The integrals over the strips of a set (fins.rs, the loop of `fin_integrals` and of `geometry`; document 01, "Piece
+// and tally").
 //
-// Neighbouring break heights bound a strip, and its ends are divided by the scale. Strips are worked upward, to the last or the first
-// that is not accepted, each over the scratch as the one before left it. Values, intervals and samples are added up from zero.
-// How the last strip worked ended is told beside them; a limit that is not 1 to 64 and a scratch under 16·limit numbers are the caller's to refuse.
+// Neighbouring break heights bound a strip, and its ends are divided by the scale. Strips are worked upward, to the
+// last or the first that is not accepted, each over the scratch as the one before left it. Values, intervals and
+// samples are added up from zero. How the last strip worked ended is told beside them; a limit that is not 1 to 64 and
+// a scratch under 16·limit numbers are the caller's to refuse.
 ghost use Prim.Native.Nat.{_+_, _-_, _<_, _^_};
 ghost use mathlib.Core.Path.{_≡_};
 ghost use lib.ListN.{length};
@@ -65,7 +67,8 @@ fn work_strip(
     add_strip(total, strip)
 }
 
-// The strip of the integrand's planform from the height at a place on, where there is one: the job's step (document 02, Paper 9).
+// The strip of the integrand's planform from the height at a place on, where there is one: the job's step (document 02,
+// Paper 9).
 pub fn work_next(
     scratch: &mut [f64],
     integrand: Integrand,

@@ -67,12 +67,12 @@ abbrev pub pickCursor : Bool → Cursor → Cursor → Cursor
 pickCursor true a b = a
 pickCursor false a b = b
 
--- behind a word that is a count, or not
+-- after a word that is a count, or not
 abbrev pub counted : Count → Cursor → ℕ → Cursor
 counted (Whole n) c to = record { ok = true; at = to; figures = c .figures; number = n; spoiled = c .spoiled }
 counted NotCount c to = notAForm c
 
--- behind a word that is no figure, held against a template's
+-- after a word that is no figure, held against a template's
 abbrev pub plainTo : List ℕ → List ℕ → Cursor → ℕ → Cursor
 plainTo wanted w c to = pickCursor (sameBytes wanted (text "N")) (counted (cappedCount (countOf w)) c to) (pickCursor (sameBytes wanted w) (onTo c to) (notAForm c))
 

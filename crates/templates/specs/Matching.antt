@@ -1,5 +1,5 @@
--- Reading a line by templates (docs/FORMS.md). A template is written as the form is: its tokens are held against the line's, one by one. `F`
--- stands for a figure, `F..` for figures, as many as there are, and `N` for a count.
+-- Reading a line by templates (docs/FORMS.md). A template is written as the form is: its tokens are held against the
+-- line's, one by one. `F` stands for a figure, `F..` for figures, as many as there are, and `N` for a count.
 use mathlib.Core.List.{List, [], _∷_, _++_}
 use mathlib.Core.Bool.{Bool, true, false, _&&_, not, cond}
 use Prim.Native.Nat.{ℕ, zero, suc}
@@ -14,8 +14,8 @@ use Rattle.tokens.specs.Text.{text}
 use Rattle.tokens.specs.Tokens.{lineBytes, tokens}
 use Rattle.figure_words.specs.FigureWords.{figureWord}
 
--- what has been taken from a line: its figures in their order; the last number, which is a count or an alternative's; and whether it is spoiled:
--- whether a word of neither shape of a figure stood where one belongs
+-- what has been taken from a line: its figures in their order; the last number, which is a count or an alternative's;
+-- and whether it is spoiled: whether a word of neither shape of a figure stood where one belongs
 pub record Taken : Type 0 where
   pub figures : List Float
   pub number : ℕ
@@ -55,7 +55,7 @@ unfoldable pub isWord : List ℕ → Bool
 isWord [] = true
 isWord (b ∷ w) = isWordByte b && isWord w
 
--- "Where a figure belongs any word is a form": reading goes on behind a word that is no figure, and the line's end tells
+-- "Where a figure belongs any word is a form": reading goes on after a word that is no figure, and the line's end tells
 abbrev pub takeFigure : Figure → List ℕ → List (List ℕ) → Taken → Reading
 takeFigure (Number x) w ts t = reading ts (withFigure x t)
 takeFigure NotFigure w ts t = pick (isWord w) (reading ts (spoil t)) failed
@@ -64,8 +64,8 @@ abbrev pub takeCount : Count → List (List ℕ) → Taken → Reading
 takeCount (Whole n) ts t = reading ts (withNumber n t)
 takeCount NotCount ts t = failed
 
--- the template's token p against the line's token w: `F` takes a figure, `N` a count, any other token itself. A count is capped at a million
--- here; no answer and no scratch shows it (lines/proofs/Capped).
+-- the template's token p against the line's token w: `F` takes a figure, `N` a count, any other token itself. A count
+-- is capped at a million here; no answer and no scratch shows it (lines/proofs/Capped).
 unfoldable pub takeWord : List ℕ → List ℕ → List (List ℕ) → Taken → Reading
 takeWord p w ts t =
     pick (sameBytes p (text "F")) (takeFigure (figureWord w) w ts t)

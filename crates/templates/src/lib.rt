@@ -1,8 +1,8 @@
 // A line's bytes read by templates (docs/FORMS.md).
 //
-// A template is written as a form is, `F` standing for a figure, `F..` for figures and `N` for a count. Its tokens are held against the
-// line's; the figures go into a lent slice, in order. Of alternatives the first that fits is taken, and a template can be taken as often as
-// it fits.
+// A template is written as a form is, `F` standing for a figure, `F..` for figures and `N` for a count. Its tokens are
+// held against the line's; the figures go into a lent slice, in order. Of alternatives the first that fits is taken,
+// and a template can be taken as often as it fits.
 ghost use mathlib.Core.Bool.{true};
 ghost use mathlib.Core.Path.{_≡_};
 ghost use Prim.Native.Nat.{_≤_};
@@ -20,8 +20,9 @@ use tokens::LINE_BYTES;
 // How many figures a line may have: a figure has a byte at least.
 pub const LINE_FIGURES: usize = 4096;
 
-// Where reading stands: whether the line may still be a form, the next byte, how many figures have been read, the last number, which is a
-// count or an alternative's place among the others, from 1 on, and whether a word that is no figure stood where one belongs.
+// Where reading stands: whether the line may still be a form, the next byte, how many figures have been read, the last
+// number, which is a count or an alternative's place among the others, from 1 on, and whether a word that is no figure
+// stood where one belongs.
 pub struct Cursor {
     pub ok: bool,
     pub at: usize,
@@ -73,7 +74,7 @@ fn not_a_form(c: Cursor) -> Cursor
     }
 }
 
-// On to the place behind a token that is as wanted.
+// On to the place after a token that is as wanted.
 fn behind(hit: bool, c: Cursor, to: usize) -> Cursor
     ensures { λ r. ⌜ r ≡ pickCursor hit (onTo c to) (notAForm c) ⌝ }
 {
@@ -147,7 +148,7 @@ fn is_word(token: &[u8]) -> bool
     true
 }
 
-// A token of the line that is no figure where one belongs: reading goes on behind a word.
+// A token of the line that is no figure where one belongs: reading goes on after a word.
 fn take_no_figure(c: Cursor, token: &[u8], to: usize) -> Cursor
     ensures { λ r. ⌜ r ≡ pickCursor (isWord (now (token .entry))) (spoiledTo c to) (notAForm c) ⌝ }
 {

@@ -42,7 +42,8 @@ no-answers =
 abbrev pub millimetres : Bool
 millimetres = shows "(closing 3fa999999999999a)" "the ring closes at an outer radius of 50.0000 mm"
 
--- beside 1 the figure 2^-40 counts, and a last bit less is 0; all three are looked at for the largest, whatever their signs
+-- beside 1 the figure 2^-40 counts, and a last bit less is 0; all three are looked at for the largest, whatever their
+-- signs
 abbrev pub noise : Bool
 noise = beside 0x3ff0_0000_0000_0000 0x3d70_0000_0000_0000 0xbd6f_ffff_ffff_ffff && beside 0xbff0_0000_0000_0000 0xbd70_0000_0000_0000 0x3d6f_ffff_ffff_ffff
   where

@@ -125,7 +125,8 @@ refusal-table =
 
 -- ---- limits, one step inside and outside
 
--- "L is now 1 to 64 .. 1,024 numbers of scratch; more is still accepted" (document 02, Paper 8); "128 numbers pass for L = 8"; "count 1 to 32"
+-- "L is now 1 to 64 .. 1,024 numbers of scratch; more is still accepted" (document 02, Paper 8); "128 numbers pass for
+-- L = 8"; "count 1 to 32"
 abbrev pub limits-of-counts : Bool
 limits-of-counts =
     accepted (limitCheck 64)
@@ -157,8 +158,8 @@ abbrev fieldsFrom : ℕ → (ℕ → Bool) → List Bool → Bool
 fieldsFrom field test [] = true
 fieldsFrom field test (b ∷ bs) = cond b (test field) (not (test field)) && fieldsFrom (suc field) test bs
 
--- "Zero is allowed for tip chord, sweep, x, y, tab offset and body radius only. Only sweep, x and tab offset may pass this check negative."
--- A fillet's radius, field 16, may be zero.
+-- "Zero is allowed for tip chord, sweep, x, y, tab offset and body radius only. Only sweep, x and tab offset may pass
+-- this check negative." A fillet's radius, field 16, may be zero.
 abbrev pub zero-and-negative : Bool
 zero-and-negative =
     fieldsFrom 1 (λ field. accepted (lengthCheck field (bits 0))) (false ∷ true ∷ false ∷ true ∷ true ∷ true ∷ false ∷ false ∷ false ∷ true ∷ true ∷ false ∷ false ∷ false ∷ false ∷ true ∷ [])
@@ -177,8 +178,8 @@ limits-of-densities =
 
 -- ---- document 01's examples
 
--- "two points"; "last (0.2, 0.1)"; "(0,0) (2,1) (0,1) (2,0): 0 and 2"; "(0,0) (1,0) (2,0)", of which no two edges are compared: 8 by twice
--- the area. An outline that ends where it starts is 6, and a triangle passes.
+-- "two points"; "last (0.2, 0.1)"; "(0,0) (2,1) (0,1) (2,0): 0 and 2"; "(0,0) (1,0) (2,0)", of which no two edges are
+-- compared: 8 by twice the area. An outline that ends where it starts is 6, and a triangle passes.
 abbrev pub outlines-refused : Bool
 outlines-refused =
     refused 5 [] (outlineCheck (map bits (0 ∷ 0 ∷ one ∷ 0 ∷ [])))
@@ -251,10 +252,11 @@ setAt k =
       density = densityAt k 18;
     }
 
--- "Order: 18, 1, 2, 3; planform lengths as listed above ..; thickness; cant, base angle; tab height, length, offset, 10; body radius; 11; 12";
--- and 21 "directly after the thickness limits; equality passes": thickness 65, then 1, then 0.2 over the root chord 0.2; a fillet's "radius limit
--- stands between base angle and tab", its density "directly after the plate's", and 22 "directly after the fillet's density, zero or not": of
--- density 0 and radius 64, on a body of radius 0.03, then of 1
+-- "Order: 18, 1, 2, 3; planform lengths as listed above ..; thickness; cant, base angle; tab height, length, offset,
+-- 10; body radius; 11; 12"; and 21 "directly after the thickness limits; equality passes": thickness 65, then 1, then
+-- 0.2 over the root chord 0.2; a fillet's "radius limit stands between base angle and tab", its density "directly after
+-- the plate's", and 22 "directly after the fillet's density, zero or not": of density 0 and radius 64, on a body of
+-- radius 0.03, then of 1
 abbrev pub set-order : Bool
 set-order =
     refusedFrom (λ k. setCheck (setAt k) [] (unlessMended k 0 0 8) (unlessMended k 1 127 128)) 0
@@ -301,7 +303,8 @@ thickSet planform points thickness =
     8
     128
 
--- 21 from both sides, against the root chord and not the span; of an outline against the last point's x, though the edge there is longer
+-- 21 from both sides, against the root chord and not the span; of an outline against the last point's x, though the
+-- edge there is longer
 abbrev pub thickness-over-root : Bool
 thickness-over-root =
     accepted (thickSet (Ellipse (bits d2) (bits d03)) [] d2)
@@ -325,8 +328,9 @@ bodyAt k =
           diagonal (bits (unlessMended k 2 infinity (unlessMended k 4 (minus one) one))) (bits (unlessMended k 5 one two)) (bits three);
     }
 
--- "The body check runs 15, 16, 17 a to e": mass −1, a centre that is not finite, an infinite entry, inertia without mass, diagonal
--- −1, 1, 3, diagonal 1, 1, 3; then diagonal 1, 2, 3 passes, where I1+I2 = I3. c has left, and d and e keep their numbers (document 02, Paper 12)
+-- "The body check runs 15, 16, 17 a to e": mass −1, a centre that is not finite, an infinite entry, inertia without
+-- mass, diagonal −1, 1, 3, diagonal 1, 1, 3; then diagonal 1, 2, 3 passes, where I1+I2 = I3. c has left, and d and e
+-- keep their numbers (document 02, Paper 12)
 abbrev pub body-order : Bool
 body-order =
     refusedFrom (λ k. checkOf (bodyAt k)) 0

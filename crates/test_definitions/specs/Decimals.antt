@@ -16,7 +16,8 @@ use Rattle.test_definitions.specs.Rows.{same}
 abbrev to : ℕ → ℕ → ℕ → ℕ → Bool
 to n x d place = eqb (digitsOf n (decimalUnitsOf (bits x))) d && eqb (placeOf n (decimalUnitsOf (bits x))) place
 
--- 2.5, 3.5 and 9.5 to one digit: ties to the even one, the last of which is 10; 0.1 is above 0.1, its f64 1000000000000000055..e-25
+-- 2.5, 3.5 and 9.5 to one digit: ties to the even one, the last of which is 10; 0.1 is above 0.1, its f64
+-- 1000000000000000055..e-25
 abbrev pub ties-to-even : Bool
 ties-to-even =
     to 1 0x4004_0000_0000_0000 2 1074
@@ -24,7 +25,8 @@ ties-to-even =
     && to 1 0x4023_0000_0000_0000 1 1075
     && to 16 0x3fb9_9999_9999_999a 1000000000000000 1058
 
--- 0.999999500000000041.. is over a half of the sixth digit, and its neighbour below is not; none of zero and of an infinity
+-- 0.999999500000000041.. is over a half of the sixth digit, and its neighbour below is not; none of zero and of an
+-- infinity
 abbrev pub carried-digits : Bool
 carried-digits =
     to 6 0x3fef_fffe_f390_85f5 100000 1069

@@ -47,7 +47,8 @@ edge-before-inside = isInside square (pos 0) (pos 2) && lies 2 0 (placeOf square
 abbrev pub closing-edge-counts : Bool
 closing-edge-counts = lies 1 0 (placeOf turned (pos 2) (pos 2)) && lies 2 0 (placeOf square (pos 2) (pos 0)) && lies 2 0 (placeOf turned (pos 4) (pos 2))
 
--- the upper end counted: at the height of a corner between a lower and an upper edge only the upper one counts, and a level edge never does
+-- the upper end counted: at the height of a corner between a lower and an upper edge only the upper one counts, and a
+-- level edge never does
 abbrev pub lower-end-counts : Bool
 lower-end-counts =
     isCrossed (pos 0) (pos 1)
@@ -104,7 +105,8 @@ trapezoid root tip span sweep = Trapezoid (bits root) (bits tip) (bits span) (bi
 abbrev drilled : Planform → List ℕ → ℕ → ℕ → Answer
 drilled planform points x height = drillOf planform (map bits points) (bits x) (bits height)
 
--- the four corners in order; at a pointed tip corners 1 and 2 are one place, and the root's end stays corner 3; a corner at 128 m
+-- the four corners in order; at a pointed tip corners 1 and 2 are one place, and the root's end stays corner 3; a
+-- corner at 128 m
 abbrev pub trapezoid-corners : Bool
 trapezoid-corners =
     lies 1 1 (drilled (trapezoid one half one half) [] half half)
@@ -119,11 +121,13 @@ outline-corners =
     lies 1 1 (drilled Outline (0 ∷ 0 ∷ half ∷ one ∷ one ∷ 0 ∷ []) half half)
     && lies 2 0 (drilled Outline (0 ∷ 0 ∷ half ∷ one ∷ one ∷ 0 ∷ []) half 0)
 
--- sweep + tip in f64: 64 m and a step with one last bit more is 64 m and a step, rounded, and exactly no whole number of steps
+-- sweep + tip in f64: 64 m and a step with one last bit more is 64 m and a step, rounded, and exactly no whole number
+-- of steps
 abbrev pub exact-sum : Bool
 exact-sum = refused 25 [] (verdictOf (drilled (trapezoid one (suc oneStep) one longest) [] 0 0))
 
--- each fault of a list is mended in turn, and the next is told: the planform's, x, height, 24, 25; then 25 of a corner alone
+-- each fault of a list is mended in turn, and the next is told: the planform's, x, height, 24, 25; then 25 of a corner
+-- alone
 abbrev mended : ℕ → ℕ → ℕ → ℕ → ℕ
 mended k fault bad good = cond (leb k fault) bad good
 

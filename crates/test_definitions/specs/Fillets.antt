@@ -45,8 +45,8 @@ wideBody = bits 0x4030_1999_9999_999a
 abbrev thinGlue : Float
 thinGlue = bits 0x3ef0_e1cf_9350_aa3c
 
--- "three times"; "v = 1/21": at r = 8 and c = 1 the nearest f64 to the true angle ends in 21, two halvings give ..9b77ca, a series from 1/19 ends
--- in 22, and arguments turned round give another angle
+-- "three times"; "v = 1/21": at r = 8 and c = 1 the nearest f64 to the true angle ends in 21, two halvings give
+-- ..9b77ca, a series from 1/19 ends in 22, and arguments turned round give another angle
 abbrev pub angle-as-worked : Bool
 angle-as-worked = is (angleOf (bits 0x4020_0000_0000_0000) one) 0x3ff7_249f_aa99_6a23
 

@@ -1,4 +1,5 @@
--- Numbers: powers and comparisons of f64s, the root, sine and cosine, the airfoil's constants, figures and counts as text.
+-- Numbers: powers and comparisons of f64s, the root, sine and cosine, the airfoil's constants, figures and counts as
+-- text.
 use mathlib.Core.Bool.{Bool, true, false, not, _&&_}
 use mathlib.Core.List.{List, [], _∷_}
 use Prim.Native.Nat.{ℕ}
@@ -32,7 +33,8 @@ minusZero = bits 0x8000_0000_0000_0000
 
 -- ---- f64s
 
--- "powi: 2 is y·y, 3 is y·(y·y), 4 is (y·y)·(y·y), 5 is y·((y·y)·(y·y))": from the left, the fourth and fifth power of 0.1 end in 2f and f3
+-- "powi: 2 is y·y, 3 is y·(y·y), 4 is (y·y)·(y·y), 5 is y·((y·y)·(y·y))": from the left, the fourth and fifth power of
+-- 0.1 end in 2f and f3
 abbrev pub powers-grouped : Bool
 powers-grouped =
     is (square tenth) 0x3f84_7ae1_47ae_147c
@@ -84,7 +86,8 @@ halves-away-from-zero =
     is (mOf (quarterTurns (bits 0x4002_d97c_7f33_21d2))) 0x4000_0000_0000_0000
     && is (mOf (quarterTurns (bits 0xc002_d97c_7f33_21d2))) 0xc000_0000_0000_0000
 
--- "m mod 4 .. = 0, 1, 2, 3", at 0.5, 1, 2.5 and 5, and for m = −1 at −1; other divisors or another order change last bits
+-- "m mod 4 .. = 0, 1, 2, 3", at 0.5, 1, 2.5 and 5, and for m = −1 at −1; other divisors or another order change last
+-- bits
 abbrev pub four-quarters : Bool
 four-quarters =
     are (sinOf (bits 0x3fe0_0000_0000_0000) ∷ cosOf (bits 0x3fe0_0000_0000_0000) ∷ []) (0x3fde_aee8_744b_05f0 ∷ 0x3fec_1528_065b_7d50 ∷ [])
@@ -95,7 +98,8 @@ four-quarters =
 
 -- ---- the airfoils' constants
 
--- 0.1036, the closed tail, and 0.1015, the open one, each rounded once; in document 01's rounded steps the first three end in 38, 53, 8b and 50, 26, 87
+-- 0.1036, the closed tail, and 0.1015, the open one, each rounded once; in document 01's rounded steps the first three
+-- end in 38, 53, 8b and 50, 26, 87
 abbrev pub airfoil-constants : Bool
 airfoil-constants =
     are (airfoilConstants closedTail) (0x3fe5_c9cb_d821_dc3a ∷ 0x3fd2_35cb_4c52_7755 ∷ 0x3fc3_f527_c52c_738c ∷ 0x3fde_1ebf_45da_60e0 ∷ [])
@@ -135,7 +139,7 @@ abbrev count : ℕ → Count → Bool
 count n (Whole m) = eqb m n
 count n NotCount = false
 
--- "Counts are decimal": 204, printed and read; a colon, the byte behind 9, is no digit
+-- "Counts are decimal": 204, printed and read; a colon, the byte after 9, is no digit
 abbrev pub decimal-counts : Bool
 decimal-counts =
     count 204 (counts.countOf (50 ∷ 48 ∷ 52 ∷ []))

@@ -1,4 +1,5 @@
--- Copies at places, and parts moved or taken off (document 02, Paper 13): the wrong programs that tell themselves by a figure or a number.
+-- Copies at places, and parts moved or taken off (document 02, Paper 13): the wrong programs that tell themselves by a
+-- figure or a number.
 use mathlib.Core.Bool.{Bool, true, false, not, _&&_}
 use mathlib.Core.List.{List, [], _∷_, map}
 use Prim.Native.Nat.{ℕ}

@@ -1,4 +1,5 @@
--- One fin's body from its integrals (document 01, "Set and planform"; document 02, Paper 6): areas and volumes of 0, the tab, the cant, the density.
+-- One fin's body from its integrals (document 01, "Set and planform"; document 02, Paper 6): areas and volumes of 0,
+-- the tab, the cant, the density.
 use mathlib.Core.Bool.{Bool, _&&_}
 use mathlib.Core.List.{List, [], _∷_, map}
 use Prim.Native.Nat.{ℕ}
@@ -62,7 +63,8 @@ abbrev pub centroid-scaled-first : Bool
 centroid-scaled-first =
     is (concludedArea (bits 0x3fd3_3333_3333_3333) (totals Accepted (0x3fe6_6666_6666_6666 ∷ one ∷ one ∷ [])) .«centroid_x_m») 0x3fdb_6db6_db6d_b6dc
 
--- a tab 1 high and 2 long behind an offset of 1, 1 thick, on a body of radius 3: it reaches inward, from radius 2; outward ∫r is 7
+-- a tab 1 high and 2 long behind an offset of 1, 1 thick, on a body of radius 3: it reaches inward, from radius 2;
+-- outward ∫r is 7
 abbrev pub tab-inward : Bool
 tab-inward =
     are (tabIntegralsOf (Slab (bits one) (bits two) (bits one)) (bits one) (bits three))

@@ -1,5 +1,5 @@
--- What the rows are written with. A row says what a definition gives where a wrong one, named beside it, gives something else; by the
--- contracts, which are equations with the definitions, the code gives it too.
+-- What the rows are written with. A row says what a definition gives where a wrong one, named beside it, gives
+-- something else; by the contracts, which are equations with the definitions, the code gives it too.
 use mathlib.Core.Bool.{Bool, true, false, _&&_}
 use mathlib.Core.List.{List, [], _∷_}
 use Prim.Native.Nat.{ℕ}

@@ -121,7 +121,8 @@ empty = engineOf (replicate 8 0) 1 over
 abbrev two : Engine
 two = submitted (submitted empty 1 1 .engine) 2 1 .engine
 
--- a screen that is free takes the set; its job waits for the others, and a busy one is refused before anything else, as are 0 and 9
+-- a screen that is free takes the set; its job waits for the others, and a busy one is refused before anything else, as
+-- are 0 and 9
 abbrev pub busy-first : Bool
 busy-first =
     holdsJob (two .screens) 1

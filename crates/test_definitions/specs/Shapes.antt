@@ -1,4 +1,5 @@
--- Shapes: sorted lists, an outline's root chord, span and break heights, segments that touch, a section's moments, the integrands' values.
+-- Shapes: sorted lists, an outline's root chord, span and break heights, segments that touch, a section's moments, the
+-- integrands' values.
 use mathlib.Core.Bool.{Bool, true, false, not, _&&_}
 use mathlib.Core.List.{List, [], _∷_, map}
 use Prim.Native.Nat.{ℕ, zero, suc}
@@ -93,14 +94,15 @@ break-heights =
     && oneStrip plate
     && not (oneStrip Outline)
 
--- one after the other among all heights, 0.1 behind 0, the span and two points; the span before the points at its height; none above it
+-- one after the other among all heights, 0.1 after 0, the span and two points; the span before the points at its
+-- height; none above it
 abbrev pub heights-above : Bool
 heights-above =
     let all = allHeights Outline teeth in
     eqb (placeAbove (bits 0) all) 4 && eqb (placeAbove (bits d1) all) 1 && eqb (placeAbove (bits d3) all) 7
 
--- "An outline edge is crossed for lower end <= h < upper end; crossings are sorted and paired": the triangle's closing edge and its second one, four
--- edges of the teeth, and none at their tips
+-- "An outline edge is crossed for lower end <= h < upper end; crossings are sorted and paired": the triangle's closing
+-- edge and its second one, four edges of the teeth, and none at their tips
 abbrev pub outline-crossings : Bool
 outline-crossings =
     are (endsAt Outline triangle (bits d2)) (0x3fc9_9999_9999_9999 ∷ 0x3fd1_1111_1111_1111 ∷ [])
@@ -126,7 +128,8 @@ point x y = record { x = bits x; y = bits y }
 abbrev segment : Point → Point → Segment
 segment p q = record { from = p; to = q }
 
--- (0, 0) to (0.2, 0) with (0.1, 0) to (0.1, 0.1), which ends on it, and with two that end on its box or cross its line beyond it
+-- (0, 0) to (0.2, 0) with (0.1, 0) to (0.1, 0.1), which ends on it, and with two that end on its box or cross its line
+-- beyond it
 abbrev pub touching-segments : Bool
 touching-segments =
     let base = segment (point 0 0) (point d2 0) in
@@ -156,7 +159,8 @@ area-values =
     && are (sampled Outline teeth) (0x3fd3_0c30_c30c_30c5 ∷ 0x3fb5_c4ca_037b_a573 ∷ 0x3fb3_0c30_c30c_30c5 ∷ 0 ∷ 0 ∷ 0 ∷ 0 ∷ [])
     && are (areaThree Outline teeth quarter) (0x3fd3_0c30_c30c_30c5 ∷ 0x3fb5_c4ca_037b_a573 ∷ 0x3fb3_0c30_c30c_30c5 ∷ [])
 
--- at thickness 0.03 and body radius 0.05: "Every length of a strip, thickness and body radius too, is divided by root chord plus span"
+-- at thickness 0.03 and body radius 0.05: "Every length of a strip, thickness and body radius too, is divided by root
+-- chord plus span"
 abbrev pub plate-values : Bool
 plate-values =
     are (plateOf plate [] Square (bits d03) (bits d05) quarter)

@@ -130,7 +130,8 @@ isBulk (Line density) b = false
 
 -- ---- calls that work no strip
 
--- "A step lent under 16·L numbers answers 2, changes nothing and does not count", with "the job's samples so far"; not one of 128 numbers
+-- "A step lent under 16·L numbers answers 2, changes nothing and does not count", with "the job's samples so far"; not
+-- one of 128 numbers
 abbrev pub short-step : Bool
 short-step =
     let s = stepOf (worked 1 3 15 zeros) 127 in
@@ -140,7 +141,8 @@ short-step =
     && eqb (s .job .next) 3
     && not (s .job .ended)
 
--- "A step on an ended job repeats its answer, with any scratch", before 2 is asked; "one that repeats an answer writes nothing"
+-- "A step on an ended job repeats its answer, with any scratch", before 2 is asked; "one that repeats an answer writes
+-- nothing"
 abbrev pub repeats : Bool
 repeats =
     let s = stepOf over 0 in
@@ -149,7 +151,8 @@ repeats =
     && eqb (s .answer .figures .samples) 135
     && are (stepScratch over (map bits (one ∷ two ∷ []))) (one ∷ two ∷ [])
 
--- "the plate's density may be changed, answered only as taken": the density asked for, not the first; nothing else moves
+-- "the plate's density may be changed, answered only as taken": the density asked for, not the first; nothing else
+-- moves
 abbrev pub density-taken : Bool
 density-taken =
     let s = changeOf (worked 1 3 15 zeros) balsa in
@@ -158,7 +161,8 @@ density-taken =
     && eqb (s .job .next) 3
     && eqb (s .answer .figures .samples) 0
 
--- "a density not bulk or outside the limits, or any change after the end, answers 12 and leaves the old one", with the samples
+-- "a density not bulk or outside the limits, or any change after the end, answers 12 and leaves the old one", with the
+-- samples
 abbrev pub density-left : Bool
 density-left =
     let line = changeOf (worked 1 3 15 zeros) (Line (bits one)) in
@@ -195,8 +199,8 @@ asked-again =
 
 -- ---- steps that work one
 
--- "one strip a step": the first leaves one strip worked, with its fifteen samples, and more to come, from height 1 on, which stands behind
--- 0, the span and the last point's
+-- "one strip a step": the first leaves one strip worked, with its fifteen samples, and more to come, from height 1 on,
+-- which stands after 0, the span and the last point's
 abbrev pub one-strip-a-step : Stepped → Bool
 one-strip-a-step s =
     isMore (s .answer .reply) && eqb (s .job .next) 3 && eqb (s .job .samples) 15 && eqb (s .job .intervals) 1 && not (s .job .ended)
@@ -205,7 +209,8 @@ one-strip-a-step s =
 abbrev pub sums-go-on : Stepped → Bool
 sums-go-on s = s .job .ended && eqb (s .job .samples) 30 && eqb (s .job .intervals) 2 && lt (bits one) (at (s .job .value) 0)
 
--- "A step writes its own strip's pieces from the start of the scratch lent to it and leaves the rest", the last step too
+-- "A step writes its own strip's pieces from the start of the scratch lent to it and leaves the rest", the last step
+-- too
 abbrev pub last-strip-written : List Float → Bool
 last-strip-written scratch =
     eqb (length scratch) 128 && are (take 2 scratch) (third ∷ 0x3fe5_5555_5555_5555 ∷ []) && are (take 2 (drop 16 scratch)) (one ∷ one ∷ [])

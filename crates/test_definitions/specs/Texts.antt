@@ -39,8 +39,8 @@ noFigure word = isNone (figureWord (text word))
     isNone (Number x) = false
     isNone NotFigure = true
 
--- "`0.0032`, `-5`, `+12.50`; not `.5`, `5.`, `1e3`"; 1 to 19 digits in all; sixteen bare digits are none, with a sign or a point they
--- are; before the mark stands no sign
+-- "`0.0032`, `-5`, `+12.50`; not `.5`, `5.`, `1e3`"; 1 to 19 digits in all; sixteen bare digits are none, with a sign
+-- or a point they are; before the mark stands no sign
 abbrev pub figure-words : Bool
 figure-words =
     figure 0x3f6a_36e2_eb1c_432d "0.0032"

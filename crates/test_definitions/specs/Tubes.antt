@@ -1,4 +1,5 @@
--- A ring of tubes (document 02, Paper 3): the order of its checks, what passes, the radius that closes it, and where a tube stands.
+-- A ring of tubes (document 02, Paper 3): the order of its checks, what passes, the radius that closes it, and where a
+-- tube stands.
 use mathlib.Core.Bool.{Bool, _&&_, cond}
 use mathlib.Core.List.{[], _∷_}
 use Prim.Native.Nat.{ℕ}

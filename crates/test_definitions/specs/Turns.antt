@@ -1,4 +1,5 @@
--- Turned tensors (document 02, Paper 12): half the sum of the opposite entries after each turn, and where each of six numbers stands.
+-- Turned tensors (document 02, Paper 12): half the sum of the opposite entries after each turn, and where each of six
+-- numbers stands.
 use mathlib.Core.Bool.{Bool, not, _&&_}
 use mathlib.Core.List.{List, [], _∷_, map}
 use Prim.Native.Nat.{ℕ}
@@ -47,7 +48,7 @@ half-the-sum =
     && is (entry (turnMatrix (asMatrix start) aboutX) 1 2) 0xbfec_ed91_6872_b01f
     && is (entry (turnMatrix (asMatrix start) aboutX) 2 1) 0xbfec_ed91_6872_b022
 
--- two turns, averaged after each: averaged once behind both, xz and yz have other last bits
+-- two turns, averaged after each: averaged once after both, xz and yz have other last bits
 abbrev twice : List ℕ
 twice =
     0x3ff1_cffe_b074_a771

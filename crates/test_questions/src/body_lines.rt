@@ -37,7 +37,7 @@ fn turned(body: Body, axis: usize, angle_rad: f64) -> Body {
     }
 }
 
-// The body stands behind its angle.
+// The body stands after its angle.
 pub(crate) fn turn_agrees(axis: usize, values: &[f64], answers: &[f64]) -> bool
     requires { ⌜ lineFigures ≤ length (now values) ⌝ }
 {

@@ -1,4 +1,5 @@
-// Chords, break heights and integrands: the lines that hold a planform. Its figures stand before the height, which is the question's last figure.
+// Chords, break heights and integrands: the lines that hold a planform. Its figures stand before the height, which is
+// the question's last figure.
 ghost use Prim.Native.Nat.{_<_, _≤_};
 ghost use lib.ListN.{length};
 ghost use Rattle.test_questions.specs.Parts.{lineFigures};

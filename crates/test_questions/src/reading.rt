@@ -1,5 +1,6 @@
-// A line of a list held against a template, by a reader of its own, so that the lists do not hang on how a card line is read: `F` stands for the
-// sixteen digits of an f64's bits, `F..` for as many figures as there are, `x|z` for one of two words or more, and any other word for itself.
+// A line of a list held against a template, by a reader of its own, so that the lists do not hang on how a card line is
+// read: `F` stands for the sixteen digits of an f64's bits, `F..` for as many figures as there are, `x|z` for one of
+// two words or more, and any other word for itself.
 ghost use Prim.Native.Nat.{_≤_};
 ghost use lib.ListN.{length};
 ghost use Rattle.test_questions.specs.Parts.{lineFigures, Reached};
@@ -10,8 +11,9 @@ use tokens::LINE_BYTES;
 // How many figures a question and its answer have at most.
 pub(crate) const LINE_FIGURES: usize = 256;
 
-// Where reading stands: whether all of the template so far fits, the next byte, how many figures have been read, how many of them stood before the
-// last word that is no choice, which is `=` in the end, and the places of the last two words chosen, from 1 on.
+// Where reading stands: whether all of the template so far fits, the next byte, how many figures have been read, how
+// many of them stood before the last word that is no choice, which is `=` in the end, and the places of the last two
+// words chosen, from 1 on.
 pub(crate) struct Cursor {
     pub(crate) ok: bool,
     pub(crate) at: usize,

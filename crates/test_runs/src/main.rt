@@ -1,5 +1,6 @@
-// Replays runs (oracle/README.md): a line has the numbers of scratch to lend, and a set's or a planform's line. Printed are the refusal's
-// number and values, the figures, the counts and a sum over the whole scratch, as the oracle prints them.
+// Replays runs (oracle/README.md): a line has the numbers of scratch to lend, and a set's or a planform's line. Printed
+// are the refusal's number and values, the figures, the counts and a sum over the whole scratch, as the oracle prints
+// them.
 ghost use mathlib.Core.Path.{_≡_};
 ghost use Prim.Native.Nat.{_+_, _≤_};
 ghost use lib.ListN.{length};

@@ -1,4 +1,4 @@
--- What finding a token means: the tokens of the rest of a line begin with it, and go on behind it.
+-- What finding a token means: the tokens of the rest of a line begin with it, and go on after it.
 use mathlib.Core.List.{List, [], _∷_}
 use mathlib.Core.Bool.{false}
 use mathlib.Core.Path.{_≡_}

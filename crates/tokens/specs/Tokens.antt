@@ -1,5 +1,5 @@
--- A line's tokens (docs/FORMS.md): "Words are separated by one or more spaces; spaces beside a bracket are free". A token is its bytes: a
--- bracket, or a word.
+-- A line's tokens (docs/FORMS.md): "Words are separated by one or more spaces; spaces beside a bracket are free". A
+-- token is its bytes: a bracket, or a word.
 use mathlib.Core.List.{List, [], _∷_, _++_}
 use mathlib.Core.Bool.{Bool, _||_, cond}
 use Prim.Native.Nat.{ℕ}
@@ -13,7 +13,7 @@ lineBytes = 4096
 abbrev pub endsWord : ℕ → Bool
 endsWord b = eqb b 32 || eqb b 40 || eqb b 41
 
--- the word that is done, unless it has no byte, before the tokens behind it
+-- the word that is done, unless it has no byte, before the tokens after it
 abbrev pub done : List ℕ → List (List ℕ) → List (List ℕ)
 done [] ts = ts
 done (b ∷ bs) ts = (b ∷ bs) ∷ ts

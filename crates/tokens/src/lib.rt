@@ -1,4 +1,5 @@
-// A line cut into tokens: brackets and words (docs/FORMS.md). A token is found from a place on; its word is a part of the line.
+// A line cut into tokens: brackets and words (docs/FORMS.md). A token is found from a place on; its word is a part of
+// the line.
 ghost use mathlib.Core.Path.{_≡_};
 ghost use Prim.Native.Nat.{_≤_};
 ghost use lib.ListN.{length};

@@ -1,7 +1,8 @@
 // How pieces stand against the tolerance (quadrature.rs, the middle of `integrate`; document 01, "Piece and tally").
 //
-// The summed error of each component is held against its bound, max(1e-16, 1e-12 |summed value|). A piece's score is its largest error
-// over bound; the worst piece, and the worst component, is the last with the highest.
+// The summed error of each component is held against its bound, max(1e-16, 1e-12 |summed value|). A piece's score is
+// its largest error over bound; the worst piece, and the worst component, is the last with the highest. QUADPACK's QAG
+// (see `halving`) compares one component's error with max(absolute, relative·|value|) in the same way, without a score.
 ghost use mathlib.Core.Path.{_≡_};
 ghost use Prim.Native.Nat.{_*_, _-_, _<_, _≤_};
 ghost use lib.ListN.{length};
@@ -167,7 +168,8 @@ struct Seen {
     errors: [f64; 7],
 }
 
-// One piece before those seen. Where none of its errors is above the largest seen, neither is its score, and nothing is divided.
+// One piece before those seen. Where none of its errors is above the largest seen, neither is its score, and nothing is
+// divided.
 fn seen_with(seen: Seen, p: Piece, b: [f64; 7], ordered: bool, place: usize) -> Seen
     ensures { λ r. ⌜ r ≡ seenWith seen p b ordered place ⌝ }
 {

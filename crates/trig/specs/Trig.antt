@@ -1,4 +1,5 @@
--- Sine and cosine of f, by document 01's steps ("Stand-ins", "Sine and cosine of f"). Every operation is rounded to f64.
+-- Sine and cosine of f, by document 01's steps ("Stand-ins", "Sine and cosine of f"). Every operation is rounded to
+-- f64.
 use mathlib.Core.Bool.{Bool, cond}
 use mathlib.Core.List.{List, [], _∷_, map}
 use Prim.Native.Nat.{ℕ, zero, suc, _+_, _-_, _*_, _/_, _%_}
@@ -11,12 +12,13 @@ use Rattle.trig.specs.declared.SinCos.{SinCos}
 abbrev pub quarterTurns : Float → Float
 quarterTurns f = f ⊗ bits 0x3fe4_5f30_6dc9_c883
 
--- the whole number nearest num / den, halves up: one half more, and the fraction cut off (`nearest-is` and `nearest-only` of proofs/: the
--- only M with M − 1/2 ≤ num / den < M + 1/2)
+-- the whole number nearest num / den, halves up: one half more, and the fraction cut off (`nearest-is` and
+-- `nearest-only` of proofs/: the only M with M − 1/2 ≤ num / den < M + 1/2)
 abbrev pub nearestWhole : ℕ → ℕ → ℕ
 nearestWhole num den = (2 * num + den) / (2 * den)
 
--- "m is the whole number nearest .., halves away from zero": the nearest to the product's magnitude k·2^e, with the product's sign
+-- "m is the whole number nearest .., halves away from zero": the nearest to the product's magnitude k·2^e, with the
+-- product's sign
 abbrev pub signed : Bool → ℕ → ℤ
 signed s n = cond s (negℤ (pos n)) (pos n)
 
@@ -24,9 +26,9 @@ signed s n = cond s (negℤ (pos n)) (pos n)
 abbrev pub wholeOf : Bool → ℕ → ℤ → ℤ
 wholeOf s k e = signed s (nearestWhole (k * up e) (down e))
 
--- m as an f64 (`ofInt`: the nearest one), which it is exactly (`m-exact`). Every finite f has a finite product, and so an m
--- (`product-finite`). The paragraph leaves open what a NaN or an infinite f gives: m is a NaN there, and with it r, both series and both
--- answers.
+-- m as an f64 (`ofInt`: the nearest one), which it is exactly (`m-exact`). Every finite f has a finite product, and so
+-- an m (`product-finite`). The paragraph leaves open what a NaN or an infinite f gives: m is a NaN there, and with it
+-- r, both series and both answers.
 unfoldable pub mOf : Float → Float
 mOf nan = nan
 mOf (inf s) = nan

@@ -1,7 +1,8 @@
 // Sine and cosine of every f64, by the steps of document 01 ("Stand-ins", "Sine and cosine of f"); Rust's `sin_cos`.
 //
-// With m the whole number nearest f·2/π, r = f − m·π/2 lies within an eighth turn of 0; π/2 is taken as A + B, so that m·A is exact for the
-// m of ordinary angles. Both series are worked at r, from the last term inwards, and m mod 4 says which is the sine, and with which sign.
+// With m the whole number nearest f·2/π, r = f − m·π/2 lies within an eighth turn of 0; π/2 is taken as A + B, so that
+// m·A is exact for the m of ordinary angles. Both series are worked at r, from the last term inwards, and m mod 4 says
+// which is the sine, and with which sign.
 ghost use mathlib.Core.Path.{_≡_};
 ghost use Prim.Native.Nat.{_-_, _*_, _^_, _≤_, _<_};
 ghost use lib.Ieee.{binary64, ofInt};
@@ -25,8 +26,8 @@ pub struct SinCos {
     pub cos: f64,
 }
 
-// The sine and the cosine of f radians; two NaNs where f is not finite. The steps are worked for every f, and for an f of very many turns
-// what they give is far from the true sine.
+// The sine and the cosine of f radians; two NaNs where f is not finite. The steps are worked for every f, and for an f
+// of very many turns what they give is far from the true sine.
 pub fn sin_cos(f: f64) -> SinCos
     ensures { λ r. ⌜ (r .sin ≡ sinOf f) × (r .cos ≡ cosOf f) ⌝ }
 {
@@ -36,8 +37,8 @@ pub fn sin_cos(f: f64) -> SinCos
     by_quarter(whole.quarter, r, series(r * r))
 }
 
-// From v = 1, v = 1 − (z/d)·v for each divisor d in order: the sine's, then the cosine's. The two go on side by side, so that the
-// machine divides both at once.
+// From v = 1, v = 1 − (z/d)·v for each divisor d in order: the sine's, then the cosine's. The two go on side by side,
+// so that the machine divides both at once.
 fn series(z: f64) -> [f64; 2]
     ensures { λ v. ⌜ (at v 0 ≡ steps z sineDivisors (whole 1)) × (at v 1 ≡ steps z cosineDivisors (whole 1)) ⌝ }
 {
@@ -86,7 +87,8 @@ struct Whole {
     quarter: u64,
 }
 
-// The whole number m nearest q, halves away from zero. It goes by the exponent's field of q's bits, which is 1023 more than the exponent.
+// The whole number m nearest q, halves away from zero. It goes by the exponent's field of q's bits, which is 1023 more
+// than the exponent.
 fn nearest_whole(q: f64) -> Whole
     ensures { λ w. ⌜ (w .m ≡ mOf q) × (w .quarter ≡ quarterOf q) ⌝ }
 {
@@ -118,7 +120,8 @@ fn nearest_whole(q: f64) -> Whole
     Whole { m, quarter }
 }
 
-// The whole number nearest x = digits·2^(exponent − 1) / 2^1074, halves up. Below 2^52 it is x + 1/2, cut: twice x, cut, then 1 more, halved.
+// The whole number nearest x = digits·2^(exponent − 1) / 2^1074, halves up. Below 2^52 it is x + 1/2, cut: twice x,
+// cut, then 1 more, halved.
 fn nearest_magnitude(exponent: u64, digits: u64) -> u64
     requires { ⌜ (1022 ≤ exponent) × (exponent < 1077) × (digits < 2 ^ 53) ⌝ }
     ensures { λ n. ⌜ n ≡ nearestWhole (digits * 2 ^ (exponent - 1)) (2 ^ 1074) ⌝ }

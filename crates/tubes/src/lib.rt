@@ -1,8 +1,10 @@
-// Tube fins: open tubes parallel to the body, touching it, spaced evenly around it (fins.rs, `TubeFinSet`; parts.rs, `hollow_cylinder`).
+// Tube fins: open tubes parallel to the body, touching it, spaced evenly around it (fins.rs, `TubeFinSet`; parts.rs,
+// `hollow_cylinder`).
 //
-// A tube of outer radius R, inner radius r and length L has m = ρ π (R² − r²) L, its centre at −L/2, m (R² + r²)/2 about its axis and
-// m ((R² + r²)/4 + L²/12) across it; its axis stands at body radius + R. The axes of n tubes lie on a circle of that radius, 2π/n
-// apart, so neighbours touch where the outer radius is body radius · s / (1 − s), s = sin(π/n).
+// A tube of outer radius R, inner radius r and length L has m = ρ π (R² − r²) L, its centre at −L/2, m (R² + r²)/2
+// about its axis and m ((R² + r²)/4 + L²/12) across it; its axis stands at body radius + R. The axes of n tubes lie on
+// a circle of that radius, 2π/n apart, so neighbours touch where the outer radius is body radius · s / (1 − s), s =
+// sin(π/n).
 ghost use mathlib.Core.Path.{_≡_};
 ghost use Prim.Native.Nat.{_≤_};
 ghost use Rattle.refusals.specs.Given.{IsVerdict};
@@ -35,7 +37,8 @@ pub struct ClosingRadius {
     pub radius_m: f64,
 }
 
-// A tube on the axis with its forward end at the origin; a wall as thick as the outer radius makes it solid, a wall of 0 massless.
+// A tube on the axis with its forward end at the origin; a wall as thick as the outer radius makes it solid, a wall of
+// 0 massless.
 fn hollow_cylinder(kg_m3: f64, length_m: f64, outer_radius_m: f64, thickness_m: f64) -> Body
     ensures { λ r. ⌜ r ≡ hollowCylinder «kg_m3» «length_m» «outer_radius_m» «thickness_m» ⌝ }
 {
@@ -110,7 +113,8 @@ fn check_tubes(set: TubeFinSet, body_radius_m: f64) -> Verdict
     first_refusal(v, refusals::refuse_when(over, Refusal::WallOverRadius))
 }
 
-// The ring's mass, centre and tensor, on a body of the given radius; the frame's origin is on the axis at the tubes' forward end.
+// The ring's mass, centre and tensor, on a body of the given radius; the frame's origin is on the axis at the tubes'
+// forward end.
 pub fn mass_properties(set: TubeFinSet, body_radius_m: f64) -> Joined
     ensures { λ r. ⌜ IsJoined r (tubesOf set «body_radius_m») ⌝ }
 {
@@ -137,7 +141,8 @@ fn closing_value(body_radius_m: f64, count: usize) -> f64
     body_radius_m * s / (1.0 - s)
 }
 
-// The outer radius of `count` tubes that close the ring around a body, each touching the body and its two neighbours. It is held to no limit.
+// The outer radius of `count` tubes that close the ring around a body, each touching the body and its two neighbours.
+// It is held to no limit.
 pub fn closing_radius_m(body_radius_m: f64, count: usize) -> ClosingRadius
     ensures { λ r. ⌜ IsClosing r (closingOf «body_radius_m» count) ⌝ }
 {

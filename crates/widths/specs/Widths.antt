@@ -1,4 +1,5 @@
--- An integrand of w components that is one of v components with zeros behind ("an area run uses three of the seven, the rest zero").
+-- An integrand of w components that is one of v components with zeros after ("an area run uses three of the seven, the
+-- rest zero").
 use mathlib.Core.Path.{_≡_}
 use mathlib.Core.List.{List}
 use Prim.Native.Nat.{ℕ, _≤_, _<_}
