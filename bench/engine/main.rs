@@ -90,11 +90,8 @@ fn main() {
         ("outline of 12 points", set(Planform::Outline { points_m: &few })),
         ("outline of 64 points", set(Planform::Outline { points_m: &many })),
     ];
-    println!("microseconds for eight sets; of a step and of a turn, making and submitting shared out");
-    println!(
-        "{:22} {:>6} {:>9} {:>9} {:>9} {:>8} {:>8}",
-        "set", "strips", "whole", "jobs", "engine", "step", "turn"
-    );
+    println!("| set (square section) | strips | whole runs, µs | jobs, one after the other | eight screens | a step | a turn |");
+    println!("|---|---|---|---|---|---|---|");
     for (name, set) in &sets {
         let mut scratch = [0.0; 16 * LIMIT];
         let mut engine = Engine::new();
@@ -113,7 +110,7 @@ fn main() {
         let (step, turn) = (micros[1] / (8 * counts.0) as f64, micros[2] / counts.1 as f64);
         let [whole, jobs, engine] = micros;
         println!(
-            "{name:22} {:6} {whole:9.2} {jobs:9.2} {engine:9.2} {step:8.3} {turn:8.3}",
+            "| {name} | {} | {whole:.2} | {jobs:.2} | {engine:.2} | {step:.2} | {turn:.2} |",
             counts.0
         );
     }

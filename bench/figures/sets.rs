@@ -112,6 +112,14 @@ pub fn trapezoid(r: &mut Random, section: usize) -> Set {
     on_trapezoid(r, section, lengths)
 }
 
+/// A trapezoid's set of so many fins.
+pub fn fins(r: &mut Random, count: u32) -> Set {
+    let mut set = trapezoid(r, 0);
+    set.rust.count = count;
+    set.counts[0] = count as usize;
+    set
+}
+
 pub fn ellipse(r: &mut Random, section: usize) -> Set {
     let lengths = [r.between(0.1, 0.4), r.between(0.05, 0.3)];
     let [root_chord_m, span_m] = lengths;

@@ -55,6 +55,9 @@ extern "C" {
 const LIMIT: usize = 64;
 const MORE: usize = 1000;
 
+/// The most microseconds that a step may add to its strip, of an outline of 64 points.
+const ASKED: f64 = 0.4;
+
 /// As include/delvouzh.h has it.
 struct Set {
     name: &'static str,
@@ -192,7 +195,9 @@ fn time(calls: u32, mut call: impl FnMut()) -> Duration {
 
 fn main() {
     let mut differing = 0;
-    println!("planform, section, strips: µs in one run, µs as a job, µs that a step adds");
+    let mut slow = false;
+    println!("| planform | section | strips | µs in one run | µs as a job | µs that a step adds |");
+    println!("|---|---|---|---|---|---|");
     for set in sets() {
         let (mut one, mut job) = (Answer::new(), Answer::new());
         whole(&set, &mut one);
@@ -207,13 +212,17 @@ fn main() {
             }));
         }
         let [run, worked] = best.map(|t| t.as_nanos() as f64 / 1000.0);
+        let added = (worked - run) / steps as f64;
+        let section = ["square", "rounded"][set.counts[2] - 1];
         println!(
-            "{}, section {}, {steps}: {run:.2}, {worked:.2}, {:.2}",
-            set.name,
-            set.counts[2],
-            (worked - run) / steps as f64
+            "| {} | {section} | {steps} | {run:.2} | {worked:.2} | {added:.2} |",
+            set.name
         );
+        slow |= set.points.len() == 128 && added > ASKED;
     }
-    println!("{differing} answers differ");
-    exit(i32::from(differing != 0));
+    println!(
+        "\n{differing} answers differ; at most {ASKED} µs a step is asked at 64 points{}",
+        if slow { ": more" } else { "" }
+    );
+    exit(i32::from(differing != 0 || slow));
 }
