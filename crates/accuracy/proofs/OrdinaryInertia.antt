@@ -91,7 +91,8 @@ use Rattle.accuracy.proofs.MassNear.{density-checked}
 use Rattle.accuracy.proofs.BalanceNear.{tab-lengths}
 use Rattle.accuracy.proofs.SetCalled as Called
 use Rattle.accuracy.proofs.SetCalled.{set-given, set-body}
-use Rattle.accuracy.proofs.SevenIntegrals.{Fin, Sizes, unitOf, shapeAt, least-parts, errorIn, bases, seven-known, volume-lowest}
+use Rattle.accuracy.proofs.SevenIntegrals.{Fin, Sizes, unitOf, isFoil, shapeAt, leastParts, lessParts, errorIn, bases, seven-known}
+use Rattle.accuracy.proofs.SevenIntegrals.{volume-lowest}
 use Rattle.accuracy.proofs.SevenIntegrals.{integralAt}
 use Rattle.accuracy.proofs.SevenIntegrals.{exactly, exactE, numbersIn, numbers-all, tabNumbers, finIn, tabE, totalAt, TabKnown}
 use Rattle.accuracy.proofs.OrdinaryCentroid.{inverse-pair}
@@ -108,20 +109,20 @@ ruleset plain = (sorted, one-mul, mul-one, zero-mul, mul-zero, zero-add, add-zer
 abbrev massUnit : List ℕ
 massUnit = 1 ∷ 1 ∷ 0 ∷ 1 ∷ 0 ∷ 1 ∷ []
 
-abbrev massShape : Tab → Shape
-massShape tab = productShape (shape 0 full (place 5) []) (shapeAt tab 0)
+abbrev massShape : Bool → Tab → Shape
+massShape foil tab = productShape (shape 0 full (place 5) []) (shapeAt foil tab 0)
 
-abbrev bodyList : Tab → (ℕ → Float) → (ℕ → Number) → (density : Float) → List Given
-bodyList tab v n density =
-    entry (v 0) (n 0) (shapeAt tab 0) least-parts ∷
-    entry (v 1) (n 1) (shapeAt tab 1) 0 ∷
-    entry (v 2) (n 2) (shapeAt tab 2) 0 ∷
-    entry (neg (v 3)) (zeroNumber less n 3) (shapeAt tab 3) 0 ∷
-    entry (v 4) (n 4) (shapeAt tab 4) 0 ∷
-    entry (v 5) (n 5) (shapeAt tab 5) 0 ∷
-    entry (v 6) (n 6) (shapeAt tab 6) 0 ∷
+abbrev bodyList : Bool → Tab → (ℕ → Float) → (ℕ → Number) → (density : Float) → List Given
+bodyList foil tab v n density =
+    entry (v 0) (n 0) (shapeAt foil tab 0) (leastParts foil) ∷
+    entry (v 1) (n 1) (shapeAt foil tab 1) 0 ∷
+    entry (v 2) (n 2) (shapeAt foil tab 2) 0 ∷
+    entry (neg (v 3)) (zeroNumber less n 3) (shapeAt foil tab 3) 0 ∷
+    entry (v 4) (n 4) (shapeAt foil tab 4) 0 ∷
+    entry (v 5) (n 5) (shapeAt foil tab 5) 0 ∷
+    entry (v 6) (n 6) (shapeAt foil tab 6) 0 ∷
     entry density (valueOf density) (shape 0 full (place 5) []) full ∷
-    entry (density ⊗ v 0) (valueOf density times n 0) (massShape tab) least-parts ∷
+    entry (density ⊗ v 0) (valueOf density times n 0) (massShape foil tab) (leastParts foil) ∷
     larger 0 4 ∷
     larger 3 4 ∷
     []
@@ -239,9 +240,9 @@ rowS i zero = pick i (local 5) (local 2) (local 1)
 rowS i (suc zero) = pick i (local 2) (local 4) (local 0)
 rowS i (suc (suc j)) = pick i (local 1) (local 0) (local 3)
 
-module _ (tab : Tab) (v : ℕ → Float) (n : ℕ → Number) (density : Float) where
+module _ (foil : Bool) (tab : Tab) (v : ℕ → Float) (n : ℕ → Number) (density : Float) where
   abbrev pub G : List Given
-  G = bodyList tab v n density
+  G = bodyList foil tab v n density
 
   abbrev pub Passes : Shared → Expression → ℕ → List ℕ → Type 0
   Passes s e K p = T (nearer G e (K * 2 ^ 30) p [] (judgeIn G (judgeAll G [] parts) s))
@@ -270,9 +271,9 @@ module _ (tab : Tab) (v : ℕ → Float) (n : ℕ → Number) (density : Float) 
     pub own-xz : Passes (local 1) (tensorE 4) (2 ^ 23) tensorUnit
 
 module _ (v : ℕ → Float) (n : ℕ → Number) (density : Float) where
-  none-pass : BodyPass None v n density
+  square : BodyPass false None v n density
   unfolding round ofBits
-  none-pass = record {
+  square = record {
     x = tt;
     xx = tt;
     yy = tt;
@@ -295,9 +296,9 @@ module _ (v : ℕ → Float) (n : ℕ → Number) (density : Float) where
     own-xz = tt;
   }
 
-  slab-pass : (height length offset : Float) → BodyPass (Slab height length offset) v n density
+  square-tab : (height length offset : Float) → BodyPass false (Slab height length offset) v n density
   unfolding round ofBits
-  slab-pass height length offset = record {
+  square-tab height length offset = record {
     x = tt;
     xx = tt;
     yy = tt;
@@ -320,26 +321,82 @@ module _ (v : ℕ → Float) (n : ℕ → Number) (density : Float) where
     own-xz = tt;
   }
 
-  body-pass : (tab : Tab) → BodyPass tab v n density
-  body-pass None = none-pass
-  body-pass (Slab height length offset) = slab-pass height length offset
+  foil-alone : BodyPass true None v n density
+  unfolding round ofBits
+  foil-alone = record {
+    x = tt;
+    xx = tt;
+    yy = tt;
+    zz = tt;
+    xz = tt;
+    centre-x = tt;
+    centre-z = tt;
+    rest-x = tt;
+    rest-z = tt;
+    row-xx = tt;
+    row-xz = tt;
+    row-yy = tt;
+    row-zx = tt;
+    row-zz = tt;
+    from-x = tt;
+    from-z = tt;
+    own-xx = tt;
+    own-yy = tt;
+    own-zz = tt;
+    own-xz = tt;
+  }
+
+  foil-tab : (height length offset : Float) → BodyPass true (Slab height length offset) v n density
+  unfolding round ofBits
+  foil-tab height length offset = record {
+    x = tt;
+    xx = tt;
+    yy = tt;
+    zz = tt;
+    xz = tt;
+    centre-x = tt;
+    centre-z = tt;
+    rest-x = tt;
+    rest-z = tt;
+    row-xx = tt;
+    row-xz = tt;
+    row-yy = tt;
+    row-zx = tt;
+    row-zz = tt;
+    from-x = tt;
+    from-z = tt;
+    own-xx = tt;
+    own-yy = tt;
+    own-zz = tt;
+    own-xz = tt;
+  }
+
+  body-pass : (foil : Bool) (tab : Tab) → BodyPass foil tab v n density
+  body-pass false None = square
+  body-pass false (Slab height length offset) = square-tab height length offset
+  body-pass true None = foil-alone
+  body-pass true (Slab height length offset) = foil-tab height length offset
 
 -- the mass: density times volume
-abbrev massList : Tab → (ℕ → Float) → (ℕ → Number) → (density : Float) → List Given
-massList tab v n density =
-    entry (v 0) (n 0) (shapeAt tab 0) least-parts ∷ entry density (valueOf density) (shape 0 full (place 5) []) full ∷ []
+abbrev massList : Bool → Tab → (ℕ → Float) → (ℕ → Number) → (density : Float) → List Given
+massList foil tab v n density =
+    entry (v 0) (n 0) (shapeAt foil tab 0) (leastParts foil) ∷ entry density (valueOf density) (shape 0 full (place 5) []) full ∷ []
 
 abbrev massTerm : Term
 massTerm = var 1 mulT var 0
 
-mass-okay : (tab : Tab) (v : ℕ → Float) (n : ℕ → Number) (density : Float) → T (ok (massList tab v n density) massTerm)
-mass-okay None v n density = tt
-mass-okay (Slab x y z) v n density = tt
+mass-okay : (foil : Bool) (tab : Tab) (v : ℕ → Float) (n : ℕ → Number) (density : Float) → T (ok (massList foil tab v n density) massTerm)
+mass-okay false None v n density = tt
+mass-okay false (Slab x y z) v n density = tt
+mass-okay true None v n density = tt
+mass-okay true (Slab x y z) v n density = tt
 
-mass-least : (tab : Tab) (v : ℕ → Float) (n : ℕ → Number) (density : Float)
-    → T (lowTest (massList tab v n density) (given 2 mul given 0) (errorIn (massShape tab)) (least-parts - 1) massUnit [])
-mass-least None v n density = tt
-mass-least (Slab x y z) v n density = tt
+mass-least : (foil : Bool) (tab : Tab) (v : ℕ → Float) (n : ℕ → Number) (density : Float)
+    → T (lowTest (massList foil tab v n density) (given 2 mul given 0) (errorIn (massShape foil tab)) (lessParts foil) massUnit [])
+mass-least false None v n density = tt
+mass-least false (Slab x y z) v n density = tt
+mass-least true None v n density = tt
+mass-least true (Slab x y z) v n density = tt
 
 -- ---- what is known
 zero-less : (v : Number) → minus v equals zeroNumber less v
@@ -407,9 +464,9 @@ abbrev turnedOf : (ℕ → Float) → Float → Body
 turnedOf v density = rotatedOf (plateBody (listOf v) density) identity
 
 -- ---- its numbers are the terms' values
-module _ (tab : Tab) (v : ℕ → Float) (n : ℕ → Number) (density : Float) where
+module _ (foil : Bool) (tab : Tab) (v : ℕ → Float) (n : ℕ → Number) (density : Float) where
   abbrev at-term : Shared → Float
-  at-term s = value (bodyList tab v n density) (expand [] (bindAll parts s))
+  at-term s = value (bodyList foil tab v n density) (expand [] (bindAll parts s))
 
   x-term : centreBy (turnedOf v density) (density ⊗ v 0) .x ≡ at-term (joinedS 0)
   unfolding rotatedOf plateBody ofOriginTensor
@@ -502,38 +559,42 @@ module _ (f : Fin) (b d : ℕ) (g : Sizes f b d) where
   B = bases f b d g
 
   abbrev body : List Given
-  body = bodyList (f .tab) v n (f .density)
+  body = bodyList (isFoil (f .section)) (f .tab) v n (f .density)
 
   density-own : Known B (f .density) (valueOf (f .density)) (shape 0 full (place 5) [])
       × Lowest B (f .density) (valueOf (f .density)) (shape 0 full (place 5) []) full
   density-own = own-entry B 5 (f .density) refl (g .density-positive)
 
-  volume-known : Known B (v 0) (n 0) (shapeAt (f .tab) 0) × Lowest B (v 0) (n 0) (shapeAt (f .tab) 0) least-parts
+  volume-known : Known B (v 0) (n 0) (shapeAt (isFoil (f .section)) (f .tab) 0) × Lowest B (v 0) (n 0) (shapeAt (isFoil (f .section))
+      (f .tab) 0) (leastParts (isFoil (f .section)))
   volume-known = (seven-known f b d g 0 (lit≤ tt), volume-lowest f b d g)
 
-  masses : AllKnown B (massList (f .tab) v n (f .density))
+  masses : AllKnown B (massList (isFoil (f .section)) (f .tab) v n (f .density))
   masses = (volume-known, (density-own, tt))
 
-  mass-known : Known B (f .density ⊗ v 0) (valueOf (f .density) times n 0) (massShape (f .tab))
-  mass-known = sound B (g .ranges) (massList (f .tab) v n (f .density)) masses massTerm (mass-okay (f .tab) v n (f .density))
+  mass-known : Known B (f .density ⊗ v 0) (valueOf (f .density) times n 0) (massShape (isFoil (f .section)) (f .tab))
+  mass-known = sound B (g .ranges) (massList (isFoil (f .section)) (f .tab) v n (f .density)) masses massTerm (mass-okay (isFoil
+      (f .section)) (f .tab) v n (f .density))
 
   pub volume-from-zero : NotBelow (n 0)
-  volume-from-zero = not-below least-parts (mono top B (unitOf 0) * mono bottom B []) (mono bottom B
+  volume-from-zero = not-below (leastParts (isFoil (f .section))) (mono top B (unitOf 0) * mono bottom B []) (mono bottom B
       (unitOf 0) * mono top B [] * 2 ^ 30) (n 0)
       (unit-real B (g .ranges) (unitOf 0) []) (volume-lowest f b d g .1)
 
-  mass-lowest : Lowest B (f .density ⊗ v 0) (valueOf (f .density) times n 0) (massShape (f .tab)) least-parts
+  mass-lowest : Lowest B (f .density ⊗ v 0) (valueOf (f .density) times n 0) (massShape (isFoil (f .section)) (f .tab)) (leastParts
+      (isFoil (f .section)))
   mass-lowest =
-      target-lowest B (g .ranges) (massList (f .tab) v n (f .density)) masses
+      target-lowest B (g .ranges) (massList (isFoil (f .section)) (f .tab) v n (f .density)) masses
       (volume-from-zero, (positive-from (f .density) (g .density-positive), tt)) (f .density ⊗ v 0) (given 2 mul given 0)
-      (errorIn (massShape (f .tab))) 0 (least-parts - 1) massUnit [] (mass-known .near) (mass-least (f .tab) v n (f .density))
+      (errorIn (massShape (isFoil (f .section)) (f .tab))) 0 (lessParts (isFoil (f .section))) massUnit [] (mass-known .near)
+      (mass-least (isFoil (f .section)) (f .tab) v n (f .density))
 
   pub mass-positive : T (positive (f .density ⊗ v 0))
   mass-positive = mass-lowest .0
 
   known : AllKnown B body
   known =
-      let k : (i : ℕ) → i < 7 → Known B (v i) (n i) (shapeAt (f .tab) i) = seven-known f b d g in (
+      let k : (i : ℕ) → i < 7 → Known B (v i) (n i) (shapeAt (isFoil (f .section)) (f .tab) i) = seven-known f b d g in (
         volume-known,
         (
           (k 1 (lit≤ tt), tt),
@@ -562,13 +623,13 @@ module _ (f : Fin) (b d : ℕ) (g : Sizes f b d) where
         ),
       )
 
-  pass : BodyPass (f .tab) v n (f .density)
-  pass = body-pass v n (f .density) (f .tab)
+  pass : BodyPass (isFoil (f .section)) (f .tab) v n (f .density)
+  pass = body-pass v n (f .density) (isFoil (f .section)) (f .tab)
 
   abbrev termOf : Shared → Float
   termOf s = value body (expand [] (bindAll parts s))
 
-  near : (s : Shared) (e : Expression) (K : ℕ) (p : List ℕ) → Passes (f .tab) v n (f .density) s e K p
+  near : (s : Shared) (e : Expression) (K : ℕ) (p : List ℕ) → Passes (isFoil (f .section)) (f .tab) v n (f .density) s e K p
       → Near (termOf s) (evaluate (numbersOf body) e) ((K * 2 ^ 30) roundoffs unitBy B p [])
   near s e K p t = all-within B (g .ranges) body known parts s e (K * 2 ^ 30) p [] t
 
@@ -615,7 +676,8 @@ module _ (f : Fin) (b d : ℕ) (g : Sizes f b d) where
   density-finite : T (finite (f .density))
   density-finite = positive-finite (f .density) (g .density-positive)
 
-  own : (s : Shared) (i : ℕ) → Passes (f .tab) v n (f .density) s (tensorE i) (2 ^ 23) tensorUnit → T (finite (termOf s))
+  own : (s : Shared) (i : ℕ) → Passes (isFoil (f .section)) (f .tab) v n (f .density) s (tensorE i) (2 ^ 23) tensorUnit → T (finite
+      (termOf s))
   own s i t = near s (tensorE i) (2 ^ 23) tensorUnit t .finite
 
   y-none : AtMost 0 1 (turned .«centre_m» .y)
@@ -773,27 +835,28 @@ module _ (f : Fin) (b d : ℕ) (g : Sizes f b d) where
   tensorNear k i = Near (numberAt (alone .«inertia_kg_m2») k) (W i) ((tensorError (f .tab) * 2 ^ 30) roundoffs unitBy B tensorUnit [])
 
   by-tensor : (k i : ℕ) (s : Shared) → numberAt (tensorBy turned μ) k ≡ termOf s
-      → Passes (f .tab) v n (f .density) s (tensorE i) (tensorError (f .tab)) tensorUnit → tensorNear k i
+      → Passes (isFoil (f .section)) (f .tab) v n (f .density) s (tensorE i) (tensorError (f .tab)) tensorUnit → tensorNear k i
   by-tensor k i s e t =
       subst (λ (x : Float). Near x (W i) ((tensorError (f .tab) * 2 ^ 30) roundoffs unitBy B tensorUnit []))
       (sym (ap (λ (t : Tensor). numberAt t k) tensor-is ∙ e)) (near s (tensorE i) (tensorError (f .tab)) tensorUnit t)
 
   xx-near : tensorNear 0 0
-  xx-near = by-tensor 0 0 (tensorS 0) (xx-term (f .tab) v n (f .density)) (pass .xx)
+  xx-near = by-tensor 0 0 (tensorS 0) (xx-term (isFoil (f .section)) (f .tab) v n (f .density)) (pass .xx)
 
   yy-near : tensorNear 1 1
-  yy-near = by-tensor 1 1 (tensorS 1) (yy-term (f .tab) v n (f .density)) (pass .yy)
+  yy-near = by-tensor 1 1 (tensorS 1) (yy-term (isFoil (f .section)) (f .tab) v n (f .density)) (pass .yy)
 
   zz-near : tensorNear 2 2
-  zz-near = by-tensor 2 2 (tensorS 2) (zz-term (f .tab) v n (f .density)) (pass .zz)
+  zz-near = by-tensor 2 2 (tensorS 2) (zz-term (isFoil (f .section)) (f .tab) v n (f .density)) (pass .zz)
 
   xz-near : tensorNear 4 3
-  xz-near = by-tensor 4 3 (tensorS 4) (xz-term (f .tab) v n (f .density)) (pass .xz)
+  xz-near = by-tensor 4 3 (tensorS 4) (xz-term (isFoil (f .section)) (f .tab) v n (f .density)) (pass .xz)
 
   x-near : Near (alone .«centre_m» .x) (n 1 times ι) ((outwardError (f .tab) * 2 ^ 30) roundoffs unitBy B (place 4) [])
   x-near =
       subst (λ (x : Float). Near x (n 1 times ι) ((outwardError (f .tab) * 2 ^ 30) roundoffs unitBy B (place 4) []))
-      (sym (ap (λ (c : Vector). c .x) centre-is ∙ x-term (f .tab) v n (f .density))) (near (joinedS 0) outE (outwardError (f .tab))
+      (sym (ap (λ (c : Vector). c .x) centre-is ∙ x-term (isFoil (f .section)) (f .tab) v n (f .density))) (near (joinedS 0) outE
+      (outwardError (f .tab))
       (place 4) (pass .x))
 
 -- ---- the exact integrals of specs/Inertias

@@ -2,7 +2,7 @@
 -- the exact ones by computed bounds.
 -- Assumes nothing.
 use mathlib.Core.Path.{_≡_, refl, sym, ap, subst}
-use mathlib.Core.Bool.{_&&_}
+use mathlib.Core.Bool.{Bool, true, false, _&&_}
 use mathlib.Core.List.{List, [], _∷_}
 use Prim.Native.Nat.{ℕ, zero, suc, _-_, _*_, _^_, _≤_, _<_, zero-le}
 use native.Mathlib.Omega.{arith}
@@ -184,14 +184,28 @@ finError (suc (suc (suc (suc zero)))) = 900
 finError (suc (suc (suc (suc (suc zero))))) = 550
 finError (suc (suc (suc (suc (suc (suc i)))))) = 16
 
-abbrev finSize : ℕ → ℕ
-finSize zero = 1025
-finSize (suc zero) = 1740
-finSize (suc (suc zero)) = 3100
-finSize (suc (suc (suc zero))) = 3100
-finSize (suc (suc (suc (suc zero)))) = 7900
-finSize (suc (suc (suc (suc (suc zero))))) = 5300
-finSize (suc (suc (suc (suc (suc (suc i)))))) = 90
+abbrev pub isFoil : Section → Bool
+isFoil Square = false
+isFoil Rounded = false
+isFoil Airfoil = true
+isFoil AirfoilOpen = true
+
+-- of a square section, and of an airfoil
+abbrev finSize : Bool → ℕ → ℕ
+finSize false zero = 1025
+finSize false (suc zero) = 1740
+finSize false (suc (suc zero)) = 3100
+finSize false (suc (suc (suc zero))) = 3100
+finSize false (suc (suc (suc (suc zero)))) = 7900
+finSize false (suc (suc (suc (suc (suc zero))))) = 5300
+finSize false (suc (suc (suc (suc (suc (suc i)))))) = 90
+finSize true zero = 703
+finSize true (suc zero) = 1195
+finSize true (suc (suc zero)) = 2140
+finSize true (suc (suc (suc zero))) = 1720
+finSize true (suc (suc (suc (suc zero)))) = 5120
+finSize true (suc (suc (suc (suc (suc zero))))) = 3050
+finSize true (suc (suc (suc (suc (suc (suc i)))))) = 48
 
 module _ (root tip span sweep scale thickness radius : Float) where
   abbrev F : List Given
@@ -200,7 +214,7 @@ module _ (root tip span sweep scale thickness radius : Float) where
   abbrev FinPasses : Section → ℕ → Type 0
   FinPasses s i =
       T (nearer F (finTarget s i) (finError i * 2 ^ 30) (unitOf i) [] (judgeIn F (judgeAll F [] (partsOf s i)) (finS i))
-      && sizeTest F (finTarget s i) (finSize i * 2 ^ 20) (unitOf i) [])
+      && sizeTest F (finTarget s i) (finSize (isFoil s) i * 2 ^ 20) (unitOf i) [])
 
   square0 : FinPasses Square 0
   unfolding round ofBits nodes kronrodWeights airfoilConstants
@@ -509,8 +523,8 @@ abbrev pub integralAt : Fin → ℕ → Float
 integralAt f i = finAt f (f .section) i ⊕ tabAt f i
 
 -- errors and sizes, in the units of `unitOf`
-abbrev finShape : ℕ → Shape
-finShape i = shape (finError i * 2 ^ 30) (finSize i * 2 ^ 20) (unitOf i) []
+abbrev finShape : Bool → ℕ → Shape
+finShape foil i = shape (finError i * 2 ^ 30) (finSize foil i * 2 ^ 20) (unitOf i) []
 
 abbrev tabError : Tab → ℕ → ℕ
 tabError None i = 0
@@ -523,33 +537,54 @@ tabSize (Slab height length offset) i = slabSize i
 abbrev tabShape : Tab → ℕ → Shape
 tabShape tab i = shape (tabError tab i * 2 ^ 30) (tabSize tab i * 2 ^ 20) (unitOf i) []
 
-abbrev pub shapeAt : Tab → ℕ → Shape
-shapeAt tab i = sumShape (finShape i) (tabShape tab i)
+abbrev pub shapeAt : Bool → Tab → ℕ → Shape
+shapeAt foil tab i = sumShape (finShape foil i) (tabShape tab i)
 
 -- the volume is at least so many parts of its unit
-abbrev pub least-parts : ℕ
-least-parts = 365000000
+abbrev pub lessParts : Bool → ℕ
+lessParts false = 2 ^ 29 - 2 ^ 10
+lessParts true = 365000000
+
+abbrev pub leastParts : Bool → ℕ
+leastParts foil = suc (lessParts foil)
 
 beyond : (i : ℕ) → suc (suc (suc (suc (suc (suc (suc i)))))) < 7 → ⊥
 beyond i l = omega arith
 
-sums-fine : (tab : Tab) (i : ℕ) → i < 7 → T ((fine (finShape i) && fine (tabShape tab i)) && sumTest (finShape i) (tabShape tab i))
-sums-fine None zero l = tt
-sums-fine None (suc zero) l = tt
-sums-fine None (suc (suc zero)) l = tt
-sums-fine None (suc (suc (suc zero))) l = tt
-sums-fine None (suc (suc (suc (suc zero)))) l = tt
-sums-fine None (suc (suc (suc (suc (suc zero))))) l = tt
-sums-fine None (suc (suc (suc (suc (suc (suc zero)))))) l = tt
-sums-fine None (suc (suc (suc (suc (suc (suc (suc i))))))) l′ = absurd (beyond i l′)
-sums-fine (Slab x y z) zero l = tt
-sums-fine (Slab x y z) (suc zero) l = tt
-sums-fine (Slab x y z) (suc (suc zero)) l = tt
-sums-fine (Slab x y z) (suc (suc (suc zero))) l = tt
-sums-fine (Slab x y z) (suc (suc (suc (suc zero)))) l = tt
-sums-fine (Slab x y z) (suc (suc (suc (suc (suc zero))))) l = tt
-sums-fine (Slab x y z) (suc (suc (suc (suc (suc (suc zero)))))) l = tt
-sums-fine (Slab x y z) (suc (suc (suc (suc (suc (suc (suc i))))))) l′ = absurd (beyond i l′)
+sums-fine : (foil : Bool) (tab : Tab) (i : ℕ) → i < 7
+    → T ((fine (finShape foil i) && fine (tabShape tab i)) && sumTest (finShape foil i) (tabShape tab i))
+sums-fine false None zero l = tt
+sums-fine false None (suc zero) l = tt
+sums-fine false None (suc (suc zero)) l = tt
+sums-fine false None (suc (suc (suc zero))) l = tt
+sums-fine false None (suc (suc (suc (suc zero)))) l = tt
+sums-fine false None (suc (suc (suc (suc (suc zero))))) l = tt
+sums-fine false None (suc (suc (suc (suc (suc (suc zero)))))) l = tt
+sums-fine false None (suc (suc (suc (suc (suc (suc (suc i))))))) l = absurd (beyond i l)
+sums-fine false (Slab x y z) zero l = tt
+sums-fine false (Slab x y z) (suc zero) l = tt
+sums-fine false (Slab x y z) (suc (suc zero)) l = tt
+sums-fine false (Slab x y z) (suc (suc (suc zero))) l = tt
+sums-fine false (Slab x y z) (suc (suc (suc (suc zero)))) l = tt
+sums-fine false (Slab x y z) (suc (suc (suc (suc (suc zero))))) l = tt
+sums-fine false (Slab x y z) (suc (suc (suc (suc (suc (suc zero)))))) l = tt
+sums-fine false (Slab x y z) (suc (suc (suc (suc (suc (suc (suc i))))))) l = absurd (beyond i l)
+sums-fine true None zero l = tt
+sums-fine true None (suc zero) l = tt
+sums-fine true None (suc (suc zero)) l = tt
+sums-fine true None (suc (suc (suc zero))) l = tt
+sums-fine true None (suc (suc (suc (suc zero)))) l = tt
+sums-fine true None (suc (suc (suc (suc (suc zero))))) l = tt
+sums-fine true None (suc (suc (suc (suc (suc (suc zero)))))) l = tt
+sums-fine true None (suc (suc (suc (suc (suc (suc (suc i))))))) l = absurd (beyond i l)
+sums-fine true (Slab x y z) zero l = tt
+sums-fine true (Slab x y z) (suc zero) l = tt
+sums-fine true (Slab x y z) (suc (suc zero)) l = tt
+sums-fine true (Slab x y z) (suc (suc (suc zero))) l = tt
+sums-fine true (Slab x y z) (suc (suc (suc (suc zero)))) l = tt
+sums-fine true (Slab x y z) (suc (suc (suc (suc (suc zero))))) l = tt
+sums-fine true (Slab x y z) (suc (suc (suc (suc (suc (suc zero)))))) l = tt
+sums-fine true (Slab x y z) (suc (suc (suc (suc (suc (suc (suc i))))))) l = absurd (beyond i l)
 
 -- root, tip, span, thickness and what a tab adds
 abbrev volumeList : (root tip span thickness slab : Float) → Number → Tab → List Given
@@ -568,7 +603,8 @@ abbrev pub errorIn : Shape → ℕ
 errorIn (shape k i p q) = k
 
 volumes-least : (s : Section) → NotRounded s → (tab : Tab) (root tip span thickness slab : Float) (v : Number)
-    → T (lowTest (volumeList root tip span thickness slab v tab) (volumeTarget s) (errorIn (shapeAt tab 0)) (least-parts - 1) (unitOf 0) [])
+    → T (lowTest (volumeList root tip span thickness slab v tab) (volumeTarget s) (errorIn (shapeAt (isFoil s) tab 0)) (lessParts
+    (isFoil s)) (unitOf 0) [])
 volumes-least Rounded e tab root tip span thickness slab v = absurd e
 volumes-least Square e None root tip span thickness slab v = tt
 volumes-least Square e (Slab x y z) root tip span thickness slab v = tt
@@ -580,6 +616,9 @@ volumes-least AirfoilOpen e (Slab x y z) root tip span thickness slab v = tt
 module _ (f : Fin) (b d : ℕ) (g : Sizes f b d) where
   abbrev pub bases : List Size
   bases = sizeOf (f .root) ∷ sizeOf (f .span) ∷ sizeOf (f .scale) ∷ sizeOf (f .thickness) ∷ (b per d) ∷ sizeOf (f .density) ∷ []
+
+  abbrev pub foil : Bool
+  foil = isFoil (f .section)
 
   abbrev fins : List Given
   fins = finList (f .root) (f .tip) (f .span) (f .sweep) (f .scale) (f .thickness) (f .radius)
@@ -600,17 +639,18 @@ module _ (f : Fin) (b d : ℕ) (g : Sizes f b d) where
       (root, ((tip, tt), ((sweep, tt), (span, (scale, (thickness, ((radius, tt), (third, (twelfth, (g .span-most, tt))))))))))
 
   abbrev FinKnown : Section → ℕ → Type 0
-  FinKnown s i = Known bases (finAt f s i) (evaluate (among (numbersIn f)) (finIn s i)) (finShape i)
+  FinKnown s i = Known bases (finAt f s i) (evaluate (among (numbersIn f)) (finIn s i)) (finShape (isFoil s) i)
 
   abbrev FinPass : Section → ℕ → Type 0
   FinPass s i = FinPasses (f .root) (f .tip) (f .span) (f .sweep) (f .scale) (f .thickness) (f .radius) s i
 
   by-test : (s : Section) (i : ℕ) → FinPass s i
-      → Known bases (value fins (expand [] (bindAll (partsOf s i) (finS i)))) (evaluate (numbersOf fins) (finTarget s i)) (finShape i)
+      → Known bases (value fins (expand [] (bindAll (partsOf s i) (finS i)))) (evaluate (numbersOf fins) (finTarget s i)) (finShape
+      (isFoil s) i)
   by-test s i t =
       let a = nearer fins (finTarget s i) (finError i * 2 ^ 30) (unitOf i) [] (judgeIn fins (judgeAll fins [] (partsOf s i)) (finS i)) in
-      let c = sizeTest fins (finTarget s i) (finSize i * 2 ^ 20) (unitOf i) [] in
-      target-known bases (g .ranges) fins fins-known _ (finTarget s i) (finError i * 2 ^ 30) (finSize i * 2 ^ 20) (unitOf i) []
+      let c = sizeTest fins (finTarget s i) (finSize (isFoil s) i * 2 ^ 20) (unitOf i) [] in
+      target-known bases (g .ranges) fins fins-known _ (finTarget s i) (finError i * 2 ^ 30) (finSize (isFoil s) i * 2 ^ 20) (unitOf i) []
       (all-within bases (g .ranges) fins fins-known (partsOf s i) (finS i) (finTarget s i) (finError i * 2 ^ 30) (unitOf i) []
       (and-l a c t))
       (and-r a c t)
@@ -767,12 +807,12 @@ module _ (f : Fin) (b d : ℕ) (g : Sizes f b d) where
           rw e (slab-known height length offset (subst (λ (t : Tab). TabKnown f t) e (g .tab)) i l)
 
   -- the integrals that the program works with
-  pub seven-known : (i : ℕ) → i < 7 → Known bases (integralAt f i) (exactly f i) (shapeAt (f .tab) i)
+  pub seven-known : (i : ℕ) → i < 7 → Known bases (integralAt f i) (exactly f i) (shapeAt foil (f .tab) i)
   seven-known i l =
       sound bases (g .ranges)
-      (entry (finAt f (f .section) i) (evaluate (among (numbersIn f)) (finIn (f .section) i)) (finShape i) 0 ∷
+      (entry (finAt f (f .section) i) (evaluate (among (numbersIn f)) (finIn (f .section) i)) (finShape foil i) 0 ∷
       entry (tabAt f i) (evaluate (among (numbersIn f)) (tabE (f .tab) i)) (tabShape (f .tab) i) 0 ∷ [])
-      ((fin-known (f .section) (g .plain-section) i l, tt), ((tab-known i l, tt), tt)) (var 0 addT var 1) (sums-fine (f .tab) i l)
+      ((fin-known (f .section) (g .plain-section) i l, tt), ((tab-known i l, tt), tt)) (var 0 addT var 1) (sums-fine foil (f .tab) i l)
 
   -- ---- what the volume is at least
   tab-from-zero : NotBelow (evaluate (among (numbersIn f)) (tabE (f .tab) 0))
@@ -809,34 +849,38 @@ module _ (f : Fin) (b d : ℕ) (g : Sizes f b d) where
     ),
   )
 
-  pub volume-lowest : Lowest bases (integralAt f 0) (exactly f 0) (shapeAt (f .tab) 0) least-parts
+  pub volume-lowest : Lowest bases (integralAt f 0) (exactly f 0) (shapeAt foil (f .tab) 0) (leastParts foil)
   volume-lowest = at (f .section) (g .plain-section) refl
     where
-      near : Near (integralAt f 0) (exactly f 0) (errorIn (shapeAt (f .tab) 0) roundoffs unitBy bases (unitOf 0) [])
+      near : Near (integralAt f 0) (exactly f 0) (errorIn (shapeAt foil (f .tab) 0) roundoffs unitBy bases (unitOf 0) [])
       near = seven-known 0 (lit≤ tt) .near
 
       by : (s : Section) → f .section ≡ s → evaluate (numbersOf volumes) (volumeTarget s) ≡ exactly f 0
-          → T (lowTest volumes (volumeTarget s) (errorIn (shapeAt (f .tab) 0)) (least-parts - 1) (unitOf 0) [])
-          → Lowest bases (integralAt f 0) (exactly f 0) (shapeAt (f .tab) 0) least-parts
+          → T (lowTest volumes (volumeTarget s) (errorIn (shapeAt foil (f .tab) 0)) (lessParts foil) (unitOf 0) [])
+          → Lowest bases (integralAt f 0) (exactly f 0) (shapeAt foil (f .tab) 0) (leastParts foil)
       by s e same t =
-          subst (λ (v : Number). Lowest bases (integralAt f 0) v (shapeAt (f .tab) 0) least-parts) same
-          (target-lowest bases (g .ranges) volumes volumes-known volumes-signed (integralAt f 0) (volumeTarget s) (errorIn (shapeAt
+          subst (λ (v : Number). Lowest bases (integralAt f 0) v (shapeAt foil (f .tab) 0) (leastParts foil)) same
+          (target-lowest bases (g .ranges) volumes volumes-known volumes-signed (integralAt f 0) (volumeTarget s) (errorIn (shapeAt foil
           (f .tab) 0)) 0
-          (least-parts - 1) (unitOf 0) []
-          (subst (λ (v : Number). Near (integralAt f 0) v (errorIn (shapeAt (f .tab) 0) roundoffs unitBy bases (unitOf 0) []))
+          (lessParts foil) (unitOf 0) []
+          (subst (λ (v : Number). Near (integralAt f 0) v (errorIn (shapeAt foil (f .tab) 0) roundoffs unitBy bases (unitOf 0) []))
           (sym same) near) t)
 
-      test : (s : Section) → NotRounded s → T (lowTest volumes (volumeTarget s) (errorIn (shapeAt (f .tab) 0)) (least-parts - 1)
-          (unitOf 0) [])
-      test s e = volumes-least s e (f .tab) (f .root) (f .tip) (f .span) (f .thickness) (tabAt f 0) (evaluate (among (numbersIn f))
-          (tabE (f .tab) 0))
+      test : (s : Section) → NotRounded s → f .section ≡ s
+          → T (lowTest volumes (volumeTarget s) (errorIn (shapeAt foil (f .tab) 0)) (lessParts foil) (unitOf 0) [])
+      test s e q =
+          subst (λ (x : Section). T (lowTest volumes (volumeTarget s) (errorIn (shapeAt (isFoil x) (f .tab) 0)) (lessParts (isFoil x))
+              (unitOf 0) []))
+          (sym q) (volumes-least s e (f .tab) (f .root) (f .tip) (f .span) (f .thickness) (tabAt f 0)
+          (evaluate (among (numbersIn f)) (tabE (f .tab) 0)))
 
-      at : (s : Section) → NotRounded s → f .section ≡ s → Lowest bases (integralAt f 0) (exactly f 0) (shapeAt (f .tab) 0) least-parts
+      at : (s : Section) → NotRounded s → f .section ≡ s → Lowest bases (integralAt f 0) (exactly f 0) (shapeAt foil (f .tab) 0)
+          (leastParts foil)
       at Rounded e q = absurd e
       at Square e q = by Square q (ap (λ (s : Section). evaluate (among (numbersIn f)) (finIn s 0 add tabE (f .tab) 0)) (sym q))
-          (test Square e)
+          (test Square e q)
       at Airfoil e q = by Airfoil q (ap (λ (s : Section). evaluate (among (numbersIn f)) (finIn s 0 add tabE (f .tab) 0)) (sym q))
-          (test Airfoil e)
+          (test Airfoil e q)
       at AirfoilOpen e q =
           by AirfoilOpen q (ap (λ (s : Section). evaluate (among (numbersIn f)) (finIn s 0 add tabE (f .tab) 0)) (sym q))
-          (test AirfoilOpen e)
+          (test AirfoilOpen e q)

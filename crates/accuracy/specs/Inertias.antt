@@ -233,12 +233,12 @@ pub record OffAxisNear (section : Section) (p : Plate) (m : Mount) (b d roundoff
 
 -- of the fins that one piece is enough for (one_piece/specs/OnePiece), by tab: a fin with none, a fin with one
 abbrev pub tensorError : Tab → ℕ
-tensorError None = 180000
-tensorError (Slab height length offset) = 800000
+tensorError None = 60000
+tensorError (Slab height length offset) = 350000
 
 abbrev pub outwardError : Tab → ℕ
-outwardError None = 12000
-outwardError (Slab height length offset) = 45000
+outwardError None = 6000
+outwardError (Slab height length offset) = 30000
 
 pub record FinNear (section : Section) (p : Plate) (m : Mount) (b d : ℕ) (r : Figures) : Type 0 where
   pub tensor : TensorNear section p m b d (tensorError (p .tab)) (r .body .«inertia_kg_m2»)
