@@ -1,20 +1,16 @@
--- Polynomials of the fraction of the span, which stands at place 0: that one is quadratic or cubic about the middle is one computed test, and how
--- large its second coefficient is follows from three of its values. Assumes nothing.
+-- Polynomials of the fraction of the span, which stands at place 0: that one is quadratic or cubic about the middle is one computed
+-- test. Assumes nothing.
 use mathlib.Core.Path.{_≡_, refl, subst}
-use mathlib.Core.List.{List, [], _∷_}
-use Prim.Native.Nat.{ℕ, zero, suc, _+_, _*_}
-use native.Mathlib.Omega.{arith}
+use mathlib.Core.List.{List, _∷_}
+use Prim.Native.Nat.{zero, suc}
 use lib.Dec.{T}
 use lib.Pow.{pow-pos}
-use Rattle.rounding_error.proofs.Numbers.{Number, number, Size, _plus_, _less_, _times_, _of_, IsNumber, IsSize, Under, zeroNumber}
-use Rattle.rounding_error.proofs.Distances.{within-sym, within-same}
+use Rattle.rounding_error.proofs.Numbers.{Number, _plus_, _times_}
 use Rattle.rounding_error.proofs.Counts as Counts
-use Rattle.rounding_error.proofs.Polynomials.{_equals_, trans, itself, by-left, plus-equal, plus-is, less-is, times-is, AllNumbers, Expression, given}
+use Rattle.rounding_error.proofs.Polynomials.{_equals_, AllNumbers, Expression, given}
 use Rattle.rounding_error.proofs.Polynomials.{ratio, _add_, _take_, _mul_, evaluate, among, normal, vanishes, equal-by, evaluated-is}
-use Rattle.accuracy.proofs.Samples.{one}
 use Rattle.accuracy.proofs.Weighted.{middle}
 use Rattle.accuracy.proofs.Quadratic.{Quadratic}
-use Rattle.accuracy.proofs.Whole.{one-by}
 
 -- another expression in the fraction's place
 abbrev pub replaced : Expression → Expression → Expression
@@ -87,41 +83,3 @@ module _ (rest : List Number) (are : AllNumbers rest) where
       subst (λ (x : Number). x equals fill rest middle t) (replaced-at rest middle halfE s)
       (subst (λ (x : Number). fill rest middle (replaced halfE s) equals x) (replaced-at rest middle halfE t)
       (equal-by (middle ∷ rest) (pow-pos 1, are) (replaced halfE s) (replaced halfE t) test))
-
--- ---- the second coefficient by three values: q = 4·(v(0) + v(1) − 2·v(1/2))
-four-times : (a m q : Number) → IsNumber a → IsNumber m → IsNumber q → a equals m plus q times (middle times middle)
-    → number 4 0 1 times (a less m) equals q
-four-times a m q ia im iq h =
-    trans (times-is (number 4 0 1) (b less m) (pow-pos 0) (less-is b m ib im)) (by-left (number 4 0 1) (plus-equal h itself))
-    (equal-by (m ∷ q ∷ []) (im, (iq, tt)) (ratio 4 0 mul (given 0 add given 1 mul (halfE mul halfE) take given 0)) (given 1) tt)
-  where
-    b : Number
-    b = m plus q times (middle times middle)
-
-    ib : IsNumber b
-    ib = plus-is m (q times (middle times middle)) im (times-is q (middle times middle) iq (pow-pos 2))
-
-pub second-under : (v : Number → Number) (q : Number) (j : ℕ) (A : Size) → IsSize A → Quadratic v q → Under (j of A) (v (middle less middle))
-    → Under (j of A) (v (middle plus middle)) → Under (j of A) (v middle)
-    → Under ((4 * (j + j + (j + j))) of A) q
-second-under v q j A C z u0 u1 um =
-    let a = v (middle less middle) plus v (middle plus middle) in
-    let m = v middle plus v middle in
-    let im : IsNumber (v middle) = z .is middle (pow-pos 1) in
-    let i0 : IsNumber (v (middle less middle)) = z .is (middle less middle) (pow-pos 2) in
-    let i1 : IsNumber (v (middle plus middle)) = z .is (middle plus middle) (pow-pos 2) in
-    let ia : IsNumber a = plus-is (v (middle less middle)) (v (middle plus middle)) i0 i1 in
-    let iM : IsNumber m = plus-is (v middle) (v middle) im im in
-    let n = 4 * (j + j + (j + j)) in
-    let u : Under (n of A) (number 4 0 1 times (a less m)) =
-    subst (λ (B : Size). Under (n of B) (number 4 0 1 times (a less m))) (one-by A)
-    (Counts.under-times 4 (j + j + (j + j)) one A (number 4 0 1) (a less m) (pow-pos 0) C (pow-pos 0) four-under
-    (Counts.under-less (j + j) (j + j) A a m C (Counts.under-plus j j A (v (middle less middle)) (v (middle plus middle)) C u0 u1)
-    (Counts.under-plus j j A (v middle) (v middle) C um um))) in
-    within-sym (n of A) zeroNumber q
-    (within-same (n of A) zeroNumber (number 4 0 1 times (a less m)) q (times-is (number 4 0 1) (a less m) (pow-pos 0) (less-is a m ia iM))
-    (within-sym (n of A) (number 4 0 1 times (a less m)) zeroNumber u)
-    (four-times a m q ia iM (z .q-is) (z .even middle (pow-pos 1)) .same))
-  where
-    four-under : Under (4 of one) (number 4 0 1)
-    four-under = record { below = omega arith; above = omega arith }

@@ -37,7 +37,6 @@ pub mod AreaIntegrals
 pub mod Centroids
 pub mod CentroidNear
 pub mod PlateSamples
-pub mod ClosedForms
 pub mod Unscaled
 pub mod PlateIntegrals
 pub mod PlateMoments

@@ -241,21 +241,6 @@ module _ (p : Plate) (m : Mount) (points : List Float) (L : ℕ) (entry : List F
   high = Totals.high (p .root) (p .tip) (p .span) (p .sweep) S (b per d) N 7 f (bits 0 ⊘ S) pieces kept few-pieces
       (lower-value (p .span) S (lengths-sized .1 .1 .0) scaled)
 
-  -- so often the thickness
-  pub thick-several : Ranges 24 (n of sizeOf (p .thickness))
-  thick-several =
-      record {
-        real = den-pos (p .thickness);
-        least = low (num (p .thickness)) (den (p .thickness)) (thick-ranges .least) (mul-le-mul-right (num (p .thickness) * 2 ^ 24) (kept .some));
-        most = high′ (num (p .thickness)) (den (p .thickness)) (mul-le-mul few-pieces (thick .length .below .size));
-      }
-    where
-      low : (N D : ℕ) → D ≤ N * 2 ^ 24 → 1 * (N * 2 ^ 24) ≤ n * (N * 2 ^ 24) → D ≤ n * N * 2 ^ 24
-      low N D h k = let x = simp sorted at k in simp sorted (omega (arith, h, x))
-
-      high′ : (N D : ℕ) → n * (N * 1) ≤ 40 * (2 ^ 6 * D) → n * N ≤ D * 2 ^ 24
-      high′ N D h = let x = simp (sorted, mul-one) at h in omega (arith, x)
-
   -- the strips' totals
   pub sum-at : (k : ℕ) → valueFrom (bits 0) k (setStrips set points L) ≡ bits 0 ⊕ sumFrom (bits 0) (λ q. at (q .value) k) pieces
   unfolding totalOf

@@ -28,9 +28,8 @@ use Rattle.accuracy.proofs.Weighted.{middle}
 use Rattle.rounding_error.proofs.Chains.{zero-valued}
 use Rattle.accuracy.proofs.ChordEnds as Chord
 use Rattle.accuracy.proofs.AreaSamples as Area
-use Rattle.accuracy.proofs.ClosedForms.{volumeE}
 use Rattle.accuracy.proofs.Unscaled as Unscaled
-use Rattle.accuracy.proofs.Unscaled.{m0E, cubeE}
+use Rattle.accuracy.proofs.Unscaled.{m0E, cubeE, volumeE}
 use Rattle.accuracy.proofs.Integrals.{from-zero, totalError, sumSize}
 use Rattle.accuracy.proofs.Quadratic.{Quadratic, integral}
 use Rattle.accuracy.proofs.Cubics.{quadratic}

@@ -45,9 +45,8 @@ use Rattle.accuracy.proofs.Whole.{positive-value, one-by}
 use Rattle.accuracy.proofs.Centroids.{NotBelow, over-plus, equal-over, over-none, not-below-times, positive-not-below, range-low, range-high}
 use Rattle.accuracy.proofs.Centroids.{own-share}
 use Rattle.accuracy.proofs.PlateSamples.{not-below-plus, narrow-valued}
-use Rattle.accuracy.proofs.ClosedForms.{x1E}
 use Rattle.accuracy.proofs.Unscaled as Unscaled
-use Rattle.accuracy.proofs.Unscaled.{startE, endE, thickE, m1E, m1Second, fourthE}
+use Rattle.accuracy.proofs.Unscaled.{startE, endE, thickE, m1E, m1Second, fourthE, x1E}
 use Rattle.accuracy.proofs.Integrals.{from-zero, together, several, totalError, sumSize}
 use Rattle.accuracy.proofs.Quadratic.{Quadratic, integral}
 use Rattle.accuracy.proofs.Cubics.{quadratic}

@@ -870,7 +870,7 @@ module _ (f : Fin) (b d : ℕ) (g : Sizes f b d) where
           → T (lowTest volumes (volumeTarget s) (errorIn (shapeAt foil (f .tab) 0)) (lessParts foil) (unitOf 0) [])
       test s e q =
           subst (λ (x : Section). T (lowTest volumes (volumeTarget s) (errorIn (shapeAt (isFoil x) (f .tab) 0)) (lessParts (isFoil x))
-              (unitOf 0) []))
+          (unitOf 0) []))
           (sym q) (volumes-least s e (f .tab) (f .root) (f .tip) (f .span) (f .thickness) (tabAt f 0)
           (evaluate (among (numbersIn f)) (tabE (f .tab) 0)))
 

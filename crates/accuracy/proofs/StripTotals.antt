@@ -1,39 +1,35 @@
 -- The totals of a strip of up to 40 pieces, of samples that are near cubics of the fraction of the strip, are near span over scale times their
 -- integrals: as near, for each piece, as that of a strip of one. Assumes nothing.
 use mathlib.Core.Path.{sym, subst}
-use mathlib.Core.List.{List, [], _∷_}
-use Prim.Native.Nat.{ℕ, _+_, _*_, _^_, _≤_, _<_, zero-le}
+use mathlib.Core.List.{List}
+use Prim.Native.Nat.{ℕ, _+_, _*_, _^_, _≤_, _<_}
 use native.Mathlib.Nat.{mul-le-mul-right, one-mul, mul-one, zero-mul, mul-zero, zero-add, add-zero}
 use native.Mathlib.Omega.{arith}
 use lib.Dec.{T}
 use lib.ListN.{length}
-use lib.Pow.{pow-pos}
 use lib.Ieee.{Float}
 use Rattle.floats.specs.Operations.{_⊕_, _⊗_, bits, at}
 use Rattle.chords.specs.Chords.{inSpan}
-use Rattle.quadrature.specs.Rule.{halfSum}
 use Rattle.quadrature.specs.declared.Piece.{Piece}
-use Rattle.rounding_error.proofs.Numbers.{Number, number, Size, _per_, _plus_, _less_, _times_, _by_, _of_, _upto_, IsNumber, IsSize, Under}
+use Rattle.rounding_error.proofs.Numbers.{Number, number, Size, _per_, _times_, _by_, _of_, _upto_, IsNumber, IsSize, Under}
 use Rattle.rounding_error.proofs.Numbers.{valueOf, zeroNumber}
 use Rattle.rounding_error.proofs.Numbers.{InRange, Ranges}
 use Rattle.rounding_error.proofs.Distances.{sorted}
 use Rattle.rounding_error.proofs.Ranges.{ranges-by, in-range}
 use Rattle.rounding_error.proofs.Counts as Counts
-use Rattle.rounding_error.proofs.Chains.{Valued, equalled, counted, counted-by}
-use Rattle.rounding_error.proofs.Polynomials.{_equals_, by-left, plus-is, times-is, given, ratio, _add_, _take_, _mul_, equal-by}
-use Rattle.accuracy.proofs.Samples.{one, quarter}
+use Rattle.rounding_error.proofs.Chains.{Valued, equalled, counted-by}
+use Rattle.rounding_error.proofs.Polynomials.{_equals_, times-is}
+use Rattle.accuracy.proofs.Samples.{quarter}
 use Rattle.accuracy.proofs.Given.{Lengths}
 use Rattle.accuracy.proofs.Ends.{halfSize}
 use Rattle.accuracy.proofs.Areas.{quarter-ranges}
-use Rattle.accuracy.proofs.Weighted.{middle, error-few}
+use Rattle.accuracy.proofs.Weighted.{error-few}
 use Rattle.accuracy.proofs.Quadratic.{Quadratic, integral, integral-number}
 use Rattle.accuracy.proofs.Integrals.{from-zero, parted, together, several, sumError, sumSize, totalError}
-use Rattle.accuracy.proofs.Parts.{Cubic, bend, on-part, Parabola, parabola-on-part, on-part-under}
-use Rattle.accuracy.proofs.Cubics.{second-under}
+use Rattle.accuracy.proofs.Parts.{Cubic, bend, Parabola, parabola-on-part, on-part-under}
 use Rattle.accuracy.proofs.ChordEnds as Chord
 use Rattle.accuracy.proofs.Cuts as Cuts
-use Rattle.accuracy.proofs.Cuts.{Share, share-under, middle-inner, along-share, Cut}
-use Rattle.accuracy.proofs.WidthPieces.{under-equal}
+use Rattle.accuracy.proofs.Cuts.{Share, Cut}
 use Rattle.accuracy.proofs.PieceValues as Values
 use Rattle.accuracy.proofs.PieceValues.{pieceError}
 use Rattle.accuracy.proofs.StripPieces as Strip
@@ -76,50 +72,6 @@ module _ (root tip span sweep scale : Float) (B : Size) (g : Lengths root tip sp
         quadratic = parabola-on-part v q α δ p (c .whole-real) (c .whole-real);
         few = on-part-under r A q δ C (p .q-is) (c .whole-real) u (Cuts.wide-under (c .from) (c .wide) (c .whole) (c .inside));
       }
-
-  -- that of any cubic is at most 16 times its largest value at the piece's ends and middle
-  pub cubic-bent : (y : Float → Float) (v : Number → Number) → Cubic v → (l j : ℕ) (A : Size) → IsSize A
-      → ((h : Float) (τ : Number) → IsNumber τ → Under (1 of one) τ → Valued h (U times τ) 16 2 H → Valued (y h) (v τ) l j A)
-      → (a b : Float) (c : Cut U H a b) → Bent v (4 * (j + j + (j + j))) A a b c
-  cubic-bent y v cubic l j A C each a b c =
-      let α = number (c .from) 0 (c .whole) in
-      let δ = number (c .wide) 0 (c .whole) in
-      let iα : IsNumber α = c .whole-real in
-      let iU = Chord.U-is root tip span sweep scale B g in
-      let CH = Chord.height-ranges root tip span sweep scale B g .real in
-      let t = Cuts.placed root tip span sweep scale B g a b c in
-      let is = Cuts.placed-is root tip span sweep scale B g a b c in
-      let i0 : IsNumber (t (middle less middle)) = is (middle less middle) (pow-pos 2) in
-      let i1 : IsNumber (t (middle plus middle)) = is (middle plus middle) (pow-pos 2) in
-      let e0 : α equals t (middle less middle) = equal-by (α ∷ δ ∷ []) (iα, (iα, tt)) (given 0)
-      (given 0 add given 1 mul (ratio 1 1 take ratio 1 1)) tt in
-      let e1 : α plus δ equals t (middle plus middle) =
-      equal-by (α ∷ δ ∷ []) (iα, (iα, tt)) (given 0 add given 1) (given 0 add given 1 mul (ratio 1 1 add ratio 1 1)) tt in
-      let z = on-part v cubic α δ iα iα in
-      record {
-        bend = bend v cubic α δ iα iα;
-        quadratic = z;
-        few = second-under (λ x. v (t x)) (bend v cubic α δ iα iα) j A C z
-            (each a (t (middle less middle)) i0 (under-equal (1 of one) iα e0
-            (Cuts.wide-under (c .wide) (c .from) (c .whole) (turned (c .from) (c .wide) (c .whole) (c .inside))))
-            (counted (equalled (c .start) (U times t (middle less middle)) (times-is U (t (middle less middle)) iU i0)
-            (by-left U e0)) 16 2 CH tt) .size)
-            (each b (t (middle plus middle)) i1 (under-equal (1 of one) (plus-is α δ iα iα) e1 (end-under (c .from) (c .wide) (c .whole) (c .inside)))
-            (counted (equalled (c .end) (U times t (middle plus middle)) (times-is U (t (middle plus middle)) iU i1)
-            (by-left U e1)) 16 2 CH tt) .size)
-            (each (halfSum a b) (t middle) (is middle (pow-pos 1))
-            (share-under (t middle) (along-share (c .from) (c .wide) (c .whole) middle (c .inside) middle-inner))
-            (Cuts.middle-valued root tip span sweep scale B g a b c) .size);
-      }
-    where
-      turned : (A D C : ℕ) → A + D ≤ C → D + A ≤ C
-      turned A D C h = omega arith
-
-      end-under : (A D C : ℕ) → A + D ≤ C → Under (1 of one) (number A 0 C plus number D 0 C)
-      end-under A D C h = share-under (number A 0 C plus number D 0 C) (go (mul-le-mul-right C h))
-        where
-          go : (A + D) * C ≤ C * C → Share (number A 0 C plus number D 0 C)
-          go h = let x = simp plain at h in (simp plain zero-le, simp plain (omega (arith, x)))
 
   -- samples within l roundoffs, at most j, wherever there is a chord
   abbrev pub SamplesNear : (Float → Float) → (Number → Number) → ℕ → ℕ → Size → Type 0

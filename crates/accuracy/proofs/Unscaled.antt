@@ -10,15 +10,15 @@ use lib.Pow.{pow-pos}
 use lib.Ieee.{Float}
 use lib.Ieee.Positive.{den-pos, positive, positive-finite}
 use Rattle.floats.specs.Operations.{_⊗_}
-use Rattle.floats.specs.Floats.{cube, fourth, fifth}
-use Rattle.rounding_error.proofs.Numbers.{Number, number, Size, _per_, _times_, _by_, _of_, IsNumber, IsSize, Under, valueOf, sizeOf, Ranges}
+use Rattle.floats.specs.Floats.{cube, fourth}
+use Rattle.rounding_error.proofs.Numbers.{Number, number, Size, _per_, _times_, _by_, _of_, IsNumber, IsSize, valueOf, sizeOf, Ranges}
 use Rattle.rounding_error.proofs.Ranges.{ranges-by, in-range}
 use Rattle.rounding_error.proofs.Counts as Counts
 use Rattle.rounding_error.proofs.Counts.{value-is, own-size}
 use Rattle.rounding_error.proofs.Chains.{Valued, some, few, inverse, inverse-is, inverse-times, equalled, exactly, times-valued, exact-times}
 use Rattle.rounding_error.proofs.Polynomials.{_equals_, trans, itself, times-equal, times-is, AllNumbers, equal-by, evaluated-is, evaluate, among}
 use Rattle.rounding_error.proofs.Polynomials.{Expression, given, ratio, _add_, _take_, _mul_, normal, vanishes}
-use Rattle.accuracy.proofs.Samples.{one, quarter}
+use Rattle.accuracy.proofs.Samples.{quarter}
 use Rattle.accuracy.proofs.Given.{Lengths}
 use Rattle.accuracy.proofs.Areas.{quarter-ranges}
 use Rattle.accuracy.proofs.Weighted.{middle}
@@ -69,8 +69,16 @@ cubeE = given 8 mul (given 8 mul given 8)
 abbrev pub fourthE : Expression
 fourthE = given 8 mul given 8 mul (given 8 mul given 8)
 
-abbrev pub fifthE : Expression
-fifthE = given 8 mul fourthE
+-- ---- the closed forms, in which root, tip, span, sweep and thickness stand at the places 0 to 4
+abbrev pub volumeE : Expression
+volumeE = given 4 mul (given 2 mul ((given 0 add given 1) mul ratio 1 1))
+
+-- root² + root·tip + tip² + sweep·(root + 2·tip)
+abbrev alongE : Expression
+alongE = given 0 mul given 0 add given 0 mul given 1 add given 1 mul given 1 add given 3 mul (given 0 add ratio 2 0 mul given 1)
+
+abbrev pub x1E : Expression
+x1E = given 4 mul (given 2 mul (alongE mul ratio 1 5))
 
 module _ (root tip span sweep scale : Float) (b d : ℕ) (g : Lengths root tip span sweep scale (b per d)) (thickness : Float) (radius : Number)
     (ir : IsNumber radius) where
@@ -121,9 +129,6 @@ module _ (root tip span sweep scale : Float) (b d : ℕ) (g : Lengths root tip s
       (times-equal (times-is s σ (value-is scale) iσ) (pow-pos 0) ix ix (inverse-times scale sp) itself)
       (trans ix (equal-by (x ∷ []) (ix, tt) (ratio 1 0 mul given 0) (given 0) tt) (all-ones n e))
 
-  abbrev pub At : (Float → Float) → Expression → ℕ → ℕ → Size → Type 0
-  At y v l j A = (h : Float) (τ : Number) → IsNumber τ → Under (1 of one) τ → Valued h (U times τ) 16 2 H → Valued (y h) (valueAt v τ) l j A
-
   -- ---- powers of the scale
   scale-exactly : Valued scale s 0 1 SS
   scale-exactly = exactly scale 1 SS (positive-finite scale sp) (own-size scale sp)
@@ -136,9 +141,6 @@ module _ (root tip span sweep scale : Float) (b d : ℕ) (g : Lengths root tip s
 
   pub fourth-ranges : Ranges 96 (SS by SS by (SS by SS))
   fourth-ranges = ranges-by 48 48 (SS by SS) (SS by SS) r2 r2
-
-  pub fifth-ranges : Ranges 120 (SS by (SS by SS by (SS by SS)))
-  fifth-ranges = ranges-by 24 96 SS (SS by SS by (SS by SS)) (g .scale-ranges) fourth-ranges
 
   square-valued : Valued (scale ⊗ scale) (s times s) 2 1 (SS by SS)
   square-valued =
@@ -154,11 +156,6 @@ module _ (root tip span sweep scale : Float) (b d : ℕ) (g : Lengths root tip s
   fourth-valued =
       times-valued {A = SS by SS} {B = SS by SS} (r2 .real) (r2 .real) (in-range 96 (SS by SS by (SS by SS)) (omega arith) fourth-ranges) tt
       square-valued square-valued
-
-  pub fifth-valued : Valued (fifth scale) (atMiddle fifthE) 12 1 (SS by (SS by SS by (SS by SS)))
-  fifth-valued =
-      exact-times scale 1 SS (den-pos scale) (fourth-ranges .real) (in-range 120 (SS by (SS by SS by (SS by SS))) (omega arith) fifth-ranges) tt
-      (positive-finite scale sp) (own-size scale sp) fourth-valued
 
   -- ---- n pieces, whose total x is near the integral of the polynomial v, whose second coefficient is q; D is the unit of the power of the scale
   module _ (n : ℕ) (high : Ranges 48 (n of H)) where
