@@ -1,6 +1,6 @@
 -- What a line asks is what is replied and left; so the lines since a submission are calls on the engine that the program began with, and
 -- the card that ends the job is that of the set's own line. Assumes nothing.
-use mathlib.Core.Bool.{Bool, true, false, cond, true≢false}
+use mathlib.Core.Bool.{Bool, true, false, not, cond}
 use mathlib.Core.List.{List, [], _∷_, _++_}
 use mathlib.Core.Path.{_≡_, refl, sym, ap, subst, _∙_}
 use Prim.Native.Nat.{ℕ, _≤_}
@@ -17,6 +17,7 @@ use Rattle.refusals.specs.declared.Refusal.{Refusal}
 use Rattle.refusals.specs.declared.Refusal.the-variants.{NoForm as noForm}
 use Rattle.refusals.specs.declared.Verdict.{Verdict}
 use Rattle.refusals.specs.declared.Verdict.the-variants.{Accepted, Refused}
+use Rattle.refusals.specs.Order.{isRefused}
 use Rattle.refusals.specs.Refusals.{numberOf}
 use Rattle.refusals.specs.Calls.{CallOf, leavesAlone, byVerdict}
 use Rattle.refusals.proofs.Accepted.{both}
@@ -42,26 +43,20 @@ use Rattle.answers.specs.Answers.{textOf, reply as answered}
 use Rattle.figures.specs.declared.Figures.{Figures}
 use Rattle.figures.specs.Figures.{setStrips, refusedFigures, workedFigures, workedSet, setCall, setFigures}
 use Rattle.figures.specs.Areas.{areaSeven, refusedArea, workedArea, areaCall}
-use Rattle.jobs.specs.declared.Job.{Job}
-use Rattle.jobs.specs.declared.Answer.{Answer}
-use Rattle.jobs.specs.declared.Stepped.{Stepped}
-use Rattle.jobs.specs.declared.Reply.the-variants.{More, Answered}
-use Rattle.jobs.specs.Jobs.{noFigures, makingCheck, madeWith, madeOf, stepOf}
+use Rattle.jobs.specs.Jobs.{makingCheck}
 use Rattle.jobs.specs.Calls.{isTaken}
 use Rattle.jobs.specs.Calls as alone
 use Rattle.jobs.proofs.Writes.{run-no-shorter}
 use Rattle.jobs.proofs.Together as job
 use Rattle.engines.specs.declared.Engine.{Engine}
 use Rattle.engines.specs.declared.Called.{Called}
-use Rattle.engines.specs.declared.AtScreen.{AtScreen}
-use Rattle.engines.specs.declared.Told.{Told}
+use Rattle.engines.specs.declared.Turn.{Turn as Turning}
+use Rattle.engines.specs.declared.Turn.the-variants.{More, Ended}
 use Rattle.engines.specs.declared.Turned.{Turned}
-use Rattle.engines.specs.declared.Service.the-variants.{Step}
-use Rattle.engines.specs.Engines.{holdsJob, isFree, placeOf, nextScreen, jobAt, turnOf, submitOf}
+use Rattle.engines.specs.Engines.{holdsJob, nextScreen, turnRow, servedScreen, turnOf, turnedRow, submitOf}
 use Rattle.engines.specs.Calls.{Call, turn, submit, engineBy, afterCalls, EightScreens, jobOf, screenOf, servedOver, holdsOver}
 use Rattle.engines.specs.Calls.{GetsStrip, Serves, engineNow, OnScreen}
-use Rattle.engines.proofs.Laws.{submit-refused, submit-taken, submit-not-free}
-use Rattle.engines.proofs.Effects.{in-eight, holds-is-screen, turn-serves}
+use Rattle.engines.proofs.Effects.{in-eight, holds-is-screen}
 use Rattle.engines.proofs.Alone as one
 use Rattle.engines.proofs.Submissions.{eight-behind, on-screen, strip-within-eight}
 use Rattle.engines.proofs.Drawn.{turn-no-shorter, drawn-on-screen}
@@ -221,70 +216,23 @@ accepted-if-taken : (v : Verdict) → textOf (plainReply v TakenShape) ++ (10 �
 accepted-if-taken Accepted e = refl
 accepted-if-taken (Refused r) e = absurd (refused-other r e)
 
-abbrev isAccepted : Verdict → Bool
-isAccepted Accepted = true
-isAccepted (Refused r) = false
-
-module _ (engine : Engine) (screen : ℕ) (set : FinSet) (points : List Float) (L : ℕ) where
-  abbrev Taken· : Answer → Type 0
-  Taken· a = a .figures .verdict ≡ Accepted → isTaken (a .reply) ≡ true
-
-  made-taken : Taken· (madeOf set points L .answer)
-  unfolding madeOf
-  made-taken = by (makingCheck set points L)
-    where
-      by : (v : Verdict) → Taken· (madeWith v set points L .answer)
-      by Accepted e = refl
-      by (Refused r) e = absurd (true≢false (sym (ap isAccepted e)))
-
-  abbrev Job· : Job
-  Job· = jobAt engine (placeOf screen)
-
-  abbrev Made· : Stepped
-  Made· = madeOf set points L
-
-  submit-taken-by : (f e : Bool) → isFree (engine .screens) screen ≡ f → Made· .job .ended ≡ e
-      → Taken· (submitOf engine screen set points L .answer)
-  unfolding submitOf
-  submit-taken-by false e f m =
-      subst (λ (s : AtScreen). Taken· (s .answer)) (sym (submit-not-free (engine .screens) Job· screen Made· f))
-      (λ k. absurd (true≢false (sym (ap isAccepted k))))
-  submit-taken-by true true f m =
-      subst (λ (s : AtScreen). Taken· (s .answer)) (sym (submit-refused (engine .screens) Job· screen Made· f m)) made-taken
-  submit-taken-by true false f m =
-      subst (λ (s : AtScreen). Taken· (s .answer)) (sym (submit-taken (engine .screens) Job· screen Made· f m)) made-taken
-
-  answered-taken : Taken· (submitOf engine screen set points L .answer)
-  answered-taken = submit-taken-by (isFree (engine .screens) screen) (madeOf set points L .job .ended) refl refl
-
 -- ---- the turn that serves a screen, as a line
 module _ (m : Memory) (long : scratchLength ≤ length (m .scratch)) (screen : ℕ) (some : 1 ≤ screen)
     (next : nextScreen (m .engine .screens) ≡ screen) where
   abbrev Turned· : Turned
-  Turned· = turnOf (m .engine) (length (m .scratch))
+  Turned· = turnOf (m .engine) (length (m .scratch)) .answer
 
   serves-screen : screen ≡ screenOf (m .engine) (turn (m .scratch))
   serves-screen = sym next ∙ sym (ap (λ (b : Bool). cond b 0 (nextScreen (m .engine .screens))) (le-ltb (length (m .scratch)) 1024 long))
 
-  abbrev Told· : ℕ → Answer → Told
-  Told· k a = record { service = Step; screen = k; answer = a }
-
-  told-is : (a : Answer) → Turned· .told .answer ≡ a → Turned· .told ≡ Told· screen a
-  told-is a e =
-      let s = turn-serves (m .engine) (length (m .scratch)) long (subst (λ (k : ℕ). 1 ≤ k) (sym next) some) in
-      let step = stepOf (jobOf (m .engine) (nextScreen (m .engine .screens))) (length (m .scratch)) in
-      ap (λ (t : Turned). t .told) s
-      ∙ ap (λ (k : ℕ). Told· k (step .answer)) next
-      ∙ ap (Told· screen) (sym (ap (λ (t : Turned). t .told .answer) s) ∙ e)
-
-  turn-replies : (line : List ℕ) → AsksTurn line → (a : Answer) → Turned· .told .answer ≡ a
-      → Replies line m (turnReply Step (Told· screen a))
+  turn-replies : (line : List ℕ) → AsksTurn line → (t : Turning) → Turned· .turn ≡ t → Replies line m (turnReply t (turnedRow Turned· .figures))
   unfolding turnEffect
   turn-replies line t a e =
-      reply-is line Turn (t .numbers) (t .figures) (t .asks) m ∙ ap (λ (x : Told). textOf (turnReply (x .service) x) ++ (10 ∷ [])) (told-is a e)
+      reply-is line Turn (t .numbers) (t .figures) (t .asks) m ∙ ap (λ (x : Turning). textOf (turnReply x (turnedRow Turned· .figures)) ++ (10 ∷ [])) e
 
   held-after : (line : List ℕ) → AsksTurn line → (b : Bool) → holdsJob (leftByLine line m .engine .screens) screen ≡ b
       → holdsJob (Turned· .engine .screens) screen ≡ b
+  unfolding turnEffect
   held-after line t b h =
       ap (λ (x : Memory). holdsJob (x .engine .screens) screen) (sym (left-is line Turn (t .numbers) (t .figures) (t .asks) m)) ∙ h
 
@@ -318,14 +266,15 @@ module _ (before : List (List ℕ)) (submission : List ℕ) (since : List (List 
       own-submit Submit submission set points L (h .writes) (Found· .engine) _
       ∙ ap (λ (k : ℕ). submitOf (Found· .engine) k set points L) (h .names)
 
-  was-taken : isTaken (submitOf (Found· .engine) screen set points L .answer .reply) ≡ true
-  unfolding submitEffect
+  was-taken : isTaken (submitOf (Found· .engine) screen set points L .reply) ≡ true
+  unfolding submitEffect isRefused
   was-taken =
-      answered-taken (Found· .engine) screen set points L
-      (ap (λ (c : Called). c .answer .figures .verdict) (sym named)
+      ap (λ (v : Verdict). not (isRefused v))
+      (ap (λ (c : Called). c .reply .verdict) (sym named)
       ∙ accepted-if-taken _ (sym (reply-is submission Submit Numbers· Figures· (h .writes .asks) Found·) ∙ h .taken))
 
   left-engine : Left· .engine ≡ engineBy (Found· .engine) (submit screen set points L)
+  unfolding submitEffect
   left-engine =
       ap (λ (m : Memory). m .engine) (left-is submission Submit Numbers· Figures· (h .writes .asks) Found·)
       ∙ ap (λ (c : Called). c .engine) named
@@ -366,23 +315,26 @@ module _ (before : List (List ℕ)) (submission : List ℕ) (since : List (List 
     some : 1 ≤ screen
     some = in-eight screen (holds-is-screen (Now· .engine .screens) screen (h .holds-now)) .0
 
-    serves : Serves screen set points L Own· (turnOf (Now· .engine) (length (Now· .scratch)))
+    abbrev Turned·· : Turned
+    Turned·· = turnOf (Now· .engine) (length (Now· .scratch)) .answer
+
+    serves : Serves screen set points L Own· Turned··
     serves =
         subst
-        (λ (e : Engine). screen ≡ screenOf e (turn (Now· .scratch)) → Serves screen set points L Own· (turnOf e (length (Now· .scratch))))
+        (λ (e : Engine). screen ≡ screenOf e (turn (Now· .scratch)) → Serves screen set points L Own· (turnOf e (length (Now· .scratch)) .answer))
         (sym engine-now) (on .next-turn (Now· .scratch)) (serves-screen Now· long screen some next)
 
-    abbrev Replied· : (line : List ℕ) → AsksTurn line → (a : Answer) → turnOf (Now· .engine) (length (Now· .scratch)) .told .answer ≡ a
-        → Replies line Now· (turnReply Step (record { service = Step; screen = screen; answer = a }))
+    abbrev Replied· : (line : List ℕ) → AsksTurn line → (t : Turning) → Turned·· .turn ≡ t
+        → Replies line Now· (turnReply t (turnedRow Turned·· .figures))
     Replied· = turn-replies Now· long screen some next
 
     abbrev Held· : (line : List ℕ) → AsksTurn line → (b : Bool) → holdsJob (leftByLine line Now· .engine .screens) screen ≡ b
-        → holdsJob (turnOf (Now· .engine) (length (Now· .scratch)) .engine .screens) screen ≡ b
+        → holdsJob (Turned·· .engine .screens) screen ≡ b
     Held· = held-after Now· long screen some next
 
     more-replied : (line : List ℕ) → AsksTurn line → holdsJob (leftByLine line Now· .engine .screens) screen ≡ true
         → Replies line Now· (answered MoreShape [] (screen ∷ []))
-    more-replied line t held = Replied· line t _ (serves .goes-on (Held· line t true held))
+    more-replied line t held = Replied· line t (More screen) (serves .goes-on (Held· line t true held))
 
     card-replied : (line : List ℕ) → AsksTurn line → holdsJob (leftByLine line Now· .engine .screens) screen ≡ false
         → (card : Figures) → card ≡ cardNow before submission since screen set points L
@@ -390,7 +342,9 @@ module _ (before : List (List ℕ)) (submission : List ℕ) (since : List (List 
     card-replied line t free card c =
         let long-enough = enough L scratchLength limit-checked (omega arith) in
         let ended = serves .ends-as-fresh (Held· line t false free) scratchLength long-enough in
-        Replied· line t _ (ended ∙ ap (λ (f : Figures). record { reply = Answered; figures = f }) (sym c))
+        let told : turnedRow Turned·· .figures ≡ card =
+        ap (λ (x : Turning). turnRow x (jobOf (Turned·· .engine) (servedScreen x)) .figures) (ended .0) ∙ ended .1 ∙ sym c in
+        Replied· line t (Ended screen) (ended .0) ∙ ap (λ (f : Figures). textOf (doneReply screen (f .verdict) f) ++ (10 ∷ [])) told
 
   pub card-on-lines : CardOnLines before submission since screen set points L
   card-on-lines =

@@ -15,23 +15,41 @@ use Rattle.floats.proofs.Bools.{and-left, and-right, and-false}
 use Rattle.materials.specs.declared.Density.{Density}
 use Rattle.fins.specs.declared.FinSet.{FinSet}
 use Rattle.jobs.specs.declared.Job.{Job}
-use Rattle.jobs.specs.declared.Answer.{Answer}
+use Rattle.jobs.specs.declared.Progress.the-variants.{Ended}
+use Rattle.jobs.specs.declared.Row.{Row}
 use Rattle.jobs.specs.declared.Stepped.{Stepped}
-use Rattle.jobs.specs.Jobs.{stepOf}
-use Rattle.jobs.specs.Calls.{steppedBy}
+use Rattle.refusals.specs.Calls.{CallOf}
+use Rattle.jobs.specs.Jobs.{stepRow, replyRow, stepAfter, steppedOn, steppedBy, stepOf}
 use Rattle.jobs.specs.Calls as alone
-use Rattle.jobs.proofs.Laws.{yes, no, after-both}
+use Rattle.jobs.proofs.Laws.{yes, no, step-on, after-both}
 use Rattle.engines.specs.declared.Engine.{Engine}
 use Rattle.engines.specs.declared.Turned.{Turned}
 use Rattle.engines.specs.declared.Called.{Called}
-use Rattle.engines.specs.Engines.{isScreen, placeOf, holdsJob, isFree, nextScreen, withJob, stepped, turnedAt, turnOf, submitOf, changeAt}
+use Rattle.engines.specs.Engines.{isScreen, placeOf, holdsJob, isFree, nextScreen, withJob, turnRow, servedScreen, turnAfter, steppedAt, turnedAt, turnOf, turnedRow, submitOf, changeAt}
 use Rattle.engines.specs.Calls.{Call, turn, submit, change, engineBy, afterCalls, EightScreens, jobOf, screenOf, ownBy, answersBy, ownOver, answersOver, holdsOver, answersAlone, AsAlone}
+use Rattle.engines.proofs.Laws.{long-enough}
 use Rattle.engines.proofs.Effects.{in-eight, place-below, holds-is-screen, turn-serves, submit-busy, change-goes, others-stay, still-eight}
 
 -- ---- one call, while the screen holds the job
 pub record OwnCall (screen : ℕ) (engine : Engine) (call : Call) : Type 0 where
   pub job : jobOf (engineBy engine call) screen ≡ alone.afterCalls (jobOf engine screen) (ownBy screen engine call)
   pub answers : answersBy screen engine call ≡ answersAlone (jobOf engine screen) (ownBy screen engine call)
+
+-- the turn that serves a screen does as its job's step: it is lent enough
+pub record Served (engine : Engine) (screen n : ℕ) : Type 0 where
+  pub turn-is : turnOf engine n ≡ turnedAt engine (placeOf screen) (steppedAt (engine .screens) screen (steppedOn (jobOf engine screen)))
+  pub step-is : stepOf (jobOf engine screen) n ≡ steppedBy (steppedOn (jobOf engine screen))
+
+pub served : (engine : Engine) (screen : ℕ) → isScreen screen ≡ true → (n : ℕ) (c : Bool) → ltb n 1024 ≡ c
+    → screen ≡ cond c 0 (nextScreen (engine .screens)) → Served engine screen n
+served engine screen s n true c e = absurd (not-suc-le-zero (subst (λ (k : ℕ). 1 ≤ k) e (in-eight screen s .0)))
+served engine screen s n false c e =
+    record {
+      turn-is =
+          turn-serves engine n (ltb-false _ _ c) (subst (λ (k : ℕ). 1 ≤ k) e (in-eight screen s .0))
+          ∙ ap (λ (k : ℕ). turnedAt engine (placeOf k) (steppedAt (engine .screens) k (steppedOn (jobOf engine k)))) (sym e);
+      step-is = step-on (jobOf engine screen) n (long-enough (jobOf engine screen .ended) (jobOf engine screen .limit) n (ltb-false _ _ c));
+    }
 
 module _ (engine : Engine) (w : EightScreens engine) (screen : ℕ) (holds : holdsJob (engine .screens) screen ≡ true) where
   is-screen : isScreen screen ≡ true
@@ -45,34 +63,40 @@ module _ (engine : Engine) (w : EightScreens engine) (screen : ℕ) (holds : hol
   apart call e = others-stay engine call screen is-screen e .1
 
   module _ (scratch : List Float) where
-    abbrev Step· : Stepped
-    Step· = stepOf (jobOf engine screen) (length scratch)
+    abbrev Job· : Job
+    Job· = steppedOn (jobOf engine screen) .answer
+
+    row-is : (b : Bool) → turnRow (turnAfter screen b) (jobOf (withJob engine (placeOf screen) (engine .screens) Job·) (servedScreen (turnAfter screen b))) ≡ stepRow (stepAfter b) Job·
+    row-is true = ap (stepRow Ended) (job-set Job·)
+    row-is false = refl
 
     -- the turn that serves it
-    pub served : (c : Bool) → ltb (length scratch) 1024 ≡ c → screen ≡ cond c 0 (nextScreen (engine .screens))
-        → turnOf engine (length scratch) ≡ turnedAt engine (placeOf screen) (stepped (engine .screens) screen Step·)
-    served true c e = absurd (not-suc-le-zero (subst (λ (k : ℕ). 1 ≤ k) e (in-eight screen is-screen .0)))
-    served false c e =
-        turn-serves engine (length scratch) (ltb-false _ _ c) (subst (λ (k : ℕ). 1 ≤ k) e (in-eight screen is-screen .0))
-        ∙ ap (λ (k : ℕ). turnedAt engine (placeOf k) (stepped (engine .screens) k (stepOf (jobOf engine k) (length scratch)))) (sym e)
+    pub own-served : screen ≡ screenOf engine (turn scratch)
+        → (jobOf (turnOf engine (length scratch) .answer .engine) screen ≡ alone.jobBy (jobOf engine screen) (alone.step scratch))
+        × (turnedRow (turnOf engine (length scratch) .answer) ≡ alone.answerBy (jobOf engine screen) (alone.step scratch))
+    own-served e =
+        let s = served engine screen is-screen (length scratch) (ltb (length scratch) 1024) refl e in (
+          ap (λ (t : CallOf Turned). jobOf (t .answer .engine) screen) (s .turn-is) ∙ job-set Job·
+              ∙ sym (ap (λ (c : CallOf Stepped). c .answer .job) (s .step-is)),
+          ap (λ (t : CallOf Turned). turnedRow (t .answer)) (s .turn-is) ∙ row-is (Job· .ended)
+              ∙ sym (ap (λ (c : CallOf Stepped). stepRow (c .answer .progress) (c .answer .job)) (s .step-is)),
+        )
 
     own-turn : (c : Bool) → eqb screen (screenOf engine (turn scratch)) ≡ c
-        → (jobOf (turnOf engine (length scratch) .engine) screen ≡ alone.afterCalls (jobOf engine screen) (cond c (alone.step scratch ∷ []) []))
-        × (cond c (turnOf engine (length scratch) .told .answer ∷ []) [] ≡ answersAlone (jobOf engine screen) (cond c (alone.step scratch ∷ []) []))
+        → (jobOf (turnOf engine (length scratch) .answer .engine) screen ≡ alone.afterCalls (jobOf engine screen) (cond c (alone.step scratch ∷ []) []))
+        × (cond c (turnedRow (turnOf engine (length scratch) .answer) ∷ []) [] ≡ answersAlone (jobOf engine screen) (cond c (alone.step scratch ∷ []) []))
     unfolding answersAlone
-    own-turn true c =
-        let e = served (ltb (length scratch) 1024) refl (eqb-true _ _ c) in
-        (ap (λ (t : Turned). jobOf (t .engine) screen) e ∙ job-set (Step· .job), ap (λ (t : Turned). t .told .answer ∷ []) e)
+    own-turn true c = let own = own-served (eqb-true _ _ c) in (own .0, ap (λ (r : Row). r ∷ []) (own .1))
     own-turn false c = (apart (turn scratch) (eqb-false _ _ c), refl)
 
   module _ (other : ℕ) (density : Density) where
     own-change : (c : Bool) → eqb screen other ≡ c
         → (jobOf (changeAt engine other density .engine) screen ≡ alone.afterCalls (jobOf engine screen) (cond c (alone.change density ∷ []) []))
-        × (cond c (changeAt engine other density .answer ∷ []) [] ≡ answersAlone (jobOf engine screen) (cond c (alone.change density ∷ []) []))
+        × (cond c (replyRow (changeAt engine other density .reply) ∷ []) [] ≡ answersAlone (jobOf engine screen) (cond c (alone.change density ∷ []) []))
     unfolding answersAlone
     own-change true c =
         let e = ap (λ (k : ℕ). changeAt engine k density) (sym (eqb-true _ _ c)) ∙ change-goes engine screen density holds in
-        (ap (λ (t : Called). jobOf (t .engine) screen) e ∙ job-set _, ap (λ (t : Called). t .answer ∷ []) e)
+        (ap (λ (t : Called). jobOf (t .engine) screen) e ∙ job-set _, ap (λ (t : Called). replyRow (t .reply) ∷ []) e)
     own-change false c = (apart (change other density) (eqb-false _ _ c), refl)
 
   -- a submission to a screen that holds a job is refused
@@ -95,7 +119,7 @@ module _ (engine : Engine) (w : EightScreens engine) (screen : ℕ) (holds : hol
 answers-both : (job : Job) (calls more : List alone.Call) → answersAlone job (calls ++ more) ≡ answersAlone job calls ++ answersAlone (alone.afterCalls job calls) more
 unfolding answersAlone
 answers-both job [] more = refl
-answers-both job (call ∷ calls) more = ap (λ (l : List Answer). steppedBy job call .answer ∷ l) (answers-both (steppedBy job call .job) calls more)
+answers-both job (call ∷ calls) more = ap (λ (l : List Row). alone.answerBy job call ∷ l) (answers-both (alone.jobBy job call) calls more)
 
 -- ---- over the calls
 module _ (screen : ℕ) (engine : Engine) (call : Call) (calls : List Call) where
@@ -131,8 +155,8 @@ module _ (screen : ℕ) (engine : Engine) (call : Call) (calls : List Call) wher
       let own = own-call engine w screen h call in
       record {
         answers =
-            answers-held h ∙ ap (λ (l : List Answer). l ++ answersOver screen After· calls) (own .answers)
-            ∙ ap (λ (l : List Answer). answersAlone (jobOf engine screen) Own· ++ l)
+            answers-held h ∙ ap (λ (l : List Row). l ++ answersOver screen After· calls) (own .answers)
+            ∙ ap (λ (l : List Row). answersAlone (jobOf engine screen) Own· ++ l)
             (ih .answers ∙ ap (λ (j : Job). answersAlone j (ownOver screen After· calls)) (own .job))
             ∙ sym (answers-both (jobOf engine screen) Own· (ownOver screen After· calls))
             ∙ ap (answersAlone (jobOf engine screen)) (sym (own-held h));

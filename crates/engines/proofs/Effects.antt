@@ -1,6 +1,6 @@
 -- What a call leaves of the engine: nothing is changed, or the job and the mark of the call's own screen are. Assumes nothing.
 use mathlib.Core.Path.{_≡_, refl, sym, ap, subst, _∙_}
-use mathlib.Core.Bool.{Bool, true, false, cond, _&&_, true≢false}
+use mathlib.Core.Bool.{Bool, true, false, not, cond, _&&_, true≢false}
 use mathlib.Core.List.{List}
 use Prim.Native.Nat.{ℕ, _-_, _≤_, _<_}
 use native.Mathlib.Omega.{arith}
@@ -14,11 +14,12 @@ use Rattle.materials.specs.declared.Density.{Density}
 use Rattle.materials.specs.Materials.{densityCheck}
 use Rattle.fins.specs.declared.FinSet.{FinSet}
 use Rattle.jobs.specs.declared.Job.{Job}
-use Rattle.jobs.specs.declared.Stepped.{Stepped}
+use Rattle.jobs.specs.declared.Replied.{Replied}
+use Rattle.refusals.specs.Calls.{CallOf}
 use Rattle.refusals.specs.declared.Verdict.{Verdict}
 use Rattle.refusals.specs.declared.Verdict.the-variants.{Accepted, Refused}
 use Rattle.refusals.specs.Order.{isRefused}
-use Rattle.jobs.specs.Jobs.{stepOf, changeOf, makingCheck, madeWith, madeOf}
+use Rattle.jobs.specs.Jobs.{steppedOn, changeOf, madeOf}
 use Rattle.jobs.specs.Calls.{isTaken}
 use Rattle.jobs.proofs.Laws.{yes, change-ended, change-refused, change-taken}
 use Rattle.engines.specs.declared.Screens.{Screens}
@@ -27,7 +28,7 @@ use Rattle.engines.specs.declared.Served.{Served}
 use Rattle.engines.specs.declared.AtScreen.{AtScreen}
 use Rattle.engines.specs.declared.Turned.{Turned}
 use Rattle.engines.specs.declared.Called.{Called}
-use Rattle.engines.specs.Engines.{isScreen, placeOf, holdsJob, isFree, nextScreen, pickOf, withHeld, stepped, servedOf, submittedOf, changedOf, jobAt, withJob, turnedAt, calledAt, turnOf, submitOf, changeAt}
+use Rattle.engines.specs.Engines.{isScreen, placeOf, holdsJob, isFree, nextScreen, pickOf, withHeld, steppedAt, servedOf, submittedOf, changedOf, jobAt, withJob, turnedAt, calledAt, turnOf, submitOf, changeAt}
 use Rattle.engines.specs.Calls.{Call, turn, submit, change, engineBy, EightScreens, jobOf, screenOf, OthersStay, ChangesNothing}
 use Rattle.engines.proofs.Laws.{served-short, served-step, served-idle, submit-refused, submit-taken, submit-not-free, change-held, change-none}
 use Rattle.engines.proofs.Order.{next-holds}
@@ -76,31 +77,17 @@ module _ (screens : Screens) (own : ℕ) (o : isScreen own ≡ true) (holds : Bo
   mark-other screen s apart =
       ap (λ (b : Bool). isScreen screen && b) (getD-set-other (screens .held) (placeOf own) (placeOf screen) holds false (places-apart screen own s o apart))
 
--- a job that was made and has not ended is answered taken
-module _ (set : FinSet) (points : List Float) (L : ℕ) where
-  taken-by : (v : Verdict) → madeWith v set points L .job .ended ≡ false → isTaken (madeWith v set points L .answer .reply) ≡ true
-  unfolding isRefused
-  taken-by Accepted e = refl
-  taken-by (Refused r) e = absurd (true≢false e)
-
-  refused-by : (v : Verdict) → madeWith v set points L .job .ended ≡ true → isTaken (madeWith v set points L .answer .reply) ≡ false
-  unfolding isRefused
-  refused-by Accepted e = absurd (true≢false (sym e))
-  refused-by (Refused r) e = refl
-
-  made-refused : madeOf set points L .job .ended ≡ true → isTaken (madeOf set points L .answer .reply) ≡ false
-  unfolding madeOf
-  made-refused e = refused-by (makingCheck set points L) e
-
-  made-taken : madeOf set points L .job .ended ≡ false → isTaken (madeOf set points L .answer .reply) ≡ true
-  unfolding madeOf
-  made-taken e = taken-by (makingCheck set points L) e
+-- a job that was made is answered taken where it has not ended
+made-taken : (set : FinSet) (points : List Float) (L : ℕ) → isTaken (madeOf set points L .reply) ≡ not (madeOf set points L .job .ended)
+unfolding madeOf
+made-taken set points L = refl
 
 -- a density that is refused leaves the job as it is
-not-changed : (job : Job) (density : Density) (e : Bool) → job .ended ≡ e → (v : Verdict) → densityCheck density ≡ v → isTaken (changeOf job density .answer .reply) ≡ false → changeOf job density .job ≡ job
-not-changed job density true e v d r = ap (λ (s : Stepped). s .job) (change-ended job density e)
-not-changed job density false e (Refused x) d r = ap (λ (s : Stepped). s .job) (change-refused job density x e d)
-not-changed job density false e Accepted d r = absurd (true≢false (sym (ap (λ (s : Stepped). isTaken (s .answer .reply)) (change-taken job density e d)) ∙ r))
+not-changed : (job : Job) (density : Density) (e : Bool) → job .ended ≡ e → (v : Verdict) → densityCheck density ≡ v → isTaken (changeOf job density .reply) ≡ false → changeOf job density .job ≡ job
+unfolding isRefused
+not-changed job density true e v d r = ap (λ (s : Replied). s .job) (change-ended job density e)
+not-changed job density false e (Refused x) d r = ap (λ (s : Replied). s .job) (change-refused job density x e d)
+not-changed job density false e Accepted d r = absurd (true≢false (sym (ap (λ (s : Replied). isTaken (s .reply)) (change-taken job density e d)) ∙ r))
 
 -- ---- what a call leaves
 pub data Leaves (engine : Engine) (own : ℕ) (after : Engine) : Type 0 where
@@ -121,25 +108,22 @@ module _ (engine : Engine) where
   next· = nextScreen screens·
 
   module _ (n : ℕ) where
-    abbrev Turn· : Served → Engine
-    Turn· s = turnedAt engine (pickOf screens·) s .engine
-
-    turn-from : (s : Served) → servedOf screens· (jobAt engine (pickOf screens·)) n ≡ s → turnOf engine n ≡ turnedAt engine (pickOf screens·) s
+    turn-from : (s : CallOf Served) → servedOf screens· (jobAt engine (pickOf screens·)) n ≡ s → turnOf engine n ≡ turnedAt engine (pickOf screens·) s
     unfolding turnOf
     turn-from s e = ap (turnedAt engine (pickOf screens·)) e
 
-    pub turn-short : n < 1024 → turnOf engine n .engine ≡ engine
-    turn-short h = ap (λ (t : Turned). t .engine) (turn-from _ (served-short screens· _ n h)) ∙ same-job (pickOf screens·)
+    pub turn-short : n < 1024 → turnOf engine n .answer .engine ≡ engine
+    turn-short h = ap (λ (t : CallOf Turned). t .answer .engine) (turn-from _ (served-short screens· _ n h)) ∙ same-job (pickOf screens·)
 
-    pub turn-idle : 1024 ≤ n → next· ≤ 0 → turnOf engine n .engine ≡ engine
-    turn-idle h z = ap (λ (t : Turned). t .engine) (turn-from _ (served-idle screens· _ n next· refl h z)) ∙ same-job (pickOf screens·)
+    pub turn-idle : 1024 ≤ n → next· ≤ 0 → turnOf engine n .answer .engine ≡ engine
+    turn-idle h z = ap (λ (t : CallOf Turned). t .answer .engine) (turn-from _ (served-idle screens· _ n next· refl h z)) ∙ same-job (pickOf screens·)
 
-    pub turn-serves : 1024 ≤ n → 0 < next· → turnOf engine n ≡ turnedAt engine (placeOf next·) (stepped screens· next· (stepOf (jobAt engine (placeOf next·)) n))
+    pub turn-serves : 1024 ≤ n → 0 < next· → turnOf engine n ≡ turnedAt engine (placeOf next·) (steppedAt screens· next· (steppedOn (jobAt engine (placeOf next·))))
     unfolding pickOf
     turn-serves h z = turn-from _ (served-step screens· _ n next· refl h z)
 
   module _ (screen : ℕ) (set : FinSet) (points : List Float) (L : ℕ) where
-    abbrev Made· : Stepped
+    abbrev Made· : Replied
     Made· = madeOf set points L
 
     submit-from : (s : AtScreen) → submittedOf screens· (jobAt engine (placeOf screen)) screen Made· ≡ s → submitOf engine screen set points L ≡ calledAt engine (placeOf screen) s
@@ -152,19 +136,20 @@ module _ (engine : Engine) where
     pub submit-refuses : isFree screens· screen ≡ true → Made· .job .ended ≡ true → submitOf engine screen set points L .engine ≡ engine
     submit-refuses f e = ap (λ (t : Called). t .engine) (submit-from _ (submit-refused screens· _ screen Made· f e)) ∙ same-job (placeOf screen)
 
-    pub busy-not-taken : isFree screens· screen ≡ false → isTaken (submitOf engine screen set points L .answer .reply) ≡ false
-    busy-not-taken f = ap (λ (t : Called). isTaken (t .answer .reply)) (submit-from _ (submit-not-free screens· _ screen Made· f))
+    pub busy-not-taken : isFree screens· screen ≡ false → isTaken (submitOf engine screen set points L .reply) ≡ false
+    unfolding isRefused
+    busy-not-taken f = ap (λ (t : Called). isTaken (t .reply)) (submit-from _ (submit-not-free screens· _ screen Made· f))
 
-    pub refused-not-taken : isFree screens· screen ≡ true → Made· .job .ended ≡ true → isTaken (submitOf engine screen set points L .answer .reply) ≡ false
+    pub refused-not-taken : isFree screens· screen ≡ true → Made· .job .ended ≡ true → isTaken (submitOf engine screen set points L .reply) ≡ false
     refused-not-taken f e =
-        ap (λ (t : Called). isTaken (t .answer .reply)) (submit-from _ (submit-refused screens· _ screen Made· f e)) ∙ made-refused set points L e
+        ap (λ (t : Called). isTaken (t .reply)) (submit-from _ (submit-refused screens· _ screen Made· f e)) ∙ made-taken set points L ∙ ap not e
 
     pub submit-takes : isFree screens· screen ≡ true → Made· .job .ended ≡ false
-        → submitOf engine screen set points L ≡ record { engine = withJob engine (placeOf screen) (withHeld screens· screen true (screens· .last)) (Made· .job); answer = Made· .answer }
+        → submitOf engine screen set points L ≡ record { engine = withJob engine (placeOf screen) (withHeld screens· screen true (screens· .last)) (Made· .job); reply = Made· .reply }
     submit-takes f e = submit-from _ (submit-taken screens· _ screen Made· f e)
 
   module _ (screen : ℕ) (density : Density) where
-    abbrev Changed· : Stepped
+    abbrev Changed· : Replied
     Changed· = changeOf (jobAt engine (placeOf screen)) density
 
     change-from : (s : AtScreen) → changedOf screens· (jobAt engine (placeOf screen)) screen density ≡ s → changeAt engine screen density ≡ calledAt engine (placeOf screen) s
@@ -175,16 +160,16 @@ module _ (engine : Engine) where
     change-not-held f = ap (λ (t : Called). t .engine) (change-from _ (change-none screens· _ screen density f)) ∙ same-job (placeOf screen)
 
     pub change-goes : holdsJob screens· screen ≡ true
-        → changeAt engine screen density ≡ record { engine = withJob engine (placeOf screen) screens· (Changed· .job); answer = Changed· .answer }
+        → changeAt engine screen density ≡ record { engine = withJob engine (placeOf screen) screens· (Changed· .job); reply = Changed· .reply }
     change-goes h = change-from _ (change-held screens· _ screen density h)
 
 turn-leaves : (engine : Engine) (scratch : List Float) (c d : Bool) → ltb (length scratch) 1024 ≡ c → ltb 0 (nextScreen (engine .screens)) ≡ d
-    → Leaves engine (cond c 0 (nextScreen (engine .screens))) (turnOf engine (length scratch) .engine)
+    → Leaves engine (cond c 0 (nextScreen (engine .screens))) (turnOf engine (length scratch) .answer .engine)
 turn-leaves engine scratch true d c z = the-same (turn-short engine (length scratch) (ltb-true _ _ c))
 turn-leaves engine scratch false false c z = the-same (turn-idle engine (length scratch) (ltb-false _ _ c) (ltb-false _ _ z))
 turn-leaves engine scratch false true c z =
     its-mark _ _ _ (holds-is-screen (engine .screens) _ (next-holds (engine .screens) (ltb-true _ _ z)))
-    (ap (λ (t : Turned). t .engine) (turn-serves engine (length scratch) (ltb-false _ _ c) (ltb-true _ _ z)))
+    (ap (λ (t : CallOf Turned). t .answer .engine) (turn-serves engine (length scratch) (ltb-false _ _ c) (ltb-true _ _ z)))
 
 module _ (engine : Engine) (screen : ℕ) (set : FinSet) (points : List Float) (L : ℕ) where
   submit-leaves : (f e : Bool) → isFree (engine .screens) screen ≡ f → madeOf set points L .job .ended ≡ e → Leaves engine screen (submitOf engine screen set points L .engine)
@@ -228,25 +213,25 @@ changes-nothing =
       refused = λ engine screen set points L r. refused-by engine screen set points L (isFree (engine .screens) screen) (madeOf set points L .job .ended) refl refl r;
     }
   where
-    by : (engine : Engine) (n : ℕ) (c : Bool) → ltb n 1024 ≡ c → nextScreen (engine .screens) ≡ 0 → turnOf engine n .engine ≡ engine
+    by : (engine : Engine) (n : ℕ) (c : Bool) → ltb n 1024 ≡ c → nextScreen (engine .screens) ≡ 0 → turnOf engine n .answer .engine ≡ engine
     by engine n true c z = turn-short engine n (ltb-true _ _ c)
     by engine n false c z = turn-idle engine n (ltb-false _ _ c) (omega (arith, z))
 
     refused-by : (engine : Engine) (screen : ℕ) (set : FinSet) (points : List Float) (L : ℕ) (f e : Bool) → isFree (engine .screens) screen ≡ f → madeOf set points L .job .ended ≡ e
-        → isTaken (submitOf engine screen set points L .answer .reply) ≡ false → submitOf engine screen set points L .engine ≡ engine
+        → isTaken (submitOf engine screen set points L .reply) ≡ false → submitOf engine screen set points L .engine ≡ engine
     refused-by engine screen set points L false e f m r = submit-busy engine screen set points L f
     refused-by engine screen set points L true true f m r = submit-refuses engine screen set points L f m
     refused-by engine screen set points L true false f m r =
-        absurd (true≢false (sym (made-taken set points L m) ∙ sym (ap (λ (c : Called). isTaken (c .answer .reply)) (submit-takes engine screen set points L f m)) ∙ r))
+        absurd (true≢false (sym (made-taken set points L ∙ ap not m) ∙ sym (ap (λ (c : Called). isTaken (c .reply)) (submit-takes engine screen set points L f m)) ∙ r))
 
     kept-by : (engine : Engine) (screen : ℕ) (density : Density) (h : Bool) → holdsJob (engine .screens) screen ≡ h
-        → isTaken (changeAt engine screen density .answer .reply) ≡ false → changeAt engine screen density .engine ≡ engine
+        → isTaken (changeAt engine screen density .reply) ≡ false → changeAt engine screen density .engine ≡ engine
     kept-by engine screen density false h r = change-not-held engine screen density h
     kept-by engine screen density true h r =
         let e = change-goes engine screen density h in
         ap (λ (c : Called). c .engine) e
         ∙ ap (λ (j : Job). withJob engine (placeOf screen) (engine .screens) j)
-        (not-changed (jobAt engine (placeOf screen)) density (jobAt engine (placeOf screen) .ended) refl (densityCheck density) refl (sym (ap (λ (c : Called). isTaken (c .answer .reply)) e) ∙ r))
+        (not-changed (jobAt engine (placeOf screen)) density (jobAt engine (placeOf screen) .ended) refl (densityCheck density) refl (sym (ap (λ (c : Called). isTaken (c .reply)) e) ∙ r))
         ∙ same-job engine (placeOf screen)
 
 -- ---- eight screens stay eight

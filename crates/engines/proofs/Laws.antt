@@ -2,28 +2,35 @@
 use mathlib.Core.Path.{_≡_, refl, sym, ap, _∙_}
 use mathlib.Core.Bool.{Bool, true, false, cond, _&&_, not}
 use mathlib.Core.List.{List}
-use Prim.Native.Nat.{ℕ, zero, suc, _+_, _-_, _%_, _<_, _≤_}
+use Prim.Native.Nat.{ℕ, zero, suc, _+_, _-_, _*_, _%_, _<_, _≤_}
 use native.Mathlib.Nat.{not-suc-le-zero}
 use native.Mathlib.Omega.{arith}
-use borrow.Author.Tests.{leb-true, lt-ltb, le-ltb}
+use borrow.Author.Tests.{leb-true, le-leb, lt-ltb, le-ltb}
 use lib.Dec.{leb, ltb}
 use lib.ListN.{length, getD, set}
 use lib.Ieee.{Float}
 use Rattle.floats.proofs.Bools.{and-left, and-right}
-use Rattle.refusals.specs.declared.Refusal.the-variants.{Density as notTaken, Screen as notFree}
+use Rattle.refusals.specs.declared.Refusal.the-variants.{Scratch, Density as notTaken, Screen as notFree}
+use Rattle.refusals.specs.declared.Verdict.{Verdict}
+use Rattle.refusals.specs.declared.Verdict.the-variants.{Accepted, Refused}
+use Rattle.refusals.specs.Order.{isRefused, refuseUnless}
+use Rattle.limits.specs.Limits.{limitCheck, scratchCheck}
+use Rattle.limits.proofs.Accepted.{limit-within}
 use Rattle.materials.specs.declared.Density.{Density}
 use Rattle.fins.specs.declared.FinSet.{FinSet}
 use Rattle.jobs.specs.declared.Job.{Job}
-use Rattle.jobs.specs.declared.Stepped.{Stepped}
-use Rattle.jobs.specs.Jobs.{stepOf, stepScratch, changeOf, madeOf}
+use Rattle.jobs.specs.declared.Replied.{Replied}
+use Rattle.refusals.specs.Calls.{CallOf, leavesAlone}
+use Rattle.jobs.specs.Jobs.{isShort, steppedOn, changeOf, madeOf}
 use Rattle.jobs.proofs.Laws.{yes, no}
 use Rattle.engines.specs.declared.Screens.{Screens}
 use Rattle.engines.specs.declared.Engine.{Engine}
 use Rattle.engines.specs.declared.Served.{Served}
+use Rattle.engines.specs.declared.Turn.the-variants.{Short, Idle}
 use Rattle.engines.specs.declared.AtScreen.{AtScreen}
 use Rattle.engines.specs.Engines.{isScreen, placeOf, holdsJob, isFree, screenAfter, firstHeld, nextScreen, pickOf}
-use Rattle.engines.specs.Engines.{withHeld, refusedShort, idle, stepped, servedOf, servedScratch, refused, submittedOf, changedOf}
-use Rattle.engines.specs.Engines.{jobAt, turnedAt, calledAt, turnOf, turnScratch, submitOf, changeAt}
+use Rattle.engines.specs.Engines.{withHeld, servedScreen, turnAfter, steppedAt, servedOf, refused, submittedOf, changedOf}
+use Rattle.engines.specs.Engines.{jobAt, turnedAt, calledAt, turnOf, submitOf, changeAt}
 
 -- ---- a screen's place
 module _ (screen : ℕ) where
@@ -56,46 +63,51 @@ module _ (screens : Screens) where
   none screen (suc n) h = absurd (not-suc-le-zero h)
 
 -- ---- a turn
+-- a limit is at most 64, so that 1,024 numbers serve every step
+pub long-enough : (over : Bool) (L n : ℕ) → 1024 ≤ n → isShort over L n ≡ false
+unfolding isRefused scratchCheck
+long-enough true L n h = refl
+long-enough false L n h = by (limitCheck L) refl
+  where
+    by : (v : Verdict) → limitCheck L ≡ v → (not (isRefused v) && isRefused (scratchCheck L n)) ≡ false
+    by (Refused r) e = refl
+    by Accepted e = ap (λ (b : Bool). isRefused (refuseUnless b Scratch)) (le-leb (16 * L) n (let most = limit-within L e .1 in omega (arith, most, h)))
+
+-- a turn that serves a screen tells which
+pub served-is : (screen : ℕ) (over : Bool) → servedScreen (turnAfter screen over) ≡ screen
+served-is screen true = refl
+served-is screen false = refl
+
 module _ (screens : Screens) (job : Job) (n : ℕ) where
-  pub served-short : n < 1024 → servedOf screens job n ≡ refusedShort screens job
+  abbrev Idle· : CallOf Served
+  Idle· = leavesAlone (record { screens = screens; job = job; turn = Idle })
+
+  pub served-short : n < 1024 → servedOf screens job n ≡ leavesAlone (record { screens = screens; job = job; turn = Short })
   unfolding servedOf
   served-short h = yes _ _ (lt-ltb _ _ h)
 
-  pub served-step : (screen : ℕ) → screen ≡ nextScreen screens → 1024 ≤ n → 0 < screen → servedOf screens job n ≡ stepped screens screen (stepOf job n)
+  pub served-step : (screen : ℕ) → screen ≡ nextScreen screens → 1024 ≤ n → 0 < screen → servedOf screens job n ≡ steppedAt screens screen (steppedOn job)
   unfolding servedOf
   served-step screen e h k =
       no _ _ (le-ltb _ _ h)
-      ∙ ap (λ (m : ℕ). cond (ltb 0 m) (stepped screens m (stepOf job n)) (idle screens job)) (sym e)
+      ∙ ap (λ (m : ℕ). cond (ltb 0 m) (steppedAt screens m (steppedOn job)) Idle·) (sym e)
       ∙ yes _ _ (lt-ltb _ _ k)
 
-  pub served-idle : (screen : ℕ) → screen ≡ nextScreen screens → 1024 ≤ n → screen ≤ 0 → servedOf screens job n ≡ idle screens job
+  pub served-idle : (screen : ℕ) → screen ≡ nextScreen screens → 1024 ≤ n → screen ≤ 0 → servedOf screens job n ≡ Idle·
   unfolding servedOf
   served-idle screen e h k =
       no _ _ (le-ltb _ _ h)
-      ∙ ap (λ (m : ℕ). cond (ltb 0 m) (stepped screens m (stepOf job n)) (idle screens job)) (sym e)
+      ∙ ap (λ (m : ℕ). cond (ltb 0 m) (steppedAt screens m (steppedOn job)) Idle·) (sym e)
       ∙ no _ _ (le-ltb _ _ k)
 
-module _ (screens : Screens) (job : Job) (scratch : List Float) where
-  pub scratch-short : length scratch < 1024 → servedScratch screens job scratch ≡ scratch
-  unfolding servedScratch
-  scratch-short h = yes _ _ (lt-ltb _ _ h)
-
-  pub scratch-step : (screen : ℕ) → screen ≡ nextScreen screens → 1024 ≤ length scratch → 0 < screen → servedScratch screens job scratch ≡ stepScratch job scratch
-  unfolding servedScratch
-  scratch-step screen e h k = no _ _ (le-ltb _ _ h) ∙ yes _ _ (ap (ltb 0) (sym e) ∙ lt-ltb _ _ k)
-
-  pub scratch-idle : (screen : ℕ) → screen ≡ nextScreen screens → 1024 ≤ length scratch → screen ≤ 0 → servedScratch screens job scratch ≡ scratch
-  unfolding servedScratch
-  scratch-idle screen e h k = no _ _ (le-ltb _ _ h) ∙ no _ _ (ap (ltb 0) (sym e) ∙ le-ltb _ _ k)
-
 -- ---- a submission
-module _ (screens : Screens) (job : Job) (screen : ℕ) (made : Stepped) where
-  pub submit-refused : isFree screens screen ≡ true → made .job .ended ≡ true → submittedOf screens job screen made ≡ record { screens = screens; job = job; answer = made .answer }
+module _ (screens : Screens) (job : Job) (screen : ℕ) (made : Replied) where
+  pub submit-refused : isFree screens screen ≡ true → made .job .ended ≡ true → submittedOf screens job screen made ≡ record { screens = screens; job = job; reply = made .reply }
   unfolding submittedOf
   submit-refused f e = yes _ _ f ∙ yes _ _ e
 
   pub submit-taken : isFree screens screen ≡ true → made .job .ended ≡ false
-      → submittedOf screens job screen made ≡ record { screens = withHeld screens screen true (screens .last); job = made .job; answer = made .answer }
+      → submittedOf screens job screen made ≡ record { screens = withHeld screens screen true (screens .last); job = made .job; reply = made .reply }
   unfolding submittedOf
   submit-taken f e = yes _ _ f ∙ no _ _ e
 
@@ -106,7 +118,7 @@ module _ (screens : Screens) (job : Job) (screen : ℕ) (made : Stepped) where
 -- ---- a change of density
 module _ (screens : Screens) (job : Job) (screen : ℕ) (density : Density) where
   pub change-held : holdsJob screens screen ≡ true
-      → changedOf screens job screen density ≡ record { screens = screens; job = changeOf job density .job; answer = changeOf job density .answer }
+      → changedOf screens job screen density ≡ record { screens = screens; job = changeOf job density .job; reply = changeOf job density .reply }
   unfolding changedOf
   change-held h = yes _ _ h
 
@@ -117,16 +129,12 @@ module _ (screens : Screens) (job : Job) (screen : ℕ) (density : Density) wher
 -- ---- the engine: what a call left at the place where it worked
 module _ (engine : Engine) (place : ℕ) where
   module _ (e : place ≡ pickOf (engine .screens)) where
-    pub turn-is : (n : ℕ) (s : Served) → s ≡ servedOf (engine .screens) (jobAt engine place) n → turnedAt engine place s ≡ turnOf engine n
+    pub turn-is : (n : ℕ) → turnedAt engine place (servedOf (engine .screens) (jobAt engine place) n) ≡ turnOf engine n
     unfolding turnOf
-    turn-is n s h = ap (turnedAt engine place) h ∙ ap (λ (p : ℕ). turnedAt engine p (servedOf (engine .screens) (jobAt engine p) n)) e
-
-    pub turn-scratch : (entry exit : List Float) → exit ≡ servedScratch (engine .screens) (jobAt engine place) entry → exit ≡ turnScratch engine entry
-    unfolding turnScratch
-    turn-scratch entry exit h = h ∙ ap (λ (p : ℕ). servedScratch (engine .screens) (jobAt engine p) entry) e
+    turn-is n = ap (λ (p : ℕ). turnedAt engine p (servedOf (engine .screens) (jobAt engine p) n)) e
 
   module _ (screen : ℕ) (e : place ≡ placeOf screen) where
-    pub submit-is : (set : FinSet) (points : List Float) (L : ℕ) (made : Stepped) → made ≡ madeOf set points L
+    pub submit-is : (set : FinSet) (points : List Float) (L : ℕ) (made : Replied) → made ≡ madeOf set points L
         → (s : AtScreen) → s ≡ submittedOf (engine .screens) (jobAt engine place) screen made → calledAt engine place s ≡ submitOf engine screen set points L
     unfolding submitOf
     submit-is set points L made m s h =

@@ -14,6 +14,7 @@ use lib.Ieee.{Float}
 use Rattle.materials.specs.declared.Density.{Density}
 use Rattle.fins.specs.declared.FinSet.{FinSet}
 use Rattle.floats.proofs.Bools.{and-right}
+use Rattle.refusals.specs.Calls.{CallOf}
 use Rattle.jobs.specs.Jobs.{madeOf}
 use Rattle.engines.specs.declared.Engine.{Engine}
 use Rattle.engines.specs.declared.Turned.{Turned}
@@ -138,7 +139,7 @@ module _ (engine : Engine) (screen m : ℕ) (lm : m < 8) (far : (engine .screens
     Next· = nextScreen (engine .screens)
 
     abbrev After· : Engine
-    After· = turnOf engine (length scratch) .engine
+    After· = turnOf engine (length scratch) .answer .engine
 
     served : screenOf engine (turn scratch) ≡ Next·
     served = ap (λ (b : Bool). cond b 0 Next·) (le-ltb (length scratch) 1024 long)
@@ -165,7 +166,7 @@ module _ (engine : Engine) (screen m : ℕ) (lm : m < 8) (far : (engine .screens
 
       last-is : After· .screens .last ≡ Next·
       unfolding withHeld
-      last-is = ap (λ (t : Turned). t .engine .screens .last) (turn-serves engine (length scratch) long (omega (arith, is)))
+      last-is = ap (λ (t : CallOf Turned). t .answer .engine .screens .last) (turn-serves engine (length scratch) long (omega (arith, is)))
 
       nearer-now : (After· .screens .last + (m - k - 1)) % 8 + 1 ≡ screen
       nearer-now =
@@ -191,7 +192,7 @@ module _ (engine : Engine) (screen m : ℕ) (lm : m < 8) (far : (engine .screens
         ]
 
   by-turn : (scratch : List Float) (calls : List Call) (c : Bool) → ltb (length scratch) 1024 ≡ c
-      → m < length (servedOver engine (turn scratch ∷ calls)) → Behind (turnOf engine (length scratch) .engine) screen calls
+      → m < length (servedOver engine (turn scratch ∷ calls)) → Behind (turnOf engine (length scratch) .answer .engine) screen calls
       → Served engine screen m (turn scratch ∷ calls)
   by-turn scratch calls true c l ih =
       kept (turn scratch) calls (ap (λ (b : Bool). cond b [] (nextScreen (engine .screens) ∷ [])) c)
@@ -203,7 +204,7 @@ found : (calls : List Call) (engine : Engine) (screen m : ℕ) → m < 8 → (en
 found [] engine screen m lm far waits l = let k = ap length (none-over engine) in absurd (let z : ⊥ = omega (arith, l, k) in z)
 found (turn scratch ∷ calls) engine screen m lm far waits l =
     by-turn engine screen m lm far waits scratch calls (ltb (length scratch) 1024) refl l
-    (found calls (turnOf engine (length scratch) .engine) screen)
+    (found calls (turnOf engine (length scratch) .answer .engine) screen)
 found (submit other set points L ∷ calls) engine screen m lm far waits l =
     kept engine screen m lm far waits (submit other set points L) calls refl (submit-keeps engine screen waits other set points L) l
     (found calls (submitOf engine other set points L .engine) screen)

@@ -22,28 +22,28 @@ use Rattle.limits.proofs.Accepted.{limit-within}
 use Rattle.materials.specs.declared.Density.{Density}
 use Rattle.materials.specs.Materials.{densityCheck}
 use Rattle.fins.specs.declared.FinSet.{FinSet}
-use Rattle.strips.specs.declared.Onward.{Onward}
-use Rattle.strips.specs.Strips.{isAccepted, runCheck, onwardOf}
+use Rattle.strips.specs.Strips.{runCheck}
 use Rattle.figures.specs.Figures.{setFigures}
 use Rattle.jobs.specs.declared.Job.{Job}
 use Rattle.jobs.specs.declared.Stepped.{Stepped}
-use Rattle.jobs.specs.declared.Reply.the-variants.{More, Answered}
-use Rattle.jobs.specs.Jobs.{noFigures, runOfJob, totalOf, afterStrip, stepOf, changeOf, makingCheck, madeOf}
-use Rattle.jobs.specs.Calls.{isTaken, counts, steppedBy, jobAfter, setAfter}
+use Rattle.jobs.specs.declared.Replied.{Replied}
+use Rattle.refusals.specs.Calls.{CallOf}
+use Rattle.jobs.specs.Jobs.{steppedOn, steppedBy, stepOf, changeOf, makingCheck, madeOf}
+use Rattle.jobs.specs.Calls.{isTaken, counts, jobAfter, setAfter}
 use Rattle.jobs.specs.Calls as alone
-use Rattle.jobs.proofs.Laws.{yes, step-ended, step-refused, step-works, after-more, after-last, after-both}
-use Rattle.jobs.proofs.Laws.{change-ended, change-refused, change-taken}
+use Rattle.jobs.proofs.Laws.{yes, change-refused, change-taken, after-both}
 use Rattle.jobs.proofs.Together.{over-calls}
 use Rattle.engines.specs.declared.Engine.{Engine}
 use Rattle.engines.specs.declared.Turned.{Turned}
 use Rattle.engines.specs.declared.Called.{Called}
-use Rattle.engines.specs.Engines.{isScreen, placeOf, holdsJob, isFree, nextScreen, stepped, turnedAt, turnOf, submitOf, changeAt}
+use Rattle.engines.specs.Engines.{isScreen, placeOf, holdsJob, isFree, nextScreen, servedScreen, turnAfter, turnOf, submitOf, changeAt}
 use Rattle.engines.specs.Calls.{Call, turn, submit, change, engineBy, afterCalls, EightScreens, jobOf}
 use Rattle.engines.specs.Calls.{screenOf, servedOver, ownBy, ownOver, holdsOver}
 use Rattle.engines.specs.Calls.{GetsStrip, StripWithinEight, RunsBy, Submitted, AllSubmitted, Serves, sinceThen, engineNow, OnScreen}
+use Rattle.engines.proofs.Laws.{served-is}
 use Rattle.engines.proofs.Effects.{in-eight, place-below, holds-is-screen, free-is-screen, mark-own, busy-not-taken, refused-not-taken, submit-takes, change-not-held, others-stay, changes-nothing, still-eight}
 use Rattle.engines.proofs.Order.{next-holds}
-use Rattle.engines.proofs.Alone.{own-call, job-set, served}
+use Rattle.engines.proofs.Alone.{Served, served, own-call, job-set}
 use Rattle.engines.proofs.Rounds.{served-soon}
 
 not-both : {A : Type 0} {b : Bool} → b ≡ true → b ≡ false → A
@@ -53,57 +53,14 @@ not-both p q = absurd (true≢false (sym p ∙ q))
 -- a change keeps a job running
 module _ (job : Job) (density : Density) (runs : job .ended ≡ false) where
   change-runs′ : (v : Verdict) → densityCheck density ≡ v → changeOf job density .job .ended ≡ false
-  change-runs′ Accepted v = ap (λ (s : Stepped). s .job .ended) (change-taken job density runs v)
-  change-runs′ (Refused r) v = ap (λ (s : Stepped). s .job .ended) (change-refused job density r runs v) ∙ runs
+  change-runs′ Accepted v = ap (λ (s : Replied). s .job .ended) (change-taken job density runs v)
+  change-runs′ (Refused r) v = ap (λ (s : Replied). s .job .ended) (change-refused job density r runs v) ∙ runs
 
   change-runs : changeOf job density .job .ended ≡ false
   change-runs = change-runs′ (densityCheck density) refl
 
--- the job's limit is that of its making
-module _ (job : Job) (n : ℕ) where
-  abbrev Onward· : Onward
-  Onward· = onwardOf (runOfJob job) (job .next) (totalOf job)
-
-  strip-limit : (b : Bool) → (isAccepted (Onward· .total .ending) && Onward· .more) ≡ b → afterStrip job Onward· .job .limit ≡ job .limit
-  strip-limit true b = ap (λ (s : Stepped). s .job .limit) (after-more job Onward· b)
-  strip-limit false b = ap (λ (s : Stepped). s .job .limit) (after-last job Onward· b)
-
-  step-limit : (e : Bool) → job .ended ≡ e → (v : Verdict) → runCheck (job .limit) n ≡ v → stepOf job n .job .limit ≡ job .limit
-  step-limit true e v r = ap (λ (s : Stepped). s .job .limit) (step-ended job n e)
-  step-limit false e (Refused x) r = ap (λ (s : Stepped). s .job .limit) (step-refused job n x e r)
-  step-limit false e Accepted r = ap (λ (s : Stepped). s .job .limit) (step-works job n e r) ∙ strip-limit (isAccepted (Onward· .total .ending) && Onward· .more) refl
-
-change-limit : (job : Job) (density : Density) (e : Bool) → job .ended ≡ e → (v : Verdict) → densityCheck density ≡ v → changeOf job density .job .limit ≡ job .limit
-change-limit job density true e v r = ap (λ (s : Stepped). s .job .limit) (change-ended job density e)
-change-limit job density false e (Refused x) r = ap (λ (s : Stepped). s .job .limit) (change-refused job density x e r)
-change-limit job density false e Accepted r = ap (λ (s : Stepped). s .job .limit) (change-taken job density e r)
-
-call-limit : (job : Job) (call : alone.Call) → steppedBy job call .job .limit ≡ job .limit
-call-limit job (alone.step scratch) = step-limit job (length scratch) (job .ended) refl (runCheck (job .limit) (length scratch)) refl
-call-limit job (alone.change density) = change-limit job density (job .ended) refl (densityCheck density) refl
-
-after-limit : (calls : List alone.Call) (job : Job) → alone.afterCalls job calls .limit ≡ job .limit
-after-limit [] job = refl
-after-limit (call ∷ calls) job = after-limit calls (steppedBy job call .job) ∙ call-limit job call
-
--- a step over scratch that is long enough, and that does not end the job: more remain
-module _ (job : Job) (n : ℕ) (runs : job .ended ≡ false) (check : runCheck (job .limit) n ≡ Accepted) where
-  abbrev Went· : Onward
-  Went· = onwardOf (runOfJob job) (job .next) (totalOf job)
-
-  abbrev Worked· : Stepped
-  Worked· = stepOf job n
-
-  goes-on : (b : Bool) → (isAccepted (Went· .total .ending) && Went· .more) ≡ b → Worked· .job .ended ≡ false → Worked· .answer ≡ record { reply = More; figures = noFigures }
-  goes-on true b e = ap (λ (s : Stepped). s .answer) (step-works job n runs check ∙ after-more job Went· b)
-  goes-on false b e = not-both (ap (λ (s : Stepped). s .job .ended) (step-works job n runs check ∙ after-last job Went· b)) e
-
 -- what making tells of a job
 module _ (set : FinSet) (points : List Float) (L : ℕ) where
-  made-limit : madeOf set points L .job .limit ≡ L
-  unfolding madeOf
-  made-limit = refl
-
   runs-accepted : (v : Verdict) → makingCheck set points L ≡ v → madeOf set points L .job .ended ≡ false → makingCheck set points L ≡ Accepted
   unfolding madeOf isRefused
   runs-accepted Accepted v e = v
@@ -129,21 +86,21 @@ module _ (engine : Engine) (w : EightScreens engine) (screen : ℕ) (holds : hol
   abbrev Job· : Job
   Job· = jobOf engine screen
 
-  module _ (scratch : List Float) (e : screen ≡ screenOf engine (turn scratch)) where
-    abbrev Step· : Stepped
-    Step· = stepOf Job· (length scratch)
+  abbrev After· : Job
+  After· = steppedOn Job· .answer
 
-    turn-is : turnOf engine (length scratch) ≡ turnedAt engine (placeOf screen) (stepped (engine .screens) screen Step·)
-    turn-is = served engine w screen holds scratch (ltb (length scratch) 1024) refl e
+  module _ (scratch : List Float) (e : screen ≡ screenOf engine (turn scratch)) where
+    serving : Served engine screen (length scratch)
+    serving = served engine screen (holds-is-screen (engine .screens) screen holds) (length scratch) (ltb (length scratch) 1024) refl e
 
     -- its job's end frees it
-    turn-holds : holdsJob (turnOf engine (length scratch) .engine .screens) screen ≡ not (Step· .job .ended)
+    turn-holds : holdsJob (turnOf engine (length scratch) .answer .engine .screens) screen ≡ not (After· .ended)
     turn-holds =
-        ap (λ (t : Turned). holdsJob (t .engine .screens) screen) turn-is
-        ∙ mark-own (engine .screens) screen (holds-is-screen (engine .screens) screen holds) (not (Step· .job .ended)) screen (w .screens)
+        ap (λ (t : CallOf Turned). holdsJob (t .answer .engine .screens) screen) (serving .turn-is)
+        ∙ mark-own (engine .screens) screen (holds-is-screen (engine .screens) screen holds) (not (After· .ended)) screen (w .screens)
 
-    turn-job : jobOf (turnOf engine (length scratch) .engine) screen ≡ Step· .job
-    turn-job = ap (λ (t : Turned). jobOf (t .engine) screen) turn-is ∙ job-set engine w screen holds (Step· .job)
+    turn-job : jobOf (turnOf engine (length scratch) .answer .engine) screen ≡ After·
+    turn-job = ap (λ (t : CallOf Turned). jobOf (t .answer .engine) screen) (serving .turn-is) ∙ job-set engine w screen holds After·
 
     long : (c : Bool) → ltb (length scratch) 1024 ≡ c → screen ≡ cond c 0 (nextScreen (engine .screens)) → 1024 ≤ length scratch
     long true c z = absurd (not-suc-le-zero (subst (λ (k : ℕ). 1 ≤ k) z (in-eight screen (holds-is-screen (engine .screens) screen holds) .0)))
@@ -151,8 +108,8 @@ module _ (engine : Engine) (w : EightScreens engine) (screen : ℕ) (holds : hol
 
   -- ---- a job that runs is on its screen, and one that has ended is not
   module _ (runs : Job· .ended ≡ false) where
-    turn-runs : (scratch : List Float) (c : Bool) → eqb screen (screenOf engine (turn scratch)) ≡ c → holdsJob (turnOf engine (length scratch) .engine .screens) screen ≡ true
-        → jobOf (turnOf engine (length scratch) .engine) screen .ended ≡ false
+    turn-runs : (scratch : List Float) (c : Bool) → eqb screen (screenOf engine (turn scratch)) ≡ c → holdsJob (turnOf engine (length scratch) .answer .engine .screens) screen ≡ true
+        → jobOf (turnOf engine (length scratch) .answer .engine) screen .ended ≡ false
     turn-runs scratch true c h =
         let e = eqb-true _ _ c in
         ap (λ (j : Job). j .ended) (turn-job scratch e) ∙ not-true _ (sym (turn-holds scratch e) ∙ h)
@@ -194,37 +151,31 @@ module _ (engine : Engine) (w : EightScreens engine) (screen : ℕ) (holds : hol
       room : runCheck L (length scratch) ≡ Accepted
       room = enough set points L (length scratch) (r .accepted) (long scratch e (ltb (length scratch) 1024) refl e)
 
-      checked : runCheck (Job· .limit) (length scratch) ≡ Accepted
-      checked = ap (λ (n : ℕ). runCheck n (length scratch)) (ap (λ (j : Job). j .limit) (r .is) ∙ after-limit own Made· ∙ made-limit set points L) ∙ room
-
       pub works-strip : counts Job· (length scratch) ≡ true
       works-strip =
           ap (λ (j : Job). counts j (length scratch)) (r .is)
           ∙ over-calls set points L (r .accepted) own .works-next (ap (λ (j : Job). j .ended) (sym (r .is)) ∙ r .runs) (length scratch) room
 
-      abbrev Onward·· : Onward
-      Onward·· = onwardOf (runOfJob Job·) (Job· .next) (totalOf Job·)
+      abbrev Fresh· : CallOf Stepped → Type 0
+      Fresh· c = c .answer .job .ended ≡ true → (n : ℕ) → scratchCheck L n ≡ Accepted
+          → c .answer .job .outcome ≡ setFigures (setAfter set points L own) points L n
 
-      abbrev More· : Bool
-      More· = isAccepted (Onward·· .total .ending) && Onward·· .more
-
-      abbrev Fresh· : Stepped → Type 0
-      Fresh· s = s .job .ended ≡ true → (n : ℕ) → scratchCheck L n ≡ Accepted
-          → s .answer ≡ record { reply = Answered; figures = setFigures (setAfter set points L own) points L n }
-
-      fresh : Fresh· (Step· scratch e)
+      fresh : Fresh· (steppedBy (steppedOn Job·))
       fresh =
-          subst (λ (j : Job). Fresh· (stepOf j (length scratch))) (sym (r .is))
-          (over-calls set points L (r .accepted) own .answers-as-fresh scratch)
+          subst Fresh· (serving scratch e .step-is)
+          (subst (λ (j : Job). Fresh· (stepOf j (length scratch))) (sym (r .is))
+          (λ over n long. over-calls set points L (r .accepted) own .answers-as-fresh scratch over n long .1))
 
-      pub serves : Serves screen set points L own (turnOf engine (length scratch))
+      pub serves : Serves screen set points L own (turnOf engine (length scratch) .answer)
       serves =
-          let t = turn-is scratch e in
+          let turn-is = ap (λ (t : CallOf Turned). t .answer .turn) (serving scratch e .turn-is) in
           let holds-is = turn-holds scratch e in
           record {
-            served = ap (λ (x : Turned). x .told .screen) t;
-            goes-on = λ h. ap (λ (x : Turned). x .told .answer) t ∙ goes-on Job· (length scratch) (r .runs) checked More· refl (not-true _ (sym holds-is ∙ h));
-            ends-as-fresh = λ h n long. ap (λ (x : Turned). x .told .answer) t ∙ fresh (not-false _ (sym holds-is ∙ h)) n long;
+            served = ap servedScreen turn-is ∙ served-is screen (After· .ended);
+            goes-on = λ h. turn-is ∙ ap (turnAfter screen) (not-true (After· .ended) (sym holds-is ∙ h));
+            ends-as-fresh = λ h n long.
+                let over = not-false (After· .ended) (sym holds-is ∙ h) in
+                (turn-is ∙ ap (turnAfter screen) over, ap (λ (j : Job). j .outcome) (turn-job scratch e) ∙ fresh over n long);
           }
 
 -- ---- a submission that is taken
@@ -244,12 +195,12 @@ module _ (engine : Engine) (w : EightScreens engine) (screen : ℕ) (set : FinSe
     made-runs : RunsBy set points L [] (jobOf (Submit· .engine) screen)
     made-runs = record { accepted = runs-accepted set points L (makingCheck set points L) refl runs; is = taken-job; runs = ap (λ (j : Job). j .ended) taken-job ∙ runs }
 
-  taken-by : (f e : Bool) → isFree (engine .screens) screen ≡ f → madeOf set points L .job .ended ≡ e → isTaken (Submit· .answer .reply) ≡ true → RunsBy set points L [] (jobOf (Submit· .engine) screen)
+  taken-by : (f e : Bool) → isFree (engine .screens) screen ≡ f → madeOf set points L .job .ended ≡ e → isTaken (Submit· .reply) ≡ true → RunsBy set points L [] (jobOf (Submit· .engine) screen)
   taken-by true false f m t = made-runs f m
   taken-by false e f m t = not-both t (busy-not-taken engine screen set points L f)
   taken-by true true f m t = not-both t (refused-not-taken engine screen set points L f m)
 
-  taken : isTaken (Submit· .answer .reply) ≡ true → RunsBy set points L [] (jobOf (Submit· .engine) screen)
+  taken : isTaken (Submit· .reply) ≡ true → RunsBy set points L [] (jobOf (Submit· .engine) screen)
   taken t = taken-by (isFree (engine .screens) screen) (madeOf set points L .job .ended) refl refl t
 
 -- eight screens stay eight
@@ -291,7 +242,7 @@ module _ (screen : ℕ) (set : FinSet) (points : List Float) (L : ℕ) where
 
 -- a submission that was taken
 pub on-screen : (engine : Engine) → EightScreens engine → (screen : ℕ) (set : FinSet) (points : List Float) (L : ℕ) (calls : List Call)
-    → isTaken (submitOf engine screen set points L .answer .reply) ≡ true → holdsOver screen (engineBy engine (submit screen set points L)) calls ≡ true
+    → isTaken (submitOf engine screen set points L .reply) ≡ true → holdsOver screen (engineBy engine (submit screen set points L)) calls ≡ true
     → holdsJob (engineNow engine screen set points L calls .screens) screen ≡ true → OnScreen engine screen set points L calls
 on-screen engine w screen set points L calls t over h =
     let first = engineBy engine (submit screen set points L) in
@@ -312,17 +263,17 @@ module _ (engine : Engine) (w : EightScreens engine) (screen : ℕ) (before : ho
       record { set = s .set; points = s .points; limit = s .limit; calls = s .calls ++ ownBy screen engine call; runs = one-more engine w screen b (s .set) (s .points) (s .limit) (s .calls) (s .runs) call h }
 
   -- a screen that was free holds a job only behind a submission that was taken
-  submit-fills : (other : ℕ) (set : FinSet) (points : List Float) (L : ℕ) → screen ≡ other → (t : Bool) → isTaken (submitOf engine other set points L .answer .reply) ≡ t
+  submit-fills : (other : ℕ) (set : FinSet) (points : List Float) (L : ℕ) → screen ≡ other → (t : Bool) → isTaken (submitOf engine other set points L .reply) ≡ t
       → holdsJob (engine .screens) screen ≡ false → holdsJob (submitOf engine other set points L .engine .screens) screen ≡ true → Submitted screen (submitOf engine other set points L .engine)
   submit-fills other set points L e true t b h =
-      subst (λ (s : ℕ). isTaken (submitOf engine s set points L .answer .reply) ≡ true → Submitted screen (submitOf engine s set points L .engine)) e
+      subst (λ (s : ℕ). isTaken (submitOf engine s set points L .reply) ≡ true → Submitted screen (submitOf engine s set points L .engine)) e
       (λ u. record { set = set; points = points; limit = L; calls = []; runs = taken engine w screen set points L u }) t
   submit-fills other set points L e false t b h =
       not-both h (ap (λ (x : Engine). holdsJob (x .screens) screen) (changes-nothing .refused engine other set points L t) ∙ b)
 
   fills-own : (call : Call) → screen ≡ screenOf engine call → holdsJob (engine .screens) screen ≡ false → holdsJob (engineBy engine call .screens) screen ≡ true → Submitted screen (engineBy engine call)
-  fills-own (turn scratch) e b h = not-both (served-held engine screen scratch e (holds-is-screen (turnOf engine (length scratch) .engine .screens) screen h)) b
-  fills-own (submit other set points L) e b h = submit-fills other set points L e (isTaken (submitOf engine other set points L .answer .reply)) refl b h
+  fills-own (turn scratch) e b h = not-both (served-held engine screen scratch e (holds-is-screen (turnOf engine (length scratch) .answer .engine .screens) screen h)) b
+  fills-own (submit other set points L) e b h = submit-fills other set points L e (isTaken (submitOf engine other set points L .reply)) refl b h
   fills-own (change other density) e b h =
       not-both h (ap (λ (x : Engine). holdsJob (x .screens) screen) (change-not-held engine other density (ap (holdsJob (engine .screens)) (sym e) ∙ b)) ∙ b)
 

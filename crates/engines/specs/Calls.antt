@@ -15,15 +15,15 @@ use Rattle.strips.specs.Strips.{scratchAfter}
 use Rattle.figures.specs.Figures.{setFigures}
 use Rattle.figures.specs.Answers.{mostSamples}
 use Rattle.jobs.specs.declared.Job.{Job}
-use Rattle.jobs.specs.declared.Reply.the-variants.{More, Answered}
-use Rattle.jobs.specs.declared.Answer.{Answer}
-use Rattle.jobs.specs.Jobs.{noFigures, makingCheck}
-use Rattle.jobs.specs.Calls.{steppedBy, isTaken, jobAfter, setAfter, Drawable}
+use Rattle.jobs.specs.declared.Row.{Row}
+use Rattle.jobs.specs.Jobs.{replyRow, makingCheck}
+use Rattle.jobs.specs.Calls.{isTaken, jobAfter, setAfter, Drawable}
 use Rattle.jobs.specs.Calls as alone
 use Rattle.engines.specs.declared.Engine.{Engine}
+use Rattle.engines.specs.declared.Turn.the-variants.{More, Ended}
 use Rattle.engines.specs.declared.Turned.{Turned}
 use Rattle.engines.specs.Engines.{isScreen, placeOf, holdsJob, nextScreen}
-use Rattle.engines.specs.Engines.{jobAt, turnOf, turnScratch, submitOf, changeAt}
+use Rattle.engines.specs.Engines.{jobAt, servedScreen, turnOf, turnedRow, submitOf, changeAt}
 
 -- a turn over the scratch lent to it, a submission to a screen, or a change of a screen's density
 pub data Call : Type 0 where
@@ -33,7 +33,7 @@ pub data Call : Type 0 where
 
 -- the engine as a call leaves it
 abbrev pub engineBy : Engine → Call → Engine
-engineBy engine (turn scratch) = turnOf engine (length scratch) .engine
+engineBy engine (turn scratch) = turnOf engine (length scratch) .answer .engine
 engineBy engine (submit screen set points L) = submitOf engine screen set points L .engine
 engineBy engine (change screen density) = changeAt engine screen density .engine
 
@@ -89,12 +89,12 @@ OthersStay = (engine : Engine) (call : Call) (screen : ℕ) → isScreen screen 
 
 -- "does nothing and does not count"; "with no jobs a turn does nothing"; "refused and changes nothing"; 12 "leaves the old one": the order of service too
 pub record ChangesNothing : Type 0 where
-  pub short-turn : (engine : Engine) (n : ℕ) → n < 1024 → turnOf engine n .engine ≡ engine
-  pub idle-turn : (engine : Engine) (n : ℕ) → nextScreen (engine .screens) ≡ 0 → turnOf engine n .engine ≡ engine
+  pub short-turn : (engine : Engine) (n : ℕ) → n < 1024 → turnOf engine n .answer .engine ≡ engine
+  pub idle-turn : (engine : Engine) (n : ℕ) → nextScreen (engine .screens) ≡ 0 → turnOf engine n .answer .engine ≡ engine
   pub refused : (engine : Engine) (screen : ℕ) (set : FinSet) (points : List Float) (L : ℕ)
-      → isTaken (submitOf engine screen set points L .answer .reply) ≡ false → submitOf engine screen set points L .engine ≡ engine
+      → isTaken (submitOf engine screen set points L .reply) ≡ false → submitOf engine screen set points L .engine ≡ engine
   pub density-kept : (engine : Engine) (screen : ℕ) (density : Density)
-      → isTaken (changeAt engine screen density .answer .reply) ≡ false → changeAt engine screen density .engine ≡ engine
+      → isTaken (changeAt engine screen density .reply) ≡ false → changeAt engine screen density .engine ≡ engine
 
 -- ---- a job on its screen
 
@@ -105,10 +105,10 @@ ownBy screen engine (submit other set points L) = []
 ownBy screen engine (change other density) = cond (eqb screen other) (alone.change density ∷ []) []
 
 -- what these calls answer
-abbrev pub answersBy : ℕ → Engine → Call → List Answer
-answersBy screen engine (turn scratch) = cond (eqb screen (screenOf engine (turn scratch))) (turnOf engine (length scratch) .told .answer ∷ []) []
+abbrev pub answersBy : ℕ → Engine → Call → List Row
+answersBy screen engine (turn scratch) = cond (eqb screen (screenOf engine (turn scratch))) (turnedRow (turnOf engine (length scratch) .answer) ∷ []) []
 answersBy screen engine (submit other set points L) = []
-answersBy screen engine (change other density) = cond (eqb screen other) (changeAt engine other density .answer ∷ []) []
+answersBy screen engine (change other density) = cond (eqb screen other) (replyRow (changeAt engine other density .reply) ∷ []) []
 
 -- of a list of calls, until the screen is free
 unfoldable pub ownOver : ℕ → Engine → List Call → List alone.Call
@@ -116,7 +116,7 @@ ownOver screen engine [] = []
 ownOver screen engine (call ∷ calls) =
     cond (holdsJob (engine .screens) screen) (ownBy screen engine call ++ ownOver screen (engineBy engine call) calls) []
 
-unfoldable pub answersOver : ℕ → Engine → List Call → List Answer
+unfoldable pub answersOver : ℕ → Engine → List Call → List Row
 answersOver screen engine [] = []
 answersOver screen engine (call ∷ calls) =
     cond (holdsJob (engine .screens) screen) (answersBy screen engine call ++ answersOver screen (engineBy engine call) calls) []
@@ -149,9 +149,9 @@ StripWithinEight = (begun : Engine) → Begins begun → (earlier : List Call) (
     → GetsStrip (afterCalls begun earlier) screen calls
 
 -- what a job answers alone
-unfoldable pub answersAlone : Job → List alone.Call → List Answer
+unfoldable pub answersAlone : Job → List alone.Call → List Row
 answersAlone job [] = []
-answersAlone job (call ∷ calls) = steppedBy job call .answer ∷ answersAlone (steppedBy job call .job) calls
+answersAlone job (call ∷ calls) = alone.answerBy job call ∷ answersAlone (alone.jobBy job call) calls
 
 -- "a job's answers on its screen equal those it gives stepped alone with the same density changes before each strip"; and so does the job itself
 pub record AsAlone (screen : ℕ) (engine : Engine) (calls : List Call) : Type 0 where
@@ -162,10 +162,10 @@ pub record AsAlone (screen : ℕ) (engine : Engine) (calls : List Call) : Type 0
 -- ---- samples
 
 -- what a call answers
-abbrev pub answerBy : Engine → Call → Answer
-answerBy engine (turn scratch) = turnOf engine (length scratch) .told .answer
-answerBy engine (submit screen set points L) = submitOf engine screen set points L .answer
-answerBy engine (change screen density) = changeAt engine screen density .answer
+abbrev pub answerBy : Engine → Call → Row
+answerBy engine (turn scratch) = turnedRow (turnOf engine (length scratch) .answer)
+answerBy engine (submit screen set points L) = replyRow (submitOf engine screen set points L .reply)
+answerBy engine (change screen density) = replyRow (changeAt engine screen density .reply)
 
 -- "no more than .. 118,110 samples, and the screen scales its bar by that" (Paper 8): what any call answers, after any
 -- calls on an engine that began with no job
@@ -196,11 +196,11 @@ AllSubmitted engine = (screen : ℕ) → holdsJob (engine .screens) screen ≡ t
 -- the turn that serves the screen of such a job answers that more remain, or the job's end, and that frees the screen
 pub record Serves (screen : ℕ) (set : FinSet) (points : List Float) (L : ℕ) (calls : List alone.Call) (turned : Turned) : Type 0 where
   -- "it answers the screen served and the step's answer"
-  pub served : turned .told .screen ≡ screen
-  pub goes-on : holdsJob (turned .engine .screens) screen ≡ true → turned .told .answer ≡ record { reply = More; figures = noFigures }
+  pub served : servedScreen (turned .turn) ≡ screen
+  pub goes-on : holdsJob (turned .engine .screens) screen ≡ true → turned .turn ≡ More screen
   -- "The answer ending the job equals a fresh run's with the last density accepted" (Paper 9), over any scratch that is long enough
   pub ends-as-fresh : holdsJob (turned .engine .screens) screen ≡ false → (n : ℕ) → scratchCheck L n ≡ Accepted
-      → turned .told .answer ≡ record { reply = Answered; figures = setFigures (setAfter set points L calls) points L n }
+      → (turned .turn ≡ Ended screen) × (jobOf (turned .engine) screen .outcome ≡ setFigures (setAfter set points L calls) points L n)
 
 -- a submission that is taken, and any calls behind it before each of which, and at whose end, the screen holds its job
 module _ (engine : Engine) (screen : ℕ) (set : FinSet) (points : List Float) (L : ℕ) (calls : List Call) where
@@ -216,7 +216,7 @@ module _ (engine : Engine) (screen : ℕ) (set : FinSet) (points : List Float) (
     -- "gets its strip": the turn that serves it works one
     pub gets-strip : (scratch : List Float) → screen ≡ screenOf engineNow (turn scratch) → alone.counts (jobOf engineNow screen) (length scratch) ≡ true
     pub next-turn : (scratch : List Float) → screen ≡ screenOf engineNow (turn scratch)
-        → Serves screen set points L sinceThen (turnOf engineNow (length scratch))
+        → Serves screen set points L sinceThen (turnOf engineNow (length scratch) .answer)
 
   -- Paper 14 on the screen, which draws the pieces: of the strips that its turns worked so far, and with them of the
   -- one that the next turn for it works, whose pieces that turn leaves in the scratch
@@ -225,5 +225,5 @@ module _ (engine : Engine) (screen : ℕ) (set : FinSet) (points : List Float) (
     pub next-turn : (scratch : List Float) → screen ≡ screenOf engineNow (turn scratch)
         → Drawable set points L (sinceThen ++ alone.step scratch ∷ [])
     pub written : (scratch : List Float) → screen ≡ screenOf engineNow (turn scratch)
-        → turnScratch engineNow scratch
+        → turnOf engineNow (length scratch) .leaves scratch
         ≡ scratchAfter (alone.stripsBy (jobOf engineNow screen) (alone.step scratch)) scratch

@@ -9,22 +9,20 @@ use lib.ListN.{length, set, getD}
 use lib.Ieee.{Float}
 use Rattle.refusals.specs.declared.Refusal.{Refusal}
 use Rattle.refusals.specs.declared.Refusal.the-variants.{Scratch, Density as notTaken, Screen as notFree}
-use Rattle.refusals.specs.declared.Verdict.{Verdict}
-use Rattle.refusals.specs.declared.Verdict.the-variants.{Accepted, Refused}
-use Rattle.refusals.specs.Given.{GivesRow, IsAnswer}
+use Rattle.refusals.specs.declared.Verdict.the-variants.{Refused}
+use Rattle.refusals.specs.Given.{IsAnswer}
 use Rattle.materials.specs.declared.Density.{Density}
 use Rattle.fins.specs.declared.FinSet.{FinSet}
-use Rattle.figures.specs.Figures.{refusedFigures}
 use Rattle.jobs.specs.declared.Job.{Job}
-use Rattle.jobs.specs.declared.Reply.the-variants.{Taken, Answered}
-use Rattle.jobs.specs.declared.Answer.{Answer}
-use Rattle.jobs.specs.declared.Stepped.{Stepped}
-use Rattle.jobs.specs.Jobs.{noFigures, verdictIn, stepOf, stepScratch, changeOf, madeOf}
+use Rattle.jobs.specs.declared.Progress.the-variants.{More as moreRemain, Ended as hasEnded}
+use Rattle.jobs.specs.declared.Replied.{Replied}
+use Rattle.jobs.specs.declared.Row.{Row}
+use Rattle.refusals.specs.Calls.{CallOf, leavesAlone}
+use Rattle.jobs.specs.Jobs.{bareFigures, figuresRow, plainRow, stepRow, steppedOn, changeOf, madeOf}
 use Rattle.engines.specs.declared.Screens.{Screens}
 use Rattle.engines.specs.declared.Engine.{Engine}
-use Rattle.engines.specs.declared.Service.{Service}
-use Rattle.engines.specs.declared.Service.the-variants.{Short, Idle, Step}
-use Rattle.engines.specs.declared.Told.{Told}
+use Rattle.engines.specs.declared.Turn.{Turn}
+use Rattle.engines.specs.declared.Turn.the-variants.{Short, Idle, More, Ended}
 use Rattle.engines.specs.declared.Served.{Served}
 use Rattle.engines.specs.declared.AtScreen.{AtScreen}
 use Rattle.engines.specs.declared.Turned.{Turned}
@@ -72,73 +70,69 @@ withHeld screens screen holds last = record { held = set (screens .held) (placeO
 
 -- ---- a turn, on the screens and the job at the place that it works at
 
--- a short turn gives 2, an idle one no number, and one that serves a screen gives the step's
-abbrev pub verdictBy : Service → Answer → Verdict
-verdictBy Short answer = Refused Scratch
-verdictBy Idle answer = Accepted
-verdictBy Step answer = verdictIn answer
+-- "A turn lent under 1,024 numbers answers 2, jobs or none, .. its samples are 0"; "with no jobs a turn does nothing and says so"; "otherwise it answers
+-- the screen served and the step's answer"
+abbrev pub turnRow : Turn → Job → Row
+turnRow Short job = figuresRow (bareFigures (Refused Scratch) 0)
+turnRow Idle job = plainRow 1001
+turnRow (More screen) job = stepRow moreRemain job
+turnRow (Ended screen) job = stepRow hasEnded job
 
-abbrev pub verdictTold : Told → Verdict
-verdictTold told = verdictBy (told .service) (told .answer)
+-- the screen served, 0 for none
+abbrev pub servedScreen : Turn → ℕ
+servedScreen Short = 0
+servedScreen Idle = 0
+servedScreen (More screen) = screen
+servedScreen (Ended screen) = screen
 
--- "A turn lent under 1,024 numbers answers 2, jobs or none, does nothing and does not count; its samples are 0."
-abbrev pub refusedShort : Screens → Job → Served
-refusedShort screens job =
-    record { screens = screens; job = job; told = record { service = Short; screen = 0; answer = record { reply = Answered; figures = refusedFigures Scratch 0 } } }
+abbrev pub turnAfter : ℕ → Bool → Turn
+turnAfter screen over = cond over (Ended screen) (More screen)
 
--- "with no jobs a turn does nothing and says so"
-abbrev pub idle : Screens → Job → Served
-idle screens job = record { screens = screens; job = job; told = record { service = Idle; screen = 0; answer = record { reply = Taken; figures = noFigures } } }
-
--- "otherwise it answers the screen served and the step's answer. A job that finishes or is refused frees its screen."
-abbrev pub stepped : Screens → ℕ → Stepped → Served
-stepped screens screen s =
-    record {
-      screens = withHeld screens screen (not (s .job .ended)) screen;
-      job = s .job;
-      told = record { service = Step; screen = screen; answer = s .answer };
-    }
-
-unfoldable pub servedOf : Screens → Job → ℕ → Served
-servedOf screens job scratchLength =
-    cond (ltb scratchLength 1024) (refusedShort screens job)
-    (cond (ltb 0 (nextScreen screens)) (stepped screens (nextScreen screens) (stepOf job scratchLength)) (idle screens job))
+-- "A job that finishes or is refused frees its screen."
+abbrev pub stepped : Screens → ℕ → Job → Served
+stepped screens screen job =
+    record { screens = withHeld screens screen (not (job .ended)) screen; job = job; turn = turnAfter screen (job .ended) }
 
 -- "The scratch serves one strip at a time": that of the step
-unfoldable pub servedScratch : Screens → Job → List Float → List Float
-servedScratch screens job scratch =
-    cond (ltb (length scratch) 1024) scratch
-    (cond (ltb 0 (nextScreen screens)) (stepScratch job scratch) scratch)
+abbrev pub steppedAt : Screens → ℕ → CallOf Job → CallOf Served
+steppedAt screens screen call = record { answer = stepped screens screen (call .answer); leaves = call .leaves }
 
+-- a short turn "does nothing", and so does an idle one
+unfoldable pub servedOf : Screens → Job → ℕ → CallOf Served
+servedOf screens job scratchLength =
+    cond (ltb scratchLength 1024) (leavesAlone (record { screens = screens; job = job; turn = Short }))
+    (cond (ltb 0 (nextScreen screens)) (steppedAt screens (nextScreen screens) (steppedOn job))
+    (leavesAlone (record { screens = screens; job = job; turn = Idle })))
+
+-- a turn does this, and gives the number and values of its answer
 pub record ServesTo (screens : Screens) (job : Job) (entry : List Float) (r : Served) (exit : List Float) : Type 0 where
-  pub served : r ≡ servedOf screens job (length entry)
-  pub gives : GivesRow (verdictTold (r .told)) (verdictTold (servedOf screens job (length entry) .told))
-  pub scratch : exit ≡ servedScratch screens job entry
+  pub answered : IsAnswer (λ (s : Served). turnRow (s .turn) (s .job) .figures .verdict) r (servedOf screens job (length entry) .answer)
+  pub scratch : exit ≡ servedOf screens job (length entry) .leaves entry
 
 -- ---- a submission and a change of density, on the screens and the job at the screen's place
 
 -- what a call leaves and answers is the definition's, with the number and values of its verdict
 abbrev pub IsAtScreen : AtScreen → AtScreen → Type 0
-IsAtScreen r definition = IsAnswer (λ (s : AtScreen). verdictIn (s .answer)) r definition
+IsAtScreen r definition = IsAnswer (λ (s : AtScreen). s .reply .verdict) r definition
 
 -- a number with 0 samples, and nothing changes
 abbrev pub refused : Screens → Job → Refusal → AtScreen
-refused screens job refusal = record { screens = screens; job = job; answer = record { reply = Answered; figures = refusedFigures refusal 0 } }
+refused screens job refusal = record { screens = screens; job = job; reply = record { verdict = Refused refusal; samples = 0 } }
 
 -- "A submission is answered taken, or refused and changes nothing"; 23 "before anything else in that submission". A job that was refused has ended when it is made
-unfoldable pub submittedOf : Screens → Job → ℕ → Stepped → AtScreen
+unfoldable pub submittedOf : Screens → Job → ℕ → Replied → AtScreen
 submittedOf screens job screen made =
     cond (isFree screens screen)
     (cond (made .job .ended)
-    (record { screens = screens; job = job; answer = made .answer })
-    (record { screens = withHeld screens screen true (screens .last); job = made .job; answer = made .answer }))
+    (record { screens = screens; job = job; reply = made .reply })
+    (record { screens = withHeld screens screen true (screens .last); job = made .job; reply = made .reply }))
     (refused screens job notFree)
 
 -- "A screen's density changes as in Paper 9; with no job there, or no such screen, 12 with 0 samples."
 unfoldable pub changedOf : Screens → Job → ℕ → Density → AtScreen
 changedOf screens job screen density =
     cond (holdsJob screens screen)
-    (record { screens = screens; job = changeOf job density .job; answer = changeOf job density .answer })
+    (record { screens = screens; job = changeOf job density .job; reply = changeOf job density .reply })
     (refused screens job notTaken)
 
 -- ---- the engine
@@ -151,19 +145,24 @@ jobAt engine place = getD (engine .jobs) place noJob
 abbrev pub withJob : Engine → ℕ → Screens → Job → Engine
 withJob engine place screens job = record { screens = screens; jobs = set (engine .jobs) place job }
 
-abbrev pub turnedAt : Engine → ℕ → Served → Turned
-turnedAt engine place s = record { engine = withJob engine place (s .screens) (s .job); told = s .told }
+abbrev pub turnedAt : Engine → ℕ → CallOf Served → CallOf Turned
+turnedAt engine place call =
+    record {
+      answer = record { engine = withJob engine place (call .answer .screens) (call .answer .job); turn = call .answer .turn };
+      leaves = call .leaves;
+    }
 
 abbrev pub calledAt : Engine → ℕ → AtScreen → Called
-calledAt engine place s = record { engine = withJob engine place (s .screens) (s .job); answer = s .answer }
+calledAt engine place s = record { engine = withJob engine place (s .screens) (s .job); reply = s .reply }
 
 -- "A turn works one strip for the next screen with a job"
-unfoldable pub turnOf : Engine → ℕ → Turned
+unfoldable pub turnOf : Engine → ℕ → CallOf Turned
 turnOf engine scratchLength =
     turnedAt engine (pickOf (engine .screens)) (servedOf (engine .screens) (jobAt engine (pickOf (engine .screens))) scratchLength)
 
-unfoldable pub turnScratch : Engine → List Float → List Float
-turnScratch engine scratch = servedScratch (engine .screens) (jobAt engine (pickOf (engine .screens))) scratch
+-- what a turn answers, with the outcome of the job served where that has ended
+abbrev pub turnedRow : Turned → Row
+turnedRow t = turnRow (t .turn) (jobAt (t .engine) (placeOf (servedScreen (t .turn))))
 
 -- a submission of a set with its points and L to a screen
 unfoldable pub submitOf : Engine → ℕ → FinSet → List Float → ℕ → Called

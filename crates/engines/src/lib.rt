@@ -7,13 +7,13 @@ ghost use mathlib.Core.Path.{_≡_};
 ghost use Prim.Native.Nat.{_<_};
 ghost use lib.ListN.{length};
 ghost use Rattle.engines.specs.Engines.{isScreen, placeOf, holdsJob, isFree, nextScreen, pickOf, withHeld};
-ghost use Rattle.engines.specs.Engines.{refusedShort, idle, stepped, ServesTo, IsAtScreen, refused, submittedOf, changedOf};
-use jobs::Answer;
+ghost use Rattle.engines.specs.Engines.{turnAfter, servedScreen, stepped, ServesTo, IsAtScreen, refused, submittedOf, changedOf};
 use jobs::Job;
+use jobs::Replied;
 use jobs::Reply;
-use jobs::Stepped;
 use materials::Density;
 use refusals::Refusal;
+use refusals::Verdict;
 
 // Which screens hold a job, and which was served last, 0 before the first.
 pub struct Screens {
@@ -27,44 +27,39 @@ pub struct Engine {
     pub jobs: [Job; 8],
 }
 
-// What a turn did: nothing, as its scratch was short (2) or no screen holds a job; or a step of a screen's job.
-pub enum Service {
+// What a turn answers: 2, as its scratch was short; that no screen holds a job; or of the screen served that more strips of its job remain, or that the
+// job has ended, and then its outcome is the answer.
+pub enum Turn {
     Short,
     Idle,
-    Step,
-}
-
-// What a turn answers: the screen served, 0 for none, and the step's answer. An idle turn's is a plain one with no figures.
-pub struct Told {
-    pub service: Service,
-    pub screen: usize,
-    pub answer: Answer,
+    More(usize),
+    Ended(usize),
 }
 
 // The screens and the job of the next one as a turn leaves them, and what it answers.
 pub struct Served {
     pub screens: Screens,
     pub job: Job,
-    pub told: Told,
+    pub turn: Turn,
 }
 
 // The screens and a screen's job as a submission or a change of density leaves them, and what it answers.
 pub struct AtScreen {
     pub screens: Screens,
     pub job: Job,
-    pub answer: Answer,
+    pub reply: Reply,
 }
 
 // The engine as a turn leaves it, and what it answers.
 pub struct Turned {
     pub engine: Engine,
-    pub told: Told,
+    pub turn: Turn,
 }
 
 // The engine as a submission or a change of density leaves it, and what it answers.
 pub struct Called {
     pub engine: Engine,
-    pub answer: Answer,
+    pub reply: Reply,
 }
 
 fn is_screen(screen: usize) -> bool
@@ -132,100 +127,89 @@ fn with_held(screens: Screens, screen: usize, holds: bool, last: usize) -> Scree
     Screens { held, last }
 }
 
-fn refuse_short(screens: Screens, job: Job) -> Served
-    ensures { λ r. ⌜ r ≡ refusedShort screens job ⌝ }
+// What a turn answers that served a screen.
+fn turn_after(screen: usize, ended: bool) -> Turn
+    ensures { λ r. ⌜ r ≡ turnAfter screen ended ⌝ }
 {
-    let service = Service::Short;
-    let reply = Reply::Answered;
-    let figures = figures::refused_figures(Refusal::Scratch, 0);
-    let answer = Answer { reply, figures };
-    let told = Told {
-        service,
-        screen: 0,
-        answer,
-    };
-    Served { screens, job, told }
+    if ended {
+        return Turn::Ended(screen);
+    }
+    Turn::More(screen)
 }
 
-fn stay_idle(screens: Screens, job: Job) -> Served
-    ensures { λ r. ⌜ r ≡ idle screens job ⌝ }
+// The screen served, 0 for none.
+pub fn served_screen(turn: Turn) -> usize
+    ensures { λ r. ⌜ r ≡ servedScreen turn ⌝ }
 {
-    let service = Service::Idle;
-    let reply = Reply::Taken;
-    let figures = jobs::no_figures();
-    let answer = Answer { reply, figures };
-    let told = Told {
-        service,
-        screen: 0,
-        answer,
-    };
-    Served { screens, job, told }
+    match turn {
+        Turn::Short => 0,
+        Turn::Idle => 0,
+        Turn::More(screen) => screen,
+        Turn::Ended(screen) => screen,
+    }
 }
 
-// The screen was served this step: its job goes on, or has ended and frees it.
-fn after_step(screens: Screens, screen: usize, s: Stepped) -> Served
-    ensures { λ r. ⌜ r ≡ stepped screens screen s ⌝ }
+// The screen was served: its job goes on, or has ended and frees it.
+fn after_step(screens: Screens, screen: usize, job: Job) -> Served
+    ensures { λ r. ⌜ r ≡ stepped screens screen job ⌝ }
 {
-    let job = s.job;
-    let answer = s.answer;
     let screens = with_held(screens, screen, !job.ended, screen);
-    let service = Service::Step;
-    let told = Told {
-        service,
-        screen,
-        answer,
-    };
-    Served { screens, job, told }
+    let turn = turn_after(screen, job.ended);
+    Served { screens, job, turn }
 }
 
-// A turn on the screens and the job at the place picked.
+// A turn on the screens and the job at the place picked. A limit is at most 64, so that 1,024 numbers serve every step.
 pub fn serve(screens: Screens, job: Job, scratch: &mut [f64]) -> Served
     ensures { λ r. ⌜ ServesTo screens job (now (scratch .entry)) r (now (scratch .exit)) ⌝ }
 {
     if scratch.len() < 1024 {
-        return refuse_short(screens, job);
+        let turn = Turn::Short;
+        return Served { screens, job, turn };
     }
     let screen = next_screen(screens);
     if 0 < screen {
-        let s = jobs::step_by_value(job, scratch);
-        return after_step(screens, screen, s);
+        let job = jobs::step_in_room(job, scratch);
+        return after_step(screens, screen, job);
     }
-    stay_idle(screens, job)
+    let turn = Turn::Idle;
+    Served { screens, job, turn }
 }
 
 // A call that is refused leaves screens and job as they are; no sample was taken.
 fn refuse(screens: Screens, job: Job, refusal: Refusal) -> AtScreen
     ensures { λ r. ⌜ r ≡ refused screens job refusal ⌝ }
 {
-    let reply = Reply::Answered;
-    let figures = figures::refused_figures(refusal, 0);
-    let answer = Answer { reply, figures };
+    let verdict = Verdict::Refused(refusal);
+    let reply = Reply {
+        verdict,
+        samples: 0,
+    };
     AtScreen {
         screens,
         job,
-        answer,
+        reply,
     }
 }
 
 // A submission of a job as it was made, on the screens and the job at the screen's place.
-pub fn submit_at(screens: Screens, job: Job, screen: usize, made: Stepped) -> AtScreen
+pub fn submit_at(screens: Screens, job: Job, screen: usize, made: Replied) -> AtScreen
     ensures { λ r. ⌜ IsAtScreen r (submittedOf screens job screen made) ⌝ }
 {
     if is_free(screens, screen) {
         let new = made.job;
-        let answer = made.answer;
+        let reply = made.reply;
         if new.ended {
             return AtScreen {
                 screens,
                 job,
-                answer,
+                reply,
             };
         }
         let screens = with_held(screens, screen, true, screens.last);
         return AtScreen {
             screens,
             job: new,
-            answer,
+            reply,
         };
     }
     refuse(screens, job, Refusal::Screen)
@@ -236,13 +220,13 @@ pub fn change_at(screens: Screens, job: Job, screen: usize, density: Density) ->
     ensures { λ r. ⌜ IsAtScreen r (changedOf screens job screen density) ⌝ }
 {
     if holds_job(screens, screen) {
-        let s = jobs::change_by_value(job, density);
-        let job = s.job;
-        let answer = s.answer;
+        let changed = jobs::change_by_value(job, density);
+        let job = changed.job;
+        let reply = changed.reply;
         return AtScreen {
             screens,
             job,
-            answer,
+            reply,
         };
     }
     refuse(screens, job, Refusal::Density)

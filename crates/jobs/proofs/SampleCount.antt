@@ -23,8 +23,10 @@ use Rattle.figures.proofs.StripCount.{set-strips-counted}
 use Rattle.figures.proofs.Answers.{set-reported}
 use Rattle.jobs.specs.declared.Job.{Job}
 use Rattle.jobs.specs.declared.Stepped.{Stepped}
-use Rattle.jobs.specs.Jobs.{stepOf, changeOf, makingCheck, madeWith, madeOf}
-use Rattle.jobs.specs.Calls.{Call, step, change, steppedBy, afterCalls, jobAfter, stripsAfter, SamplesAtMost}
+use Rattle.jobs.specs.declared.Replied.{Replied}
+use Rattle.refusals.specs.Calls.{CallOf}
+use Rattle.jobs.specs.Jobs.{makingCheck, madeWith, madeOf}
+use Rattle.jobs.specs.Calls.{Call, step, change, answerBy, afterCalls, jobAfter, stripsAfter, SamplesAtMost}
 use Rattle.jobs.proofs.Laws.{step-ended, change-ended, step-samples, change-samples, after-both}
 use Rattle.jobs.proofs.Together.{made-accepted, over-calls}
 
@@ -59,7 +61,7 @@ module _ (set : FinSet) (points : List Float) (L : ℕ) (made : makingCheck set 
   end-samples calls e =
       subst (λ (n : ℕ). n ≤ mostSamples) (sym (over-calls set points L made calls .reported e .samples-reported)) (so-far calls)
 
-  accepted-most : (calls : List Call) (call : Call) → steppedBy (jobAfter set points L calls) call .answer .figures .samples ≤ mostSamples
+  accepted-most : (calls : List Call) (call : Call) → answerBy (jobAfter set points L calls) call .figures .samples ≤ mostSamples
   accepted-most calls (step scratch) =
       let next = after-both (madeOf set points L .job) calls (step scratch ∷ []) in
       step-samples (jobAfter set points L calls) (length scratch) mostSamples (job-samples calls)
@@ -70,15 +72,15 @@ module _ (set : FinSet) (points : List Float) (L : ℕ) (made : makingCheck set 
 ended-stays : (job : Job) → job .ended ≡ true → (calls : List Call) → afterCalls job calls ≡ job
 ended-stays job e [] = refl
 ended-stays job e (step scratch ∷ calls) =
-    ap (λ (s : Stepped). afterCalls (s .job) calls) (step-ended job (length scratch) e) ∙ ended-stays job e calls
+    ap (λ (c : CallOf Stepped). afterCalls (c .answer .job) calls) (step-ended job (length scratch) e) ∙ ended-stays job e calls
 ended-stays job e (change density ∷ calls) =
-    ap (λ (s : Stepped). afterCalls (s .job) calls) (change-ended job density e) ∙ ended-stays job e calls
+    ap (λ (s : Replied). afterCalls (s .job) calls) (change-ended job density e) ∙ ended-stays job e calls
 
 ended-most : (job : Job) → job .ended ≡ true → job .samples ≤ mostSamples → job .outcome .samples ≤ mostSamples → (call : Call)
-    → steppedBy job call .answer .figures .samples ≤ mostSamples
+    → answerBy job call .figures .samples ≤ mostSamples
 ended-most job e few few-at-end (step scratch) =
     step-samples job (length scratch) mostSamples few
-    (λ k. subst (λ (s : Stepped). s .job .outcome .samples ≤ mostSamples) (sym (step-ended job (length scratch) e)) few-at-end)
+    (λ k. subst (λ (c : CallOf Stepped). c .answer .job .outcome .samples ≤ mostSamples) (sym (step-ended job (length scratch) e)) few-at-end)
 ended-most job e few few-at-end (change density) = change-samples job density mostSamples few
 
 module _ (set : FinSet) (points : List Float) (L : ℕ) (refusal : Refusal) (made : makingCheck set points L ≡ Refused refusal) where
@@ -86,17 +88,17 @@ module _ (set : FinSet) (points : List Float) (L : ℕ) (refusal : Refusal) (mad
   unfolding madeOf
   made-is = ap (λ (v : Verdict). madeWith v set points L .job) made
 
-  refused-most : (calls : List Call) (call : Call) → steppedBy (jobAfter set points L calls) call .answer .figures .samples ≤ mostSamples
+  refused-most : (calls : List Call) (call : Call) → answerBy (jobAfter set points L calls) call .figures .samples ≤ mostSamples
   unfolding isRefused
   refused-most calls call =
       let job = madeWith (Refused refusal) set points L .job in
-      subst (λ (j : Job). steppedBy j call .answer .figures .samples ≤ mostSamples)
+      subst (λ (j : Job). answerBy j call .figures .samples ≤ mostSamples)
       (sym (ap (λ (j : Job). afterCalls j calls) made-is ∙ ended-stays job refl calls))
       (ended-most job refl (omega arith) (omega arith) call)
 
 pub samples-at-most : SamplesAtMost
 samples-at-most set points L calls call = by (makingCheck set points L) refl
   where
-    by : (v : Verdict) → makingCheck set points L ≡ v → steppedBy (jobAfter set points L calls) call .answer .figures .samples ≤ mostSamples
+    by : (v : Verdict) → makingCheck set points L ≡ v → answerBy (jobAfter set points L calls) call .figures .samples ≤ mostSamples
     by Accepted v = accepted-most set points L v calls call
     by (Refused r) v = refused-most set points L r v calls call

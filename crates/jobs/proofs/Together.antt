@@ -17,7 +17,7 @@ use Rattle.sorting.specs.Sorted.{over}
 use Rattle.refusals.specs.declared.Verdict.{Verdict}
 use Rattle.refusals.specs.declared.Verdict.the-variants.{Accepted, Refused}
 use Rattle.refusals.specs.Order.{isRefused, firstRefusal}
-use Rattle.refusals.specs.Calls.{leavesAlone, byVerdict}
+use Rattle.refusals.specs.Calls.{CallOf, leavesAlone, byVerdict}
 use Rattle.refusals.proofs.Accepted.{both, each-accepts, where-each-accepts}
 use Rattle.limits.specs.Limits.{limitCheck, scratchCheck, countCheck}
 use Rattle.limits.proofs.Accepted.{limit-within}
@@ -39,19 +39,19 @@ use Rattle.strips.specs.Claim.{Each, StripsAre, AreReported}
 use Rattle.strips.proofs.Upward.{strip-at, none-left, fits-words}
 use Rattle.strips.proofs.Onwards.{WorkedOn, onward-works}
 use Rattle.strips.proofs.Claims.{strips-are}
-use Rattle.figures.specs.declared.Figures.{Figures}
 use Rattle.figures.specs.Figures.{setIntegrand, setRun, refusedFigures, concludedSet, workedFigures, workedSet, setFigures, setCall}
 use Rattle.figures.specs.Answers.{setReport}
 use Rattle.figures.proofs.StripCount.{worked-few, heights-some, all-numbers, none-under-zero}
 use Rattle.figures.proofs.Answers.{set-reported}
 use Rattle.jobs.specs.declared.Job.{Job}
-use Rattle.jobs.specs.declared.Reply.the-variants.{Answered}
+use Rattle.jobs.specs.declared.Progress.the-variants.{Ended}
 use Rattle.jobs.specs.declared.Stepped.{Stepped}
-use Rattle.jobs.specs.Jobs.{pointsOf, outlineOf, stepRun, runOfJob, totalOf, noFigures, waits, more, ended, outcomeOf, afterStrip, stepOf, withDensity, taken, changeOf, makingCheck, madeWith, madeOf}
-use Rattle.jobs.specs.Calls.{Call, step, change, steppedBy, afterCalls, counts, stripsBy, stripsOver}
+use Rattle.jobs.specs.declared.Replied.{Replied}
+use Rattle.jobs.specs.Jobs.{pointsOf, outlineOf, stepRun, runOfJob, totalOf, bareFigures, more, ended, outcomeOf, afterStrip, stepOf, withDensity, taken, changeOf, makingCheck, madeWith, madeOf}
+use Rattle.jobs.specs.Calls.{Call, step, change, jobBy, afterCalls, counts, stripsBy, stripsOver}
 use Rattle.jobs.specs.Calls.{isTaken, densityBy, densityOver, placeOfStrip, runningJob, OverCalls}
 use Rattle.jobs.proofs.Kept.{keptOf, Same, kept-same}
-use Rattle.jobs.proofs.Laws.{yes, given, step-ended, step-refused, step-works, after-more, after-last, end-answer}
+use Rattle.jobs.proofs.Laws.{yes, given, step-ended, step-scratch, step-works, after-more, after-last, says-ended}
 use Rattle.jobs.proofs.Laws.{none-ended, none-refused, one-if-there, change-ended, change-refused, change-taken}
 use Rattle.jobs.proofs.Sums.{Few, summed-with, ending-with, few-in, each-front, each-with, strip-is-few, all-few, worked-all}
 
@@ -258,7 +258,7 @@ module _ (set : FinSet) (points : List Float) (L : ℕ) (made : makingCheck set 
     unfolding firstRefusal ownCheck
     checked-again = ap₂ firstRefusal (each-accepts (ownChecks set points) own-checked .0) (g .dense)
 
-    ends : With· ≡ All· → Done d With· (ended J· (summedOf With·) (outcomeOf (J· .set) (outlineOf J·) (summedOf With·)) .job)
+    ends : With· ≡ All· → Done d With· (ended J· (summedOf With·) (outcomeOf (J· .set) (outlineOf J·) (summedOf With·)))
     unfolding outcomeOf
     ends whole =
         record {
@@ -274,10 +274,10 @@ module _ (set : FinSet) (points : List Float) (L : ℕ) (made : makingCheck set 
           intervals = refl;
         }
 
-    last : With· ≡ All· → (isAccepted (summedOf With· .ending) && ltb 0 Left·) ≡ false → State d With· (afterStrip J· (Onward· (summedOf With·)) .job)
-    last whole e = subst (λ (x : Stepped). State d With· (x .job)) (sym (after-last J· (Onward· (summedOf With·)) e)) (inr (ends whole))
+    last : With· ≡ All· → (isAccepted (summedOf With· .ending) && ltb 0 Left·) ≡ false → State d With· (afterStrip J· (Onward· (summedOf With·)))
+    last whole e = subst (State d With·) (sym (after-last J· (Onward· (summedOf With·)) e)) (inr (ends whole))
 
-    more-is : more J· (summedOf With·) Next· .job ≡ jobAt d With·
+    more-is : more J· (summedOf With·) Next· ≡ jobAt d With·
     more-is =
         ap
         (λ (n : ℕ).
@@ -290,11 +290,11 @@ module _ (set : FinSet) (points : List Float) (L : ℕ) (made : makingCheck set 
           intervals = intervalsIn With·;
           samples = samplesIn With·;
           ended = false;
-          outcome = noFigures;
+          outcome = bareFigures Accepted 0;
         })
         (ap Place· (sym (one-longer ∙ add-one (length strips))))
 
-    goes-on : isAccepted (S· .halved .ending) ≡ true → 0 < Left· → Going d With· (more J· (summedOf With·) Next· .job)
+    goes-on : isAccepted (S· .halved .ending) ≡ true → 0 < Left· → Going d With· (more J· (summedOf With·) Next·)
     goes-on a b =
         record {
           is = more-is;
@@ -309,9 +309,9 @@ module _ (set : FinSet) (points : List Float) (L : ℕ) (made : makingCheck set 
     both-are : (a b : Bool) → isAccepted (S· .halved .ending) ≡ a → ltb 0 Left· ≡ b → (isAccepted (summedOf With· .ending) && ltb 0 Left·) ≡ (a && b)
     both-are a b p q = ap (λ (x : Bool). x && ltb 0 Left·) (accepted-is ∙ p) ∙ ap (λ (x : Bool). a && x) q
 
-    by-ending : (a b : Bool) → isAccepted (S· .halved .ending) ≡ a → ltb 0 Left· ≡ b → State d With· (afterStrip J· (Onward· (summedOf With·)) .job)
+    by-ending : (a b : Bool) → isAccepted (S· .halved .ending) ≡ a → ltb 0 Left· ≡ b → State d With· (afterStrip J· (Onward· (summedOf With·)))
     by-ending true true p q =
-        subst (λ (x : Stepped). State d With· (x .job)) (sym (after-more J· (Onward· (summedOf With·)) (both-are true true p q))) (inl (goes-on p (ltb-true 0 Left· q)))
+        subst (State d With·) (sym (after-more J· (Onward· (summedOf With·)) (both-are true true p q))) (inl (goes-on p (ltb-true 0 Left· q)))
     by-ending true false p q =
         last
         (sym (append-nil With·)
@@ -326,35 +326,39 @@ module _ (set : FinSet) (points : List Float) (L : ℕ) (made : makingCheck set 
         ∙ yes _ _ (has-strip (length strips) (g .below))
         ∙ ap (λ (s : Worked). s ∷ []) (strip-is (length strips) (omega (arith, inside)))
 
-    works : (scratch : List Float) → runCheck L (length scratch) ≡ Accepted → State d (strips ++ stripsBy J· (step scratch)) (stepOf J· (length scratch) .job)
+    works : (scratch : List Float) → runCheck L (length scratch) ≡ Accepted → State d (strips ++ stripsBy J· (step scratch)) (stepOf J· (length scratch) .answer .job)
     works scratch v =
-        subst (λ (l : List Worked). State d (strips ++ l) (stepOf J· (length scratch) .job)) (sym (one-strip scratch v))
-        (subst (λ (x : Stepped). State d With· (x .job)) (sym (step-works J· (length scratch) refl v ∙ ap (afterStrip J·) onward-is))
+        subst (λ (l : List Worked). State d (strips ++ l) (stepOf J· (length scratch) .answer .job)) (sym (one-strip scratch v))
+        (subst (State d With·) (sym (ap (λ (c : CallOf Stepped). c .answer .job) (step-works J· (length scratch) refl v) ∙ ap (afterStrip J·) onward-is))
         (by-ending (isAccepted (S· .halved .ending)) (ltb 0 Left·) refl refl))
 
     -- a call that leaves the record as it is
-    stays : (l : List Worked) (x : Stepped) → l ≡ [] → x .job ≡ J· → State d (strips ++ l) (x .job)
+    stays : (l : List Worked) (x : Job) → l ≡ [] → x ≡ J· → State d (strips ++ l) x
     stays l x e k =
-        subst (λ (m : List Worked). State d (strips ++ m) (x .job)) (sym e)
-        (subst (λ (m : List Worked). State d m (x .job)) (sym (append-nil strips)) (subst (State d strips) (sym k) (inl g)))
+        subst (λ (m : List Worked). State d (strips ++ m) x) (sym e)
+        (subst (λ (m : List Worked). State d m x) (sym (append-nil strips)) (subst (State d strips) (sym k) (inl g)))
 
-    by-check : (scratch : List Float) (v : Verdict) → runCheck L (length scratch) ≡ v → State d (strips ++ stripsBy J· (step scratch)) (stepOf J· (length scratch) .job)
+    by-check : (scratch : List Float) (v : Verdict) → runCheck L (length scratch) ≡ v → State d (strips ++ stripsBy J· (step scratch)) (stepOf J· (length scratch) .answer .job)
+    unfolding firstRefusal
     by-check scratch Accepted v = works scratch v
     by-check scratch (Refused r) v =
-        stays (stripsBy J· (step scratch)) (stepOf J· (length scratch)) (none-refused J· scratch r refl v) (ap (λ (x : Stepped). x .job) (step-refused J· (length scratch) r refl v))
+        let short : scratchCheck L (length scratch) ≡ Refused r = sym (ap (λ (x : Verdict). firstRefusal x (scratchCheck L (length scratch))) limit-checked) ∙ v in
+        stays (stripsBy J· (step scratch)) _ (none-refused J· scratch r refl v)
+        (ap (λ (c : CallOf Stepped). c .answer .job) (step-scratch J· (length scratch) r refl limit-checked short))
 
     -- ---- a change of density
     changes : (other : Density) (v : Verdict) → densityCheck other ≡ v → State (densityBy J· d (change other)) (strips ++ []) (changeOf J· other .job)
+    unfolding isRefused
     changes other Accepted v =
         let e = change-taken J· other refl v in
-        subst (λ (x : Stepped). State (cond (isTaken (x .answer .reply)) other d) (strips ++ []) (x .job)) (sym e)
+        subst (λ (x : Replied). State (cond (isTaken (x .reply)) other d) (strips ++ []) (x .job)) (sym e)
         (subst (λ (m : List Worked). State other m (taken J· other .job)) (sym (append-nil strips)) (inl (record { is = refl; dense = v; rest = g .rest; below = g .below })))
     changes other (Refused r) v =
         let e = change-refused J· other r refl v in
-        subst (λ (x : Stepped). State (cond (isTaken (x .answer .reply)) other d) (strips ++ []) (x .job)) (sym e)
-        (stays [] (waits J· r) refl refl)
+        subst (λ (x : Replied). State (cond (isTaken (x .reply)) other d) (strips ++ []) (x .job)) (sym e)
+        (stays [] J· refl refl)
 
-    going : (call : Call) → State (densityBy J· d call) (strips ++ stripsBy J· call) (steppedBy J· call .job)
+    going : (call : Call) → State (densityBy J· d call) (strips ++ stripsBy J· call) (jobBy J· call)
     going (step scratch) = by-check scratch (runCheck L (length scratch)) refl
     going (change other) = changes other (densityCheck other) refl
 
@@ -363,16 +367,17 @@ module _ (set : FinSet) (points : List Float) (L : ℕ) (made : makingCheck set 
     kept : (l : List Worked) → l ≡ [] → State d (strips ++ l) job
     kept l n = subst (λ (m : List Worked). State d (strips ++ m) job) (sym n) (subst (λ (m : List Worked). State d m job) (sym (append-nil strips)) (inr e))
 
-    done : (call : Call) → State (densityBy job d call) (strips ++ stripsBy job call) (steppedBy job call .job)
+    done : (call : Call) → State (densityBy job d call) (strips ++ stripsBy job call) (jobBy job call)
+    unfolding isRefused
     done (step scratch) =
-        subst (λ (x : Stepped). State d (strips ++ stripsBy job (step scratch)) (x .job)) (sym (step-ended job (length scratch) (e .over-now)))
+        subst (λ (c : CallOf Stepped). State d (strips ++ stripsBy job (step scratch)) (c .answer .job)) (sym (step-ended job (length scratch) (e .over-now)))
         (kept (stripsBy job (step scratch)) (none-ended job scratch (e .over-now)))
     done (change other) =
-        subst (λ (x : Stepped). State (cond (isTaken (x .answer .reply)) other d) (strips ++ []) (x .job)) (sym (change-ended job other (e .over-now))) (kept [] refl)
+        subst (λ (x : Replied). State (cond (isTaken (x .reply)) other d) (strips ++ []) (x .job)) (sym (change-ended job other (e .over-now))) (kept [] refl)
 
-  one : (d : Density) (strips : List Worked) (job : Job) (call : Call) → State d strips job → State (densityBy job d call) (strips ++ stripsBy job call) (steppedBy job call .job)
+  one : (d : Density) (strips : List Worked) (job : Job) (call : Call) → State d strips job → State (densityBy job d call) (strips ++ stripsBy job call) (jobBy job call)
   one d strips job call (inl g) =
-      subst (λ (j : Job). State (densityBy j d call) (strips ++ stripsBy j call) (steppedBy j call .job)) (sym (g .is))
+      subst (λ (j : Job). State (densityBy j d call) (strips ++ stripsBy j call) (jobBy j call)) (sym (g .is))
       (going d strips (record { is = refl; dense = g .dense; rest = g .rest; below = g .below }) call)
   one d strips job call (inr e) = done d strips job e call
 
@@ -380,8 +385,8 @@ module _ (set : FinSet) (points : List Float) (L : ℕ) (made : makingCheck set 
   all [] d strips job s = subst (λ (l : List Worked). State d l job) (sym (append-nil strips)) s
   all (call ∷ calls) d strips job s =
       subst (λ (l : List Worked). State (densityOver job d (call ∷ calls)) l (afterCalls job (call ∷ calls)))
-      (append-assoc strips (stripsBy job call) (stripsOver (steppedBy job call .job) calls))
-      (all calls (densityBy job d call) (strips ++ stripsBy job call) (steppedBy job call .job) (one d strips job call s))
+      (append-assoc strips (stripsBy job call) (stripsOver (jobBy job call) calls))
+      (all calls (densityBy job d call) (strips ++ stripsBy job call) (jobBy job call) (one d strips job call s))
 
   -- a job that has ended is done
   done-of : (d : Density) (strips : List Worked) (job : Job) → State d strips job → job .ended ≡ true → Done d strips job
@@ -428,13 +433,13 @@ module _ (set : FinSet) (points : List Float) (L : ℕ) (made : makingCheck set 
     Density· = densityOver (madeOf set points L .job) (set .density) calls
 
     -- what a step answers that leaves the job ended
-    answers-fresh : State Density· Strips· After· → (scratch : List Float) → stepOf After· (length scratch) .job .ended ≡ true
+    answers-fresh : State Density· Strips· After· → (scratch : List Float) → stepOf After· (length scratch) .answer .job .ended ≡ true
         → (n : ℕ) → scratchCheck L n ≡ Accepted
-        → stepOf After· (length scratch) .answer ≡ record { reply = Answered; figures = setFigures (withDensity set Density·) points L n }
+        → (stepOf After· (length scratch) .answer .progress ≡ Ended)
+        × (stepOf After· (length scratch) .answer .job .outcome ≡ setFigures (withDensity set Density·) points L n)
     answers-fresh s scratch e n enough =
-        let z = done-of Density· _ (stepOf After· (length scratch) .job) (one Density· Strips· After· (step scratch) s) e in
-        end-answer After· (length scratch) e
-        ∙ ap (λ (f : Figures). record { reply = Answered; figures = f }) (z .answer ∙ fresh Density· (z .dense) n enough)
+        let z = done-of Density· _ (stepOf After· (length scratch) .answer .job) (one Density· Strips· After· (step scratch) s) e in
+        (says-ended After· (length scratch) e, z .answer ∙ fresh Density· (z .dense) n enough)
 
     runs : Going Density· Strips· After· → OverCalls set points L calls
     runs g =

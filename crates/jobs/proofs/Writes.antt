@@ -9,14 +9,16 @@ use lib.Ieee.{Float}
 use Rattle.refusals.specs.declared.Refusal.{Refusal}
 use Rattle.refusals.specs.declared.Verdict.{Verdict}
 use Rattle.refusals.specs.declared.Verdict.the-variants.{Accepted, Refused}
-use Rattle.refusals.specs.Calls.{leavesAlone, byVerdict}
+use Rattle.refusals.specs.Calls.{CallOf, leavesAlone, byVerdict}
+use Rattle.limits.specs.Limits.{limitCheck}
 use Rattle.quadrature.specs.declared.Piece.{Piece}
 use Rattle.pieces.specs.Stored.{stored, written}
-use Rattle.strips.specs.Strips.{Run, Worked, piecesOf, runCheck, hasStrip, stripFrom, scratchOnward, scratchAfter}
+use Rattle.strips.specs.Strips.{Run, Worked, piecesOf, hasStrip, stripFrom, scratchOnward, scratchAfter}
 use Rattle.jobs.specs.declared.Job.{Job}
-use Rattle.jobs.specs.Jobs.{runOfJob, stepScratch}
+use Rattle.jobs.specs.declared.Stepped.{Stepped}
+use Rattle.jobs.specs.Jobs.{runOfJob, workedStrip, endedBy, steppedOn}
 use Rattle.jobs.specs.Calls.{stripsBy, step, WritesOwnStrip}
-use Rattle.jobs.proofs.Laws.{scratch-ended, scratch-refused, scratch-works, none-ended, none-refused, one-if-there}
+use Rattle.jobs.proofs.Laws.{of-step, none-ended, none-refused, one-if-there}
 
 onward-writes : (run : Run) (i : ℕ) (scratch : List Float) → scratchOnward run i scratch ≡ scratchAfter (cond (hasStrip run i) (stripFrom run i ∷ []) []) scratch
 unfolding scratchOnward
@@ -27,18 +29,13 @@ onward-writes run i scratch = go (hasStrip run i)
     go false = refl
 
 pub writes-own-strip : WritesOwnStrip
-writes-own-strip job scratch = by-end (job .ended) refl
+writes-own-strip job scratch =
+    of-step job (length scratch) (λ (c : CallOf Stepped). c .leaves scratch ≡ scratchAfter (stripsBy job (step scratch)) scratch)
+    (λ e. to [] (none-ended job scratch e)) (λ r e v. to [] (none-refused job scratch r e v)) (λ r e v. to [] (none-refused job scratch r e v))
+    (λ e v. onward-writes (runOfJob job) (job .next) scratch ∙ to _ (one-if-there job scratch e v))
   where
     to : (strips : List Worked) → stripsBy job (step scratch) ≡ strips → scratchAfter strips scratch ≡ scratchAfter (stripsBy job (step scratch)) scratch
     to strips e = ap (λ (l : List Worked). scratchAfter l scratch) (sym e)
-
-    by-check : job .ended ≡ false → (v : Verdict) → runCheck (job .limit) (length scratch) ≡ v → stepScratch job scratch ≡ scratchAfter (stripsBy job (step scratch)) scratch
-    by-check e Accepted v = scratch-works job scratch e v ∙ onward-writes (runOfJob job) (job .next) scratch ∙ to _ (one-if-there job scratch e v)
-    by-check e (Refused r) v = scratch-refused job scratch r e v ∙ to [] (none-refused job scratch r e v)
-
-    by-end : (b : Bool) → job .ended ≡ b → stepScratch job scratch ≡ scratchAfter (stripsBy job (step scratch)) scratch
-    by-end true e = scratch-ended job scratch e ∙ to [] (none-ended job scratch e)
-    by-end false e = by-check e (runCheck (job .limit) (length scratch)) refl
 
 -- ---- no scratch gets shorter
 stored-length : (pieces : List Piece) → length (stored pieces) ≡ length pieces * 16
@@ -62,7 +59,13 @@ pub run-no-shorter : {A : Type 0} (v : Verdict) (given : A) (withheld : Refusal 
 run-no-shorter Accepted given withheld strips scratch = after-no-shorter strips scratch
 run-no-shorter (Refused r) given withheld strips scratch = omega arith
 
-pub step-no-shorter : (job : Job) (scratch : List Float) → length scratch ≤ length (stepScratch job scratch)
-step-no-shorter job scratch =
-    subst (λ (l : List Float). length scratch ≤ length l) (sym (writes-own-strip job scratch))
-    (after-no-shorter (stripsBy job (step scratch)) scratch)
+pub on-no-shorter : (job : Job) (scratch : List Float) → length scratch ≤ length (steppedOn job .leaves scratch)
+unfolding steppedOn
+on-no-shorter job scratch = by (job .ended) (limitCheck (job .limit))
+  where
+    by : (b : Bool) (v : Verdict) → length scratch ≤ length (cond b (leavesAlone job) (byVerdict v (workedStrip job) (λ r. leavesAlone (endedBy job r))) .leaves scratch)
+    by true v = omega arith
+    by false (Refused r) = omega arith
+    by false Accepted =
+        subst (λ (l : List Float). length scratch ≤ length l) (sym (onward-writes (runOfJob job) (job .next) scratch))
+        (after-no-shorter (cond (hasStrip (runOfJob job) (job .next)) (stripFrom (runOfJob job) (job .next) ∷ []) []) scratch)

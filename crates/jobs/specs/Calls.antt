@@ -21,23 +21,29 @@ use Rattle.strips.specs.Rising.{PiecesRise, SamplesFinite, NumbersFinite}
 use Rattle.figures.specs.Figures.{setRun, setFigures}
 use Rattle.figures.specs.Answers.{setReport, mostSamples}
 use Rattle.jobs.specs.declared.Job.{Job}
+use Rattle.jobs.specs.declared.Progress.the-variants.{Ended}
 use Rattle.jobs.specs.declared.Reply.{Reply}
-use Rattle.jobs.specs.declared.Reply.the-variants.{More, Taken, Answered}
-use Rattle.jobs.specs.declared.Stepped.{Stepped}
-use Rattle.jobs.specs.Jobs.{pointsOf, runOfJob, noFigures, withDensity, stepOf, stepScratch, changeOf, madeOf}
+use Rattle.jobs.specs.declared.Row.{Row}
+use Rattle.jobs.specs.Jobs.{pointsOf, runOfJob, bareFigures, stepRow, replyRow, withDensity, stepOf, changeOf, madeOf}
 
 -- a step over the scratch lent to it, or a change of density
 pub data Call : Type 0 where
   step : List Float → Call
   change : Density → Call
 
-abbrev pub steppedBy : Job → Call → Stepped
-steppedBy job (step scratch) = stepOf job (length scratch)
-steppedBy job (change density) = changeOf job density
+-- the job as a call leaves it
+abbrev pub jobBy : Job → Call → Job
+jobBy job (step scratch) = stepOf job (length scratch) .answer .job
+jobBy job (change density) = changeOf job density .job
+
+-- what a call answers
+abbrev pub answerBy : Job → Call → Row
+answerBy job (step scratch) = stepRow (stepOf job (length scratch) .answer .progress) (stepOf job (length scratch) .answer .job)
+answerBy job (change density) = replyRow (changeOf job density .reply)
 
 abbrev pub afterCalls : Job → List Call → Job
 afterCalls job [] = job
-afterCalls job (call ∷ calls) = afterCalls (steppedBy job call .job) calls
+afterCalls job (call ∷ calls) = afterCalls (jobBy job call) calls
 
 -- ---- the strips that calls work
 
@@ -52,26 +58,24 @@ stripsBy job (change density) = []
 
 abbrev pub stripsOver : Job → List Call → List Worked
 stripsOver job [] = []
-stripsOver job (call ∷ calls) = stripsBy job call ++ stripsOver (steppedBy job call .job) calls
+stripsOver job (call ∷ calls) = stripsBy job call ++ stripsOver (jobBy job call) calls
 
 -- "A step writes its own strip's pieces from the start of the scratch lent to it and leaves the rest": of every record and scratch
 abbrev pub WritesOwnStrip : Type 0
-WritesOwnStrip = (job : Job) (scratch : List Float) → stepScratch job scratch ≡ scratchAfter (stripsBy job (step scratch)) scratch
+WritesOwnStrip = (job : Job) (scratch : List Float) → stepOf job (length scratch) .leaves scratch ≡ scratchAfter (stripsBy job (step scratch)) scratch
 
 -- ---- the density accepted last
 
 abbrev pub isTaken : Reply → Bool
-isTaken More = false
-isTaken Taken = true
-isTaken Answered = false
+isTaken reply = not (isRefused (reply .verdict))
 
 abbrev pub densityBy : Job → Density → Call → Density
 densityBy job density (step scratch) = density
-densityBy job density (change other) = cond (isTaken (changeOf job other .answer .reply)) other density
+densityBy job density (change other) = cond (isTaken (changeOf job other .reply)) other density
 
 abbrev pub densityOver : Job → Density → List Call → Density
 densityOver job density [] = density
-densityOver job density (call ∷ calls) = densityOver (steppedBy job call .job) (densityBy job density call) calls
+densityOver job density (call ∷ calls) = densityOver (jobBy job call) (densityBy job density call) calls
 
 -- ---- what is worked so far
 
@@ -98,7 +102,7 @@ runningJob set points L strips =
       intervals = intervalsIn strips;
       samples = samplesIn strips;
       ended = false;
-      outcome = noFigures;
+      outcome = bareFigures Accepted 0;
     }
 
 -- ---- a job that was made, and any calls
@@ -133,10 +137,10 @@ module _ (set : FinSet) (points : List Float) (L : ℕ) (calls : List Call) wher
     -- enough: the outcome, and what a step answers that ends the job or finds it ended
     pub ends-as-fresh : jobAfter .ended ≡ true → (scratchLength : ℕ) → scratchCheck L scratchLength ≡ Accepted
         → jobAfter .outcome ≡ setFigures setAfter points L scratchLength
-    pub answers-as-fresh : (scratch : List Float) → stepOf jobAfter (length scratch) .job .ended ≡ true
+    pub answers-as-fresh : (scratch : List Float) → stepOf jobAfter (length scratch) .answer .job .ended ≡ true
         → (scratchLength : ℕ) → scratchCheck L scratchLength ≡ Accepted
-        → stepOf jobAfter (length scratch) .answer
-        ≡ record { reply = Answered; figures = setFigures setAfter points L scratchLength }
+        → (stepOf jobAfter (length scratch) .answer .progress ≡ Ended)
+        × (stepOf jobAfter (length scratch) .answer .job .outcome ≡ setFigures setAfter points L scratchLength)
     -- "A job takes as many steps as it has strips, fewer only when one is refused"
     pub no-more-steps : length stripsAfter ≤ stripsFrom (setRun set points L) 0
     pub runs-on : jobAfter .ended ≡ false → length stripsAfter < stripsFrom (setRun set points L) 0
@@ -155,4 +159,4 @@ module _ (set : FinSet) (points : List Float) (L : ℕ) (calls : List Call) wher
 -- job answers, whatever was handed in when it was made
 abbrev pub SamplesAtMost : Type 0
 SamplesAtMost = (set : FinSet) (points : List Float) (L : ℕ) (calls : List Call) (call : Call)
-    → steppedBy (jobAfter set points L calls) call .answer .figures .samples ≤ mostSamples
+    → answerBy (jobAfter set points L calls) call .figures .samples ≤ mostSamples

@@ -1,7 +1,7 @@
 -- A set worked one strip a step, its density changed while it works (document 02, Paper 9): what each call answers, in every state of the
 -- record, and what it leaves of record and scratch.
 use mathlib.Core.Path.{_≡_}
-use mathlib.Core.Bool.{Bool, true, false, cond, _&&_}
+use mathlib.Core.Bool.{Bool, true, false, not, cond, _&&_}
 use mathlib.Core.List.{List}
 use Prim.Native.Nat.{ℕ}
 use lib.Dec.{leb}
@@ -10,13 +10,14 @@ use lib.Ieee.{Float}
 use Rattle.floats.specs.Operations.{bits}
 use Rattle.sorting.specs.Sorted.{over}
 use Rattle.refusals.specs.declared.Refusal.{Refusal}
-use Rattle.refusals.specs.declared.Refusal.the-variants.{Density as notTaken}
+use Rattle.refusals.specs.declared.Refusal.the-variants.{Scratch, Density as notTaken}
 use Rattle.refusals.specs.declared.Verdict.{Verdict}
-use Rattle.refusals.specs.declared.Verdict.the-variants.{Accepted}
+use Rattle.refusals.specs.declared.Verdict.the-variants.{Accepted, Refused}
 use Rattle.refusals.specs.Order.{isRefused, firstRefusal}
-use Rattle.refusals.specs.Given.{GivesRow, IsAnswer}
-use Rattle.refusals.specs.Calls.{byVerdict}
-use Rattle.limits.specs.Limits.{limitCheck, countCheck}
+use Rattle.refusals.specs.Refusals.{numberOf}
+use Rattle.refusals.specs.Given.{IsAnswer}
+use Rattle.refusals.specs.Calls.{CallOf, leavesAlone, byVerdict}
+use Rattle.limits.specs.Limits.{limitCheck, scratchCheck, countCheck}
 use Rattle.materials.specs.declared.Density.{Density}
 use Rattle.materials.specs.Materials.{densityCheck}
 use Rattle.planforms.specs.Planforms.{rootChordOf}
@@ -28,16 +29,18 @@ use Rattle.fins.specs.Fins.{ownCheck}
 use Rattle.halving.specs.declared.Integral.{Integral}
 use Rattle.halving.specs.declared.Ending.the-variants.{Accepted as accepted}
 use Rattle.strips.specs.declared.Onward.{Onward}
-use Rattle.strips.specs.Strips.{Run, isAccepted, runCheck, onwardOf, scratchOnward}
+use Rattle.strips.specs.Strips.{Run, isAccepted, onwardOf, scratchOnward}
 use Rattle.bodies.specs.Bodies.{emptyBody}
 use Rattle.figures.specs.declared.Figures.{Figures}
 use Rattle.figures.specs.Figures.{setIntegrand, refusedFigures, concludedSet}
 use Rattle.jobs.specs.declared.Points.{Points}
 use Rattle.jobs.specs.declared.Job.{Job}
+use Rattle.jobs.specs.declared.Progress.{Progress}
+use Rattle.jobs.specs.declared.Progress.the-variants.{Short, More, Ended}
 use Rattle.jobs.specs.declared.Reply.{Reply}
-use Rattle.jobs.specs.declared.Reply.the-variants.{More, Taken, Answered}
-use Rattle.jobs.specs.declared.Answer.{Answer}
+use Rattle.jobs.specs.declared.Row.{Row}
 use Rattle.jobs.specs.declared.Stepped.{Stepped}
+use Rattle.jobs.specs.declared.Replied.{Replied}
 
 -- the run of a set whose strips are worked one a step: over all heights, not sorted
 abbrev pub stepRun : FinSet → List Float → ℕ → Run
@@ -64,70 +67,30 @@ runOfJob job = stepRun (job .set) (outlineOf job) (job .limit)
 abbrev pub totalOf : Job → Integral
 totalOf job = record { ending = accepted; value = job .value; intervals = job .intervals; samples = job .samples }
 
--- ---- what a call leaves and answers
+-- ---- what is answered
 
--- the plain answers carry no figures
-abbrev pub noFigures : Figures
-noFigures = record { verdict = Accepted; body = emptyBody; intervals = 0; samples = 0 }
+-- a verdict with no figures
+abbrev pub bareFigures : Verdict → ℕ → Figures
+bareFigures verdict samples = record { verdict = verdict; body = emptyBody; intervals = 0; samples = samples }
 
--- "answers only that more remain" and "answered only as taken" give no number, an answer with figures its verdict's
-abbrev pub verdictBy : Reply → Figures → Verdict
-verdictBy More figures = Accepted
-verdictBy Taken figures = Accepted
-verdictBy Answered figures = figures .verdict
+-- figures, or a refusal with the number and values that document 01's table has for it
+abbrev pub figuresRow : Figures → Row
+figuresRow figures = record { number = byVerdict (figures .verdict) 0 numberOf; figures = figures }
 
-abbrev pub verdictIn : Answer → Verdict
-verdictIn answer = verdictBy (answer .reply) (answer .figures)
+-- "the plain answers that a paper names": a number over all of the table's, and no figures
+abbrev pub plainRow : ℕ → Row
+plainRow number = record { number = number; figures = bareFigures Accepted 0 }
 
--- what a call leaves and answers is the definition's, with the number and values of its verdict
-abbrev pub IsStepped : Stepped → Stepped → Type 0
-IsStepped r definition = IsAnswer (λ (s : Stepped). verdictIn (s .answer)) r definition
+-- "A step lent under 16·L numbers answers 2", with "the job's samples so far"; "a step with strips still to come answers only that more remain"; the answer
+-- of a job that has ended is its outcome
+abbrev pub stepRow : Progress → Job → Row
+stepRow Short job = figuresRow (bareFigures (Refused Scratch) (job .samples))
+stepRow More job = plainRow 1000
+stepRow Ended job = figuresRow (job .outcome)
 
--- "A step on an ended job repeats its answer"
-abbrev pub repeated : Job → Stepped
-repeated job = record { job = job; answer = record { reply = Answered; figures = job .outcome } }
-
--- "changes nothing"; "this 2 and that 12 carry the job's samples so far"
-abbrev pub waits : Job → Refusal → Stepped
-waits job refusal = record { job = job; answer = record { reply = Answered; figures = refusedFigures refusal (job .samples) } }
-
--- "a step with strips still to come answers only that more remain"
-abbrev pub more : Job → Integral → ℕ → Stepped
-more job total next =
-    record {
-      job =
-          record {
-            set = job .set;
-            points = job .points;
-            limit = job .limit;
-            next = next;
-            value = total .value;
-            intervals = total .intervals;
-            samples = total .samples;
-            ended = false;
-            outcome = job .outcome;
-          };
-      answer = record { reply = More; figures = noFigures };
-    }
-
--- the job ends with these figures
-abbrev pub ended : Job → Integral → Figures → Stepped
-ended job total figures =
-    record {
-      job =
-          record {
-            set = job .set;
-            points = job .points;
-            limit = job .limit;
-            next = job .next;
-            value = total .value;
-            intervals = total .intervals;
-            samples = total .samples;
-            ended = true;
-            outcome = figures;
-          };
-      answer = record { reply = Answered; figures = figures };
-    }
+-- taken, or a number with the samples
+abbrev pub replyRow : Reply → Row
+replyRow reply = figuresRow (bareFigures (reply .verdict) (reply .samples))
 
 -- ---- a step
 
@@ -139,30 +102,84 @@ outcomeOf set points total =
     (concludedSet set (rootChordOf (set .planform) points) (scaleOf (set .planform) points) total)
     (λ refusal. refusedFigures refusal (total .samples))
 
+-- more strips remain, the next at this place
+abbrev pub more : Job → Integral → ℕ → Job
+more job total next =
+    record {
+      set = job .set;
+      points = job .points;
+      limit = job .limit;
+      next = next;
+      value = total .value;
+      intervals = total .intervals;
+      samples = total .samples;
+      ended = false;
+      outcome = job .outcome;
+    }
+
+-- the job ends with these figures
+abbrev pub ended : Job → Integral → Figures → Job
+ended job total outcome =
+    record {
+      set = job .set;
+      points = job .points;
+      limit = job .limit;
+      next = job .next;
+      value = total .value;
+      intervals = total .intervals;
+      samples = total .samples;
+      ended = true;
+      outcome = outcome;
+    }
+
 -- "Until the job ends, with its last strip or one refused"
-unfoldable pub afterStrip : Job → Onward → Stepped
+unfoldable pub afterStrip : Job → Onward → Job
 afterStrip job onward =
     cond (isAccepted (onward .total .ending) && onward .more)
     (more job (onward .total) (onward .next))
     (ended job (onward .total) (outcomeOf (job .set) (outlineOf job) (onward .total)))
 
--- "number 2 at each step"; 1 again, which no job that was made is given
-unfoldable pub stepOf : Job → ℕ → Stepped
+-- "A step writes its own strip's pieces from the start of the scratch lent to it and leaves the rest"
+abbrev pub workedStrip : Job → CallOf Job
+workedStrip job =
+    record {
+      answer = afterStrip job (onwardOf (runOfJob job) (job .next) (totalOf job));
+      leaves = scratchOnward (runOfJob job) (job .next);
+    }
+
+-- 1, which no job that was made is given, ends the job, with the samples so far
+abbrev pub endedBy : Job → Refusal → Job
+endedBy job refusal = ended job (totalOf job) (bareFigures (Refused refusal) (job .samples))
+
+-- a step that is lent enough: "one that repeats an answer writes nothing"
+unfoldable pub steppedOn : Job → CallOf Job
+steppedOn job =
+    cond (job .ended) (leavesAlone job)
+    (byVerdict (limitCheck (job .limit)) (workedStrip job) (λ refusal. leavesAlone (endedBy job refusal)))
+
+abbrev pub stepAfter : Bool → Progress
+stepAfter over = cond over Ended More
+
+-- what it leaves, and that more strips remain or that the job has ended
+abbrev pub steppedBy : CallOf Job → CallOf Stepped
+steppedBy call = record { answer = record { job = call .answer; progress = stepAfter (call .answer .ended) }; leaves = call .leaves }
+
+-- "number 2 at each step", where the job has not ended
+abbrev pub isShort : Bool → ℕ → ℕ → Bool
+isShort over L scratchLength = not over && (not (isRefused (limitCheck L)) && isRefused (scratchCheck L scratchLength))
+
+-- a step that is short "changes nothing"; a step on an ended job "repeats its answer, with any scratch"
+unfoldable pub stepOf : Job → ℕ → CallOf Stepped
 stepOf job scratchLength =
-    cond (job .ended) (repeated job)
-    (byVerdict (runCheck (job .limit) scratchLength) (afterStrip job (onwardOf (runOfJob job) (job .next) (totalOf job))) (waits job))
+    cond (isShort (job .ended) (job .limit) scratchLength) (leavesAlone (record { job = job; progress = Short })) (steppedBy (steppedOn job))
 
--- "A step writes its own strip's pieces from the start of the scratch lent to it and leaves the rest; one that repeats an answer writes nothing."
-unfoldable pub stepScratch : Job → List Float → List Float
-stepScratch job scratch =
-    cond (job .ended) scratch
-    (byVerdict (runCheck (job .limit) (length scratch)) (scratchOnward (runOfJob job) (job .next) scratch) (λ refusal. scratch))
+-- a step does this, and gives the number and values of its answer
+abbrev pub verdictOf : Stepped → Verdict
+verdictOf s = stepRow (s .progress) (s .job) .figures .verdict
 
--- what a step leaves and answers, and the scratch at exit
 pub record StepsTo (job : Job) (entry : List Float) (r : Stepped) (exit : List Float) : Type 0 where
-  pub stepped : r ≡ stepOf job (length entry)
-  pub gives : GivesRow (verdictIn (r .answer)) (verdictIn (stepOf job (length entry) .answer))
-  pub scratch : exit ≡ stepScratch job entry
+  pub answered : IsAnswer verdictOf r (stepOf job (length entry) .answer)
+  pub scratch : exit ≡ stepOf job (length entry) .leaves entry
 
 -- ---- a change of density
 
@@ -183,7 +200,7 @@ withDensity set density =
     }
 
 -- "answered only as taken"
-abbrev pub taken : Job → Density → Stepped
+abbrev pub taken : Job → Density → Replied
 taken job density =
     record {
       job =
@@ -198,12 +215,20 @@ taken job density =
             ended = false;
             outcome = job .outcome;
           };
-      answer = record { reply = Taken; figures = noFigures };
+      reply = record { verdict = Accepted; samples = 0 };
     }
 
+-- "leaves the old one"; "that 12" carries "the job's samples so far"
+abbrev pub kept : Job → Refusal → Replied
+kept job refusal = record { job = job; reply = record { verdict = Refused refusal; samples = job .samples } }
+
+-- what a call leaves and answers is the definition's, with the number and values of its verdict
+abbrev pub IsReplied : Replied → Replied → Type 0
+IsReplied r definition = IsAnswer (λ (s : Replied). s .reply .verdict) r definition
+
 -- "a density not bulk or outside the limits, or any change after the end, answers 12 and leaves the old one"
-unfoldable pub changeOf : Job → Density → Stepped
-changeOf job density = cond (job .ended) (waits job notTaken) (byVerdict (densityCheck density) (taken job density) (waits job))
+unfoldable pub changeOf : Job → Density → Replied
+changeOf job density = cond (job .ended) (kept job notTaken) (byVerdict (densityCheck density) (taken job density) (kept job))
 
 -- ---- making one
 
@@ -212,11 +237,7 @@ unfoldable pub makingCheck : FinSet → List Float → ℕ → Verdict
 makingCheck set points L = firstRefusal (limitCheck L) (ownCheck set points)
 
 -- taken, or refused, and then the record has ended with that
-abbrev pub firstOutcome : Verdict → Answer
-firstOutcome verdict =
-    byVerdict verdict (record { reply = Taken; figures = noFigures }) (λ refusal. record { reply = Answered; figures = refusedFigures refusal 0 })
-
-abbrev pub madeWith : Verdict → FinSet → List Float → ℕ → Stepped
+abbrev pub madeWith : Verdict → FinSet → List Float → ℕ → Replied
 madeWith verdict set points L =
     record {
       job =
@@ -229,10 +250,10 @@ madeWith verdict set points L =
             intervals = 0;
             samples = 0;
             ended = isRefused verdict;
-            outcome = firstOutcome verdict .figures;
+            outcome = bareFigures verdict 0;
           };
-      answer = firstOutcome verdict;
+      reply = record { verdict = verdict; samples = 0 };
     }
 
-unfoldable pub madeOf : FinSet → List Float → ℕ → Stepped
+unfoldable pub madeOf : FinSet → List Float → ℕ → Replied
 madeOf set points L = madeWith (makingCheck set points L) set points L

@@ -5,8 +5,10 @@
 ghost use mathlib.Core.Path.{_≡_};
 ghost use lib.ListN.{length};
 ghost use Rattle.strips.specs.Strips.{Room, WorksNext};
-ghost use Rattle.jobs.specs.Jobs.{heldOf, pointsOf, outlineOf, runOfJob, totalOf, noFigures, outcomeOf, repeated, waits, IsStepped, more, ended, afterStrip, withDensity, taken};
-ghost use Rattle.jobs.specs.Jobs.{makingCheck, firstOutcome, madeOf, StepsTo, changeOf};
+ghost use mathlib.Core.Bool.{false};
+ghost use Rattle.refusals.specs.Calls.{Does};
+ghost use Rattle.jobs.specs.Jobs.{heldOf, pointsOf, outlineOf, runOfJob, totalOf, bareFigures, figuresRow, plainRow, outcomeOf, more, ended, endedBy, afterStrip, isShort, stepAfter, steppedOn, StepsTo};
+ghost use Rattle.jobs.specs.Jobs.{withDensity, taken, kept, IsReplied, changeOf, makingCheck, madeOf};
 ghost use Rattle.jobs.specs.Lent.{StepsLent, ChangesLent};
 use bodies::Body;
 use figures::Figures;
@@ -39,23 +41,35 @@ pub struct Job {
     pub outcome: Figures,
 }
 
-// More strips remain; taken; or figures with their verdict, which is a refusal's where a number is given.
-pub enum Reply {
+// What a step answers: 2, as its scratch was short; that more strips remain; or that the job has ended, and then its outcome is the answer.
+pub enum Progress {
+    Short,
     More,
-    Taken,
-    Answered,
+    Ended,
 }
 
-// What a call answers. The plain answers carry no figures.
-pub struct Answer {
-    pub reply: Reply,
+// What a making, a submission or a change of density answers: taken where the verdict accepts, else its number with the samples so far.
+pub struct Reply {
+    pub verdict: Verdict,
+    pub samples: usize,
+}
+
+// An answer by its number, 0 with figures, and its figures, zeros where it has none.
+pub struct Row {
+    pub number: usize,
     pub figures: Figures,
 }
 
-// A job as a call leaves it, and what the call answers.
+// A job as a step leaves it, and what the step answers.
 pub struct Stepped {
     pub job: Job,
-    pub answer: Answer,
+    pub progress: Progress,
+}
+
+// A job as it is made, or as a change of density leaves it, and what is answered.
+pub struct Replied {
+    pub job: Job,
+    pub reply: Reply,
 }
 
 fn held(count: usize) -> usize
@@ -81,48 +95,50 @@ fn copied(points: &[f64]) -> Points
     Points { numbers, count: i }
 }
 
-pub fn no_figures() -> Figures
-    ensures { λ r. ⌜ r ≡ noFigures ⌝ }
+// A verdict with no figures.
+pub fn bare_figures(verdict: Verdict, samples: usize) -> Figures
+    ensures { λ r. ⌜ r ≡ bareFigures verdict samples ⌝ }
 {
-    let verdict = Verdict::Accepted;
     let body = Body::ZERO;
     Figures {
         verdict,
         body,
         intervals: 0,
-        samples: 0,
+        samples,
     }
 }
 
-// A job that has ended answers its answer again.
-fn repeat(job: Job) -> Stepped
-    ensures { λ r. ⌜ r ≡ repeated job ⌝ }
+// Figures or a refusal: 0, or its number.
+pub fn figures_row(figures: Figures) -> Row
+    ensures { λ r. ⌜ r ≡ figuresRow figures ⌝ }
 {
-    let reply = Reply::Answered;
-    let figures = job.outcome;
-    let answer = Answer { reply, figures };
-    Stepped { job, answer }
+    let verdict = figures.verdict;
+    match verdict {
+        Verdict::Accepted => Row { number: 0, figures },
+        Verdict::Refused(refusal) => Row {
+            number: refusals::number(refusal),
+            figures,
+        },
+    }
 }
 
-// A number that leaves the job as it is, with the samples taken so far.
-fn wait(job: Job, refusal: Refusal) -> Stepped
-    ensures { λ r. ⌜ r ≡ waits job refusal ⌝ }
+// An answer that has no figures, with its number over all of the refusals'.
+pub fn plain_row(number: usize) -> Row
+    ensures { λ r. ⌜ r ≡ plainRow number ⌝ }
 {
-    let reply = Reply::Answered;
-    let figures = figures::refused_figures(refusal, job.samples);
-    let answer = Answer { reply, figures };
-    Stepped { job, answer }
+    let figures = bare_figures(Verdict::Accepted, 0);
+    Row { number, figures }
 }
 
 // More strips remain behind these totals.
-fn go_on(job: Job, total: Integral, next: usize) -> Stepped
+fn go_on(job: Job, total: Integral, next: usize) -> Job
     ensures { λ r. ⌜ r ≡ more job total next ⌝ }
 {
     let set = job.set;
     let points = job.points;
     let outcome = job.outcome;
     let value = total.value;
-    let job = Job {
+    Job {
         set,
         points,
         limit: job.limit,
@@ -132,21 +148,17 @@ fn go_on(job: Job, total: Integral, next: usize) -> Stepped
         samples: total.samples,
         ended: false,
         outcome,
-    };
-    let reply = Reply::More;
-    let figures = no_figures();
-    let answer = Answer { reply, figures };
-    Stepped { job, answer }
+    }
 }
 
 // The job ends with these figures.
-fn end(job: Job, total: Integral, figures: Figures) -> Stepped
-    ensures { λ r. ⌜ r ≡ ended job total figures ⌝ }
+fn end(job: Job, total: Integral, outcome: Figures) -> Job
+    ensures { λ r. ⌜ r ≡ ended job total outcome ⌝ }
 {
     let set = job.set;
     let points = job.points;
     let value = total.value;
-    let job = Job {
+    Job {
         set,
         points,
         limit: job.limit,
@@ -155,11 +167,8 @@ fn end(job: Job, total: Integral, figures: Figures) -> Stepped
         intervals: total.intervals,
         samples: total.samples,
         ended: true,
-        outcome: figures,
-    };
-    let reply = Reply::Answered;
-    let answer = Answer { reply, figures };
-    Stepped { job, answer }
+        outcome,
+    }
 }
 
 // The answer of a set whose strips add up to these totals. Count and density are asked again, since a record that no making gave is taken too.
@@ -219,7 +228,7 @@ fn work_next(job: Job, scratch: &mut [f64]) -> Onward
 }
 
 // The job once its next strip is worked: it goes on, or it ends with its last strip or one refused.
-fn after_strip(job: Job, onward: Onward) -> Stepped
+fn after_strip(job: Job, onward: Onward) -> Job
     ensures { λ r. ⌜ r ≡ afterStrip job onward ⌝ }
 {
     let total = onward.total;
@@ -236,25 +245,69 @@ fn after_strip(job: Job, onward: Onward) -> Stepped
     end(job, total, figures)
 }
 
-// One step.
-pub fn step_by_value(job: Job, scratch: &mut [f64]) -> Stepped
-    ensures { λ r. ⌜ StepsTo job (now (scratch .entry)) r (now (scratch .exit)) ⌝ }
+// A limit that is not 1 to 64, which no job that was made has, ends the job with 1.
+fn end_refused(job: Job, refusal: Refusal) -> Job
+    ensures { λ r. ⌜ r ≡ endedBy job refusal ⌝ }
+{
+    let ending = Ending::Accepted;
+    let value = job.value;
+    let total = Integral {
+        ending,
+        value,
+        intervals: job.intervals,
+        samples: job.samples,
+    };
+    let outcome = bare_figures(Verdict::Refused(refusal), job.samples);
+    end(job, total, outcome)
+}
+
+// A step that is lent enough: a job that has ended stays as it is.
+pub fn step_in_room(job: Job, scratch: &mut [f64]) -> Job
+    requires { ⌜ isShort (job .ended) (job .limit) (length (now scratch)) ≡ false ⌝ }
+    ensures { λ r. ⌜ Does (steppedOn job) r (now (scratch .entry)) (now (scratch .exit)) ⌝ }
 {
     if job.ended {
-        return repeat(job);
+        return job;
     }
-    let limit = job.limit;
-    let verdict = first_refusal(
-        limits::check_limit(limit),
-        limits::check_scratch(limit, scratch.len()),
-    );
+    let verdict = limits::check_limit(job.limit);
     match verdict {
         Verdict::Accepted => {
             let onward = work_next(job, scratch);
             after_strip(job, onward)
         }
-        Verdict::Refused(refusal) => wait(job, refusal),
+        Verdict::Refused(refusal) => end_refused(job, refusal),
     }
+}
+
+// Whether a step of a job is short: one that has ended needs no scratch.
+pub fn is_short(ended: bool, limit: usize, scratch_len: usize) -> bool
+    ensures { λ r. ⌜ r ≡ isShort ended limit «scratch_len» ⌝ }
+{
+    let no_limit = refusals::is_refused(limits::check_limit(limit));
+    let few = refusals::is_refused(limits::check_scratch(limit, scratch_len));
+    !ended & (!no_limit & few)
+}
+
+fn step_after(ended: bool) -> Progress
+    ensures { λ r. ⌜ r ≡ stepAfter ended ⌝ }
+{
+    if ended {
+        return Progress::Ended;
+    }
+    Progress::More
+}
+
+// One step.
+pub fn step_by_value(job: Job, scratch: &mut [f64]) -> Stepped
+    ensures { λ r. ⌜ StepsTo job (now (scratch .entry)) r (now (scratch .exit)) ⌝ }
+{
+    if is_short(job.ended, job.limit, scratch.len()) {
+        let progress = Progress::Short;
+        return Stepped { job, progress };
+    }
+    let job = step_in_room(job, scratch);
+    let progress = step_after(job.ended);
+    Stepped { job, progress }
 }
 
 fn with_density(set: FinSet, density: Density) -> FinSet
@@ -279,7 +332,7 @@ fn with_density(set: FinSet, density: Density) -> FinSet
 }
 
 // The density is taken: the sums are per unit of it, so nothing else changes.
-fn take_density(job: Job, density: Density) -> Stepped
+fn take_density(job: Job, density: Density) -> Replied
     ensures { λ r. ⌜ r ≡ taken job density ⌝ }
 {
     let set = job.set;
@@ -298,24 +351,38 @@ fn take_density(job: Job, density: Density) -> Stepped
         ended: false,
         outcome,
     };
-    let reply = Reply::Taken;
-    let figures = no_figures();
-    let answer = Answer { reply, figures };
-    Stepped { job, answer }
+    let verdict = Verdict::Accepted;
+    let reply = Reply {
+        verdict,
+        samples: 0,
+    };
+    Replied { job, reply }
+}
+
+// The density stays, with the samples taken so far.
+fn keep_density(job: Job, refusal: Refusal) -> Replied
+    ensures { λ r. ⌜ r ≡ kept job refusal ⌝ }
+{
+    let verdict = Verdict::Refused(refusal);
+    let reply = Reply {
+        verdict,
+        samples: job.samples,
+    };
+    Replied { job, reply }
 }
 
 // A change of density: taken, or 12, and any change after the end is 12.
-pub fn change_by_value(job: Job, density: Density) -> Stepped
-    ensures { λ r. ⌜ IsStepped r (changeOf job density) ⌝ }
+pub fn change_by_value(job: Job, density: Density) -> Replied
+    ensures { λ r. ⌜ IsReplied r (changeOf job density) ⌝ }
 {
     let over = job.ended;
     if over {
-        return wait(job, Refusal::Density);
+        return keep_density(job, Refusal::Density);
     }
     let verdict = materials::check_density(density);
     match verdict {
         Verdict::Accepted => take_density(job, density),
-        Verdict::Refused(refusal) => wait(job, refusal),
+        Verdict::Refused(refusal) => keep_density(job, refusal),
     }
 }
 
@@ -327,32 +394,13 @@ fn check_making(set: FinSet, points: &[f64], limit: usize) -> Verdict
     first_refusal(v, fins::check_own(set, points))
 }
 
-// A job that was refused has ended with that.
-fn first_answer(verdict: Verdict) -> Answer
-    ensures { λ r. ⌜ r ≡ firstOutcome verdict ⌝ }
-{
-    match verdict {
-        Verdict::Accepted => {
-            let reply = Reply::Taken;
-            let figures = no_figures();
-            Answer { reply, figures }
-        }
-        Verdict::Refused(refusal) => {
-            let reply = Reply::Answered;
-            let figures = figures::refused_figures(refusal, 0);
-            Answer { reply, figures }
-        }
-    }
-}
-
 // Makes a job: taken, or the first refusal, with which the record has ended.
-pub fn make(set: FinSet, points: &[f64], limit: usize) -> Stepped
-    ensures { λ r. ⌜ IsStepped r (madeOf set (now (points .entry)) limit) ⌝ }
+pub fn make(set: FinSet, points: &[f64], limit: usize) -> Replied
+    ensures { λ r. ⌜ IsReplied r (madeOf set (now (points .entry)) limit) ⌝ }
 {
     let verdict = check_making(set, points, limit);
     let ended = refusals::is_refused(verdict);
-    let answer = first_answer(verdict);
-    let outcome = answer.figures;
+    let outcome = bare_figures(verdict, 0);
     let points = copied(points);
     let job = Job {
         set,
@@ -365,23 +413,27 @@ pub fn make(set: FinSet, points: &[f64], limit: usize) -> Stepped
         ended,
         outcome,
     };
-    Stepped { job, answer }
+    let reply = Reply {
+        verdict,
+        samples: 0,
+    };
+    Replied { job, reply }
 }
 
 // One step of a lent job.
-pub fn step(job: &mut Job, scratch: &mut [f64]) -> Answer
+pub fn step(job: &mut Job, scratch: &mut [f64]) -> Progress
     ensures { λ r. ⌜ StepsLent (now (job .entry)) (now (scratch .entry)) r (now (job .exit)) (now (scratch .exit)) ⌝ }
 {
     let s = step_by_value(*job, scratch);
     *job = s.job;
-    s.answer
+    s.progress
 }
 
 // A change of density of a lent job.
-pub fn change_density(job: &mut Job, density: Density) -> Answer
+pub fn change_density(job: &mut Job, density: Density) -> Reply
     ensures { λ r. ⌜ ChangesLent (now (job .entry)) density r (now (job .exit)) ⌝ }
 {
     let s = change_by_value(*job, density);
     *job = s.job;
-    s.answer
+    s.reply
 }

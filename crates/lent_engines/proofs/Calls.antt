@@ -8,24 +8,29 @@ use borrow.Author.Tests.{lt-ltb, le-ltb, ltb-true, ltb-false}
 use lib.Dec.{ltb}
 use lib.ListN.{length}
 use lib.Ieee.{Float}
+use Rattle.refusals.specs.declared.Refusal.the-variants.{Scratch}
+use Rattle.refusals.specs.declared.Verdict.the-variants.{Refused}
 use Rattle.materials.specs.declared.Density.{Density}
+use Rattle.figures.specs.declared.Figures.{Figures}
 use Rattle.fins.specs.declared.FinSet.{FinSet}
 use Rattle.jobs.specs.declared.Job.{Job}
-use Rattle.jobs.specs.declared.Answer.{Answer}
-use Rattle.jobs.specs.declared.Stepped.{Stepped}
-use Rattle.jobs.specs.Jobs.{madeOf}
+use Rattle.jobs.specs.declared.Replied.{Replied}
+use Rattle.jobs.specs.declared.Row.{Row}
+use Rattle.refusals.specs.Calls.{CallOf}
+use Rattle.jobs.specs.Jobs.{bareFigures, figuresRow, plainRow, steppedOn, madeOf}
 use Rattle.jobs.specs.Calls.{isTaken}
 use Rattle.jobs.proofs.Laws.{yes, no}
 use Rattle.engines.specs.declared.Screens.{Screens}
 use Rattle.engines.specs.declared.Engine.{Engine}
 use Rattle.engines.specs.declared.Served.{Served}
 use Rattle.engines.specs.declared.AtScreen.{AtScreen}
-use Rattle.engines.specs.declared.Told.{Told}
+use Rattle.engines.specs.declared.Turn.{Turn}
+use Rattle.engines.specs.declared.Turn.the-variants.{Short, Idle, More, Ended}
 use Rattle.engines.specs.declared.Turned.{Turned}
 use Rattle.engines.specs.declared.Called.{Called}
-use Rattle.engines.specs.Engines.{placeOf, nextScreen, pickOf, servedOf, servedScratch, ServesTo, submittedOf, changedOf, jobAt, withJob, turnedAt, calledAt, turnOf, submitOf, changeAt}
+use Rattle.engines.specs.Engines.{placeOf, nextScreen, pickOf, turnRow, servedScreen, servedOf, ServesTo, submittedOf, changedOf, jobAt, withJob, turnedAt, calledAt, turnOf, turnedRow, submitOf, changeAt}
 use Rattle.engines.specs.Calls.{Call, turn, submit, change, engineBy, screenOf}
-use Rattle.engines.proofs.Laws.{served-short, served-step, served-idle, turn-is, turn-scratch, submit-is, change-is}
+use Rattle.engines.proofs.Laws.{served-short, served-step, served-is, served-idle, turn-is, submit-is, change-is}
 use Rattle.engines.proofs.Effects.{changes-nothing}
 use Rattle.lent_engines.specs.Memory.{screensIn, engineIn}
 use Rattle.lent_engines.specs.Lent.{Lists, lists, engineOf, written, writes, listsBy, listsAfter, WritesAt, Leaves, Turns, Submits, Changes}
@@ -38,16 +43,18 @@ module _ (engine : Engine) (scratch : List Float) where
   next· = nextScreen (engine .screens)
 
   -- a turn tells the screen that it serves
-  told-by : (c d : Bool) → ltb (length scratch) 1024 ≡ c → ltb 0 next· ≡ d → turnOf engine (length scratch) .told .screen ≡ cond c 0 next·
+  told-by : (c d : Bool) → ltb (length scratch) 1024 ≡ c → ltb 0 next· ≡ d → servedScreen (turnOf engine (length scratch) .answer .turn) ≡ cond c 0 next·
   unfolding turnOf
-  told-by true d c e = ap (λ (s : Served). s .told .screen) (served-short (engine .screens) _ (length scratch) (ltb-true _ _ c))
-  told-by false true c e = ap (λ (s : Served). s .told .screen) (served-step (engine .screens) _ (length scratch) next· refl (ltb-false _ _ c) (ltb-true _ _ e))
+  told-by true d c e = ap (λ (s : CallOf Served). servedScreen (s .answer .turn)) (served-short (engine .screens) _ (length scratch) (ltb-true _ _ c))
+  told-by false true c e =
+      ap (λ (s : CallOf Served). servedScreen (s .answer .turn)) (served-step (engine .screens) _ (length scratch) next· refl (ltb-false _ _ c) (ltb-true _ _ e))
+      ∙ served-is next· (steppedOn (jobAt engine (pickOf (engine .screens))) .answer .ended)
   told-by false false c e =
       let z : next· ≤ 0 = ltb-false _ _ e in
       let none : 0 ≡ next· = omega arith in
-      ap (λ (s : Served). s .told .screen) (served-idle (engine .screens) _ (length scratch) next· refl (ltb-false _ _ c) z) ∙ none
+      ap (λ (s : CallOf Served). servedScreen (s .answer .turn)) (served-idle (engine .screens) _ (length scratch) next· refl (ltb-false _ _ c) z) ∙ none
 
-  pub told-screen : turnOf engine (length scratch) .told .screen ≡ screenOf engine (turn scratch)
+  pub told-screen : servedScreen (turnOf engine (length scratch) .answer .turn) ≡ screenOf engine (turn scratch)
   told-screen = told-by (ltb (length scratch) 1024) (ltb 0 next·) refl refl
 
   -- and works at its place
@@ -59,11 +66,11 @@ module _ (engine : Engine) (scratch : List Float) where
   unfolding pickOf
   served-place h = place-by (ltb (length scratch) 1024) h
 
-  idle-by : (c : Bool) → ltb (length scratch) 1024 ≡ c → ltb 0 (cond c 0 next·) ≡ false → turnOf engine (length scratch) .engine ≡ engine
+  idle-by : (c : Bool) → ltb (length scratch) 1024 ≡ c → ltb 0 (cond c 0 next·) ≡ false → turnOf engine (length scratch) .answer .engine ≡ engine
   idle-by true c e = changes-nothing .short-turn engine (length scratch) (ltb-true _ _ c)
   idle-by false c e = let z : next· ≤ 0 = ltb-false _ _ e in changes-nothing .idle-turn engine (length scratch) (omega arith)
 
-  pub turn-idle : ltb 0 (screenOf engine (turn scratch)) ≡ false → turnOf engine (length scratch) .engine ≡ engine
+  pub turn-idle : ltb 0 (screenOf engine (turn scratch)) ≡ false → turnOf engine (length scratch) .answer .engine ≡ engine
   turn-idle e = idle-by (ltb (length scratch) 1024) refl e
 
 -- the engine is as it was
@@ -110,26 +117,31 @@ module _ (numbers : List Float) (counts : List ℕ) (screens : Screens) (read : 
       p : place ≡ pickOf (engine .screens)
       p = picked ∙ ap pickOf same
 
-      turn-done : turnedAt engine place s ≡ turnOf engine (length scratch)
-      turn-done = turn-is engine place p (length scratch) s (serves .served ∙ ap₂ (λ (x : Screens) (y : Job). servedOf x y (length scratch)) same at)
+      the-turn : turnedAt engine place (servedOf screens job (length scratch)) ≡ turnOf engine (length scratch)
+      the-turn = ap₂ (λ (x : Screens) (y : Job). turnedAt engine place (servedOf x y (length scratch))) same at ∙ turn-is engine place p (length scratch)
 
-      screen-done : s .told .screen ≡ screenOf engine (turn scratch)
-      screen-done = ap (λ (t : Turned). t .told .screen) turn-done ∙ told-screen engine scratch
+      turn-done : record { engine = withJob engine place (s .screens) (s .job); turn = s .turn } ≡ turnOf engine (length scratch) .answer
+      turn-done =
+          ap (λ (x : Served). record { engine = withJob engine place (x .screens) (x .job); turn = x .turn }) (serves .answered .is)
+          ∙ ap (λ (c : CallOf Turned). c .answer) the-turn
 
-      turned : (after : Lists) → Leaves (turn scratch ∷ []) before after → Turns numbers counts scratch (s .told) (after .numbers) (after .counts) scratch'
+      screen-done : servedScreen (s .turn) ≡ screenOf engine (turn scratch)
+      screen-done = ap (λ (t : Turned). servedScreen (t .turn)) turn-done ∙ told-screen engine scratch
+
+      turned : (after : Lists) → Leaves (turn scratch ∷ []) before after → Turns numbers counts scratch (s .turn) (after .numbers) (after .counts) scratch'
       turned after h =
           record {
-            told = ap (λ (t : Turned). t .told) turn-done;
+            answered = ap (λ (t : Turned). t .turn) turn-done;
             leaves = h;
-            lent = turn-scratch engine place p scratch scratch' (serves .scratch ∙ ap₂ (λ (x : Screens) (y : Job). servedScratch x y scratch) same at);
+            lent = serves .scratch ∙ ap (λ (c : CallOf Turned). c .leaves scratch) the-turn;
           }
 
-      pub turns-idle : s .told .screen ≡ 0 → Turns numbers counts scratch (s .told) numbers counts scratch'
+      pub turns-idle : servedScreen (s .turn) ≡ 0 → Turns numbers counts scratch (s .turn) numbers counts scratch'
       unfolding writes
       turns-idle z = turned before (leaves-alone (turn scratch) before (ap (ltb 0) (sym screen-done ∙ z)))
 
-      pub turns : (numbers' : List Float) (counts' : List ℕ) → (s .told .screen ≡ 0 → ⊥)
-          → WritesAt (withJob engine place (s .screens) (s .job)) place before (lists numbers' counts') → Turns numbers counts scratch (s .told) numbers' counts' scratch'
+      pub turns : (numbers' : List Float) (counts' : List ℕ) → (servedScreen (s .turn) ≡ 0 → ⊥)
+          → WritesAt (withJob engine place (s .screens) (s .job)) place before (lists numbers' counts') → Turns numbers counts scratch (s .turn) numbers' counts' scratch'
       unfolding writes
       turns numbers' counts' some h =
           let served : 0 < screenOf engine (turn scratch) = omega (arith, some, screen-done) in
@@ -138,22 +150,22 @@ module _ (numbers : List Float) (counts : List ℕ) (screens : Screens) (read : 
           (ap (λ (t : Turned). t .engine) turn-done) (p ∙ served-place engine scratch served) h)
 
     module _ (screen : ℕ) (placed : place ≡ placeOf screen) (s : AtScreen) where
-      module _ (set : FinSet) (points : List Float) (L : ℕ) (made : Stepped) (m : made ≡ madeOf set points L) (h : s ≡ submittedOf screens job screen made) where
+      module _ (set : FinSet) (points : List Float) (L : ℕ) (made : Replied) (m : made ≡ madeOf set points L) (h : s ≡ submittedOf screens job screen made) where
         submit-done : calledAt engine place s ≡ submitOf engine screen set points L
         submit-done = submit-is engine place screen placed set points L made m s (h ∙ ap₂ (λ (x : Screens) (y : Job). submittedOf x y screen made) same at)
 
-        submitted : (b : Bool) → isTaken (s .answer .reply) ≡ b → writes engine (submit screen set points L) ≡ b
+        submitted : (b : Bool) → isTaken (s .reply) ≡ b → writes engine (submit screen set points L) ≡ b
         unfolding writes
-        submitted b e = sym (ap (λ (c : Called). isTaken (c .answer .reply)) submit-done) ∙ e
+        submitted b e = sym (ap (λ (c : Called). isTaken (c .reply)) submit-done) ∙ e
 
-        pub submits-not : isTaken (s .answer .reply) ≡ false → Submits screen set points L numbers counts (s .answer) numbers counts
-        submits-not e = record { answered = ap (λ (c : Called). c .answer) submit-done; leaves = leaves-alone _ before (submitted false e) }
+        pub submits-not : isTaken (s .reply) ≡ false → Submits screen set points L numbers counts (s .reply) numbers counts
+        submits-not e = record { answered = ap (λ (c : Called). c .reply) submit-done; leaves = leaves-alone _ before (submitted false e) }
 
-        pub submits : isTaken (s .answer .reply) ≡ true → (numbers' : List Float) (counts' : List ℕ)
-            → WritesAt (withJob engine place (s .screens) (s .job)) place before (lists numbers' counts') → Submits screen set points L numbers counts (s .answer) numbers' counts'
+        pub submits : isTaken (s .reply) ≡ true → (numbers' : List Float) (counts' : List ℕ)
+            → WritesAt (withJob engine place (s .screens) (s .job)) place before (lists numbers' counts') → Submits screen set points L numbers counts (s .reply) numbers' counts'
         submits e numbers' counts' w =
             record {
-              answered = ap (λ (c : Called). c .answer) submit-done;
+              answered = ap (λ (c : Called). c .reply) submit-done;
               leaves = leaves-written _ before (lists numbers' counts') _ place (submitted true e) (ap (λ (c : Called). c .engine) submit-done) placed w;
             }
 
@@ -161,17 +173,46 @@ module _ (numbers : List Float) (counts : List ℕ) (screens : Screens) (read : 
         change-done : calledAt engine place s ≡ changeAt engine screen density
         change-done = change-is engine place screen placed density s (h ∙ ap₂ (λ (x : Screens) (y : Job). changedOf x y screen density) same at)
 
-        changed : (b : Bool) → isTaken (s .answer .reply) ≡ b → writes engine (change screen density) ≡ b
+        changed : (b : Bool) → isTaken (s .reply) ≡ b → writes engine (change screen density) ≡ b
         unfolding writes
-        changed b e = sym (ap (λ (c : Called). isTaken (c .answer .reply)) change-done) ∙ e
+        changed b e = sym (ap (λ (c : Called). isTaken (c .reply)) change-done) ∙ e
 
-        pub changes-not : isTaken (s .answer .reply) ≡ false → Changes screen density numbers counts (s .answer) numbers counts
-        changes-not e = record { answered = ap (λ (c : Called). c .answer) change-done; leaves = leaves-alone _ before (changed false e) }
+        pub changes-not : isTaken (s .reply) ≡ false → Changes screen density numbers counts (s .reply) numbers counts
+        changes-not e = record { answered = ap (λ (c : Called). c .reply) change-done; leaves = leaves-alone _ before (changed false e) }
 
-        pub changes : isTaken (s .answer .reply) ≡ true → (numbers' : List Float) (counts' : List ℕ)
-            → WritesAt (withJob engine place (s .screens) (s .job)) place before (lists numbers' counts') → Changes screen density numbers counts (s .answer) numbers' counts'
+        pub changes : isTaken (s .reply) ≡ true → (numbers' : List Float) (counts' : List ℕ)
+            → WritesAt (withJob engine place (s .screens) (s .job)) place before (lists numbers' counts') → Changes screen density numbers counts (s .reply) numbers' counts'
         changes e numbers' counts' w =
             record {
-              answered = ap (λ (c : Called). c .answer) change-done;
+              answered = ap (λ (c : Called). c .reply) change-done;
               leaves = leaves-written _ before (lists numbers' counts') _ place (changed true e) (ap (λ (c : Called). c .engine) change-done) placed w;
             }
+
+-- what is told of a turn, read behind it, is what it answers
+pub turn-told : (numbers : List Float) (counts : List ℕ) (scratch : List Float) (r : Turn) (numbers' : List Float) (counts' : List ℕ) (scratch' : List Float)
+    → Turns numbers counts scratch r numbers' counts' scratch'
+    → turnRow r (jobAt (engineIn numbers' counts') (placeOf (servedScreen r))) ≡ turnedRow (turnOf (engineIn numbers counts) (length scratch) .answer)
+turn-told numbers counts scratch r numbers' counts' scratch' h =
+    ap₂ (λ (t : Turn) (e : Engine). turnRow t (jobAt e (placeOf (servedScreen t)))) (h .answered) (h .leaves .held)
+
+-- the outcome that is read, and what a turn answers as the code tells it
+pub outcome-is : (numbers : List Float) (counts : List ℕ) (place screen : ℕ) (job : Job) → place ≡ placeOf screen → job ≡ jobAt (engineIn numbers counts) place
+    → job .outcome ≡ jobAt (engineIn numbers counts) (placeOf screen) .outcome
+outcome-is numbers counts place screen job p e = ap (λ (j : Job). j .outcome) (e ∙ ap (jobAt (engineIn numbers counts)) p)
+
+module _ (numbers : List Float) (counts : List ℕ) where
+  abbrev Row· : Turn → Row
+  Row· x = turnRow x (jobAt (engineIn numbers counts) (placeOf (servedScreen x)))
+
+  module _ {t : Turn} {r : Row} where
+    pub row-short : {f : Figures} → t ≡ Short → f ≡ bareFigures (Refused Scratch) 0 → r ≡ figuresRow f → r ≡ Row· t
+    row-short e g h = h ∙ ap figuresRow g ∙ sym (ap Row· e)
+
+    pub row-idle : t ≡ Idle → r ≡ plainRow 1001 → r ≡ Row· t
+    row-idle e h = h ∙ sym (ap Row· e)
+
+    pub row-more : {screen : ℕ} → t ≡ More screen → r ≡ plainRow 1000 → r ≡ Row· t
+    row-more e h = h ∙ sym (ap Row· e)
+
+    pub row-ended : {screen : ℕ} {f : Figures} → t ≡ Ended screen → f ≡ jobAt (engineIn numbers counts) (placeOf screen) .outcome → r ≡ figuresRow f → r ≡ Row· t
+    row-ended e g h = h ∙ ap figuresRow g ∙ sym (ap Row· e)

@@ -12,13 +12,13 @@ use Rattle.materials.specs.declared.NumberedDensity.the-variants.{Known as dens
 use Rattle.fins.specs.declared.FinSet.{FinSet}
 use Rattle.fins.specs.declared.NumberedSet.{NumberedSet}
 use Rattle.fins.specs.declared.NumberedSet.the-variants.{Known as setKnown, Unknown as noSet}
-use Rattle.jobs.specs.declared.Answer.{Answer}
+use Rattle.jobs.specs.declared.Reply.{Reply}
 use Rattle.jobs.specs.Calls.{isTaken}
 use Rattle.lent_jobs.specs.Memory.{jobNumbers, jobCounts, numbersOf, countsOf}
 use Rattle.engines.specs.declared.Engine.{Engine}
 use Rattle.engines.specs.declared.Screens.{Screens}
-use Rattle.engines.specs.declared.Told.{Told}
-use Rattle.engines.specs.Engines.{placeOf, jobAt, turnOf, turnScratch, submitOf, changeAt}
+use Rattle.engines.specs.declared.Turn.{Turn}
+use Rattle.engines.specs.Engines.{placeOf, jobAt, turnOf, submitOf, changeAt}
 use Rattle.engines.specs.Calls.{Call, turn, submit, change, engineBy, afterCalls, screenOf}
 use Rattle.lent_engines.specs.Memory.{engineNumbers, engineCounts, screenCounts, screensIn, noScreens, put, engineIn}
 
@@ -50,8 +50,8 @@ written engine place l =
 -- themselves
 unfoldable pub writes : Engine → Call → Bool
 writes engine (turn scratch) = ltb 0 (screenOf engine (turn scratch))
-writes engine (submit screen set points L) = isTaken (submitOf engine screen set points L .answer .reply)
-writes engine (change screen density) = isTaken (changeAt engine screen density .answer .reply)
+writes engine (submit screen set points L) = isTaken (submitOf engine screen set points L .reply)
+writes engine (change screen density) = isTaken (changeAt engine screen density .reply)
 
 -- the lists as a call leaves them, by what they were and by the call alone
 unfoldable pub listsBy : Lists → Call → Lists
@@ -80,17 +80,17 @@ changeCalls screen noDensity = []
 
 -- ---- the calls
 
-pub record Turns (numbers : List Float) (counts : List ℕ) (scratch : List Float) (r : Told) (numbers' : List Float) (counts' : List ℕ) (scratch' : List Float) : Type 0 where
-  pub told : r ≡ turnOf (engineIn numbers counts) (length scratch) .told
+pub record Turns (numbers : List Float) (counts : List ℕ) (scratch : List Float) (r : Turn) (numbers' : List Float) (counts' : List ℕ) (scratch' : List Float) : Type 0 where
+  pub answered : r ≡ turnOf (engineIn numbers counts) (length scratch) .answer .turn
   pub leaves : Leaves (turn scratch ∷ []) (lists numbers counts) (lists numbers' counts')
-  pub lent : scratch' ≡ turnScratch (engineIn numbers counts) scratch
+  pub lent : scratch' ≡ turnOf (engineIn numbers counts) (length scratch) .leaves scratch
 
-pub record Submits (screen : ℕ) (set : FinSet) (points : List Float) (L : ℕ) (numbers : List Float) (counts : List ℕ) (r : Answer) (numbers' : List Float) (counts' : List ℕ) : Type 0 where
-  pub answered : r ≡ submitOf (engineIn numbers counts) screen set points L .answer
+pub record Submits (screen : ℕ) (set : FinSet) (points : List Float) (L : ℕ) (numbers : List Float) (counts : List ℕ) (r : Reply) (numbers' : List Float) (counts' : List ℕ) : Type 0 where
+  pub answered : r ≡ submitOf (engineIn numbers counts) screen set points L .reply
   pub leaves : Leaves (submit screen set points L ∷ []) (lists numbers counts) (lists numbers' counts')
 
-pub record Changes (screen : ℕ) (density : Density) (numbers : List Float) (counts : List ℕ) (r : Answer) (numbers' : List Float) (counts' : List ℕ) : Type 0 where
-  pub answered : r ≡ changeAt (engineIn numbers counts) screen density .answer
+pub record Changes (screen : ℕ) (density : Density) (numbers : List Float) (counts : List ℕ) (r : Reply) (numbers' : List Float) (counts' : List ℕ) : Type 0 where
+  pub answered : r ≡ changeAt (engineIn numbers counts) screen density .reply
   pub leaves : Leaves (change screen density ∷ []) (lists numbers counts) (lists numbers' counts')
 
 -- every count of the engine is 0, whatever it was, and so no screen holds a job

@@ -7,15 +7,20 @@ ghost use Prim.Native.Nat.{_≤_, _<_};
 ghost use lib.ListN.{length};
 ghost use Rattle.lent_engines.specs.Memory.{engineCounts, screenCounts, screensIn, engineIn};
 ghost use Rattle.lent_engines.specs.Lent.{Room, lists, WritesScreens, WritesAt, Clears, Turns, Submits, Changes};
-ghost use Rattle.engines.specs.Engines.{jobAt, withJob};
+ghost use Rattle.engines.specs.Engines.{placeOf, turnRow, servedScreen, jobAt, withJob};
 use engines::Screens;
-use engines::Told;
+use engines::Turn;
+use figures::Figures;
 use fins::FinSet;
-use jobs::Answer;
 use jobs::Job;
+use jobs::Reply;
+use jobs::Row;
 use lent_jobs::JOB_COUNTS;
 use lent_jobs::JOB_NUMBERS;
+use lent_jobs::MORE;
 use materials::Density;
+use refusals::Refusal;
+use refusals::Verdict;
 
 // How many numbers and counts an engine has.
 pub const ENGINE_NUMBERS: usize = 8 * JOB_NUMBERS;
@@ -24,6 +29,9 @@ pub const ENGINE_COUNTS: usize = SCREENS + 8 * JOB_COUNTS;
 
 // The counts before those of the jobs.
 const SCREENS: usize = 9;
+
+// The number of an idle turn, over all of the refusals'.
+const IDLE: usize = 1001;
 
 fn read_screens(counts: &[usize]) -> Screens
     requires { ⌜ 9 ≤ length (now counts) ⌝ }
@@ -115,7 +123,7 @@ fn write_at(numbers: &mut [f64], counts: &mut [usize], place: usize, screens: Sc
 }
 
 // One turn of the engine there. One that serves no screen writes nothing.
-pub fn turn(numbers: &mut [f64], counts: &mut [usize], scratch: &mut [f64]) -> Told
+pub fn turn(numbers: &mut [f64], counts: &mut [usize], scratch: &mut [f64]) -> Turn
     requires { ⌜ Room (now numbers) (now counts) ⌝ }
     ensures { λ r. ⌜ Turns (now (numbers .entry)) (now (counts .entry)) (now (scratch .entry)) r
         (now (numbers .exit)) (now (counts .exit)) (now (scratch .exit)) ⌝ }
@@ -124,14 +132,43 @@ pub fn turn(numbers: &mut [f64], counts: &mut [usize], scratch: &mut [f64]) -> T
     let place = engines::pick(screens);
     let job = read_at(numbers, counts, place);
     let s = engines::serve(screens, job, scratch);
-    let told = s.told;
-    if told.screen == 0 {
-        return told;
+    let turn = s.turn;
+    if engines::served_screen(turn) == 0 {
+        return turn;
     }
     let screens = s.screens;
     let job = s.job;
     write_at(numbers, counts, place, screens, job);
-    told
+    turn
+}
+
+// What the job of a screen has ended with.
+fn outcome_at(numbers: &[f64], counts: &[usize], screen: usize) -> Figures
+    requires { ⌜ Room (now numbers) (now counts) ⌝ }
+    ensures { λ r. ⌜ r ≡ jobAt (engineIn (now (numbers .entry)) (now (counts .entry))) (placeOf screen) .outcome ⌝ }
+{
+    let place = engines::place_of(screen);
+    let job = read_at(numbers, counts, place);
+    job.outcome
+}
+
+// What a turn answers, by its number and figures: of the job served, as the turn left it there.
+pub fn turn_row(numbers: &[f64], counts: &[usize], turn: Turn) -> Row
+    requires { ⌜ Room (now numbers) (now counts) ⌝ }
+    ensures { λ r. ⌜ r ≡ turnRow turn (jobAt (engineIn (now (numbers .entry)) (now (counts .entry))) (placeOf (servedScreen turn))) ⌝ }
+{
+    match turn {
+        Turn::Short => {
+            let figures = jobs::bare_figures(Verdict::Refused(Refusal::Scratch), 0);
+            jobs::figures_row(figures)
+        }
+        Turn::Idle => jobs::plain_row(IDLE),
+        Turn::More(_) => jobs::plain_row(MORE),
+        Turn::Ended(screen) => {
+            let outcome = outcome_at(numbers, counts, screen);
+            jobs::figures_row(outcome)
+        }
+    }
 }
 
 // A submission of a set to a screen of the engine there. One that is refused writes nothing.
@@ -142,7 +179,7 @@ pub fn submit(
     set: FinSet,
     points: &[f64],
     limit: usize,
-) -> Answer
+) -> Reply
     requires { ⌜ Room (now numbers) (now counts) ⌝ }
     ensures { λ r. ⌜ Submits screen set (now (points .entry)) limit (now (numbers .entry)) (now (counts .entry)) r
         (now (numbers .exit)) (now (counts .exit)) ⌝ }
@@ -152,14 +189,15 @@ pub fn submit(
     let job = read_at(numbers, counts, place);
     let made = jobs::make(set, points, limit);
     let s = engines::submit_at(screens, job, screen, made);
-    let answer = s.answer;
-    if !lent_jobs::is_taken(answer) {
-        return answer;
+    let reply = s.reply;
+    let verdict = reply.verdict;
+    if refusals::is_refused(verdict) {
+        return reply;
     }
     let screens = s.screens;
     let job = s.job;
     write_at(numbers, counts, place, screens, job);
-    answer
+    reply
 }
 
 // A change of the density of a screen's job, likewise.
@@ -168,7 +206,7 @@ pub fn change_density(
     counts: &mut [usize],
     screen: usize,
     density: Density,
-) -> Answer
+) -> Reply
     requires { ⌜ Room (now numbers) (now counts) ⌝ }
     ensures { λ r. ⌜ Changes screen density (now (numbers .entry)) (now (counts .entry)) r (now (numbers .exit)) (now (counts .exit)) ⌝ }
 {
@@ -176,12 +214,13 @@ pub fn change_density(
     let place = engines::place_of(screen);
     let job = read_at(numbers, counts, place);
     let s = engines::change_at(screens, job, screen, density);
-    let answer = s.answer;
-    if !lent_jobs::is_taken(answer) {
-        return answer;
+    let reply = s.reply;
+    let verdict = reply.verdict;
+    if refusals::is_refused(verdict) {
+        return reply;
     }
     let screens = s.screens;
     let job = s.job;
     write_at(numbers, counts, place, screens, job);
-    answer
+    reply
 }

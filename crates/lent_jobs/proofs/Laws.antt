@@ -17,8 +17,10 @@ use Rattle.fins.specs.Numbered.{setNumbers, numbersOf as setNumbersOf, knownSet
 use Rattle.fins.proofs.Numbered.{set-back}
 use Rattle.figures.specs.declared.Figures.{Figures}
 use Rattle.jobs.specs.declared.Job.{Job}
-use Rattle.jobs.specs.declared.Answer.{Answer}
+use Rattle.jobs.specs.declared.Progress.{Progress}
+use Rattle.jobs.specs.declared.Reply.{Reply}
 use Rattle.jobs.specs.declared.Stepped.{Stepped}
+use Rattle.jobs.specs.declared.Replied.{Replied}
 use Rattle.jobs.specs.Jobs.{madeOf}
 use Rattle.jobs.specs.Lent.{StepsLent, ChangesLent}
 use Rattle.lent_jobs.specs.Memory.{flag, jobNumbers, jobCounts, workedNumbers, workedCounts, numbersOf, countsOf, setIn, outcomeIn, jobIn}
@@ -126,18 +128,23 @@ module _ (job : Job) (s : Sized job) (numbers : List Float) (counts : List ℕ) 
         held = ap₂ jobIn all counted ∙ job-back job s (drop jobNumbers numbers) (drop jobCounts counts);
       }
 
-pub job-made : (numbers : List Float) (counts : List ℕ) (s : Stepped) (numbers' : List Float) (counts' : List ℕ) → Holds (s .job) numbers counts numbers' counts' →
-    (set : FinSet) (points : List Float) (L : ℕ) → s ≡ madeOf set points L → Makes set points L numbers counts (s .answer) numbers' counts'
+pub job-made : (numbers : List Float) (counts : List ℕ) (s : Replied) (numbers' : List Float) (counts' : List ℕ) → Holds (s .job) numbers counts numbers' counts' →
+    (set : FinSet) (points : List Float) (L : ℕ) → s ≡ madeOf set points L → Makes set points L numbers counts (s .reply) numbers' counts'
 job-made numbers counts s numbers' counts' h set points L e =
-    record { answered = ap (λ (x : Stepped). x .answer) e; holds = subst (λ (x : Stepped). Holds (x .job) numbers counts numbers' counts') e h }
+    record { answered = ap (λ (x : Replied). x .reply) e; holds = subst (λ (x : Replied). Holds (x .job) numbers counts numbers' counts') e h }
 
 -- A lent job, which is the one that the lists held at entry, and what they hold at exit.
-module _ (numbers : List Float) (counts : List ℕ) (after : Job) (r : Answer) (numbers' : List Float) (counts' : List ℕ) (h : Holds after numbers counts numbers' counts') where
+module _ (numbers : List Float) (counts : List ℕ) (after : Job) (numbers' : List Float) (counts' : List ℕ) (h : Holds after numbers counts numbers' counts') where
   kept : (j : Job) → after ≡ j → Holds j numbers counts numbers' counts'
   kept j e = subst (λ (x : Job). Holds x numbers counts numbers' counts') e h
 
-  pub job-stepped : (scratch scratch' : List Float) → StepsLent (jobIn numbers counts) scratch r after scratch' → StepsThere numbers counts scratch r numbers' counts' scratch'
-  job-stepped scratch scratch' e = record { answered = e .0 .is; holds = kept _ (e .1 .0); lent = e .1 .1 }
+  pub job-stepped : (r : Progress) (scratch scratch' : List Float) → StepsLent (jobIn numbers counts) scratch r after scratch' → StepsThere numbers counts scratch r numbers' counts' scratch'
+  job-stepped r scratch scratch' e =
+      record {
+        answered = ap (λ (s : Stepped). s .progress) (e .answered .is);
+        holds = kept _ (ap (λ (s : Stepped). s .job) (e .answered .is));
+        lent = e .scratch;
+      }
 
-  pub job-changed : (density : Density) → ChangesLent (jobIn numbers counts) density r after → ChangesThere numbers counts density r numbers' counts'
-  job-changed density e = record { answered = e .0 .is; holds = kept _ (e .1) }
+  pub job-changed : (r : Reply) (density : Density) → ChangesLent (jobIn numbers counts) density r after → ChangesThere numbers counts density r numbers' counts'
+  job-changed r density e = record { answered = ap (λ (s : Replied). s .reply) (e .is); holds = kept _ (ap (λ (s : Replied). s .job) (e .is)) }

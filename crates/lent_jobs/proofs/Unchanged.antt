@@ -1,59 +1,50 @@
--- A step that works no strip, and a density that is refused, leave the job as it is, so that nothing has to be written. Assumes nothing.
-use mathlib.Core.Path.{_≡_, refl, sym, ap, _∙_}
+-- A step that finds the job ended or is short, and a density that is refused, leave the job as it is, so that nothing has to be written. Assumes nothing.
+use mathlib.Core.Path.{_≡_, refl, sym, ap, ap₂, _∙_}
 use mathlib.Core.Bool.{Bool, true, false, cond, not, _&&_, true≢false}
 use mathlib.Core.List.{List}
 use Prim.Native.Nat.{ℕ}
-use borrow.Author.Tests.{not-false}
 use lib.Dec.{eqb}
 use lib.ListN.{length}
 use lib.Ieee.{Float}
+use Rattle.floats.proofs.Bools.{and-false}
+use Rattle.refusals.specs.declared.Refusal.the-variants.{Scratch}
 use Rattle.refusals.specs.declared.Verdict.{Verdict}
 use Rattle.refusals.specs.declared.Verdict.the-variants.{Accepted, Refused}
 use Rattle.refusals.specs.Order.{isRefused}
 use Rattle.materials.specs.declared.Density.{Density}
+use Rattle.figures.specs.declared.Figures.{Figures}
 use Rattle.materials.specs.Materials.{densityCheck}
-use Rattle.strips.specs.Strips.{runCheck}
 use Rattle.jobs.specs.declared.Job.{Job}
-use Rattle.jobs.specs.declared.Answer.{Answer}
+use Rattle.jobs.specs.declared.Progress.{Progress}
+use Rattle.jobs.specs.declared.Progress.the-variants.{Short, More, Ended}
+use Rattle.jobs.specs.declared.Reply.{Reply}
+use Rattle.jobs.specs.declared.Row.{Row}
 use Rattle.jobs.specs.declared.Stepped.{Stepped}
-use Rattle.jobs.specs.Jobs.{stepOf, stepScratch, StepsTo, changeOf}
-use Rattle.jobs.specs.Calls.{isTaken}
-use Rattle.jobs.proofs.Laws.{yes, no, step-ended, step-refused, change-ended, change-refused, change-taken}
-use Rattle.lent_jobs.specs.Memory.{countAt, jobIn}
-use Rattle.lent_jobs.specs.Lent.{stripWorked, worksStrip, densityTaken, Holds, Leaves, Steps, Changes, StepsThere, ChangesThere}
+use Rattle.jobs.specs.declared.Replied.{Replied}
+use Rattle.refusals.specs.Calls.{CallOf}
+use Rattle.jobs.specs.Jobs.{bareFigures, figuresRow, plainRow, stepRow, isShort, stepOf, changeOf}
+use Rattle.jobs.specs.Calls.{step, answerBy, isTaken}
+use Rattle.jobs.proofs.Laws.{yes, no, step-ended, step-short, change-ended, change-refused, change-taken}
+use Rattle.lent_jobs.specs.Memory.{countAt, outcomeIn, jobIn}
+use Rattle.lent_jobs.specs.Lent.{stepWrites, densityTaken, Holds, Leaves, Steps, Changes, StepsThere, ChangesThere}
 
 -- ---- of a job
 
-module _ (job : Job) (n : ℕ) where
-  by-check : (v : Verdict) → runCheck (job .limit) n ≡ v → job .ended ≡ false → isRefused v ≡ true → stepOf job n .job ≡ job
-  unfolding isRefused
-  by-check Accepted c e r = absurd (true≢false (sym r))
-  by-check (Refused x) c e r = ap (λ (s : Stepped). s .job) (step-refused job n x e c)
-
-  by-end : (b : Bool) → job .ended ≡ b → worksStrip job n ≡ false → stepOf job n .job ≡ job
-  by-end true e w = ap (λ (s : Stepped). s .job) (step-ended job n e)
-  by-end false e w =
-      by-check (runCheck (job .limit) n) refl e
-      (not-false _ (ap (λ (b : Bool). not b && not (isRefused (runCheck (job .limit) n))) (sym e) ∙ w))
-
-  pub no-strip : worksStrip job n ≡ false → stepOf job n .job ≡ job
-  no-strip w = by-end (job .ended) refl w
-
 module _ (job : Job) (density : Density) where
-  taken-by : (b : Bool) (v : Verdict) → job .ended ≡ b → densityCheck density ≡ v → isTaken (changeOf job density .answer .reply) ≡ not b && not (isRefused v)
+  taken-by : (b : Bool) (v : Verdict) → job .ended ≡ b → densityCheck density ≡ v → isTaken (changeOf job density .reply) ≡ not b && not (isRefused v)
   unfolding isRefused
-  taken-by true v e c = ap (λ (s : Stepped). isTaken (s .answer .reply)) (change-ended job density e)
-  taken-by false Accepted e c = ap (λ (s : Stepped). isTaken (s .answer .reply)) (change-taken job density e c)
-  taken-by false (Refused x) e c = ap (λ (s : Stepped). isTaken (s .answer .reply)) (change-refused job density x e c)
+  taken-by true v e c = ap (λ (s : Replied). isTaken (s .reply)) (change-ended job density e)
+  taken-by false Accepted e c = ap (λ (s : Replied). isTaken (s .reply)) (change-taken job density e c)
+  taken-by false (Refused x) e c = ap (λ (s : Replied). isTaken (s .reply)) (change-refused job density x e c)
 
-  pub taken-is : isTaken (changeOf job density .answer .reply) ≡ densityTaken (job .ended) density
+  pub taken-is : isTaken (changeOf job density .reply) ≡ densityTaken (job .ended) density
   taken-is = taken-by (job .ended) (densityCheck density) refl refl
 
   kept-by : (b : Bool) (v : Verdict) → job .ended ≡ b → densityCheck density ≡ v → not b && not (isRefused v) ≡ false → changeOf job density .job ≡ job
   unfolding isRefused
-  kept-by true v e c w = ap (λ (s : Stepped). s .job) (change-ended job density e)
+  kept-by true v e c w = ap (λ (s : Replied). s .job) (change-ended job density e)
   kept-by false Accepted e c w = absurd (true≢false w)
-  kept-by false (Refused x) e c w = ap (λ (s : Stepped). s .job) (change-refused job density x e c)
+  kept-by false (Refused x) e c w = ap (λ (s : Replied). s .job) (change-refused job density x e c)
 
   pub density-kept : densityTaken (job .ended) density ≡ false → changeOf job density .job ≡ job
   density-kept w = kept-by (job .ended) (densityCheck density) refl refl w
@@ -64,11 +55,7 @@ module _ (numbers : List Float) (counts : List ℕ) where
   abbrev job : Job
   job = jobIn numbers counts
 
-  -- what the two tests read of the counts is the job's
-  pub strip-test : (n : ℕ) (b : Bool) → b ≡ stripWorked (not (eqb (countAt counts 10) 0)) (countAt counts 6) n → worksStrip job n ≡ b
-  unfolding jobIn
-  strip-test n b e = sym e
-
+  -- what the test reads of the counts is the job's
   pub density-test : (density : Density) (b : Bool) → b ≡ densityTaken (not (eqb (countAt counts 10) 0)) density → densityTaken (job .ended) density ≡ b
   unfolding jobIn
   density-test density b e = sym e
@@ -82,30 +69,66 @@ module _ (numbers : List Float) (counts : List ℕ) where
   over written after numbers' counts' w h =
       record { numbers-are = h .numbers-are ∙ sym (yes _ _ w); counts-are = h .counts-are ∙ sym (yes _ _ w); held = h .held }
 
-  module _ (scratch scratch' : List Float) where
-    pub steps-there : (r : Answer) (numbers' : List Float) (counts' : List ℕ) → worksStrip job (length scratch) ≡ true
-        → StepsThere numbers counts scratch r numbers' counts' scratch' → Steps numbers counts scratch r numbers' counts' scratch'
-    steps-there r numbers' counts' w h = record { answered = h .answered; leaves = over _ _ numbers' counts' w (h .holds); lent = h .lent }
+  -- a step that finds the job ended or is short, by what the code reads of the counts; else the job is written
+  module _ (scratch : List Float) where
+    abbrev Over· : Bool
+    Over· = not (eqb (countAt counts 10) 0)
 
-    pub steps-none : (read : Job) (s : Stepped) → worksStrip job (length scratch) ≡ false → read ≡ job → StepsTo read scratch s scratch'
-        → Steps numbers counts scratch (s .answer) numbers counts scratch'
-    steps-none read s w is e =
-        let done = e .stepped ∙ ap (λ (j : Job). stepOf j (length scratch)) is in
+    still : (call : CallOf Stepped) → stepOf job (length scratch) ≡ call → call .answer .job ≡ job → call .leaves scratch ≡ scratch
+        → stepWrites job (length scratch) ≡ false → Steps numbers counts scratch (call .answer .progress) numbers counts scratch
+    still call e same left w =
         record {
-          answered = ap (λ (x : Stepped). x .answer) done;
-          leaves = alone _ _ w (no-strip job (length scratch) w);
-          lent = e .scratch ∙ ap (λ (j : Job). stepScratch j scratch) is;
+          answered = sym (ap (λ (c : CallOf Stepped). c .answer .progress) e);
+          leaves = alone _ _ w (ap (λ (c : CallOf Stepped). c .answer .job) e ∙ same);
+          lent = sym (ap (λ (c : CallOf Stepped). c .leaves scratch) e ∙ left);
         }
 
+    pub steps-ended : Over· ≡ true → Steps numbers counts scratch Ended numbers counts scratch
+    unfolding jobIn
+    steps-ended e =
+        still _ (step-ended job (length scratch) e) refl refl
+        (ap (λ (b : Bool). not b && not (isShort (job .ended) (job .limit) (length scratch))) e)
+
+    pub steps-short : isShort Over· (countAt counts 6) (length scratch) ≡ true → Steps numbers counts scratch Short numbers counts scratch
+    unfolding jobIn
+    steps-short s =
+        still _ (step-short job (length scratch) s) refl refl (ap (λ (b : Bool). not (job .ended) && not b) s ∙ and-false (not (job .ended)))
+
+    pub steps-there : (r : Progress) (numbers' : List Float) (counts' : List ℕ) (scratch' : List Float) → Over· ≡ false
+        → isShort Over· (countAt counts 6) (length scratch) ≡ false
+        → StepsThere numbers counts scratch r numbers' counts' scratch' → Steps numbers counts scratch r numbers' counts' scratch'
+    unfolding jobIn
+    steps-there r numbers' counts' scratch' e s h =
+        record { answered = h .answered; leaves = over _ _ numbers' counts' (ap₂ (λ (a b : Bool). not a && not b) e s) (h .holds); lent = h .lent }
+
   module _ (density : Density) where
-    pub changes-there : (r : Answer) (numbers' : List Float) (counts' : List ℕ) → densityTaken (job .ended) density ≡ true
+    pub changes-there : (r : Reply) (numbers' : List Float) (counts' : List ℕ) → densityTaken (job .ended) density ≡ true
         → ChangesThere numbers counts density r numbers' counts' → Changes numbers counts density r numbers' counts'
     changes-there r numbers' counts' w h = record { answered = h .answered; leaves = over _ _ numbers' counts' (taken-is job density ∙ w) (h .holds) }
 
-    pub changes-none : (read : Job) (s : Stepped) → densityTaken (job .ended) density ≡ false → read ≡ job → s ≡ changeOf read density
-        → Changes numbers counts density (s .answer) numbers counts
+    pub changes-none : (read : Job) (s : Replied) → densityTaken (job .ended) density ≡ false → read ≡ job → s ≡ changeOf read density
+        → Changes numbers counts density (s .reply) numbers counts
     changes-none read s w is e =
         record {
-          answered = ap (λ (x : Stepped). x .answer) (e ∙ ap (λ (j : Job). changeOf j density) is);
+          answered = ap (λ (x : Replied). x .reply) (e ∙ ap (λ (j : Job). changeOf j density) is);
           leaves = alone _ _ (taken-is job density ∙ w) (density-kept job density w);
         }
+
+-- what is told of a step, read behind it, is what it answers
+pub step-told : (numbers : List Float) (counts : List ℕ) (scratch : List Float) (r : Progress) (numbers' : List Float) (counts' : List ℕ) (scratch' : List Float)
+    → Steps numbers counts scratch r numbers' counts' scratch'
+    → stepRow r (jobIn numbers' counts') ≡ answerBy (jobIn numbers counts) (step scratch)
+step-told numbers counts scratch r numbers' counts' scratch' h = ap₂ stepRow (h .answered) (h .leaves .held)
+
+-- what a step answers, as the code tells it
+module _ (numbers : List Float) (counts : List ℕ) {p : Progress} {r : Row} where
+  pub row-short : {f : Figures} → p ≡ Short → f ≡ bareFigures (Refused Scratch) (countAt counts 9) → r ≡ figuresRow f → r ≡ stepRow p (jobIn numbers counts)
+  unfolding jobIn
+  row-short {f} e g h = h ∙ ap figuresRow g ∙ sym (ap (λ (x : Progress). stepRow x (jobIn numbers counts)) e)
+
+  pub row-more : p ≡ More → r ≡ plainRow 1000 → r ≡ stepRow p (jobIn numbers counts)
+  row-more e h = h ∙ sym (ap (λ (x : Progress). stepRow x (jobIn numbers counts)) e)
+
+  pub row-ended : {f : Figures} → p ≡ Ended → f ≡ outcomeIn numbers counts → r ≡ figuresRow f → r ≡ stepRow p (jobIn numbers counts)
+  unfolding jobIn
+  row-ended {f} e g h = h ∙ ap figuresRow g ∙ sym (ap (λ (x : Progress). stepRow x (jobIn numbers counts)) e)

@@ -8,11 +8,11 @@ use lib.Ieee.{Float}
 use Rattle.refusals.specs.Order.{isRefused}
 use Rattle.materials.specs.declared.Density.{Density}
 use Rattle.materials.specs.Materials.{densityCheck}
-use Rattle.strips.specs.Strips.{runCheck}
 use Rattle.fins.specs.declared.FinSet.{FinSet}
 use Rattle.jobs.specs.declared.Job.{Job}
-use Rattle.jobs.specs.declared.Answer.{Answer}
-use Rattle.jobs.specs.Jobs.{stepOf, stepScratch, changeOf, madeOf}
+use Rattle.jobs.specs.declared.Progress.{Progress}
+use Rattle.jobs.specs.declared.Reply.{Reply}
+use Rattle.jobs.specs.Jobs.{isShort, stepOf, changeOf, madeOf}
 use Rattle.jobs.specs.Calls.{isTaken}
 use Rattle.lent_jobs.specs.Memory.{jobNumbers, jobCounts, numbersOf, countsOf, jobIn}
 
@@ -26,18 +26,15 @@ pub record Holds (job : Job) (numbers : List Float) (counts : List ℕ) (numbers
   pub counts-are : counts' ≡ countsOf job ++ drop jobCounts counts
   pub held : jobIn numbers' counts' ≡ job
 
-pub record Makes (set : FinSet) (points : List Float) (L : ℕ) (numbers : List Float) (counts : List ℕ) (r : Answer) (numbers' : List Float) (counts' : List ℕ) : Type 0 where
-  pub answered : r ≡ madeOf set points L .answer
+pub record Makes (set : FinSet) (points : List Float) (L : ℕ) (numbers : List Float) (counts : List ℕ) (r : Reply) (numbers' : List Float) (counts' : List ℕ) : Type 0 where
+  pub answered : r ≡ madeOf set points L .reply
   pub holds : Holds (madeOf set points L .job) numbers counts numbers' counts'
 
 -- ---- a step and a change of density: the job is written where they change it, else "changes nothing" is said of the lists themselves
 
--- a step works a strip where the job has not ended and the scratch is long enough
-abbrev pub stripWorked : Bool → ℕ → ℕ → Bool
-stripWorked ended L scratchLength = not ended && not (isRefused (runCheck L scratchLength))
-
-abbrev pub worksStrip : Job → ℕ → Bool
-worksStrip job scratchLength = stripWorked (job .ended) (job .limit) scratchLength
+-- a step changes the job unless it finds it ended or is short
+abbrev pub stepWrites : Job → ℕ → Bool
+stepWrites job scratchLength = not (job .ended) && not (isShort (job .ended) (job .limit) scratchLength)
 
 -- a density is taken where the job has not ended and it passes its check
 abbrev pub densityTaken : Bool → Density → Bool
@@ -49,22 +46,22 @@ pub record Leaves (written : Bool) (job : Job) (numbers : List Float) (counts : 
   pub counts-are : counts' ≡ cond written (countsOf job ++ drop jobCounts counts) counts
   pub held : jobIn numbers' counts' ≡ job
 
-pub record Steps (numbers : List Float) (counts : List ℕ) (scratch : List Float) (r : Answer) (numbers' : List Float) (counts' : List ℕ) (scratch' : List Float) : Type 0 where
-  pub answered : r ≡ stepOf (jobIn numbers counts) (length scratch) .answer
-  pub leaves : Leaves (worksStrip (jobIn numbers counts) (length scratch)) (stepOf (jobIn numbers counts) (length scratch) .job) numbers counts numbers' counts'
-  pub lent : scratch' ≡ stepScratch (jobIn numbers counts) scratch
+pub record Steps (numbers : List Float) (counts : List ℕ) (scratch : List Float) (r : Progress) (numbers' : List Float) (counts' : List ℕ) (scratch' : List Float) : Type 0 where
+  pub answered : r ≡ stepOf (jobIn numbers counts) (length scratch) .answer .progress
+  pub leaves : Leaves (stepWrites (jobIn numbers counts) (length scratch)) (stepOf (jobIn numbers counts) (length scratch) .answer .job) numbers counts numbers' counts'
+  pub lent : scratch' ≡ stepOf (jobIn numbers counts) (length scratch) .leaves scratch
 
-pub record Changes (numbers : List Float) (counts : List ℕ) (density : Density) (r : Answer) (numbers' : List Float) (counts' : List ℕ) : Type 0 where
-  pub answered : r ≡ changeOf (jobIn numbers counts) density .answer
-  pub leaves : Leaves (isTaken (changeOf (jobIn numbers counts) density .answer .reply)) (changeOf (jobIn numbers counts) density .job) numbers counts numbers' counts'
+pub record Changes (numbers : List Float) (counts : List ℕ) (density : Density) (r : Reply) (numbers' : List Float) (counts' : List ℕ) : Type 0 where
+  pub answered : r ≡ changeOf (jobIn numbers counts) density .reply
+  pub leaves : Leaves (isTaken (changeOf (jobIn numbers counts) density .reply)) (changeOf (jobIn numbers counts) density .job) numbers counts numbers' counts'
 
 -- ---- what functions inside do: the job is written, whatever the call did
 
-pub record StepsThere (numbers : List Float) (counts : List ℕ) (scratch : List Float) (r : Answer) (numbers' : List Float) (counts' : List ℕ) (scratch' : List Float) : Type 0 where
-  pub answered : r ≡ stepOf (jobIn numbers counts) (length scratch) .answer
-  pub holds : Holds (stepOf (jobIn numbers counts) (length scratch) .job) numbers counts numbers' counts'
-  pub lent : scratch' ≡ stepScratch (jobIn numbers counts) scratch
+pub record StepsThere (numbers : List Float) (counts : List ℕ) (scratch : List Float) (r : Progress) (numbers' : List Float) (counts' : List ℕ) (scratch' : List Float) : Type 0 where
+  pub answered : r ≡ stepOf (jobIn numbers counts) (length scratch) .answer .progress
+  pub holds : Holds (stepOf (jobIn numbers counts) (length scratch) .answer .job) numbers counts numbers' counts'
+  pub lent : scratch' ≡ stepOf (jobIn numbers counts) (length scratch) .leaves scratch
 
-pub record ChangesThere (numbers : List Float) (counts : List ℕ) (density : Density) (r : Answer) (numbers' : List Float) (counts' : List ℕ) : Type 0 where
-  pub answered : r ≡ changeOf (jobIn numbers counts) density .answer
+pub record ChangesThere (numbers : List Float) (counts : List ℕ) (density : Density) (r : Reply) (numbers' : List Float) (counts' : List ℕ) : Type 0 where
+  pub answered : r ≡ changeOf (jobIn numbers counts) density .reply
   pub holds : Holds (changeOf (jobIn numbers counts) density .job) numbers counts numbers' counts'

@@ -7,21 +7,23 @@ ghost use mathlib.Core.Path.{_≡_};
 ghost use Prim.Native.Nat.{_+_, _≤_};
 ghost use lib.ListN.{length};
 ghost use lib.Seq.{paste};
-ghost use Rattle.jobs.specs.Calls.{isTaken};
+ghost use Rattle.jobs.specs.Jobs.{stepRow};
 ghost use Rattle.lent_jobs.specs.Memory.{flag, workedNumbers, countsOf, setIn, outcomeIn, jobIn};
-ghost use Rattle.lent_jobs.specs.Lent.{Room, Holds, Makes, stripWorked, densityTaken, Steps, Changes, StepsThere, ChangesThere};
+ghost use Rattle.lent_jobs.specs.Lent.{Room, Holds, Makes, densityTaken, Steps, Changes, StepsThere, ChangesThere};
 use bodies::BODY_NUMBERS;
 use bodies::Body;
 use figures::Figures;
 use fins::FinSet;
 use fins::SET_COUNTS;
 use fins::SET_NUMBERS;
-use jobs::Answer;
 use jobs::Job;
 use jobs::Points;
+use jobs::Progress;
 use jobs::Reply;
+use jobs::Row;
 use materials::Density;
-use refusals::first_refusal;
+use refusals::Refusal;
+use refusals::Verdict;
 
 // Where a job's numbers stand behind the set's: the sums over the strips worked, the answer's body, the outline's; and how many numbers it has.
 const SUMS: usize = SET_NUMBERS;
@@ -33,6 +35,9 @@ const OUTLINE: usize = BODY + BODY_NUMBERS;
 pub const JOB_NUMBERS: usize = OUTLINE + 128;
 
 const WORKED_NUMBERS: usize = OUTLINE - SUMS;
+
+// The number of "more remain", over all of the refusals'.
+pub const MORE: usize = 1000;
 
 // Where its counts stand behind the set's: L, the next strip, the totals, whether it has ended; of the answer the verdict's number and values, the
 // intervals and the samples; how many numbers are the outline's; and how many counts it has.
@@ -65,18 +70,6 @@ pub fn flag_of(holds: bool) -> usize
     ensures { λ r. ⌜ r ≡ flag holds ⌝ }
 {
     if holds { 1 } else { 0 }
-}
-
-// Whether a call was taken.
-pub fn is_taken(answer: Answer) -> bool
-    ensures { λ r. ⌜ r ≡ isTaken (answer .reply) ⌝ }
-{
-    let reply = answer.reply;
-    match reply {
-        Reply::More => false,
-        Reply::Taken => true,
-        Reply::Answered => false,
-    }
 }
 
 // The sums over the strips worked, and the answer's body.
@@ -201,6 +194,7 @@ fn read_outline(numbers: &[f64]) -> [f64; 128]
     outline
 }
 
+// What it has ended with.
 fn read_outcome(numbers: &[f64], counts: &[usize]) -> Figures
     requires { ⌜ Room (now numbers) (now counts) ⌝ }
     ensures { λ r. ⌜ r ≡ outcomeIn (now (numbers .entry)) (now (counts .entry)) ⌝ }
@@ -257,7 +251,7 @@ pub fn make(
     set: FinSet,
     points: &[f64],
     limit: usize,
-) -> Answer
+) -> Reply
     requires { ⌜ Room (now numbers) (now counts) ⌝ }
     ensures { λ r. ⌜ Makes set (now (points .entry)) limit (now (numbers .entry)) (now (counts .entry))
         r (now (numbers .exit)) (now (counts .exit)) ⌝ }
@@ -265,55 +259,64 @@ pub fn make(
     let made = jobs::make(set, points, limit);
     let job = made.job;
     write_job(numbers, counts, job);
-    made.answer
+    made.reply
 }
 
-// A step of the job there that works a strip.
-fn step_there(numbers: &mut [f64], counts: &mut [usize], scratch: &mut [f64]) -> Answer
+// A step of the job there that changes it.
+fn step_there(numbers: &mut [f64], counts: &mut [usize], scratch: &mut [f64]) -> Progress
     requires { ⌜ Room (now numbers) (now counts) ⌝ }
     ensures { λ r. ⌜ StepsThere (now (numbers .entry)) (now (counts .entry)) (now (scratch .entry)) r
         (now (numbers .exit)) (now (counts .exit)) (now (scratch .exit)) ⌝ }
 {
     let mut job = read_job(numbers, counts);
-    let answer = jobs::step(&mut job, scratch);
+    let progress = jobs::step(&mut job, scratch);
     write_job(numbers, counts, job);
-    answer
+    progress
 }
 
-// Whether a step works a strip of a job: not of one that has ended, nor over a scratch that is too short.
-fn works_strip(ended: bool, limit: usize, scratch_len: usize) -> bool
-    ensures { λ r. ⌜ r ≡ stripWorked ended limit «scratch_len» ⌝ }
-{
-    let verdict = first_refusal(
-        limits::check_limit(limit),
-        limits::check_scratch(limit, scratch_len),
-    );
-    !ended & !refusals::is_refused(verdict)
-}
-
-// One step of the job there. One that works no strip writes nothing.
-pub fn step(numbers: &mut [f64], counts: &mut [usize], scratch: &mut [f64]) -> Answer
+// One step of the job there. One that finds it ended, or is short, writes nothing.
+pub fn step(numbers: &mut [f64], counts: &mut [usize], scratch: &mut [f64]) -> Progress
     requires { ⌜ Room (now numbers) (now counts) ⌝ }
     ensures { λ r. ⌜ Steps (now (numbers .entry)) (now (counts .entry)) (now (scratch .entry)) r
         (now (numbers .exit)) (now (counts .exit)) (now (scratch .exit)) ⌝ }
 {
-    if works_strip(counts[ENDED] != 0, counts[LIMIT], scratch.len()) {
-        return step_there(numbers, counts, scratch);
+    let ended = counts[ENDED] != 0;
+    if ended {
+        return Progress::Ended;
     }
-    let job = read_job(numbers, counts);
-    let stepped = jobs::step_by_value(job, scratch);
-    stepped.answer
+    if jobs::is_short(ended, counts[LIMIT], scratch.len()) {
+        return Progress::Short;
+    }
+    step_there(numbers, counts, scratch)
+}
+
+// What a step answers, by its number and figures: those of the job that it left there.
+pub fn step_row(numbers: &[f64], counts: &[usize], progress: Progress) -> Row
+    requires { ⌜ Room (now numbers) (now counts) ⌝ }
+    ensures { λ r. ⌜ r ≡ stepRow progress (jobIn (now (numbers .entry)) (now (counts .entry))) ⌝ }
+{
+    match progress {
+        Progress::Short => {
+            let figures = jobs::bare_figures(Verdict::Refused(Refusal::Scratch), counts[SAMPLES]);
+            jobs::figures_row(figures)
+        }
+        Progress::More => jobs::plain_row(MORE),
+        Progress::Ended => {
+            let outcome = read_outcome(numbers, counts);
+            jobs::figures_row(outcome)
+        }
+    }
 }
 
 // A change of density of the job there that is taken.
-fn change_there(numbers: &mut [f64], counts: &mut [usize], density: Density) -> Answer
+fn change_there(numbers: &mut [f64], counts: &mut [usize], density: Density) -> Reply
     requires { ⌜ Room (now numbers) (now counts) ⌝ }
     ensures { λ r. ⌜ ChangesThere (now (numbers .entry)) (now (counts .entry)) density r (now (numbers .exit)) (now (counts .exit)) ⌝ }
 {
     let mut job = read_job(numbers, counts);
-    let answer = jobs::change_density(&mut job, density);
+    let reply = jobs::change_density(&mut job, density);
     write_job(numbers, counts, job);
-    answer
+    reply
 }
 
 fn takes_density(ended: bool, density: Density) -> bool
@@ -324,7 +327,7 @@ fn takes_density(ended: bool, density: Density) -> bool
 }
 
 // A change of density of the job there. One that is refused writes nothing.
-pub fn change_density(numbers: &mut [f64], counts: &mut [usize], density: Density) -> Answer
+pub fn change_density(numbers: &mut [f64], counts: &mut [usize], density: Density) -> Reply
     requires { ⌜ Room (now numbers) (now counts) ⌝ }
     ensures { λ r. ⌜ Changes (now (numbers .entry)) (now (counts .entry)) density r (now (numbers .exit)) (now (counts .exit)) ⌝ }
 {
@@ -333,5 +336,5 @@ pub fn change_density(numbers: &mut [f64], counts: &mut [usize], density: Densit
     }
     let job = read_job(numbers, counts);
     let changed = jobs::change_by_value(job, density);
-    changed.answer
+    changed.reply
 }

@@ -43,7 +43,7 @@ use Rattle.figures.specs.declared.Area.{Area}
 use Rattle.figures.specs.Figures.{refusedFigures, workedSet, setCall}
 use Rattle.figures.specs.Areas.{areaCall}
 use Rattle.jobs.specs.declared.Job.{Job}
-use Rattle.jobs.specs.Jobs.{makingCheck, firstOutcome, madeOf}
+use Rattle.jobs.specs.Jobs.{makingCheck, madeOf}
 use Rattle.engines.specs.declared.Screens.{Screens}
 use Rattle.engines.specs.declared.AtScreen.{AtScreen}
 use Rattle.engines.specs.declared.Engine.{Engine}
@@ -215,7 +215,7 @@ some-refusal (Refused refusal) = (refusal, refl)
 
 -- a making that is refused gives its refusal alone, whatever set, points and limit are beside it
 unfoldable turnedAway : Screens → Job → ℕ → Refusal → AtScreen
-turnedAway screens job screen refusal = cond (isFree screens screen) (record { screens = screens; job = job; answer = firstOutcome (Refused refusal) }) (refusedAt screens job notFree)
+turnedAway screens job screen refusal = cond (isFree screens screen) (record { screens = screens; job = job; reply = record { verdict = Refused refusal; samples = 0 } }) (refusedAt screens job notFree)
 
 refused-making : (screens : Screens) (job : Job) (screen : ℕ) (set : FinSet) (points : List Float) (L : ℕ) (refusal : Refusal) → makingCheck set points L ≡ Refused refusal
     → submittedOf screens job screen (madeOf set points L) ≡ turnedAway screens job screen refusal

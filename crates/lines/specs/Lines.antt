@@ -34,14 +34,11 @@ use Rattle.requests.specs.Calls.{joinedPointsOf, tensorMoments, bodyVerdict}
 use Rattle.requests.specs.Requests.{number, setRequestOf, askedSubmit, askedChange, askedSubmitCalls, askedChangeCalls, areaRequestOf, askedSet, askedArea, askedRing, askedClosing, askedDrill, askedCopied, askedPlaced, askedMoved, askedWithout}
 use Rattle.figures.specs.declared.Figures.{Figures}
 use Rattle.figures.specs.declared.Area.{Area}
-use Rattle.jobs.specs.declared.Reply.{Reply as Step}
-use Rattle.jobs.specs.declared.Reply.the-variants.{More, Taken, Answered}
 use Rattle.engines.specs.declared.Engine.{Engine}
-use Rattle.engines.specs.declared.Service.{Service}
-use Rattle.engines.specs.declared.Service.the-variants.{Short, Idle, Step as Stepped}
-use Rattle.engines.specs.declared.Told.{Told}
+use Rattle.engines.specs.declared.Turn.{Turn}
+use Rattle.engines.specs.declared.Turn.the-variants.{Short, Idle, More, Ended}
 use Rattle.engines.specs.declared.Called.{Called}
-use Rattle.engines.specs.Engines.{turnOf, turnScratch}
+use Rattle.engines.specs.Engines.{turnOf, turnedRow}
 use Rattle.engines.specs.Calls.{Call, turn}
 use Rattle.lent_engines.specs.Memory.{engineIn}
 use Rattle.lent_engines.specs.Lent.{Room, Lists, lists, Leaves}
@@ -96,22 +93,18 @@ drillReply (Edge nearest) = reply EdgeShape [] (nearest ∷ [])
 drillReply (Outside nearest) = reply OutsideShape [] (nearest ∷ [])
 drillReply (refusedPoint refusal) = refusedReply refusal
 
--- a step of the screen served: more strips remain, or its job has ended; no step answers that it is taken
+-- a job that has ended at a screen: its figures, or what refused it
 abbrev pub doneReply : ℕ → Verdict → Figures → Reply
 doneReply screen Accepted f = reply DoneShape (numbersOf (f .body)) (screen ∷ f .intervals ∷ f .samples ∷ [])
 doneReply screen (Refused refusal) f = reply DoneRefusedShape [] (screen ∷ numberOf refusal ∷ [])
 
-abbrev pub stepReply : Step → ℕ → Figures → Reply
-stepReply More screen f = reply MoreShape [] (screen ∷ [])
-stepReply Taken screen f = reply TakenShape [] []
-stepReply Answered screen f = doneReply screen (f .verdict) f
-
 -- "A turn lent under 1,024 numbers answers 2"; "with no jobs a turn does nothing and says so"; "otherwise it answers the screen served and the step's
 -- answer" (document 02, Paper 10)
-abbrev pub turnReply : Service → Told → Reply
-turnReply Short t = refusedReply short
-turnReply Idle t = reply IdleShape [] []
-turnReply Stepped t = stepReply (t .answer .reply) (t .screen) (t .answer .figures)
+abbrev pub turnReply : Turn → Figures → Reply
+turnReply Short f = refusedReply short
+turnReply Idle f = reply IdleShape [] []
+turnReply (More screen) f = reply MoreShape [] (screen ∷ [])
+turnReply (Ended screen) f = doneReply screen (f .verdict) f
 
 -- ---- what a line does: its answer; the memory that it leaves, of which only the strips of a set, an area or a turn write to the scratch ("Refusal
 -- numbers") and only the engine's own lines change the engine; and the calls of the engine that it asks for, one or none, without which the engine's two
@@ -135,7 +128,7 @@ works call replyTo m =
 abbrev pub engages : Called → List Call → Memory → Effect
 engages c calls m =
     record {
-      reply = plainReply (c .answer .figures .verdict) TakenShape;
+      reply = plainReply (c .reply .verdict) TakenShape;
       memory = record { scratch = m .scratch; engine = c .engine };
       calls = calls;
     }
@@ -155,10 +148,10 @@ changeEffect ns figures m = engages (askedChange ns figures (m .engine)) (askedC
 
 unfoldable pub turnEffect : Memory → Effect
 turnEffect m =
-    let t = turnOf (m .engine) (length (m .scratch)) in
+    let call = turnOf (m .engine) (length (m .scratch)) in
     record {
-      reply = turnReply (t .told .service) (t .told);
-      memory = record { scratch = turnScratch (m .engine) (m .scratch); engine = t .engine };
+      reply = turnReply (call .answer .turn) (turnedRow (call .answer) .figures);
+      memory = record { scratch = call .leaves (m .scratch); engine = call .answer .engine };
       calls = turn (m .scratch) ∷ [];
     }
 

@@ -15,18 +15,18 @@ ghost use Rattle.answers.specs.Answers.{answerBytes, AnswerFits, textOf, reply}
 ghost use Rattle.lent_engines.specs.Memory.{engineNumbers, engineCounts};
 ghost use Rattle.lent_engines.specs.Lent.{Room};
 ghost use Rattle.lines.specs.Lines.{refusedReply, unlessRefused, plainReply, setReply, areaReply, bodyReply, closingReply, momentsReply};
-ghost use Rattle.lines.specs.Lines.{drillReply, doneReply, stepReply, turnReply, whyRefused, effectOf, lineEffect};
+ghost use Rattle.lines.specs.Lines.{drillReply, doneReply, turnReply, whyRefused, effectOf, lineEffect};
 ghost use Rattle.lines.specs.Lines.{memoryIn, lentIn, Serves, LeavesLent, Answers};
 use answers::ANSWER_BYTES;
 use answers::Reply;
 use answers::Shape;
 use drill::Answer;
-use engines::Service;
-use engines::Told;
+use engines::Turn;
 use figures::Area;
 use figures::Figures;
 use forms::Form;
 use forms::Request;
+use jobs::Row;
 use joins::Joined;
 use lent_engines::ENGINE_COUNTS;
 use lent_engines::ENGINE_NUMBERS;
@@ -196,11 +196,10 @@ fn drill_reply(found: Answer) -> Reply
 }
 
 // A submission or a change of density.
-fn taken_reply(called: jobs::Answer) -> Reply
-    ensures { λ r. ⌜ r ≡ plainReply (called .figures .verdict) Taken ⌝ }
+fn taken_reply(reply: jobs::Reply) -> Reply
+    ensures { λ r. ⌜ r ≡ plainReply (reply .verdict) Taken ⌝ }
 {
-    let f = called.figures;
-    let verdict = f.verdict;
+    let verdict = reply.verdict;
     plain_reply(verdict, Shape::Taken)
 }
 
@@ -233,28 +232,16 @@ fn done_reply(screen: usize, f: Figures) -> Reply
     }
 }
 
-// A step of a screen's job.
-fn step_reply(screen: usize, answer: jobs::Answer) -> Reply
-    ensures { λ r. ⌜ r ≡ stepReply (answer .reply) screen (answer .figures) ⌝ }
+// A turn.
+fn turn_reply(turn: Turn, row: Row) -> Reply
+    ensures { λ r. ⌜ r ≡ turnReply turn (row .figures) ⌝ }
 {
-    let step = answer.reply;
-    let f = answer.figures;
-    match step {
-        jobs::Reply::More => count_reply(Shape::More, screen),
-        jobs::Reply::Taken => plain_reply(Verdict::Accepted, Shape::Taken),
-        jobs::Reply::Answered => done_reply(screen, f),
-    }
-}
-
-fn turn_reply(told: Told) -> Reply
-    ensures { λ r. ⌜ r ≡ turnReply (told .service) told ⌝ }
-{
-    let service = told.service;
-    let answer = told.answer;
-    match service {
-        Service::Short => refused_reply(Refusal::Scratch),
-        Service::Idle => plain_reply(Verdict::Accepted, Shape::Idle),
-        Service::Step => step_reply(told.screen, answer),
+    let f = row.figures;
+    match turn {
+        Turn::Short => refused_reply(Refusal::Scratch),
+        Turn::Idle => plain_reply(Verdict::Accepted, Shape::Idle),
+        Turn::More(screen) => count_reply(Shape::More, screen),
+        Turn::Ended(screen) => done_reply(screen, f),
     }
 }
 
@@ -309,7 +296,11 @@ fn request_reply(
             engine_numbers,
             engine_counts,
         )),
-        Form::Turn => turn_reply(lent_engines::turn(engine_numbers, engine_counts, scratch)),
+        Form::Turn => {
+            let turn = lent_engines::turn(engine_numbers, engine_counts, scratch);
+            let row = lent_engines::turn_row(engine_numbers, engine_counts, turn);
+            turn_reply(turn, row)
+        }
         Form::NoForm => refused_reply(why_refused(verdict)),
     }
 }

@@ -39,8 +39,7 @@ use Rattle.figures.specs.declared.Area.{Area}
 use Rattle.figures.specs.declared.Figures.{Figures}
 use Rattle.figures.specs.Figures.{refusedFigures, setCall}
 use Rattle.figures.specs.Areas.{refusedArea, areaCall}
-use Rattle.jobs.specs.declared.Answer.{Answer as Told}
-use Rattle.jobs.specs.declared.Reply.the-variants.{Answered}
+use Rattle.jobs.specs.declared.Reply.{Reply}
 use Rattle.engines.specs.declared.Engine.{Engine}
 use Rattle.engines.specs.declared.Called.{Called}
 use Rattle.engines.specs.Engines.{submitOf, changeAt}
@@ -56,14 +55,14 @@ numberedCall noSet points L scratchLength = leavesAlone (refusedFigures NoForm 0
 -- ---- the engine (document 02, Paper 10): a set submitted to a screen, with its points and L; another density for a screen's job
 
 -- what a call of an engine answers, which engine the lent lists hold then, and what it leaves of the lists
-pub record CallsEngine (called : Called) (calls : List Call) (r : Told) (before after : Lists) : Type 0 where
-  pub answer : r ≡ called .answer
+pub record CallsEngine (called : Called) (calls : List Call) (r : Reply) (before after : Lists) : Type 0 where
+  pub answer : r ≡ called .reply
   pub engine : engineOf after ≡ called .engine
   pub leaves : Leaves calls before after
 
 -- no form changes nothing
 abbrev pub noCall : Engine → Called
-noCall engine = record { engine = engine; answer = record { reply = Answered; figures = refusedFigures NoForm 0 } }
+noCall engine = record { engine = engine; reply = record { verdict = Refused NoForm; samples = 0 } }
 
 unfoldable pub numberedSubmit : Engine → ℕ → NumberedSet → List Float → ℕ → Called
 numberedSubmit engine screen (setKnown set) points L = submitOf engine screen set points L

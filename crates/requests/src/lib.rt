@@ -187,23 +187,25 @@ pub fn set_figures(set: NumberedSet, points: &[f64], limit: usize, scratch: &mut
     }
 }
 
-fn no_call() -> jobs::Answer
-    ensures { λ r. ⌜ r ≡ record { reply = Reply.Answered; figures = refusedFigures Refusal.NoForm 0 } ⌝ }
+fn no_call() -> Reply
+    ensures { λ r. ⌜ r ≡ record { verdict = Verdict.Refused Refusal.NoForm; samples = 0 } ⌝ }
 {
-    let reply = Reply::Answered;
-    let figures = no_figures();
-    jobs::Answer { reply, figures }
+    let verdict = Verdict::Refused(Refusal::NoForm);
+    Reply {
+        verdict,
+        samples: 0,
+    }
 }
 
 // Submits a set to a screen of a lent engine.
-fn submit_set(
+pub fn submit_set(
     numbers: &mut [f64],
     counts: &mut [usize],
     screen: usize,
     set: NumberedSet,
     points: &[f64],
     limit: usize,
-) -> jobs::Answer
+) -> Reply
     requires { ⌜ Room (now numbers) (now counts) ⌝ }
     ensures { λ r. ⌜ CallsEngine (numberedSubmit (engineIn (now (numbers .entry)) (now (counts .entry))) screen set (now (points .entry)) limit)
         (submitCalls screen set (now (points .entry)) limit) r
@@ -223,12 +225,12 @@ fn submit_set(
 }
 
 // Changes the density of a screen's job.
-fn change_density(
+pub fn change_density(
     numbers: &mut [f64],
     counts: &mut [usize],
     screen: usize,
     density: NumberedDensity,
-) -> jobs::Answer
+) -> Reply
     requires { ⌜ Room (now numbers) (now counts) ⌝ }
     ensures { λ r. ⌜ CallsEngine (numberedChange (engineIn (now (numbers .entry)) (now (counts .entry))) screen density)
         (changeCalls screen density) r
@@ -424,12 +426,7 @@ pub fn asked_figures(q: Request, values: &[f64], scratch: &mut [f64]) -> Figures
 }
 
 // The submission that a line asks.
-pub fn asked_submit(
-    q: Request,
-    values: &[f64],
-    numbers: &mut [f64],
-    counts: &mut [usize],
-) -> jobs::Answer
+pub fn asked_submit(q: Request, values: &[f64], numbers: &mut [f64], counts: &mut [usize]) -> Reply
     requires { ⌜ Room (now numbers) (now counts) ⌝ }
     ensures { λ r. ⌜ CallsEngine (askedSubmit (number (q .numbers) 7) (setRequestOf (q .numbers) (now (values .entry))) (now (values .entry))
         (engineIn (now (numbers .entry)) (now (counts .entry))))
@@ -444,12 +441,7 @@ pub fn asked_submit(
 }
 
 // The change of density that a line asks.
-pub fn asked_change(
-    q: Request,
-    values: &[f64],
-    numbers: &mut [f64],
-    counts: &mut [usize],
-) -> jobs::Answer
+pub fn asked_change(q: Request, values: &[f64], numbers: &mut [f64], counts: &mut [usize]) -> Reply
     requires { ⌜ Room (now numbers) (now counts) ⌝ }
     ensures { λ r. ⌜ CallsEngine (askedChange (q .numbers) (now (values .entry)) (engineIn (now (numbers .entry)) (now (counts .entry))))
         (askedChangeCalls (q .numbers) (now (values .entry))) r

@@ -1,40 +1,33 @@
 -- What a call on an engine in lent memory promises follows from what its parts did, or from a list that has no room. Assumes nothing.
-use mathlib.Core.Path.{_≡_, sym, ap, subst, _∙_}
+use mathlib.Core.Path.{_≡_, sym, ap, ap₂, subst, _∙_}
 use mathlib.Core.Bool.{Bool, true, false, true≢false}
 use mathlib.Core.List.{List}
 use Prim.Native.Nat.{ℕ, _≤_, _<_}
 use borrow.Author.Tests.{le-leb, lt-leb}
-use lib.ListN.{length}
+use lib.ListN.{length, set}
 use lib.Ieee.{Float}
-use Rattle.refusals.specs.declared.Refusal.the-variants.{NoForm}
-use Rattle.refusals.specs.declared.Verdict.the-variants.{Refused}
-use Rattle.materials.specs.declared.Density.{Density}
 use Rattle.materials.specs.declared.NumberedDensity.{NumberedDensity}
-use Rattle.materials.specs.declared.NumberedDensity.the-variants.{Known as densityKnown, Unknown as noDensity}
-use Rattle.fins.specs.declared.FinSet.{FinSet}
 use Rattle.fins.specs.declared.NumberedSet.{NumberedSet}
-use Rattle.fins.specs.declared.NumberedSet.the-variants.{Known as setKnown, Unknown as noSet}
 use Rattle.joins.specs.Flat.{withBody}
-use Rattle.jobs.specs.declared.Answer.{Answer}
-use Rattle.engines.specs.declared.Service.{Service}
-use Rattle.engines.specs.declared.Told.{Told}
+use Rattle.jobs.specs.declared.Reply.{Reply}
+use Rattle.jobs.specs.declared.Row.{Row}
+use Rattle.engines.specs.declared.Turn.{Turn}
+use Rattle.engines.specs.Engines.{placeOf, turnRow, servedScreen, jobAt}
 use Rattle.engines.specs.Calls.{Call}
-use Rattle.lent_engines.specs.Memory.{engineNumbers, engineCounts}
-use Rattle.lent_engines.specs.Lent.{lists, Leaves, Clears, Turns, Submits, Changes}
-use Rattle.lent_engines.proofs.Calls.{leaves-none}
+use Rattle.lent_engines.specs.Memory.{engineNumbers, engineCounts, engineIn}
+use Rattle.lent_engines.specs.Lent.{lists, Leaves, submitCalls, changeCalls, Clears, Turns}
+use Rattle.lent_engines.proofs.Calls.{leaves-none, turn-told}
+use Rattle.requests.specs.Calls.{CallsEngine, numberedSubmit, numberedChange}
+use Rattle.refusals.specs.Numbered.{numberIn}
 use Rattle.refusals.specs.Lent.{withValues, withCounts, room}
 use Rattle.figures.specs.Numbered.{figureCounts}
-use Rattle.screen_exports.specs.JobCalls.{answerNumber}
-use Rattle.screen_exports.specs.EngineCalls.{serviceNumber, toldNumber, submittedBy, densityBy, engineRoom, EngineCall, clearRoom, ClearCall}
-use Rattle.screen_exports.specs.EngineCalls.{submitRoom, SubmitCall, turnRoom, toldCounts, TurnCall, densityRoom, DensityCall}
+use Rattle.screen_exports.specs.JobCalls.{Tells}
+use Rattle.screen_exports.specs.EngineCalls.{engineRoom, EngineCall, clearRoom, ClearCall}
+use Rattle.screen_exports.specs.EngineCalls.{submitRoom, SubmitCall, turnRoom, TurnCall, densityRoom, DensityCall}
 use Rattle.refusals.proofs.Rooms.{has-room, few-figures, few-counts}
 
 never : {A : Type 0} {b : Bool} → b ≡ true → b ≡ false → A
 never e f = absurd (true≢false (sym e ∙ f))
-
--- the number of a turn, by what it did
-pub told-is : (told : Told) (service : Service) (r : ℕ) → told .service ≡ service → r ≡ serviceNumber service (told .answer) → r ≡ toldNumber told
-told-is told service r e h = h ∙ ap (λ (s : Service). serviceNumber s (told .answer)) (sym e)
 
 -- ---- clearing
 
@@ -75,24 +68,6 @@ module _ (numbers : List Float) (counts : List ℕ) where
     pub density-refused : densityRoom numbers counts told ≡ false → DensityCall numbers counts density screen told 18 numbers counts told
     density-refused none = record { call = refused _ _ _ none; counted = rw none }
 
-  -- ---- a number that stands for nothing
-
-  module _ (screen : ℕ) (points : List Float) (L : ℕ) (values values' : List ℕ) where
-    pub submit-unknown : (set read : NumberedSet) → read ≡ set → read ≡ noSet → submitRoom numbers counts values ≡ true → values' ≡ withValues values (Refused NoForm) →
-        SubmitCall numbers counts screen set points L values 18 numbers counts values'
-    submit-unknown set read same none fits v =
-        subst (λ (x : NumberedSet). SubmitCall numbers counts screen x points L values 18 numbers counts values') (sym none ∙ same)
-        (unfold submittedBy in
-        record { call = record { returned = rw fits; leaves = rw fits (leaves-none (lists numbers counts)) }; counted = rw fits v })
-
-  module _ (screen : ℕ) (told told' : List ℕ) where
-    pub density-unknown : (density read : NumberedDensity) → read ≡ density → read ≡ noDensity → densityRoom numbers counts told ≡ true →
-        told' ≡ withCounts told (Refused NoForm) 0 0 → DensityCall numbers counts density screen told 18 numbers counts told'
-    density-unknown density read same none fits v =
-        subst (λ (x : NumberedDensity). DensityCall numbers counts x screen told 18 numbers counts told') (sym none ∙ same)
-        (unfold densityBy in
-        record { call = record { returned = rw fits; leaves = rw fits (leaves-none (lists numbers counts)) }; counted = rw fits v })
-
   -- ---- the engine is worked on
 
   module _ (numbers' : List Float) (counts' : List ℕ) where
@@ -100,31 +75,36 @@ module _ (numbers : List Float) (counts : List ℕ) where
         EngineCall fits calls number numbers counts r numbers' counts'
     called fits calls number r f e h = record { returned = rw f e; leaves = rw f h }
 
-    pub turn-written : (t : Told) (r : ℕ) → r ≡ toldNumber t → (scratch body scratch' body' : List Float) (told told' : List ℕ) →
+    pub turn-written : (r : ℕ) (scratch body scratch' body' : List Float) (told told' : List ℕ) (t : Turn) (row : Row) →
         turnRoom numbers counts body told ≡ true → Turns numbers counts scratch t numbers' counts' scratch' →
-        body' ≡ withBody body 0 (t .answer .figures .body) → told' ≡ toldCounts t told →
-        TurnCall numbers counts scratch body told r numbers' counts' scratch' body' told'
-    turn-written t r r-is scratch body scratch' body' told told' fits s b c =
+        row ≡ turnRow t (jobAt (engineIn numbers' counts') (placeOf (servedScreen t))) → Tells row body told r body' told' →
+        (screen : ℕ) → screen ≡ servedScreen t →
+        TurnCall numbers counts scratch body told r numbers' counts' scratch' body' (set told' 4 screen)
+    turn-written r scratch body scratch' body' told told' t row fits s e w screen k =
+        let is = e ∙ turn-told numbers counts scratch t numbers' counts' scratch' s in
         record {
-          call = called _ _ _ _ fits (rw (← s .told) r-is) (s .leaves);
-          figures = rw (fits, ← s .told) b;
-          counted = rw (fits, ← s .told) c;
+          call = called _ _ _ _ fits (w .returned ∙ ap (λ (x : Row). x .number) is) (s .leaves);
+          figures = rw fits (w .figures ∙ ap (λ (x : Row). withBody body 0 (x .figures .body)) is);
+          counted =
+              rw fits
+              (ap₂ (λ (l : List ℕ) (n : ℕ). set l 4 n) (w .counted ∙ ap (λ (x : Row). figureCounts (x .figures) told) is)
+              (k ∙ ap servedScreen (s .answered)));
           lent = rw fits (s .lent);
         }
 
-    module _ (a : Answer) (r : ℕ) (r-is : r ≡ answerNumber a) where
-      pub submit-written : (screen : ℕ) (points : List Float) (L : ℕ) (values values' : List ℕ) (asked read : NumberedSet) (set : FinSet) →
-          read ≡ asked → read ≡ setKnown set → submitRoom numbers counts values ≡ true → Submits screen set points L numbers counts a numbers' counts' →
-          values' ≡ withValues values (a .figures .verdict) → SubmitCall numbers counts screen asked points L values r numbers' counts' values'
-      submit-written screen points L values values' asked read set same known fits m v =
-          subst (λ (x : NumberedSet). SubmitCall numbers counts screen x points L values r numbers' counts' values') (sym known ∙ same)
-          (unfold submittedBy in
-          record { call = called _ _ _ _ fits (rw (← m .answered) r-is) (m .leaves); counted = rw (fits, ← m .answered) v })
+    module _ (a : Reply) (r : ℕ) (r-is : r ≡ numberIn (a .verdict)) where
+      pub submit-written : (screen : ℕ) (points : List Float) (L : ℕ) (values values' : List ℕ) (asked read : NumberedSet) → read ≡ asked →
+          submitRoom numbers counts values ≡ true →
+          CallsEngine (numberedSubmit (engineIn numbers counts) screen read points L) (submitCalls screen read points L) a (lists numbers counts) (lists numbers' counts') →
+          values' ≡ withValues values (a .verdict) → SubmitCall numbers counts screen asked points L values r numbers' counts' values'
+      submit-written screen points L values values' asked read same fits m v =
+          subst (λ (x : NumberedSet). SubmitCall numbers counts screen x points L values r numbers' counts' values') same
+          (record { call = called _ _ _ _ fits (rw (← m .answer) r-is) (m .leaves); counted = rw (fits, ← m .answer) v })
 
-      pub density-written : (screen : ℕ) (told told' : List ℕ) (asked read : NumberedDensity) (density : Density) →
-          read ≡ asked → read ≡ densityKnown density → densityRoom numbers counts told ≡ true → Changes screen density numbers counts a numbers' counts' →
-          told' ≡ figureCounts (a .figures) told → DensityCall numbers counts asked screen told r numbers' counts' told'
-      density-written screen told told' asked read density same known fits m v =
-          subst (λ (x : NumberedDensity). DensityCall numbers counts x screen told r numbers' counts' told') (sym known ∙ same)
-          (unfold densityBy in
-          record { call = called _ _ _ _ fits (rw (← m .answered) r-is) (m .leaves); counted = rw (fits, ← m .answered) v })
+      pub density-written : (screen : ℕ) (told told' : List ℕ) (asked read : NumberedDensity) → read ≡ asked →
+          densityRoom numbers counts told ≡ true →
+          CallsEngine (numberedChange (engineIn numbers counts) screen read) (changeCalls screen read) a (lists numbers counts) (lists numbers' counts') →
+          told' ≡ withCounts told (a .verdict) 0 (a .samples) → DensityCall numbers counts asked screen told r numbers' counts' told'
+      density-written screen told told' asked read same fits m v =
+          subst (λ (x : NumberedDensity). DensityCall numbers counts x screen told r numbers' counts' told') same
+          (record { call = called _ _ _ _ fits (rw (← m .answer) r-is) (m .leaves); counted = rw (fits, ← m .answer) v })

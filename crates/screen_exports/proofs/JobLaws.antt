@@ -1,11 +1,12 @@
 -- What a call on a job in lent memory promises follows from what its parts did, or from a list that has no room. Assumes nothing.
-use mathlib.Core.Path.{_≡_, refl, sym, subst, _∙_}
+use mathlib.Core.Path.{_≡_, refl, sym, ap, subst, _∙_}
 use mathlib.Core.Bool.{Bool, true, false, _&&_}
 use mathlib.Core.List.{List}
 use Prim.Native.Nat.{ℕ, _≤_, _<_}
 use lib.ListN.{length}
 use lib.Ieee.{Float}
 use Rattle.refusals.specs.declared.Refusal.the-variants.{NoForm}
+use Rattle.refusals.specs.Order.{isRefused}
 use Rattle.refusals.specs.declared.Verdict.the-variants.{Refused}
 use Rattle.materials.specs.declared.Density.{Density}
 use Rattle.materials.specs.declared.NumberedDensity.{NumberedDensity}
@@ -15,13 +16,17 @@ use Rattle.fins.specs.declared.NumberedSet.{NumberedSet}
 use Rattle.fins.specs.declared.NumberedSet.the-variants.{Known as setKnown, Unknown as noSet}
 use Rattle.joins.specs.Flat.{withBody}
 use Rattle.jobs.specs.declared.Job.{Job}
-use Rattle.jobs.specs.declared.Answer.{Answer}
-use Rattle.jobs.specs.declared.Stepped.{Stepped}
+use Rattle.jobs.specs.declared.Progress.{Progress}
+use Rattle.jobs.specs.declared.Reply.{Reply}
+use Rattle.jobs.specs.declared.Row.{Row}
+use Rattle.jobs.specs.Jobs.{stepRow}
 use Rattle.lent_jobs.specs.Memory.{jobNumbers, jobCounts, jobIn}
 use Rattle.lent_jobs.specs.Lent.{Holds, Leaves, Makes, Steps, Changes}
+use Rattle.lent_jobs.proofs.Unchanged.{step-told}
+use Rattle.refusals.specs.Numbered.{numberIn}
 use Rattle.refusals.specs.Lent.{withValues, withCounts, room}
 use Rattle.figures.specs.Numbered.{figureCounts}
-use Rattle.screen_exports.specs.JobCalls.{answerNumber, madeBy, changedBy, jobRoom, JobCall, makeRoom, MakeCall, stepRoom, StepCall, changeRoom, ChangeCall}
+use Rattle.screen_exports.specs.JobCalls.{Tells, madeBy, changedBy, jobRoom, JobCall, makeRoom, MakeCall, stepRoom, StepCall, changeRoom, ChangeCall}
 use Rattle.refusals.proofs.Rooms.{has-room, few-figures, few-counts}
 
 pub first-not : {a : Bool} (b : Bool) → a ≡ false → (a && b) ≡ false
@@ -49,20 +54,20 @@ module _ (numbers : List Float) (counts : List ℕ) where
 
   -- ---- no room
 
-  refused : (fits written : Bool) (s : Stepped) → fits ≡ false → JobCall fits written s numbers counts 18 numbers counts
-  refused fits written s none = record { returned = rw none; leaves = unwritten (fits && written) _ (rw none) (rw none) }
+  refused : (fits written : Bool) (job : Job) (number : ℕ) → fits ≡ false → JobCall fits written job number numbers counts 18 numbers counts
+  refused fits written job number none = record { returned = rw none; leaves = unwritten (fits && written) _ (rw none) (rw none) }
 
   module _ (set : NumberedSet) (points : List Float) (L : ℕ) (values : List ℕ) where
     pub make-refused : makeRoom numbers counts values ≡ false → MakeCall numbers counts set points L values 18 numbers counts values
-    make-refused none = record { call = refused _ _ _ none; counted = rw none }
+    make-refused none = record { call = refused _ _ _ _ none; counted = rw none }
 
   module _ (scratch body : List Float) (told : List ℕ) where
     pub step-refused : stepRoom numbers counts body told ≡ false → StepCall numbers counts scratch body told 18 numbers counts scratch body told
-    step-refused none = record { call = refused _ _ _ none; figures = rw none; counted = rw none; lent = rw none }
+    step-refused none = record { call = refused _ _ _ _ none; figures = rw none; counted = rw none; lent = rw none }
 
   module _ (density : NumberedDensity) (told : List ℕ) where
     pub change-refused : changeRoom numbers counts told ≡ false → ChangeCall numbers counts density told 18 numbers counts told
-    change-refused none = record { call = refused _ _ _ none; counted = rw none }
+    change-refused none = record { call = refused _ _ _ _ none; counted = rw none }
 
   -- ---- a number that stands for nothing
 
@@ -79,44 +84,46 @@ module _ (numbers : List Float) (counts : List ℕ) where
         told' ≡ withCounts told (Refused NoForm) 0 0 → ChangeCall numbers counts density told 18 numbers counts told'
     change-unknown density read same none fits v =
         subst (λ (x : NumberedDensity). ChangeCall numbers counts x told 18 numbers counts told') (sym none ∙ same)
-        (unfold changedBy in
+        (unfold changedBy isRefused in
         record { call = record { returned = rw fits; leaves = unwritten _ _ (rw fits) (rw fits) }; counted = rw fits v })
 
   -- ---- the job is worked on
 
-  module _ (numbers' : List Float) (counts' : List ℕ) (a : Answer) (r : ℕ) (r-is : r ≡ answerNumber a) where
-    called : (fits written : Bool) (s : Stepped) → fits ≡ true → a ≡ s .answer → Leaves written (s .job) numbers counts numbers' counts' →
-        JobCall fits written s numbers counts r numbers' counts'
-    called fits written s f e h = record { returned = rw (f, ← e) r-is; leaves = rw f h }
+  module _ (numbers' : List Float) (counts' : List ℕ) (r : ℕ) where
+    called : (fits written : Bool) (job : Job) (number : ℕ) → fits ≡ true → r ≡ number → Leaves written job numbers counts numbers' counts' →
+        JobCall fits written job number numbers counts r numbers' counts'
+    called fits written job number f e h = record { returned = rw f e; leaves = rw f h }
 
     -- a job that is made is written
     made : (job : Job) → Holds job numbers counts numbers' counts' → Leaves true job numbers counts numbers' counts'
     made job h = record { numbers-are = h .numbers-are; counts-are = h .counts-are; held = h .held }
 
-    pub make-written : (points : List Float) (L : ℕ) (values values' : List ℕ) (asked read : NumberedSet) (set : FinSet) →
-        read ≡ asked → read ≡ setKnown set → makeRoom numbers counts values ≡ true → Makes set points L numbers counts a numbers' counts' →
-        values' ≡ withValues values (a .figures .verdict) → MakeCall numbers counts asked points L values r numbers' counts' values'
-    make-written points L values values' asked read set same known fits m v =
-        subst (λ (x : NumberedSet). MakeCall numbers counts x points L values r numbers' counts' values') (sym known ∙ same)
-        (unfold madeBy in
-        record { call = called _ _ _ fits (m .answered) (made _ (m .holds)); counted = rw (fits, ← m .answered) v })
-
-    pub step-written : (scratch body scratch' body' : List Float) (told told' : List ℕ) →
-        stepRoom numbers counts body told ≡ true → Steps numbers counts scratch a numbers' counts' scratch' →
-        body' ≡ withBody body 0 (a .figures .body) → told' ≡ figureCounts (a .figures) told →
+    pub step-written : (scratch body scratch' body' : List Float) (told told' : List ℕ) (p : Progress) (row : Row) →
+        stepRoom numbers counts body told ≡ true → Steps numbers counts scratch p numbers' counts' scratch' →
+        row ≡ stepRow p (jobIn numbers' counts') → Tells row body told r body' told' →
         StepCall numbers counts scratch body told r numbers' counts' scratch' body' told'
-    step-written scratch body scratch' body' told told' fits s b c =
+    step-written scratch body scratch' body' told told' p row fits s e t =
+        let is = e ∙ step-told numbers counts scratch p numbers' counts' scratch' s in
         record {
-          call = called _ _ _ fits (s .answered) (s .leaves);
-          figures = rw (fits, ← s .answered) b;
-          counted = rw (fits, ← s .answered) c;
+          call = called _ _ _ _ fits (t .returned ∙ ap (λ (x : Row). x .number) is) (s .leaves);
+          figures = rw fits (t .figures ∙ ap (λ (x : Row). withBody body 0 (x .figures .body)) is);
+          counted = rw fits (t .counted ∙ ap (λ (x : Row). figureCounts (x .figures) told) is);
           lent = rw fits (s .lent);
         }
 
-    pub change-written : (told told' : List ℕ) (asked read : NumberedDensity) (density : Density) →
-        read ≡ asked → read ≡ densityKnown density → changeRoom numbers counts told ≡ true → Changes numbers counts density a numbers' counts' →
-        told' ≡ figureCounts (a .figures) told → ChangeCall numbers counts asked told r numbers' counts' told'
-    change-written told told' asked read density same known fits m v =
-        subst (λ (x : NumberedDensity). ChangeCall numbers counts x told r numbers' counts' told') (sym known ∙ same)
-        (unfold changedBy in
-        record { call = called _ _ _ fits (m .answered) (m .leaves); counted = rw (fits, ← m .answered) v })
+    module _ (a : Reply) (r-is : r ≡ numberIn (a .verdict)) where
+      pub make-written : (points : List Float) (L : ℕ) (values values' : List ℕ) (asked read : NumberedSet) (set : FinSet) →
+          read ≡ asked → read ≡ setKnown set → makeRoom numbers counts values ≡ true → Makes set points L numbers counts a numbers' counts' →
+          values' ≡ withValues values (a .verdict) → MakeCall numbers counts asked points L values r numbers' counts' values'
+      make-written points L values values' asked read set same known fits m v =
+          subst (λ (x : NumberedSet). MakeCall numbers counts x points L values r numbers' counts' values') (sym known ∙ same)
+          (unfold madeBy in
+          record { call = called _ _ _ _ fits (rw (← m .answered) r-is) (made _ (m .holds)); counted = rw (fits, ← m .answered) v })
+
+      pub change-written : (told told' : List ℕ) (asked read : NumberedDensity) (density : Density) →
+          read ≡ asked → read ≡ densityKnown density → changeRoom numbers counts told ≡ true → Changes numbers counts density a numbers' counts' →
+          told' ≡ withCounts told (a .verdict) 0 (a .samples) → ChangeCall numbers counts asked told r numbers' counts' told'
+      change-written told told' asked read density same known fits m v =
+          subst (λ (x : NumberedDensity). ChangeCall numbers counts x told r numbers' counts' told') (sym known ∙ same)
+          (unfold changedBy in
+          record { call = called _ _ _ _ fits (rw (← m .answered) r-is) (m .leaves); counted = rw (fits, ← m .answered) v })

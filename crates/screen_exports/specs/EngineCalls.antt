@@ -10,53 +10,25 @@ use lib.Ieee.{Float}
 use Rattle.refusals.specs.declared.Refusal.the-variants.{NoForm}
 use Rattle.refusals.specs.Refusals.{numberOf}
 use Rattle.materials.specs.declared.NumberedDensity.{NumberedDensity}
-use Rattle.materials.specs.declared.NumberedDensity.the-variants.{Known as densityKnown, Unknown as noDensity}
 use Rattle.fins.specs.declared.NumberedSet.{NumberedSet}
-use Rattle.fins.specs.declared.NumberedSet.the-variants.{Known as setKnown, Unknown as noSet}
 use Rattle.bodies.specs.Layout.{bodyNumbers}
 use Rattle.joins.specs.Flat.{withBody}
-use Rattle.figures.specs.Figures.{refusedFigures}
-use Rattle.jobs.specs.declared.Reply.the-variants.{Answered}
-use Rattle.jobs.specs.declared.Answer.{Answer}
-use Rattle.engines.specs.declared.Engine.{Engine}
-use Rattle.engines.specs.declared.Service.{Service}
-use Rattle.engines.specs.declared.Service.the-variants.{Short, Idle, Step}
-use Rattle.engines.specs.declared.Told.{Told}
+use Rattle.jobs.specs.declared.Row.{Row}
+use Rattle.refusals.specs.Calls.{CallOf}
 use Rattle.engines.specs.declared.Turned.{Turned}
 use Rattle.engines.specs.declared.Called.{Called}
-use Rattle.engines.specs.Engines.{turnOf, turnScratch, submitOf, changeAt}
+use Rattle.engines.specs.Engines.{servedScreen, turnOf, turnedRow}
 use Rattle.engines.specs.Calls.{Call, turn}
 use Rattle.lent_engines.specs.Memory.{engineNumbers, engineCounts, screensIn, noScreens, engineIn}
 use Rattle.lent_engines.specs.Lent.{lists, Leaves, submitCalls, changeCalls}
-use Rattle.refusals.specs.Lent.{withValues, room}
+use Rattle.refusals.specs.Numbered.{numberIn}
+use Rattle.refusals.specs.Lent.{withValues, withCounts, room}
 use Rattle.figures.specs.Numbered.{figureCounts}
-use Rattle.screen_exports.specs.JobCalls.{answerNumber}
+use Rattle.requests.specs.Calls.{numberedSubmit, numberedChange}
 
--- an idle turn has a number over all of the refusals', as "more remain" has
-abbrev pub serviceNumber : Service → Answer → ℕ
-serviceNumber Short answer = answerNumber answer
-serviceNumber Idle answer = 1001
-serviceNumber Step answer = answerNumber answer
-
-abbrev pub toldNumber : Told → ℕ
-toldNumber told = serviceNumber (told .service) (told .answer)
-
--- the counts of its answer, and the screen served behind them, 0 for none
-abbrev pub toldCounts : Told → List ℕ → List ℕ
-toldCounts told list = set (figureCounts (told .answer .figures) list) 4 (told .screen)
-
--- ---- what is asked by numbers
-
-abbrev pub noForm : Engine → Called
-noForm engine = record { engine = engine; answer = record { reply = Answered; figures = refusedFigures NoForm 0 } }
-
-unfoldable pub submittedBy : NumberedSet → List Float → ℕ → ℕ → Engine → Called
-submittedBy (setKnown set) points L screen before = submitOf before screen set points L
-submittedBy noSet points L screen before = noForm before
-
-unfoldable pub densityBy : NumberedDensity → ℕ → Engine → Called
-densityBy (densityKnown density) screen before = changeAt before screen density
-densityBy noDensity screen before = noForm before
+-- the counts of a turn's answer, and the screen served behind them, 0 for none
+abbrev pub turnCounts : Turned → List ℕ → List ℕ
+turnCounts t list = set (figureCounts (turnedRow t .figures) list) 4 (servedScreen (t .turn))
 
 -- ---- the memory
 
@@ -87,32 +59,32 @@ module _ (numbers : List Float) (counts : List ℕ) where
 
   module _ (screen : ℕ) (set : NumberedSet) (points : List Float) (L : ℕ) where
     abbrev pub submitting : Called
-    submitting = submittedBy set points L screen (engineIn numbers counts)
+    submitting = numberedSubmit (engineIn numbers counts) screen set points L
 
     pub record SubmitCall (values : List ℕ) (r : ℕ) (numbers' : List Float) (counts' values' : List ℕ) : Type 0 where
-      pub call : EngineCall (submitRoom values) (submitCalls screen set points L) (answerNumber (submitting .answer)) numbers counts r numbers' counts'
-      pub counted : values' ≡ cond (submitRoom values) (withValues values (submitting .answer .figures .verdict)) values
+      pub call : EngineCall (submitRoom values) (submitCalls screen set points L) (numberIn (submitting .reply .verdict)) numbers counts r numbers' counts'
+      pub counted : values' ≡ cond (submitRoom values) (withValues values (submitting .reply .verdict)) values
 
   -- a turn
   abbrev pub turnRoom : List Float → List ℕ → Bool
   turnRoom body told = engineRoom numbers counts && room bodyNumbers body 5 told
 
-  abbrev pub turning : List Float → Turned
+  abbrev pub turning : List Float → CallOf Turned
   turning scratch = turnOf (engineIn numbers counts) (length scratch)
 
   pub record TurnCall (scratch body : List Float) (told : List ℕ) (r : ℕ) (numbers' : List Float) (counts' : List ℕ) (scratch' body' : List Float) (told' : List ℕ) : Type 0 where
-    pub call : EngineCall (turnRoom body told) (turn scratch ∷ []) (toldNumber (turning scratch .told)) numbers counts r numbers' counts'
-    pub figures : body' ≡ cond (turnRoom body told) (withBody body 0 (turning scratch .told .answer .figures .body)) body
-    pub counted : told' ≡ cond (turnRoom body told) (toldCounts (turning scratch .told) told) told
-    pub lent : scratch' ≡ cond (turnRoom body told) (turnScratch (engineIn numbers counts) scratch) scratch
+    pub call : EngineCall (turnRoom body told) (turn scratch ∷ []) (turnedRow (turning scratch .answer) .number) numbers counts r numbers' counts'
+    pub figures : body' ≡ cond (turnRoom body told) (withBody body 0 (turnedRow (turning scratch .answer) .figures .body)) body
+    pub counted : told' ≡ cond (turnRoom body told) (turnCounts (turning scratch .answer) told) told
+    pub lent : scratch' ≡ cond (turnRoom body told) (turning scratch .leaves scratch) scratch
 
   -- a change of the density of a screen's job
   abbrev pub densityRoom : List ℕ → Bool
   densityRoom told = engineRoom numbers counts && leb 4 (length told)
 
   abbrev pub densityChange : NumberedDensity → ℕ → Called
-  densityChange density screen = densityBy density screen (engineIn numbers counts)
+  densityChange density screen = numberedChange (engineIn numbers counts) screen density
 
   pub record DensityCall (density : NumberedDensity) (screen : ℕ) (told : List ℕ) (r : ℕ) (numbers' : List Float) (counts' told' : List ℕ) : Type 0 where
-    pub call : EngineCall (densityRoom told) (changeCalls screen density) (answerNumber (densityChange density screen .answer)) numbers counts r numbers' counts'
-    pub counted : told' ≡ cond (densityRoom told) (figureCounts (densityChange density screen .answer .figures) told) told
+    pub call : EngineCall (densityRoom told) (changeCalls screen density) (numberIn (densityChange density screen .reply .verdict)) numbers counts r numbers' counts'
+    pub counted : told' ≡ cond (densityRoom told) (withCounts told (densityChange density screen .reply .verdict) 0 (densityChange density screen .reply .samples)) told

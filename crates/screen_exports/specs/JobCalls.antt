@@ -8,7 +8,7 @@ use lib.Dec.{leb}
 use lib.ListN.{length}
 use lib.Ieee.{Float}
 use Rattle.refusals.specs.declared.Refusal.the-variants.{NoForm}
-use Rattle.refusals.specs.declared.Verdict.{Verdict}
+use Rattle.refusals.specs.declared.Verdict.the-variants.{Refused}
 use Rattle.refusals.specs.Refusals.{numberOf}
 use Rattle.materials.specs.declared.NumberedDensity.{NumberedDensity}
 use Rattle.materials.specs.declared.NumberedDensity.the-variants.{Known as densityKnown, Unknown as noDensity}
@@ -16,35 +16,31 @@ use Rattle.fins.specs.declared.NumberedSet.{NumberedSet}
 use Rattle.fins.specs.declared.NumberedSet.the-variants.{Known as setKnown, Unknown as noSet}
 use Rattle.bodies.specs.Layout.{bodyNumbers}
 use Rattle.joins.specs.Flat.{withBody}
-use Rattle.figures.specs.Figures.{refusedFigures}
 use Rattle.jobs.specs.declared.Job.{Job}
-use Rattle.jobs.specs.declared.Reply.{Reply}
-use Rattle.jobs.specs.declared.Reply.the-variants.{More, Taken, Answered}
-use Rattle.jobs.specs.declared.Answer.{Answer}
 use Rattle.jobs.specs.declared.Stepped.{Stepped}
-use Rattle.jobs.specs.Jobs.{stepOf, stepScratch, changeOf, madeOf}
-use Rattle.jobs.specs.Calls.{isTaken}
+use Rattle.jobs.specs.declared.Replied.{Replied}
+use Rattle.jobs.specs.declared.Row.{Row}
+use Rattle.refusals.specs.Calls.{CallOf}
+use Rattle.jobs.specs.Jobs.{stepOf, changeOf, madeOf}
+use Rattle.jobs.specs.Calls.{step, answerBy, isTaken}
 use Rattle.lent_jobs.specs.Memory.{jobNumbers, jobCounts, jobIn}
-use Rattle.lent_jobs.specs.Lent.{worksStrip, Leaves}
+use Rattle.lent_jobs.specs.Lent.{stepWrites, Leaves}
 use Rattle.refusals.specs.Numbered.{numberIn}
-use Rattle.refusals.specs.Lent.{withValues, room}
+use Rattle.refusals.specs.Lent.{withValues, withCounts, room}
 use Rattle.figures.specs.Numbered.{figureCounts}
 
--- "more remain" has a number over all of the refusals'; "taken" is 0
-abbrev pub replyNumber : Reply → Verdict → ℕ
-replyNumber More verdict = 1000
-replyNumber Taken verdict = 0
-replyNumber Answered verdict = numberIn verdict
-
-abbrev pub answerNumber : Answer → ℕ
-answerNumber answer = replyNumber (answer .reply) (answer .figures .verdict)
+-- what a call writes of its answer into the lent lists, and the number that it returns: `stepRow` and `turnRow` have them
+pub record Tells (row : Row) (body : List Float) (told : List ℕ) (r : ℕ) (body' : List Float) (told' : List ℕ) : Type 0 where
+  pub returned : r ≡ row .number
+  pub figures : body' ≡ withBody body 0 (row .figures .body)
+  pub counted : told' ≡ figureCounts (row .figures) told
 
 -- ---- what is asked by numbers
 
-abbrev pub noForm : Job → Stepped
-noForm job = record { job = job; answer = record { reply = Answered; figures = refusedFigures NoForm 0 } }
+abbrev pub noForm : Job → Replied
+noForm job = record { job = job; reply = record { verdict = Refused NoForm; samples = 0 } }
 
-unfoldable pub madeBy : NumberedSet → List Float → ℕ → Job → Stepped
+unfoldable pub madeBy : NumberedSet → List Float → ℕ → Job → Replied
 madeBy (setKnown set) points L before = madeOf set points L
 madeBy noSet points L before = noForm before
 
@@ -52,7 +48,7 @@ abbrev pub isSet : NumberedSet → Bool
 isSet (setKnown set) = true
 isSet noSet = false
 
-unfoldable pub changedBy : NumberedDensity → Job → Stepped
+unfoldable pub changedBy : NumberedDensity → Job → Replied
 changedBy (densityKnown density) before = changeOf before density
 changedBy noDensity before = noForm before
 
@@ -66,9 +62,9 @@ jobRoom numbers counts = room jobNumbers numbers jobCounts counts
 
 -- what a call returns of its answer, and what it leaves in the memory: the job is written over its start, where it changes, and is the one that it then
 -- holds; with no room nothing is written
-pub record JobCall (fits written : Bool) (s : Stepped) (numbers : List Float) (counts : List ℕ) (r : ℕ) (numbers' : List Float) (counts' : List ℕ) : Type 0 where
-  pub returned : r ≡ cond fits (answerNumber (s .answer)) (numberOf NoForm)
-  pub leaves : Leaves (fits && written) (cond fits (s .job) (jobIn numbers counts)) numbers counts numbers' counts'
+pub record JobCall (fits written : Bool) (job : Job) (number : ℕ) (numbers : List Float) (counts : List ℕ) (r : ℕ) (numbers' : List Float) (counts' : List ℕ) : Type 0 where
+  pub returned : r ≡ cond fits number (numberOf NoForm)
+  pub leaves : Leaves (fits && written) (cond fits job (jobIn numbers counts)) numbers counts numbers' counts'
 
 module _ (numbers : List Float) (counts : List ℕ) where
   -- a job is made, also one that is refused, which has ended with that
@@ -76,33 +72,37 @@ module _ (numbers : List Float) (counts : List ℕ) where
   makeRoom values = jobRoom numbers counts && leb 2 (length values)
 
   module _ (set : NumberedSet) (points : List Float) (L : ℕ) where
-    abbrev pub making : Stepped
+    abbrev pub making : Replied
     making = madeBy set points L (jobIn numbers counts)
 
     pub record MakeCall (values : List ℕ) (r : ℕ) (numbers' : List Float) (counts' values' : List ℕ) : Type 0 where
-      pub call : JobCall (makeRoom values) (isSet set) making numbers counts r numbers' counts'
-      pub counted : values' ≡ cond (makeRoom values) (withValues values (making .answer .figures .verdict)) values
+      pub call : JobCall (makeRoom values) (isSet set) (making .job) (numberIn (making .reply .verdict)) numbers counts r numbers' counts'
+      pub counted : values' ≡ cond (makeRoom values) (withValues values (making .reply .verdict)) values
 
-  -- a step, with the figures and counts of its answer: the plain one carries none
+  -- a step, with the figures and counts of its answer: zeros where it has none
   abbrev pub stepRoom : List Float → List ℕ → Bool
   stepRoom body told = jobRoom numbers counts && room bodyNumbers body 4 told
 
-  abbrev pub stepping : List Float → Stepped
+  abbrev pub stepping : List Float → CallOf Stepped
   stepping scratch = stepOf (jobIn numbers counts) (length scratch)
 
+  abbrev pub stepTold : List Float → Row
+  stepTold scratch = answerBy (jobIn numbers counts) (step scratch)
+
   pub record StepCall (scratch body : List Float) (told : List ℕ) (r : ℕ) (numbers' : List Float) (counts' : List ℕ) (scratch' body' : List Float) (told' : List ℕ) : Type 0 where
-    pub call : JobCall (stepRoom body told) (worksStrip (jobIn numbers counts) (length scratch)) (stepping scratch) numbers counts r numbers' counts'
-    pub figures : body' ≡ cond (stepRoom body told) (withBody body 0 (stepping scratch .answer .figures .body)) body
-    pub counted : told' ≡ cond (stepRoom body told) (figureCounts (stepping scratch .answer .figures) told) told
-    pub lent : scratch' ≡ cond (stepRoom body told) (stepScratch (jobIn numbers counts) scratch) scratch
+    pub call : JobCall (stepRoom body told) (stepWrites (jobIn numbers counts) (length scratch)) (stepping scratch .answer .job) (stepTold scratch .number)
+        numbers counts r numbers' counts'
+    pub figures : body' ≡ cond (stepRoom body told) (withBody body 0 (stepTold scratch .figures .body)) body
+    pub counted : told' ≡ cond (stepRoom body told) (figureCounts (stepTold scratch .figures) told) told
+    pub lent : scratch' ≡ cond (stepRoom body told) (stepping scratch .leaves scratch) scratch
 
   -- a change of density
   abbrev pub changeRoom : List ℕ → Bool
   changeRoom told = jobRoom numbers counts && leb 4 (length told)
 
-  abbrev pub changing : NumberedDensity → Stepped
+  abbrev pub changing : NumberedDensity → Replied
   changing density = changedBy density (jobIn numbers counts)
 
   pub record ChangeCall (density : NumberedDensity) (told : List ℕ) (r : ℕ) (numbers' : List Float) (counts' told' : List ℕ) : Type 0 where
-    pub call : JobCall (changeRoom told) (isTaken (changing density .answer .reply)) (changing density) numbers counts r numbers' counts'
-    pub counted : told' ≡ cond (changeRoom told) (figureCounts (changing density .answer .figures) told) told
+    pub call : JobCall (changeRoom told) (isTaken (changing density .reply)) (changing density .job) (numberIn (changing density .reply .verdict)) numbers counts r numbers' counts'
+    pub counted : told' ≡ cond (changeRoom told) (withCounts told (changing density .reply .verdict) 0 (changing density .reply .samples)) told

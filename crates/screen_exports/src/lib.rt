@@ -3,20 +3,19 @@
 // Numbers, slices and refusals cross as in `exports`. A step of a job returns 1000 where more strips remain, a turn with no job 1001; a line is answered, by 0, also
 // where the answer's text is a refusal. An unknown number of a set's part or of a density is 18, and leaves the memory as it was; a lent slice that is too short
 // is 18 too, and then nothing at all is written.
-ghost use mathlib.Core.Path.{_≡_};
+ghost use Prim.Native.Nat.{_≤_};
+ghost use lib.ListN.{length};
+ghost use Rattle.bodies.specs.Layout.{bodyNumbers};
 ghost use Rattle.materials.specs.Numbered.{numberedDensity};
 ghost use Rattle.lines.specs.Lines.{lentIn};
 ghost use Rattle.fins.specs.Numbered.{listedSet};
 ghost use Rattle.screen_exports.specs.LineCalls.{LineCall};
-ghost use Rattle.screen_exports.specs.JobCalls.{answerNumber, MakeCall, StepCall, ChangeCall};
-ghost use Rattle.screen_exports.specs.EngineCalls.{toldNumber, ClearCall, SubmitCall, TurnCall, DensityCall};
+ghost use Rattle.screen_exports.specs.JobCalls.{Tells, MakeCall, StepCall, ChangeCall};
+ghost use Rattle.screen_exports.specs.EngineCalls.{ClearCall, SubmitCall, TurnCall, DensityCall};
 use answers::ANSWER_BYTES;
 use bodies::BODY_NUMBERS;
-use engines::Service;
-use engines::Told;
 use fins::NumberedSet;
-use jobs::Answer;
-use jobs::Reply;
+use jobs::Row;
 use lent_engines::ENGINE_COUNTS;
 use lent_engines::ENGINE_NUMBERS;
 use lent_jobs::JOB_COUNTS;
@@ -26,23 +25,17 @@ use refusals::NO_FORM;
 use refusals::Refusal;
 use refusals::Verdict;
 
-// The number of "more remain", over all of the refusals'.
-const MORE: usize = 1000;
-
-// The number that an answer of a job crosses as: taken is 0.
-fn answer_number(answer: Answer) -> usize
-    ensures { λ r. ⌜ r ≡ answerNumber answer ⌝ }
+// Writes an answer's body and counts, and gives its number.
+fn tell(body: &mut [f64], counts: &mut [usize], row: Row) -> usize
+    requires { ⌜ (bodyNumbers ≤ length (now body)) × (4 ≤ length (now counts)) ⌝ }
+    ensures { λ r. ⌜ Tells row (now (body .entry)) (now (counts .entry)) r (now (body .exit)) (now (counts .exit)) ⌝ }
 {
-    let reply = answer.reply;
-    match reply {
-        Reply::More => MORE,
-        Reply::Taken => 0,
-        Reply::Answered => {
-            let figures = answer.figures;
-            let verdict = figures.verdict;
-            refusals::verdict_number(verdict)
-        }
-    }
+    let found = row.figures;
+    let verdict = found.verdict;
+    let of_job = found.body;
+    joins::write_body(body, 0, of_job);
+    refusals::write_counts(counts, verdict, found.intervals, found.samples);
+    row.number
 }
 
 // Makes a job in the lent memory: 0 where it is taken; a refused one has ended with that. Writes two values of a refusal.
@@ -74,11 +67,10 @@ pub extern "C" fn delvouzh_job_make(
         refusals::write_values(values, Verdict::Refused(Refusal::NoForm));
         return NO_FORM;
     };
-    let answer = lent_jobs::make(job_numbers, job_counts, set, points, limit);
-    let found = answer.figures;
-    let verdict = found.verdict;
+    let reply = lent_jobs::make(job_numbers, job_counts, set, points, limit);
+    let verdict = reply.verdict;
     refusals::write_values(values, verdict);
-    answer_number(answer)
+    refusals::verdict_number(verdict)
 }
 
 // One step of the job there, over a lent scratch of at least 16·limit numbers: 1000 where more strips remain, else the figures or the refusal
@@ -107,13 +99,9 @@ pub extern "C" fn delvouzh_job_step(
     if counts.len() < 4 {
         return NO_FORM;
     }
-    let answer = lent_jobs::step(job_numbers, job_counts, scratch);
-    let found = answer.figures;
-    let verdict = found.verdict;
-    let of_job = found.body;
-    joins::write_body(body, 0, of_job);
-    refusals::write_counts(counts, verdict, found.intervals, found.samples);
-    answer_number(answer)
+    let progress = lent_jobs::step(job_numbers, job_counts, scratch);
+    let row = lent_jobs::step_row(job_numbers, job_counts, progress);
+    tell(body, counts, row)
 }
 
 // Another density for the job there: 0 where it is taken, or 12. Writes the counts, with 12 the samples so far.
@@ -142,27 +130,10 @@ pub extern "C" fn delvouzh_job_change_density(
         refusals::write_counts(counts, Verdict::Refused(Refusal::NoForm), 0, 0);
         return NO_FORM;
     };
-    let answer = lent_jobs::change_density(job_numbers, job_counts, density);
-    let found = answer.figures;
-    let verdict = found.verdict;
-    refusals::write_counts(counts, verdict, found.intervals, found.samples);
-    answer_number(answer)
-}
-
-// The number of an idle turn, over all of the refusals'.
-const IDLE: usize = 1001;
-
-// The number that a turn crosses as.
-fn told_number(told: Told) -> usize
-    ensures { λ r. ⌜ r ≡ toldNumber told ⌝ }
-{
-    let service = told.service;
-    let answer = told.answer;
-    match service {
-        Service::Short => answer_number(answer),
-        Service::Idle => IDLE,
-        Service::Step => answer_number(answer),
-    }
+    let reply = lent_jobs::change_density(job_numbers, job_counts, density);
+    let verdict = reply.verdict;
+    refusals::write_counts(counts, verdict, 0, reply.samples);
+    refusals::verdict_number(verdict)
 }
 
 // Clears an engine's memory: no screen holds a job, and none was served.
@@ -203,15 +174,10 @@ pub extern "C" fn delvouzh_engine_submit(
         return NO_FORM;
     }
     let asked = fins::listed_set(set_numbers, set_counts);
-    let NumberedSet::Known(set) = asked else {
-        refusals::write_values(values, Verdict::Refused(Refusal::NoForm));
-        return NO_FORM;
-    };
-    let answer = lent_engines::submit(engine_numbers, engine_counts, screen, set, points, limit);
-    let found = answer.figures;
-    let verdict = found.verdict;
+    let reply = requests::submit_set(engine_numbers, engine_counts, screen, asked, points, limit);
+    let verdict = reply.verdict;
     refusals::write_values(values, verdict);
-    answer_number(answer)
+    refusals::verdict_number(verdict)
 }
 
 // One turn of the engine there, over a lent scratch of at least 1,024 numbers: 1001 where no screen holds a job, 1000 where more strips remain of the job
@@ -240,15 +206,11 @@ pub extern "C" fn delvouzh_engine_turn(
     if counts.len() < 5 {
         return NO_FORM;
     }
-    let told = lent_engines::turn(engine_numbers, engine_counts, scratch);
-    let answer = told.answer;
-    let found = answer.figures;
-    let verdict = found.verdict;
-    let of_job = found.body;
-    joins::write_body(body, 0, of_job);
-    refusals::write_counts(counts, verdict, found.intervals, found.samples);
-    counts[4] = told.screen;
-    told_number(told)
+    let turn = lent_engines::turn(engine_numbers, engine_counts, scratch);
+    let row = lent_engines::turn_row(engine_numbers, engine_counts, turn);
+    let number = tell(body, counts, row);
+    counts[4] = engines::served_screen(turn);
+    number
 }
 
 // Another density for the job of a screen: 0 where it is taken, or 12. Writes the counts, with 12 the samples so far.
@@ -275,15 +237,10 @@ pub extern "C" fn delvouzh_engine_change_density(
         return NO_FORM;
     }
     let asked = materials::numbered_density(density, figure);
-    let NumberedDensity::Known(density) = asked else {
-        refusals::write_counts(counts, Verdict::Refused(Refusal::NoForm), 0, 0);
-        return NO_FORM;
-    };
-    let answer = lent_engines::change_density(engine_numbers, engine_counts, screen, density);
-    let found = answer.figures;
-    let verdict = found.verdict;
-    refusals::write_counts(counts, verdict, found.intervals, found.samples);
-    answer_number(answer)
+    let reply = requests::change_density(engine_numbers, engine_counts, screen, asked);
+    let verdict = reply.verdict;
+    refusals::write_counts(counts, verdict, 0, reply.samples);
+    refusals::verdict_number(verdict)
 }
 
 // The answer to a line of docs/FORMS.md, a refusal's text too, over the engine that is lent: writes its bytes, and how many they are.

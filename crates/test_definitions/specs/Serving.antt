@@ -1,12 +1,13 @@
 -- Eight screens and their turns (document 02, Paper 10): likely wrong orders, and calls that touch too much.
 use mathlib.Core.Bool.{Bool, true, false, not, _&&_}
 use mathlib.Core.List.{List, [], _∷_}
-use Prim.Native.Nat.{ℕ}
+use Prim.Native.Nat.{ℕ, zero, suc}
 use lib.Dec.{T, eqb}
-use lib.ListN.{replicate, getD, set}
+use lib.ListN.{length, replicate, getD, set}
 use lib.Ieee.{Float, nan, ofBits, toBits, ofInt, add, sub, mul, div, neg, lt, le, eq, ne}
 use Rattle.floats.specs.Operations.{bits, every}
 use Rattle.floats.specs.Floats.{absOf}
+use Rattle.refusals.specs.declared.Verdict.the-variants.{Accepted}
 use Rattle.refusals.specs.Order.{isRefused, firstRefusal, firstFrom}
 use Rattle.limits.specs.Limits.{scratchCheck, lengthWithin, lengthCheck, angleCheck}
 use Rattle.fillets.specs.Fillets.{isNone, isSound, ratioCheck}
@@ -21,23 +22,25 @@ use Rattle.fins.specs.declared.FinSet.{FinSet}
 use Rattle.outlines.specs.Outlines.{planformCheck}
 use Rattle.fins.specs.Fins.{tabCheck, depthCheck, ownCheck}
 use Rattle.jobs.specs.declared.Job.{Job}
-use Rattle.jobs.specs.Jobs.{stepOf, changeOf, makingCheck, madeOf}
+use Rattle.jobs.specs.declared.Row.{Row}
+use Rattle.jobs.specs.Jobs.{bareFigures, steppedOn, stepOf, changeOf, makingCheck, madeOf}
+use Rattle.engines.specs.declared.Screens.{Screens}
 use Rattle.engines.specs.declared.Engine.{Engine}
 use Rattle.engines.specs.declared.Called.{Called}
 use Rattle.engines.specs.NoJob.{noJob}
-use Rattle.engines.specs.Engines.{placeOf, holdsJob, isFree, firstHeld, nextScreen, pickOf, withHeld, servedOf, submittedOf, changedOf, turnOf, submitOf, changeAt}
+use Rattle.engines.specs.Engines.{placeOf, holdsJob, isFree, firstHeld, nextScreen, pickOf, withHeld, servedScreen, stepped, servedOf, submittedOf, changedOf, turnOf, turnedRow, submitOf, changeAt}
 use Rattle.engines.specs.Calls.{Call, turn, afterCalls, servedOver}
 use Rattle.test_definitions.specs.Rows.{is, same, refused}
 
 -- ---- engines of jobs that need no strip worked
 
--- one that never ends: its limit is none, so that each step answers 1
+-- one that goes on, as long as no step is worked
 abbrev waiting : Job
 waiting = noJob
 
 -- one that has ended: a step repeats its answer
 abbrev over : Job
-over = record { set = noJob .set; points = noJob .points; limit = 1; next = 0; value = []; intervals = 0; samples = 7; ended = true; outcome = noJob .outcome }
+over = record { set = noJob .set; points = noJob .points; limit = 1; next = 0; value = []; intervals = 0; samples = 7; ended = true; outcome = bareFigures Accepted 7 }
 
 -- eight screens of which these hold a job, 1 for each that does
 abbrev marks : List ℕ → List Bool
@@ -56,31 +59,49 @@ turns n = replicate n (turn (scratchOf 1024))
 abbrev serves : Engine → List Call → List ℕ → Bool
 serves engine calls screens = same (servedOver engine calls) screens
 
+-- the screens served while every job goes on
+unfoldable pub inTurn : Screens → ℕ → List ℕ
+inTurn screens zero = []
+inTurn screens (suc n) = nextScreen screens ∷ inTurn (stepped screens (nextScreen screens) waiting .screens) n
+
+abbrev inOrder : List ℕ → ℕ → List ℕ → Bool
+inOrder held last screens = same (inTurn (engineOf held last waiting .screens) (length screens)) screens
+
 -- ---- the order
+
+abbrev told : Engine → ℕ → Row
+told engine n = turnedRow (turnOf engine n .answer)
 
 -- always from screen 1; the last served first; not wrapping round
 abbrev pub from-the-next : Bool
 from-the-next =
-    serves (engineOf (0 ∷ 1 ∷ 0 ∷ 0 ∷ 1 ∷ 0 ∷ 1 ∷ 0 ∷ []) 5 waiting) (turns 4) (7 ∷ 2 ∷ 5 ∷ 7 ∷ [])
-    && serves (engineOf (1 ∷ 0 ∷ 0 ∷ 0 ∷ 0 ∷ 0 ∷ 0 ∷ 1 ∷ []) 8 waiting) (turns 2) (1 ∷ 8 ∷ [])
+    inOrder (0 ∷ 1 ∷ 0 ∷ 0 ∷ 1 ∷ 0 ∷ 1 ∷ 0 ∷ []) 5 (7 ∷ 2 ∷ 5 ∷ 7 ∷ [])
+    && inOrder (1 ∷ 0 ∷ 0 ∷ 0 ∷ 0 ∷ 0 ∷ 0 ∷ 1 ∷ []) 8 (1 ∷ 8 ∷ [])
 
 -- until one is served from screen 1, and a job alone has its turns in a row
 abbrev pub from-screen-one : Bool
 from-screen-one =
-    serves (engineOf (1 ∷ 0 ∷ 1 ∷ 0 ∷ 0 ∷ 0 ∷ 0 ∷ 0 ∷ []) 0 waiting) (turns 3) (1 ∷ 3 ∷ 1 ∷ [])
-    && serves (engineOf (0 ∷ 0 ∷ 0 ∷ 1 ∷ 0 ∷ 0 ∷ 0 ∷ 0 ∷ []) 0 waiting) (turns 2) (4 ∷ 4 ∷ [])
+    inOrder (1 ∷ 0 ∷ 1 ∷ 0 ∷ 0 ∷ 0 ∷ 0 ∷ 0 ∷ []) 0 (1 ∷ 3 ∷ 1 ∷ [])
+    && inOrder (0 ∷ 0 ∷ 0 ∷ 1 ∷ 0 ∷ 0 ∷ 0 ∷ 0 ∷ []) 0 (4 ∷ 4 ∷ [])
 
 -- within seven turns: the last of eight is served with the eighth
 abbrev pub eight-turns : Bool
-eight-turns = serves (engineOf (replicate 8 1) 3 waiting) (turns 8) (4 ∷ 5 ∷ 6 ∷ 7 ∷ 8 ∷ 1 ∷ 2 ∷ 3 ∷ [])
+eight-turns = inOrder (replicate 8 1) 3 (4 ∷ 5 ∷ 6 ∷ 7 ∷ 8 ∷ 1 ∷ 2 ∷ 3 ∷ [])
 
 -- a short turn that serves, or that counts
 abbrev pub short-turn : Bool
 short-turn =
     serves (engineOf (replicate 8 1) 3 waiting) (turn (scratchOf 1023) ∷ turns 1) (4 ∷ [])
-    && refused 2 [] (turnOf (engineOf (replicate 8 1) 3 waiting) 1023 .told .answer .figures .verdict)
-    && refused 2 [] (turnOf (engineOf (replicate 8 0) 3 over) 1023 .told .answer .figures .verdict)
-    && eqb (turnOf (engineOf (replicate 8 1) 3 over) 1023 .told .answer .figures .samples) 0
+    && refused 2 [] (told (engineOf (replicate 8 1) 3 waiting) 1023 .figures .verdict)
+    && refused 2 [] (told (engineOf (replicate 8 0) 3 over) 1023 .figures .verdict)
+    && eqb (told (engineOf (replicate 8 1) 3 over) 1023 .figures .samples) 0
+
+-- an idle turn answered as one that serves, or as a short one; the outcome of another screen's job
+abbrev pub turns-told : Bool
+turns-told =
+    eqb (told (engineOf (replicate 8 0) 3 over) 1024 .number) 1001
+    && eqb (told (engineOf (replicate 8 1) 3 over) 1024 .figures .samples) 7
+    && eqb (servedScreen (turnOf (engineOf (replicate 8 1) 3 over) 1024 .answer .turn)) 4
 
 -- a screen kept by a job that has ended; an idle turn that forgets the last served
 abbrev pub ended-frees : Bool
@@ -127,13 +148,13 @@ abbrev pub busy-first : Bool
 busy-first =
     holdsJob (two .screens) 1
     && eqb (nextScreen (two .screens)) 2
-    && refused 23 [] (submitted two 1 65 .answer .figures .verdict)
-    && refused 23 [] (submitted empty 0 65 .answer .figures .verdict)
-    && refused 23 [] (submitted empty 9 65 .answer .figures .verdict)
+    && refused 23 [] (submitted two 1 65 .reply .verdict)
+    && refused 23 [] (submitted empty 0 65 .reply .verdict)
+    && refused 23 [] (submitted empty 9 65 .reply .verdict)
 
 -- a set that is refused leaves the screen free
 abbrev pub refused-stays-free : Bool
-refused-stays-free = refused 1 [] (submitted empty 1 65 .answer .figures .verdict) && not (holdsJob (submitted empty 1 65 .engine .screens) 1)
+refused-stays-free = refused 1 [] (submitted empty 1 65 .reply .verdict) && not (holdsJob (submitted empty 1 65 .engine .screens) 1)
 
 abbrev densityBits : Density → ℕ → Bool
 densityBits (Bulk x) b = is x b
@@ -145,10 +166,10 @@ abbrev pub own-density : Bool
 own-density =
     densityBits (getD (changeAt two 2 (Bulk tenth) .engine .jobs) 1 noJob .set .density) 0x3fb999999999999a
     && densityBits (getD (changeAt two 2 (Bulk tenth) .engine .jobs) 0 noJob .set .density) 0x3ff0000000000000
-    && refused 12 [] (changeAt two 3 (Bulk tenth) .answer .figures .verdict)
-    && refused 12 [] (changeAt two 9 (Bulk tenth) .answer .figures .verdict)
-    && refused 12 [] (changeAt two 2 (Surface tenth) .answer .figures .verdict)
+    && refused 12 [] (changeAt two 3 (Bulk tenth) .reply .verdict)
+    && refused 12 [] (changeAt two 9 (Bulk tenth) .reply .verdict)
+    && refused 12 [] (changeAt two 2 (Surface tenth) .reply .verdict)
 
-pub serving-holds : T (from-the-next && from-screen-one && eight-turns && short-turn && ended-frees && busy-first && refused-stays-free && own-density)
-unfolding ofBits toBits ofInt add sub mul div neg lt le eq ne absOf isRefused firstRefusal firstFrom every lengthWithin lengthCheck angleCheck scratchCheck densityCheck tabCheck depthCheck isNone isSound ratioCheck rootChordOf planformCheck ownCheck stepOf changeOf makingCheck madeOf placeOf holdsJob isFree firstHeld nextScreen pickOf withHeld servedOf submittedOf changedOf turnOf submitOf changeAt servedOver
+pub serving-holds : T (from-the-next && from-screen-one && eight-turns && short-turn && turns-told && ended-frees && busy-first && refused-stays-free && own-density)
+unfolding ofBits toBits ofInt add sub mul div neg lt le eq ne absOf isRefused firstRefusal firstFrom every lengthWithin lengthCheck angleCheck scratchCheck densityCheck tabCheck depthCheck isNone isSound ratioCheck rootChordOf planformCheck ownCheck steppedOn stepOf changeOf makingCheck madeOf placeOf holdsJob isFree firstHeld nextScreen pickOf withHeld servedOf submittedOf changedOf turnOf submitOf changeAt servedOver inTurn
 serving-holds = tt

@@ -8,6 +8,7 @@ use lib.Ieee.{Float, add, sub, mul, div, ofBits, toBits, ofInt, round, lt, le, e
 use Rattle.floats.specs.Operations.{bits, at, every}
 use Rattle.floats.specs.Floats.{absOf}
 use Rattle.refusals.specs.declared.Refusal.the-variants as refusal
+use Rattle.refusals.specs.declared.Verdict.the-variants as verdict
 use Rattle.refusals.specs.Order.{isRefused, firstRefusal}
 use Rattle.limits.specs.Limits.{scratchCheck}
 use Rattle.materials.specs.declared.Density.{Density}
@@ -33,12 +34,14 @@ use Rattle.halving.specs.Halving.{repeat, halving}
 use Rattle.strips.specs.declared.Onward.{Onward}
 use Rattle.strips.specs.Strips.{withStrip, onwardOf, scratchOnward}
 use Rattle.figures.specs.declared.Figures.{Figures}
-use Rattle.figures.specs.Figures.{refusedFigures, concludedSet}
+use Rattle.figures.specs.Figures.{concludedSet}
 use Rattle.jobs.specs.declared.Job.{Job}
 use Rattle.jobs.specs.declared.Stepped.{Stepped}
-use Rattle.jobs.specs.declared.Reply.{Reply}
-use Rattle.jobs.specs.declared.Reply.the-variants.{More, Taken, Answered}
-use Rattle.jobs.specs.Jobs.{pointsOf, noFigures, outcomeOf, afterStrip, stepOf, stepScratch, changeOf}
+use Rattle.jobs.specs.declared.Progress.{Progress}
+use Rattle.jobs.specs.declared.Progress.the-variants.{Short, More, Ended}
+use Rattle.jobs.specs.declared.Row.{Row}
+use Rattle.jobs.specs.Jobs.{pointsOf, bareFigures, stepRow, outcomeOf, afterStrip, steppedOn, stepOf, changeOf}
+use Rattle.jobs.specs.Calls.{isTaken}
 use Rattle.test_definitions.specs.Rows.{is, are, refused}
 
 abbrev one : ℕ
@@ -79,19 +82,22 @@ abbrev set : FinSet
 set = setOf 3 plywood
 
 -- a job of which so many strips are worked, the next from the height at a place on, with so many samples and these sums
-abbrev worked : ℕ → ℕ → ℕ → List Float → Job
-worked strips next samples value =
+abbrev limited : ℕ → ℕ → ℕ → ℕ → List Float → Job
+limited L strips next samples value =
     record {
       set = set;
       points = pointsOf points;
-      limit = 8;
+      limit = L;
       next = next;
       value = value;
       intervals = strips;
       samples = samples;
       ended = false;
-      outcome = noFigures;
+      outcome = bareFigures verdict.Accepted 0;
     }
+
+abbrev worked : ℕ → ℕ → ℕ → List Float → Job
+worked strips next samples value = limited 8 strips next samples value
 
 -- one that has ended with 13
 abbrev over : Job
@@ -105,23 +111,23 @@ over =
       intervals = 1;
       samples = 135;
       ended = true;
-      outcome = refusedFigures (refusal.NotConverged 6) 135;
+      outcome = bareFigures (verdict.Refused (refusal.NotConverged 6)) 135;
     }
 
-abbrev isMore : Reply → Bool
+abbrev isShort : Progress → Bool
+isShort Short = true
+isShort More = false
+isShort Ended = false
+
+abbrev isMore : Progress → Bool
+isMore Short = false
 isMore More = true
-isMore Taken = false
-isMore Answered = false
+isMore Ended = false
 
-abbrev isTaken : Reply → Bool
-isTaken More = false
-isTaken Taken = true
-isTaken Answered = false
-
-abbrev isAnswered : Reply → Bool
-isAnswered More = false
-isAnswered Taken = false
-isAnswered Answered = true
+abbrev isEnded : Progress → Bool
+isEnded Short = false
+isEnded More = false
+isEnded Ended = true
 
 abbrev isBulk : Density → ℕ → Bool
 isBulk (Bulk density) b = is density b
@@ -134,10 +140,12 @@ isBulk (Line density) b = false
 -- one of 128 numbers
 abbrev pub short-step : Bool
 short-step =
-    let s = stepOf (worked 1 3 15 zeros) 127 in
-    isAnswered (s .answer .reply)
-    && refused 2 [] (s .answer .figures .verdict)
-    && eqb (s .answer .figures .samples) 15
+    let s = stepOf (worked 1 3 15 zeros) 127 .answer in
+    let row = stepRow (s .progress) (s .job) in
+    isShort (s .progress)
+    && eqb (row .number) 2
+    && refused 2 [] (row .figures .verdict)
+    && eqb (row .figures .samples) 15
     && eqb (s .job .next) 3
     && not (s .job .ended)
 
@@ -145,21 +153,33 @@ short-step =
 -- nothing"
 abbrev pub repeats : Bool
 repeats =
-    let s = stepOf over 0 in
-    isAnswered (s .answer .reply)
-    && refused 13 (6 ∷ []) (s .answer .figures .verdict)
-    && eqb (s .answer .figures .samples) 135
-    && are (stepScratch over (map bits (one ∷ two ∷ []))) (one ∷ two ∷ [])
+    let s = stepOf over 0 .answer in
+    let row = stepRow (s .progress) (s .job) in
+    isEnded (s .progress)
+    && eqb (row .number) 13
+    && refused 13 (6 ∷ []) (row .figures .verdict)
+    && eqb (row .figures .samples) 135
+    && are (stepOf over 2 .leaves (map bits (one ∷ two ∷ []))) (one ∷ two ∷ [])
+
+-- a limit that no making takes ends the job with 1, before 2 is asked, and writes nothing
+abbrev pub no-limit : Bool
+no-limit =
+    let call = stepOf (limited 65 1 3 15 zeros) 2 in
+    isEnded (call .answer .progress)
+    && call .answer .job .ended
+    && refused 1 [] (call .answer .job .outcome .verdict)
+    && eqb (call .answer .job .outcome .samples) 15
+    && are (call .leaves (map bits (one ∷ two ∷ []))) (one ∷ two ∷ [])
 
 -- "the plate's density may be changed, answered only as taken": the density asked for, not the first; nothing else
 -- moves
 abbrev pub density-taken : Bool
 density-taken =
     let s = changeOf (worked 1 3 15 zeros) balsa in
-    isTaken (s .answer .reply)
+    isTaken (s .reply)
     && isBulk (s .job .set .density) 0x4064_0000_0000_0000
     && eqb (s .job .next) 3
-    && eqb (s .answer .figures .samples) 0
+    && eqb (s .reply .samples) 0
 
 -- "a density not bulk or outside the limits, or any change after the end, answers 12 and leaves the old one", with the
 -- samples
@@ -167,11 +187,11 @@ abbrev pub density-left : Bool
 density-left =
     let line = changeOf (worked 1 3 15 zeros) (Line (bits one)) in
     let after = changeOf over balsa in
-    refused 12 [] (line .answer .figures .verdict)
-    && eqb (line .answer .figures .samples) 15
+    refused 12 [] (line .reply .verdict)
+    && eqb (line .reply .samples) 15
     && isBulk (line .job .set .density) 0x4085_4000_0000_0000
-    && refused 12 [] (after .answer .figures .verdict)
-    && eqb (after .answer .figures .samples) 135
+    && refused 12 [] (after .reply .verdict)
+    && eqb (after .reply .samples) 135
     && isBulk (after .job .set .density) 0x4085_4000_0000_0000
 
 -- "Until the job ends, with its last strip or one refused": of totals with strips left, with none left, and refused
@@ -181,11 +201,10 @@ totals ending more = record { total = record { ending = ending; value = zeros; i
 abbrev pub job-ends : Bool
 job-ends =
     let job = worked 1 3 15 zeros in
-    not (afterStrip job (totals Accepted true) .job .ended)
-    && isMore (afterStrip job (totals Accepted true) .answer .reply)
-    && afterStrip job (totals Accepted false) .job .ended
-    && afterStrip job (totals (NotConverged 3) true) .job .ended
-    && refused 13 (3 ∷ []) (afterStrip job (totals (NotConverged 3) true) .answer .figures .verdict)
+    not (afterStrip job (totals Accepted true) .ended)
+    && afterStrip job (totals Accepted false) .ended
+    && afterStrip job (totals (NotConverged 3) true) .ended
+    && refused 13 (3 ∷ []) (afterStrip job (totals (NotConverged 3) true) .outcome .verdict)
 
 -- of a set that no making took: 3, then 12, then what the strips come to, with their samples
 abbrev pub asked-again : Bool
@@ -203,11 +222,11 @@ asked-again =
 -- which stands after 0, the span and the last point's
 abbrev pub one-strip-a-step : Stepped → Bool
 one-strip-a-step s =
-    isMore (s .answer .reply) && eqb (s .job .next) 3 && eqb (s .job .samples) 15 && eqb (s .job .intervals) 1 && not (s .job .ended)
+    isMore (s .progress) && eqb (stepRow (s .progress) (s .job) .number) 1000 && eqb (s .job .next) 3 && eqb (s .job .samples) 15 && eqb (s .job .intervals) 1 && not (s .job .ended)
 
 -- "the sums and totals over those worked": the last strip's are added to those of the record, whose first is 1
 abbrev pub sums-go-on : Stepped → Bool
-sums-go-on s = s .job .ended && eqb (s .job .samples) 30 && eqb (s .job .intervals) 2 && lt (bits one) (at (s .job .value) 0)
+sums-go-on s = isEnded (s .progress) && s .job .ended && eqb (s .job .samples) 30 && eqb (s .job .intervals) 2 && lt (bits one) (at (s .job .value) 0)
 
 -- "A step writes its own strip's pieces from the start of the scratch lent to it and leaves the rest", the last step
 -- too
@@ -215,20 +234,20 @@ abbrev pub last-strip-written : List Float → Bool
 last-strip-written scratch =
     eqb (length scratch) 128 && are (take 2 scratch) (third ∷ 0x3fe5_5555_5555_5555 ∷ []) && are (take 2 (drop 16 scratch)) (one ∷ one ∷ [])
 
-pub calls-hold : T (short-step && repeats && density-taken && density-left && job-ends && asked-again)
-unfolding ofBits toBits ofInt round add sub mul div lt le eq ne absOf every belowAll insert sorted isRefused firstRefusal scratchCheck densityCheck chordMoments largestHeight rootChordOf spanOf heights everyY placeAbove crossed crossings outlineCrossings endsAt paired scaleOf sumsFrom sampleOf plateOf nodes kronrodWeights gaussWeights heightsTo weightedTo pieceOf totalOf errorOf absolute relative converged scoreOf lastHighest worstPlace componentOf repeat halving withStrip onwardOf scratchOnward outcomeOf concludedSet afterStrip stepOf stepScratch changeOf
+pub calls-hold : T (short-step && repeats && no-limit && density-taken && density-left && job-ends && asked-again)
+unfolding ofBits toBits ofInt round add sub mul div lt le eq ne absOf every belowAll insert sorted isRefused firstRefusal scratchCheck densityCheck chordMoments largestHeight rootChordOf spanOf heights everyY placeAbove crossed crossings outlineCrossings endsAt paired scaleOf sumsFrom sampleOf plateOf nodes kronrodWeights gaussWeights heightsTo weightedTo pieceOf totalOf errorOf absolute relative converged scoreOf lastHighest worstPlace componentOf repeat halving withStrip onwardOf scratchOnward outcomeOf concludedSet afterStrip steppedOn stepOf changeOf
 calls-hold = tt
 
 -- each apart, since fifteen samples are worked for each piece, and by a `let`, by which they are worked once
 
-pub first-step-holds : T (let s = stepOf (worked 0 0 0 zeros) 128 in one-strip-a-step s)
-unfolding ofBits toBits ofInt round add sub mul div lt le eq ne absOf every belowAll insert sorted isRefused firstRefusal scratchCheck densityCheck chordMoments largestHeight rootChordOf spanOf heights everyY placeAbove crossed crossings outlineCrossings endsAt paired scaleOf sumsFrom sampleOf plateOf nodes kronrodWeights gaussWeights heightsTo weightedTo pieceOf totalOf errorOf absolute relative converged scoreOf lastHighest worstPlace componentOf repeat halving withStrip onwardOf scratchOnward outcomeOf concludedSet afterStrip stepOf stepScratch changeOf
+pub first-step-holds : T (let s = stepOf (worked 0 0 0 zeros) 128 .answer in one-strip-a-step s)
+unfolding ofBits toBits ofInt round add sub mul div lt le eq ne absOf every belowAll insert sorted isRefused firstRefusal scratchCheck densityCheck chordMoments largestHeight rootChordOf spanOf heights everyY placeAbove crossed crossings outlineCrossings endsAt paired scaleOf sumsFrom sampleOf plateOf nodes kronrodWeights gaussWeights heightsTo weightedTo pieceOf totalOf errorOf absolute relative converged scoreOf lastHighest worstPlace componentOf repeat halving withStrip onwardOf scratchOnward outcomeOf concludedSet afterStrip steppedOn stepOf changeOf
 first-step-holds = tt
 
-pub last-step-holds : T (let s = stepOf (worked 1 3 15 (map bits (one ∷ 0 ∷ 0 ∷ 0 ∷ 0 ∷ 0 ∷ 0 ∷ []))) 128 in sums-go-on s)
-unfolding ofBits toBits ofInt round add sub mul div lt le eq ne absOf every belowAll insert sorted isRefused firstRefusal scratchCheck densityCheck chordMoments largestHeight rootChordOf spanOf heights everyY placeAbove crossed crossings outlineCrossings endsAt paired scaleOf sumsFrom sampleOf plateOf nodes kronrodWeights gaussWeights heightsTo weightedTo pieceOf totalOf errorOf absolute relative converged scoreOf lastHighest worstPlace componentOf repeat halving withStrip onwardOf scratchOnward outcomeOf concludedSet afterStrip stepOf stepScratch changeOf
+pub last-step-holds : T (let s = stepOf (worked 1 3 15 (map bits (one ∷ 0 ∷ 0 ∷ 0 ∷ 0 ∷ 0 ∷ 0 ∷ []))) 128 .answer in sums-go-on s)
+unfolding ofBits toBits ofInt round add sub mul div lt le eq ne absOf every belowAll insert sorted isRefused firstRefusal scratchCheck densityCheck chordMoments largestHeight rootChordOf spanOf heights everyY placeAbove crossed crossings outlineCrossings endsAt paired scaleOf sumsFrom sampleOf plateOf nodes kronrodWeights gaussWeights heightsTo weightedTo pieceOf totalOf errorOf absolute relative converged scoreOf lastHighest worstPlace componentOf repeat halving withStrip onwardOf scratchOnward outcomeOf concludedSet afterStrip steppedOn stepOf changeOf
 last-step-holds = tt
 
-pub last-scratch-holds : T (let scratch = stepScratch (worked 1 3 15 zeros) (replicate 128 (bits one)) in last-strip-written scratch)
-unfolding ofBits toBits ofInt round add sub mul div lt le eq ne absOf every belowAll insert sorted isRefused firstRefusal scratchCheck densityCheck chordMoments largestHeight rootChordOf spanOf heights everyY placeAbove crossed crossings outlineCrossings endsAt paired scaleOf sumsFrom sampleOf plateOf nodes kronrodWeights gaussWeights heightsTo weightedTo pieceOf totalOf errorOf absolute relative converged scoreOf lastHighest worstPlace componentOf repeat halving withStrip onwardOf scratchOnward outcomeOf concludedSet afterStrip stepOf stepScratch changeOf
+pub last-scratch-holds : T (let scratch = stepOf (worked 1 3 15 zeros) 128 .leaves (replicate 128 (bits one)) in last-strip-written scratch)
+unfolding ofBits toBits ofInt round add sub mul div lt le eq ne absOf every belowAll insert sorted isRefused firstRefusal scratchCheck densityCheck chordMoments largestHeight rootChordOf spanOf heights everyY placeAbove crossed crossings outlineCrossings endsAt paired scaleOf sumsFrom sampleOf plateOf nodes kronrodWeights gaussWeights heightsTo weightedTo pieceOf totalOf errorOf absolute relative converged scoreOf lastHighest worstPlace componentOf repeat halving withStrip onwardOf scratchOnward outcomeOf concludedSet afterStrip steppedOn stepOf changeOf
 last-scratch-holds = tt

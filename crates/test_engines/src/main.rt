@@ -3,16 +3,18 @@
 ghost use Prim.Native.Nat.{_≤_};
 ghost use lib.ListN.{length};
 ghost use Rattle.lent_engines.specs.Lent.{Room};
-use engines::Service;
-use engines::Told;
 use fins::FinSet;
-use jobs::Answer;
 use jobs::Job;
+use jobs::Progress;
 use jobs::Reply;
+use jobs::Row;
 use lent_engines::ENGINE_COUNTS;
 use lent_engines::ENGINE_NUMBERS;
+use lent_jobs::MORE;
 use libc::STDOUT_FILENO;
 use materials::Density;
+use refusals::Refusal;
+use refusals::Verdict;
 use std::num::wrapping_add_u64;
 
 const CALLS: u64 = 40000;
@@ -36,30 +38,38 @@ struct Tally {
     differ: u64,
 }
 
-fn reply_number(reply: Reply) -> usize {
-    match reply {
-        Reply::More => 0,
-        Reply::Taken => 1,
-        Reply::Answered => 2,
+fn same_rows(a: Row, b: Row) -> bool {
+    let first = a.figures;
+    let second = b.figures;
+    test_sets::same_figures(first, second) & (a.number == b.number)
+}
+
+// What a submission or a change of density answers, by its number.
+fn reply_row(reply: Reply) -> Row {
+    let verdict = reply.verdict;
+    let figures = jobs::bare_figures(verdict, reply.samples);
+    jobs::figures_row(figures)
+}
+
+// What a step of a job alone answers, by its number.
+fn step_row(progress: Progress, job: Job) -> Row {
+    match progress {
+        Progress::Short => {
+            let figures = jobs::bare_figures(Verdict::Refused(Refusal::Scratch), job.samples);
+            jobs::figures_row(figures)
+        }
+        Progress::More => jobs::plain_row(MORE),
+        Progress::Ended => {
+            let outcome = job.outcome;
+            jobs::figures_row(outcome)
+        }
     }
 }
 
-fn same_answers(a: Answer, b: Answer) -> bool {
-    let of_a = a.reply;
-    let of_b = b.reply;
-    let first = a.figures;
-    let second = b.figures;
-    let figures = test_sets::same_figures(first, second);
-    figures & (reply_number(of_a) == reply_number(of_b))
-}
-
 // Whether an answer is this number, with no sample.
-fn is_refused(answer: Answer, number: usize) -> bool {
-    let reply = answer.reply;
-    let figures = answer.figures;
-    let verdict = figures.verdict;
-    let why = test_sets::reason(verdict);
-    (reply_number(reply) == 2) & (why[0] == number) & (figures.samples == 0)
+fn is_refused(row: Row, number: usize) -> bool {
+    let figures = row.figures;
+    (row.number == number) & (figures.samples == 0)
 }
 
 // Whether a screen's job runs; a number that is no screen's has none.
@@ -106,10 +116,10 @@ fn submitted(
     set: FinSet,
     points: &[f64],
     limit: usize,
-    answer: Answer,
+    row: Row,
 ) -> Called {
     if runs(alone, screen) | (screen < 1) | (8 < screen) {
-        let same = is_refused(answer, 23);
+        let same = is_refused(row, 23);
         return Called {
             alone,
             same,
@@ -118,8 +128,8 @@ fn submitted(
     }
     let made = jobs::make(set, points, limit);
     let job = made.job;
-    let expected = made.answer;
-    let same = same_answers(answer, expected);
+    let reply = made.reply;
+    let same = same_rows(row, reply_row(reply));
     let last = alone.last;
     let alone = with_job(alone, screen, job, !job.ended, last);
     Called {
@@ -136,8 +146,8 @@ fn submit(alone: Alone, seed: u64, numbers: &mut [f64], counts: &mut [usize]) ->
     let points = test_sets::outline(seed);
     let limit = 1 + ((seed >> 30) % 65) as usize;
     let set = test_sets::set_of(seed, Density::Bulk { kg_m3: 500.0 });
-    let answer = lent_engines::submit(numbers, counts, screen, set, &points, limit);
-    submitted(alone, screen, set, &points, limit, answer)
+    let reply = lent_engines::submit(numbers, counts, screen, set, &points, limit);
+    submitted(alone, screen, set, &points, limit, reply_row(reply))
 }
 
 // A density that is taken, one too large, or none of the plate's.
@@ -159,13 +169,14 @@ fn change(alone: Alone, seed: u64, numbers: &mut [f64], counts: &mut [usize]) ->
 {
     let screen = ((seed >> 40) % 10) as usize;
     let density = density(seed >> 8);
-    let answer = lent_engines::change_density(numbers, counts, screen, density);
+    let reply = lent_engines::change_density(numbers, counts, screen, density);
+    let row = reply_row(reply);
     if runs(alone, screen) {
         let job = job_of(alone, screen);
         let changed = jobs::change_by_value(job, density);
         let job = changed.job;
-        let expected = changed.answer;
-        let same = same_answers(answer, expected);
+        let expected = changed.reply;
+        let same = same_rows(row, reply_row(expected));
         let last = alone.last;
         let alone = with_job(alone, screen, job, true, last);
         return Called {
@@ -174,19 +185,11 @@ fn change(alone: Alone, seed: u64, numbers: &mut [f64], counts: &mut [usize]) ->
             ended: false,
         };
     }
-    let same = is_refused(answer, 12);
+    let same = is_refused(row, 12);
     Called {
         alone,
         same,
         ended: false,
-    }
-}
-
-fn service_number(service: Service) -> usize {
-    match service {
-        Service::Short => 0,
-        Service::Idle => 1,
-        Service::Step => 2,
     }
 }
 
@@ -199,10 +202,9 @@ fn short_turn(
 ) -> Called
     requires { ⌜ Room (now numbers) (now counts) × (1024 ≤ length (now scratch)) ⌝ }
 {
-    let told = lent_engines::turn(numbers, counts, &mut scratch[..1023]);
-    let service = told.service;
-    let answer = told.answer;
-    let same = is_refused(answer, 2) & (service_number(service) == 0) & (told.screen == 0);
+    let turn = lent_engines::turn(numbers, counts, &mut scratch[..1023]);
+    let row = lent_engines::turn_row(numbers, counts, turn);
+    let same = is_refused(row, 2) & (engines::served_screen(turn) == 0);
     Called {
         alone,
         same,
@@ -211,12 +213,10 @@ fn short_turn(
 }
 
 // What a turn of the engine told, beside a step of the job whose turn it is.
-fn stepped(alone: Alone, told: Told, scratch: &mut [f64]) -> Called {
-    let service = told.service;
-    let answer = told.answer;
+fn stepped(alone: Alone, served: usize, row: Row, scratch: &mut [f64]) -> Called {
     let screen = due(alone);
     if screen == 0 {
-        let same = (service_number(service) == 1) & (told.screen == 0);
+        let same = (row.number == 1001) & (served == 0);
         return Called {
             alone,
             same,
@@ -226,9 +226,8 @@ fn stepped(alone: Alone, told: Told, scratch: &mut [f64]) -> Called {
     let job = job_of(alone, screen);
     let stepped = jobs::step_by_value(job, scratch);
     let job = stepped.job;
-    let expected = stepped.answer;
-    let answers = same_answers(answer, expected) & (service_number(service) == 2);
-    let same = answers & (told.screen == screen);
+    let progress = stepped.progress;
+    let same = same_rows(row, step_row(progress, job)) & (served == screen);
     let ended = job.ended;
     let alone = with_job(alone, screen, job, !ended, screen);
     Called { alone, same, ended }
@@ -244,8 +243,9 @@ fn turn(
 ) -> Called
     requires { ⌜ Room (now numbers) (now counts) ⌝ }
 {
-    let told = lent_engines::turn(numbers, counts, scratch);
-    let called = stepped(alone, told, other);
+    let turn = lent_engines::turn(numbers, counts, scratch);
+    let row = lent_engines::turn_row(numbers, counts, turn);
+    let called = stepped(alone, engines::served_screen(turn), row, other);
     let alone = called.alone;
     let same = called.same & test_sets::same_numbers(scratch, other);
     Called {

@@ -5,7 +5,6 @@ ghost use Prim.Native.Nat.{_≤_};
 ghost use lib.ListN.{length};
 ghost use Rattle.lent_jobs.specs.Lent.{Room};
 use figures::Figures;
-use jobs::Answer;
 use jobs::Reply;
 use lent_jobs::JOB_COUNTS;
 use lent_jobs::JOB_NUMBERS;
@@ -19,30 +18,31 @@ const JOBS: u64 = 4000;
 // The calls that each job gets: enough to end it, and some after its end.
 const CALLS: u64 = 80;
 
-// One call by the row's number: a change, one that is refused, a step lent too little, or a step.
-fn call(numbers: &mut [f64], counts: &mut [usize], seed: u64, scratch: &mut [f64]) -> Answer
+fn is_taken(reply: Reply) -> bool {
+    let verdict = reply.verdict;
+    !refusals::is_refused(verdict)
+}
+
+// One call by the row's number, and whether it was a density that is taken: a change, one that is refused, a step lent too little, or a step.
+fn call(numbers: &mut [f64], counts: &mut [usize], seed: u64, scratch: &mut [f64]) -> bool
     requires { ⌜ Room (now numbers) (now counts) × (1024 ≤ length (now scratch)) ⌝ }
 {
     let pick = seed % 8;
     if pick == 0 {
         let kg_m3 = test_sets::wood(seed);
-        return lent_jobs::change_density(numbers, counts, Density::Bulk { kg_m3 });
+        let reply = lent_jobs::change_density(numbers, counts, Density::Bulk { kg_m3 });
+        return is_taken(reply);
     }
     if pick == 1 {
-        return lent_jobs::change_density(numbers, counts, Density::Surface { kg_m2: 1.0 });
+        let reply = lent_jobs::change_density(numbers, counts, Density::Surface { kg_m2: 1.0 });
+        return is_taken(reply);
     }
     if pick == 2 {
-        return lent_jobs::step(numbers, counts, &mut scratch[..15]);
+        lent_jobs::step(numbers, counts, &mut scratch[..15]);
+        return false;
     }
-    lent_jobs::step(numbers, counts, scratch)
-}
-
-fn is_taken(reply: Reply) -> bool {
-    match reply {
-        Reply::More => false,
-        Reply::Taken => true,
-        Reply::Answered => false,
-    }
+    lent_jobs::step(numbers, counts, scratch);
+    false
 }
 
 // Gives a job its calls, and returns the density that it accepted last.
@@ -60,9 +60,7 @@ fn drive(
     let mut calls: u64 = 0;
     while calls < CALLS {
         s = test_sets::after(s);
-        let answer = call(numbers, counts, s, scratch);
-        let reply = answer.reply;
-        accepted = if is_taken(reply) {
+        accepted = if call(numbers, counts, s, scratch) {
             test_sets::wood(s)
         } else {
             accepted
@@ -138,7 +136,8 @@ fn repeats(numbers: &mut [f64], counts: &mut [usize], fresh: Figures) -> bool
 {
     let mut few = [0.0; 4];
     let again = lent_jobs::step(numbers, counts, &mut few);
-    let figures = again.figures;
+    let row = lent_jobs::step_row(numbers, counts, again);
+    let figures = row.figures;
     test_sets::same_figures(figures, fresh)
 }
 
@@ -146,11 +145,10 @@ fn repeats(numbers: &mut [f64], counts: &mut [usize], fresh: Figures) -> bool
 fn refuses_change(numbers: &mut [f64], counts: &mut [usize], samples: usize) -> bool
     requires { ⌜ Room (now numbers) (now counts) ⌝ }
 {
-    let answer = lent_jobs::change_density(numbers, counts, Density::Bulk { kg_m3: 500.0 });
-    let figures = answer.figures;
-    let verdict = figures.verdict;
+    let reply = lent_jobs::change_density(numbers, counts, Density::Bulk { kg_m3: 500.0 });
+    let verdict = reply.verdict;
     let why = test_sets::reason(verdict);
-    (why[0] == 12) & (figures.samples == samples)
+    (why[0] == 12) & (reply.samples == samples)
 }
 
 // Whether the job has ended with these figures, answers them again, and refuses a change after its end.

@@ -44,18 +44,17 @@ use Rattle.materials.specs.declared.Density.{Density}
 use Rattle.materials.proofs.Density as D
 use Rattle.materials.proofs.Density.Laws as D′
 use Rattle.jobs.specs.declared.Job.{Job}
-use Rattle.jobs.specs.declared.Stepped.{Stepped}
-use Rattle.jobs.specs.declared.Answer.{Answer}
-use Rattle.refusals.proofs.Given.{is-answer}
-use Rattle.jobs.specs.Jobs.{IsStepped, changeOf}
+use Rattle.jobs.specs.declared.Replied.{Replied}
+use Rattle.jobs.specs.declared.Reply.{Reply}
+use Rattle.jobs.specs.Jobs.{IsReplied, changeOf}
 use Rattle.jobs.proofs.Thin.{Typed, pairTy, thinBy, ToldAt, Told, thin-by-runs}
-use Rattle.jobs.proofs.Rows.{jval, rval, jvals, rvals, svals, jtells, stells, job-is, answer-is}
+use Rattle.jobs.proofs.Rows.{jval, rval, jvals, rvals, pvals, jtells, ptells, replied-job, reply-is}
 use Rattle.jobs.proofs.Job as J
 use Rattle.jobs.proofs.Job.Laws as J′
-use Rattle.jobs.proofs.Answer as R
-use Rattle.jobs.proofs.Answer.Laws as R′
-use Rattle.jobs.proofs.Stepped as S
-use Rattle.jobs.proofs.Stepped.Laws as S′
+use Rattle.jobs.proofs.Reply as R
+use Rattle.jobs.proofs.Reply.Laws as R′
+use Rattle.jobs.proofs.Replied as P
+use Rattle.jobs.proofs.Replied.Laws as P′
 use Rattle.jobs.proofs.change_by_value as g
 use Rattle.jobs.proofs.change_by_value.Symbol as g-def
 use Rattle.jobs.proofs.change_by_value.Symbol.{name as #jobs·change-by-value}
@@ -104,17 +103,17 @@ module _ {M : Type 1} (𝓤 : URA M) (H : Heap 𝓤) (A : Atoms 𝓤) (W : Given
       qed W (‵ ftrue ∷ []) ∵ nothing ! $ owned ! D.the-row (Is D.the-row) (EL.makes D.the-type D′.the-plain 𝓤 H A) d _ gd $ fjoin ! $
       owned ! J.the-row (Is J.the-row) (LL.makes J.the-type J′.the-plain 𝓤 H A) h _ gh $ fjoin ! $ move ! (1 ∷ 0 ∷ []) $ join ! $ nothing ! $ move ! (1 ∷ 0 ∷ []) $ frame ! $ done !
 
-  abbrev Known : Stepped → Type 0
-  Known r = Is S.the-row r (svals r) × IsStepped r (changeOf h d)
+  abbrev Known : Replied → Type 0
+  Known r = Is P.the-row r (pvals r) × IsReplied r (changeOf h d)
 
-  exits : (r : Stepped) → Known r
-      → ent 𝓤 (⋆ 𝓤 H A (‵ (fobs γ (J.the-row .coded .code (r .job))) ∷ ‵ (fbor κ (Body (mem J.the-row) b o γ)) ∷ ‵ (flft κ q) ∷ [])) (Post (rval (r .answer)))
+  exits : (r : Replied) → Known r
+      → ent 𝓤 (⋆ 𝓤 H A (‵ (fobs γ (J.the-row .coded .code (r .job))) ∷ ‵ (fbor κ (Body (mem J.the-row) b o γ)) ∷ ‵ (flft κ q) ∷ [])) (Post (rval (r .reply)))
   exits r known =
       qed W (‵ (fobs γ (J.the-row .coded .code (r .job))) ∷ ‵ (fbor κ (Body (mem J.the-row) b o γ)) ∷ ‵ (flft κ q) ∷ []) ∵
-      suffices ! _ (ends-at 𝓤 H A f.ended stayed (f.clauses 𝓤 H A at-mem run) W (((κ, tt), (q, tt), tt, x, at), tt) (rval (r .answer)) (r .answer) (r .job, (tt, tt)) (tt, (tt, tt))) $
-      says ! (is-answer (ap (λ (t : Stepped). t .answer) (known .1 .is)), ap (λ (t : Stepped). t .job) (known .1 .is)) $ nothing ! $ move ! (3 ∷ 0 ∷ []) $ join ! $
+      suffices ! _ (ends-at 𝓤 H A f.ended stayed (f.clauses 𝓤 H A at-mem run) W (((κ, tt), (q, tt), tt, x, at), tt) (rval (r .reply)) (r .reply) (r .job, (tt, tt)) (tt, (tt, tt))) $
+      says ! (known .1) $ nothing ! $ move ! (3 ∷ 0 ∷ []) $ join ! $
       frame ! $ feqI ! (List Val) (vptr b o ∷ []) (vptr b o ∷ []) refl $ fjoin3 ! $ nothing ! $ owned ! D.the-row (Is D.the-row) (EL.makes D.the-type D′.the-plain 𝓤 H A) d _ gd $ fjoin ! $ move ! (1 ∷ 0 ∷ []) $ fjoin ! $
-      owned ! R.the-row (Is R.the-row) (LL.makes R.the-type R′.the-plain 𝓤 H A) (r .answer) _ (answer-is r (svals r) (known .0)) $ move ! (1 ∷ 0 ∷ []) $ done !
+      owned ! R.the-row (Is R.the-row) (LL.makes R.the-type R′.the-plain 𝓤 H A) (r .reply) _ (reply-is r (pvals r) (known .0)) $ move ! (1 ∷ 0 ∷ []) $ done !
 
   abbrev Own : SProp 𝓤
   Own = ⋆ 𝓤 H A (‵ (fobs γ (J.the-row .coded .code h)) ∷ ‵ (fbor κ (Body (mem J.the-row) b o γ)) ∷ ‵ (flft κ q) ∷ [])
@@ -123,17 +122,17 @@ module _ {M : Type 1} (𝓤 : URA M) (H : Heap 𝓤) (A : Atoms 𝓤) (W : Given
   Opened = ⋆ 𝓤 H A (‵ (fobor κ q (Body (mem J.the-row) b o γ)) ∷ ‵ (fobs γ (J.the-row .coded .code h)) ∷ ‵ (fauth γ (J.the-row .coded .code h)) ∷ [])
 
   -- behind the call, and at the end
-  abbrev MidAt : Val → Val → Stepped → Item 𝓤
-  MidAt u w r = given ((u ≡ jval (r .job)) × ((w ≡ rval (r .answer)) × Known r)) (‵ ftrue)
+  abbrev MidAt : Val → Val → Replied → Item 𝓤
+  MidAt u w r = given ((u ≡ jval (r .job)) × ((w ≡ rval (r .reply)) × Known r)) (‵ ftrue)
 
   abbrev Mid : Val → Val → SProp 𝓤
-  Mid u w = mean 𝓤 H A (some (λ (r : Stepped). MidAt u w r))
+  Mid u w = mean 𝓤 H A (some (λ (r : Replied). MidAt u w r))
 
-  abbrev FinalAt : Val → Stepped → Item 𝓤
-  FinalAt w r = given ((w ≡ rval (r .answer)) × Known r) (‵ (fobs γ (J.the-row .coded .code (r .job))) ⊛ ‵ (fbor κ (Body (mem J.the-row) b o γ)) ⊛ ‵ (flft κ q))
+  abbrev FinalAt : Val → Replied → Item 𝓤
+  FinalAt w r = given ((w ≡ rval (r .reply)) × Known r) (‵ (fobs γ (J.the-row .coded .code (r .job))) ⊛ ‵ (fbor κ (Body (mem J.the-row) b o γ)) ⊛ ‵ (flft κ q))
 
   abbrev Final : Val → SProp 𝓤
-  Final w = mean 𝓤 H A (some (λ (r : Stepped). FinalAt w r))
+  Final w = mean 𝓤 H A (some (λ (r : Replied). FinalAt w r))
 
   opening : ent 𝓤 Own (mean 𝓤 H A (later (given (Is J.the-row h (jvals h)) (‵ (fat fullShare (rawTy J′.mir) b o (jval h)) ⊛ raw Opened))))
   opening =
@@ -141,41 +140,41 @@ module _ {M : Type 1} (𝓤 : URA M) (H : Heap 𝓤) (A : Atoms 𝓤) (W : Given
       opens ! tt J.the-row {h = h} b o (λ vs. spelt ! J.the-row (Is J.the-row) (shows 𝓤 H A J.the-row) jvals jtells fullShare h vs b o $
       move ! (1 ∷ []) $ peeks ! J.the-row (Is J.the-row) (shows 𝓤 H A J.the-row) h (jvals h) (λ was. drop ! $ at-once ! $ check ! was $ done !))
 
-  told : (v : Val) → ent 𝓤 (ByValue 𝓤 H A at-mem run .post to v) (Told 𝓤 H A (S.the-type .name) J′.mir R′.mir Mid v)
+  told : (v : Val) → ent 𝓤 (ByValue 𝓤 H A at-mem run .post to v) (Told 𝓤 H A (P.the-type .name) J′.mir R′.mir Mid v)
   told v =
       qed W (raw (ByValue 𝓤 H A at-mem run .post to v) ∷ []) ∵ updating ! $
-      use1 W (later (some (λ (r : Stepped). (‵ ftrue ⊛ ‵ (S.the-row .own r (v ∷ []))) ⊛ raw (ensured 𝓤 H A g.ended (g.clauses 𝓤 H A at-mem run) tt (h, (d, tt)) tt r)))) (id⊢ 𝓤 _) $ await ! tt $ pick ! (λ r.
-      split ! $ move ! (1 ∷ []) $ use1 W (some (λ (zs : Unit {0} × (Unit {0} × Unit {0})). ‵ (lasts g.ended tt (h, (d, tt)) zs) ⊛ raw (fact 𝓤 (IsStepped r (changeOf h d))))) (id⊢ 𝓤 _) $ pick ! (λ zs.
-      split ! $ move ! (1 ∷ []) $ heard ! (IsStepped r (changeOf h d)) (λ e. move ! (1 ∷ []) $ split ! $ move ! (1 ∷ []) $ peeks ! S.the-row (Is S.the-row) (shows 𝓤 H A S.the-row) r (v ∷ []) (λ is. drop ! $
-      at-once ! $ show ! (λ (u : Val). mean 𝓤 H A (some (λ (w : Val). Now u w))) (jval (r .job)) $ show ! (λ (w : Val). mean 𝓤 H A (Now (jval (r .job)) w)) (rval (r .answer)) $
-      check ! (ap only (stells r (v ∷ []) is), (s-typed r is, (j-typed (r .job) (job-is r (v ∷ []) is), r-typed (r .answer) (answer-is r (v ∷ []) is)))) $
-      show ! (λ (t : Stepped). mean 𝓤 H A (MidAt (jval (r .job)) (rval (r .answer)) t)) r $ check ! (refl, (refl, (rw (← stells r (v ∷ []) is) is, e))) $ keep ! (0 ∷ []) $ done !))))
+      use1 W (later (some (λ (r : Replied). (‵ ftrue ⊛ ‵ (P.the-row .own r (v ∷ []))) ⊛ raw (ensured 𝓤 H A g.ended (g.clauses 𝓤 H A at-mem run) tt (h, (d, tt)) tt r)))) (id⊢ 𝓤 _) $ await ! tt $ pick ! (λ r.
+      split ! $ move ! (1 ∷ []) $ use1 W (some (λ (zs : Unit {0} × (Unit {0} × Unit {0})). ‵ (lasts g.ended tt (h, (d, tt)) zs) ⊛ raw (fact 𝓤 (IsReplied r (changeOf h d))))) (id⊢ 𝓤 _) $ pick ! (λ zs.
+      split ! $ move ! (1 ∷ []) $ heard ! (IsReplied r (changeOf h d)) (λ e. move ! (1 ∷ []) $ split ! $ move ! (1 ∷ []) $ peeks ! P.the-row (Is P.the-row) (shows 𝓤 H A P.the-row) r (v ∷ []) (λ is. drop ! $
+      at-once ! $ show ! (λ (u : Val). mean 𝓤 H A (some (λ (w : Val). Now u w))) (jval (r .job)) $ show ! (λ (w : Val). mean 𝓤 H A (Now (jval (r .job)) w)) (rval (r .reply)) $
+      check ! (ap only (ptells r (v ∷ []) is), (p-typed r is, (j-typed (r .job) (replied-job r (v ∷ []) is), r-typed (r .reply) (reply-is r (v ∷ []) is)))) $
+      show ! (λ (t : Replied). mean 𝓤 H A (MidAt (jval (r .job)) (rval (r .reply)) t)) r $ check ! (refl, (refl, (rw (← ptells r (v ∷ []) is) is, e))) $ keep ! (0 ∷ []) $ done !))))
     where
       Now : Val → Val → Item 𝓤
-      Now = ToldAt 𝓤 H A (S.the-type .name) J′.mir R′.mir Mid v
+      Now = ToldAt 𝓤 H A (P.the-type .name) J′.mir R′.mir Mid v
 
-      s-typed : (r : Stepped) → Is S.the-row r (v ∷ []) → Typed (pairTy (S.the-type .name) J′.mir R′.mir) v
-      s-typed r is = LL.lawful S.the-type S′.the-laws 𝓤 H A W .typed r (v ∷ []) is .0
+      p-typed : (r : Replied) → Is P.the-row r (v ∷ []) → Typed (pairTy (P.the-type .name) J′.mir R′.mir) v
+      p-typed r is = LL.lawful P.the-type P′.the-laws 𝓤 H A W .typed r (v ∷ []) is .0
 
       j-typed : (j : Job) → Is J.the-row j (jvals j) → Typed J′.mir (jval j)
       j-typed j is = LL.lawful J.the-type J′.the-laws 𝓤 H A W .typed j (jvals j) is .0
 
-      r-typed : (a : Answer) → Is R.the-row a (rvals a) → Typed R′.mir (rval a)
+      r-typed : (a : Reply) → Is R.the-row a (rvals a) → Typed R′.mir (rval a)
       r-typed a is = LL.lawful R.the-type R′.the-laws 𝓤 H A W .typed a (rvals a) is .0
 
   closing : (u w : Val) → ent 𝓤 (sep 𝓤 (sem 𝓤 H A (fat fullShare (rawTy J′.mir) b o u)) (sep 𝓤 Opened (Mid u w))) (H .⇛ (Final w))
   closing u w =
       qed W (‵ (fat fullShare (rawTy J′.mir) b o u) ∷ raw Opened ∷ raw (Mid u w) ∷ []) ∵ updating ! $ move ! (2 ∷ []) $
-      use1 W (some (λ (r : Stepped). MidAt u w r)) (id⊢ 𝓤 _) $ pick ! (λ r. learn ! (λ m. drop ! $
+      use1 W (some (λ (r : Replied). MidAt u w r)) (id⊢ 𝓤 _) $ pick ! (λ r. learn ! (λ m. drop ! $
       rewrite ! 0 (λ (v : Val). ‵ (fat fullShare (rawTy J′.mir) b o v)) (m .0) refl $ move ! (1 ∷ []) $
       use1 W (‵ (fobor κ q (Body (mem J.the-row) b o γ)) ⊛ ‵ (fobs γ (J.the-row .coded .code h)) ⊛ ‵ (fauth γ (J.the-row .coded .code h))) (id⊢ 𝓤 _) $ split ! $ move ! (1 ∷ []) $ split ! $
-      owned ! J.the-row (Is J.the-row) (LL.makes J.the-type J′.the-plain 𝓤 H A) (r .job) _ (job-is r (svals r) (m .1 .1 .0)) $ move ! (4 ∷ 0 ∷ 3 ∷ 1 ∷ 2 ∷ []) $
+      owned ! J.the-row (Is J.the-row) (LL.makes J.the-type J′.the-plain 𝓤 H A) (r .job) _ (replied-job r (pvals r) (m .1 .1 .0)) $ move ! (4 ∷ 0 ∷ 3 ∷ 1 ∷ 2 ∷ []) $
       closes ! tt J.the-row (r .job) (jvals (r .job)) b o $
-      at-once ! $ show ! (λ (t : Stepped). mean 𝓤 H A (FinalAt w t)) r $ check ! (m .1) $ done !))
+      at-once ! $ show ! (λ (t : Replied). mean 𝓤 H A (FinalAt w t)) r $ check ! (m .1) $ done !))
 
   finish : (w : Val) → ent 𝓤 (Final w) (Post w)
   finish w =
-      qed W (raw (Final w) ∷ []) ∵ use1 W (some (λ (r : Stepped). FinalAt w r)) (id⊢ 𝓤 _) $
+      qed W (raw (Final w) ∷ []) ∵ use1 W (some (λ (r : Replied). FinalAt w r)) (id⊢ 𝓤 _) $
       pick ! (λ r. learn ! (λ m. by ! (subst (λ (v : Val). ent 𝓤 (⋆ 𝓤 H A (‵ (fobs γ (J.the-row .coded .code (r .job))) ∷ ‵ (fbor κ (Body (mem J.the-row) b o γ)) ∷ ‵ (flft κ q) ∷ [])) (Post v)) (sym (m .0)) (exits r (m .1)))))
 
   module _ (C : Calls 𝓤 H) (Λ : Loops 𝓤 H) (fm : FmC 𝓤 H (W .laws) C) (known : Triple 𝓤 (C #jobs·change-by-value) (ByValue 𝓤 H A at-mem run)) where
@@ -185,10 +184,10 @@ module _ {M : Type 1} (𝓤 : URA M) (H : Heap 𝓤) (A : Atoms 𝓤) (W : Given
         -- [obs; the borrow; what d owns; the token; true]
         keep ! (0 ∷ 1 ∷ 3 ∷ 4 ∷ []) $ by ! (via 𝓤 (sep 𝓤 Own Pre) shuffle
         (subst (λ (c : Fn). ent 𝓤 (sep 𝓤 Own Pre) (WpFn 𝓤 H C Λ c (vptr b o ∷ e ∷ []) Post)) (sym same-code)
-        (thin-by-runs 𝓤 H A W C Λ fm #jobs·change-by-value (S.the-type .name) (pointee (J.the-row .written)) J′.mir D′.mir R′.mir b o
+        (thin-by-runs 𝓤 H A W C Λ fm #jobs·change-by-value (P.the-type .name) (pointee (J.the-row .written)) J′.mir D′.mir R′.mir b o
         (Is J.the-row h (jvals h)) (jval h) e Own Opened Pre (ByValue 𝓤 H A at-mem run .post to) Mid Final Post (EL.lawful D.the-type D′.the-laws 𝓤 H A W tt .typed d _ gd .0) (λ was. LL.lawful J.the-type J′.the-laws 𝓤 H A W .typed h _ was .0) opening (λ was. via 𝓤 _ (asked was) (known to)) told closing finish)))
       where
-        same-code : code.function ≡ thinBy #jobs·change-by-value (S.the-type .name) (pointee (J.the-row .written)) J′.mir D′.mir R′.mir
+        same-code : code.function ≡ thinBy #jobs·change-by-value (P.the-type .name) (pointee (J.the-row .written)) J′.mir D′.mir R′.mir
         same-code = refl
 
         shuffle : ent 𝓤 (⋆ 𝓤 H A (‵ (fobs γ (J.the-row .coded .code h)) ∷ ‵ (fbor κ (Body (mem J.the-row) b o γ)) ∷ ‵ (flft κ q) ∷ ‵ ftrue ∷ [])) (sep 𝓤 Own Pre)

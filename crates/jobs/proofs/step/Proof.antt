@@ -32,6 +32,7 @@ use denote.Signature.{plain}
 use denote.Steps.{opens, closes, owned, peeks, heard, only, nothing}
 use denote.Struct.Steps.{spelt}
 use denote.Struct.Laws as LL
+use denote.Enum.Laws as EL
 use denote.Triple.Statement.{Contract, Triple}
 use denote.Triple.Entry.{onEntry}
 use denote.Triple.Clauses.{ensured, lasts}
@@ -40,15 +41,14 @@ use denote.Triple.Table.{entered, cited}
 use denote.Triple.Walked.{says, Stays, stay-ref, gave-slice, walkOf, goes-gave-slice, goes-ref, Walks, ends-at, walked, walk-meets}
 use Rattle.jobs.specs.declared.Job.{Job}
 use Rattle.jobs.specs.declared.Stepped.{Stepped}
-use Rattle.jobs.specs.declared.Answer.{Answer}
-use Rattle.refusals.proofs.Given.{is-answer}
-use Rattle.jobs.specs.Jobs.{stepOf, stepScratch, StepsTo}
+use Rattle.jobs.specs.declared.Progress.{Progress}
+use Rattle.jobs.specs.Jobs.{StepsTo}
 use Rattle.jobs.proofs.Thin.{Typed, pairTy, thin, ToldAt, Told, thin-runs}
-use Rattle.jobs.proofs.Rows.{jval, rval, jvals, rvals, svals, jtells, stells, job-is, answer-is}
+use Rattle.jobs.proofs.Rows.{jval, tval, jvals, tvals, svals, jtells, stells, stepped-job, progress-is}
 use Rattle.jobs.proofs.Job as J
 use Rattle.jobs.proofs.Job.Laws as J′
-use Rattle.jobs.proofs.Answer as R
-use Rattle.jobs.proofs.Answer.Laws as R′
+use Rattle.jobs.proofs.Progress as T
+use Rattle.jobs.proofs.Progress.Laws as T′
 use Rattle.jobs.proofs.Stepped as S
 use Rattle.jobs.proofs.Stepped.Laws as S′
 use Rattle.jobs.proofs.step_by_value as g
@@ -101,13 +101,13 @@ module _ {M : Type 1} (𝓤 : URA M) (H : Heap 𝓤) (A : Atoms 𝓤) (W : Given
   Known r zs = Is S.the-row r (svals r) × (Said r zs × (length zs ≡ length ys))
 
   exits : (r : Stepped) (vs : List Val) → Is S.the-row r vs → (zs : List Float) → Said r zs → length zs ≡ length ys
-      → ent 𝓤 (⋆ 𝓤 H A (‵ (fobs γ (J.the-row .coded .code (r .job))) ∷ ‵ (fbor κ (Body (mem J.the-row) b o γ)) ∷ ‵ (flft κ q) ∷ (‵ (flft κ′ q′) ⊛ ‵ ftrue) ∷ ‵ (finally f64 γ′ zs) ∷ [])) (Post (rval (r .answer)))
+      → ent 𝓤 (⋆ 𝓤 H A (‵ (fobs γ (J.the-row .coded .code (r .job))) ∷ ‵ (fbor κ (Body (mem J.the-row) b o γ)) ∷ ‵ (flft κ q) ∷ (‵ (flft κ′ q′) ⊛ ‵ ftrue) ∷ ‵ (finally f64 γ′ zs) ∷ [])) (Post (tval (r .progress)))
   exits r vs is zs e l =
       qed W (‵ (fobs γ (J.the-row .coded .code (r .job))) ∷ ‵ (fbor κ (Body (mem J.the-row) b o γ)) ∷ ‵ (flft κ q) ∷ (‵ (flft κ′ q′) ⊛ ‵ ftrue) ∷ ‵ (finally f64 γ′ zs) ∷ []) ∵
-      suffices ! _ (ends-at 𝓤 H A f.ended stayed (f.clauses 𝓤 H A at-mem run) W (((κ, (κ′, tt)), (q, (q′, tt)), bounds, x, at), tt) (rval (r .answer)) (r .answer) (r .job, (zs, tt)) (tt, (l, tt))) $
-      says ! (is-answer (ap (λ (t : Stepped). t .answer) (e .stepped)), (ap (λ (t : Stepped). t .job) (e .stepped), e .scratch)) $ move ! (2 ∷ 3 ∷ []) $ join ! $
+      suffices ! _ (ends-at 𝓤 H A f.ended stayed (f.clauses 𝓤 H A at-mem run) W (((κ, (κ′, tt)), (q, (q′, tt)), bounds, x, at), tt) (tval (r .progress)) (r .progress) (r .job, (zs, tt)) (tt, (l, tt))) $
+      says ! e $ move ! (2 ∷ 3 ∷ []) $ join ! $
       frame ! $ feqI ! (List Val) (vptr b o ∷ []) (vptr b o ∷ []) refl $ fjoin3 ! $ nothing ! $ move ! (2 ∷ 0 ∷ []) $ fjoin ! $ move ! (1 ∷ 0 ∷ []) $ fjoin ! $
-      owned ! R.the-row (Is R.the-row) (LL.makes R.the-type R′.the-plain 𝓤 H A) (r .answer) _ (answer-is r vs is) $ move ! (1 ∷ 0 ∷ []) $ done !
+      owned ! T.the-row (Is T.the-row) (EL.makes T.the-type T′.the-plain 𝓤 H A) (r .progress) _ (progress-is r vs is) $ move ! (1 ∷ 0 ∷ []) $ done !
 
   abbrev Own : SProp 𝓤
   Own = ⋆ 𝓤 H A (‵ (fobs γ (J.the-row .coded .code h)) ∷ ‵ (fbor κ (Body (mem J.the-row) b o γ)) ∷ ‵ (flft κ q) ∷ [])
@@ -120,13 +120,13 @@ module _ {M : Type 1} (𝓤 : URA M) (H : Heap 𝓤) (A : Atoms 𝓤) (W : Given
 
   -- behind the call, and at the end
   abbrev MidAt : Val → Val → Stepped → List Float → Item 𝓤
-  MidAt u w r zs = given ((u ≡ jval (r .job)) × ((w ≡ rval (r .answer)) × Known r zs)) ((‵ (flft κ′ q′) ⊛ ‵ ftrue) ⊛ ‵ (finally f64 γ′ zs))
+  MidAt u w r zs = given ((u ≡ jval (r .job)) × ((w ≡ tval (r .progress)) × Known r zs)) ((‵ (flft κ′ q′) ⊛ ‵ ftrue) ⊛ ‵ (finally f64 γ′ zs))
 
   abbrev Mid : Val → Val → SProp 𝓤
   Mid u w = mean 𝓤 H A (some (λ (r : Stepped). some (λ (zs : List Float). MidAt u w r zs)))
 
   abbrev FinalAt : Val → Stepped → List Float → Item 𝓤
-  FinalAt w r zs = given ((w ≡ rval (r .answer)) × Known r zs) (‵ (fobs γ (J.the-row .coded .code (r .job))) ⊛ ‵ (fbor κ (Body (mem J.the-row) b o γ)) ⊛ ‵ (flft κ q) ⊛ (‵ (flft κ′ q′) ⊛ ‵ ftrue) ⊛ ‵ (finally f64 γ′ zs))
+  FinalAt w r zs = given ((w ≡ tval (r .progress)) × Known r zs) (‵ (fobs γ (J.the-row .coded .code (r .job))) ⊛ ‵ (fbor κ (Body (mem J.the-row) b o γ)) ⊛ ‵ (flft κ q) ⊛ (‵ (flft κ′ q′) ⊛ ‵ ftrue) ⊛ ‵ (finally f64 γ′ zs))
 
   abbrev Final : Val → SProp 𝓤
   Final w = mean 𝓤 H A (some (λ (r : Stepped). some (λ (zs : List Float). FinalAt w r zs)))
@@ -137,7 +137,7 @@ module _ {M : Type 1} (𝓤 : URA M) (H : Heap 𝓤) (A : Atoms 𝓤) (W : Given
       opens ! tt J.the-row {h = h} b o (λ vs. spelt ! J.the-row (Is J.the-row) (shows 𝓤 H A J.the-row) jvals jtells fullShare h vs b o $
       move ! (1 ∷ []) $ peeks ! J.the-row (Is J.the-row) (shows 𝓤 H A J.the-row) h (jvals h) (λ was. drop ! $ at-once ! $ check ! was $ done !))
 
-  told : (v : Val) → ent 𝓤 (ByValue 𝓤 H A at-mem run .post to v) (Told 𝓤 H A (S.the-type .name) J′.mir R′.mir Mid v)
+  told : (v : Val) → ent 𝓤 (ByValue 𝓤 H A at-mem run .post to v) (Told 𝓤 H A (S.the-type .name) J′.mir T′.mir Mid v)
   told v =
       qed W (raw (ByValue 𝓤 H A at-mem run .post to v) ∷ []) ∵ updating ! $
       use1 W (later (some (λ (r : Stepped). ((‵ (flft κ′ q′) ⊛ ‵ ftrue) ⊛ ‵ (S.the-row .own r (v ∷ []))) ⊛ raw (ensured 𝓤 H A g.ended (g.clauses 𝓤 H A at-mem run) (κ′, tt) (h, (y, tt)) tt r)))) (id⊢ 𝓤 _) $ await ! tt $ pick ! (λ r.
@@ -145,20 +145,20 @@ module _ {M : Type 1} (𝓤 : URA M) (H : Heap 𝓤) (A : Atoms 𝓤) (W : Given
       split ! $ move ! (1 ∷ []) $ heard ! (Said r (zs .1 .0)) (λ e. fsplit ! $ move ! (1 ∷ []) $ fsplit ! $ fsplit ! $ move ! (1 ∷ []) $ feqL ! (λ l.
       -- [the last list; true; true; the token and the result]
       move ! (3 ∷ []) $ split ! $ move ! (1 ∷ []) $ peeks ! S.the-row (Is S.the-row) (shows 𝓤 H A S.the-row) r (v ∷ []) (λ is. drop ! $
-      at-once ! $ show ! (λ (u : Val). mean 𝓤 H A (some (λ (w : Val). Now u w))) (jval (r .job)) $ show ! (λ (w : Val). mean 𝓤 H A (Now (jval (r .job)) w)) (rval (r .answer)) $ check ! (ap only (stells r (v ∷ []) is), (s-typed r is, (j-typed (r .job) (job-is r (v ∷ []) is), r-typed (r .answer) (answer-is r (v ∷ []) is)))) $
-      show ! (λ (t : Stepped). mean 𝓤 H A (some (λ (ws : List Float). MidAt (jval (r .job)) (rval (r .answer)) t ws))) r $ show ! (λ (ws : List Float). mean 𝓤 H A (MidAt (jval (r .job)) (rval (r .answer)) r ws)) (zs .1 .0) $ check ! (refl, (refl, (rw (← stells r (v ∷ []) is) is, (e, l)))) $ keep ! (0 ∷ 1 ∷ []) $ done !)))))
+      at-once ! $ show ! (λ (u : Val). mean 𝓤 H A (some (λ (w : Val). Now u w))) (jval (r .job)) $ show ! (λ (w : Val). mean 𝓤 H A (Now (jval (r .job)) w)) (tval (r .progress)) $ check ! (ap only (stells r (v ∷ []) is), (s-typed r is, (j-typed (r .job) (stepped-job r (v ∷ []) is), t-typed (r .progress) (progress-is r (v ∷ []) is)))) $
+      show ! (λ (t : Stepped). mean 𝓤 H A (some (λ (ws : List Float). MidAt (jval (r .job)) (tval (r .progress)) t ws))) r $ show ! (λ (ws : List Float). mean 𝓤 H A (MidAt (jval (r .job)) (tval (r .progress)) r ws)) (zs .1 .0) $ check ! (refl, (refl, (rw (← stells r (v ∷ []) is) is, (e, l)))) $ keep ! (0 ∷ 1 ∷ []) $ done !)))))
     where
       Now : Val → Val → Item 𝓤
-      Now = ToldAt 𝓤 H A (S.the-type .name) J′.mir R′.mir Mid v
+      Now = ToldAt 𝓤 H A (S.the-type .name) J′.mir T′.mir Mid v
 
-      s-typed : (r : Stepped) → Is S.the-row r (v ∷ []) → Typed (pairTy (S.the-type .name) J′.mir R′.mir) v
+      s-typed : (r : Stepped) → Is S.the-row r (v ∷ []) → Typed (pairTy (S.the-type .name) J′.mir T′.mir) v
       s-typed r is = LL.lawful S.the-type S′.the-laws 𝓤 H A W .typed r (v ∷ []) is .0
 
       j-typed : (j : Job) → Is J.the-row j (jvals j) → Typed J′.mir (jval j)
       j-typed j is = LL.lawful J.the-type J′.the-laws 𝓤 H A W .typed j (jvals j) is .0
 
-      r-typed : (a : Answer) → Is R.the-row a (rvals a) → Typed R′.mir (rval a)
-      r-typed a is = LL.lawful R.the-type R′.the-laws 𝓤 H A W .typed a (rvals a) is .0
+      t-typed : (a : Progress) → Is T.the-row a (tvals a) → Typed T′.mir (tval a)
+      t-typed a is = EL.lawful T.the-type T′.the-laws 𝓤 H A W tt .typed a (tvals a) is .0
 
   closing : (u w : Val) → ent 𝓤 (sep 𝓤 (sem 𝓤 H A (fat fullShare (rawTy J′.mir) b o u)) (sep 𝓤 Opened (Mid u w))) (H .⇛ (Final w))
   closing u w =
@@ -166,7 +166,7 @@ module _ {M : Type 1} (𝓤 : URA M) (H : Heap 𝓤) (A : Atoms 𝓤) (W : Given
       use1 W (some (λ (r : Stepped). some (λ (zs : List Float). MidAt u w r zs))) (id⊢ 𝓤 _) $
       pick ! (λ r. pick ! (λ zs. learn ! (λ k. move ! (1 ∷ []) $ rewrite ! 0 (λ (v : Val). ‵ (fat fullShare (rawTy J′.mir) b o v)) (k .0) refl $ move ! (2 ∷ []) $
       use1 W (‵ (fobor κ q (Body (mem J.the-row) b o γ)) ⊛ ‵ (fobs γ (J.the-row .coded .code h)) ⊛ ‵ (fauth γ (J.the-row .coded .code h))) (id⊢ 𝓤 _) $ split ! $ move ! (1 ∷ []) $ split ! $
-      owned ! J.the-row (Is J.the-row) (LL.makes J.the-type J′.the-plain 𝓤 H A) (r .job) _ (job-is r (svals r) (k .1 .1 .0)) $ move ! (4 ∷ 0 ∷ 3 ∷ 1 ∷ 2 ∷ []) $
+      owned ! J.the-row (Is J.the-row) (LL.makes J.the-type J′.the-plain 𝓤 H A) (r .job) _ (stepped-job r (svals r) (k .1 .1 .0)) $ move ! (4 ∷ 0 ∷ 3 ∷ 1 ∷ 2 ∷ []) $
       closes ! tt J.the-row (r .job) (jvals (r .job)) b o $
       at-once ! $ show ! (λ (t : Stepped). mean 𝓤 H A (some (λ (ws : List Float). FinalAt w t ws))) r $ show ! (λ (ws : List Float). mean 𝓤 H A (FinalAt w r ws)) zs $ check ! (k .1) $ move ! (3 ∷ []) $ split ! $ move ! (2 ∷ 3 ∷ 4 ∷ 0 ∷ 1 ∷ []) $ done !)))
 
@@ -183,10 +183,10 @@ module _ {M : Type 1} (𝓤 : URA M) (H : Heap 𝓤) (A : Atoms 𝓤) (W : Given
         -- [what the scratch owns; true; obs; the borrow; the token; the scratch's token]
         keep ! (2 ∷ 3 ∷ 4 ∷ 5 ∷ 0 ∷ []) $ by ! (via 𝓤 (sep 𝓤 Own Pre) (shuffle)
         (subst (λ (c : Fn). ent 𝓤 (sep 𝓤 Own Pre) (WpFn 𝓤 H C Λ c (vptr b o ∷ s ∷ []) Post)) (sym same-code)
-        (thin-runs 𝓤 H A W C Λ fm #jobs·step-by-value (S.the-type .name) (pointee (J.the-row .written)) J′.mir R′.mir b o b′ o′ (length ys) (record { fits = room .0 })
+        (thin-runs 𝓤 H A W C Λ fm #jobs·step-by-value (S.the-type .name) (pointee (J.the-row .written)) J′.mir T′.mir b o b′ o′ (length ys) (record { fits = room .0 })
         (Is J.the-row h (jvals h)) (jval h) Own Opened Pre (ByValue 𝓤 H A at-mem run .post to) Mid Final Post (λ was. LL.lawful J.the-type J′.the-laws 𝓤 H A W .typed h _ was .0) opening (λ was. via 𝓤 _ (asked was) (known to)) told closing finish)))
       where
-        same-code : code.function ≡ thin #jobs·step-by-value (S.the-type .name) (pointee (J.the-row .written)) J′.mir R′.mir
+        same-code : code.function ≡ thin #jobs·step-by-value (S.the-type .name) (pointee (J.the-row .written)) J′.mir T′.mir
         same-code = refl
 
         shuffle : ent 𝓤 (⋆ 𝓤 H A (‵ (fobs γ (J.the-row .coded .code h)) ∷ ‵ (fbor κ (Body (mem J.the-row) b o γ)) ∷ ‵ (flft κ q) ∷ (‵ (flft κ′ q′) ⊛ ‵ ftrue) ∷ ‵ (MutSlice (named 1) κ′ f64 .own y (s ∷ [])) ∷ [])) (sep 𝓤 Own Pre)

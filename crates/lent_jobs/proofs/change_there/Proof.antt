@@ -42,12 +42,12 @@ use Rattle.materials.specs.declared.Density.{Density}
 use Rattle.materials.proofs.Density as D
 use Rattle.materials.proofs.Density.Laws as D′
 use Rattle.jobs.specs.declared.Job.{Job}
-use Rattle.jobs.specs.declared.Answer.{Answer}
+use Rattle.jobs.specs.declared.Reply.{Reply}
 use Rattle.jobs.specs.Lent.{ChangesLent}
 use Rattle.jobs.proofs.Job as J
 use Rattle.jobs.proofs.Job.Laws as J′
-use Rattle.jobs.proofs.Answer as R
-use Rattle.jobs.proofs.Answer.Laws as R′
+use Rattle.jobs.proofs.Reply as R
+use Rattle.jobs.proofs.Reply.Laws as R′
 use Rattle.jobs.proofs.Rows.{jvals}
 use Rattle.jobs.proofs.change_density as g
 use Rattle.jobs.proofs.change_density.Met as g-thm
@@ -108,19 +108,19 @@ module _ {M : Type 1} (𝓤 : URA M) (H : Heap 𝓤) (A : Atoms 𝓤) (W : Given
   abbrev In : SProp 𝓤
   In = sem 𝓤 H A ftrue
 
-  abbrev Told : Val → Job → Answer → Type 0
+  abbrev Told : Val → Job → Reply → Type 0
   Told a j r = Is R.the-row r (a ∷ []) × ChangesLent (jobAt P) d r j
 
-  abbrev OutAt : Val → Job → Answer → Item 𝓤
+  abbrev OutAt : Val → Job → Reply → Item 𝓤
   OutAt a j r = given (Told a j r) (‵ ftrue)
 
   abbrev Out : Val → Job → SProp 𝓤
-  Out a j = mean 𝓤 H A (some (λ (r : Answer). OutAt a j r))
+  Out a j = mean 𝓤 H A (some (λ (r : Reply). OutAt a j r))
 
   answers : (a : Val) (j : Job) → ent 𝓤 (Out a j) (mean 𝓤 H A (given (Typed R′.mir a) (raw (Out a j))))
   answers a j =
-      qed W (raw (Out a j) ∷ []) ∵ use1 W (some (λ (r : Answer). OutAt a j r)) (id⊢ 𝓤 _) $ pick ! (λ r. learn ! (λ k.
-      check ! (LL.lawful R.the-type R′.the-laws 𝓤 H A W .typed r (a ∷ []) (k .0) .0) $ show ! (λ (r : Answer). mean 𝓤 H A (OutAt a j r)) r $
+      qed W (raw (Out a j) ∷ []) ∵ use1 W (some (λ (r : Reply). OutAt a j r)) (id⊢ 𝓤 _) $ pick ! (λ r. learn ! (λ k.
+      check ! (LL.lawful R.the-type R′.the-laws 𝓤 H A W .typed r (a ∷ []) (k .0) .0) $ show ! (λ (r : Reply). mean 𝓤 H A (OutAt a j r)) r $
       check ! k $ done !))
 
   module _ (l α : ℕ) (δ : GName) where
@@ -142,7 +142,7 @@ module _ {M : Type 1} (𝓤 : URA M) (H : Heap 𝓤) (A : Atoms 𝓤) (W : Given
     told : (v : Val) → ent 𝓤 (Change 𝓤 H A at-mem run .post to v) (mean 𝓤 H A (CallPost 𝓤 H A W Out α δ v))
     told v =
         qed W (raw (Change 𝓤 H A at-mem run .post to v) ∷ []) ∵ updating ! $
-        use1 W (later (some (λ (r : Answer). ((‵ (flft (α ∷ []) fullShare) ⊛ ‵ ftrue) ⊛ ‵ (R.the-row .own r (v ∷ [])))
+        use1 W (later (some (λ (r : Reply). ((‵ (flft (α ∷ []) fullShare) ⊛ ‵ ftrue) ⊛ ‵ (R.the-row .own r (v ∷ [])))
         ⊛ raw (ensured 𝓤 H A g.ended (g.clauses 𝓤 H A at-mem run) (α ∷ [], tt) args tt r)))) (id⊢ 𝓤 _) $ await ! tt $ pick ! (λ r.
         split ! $ move ! (1 ∷ []) $ use1 W (some (λ (ws : Job × (Unit {0} × Unit {0})). ‵ (lasts g.ended (α ∷ [], tt) args ws) ⊛ raw (fact 𝓤
         (ChangesLent (jobAt P) d r (ws .0))))) (id⊢ 𝓤 _) $ pick ! (λ ws.
@@ -153,18 +153,18 @@ module _ {M : Type 1} (𝓤 : URA M) (H : Heap 𝓤) (A : Atoms 𝓤) (W : Given
         -- [the token; true; the last job; true]
         at-once ! $ show ! (λ (j : Job). mean 𝓤 H A (‵ (flft (α ∷ []) fullShare) ⊛ ‵ (fres δ (J.the-row .coded .code j)) ⊛ raw (Out v j)))
         (ws .0) $ move ! (0 ∷ 2 ∷ []) $ frame ! $ frame ! $
-        show ! (λ (r : Answer). mean 𝓤 H A (OutAt v (ws .0) r)) r $ check ! (is, e) $ keep ! (0 ∷ []) $ done !))))
+        show ! (λ (r : Reply). mean 𝓤 H A (OutAt v (ws .0) r)) r $ check ! (is, e) $ keep ! (0 ∷ []) $ done !))))
 
   -- ---- the end
 
   module _ (a : Val) (j : Job) (is : Is J.the-row j (jvals j)) where
-    exits : (r : Answer) (ns′ : List Float) (cs′ : List ℕ) → Told a j r
+    exits : (r : Reply) (ns′ : List Float) (cs′ : List ℕ) → Told a j r
         → ent 𝓤 (mean 𝓤 H A (ListsPostAt 𝓤 H A W at-mem run P j is ns′ cs′)) (Post a)
     exits r ns′ cs′ k =
         qed W (ListsPostAt 𝓤 H A W at-mem run P j is ns′ cs′ ∷ []) ∵ learn ! (λ w.
         suffices ! _ (ends-at 𝓤 H A f.ended stayed (f.clauses 𝓤 H A at-mem run) W (((κ, (κ′, tt)), (q, (q′, tt)), bounds, x, at), tt) a r
         (ns′, (cs′, (tt, tt))) (w .1 .0, (w .1 .1, (tt, tt)))) $
-        says ! (job-changed (now numbers) (now counts) j r ns′ cs′ (w .0) d (k .1)) $ split ! $ move ! (1 ∷ []) $ split ! $
+        says ! (job-changed (now numbers) (now counts) j ns′ cs′ (w .0) r d (k .1)) $ split ! $ move ! (1 ∷ []) $ split ! $
         move ! (1 ∷ []) $ split ! $
         -- [the numbers; the counts; the second token; the first]
         nothing ! $ move ! (3 ∷ 0 ∷ []) $ join ! $ move ! (3 ∷ 0 ∷ []) $ join ! $ frame ! $
@@ -175,7 +175,7 @@ module _ {M : Type 1} (𝓤 : URA M) (H : Heap 𝓤) (A : Atoms 𝓤) (W : Given
     ends : ent 𝓤 (sep 𝓤 (mean 𝓤 H A (ListsPost 𝓤 H A W at-mem run P j is)) (Out a j)) (Post a)
     ends =
         qed W (ListsPost 𝓤 H A W at-mem run P j is ∷ raw (Out a j) ∷ []) ∵ pick ! (λ ns′. pick ! (λ cs′. move ! (1 ∷ []) $
-        use1 W (some (λ (r : Answer). OutAt a j r)) (id⊢ 𝓤 _) $ pick ! (λ r. learn ! (λ k. drop ! $ by ! (exits r ns′ cs′ k)))))
+        use1 W (some (λ (r : Reply). OutAt a j r)) (id⊢ 𝓤 _) $ pick ! (λ r. learn ! (λ k. drop ! $ by ! (exits r ns′ cs′ k)))))
 
   module _ (C : Calls 𝓤 H) (Λ : Loops 𝓤 H) (fm : FmC 𝓤 H (W .laws) C) (known-read : Triple 𝓤 (C #read) (Read 𝓤 H A at-mem run))
       (known : Triple 𝓤 (C #change) (Change 𝓤 H A at-mem run)) (known-write : Triple 𝓤 (C #write) (Write 𝓤 H A at-mem run))
@@ -189,16 +189,16 @@ module _ {M : Type 1} (𝓤 : URA M) (H : Heap 𝓤) (A : Atoms 𝓤) (W : Given
         via 𝓤 _ (via 𝓤 _ (asked l α δ) (known (to l α δ))) (fm→monoC 𝓤 H (W .laws) C fm #change (vptr l 0 ∷ dval d ∷ [])
         (Change 𝓤 H A at-mem run .post (to l α δ)) (λ v. mean 𝓤 H A (CallPost 𝓤 H A W Out α δ v)) (told l α δ))))
 
-    runs : ent 𝓤 (Own 𝓤 H A W at-mem run P C fm In Out) (WpFn 𝓤 H C Λ (withValue #read #change #write
+    runs : ent 𝓤 (Own 𝓤 H A W at-mem run P R′.mir C fm In Out) (WpFn 𝓤 H C Λ (withValue #read #change #write
         (pointee (J.the-row .written)) J′.mir D′.mir R′.mir) (val numbers ∷ val counts ∷ dval d ∷ []) Post)
     runs =
         value-runs 𝓤 H A W C Λ fm #read #change #write (pointee (J.the-row .written)) J′.mir R′.mir (ptr numbers) (length (now numbers))
         (ptr counts) (length (now counts)) fits fits′
-        (Own 𝓤 H A W at-mem run P C fm In Out) (Mid 𝓤 H A W at-mem run P C fm In Out) (Mid′ 𝓤 H A W at-mem run P C fm In Out) Post D′.mir
+        (Own 𝓤 H A W at-mem run P R′.mir C fm In Out) (Mid 𝓤 H A W at-mem run P R′.mir C fm In Out) (Mid′ 𝓤 H A W at-mem run P R′.mir C fm In Out) Post D′.mir
         (dval d) (EL.lawful D.the-type D′.the-laws 𝓤 H A W tt .typed d _ is-density .0)
-        (reading 𝓤 H A W at-mem run P C fm In Out known-read)
-        (calling 𝓤 H A W at-mem run P C fm In Out answers #change (dval d ∷ []) lends)
-        (writing 𝓤 H A W at-mem run P C fm In Out Post ends known-write)
+        (reading 𝓤 H A W at-mem run P R′.mir C fm In Out known-read)
+        (calling 𝓤 H A W at-mem run P R′.mir C fm In Out answers #change (dval d ∷ []) lends)
+        (writing 𝓤 H A W at-mem run P R′.mir C fm In Out Post ends known-write)
 
     walk : ent 𝓤 (onEntry 𝓤 H A f.signature (κ, (κ′, tt)) (q, (q′, tt)) x at) (WpFn 𝓤 H C Λ code.function
         (val numbers ∷ val counts ∷ dval d ∷ []) Post)
@@ -207,7 +207,7 @@ module _ {M : Type 1} (𝓤 : URA M) (H : Heap 𝓤) (A : Atoms 𝓤) (W : Given
         ∷ []) x at) ∷ []) ∵
         split ! $ move ! (1 ∷ []) $ split ! $ move ! (3 ∷ []) $ fsplit ! $ move ! (1 ∷ []) $ fsplit ! $
         -- [the counts; the density; the numbers; the second token; true; the first]
-        keep ! (2 ∷ 5 ∷ 0 ∷ 3 ∷ 4 ∷ []) $ group ! 4 $ by ! (subst (λ (c : Fn). ent 𝓤 (Own 𝓤 H A W at-mem run P C fm In Out) (WpFn 𝓤 H C Λ c
+        keep ! (2 ∷ 5 ∷ 0 ∷ 3 ∷ 4 ∷ []) $ group ! 4 $ by ! (subst (λ (c : Fn). ent 𝓤 (Own 𝓤 H A W at-mem run P R′.mir C fm In Out) (WpFn 𝓤 H C Λ c
         (val numbers ∷ val counts ∷ dval d ∷ []) Post)) (sym same-code) runs)
       where
         same-code : code.function ≡ withValue #read #change #write (pointee (J.the-row .written)) J′.mir D′.mir R′.mir

@@ -29,7 +29,7 @@ use denote.Ref.{RefT, MutRef, ptr, name, now}
 use denote.Signature.{plain}
 use denote.Slice.{MutSlice, finally, slice-vals, mut-slice-tells}
 use denote.Steps.{owned, peeks, heard, nothing}
-use denote.Struct.Laws as LL
+use denote.Enum.Laws as EL
 use denote.Triple.Clauses.{ensured, lasts}
 use denote.Triple.Entry.{onEntry}
 use denote.Triple.Spec.{Meets, tripleOf}
@@ -37,12 +37,12 @@ use denote.Triple.Statement.{Contract, Triple}
 use denote.Triple.Table.{entered, cited}
 use denote.Triple.Walked.{says, needs, Stays, gave-slice, walkOf, goes-gave-slice, Walks, ends-at, walked, walk-meets}
 use Rattle.jobs.specs.declared.Job.{Job}
-use Rattle.jobs.specs.declared.Answer.{Answer}
+use Rattle.jobs.specs.declared.Progress.{Progress}
 use Rattle.jobs.specs.Lent.{StepsLent}
 use Rattle.jobs.proofs.Job as J
 use Rattle.jobs.proofs.Job.Laws as J′
-use Rattle.jobs.proofs.Answer as R
-use Rattle.jobs.proofs.Answer.Laws as R′
+use Rattle.jobs.proofs.Progress as T
+use Rattle.jobs.proofs.Progress.Laws as T′
 use Rattle.jobs.proofs.Rows.{jvals}
 use Rattle.jobs.proofs.step as g
 use Rattle.jobs.proofs.step.Met as g-thm
@@ -98,21 +98,21 @@ module _ {M : Type 1} (𝓤 : URA M) (H : Heap 𝓤) (A : Atoms 𝓤) (W : Given
   abbrev In : SProp 𝓤
   In = mean 𝓤 H A (‵ (flft κ″ q″) ⊛ ‵ (MutSlice (named 1) κ″ f64 .own y (val y ∷ [])))
 
-  abbrev Told : Val → Job → Answer → List Float → Type 0
-  Told a j r zs = Is R.the-row r (a ∷ []) × (StepsLent (jobAt P) (now y) r j zs × (length zs ≡ length (now y)))
+  abbrev Told : Val → Job → Progress → List Float → Type 0
+  Told a j r zs = Is T.the-row r (a ∷ []) × (StepsLent (jobAt P) (now y) r j zs × (length zs ≡ length (now y)))
 
-  abbrev OutAt : Val → Job → Answer → List Float → Item 𝓤
+  abbrev OutAt : Val → Job → Progress → List Float → Item 𝓤
   OutAt a j r zs = given (Told a j r zs) (‵ (flft κ″ q″) ⊛ ‵ (finally f64 (name y) zs))
 
   abbrev Out : Val → Job → SProp 𝓤
-  Out a j = mean 𝓤 H A (some (λ (r : Answer). some (λ (zs : List Float). OutAt a j r zs)))
+  Out a j = mean 𝓤 H A (some (λ (r : Progress). some (λ (zs : List Float). OutAt a j r zs)))
 
-  answers : (a : Val) (j : Job) → ent 𝓤 (Out a j) (mean 𝓤 H A (given (Typed R′.mir a) (raw (Out a j))))
+  answers : (a : Val) (j : Job) → ent 𝓤 (Out a j) (mean 𝓤 H A (given (Typed T′.mir a) (raw (Out a j))))
   answers a j =
-      qed W (raw (Out a j) ∷ []) ∵ use1 W (some (λ (r : Answer). some (λ (zs : List Float). OutAt a j r zs))) (id⊢ 𝓤 _) $
+      qed W (raw (Out a j) ∷ []) ∵ use1 W (some (λ (r : Progress). some (λ (zs : List Float). OutAt a j r zs))) (id⊢ 𝓤 _) $
       pick ! (λ r. pick ! (λ zs. learn ! (λ k.
-      check ! (LL.lawful R.the-type R′.the-laws 𝓤 H A W .typed r (a ∷ []) (k .0) .0) $
-      show ! (λ (r : Answer). mean 𝓤 H A (some (λ (zs : List Float). OutAt a j r zs))) r $
+      check ! (EL.lawful T.the-type T′.the-laws 𝓤 H A W tt .typed r (a ∷ []) (k .0) .0) $
+      show ! (λ (r : Progress). mean 𝓤 H A (some (λ (zs : List Float). OutAt a j r zs))) r $
       show ! (λ (zs : List Float). mean 𝓤 H A (OutAt a j r zs)) zs $ check ! k $ done !)))
 
   module _ (l α : ℕ) (δ : GName) where
@@ -133,43 +133,43 @@ module _ {M : Type 1} (𝓤 : URA M) (H : Heap 𝓤) (A : Atoms 𝓤) (W : Given
     told : (v : Val) → ent 𝓤 (Step 𝓤 H A at-mem run .post to v) (mean 𝓤 H A (CallPost 𝓤 H A W Out α δ v))
     told v =
         qed W (raw (Step 𝓤 H A at-mem run .post to v) ∷ []) ∵ updating ! $
-        use1 W (later (some (λ (r : Answer). ((‵ (flft (α ∷ []) fullShare) ⊛ ‵ (flft κ″ q″) ⊛ ‵ ftrue) ⊛ ‵ (R.the-row .own r (v ∷ [])))
+        use1 W (later (some (λ (r : Progress). ((‵ (flft (α ∷ []) fullShare) ⊛ ‵ (flft κ″ q″) ⊛ ‵ ftrue) ⊛ ‵ (T.the-row .own r (v ∷ [])))
         ⊛ raw (ensured 𝓤 H A g.ended (g.clauses 𝓤 H A at-mem run) (α ∷ [], (κ″, tt)) args tt r)))) (id⊢ 𝓤 _) $ await ! tt $ pick ! (λ r.
         split ! $ move ! (1 ∷ []) $ use1 W (some (λ (ws : Job × (List Float × Unit {0})). ‵ (lasts g.ended (α ∷ [], (κ″, tt)) args ws)
         ⊛ raw (fact 𝓤 (StepsLent (jobAt P) (now y) r (ws .0) (ws .1 .0))))) (id⊢ 𝓤 _) $ pick ! (λ ws.
         split ! $ move ! (1 ∷ []) $ heard ! (StepsLent (jobAt P) (now y) r (ws .0) (ws .1 .0)) (λ e. fsplit ! $ move ! (1 ∷ []) $ fsplit ! $
         fsplit ! $ move ! (1 ∷ []) $ feqL ! (λ as-many.
         -- [the scratch's last list; true; the last job; the tokens and the result]
-        move ! (3 ∷ []) $ split ! $ move ! (1 ∷ []) $ peeks ! R.the-row (Is R.the-row) (shows 𝓤 H A R.the-row) r (v ∷ []) (λ is. drop ! $
+        move ! (3 ∷ []) $ split ! $ move ! (1 ∷ []) $ peeks ! T.the-row (Is T.the-row) (shows 𝓤 H A T.the-row) r (v ∷ []) (λ is. drop ! $
         split ! $ move ! (1 ∷ []) $ split ! $
         -- [the scratch's token; true; the token; the scratch's last list; true; the last job]
         at-once ! $ show ! (λ (j : Job). mean 𝓤 H A (‵ (flft (α ∷ []) fullShare) ⊛ ‵ (fres δ (J.the-row .coded .code j)) ⊛ raw (Out v j)))
         (ws .0) $ move ! (2 ∷ 5 ∷ []) $ frame ! $ frame ! $
-        show ! (λ (r : Answer). mean 𝓤 H A (some (λ (zs : List Float). OutAt v (ws .0) r zs))) r $
+        show ! (λ (r : Progress). mean 𝓤 H A (some (λ (zs : List Float). OutAt v (ws .0) r zs))) r $
         show ! (λ (zs : List Float). mean 𝓤 H A (OutAt v (ws .0) r zs)) (ws .1 .0) $ check ! (is, (e, as-many)) $ keep ! (0 ∷ 2 ∷ []) $
         done !)))))
 
   -- ---- the end
 
   module _ (a : Val) (j : Job) (is : Is J.the-row j (jvals j)) where
-    exits : (r : Answer) (zs ns′ : List Float) (cs′ : List ℕ) → Told a j r zs
+    exits : (r : Progress) (zs ns′ : List Float) (cs′ : List ℕ) → Told a j r zs
         → ent 𝓤 (sep 𝓤 (mean 𝓤 H A (ListsPostAt 𝓤 H A W at-mem run P j is ns′ cs′))
         (mean 𝓤 H A (‵ (flft κ″ q″) ⊛ ‵ (finally f64 (name y) zs)))) (Post a)
     exits r zs ns′ cs′ k =
         qed W (ListsPostAt 𝓤 H A W at-mem run P j is ns′ cs′ ∷ (‵ (flft κ″ q″) ⊛ ‵ (finally f64 (name y) zs)) ∷ []) ∵ learn ! (λ w.
         suffices ! _ (ends-at 𝓤 H A f.ended stayed (f.clauses 𝓤 H A at-mem run) W
         (((κ, (κ′, (κ″, tt))), (q, (q′, (q″, tt))), bounds, x, at), tt) a r (ns′, (cs′, (zs, tt))) (w .1 .0, (w .1 .1, (k .1 .1, tt)))) $
-        says ! (job-stepped (now numbers) (now counts) j r ns′ cs′ (w .0) (now y) zs (k .1 .0)) $
+        says ! (job-stepped (now numbers) (now counts) j ns′ cs′ (w .0) r (now y) zs (k .1 .0)) $
         split ! $ move ! (1 ∷ []) $ split ! $ move ! (1 ∷ []) $ split ! $ move ! (4 ∷ []) $ split ! $
         -- [the third token; the scratch; the numbers; the counts; the second token; the first]
         nothing ! $ move ! (1 ∷ 0 ∷ []) $ join ! $ move ! (4 ∷ 0 ∷ []) $ join ! $ move ! (4 ∷ 0 ∷ []) $ join ! $ frame ! $
         nothing ! $ move ! (1 ∷ 0 ∷ []) $ fjoin ! $ move ! (2 ∷ 0 ∷ []) $ fjoin ! $ move ! (1 ∷ 0 ∷ []) $ fjoin ! $
-        owned ! R.the-row (Is R.the-row) (LL.makes R.the-type R′.the-plain 𝓤 H A) r _ (k .0) $ move ! (1 ∷ 0 ∷ []) $ done !)
+        owned ! T.the-row (Is T.the-row) (EL.makes T.the-type T′.the-plain 𝓤 H A) r _ (k .0) $ move ! (1 ∷ 0 ∷ []) $ done !)
 
     ends : ent 𝓤 (sep 𝓤 (mean 𝓤 H A (ListsPost 𝓤 H A W at-mem run P j is)) (Out a j)) (Post a)
     ends =
         qed W (ListsPost 𝓤 H A W at-mem run P j is ∷ raw (Out a j) ∷ []) ∵ pick ! (λ ns′. pick ! (λ cs′. move ! (1 ∷ []) $
-        use1 W (some (λ (r : Answer). some (λ (zs : List Float). OutAt a j r zs))) (id⊢ 𝓤 _) $
+        use1 W (some (λ (r : Progress). some (λ (zs : List Float). OutAt a j r zs))) (id⊢ 𝓤 _) $
         pick ! (λ r. pick ! (λ zs. learn ! (λ k. move ! (1 ∷ 0 ∷ []) $ by ! (exits r zs ns′ cs′ k))))))
 
   module _ (C : Calls 𝓤 H) (Λ : Loops 𝓤 H) (fm : FmC 𝓤 H (W .laws) C) (known-read : Triple 𝓤 (C #read) (Read 𝓤 H A at-mem run))
@@ -184,16 +184,16 @@ module _ {M : Type 1} (𝓤 : URA M) (H : Heap 𝓤) (A : Atoms 𝓤) (W : Given
         via 𝓤 _ (via 𝓤 _ (asked l α δ) (known (to l α δ))) (fm→monoC 𝓤 H (W .laws) C fm #step (vptr l 0 ∷ val y ∷ [])
         (Step 𝓤 H A at-mem run .post (to l α δ)) (λ v. mean 𝓤 H A (CallPost 𝓤 H A W Out α δ v)) (told l α δ))))
 
-    runs : ent 𝓤 (Own 𝓤 H A W at-mem run P C fm In Out) (WpFn 𝓤 H C Λ (withList #read #step #write
-        (pointee (J.the-row .written)) J′.mir R′.mir) (val numbers ∷ val counts ∷ val y ∷ []) Post)
+    runs : ent 𝓤 (Own 𝓤 H A W at-mem run P T′.mir C fm In Out) (WpFn 𝓤 H C Λ (withList #read #step #write
+        (pointee (J.the-row .written)) J′.mir T′.mir) (val numbers ∷ val counts ∷ val y ∷ []) Post)
     runs =
-        list-runs 𝓤 H A W C Λ fm #read #step #write (pointee (J.the-row .written)) J′.mir R′.mir (ptr numbers) (length (now numbers))
+        list-runs 𝓤 H A W C Λ fm #read #step #write (pointee (J.the-row .written)) J′.mir T′.mir (ptr numbers) (length (now numbers))
         (ptr counts) (length (now counts)) fits fits′
-        (Own 𝓤 H A W at-mem run P C fm In Out) (Mid 𝓤 H A W at-mem run P C fm In Out) (Mid′ 𝓤 H A W at-mem run P C fm In Out) Post (ptr y)
+        (Own 𝓤 H A W at-mem run P T′.mir C fm In Out) (Mid 𝓤 H A W at-mem run P T′.mir C fm In Out) (Mid′ 𝓤 H A W at-mem run P T′.mir C fm In Out) Post (ptr y)
         (length (now y)) fits″
-        (reading 𝓤 H A W at-mem run P C fm In Out known-read)
-        (calling 𝓤 H A W at-mem run P C fm In Out answers #step (val y ∷ []) lends)
-        (writing 𝓤 H A W at-mem run P C fm In Out Post ends known-write)
+        (reading 𝓤 H A W at-mem run P T′.mir C fm In Out known-read)
+        (calling 𝓤 H A W at-mem run P T′.mir C fm In Out answers #step (val y ∷ []) lends)
+        (writing 𝓤 H A W at-mem run P T′.mir C fm In Out Post ends known-write)
 
     walk : ent 𝓤 (onEntry 𝓤 H A f.signature (κ, (κ′, (κ″, tt))) (q, (q′, (q″, tt))) x at) (WpFn 𝓤 H C Λ code.function
         (val numbers ∷ val counts ∷ val y ∷ []) Post)
@@ -204,10 +204,10 @@ module _ {M : Type 1} (𝓤 : URA M) (H : Heap 𝓤) (A : Atoms 𝓤) (W : Given
         move ! (1 ∷ []) $ fsplit ! $
         -- [the scratch; true; the counts; the numbers; the third token; true; the second; the first]
         keep ! (3 ∷ 7 ∷ 2 ∷ 6 ∷ 4 ∷ 0 ∷ []) $ group ! 4 $
-        by ! (subst (λ (c : Fn). ent 𝓤 (Own 𝓤 H A W at-mem run P C fm In Out) (WpFn 𝓤 H C Λ c
+        by ! (subst (λ (c : Fn). ent 𝓤 (Own 𝓤 H A W at-mem run P T′.mir C fm In Out) (WpFn 𝓤 H C Λ c
         (val numbers ∷ val counts ∷ val y ∷ []) Post)) (sym same-code) runs)
       where
-        same-code : code.function ≡ withList #read #step #write (pointee (J.the-row .written)) J′.mir R′.mir
+        same-code : code.function ≡ withList #read #step #write (pointee (J.the-row .written)) J′.mir T′.mir
         same-code = refl
 
 -- ---- the theorem

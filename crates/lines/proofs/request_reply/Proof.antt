@@ -4,12 +4,13 @@ use mathlib.Core.Path.{_≡_, refl, ap, ap₂, _∙_}
 use denote.Ref.{now}
 use lib.Ieee.{Float}
 use Rattle.refusals.specs.declared.Verdict.{Verdict}
-use Rattle.jobs.specs.declared.Answer.{Answer}
+use Rattle.jobs.specs.declared.Reply.{Reply as Given}
+use Rattle.jobs.specs.declared.Row.{Row}
 use Rattle.engines.specs.declared.Engine.{Engine}
-use Rattle.engines.specs.declared.Told.{Told}
+use Rattle.engines.specs.declared.Turn.{Turn}
 use Rattle.answers.specs.declared.Reply.{Reply}
 use Rattle.answers.specs.declared.Shape.the-variants.{Joined as JoinedShape, Ring as RingShape, Body as BodyShape, Sound as SoundShape, Taken as TakenShape}
-use Rattle.lent_engines.proofs.Calls.{leaves-none}
+use Rattle.lent_engines.proofs.Calls.{leaves-none, turn-told}
 use Rattle.lines.specs.Lines.{refusedReply, plainReply, setReply, areaReply, bodyReply, closingReply, momentsReply, drillReply, turnReply}
 use Rattle.lines.specs.Lines.{Memory, memoryIn, LentMemory, memoryOf, Serves, answers, setEffect, areaEffect, submitEffect, changeEffect, turnEffect}
 use borrow.Author.Needs.{needs}
@@ -90,7 +91,7 @@ returns-13 c =
     let s = a .before .before .before .before .before .before .before .before .before .args in
     rw (a .before .before .before .enum-told13 .given .1)
     (record {
-      replies = c .taken-reply .ensures ∙ ap (λ (x : Answer). plainReply (x .figures .verdict) TakenShape) (a .asked-submit .ensures .answer);
+      replies = c .taken-reply .ensures ∙ ap (λ (x : Given). plainReply (x .verdict) TakenShape) (a .asked-submit .ensures .answer);
       left = record { memory-left = ap (withScratchOf (now (s .scratch))) (a .asked-submit .ensures .engine); lists-left = a .asked-submit .ensures .leaves };
     })
 
@@ -101,17 +102,21 @@ returns-14 c =
     let s = a .before .before .before .before .before .before .before .before .before .args in
     rw (a .before .before .before .enum-told14 .given .1)
     (record {
-      replies = c .taken-reply2 .ensures ∙ ap (λ (x : Answer). plainReply (x .figures .verdict) TakenShape) (a .asked-change .ensures .answer);
+      replies = c .taken-reply2 .ensures ∙ ap (λ (x : Given). plainReply (x .verdict) TakenShape) (a .asked-change .ensures .answer);
       left = record { memory-left = ap (withScratchOf (now (s .scratch))) (a .asked-change .ensures .engine); lists-left = a .asked-change .ensures .leaves };
     })
 
 returns-15 : tie.Need-returns-15
 unfolding turnEffect
 returns-15 c =
-    let t = c .before .before .before .before .before .before .before in
+    let row = c .before in
+    let t = row .before .before .before .before .before .before .before .before .before in
     rw (t .before .before .before .before .enum-told15 .given .1)
     (record {
-      replies = c .turn-reply .ensures ∙ ap (λ (x : Told). turnReply (x .service) x) (t .turn .ensures .told);
+      replies =
+          c .turn-reply .ensures
+          ∙ ap₂ (λ (x : Turn) (y : Row). turnReply x (y .figures)) (t .turn .ensures .answered)
+          (row .turn-row .ensures ∙ turn-told _ _ _ _ _ _ _ (t .turn .ensures));
       left = record { memory-left = ap₂ withScratchOf (t .turn .ensures .lent) (t .turn .ensures .leaves .held); lists-left = t .turn .ensures .leaves };
     })
 
@@ -165,6 +170,7 @@ request-reply-spec =
     (λ c κs. search needs)
     (λ c κs. search needs)
     (λ c. search needs)
+    (λ c κs. search needs)
     (λ c κs. search needs)
     (λ c κs. search needs)
     (λ c. search needs)

@@ -1,8 +1,8 @@
--- `screen_exports::delvouzh_engine_change_density` meets its contract: there is no room, or no such density, or the job answers. Assumes nothing.
+-- `screen_exports::delvouzh_engine_change_density` meets its contract: there is no room, or the job answers. Assumes nothing.
 use borrow.Author.Tests.{le-leb, lt-leb}
 use lib.ListN.{length}
 use Rattle.screen_exports.proofs.JobLaws.{first-not, second-not, both}
-use Rattle.screen_exports.proofs.EngineLaws.{engine-room, few-engine-numbers, few-engine-counts, density-refused, density-unknown, density-written}
+use Rattle.screen_exports.proofs.EngineLaws.{engine-room, few-engine-numbers, few-engine-counts, density-refused, density-written}
 use borrow.Author.Needs.{needs}
 use Rattle.screen_exports.proofs.delvouzh_engine_change_density.Statement.{statement}
 use Rattle.screen_exports.proofs.delvouzh_engine_change_density.Tie as tie
@@ -23,60 +23,16 @@ returns-3 c =
     let roomy = engine-room (a .engine-numbers .now) (a .engine-counts .now) (c .before .before .if1 .left) (c .before .if2 .left) in
     density-refused _ _ _ _ _ (second-not roomy (lt-leb 4 (length (a .counts .now)) (c .if3 .taken)))
 
-numbered-density-requires : tie.Need-numbered-density-requires
-numbered-density-requires c κs = search needs
-
-enum-known-asked : tie.Need-enum-known-asked
-enum-known-asked c = search needs
-
-enum-told : tie.Need-enum-told
-enum-told c = search needs
-
-write-counts-requires : tie.Need-write-counts-requires
-write-counts-requires c κs = search needs
-
-same-length : tie.Need-same-length
-same-length c = search needs
-
 returns-4 : tie.Need-returns-4
 returns-4 c =
-    let w = c .before .before in
-    let told = w .before .before in
-    let s = told .before .before in
-    let e = s .before in
-    let a = e .before .before .before .before .before .before .args in
-    let roomy = both (engine-room (a .engine-numbers .now) (a .engine-counts .now) (e .before .before .if1 .left) (e .before .if2 .left)) (le-leb 4 (length (a .counts .now)) (e .if3 .left)) in
-    density-unknown _ _ _ _ _ _ (s .numbered-density .result) (s .numbered-density .ensures) (told .enum-told .given .1) roomy (w .write-counts .ensures)
-
-change-density-requires : tie.Need-change-density-requires
-change-density-requires c κs = search needs
-
-write-counts-requires-2 : tie.Need-write-counts-requires-2
-write-counts-requires-2 c κs = search needs
-
-answer-number-requires : tie.Need-answer-number-requires
-answer-number-requires c κs = search needs
-
-same-length-2 : tie.Need-same-length-2
-same-length-2 c = search needs
-
-same-length-3 : tie.Need-same-length-3
-same-length-3 c = search needs
-
-same-length-4 : tie.Need-same-length-4
-same-length-4 c = search needs
-
-returns-5 : tie.Need-returns-5
-returns-5 c =
     let w = c .before .before .before in
-    let m = w .before .before .before .before .before .before .before in
-    let known = m .before .before .before .before in
-    let s = known .before .before in
+    let m = w .before .before .before .before .before .before in
+    let s = m .before .before .before in
     let e = s .before in
     let a = e .before .before .before .before .before .before .args in
     let roomy = both (engine-room (a .engine-numbers .now) (a .engine-counts .now) (e .before .before .if1 .left) (e .before .if2 .left)) (le-leb 4 (length (a .counts .now)) (e .if3 .left)) in
-    density-written _ _ _ _ (m .change-density .result) _ (c .answer-number .ensures) _ _ _ _ (s .numbered-density .result) _
-    (s .numbered-density .ensures) (known .asked .given .1) roomy (m .change-density .ensures) (w .write-counts2 .ensures)
+    density-written _ _ _ _ (m .change-density .result) _ (c .verdict-number .ensures) _ _ _ _ (s .numbered-density .result) (s .numbered-density .ensures) roomy
+    (m .change-density .ensures) (w .write-counts .ensures)
 
 pub delvouzh-engine-change-density-spec : {M : Type 1} → statement M
 delvouzh-engine-change-density-spec =
@@ -85,16 +41,11 @@ delvouzh-engine-change-density-spec =
     returns
     returns-2
     returns-3
-    numbered-density-requires
-    enum-known-asked
-    enum-told
-    write-counts-requires
-    same-length
-    returns-4
-    change-density-requires
-    write-counts-requires-2
-    answer-number-requires
-    same-length-2
-    same-length-3
-    same-length-4
-    returns-5)
+    (λ c κs. search needs)
+    (λ c κs. search needs)
+    (λ c κs. search needs)
+    (λ c κs. search needs)
+    (λ c. search needs)
+    (λ c. search needs)
+    (λ c. search needs)
+    returns-4)

@@ -1,8 +1,8 @@
--- `screen_exports::delvouzh_engine_submit` meets its contract: there is no room, or no such set, or the engine answers. Assumes nothing.
+-- `screen_exports::delvouzh_engine_submit` meets its contract: there is no room, or the engine answers. Assumes nothing.
 use borrow.Author.Tests.{le-leb, lt-leb}
 use lib.ListN.{length}
 use Rattle.screen_exports.proofs.JobLaws.{first-not, second-not, both}
-use Rattle.screen_exports.proofs.EngineLaws.{engine-room, few-engine-numbers, few-engine-counts, submit-refused, submit-unknown, submit-written}
+use Rattle.screen_exports.proofs.EngineLaws.{engine-room, few-engine-numbers, few-engine-counts, submit-refused, submit-written}
 use borrow.Author.Needs.{needs}
 use Rattle.screen_exports.proofs.delvouzh_engine_submit.Statement.{statement}
 use Rattle.screen_exports.proofs.delvouzh_engine_submit.Tie as tie
@@ -23,60 +23,16 @@ returns-3 c =
     let roomy = engine-room (a .engine-numbers .now) (a .engine-counts .now) (c .before .before .if1 .left) (c .before .if2 .left) in
     submit-refused _ _ _ _ _ _ _ (second-not roomy (lt-leb 2 (length (a .values .now)) (c .if3 .taken)))
 
-listed-set-requires : tie.Need-listed-set-requires
-listed-set-requires c κs = search needs
-
-enum-known-asked : tie.Need-enum-known-asked
-enum-known-asked c = search needs
-
-enum-told : tie.Need-enum-told
-enum-told c = search needs
-
-write-values-requires : tie.Need-write-values-requires
-write-values-requires c κs = search needs
-
-same-length : tie.Need-same-length
-same-length c = search needs
-
 returns-4 : tie.Need-returns-4
 returns-4 c =
-    let w = c .before .before in
-    let told = w .before .before in
-    let s = told .before .before in
-    let e = s .before in
-    let a = e .before .before .before .before .before .before .before .before .before .args in
-    let roomy = both (engine-room (a .engine-numbers .now) (a .engine-counts .now) (e .before .before .if1 .left) (e .before .if2 .left)) (le-leb 2 (length (a .values .now)) (e .if3 .left)) in
-    submit-unknown _ _ _ _ _ _ _ _ (s .listed-set .result) (s .listed-set .ensures) (told .enum-told .given .1) roomy (w .write-values .ensures)
-
-submit-requires : tie.Need-submit-requires
-submit-requires c κs = search needs
-
-write-values-requires-2 : tie.Need-write-values-requires-2
-write-values-requires-2 c κs = search needs
-
-answer-number-requires : tie.Need-answer-number-requires
-answer-number-requires c κs = search needs
-
-same-length-2 : tie.Need-same-length-2
-same-length-2 c = search needs
-
-same-length-3 : tie.Need-same-length-3
-same-length-3 c = search needs
-
-same-length-4 : tie.Need-same-length-4
-same-length-4 c = search needs
-
-returns-5 : tie.Need-returns-5
-returns-5 c =
     let w = c .before .before .before in
-    let m = w .before .before .before .before .before .before .before in
-    let known = m .before .before .before .before in
-    let s = known .before .before in
+    let m = w .before .before .before .before .before .before in
+    let s = m .before .before .before in
     let e = s .before in
     let a = e .before .before .before .before .before .before .before .before .before .args in
     let roomy = both (engine-room (a .engine-numbers .now) (a .engine-counts .now) (e .before .before .if1 .left) (e .before .if2 .left)) (le-leb 2 (length (a .values .now)) (e .if3 .left)) in
-    submit-written _ _ _ _ (m .submit .result) _ (c .answer-number .ensures) _ _ _ _ _ _ (s .listed-set .result) _
-    (s .listed-set .ensures) (known .asked .given .1) roomy (m .submit .ensures) (w .write-values2 .ensures)
+    submit-written _ _ _ _ (m .submit-set .result) _ (c .verdict-number .ensures) _ _ _ _ _ _ (s .listed-set .result) (s .listed-set .ensures) roomy
+    (m .submit-set .ensures) (w .write-values .ensures)
 
 pub delvouzh-engine-submit-spec : {M : Type 1} → statement M
 delvouzh-engine-submit-spec =
@@ -85,16 +41,11 @@ delvouzh-engine-submit-spec =
     returns
     returns-2
     returns-3
-    listed-set-requires
-    enum-known-asked
-    enum-told
-    write-values-requires
-    same-length
-    returns-4
-    submit-requires
-    write-values-requires-2
-    answer-number-requires
-    same-length-2
-    same-length-3
-    same-length-4
-    returns-5)
+    (λ c κs. search needs)
+    (λ c κs. search needs)
+    (λ c κs. search needs)
+    (λ c κs. search needs)
+    (λ c. search needs)
+    (λ c. search needs)
+    (λ c. search needs)
+    returns-4)

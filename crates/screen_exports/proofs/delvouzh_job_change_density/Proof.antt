@@ -22,21 +22,6 @@ returns-3 c =
     let roomy = job-room (a .job-numbers .now) (a .job-counts .now) (c .before .before .if1 .left) (c .before .if2 .left) in
     change-refused _ _ _ _ (second-not roomy (lt-leb 4 (length (a .counts .now)) (c .if3 .taken)))
 
-numbered-density-requires : tie.Need-numbered-density-requires
-numbered-density-requires c κs = search needs
-
-enum-known-asked : tie.Need-enum-known-asked
-enum-known-asked c = search needs
-
-enum-told : tie.Need-enum-told
-enum-told c = search needs
-
-write-counts-requires : tie.Need-write-counts-requires
-write-counts-requires c κs = search needs
-
-same-length : tie.Need-same-length
-same-length c = search needs
-
 returns-4 : tie.Need-returns-4
 returns-4 c =
     let w = c .before .before in
@@ -47,34 +32,16 @@ returns-4 c =
     let roomy = both (job-room (a .job-numbers .now) (a .job-counts .now) (e .before .before .if1 .left) (e .before .if2 .left)) (le-leb 4 (length (a .counts .now)) (e .if3 .left)) in
     change-unknown _ _ _ _ _ (s .numbered-density .result) (s .numbered-density .ensures) (told .enum-told .given .1) roomy (w .write-counts .ensures)
 
-change-density-requires : tie.Need-change-density-requires
-change-density-requires c κs = search needs
-
-write-counts-requires-2 : tie.Need-write-counts-requires-2
-write-counts-requires-2 c κs = search needs
-
-answer-number-requires : tie.Need-answer-number-requires
-answer-number-requires c κs = search needs
-
-same-length-2 : tie.Need-same-length-2
-same-length-2 c = search needs
-
-same-length-3 : tie.Need-same-length-3
-same-length-3 c = search needs
-
-same-length-4 : tie.Need-same-length-4
-same-length-4 c = search needs
-
 returns-5 : tie.Need-returns-5
 returns-5 c =
     let w = c .before .before .before in
-    let m = w .before .before .before .before .before .before .before in
+    let m = w .before .before .before .before .before .before in
     let known = m .before .before .before .before in
     let s = known .before .before in
     let e = s .before in
     let a = e .before .before .before .before .before .before .args in
     let roomy = both (job-room (a .job-numbers .now) (a .job-counts .now) (e .before .before .if1 .left) (e .before .if2 .left)) (le-leb 4 (length (a .counts .now)) (e .if3 .left)) in
-    change-written _ _ _ _ (m .change-density .result) _ (c .answer-number .ensures) _ _ _ (s .numbered-density .result) _
+    change-written _ _ _ _ _ (m .change-density .result) (c .verdict-number .ensures) _ _ _ (s .numbered-density .result) _
     (s .numbered-density .ensures) (known .asked .given .1) roomy (m .change-density .ensures) (w .write-counts2 .ensures)
 
 pub delvouzh-job-change-density-spec : {M : Type 1} → statement M
@@ -84,16 +51,16 @@ delvouzh-job-change-density-spec =
     returns
     returns-2
     returns-3
-    numbered-density-requires
-    enum-known-asked
-    enum-told
-    write-counts-requires
-    same-length
+    (λ c κs. search needs)
+    (λ c. search needs)
+    (λ c. search needs)
+    (λ c κs. search needs)
+    (λ c. search needs)
     returns-4
-    change-density-requires
-    write-counts-requires-2
-    answer-number-requires
-    same-length-2
-    same-length-3
-    same-length-4
+    (λ c κs. search needs)
+    (λ c κs. search needs)
+    (λ c κs. search needs)
+    (λ c. search needs)
+    (λ c. search needs)
+    (λ c. search needs)
     returns-5)

@@ -29,45 +29,18 @@ returns-4 c =
     let roomy = job-room (a .job-numbers .now) (a .job-counts .now) (e .before .before .if1 .left) (e .before .if2 .left) in
     step-refused _ _ _ _ _ (second-not roomy (few-counts bodyNumbers (a .body .now) 4 (a .counts .now) (e .if3 .left) (c .if4 .taken)))
 
-step-requires : tie.Need-step-requires
-step-requires c κs = search needs
-
-write-body-requires : tie.Need-write-body-requires
-write-body-requires c κs = search needs
-
-write-counts-requires : tie.Need-write-counts-requires
-write-counts-requires c κs = search needs
-
-answer-number-requires : tie.Need-answer-number-requires
-answer-number-requires c κs = search needs
-
-same-length : tie.Need-same-length
-same-length c = search needs
-
-same-length-2 : tie.Need-same-length-2
-same-length-2 c = search needs
-
-same-length-3 : tie.Need-same-length-3
-same-length-3 c = search needs
-
-same-length-4 : tie.Need-same-length-4
-same-length-4 c = search needs
-
-same-length-5 : tie.Need-same-length-5
-same-length-5 c = search needs
-
 returns-5 : tie.Need-returns-5
 returns-5 c =
-    let w = c .before .before .before in
-    let b = w .before .before .before .before in
-    let m = b .before .before .before .before .before .before .before .before .before .before in
+    let w = c .before .before .before .before in
+    let row = w .before .before .before in
+    let m = row .before .before .before .before .before .before .before .before .before in
     let d = m .before .before .before .before in
     let e = d .before in
     let a = e .before .before .before .before .before .before .before .before .args in
     let roomy = job-room (a .job-numbers .now) (a .job-counts .now) (e .before .before .if1 .left) (e .before .if2 .left) in
-    step-written _ _ _ _ (m .step .result) _ (c .answer-number .ensures) _ _ _ _ _ _
+    step-written _ _ _ _ _ _ _ _ _ _ _ (m .step .result) (row .step-row .result)
     (both roomy (has-room bodyNumbers (a .body .now) 4 (a .counts .now) (e .if3 .left) (d .if4 .left)))
-    (m .step .ensures) (b .write-body .ensures) (w .write-counts .ensures)
+    (m .step .ensures) (row .step-row .ensures) (w .tell .ensures)
 
 pub delvouzh-job-step-spec : {M : Type 1} → statement M
 delvouzh-job-step-spec =
@@ -77,13 +50,12 @@ delvouzh-job-step-spec =
     returns-2
     returns-3
     returns-4
-    step-requires
-    write-body-requires
-    write-counts-requires
-    answer-number-requires
-    same-length
-    same-length-2
-    same-length-3
-    same-length-4
-    same-length-5
+    (λ c κs. search needs)
+    (λ c κs. search needs)
+    (λ c κs. search needs)
+    (λ c. search needs)
+    (λ c. search needs)
+    (λ c. search needs)
+    (λ c. search needs)
+    (λ c. search needs)
     returns-5)

@@ -14,11 +14,14 @@ slice-aggregate-turn c = simp length-take (omega arith)
 turn-requires : tie.Need-turn-requires
 turn-requires c κs = search needs
 
+turn-row-requires : tie.Need-turn-row-requires
+turn-row-requires c κs = search needs
+
 is-refused-requires : tie.Need-is-refused-requires
 is-refused-requires c κs = search needs
 
-service-number-requires : tie.Need-service-number-requires
-service-number-requires c κs = search needs
+served-screen-requires : tie.Need-served-screen-requires
+served-screen-requires c κs = search needs
 
 same-length : tie.Need-same-length
 same-length c = search needs
@@ -39,8 +42,9 @@ short-turn-spec =
     slice-relend-prefix-turn
     slice-aggregate-turn
     turn-requires
+    turn-row-requires
     is-refused-requires
-    service-number-requires
+    served-screen-requires
     same-length
     same-length-2
     same-length-3

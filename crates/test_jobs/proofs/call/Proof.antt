@@ -11,6 +11,9 @@ wood-requires c κs = search needs
 change-density-requires : tie.Need-change-density-requires
 change-density-requires c κs = search needs
 
+is-taken-requires : tie.Need-is-taken-requires
+is-taken-requires c κs = search needs
+
 same-length : tie.Need-same-length
 same-length c = search needs
 
@@ -22,6 +25,9 @@ returns c = search needs
 
 change-density-requires-2 : tie.Need-change-density-requires-2
 change-density-requires-2 c κs = search needs
+
+is-taken-requires-2 : tie.Need-is-taken-requires-2
+is-taken-requires-2 c κs = search needs
 
 same-length-3 : tie.Need-same-length-3
 same-length-3 c = search needs
@@ -74,10 +80,12 @@ call-spec =
     (tie.spec
     wood-requires
     change-density-requires
+    is-taken-requires
     same-length
     same-length-2
     returns
     change-density-requires-2
+    is-taken-requires-2
     same-length-3
     same-length-4
     returns-2

@@ -23,9 +23,6 @@ after-requires c κs = search needs
 call-requires : tie.Need-call-requires Inv-loop μ-loop
 call-requires c κs = ((omega arith, omega arith), omega arith)
 
-is-taken-requires : tie.Need-is-taken-requires Inv-loop μ-loop
-is-taken-requires c κs = search needs
-
 wood-requires : tie.Need-wood-requires Inv-loop μ-loop
 wood-requires c κs = search needs
 
@@ -59,7 +56,6 @@ drive-spec =
     loop-holds
     after-requires
     call-requires
-    is-taken-requires
     wood-requires
     add-calls
     loop-less
