@@ -1,6 +1,6 @@
--- How near the balance point of a set of trapezoids is to the exact one, along the body's axis: square sections, with a tab or none, no fillet and no
--- cant. The axis points forward from the leading edge of the root: what lies behind that has a coordinate below 0. Both sides are multiplied by the
--- mass, as a fraction is divided by nothing here.
+-- How near the balance point of a set of trapezoids is to the exact one, along the body's axis: square sections, with a
+-- tab or none, no fillet and no cant. The axis points forward from the leading edge of the root: what lies aft of that
+-- has a coordinate below 0. Both sides are multiplied by the mass, as a fraction is divided by nothing here.
 use mathlib.Core.Path.{_≡_}
 use mathlib.Core.Bool.{true}
 use mathlib.Core.List.{List}
@@ -22,7 +22,8 @@ use Rattle.one_piece.specs.OnePiece.{NotRounded, Proportions}
 use Rattle.accuracy.specs.Centroids.{alongRoot}
 use Rattle.accuracy.specs.Masses.{Plate, Mount, SetGiven, exactMass, Extents, SectionGiven, exactMassWith, filled}
 
--- thickness·span·(root² + root·tip + tip² + sweep·(root + 2·tip))/6, and thickness·height·length·(offset + length/2) of a tab
+-- thickness·span·(root² + root·tip + tip² + sweep·(root + 2·tip))/6, and thickness·height·length·(offset + length/2) of
+-- a tab
 abbrev pub finMoment : Plate → Fraction
 finMoment p = valueOf (p .thickness) times (valueOf (p .span) times (alongRoot (p .root) (p .tip) (p .sweep) times (pos 1 over 6)))
 
@@ -79,8 +80,8 @@ finMomentWith section p =
 abbrev pub exactMomentWith : Section → Plate → Mount → Fraction
 exactMomentWith section p m = (pos (m .count) over 1) times (valueOf (p .density) times finMomentWith section p)
 
--- of the sets that one piece is enough for (one_piece/specs/OnePiece), with no tab and no cant, tip at most the root chord
--- and sweep at most so many: at most so many unit roundoffs of the root chord from it
+-- of the sets that one piece is enough for (one_piece/specs/OnePiece), with no tab and no cant, tip at most the root
+-- chord and sweep at most so many: at most so many unit roundoffs of the root chord from it
 abbrev pub OrdinaryBalance : ℕ → ℕ → Type 0
 OrdinaryBalance sweeps roundoffs =
     (section : Section) (p : Plate) (m : Mount) (points : List Float)

@@ -1,5 +1,5 @@
--- How near the centroid of a trapezoid is to the exact one. Its coordinates are the quotients of these numbers by 3·(root + tip): both sides are
--- multiplied by that, as a fraction is divided by nothing here.
+-- How near the centroid of a trapezoid is to the exact one. Its coordinates are the quotients of these numbers by
+-- 3·(root + tip): both sides are multiplied by that, as a fraction is divided by nothing here.
 use mathlib.Core.Path.{_≡_}
 use mathlib.Core.List.{List}
 use Prim.Native.Nat.{ℕ, _*_, _^_, _≤_}
@@ -33,8 +33,8 @@ pub record CentroidNear (κ b d : ℕ) (root tip span sweep : Float) (r : Area) 
       Within ((pos (κ * κ) over 2 ^ 34) times valueOf span times thrice root tip) (valueOf (r .«centroid_span_m») times thrice root tip)
       (inHeight root tip span)
 
--- where the strip has n pieces, at most 40, and B is at most κ root chords: so near with n·κ. Within the limits B is at most 64, and of one piece κ 2^26
--- is enough.
+-- where the strip has n pieces, at most 40, and B is at most κ root chords: so near with n·κ. Within the limits B is at
+-- most 64, and of one piece κ 2^26 is enough.
 abbrev pub TrapezoidCentroid : Type 0
 TrapezoidCentroid =
     (root tip span sweep : Float) (points : List Float) (L : ℕ) (entry : List Float) (r : Area) (exit : List Float) (b d κ : ℕ)

@@ -1,6 +1,7 @@
--- How near the inertia of a single fin about its balance point is to the exact one, and how near that point off the body's axis: a trapezoid of
--- square or airfoil section, with a tab or none, no fillet, no cant, base angle 0. Its points lie at (r, τ, −x): r from the body's axis, τ through
--- the thickness, x along the root from its leading edge. Both sides are multiplied by the volume, as a fraction is divided by nothing here.
+-- How near the inertia of a single fin about its balance point is to the exact one, and how near that point off the
+-- body's axis: a trapezoid of square or airfoil section, with a tab or none, no fillet, no cant, base angle 0. Its
+-- points lie at (r, τ, −x): r from the body's axis, τ through the thickness, x along the root from its leading edge.
+-- Both sides are multiplied by the volume, as a fraction is divided by nothing here.
 use mathlib.Core.Path.{_≡_}
 use mathlib.Core.Bool.{true}
 use mathlib.Core.List.{List}
@@ -48,8 +49,8 @@ pub record Integrals : Type 0 where
   pub tau2 : Fraction
 
 -- ---- the fin; y is the height over the root
--- the second moment of a section about its leading edge, over thickness × chord³, and the integral of its cubed thickness; of a rounded one nothing is
--- said
+-- the second moment of a section about its leading edge, over thickness × chord³, and the integral of its cubed
+-- thickness; of a rounded one nothing is said
 abbrev pub forwardSquare : Section → Fraction
 forwardSquare Square = pos 1 over 3
 forwardSquare Rounded = pos 0 over 1
@@ -185,7 +186,8 @@ abbrev pub exactXZ : Integrals → Fraction
 exactXZ v = v .rx times v .volume less v .r1 times v .x1
 
 -- ---- the theorems
--- a fin alone, at base angle 0 of either sign and with no cant, its radius an f64; no length passes L = b / d, which is at most 64
+-- a fin alone, at base angle 0 of either sign and with no cant, its radius an f64; no length passes L = b / d, which is
+-- at most 64
 pub record Alone (p : Plate) (m : Mount) (b d : ℕ) : Type 0 where
   pub one-fin : m .count ≡ 1
   pub no-roll : eq (m .base) (bits 0) ≡ true
@@ -198,7 +200,8 @@ pub record Alone (p : Plate) (m : Mount) (b d : ℕ) : Type 0 where
   pub radius-most : AtMost b d (m .radius)
   pub thickness-most : AtMost b d (p .thickness)
 
--- the numbers of a tab are f64s, its length and its offset at most the root chord, its height and the radius at most the span
+-- the numbers of a tab are f64s, its length and its offset at most the root chord, its height and the radius at most
+-- the span
 abbrev pub TabBeside : Tab → Plate → Float → Type 0
 TabBeside None p radius = Unit {0}
 TabBeside (Slab height length offset) p radius =

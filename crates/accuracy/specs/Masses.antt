@@ -1,4 +1,5 @@
--- How near the mass of a set of trapezoids is to the exact one: square sections, with a tab or none and no fillet, whatever the cant.
+-- How near the mass of a set of trapezoids is to the exact one: square sections, with a tab or none and no fillet,
+-- whatever the cant.
 use mathlib.Core.Path.{_≡_}
 use mathlib.Core.Bool.{true}
 use mathlib.Core.List.{List}
@@ -62,8 +63,8 @@ setWith section p m =
 abbrev pub setOf : Plate → Mount → FinSet
 setOf p m = setWith Square p m
 
--- the call for its figures (`figures::mass_properties`) answered r, with figures; its numbers are f64s, there is no fillet, and the density lies
--- above 0
+-- the call for its figures (`figures::mass_properties`) answered r, with figures; its numbers are f64s, there is no
+-- fillet, and the density lies above 0
 pub record SectionGiven (section : Section) (p : Plate) (m : Mount) (points : List Float)
     (L : ℕ) (entry : List Float) (r : Figures) (exit : List Float) : Type 0 where
   pub f64s : T (fits binary64 (p .root)) × (T (fits binary64 (p .tip)) × (T (fits binary64 (p .span)) × T (fits binary64 (p .sweep))))
@@ -88,7 +89,8 @@ tabVolume (Slab height length offset) thickness = valueOf thickness times valueO
 abbrev pub exactMass : Plate → Mount → Fraction
 exactMass p m = (pos (m .count) over 1) times (valueOf (p .density) times (finVolume p plus tabVolume (p .tab) (p .thickness)))
 
--- B = b / d, at most 64: root, tip, |sweep| and the length of a tab do not pass it; Y = y / e, at most 64: nor span and height of a tab that
+-- B = b / d, at most 64: root, tip, |sweep| and the length of a tab do not pass it; Y = y / e, at most 64: nor span and
+-- height of a tab that
 abbrev pub TabWithin : Tab → ℕ → ℕ → ℕ → ℕ → Type 0
 TabWithin None b d y e = Unit {0}
 TabWithin (Slab height length offset) b d y e = AtMost b d length × AtMost y e height

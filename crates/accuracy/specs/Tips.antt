@@ -1,4 +1,5 @@
--- No sample of a trapezoid or an ellipse lies at its span, which document 02, Paper 1, gave a chord, if its strip ends with at most 40 pieces.
+-- No sample of a trapezoid or an ellipse lies at its span, which document 02, Paper 1, gave a chord, if its strip ends
+-- with at most 40 pieces.
 use mathlib.Core.Path.{_≡_}
 use mathlib.Core.Bool.{true}
 use mathlib.Core.List.{List}
@@ -16,7 +17,8 @@ use Rattle.integrands.specs.Integrands.{scaleOf}
 use Rattle.halving.specs.Halving.{halving}
 use Rattle.outlines.specs.Outlines.{planformCheck}
 
--- every sample's height, a sample height times the scale, lies below the span, whatever is integrated over the planform's one strip
+-- every sample's height, a sample height times the scale, lies below the span, whatever is integrated over the
+-- planform's one strip
 abbrev pub BelowSpan : Planform → List Float → Type 0
 BelowSpan planform points =
     (w : ℕ) (f : Float → List Float) (limit : ℕ)

@@ -1,5 +1,5 @@
--- The calls of the engine that lines ask for, in their order: so what holds of any calls on one engine (engines/specs/Calls) holds of the lines that the
--- program is fed (document 02, Paper 10).
+-- The calls of the engine that lines ask for, in their order: so what holds of any calls on one engine
+-- (engines/specs/Calls) holds of the lines that the program is fed (document 02, Paper 10).
 use mathlib.Core.Bool.{cond}
 use mathlib.Core.List.{List, [], _∷_, _++_}
 use mathlib.Core.Path.{_≡_}

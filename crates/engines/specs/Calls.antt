@@ -1,5 +1,5 @@
--- Calls on one engine in a row, "each call gets the record, in Paper 10 the engine's, as the one before left it" (document 02, Paper 9), and what holds over
--- them together (Paper 10).
+-- Calls on one engine in a row, "each call gets the record, in Paper 10 the engine's, as the one before left it"
+-- (document 02, Paper 9), and what holds over them together (Paper 10).
 use mathlib.Core.Path.{_≡_}
 use mathlib.Core.Bool.{Bool, true, false, cond, _&&_}
 use mathlib.Core.List.{List, [], _∷_, _++_}
@@ -87,7 +87,8 @@ OthersStay = (engine : Engine) (call : Call) (screen : ℕ) → isScreen screen 
     → (holdsJob (engineBy engine call .screens) screen ≡ holdsJob (engine .screens) screen)
     × (jobOf (engineBy engine call) screen ≡ jobOf engine screen)
 
--- "does nothing and does not count"; "with no jobs a turn does nothing"; "refused and changes nothing"; 12 "leaves the old one": the order of service too
+-- "does nothing and does not count"; "with no jobs a turn does nothing"; "refused and changes nothing"; 12 "leaves the
+-- old one": the order of service too
 pub record ChangesNothing : Type 0 where
   pub short-turn : (engine : Engine) (n : ℕ) → n < 1024 → turnOf engine n .answer .engine ≡ engine
   pub idle-turn : (engine : Engine) (n : ℕ) → nextScreen (engine .screens) ≡ 0 → turnOf engine n .answer .engine ≡ engine
@@ -98,7 +99,8 @@ pub record ChangesNothing : Type 0 where
 
 -- ---- a job on its screen
 
--- what a call on the engine is to the job of one screen: the turn that serves it is a step, a change of its density a change
+-- what a call on the engine is to the job of one screen: the turn that serves it is a step, a change of its density a
+-- change
 abbrev pub ownBy : ℕ → Engine → Call → List alone.Call
 ownBy screen engine (turn scratch) = cond (eqb screen (screenOf engine (turn scratch))) (alone.step scratch ∷ []) []
 ownBy screen engine (submit other set points L) = []
@@ -153,7 +155,8 @@ unfoldable pub answersAlone : Job → List alone.Call → List Row
 answersAlone job [] = []
 answersAlone job (call ∷ calls) = alone.answerBy job call ∷ answersAlone (alone.jobBy job call) calls
 
--- "a job's answers on its screen equal those it gives stepped alone with the same density changes before each strip"; and so does the job itself
+-- "a job's answers on its screen equal those it gives stepped alone with the same density changes before each strip";
+-- and so does the job itself
 pub record AsAlone (screen : ℕ) (engine : Engine) (calls : List Call) : Type 0 where
   pub answers : answersOver screen engine calls ≡ answersAlone (jobOf engine screen) (ownOver screen engine calls)
   pub job : holdsOver screen engine calls ≡ true
@@ -189,7 +192,7 @@ pub record Submitted (screen : ℕ) (engine : Engine) : Type 0 where
   pub calls : List alone.Call
   pub runs : RunsBy set points limit calls (jobOf engine screen)
 
--- every job that the engine holds is: so of an engine with no job, and then behind any calls
+-- every job that the engine holds is: so of an engine with no job, and then after any calls
 abbrev pub AllSubmitted : Engine → Type 0
 AllSubmitted engine = (screen : ℕ) → holdsJob (engine .screens) screen ≡ true → Submitted screen engine
 
@@ -198,11 +201,12 @@ pub record Serves (screen : ℕ) (set : FinSet) (points : List Float) (L : ℕ) 
   -- "it answers the screen served and the step's answer"
   pub served : servedScreen (turned .turn) ≡ screen
   pub goes-on : holdsJob (turned .engine .screens) screen ≡ true → turned .turn ≡ More screen
-  -- "The answer ending the job equals a fresh run's with the last density accepted" (Paper 9), over any scratch that is long enough
+  -- "The answer ending the job equals a fresh run's with the last density accepted" (Paper 9), over any scratch that is
+  -- long enough
   pub ends-as-fresh : holdsJob (turned .engine .screens) screen ≡ false → (n : ℕ) → scratchCheck L n ≡ Accepted
       → (turned .turn ≡ Ended screen) × (jobOf (turned .engine) screen .outcome ≡ setFigures (setAfter set points L calls) points L n)
 
--- a submission that is taken, and any calls behind it before each of which, and at whose end, the screen holds its job
+-- a submission that is taken, and any calls after it before each of which, and at whose end, the screen holds its job
 module _ (engine : Engine) (screen : ℕ) (set : FinSet) (points : List Float) (L : ℕ) (calls : List Call) where
   abbrev pub sinceThen : List alone.Call
   sinceThen = ownOver screen (engineBy engine (submit screen set points L)) calls

@@ -1,5 +1,5 @@
--- Eight screens, one engine (document 02, Paper 10): what a turn, a submission and a change of density answer, in every state of the engine,
--- and what they leave of it and of the scratch.
+-- Eight screens, one engine (document 02, Paper 10): what a turn, a submission and a change of density answer, in every
+-- state of the engine, and what they leave of it and of the scratch.
 use mathlib.Core.Path.{_≡_}
 use mathlib.Core.Bool.{Bool, true, false, not, cond, _&&_}
 use mathlib.Core.List.{List}
@@ -56,7 +56,8 @@ unfoldable pub firstHeld : Screens → ℕ → ℕ → ℕ
 firstHeld screens screen zero = 0
 firstHeld screens screen (suc n) = cond (holdsJob screens screen) screen (firstHeld screens (screenAfter screen) n)
 
--- "the next screen with a job, in ascending order from the one after the last served, wrapping round; until one is served it looks from screen 1"
+-- "the next screen with a job, in ascending order from the one after the last served, wrapping round; until one is
+-- served it looks from screen 1"
 unfoldable pub nextScreen : Screens → ℕ
 nextScreen screens = firstHeld screens (screenAfter (screens .last)) 8
 
@@ -70,8 +71,8 @@ withHeld screens screen holds last = record { held = set (screens .held) (placeO
 
 -- ---- a turn, on the screens and the job at the place that it works at
 
--- "A turn lent under 1,024 numbers answers 2, jobs or none, .. its samples are 0"; "with no jobs a turn does nothing and says so"; "otherwise it answers
--- the screen served and the step's answer"
+-- "A turn lent under 1,024 numbers answers 2, jobs or none, .. its samples are 0"; "with no jobs a turn does nothing
+-- and says so"; "otherwise it answers the screen served and the step's answer"
 abbrev pub turnRow : Turn → Job → Row
 turnRow Short job = figuresRow (bareFigures (Refused Scratch) 0)
 turnRow Idle job = plainRow 1001
@@ -119,7 +120,8 @@ IsAtScreen r definition = IsAnswer (λ (s : AtScreen). s .reply .verdict) r defi
 abbrev pub refused : Screens → Job → Refusal → AtScreen
 refused screens job refusal = record { screens = screens; job = job; reply = record { verdict = Refused refusal; samples = 0 } }
 
--- "A submission is answered taken, or refused and changes nothing"; 23 "before anything else in that submission". A job that was refused has ended when it is made
+-- "A submission is answered taken, or refused and changes nothing"; 23 "before anything else in that submission". A job
+-- that was refused has ended when it is made
 unfoldable pub submittedOf : Screens → Job → ℕ → Replied → AtScreen
 submittedOf screens job screen made =
     cond (isFree screens screen)

@@ -1,4 +1,5 @@
--- What the logic has for an element past the end of a list of jobs. An engine has eight, and no place of a screen is past them.
+-- What the logic has for an element past the end of a list of jobs. An engine has eight, and no place of a screen is
+-- past them.
 use mathlib.Core.Bool.{false}
 use mathlib.Core.List.{[]}
 use lib.Ieee.{nan}

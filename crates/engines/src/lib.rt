@@ -1,8 +1,9 @@
-// Eight screens, one engine: each screen may hold a job, and a turn works one strip for the next of them (document 02, Paper 10).
+// Eight screens, one engine: each screen may hold a job, and a turn works one strip for the next of them (document 02,
+// Paper 10).
 //
-// A call is worked by value on the screens and on one job, the one at the call's place: who keeps the engine reads and writes that job alone.
-// `Engine`, `Turned` and `Called` are for the definitions: an engine is kept in lent lists. Screens are 1 to 8; 0 stands for none. Any record,
-// number and scratch may be handed in.
+// A call is worked by value on the screens and on one job, the one at the call's place: who keeps the engine reads and
+// writes that job alone. `Engine`, `Turned` and `Called` are for the definitions: an engine is kept in lent lists.
+// Screens are 1 to 8; 0 stands for none. Any record, number and scratch may be handed in.
 ghost use mathlib.Core.Path.{_≡_};
 ghost use Prim.Native.Nat.{_<_};
 ghost use lib.ListN.{length};
@@ -27,8 +28,8 @@ pub struct Engine {
     pub jobs: [Job; 8],
 }
 
-// What a turn answers: 2, as its scratch was short; that no screen holds a job; or of the screen served that more strips of its job remain, or that the
-// job has ended, and then its outcome is the answer.
+// What a turn answers: 2, as its scratch was short; that no screen holds a job; or of the screen served that more
+// strips of its job remain, or that the job has ended, and then its outcome is the answer.
 pub enum Turn {
     Short,
     Idle,

@@ -1,5 +1,5 @@
--- What a call returns and leaves in the lent lists (include/delvouzh.h). Where a list has no room for what is written over its start, the
--- call returns 18 (no form) and leaves every list as it was.
+-- What a call returns and leaves in the lent lists (include/delvouzh.h). Where a list has no room for what is written
+-- over its start, the call returns 18 (no form) and leaves every list as it was.
 use mathlib.Core.Path.{_≡_}
 use mathlib.Core.Bool.{cond}
 use mathlib.Core.List.{List, [], _∷_}

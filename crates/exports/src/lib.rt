@@ -1,12 +1,14 @@
-// What C and Rust link (include/delvouzh.h, libexports.a): each function under its plain name, over numbers and slices alone. A job's, an engine's
-// and a line's calls stand in an archive of their own, `screen_exports`: each has its own copy of what both use, and here a whole run stays the only caller
-// of its parts, which the compiler then puts into it (docs/SPEED.md).
+// What C and Rust link (include/delvouzh.h, libexports.a): each function under its plain name, over numbers and slices
+// alone. A job's, an engine's and a line's calls stand in an archive of their own, `screen_exports`: each has its own
+// copy of what both use, and here a whole run stays the only caller of its parts, which the compiler then puts into it
+// (docs/SPEED.md).
 //
-// A call returns 0, or the number of the refusal, and writes its figures and counts over the start of lent slices; a refusal writes
-// zero figures, but of chords none. Only the root returns its f64, and the most samples their number. A set is the two lists of
-// `fins::numbers_of` and `fins::counts_of`, a planform its number and four lengths, an outline's points a list of their own: an unknown
-// number, or lists of another count, are 18 (no form); but points that are not 3 to 64 pairs are 5, and bodies that are not 1 to 32 whole
-// ones are 3. A lent slice that is too short for what is written over it is 18 too, and then nothing at all is written.
+// A call returns 0, or the number of the refusal, and writes its figures and counts over the start of lent slices; a
+// refusal writes zero figures, but of chords none. Only the root returns its f64, and the most samples their number. A
+// set is the two lists of `fins::numbers_of` and `fins::counts_of`, a planform its number and four lengths, an
+// outline's points a list of their own: an unknown number, or lists of another count, are 18 (no form); but points that
+// are not 3 to 64 pairs are 5, and bodies that are not 1 to 32 whole ones are 3. A lent slice that is too short for
+// what is written over it is 18 too, and then nothing at all is written.
 ghost use mathlib.Core.Path.{_≡_};
 ghost use mathlib.Core.List.{[], _∷_};
 ghost use Prim.Native.Nat.{_≤_};
@@ -32,8 +34,8 @@ fn write_three(figures: &mut [f64], x: f64, y: f64, z: f64)
     figures[2] = z;
 }
 
-// A body that is answered: writes its numbers and two values of a refusal, and gives the number that its verdict crosses as. Where a list has no
-// room it is 18, and nothing is written.
+// A body that is answered: writes its numbers and two values of a refusal, and gives the number that its verdict
+// crosses as. Where a list has no room it is 18, and nothing is written.
 fn told_body(answer: Joined, body: &mut [f64], values: &mut [usize]) -> usize
     ensures { λ r. ⌜ BodyCall answer (now (body .entry)) (now (values .entry)) r (now (body .exit)) (now (values .exit)) ⌝ }
 {
@@ -66,8 +68,8 @@ pub extern "C" fn delvouzh_most_samples() -> usize
     62 * 15 * 127
 }
 
-// A set's figures over a lent scratch of at least 16·limit numbers: writes the body's numbers, and as counts two values of a
-// refusal, the intervals and the samples.
+// A set's figures over a lent scratch of at least 16·limit numbers: writes the body's numbers, and as counts two values
+// of a refusal, the intervals and the samples.
 #[no_mangle]
 pub extern "C" fn delvouzh_mass_properties(
     limit: usize,
@@ -132,8 +134,8 @@ pub extern "C" fn delvouzh_geometry(
     refusals::verdict_number(verdict)
 }
 
-// A planform's chords at a height in metres: writes start and end of each over a list with room for 32 chords, and as counts two values of
-// a refusal and how many chords there are. A refusal leaves the list as it was.
+// A planform's chords at a height in metres: writes start and end of each over a list with room for 32 chords, and as
+// counts two values of a refusal and how many chords there are. A refusal leaves the list as it was.
 #[no_mangle]
 pub extern "C" fn delvouzh_chords_at(
     planform: usize,
@@ -160,8 +162,8 @@ pub extern "C" fn delvouzh_chords_at(
     refusals::verdict_number(verdict)
 }
 
-// Where a point lies beside a planform: writes two values of a refusal, the place (1 inside, 2 on the edge, 3 outside) and the nearest
-// corner's position.
+// Where a point lies beside a planform: writes two values of a refusal, the place (1 inside, 2 on the edge, 3 outside)
+// and the nearest corner's position.
 #[no_mangle]
 pub extern "C" fn delvouzh_drill(
     planform: usize,
@@ -189,8 +191,8 @@ pub extern "C" fn delvouzh_drill(
     refusals::verdict_number(verdict)
 }
 
-// A ring of tubes; the figures: length, outer radius, wall, base angle, body radius, density. Writes the body's numbers, and two
-// values of a refusal.
+// A ring of tubes; the figures: length, outer radius, wall, base angle, body radius, density. Writes the body's
+// numbers, and two values of a refusal.
 #[no_mangle]
 pub extern "C" fn delvouzh_tube_mass_properties(
     count: usize,
@@ -250,7 +252,8 @@ pub extern "C" fn delvouzh_combine(bodies: &[f64], body: &mut [f64]) -> usize
     refusals::verdict_number(verdict)
 }
 
-// Copies of a body by its numbers, one moved by each x and y of a list, joined: writes the numbers of the body, and two values of a refusal.
+// Copies of a body by its numbers, one moved by each x and y of a list, joined: writes the numbers of the body, and two
+// values of a refusal.
 #[no_mangle]
 pub extern "C" fn delvouzh_copied(
     body: &[f64],

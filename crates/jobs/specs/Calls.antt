@@ -1,4 +1,5 @@
--- Calls on one job in a row, "each with the record as the one before left it" (document 02, Paper 9), and what holds over them together.
+-- Calls on one job in a row, "each with the record as the one before left it" (document 02, Paper 9), and what holds
+-- over them together.
 use mathlib.Core.Path.{_≡_}
 use mathlib.Core.Bool.{Bool, true, false, not, cond, _&&_}
 use mathlib.Core.List.{List, [], _∷_, _++_}
@@ -60,7 +61,8 @@ abbrev pub stripsOver : Job → List Call → List Worked
 stripsOver job [] = []
 stripsOver job (call ∷ calls) = stripsBy job call ++ stripsOver (jobBy job call) calls
 
--- "A step writes its own strip's pieces from the start of the scratch lent to it and leaves the rest": of every record and scratch
+-- "A step writes its own strip's pieces from the start of the scratch lent to it and leaves the rest": of every record
+-- and scratch
 abbrev pub WritesOwnStrip : Type 0
 WritesOwnStrip = (job : Job) (scratch : List Float) → stepOf job (length scratch) .leaves scratch ≡ scratchAfter (stripsBy job (step scratch)) scratch
 

@@ -1,5 +1,5 @@
--- A set worked one strip a step, its density changed while it works (document 02, Paper 9): what each call answers, in every state of the
--- record, and what it leaves of record and scratch.
+-- A set worked one strip a step, its density changed while it works (document 02, Paper 9): what each call answers, in
+-- every state of the record, and what it leaves of record and scratch.
 use mathlib.Core.Path.{_≡_}
 use mathlib.Core.Bool.{Bool, true, false, not, cond, _&&_}
 use mathlib.Core.List.{List}
@@ -49,7 +49,7 @@ stepRun set points L =
 
 -- ---- the record
 
--- "It keeps its own copy of the outline": at most 128 numbers of it, zeros behind them
+-- "It keeps its own copy of the outline": at most 128 numbers of it, zeros after them
 abbrev pub heldOf : ℕ → ℕ
 heldOf count = cond (leb count 128) count 128
 
@@ -59,7 +59,8 @@ pointsOf points = record { numbers = over (take 128 points) (replicate 128 (bits
 abbrev pub outlineOf : Job → List Float
 outlineOf job = take (heldOf (job .points .count)) (job .points .numbers)
 
--- what its strips are worked from: the copy, at each step anew, with all heights as they come; `next` is the place of one of them
+-- what its strips are worked from: the copy, at each step anew, with all heights as they come; `next` is the place of
+-- one of them
 abbrev pub runOfJob : Job → Run
 runOfJob job = stepRun (job .set) (outlineOf job) (job .limit)
 
@@ -81,8 +82,8 @@ figuresRow figures = record { number = byVerdict (figures .verdict) 0 numberOf; 
 abbrev pub plainRow : ℕ → Row
 plainRow number = record { number = number; figures = bareFigures Accepted 0 }
 
--- "A step lent under 16·L numbers answers 2", with "the job's samples so far"; "a step with strips still to come answers only that more remain"; the answer
--- of a job that has ended is its outcome
+-- "A step lent under 16·L numbers answers 2", with "the job's samples so far"; "a step with strips still to come
+-- answers only that more remain"; the answer of a job that has ended is its outcome
 abbrev pub stepRow : Progress → Job → Row
 stepRow Short job = figuresRow (bareFigures (Refused Scratch) (job .samples))
 stepRow More job = plainRow 1000
@@ -94,8 +95,8 @@ replyRow reply = figuresRow (bareFigures (reply .verdict) (reply .samples))
 
 -- ---- a step
 
--- the answer of a set whose strips add up to these totals: figures or 8, or what refused the last strip; 3 and 12 again, which no job that was
--- made is given
+-- the answer of a set whose strips add up to these totals: figures or 8, or what refused the last strip; 3 and 12
+-- again, which no job that was made is given
 unfoldable pub outcomeOf : FinSet → List Float → Integral → Figures
 outcomeOf set points total =
     byVerdict (firstRefusal (countCheck (set .count)) (densityCheck (set .density)))

@@ -1,7 +1,8 @@
 // A job: a set worked one strip a step, its density changed while it works (document 02, Paper 9).
 //
-// The record is lent to each call and updated there: `step` and `change_density` take it by `&mut`, and what they do is a function by value.
-// Making a job runs every check before the strips but 2, which each step asks. Any record, density and scratch may be handed in.
+// The record is lent to each call and updated there: `step` and `change_density` take it by `&mut`, and what they do is
+// a function by value. Making a job runs every check before the strips but 2, which each step asks. Any record, density
+// and scratch may be handed in.
 ghost use mathlib.Core.Path.{_≡_};
 ghost use lib.ListN.{length};
 ghost use Rattle.strips.specs.Strips.{Room, WorksNext};
@@ -27,8 +28,8 @@ pub struct Points {
     pub count: usize,
 }
 
-// The set, its own copy of the outline and L; which strip is next, by the place of its lower end among all heights; the sums and totals over
-// those worked; and, once it has ended, its answer.
+// The set, its own copy of the outline and L; which strip is next, by the place of its lower end among all heights; the
+// sums and totals over those worked; and, once it has ended, its answer.
 pub struct Job {
     pub set: FinSet,
     pub points: Points,
@@ -41,14 +42,16 @@ pub struct Job {
     pub outcome: Figures,
 }
 
-// What a step answers: 2, as its scratch was short; that more strips remain; or that the job has ended, and then its outcome is the answer.
+// What a step answers: 2, as its scratch was short; that more strips remain; or that the job has ended, and then its
+// outcome is the answer.
 pub enum Progress {
     Short,
     More,
     Ended,
 }
 
-// What a making, a submission or a change of density answers: taken where the verdict accepts, else its number with the samples so far.
+// What a making, a submission or a change of density answers: taken where the verdict accepts, else its number with the
+// samples so far.
 pub struct Reply {
     pub verdict: Verdict,
     pub samples: usize,
@@ -81,7 +84,7 @@ fn held(count: usize) -> usize
     128
 }
 
-// A job's own copy, zeros behind it.
+// A job's own copy, zeros after it.
 fn copied(points: &[f64]) -> Points
     ensures { λ r. ⌜ r ≡ pointsOf (now (points .entry)) ⌝ }
 {
@@ -130,7 +133,7 @@ pub fn plain_row(number: usize) -> Row
     Row { number, figures }
 }
 
-// More strips remain behind these totals.
+// More strips remain after these totals.
 fn go_on(job: Job, total: Integral, next: usize) -> Job
     ensures { λ r. ⌜ r ≡ more job total next ⌝ }
 {
@@ -171,7 +174,8 @@ fn end(job: Job, total: Integral, outcome: Figures) -> Job
     }
 }
 
-// The answer of a set whose strips add up to these totals. Count and density are asked again, since a record that no making gave is taken too.
+// The answer of a set whose strips add up to these totals. Count and density are asked again, since a record that no
+// making gave is taken too.
 fn conclude(set: FinSet, points: &[f64], total: Integral) -> Figures
     ensures { λ r. ⌜ r ≡ outcomeOf set (now (points .entry)) total ⌝ }
 {

@@ -1,4 +1,5 @@
--- What the calls on an engine in lent memory promise: the answer, the two lists at exit and the engine that they hold, and the scratch at exit.
+-- What the calls on an engine in lent memory promise: the answer, the two lists at exit and the engine that they hold,
+-- and the scratch at exit.
 use mathlib.Core.Path.{_≡_}
 use mathlib.Core.Bool.{Bool, cond}
 use mathlib.Core.List.{List, [], _∷_, _++_}
@@ -46,8 +47,8 @@ written engine place l =
       counts = put (9 + place * jobCounts) jobCounts (screenCounts (engine .screens) ++ drop 9 (l .counts)) (countsOf (jobAt engine place));
     }
 
--- a turn writes where it serves a screen, a submission and a change of density where they are taken; else "changes nothing" is said of the lists
--- themselves
+-- a turn writes where it serves a screen, a submission and a change of density where they are taken; else "changes
+-- nothing" is said of the lists themselves
 unfoldable pub writes : Engine → Call → Bool
 writes engine (turn scratch) = ltb 0 (screenOf engine (turn scratch))
 writes engine (submit screen set points L) = isTaken (submitOf engine screen set points L .reply)

@@ -1,5 +1,5 @@
--- The engine in lent memory (document 02, Paper 10), as C, Rust and the card program lend it: a list of numbers and a list of counts. Lists of
--- zeros hold an engine with no job, none served.
+-- The engine in lent memory (document 02, Paper 10), as C, Rust and the card program lend it: a list of numbers and a
+-- list of counts. Lists of zeros hold an engine with no job, none served.
 use mathlib.Core.Bool.{Bool, false, not}
 use mathlib.Core.List.{List, [], _∷_, _++_}
 use Prim.Native.Nat.{ℕ, _+_, _*_}

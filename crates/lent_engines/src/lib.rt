@@ -1,7 +1,9 @@
-// The engine in lent memory: 1272 numbers and 145 counts, for the library and for the card program's lines (document 02, Paper 10).
+// The engine in lent memory: 1272 numbers and 145 counts, for the library and for the card program's lines (document
+// 02, Paper 10).
 //
-// A call reads the screens and the job at its place, works on them by value as `engines` does, and where it changed them writes the two back; the
-// other seven jobs stay where they lie. Any lists hold some engine; lists of zeros hold one with no job.
+// A call reads the screens and the job at its place, works on them by value as `engines` does, and where it changed
+// them writes the two back; the other seven jobs stay where they lie. Any lists hold some engine; lists of zeros hold
+// one with no job.
 ghost use mathlib.Core.Path.{_≡_};
 ghost use Prim.Native.Nat.{_≤_, _<_};
 ghost use lib.ListN.{length};
@@ -87,7 +89,8 @@ fn write_screens(counts: &mut [usize], screens: Screens)
     counts[8] = written[8];
 }
 
-// An engine with no job, none served, whatever the lists held before. The counts of its jobs are zeros too, as calls read them.
+// An engine with no job, none served, whatever the lists held before. The counts of its jobs are zeros too, as calls
+// read them.
 pub fn clear(counts: &mut [usize])
     requires { ⌜ engineCounts ≤ length (now counts) ⌝ }
     ensures { λ _. ⌜ Clears (now (counts .entry)) (now (counts .exit)) ⌝ }

@@ -1,4 +1,5 @@
--- What the calls on a job in lent memory promise: the answer, the job at exit and what the lists hold, and the scratch at exit.
+-- What the calls on a job in lent memory promise: the answer, the job at exit and what the lists hold, and the scratch
+-- at exit.
 use mathlib.Core.Path.{_≡_}
 use mathlib.Core.Bool.{Bool, cond, not, _&&_}
 use mathlib.Core.List.{List, _++_}

@@ -1,5 +1,6 @@
--- A job in lent memory, "one record, lent to each step and updated there" (document 02, Paper 9), as C and Rust lend it: a list of numbers and a
--- list of counts. `job-back` (proofs/Laws) says that the job which is written is the job that is read.
+-- A job in lent memory, "one record, lent to each step and updated there" (document 02, Paper 9), as C and Rust lend
+-- it: a list of numbers and a list of counts. `job-back` (proofs/Laws) says that the job which is written is the job
+-- that is read.
 use mathlib.Core.Bool.{Bool, cond, not}
 use mathlib.Core.List.{List, [], _∷_, _++_}
 use Prim.Native.Nat.{ℕ, _+_}
@@ -33,7 +34,7 @@ flag b = cond b 1 0
 abbrev pub workedNumbers : Job → List Float
 workedNumbers job = tabulate 7 (at (job .value)) ++ bodyNumbersOf (job .outcome .body)
 
--- the set as numbers (fins/specs/Numbered), these, and behind them the copy of the outline
+-- the set as numbers (fins/specs/Numbered), these, and after them the copy of the outline
 abbrev pub numbersOf : Job → List Float
 numbersOf job = setNumbersOf (job .set) ++ workedNumbers job ++ job .points .numbers
 
@@ -44,7 +45,7 @@ workedCounts job =
     ∷ numberIn (job .outcome .verdict) ∷ firstIn (job .outcome .verdict) ∷ secondIn (job .outcome .verdict)
     ∷ job .outcome .intervals ∷ job .outcome .samples ∷ job .points .count ∷ []
 
--- behind the set's
+-- after the set's
 abbrev pub countsOf : Job → List ℕ
 countsOf job = setCountsOf (job .set) ++ workedCounts job
 

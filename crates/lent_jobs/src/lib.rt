@@ -1,8 +1,8 @@
 // A job in lent memory: 159 numbers and 17 counts, as C and Rust lend it (document 02, Paper 9; include/delvouzh.h).
 //
-// A call reads the job into a local, lends that to `jobs::step` or `jobs::change_density`, and writes it back over the start of both lists; a call
-// that changes nothing writes nothing. A set's parts stand there by the library's numbers; lists that no call wrote hold some job too: a part's unknown
-// number makes it a set of no fins.
+// A call reads the job into a local, lends that to `jobs::step` or `jobs::change_density`, and writes it back over the
+// start of both lists; a call that changes nothing writes nothing. A set's parts stand there by the library's numbers;
+// lists that no call wrote hold some job too: a part's unknown number makes it a set of no fins.
 ghost use mathlib.Core.Path.{_≡_};
 ghost use Prim.Native.Nat.{_+_, _≤_};
 ghost use lib.ListN.{length};
@@ -25,7 +25,8 @@ use materials::Density;
 use refusals::Refusal;
 use refusals::Verdict;
 
-// Where a job's numbers stand behind the set's: the sums over the strips worked, the answer's body, the outline's; and how many numbers it has.
+// Where a job's numbers stand after the set's: the sums over the strips worked, the answer's body, the outline's; and
+// how many numbers it has.
 const SUMS: usize = SET_NUMBERS;
 
 const BODY: usize = SUMS + 7;
@@ -39,8 +40,9 @@ const WORKED_NUMBERS: usize = OUTLINE - SUMS;
 // The number of "more remain", over all of the refusals'.
 pub const MORE: usize = 1000;
 
-// Where its counts stand behind the set's: L, the next strip, the totals, whether it has ended; of the answer the verdict's number and values, the
-// intervals and the samples; how many numbers are the outline's; and how many counts it has.
+// Where its counts stand after the set's: L, the next strip, the totals, whether it has ended; of the answer the
+// verdict's number and values, the intervals and the samples; how many numbers are the outline's; and how many counts
+// it has.
 const LIMIT: usize = SET_COUNTS;
 
 const NEXT: usize = LIMIT + 1;

@@ -1,5 +1,5 @@
--- The answer to a line, and what it leaves in the lent scratch and in the engine of eight screens (docs/FORMS.md; document 01, "The card program" and
--- "Refusal numbers").
+-- The answer to a line, and what it leaves in the lent scratch and in the engine of eight screens (docs/FORMS.md;
+-- document 01, "The card program" and "Refusal numbers").
 use mathlib.Core.List.{List, [], _∷_}
 use mathlib.Core.Path.{_≡_}
 use Prim.Native.Nat.{ℕ, _+_, _<_}
@@ -98,8 +98,8 @@ abbrev pub doneReply : ℕ → Verdict → Figures → Reply
 doneReply screen Accepted f = reply DoneShape (numbersOf (f .body)) (screen ∷ f .intervals ∷ f .samples ∷ [])
 doneReply screen (Refused refusal) f = reply DoneRefusedShape [] (screen ∷ numberOf refusal ∷ [])
 
--- "A turn lent under 1,024 numbers answers 2"; "with no jobs a turn does nothing and says so"; "otherwise it answers the screen served and the step's
--- answer" (document 02, Paper 10)
+-- "A turn lent under 1,024 numbers answers 2"; "with no jobs a turn does nothing and says so"; "otherwise it answers
+-- the screen served and the step's answer" (document 02, Paper 10)
 abbrev pub turnReply : Turn → Figures → Reply
 turnReply Short f = refusedReply short
 turnReply Idle f = reply IdleShape [] []
@@ -107,8 +107,8 @@ turnReply (More screen) f = reply MoreShape [] (screen ∷ [])
 turnReply (Ended screen) f = doneReply screen (f .verdict) f
 
 -- ---- what a line does: its answer; the memory that it leaves, of which only the strips of a set, an area or a turn write to the scratch ("Refusal
--- numbers") and only the engine's own lines change the engine; and the calls of the engine that it asks for, one or none, without which the engine's two
--- lists stay as they are
+-- numbers") and only the engine's own lines change the engine; and the calls of the engine that it asks for, one or
+-- none, without which the engine's two lists stay as they are
 
 pub record Effect : Type 0 where
   pub reply : Reply

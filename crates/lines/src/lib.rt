@@ -1,7 +1,8 @@
-// One line's answer: its form is read, the call made, and the answer printed (docs/FORMS.md; document 01, "The card program").
+// One line's answer: its form is read, the call made, and the answer printed (docs/FORMS.md; document 01, "The card
+// program").
 //
-// The engine of eight screens is lent as two lists. Where these are too short, or the buffer has no room for the bytes that an answer may have, no
-// call is made.
+// The engine of eight screens is lent as two lists. Where these are too short, or the buffer has no room for the bytes
+// that an answer may have, no call is made.
 ghost use mathlib.Core.Bool.{_&&_};
 ghost use mathlib.Core.List.{[], _∷_};
 ghost use mathlib.Core.Path.{_≡_};
@@ -36,8 +37,8 @@ use refusals::Verdict;
 use templates::LINE_FIGURES;
 use tubes::ClosingRadius;
 
-// Most lines have no more bytes than this, and so no more figures: room for these is cleared in less time. With a dozen points they
-// have some more.
+// Most lines have no more bytes than this, and so no more figures: room for these is cleared in less time. With a dozen
+// points they have some more.
 const SHORT_LINE: usize = 512;
 
 const MIDDLE_LINE: usize = 1024;

@@ -1,5 +1,5 @@
--- Which trapezoids are worked in one piece, whatever their span, thickness and distance from the axis: those of square or
--- airfoil section whose tip and sweep are a few root chords.
+-- Which trapezoids are worked in one piece, whatever their span, thickness and distance from the axis: those of square
+-- or airfoil section whose tip and sweep are a few root chords.
 use mathlib.Core.Path.{_≡_}
 use mathlib.Core.Bool.{false}
 use mathlib.Core.List.{List}
@@ -52,8 +52,8 @@ pub record OnePiece (report : Report) : Type 0 where
   pub fifteen : report .samples ≡ 15
   pub figures-or-8 : ((report .verdict ≡ Accepted) × (report .intervals ≡ 1)) ⊎ (report .verdict ≡ Refused NoArea)
 
--- the call for the area (`figures::geometry`) answered r for a trapezoid that passes the checks: tip up to 4 root chords,
--- sweep from 0 to 4
+-- the call for the area (`figures::geometry`) answered r for a trapezoid that passes the checks: tip up to 4 root
+-- chords, sweep from 0 to 4
 abbrev pub AreaOnePiece : Type 0
 AreaOnePiece =
     (root tip span sweep : Float) (points : List Float) (L : ℕ) (entry : List Float) (r : Area) (exit : List Float)
@@ -63,8 +63,8 @@ AreaOnePiece =
     → Proportions 4 4 root tip sweep
     → OnePiece (areaReport r)
 
--- the call for the figures (`figures::mass_properties`) answered r for a set of trapezoids that passes the checks: tip up to
--- 2 root chords, of an airfoil 1, sweep from 0 to 4
+-- the call for the figures (`figures::mass_properties`) answered r for a set of trapezoids that passes the checks: tip
+-- up to 2 root chords, of an airfoil 1, sweep from 0 to 4
 abbrev pub SetOnePiece : Type 0
 SetOnePiece =
     (set : FinSet) (root tip span sweep : Float) (points : List Float)

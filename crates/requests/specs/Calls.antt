@@ -1,4 +1,5 @@
--- The calls on what is given by numbers (docs/FORMS.md; include/delvouzh.h): an unknown number, or another count of numbers, is no form.
+-- The calls on what is given by numbers (docs/FORMS.md; include/delvouzh.h): an unknown number, or another count of
+-- numbers, is no form.
 use mathlib.Core.Bool.{cond}
 use mathlib.Core.List.{List, [], _∷_}
 use mathlib.Core.Path.{_≡_}

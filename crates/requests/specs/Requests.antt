@@ -37,8 +37,8 @@ end ns k = getD ns (2 * k) 0
 abbrev pub between : ℕ → ℕ → List Float → List Float
 between from to figures = take (to - from) (drop from figures)
 
--- "(set (limit N) (count N) PLANFORM (thickness F) (section SECTION) TAB FILLET (cant F) (base F) (radius F) DENSITY)": limit 6, count 5, planform 4,
--- section 3, tab 2, fillet 1, density 0
+-- "(set (limit N) (count N) PLANFORM (thickness F) (section SECTION) TAB FILLET (cant F) (base F) (radius F) DENSITY)":
+-- limit 6, count 5, planform 4, section 3, tab 2, fillet 1, density 0
 unfoldable pub setRequestOf : List ℕ → List Float → SetRequest
 setRequestOf ns figures =
     let behindFillet = drop (end ns 1) figures in
@@ -93,7 +93,7 @@ askedRing ns figures = ringBy (number ns 1) (number ns 0) figures
 unfoldable pub askedClosing : List ℕ → List Float → ClosingRadius
 askedClosing ns figures = closingOf (at figures 0) (number ns 0)
 
--- "(drill PLANFORM (at F F))": planform 0; the point's x and height stand behind the planform's figures
+-- "(drill PLANFORM (at F F))": planform 0; the point's x and height stand after the planform's figures
 unfoldable pub askedDrill : List ℕ → List Float → Answer
 askedDrill ns figures =
     let lengths = between 0 (end ns 0) figures in

@@ -1,9 +1,9 @@
-// What a line or a call asks by numbers, as the calls take it (docs/FORMS.md; include/delvouzh.h): a set, one submitted to a screen, a density for a
-// screen's job, a planform, a planform's chords, a point beside a planform, a ring of tubes, points to join, a tensor, a body, copies of one, a part
-// moved or taken off.
+// What a line or a call asks by numbers, as the calls take it (docs/FORMS.md; include/delvouzh.h): a set, one submitted
+// to a screen, a density for a screen's job, a planform, a planform's chords, a point beside a planform, a ring of
+// tubes, points to join, a tensor, a body, copies of one, a part moved or taken off.
 //
-// A line's figures stand in a lent slice in the order of its form. Any numbers and any figures may be handed in: what they do not make up
-// is no form.
+// A line's figures stand in a lent slice in the order of its form. Any numbers and any figures may be handed in: what
+// they do not make up is no form.
 ghost use mathlib.Core.Path.{_≡_};
 ghost use Prim.Native.Nat.{_+_, _*_, _≤_, min};
 ghost use lib.ListN.{length, drop};
@@ -359,7 +359,8 @@ pub fn body_verdict(numbers: &[f64]) -> Verdict
     body_check::check(bodies::body_of(numbers))
 }
 
-// Copies of a body by its numbers, moved by the x and y of each offset, joined; of another count of the body's numbers, 18.
+// Copies of a body by its numbers, moved by the x and y of each offset, joined; of another count of the body's numbers,
+// 18.
 pub fn copied_by(body: &[f64], offsets: &[f64]) -> Joined
     ensures { λ r. ⌜ r ≡ copiedBy (now (body .entry)) (now (offsets .entry)) ⌝ }
 {

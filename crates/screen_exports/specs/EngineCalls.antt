@@ -1,5 +1,6 @@
--- What the calls on an engine in lent memory return and leave in the lent lists (include/delvouzh.h; document 02, Paper 10). An unknown number of a
--- set's part or of a density is 18, before 23, and the memory stays as it was, as where a list has no room.
+-- What the calls on an engine in lent memory return and leave in the lent lists (include/delvouzh.h; document 02, Paper
+-- 10). An unknown number of a set's part or of a density is 18, before 23, and the memory stays as it was, as where a
+-- list has no room.
 use mathlib.Core.Path.{_≡_}
 use mathlib.Core.Bool.{Bool, true, false, cond, _&&_}
 use mathlib.Core.List.{List, [], _∷_, _++_}
@@ -26,7 +27,7 @@ use Rattle.refusals.specs.Lent.{withValues, withCounts, room}
 use Rattle.figures.specs.Numbered.{figureCounts}
 use Rattle.requests.specs.Calls.{numberedSubmit, numberedChange}
 
--- the counts of a turn's answer, and the screen served behind them, 0 for none
+-- the counts of a turn's answer, and the screen served after them, 0 for none
 abbrev pub turnCounts : Turned → List ℕ → List ℕ
 turnCounts t list = set (figureCounts (turnedRow t .figures) list) 4 (servedScreen (t .turn))
 
@@ -38,7 +39,8 @@ engineRoom numbers counts = room engineNumbers numbers engineCounts counts
 
 -- ---- the calls
 
--- what a call returns of its answer, and what it leaves of the two lists: as these calls of the engine do, and with no room as none does
+-- what a call returns of its answer, and what it leaves of the two lists: as these calls of the engine do, and with no
+-- room as none does
 pub record EngineCall (fits : Bool) (calls : List Call) (number : ℕ) (numbers : List Float) (counts : List ℕ) (r : ℕ) (numbers' : List Float) (counts' : List ℕ) : Type 0 where
   pub returned : r ≡ cond fits number (numberOf NoForm)
   pub leaves : Leaves (cond fits calls []) (lists numbers counts) (lists numbers' counts')

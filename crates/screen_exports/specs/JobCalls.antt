@@ -1,5 +1,5 @@
--- What the calls on a job in lent memory return and leave in the lent lists (include/delvouzh.h; document 02, Paper 9). An unknown number of a set's
--- part or of a density is 18, and the memory stays as it was, as where a list has no room.
+-- What the calls on a job in lent memory return and leave in the lent lists (include/delvouzh.h; document 02, Paper 9).
+-- An unknown number of a set's part or of a density is 18, and the memory stays as it was, as where a list has no room.
 use mathlib.Core.Path.{_≡_}
 use mathlib.Core.Bool.{Bool, true, false, cond, _&&_}
 use mathlib.Core.List.{List}
@@ -29,7 +29,8 @@ use Rattle.refusals.specs.Numbered.{numberIn}
 use Rattle.refusals.specs.Lent.{withValues, withCounts, room}
 use Rattle.figures.specs.Numbered.{figureCounts}
 
--- what a call writes of its answer into the lent lists, and the number that it returns: `stepRow` and `turnRow` have them
+-- what a call writes of its answer into the lent lists, and the number that it returns: `stepRow` and `turnRow` have
+-- them
 pub record Tells (row : Row) (body : List Float) (told : List ℕ) (r : ℕ) (body' : List Float) (told' : List ℕ) : Type 0 where
   pub returned : r ≡ row .number
   pub figures : body' ≡ withBody body 0 (row .figures .body)
@@ -60,8 +61,8 @@ jobRoom numbers counts = room jobNumbers numbers jobCounts counts
 
 -- ---- the calls
 
--- what a call returns of its answer, and what it leaves in the memory: the job is written over its start, where it changes, and is the one that it then
--- holds; with no room nothing is written
+-- what a call returns of its answer, and what it leaves in the memory: the job is written over its start, where it
+-- changes, and is the one that it then holds; with no room nothing is written
 pub record JobCall (fits written : Bool) (job : Job) (number : ℕ) (numbers : List Float) (counts : List ℕ) (r : ℕ) (numbers' : List Float) (counts' : List ℕ) : Type 0 where
   pub returned : r ≡ cond fits number (numberOf NoForm)
   pub leaves : Leaves (fits && written) (cond fits job (jobIn numbers counts)) numbers counts numbers' counts'

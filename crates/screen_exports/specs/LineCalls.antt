@@ -1,5 +1,5 @@
--- What the call on a line returns and leaves in the lent lists (include/delvouzh.h; docs/FORMS.md). Where a list has no room it returns 18 (no form)
--- and leaves every list as it was.
+-- What the call on a line returns and leaves in the lent lists (include/delvouzh.h; docs/FORMS.md). Where a list has no
+-- room it returns 18 (no form) and leaves every list as it was.
 use mathlib.Core.Path.{_≡_}
 use mathlib.Core.Bool.{Bool, false, cond, _&&_}
 use mathlib.Core.List.{List, [], _∷_}
@@ -23,6 +23,7 @@ pub record LineCall (line : List ℕ) (lent : LentMemory) (answer written : List
   pub counted : written' ≡ cond (lineRoom lent answer written) (over (length (answerOf line (memoryOf lent)) ∷ []) written) written
   -- the scratch, and the engine that the two lists hold
   pub memory-left : memoryOf lent' ≡ cond (lineRoom lent answer written) (memoryAfter line (memoryOf lent)) (memoryOf lent)
-  -- and these two lists themselves: a line that is no submission, density or turn makes no call of the engine, and leaves them as they were
+  -- and these two lists themselves: a line that is no submission, density or turn makes no call of the engine, and
+  -- leaves them as they were
   pub lists-left : Leaves (cond (lineRoom lent answer written) (callsOfLine line (memoryOf lent)) []) (listsOf lent) (listsOf lent')
   pub untouched : lineRoom lent answer written ≡ false → lent' ≡ lent

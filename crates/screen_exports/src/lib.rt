@@ -1,8 +1,10 @@
-// What C and Rust link for a kiosk's screens (include/delvouzh.h, libscreen_exports.a): a job in lent memory, an engine of eight screens, a line's answer.
+// What C and Rust link for a kiosk's screens (include/delvouzh.h, libscreen_exports.a): a job in lent memory, an engine
+// of eight screens, a line's answer.
 //
-// Numbers, slices and refusals cross as in `exports`. A step of a job returns 1000 where more strips remain, a turn with no job 1001; a line is answered, by 0, also
-// where the answer's text is a refusal. An unknown number of a set's part or of a density is 18, and leaves the memory as it was; a lent slice that is too short
-// is 18 too, and then nothing at all is written.
+// Numbers, slices and refusals cross as in `exports`. A step of a job returns 1000 where more strips remain, a turn
+// with no job 1001; a line is answered, by 0, also where the answer's text is a refusal. An unknown number of a set's
+// part or of a density is 18, and leaves the memory as it was; a lent slice that is too short is 18 too, and then
+// nothing at all is written.
 ghost use Prim.Native.Nat.{_≤_};
 ghost use lib.ListN.{length};
 ghost use Rattle.bodies.specs.Layout.{bodyNumbers};
@@ -38,7 +40,8 @@ fn tell(body: &mut [f64], counts: &mut [usize], row: Row) -> usize
     row.number
 }
 
-// Makes a job in the lent memory: 0 where it is taken; a refused one has ended with that. Writes two values of a refusal.
+// Makes a job in the lent memory: 0 where it is taken; a refused one has ended with that. Writes two values of a
+// refusal.
 #[no_mangle]
 pub extern "C" fn delvouzh_job_make(
     limit: usize,
@@ -73,8 +76,8 @@ pub extern "C" fn delvouzh_job_make(
     refusals::verdict_number(verdict)
 }
 
-// One step of the job there, over a lent scratch of at least 16·limit numbers: 1000 where more strips remain, else the figures or the refusal
-// that it has ended with. Writes the body's numbers and the counts; where more remain, zeros.
+// One step of the job there, over a lent scratch of at least 16·limit numbers: 1000 where more strips remain, else the
+// figures or the refusal that it has ended with. Writes the body's numbers and the counts; where more remain, zeros.
 #[no_mangle]
 pub extern "C" fn delvouzh_job_step(
     job_numbers: &mut [f64],
@@ -148,7 +151,8 @@ pub extern "C" fn delvouzh_engine_clear(engine_counts: &mut [usize]) -> usize
     0
 }
 
-// Submits a set to a screen, 1 to 8, of the engine there: 0 where its job is taken; else nothing changes. Writes two values of a refusal.
+// Submits a set to a screen, 1 to 8, of the engine there: 0 where its job is taken; else nothing changes. Writes two
+// values of a refusal.
 #[no_mangle]
 pub extern "C" fn delvouzh_engine_submit(
     screen: usize,
@@ -180,8 +184,9 @@ pub extern "C" fn delvouzh_engine_submit(
     refusals::verdict_number(verdict)
 }
 
-// One turn of the engine there, over a lent scratch of at least 1,024 numbers: 1001 where no screen holds a job, 1000 where more strips remain of the job
-// served, else the figures or the refusal that it has ended with. Writes the body's numbers, the counts, and behind them the screen served, or 0.
+// One turn of the engine there, over a lent scratch of at least 1,024 numbers: 1001 where no screen holds a job, 1000
+// where more strips remain of the job served, else the figures or the refusal that it has ended with. Writes the body's
+// numbers, the counts, and after them the screen served, or 0.
 #[no_mangle]
 pub extern "C" fn delvouzh_engine_turn(
     engine_numbers: &mut [f64],
@@ -243,7 +248,8 @@ pub extern "C" fn delvouzh_engine_change_density(
     refusals::verdict_number(verdict)
 }
 
-// The answer to a line of docs/FORMS.md, a refusal's text too, over the engine that is lent: writes its bytes, and how many they are.
+// The answer to a line of docs/FORMS.md, a refusal's text too, over the engine that is lent: writes its bytes, and how
+// many they are.
 #[no_mangle]
 pub extern "C" fn delvouzh_answer_line(
     line: &[u8],

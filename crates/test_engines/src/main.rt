@@ -1,5 +1,6 @@
-// Thousands of calls on an engine in lent memory, by a row of numbers: submissions, changes of density, short turns and turns on eight screens.
-// Beside it each job is stepped alone, and the order of service is worked out again; every answer is compared, and the scratch of every turn.
+// Thousands of calls on an engine in lent memory, by a row of numbers: submissions, changes of density, short turns and
+// turns on eight screens. Beside it each job is stepped alone, and the order of service is worked out again; every
+// answer is compared, and the scratch of every turn.
 ghost use Prim.Native.Nat.{_≤_};
 ghost use lib.ListN.{length};
 ghost use Rattle.lent_engines.specs.Lent.{Room};
@@ -26,7 +27,7 @@ struct Alone {
     last: usize,
 }
 
-// The jobs alone behind a call; whether the engine answered the same, and whether a job ended.
+// The jobs alone after a call; whether the engine answered the same, and whether a job ended.
 struct Called {
     alone: Alone,
     same: bool,
@@ -95,7 +96,7 @@ fn job_of(alone: Alone, screen: usize) -> Job {
     jobs[place]
 }
 
-// The screen whose turn it is: the nearest behind the last served, round by 8; 0 for none.
+// The screen whose turn it is: the nearest after the last served, round by 8; 0 for none.
 fn due(alone: Alone) -> usize {
     let mut screen = alone.last;
     let mut looked: usize = 0;

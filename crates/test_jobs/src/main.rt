@@ -1,6 +1,7 @@
-// Thousands of jobs, each of a set made up by a row of numbers: between its strips come changes of density, taken and refused, and short
-// steps. Held beside a fresh run with the density accepted last are the answer that ends the job, the scratch, and the same answer again.
-// The jobs stand in lent memory, so that each call runs `jobs::step` or `jobs::change_density` over `&mut Job`.
+// Thousands of jobs, each of a set made up by a row of numbers: between its strips come changes of density, taken and
+// refused, and short steps. Held beside a fresh run with the density accepted last are the answer that ends the job,
+// the scratch, and the same answer again. The jobs stand in lent memory, so that each call runs `jobs::step` or
+// `jobs::change_density` over `&mut Job`.
 ghost use Prim.Native.Nat.{_≤_};
 ghost use lib.ListN.{length};
 ghost use Rattle.lent_jobs.specs.Lent.{Room};
@@ -23,7 +24,8 @@ fn is_taken(reply: Reply) -> bool {
     !refusals::is_refused(verdict)
 }
 
-// One call by the row's number, and whether it was a density that is taken: a change, one that is refused, a step lent too little, or a step.
+// One call by the row's number, and whether it was a density that is taken: a change, one that is refused, a step lent
+// too little, or a step.
 fn call(numbers: &mut [f64], counts: &mut [usize], seed: u64, scratch: &mut [f64]) -> bool
     requires { ⌜ Room (now numbers) (now counts) × (1024 ≤ length (now scratch)) ⌝ }
 {
