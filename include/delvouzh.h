@@ -31,7 +31,9 @@
  *    written overlap no other. What they hold on entry, the scratch too, does not matter to an answer; but a job's memory is the job, and an engine's
  *    the engine.
  *  - The floating-point environment is the one that a process starts with: rounding to nearest, subnormal numbers kept (no flushing to
- *    zero), exceptions masked. Linking with -ffast-math changes it before main; some libraries change it for their thread.
+ *    zero), exceptions masked. Linking with -ffast-math changes it before main; some libraries change it for their thread. In another
+ *    environment no call faults, but figures differ in their last bits, and what lies at a limit may be refused or not: docs/ASSUMED.md has
+ *    what tests/rounding measured.
  *  - DELVOUZH_STACK bytes of stack for a call.
  * A call keeps no pointer and nothing between calls: any number of threads may call at the same time, each with arrays of its own. It
  * takes no memory but its stack, and calls nothing but memcpy and memset.
@@ -296,7 +298,7 @@ enum delvouzh_field {
     DELVOUZH_FIELD_ROLL = 20
 };
 
-/* A refusal's sentence, for people; of a number that is none's, that it is not known. */
+/* A refusal's sentence, which is the one that `readable` prints; of a number that is none's, that it is not in the table. */
 static inline const char *delvouzh_sentence(size_t number) {
     switch (number) {
     case DELVOUZH_REFUSED_LIMIT:
@@ -304,7 +306,7 @@ static inline const char *delvouzh_sentence(size_t number) {
     case DELVOUZH_REFUSED_SCRATCH:
         return "the lent scratch is too short for the limit";
     case DELVOUZH_REFUSED_COUNT:
-        return "the count of fins, tubes, bodies or places is not 1 to 32";
+        return "the count of fins, of tubes, of joined points, of offsets or of places is not 1 to 32";
     case DELVOUZH_REFUSED_LENGTH:
         return "a length is out of its limits";
     case DELVOUZH_REFUSED_POINTS:
@@ -314,41 +316,43 @@ static inline const char *delvouzh_sentence(size_t number) {
     case DELVOUZH_REFUSED_TOUCHES:
         return "the outline touches itself";
     case DELVOUZH_REFUSED_NO_AREA:
-        return "there is no area, or no volume";
+        return "there is no area or no volume";
     case DELVOUZH_REFUSED_ANGLE:
-        return "an angle is not a number, or beyond 4 rad";
+        return "a cant, base angle or roll is not a number, or is beyond 4 rad";
     case DELVOUZH_REFUSED_TAB_OFF_ROOT:
-        return "the tab begins before the root, or ends past it";
+        return "the tab begins ahead of the root or ends aft of it";
     case DELVOUZH_REFUSED_TAB_TOO_DEEP:
         return "the tab is higher than the body's radius";
     case DELVOUZH_REFUSED_DENSITY:
-        return "the density is not bulk, or out of its limits";
+        return "the density of the fins, of the tubes or of a fillet with a radius above 0 is not bulk, "
+               "or is neither 0 nor 2^-10 to 2^15 kg/m\xc2\xb3";
     case DELVOUZH_REFUSED_NOT_CONVERGED:
-        return "the sums did not settle within the limit's pieces";
+        return "the sums did not settle within the limit's pieces, or cannot";
     case DELVOUZH_REFUSED_MASS:
-        return "the body's mass is negative or not finite";
+        return "a body's mass is negative or not finite";
     case DELVOUZH_REFUSED_CENTRE:
-        return "the body's centre is not finite";
+        return "a body's centre is not finite";
     case DELVOUZH_REFUSED_TENSOR:
-        return "the body's tensor is none that a real body has";
+        return "a body's tensor is none that a body can have";
     case DELVOUZH_REFUSED_NO_FORM:
-        return "the line, or what was handed over, is none of the forms";
+        return "the line is none of the forms in docs/FORMS.md, "
+               "or a call was handed an unknown number or a list of another length than it takes";
     case DELVOUZH_REFUSED_NO_FIGURE:
-        return "a word stands where a figure belongs";
+        return "a word where a figure belongs has neither shape of a figure, or is sixteen decimal digits alone";
     case DELVOUZH_REFUSED_WALL_OVER_RADIUS:
-        return "the tube's wall is thicker than its outer radius";
+        return "a tube's wall is thicker than its outer radius";
     case DELVOUZH_REFUSED_THICKNESS_OVER_ROOT:
         return "the fin is thicker than its root chord is long";
     case DELVOUZH_REFUSED_FILLET_RATIO:
-        return "the fillet's radius is over 1000 times the body's";
+        return "the fillet's radius is over 1000 times the body's, whatever its density";
     case DELVOUZH_REFUSED_SCREEN:
         return "the screen is not 1 to 8, or already holds a job";
     case DELVOUZH_REFUSED_NO_CORNERS:
         return "an ellipse has no corners";
     case DELVOUZH_REFUSED_NOT_WHOLE_STEPS:
-        return "a coordinate is no whole number of steps of 2^-20 m";
+        return "a coordinate of the point or of a corner is no whole number of steps of 2^-20 m";
     case DELVOUZH_REFUSED_NOT_HEAVIER:
-        return "the whole is not heavier than the part";
+        return "the whole is not heavier than the part taken off, or a part is moved in a body of mass 0";
     default:
         return "the number is not in the table of refusals";
     }
@@ -361,6 +365,11 @@ static inline const char *delvouzh_field_name(size_t field) {
                                         "cant", "base angle", "tube length", "outer radius", "fillet radius",
                                         "drill x", "drill height", "offset", "roll"};
     return 1 <= field && field <= sizeof names / sizeof *names ? names[field - 1] : "no field";
+}
+
+/* The name of the field that a refusal carries, by the values that were written with it; of a refusal that carries none, an empty text. */
+static inline const char *delvouzh_refused_field(size_t number, const size_t *values) {
+    return number == DELVOUZH_REFUSED_LENGTH || number == DELVOUZH_REFUSED_ANGLE ? delvouzh_field_name(values[0]) : "";
 }
 
 /* A set of fins. Zeros are no tab and no fillet; `lengths` are the planform's, `points` an outline's, `points_len` numbers. */

@@ -93,8 +93,16 @@ static void answer_to(struct lent *l, const char *line) {
                                      l->engine_counts, DELVOUZH_ENGINE_COUNTS, l->answer, DELVOUZH_ANSWER, l->counts, DELVOUZH_WRITTEN);
 }
 
+/* A refusal has a sentence of its own, and 4 and 9 the name of their field. */
+static int has_words(void) {
+    const char *const field = delvouzh_refused_field(at.number, at.counts);
+    const int has_field = at.number == DELVOUZH_REFUSED_LENGTH || at.number == DELVOUZH_REFUSED_ANGLE;
+    return strcmp(delvouzh_sentence(at.number), delvouzh_sentence(0)) != 0 && (*field != 0) == has_field && strcmp(field, "no field") != 0;
+}
+
 static int refused(size_t number, size_t first, size_t second) {
-    return at.number == number && at.counts[0] == first && at.counts[1] == second;
+    const int is_refusal = number != 0 && number != DELVOUZH_MORE;
+    return at.number == number && at.counts[0] == first && at.counts[1] == second && (!is_refusal || has_words());
 }
 
 static int answered(const char *text) {

@@ -89,7 +89,8 @@ static void refusals(void) {
     holds("its sentence", strcmp(delvouzh_sentence(21), "the fin is thicker than its root chord is long") == 0);
     set.thickness_m = 65.0;
     holds("4 by its name", delvouzh_set_mass_properties(&set, 64, scratch, 1024, body, counts) == DELVOUZH_REFUSED_LENGTH);
-    holds("its field", counts[0] == DELVOUZH_FIELD_THICKNESS && strcmp(delvouzh_field_name(counts[0]), "thickness") == 0);
+    holds("its field", counts[0] == DELVOUZH_FIELD_THICKNESS && strcmp(delvouzh_refused_field(4, counts), "thickness") == 0);
+    holds("21 has none", *delvouzh_refused_field(21, counts) == 0);
     holds("no field", strcmp(delvouzh_field_name(0), "no field") == 0 && strcmp(delvouzh_field_name(21), "no field") == 0);
     holds("the last field", strcmp(delvouzh_field_name(DELVOUZH_FIELD_ROLL), "roll") == 0);
     holds("no refusal", strcmp(delvouzh_sentence(14), delvouzh_sentence(0)) == 0);

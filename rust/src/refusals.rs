@@ -172,32 +172,42 @@ impl fmt::Display for Refusal {
         let named = |field| field_name(field).unwrap_or("a field of another library");
         f.write_str(match *self {
             Self::Length { field } => return write!(f, "the {} is out of its limits", named(field)),
-            Self::Angle { field } => return write!(f, "the {} is not a number, or beyond 4 rad", named(field)),
+            Self::Angle { field } => return write!(f, "the {} is not a number, or is beyond 4 rad", named(field)),
             Self::Touches { edges: [i, j] } => return write!(f, "edges {i} and {j} of the outline touch"),
             Self::NotConverged { component } => {
-                return write!(f, "sum {component} did not settle within the limit's pieces")
+                return write!(f, "sum {component} did not settle within the limit's pieces, or cannot")
             }
             Self::Tensor(fault) => return fault.fmt(f),
             Self::Limit => "the limit is not 1 to 64",
             Self::Scratch => "the lent scratch is too short for the limit",
-            Self::Count => "the count of fins, tubes, bodies or places is not 1 to 32",
+            Self::Count => "the count of fins, of tubes, of joined points, of offsets or of places is not 1 to 32",
             Self::Points => "the outline is not 3 to 64 whole points",
             Self::Ends => "the outline does not begin at (0, 0), or does not end at (c, 0) with c > 0",
-            Self::NoArea => "there is no area, or no volume",
-            Self::TabOffRoot => "the tab begins before the root, or ends past it",
+            Self::NoArea => "there is no area or no volume",
+            Self::TabOffRoot => "the tab begins ahead of the root or ends aft of it",
             Self::TabTooDeep => "the tab is higher than the body's radius",
-            Self::Density => "the density is not bulk, or out of its limits",
-            Self::Mass => "the body's mass is negative or not finite",
-            Self::Centre => "the body's centre is not finite",
-            Self::NoForm => "the line, or what was handed over, is none of the forms",
-            Self::NoFigure => "a word stands where a figure belongs",
-            Self::WallOverRadius => "the tube's wall is thicker than its outer radius",
+            Self::Density => {
+                "the density of the fins, of the tubes or of a fillet with a radius above 0 is not bulk, \
+                 or is neither 0 nor 2^-10 to 2^15 kg/m³"
+            }
+            Self::Mass => "a body's mass is negative or not finite",
+            Self::Centre => "a body's centre is not finite",
+            Self::NoForm => {
+                "the line is none of the forms in docs/FORMS.md, \
+                 or a call was handed an unknown number or a list of another length than it takes"
+            }
+            Self::NoFigure => {
+                "a word where a figure belongs has neither shape of a figure, or is sixteen decimal digits alone"
+            }
+            Self::WallOverRadius => "a tube's wall is thicker than its outer radius",
             Self::ThicknessOverRoot => "the fin is thicker than its root chord is long",
-            Self::FilletRatio => "the fillet's radius is over 1000 times the body's",
+            Self::FilletRatio => "the fillet's radius is over 1000 times the body's, whatever its density",
             Self::Screen => "the screen is not 1 to 8, or already holds a job",
             Self::NoCorners => "an ellipse has no corners",
-            Self::NotWholeSteps => "a coordinate is no whole number of steps of 2^-20 m",
-            Self::NotHeavier => "the whole is not heavier than the part",
+            Self::NotWholeSteps => "a coordinate of the point or of a corner is no whole number of steps of 2^-20 m",
+            Self::NotHeavier => {
+                "the whole is not heavier than the part taken off, or a part is moved in a body of mass 0"
+            }
         })
     }
 }
