@@ -17,7 +17,7 @@ use lib.Ieee.Positive.{num, den, den-pos, positive, positive-finite}
 use Rattle.floats.specs.Operations.{_⊕_, _⊗_, _⊘_, bits, at}
 use Rattle.floats.specs.Fractions.{_over_, _plus_ as sum, _times_ as product, valueOf as fractionOf}
 use Rattle.rounding.proofs.Signed.{over}
-use Rattle.rounding.proofs.Sizes.{positive-of, weaker}
+use Rattle.rounding.proofs.Sizes.{positive-of}
 use Rattle.rounding_error.specs.Distances.{Within as Apart}
 use Rattle.rounding_error.proofs.Numbers.{Number, number, Size, _per_, _by_, _plus_, _times_, _roundoffs_, Near, IsNumber, valueOf, zeroNumber}
 use Rattle.rounding_error.proofs.Numbers.{sizeOf, Ranges}

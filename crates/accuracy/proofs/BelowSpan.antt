@@ -1,9 +1,9 @@
 -- Every sample of a strip that ends with at most 40 pieces lies below the span: no piece was a sliver, so that each of its samples is clear of the
 -- strip's upper end. Assumes nothing.
 use mathlib.Core.Path.{_≡_, refl}
-use mathlib.Core.Bool.{true, false}
+use mathlib.Core.Bool.{false}
 use mathlib.Core.List.{List, [], _∷_, _++_}
-use Prim.Native.Nat.{ℕ, zero, suc, _+_, _-_, _≤_, _<_}
+use Prim.Native.Nat.{ℕ, zero, suc, _+_, _-_, _≤_}
 use native.Mathlib.Nat.{le-trans, le-suc}
 use native.Mathlib.Omega.{arith}
 use lib.Dec.{T, lit≤}
@@ -12,11 +12,9 @@ use lib.ListN.{length}
 use lib.Ieee.{Float, lt, eq}
 use Rattle.floats.specs.Operations.{_⊗_, _⊘_, bits}
 use Rattle.sorting.specs.Sorted.{Each}
-use Rattle.planforms.specs.declared.Planform.{Planform}
 use Rattle.planforms.specs.declared.Planform.the-variants.{Trapezoid, Ellipse}
 use Rattle.planforms.specs.Planforms.{spanOf}
 use Rattle.limits.proofs.Lengths.{PositiveLength}
-use Rattle.integrands.specs.Integrands.{scaleOf}
 use Rattle.integrands.proofs.Scales.{Scale, scale-sized}
 use Rattle.fins.proofs.Sized.{planform-sized}
 use Rattle.quadrature.specs.Rule.{halfSum, halfWidth, minusSide, plusSide, heightsTo, heightsOf, pieceOf}
@@ -31,7 +29,7 @@ use Rattle.rounding_error.proofs.Numbers.{Number, Size, _per_, _less_, _times_,
 use Rattle.rounding_error.proofs.Ranges.{in-range}
 use Rattle.rounding_error.proofs.Polynomials.{_equals_}
 use Rattle.rounding_error.proofs.Chains.{Valued}
-use Rattle.accuracy.specs.Tips.{BelowSpan, TrapezoidBelow, EllipseBelow}
+use Rattle.accuracy.specs.Tips.{TrapezoidBelow, EllipseBelow}
 use Rattle.accuracy.proofs.ExactRule.{node}
 use Rattle.accuracy.proofs.Given.{Lengths}
 use Rattle.accuracy.proofs.Limits.{lengths}

@@ -8,7 +8,7 @@ use lib.Ieee.{Float}
 use lib.Ieee.Positive.{num, den, den-pos, positive-finite}
 use Rattle.floats.specs.Operations.{_⊕_, _⊖_, _⊗_, _⊘_}
 use Rattle.rounding.proofs.Monotone.{positive-num}
-use Rattle.rounding_error.proofs.Numbers.{Number, number, Size, _per_, _plus_, _less_, _times_, _over_, _by_, _for_, _of_, IsNumber, IsSize, Under, valueOf, sizeOf, InRange, Ranges}
+use Rattle.rounding_error.proofs.Numbers.{Number, number, Size, _per_, _plus_, _less_, _times_, _by_, _for_, _of_, IsNumber, IsSize, Under, valueOf, sizeOf, InRange, Ranges}
 use Rattle.rounding_error.proofs.Distances.{sorted}
 use Rattle.rounding_error.proofs.Ranges.{ranges-by, ranges-for, in-range}
 use Rattle.rounding_error.proofs.Counts as Counts

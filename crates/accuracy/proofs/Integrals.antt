@@ -7,7 +7,7 @@ use native.Mathlib.Omega.{arith}
 use lib.Pow.{pow-pos, pow-add}
 use lib.Ieee.{Float, ofBits}
 use Rattle.floats.specs.Operations.{_⊕_, bits}
-use Rattle.rounding_error.proofs.Numbers.{Number, Size, _per_, _times_, _of_, _roundoffs_, _upto_, IsSize, Within}
+use Rattle.rounding_error.proofs.Numbers.{Number, Size, _per_, _of_, _roundoffs_, _upto_, IsSize, Within}
 use Rattle.rounding_error.proofs.Numbers.{valueOf, zeroNumber, InRange, Ranges}
 use Rattle.rounding_error.proofs.Distances.{sorted, within-upto}
 use Rattle.rounding_error.proofs.Chains.{Valued, in-bounds, counted-by, equalled, plus-valued}

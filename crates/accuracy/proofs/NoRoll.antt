@@ -20,7 +20,6 @@ use Rattle.bodies.specs.Matrices.{fromColumns}
 use Rattle.bodies.specs.Bodies.{rotatedOf}
 use Rattle.rotations.specs.Rotations.{aboutZ, matrixOf}
 use Rattle.rings.specs.Rings.{angleOf, rolledCopy}
-use Rattle.rounding_error.proofs.Numbers.{_by_}
 use Rattle.rounding_error.proofs.Distances.{sorted}
 use Rattle.rounding_error.proofs.Polynomials.{_add_, _mul_}
 

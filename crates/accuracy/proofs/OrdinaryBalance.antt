@@ -1,331 +1,93 @@
--- The balance point along the axis of a set that one piece is enough for, of square or airfoil section, with no tab and no cant: near the
--- exact one
--- by computed bounds, stage by stage: volume and moment of a fin, the terms of the ring's sums, the sums, their quotient. Assumes
--- nothing.
+-- The balance point along the axis of a set that one piece is enough for, of square or airfoil section, with a tab or none and no cant:
+-- near the exact one by computed bounds, from the volume and the moment of proofs/SevenIntegrals. Assumes nothing.
 use mathlib.Core.Path.{_≡_, refl, sym, ap, _∙_, subst}
 use mathlib.Core.Bool.{Bool, true, false}
 use mathlib.Core.List.{List, [], _∷_}
-use Prim.Native.Nat.{ℕ, zero, suc, _+_, _-_, _*_, _^_, _≤_, _<_, zero-le}
+use mathlib.Core.Logic.{_⊎_, inl, inr}
+use Prim.Native.Nat.{ℕ, zero, suc, _+_, _*_, _^_, _≤_, _<_, zero-le}
 use native.Mathlib.Nat.{le-refl, le-trans, le-of-eq, mul-pos, mul-le-mul, mul-le-mul-left, mul-le-mul-right, le-of-mul-le-mul-right}
 use native.Mathlib.Nat.{one-mul, mul-one, zero-mul, mul-zero, zero-add, add-zero}
 use native.Mathlib.Omega.{arith}
-use lib.Dec.{T, leb, lit≤}
+use lib.Dec.{T, leb, leb→le, lit≤}
 use lib.ListN.{length, getD}
 use lib.Pow.{pow-add, pow-pos, pow-mono}
+use lib.IntN.{pos}
 use lib.Ieee.{Float, binary64, nan, inf, fin, up, down, neg, eq, fits, round, ofBits}
 use lib.Ieee.Scale.{finite}
-use lib.Ieee.Positive.{num, den, den-pos, positive, positive-finite}
-use Rattle.floats.specs.Operations.{_⊕_, _⊗_, _⊘_, bits, at}
-use Rattle.floats.specs.Constants.{one}
+use lib.Ieee.Positive.{num, den, den-pos, positive}
+use Rattle.floats.specs.Operations.{_⊕_, _⊖_, _⊗_, _⊘_, bits, at}
+use Rattle.floats.specs.Constants.{one, half}
 use Rattle.floats.specs.Floats.{cube, fourth}
+use Rattle.floats.specs.Fractions.{Fraction, _over_, _plus_ as sum, minus as negatedFraction, _times_ as product, valueOf as fractionOf}
 use Rattle.rounding.specs.Sizes.{AtMost, Below, Above}
 use Rattle.rounding.proofs.Signs.{neg-finite}
-use Rattle.quadrature.specs.Rule.{halfWidth, weightedTo, kronrodWeight, sumOf}
-use Rattle.gauss_kronrod.specs.Tables.{nodes, kronrodWeights}
-use Rattle.joins.specs.Joins.{inOrder}
-use Rattle.sections.specs.Airfoil.{airfoilConstants}
-use Rattle.sections.specs.declared.Section.{Section}
-use Rattle.sections.specs.declared.Section.the-variants.{Square, Rounded, Airfoil, AirfoilOpen}
+use Rattle.rounding.proofs.Sizes.{weaker, zero-below, half-below, mul-below, add-below, sub-below, div-below}
+use Rattle.rounding_error.specs.Distances.{Within as Apart}
 use Rattle.rounding_error.proofs.Numbers.{Number, number, Size, _per_, _of_, _roundoffs_, _plus_, minus, _times_, IsNumber, Within}
-use Rattle.rounding_error.proofs.Numbers.{Under, Near, Ranges}
-use Rattle.rounding_error.proofs.Numbers.{valueOf, zeroNumber, sizeOf}
+use Rattle.rounding_error.proofs.Numbers.{Near, Ranges, valueOf, zeroNumber, sizeOf}
 use Rattle.rounding_error.proofs.Distances.{sorted, within-upto, within-minus}
+use Rattle.rounding_error.proofs.Operations.{neg-value}
 use Rattle.rounding_error.proofs.Counts as Counts
 use Rattle.rounding_error.proofs.Chains.{Valued, zero-valued, equalled, counted-by}
-use Rattle.rounding_error.proofs.Polynomials.{_equals_, trans, itself, times-is, plus-is, equal-by, evaluated-is, evaluated-equal}
-use Rattle.rounding_error.proofs.Polynomials.{AllNumbers}
-use Rattle.rounding_error.proofs.Polynomials.{Expression, given, ratio, _add_, _mul_, evaluate}
-use Rattle.rounding_error.proofs.Fractions.{IsFraction, plus-fraction, minus-fraction, times-fraction, value-fraction, whole-fraction}
-use Rattle.rounding_error.specs.Distances.{Within as Apart}
-use Rattle.floats.specs.Fractions.{Fraction, _over_, _plus_ as sum, minus as negatedFraction, _times_ as product, valueOf as fractionOf}
-use lib.IntN.{pos}
+use Rattle.rounding_error.proofs.Polynomials.{_equals_, trans, itself, times-is, equal-by, evaluated-is, evaluated-equal, AllNumbers}
+use Rattle.rounding_error.proofs.Polynomials.{Expression, given, ratio, _add_, _mul_}
+use Rattle.rounding_error.proofs.Fractions.{IsFraction, minus-fraction, times-fraction, whole-fraction}
 use Rattle.error_terms.proofs.Laws.{plus-law, inverseOf, Reaches}
 use Rattle.error_terms.proofs.Monomials.{place, added, mono, mono-none, mono-place, top, bottom, unit, top-by, bottom-by, AllRanges}
-use Rattle.error_terms.proofs.Monomials.{top-pos, total as totalOf}
-use Rattle.error_terms.proofs.Monomials.{ranges-of as ranges-by-units}
-use Rattle.error_terms.proofs.Terms.{shape, Given, entry, Term, var, const, nought, _add_ as _addT_, _mul_ as _mulT_, _over_ as _overT_}
-use Rattle.error_terms.proofs.Terms.{Known, Lowest, AllKnown, inverseBy, numbersOf, value, unitBy, unit-real, unit-ranges, numbers-are}
+use Rattle.error_terms.proofs.Monomials.{top-pos, total as totalOf, ranges-of as ranges-by-units}
+use Rattle.error_terms.proofs.Terms.{Shape, shape, Given, entry, Term, var, const, _add_ as _addT_, _mul_ as _mulT_, _over_ as _overT_}
+use Rattle.error_terms.proofs.Terms.{Known, Lowest, AllKnown, unitBy, unit-real, unit-ranges, numbers-are}
 use Rattle.error_terms.proofs.Judged.{judge, nearer, near-within}
-use Rattle.error_terms.proofs.Shared.{Shared, whole, _⊞_, _⊠_, judgeIn, judgeAll, bindAll, expand, all-within}
-use Rattle.error_terms.proofs.Stages.{sizeTest, lowTest, target-known, target-lowest}
-use Rattle.error_terms.proofs.Entries.{full, sized-entry, many-entry, own-entry}
+use Rattle.error_terms.proofs.Stages.{sizeTest, target-known}
+use Rattle.error_terms.proofs.Entries.{full}
 use Rattle.error_terms.proofs.Orders.{near-above, finer}
-use Rattle.error_terms.proofs.Floors.{NotBelow, Signed, not-below as from-low}
+use Rattle.error_terms.proofs.Floors.{NotBelow, not-below as from-low}
 use Rattle.sorting.specs.Sorted.{Each}
-use Rattle.rounding.proofs.Sizes.{weaker, zero-below, mul-below, add-below, div-below, positive-of}
-use Rattle.limits.specs.Limits.{thicknessField, bodyRadiusField}
-use Rattle.limits.proofs.Lengths.{PositiveLength, Height, field-above, height-checked}
-use Rattle.planforms.specs.declared.Planform.{Planform}
+use Rattle.refusals.specs.declared.Verdict.the-variants.{Accepted}
+use Rattle.limits.specs.Limits.{baseAngleField, angleCheck}
+use Rattle.limits.proofs.Lengths.{PositiveLength, Height}
 use Rattle.planforms.specs.declared.Planform.the-variants.{Trapezoid}
 use Rattle.planforms.proofs.Sized.{Sized}
-use Rattle.integrands.specs.Integrands.{scaleOf, plateIntegrand, sampleOf, plateOf}
-use Rattle.integrands.proofs.Scales.{Scale, scale-sized}
+use Rattle.sections.specs.declared.Section.{Section}
+use Rattle.integrands.specs.Integrands.{plateIntegrand, sampleOf, plateOf}
+use Rattle.integrands.proofs.Scales.{Scale}
 use Rattle.integrands.proofs.Samples.{sample-below}
 use Rattle.quadrature.proofs.Values.{value-below}
-use Rattle.tolerance.proofs.Numbers.{at-tabulate}
-use Rattle.fins.specs.declared.FinSet.{FinSet}
-use Rattle.fins.specs.declared.Tab.{Tab}
-use Rattle.fins.specs.declared.Tab.the-variants.{None}
-use Rattle.fins.proofs.Accepted.{AcceptedSet, set-accepted, set-count}
-use Rattle.fins.proofs.Sized.{planform-sized}
-use Rattle.plates.specs.Integrals.{volume, r1, x1, tabIntegralsOf}
-use Rattle.bodies.specs.declared.Body.{Body}
 use Rattle.strips.specs.Strips.{valueFrom}
+use Rattle.bodies.specs.declared.Body.{Body}
+use Rattle.bodies.specs.Bodies.{ofOriginTensor}
+use Rattle.joins.specs.Joins.{inOrder}
+use Rattle.rings.specs.Rings.{joinedCopies}
+use Rattle.fins.specs.declared.Tab.{Tab}
+use Rattle.fins.specs.declared.Tab.the-variants.{None, Slab}
+use Rattle.fins.specs.Fins.{tabCheck}
+use Rattle.fins.proofs.Accepted.{AcceptedSet, set-count}
+use Rattle.plates.specs.Integrals.{volume, r1, x1, firstMoment, tabIntegralsOf}
+use Rattle.plates.specs.Plates.{plateBody}
 use Rattle.figures.specs.Figures.{setStrips}
 use Rattle.figures.specs.declared.Figures.{Figures}
-use Rattle.one_piece.specs.OnePiece.{NotRounded, tipsOf, Proportions}
-use Rattle.one_piece.proofs.PlateFits.{plate-sums}
-use Rattle.one_piece.proofs.Answers.{oneWorked, plate-fin, plate-strips}
-use Rattle.accuracy.specs.Masses.{Plate, Mount, setWith, SectionGiven, finVolume, tabVolume, exactMassWith}
-use Rattle.accuracy.proofs.Limits.{most-under, ranges-of as ranges-of-length}
-use Rattle.accuracy.proofs.WholePieces.{value-is, wider}
-use Rattle.accuracy.proofs.MassNear.{density-checked}
-use Rattle.accuracy.proofs.SetCalled as Called
-use Rattle.accuracy.proofs.SetCalled.{set-given, set-body}
-use Rattle.accuracy.proofs.Turned.{acrossAt}
-use Rattle.accuracy.proofs.BalanceNear.{plate-naught, centre-by, times-minus}
-use Rattle.accuracy.proofs.Centroids.{not-below-times}
-use Rattle.one_piece.proofs.Rule.{totalS}
-use Rattle.one_piece.proofs.PlatePiece.{partsOf, sevenAt}
+use Rattle.one_piece.specs.OnePiece.{NotRounded, Proportions}
 use Rattle.one_piece.proofs.AreaPiece.{positive-from}
-use Rattle.accuracy.specs.Masses.{filled}
-use Rattle.accuracy.specs.Balances.{forward, finMomentWith, exactMomentWith, OrdinaryBalance}
-use Rattle.accuracy.proofs.OrdinaryMass.{fractionE, fraction-number, fill-fraction, one-more, first-power}
+use Rattle.accuracy.specs.Masses.{Plate, Mount, setWith, SectionGiven, finVolume, tabVolume, filled, exactMassWith}
+use Rattle.accuracy.specs.Balances.{finMoment, tabMoment, exactMoment, TabGiven, byTab, OrdinaryBalance}
+use Rattle.accuracy.specs.Inertias.{Integrals, tabIntegrals, TabBeside}
+use Rattle.accuracy.proofs.SetCalled as Called
+use Rattle.accuracy.proofs.SetCalled.{set-body}
+use Rattle.accuracy.proofs.Turned.{acrossAt, ring-centre, across-naught}
+use Rattle.accuracy.proofs.Centroids.{not-below-times}
+use Rattle.accuracy.proofs.OrdinaryMass.{one-more, first-power}
 use Rattle.accuracy.proofs.OrdinaryCentroid.{inverse-pair}
-use Rattle.accuracy.proofs.CentroidNear.{positive-fraction, product-fraction, not-below, tip-checked, last-fraction}
-use Rattle.rounding_error.proofs.Operations.{neg-value}
+use Rattle.accuracy.proofs.CentroidNear.{positive-fraction, product-fraction}
 use Rattle.accuracy.proofs.ToFractions.{to-fractions}
+use Rattle.accuracy.proofs.SevenIntegrals.{Fin, Sizes, sweepsOf, isFoil, unitOf, shapeAt, errorIn, lessParts, leastParts, massUnit, massShape}
+use Rattle.accuracy.proofs.SevenIntegrals.{massList, each-class, bases, exactly, is-exactly, integralAt, totalAt, seven-known, volume-lowest}
+use Rattle.accuracy.proofs.SevenIntegrals.{volume-from-zero, density-own, massOf, massNumber, masses, mass-known, mass-lowest}
+use Rattle.accuracy.proofs.FinCalled as Fins
 
 ruleset plain = (sorted, one-mul, mul-one, zero-mul, mul-zero, zero-add, add-zero)
 
--- ---- a fin's volume and moment; the variables are root, tip, sweep, span, scale, thickness
-abbrev volumeS : Shared
-volumeS =
-    (whole (nought (1 ∷ 1 ∷ 0 ∷ 1 ∷ []) (0 ∷ 0 ∷ 3 ∷ [])) ⊞ totalS (1 ∷ 0 ∷ 0 ∷ 1 ∷ []) (0 ∷ 0 ∷ 2 ∷ []) (1 ∷ 1 ∷ 0 ∷ 1 ∷ [])
-    (0 ∷ 0 ∷ 3 ∷ []))
-    ⊠ whole (var 4 mulT (var 4 mulT var 4)) ⊞ whole (nought (1 ∷ 1 ∷ 0 ∷ 1 ∷ []) [])
-
-abbrev momentS : Shared
-momentS =
-    (whole (nought (2 ∷ 1 ∷ 0 ∷ 1 ∷ []) (0 ∷ 0 ∷ 4 ∷ [])) ⊞ totalS (2 ∷ 0 ∷ 0 ∷ 1 ∷ []) (0 ∷ 0 ∷ 3 ∷ []) (2 ∷ 1 ∷ 0 ∷ 1 ∷ [])
-    (0 ∷ 0 ∷ 4 ∷ []))
-    ⊠ whole ((var 4 mulT var 4) mulT (var 4 mulT var 4)) ⊞ whole (nought (2 ∷ 1 ∷ 0 ∷ 1 ∷ []) [])
-
-abbrev volumeE : Section → Expression
-volumeE section = fractionE (filled section) mul (given 10 mul (given 6 mul ((given 0 add given 2) mul ratio 1 1)))
-
-abbrev momentE : Section → Expression
-momentE section =
-    given 10 mul (given 6 mul (fractionE (filled section) mul (given 4 mul (given 0 add ratio 2 0 mul given 2)) mul ratio 1 5
-    add fractionE (forward section) mul (given 0 mul given 0 add given 0 mul given 2 add given 2 mul given 2) mul ratio 1 2))
-
-abbrev entriesOf : (root tip sweep span scale thickness : Float) → ℕ → List Given
-entriesOf root tip sweep span scale thickness k =
-    entry root (valueOf root) (shape 0 full (place 0) []) full ∷
-    entry tip (valueOf tip) (shape 0 full (place 0) []) 0 ∷
-    entry sweep (valueOf sweep) (shape 0 (k * 2 ^ 30) (place 0) []) 0 ∷
-    entry span (valueOf span) (shape 0 full (place 1) []) full ∷
-    entry scale (valueOf scale) (shape 0 full (place 2) []) full ∷
-    entry thickness (valueOf thickness) (shape 0 full (place 3) []) full ∷
-    []
-
--- ---- bounds for a sweep of so many root chords, tip at most one: errors in roundoffs, sizes in 1024ths
-pub record Bounds : Type 0 where
-  pub sweeps : ℕ
-  pub volume-error : ℕ
-  pub moment-error : ℕ
-  pub moment-size : ℕ
-  pub term-size : ℕ
-  pub term-error : ℕ
-  pub mass-error : ℕ
-  pub balance : ℕ
-
--- what the volume is at least, in parts
-abbrev leastOf : Section → ℕ
-leastOf Square = 2 ^ 29 - 2 ^ 10
-leastOf Rounded = 0
-leastOf Airfoil = 365000000
-leastOf AirfoilOpen = 365000000
-
-abbrev unitV : List ℕ
-unitV = 1 ∷ 1 ∷ 0 ∷ 1 ∷ []
-
-abbrev unitX : List ℕ
-unitX = 2 ∷ 1 ∷ 0 ∷ 1 ∷ []
-
-abbrev unitM : List ℕ
-unitM = 1 ∷ 1 ∷ 0 ∷ 1 ∷ 1 ∷ []
-
-abbrev unitT : List ℕ
-unitT = 2 ∷ 1 ∷ 0 ∷ 1 ∷ 1 ∷ []
-
--- ---- a fin's mass, and its term of the ring's sum: the variables are volume and density; volume, the moment's negative, density and a
--- zero
-abbrev massList : Bounds → Section → (v : Float) → (V0 : Number) → (density : Float) → List Given
-massList c section v V0 density =
-    entry v V0 (shape (c .volume-error * 2 ^ 30) (1025 * 2 ^ 20) unitV []) (leastOf section) ∷
-    entry density (valueOf density) (shape 0 full (place 4) []) full ∷
-    []
-
-abbrev termList : Bounds → Section → (v x : Float) → (V0 X0 : Number) → (density naught : Float) → List Given
-termList c section v x V0 X0 density naught =
-    entry v V0 (shape (c .volume-error * 2 ^ 30) (1025 * 2 ^ 20) unitV []) (leastOf section) ∷
-    entry x X0 (shape (c .moment-error * 2 ^ 30) (c .moment-size * 2 ^ 20) unitX []) 0 ∷
-    entry density (valueOf density) (shape 0 full (place 4) []) full ∷
-    entry naught zeroNumber (shape 0 0 (place 0) []) 0 ∷
-    []
-
-abbrev massT : Term
-massT = var 1 mulT var 0
-
-abbrev termT : Term
-termT = (var 3 addT (const one mulT (var 1 overT 0))) mulT (var 2 mulT var 0)
-
--- the zero stands in it, and what cancels does too
-abbrev termE : Expression
-termE = (given 6 add (given 2 mul given 1)) mul (given 4 mul given 0)
-
--- ---- the ring's sums, and their quotient
-abbrev sumError : ℕ → ℕ → ℕ
-sumError K size = K * 2 ^ 30 + 33 * (size * 2 ^ 19) + 2
-
-abbrev ringList : Bounds → Section → (m t : Float) → (M0 T0 : Number) → List Given
-ringList c section m t M0 T0 =
-    entry m M0 (shape (sumError (c .mass-error) 1026) (1026 * 2 ^ 20) (added unitM (place 5)) []) (leastOf section) ∷
-    entry t T0 (shape (sumError (c .term-error) (c .term-size)) (c .term-size * 2 ^ 20) (added unitT (place 5)) []) 0 ∷
-    []
-
-module _ (c : Bounds) (section : Section) where
-  pub record FinPass (root tip sweep span scale thickness : Float) : Type 0 where
-    pub volume : T (nearer (entriesOf root tip sweep span scale thickness (c .sweeps)) (volumeE section)
-        (c .volume-error * 2 ^ 30) unitV []
-        (judgeIn (entriesOf root tip sweep span scale thickness (c .sweeps))
-        (judgeAll (entriesOf root tip sweep span scale thickness (c .sweeps)) [] (partsOf section 0)) volumeS))
-    pub volume-most : T (sizeTest (entriesOf root tip sweep span scale thickness (c .sweeps)) (volumeE section) (1025 * 2 ^ 20) unitV [])
-    pub volume-least : T (lowTest (entriesOf root tip sweep span scale thickness (c .sweeps)) (volumeE section) (c .volume-error * 2 ^ 30)
-        (leastOf section - 1) unitV [])
-    pub moment : T (nearer (entriesOf root tip sweep span scale thickness (c .sweeps)) (momentE section)
-        (c .moment-error * 2 ^ 30) unitX []
-        (judgeIn (entriesOf root tip sweep span scale thickness (c .sweeps))
-        (judgeAll (entriesOf root tip sweep span scale thickness (c .sweeps)) [] (partsOf section 3)) momentS))
-    pub moment-most : T (sizeTest (entriesOf root tip sweep span scale thickness (c .sweeps)) (momentE section)
-        (c .moment-size * 2 ^ 20) unitX [])
-
-  pub record RingPass (v x : Float) (V0 X0 : Number) (density naught m t : Float) (M0 T0 : Number) : Type 0 where
-    pub mass : T (nearer (massList c section v V0 density) (given 2 mul given 0) (c .mass-error * 2 ^ 30) unitM []
-        (judge (massList c section v V0 density) massT))
-    pub mass-most : T (sizeTest (massList c section v V0 density) (given 2 mul given 0) (1026 * 2 ^ 20) unitM [])
-    pub mass-least : T (lowTest (massList c section v V0 density) (given 2 mul given 0) (c .mass-error * 2 ^ 30)
-        (leastOf section - 1) unitM [])
-    pub term : T (nearer (termList c section v x V0 X0 density naught) termE (c .term-error * 2 ^ 30) unitT []
-        (judge (termList c section v x V0 X0 density naught) termT))
-    pub term-most : T (sizeTest (termList c section v x V0 X0 density naught) termE (c .term-size * 2 ^ 20) unitT [])
-    pub quotient : T (nearer (ringList c section m t M0 T0) (given 2 mul given 1) (c .balance * 2 ^ 30) (1 ∷ []) []
-        (judge (ringList c section m t M0 T0) (var 1 overT 0)))
-
-abbrev oneChord : Bounds
-oneChord = record {
-  sweeps = 1;
-  volume-error = 54;
-  moment-error = 75;
-  moment-size = 1025;
-  term-size = 1026;
-  term-error = 900;
-  mass-error =
-      60;
-  balance = 4000;
-}
-
-abbrev fourChords : Bounds
-fourChords = record {
-  sweeps = 4;
-  volume-error = 100;
-  moment-error = 300;
-  moment-size = 2561;
-  term-size = 2562;
-  term-error = 4200;
-  mass-error = 110;
-  balance = 18000;
-}
-
--- the tests, by class and section
-module _ (root tip sweep span scale thickness : Float) where
-  one-square-fin : FinPass oneChord Square root tip sweep span scale thickness
-  unfolding round ofBits nodes kronrodWeights airfoilConstants
-  one-square-fin = record { volume = tt; volume-most = tt; volume-least = tt; moment = tt; moment-most = tt }
-
-  one-foil-fin : FinPass oneChord Airfoil root tip sweep span scale thickness
-  unfolding round ofBits nodes kronrodWeights airfoilConstants
-  one-foil-fin = record { volume = tt; volume-most = tt; volume-least = tt; moment = tt; moment-most = tt }
-
-  one-open-fin : FinPass oneChord AirfoilOpen root tip sweep span scale thickness
-  unfolding round ofBits nodes kronrodWeights airfoilConstants
-  one-open-fin = record { volume = tt; volume-most = tt; volume-least = tt; moment = tt; moment-most = tt }
-
-  four-square-fin : FinPass fourChords Square root tip sweep span scale thickness
-  unfolding round ofBits nodes kronrodWeights airfoilConstants
-  four-square-fin = record { volume = tt; volume-most = tt; volume-least = tt; moment = tt; moment-most = tt }
-
-  four-foil-fin : FinPass fourChords Airfoil root tip sweep span scale thickness
-  unfolding round ofBits nodes kronrodWeights airfoilConstants
-  four-foil-fin = record { volume = tt; volume-most = tt; volume-least = tt; moment = tt; moment-most = tt }
-
-  four-open-fin : FinPass fourChords AirfoilOpen root tip sweep span scale thickness
-  unfolding round ofBits nodes kronrodWeights airfoilConstants
-  four-open-fin = record { volume = tt; volume-most = tt; volume-least = tt; moment = tt; moment-most = tt }
-
-module _ (v x : Float) (V₀ X₀ : Number) (density y m t : Float) (M₀ T₀ : Number) where
-  one-square-ring : RingPass oneChord Square v x V₀ X₀ density y m t M₀ T₀
-  unfolding round ofBits
-  one-square-ring = record { mass = tt; mass-most = tt; mass-least = tt; term = tt; term-most = tt; quotient = tt }
-
-  one-foil-ring : RingPass oneChord Airfoil v x V₀ X₀ density y m t M₀ T₀
-  unfolding round ofBits
-  one-foil-ring = record { mass = tt; mass-most = tt; mass-least = tt; term = tt; term-most = tt; quotient = tt }
-
-  one-open-ring : RingPass oneChord AirfoilOpen v x V₀ X₀ density y m t M₀ T₀
-  unfolding round ofBits
-  one-open-ring = record { mass = tt; mass-most = tt; mass-least = tt; term = tt; term-most = tt; quotient = tt }
-
-  four-square-ring : RingPass fourChords Square v x V₀ X₀ density y m t M₀ T₀
-  unfolding round ofBits
-  four-square-ring = record { mass = tt; mass-most = tt; mass-least = tt; term = tt; term-most = tt; quotient = tt }
-
-  four-foil-ring : RingPass fourChords Airfoil v x V₀ X₀ density y m t M₀ T₀
-  unfolding round ofBits
-  four-foil-ring = record { mass = tt; mass-most = tt; mass-least = tt; term = tt; term-most = tt; quotient = tt }
-
-  four-open-ring : RingPass fourChords AirfoilOpen v x V₀ X₀ density y m t M₀ T₀
-  unfolding round ofBits
-  four-open-ring = record { mass = tt; mass-most = tt; mass-least = tt; term = tt; term-most = tt; quotient = tt }
-
-one-fins : (section : Section) → NotRounded section → (root tip sweep span scale thickness : Float)
-    → FinPass oneChord section root tip sweep span scale thickness
-one-fins Rounded e = absurd e
-one-fins Square e = one-square-fin
-one-fins Airfoil e = one-foil-fin
-one-fins AirfoilOpen e = one-open-fin
-
-one-rings : (section : Section) → NotRounded section → (v x : Float) (V₀ X₀ : Number) (density y m t : Float) (M₀ T₀ : Number)
-    → RingPass oneChord section v x V₀ X₀ density y m t M₀ T₀
-one-rings Rounded e = absurd e
-one-rings Square e = one-square-ring
-one-rings Airfoil e = one-foil-ring
-one-rings AirfoilOpen e = one-open-ring
-
-four-fins : (section : Section) → NotRounded section → (root tip sweep span scale thickness : Float)
-    → FinPass fourChords section root tip sweep span scale thickness
-four-fins Rounded e = absurd e
-four-fins Square e = four-square-fin
-four-fins Airfoil e = four-foil-fin
-four-fins AirfoilOpen e = four-open-fin
-
-four-rings : (section : Section) → NotRounded section → (v x : Float) (V₀ X₀ : Number) (density y m t : Float) (M₀ T₀ : Number)
-    → RingPass fourChords section v x V₀ X₀ density y m t M₀ T₀
-four-rings Rounded e = absurd e
-four-rings Square e = four-square-ring
-four-rings Airfoil e = four-foil-ring
-four-rings AirfoilOpen e = four-open-ring
+times-minus : (x y : Number) → x times minus y ≡ minus (x times y)
+times-minus (number p n d) (number q m e) = refl
 
 -- ---- sums of f64s that are all near one number
 module _ (U : Size) (t : Ranges 900 U) (w : Number) (K H : ℕ) (few-K : K ≤ 2 ^ 44) (few-H : H ≤ 2 ^ 34) where
@@ -365,29 +127,29 @@ module _ (U : Size) (t : Ranges 900 U) (w : Number) (K H : ℕ) (few-K : K ≤ 2
       sizes n h = omega arith
 
 -- n times a unit is a unit, with n among the sizes
-count-top : (B : List Size) (n : ℕ) → getD B 5 unit ≡ n per 1 → (p : List ℕ)
-    → mono top B (added p (place 5)) * mono bottom B [] ≡ mono top B p * mono bottom B [] * n
+count-top : (B : List Size) (n : ℕ) → getD B 6 unit ≡ n per 1 → (p : List ℕ)
+    → mono top B (added p (place 6)) * mono bottom B [] ≡ mono top B p * mono bottom B [] * n
 count-top B n e p =
-    top-by B p [] (place 5) []
+    top-by B p [] (place 6) []
     ∙ ap (λ (a : ℕ). mono top B p * mono bottom B [] * a)
-    (ap (λ (a : ℕ). mono top B (place 5) * a) (mono-none bottom B) ∙ mul-one (mono top B (place 5)) ∙ mono-place top refl B 5 ∙ ap top e)
+    (ap (λ (a : ℕ). mono top B (place 6) * a) (mono-none bottom B) ∙ mul-one (mono top B (place 6)) ∙ mono-place top refl B 6 ∙ ap top e)
 
-count-bottom : (B : List Size) (n : ℕ) → getD B 5 unit ≡ n per 1 → (p : List ℕ)
-    → mono bottom B (added p (place 5)) * mono top B [] ≡ mono bottom B p * mono top B []
+count-bottom : (B : List Size) (n : ℕ) → getD B 6 unit ≡ n per 1 → (p : List ℕ)
+    → mono bottom B (added p (place 6)) * mono top B [] ≡ mono bottom B p * mono top B []
 count-bottom B n e p =
-    bottom-by B p [] (place 5) []
+    bottom-by B p [] (place 6) []
     ∙ ap (λ (a : ℕ). mono bottom B p * mono top B [] * a)
-    (ap (λ (a : ℕ). mono bottom B (place 5) * a) (mono-none top B) ∙ mul-one
-    (mono bottom B (place 5)) ∙ mono-place bottom refl B 5 ∙ ap bottom e)
+    (ap (λ (a : ℕ). mono bottom B (place 6) * a) (mono-none top B) ∙ mul-one
+    (mono bottom B (place 6)) ∙ mono-place bottom refl B 6 ∙ ap bottom e)
     ∙ mul-one (mono bottom B p * mono top B [])
 
 -- what n times a number is at least
-count-reaches : (B : List Size) (n : ℕ) → getD B 5 unit ≡ n per 1 → (p : List ℕ) (low : ℕ) (v : Number)
+count-reaches : (B : List Size) (n : ℕ) → getD B 6 unit ≡ n per 1 → (p : List ℕ) (low : ℕ) (v : Number)
     → Reaches low (mono top B p * mono bottom B []) (mono bottom B p * mono top B [] * 2 ^ 30) v
-    → Reaches low (mono top B (added p (place 5)) * mono bottom B []) (mono bottom B (added p (place 5)) * mono top B [] * 2 ^ 30)
+    → Reaches low (mono top B (added p (place 6)) * mono bottom B []) (mono bottom B (added p (place 6)) * mono top B [] * 2 ^ 30)
     (number n 0 1 times v)
 count-reaches B n e p low v h =
-    subst (λ (a : ℕ). Reaches low a (mono bottom B (added p (place 5)) * mono top B [] * 2 ^ 30) (number n 0 1 times v))
+    subst (λ (a : ℕ). Reaches low a (mono bottom B (added p (place 6)) * mono top B [] * 2 ^ 30) (number n 0 1 times v))
     (sym (count-top B n e p))
     (subst (λ (a : ℕ). Reaches low (mono top B p * mono bottom B [] * n) (a * 2 ^ 30) (number n 0 1 times v)) (sym (count-bottom B n e p))
     (go (mono top B p * mono bottom B []) (mono bottom B p * mono top B [] * 2 ^ 30) v h))
@@ -398,10 +160,10 @@ count-reaches B n e p low v h =
         all : n * (low * X * d + m * C) ≤ n * (q * C) → low * (X * n) * (1 * d) + (n * m + 0 * q) * C ≤ (n * q + 0 * m) * C
         all u = let x = simp plain at u in simp plain (omega (arith, x))
 
-counted-unit : (B : List Size) (n : ℕ) → getD B 5 unit ≡ n per 1 → (p : List ℕ) (x : Float) (v : Number) (E J : ℕ) → AllRanges 32 B
-    → Valued x v (n * E) (n * J) (unitBy B p []) → Known B x v (shape E J (added p (place 5)) [])
+counted-unit : (B : List Size) (n : ℕ) → getD B 6 unit ≡ n per 1 → (p : List ℕ) (x : Float) (v : Number) (E J : ℕ) → AllRanges 32 B
+    → Valued x v (n * E) (n * J) (unitBy B p []) → Known B x v (shape E J (added p (place 6)) [])
 counted-unit B n e p x v E J r h =
-    subst (λ (a : ℕ). Valued x v E J (a per (mono bottom B (added p (place 5)) * mono top B [] * 2 ^ 30))) (sym (count-top B n e p))
+    subst (λ (a : ℕ). Valued x v E J (a per (mono bottom B (added p (place 6)) * mono top B [] * 2 ^ 30))) (sym (count-top B n e p))
     (subst (λ (a : ℕ). Valued x v E J ((X * n) per (a * 2 ^ 30))) (sym (count-bottom B n e p)) there)
   where
     X : ℕ
@@ -429,12 +191,31 @@ counted-unit B n e p x v E J r h =
         sizes : (X Z : ℕ) → n * J * X * Z ≤ J * (X * n) * Z
         sizes X Z = simp plain (le-refl _)
 
--- what is added up has few roundoffs
-pub record Small (c : Bounds) : Type 0 where
-  pub masses : c .mass-error ≤ 2 ^ 14
-  pub terms : c .term-error ≤ 2 ^ 14
-  pub sizes : c .term-size ≤ 2 ^ 15
-  pub volumes : c .volume-error ≤ 2 ^ 14
+-- n f64s near one number, in the unit of n
+sums-known : (B : List Size) → AllRanges 32 B → (n : ℕ) → getD B 6 unit ≡ n per 1 → n ≤ 32 → (p : List ℕ) → Ranges 900 (unitBy B p [])
+    → (w : Number) (K size : ℕ) → K ≤ 2 ^ 44 → size * 2 ^ 19 ≤ 2 ^ 34 → (f : ℕ → Float) → IsNumber w
+    → ((k : ℕ) → k < n → Known B (f k) w (shape K (size * 2 ^ 20) p []))
+    → Known B (inOrder (λ x y. x ⊕ y) (bits 0) f n) (number n 0 1 times w) (shape (K + 33 * (size * 2 ^ 19) + 2) (size * 2 ^ 20) (added p (place 6)) [])
+sums-known B r n e l p t w K size few-K few-H f i each =
+    counted-unit B n e p (inOrder (λ x y. x ⊕ y) (bits 0) f n) (number n 0 1 times w) (K + 33 * (size * 2 ^ 19) + 2) (size * 2 ^ 20) r
+    (counted-by
+    (sums-to (unitBy B p []) t w K (size * 2 ^ 19) few-K few-H f n l i
+    (λ k h. subst (λ (j : ℕ). Valued (f k) w K j (unitBy B p [])) (sym (halves size)) (each k h)))
+    (n * (K + 33 * (size * 2 ^ 19) + 2)) (n * (size * 2 ^ 20)) (unit-real B r p [])
+    (each-less n K (size * 2 ^ 19) l) (le-of-eq (ap (λ (j : ℕ). n * j) (halves size))))
+  where
+    -- n·(K + 33·H + 2)
+    each-less : (n K H : ℕ) → n ≤ 32 → n * K + (n * suc n * H + 2 * n) ≤ n * (K + 33 * H + 2)
+    each-less n K H l = go (mul-le-mul-right (n * H) (one-up n l))
+      where
+        one-up : (n : ℕ) → n ≤ 32 → suc n ≤ 33
+        one-up n h = omega arith
+
+        go : suc n * (n * H) ≤ 33 * (n * H) → n * K + (n * suc n * H + 2 * n) ≤ n * (K + 33 * H + 2)
+        go h = omega arith
+
+    halves : (s : ℕ) → 2 * (s * 2 ^ 19) ≡ s * 2 ^ 20
+    halves s = omega arith
 
 -- ---- a zero, and a negative
 naught-known : (B : List Size) → AllRanges 32 B → (x : Float) → AtMost 0 1 x → (p : List ℕ) → Known B x zeroNumber (shape 0 0 p [])
@@ -488,9 +269,6 @@ naught-known B r (fin false m e) h p =
 minus-number : (v : Number) → IsNumber v → IsNumber (minus v)
 minus-number (number p n d) h = h
 
-from-minus : (v : Number) → IsNumber (minus v) → IsNumber v
-from-minus (number p n d) h = h
-
 neg-known : {x : Float} {v : Number} {k j : ℕ} (U : Size) → Valued x v k j U → Valued (neg x) (minus v) k j U
 neg-known {x = x} {v = v} {k = k} {j = j} U h =
     record {
@@ -503,44 +281,120 @@ neg-known {x = x} {v = v} {k = k} {j = j} U h =
       is = minus-number v (h .is);
     }
 
--- tip at most the root chord, sweep at most so many, neither below 0; n fins
-pub record Sizes (k : ℕ) (root tip span sweep scale thickness density : Float) (n : ℕ) : Type 0 where
-  pub root-positive : T (positive root)
-  pub span-positive : T (positive span)
-  pub scale-positive : T (positive scale)
-  pub thickness-positive : T (positive thickness)
-  pub density-positive : T (positive density)
-  pub tip-finite : T (finite tip)
-  pub sweep-finite : T (finite sweep)
-  pub tip-from-zero : NotBelow (valueOf tip)
-  pub sweep-from-zero : NotBelow (valueOf sweep)
-  pub tip-under : Under (1 of sizeOf root) (valueOf tip)
-  pub sweep-under : Under (k of sizeOf root) (valueOf sweep)
-  pub root-ranges : Ranges 32 (sizeOf root)
-  pub span-ranges : Ranges 32 (sizeOf span)
-  pub scale-ranges : Ranges 32 (sizeOf scale)
-  pub thickness-ranges : Ranges 32 (sizeOf thickness)
-  pub density-ranges : Ranges 32 (sizeOf density)
-  pub some : 1 ≤ n
-  pub few : n ≤ 32
+-- ---- the ring: the terms of its sums, the sums and their quotient, in the units of proofs/SevenIntegrals and of how many fins there are
+abbrev termUnit : List ℕ
+termUnit = 2 ∷ 1 ∷ 0 ∷ 1 ∷ 0 ∷ 1 ∷ []
 
-least-some : (section : Section) → NotRounded section → suc (leastOf section - 1) ≡ leastOf section
-least-some Rounded e = absurd e
-least-some Square e = refl
-least-some Airfoil e = refl
-least-some AirfoilOpen e = refl
+-- errors in roundoffs and sizes in 1024ths of the units
+abbrev massSize : Tab → ℕ
+massSize tab = byTab 1026 2052 tab
 
-module _ (c : Bounds) (section : Section) (plain-section : NotRounded section)
-    (root tip sweep span scale thickness density radius : Float) (n : ℕ)
-    (g : Sizes (c .sweeps) root tip span sweep scale thickness density n)
-    (pass : FinPass c section root tip sweep span scale thickness) where
-  abbrev pub bases : List Size
-  bases = sizeOf root ∷ sizeOf span ∷ sizeOf scale ∷ sizeOf thickness ∷ sizeOf density ∷ (n per 1) ∷ []
+abbrev termSize : Bool → Tab → ℕ
+termSize false tab = byTab 1026 2564 tab
+termSize true tab = byTab 2562 4100 tab
 
-  pub ranges : AllRanges 32 bases
+abbrev termError : Bool → Tab → ℕ
+termError false tab = byTab 487 2940 tab
+termError true tab = byTab 1900 7010 tab
+
+abbrev balanceError : Bool → Tab → ℕ
+balanceError false tab = byTab 2100 11000 tab
+balanceError true tab = byTab 8100 26000 tab
+
+-- volume, the moment's negative, density and a zero
+abbrev termList : Bool → Bool → Tab → (v x : Float) → (V₀ X₀ : Number) → (density naught : Float) → List Given
+termList far foil tab v x V₀ X₀ density naught =
+    entry v V₀ (shapeAt far foil tab 0) (leastParts foil) ∷
+    entry x X₀ (shapeAt far foil tab 3) 0 ∷
+    entry density (valueOf density) (shape 0 full (place 5) []) full ∷
+    entry naught zeroNumber (shape 0 0 (place 0) []) 0 ∷
+    []
+
+abbrev termT : Term
+termT = (var 3 addT (const one mulT (var 1 overT 0))) mulT (var 2 mulT var 0)
+
+-- the zero stands in it, and what cancels does too
+abbrev termE : Expression
+termE = (given 6 add (given 2 mul given 1)) mul (given 4 mul given 0)
+
+-- of up to 32 terms
+abbrev sumError : ℕ → ℕ → ℕ
+sumError K size = K + 33 * (size * 2 ^ 19) + 2
+
+abbrev massesShape : Bool → Bool → Tab → Shape
+massesShape far foil tab =
+    shape (sumError (errorIn (massShape far foil tab)) (massSize tab)) (massSize tab * 2 ^ 20) (added massUnit (place 6)) []
+
+abbrev termsShape : Bool → Tab → Shape
+termsShape far tab = shape (sumError (termError far tab * 2 ^ 30) (termSize far tab)) (termSize far tab * 2 ^ 20) (added termUnit (place 6)) []
+
+abbrev ringList : Bool → Bool → Tab → (m t : Float) → (M₀ T₀ : Number) → List Given
+ringList far foil tab m t M₀ T₀ = entry m M₀ (massesShape far foil tab) (leastParts foil) ∷ entry t T₀ (termsShape far tab) 0 ∷ []
+
+module _ (v x : Float) (V₀ X₀ : Number) (density naught m t : Float) (M₀ T₀ : Number) where
+  pub record RingPass (far foil : Bool) (tab : Tab) : Type 0 where
+    pub mass-most : T (sizeTest (massList far foil tab v V₀ density) (given 2 mul given 0) (massSize tab * 2 ^ 20) massUnit [])
+    pub mass-few : T (leb (errorIn (massShape far foil tab)) (2 ^ 44))
+    pub term : T (nearer (termList far foil tab v x V₀ X₀ density naught) termE (termError far tab * 2 ^ 30) termUnit []
+        (judge (termList far foil tab v x V₀ X₀ density naught) termT))
+    pub term-most : T (sizeTest (termList far foil tab v x V₀ X₀ density naught) termE (termSize far tab * 2 ^ 20) termUnit [])
+    pub quotient : T (nearer (ringList far foil tab m t M₀ T₀) (given 2 mul given 1) (balanceError far tab * 2 ^ 30) (1 ∷ []) []
+        (judge (ringList far foil tab m t M₀ T₀) (var 1 overT 0)))
+
+  near-square : RingPass false false None
+  unfolding round ofBits
+  near-square = record { mass-most = tt; mass-few = tt; term = tt; term-most = tt; quotient = tt }
+
+  near-square-tab : (height length offset : Float) → RingPass false false (Slab height length offset)
+  unfolding round ofBits
+  near-square-tab height length offset = record { mass-most = tt; mass-few = tt; term = tt; term-most = tt; quotient = tt }
+
+  near-foil : RingPass false true None
+  unfolding round ofBits
+  near-foil = record { mass-most = tt; mass-few = tt; term = tt; term-most = tt; quotient = tt }
+
+  near-foil-tab : (height length offset : Float) → RingPass false true (Slab height length offset)
+  unfolding round ofBits
+  near-foil-tab height length offset = record { mass-most = tt; mass-few = tt; term = tt; term-most = tt; quotient = tt }
+
+  far-square : RingPass true false None
+  unfolding round ofBits
+  far-square = record { mass-most = tt; mass-few = tt; term = tt; term-most = tt; quotient = tt }
+
+  far-square-tab : (height length offset : Float) → RingPass true false (Slab height length offset)
+  unfolding round ofBits
+  far-square-tab height length offset = record { mass-most = tt; mass-few = tt; term = tt; term-most = tt; quotient = tt }
+
+  far-foil : RingPass true true None
+  unfolding round ofBits
+  far-foil = record { mass-most = tt; mass-few = tt; term = tt; term-most = tt; quotient = tt }
+
+  far-foil-tab : (height length offset : Float) → RingPass true true (Slab height length offset)
+  unfolding round ofBits
+  far-foil-tab height length offset = record { mass-most = tt; mass-few = tt; term = tt; term-most = tt; quotient = tt }
+
+  ring-pass : (far foil : Bool) (tab : Tab) → RingPass far foil tab
+  ring-pass = each-class RingPass near-square near-foil far-square far-foil near-square-tab near-foil-tab far-square-tab far-foil-tab
+
+terms-few : (far : Bool) (tab : Tab) → (termError far tab * 2 ^ 30 ≤ 2 ^ 44) × (termSize far tab * 2 ^ 19 ≤ 2 ^ 34)
+terms-few far tab = each-class (λ far foil tab. (termError far tab * 2 ^ 30 ≤ 2 ^ 44) × (termSize far tab * 2 ^ 19 ≤ 2 ^ 34))
+    (lit≤ tt, lit≤ tt) (lit≤ tt, lit≤ tt) (lit≤ tt, lit≤ tt) (lit≤ tt, lit≤ tt) (λ x y z. (lit≤ tt, lit≤ tt)) (λ x y z. (lit≤ tt, lit≤ tt))
+    (λ x y z. (lit≤ tt, lit≤ tt)) (λ x y z. (lit≤ tt, lit≤ tt)) far false tab
+
+masses-few : (tab : Tab) → massSize tab * 2 ^ 19 ≤ 2 ^ 34
+masses-few None = lit≤ tt
+masses-few (Slab x y z) = lit≤ tt
+
+module _ (f : Fin) (far : Bool) (b d : ℕ) (g : Sizes f far b d) (n : ℕ) (some : 1 ≤ n) (few : n ≤ 32) (naught : ℕ → Float)
+    (naughts : (k : ℕ) → k < n → AtMost 0 1 (naught k)) where
+  abbrev B : List Size
+  B = sizeOf (f .root) ∷ sizeOf (f .span) ∷ sizeOf (f .scale) ∷ sizeOf (f .thickness) ∷ (b per d) ∷ sizeOf (f .density) ∷ (n per 1) ∷ []
+
+  ranges : AllRanges 32 B
   ranges =
-      let count : Ranges 32 (n per 1) = record { real = pow-pos 0; least = low n (g .some); most = high n (g .few) } in
-      (g .root-ranges, (g .span-ranges, (g .scale-ranges, (g .thickness-ranges, (g .density-ranges, (count, tt))))))
+      let count : Ranges 32 (n per 1) = record { real = pow-pos 0; least = low n some; most = high n few } in
+      let (a, (b, (c, (d, (e, (h, rest)))))) = g .ranges in
+      (a, (b, (c, (d, (e, (h, (count, tt)))))))
     where
       low : (n : ℕ) → 1 ≤ n → 1 ≤ n * 2 ^ 32
       low n h = omega arith
@@ -548,350 +402,233 @@ module _ (c : Bounds) (section : Section) (plain-section : NotRounded section)
       high : (n : ℕ) → n ≤ 32 → n ≤ 1 * 2 ^ 32
       high n h = omega arith
 
-  abbrev pub E : List Given
-  E = entriesOf root tip sweep span scale thickness (c .sweeps)
+  abbrev isAirfoil : Bool
+  isAirfoil = isFoil (f .section)
 
-  known : AllKnown bases E
-  known =
-      let t = sized-entry bases 0 (num root) (den root) refl tip (den-pos root) (g .tip-finite) (g .tip-under) in
-      let s = many-entry bases 0 (num root) (den root) refl sweep (c .sweeps) (den-pos root) (g .sweep-finite) (g .sweep-under) in (
-        own-entry bases 0 root refl (g .root-positive),
-        (
-          (t, tt),
-          (
-            (s, tt),
-            (
-              own-entry bases 1 span refl (g .span-positive),
-              (own-entry bases 2 scale refl (g .scale-positive), (own-entry bases 3 thickness refl (g .thickness-positive), tt)),
-            ),
-          ),
-        ),
-      )
+  abbrev volumeAt : Float
+  volumeAt = integralAt f 0
 
-  signed : Signed E
-  signed = (
-    positive-from root (g .root-positive),
+  abbrev behindAt : Float
+  behindAt = neg (integralAt f 3)
+
+  abbrev pub V₀ : Number
+  V₀ = exactly f 0
+
+  abbrev pub X₀ : Number
+  X₀ = exactly f 3
+
+  abbrev W₀ : Number
+  W₀ = massNumber f far b d g
+
+  abbrev pass : (naught m t : Float) (M₀ T₀ : Number) → RingPass volumeAt behindAt V₀ (minus X₀) (f .density) naught m t M₀ T₀ far isAirfoil (f .tab)
+  pass naught m t M₀ T₀ = ring-pass volumeAt behindAt V₀ (minus X₀) (f .density) naught m t M₀ T₀ far isAirfoil (f .tab)
+
+  volume-known : Known B volumeAt V₀ (shapeAt far isAirfoil (f .tab) 0) × Lowest B volumeAt V₀ (shapeAt far isAirfoil (f .tab) 0) (leastParts isAirfoil)
+  volume-known = (seven-known f far b d g 0 (lit≤ tt) tt, volume-lowest f far b d g)
+
+  density-known : Known B (f .density) (valueOf (f .density)) (shape 0 full (place 5) [])
+      × Lowest B (f .density) (valueOf (f .density)) (shape 0 full (place 5) []) full
+  density-known = density-own f far b d g
+
+  -- ---- the masses
+  abbrev massL : List Given
+  massL = masses f far b d g
+
+  mass-target : Known B (massOf f far b d g) W₀ (shape (errorIn (massShape far isAirfoil (f .tab))) (massSize (f .tab) * 2 ^ 20) massUnit [])
+  mass-target = target-known B ranges massL (volume-known, (density-known, tt)) (massOf f far b d g) (given 2 mul given 0)
+      (errorIn (massShape far isAirfoil (f .tab))) (massSize (f .tab) * 2 ^ 20) massUnit [] (mass-known f far b d g .near)
+      (pass (bits 0) (bits 0) (bits 0) zeroNumber zeroNumber .mass-most)
+
+  abbrev pub massSum : Float
+  massSum = inOrder (λ x y. x ⊕ y) (bits 0) (λ k. massOf f far b d g) n
+
+  abbrev pub M₀ : Number
+  M₀ = number n 0 1 times W₀
+
+  unit-range : (p : List ℕ) → T (leb (32 * totalOf p + 32 * totalOf []) 800) → Ranges 900 (unitBy B p [])
+  unit-range p t = upward (unit-ranges B ranges p [] t)
+    where
+      upward : {A : Size} → Ranges 840 A → Ranges 900 A
+      upward {A = a per k} t =
+          record {
+            real = t .real;
+            least = le-trans (t .least) (mul-le-mul-left a (pow-mono {i = 840} {j = 900} (omega arith)));
+            most = le-trans (t .most) (mul-le-mul-left k (pow-mono {i = 840} {j = 900} (omega arith)));
+          }
+
+  masses-known : Known B massSum M₀ (massesShape far isAirfoil (f .tab))
+  masses-known =
+      sums-known B ranges n refl few massUnit (unit-range massUnit tt) W₀ (errorIn (massShape far isAirfoil (f .tab))) (massSize (f .tab))
+      (leb→le (errorIn (massShape far isAirfoil (f .tab))) (2 ^ 44) (pass (bits 0) (bits 0) (bits 0) zeroNumber zeroNumber .mass-few))
+      (masses-few (f .tab)) (λ k. massOf f far b d g) (mass-target .is) (λ k h. mass-target)
+
+  -- ---- the moments
+  abbrev pub termOf : ℕ → Float
+  termOf k = (naught k ⊕ one ⊗ (behindAt ⊘ volumeAt)) ⊗ massOf f far b d g
+
+  abbrev Q₀ : Number
+  Q₀ = (zeroNumber plus (minus X₀ times inverseOf V₀)) times (valueOf (f .density) times V₀)
+
+  abbrev termL : ℕ → List Given
+  termL k = termList far isAirfoil (f .tab) volumeAt behindAt V₀ (minus X₀) (f .density) (naught k)
+
+  behind-known : Known B behindAt (minus X₀) (shapeAt far isAirfoil (f .tab) 3)
+  behind-known = neg-known (unitBy B (unitOf 3) []) (seven-known f far b d g 3 (lit≤ tt) tt)
+
+  term-known : (k : ℕ) → k < n → AllKnown B (termL k)
+  term-known k h =
+      (volume-known, ((behind-known, tt), (density-known, ((naught-known B ranges (naught k) (naughts k h) (place 0), tt), tt))))
+
+  term-target : (k : ℕ) → k < n → Known B (termOf k) Q₀ (shape (termError far (f .tab) * 2 ^ 30) (termSize far (f .tab) * 2 ^ 20) termUnit [])
+  term-target k h =
+      let r = pass (naught k) (bits 0) (bits 0) zeroNumber zeroNumber in
+      let K = termError far (f .tab) * 2 ^ 30 in
+      target-known B ranges (termL k) (term-known k h) (termOf k) termE K (termSize far (f .tab) * 2 ^ 20) termUnit []
+      (near-within B ranges (termL k) (term-known k h) termT termE K termUnit [] (r .term)) (r .term-most)
+
+  abbrev pub momentSum : Float
+  momentSum = inOrder (λ x y. x ⊕ y) (bits 0) termOf n
+
+  abbrev pub T₀ : Number
+  T₀ = number n 0 1 times Q₀
+
+  moments-known : Known B momentSum T₀ (termsShape far (f .tab))
+  moments-known =
+      let s = terms-few far (f .tab) in
+      sums-known B ranges n refl few termUnit (unit-range termUnit tt) Q₀ (termError far (f .tab) * 2 ^ 30) (termSize far (f .tab)) (s .0) (s .1)
+      termOf (term-target 0 some .is) term-target
+
+  -- ---- their quotient
+  masses-reach : Reaches (leastParts isAirfoil) (mono top B (added massUnit (place 6)) * mono bottom B [])
+      (mono bottom B (added massUnit (place 6)) * mono top B [] * 2 ^ 30) M₀
+  masses-reach = count-reaches B n refl massUnit (leastParts isAirfoil) W₀ (mass-lowest f far b d g .1)
+
+  pub masses-positive : T (positive massSum)
+  masses-positive =
+      let N = mono top B (added massUnit (place 6)) * mono bottom B [] in
+      let C = mono bottom B (added massUnit (place 6)) * mono top B [] * 2 ^ 30 in
+      let K = errorIn (massShape far isAirfoil (f .tab)) in
+      near-above massSum M₀ (sumError K (massSize (f .tab))) N C (top-pos 32 B ranges (added massUnit (place 6)) [])
+      (unit-real B ranges (added massUnit (place 6)) []) (masses-known .is) (masses-known .near)
+      (finer (leastParts isAirfoil) N C (suc (sumError K (massSize (f .tab)))) (2 ^ 53) M₀
+      (few-errors (lessParts isAirfoil) K (massSize (f .tab) * 2 ^ 19)
+      (leb→le K (2 ^ 44) (pass (bits 0) (bits 0) (bits 0) zeroNumber zeroNumber .mass-few)) (masses-few (f .tab))) masses-reach)
+    where
+      few-errors : (x K H : ℕ) → K ≤ 2 ^ 44 → H ≤ 2 ^ 34 → suc (K + 33 * H + 2) ≤ suc x * 2 ^ 53
+      few-errors x K H h k = omega arith
+
+  abbrev ringL : List Given
+  ringL = ringList far isAirfoil (f .tab) massSum momentSum M₀ T₀
+
+  ring-known : AllKnown B ringL
+  ring-known = ((masses-known, (masses-positive, masses-reach)), ((moments-known, tt), tt))
+
+  abbrev pub ιM : Number
+  ιM = inverseOf M₀
+
+  pub balance-near : Near (momentSum ⊘ massSum) (T₀ times ιM)
+      ((balanceError far (f .tab) * 2 ^ 30) roundoffs (num (f .root) per (den (f .root) * 2 ^ 30)))
+  balance-near =
+      let K = balanceError far (f .tab) * 2 ^ 30 in
+      subst (λ (k : ℕ). Near (momentSum ⊘ massSum) (T₀ times ιM) (K roundoffs (num (f .root) per (k * 2 ^ 30)))) (one-power (den (f .root)))
+      (subst (λ (k : ℕ). Near (momentSum ⊘ massSum) (T₀ times ιM) (K roundoffs (k per (den (f .root) ^ 1 * 1 * 1 * 2 ^ 30))))
+      (one-power (num (f .root)))
+      (near-within B ranges ringL ring-known (var 1 overT 0) (given 2 mul given 1) K (1 ∷ []) [] (pass (bits 0) massSum momentSum M₀ T₀ .quotient)))
+    where
+      one-power : (x : ℕ) → x ^ 1 * 1 * 1 ≡ x
+      one-power x = rw (first-power x) (simp plain)
+
+  -- ---- exactly: times the mass it is the moment
+  pub W-is : IsNumber (T₀ times ιM)
+  W-is = times-is T₀ ιM (moments-known .is) (numbers-are B ranges ringL ring-known 1)
+
+  abbrev ιV : Number
+  ιV = inverseOf V₀
+
+  abbrev numbers : List Number
+  numbers = number n 0 1 ∷ valueOf (f .density) ∷ V₀ ∷ ιV ∷ minus X₀ ∷ ιM ∷ []
+
+  numbers-all : AllNumbers numbers
+  numbers-all = (
+    pow-pos 0,
     (
-      g .tip-from-zero,
+      Counts.value-is (f .density),
       (
-        g .sweep-from-zero,
+        is-exactly f far b d g 0,
         (
-          positive-from span (g .span-positive),
-          (positive-from scale (g .scale-positive), (positive-from thickness (g .thickness-positive), tt)),
+          numbers-are B ranges massL (volume-known, (density-known, tt)) 1,
+          (behind-known .is, (numbers-are B ranges ringL ring-known 1, tt)),
         ),
       ),
     ),
   )
 
-  abbrev pub total : ℕ → Float
-  total k = bits 0 ⊕ (bits 0 ⊕ halfWidth (bits 0 ⊘ scale) (span ⊘ scale) ⊗
-      sumOf kronrodWeight (sevenAt root tip span sweep scale thickness radius 0 0 0 (shape 0 0 [] []) 0 [] section) (bits 0 ⊘ scale)
-      (span ⊘ scale) k)
+  M-from-zero : NotBelow M₀
+  M-from-zero = from-low (leastParts isAirfoil) (mono top B (added massUnit (place 6)) * mono bottom B [])
+      (mono bottom B (added massUnit (place 6)) * mono top B [] * 2 ^ 30) M₀ (unit-real B ranges (added massUnit (place 6)) []) masses-reach
 
-  abbrev pub volume· : Float
-  volume· = total 0 ⊗ cube scale ⊕ bits 0
+  pub exactly-moment : (T₀ times ιM) times M₀ equals number n 0 1 times (valueOf (f .density) times minus X₀)
+  exactly-moment =
+      let N = number n 0 1 times (valueOf (f .density) times minus X₀) in
+      let i = evaluated-is numbers numbers-all (given 0 mul (given 1 mul given 4)) in
+      let ia = evaluated-is numbers numbers-all (given 2 mul given 3) in
+      let ib = evaluated-is numbers numbers-all ((given 0 mul (given 1 mul given 2)) mul given 5) in
+      let e = (given 0 mul (given 1 mul given 4)) mul ((given 2 mul given 3) mul ((given 0 mul (given 1 mul given 2)) mul given 5)) in
+      trans (evaluated-is numbers numbers-all e)
+      (equal-by numbers numbers-all
+      (((given 0 mul ((ratio 0 0 add (given 4 mul given 3)) mul (given 1 mul given 2))) mul given 5) mul (given 0 mul (given 1 mul given 2))) e tt)
+      (trans (evaluated-is (N ∷ number 1 0 1 ∷ number 1 0 1 ∷ []) (i, (pow-pos 0, (pow-pos 0, tt))) (given 0 mul (given 1 mul given 2)))
+      (evaluated-equal (N ∷ (V₀ times ιV) ∷ (M₀ times ιM) ∷ []) (N ∷ number 1 0 1 ∷ number 1 0 1 ∷ []) (i, (ia, (ib, tt)))
+      (i, (pow-pos 0, (pow-pos 0, tt)))
+      (itself, (inverse-pair V₀ (volume-from-zero f far b d g), (inverse-pair M₀ M-from-zero, tt))) (given 0 mul (given 1 mul given 2)))
+      (equal-by (N ∷ []) (i, tt) (given 0 mul (ratio 1 0 mul ratio 1 0)) (given 0) tt))
 
-  abbrev pub moment· : Float
-  moment· = total 3 ⊗ fourth scale ⊕ bits 0
+-- what a tab adds to the first moment about the axis is at most 2^27
+tab-radius-below : (thickness radius : Float) (tab : Tab) (p : Plate) → Below 6 thickness → Below 6 radius → TabGiven tab p
+    → tabCheck tab (p .root) ≡ Accepted
+    → Below 27 (r1 (tabIntegralsOf tab thickness radius))
+unfolding tabIntegralsOf ofBits
+tab-radius-below thickness radius None p t r h c = weaker (bits 0) 0 27 (lit≤ tt) zero-below
+tab-radius-below thickness radius (Slab height length offset) p t r h c =
+    let s = Fins.tab-lengths height length offset (p .root) (h .0 .0) (h .0 .1) c in
+    let inner : Below 7 (radius ⊖ height) = sub-below radius height 6 (lit≤ tt) r (s .0 .length .below) in
+    let outer : Below 14 (radius ⊗ radius) = weaker (radius ⊗ radius) 12 14 (lit≤ tt) (mul-below radius radius 6 6 (lit≤ tt) r r) in
+    let squares : Below 15 (radius ⊗ radius ⊖ (radius ⊖ height) ⊗ (radius ⊖ height)) =
+    sub-below (radius ⊗ radius) ((radius ⊖ height) ⊗ (radius ⊖ height)) 14 (lit≤ tt) outer
+    (mul-below (radius ⊖ height) (radius ⊖ height) 7 7 (lit≤ tt) inner inner) in
+    mul-below (thickness ⊗ length) (firstMoment (radius ⊖ height) radius) 12 15 (lit≤ tt)
+    (mul-below thickness length 6 6 (lit≤ tt) t (s .1 .length .below))
+    (mul-below half (radius ⊗ radius ⊖ (radius ⊖ height) ⊗ (radius ⊖ height)) 0 15 (lit≤ tt) half-below squares)
 
-  abbrev pub V0 : Number
-  V0 = evaluate (numbersOf E) (volumeE section)
+-- ---- copies of a plate, turned and joined
+plate-centre : (v : List Float) (density base : Float) (count : ℕ) → T (positive (inOrder (λ x y. x ⊕ y) (bits 0) (λ k. density ⊗ volume v) count))
+    → joinedCopies (plateBody v density) base count .«centre_m» .z
+    ≡ inOrder (λ x y. x ⊕ y) (bits 0) (λ k. (acrossAt base count (r1 v ⊘ volume v) k ⊕ one ⊗ (neg (x1 v) ⊘ volume v)) ⊗
+    (density ⊗ volume v)) count ⊘ inOrder (λ x y. x ⊕ y) (bits 0) (λ k. density ⊗ volume v) count
+unfolding plateBody ofOriginTensor
+plate-centre v density base count h = ring-centre (plateBody v density) base count refl h
 
-  abbrev pub A0 : Number
-  A0 = evaluate (numbersOf E) (momentE section)
+plate-naught : (v : List Float) (density base : Float) (count : ℕ) → angleCheck baseAngleField base ≡ Accepted → 1 ≤ count → count ≤ 32 → T
+    (finite (r1 v ⊘ volume v)) → (k : ℕ) → k < count
+    → AtMost 0 1 (acrossAt base count (r1 v ⊘ volume v) k)
+unfolding plateBody ofOriginTensor
+plate-naught v density base count h l u f k i = across-naught (plateBody v density) base count baseAngleField h l u f k i
 
-  pub volume-near : Near volume· V0 ((c .volume-error * 2 ^ 30) roundoffs unitBy bases unitV [])
-  unfolding weightedTo
-  volume-near =
-      subst (λ (z : Float). Near z V0 ((c .volume-error * 2 ^ 30) roundoffs unitBy bases unitV [])) (volume-is section plain-section)
-      (all-within bases ranges E known (partsOf section 0) volumeS (volumeE section) (c .volume-error * 2 ^ 30) unitV [] (pass .volume))
-    where
-      volume-is : (s : Section) → NotRounded s → value E (expand [] (bindAll (partsOf s 0) volumeS))
-          ≡ (bits 0 ⊕ (bits 0 ⊕ halfWidth (bits 0 ⊘ scale) (span ⊘ scale) ⊗
-          sumOf kronrodWeight (sevenAt root tip span sweep scale thickness radius 0 0 0 (shape 0 0 [] []) 0 [] s) (bits 0 ⊘ scale)
-          (span ⊘ scale) 0)) ⊗ cube scale ⊕ bits 0
-      volume-is Rounded e = absurd e
-      volume-is Square e = refl
-      volume-is Airfoil e = refl
-      volume-is AirfoilOpen e = refl
-
-  moment-near : Near moment· A0 ((c .moment-error * 2 ^ 30) roundoffs unitBy bases unitX [])
-  unfolding weightedTo
-  moment-near =
-      subst (λ (z : Float). Near z A0 ((c .moment-error * 2 ^ 30) roundoffs unitBy bases unitX [])) (moment-is section plain-section)
-      (all-within bases ranges E known (partsOf section 3) momentS (momentE section) (c .moment-error * 2 ^ 30) unitX [] (pass .moment))
-    where
-      moment-is : (s : Section) → NotRounded s → value E (expand [] (bindAll (partsOf s 3) momentS))
-          ≡ (bits 0 ⊕ (bits 0 ⊕ halfWidth (bits 0 ⊘ scale) (span ⊘ scale) ⊗
-          sumOf kronrodWeight (sevenAt root tip span sweep scale thickness radius 0 0 0 (shape 0 0 [] []) 0 [] s) (bits 0 ⊘ scale)
-          (span ⊘ scale) 3)) ⊗ fourth scale ⊕ bits 0
-      moment-is Rounded e = absurd e
-      moment-is Square e = refl
-      moment-is Airfoil e = refl
-      moment-is AirfoilOpen e = refl
-
-  pub volume-known : Known bases volume· V0 (shape (c .volume-error * 2 ^ 30) (1025 * 2 ^ 20) unitV [])
-  volume-known = target-known bases ranges E known volume· (volumeE section) (c .volume-error * 2 ^ 30)
-      (1025 * 2 ^ 20) unitV [] volume-near (pass .volume-most)
-
-  pub volume-reaches : Lowest bases volume· V0 (shape (c .volume-error * 2 ^ 30) (1025 * 2 ^ 20) unitV []) (suc (leastOf section - 1))
-  volume-reaches =
-      target-lowest bases ranges E known signed volume· (volumeE section) (c .volume-error * 2 ^ 30) (1025 * 2 ^ 20)
-      (leastOf section - 1) unitV []
-      volume-near (pass .volume-least)
-
-  volume-lowest : Lowest bases volume· V0 (shape (c .volume-error * 2 ^ 30) (1025 * 2 ^ 20) unitV []) (leastOf section)
-  volume-lowest =
-      subst (λ (k : ℕ). Lowest bases volume· V0 (shape (c .volume-error * 2 ^ 30) (1025 * 2 ^ 20) unitV []) k)
-      (least-some section plain-section)
-      volume-reaches
-
-  pub behind-known : Known bases (neg moment·) (minus A0) (shape (c .moment-error * 2 ^ 30) (c .moment-size * 2 ^ 20) unitX [])
-  behind-known = neg-known (unitBy bases unitX [])
-      (target-known bases ranges E known moment· (momentE section) (c .moment-error * 2 ^ 30)
-      (c .moment-size * 2 ^ 20) unitX [] moment-near (pass .moment-most))
-
-  pub V0-from-zero : NotBelow V0
-  V0-from-zero = from-low (suc (leastOf section - 1)) (mono top bases unitV * mono bottom bases [])
-      (mono bottom bases unitV * mono top bases [] * 2 ^ 30) V0
-      (unit-real bases ranges unitV []) (volume-reaches .1)
-
-  -- ---- the ring
-  module _ (naught : ℕ → Float) (naughts : (k : ℕ) → k < n → AtMost 0 1 (naught k)) (small : Small c)
-      (ring : (x m t : Float) (M₀ T₀ : Number) → RingPass c section volume· (neg moment·) V0 (minus A0) density x m t M₀ T₀) where
-    abbrev massL : List Given
-    massL = massList c section volume· V0 density
-
-    mass-known : AllKnown bases massL
-    mass-known = ((volume-known, volume-lowest), (own-entry bases 4 density refl (g .density-positive), tt))
-
-    abbrev pub W0 : Number
-    W0 = valueOf density times V0
-
-    abbrev some-ring : RingPass c section volume· (neg moment·) V0 (minus A0) density (bits 0) (bits 0) (bits 0) zeroNumber zeroNumber
-    some-ring = ring (bits 0) (bits 0) (bits 0) zeroNumber zeroNumber
-
-    mass-near : Near (density ⊗ volume·) W0 ((c .mass-error * 2 ^ 30) roundoffs unitBy bases unitM [])
-    mass-near = near-within bases ranges massL mass-known massT (given 2 mul given 0) (c .mass-error * 2 ^ 30) unitM [] (some-ring .mass)
-
-    mass-target : Known bases (density ⊗ volume·) W0 (shape (c .mass-error * 2 ^ 30) (1026 * 2 ^ 20) unitM [])
-    mass-target = target-known bases ranges massL mass-known (density ⊗ volume·) (given 2 mul given 0) (c .mass-error * 2 ^ 30)
-        (1026 * 2 ^ 20) unitM []
-        mass-near (some-ring .mass-most)
-
-    mass-reaches : Lowest bases (density ⊗ volume·) W0 (shape (c .mass-error * 2 ^ 30) (1026 * 2 ^ 20) unitM [])
-        (suc (leastOf section - 1))
-    mass-reaches =
-        target-lowest bases ranges massL mass-known (V0-from-zero, (positive-from density (g .density-positive), tt)) (density ⊗ volume·)
-        (given 2 mul given 0) (c .mass-error * 2 ^ 30) (1026 * 2 ^ 20) (leastOf section - 1) unitM [] mass-near (some-ring .mass-least)
-
-    abbrev pub masses : Float
-    masses = inOrder (λ x y. x ⊕ y) (bits 0) (λ k. density ⊗ volume·) n
-
-    abbrev pub M0 : Number
-    M0 = number n 0 1 times W0
-
-    unit-range : (p : List ℕ) → T (leb (32 * totalOf p + 32 * totalOf []) 800) → Ranges 900 (unitBy bases p [])
-    unit-range p t = upward (unit-ranges bases ranges p [] t)
-      where
-        upward : {A : Size} → Ranges 840 A → Ranges 900 A
-        upward {A = a per k} t =
-            record {
-              real = t .real;
-              least = le-trans (t .least) (mul-le-mul-left a (pow-mono {i = 840} {j = 900} (omega arith)));
-              most = le-trans (t .most) (mul-le-mul-left k (pow-mono {i = 840} {j = 900} (omega arith)));
-            }
-
-    -- n·(K + 33·H + 2)
-    each-less : (n K H : ℕ) → n ≤ 32 → n * K + (n * suc n * H + 2 * n) ≤ n * (K + 33 * H + 2)
-    each-less n K H l = go (mul-le-mul-right (n * H) (one-up n l))
-      where
-        one-up : (n : ℕ) → n ≤ 32 → suc n ≤ 33
-        one-up n h = omega arith
-
-        go : suc n * (n * H) ≤ 33 * (n * H) → n * K + (n * suc n * H + 2 * n) ≤ n * (K + 33 * H + 2)
-        go h = omega arith
-
-    halves : (s : ℕ) → 2 * (s * 2 ^ 19) ≡ s * 2 ^ 20
-    halves s = omega arith
-
-    masses-known : Known bases masses M0 (shape (sumError (c .mass-error) 1026) (1026 * 2 ^ 20) (added unitM (place 5)) [])
-    masses-known =
-        counted-unit bases n refl unitM masses M0 (sumError (c .mass-error) 1026) (1026 * 2 ^ 20) ranges
-        (counted-by
-        (sums-to (unitBy bases unitM []) (unit-range unitM tt) W0 (c .mass-error * 2 ^ 30) (1026 * 2 ^ 19)
-        (mul-le-mul-right (2 ^ 30) (small .masses)) (lit≤ tt)
-        (λ k. density ⊗ volume·) n (g .few) (mass-target .is) (λ k h. mass-target))
-        (n * sumError (c .mass-error) 1026) (n * (1026 * 2 ^ 20)) (unit-real bases ranges unitM [])
-        (each-less n (c .mass-error * 2 ^ 30) (1026 * 2 ^ 19) (g .few)) (le-refl _))
-
-    -- ---- the moments
-    abbrev pub termOf : ℕ → Float
-    termOf k = (naught k ⊕ one ⊗ (neg moment· ⊘ volume·)) ⊗ (density ⊗ volume·)
-
-    abbrev pub Q0 : Number
-    Q0 = (zeroNumber plus (minus A0 times inverseBy (leastOf section) V0)) times (valueOf density times V0)
-
-    abbrev termL : ℕ → List Given
-    termL k = termList c section volume· (neg moment·) V0 (minus A0) density (naught k)
-
-    term-known : (k : ℕ) → k < n → AllKnown bases (termL k)
-    term-known k h = (
-      (volume-known, volume-lowest),
-      (
-        (behind-known, tt),
-        (
-          own-entry bases 4 density refl (g .density-positive),
-          ((naught-known bases ranges (naught k) (naughts k h) (place 0), tt), tt),
-        ),
-      ),
-    )
-
-    term-target : (k : ℕ) → k < n → Known bases (termOf k) Q0 (shape (c .term-error * 2 ^ 30) (c .term-size * 2 ^ 20) unitT [])
-    term-target k h =
-        let r = ring (naught k) (bits 0) (bits 0) zeroNumber zeroNumber in
-        target-known bases ranges (termL k) (term-known k h) (termOf k) termE (c .term-error * 2 ^ 30) (c .term-size * 2 ^ 20) unitT []
-        (near-within bases ranges (termL k) (term-known k h) termT termE (c .term-error * 2 ^ 30) unitT [] (r .term)) (r .term-most)
-
-    abbrev pub moments : Float
-    moments = inOrder (λ x y. x ⊕ y) (bits 0) termOf n
-
-    abbrev pub T0 : Number
-    T0 = number n 0 1 times Q0
-
-    Q0-is : IsNumber Q0
-    Q0-is = term-target 0 (g .some) .is
-
-    moments-known : Known bases moments T0 (shape (sumError (c .term-error) (c .term-size)) (c .term-size * 2 ^ 20)
-        (added unitT (place 5)) [])
-    moments-known =
-        counted-unit bases n refl unitT moments T0 (sumError (c .term-error) (c .term-size)) (c .term-size * 2 ^ 20) ranges
-        (counted-by
-        (sums-to (unitBy bases unitT []) (unit-range unitT tt) Q0 (c .term-error * 2 ^ 30) (c .term-size * 2 ^ 19)
-        (mul-le-mul-right (2 ^ 30) (small .terms))
-        (mul-le-mul-right (2 ^ 19) (small .sizes))
-        termOf n (g .few) Q0-is
-        (λ k h. subst (λ (j : ℕ). Known bases (termOf k) Q0 (shape (c .term-error * 2 ^ 30) j unitT [])) (sym (halves (c .term-size)))
-        (term-target k h)))
-        (n * sumError (c .term-error) (c .term-size)) (n * (c .term-size * 2 ^ 20)) (unit-real bases ranges unitT [])
-        (each-less n (c .term-error * 2 ^ 30) (c .term-size * 2 ^ 19) (g .few))
-        (le-of-eq (ap (λ (j : ℕ). n * j) (halves (c .term-size)))))
-
-    -- ---- their quotient
-    masses-reach : Reaches (suc (leastOf section - 1)) (mono top bases (added unitM (place 5)) * mono bottom bases [])
-        (mono bottom bases (added unitM (place 5)) * mono top bases [] * 2 ^ 30) M0
-    masses-reach = count-reaches bases n refl unitM (suc (leastOf section - 1)) W0 (mass-reaches .1)
-
-    pub masses-positive : T (positive masses)
-    masses-positive =
-        let N = mono top bases (added unitM (place 5)) * mono bottom bases [] in
-        let C = mono bottom bases (added unitM (place 5)) * mono top bases [] * 2 ^ 30 in
-        near-above masses M0 (sumError (c .mass-error) 1026) N C (top-pos 32 bases ranges (added unitM (place 5)) [])
-        (unit-real bases ranges (added unitM (place 5)) [])
-        (masses-known .is) (masses-known .near)
-        (finer (suc (leastOf section - 1)) N C (suc (sumError (c .mass-error) 1026)) (2 ^ 53) M0
-        (few-errors (leastOf section - 1) (c .mass-error) (small .masses)) masses-reach)
-      where
-        few-errors : (x K : ℕ) → K ≤ 2 ^ 14 → suc (K * 2 ^ 30 + 33 * (1026 * 2 ^ 19) + 2) ≤ suc x * 2 ^ 53
-        few-errors x K h = omega arith
-
-    abbrev ringL : List Given
-    ringL = ringList c section masses moments M0 T0
-
-    ring-known : AllKnown bases ringL
-    ring-known = (
-      (
-        masses-known,
-        subst (λ (k : ℕ). Lowest bases masses M0 (shape (sumError (c .mass-error) 1026) (1026 * 2 ^ 20) (added unitM (place 5)) []) k)
-            (least-some section plain-section)
-            (masses-positive, masses-reach),
-      ),
-      ((moments-known, tt), tt),
-    )
-
-    abbrev pub iM : Number
-    iM = inverseBy (leastOf section) M0
-
-    abbrev iV : Number
-    iV = inverseBy (leastOf section) V0
-
-    quotient-near : Near (moments ⊘ masses) (T0 times iM) ((c .balance * 2 ^ 30) roundoffs unitBy bases (1 ∷ []) [])
-    quotient-near = near-within bases ranges ringL ring-known (var 1 overT 0) (given 2 mul given 1) (c .balance * 2 ^ 30) (1 ∷ []) []
-        (ring (bits 0) masses moments M0 T0 .quotient)
-
-    pub balance-near : Near (moments ⊘ masses) (T0 times iM) ((c .balance * 2 ^ 30) roundoffs (num root per (den root * 2 ^ 30)))
-    balance-near =
-        subst (λ (k : ℕ). Near (moments ⊘ masses) (T0 times iM) ((c .balance * 2 ^ 30) roundoffs (num root per (k * 2 ^ 30))))
-        (one-power (den root))
-        (subst (λ (k : ℕ). Near (moments ⊘ masses) (T0 times iM)
-        ((c .balance * 2 ^ 30) roundoffs (k per (den root ^ 1 * 1 * 1 * 2 ^ 30)))) (one-power (num root))
-        quotient-near)
-      where
-        one-power : (x : ℕ) → x ^ 1 * 1 * 1 ≡ x
-        one-power x = rw (first-power x) (simp plain)
-
-    -- ---- exactly: times the mass it is the moment
-    abbrev pub D : Number
-    D = number n 0 1 times (valueOf density times (V0 plus zeroNumber))
-
-    V0-is : IsNumber V0
-    V0-is = volume-known .is
-
-    pub W-is : IsNumber (T0 times iM)
-    W-is = times-is T0 iM (moments-known .is) (numbers-are bases ranges ringL ring-known 1)
-
-    inverse-some : (s : Section) → NotRounded s → (v : Number) → inverseBy (leastOf s) v ≡ inverseOf v
-    inverse-some Rounded e v = absurd e
-    inverse-some Square e v = refl
-    inverse-some Airfoil e v = refl
-    inverse-some AirfoilOpen e v = refl
-
-    M0-from-zero : NotBelow M0
-    M0-from-zero = from-low (suc (leastOf section - 1)) (mono top bases (added unitM (place 5)) * mono bottom bases [])
-        (mono bottom bases (added unitM (place 5)) * mono top bases [] * 2 ^ 30) M0
-        (unit-real bases ranges (added unitM (place 5)) []) masses-reach
-
-    abbrev numbers : List Number
-    numbers = number n 0 1 ∷ valueOf density ∷ V0 ∷ iV ∷ minus A0 ∷ iM ∷ []
-
-    numbers-all : AllNumbers numbers
-    numbers-all = (
-      pow-pos 0,
-      (
-        Counts.value-is density,
-        (
-          V0-is,
-          (
-            numbers-are bases ranges massL mass-known 1,
-            (behind-known .is, (numbers-are bases ranges ringL ring-known 1, tt)),
-          ),
-        ),
-      ),
-    )
-
-    pub exactly-moment : (T0 times iM) times D equals number n 0 1 times (valueOf density times minus A0)
-    exactly-moment =
-        let Nn = number n 0 1 times (valueOf density times minus A0) in
-        let iN = evaluated-is numbers numbers-all (given 0 mul (given 1 mul given 4)) in
-        let a : V0 times iV equals number 1 0 1 =
-        subst (λ (z : Number). V0 times z equals number 1 0 1) (sym (inverse-some section plain-section V0))
-        (inverse-pair V0 V0-from-zero) in
-        let b : M0 times iM equals number 1 0 1 =
-        subst (λ (z : Number). M0 times z equals number 1 0 1) (sym (inverse-some section plain-section M0))
-        (inverse-pair M0 M0-from-zero) in
-        let ia = evaluated-is numbers numbers-all (given 2 mul given 3) in
-        let ib = evaluated-is numbers numbers-all ((given 0 mul (given 1 mul given 2)) mul given 5) in
-        let e2 = (given 0 mul (given 1 mul given 4)) mul ((given 2 mul given 3) mul ((given 0 mul (given 1 mul given 2)) mul given 5)) in
-        trans (evaluated-is numbers numbers-all e2)
-        (equal-by numbers numbers-all
-        (((given 0 mul ((ratio 0 0 add (given 4 mul given 3)) mul (given 1 mul given 2))) mul given 5) mul
-        (given 0 mul (given 1 mul (given 2 add ratio 0 0)))) e2 tt)
-        (trans (evaluated-is (Nn ∷ number 1 0 1 ∷ number 1 0 1 ∷ []) (iN, (pow-pos 0, (pow-pos 0, tt)))
-        (given 0 mul (given 1 mul given 2)))
-        (evaluated-equal (Nn ∷ (V0 times iV) ∷ (M0 times iM) ∷ []) (Nn ∷ number 1 0 1 ∷ number 1 0 1 ∷ []) (iN, (ia, (ib, tt)))
-        (iN, (pow-pos 0, (pow-pos 0, tt)))
-        (itself, (a, (b, tt))) (given 0 mul (given 1 mul given 2)))
-        (equal-by (Nn ∷ []) (iN, tt) (given 0 mul (ratio 1 0 mul ratio 1 0)) (given 0) tt))
+centre-by : (v : List Float) (density base : Float) (count : ℕ) (w u : Float) → volume v ≡ w → x1 v ≡ u → T
+    (positive (inOrder (λ x y. x ⊕ y) (bits 0) (λ k. density ⊗ w) count))
+    → joinedCopies (plateBody v density) base count .«centre_m» .z
+    ≡ inOrder (λ x y. x ⊕ y) (bits 0) (λ k. (acrossAt base count (r1 v ⊘ w) k ⊕ one ⊗ (neg u ⊘ w)) ⊗ (density ⊗ w)) count ⊘ inOrder
+    (λ x y. x ⊕ y) (bits 0) (λ k. density ⊗ w) count
+centre-by v density base count w u hw hu h =
+    subst
+    (λ (s : Float). joinedCopies (plateBody v density) base count .«centre_m» .z
+    ≡ inOrder (λ x y. x ⊕ y) (bits 0) (λ k. (acrossAt base count (r1 v ⊘ s) k ⊕ one ⊗ (neg u ⊘ s)) ⊗ (density ⊗ s)) count ⊘ inOrder
+    (λ x y. x ⊕ y) (bits 0) (λ k. density ⊗ s) count) hw
+    (subst
+    (λ (s : Float). joinedCopies (plateBody v density) base count .«centre_m» .z
+    ≡ inOrder (λ x y. x ⊕ y) (bits 0) (λ k. (acrossAt base count (r1 v ⊘ volume v) k ⊕ one ⊗ (neg s ⊘ volume v)) ⊗
+    (density ⊗ volume v)) count ⊘ inOrder (λ x y. x ⊕ y) (bits 0) (λ k. density ⊗ volume v) count) hu
+    (plate-centre v density base count (subst (λ (s : Float). T (positive (inOrder (λ x y. x ⊕ y) (bits 0) (λ k. density ⊗ s) count))) (sym hw) h)))
 
 -- ---- to fractions: K roundoffs of the size of an f64 above 0
 by-size : (x z : Float) → T (positive z) → (W D N : Number) (K : ℕ) (f h : Fraction) → IsNumber W → IsNumber D → IsNumber N → NotBelow D
@@ -942,439 +679,229 @@ above-by (fin false m e) (number q n d) X Y R l p i h k f a w =
     }
 
 -- ---- the call
-module _ (c : Bounds) (few : c .sweeps ≤ 4) (small : Small c)
-    (fins : (section : Section) → NotRounded section → (root tip sweep span scale thickness : Float)
-    → FinPass c section root tip sweep span scale thickness)
-    (rings : (section : Section) → NotRounded section → (v x : Float) (V₀ X₀ : Number) (density y m t : Float) (M₀ T₀ : Number)
-    → RingPass c section v x V₀ X₀ density y m t M₀ T₀) where
-  module _ (section : Section) (p : Plate) (m : Mount) (points : List Float) (L : ℕ) (start : List Float) (r : Figures)
-      (exit : List Float)
-      (plain-section : NotRounded section) (g : SectionGiven section p m points L start r exit)
-      (radius-f64 : T (fits binary64 (m .radius)))
-      (no-tab : p .tab ≡ None) (no-cant : eq (m .cant) (bits 0) ≡ true)
-      (q : Proportions 1 (c .sweeps) (p .root) (p .tip) (p .sweep)) where
-    abbrev Shape : Planform
-    Shape = Trapezoid (p .root) (p .tip) (p .span) (p .sweep)
-
-    abbrev S : Float
-    S = scaleOf Shape points
-
-    abbrev set : FinSet
-    set = setWith section p m
-
-    figures : Called.Given section p m points L (length start) r
-    figures = set-given section p m points L (length start) r (g .answers .call .0) (g .given) (g .no-fillet)
-
-    checks : AcceptedSet set points L (length start)
-    checks = set-accepted set points L (length start) (figures .accepted)
-
-    sized : Sized Shape points
-    sized = planform-sized Shape points (g .f64s) (checks .planform)
-
-    scaled : Scale S
-    scaled = scale-sized Shape points sized
-
-    thick : PositiveLength (p .thickness)
-    thick = field-above thicknessField (p .thickness) (g .thickness-f64) (checks .thickness) refl refl
-
-    out : Height (m .radius)
-    out = height-checked bodyRadiusField (m .radius) radius-f64 (checks .radius) refl refl
-
-    heavy : T (positive (p .density)) × Ranges 24 (sizeOf (p .density))
-    heavy = density-checked (p .density) (checks .density) (g .heavy)
-
-    counts : (1 ≤ m .count) × (m .count ≤ 32)
-    counts = set-count set points L (length start) (figures .accepted)
-
-    long : (x : Float) → PositiveLength x → T (positive x) × Ranges 32 (sizeOf x)
-    long x h = (
-      positive-of x 20 (h .not-minus) (h .above),
-      wider 24 (sizeOf x) (omega arith) (ranges-of-length x 6 20 (omega arith) (omega arith) (h .length .below) (h .above)),
-    )
-
-    chords-under : (k : ℕ) (x : Float) → AtMost (k * num (p .root)) (den (p .root)) x → Under (k of sizeOf (p .root)) (valueOf x)
-    chords-under k x h = subst (λ (n : ℕ). Under (n per den (p .root)) (valueOf x)) (one-mul (k * num (p .root)))
-        (most-under x (k * num (p .root)) (den (p .root)) h)
-
-    sizes : Sizes (c .sweeps) (p .root) (p .tip) (p .span) (p .sweep) S (p .thickness) (p .density) (m .count)
-    sizes =
-        record {
-          root-positive = long (p .root) (sized .0) .0;
-          span-positive = long (p .span) (sized .1 .1 .0) .0;
-          scale-positive = scaled .is-positive;
-          thickness-positive = long (p .thickness) thick .0;
-          density-positive = heavy .0;
-          tip-finite = q .tip-most .finite;
-          sweep-finite = q .sweep-most .finite;
-          tip-from-zero = not-below (p .tip) (q .tip-most .finite)
-              (tip-checked (p .root) (p .tip) (p .span) (p .sweep) points (g .f64s .1 .0) (checks .planform));
-          sweep-from-zero = not-below (p .sweep) (q .sweep-most .finite) (q .backward);
-          tip-under = chords-under 1 (p .tip) (q .tip-most);
-          sweep-under = chords-under (c .sweeps) (p .sweep) (q .sweep-most);
-          root-ranges = long (p .root) (sized .0) .1;
-          span-ranges = long (p .span) (sized .1 .1 .0) .1;
-          scale-ranges = wider 24 (sizeOf S) (omega arith)
-              (ranges-of-length S 7 20 (omega arith) (omega arith) (scaled .below) (scaled .above));
-          thickness-ranges = long (p .thickness) thick .1;
-          density-ranges = wider 24 (sizeOf (p .density)) (omega arith) (heavy .1);
-          some = counts .0;
-          few = counts .1;
-        }
-
-    pass : FinPass c section (p .root) (p .tip) (p .sweep) (p .span) S (p .thickness)
-    pass = fins section plain-section (p .root) (p .tip) (p .sweep) (p .span) S (p .thickness)
-
-    wide : Proportions (tipsOf section) 4 (p .root) (p .tip) (p .sweep)
-    wide =
-        record {
-          tip-most = more (tipsOf section) 1 (p .tip) (tips section plain-section) (q .tip-most);
-          sweep-most = more 4 (c .sweeps) (p .sweep) few (q .sweep-most);
-          backward = q .backward;
-        }
-      where
-        tips : (s : Section) → NotRounded s → 1 ≤ tipsOf s
-        tips Rounded e = absurd e
-        tips Square e = omega arith
-        tips Airfoil e = omega arith
-        tips AirfoilOpen e = omega arith
-
-        more : (j k : ℕ) (x : Float) → k ≤ j → AtMost (k * num (p .root)) (den (p .root)) x → AtMost (j * num (p .root)) (den (p .root)) x
-        more j k x l h = record {
-          finite = h .finite;
-          size = le-trans (h .size)
-              (mul-le-mul-right (den x) (mul-le-mul-right (num (p .root)) l));
-        }
-
-    abbrev f : Float → List Float
-    f = plateOf Shape points section (p .thickness) (m .radius)
-
-    abbrev low : Float
-    low = bits 0 ⊘ S
-
-    abbrev high : Float
-    high = p .span ⊘ S
-
-    strips-are : setStrips set points L ≡ oneWorked 7 f low high ∷ []
-    strips-are = plate-strips (p .root) (p .tip) (p .span) (p .sweep) points (g .f64s) (checks .planform) section plain-section
-        (p .thickness) (m .radius) thick out L wide
-
-    sum-is : (k : ℕ) → k < 7 → valueFrom (bits 0) k (setStrips set points L) ≡ bits 0 ⊕
-        (bits 0 ⊕ halfWidth low high ⊗ sumOf kronrodWeight f low high k)
-    unfolding Rattle.tolerance.specs.Bounds.totalOf
-    sum-is k l = ap (valueFrom (bits 0) k) strips-are ∙ ap (λ (z : Float). bits 0 ⊕ (bits 0 ⊕ z)) (value-is 7 f low high k l)
-
-    abbrev total· : ℕ → Float
-    total· k = total c section plain-section (p .root) (p .tip) (p .sweep) (p .span) S (p .thickness) (p .density) (m .radius)
-        (m .count) sizes pass k
-
-    total-is : (k : ℕ) → k < 7 → valueFrom (bits 0) k (setStrips set points L) ≡ total· k
-    total-is k l =
-        sum-is k l
-        ∙ ap (λ (z : Float). bits 0 ⊕ (bits 0 ⊕ halfWidth low high ⊗ z))
-        (plate-sums section plain-section (p .root) (p .tip) (p .span) (p .sweep) (p .thickness) (m .radius) points
-        (plate-fin (p .root) (p .tip) (p .span) (p .sweep) points (g .f64s) (checks .planform) section plain-section (p .thickness)
-        (m .radius) thick out wide) kronrodWeight k)
-
-    abbrev v : List Float
-    v = Called.integrals section p m points L (length start) r (g .answers .call .0) (g .given) (g .no-fillet)
-
-    none-at : (k : ℕ) → k < 7 → at (tabIntegralsOf (p .tab) (p .thickness) (m .radius)) k ≡ bits 0
-    unfolding tabIntegralsOf
-    none-at k l = ap (λ (t : Tab). at (tabIntegralsOf t (p .thickness) (m .radius)) k) no-tab ∙ at-tabulate 7 (λ i. bits 0) k l
-
-    abbrev w : Float
-    w = volume· c section plain-section (p .root) (p .tip) (p .sweep) (p .span) S (p .thickness) (p .density) (m .radius)
-        (m .count) sizes pass
-
-    volume-is : volume v ≡ w
-    volume-is = ap (λ (z : Float). z ⊗ cube S ⊕ at (tabIntegralsOf (p .tab) (p .thickness) (m .radius)) 0) (total-is 0 (lit≤ tt))
-        ∙ ap (λ (z : Float). total· 0 ⊗ cube S ⊕ z) (none-at 0 (lit≤ tt))
-
-    abbrev u : Float
-    u = moment· c section plain-section (p .root) (p .tip) (p .sweep) (p .span) S (p .thickness) (p .density) (m .radius)
-        (m .count) sizes pass
-
-    moment-is : x1 v ≡ u
-    moment-is = ap (λ (z : Float). z ⊗ fourth S ⊕ at (tabIntegralsOf (p .tab) (p .thickness) (m .radius)) 3) (total-is 3 (lit≤ tt))
-        ∙ ap (λ (z : Float). total· 3 ⊗ fourth S ⊕ z) (none-at 3 (lit≤ tt))
-
-    -- ---- how far out the fin's centre is: no more than f64 holds
-    over-scale : (s : Float) → Below 6 s → Below 26 (s ⊘ S)
-    over-scale s h = div-below s S 6 20 (lit≤ tt) h (scaled .above)
-
-    samples-below : (h : Float) → Below 28 h → Each (Below 700) (f h)
-    unfolding plateOf
-    samples-below h b =
-        sample-below (plateIntegrand Shape points section (p .thickness) (m .radius)) points h sized scaled
-        (over-scale (p .thickness) (thick .length .below), over-scale (m .radius) (out .length .below)) b
-
-    samples-wide : (h : Float) → 7 ≤ length (f h)
-    unfolding plateOf sampleOf
-    samples-wide h = lit≤ tt
-
-    radius-below : Below 775 (r1 v)
-    radius-below =
-        let none : Below 0 (bits 0) = zero-below in
-        let value = value-below 7 f samples-below samples-wide low high (over-scale (bits 0) (weaker (bits 0) 0 6 (lit≤ tt) none))
-        (over-scale (p .span) (sized .1 .1 .0 .length .below)) 1 (lit≤ tt) in
-        let once = add-below (bits 0) _ 743 (lit≤ tt) (weaker (bits 0) 0 743 (lit≤ tt) none) value in
-        let twice : Below 745 (valueFrom (bits 0) 1 (setStrips set points L)) =
-        subst (Below 745) (sym (sum-is 1 (lit≤ tt))) (add-below (bits 0) _ 744 (lit≤ tt) (weaker (bits 0) 0 744 (lit≤ tt) none) once) in
-        let square = mul-below S S 7 7 (lit≤ tt) (scaled .below) (scaled .below) in
-        add-below (valueFrom (bits 0) 1 (setStrips set points L) ⊗ fourth S)
-        (at (tabIntegralsOf (p .tab) (p .thickness) (m .radius)) 1) 774 (lit≤ tt)
-        (weaker (valueFrom (bits 0) 1 (setStrips set points L) ⊗ fourth S) 773 774 (lit≤ tt)
-        (mul-below _ (fourth S) 745 28 (lit≤ tt) twice (mul-below (S ⊗ S) (S ⊗ S) 14 14 (lit≤ tt) square square)))
-        (subst (Below 774) (sym (none-at 1 (lit≤ tt))) (weaker (bits 0) 0 774 (lit≤ tt) none))
-
-    abbrev B : List Size
-    B = bases c section plain-section (p .root) (p .tip) (p .sweep) (p .span) S (p .thickness) (p .density) (m .radius)
-        (m .count) sizes pass
-
-    B-ranges : AllRanges 32 B
-    B-ranges = ranges c section plain-section (p .root) (p .tip) (p .sweep) (p .span) S (p .thickness) (p .density) (m .radius)
-        (m .count) sizes pass
-
-    least-two : (s : Section) → NotRounded s → 2 ≤ suc (leastOf s - 1)
-    least-two Rounded e = absurd e
-    least-two Square e = lit≤ tt
-    least-two Airfoil e = lit≤ tt
-    least-two AirfoilOpen e = lit≤ tt
-
-    w-above : Above 126 w
-    w-above =
-        let low = volume-reaches c section plain-section (p .root) (p .tip) (p .sweep) (p .span) S (p .thickness) (p .density) (m .radius)
-        (m .count) sizes pass in
-        above-by w (V0 c section plain-section (p .root) (p .tip) (p .sweep) (p .span) S (p .thickness) (p .density) (m .radius)
-        (m .count) sizes pass)
-        (mono top B unitV * mono bottom B []) (mono bottom B unitV * mono top B []) (suc (leastOf section - 1)) (c .volume-error * 2 ^ 30)
-        (low .0)
-        (volume-known c section plain-section (p .root) (p .tip) (p .sweep) (p .span) S (p .thickness) (p .density) (m .radius)
-        (m .count) sizes pass .is) (top-pos 32 B B-ranges unitV []) (ranges-by-units 32 B B-ranges unitV [] .least)
-        (enough (c .volume-error) (suc (leastOf section - 1)) (small .volumes) (least-two section plain-section)) (low .1)
-        (volume-near c section plain-section (p .root) (p .tip) (p .sweep) (p .span) S (p .thickness) (p .density) (m .radius)
-        (m .count) sizes pass .within)
-      where
-        enough : (K x : ℕ) → K ≤ 2 ^ 14 → 2 ≤ x → K * 2 ^ 30 + 2 ^ 53 ≤ x * 2 ^ 53
-        enough K x h k = omega arith
-
-    out-finite : T (finite (r1 v ⊘ volume v))
-    out-finite = subst (λ (z : Float). T (finite (r1 v ⊘ z))) (sym volume-is)
-        (div-below (r1 v) w 775 126 (lit≤ tt) radius-below w-above .finite)
-
-    abbrev naught· : ℕ → Float
-    naught· k = acrossAt (m .base) (m .count) (r1 v ⊘ w) k
-
-    naughts· : (k : ℕ) → k < m .count → AtMost 0 1 (naught· k)
-    naughts· k i =
-        subst (λ (z : Float). AtMost 0 1 (acrossAt (m .base) (m .count) (r1 v ⊘ z) k)) volume-is
-        (plate-naught v (p .density) (m .base) (m .count) (checks .base-angle) (counts .0) (counts .1) out-finite k i)
-
-    abbrev ring· : (x a t : Float) (M₀ T₀ : Number)
-        → RingPass c section w (neg u) (V0 c section plain-section (p .root) (p .tip) (p .sweep) (p .span) S (p .thickness) (p .density)
-        (m .radius) (m .count) sizes pass) (minus
-        (A0 c section plain-section (p .root) (p .tip) (p .sweep) (p .span) S (p .thickness) (p .density) (m .radius)
-        (m .count) sizes pass)) (p .density) x a t M₀ T₀
-    ring· x a t M₀ T₀ = rings section plain-section w (neg u)
-        (V0 c section plain-section (p .root) (p .tip) (p .sweep) (p .span) S (p .thickness) (p .density) (m .radius)
-        (m .count) sizes pass) (minus (A0 c section plain-section (p .root) (p .tip) (p .sweep) (p .span) S (p .thickness) (p .density)
-        (m .radius) (m .count) sizes pass)) (p .density) x a t M₀ T₀
-
-    abbrev moments· : Float
-    moments· = moments c section plain-section (p .root) (p .tip) (p .sweep) (p .span) S (p .thickness) (p .density) (m .radius)
-        (m .count) sizes pass naught· naughts· small ring·
-
-    abbrev masses· : Float
-    masses· = masses c section plain-section (p .root) (p .tip) (p .sweep) (p .span) S (p .thickness) (p .density) (m .radius)
-        (m .count) sizes pass naught· naughts· small ring·
-
-    centre-is : r .body .«centre_m» .z ≡ moments· ⊘ masses·
-    centre-is =
-        ap (λ (b : Body). b .«centre_m» .z) (set-body section p m points L (length start) r (g .answers .call .0) (g .given)
-        (g .no-fillet) no-cant)
-        ∙ centre-by v (p .density) (m .base) (m .count) w u volume-is moment-is
-        (masses-positive c section plain-section (p .root) (p .tip) (p .sweep) (p .span) S (p .thickness) (p .density) (m .radius)
-        (m .count) sizes pass naught· naughts· small ring·)
-
-    -- ---- in fractions
-    abbrev ρ : Number
-    ρ = valueOf (p .density)
-
-    abbrev x₀ : ℕ → Number
-    x₀ = numbersOf (E c section plain-section (p .root) (p .tip) (p .sweep) (p .span) S (p .thickness) (p .density) (m .radius)
-        (m .count) sizes pass)
-
-    df : IsFraction ρ (fractionOf (p .density))
-    df = value-fraction (p .density) (positive-finite (p .density) (heavy .0))
-
-    rf : IsFraction (valueOf (p .root)) (fractionOf (p .root))
-    rf = value-fraction (p .root) (positive-finite (p .root) (sizes .root-positive))
-
-    tf : IsFraction (valueOf (p .tip)) (fractionOf (p .tip))
-    tf = value-fraction (p .tip) (q .tip-most .finite)
-
-    abbrev R : Number
-    R = valueOf (p .root)
-
-    abbrev Tp : Number
-    Tp = valueOf (p .tip)
-
-    tkf : IsFraction (valueOf (p .thickness)) (fractionOf (p .thickness))
-    tkf = value-fraction (p .thickness) (positive-finite (p .thickness) (sizes .thickness-positive))
-
-    sf : IsFraction (valueOf (p .span)) (fractionOf (p .span))
-    sf = value-fraction (p .span) (positive-finite (p .span) (sizes .span-positive))
-
-    volume-fraction : IsFraction (V0 c section plain-section (p .root) (p .tip) (p .sweep) (p .span) S (p .thickness) (p .density)
-        (m .radius) (m .count) sizes pass) (product (filled section) (finVolume p))
-    volume-fraction =
-        let h = product (sum (fractionOf (p .root)) (fractionOf (p .tip))) (pos 1 over 2) in
-        times-fraction (evaluate x₀ (fractionE (filled section)))
-        (valueOf (p .thickness) times (valueOf (p .span) times ((R plus Tp) times number 1 0 2)))
-        (filled section) (finVolume p) (fill-fraction x₀ section plain-section)
-        (times-fraction (valueOf (p .thickness)) (valueOf (p .span) times ((R plus Tp) times number 1 0 2)) (fractionOf (p .thickness))
-        (product (fractionOf (p .span)) h) tkf
-        (times-fraction (valueOf (p .span)) ((R plus Tp) times number 1 0 2) (fractionOf (p .span)) h sf
-        (times-fraction (R plus Tp) (number 1 0 2) (sum (fractionOf (p .root)) (fractionOf (p .tip))) (pos 1 over 2)
-        (plus-fraction R Tp (fractionOf (p .root)) (fractionOf (p .tip)) rf tf) (whole-fraction 1 2))))
-
-    none-fraction : IsFraction zeroNumber (tabVolume (p .tab) (p .thickness))
-    none-fraction = subst (λ (t : Tab). IsFraction zeroNumber (tabVolume t (p .thickness))) (sym no-tab) (whole-fraction 0 1)
-
-    abbrev D· : Number
-    D· = D c section plain-section (p .root) (p .tip) (p .sweep) (p .span) S (p .thickness) (p .density) (m .radius)
-        (m .count) sizes pass naught· naughts· small ring·
-
-    mass-fraction : IsFraction D· (exactMassWith section p m)
-    mass-fraction =
-        let a = V0 c section plain-section (p .root) (p .tip) (p .sweep) (p .span) S (p .thickness) (p .density) (m .radius)
-        (m .count) sizes pass in
-        let both = sum (product (filled section) (finVolume p)) (tabVolume (p .tab) (p .thickness)) in
-        times-fraction (number (m .count) 0 1) (ρ times (a plus zeroNumber)) (pos (m .count) over 1)
-        (product (fractionOf (p .density)) both) (whole-fraction (m .count) 1)
-        (times-fraction ρ (a plus zeroNumber) (fractionOf (p .density)) both df
-        (plus-fraction a zeroNumber (product (filled section) (finVolume p))
-        (tabVolume (p .tab) (p .thickness)) volume-fraction none-fraction))
-
-    forward-fraction : (s : Section) → NotRounded s → IsFraction (evaluate x₀ (fractionE (forward s))) (forward s)
-    forward-fraction Rounded e = absurd e
-    forward-fraction Square e = fraction-number x₀ (forward Square) tt
-    forward-fraction Airfoil e = fraction-number x₀ (forward Airfoil) tt
-    forward-fraction AirfoilOpen e = fraction-number x₀ (forward AirfoilOpen) tt
-
-    moment-fraction : IsFraction (A0 c section plain-section (p .root) (p .tip) (p .sweep) (p .span) S (p .thickness) (p .density)
-        (m .radius) (m .count) sizes pass) (finMomentWith section p)
-    moment-fraction =
-        let Sw = valueOf (p .sweep) in
-        let fill = evaluate x₀ (fractionE (filled section)) in
-        let forw = evaluate x₀ (fractionE (forward section)) in
-        let swept = Sw times (R plus number 2 0 1 times Tp) in
-        let square = R times R plus R times Tp plus Tp times Tp in
-        let last′ = sum (fractionOf (p .root)) (product (pos 2 over 1) (fractionOf (p .tip))) in
-        let swept′ = product (fractionOf (p .sweep)) last′ in
-        let square′ = sum (sum (product (fractionOf (p .root)) (fractionOf (p .root)))
-        (product (fractionOf (p .root)) (fractionOf (p .tip)))) (product (fractionOf (p .tip)) (fractionOf (p .tip))) in
-        let a = product (product (filled section) swept′) (pos 1 over 6) in
-        let b = product (product (forward section) square′) (pos 1 over 3) in
-        times-fraction (valueOf (p .thickness)) (valueOf (p .span) times
-        (fill times swept times number 1 0 6 plus forw times square times number 1 0 3)) (fractionOf (p .thickness))
-        (product (fractionOf (p .span)) (sum a b)) tkf
-        (times-fraction (valueOf (p .span)) (fill times swept times number 1 0 6 plus forw times square times number 1 0 3)
-        (fractionOf (p .span)) (sum a b) sf
-        (plus-fraction (fill times swept times number 1 0 6) (forw times square times number 1 0 3) a b
-        (times-fraction (fill times swept) (number 1 0 6) (product (filled section) swept′) (pos 1 over 6)
-        (times-fraction fill swept (filled section) swept′ (fill-fraction x₀ section plain-section)
-        (times-fraction Sw (R plus number 2 0 1 times Tp) (fractionOf (p .sweep)) last′
-        (value-fraction (p .sweep) (q .sweep-most .finite))
-        (last-fraction (p .root) (p .tip) (positive-finite (p .root) (sizes .root-positive)) (q .tip-most .finite))))
-        (whole-fraction 1 6))
-        (times-fraction (forw times square) (number 1 0 3) (product (forward section) square′) (pos 1 over 3)
-        (times-fraction forw square (forward section) square′ (forward-fraction section plain-section)
-        (plus-fraction (R times R plus R times Tp) (Tp times Tp)
-        (sum (product (fractionOf (p .root)) (fractionOf (p .root))) (product (fractionOf (p .root)) (fractionOf (p .tip))))
-        (product (fractionOf (p .tip)) (fractionOf (p .tip)))
-        (plus-fraction (R times R) (R times Tp) (product (fractionOf (p .root)) (fractionOf (p .root)))
-        (product (fractionOf (p .root)) (fractionOf (p .tip)))
-        (times-fraction R R (fractionOf (p .root)) (fractionOf (p .root)) rf rf)
-        (times-fraction R Tp (fractionOf (p .root)) (fractionOf (p .tip)) rf tf))
-        (times-fraction Tp Tp (fractionOf (p .tip)) (fractionOf (p .tip)) tf tf))) (whole-fraction 1 3))))
-
-    abbrev Y : Number
-    Y = number (m .count) 0 1 times (ρ times A0 c section plain-section (p .root) (p .tip) (p .sweep) (p .span) S (p .thickness)
-        (p .density) (m .radius) (m .count) sizes pass)
-
-    Y-is : IsNumber Y
-    Y-is = times-is (number (m .count) 0 1) (ρ times A0 c section plain-section (p .root) (p .tip) (p .sweep) (p .span) S (p .thickness)
-        (p .density) (m .radius) (m .count) sizes pass) (pow-pos 0)
-        (times-is ρ (A0 c section plain-section (p .root) (p .tip) (p .sweep) (p .span) S (p .thickness) (p .density) (m .radius)
-        (m .count) sizes pass) (Counts.value-is (p .density))
-        (from-minus (A0 c section plain-section (p .root) (p .tip) (p .sweep) (p .span) S (p .thickness) (p .density) (m .radius)
-        (m .count) sizes pass) (behind-known c section plain-section (p .root) (p .tip) (p .sweep) (p .span) S (p .thickness) (p .density)
-        (m .radius) (m .count) sizes pass .is)))
-
-    plus-none : (a : Number) → NotBelow a → NotBelow (a plus zeroNumber)
-    plus-none (number i j k) h = go i j k h
-      where
-        go : (i j k : ℕ) → j ≤ i → j * 1 + 0 * k ≤ i * 1 + 0 * k
-        go i j k h = omega arith
-
-    D-from-zero : NotBelow D·
-    D-from-zero =
-        not-below-times (number (m .count) 0 1) (ρ times
-        (V0 c section plain-section (p .root) (p .tip) (p .sweep) (p .span) S (p .thickness) (p .density) (m .radius)
-        (m .count) sizes pass plus zeroNumber)) zero-le
-        (not-below-times ρ (V0 c section plain-section (p .root) (p .tip) (p .sweep) (p .span) S (p .thickness) (p .density) (m .radius)
-        (m .count) sizes pass plus zeroNumber) (positive-from (p .density) (heavy .0))
-        (plus-none (V0 c section plain-section (p .root) (p .tip) (p .sweep) (p .span) S (p .thickness) (p .density) (m .radius)
-        (m .count) sizes pass) (V0-from-zero c section plain-section (p .root) (p .tip) (p .sweep) (p .span) S (p .thickness) (p .density)
-        (m .radius) (m .count) sizes pass)))
-
-    D-is : IsNumber D·
-    D-is = times-is (number (m .count) 0 1) (ρ times
-        (V0 c section plain-section (p .root) (p .tip) (p .sweep) (p .span) S (p .thickness) (p .density) (m .radius)
-        (m .count) sizes pass plus zeroNumber)) (pow-pos 0)
-        (times-is ρ (V0 c section plain-section (p .root) (p .tip) (p .sweep) (p .span) S (p .thickness) (p .density) (m .radius)
-        (m .count) sizes pass plus zeroNumber) (Counts.value-is (p .density))
-        (plus-is (V0 c section plain-section (p .root) (p .tip) (p .sweep) (p .span) S (p .thickness) (p .density) (m .radius)
-        (m .count) sizes pass) zeroNumber (volume-known c section plain-section (p .root) (p .tip) (p .sweep) (p .span) S (p .thickness)
-        (p .density) (m .radius) (m .count) sizes pass .is) (pow-pos 0)))
-
-    abbrev W· : Number
-    W· = T0 c section plain-section (p .root) (p .tip) (p .sweep) (p .span) S (p .thickness) (p .density) (m .radius)
-        (m .count) sizes pass naught· naughts· small ring· times iM c section plain-section (p .root) (p .tip) (p .sweep) (p .span) S
-        (p .thickness) (p .density) (m .radius) (m .count) sizes pass naught· naughts· small ring·
-
-    pub set-balance : Apart (product (product (pos (c .balance) over 2 ^ 53) (fractionOf (p .root))) (exactMassWith section p m))
-        (product (fractionOf (r .body .«centre_m» .z)) (exactMassWith section p m)) (negatedFraction (exactMomentWith section p m))
-    set-balance =
-        subst (λ (z : Float). Apart (product (product (pos (c .balance) over 2 ^ 53) (fractionOf (p .root))) (exactMassWith section p m))
-        (product (fractionOf z) (exactMassWith section p m)) (negatedFraction (exactMomentWith section p m))) (sym centre-is)
-        (by-size (moments· ⊘ masses·) (p .root) (sizes .root-positive) W· D· (minus Y) (c .balance) (exactMassWith section p m)
-        (negatedFraction (exactMomentWith section p m))
-        (W-is c section plain-section (p .root) (p .tip) (p .sweep) (p .span) S (p .thickness) (p .density) (m .radius)
-        (m .count) sizes pass naught· naughts· small ring·) D-is (minus-number Y Y-is) D-from-zero mass-fraction
-        (minus-fraction Y (exactMomentWith section p m)
-        (times-fraction (number (m .count) 0 1) (ρ times A0 c section plain-section (p .root) (p .tip) (p .sweep) (p .span) S
-        (p .thickness) (p .density) (m .radius) (m .count) sizes pass) (pos (m .count) over 1)
-        (product (fractionOf (p .density)) (finMomentWith section p))
-        (whole-fraction (m .count) 1) (times-fraction ρ
-        (A0 c section plain-section (p .root) (p .tip) (p .sweep) (p .span) S (p .thickness) (p .density) (m .radius)
-        (m .count) sizes pass) (fractionOf (p .density)) (finMomentWith section p) df moment-fraction)))
-        (balance-near c section plain-section (p .root) (p .tip) (p .sweep) (p .span) S (p .thickness) (p .density) (m .radius)
-        (m .count) sizes pass naught· naughts· small ring·)
-        (subst (λ (z : Number). W· times D· equals z)
-        (ap (λ (z : Number). number (m .count) 0 1 times z)
-        (times-minus ρ (A0 c section plain-section (p .root) (p .tip) (p .sweep) (p .span) S (p .thickness) (p .density) (m .radius)
-        (m .count) sizes pass)) ∙ times-minus (number (m .count) 0 1)
-        (ρ times A0 c section plain-section (p .root) (p .tip) (p .sweep) (p .span) S (p .thickness) (p .density) (m .radius)
-        (m .count) sizes pass))
-        (exactly-moment c section plain-section (p .root) (p .tip) (p .sweep) (p .span) S (p .thickness) (p .density) (m .radius)
-        (m .count) sizes pass naught· naughts· small ring·)))
-
-pub ordinary-balance : OrdinaryBalance 1 4000 × OrdinaryBalance 4 18000
-ordinary-balance = (
-  set-balance oneChord (omega arith) (record { masses = lit≤ tt; terms = lit≤ tt; sizes = lit≤ tt; volumes = lit≤ tt }) one-fins
-      one-rings,
-  set-balance fourChords (omega arith) (record { masses = lit≤ tt; terms = lit≤ tt; sizes = lit≤ tt; volumes = lit≤ tt }) four-fins
-      four-rings,
-)
+tab-volume : (t : Tab) (thickness radius : Float) → tabIntegrals t thickness radius .volume ≡ tabVolume t thickness
+tab-volume None thickness radius = refl
+tab-volume (Slab x y z) thickness radius = refl
+
+tab-moment : (t : Tab) (thickness radius : Float) → tabIntegrals t thickness radius .x1 ≡ tabMoment t thickness
+tab-moment None thickness radius = refl
+tab-moment (Slab x y z) thickness radius = refl
+
+module _ (far : Bool) (section : Section) (p : Plate) (m : Mount) (points : List Float) (L : ℕ) (start : List Float) (r : Figures)
+    (exit : List Float) (plain-section : NotRounded section) (g : SectionGiven section p m points L start r exit)
+    (radius-f64 : T (fits binary64 (m .radius))) (no-cant : eq (m .cant) (bits 0) ≡ true)
+    (q : Proportions 1 (sweepsOf far) (p .root) (p .tip) (p .sweep)) (tab : TabGiven (p .tab) p) where
+  -- the distance from the axis counts for nothing here: 0 stands for it
+  abbrev F : Fin
+  F = Fins.finAt section p m points L start r exit plain-section g radius-f64 far q (bits 0)
+
+  abbrev S : Float
+  S = Fins.S section p m points L start r exit plain-section g radius-f64 far q
+
+  sized : Sized (Fins.planform section p m points L start r exit plain-section g radius-f64 far q) points
+  sized = Fins.sized section p m points L start r exit plain-section g radius-f64 far q
+
+  scaled : Scale S
+  scaled = Fins.scaled section p m points L start r exit plain-section g radius-f64 far q
+
+  thick : PositiveLength (p .thickness)
+  thick = Fins.thick section p m points L start r exit plain-section g radius-f64 far q
+
+  out : Height (m .radius)
+  out = Fins.out section p m points L start r exit plain-section g radius-f64 far q
+
+  checks : AcceptedSet (setWith section p m) points L (length start)
+  checks = Fins.checks section p m points L start r exit plain-section g radius-f64 far q
+
+  counts : (1 ≤ m .count) × (m .count ≤ 32)
+  counts = set-count (setWith section p m) points L (length start)
+      (Fins.figures section p m points L start r exit plain-section g radius-f64 far q .accepted)
+
+  zero-under : (b d : ℕ) → AtMost b d (bits 0)
+  unfolding ofBits
+  zero-under b d = record { finite = tt; size = le-trans (le-of-eq (zero-mul d)) zero-le }
+
+  reached : Fins.Reached p (bits 0) 64 1
+  reached = record {
+    is-size = pow-pos 0;
+    most = lit≤ tt;
+    root-most = sized .0 .length .below;
+    span-most = sized .1 .1 .0 .length .below;
+    radius-most = zero-under 64 1;
+    thickness-most = thick .length .below;
+  }
+
+  beside : TabBeside (p .tab) p (bits 0)
+  beside = go (p .tab) tab
+    where
+      go : (t : Tab) → TabGiven t p → TabBeside t p (bits 0)
+      go None h = tt
+      go (Slab x y z) h = (h, zero-under (num (p .span)) (den (p .span)))
+
+  sizes : Sizes F far 64 1
+  sizes = Fins.sizes section p m points L start r exit plain-section g radius-f64 far q (bits 0) 64 1 reached beside
+
+  total-is : (k : ℕ) → k < 7 → valueFrom (bits 0) k (setStrips (setWith section p m) points L)
+      ≡ totalAt (Fins.finAt section p m points L start r exit plain-section g radius-f64 far q (m .radius)) section k
+  total-is = Fins.total-is section p m points L start r exit plain-section g radius-f64 far q
+
+  abbrev v : List Float
+  v = Called.integrals section p m points L (length start) r (g .answers .call .0) (g .given) (g .no-fillet)
+
+  tab-at : (k : ℕ) → (k ≡ 0) ⊎ (k ≡ 3)
+      → at (tabIntegralsOf (p .tab) (p .thickness) (m .radius)) k ≡ at (tabIntegralsOf (p .tab) (p .thickness) (bits 0)) k
+  unfolding tabIntegralsOf
+  tab-at k e = go (p .tab) e
+    where
+      go : (t : Tab) → (k ≡ 0) ⊎ (k ≡ 3) → at (tabIntegralsOf t (p .thickness) (m .radius)) k ≡ at (tabIntegralsOf t (p .thickness) (bits 0)) k
+      go None e = refl
+      go (Slab x y z) (inl e) = rw e
+      go (Slab x y z) (inr e) = rw e
+
+  volume-is : volume v ≡ integralAt F 0
+  volume-is = ap (λ (z : Float). z ⊗ cube S ⊕ at (tabIntegralsOf (p .tab) (p .thickness) (m .radius)) 0) (total-is 0 (lit≤ tt))
+      ∙ ap (λ (z : Float). totalAt F section 0 ⊗ cube S ⊕ z) (tab-at 0 (inl refl))
+
+  moment-is : x1 v ≡ integralAt F 3
+  moment-is = ap (λ (z : Float). z ⊗ fourth S ⊕ at (tabIntegralsOf (p .tab) (p .thickness) (m .radius)) 3) (total-is 3 (lit≤ tt))
+      ∙ ap (λ (z : Float). totalAt F section 3 ⊗ fourth S ⊕ z) (tab-at 3 (inr refl))
+
+  -- ---- how far out the fin's centre is: no more than f64 holds
+  abbrev f : Float → List Float
+  f = Fins.f section p m points L start r exit plain-section g radius-f64 far q
+
+  abbrev low : Float
+  low = bits 0 ⊘ S
+
+  abbrev high : Float
+  high = p .span ⊘ S
+
+  over-scale : (s : Float) → Below 6 s → Below 26 (s ⊘ S)
+  over-scale s h = div-below s S 6 20 (lit≤ tt) h (scaled .above)
+
+  samples-below : (h : Float) → Below 28 h → Each (Below 700) (f h)
+  unfolding plateOf
+  samples-below h b =
+      sample-below (plateIntegrand (Trapezoid (p .root) (p .tip) (p .span) (p .sweep)) points section (p .thickness) (m .radius)) points h
+      sized scaled (over-scale (p .thickness) (thick .length .below), over-scale (m .radius) (out .length .below)) b
+
+  samples-wide : (h : Float) → 7 ≤ length (f h)
+  unfolding plateOf sampleOf
+  samples-wide h = lit≤ tt
+
+  radius-below : Below 775 (r1 v)
+  radius-below =
+      let strips = setStrips (setWith section p m) points L in
+      let none : Below 0 (bits 0) = zero-below in
+      let value = value-below 7 f samples-below samples-wide low high (over-scale (bits 0) (weaker (bits 0) 0 6 (lit≤ tt) none))
+      (over-scale (p .span) (sized .1 .1 .0 .length .below)) 1 (lit≤ tt) in
+      let once = add-below (bits 0) _ 743 (lit≤ tt) (weaker (bits 0) 0 743 (lit≤ tt) none) value in
+      let twice : Below 745 (valueFrom (bits 0) 1 strips) =
+      subst (Below 745) (sym (Fins.sum-is section p m points L start r exit plain-section g radius-f64 far q 1 (lit≤ tt)))
+      (add-below (bits 0) _ 744 (lit≤ tt) (weaker (bits 0) 0 744 (lit≤ tt) none) once) in
+      let square = mul-below S S 7 7 (lit≤ tt) (scaled .below) (scaled .below) in
+      let slab = at (tabIntegralsOf (p .tab) (p .thickness) (m .radius)) 1 in
+      add-below (valueFrom (bits 0) 1 strips ⊗ fourth S) slab 774 (lit≤ tt)
+      (weaker (valueFrom (bits 0) 1 strips ⊗ fourth S) 773 774 (lit≤ tt)
+      (mul-below _ (fourth S) 745 28 (lit≤ tt) twice (mul-below (S ⊗ S) (S ⊗ S) 14 14 (lit≤ tt) square square)))
+      (weaker slab 27 774 (lit≤ tt) (tab-radius-below (p .thickness) (m .radius) (p .tab) p (thick .length .below) (out .length .below) tab
+      (Fins.tab-accepted section p m points L start r exit plain-section g radius-f64 far q)))
+
+  abbrev B₆ : List Size
+  B₆ = bases F far 64 1 sizes
+
+  w-above : Above 126 (integralAt F 0)
+  w-above =
+      let z = seven-known F far 64 1 sizes 0 (lit≤ tt) tt in
+      let low = volume-lowest F far 64 1 sizes in
+      above-by (integralAt F 0) (exactly F 0) (mono top B₆ (unitOf 0) * mono bottom B₆ []) (mono bottom B₆ (unitOf 0) * mono top B₆ [])
+      (leastParts (isFoil section)) (errorIn (shapeAt far (isFoil section) (p .tab) 0)) (low .0) (z .is) (top-pos 32 B₆ (sizes .ranges) (unitOf 0) [])
+      (ranges-by-units 32 B₆ (sizes .ranges) (unitOf 0) [] .least) (enough far (isFoil section) (p .tab)) (low .1) (z .near .within)
+    where
+      enough : (far foil : Bool) (tab : Tab) → errorIn (shapeAt far foil tab 0) + 2 ^ 53 ≤ leastParts foil * 2 ^ 53
+      enough = each-class (λ far foil tab. errorIn (shapeAt far foil tab 0) + 2 ^ 53 ≤ leastParts foil * 2 ^ 53) (lit≤ tt) (lit≤ tt)
+          (lit≤ tt) (lit≤ tt) (λ x y z. lit≤ tt) (λ x y z. lit≤ tt) (λ x y z. lit≤ tt) (λ x y z. lit≤ tt)
+
+  out-finite : T (finite (r1 v ⊘ volume v))
+  out-finite = subst (λ (z : Float). T (finite (r1 v ⊘ z))) (sym volume-is)
+      (div-below (r1 v) (integralAt F 0) 775 126 (lit≤ tt) radius-below w-above .finite)
+
+  abbrev naught : ℕ → Float
+  naught k = acrossAt (m .base) (m .count) (r1 v ⊘ integralAt F 0) k
+
+  naughts : (k : ℕ) → k < m .count → AtMost 0 1 (naught k)
+  naughts k i =
+      subst (λ (z : Float). AtMost 0 1 (acrossAt (m .base) (m .count) (r1 v ⊘ z) k)) volume-is
+      (plate-naught v (p .density) (m .base) (m .count) (checks .base-angle) (counts .0) (counts .1) out-finite k i)
+
+  abbrev balance : Float
+  balance = momentSum F far 64 1 sizes (m .count) (counts .0) (counts .1) naught naughts
+      ⊘ massSum F far 64 1 sizes (m .count) (counts .0) (counts .1) naught naughts
+
+  centre-is : r .body .«centre_m» .z ≡ balance
+  centre-is =
+      ap (λ (b : Body). b .«centre_m» .z) (set-body section p m points L (length start) r (g .answers .call .0) (g .given) (g .no-fillet) no-cant)
+      ∙ centre-by v (p .density) (m .base) (m .count) (integralAt F 0) (integralAt F 3) volume-is moment-is
+      (masses-positive F far 64 1 sizes (m .count) (counts .0) (counts .1) naught naughts)
+
+  -- ---- in fractions
+  abbrev ρ : Number
+  ρ = valueOf (p .density)
+
+  abbrev exact : Integrals
+  exact = Fins.exactAt section p (bits 0)
+
+  field-is : (i : ℕ) → i < 7 → IsFraction (exactly F i) (Fins.fieldOf exact i)
+  field-is = Fins.field-is section p m points L start r exit plain-section g radius-f64 far q (bits 0) 64 1 reached beside
+
+  -- count times density times a number
+  all-fins : (x : Number) (y : Fraction) → IsFraction x y
+      → IsFraction (number (m .count) 0 1 times (ρ times x)) (product (pos (m .count) over 1) (product (fractionOf (p .density)) y))
+  all-fins x y h =
+      times-fraction (number (m .count) 0 1) (ρ times x) (pos (m .count) over 1) (product (fractionOf (p .density)) y)
+      (whole-fraction (m .count) 1)
+      (times-fraction ρ x (fractionOf (p .density)) y (Fins.density-fraction section p m points L start r exit plain-section g radius-f64 far q) h)
+
+  mass-fraction : IsFraction (number (m .count) 0 1 times (ρ times exactly F 0)) (exactMassWith section p m)
+  mass-fraction = all-fins (exactly F 0) (sum (product (filled section) (finVolume p)) (tabVolume (p .tab) (p .thickness)))
+      (subst (λ (x : Fraction). IsFraction (exactly F 0) (sum (product (filled section) (finVolume p)) x))
+      (tab-volume (p .tab) (p .thickness) (bits 0)) (field-is 0 (lit≤ tt)))
+
+  moment-fraction : IsFraction (number (m .count) 0 1 times (ρ times exactly F 3)) (exactMoment section p m)
+  moment-fraction = all-fins (exactly F 3) (sum (finMoment section p) (tabMoment (p .tab) (p .thickness)))
+      (subst (λ (x : Fraction). IsFraction (exactly F 3) (sum (finMoment section p) x)) (tab-moment (p .tab) (p .thickness) (bits 0))
+      (field-is 3 (lit≤ tt)))
+
+  abbrev D : Number
+  D = number (m .count) 0 1 times (ρ times exactly F 0)
+
+  abbrev Y : Number
+  Y = number (m .count) 0 1 times (ρ times exactly F 3)
+
+  is-all : (x : Number) → IsNumber x → IsNumber (number (m .count) 0 1 times (ρ times x))
+  is-all x i = times-is (number (m .count) 0 1) (ρ times x) (pow-pos 0) (times-is ρ x (Counts.value-is (p .density)) i)
+
+  D-from-zero : NotBelow D
+  D-from-zero =
+      not-below-times (number (m .count) 0 1) (ρ times exactly F 0) zero-le
+      (not-below-times ρ (exactly F 0) (positive-from (p .density) (sizes .density-positive)) (volume-from-zero F far 64 1 sizes))
+
+  pub set-balance : Apart (product (product (pos (balanceError far (p .tab)) over 2 ^ 53) (fractionOf (p .root))) (exactMassWith section p m))
+      (product (fractionOf (r .body .«centre_m» .z)) (exactMassWith section p m)) (negatedFraction (exactMoment section p m))
+  set-balance =
+      let W = T₀ F far 64 1 sizes (m .count) (counts .0) (counts .1) naught naughts times ιM F far 64 1 sizes (m .count)
+      (counts .0) (counts .1) naught naughts in
+      subst (λ (z : Float). Apart (product (product (pos (balanceError far (p .tab)) over 2 ^ 53) (fractionOf (p .root))) (exactMassWith section p m))
+      (product (fractionOf z) (exactMassWith section p m)) (negatedFraction (exactMoment section p m))) (sym centre-is)
+      (by-size balance (p .root) (sizes .root-positive) W D (minus Y) (balanceError far (p .tab)) (exactMassWith section p m)
+      (negatedFraction (exactMoment section p m))
+      (W-is F far 64 1 sizes (m .count) (counts .0) (counts .1) naught naughts) (is-all (exactly F 0) (is-exactly F far 64 1 sizes 0))
+      (minus-number Y (is-all (exactly F 3) (is-exactly F far 64 1 sizes 3))) D-from-zero mass-fraction
+      (minus-fraction Y (exactMoment section p m) moment-fraction)
+      (balance-near F far 64 1 sizes (m .count) (counts .0) (counts .1) naught naughts)
+      (subst (λ (z : Number). W times D equals z)
+      (ap (λ (z : Number). number (m .count) 0 1 times z) (times-minus ρ (exactly F 3)) ∙ times-minus (number (m .count) 0 1) (ρ times exactly F 3))
+      (exactly-moment F far 64 1 sizes (m .count) (counts .0) (counts .1) naught naughts)))
+
+pub ordinary-balance : OrdinaryBalance 1 2100 11000 × OrdinaryBalance 4 8100 26000
+ordinary-balance = (set-balance false, set-balance true)

@@ -2,18 +2,18 @@
 -- section, with a tab or none: near
 -- the exact ones by computed bounds, from the seven integrals of proofs/SevenIntegrals. Assumes nothing.
 use mathlib.Core.Path.{_≡_, refl, sym, ap, _∙_, subst}
-use mathlib.Core.Bool.{Bool, true, false, true≢false}
+use mathlib.Core.Bool.{Bool, true, false, true≢false, _&&_}
 use mathlib.Core.List.{List, [], _∷_}
-use Prim.Native.Nat.{ℕ, zero, suc, _+_, _-_, _*_, _^_, _≤_, _<_}
-use native.Mathlib.Nat.{le-refl, le-trans, mul-pos, mul-le-mul-right}
+use Prim.Native.Nat.{ℕ, zero, suc, _+_, _*_, _^_, _≤_, _<_}
+use native.Mathlib.Nat.{le-refl, mul-pos, le-of-suc-le-suc, not-suc-le-zero}
 use native.Mathlib.Nat.{one-mul, mul-one, zero-mul, mul-zero, zero-add, add-zero, pow-zero, pow-suc}
 use native.Mathlib.Omega.{arith}
 use lib.Dec.{T, lit≤}
-use lib.ListN.{length}
+use lib.ListN.{length, getD}
 use lib.Pow.{pow-pos}
 use lib.IntN.{pos}
 use lib.Ieee.{Float, nan, inf, fin, binary64, fits, neg, up, down, add, sum as sumOfParts, round, ofBits}
-use lib.Ieee.Fits.{down-pos, mul-fits}
+use lib.Ieee.Fits.{and-l, and-r, down-pos, mul-fits}
 use lib.Ieee.Scale.{finite}
 use lib.Ieee.Positive.{num, den, den-pos, positive, positive-finite}
 use Rattle.floats.specs.Operations.{_⊕_, _⊗_, _⊘_, bits}
@@ -21,21 +21,20 @@ use Rattle.floats.specs.Constants.{one, half}
 use Rattle.floats.proofs.Exact.{Plus, product-plus, round-value}
 use Rattle.rounding.specs.Sizes.{AtMost}
 use Rattle.rounding.proofs.Signs.{neg-finite}
-use Rattle.floats.specs.Fractions.{Fraction, _over_, _plus_ as sum, _times_ as product, valueOf as fractionOf}
+use Rattle.floats.specs.Fractions.{Fraction, _over_, _times_ as product, valueOf as fractionOf}
 use Rattle.rounding_error.specs.Distances.{Within as Apart}
 use Rattle.rounding_error.proofs.Numbers.{Number, number, Size, _per_, _of_, _roundoffs_, _upto_, minus, _less_, _times_}
 use Rattle.rounding_error.proofs.Numbers.{IsNumber}
-use Rattle.rounding_error.proofs.Numbers.{Within, Under, Near, Ranges, valueOf, zeroNumber, sizeOf}
+use Rattle.rounding_error.proofs.Numbers.{Within, Near, valueOf, zeroNumber}
 use Rattle.rounding_error.proofs.Distances.{sorted, within-minus}
 use Rattle.rounding_error.proofs.Counts as Counts
 use Rattle.rounding_error.proofs.Chains.{Valued, equalled}
-use Rattle.rounding_error.proofs.Fractions.{IsFraction, value-fraction, whole-fraction}
+use Rattle.rounding_error.proofs.Fractions.{IsFraction, whole-fraction}
 use Rattle.rounding_error.proofs.Polynomials.{_equals_, trans, itself, times-is, less-is, equal-by, AllNumbers, evaluated-is}
 use Rattle.rounding_error.proofs.Polynomials.{evaluated-equal, among}
 use Rattle.rounding_error.proofs.Polynomials.{Expression, given, ratio, _add_, _take_, _mul_, evaluate, evaluate-is, normal, vanishes}
 use Rattle.rounding_error.proofs.Polynomials.{AllEqual}
 use Rattle.sections.specs.declared.Section.{Section}
-use Rattle.sections.specs.declared.Section.the-variants.{Square, Rounded, Airfoil, AirfoilOpen}
 use Rattle.bodies.specs.declared.Body.{Body}
 use Rattle.bodies.specs.declared.Vector.{Vector}
 use Rattle.bodies.specs.declared.Tensor.{Tensor}
@@ -49,56 +48,30 @@ use Rattle.fins.specs.declared.Tab.{Tab}
 use Rattle.fins.specs.declared.Tab.the-variants.{None, Slab}
 use Rattle.error_terms.proofs.Laws.{inverseOf}
 use Rattle.error_terms.proofs.Monomials.{place, mono, top, bottom}
-use Rattle.error_terms.proofs.Terms.{Shape, shape, productShape, Given, entry, larger, Term, var, const, nought, value, Known, Lowest}
-use Rattle.error_terms.proofs.Terms.{AllKnown, ok, sound}
-use Rattle.error_terms.proofs.Terms.{numbersOf, unitBy, unit-real, numbers-are, _take_ as _takeT_, _mul_ as _mulT_, _over_ as _overT_}
-use Rattle.error_terms.proofs.Judged.{nearer}
+use Rattle.error_terms.proofs.Terms.{shape, Given, entry, larger, var, const, nought, value}
+use Rattle.error_terms.proofs.Terms.{AllKnown}
+use Rattle.error_terms.proofs.Terms.{numbersOf, unitBy, unit-real, numbers-are, _take_ as _takeT_, _over_ as _overT_}
+use Rattle.error_terms.proofs.Judged.{Judged, nearer}
 use Rattle.error_terms.proofs.Shared.{Shared, local, whole, _⊞_, _⊟_, _⊠_, _⊡_, tightly, raisedBy, judgeIn, judgeAll, bindAll, expand}
 use Rattle.error_terms.proofs.Shared.{all-within}
-use Rattle.error_terms.proofs.Stages.{lowTest, target-lowest}
-use Rattle.error_terms.proofs.Entries.{full, own-entry}
-use Rattle.error_terms.proofs.Floors.{NotBelow, not-below}
-use Rattle.one_piece.proofs.AreaPiece.{positive-from}
-use Rattle.one_piece.specs.OnePiece.{NotRounded, tipsOf, Proportions}
-use Rattle.one_piece.proofs.PlateFits.{plate-sums}
-use Rattle.one_piece.proofs.Answers.{plate-fin, plate-strips}
-use Rattle.quadrature.specs.Rule.{halfWidth, kronrodWeight}
-use Rattle.tolerance.specs.Bounds.{totalOf}
-use Rattle.strips.specs.Strips.{valueFrom}
-use Rattle.figures.specs.Figures.{setStrips}
+use Rattle.error_terms.proofs.Entries.{full}
+use Rattle.one_piece.specs.OnePiece.{NotRounded, Proportions}
 use Rattle.figures.specs.declared.Figures.{Figures}
-use Rattle.refusals.specs.declared.Verdict.the-variants.{Accepted}
-use Rattle.limits.specs.Limits.{thicknessField, bodyRadiusField}
-use Rattle.limits.proofs.Lengths.{PositiveLength, Height, field-above, height-checked}
-use Rattle.planforms.specs.declared.Planform.{Planform}
-use Rattle.planforms.specs.declared.Planform.the-variants.{Trapezoid}
-use Rattle.planforms.specs.Planforms.{rootChordOf}
-use Rattle.planforms.proofs.Sized.{Sized}
-use Rattle.integrands.specs.Integrands.{scaleOf, plateOf}
-use Rattle.integrands.proofs.Scales.{Scale, scale-sized}
-use Rattle.fins.specs.declared.FinSet.{FinSet}
-use Rattle.fins.specs.Fins.{tabCheck}
-use Rattle.fins.proofs.Accepted.{AcceptedSet, set-accepted}
-use Rattle.fins.proofs.Sized.{planform-sized}
-use Rattle.rounding.proofs.Sizes.{positive-of}
-use Rattle.accuracy.specs.Masses.{Plate, Mount, setWith, SectionGiven}
-use Rattle.accuracy.specs.Inertias.{Integrals, finIntegrals, tabIntegrals, together, exactIntegrals, Alone, TabBeside, TensorNear}
+use Rattle.accuracy.specs.Masses.{Plate, Mount, SectionGiven}
+use Rattle.accuracy.specs.Inertias.{Integrals, exactIntegrals, Alone, TabBeside, TensorNear}
 use Rattle.accuracy.specs.Inertias.{OffAxisNear, FinNear}
 use Rattle.accuracy.specs.Inertias.{tensorError, outwardError, OrdinaryInertia}
-use Rattle.accuracy.proofs.Limits.{ranges-of, least-of, most-under}
-use Rattle.accuracy.proofs.WholePieces.{value-is, wider}
-use Rattle.accuracy.proofs.MassNear.{density-checked}
-use Rattle.accuracy.proofs.BalanceNear.{tab-lengths}
+use Rattle.accuracy.proofs.WholePieces.{value-is}
 use Rattle.accuracy.proofs.SetCalled as Called
-use Rattle.accuracy.proofs.SetCalled.{set-given, set-body}
-use Rattle.accuracy.proofs.SevenIntegrals.{Fin, Sizes, unitOf, isFoil, shapeAt, leastParts, lessParts, errorIn, bases, seven-known}
-use Rattle.accuracy.proofs.SevenIntegrals.{volume-lowest}
-use Rattle.accuracy.proofs.SevenIntegrals.{integralAt}
-use Rattle.accuracy.proofs.SevenIntegrals.{exactly, exactE, numbersIn, numbers-all, tabNumbers, finIn, tabE, totalAt, TabKnown}
+use Rattle.accuracy.proofs.SetCalled.{set-body}
+use Rattle.accuracy.proofs.SevenIntegrals.{Fin, Sizes, unitOf, isFoil, shapeAt, massShape, leastParts, bases, seven-known, volume-lowest}
+use Rattle.accuracy.proofs.SevenIntegrals.{integralAt, exactly, is-exactly, density-own, masses-known, massOf, mass-known, mass-lowest}
+use Rattle.accuracy.proofs.SevenIntegrals.{volume-from-zero}
+use Rattle.accuracy.proofs.FinCalled as Fins
 use Rattle.accuracy.proofs.OrdinaryCentroid.{inverse-pair}
 use Rattle.accuracy.proofs.Turned.{zero-most, none-times, times-none, none-plus, none-less, none-over, heavy-centre}
 use Rattle.accuracy.proofs.NoRoll.{identity, only-copy}
-use Rattle.accuracy.proofs.CentroidNear.{positive-fraction, product-fraction, tip-checked, not-below as from-zero}
+use Rattle.accuracy.proofs.CentroidNear.{positive-fraction, product-fraction}
 use Rattle.rounding_error.proofs.Operations.{neg-value}
 use Rattle.accuracy.proofs.OrdinaryMass.{first-power}
 use Rattle.accuracy.proofs.ToFractions.{to-fractions, fractionIn, amongFractions, AreFractions, expression-fraction}
@@ -106,23 +79,17 @@ use Rattle.accuracy.proofs.ToFractions.{to-fractions, fractionIn, among
 ruleset plain = (sorted, one-mul, mul-one, zero-mul, mul-zero, zero-add, add-zero)
 
 -- ---- V, r1, r2, −x1, x2, rx, tau2, density and mass, in the units of proofs/SevenIntegrals
-abbrev massUnit : List ℕ
-massUnit = 1 ∷ 1 ∷ 0 ∷ 1 ∷ 0 ∷ 1 ∷ []
-
-abbrev massShape : Bool → Tab → Shape
-massShape foil tab = productShape (shape 0 full (place 5) []) (shapeAt foil tab 0)
-
 abbrev bodyList : Bool → Tab → (ℕ → Float) → (ℕ → Number) → (density : Float) → List Given
 bodyList foil tab v n density =
-    entry (v 0) (n 0) (shapeAt foil tab 0) (leastParts foil) ∷
-    entry (v 1) (n 1) (shapeAt foil tab 1) 0 ∷
-    entry (v 2) (n 2) (shapeAt foil tab 2) 0 ∷
-    entry (neg (v 3)) (zeroNumber less n 3) (shapeAt foil tab 3) 0 ∷
-    entry (v 4) (n 4) (shapeAt foil tab 4) 0 ∷
-    entry (v 5) (n 5) (shapeAt foil tab 5) 0 ∷
-    entry (v 6) (n 6) (shapeAt foil tab 6) 0 ∷
+    entry (v 0) (n 0) (shapeAt true foil tab 0) (leastParts foil) ∷
+    entry (v 1) (n 1) (shapeAt true foil tab 1) 0 ∷
+    entry (v 2) (n 2) (shapeAt true foil tab 2) 0 ∷
+    entry (neg (v 3)) (zeroNumber less n 3) (shapeAt true foil tab 3) 0 ∷
+    entry (v 4) (n 4) (shapeAt true foil tab 4) 0 ∷
+    entry (v 5) (n 5) (shapeAt true foil tab 5) 0 ∷
+    entry (v 6) (n 6) (shapeAt true foil tab 6) 0 ∷
     entry density (valueOf density) (shape 0 full (place 5) []) full ∷
-    entry (density ⊗ v 0) (valueOf density times n 0) (massShape foil tab) (leastParts foil) ∷
+    entry (density ⊗ v 0) (valueOf density times n 0) (massShape true foil tab) (leastParts foil) ∷
     larger 0 4 ∷
     larger 3 4 ∷
     []
@@ -240,163 +207,71 @@ rowS i zero = pick i (local 5) (local 2) (local 1)
 rowS i (suc zero) = pick i (local 2) (local 4) (local 0)
 rowS i (suc (suc j)) = pick i (local 1) (local 0) (local 3)
 
-module _ (foil : Bool) (tab : Tab) (v : ℕ → Float) (n : ℕ → Number) (density : Float) where
-  abbrev pub G : List Given
-  G = bodyList foil tab v n density
+abbrev outE : Expression
+outE = given 2 mul given 1
 
-  abbrev pub Passes : Shared → Expression → ℕ → List ℕ → Type 0
-  Passes s e K p = T (nearer G e (K * 2 ^ 30) p [] (judgeIn G (judgeAll G [] parts) s))
+abbrev backE : Expression
+backE = given 6 mul given 1
 
-  -- the numbers, and what is finite beside them
-  pub record BodyPass : Type 0 where
-    pub x : Passes (joinedS 0) (given 2 mul given 1) (outwardError tab) (place 4)
-    pub xx : Passes (tensorS 0) (tensorE 0) (tensorError tab) tensorUnit
-    pub yy : Passes (tensorS 1) (tensorE 1) (tensorError tab) tensorUnit
-    pub zz : Passes (tensorS 2) (tensorE 2) (tensorError tab) tensorUnit
-    pub xz : Passes (tensorS 4) (tensorE 4) (tensorError tab) tensorUnit
-    pub centre-x : Passes centreX (given 2 mul given 1) (2 ^ 20) (place 4)
-    pub centre-z : Passes centreZ (given 6 mul given 1) (2 ^ 20) (place 4)
-    pub rest-x : Passes (restS 0) (ratio 0 0) (2 ^ 21) (place 4)
-    pub rest-z : Passes (restS 2) (ratio 0 0) (2 ^ 21) (place 4)
-    pub row-xx : Passes (rowS 0 0) (tensorE 0) (2 ^ 23) tensorUnit
-    pub row-xz : Passes (rowS 0 2) (tensorE 4) (2 ^ 23) tensorUnit
-    pub row-yy : Passes (rowS 1 1) (tensorE 1) (2 ^ 23) tensorUnit
-    pub row-zx : Passes (rowS 2 0) (tensorE 4) (2 ^ 23) tensorUnit
-    pub row-zz : Passes (rowS 2 2) (tensorE 2) (2 ^ 23) tensorUnit
-    pub from-x : Passes (centreX ⊟ noneV) (given 2 mul given 1) (2 ^ 20) (place 4)
-    pub from-z : Passes (centreZ ⊟ noneV) (given 6 mul given 1) (2 ^ 20) (place 4)
-    pub own-xx : Passes (local 5) (tensorE 0) (2 ^ 23) tensorUnit
-    pub own-yy : Passes (local 4) (tensorE 1) (2 ^ 23) tensorUnit
-    pub own-zz : Passes (local 3) (tensorE 2) (2 ^ 23) tensorUnit
-    pub own-xz : Passes (local 1) (tensorE 4) (2 ^ 23) tensorUnit
+-- what is tested: a term, what it is exactly, how near it is, in roundoffs, and the unit. First the numbers that are asked for; behind
+-- them what has to be finite beside them.
+pub data Test : Type 0 where
+  test : Shared → Expression → ℕ → List ℕ → Test
+
+abbrev tests : Tab → List Test
+tests tab =
+    test (joinedS 0) outE (outwardError tab) (place 4) ∷
+    test (tensorS 0) (tensorE 0) (tensorError tab) tensorUnit ∷
+    test (tensorS 1) (tensorE 1) (tensorError tab) tensorUnit ∷
+    test (tensorS 2) (tensorE 2) (tensorError tab) tensorUnit ∷
+    test (tensorS 4) (tensorE 3) (tensorError tab) tensorUnit ∷
+    test centreX outE (2 ^ 20) (place 4) ∷
+    test centreZ backE (2 ^ 20) (place 4) ∷
+    test (restS 0) (ratio 0 0) (2 ^ 21) (place 4) ∷
+    test (restS 2) (ratio 0 0) (2 ^ 21) (place 4) ∷
+    test (centreX ⊟ noneV) outE (2 ^ 20) (place 4) ∷
+    test (centreZ ⊟ noneV) backE (2 ^ 20) (place 4) ∷
+    test (rowS 0 0) (tensorE 0) (2 ^ 23) tensorUnit ∷
+    test (rowS 0 2) (tensorE 3) (2 ^ 23) tensorUnit ∷
+    test (rowS 1 1) (tensorE 1) (2 ^ 23) tensorUnit ∷
+    test (rowS 2 0) (tensorE 3) (2 ^ 23) tensorUnit ∷
+    test (rowS 2 2) (tensorE 2) (2 ^ 23) tensorUnit ∷
+    test (local 5) (tensorE 0) (2 ^ 23) tensorUnit ∷
+    test (local 4) (tensorE 1) (2 ^ 23) tensorUnit ∷
+    test (local 3) (tensorE 2) (2 ^ 23) tensorUnit ∷
+    test (local 1) (tensorE 3) (2 ^ 23) tensorUnit ∷
+    []
+
+abbrev passes : List Given → List Judged → List Test → Bool
+passes G M [] = true
+passes G M (test s e K p ∷ l) = nearer G e (K * 2 ^ 30) p [] (judgeIn G M s) && passes G M l
 
 module _ (v : ℕ → Float) (n : ℕ → Number) (density : Float) where
-  square : BodyPass false None v n density
+  abbrev Passes : Bool → Tab → Type 0
+  Passes foil tab =
+      T (passes (bodyList foil tab v n density) (judgeAll (bodyList foil tab v n density) [] parts) (tests tab))
+
+  square : Passes false None
   unfolding round ofBits
-  square = record {
-    x = tt;
-    xx = tt;
-    yy = tt;
-    zz = tt;
-    xz = tt;
-    centre-x = tt;
-    centre-z = tt;
-    rest-x = tt;
-    rest-z = tt;
-    row-xx = tt;
-    row-xz = tt;
-    row-yy = tt;
-    row-zx = tt;
-    row-zz = tt;
-    from-x = tt;
-    from-z = tt;
-    own-xx = tt;
-    own-yy = tt;
-    own-zz = tt;
-    own-xz = tt;
-  }
+  square = tt
 
-  square-tab : (height length offset : Float) → BodyPass false (Slab height length offset) v n density
+  square-tab : (height length offset : Float) → Passes false (Slab height length offset)
   unfolding round ofBits
-  square-tab height length offset = record {
-    x = tt;
-    xx = tt;
-    yy = tt;
-    zz = tt;
-    xz = tt;
-    centre-x = tt;
-    centre-z = tt;
-    rest-x = tt;
-    rest-z = tt;
-    row-xx = tt;
-    row-xz = tt;
-    row-yy = tt;
-    row-zx = tt;
-    row-zz = tt;
-    from-x = tt;
-    from-z = tt;
-    own-xx = tt;
-    own-yy = tt;
-    own-zz = tt;
-    own-xz = tt;
-  }
+  square-tab height length offset = tt
 
-  foil-alone : BodyPass true None v n density
+  foil-alone : Passes true None
   unfolding round ofBits
-  foil-alone = record {
-    x = tt;
-    xx = tt;
-    yy = tt;
-    zz = tt;
-    xz = tt;
-    centre-x = tt;
-    centre-z = tt;
-    rest-x = tt;
-    rest-z = tt;
-    row-xx = tt;
-    row-xz = tt;
-    row-yy = tt;
-    row-zx = tt;
-    row-zz = tt;
-    from-x = tt;
-    from-z = tt;
-    own-xx = tt;
-    own-yy = tt;
-    own-zz = tt;
-    own-xz = tt;
-  }
+  foil-alone = tt
 
-  foil-tab : (height length offset : Float) → BodyPass true (Slab height length offset) v n density
+  foil-tab : (height length offset : Float) → Passes true (Slab height length offset)
   unfolding round ofBits
-  foil-tab height length offset = record {
-    x = tt;
-    xx = tt;
-    yy = tt;
-    zz = tt;
-    xz = tt;
-    centre-x = tt;
-    centre-z = tt;
-    rest-x = tt;
-    rest-z = tt;
-    row-xx = tt;
-    row-xz = tt;
-    row-yy = tt;
-    row-zx = tt;
-    row-zz = tt;
-    from-x = tt;
-    from-z = tt;
-    own-xx = tt;
-    own-yy = tt;
-    own-zz = tt;
-    own-xz = tt;
-  }
+  foil-tab height length offset = tt
 
-  body-pass : (foil : Bool) (tab : Tab) → BodyPass foil tab v n density
-  body-pass false None = square
-  body-pass false (Slab height length offset) = square-tab height length offset
-  body-pass true None = foil-alone
-  body-pass true (Slab height length offset) = foil-tab height length offset
-
--- the mass: density times volume
-abbrev massList : Bool → Tab → (ℕ → Float) → (ℕ → Number) → (density : Float) → List Given
-massList foil tab v n density =
-    entry (v 0) (n 0) (shapeAt foil tab 0) (leastParts foil) ∷ entry density (valueOf density) (shape 0 full (place 5) []) full ∷ []
-
-abbrev massTerm : Term
-massTerm = var 1 mulT var 0
-
-mass-okay : (foil : Bool) (tab : Tab) (v : ℕ → Float) (n : ℕ → Number) (density : Float) → T (ok (massList foil tab v n density) massTerm)
-mass-okay false None v n density = tt
-mass-okay false (Slab x y z) v n density = tt
-mass-okay true None v n density = tt
-mass-okay true (Slab x y z) v n density = tt
-
-mass-least : (foil : Bool) (tab : Tab) (v : ℕ → Float) (n : ℕ → Number) (density : Float)
-    → T (lowTest (massList foil tab v n density) (given 2 mul given 0) (errorIn (massShape foil tab)) (lessParts foil) massUnit [])
-mass-least false None v n density = tt
-mass-least false (Slab x y z) v n density = tt
-mass-least true None v n density = tt
-mass-least true (Slab x y z) v n density = tt
+  all-pass : (foil : Bool) (tab : Tab) → Passes foil tab
+  all-pass false None = square
+  all-pass false (Slab height length offset) = square-tab height length offset
+  all-pass true None = foil-alone
+  all-pass true (Slab height length offset) = foil-tab height length offset
 
 -- ---- what is known
 zero-less : (v : Number) → minus v equals zeroNumber less v
@@ -548,7 +423,7 @@ module _ (U ι : Number) (iU : IsNumber U) (iι : IsNumber ι) (pair : U times �
 second-power : (x : ℕ) → x ^ 2 ≡ x * x
 second-power x = pow-suc x 1 ∙ ap (λ (y : ℕ). y * x) (first-power x)
 
-module _ (f : Fin) (b d : ℕ) (g : Sizes f b d) where
+module _ (f : Fin) (b d : ℕ) (g : Sizes f true b d) where
   abbrev v : ℕ → Float
   v i = integralAt f i
 
@@ -556,64 +431,30 @@ module _ (f : Fin) (b d : ℕ) (g : Sizes f b d) where
   n i = exactly f i
 
   abbrev B : List Size
-  B = bases f b d g
+  B = bases f true b d g
 
   abbrev body : List Given
   body = bodyList (isFoil (f .section)) (f .tab) v n (f .density)
 
-  density-own : Known B (f .density) (valueOf (f .density)) (shape 0 full (place 5) [])
-      × Lowest B (f .density) (valueOf (f .density)) (shape 0 full (place 5) []) full
-  density-own = own-entry B 5 (f .density) refl (g .density-positive)
-
-  volume-known : Known B (v 0) (n 0) (shapeAt (isFoil (f .section)) (f .tab) 0) × Lowest B (v 0) (n 0) (shapeAt (isFoil (f .section))
-      (f .tab) 0) (leastParts (isFoil (f .section)))
-  volume-known = (seven-known f b d g 0 (lit≤ tt), volume-lowest f b d g)
-
-  masses : AllKnown B (massList (isFoil (f .section)) (f .tab) v n (f .density))
-  masses = (volume-known, (density-own, tt))
-
-  mass-known : Known B (f .density ⊗ v 0) (valueOf (f .density) times n 0) (massShape (isFoil (f .section)) (f .tab))
-  mass-known = sound B (g .ranges) (massList (isFoil (f .section)) (f .tab) v n (f .density)) masses massTerm (mass-okay (isFoil
-      (f .section)) (f .tab) v n (f .density))
-
-  pub volume-from-zero : NotBelow (n 0)
-  volume-from-zero = not-below (leastParts (isFoil (f .section))) (mono top B (unitOf 0) * mono bottom B []) (mono bottom B
-      (unitOf 0) * mono top B [] * 2 ^ 30) (n 0)
-      (unit-real B (g .ranges) (unitOf 0) []) (volume-lowest f b d g .1)
-
-  mass-lowest : Lowest B (f .density ⊗ v 0) (valueOf (f .density) times n 0) (massShape (isFoil (f .section)) (f .tab)) (leastParts
-      (isFoil (f .section)))
-  mass-lowest =
-      target-lowest B (g .ranges) (massList (isFoil (f .section)) (f .tab) v n (f .density)) masses
-      (volume-from-zero, (positive-from (f .density) (g .density-positive), tt)) (f .density ⊗ v 0) (given 2 mul given 0)
-      (errorIn (massShape (isFoil (f .section)) (f .tab))) 0 (lessParts (isFoil (f .section))) massUnit [] (mass-known .near)
-      (mass-least (isFoil (f .section)) (f .tab) v n (f .density))
-
-  pub mass-positive : T (positive (f .density ⊗ v 0))
-  mass-positive = mass-lowest .0
-
   known : AllKnown B body
   known =
-      let k : (i : ℕ) → i < 7 → Known B (v i) (n i) (shapeAt (isFoil (f .section)) (f .tab) i) = seven-known f b d g in (
-        volume-known,
+      let k = seven-known f true b d g in (
+        masses-known f true b d g .0,
         (
-          (k 1 (lit≤ tt), tt),
+          (k 1 (lit≤ tt) tt, tt),
           (
-            (k 2 (lit≤ tt), tt),
+            (k 2 (lit≤ tt) tt, tt),
             (
-              (neg-known (unitBy B (unitOf 3) []) (k 3 (lit≤ tt)), tt),
+              (neg-known (unitBy B (unitOf 3) []) (k 3 (lit≤ tt) tt), tt),
               (
-                (k 4 (lit≤ tt), tt),
+                (k 4 (lit≤ tt) tt, tt),
                 (
-                  (k 5 (lit≤ tt), tt),
+                  (k 5 (lit≤ tt) tt, tt),
                   (
-                    (k 6 (lit≤ tt), tt),
+                    (k 6 (lit≤ tt) tt, tt),
                     (
-                      density-own,
-                      (
-                        (mass-known, mass-lowest),
-                        (g .root-most, (g .thickness-most, tt)),
-                      ),
+                      density-own f true b d g,
+                      ((mass-known f true b d g, mass-lowest f true b d g), (g .root-most, (g .thickness-most, tt))),
                     ),
                   ),
                 ),
@@ -623,19 +464,32 @@ module _ (f : Fin) (b d : ℕ) (g : Sizes f b d) where
         ),
       )
 
-  pass : BodyPass (isFoil (f .section)) (f .tab) v n (f .density)
-  pass = body-pass v n (f .density) (isFoil (f .section)) (f .tab)
-
   abbrev termOf : Shared → Float
   termOf s = value body (expand [] (bindAll parts s))
 
-  near : (s : Shared) (e : Expression) (K : ℕ) (p : List ℕ) → Passes (isFoil (f .section)) (f .tab) v n (f .density) s e K p
-      → Near (termOf s) (evaluate (numbersOf body) e) ((K * 2 ^ 30) roundoffs unitBy B p [])
-  near s e K p t = all-within B (g .ranges) body known parts s e (K * 2 ^ 30) p [] t
+  abbrev IsNear : Test → Type 0
+  IsNear (test s e K p) = Near (termOf s) (evaluate (numbersOf body) e) ((K * 2 ^ 30) roundoffs unitBy B p [])
+
+  all-near : (l : List Test) → T (passes body (judgeAll body [] parts) l) → (i : ℕ) → i < length l
+      → IsNear (getD l i (test (local 0) (ratio 0 0) 0 []))
+  all-near [] t i h = absurd (not-suc-le-zero h)
+  all-near (test s e K p ∷ l) t zero h =
+      all-within B (g .ranges) body known parts s e (K * 2 ^ 30) p []
+      (and-l (nearer body e (K * 2 ^ 30) p [] (judgeIn body (judgeAll body [] parts) s)) (passes body (judgeAll body [] parts) l) t)
+  all-near (test s e K p ∷ l) t (suc i) h =
+      all-near l (and-r (nearer body e (K * 2 ^ 30) p [] (judgeIn body (judgeAll body [] parts) s)) (passes body (judgeAll body [] parts) l) t) i
+      (le-of-suc-le-suc h)
+
+  -- by its place among the tests
+  tested : (i : ℕ) → i < 20 → IsNear (getD (tests (f .tab)) i (test (local 0) (ratio 0 0) 0 []))
+  tested = all-near (tests (f .tab)) (all-pass v n (f .density) (isFoil (f .section)) (f .tab))
 
   -- ---- the body: turned by nothing and joined alone
   abbrev μ : Float
-  μ = f .density ⊗ v 0
+  μ = massOf f true b d g
+
+  mass-positive : T (positive μ)
+  mass-positive = mass-lowest f true b d g .0
 
   abbrev turned : Body
   turned = turnedOf v (f .density)
@@ -645,7 +499,7 @@ module _ (f : Fin) (b d : ℕ) (g : Sizes f b d) where
 
   whole-mass : bits 0 ⊕ μ ≡ μ
   whole-mass = zero-plus μ (mul-fits binary64 (f .density) (v 0)) (product-plus (f .density) (v 0) (g .density-positive)
-      (volume-lowest f b d g .0))
+      (volume-lowest f true b d g .0))
 
   centre-is : alone .«centre_m» ≡ centreBy turned μ
   unfolding rotatedOf plateBody ofOriginTensor
@@ -656,12 +510,6 @@ module _ (f : Fin) (b d : ℕ) (g : Sizes f b d) where
   tensor-is = tensor-alone turned mass-positive whole-mass
 
   -- ---- what is exactly 0
-  abbrev outE : Expression
-  outE = given 2 mul given 1
-
-  abbrev backE : Expression
-  backE = given 6 mul given 1
-
   one-finite : T (finite one)
   unfolding ofBits
   one-finite = tt
@@ -676,16 +524,11 @@ module _ (f : Fin) (b d : ℕ) (g : Sizes f b d) where
   density-finite : T (finite (f .density))
   density-finite = positive-finite (f .density) (g .density-positive)
 
-  own : (s : Shared) (i : ℕ) → Passes (isFoil (f .section)) (f .tab) v n (f .density) s (tensorE i) (2 ^ 23) tensorUnit → T (finite
-      (termOf s))
-  own s i t = near s (tensorE i) (2 ^ 23) tensorUnit t .finite
-
   y-none : AtMost 0 1 (turned .«centre_m» .y)
   unfolding rotatedOf plateBody ofOriginTensor
   y-none =
-      none-plus _ _ (none-plus _ _ (none-times (bits 0) _ zero-most (near centreX outE (2 ^ 20) (place 4) (pass .centre-x) .finite))
-      (times-none one (bits 0) one-finite zero-most)) (none-times (bits 0) _ zero-most (near centreZ backE (2 ^ 20) (place 4)
-      (pass .centre-z) .finite))
+      none-plus _ _ (none-plus _ _ (none-times (bits 0) _ zero-most (tested 5 (lit≤ tt) .finite))
+      (times-none one (bits 0) one-finite zero-most)) (none-times (bits 0) _ zero-most (tested 6 (lit≤ tt) .finite))
 
   middle-none : AtMost 0 1 (centreBy turned μ .y)
   unfolding rotatedOf plateBody ofOriginTensor
@@ -697,7 +540,7 @@ module _ (f : Fin) (b d : ℕ) (g : Sizes f b d) where
   xy-none =
       none-less _ _ (none-times (bits 0) (f .density) zero-most density-finite)
       (none-plus (bits 0) _ zero-most (none-times _ μ (none-less (bits 0) _ zero-most
-      (times-none _ _ (near (centreX ⊟ noneV) outE (2 ^ 20) (place 4) (pass .from-x) .finite) (none-less (bits 0)
+      (times-none _ _ (tested 9 (lit≤ tt) .finite) (none-less (bits 0)
       (bits 0) zero-most zero-most)))
       mass-finite))
 
@@ -706,8 +549,7 @@ module _ (f : Fin) (b d : ℕ) (g : Sizes f b d) where
   yz-none =
       none-less _ _ (none-times (bits 0) (f .density) zero-most density-finite)
       (none-plus (bits 0) _ zero-most (none-times _ μ (none-less (bits 0) _ zero-most
-      (none-times _ _ (none-less (bits 0) (bits 0) zero-most zero-most) (near (centreZ ⊟ noneV) backE (2 ^ 20) (place 4)
-      (pass .from-z) .finite)))
+      (none-times _ _ (none-less (bits 0) (bits 0) zero-most zero-most) (tested 10 (lit≤ tt) .finite)))
       mass-finite))
 
   -- sums of which one part is 0 times a number, one that number times 0 and one a zero
@@ -739,27 +581,27 @@ module _ (f : Fin) (b d : ℕ) (g : Sizes f b d) where
   unfolding rotatedOf turnTensor plateBody ofOriginTensor inertiaAboutOf
   turned-xy =
       times-none half _ half-finite (none-plus _ _
-      (across-second _ _ _ (own (rowS 0 0) 0 (pass .row-xx)) (first-none _ _ _ xy-none (own (local 4) 1 (pass .own-yy)) (yz-none .finite))
-      (own (rowS 0 2) 4 (pass .row-xz)))
-      (across-first _ _ _ (second-none _ _ _ (own (local 5) 0 (pass .own-xx)) xy-none (own (local 1) 4 (pass .own-xz)))
-      (own (rowS 1 1) 1 (pass .row-yy))
-      (second-none _ _ _ (own (local 1) 4 (pass .own-xz)) yz-none (own (local 3) 2 (pass .own-zz)) .finite)))
+      (across-second _ _ _ (tested 11 (lit≤ tt) .finite) (first-none _ _ _ xy-none (tested 17 (lit≤ tt) .finite) (yz-none .finite))
+      (tested 12 (lit≤ tt) .finite))
+      (across-first _ _ _ (second-none _ _ _ (tested 16 (lit≤ tt) .finite) xy-none (tested 19 (lit≤ tt) .finite))
+      (tested 13 (lit≤ tt) .finite)
+      (second-none _ _ _ (tested 19 (lit≤ tt) .finite) yz-none (tested 18 (lit≤ tt) .finite) .finite)))
 
   turned-yz : AtMost 0 1 (numberAt (turned .«inertia_kg_m2») 5)
   unfolding rotatedOf turnTensor plateBody ofOriginTensor inertiaAboutOf
   turned-yz =
       times-none half _ half-finite (none-plus _ _
-      (across-third _ _ _ (second-none _ _ _ (own (local 5) 0 (pass .own-xx)) xy-none (own (local 1) 4 (pass .own-xz)) .finite)
-      (own (rowS 1 1) 1 (pass .row-yy)) (second-none _ _ _ (own (local 1) 4 (pass .own-xz)) yz-none (own (local 3) 2 (pass .own-zz))))
-      (across-second _ _ _ (own (rowS 2 0) 4 (pass .row-zx))
-      (third-none _ _ _ (xy-none .finite) (own (local 4) 1 (pass .own-yy)) yz-none) (own (rowS 2 2) 2 (pass .row-zz))))
+      (across-third _ _ _ (second-none _ _ _ (tested 16 (lit≤ tt) .finite) xy-none (tested 19 (lit≤ tt) .finite) .finite)
+      (tested 13 (lit≤ tt) .finite) (second-none _ _ _ (tested 19 (lit≤ tt) .finite) yz-none (tested 18 (lit≤ tt) .finite)))
+      (across-second _ _ _ (tested 14 (lit≤ tt) .finite)
+      (third-none _ _ _ (xy-none .finite) (tested 17 (lit≤ tt) .finite) yz-none) (tested 15 (lit≤ tt) .finite)))
 
   pub xy-alone : AtMost 0 1 (numberAt (alone .«inertia_kg_m2») 3)
   unfolding rotatedOf plateBody ofOriginTensor
   xy-alone =
       subst (λ (t : Tensor). AtMost 0 1 (numberAt t 3)) (sym tensor-is)
       (none-plus (bits 0) _ zero-most (none-plus _ _ turned-xy (none-times _ μ (none-less (bits 0) _ zero-most
-      (times-none _ _ (near (restS 0) (ratio 0 0) (2 ^ 21) (place 4) (pass .rest-x) .finite)
+      (times-none _ _ (tested 7 (lit≤ tt) .finite)
       (none-less _ _ y-none middle-none))) mass-finite)))
 
   pub yz-alone : AtMost 0 1 (numberAt (alone .«inertia_kg_m2») 5)
@@ -767,8 +609,7 @@ module _ (f : Fin) (b d : ℕ) (g : Sizes f b d) where
   yz-alone =
       subst (λ (t : Tensor). AtMost 0 1 (numberAt t 5)) (sym tensor-is)
       (none-plus (bits 0) _ zero-most (none-plus _ _ turned-yz (none-times _ μ (none-less (bits 0) _ zero-most
-      (none-times _ _ (none-less _ _ y-none middle-none) (near (restS 2) (ratio 0 0) (2 ^ 21) (place 4)
-      (pass .rest-z) .finite))) mass-finite)))
+      (none-times _ _ (none-less _ _ y-none middle-none) (tested 8 (lit≤ tt) .finite))) mass-finite)))
 
   pub y-alone : AtMost 0 1 (alone .«centre_m» .y)
   y-alone = subst (λ (c : Vector). AtMost 0 1 (c .y)) (sym centre-is) middle-none
@@ -778,7 +619,7 @@ module _ (f : Fin) (b d : ℕ) (g : Sizes f b d) where
   ι = inverseOf (n 0)
 
   n-is : (i : ℕ) → IsNumber (n i)
-  n-is i = evaluated-is (numbersIn f) (numbers-all f) (exactE f i)
+  n-is i = is-exactly f true b d g i
 
   ι-is : IsNumber ι
   ι-is = numbers-are B (g .ranges) body known 1
@@ -790,14 +631,14 @@ module _ (f : Fin) (b d : ℕ) (g : Sizes f b d) where
   rest-are = (n-is 1, (n-is 2, (n-is 3, (n-is 4, (n-is 5, (n-is 6, (Counts.value-is (f .density), tt)))))))
 
   abbrev clear : (s m o c t : Expression) → T (vanishes (normal (s take m)))
-      → evaluate (among (paired (n 0) ι (n-is 0) ι-is (inverse-pair (n 0) volume-from-zero) restList rest-are)) m
-      ≡ evaluate (among (paired (n 0) ι (n-is 0) ι-is (inverse-pair (n 0) volume-from-zero) restList rest-are)) o
-      → evaluate (among (unpaired (n 0) ι (n-is 0) ι-is (inverse-pair (n 0) volume-from-zero) restList rest-are)) o
-      ≡ evaluate (among (unpaired (n 0) ι (n-is 0) ι-is (inverse-pair (n 0) volume-from-zero) restList rest-are)) c
+      → evaluate (among (paired (n 0) ι (n-is 0) ι-is (inverse-pair (n 0) (volume-from-zero f true b d g)) restList rest-are)) m
+      ≡ evaluate (among (paired (n 0) ι (n-is 0) ι-is (inverse-pair (n 0) (volume-from-zero f true b d g)) restList rest-are)) o
+      → evaluate (among (unpaired (n 0) ι (n-is 0) ι-is (inverse-pair (n 0) (volume-from-zero f true b d g)) restList rest-are)) o
+      ≡ evaluate (among (unpaired (n 0) ι (n-is 0) ι-is (inverse-pair (n 0) (volume-from-zero f true b d g)) restList rest-are)) c
       → T (vanishes (normal (c take t)))
-      → evaluate (among (paired (n 0) ι (n-is 0) ι-is (inverse-pair (n 0) volume-from-zero) restList rest-are)) s
-      equals evaluate (among (unpaired (n 0) ι (n-is 0) ι-is (inverse-pair (n 0) volume-from-zero) restList rest-are)) t
-  clear = cleared (n 0) ι (n-is 0) ι-is (inverse-pair (n 0) volume-from-zero) restList rest-are
+      → evaluate (among (paired (n 0) ι (n-is 0) ι-is (inverse-pair (n 0) (volume-from-zero f true b d g)) restList rest-are)) s
+      equals evaluate (among (unpaired (n 0) ι (n-is 0) ι-is (inverse-pair (n 0) (volume-from-zero f true b d g)) restList rest-are)) t
+  clear = cleared (n 0) ι (n-is 0) ι-is (inverse-pair (n 0) (volume-from-zero f true b d g)) restList rest-are
 
   abbrev pub book : ℕ → Number
   book i = evaluate (among (number 1 0 1 ∷ n 0 ∷ ι ∷ restList)) (bookE i)
@@ -834,122 +675,28 @@ module _ (f : Fin) (b d : ℕ) (g : Sizes f b d) where
   abbrev pub tensorNear : ℕ → ℕ → Type 0
   tensorNear k i = Near (numberAt (alone .«inertia_kg_m2») k) (W i) ((tensorError (f .tab) * 2 ^ 30) roundoffs unitBy B tensorUnit [])
 
-  by-tensor : (k i : ℕ) (s : Shared) → numberAt (tensorBy turned μ) k ≡ termOf s
-      → Passes (isFoil (f .section)) (f .tab) v n (f .density) s (tensorE i) (tensorError (f .tab)) tensorUnit → tensorNear k i
-  by-tensor k i s e t =
+  by-tensor : (k i : ℕ) (s : Shared) → numberAt (tensorBy turned μ) k ≡ termOf s → IsNear (test s (tensorE i) (tensorError (f .tab)) tensorUnit)
+      → tensorNear k i
+  by-tensor k i s e h =
       subst (λ (x : Float). Near x (W i) ((tensorError (f .tab) * 2 ^ 30) roundoffs unitBy B tensorUnit []))
-      (sym (ap (λ (t : Tensor). numberAt t k) tensor-is ∙ e)) (near s (tensorE i) (tensorError (f .tab)) tensorUnit t)
+      (sym (ap (λ (t : Tensor). numberAt t k) tensor-is ∙ e)) h
 
-  xx-near : tensorNear 0 0
-  xx-near = by-tensor 0 0 (tensorS 0) (xx-term (isFoil (f .section)) (f .tab) v n (f .density)) (pass .xx)
+  pub xx-near : tensorNear 0 0
+  xx-near = by-tensor 0 0 (tensorS 0) (xx-term (isFoil (f .section)) (f .tab) v n (f .density)) (tested 1 (lit≤ tt))
 
-  yy-near : tensorNear 1 1
-  yy-near = by-tensor 1 1 (tensorS 1) (yy-term (isFoil (f .section)) (f .tab) v n (f .density)) (pass .yy)
+  pub yy-near : tensorNear 1 1
+  yy-near = by-tensor 1 1 (tensorS 1) (yy-term (isFoil (f .section)) (f .tab) v n (f .density)) (tested 2 (lit≤ tt))
 
-  zz-near : tensorNear 2 2
-  zz-near = by-tensor 2 2 (tensorS 2) (zz-term (isFoil (f .section)) (f .tab) v n (f .density)) (pass .zz)
+  pub zz-near : tensorNear 2 2
+  zz-near = by-tensor 2 2 (tensorS 2) (zz-term (isFoil (f .section)) (f .tab) v n (f .density)) (tested 3 (lit≤ tt))
 
-  xz-near : tensorNear 4 3
-  xz-near = by-tensor 4 3 (tensorS 4) (xz-term (isFoil (f .section)) (f .tab) v n (f .density)) (pass .xz)
+  pub xz-near : tensorNear 4 3
+  xz-near = by-tensor 4 3 (tensorS 4) (xz-term (isFoil (f .section)) (f .tab) v n (f .density)) (tested 4 (lit≤ tt))
 
-  x-near : Near (alone .«centre_m» .x) (n 1 times ι) ((outwardError (f .tab) * 2 ^ 30) roundoffs unitBy B (place 4) [])
+  pub x-near : Near (alone .«centre_m» .x) (n 1 times ι) ((outwardError (f .tab) * 2 ^ 30) roundoffs unitBy B (place 4) [])
   x-near =
       subst (λ (x : Float). Near x (n 1 times ι) ((outwardError (f .tab) * 2 ^ 30) roundoffs unitBy B (place 4) []))
-      (sym (ap (λ (c : Vector). c .x) centre-is ∙ x-term (isFoil (f .section)) (f .tab) v n (f .density))) (near (joinedS 0) outE
-      (outwardError (f .tab))
-      (place 4) (pass .x))
-
--- ---- the exact integrals of specs/Inertias
-abbrev tabFractions : Tab → List Fraction
-tabFractions None = []
-tabFractions (Slab height length offset) = fractionOf height ∷ fractionOf length ∷ fractionOf offset ∷ []
-
-abbrev fractionsOf : Plate → Float → List Fraction
-fractionsOf p radius =
-    fractionOf (p .root) ∷ fractionOf (p .tip) ∷ fractionOf (p .span) ∷ fractionOf (p .sweep) ∷ fractionOf (p .thickness) ∷
-    fractionOf radius ∷
-    tabFractions (p .tab)
-
-abbrev fieldOf : Integrals → ℕ → Fraction
-fieldOf v zero = v .volume
-fieldOf v (suc zero) = v .r1
-fieldOf v (suc (suc zero)) = v .r2
-fieldOf v (suc (suc (suc zero))) = v .x1
-fieldOf v (suc (suc (suc (suc zero)))) = v .x2
-fieldOf v (suc (suc (suc (suc (suc zero))))) = v .rx
-fieldOf v (suc (suc (suc (suc (suc (suc i)))))) = v .tau2
-
-past : (i : ℕ) → suc (suc (suc (suc (suc (suc (suc i)))))) < 7 → ⊥
-past i l = omega arith
-
-fin-field : (s : Section) → NotRounded s → (p : Plate) (radius : Float) (i : ℕ) → i < 7
-    → fractionIn (amongFractions (fractionsOf p radius)) (finIn s i) ≡ fieldOf (finIntegrals s p radius) i
-fin-field Rounded e p radius i l = absurd e
-fin-field Square e p radius zero l = refl
-fin-field Square e p radius (suc zero) l = refl
-fin-field Square e p radius (suc (suc zero)) l = refl
-fin-field Square e p radius (suc (suc (suc zero))) l = refl
-fin-field Square e p radius (suc (suc (suc (suc zero)))) l = refl
-fin-field Square e p radius (suc (suc (suc (suc (suc zero))))) l = refl
-fin-field Square e p radius (suc (suc (suc (suc (suc (suc zero)))))) l = refl
-fin-field Square e p radius (suc (suc (suc (suc (suc (suc (suc i))))))) l = absurd (past i l)
-fin-field Airfoil e p radius zero l = refl
-fin-field Airfoil e p radius (suc zero) l = refl
-fin-field Airfoil e p radius (suc (suc zero)) l = refl
-fin-field Airfoil e p radius (suc (suc (suc zero))) l = refl
-fin-field Airfoil e p radius (suc (suc (suc (suc zero)))) l = refl
-fin-field Airfoil e p radius (suc (suc (suc (suc (suc zero))))) l = refl
-fin-field Airfoil e p radius (suc (suc (suc (suc (suc (suc zero)))))) l = refl
-fin-field Airfoil e p radius (suc (suc (suc (suc (suc (suc (suc i))))))) l = absurd (past i l)
-fin-field AirfoilOpen e p radius zero l = refl
-fin-field AirfoilOpen e p radius (suc zero) l = refl
-fin-field AirfoilOpen e p radius (suc (suc zero)) l = refl
-fin-field AirfoilOpen e p radius (suc (suc (suc zero))) l = refl
-fin-field AirfoilOpen e p radius (suc (suc (suc (suc zero)))) l = refl
-fin-field AirfoilOpen e p radius (suc (suc (suc (suc (suc zero))))) l = refl
-fin-field AirfoilOpen e p radius (suc (suc (suc (suc (suc (suc zero)))))) l = refl
-fin-field AirfoilOpen e p radius (suc (suc (suc (suc (suc (suc (suc i))))))) l = absurd (past i l)
-
--- of a tab, where its numbers stand behind six others
-tab-field : (t : Tab) (a b c d thickness radius : Float) (i : ℕ) → i < 7
-    → fractionIn (amongFractions (fractionOf a ∷ fractionOf b ∷ fractionOf c ∷ fractionOf d ∷ fractionOf thickness ∷
-    fractionOf radius ∷ tabFractions t))
-    (tabE t i) ≡ fieldOf (tabIntegrals t thickness radius) i
-tab-field None a b c d thickness radius zero l = refl
-tab-field None a b c d thickness radius (suc zero) l = refl
-tab-field None a b c d thickness radius (suc (suc zero)) l = refl
-tab-field None a b c d thickness radius (suc (suc (suc zero))) l = refl
-tab-field None a b c d thickness radius (suc (suc (suc (suc zero)))) l = refl
-tab-field None a b c d thickness radius (suc (suc (suc (suc (suc zero))))) l = refl
-tab-field None a b c d thickness radius (suc (suc (suc (suc (suc (suc zero)))))) l = refl
-tab-field None a b c d thickness radius (suc (suc (suc (suc (suc (suc (suc i))))))) l = absurd (past i l)
-tab-field (Slab x y z) a b c d thickness radius zero l = refl
-tab-field (Slab x y z) a b c d thickness radius (suc zero) l = refl
-tab-field (Slab x y z) a b c d thickness radius (suc (suc zero)) l = refl
-tab-field (Slab x y z) a b c d thickness radius (suc (suc (suc zero))) l = refl
-tab-field (Slab x y z) a b c d thickness radius (suc (suc (suc (suc zero)))) l = refl
-tab-field (Slab x y z) a b c d thickness radius (suc (suc (suc (suc (suc zero))))) l = refl
-tab-field (Slab x y z) a b c d thickness radius (suc (suc (suc (suc (suc (suc zero)))))) l = refl
-tab-field (Slab x y z) a b c d thickness radius (suc (suc (suc (suc (suc (suc (suc i))))))) l = absurd (past i l)
-
-both-field : (a b : Integrals) (i : ℕ) → i < 7 → fieldOf (together a b) i ≡ sum (fieldOf a i) (fieldOf b i)
-both-field a b zero l = refl
-both-field a b (suc zero) l = refl
-both-field a b (suc (suc zero)) l = refl
-both-field a b (suc (suc (suc zero))) l = refl
-both-field a b (suc (suc (suc (suc zero)))) l = refl
-both-field a b (suc (suc (suc (suc (suc zero))))) l = refl
-both-field a b (suc (suc (suc (suc (suc (suc zero)))))) l = refl
-both-field a b (suc (suc (suc (suc (suc (suc (suc i))))))) l = absurd (past i l)
-
-exact-field : (s : Section) → NotRounded s → (p : Plate) (m : Mount) (i : ℕ) → i < 7
-    → fractionIn (amongFractions (fractionsOf p (m .radius))) (finIn s i add tabE (p .tab) i) ≡ fieldOf (exactIntegrals s p m) i
-exact-field s e p m i l =
-    ap (λ (x : Fraction). sum x (fractionIn (amongFractions (fractionsOf p (m .radius))) (tabE (p .tab) i))) (fin-field s e p
-    (m .radius) i l)
-    ∙ ap (λ (x : Fraction). sum (fieldOf (finIntegrals s p (m .radius)) i) x)
-    (tab-field (p .tab) (p .root) (p .tip) (p .span) (p .sweep) (p .thickness) (m .radius) i l)
-    ∙ sym (both-field (finIntegrals s p (m .radius)) (tabIntegrals (p .tab) (p .thickness) (m .radius)) i l)
+      (sym (ap (λ (c : Vector). c .x) centre-is ∙ x-term (isFoil (f .section)) (f .tab) v n (f .density))) (tested 0 (lit≤ tt))
 
 -- ---- sizes without powers
 length-unit : (r s c t b q : ℕ) → r ^ 0 * (s ^ 0 * (c ^ 0 * (t ^ 0 * (b ^ 1 * 1)))) * 1 ≡ b
@@ -963,186 +710,41 @@ module _ (section : Section) (p : Plate) (m : Mount) (points : List Float) (L : 
     (exit : List Float) (b d : ℕ)
     (plain-section : NotRounded section) (g : SectionGiven section p m points L start r exit)
     (q : Proportions 1 4 (p .root) (p .tip) (p .sweep)) (single : Alone p m b d) (beside : TabBeside (p .tab) p (m .radius)) where
-  abbrev planform : Planform
-  planform = Trapezoid (p .root) (p .tip) (p .span) (p .sweep)
-
-  abbrev S : Float
-  S = scaleOf planform points
-
-  abbrev set : FinSet
-  set = setWith section p m
-
-  figures : Called.Given section p m points L (length start) r
-  figures = set-given section p m points L (length start) r (g .answers .call .0) (g .given) (g .no-fillet)
-
-  checks : AcceptedSet set points L (length start)
-  checks = set-accepted set points L (length start) (figures .accepted)
-
-  sized : Sized planform points
-  sized = planform-sized planform points (g .f64s) (checks .planform)
-
-  scaled : Scale S
-  scaled = scale-sized planform points sized
-
-  thick : PositiveLength (p .thickness)
-  thick = field-above thicknessField (p .thickness) (g .thickness-f64) (checks .thickness) refl refl
-
-  out : Height (m .radius)
-  out = height-checked bodyRadiusField (m .radius) (single .radius-f64) (checks .radius) refl refl
-
-  heavy : T (positive (p .density)) × Ranges 24 (sizeOf (p .density))
-  heavy = density-checked (p .density) (checks .density) (g .heavy)
-
-  long : (x : Float) → PositiveLength x → T (positive x) × Ranges 32 (sizeOf x)
-  long x h = (
-    positive-of x 20 (h .not-minus) (h .above),
-    wider 24 (sizeOf x) (omega arith) (ranges-of x 6 20 (omega arith) (omega arith) (h .length .below) (h .above)),
-  )
-
-  root-positive : T (positive (p .root))
-  root-positive = long (p .root) (sized .0) .0
-
-  chords-under : (k : ℕ) (x : Float) → AtMost (k * num (p .root)) (den (p .root)) x → Under (k of sizeOf (p .root)) (valueOf x)
-  chords-under k x h = subst (λ (n : ℕ). Under (n per den (p .root)) (valueOf x)) (one-mul (k * num (p .root)))
-      (most-under x (k * num (p .root)) (den (p .root)) h)
-
-  wide : Proportions (tipsOf section) 4 (p .root) (p .tip) (p .sweep)
-  wide = record { tip-most = more section plain-section; sweep-most = q .sweep-most; backward = q .backward }
-    where
-      more : (s : Section) → NotRounded s → AtMost (tipsOf s * num (p .root)) (den (p .root)) (p .tip)
-      more Rounded e = absurd e
-      more Square e =
-          record {
-            finite = q .tip-most .finite;
-            size = le-trans (q .tip-most .size) (mul-le-mul-right (den (p .tip)) (mul-le-mul-right (num (p .root)) (lit≤ tt)));
-          }
-      more Airfoil e = q .tip-most
-      more AirfoilOpen e = q .tip-most
+  abbrev radius-f64 : T (fits binary64 (m .radius))
+  radius-f64 = single .radius-f64
 
   abbrev fin′ : Fin
-  fin′ =
-      record {
-        section = section;
-        root = p .root;
-        tip = p .tip;
-        span = p .span;
-        sweep = p .sweep;
-        scale = S;
-        thickness = p .thickness;
-        radius = m .radius;
-        tab = p .tab;
-        density = p .density;
-      }
+  fin′ = Fins.finAt section p m points L start r exit plain-section g radius-f64 true q (m .radius)
 
-  tab-sizes : (t : Tab) → TabBeside t p (m .radius) → tabCheck t (p .root) ≡ Accepted → TabKnown fin′ t
-  tab-sizes None w c = tt
-  tab-sizes (Slab height length offset) w c =
-      let l = tab-lengths height length offset (p .root) (w .0 .0) (w .0 .1) c in
-      let h = w .1 .1 .0 in
-      record {
-        height-finite = h .finite;
-        length-finite = w .1 .0 .0 .finite;
-        offset-finite = w .1 .0 .1 .finite;
-        height-from-zero = positive-from height (long height (l .0) .0);
-        length-from-zero = positive-from length (long length (l .1) .0);
-        height-under = most-under height (num (p .span)) (den (p .span)) h;
-        length-under = most-under length (num (p .root)) (den (p .root)) (w .1 .0 .0);
-        offset-under = most-under offset (num (p .root)) (den (p .root)) (w .1 .0 .1);
-        radius-under = most-under (m .radius) (num (p .span)) (den (p .span)) (w .1 .1 .1);
-      }
+  reached : Fins.Reached p (m .radius) b d
+  reached = record {
+    is-size = single .is-size;
+    most = single .most;
+    root-most = single .root-most;
+    span-most = single .span-most;
+    radius-most = single .radius-most;
+    thickness-most = single .thickness-most;
+  }
 
-  tab-accepted : tabCheck (p .tab) (p .root) ≡ Accepted
-  unfolding rootChordOf
-  tab-accepted = checks .tab
+  sizes : Sizes fin′ true b d
+  sizes = Fins.sizes section p m points L start r exit plain-section g radius-f64 true q (m .radius) b d reached beside
 
-  sizes : Sizes fin′ b d
-  sizes =
-      record {
-        plain-section = plain-section;
-        root-positive = root-positive;
-        span-positive = long (p .span) (sized .1 .1 .0) .0;
-        scale-positive = scaled .is-positive;
-        thickness-positive = long (p .thickness) thick .0;
-        density-positive = heavy .0;
-        tip-finite = q .tip-most .finite;
-        sweep-finite = q .sweep-most .finite;
-        radius-finite = single .radius-most .finite;
-        tip-from-zero = from-zero (p .tip) (q .tip-most .finite)
-            (tip-checked (p .root) (p .tip) (p .span) (p .sweep) points (g .f64s .1 .0) (checks .planform));
-        tip-under = chords-under 1 (p .tip) (q .tip-most);
-        sweep-under = chords-under 4 (p .sweep) (q .sweep-most);
-        is-size = single .is-size;
-        root-most = single .root-most .size;
-        span-most = single .span-most .size;
-        thickness-most = single .thickness-most .size;
-        radius-under = most-under (m .radius) b d (single .radius-most);
-        tab = tab-sizes (p .tab) beside tab-accepted;
-        ranges = (
-          long (p .root) (sized .0) .1,
-          (
-            long (p .span) (sized .1 .1 .0) .1,
-            (
-              wider 24 (sizeOf S) (omega arith) (ranges-of S 7 20 (omega arith) (omega arith) (scaled .below) (scaled .above)),
-              (
-                long (p .thickness) thick .1,
-                (
-                  wider 24 (b per d) (omega arith) size-ranges,
-                  (
-                    wider 24 (sizeOf (p .density))
-                        (omega arith) (heavy .1),
-                    tt,
-                  ),
-                ),
-              ),
-            ),
-          ),
-        );
-      }
-    where
-      size-ranges : Ranges 24 (b per d)
-      size-ranges =
-          record {
-            real = single .is-size;
-            least = least-of (p .root) b d root-positive (sized .0 .above) (single .root-most);
-            most = below b d (single .most);
-          }
-        where
-          below : (b d : ℕ) → b ≤ 64 * d → b ≤ d * 2 ^ 24
-          below b d h = omega arith
+  abbrev S : Float
+  S = Fins.S section p m points L start r exit plain-section g radius-f64 true q
 
   -- ---- what the call works with
-  abbrev f : Float → List Float
-  f = plateOf planform points section (p .thickness) (m .radius)
-
-  abbrev low : Float
-  low = bits 0 ⊘ S
-
-  abbrev high : Float
-  high = p .span ⊘ S
-
-  total-is : (k : ℕ) → k < 7 → valueFrom (bits 0) k (setStrips set points L) ≡ totalAt fin′ section k
-  unfolding totalOf
-  total-is k l =
-      ap (valueFrom (bits 0) k)
-      (plate-strips (p .root) (p .tip) (p .span) (p .sweep) points (g .f64s) (checks .planform) section plain-section
-      (p .thickness) (m .radius) thick out L wide)
-      ∙ ap (λ (z : Float). bits 0 ⊕ (bits 0 ⊕ z)) (value-is 7 f low high k l)
-      ∙ ap (λ (z : Float). bits 0 ⊕ (bits 0 ⊕ halfWidth low high ⊗ z))
-      (plate-sums section plain-section (p .root) (p .tip) (p .span) (p .sweep) (p .thickness) (m .radius) points
-      (plate-fin (p .root) (p .tip) (p .span) (p .sweep) points (g .f64s) (checks .planform) section plain-section (p .thickness)
-      (m .radius) thick out wide) kronrodWeight k)
-
   integrals-are : Called.integrals section p m points L (length start) r (g .answers .call .0) (g .given) (g .no-fillet) ≡ listOf
       (integralAt fin′)
   integrals-are =
+      let total = Fins.total-is section p m points L start r exit plain-section g radius-f64 true q in
       rw (
-        total-is 0 (lit≤ tt),
-        total-is 1 (lit≤ tt),
-        total-is 2 (lit≤ tt),
-        total-is 3 (lit≤ tt),
-        total-is 4 (lit≤ tt),
-        total-is 5 (lit≤ tt),
-        total-is 6 (lit≤ tt),
+        total 0 (lit≤ tt),
+        total 1 (lit≤ tt),
+        total 2 (lit≤ tt),
+        total 3 (lit≤ tt),
+        total 4 (lit≤ tt),
+        total 5 (lit≤ tt),
+        total 6 (lit≤ tt),
       )
 
   body-is : r .body ≡ alone fin′ b d sizes
@@ -1156,41 +758,14 @@ module _ (section : Section) (p : Plate) (m : Mount) (points : List Float) (L : 
       ∙ ap (λ (x : Body). joinOf (λ k. x) 1) (only-copy (plateBody (listOf (integralAt fin′)) (p .density)) (m .base) (single .no-roll))
 
   -- ---- in fractions
-  tab-fractions : (t : Tab) → TabKnown fin′ t → AreFractions (tabNumbers t) (tabFractions t)
-  tab-fractions None h = tt
-  tab-fractions (Slab height length offset) h =
-      (value-fraction height (h .height-finite), (value-fraction length (h .length-finite), (value-fraction offset (h .offset-finite), tt)))
-
-  lengths-are : AreFractions (numbersIn fin′) (fractionsOf p (m .radius))
-  lengths-are = (
-    value-fraction (p .root) (positive-finite (p .root) root-positive),
-    (
-      value-fraction (p .tip) (q .tip-most .finite),
-      (
-        value-fraction (p .span) (positive-finite (p .span) (sizes .span-positive)),
-        (
-          value-fraction (p .sweep) (q .sweep-most .finite),
-          (
-            value-fraction (p .thickness) (positive-finite (p .thickness) (sizes .thickness-positive)),
-            (
-              value-fraction (m .radius) (single .radius-most .finite),
-              tab-fractions (p .tab) (sizes .tab),
-            ),
-          ),
-        ),
-      ),
-    ),
-  )
-
   abbrev exact : Integrals
   exact = exactIntegrals section p m
 
-  field-is : (i : ℕ) → i < 7 → IsFraction (exactly fin′ i) (fieldOf exact i)
-  field-is i l = subst (λ (x : Fraction). IsFraction (exactly fin′ i) x) (exact-field section plain-section p m i l)
-      (expression-fraction (numbersIn fin′) (fractionsOf p (m .radius)) lengths-are (exactE fin′ i))
+  field-is : (i : ℕ) → i < 7 → IsFraction (exactly fin′ i) (Fins.fieldOf exact i)
+  field-is = Fins.field-is section p m points L start r exit plain-section g radius-f64 true q (m .radius) b d reached beside
 
-  density-fraction : IsFraction (valueOf (p .density)) (fractionOf (p .density))
-  density-fraction = value-fraction (p .density) (positive-finite (p .density) (heavy .0))
+  heavy : T (positive (p .density))
+  heavy = sizes .density-positive
 
   abbrev ι′ : Number
   ι′ = inverseOf (exactly fin′ 0)
@@ -1220,7 +795,7 @@ module _ (section : Section) (p : Plate) (m : Mount) (points : List Float) (L : 
             field-is 2 (lit≤ tt),
             (
               field-is 3 (lit≤ tt),
-              (field-is 4 (lit≤ tt), (field-is 5 (lit≤ tt), (field-is 6 (lit≤ tt), (density-fraction, tt)))),
+              (field-is 4 (lit≤ tt), (field-is 5 (lit≤ tt), (field-is 6 (lit≤ tt), (Fins.density-fraction section p m points L start r exit plain-section g radius-f64 true q, tt)))),
             ),
           ),
         ),
@@ -1235,7 +810,7 @@ module _ (section : Section) (p : Plate) (m : Mount) (points : List Float) (L : 
   book-fraction (suc (suc (suc i))) = expression-fraction bookNumbers bookFractions book-are (bookE 3)
 
   abbrev B′ : List Size
-  B′ = bases fin′ b d sizes
+  B′ = bases fin′ true b d sizes
 
   abbrev K : ℕ
   K = tensorError (p .tab)
@@ -1268,10 +843,10 @@ module _ (section : Section) (p : Plate) (m : Mount) (points : List Float) (L : 
       (whole-fraction (K * (b * b)) (d * d * 2 ^ 53))
       (product-fraction (num D) (den D) (num k * (num R * num P)) (den k * (den R * den P)) (fractionOf D) (product (fractionOf k)
       (product (fractionOf R) (fractionOf P)))
-      (positive-fraction D (heavy .0))
+      (positive-fraction D heavy)
       (product-fraction (num k) (den k) (num R * num P) (den R * den P) (fractionOf k) (product (fractionOf R) (fractionOf P))
       (positive-fraction k (sizes .thickness-positive))
-      (product-fraction (num R) (den R) (num P) (den P) (fractionOf R) (fractionOf P) (positive-fraction R root-positive)
+      (product-fraction (num R) (den R) (num P) (den P) (fractionOf R) (fractionOf P) (positive-fraction R (sizes .root-positive))
       (positive-fraction P (sizes .span-positive)))))
 
   unit-small : ((K * 2 ^ 30) roundoffs unitBy B′ tensorUnit []) upto (tops per bottoms)
@@ -1293,7 +868,7 @@ module _ (section : Section) (p : Plate) (m : Mount) (points : List Float) (L : 
   number-near x i l z h e =
       to-fractions x (W fin′ b d sizes i) (exactly fin′ 0) (book fin′ b d sizes i) ((K * 2 ^ 30) roundoffs unitBy B′ tensorUnit [])
       tops bottoms error
-      (exact .volume) h (W-is fin′ b d sizes i) (n-is fin′ b d sizes 0) (book-is fin′ b d sizes i) (volume-from-zero fin′ b d sizes)
+      (exact .volume) h (W-is fin′ b d sizes i) (n-is fin′ b d sizes 0) (book-is fin′ b d sizes i) (volume-from-zero fin′ true b d sizes)
       (Counts.roundoffs-is (K * 2 ^ 30) (unitBy B′ tensorUnit []) (unit-real B′ (sizes .ranges) tensorUnit [])) bottoms-some error-fraction
       (field-is 0 (lit≤ tt)) e z unit-small (times-book fin′ b d sizes i l)
 
@@ -1329,7 +904,7 @@ module _ (section : Section) (p : Plate) (m : Mount) (points : List Float) (L : 
             to-fractions (alone fin′ b d sizes .«centre_m» .x) (exactly fin′ 1 times ι′) (exactly fin′ 0) (exactly fin′ 1)
             ((O * 2 ^ 30) roundoffs unitBy B′ (place 4) []) (O * b) (d * 2 ^ 53) (pos (O * b) over (d * 2 ^ 53)) (exact .volume) (exact .r1)
             (times-is (exactly fin′ 1) ι′ (n-is fin′ b d sizes 1) (ι-is fin′ b d sizes)) (n-is fin′ b d sizes 0) (n-is fin′ b d sizes 1)
-            (volume-from-zero fin′ b d sizes)
+            (volume-from-zero fin′ true b d sizes)
             (Counts.roundoffs-is (O * 2 ^ 30) (unitBy B′ (place 4) []) (unit-real B′ (sizes .ranges) (place 4) []))
             (mul-pos (single .is-size) (pow-pos 53)) (whole-fraction (O * b) (d * 2 ^ 53)) (field-is 0 (lit≤ tt)) (field-is 1 (lit≤ tt))
             (x-near fin′ b d sizes) length-small (times-out fin′ b d sizes);

@@ -13,7 +13,7 @@ use lib.Ieee.Positive.{positive}
 use Rattle.floats.specs.Operations.{_⊕_, _⊖_, bits}
 use Rattle.floats.proofs.Bools.{of-true}
 use Rattle.rounding.proofs.Ordered.{le→order}
-use Rattle.rounding_error.proofs.Numbers.{Number, number, Size, _per_, _plus_, _less_, _times_, _and_, _by_, _of_, _roundoffs_, _upto_, IsNumber}
+use Rattle.rounding_error.proofs.Numbers.{Number, number, Size, _per_, _plus_, _less_, _times_, _by_, _of_, _roundoffs_, _upto_, IsNumber}
 use Rattle.rounding_error.proofs.Numbers.{IsSize, Over}
 use Rattle.rounding_error.proofs.Numbers.{Within, Under, valueOf, zeroNumber, InRange}
 use Rattle.rounding_error.proofs.Distances.{sorted, over-trans, over-upto, within-upto, within-same, within-sym, within-times, within-trans}

@@ -1,12 +1,12 @@
 -- What the call for a set's figures gives for trapezoids with no fillet: their mass; and the samples of a square section. Assumes nothing.
 use mathlib.Core.Path.{_≡_, refl, sym, ap, _∙_}
 use mathlib.Core.Bool.{Bool, true, false, cond}
-use mathlib.Core.List.{List, [], _∷_}
+use mathlib.Core.List.{List, []}
 use Prim.Native.Nat.{ℕ}
 use lib.Dec.{T}
 use lib.Ieee.{Float, le, eq, ofBits}
 use lib.Ieee.Bits.{is-true}
-use Rattle.floats.specs.Operations.{_⊕_, _⊖_, _⊗_, _⊘_, bits, at, tabulate}
+use Rattle.floats.specs.Operations.{_⊕_, _⊖_, _⊗_, _⊘_, bits, tabulate}
 use Rattle.floats.specs.Floats.{cube}
 use Rattle.floats.proofs.Bools.{no}
 use Rattle.refusals.specs.declared.Verdict.{Verdict}

@@ -1,11 +1,9 @@
--- The seven volume integrals of a fin that one piece is enough for and of its tab, of square or airfoil section: near
--- the exact ones by computed bounds.
--- Assumes nothing.
+-- The seven volume integrals of a fin that one piece is enough for and of its tab, of square or airfoil section, and its mass: near
+-- the exact ones by computed bounds. Assumes nothing.
 use mathlib.Core.Path.{_≡_, refl, sym, ap, subst}
 use mathlib.Core.Bool.{Bool, true, false, _&&_}
 use mathlib.Core.List.{List, [], _∷_}
 use Prim.Native.Nat.{ℕ, zero, suc, _-_, _*_, _^_, _≤_, _<_, zero-le}
-use native.Mathlib.Omega.{arith}
 use lib.Dec.{T, lit≤}
 use lib.Pow.{pow-pos}
 use lib.Ieee.{Float, round, ofBits}
@@ -30,20 +28,20 @@ use Rattle.fins.specs.declared.Tab.{Tab}
 use Rattle.fins.specs.declared.Tab.the-variants.{None, Slab}
 use Rattle.plates.specs.Integrals.{tabIntegralsOf}
 use Rattle.error_terms.proofs.Laws.{inverseOf}
-use Rattle.error_terms.proofs.Monomials.{place, added, AllRanges}
-use Rattle.error_terms.proofs.Terms.{Shape, shape, sumShape, fine, sumTest, sound, Given, entry, larger, Term, var, const, nought, value}
-use Rattle.error_terms.proofs.Terms.{Known, Lowest, AllKnown, numbersOf, unitBy}
+use Rattle.error_terms.proofs.Monomials.{place, added, mono, top, bottom, AllRanges}
+use Rattle.error_terms.proofs.Terms.{Shape, shape, sumShape, productShape, fine, ok, sumTest, sound, Given, entry, larger, Term, var, const, nought, value}
+use Rattle.error_terms.proofs.Terms.{Known, Lowest, AllKnown, numbersOf, unitBy, unit-real}
 use Rattle.error_terms.proofs.Terms.{_add_ as _addT_, _take_ as _takeT_, _mul_ as _mulT_, _over_ as _overT_, raised as raisedT}
 use Rattle.error_terms.proofs.Terms.{tight as tightT}
 use Rattle.error_terms.proofs.Judged.{judge, nearer, near-within}
 use Rattle.error_terms.proofs.Shared.{Shared, whole, _⊞_, _⊠_, judgeIn, judgeAll, bindAll, expand, all-within}
 use Rattle.error_terms.proofs.Stages.{sizeTest, lowTest, target-known, target-lowest}
 use Rattle.error_terms.proofs.Entries.{full, most, sized-entry, many-entry, own-entry, const-entry}
-use Rattle.error_terms.proofs.Floors.{NotBelow, Signed}
+use Rattle.error_terms.proofs.Floors.{NotBelow, Signed, not-below}
 use Rattle.tolerance.proofs.Numbers.{at-tabulate}
 use Rattle.one_piece.specs.OnePiece.{NotRounded}
 use Rattle.one_piece.proofs.Rule.{totalS}
-use Rattle.one_piece.proofs.PlatePiece.{partsOf, sevenAt, entriesOf, topOf, bottomOf}
+use Rattle.one_piece.proofs.PlatePiece.{partsOf, sevenAt, entriesOf, topOf, bottomOf, each-of-seven, plain-sections}
 use Rattle.one_piece.proofs.AreaPiece.{positive-from}
 use Rattle.accuracy.specs.Masses.{filled}
 use Rattle.accuracy.specs.Balances.{forward}
@@ -120,10 +118,43 @@ abbrev pub tabE : Tab → ℕ → Expression
 tabE None i = ratio 0 0
 tabE (Slab height length offset) i = slabsE (given 6) (given 7) (given 8) (given 4) (given 5) i
 
+-- ---- a fin and its tab
+pub record Fin : Type 0 where
+  pub section : Section
+  pub root : Float
+  pub tip : Float
+  pub span : Float
+  pub sweep : Float
+  pub scale : Float
+  pub thickness : Float
+  pub radius : Float
+  pub tab : Tab
+  pub density : Float
+
+-- its sweep is at most 1 root chord, or 4 where it is far
+abbrev pub sweepsOf : Bool → ℕ
+sweepsOf false = 1
+sweepsOf true = 4
+
+-- what holds by class: whether the sweep is far, whether the section is an airfoil, and the tab
+pub each-class : (P : Bool → Bool → Tab → Type 0) → P false false None → P false true None → P true false None → P true true None
+    → ((x y z : Float) → P false false (Slab x y z)) → ((x y z : Float) → P false true (Slab x y z))
+    → ((x y z : Float) → P true false (Slab x y z)) → ((x y z : Float) → P true true (Slab x y z))
+    → (far foil : Bool) (tab : Tab) → P far foil tab
+each-class P a b c d e f g h false false None = a
+each-class P a b c d e f g h false true None = b
+each-class P a b c d e f g h true false None = c
+each-class P a b c d e f g h true true None = d
+each-class P a b c d e f g h false false (Slab x y z) = e x y z
+each-class P a b c d e f g h false true (Slab x y z) = f x y z
+each-class P a b c d e f g h true false (Slab x y z) = g x y z
+each-class P a b c d e f g h true true (Slab x y z) = h x y z
+
 -- ---- the fin as terms: the variables of one_piece/proofs/PlatePiece, and a size that radius and span do not pass
-abbrev finList : (root tip span sweep scale thickness radius : Float) → List Given
-finList root tip span sweep scale thickness radius =
-    entriesOf root tip span sweep scale thickness radius 1 4 0 (shape 0 full (place 4) []) 0 (larger 1 4 ∷ [])
+abbrev finList : Bool → Fin → List Given
+finList far f =
+    entriesOf (f .root) (f .tip) (f .span) (f .sweep) (f .scale) (f .thickness) (f .radius) 1 (sweepsOf far) 0
+    (shape 0 full (place 4) []) 0 (larger 1 4 ∷ [])
 
 abbrev placed : Section → ℕ → Expression
 placed s i = finE s (given 0) (given 2) (given 6) (given 4) (given 10) (given 12) i
@@ -174,15 +205,17 @@ finS i =
     (whole (nought (unitOf i) (added (bottomOf i) (place 2)))
     ⊞ totalS (topOf (place 4) i) (bottomOf i) (unitOf i) (added (bottomOf i) (place 2))) ⊠ whole (powerT i)
 
--- errors in roundoffs, and sizes in 1024ths of the unit
-abbrev finError : ℕ → ℕ
-finError zero = 90
-finError (suc zero) = 165
-finError (suc (suc zero)) = 370
-finError (suc (suc (suc zero))) = 250
-finError (suc (suc (suc (suc zero)))) = 900
-finError (suc (suc (suc (suc (suc zero))))) = 550
-finError (suc (suc (suc (suc (suc (suc i)))))) = 16
+-- errors in roundoffs, and sizes in 1024ths of the unit; where the sweep is not far, only volume and x1 are asked for
+abbrev finError : Bool → ℕ → ℕ
+finError false zero = 53
+finError false (suc i) = 74
+finError true zero = 90
+finError true (suc zero) = 165
+finError true (suc (suc zero)) = 370
+finError true (suc (suc (suc zero))) = 250
+finError true (suc (suc (suc (suc zero)))) = 900
+finError true (suc (suc (suc (suc (suc zero))))) = 550
+finError true (suc (suc (suc (suc (suc (suc i)))))) = 16
 
 abbrev pub isFoil : Section → Bool
 isFoil Square = false
@@ -191,114 +224,138 @@ isFoil Airfoil = true
 isFoil AirfoilOpen = true
 
 -- of a square section, and of an airfoil
-abbrev finSize : Bool → ℕ → ℕ
-finSize false zero = 1025
-finSize false (suc zero) = 1740
-finSize false (suc (suc zero)) = 3100
-finSize false (suc (suc (suc zero))) = 3100
-finSize false (suc (suc (suc (suc zero)))) = 7900
-finSize false (suc (suc (suc (suc (suc zero))))) = 5300
-finSize false (suc (suc (suc (suc (suc (suc i)))))) = 90
-finSize true zero = 703
-finSize true (suc zero) = 1195
-finSize true (suc (suc zero)) = 2140
-finSize true (suc (suc (suc zero))) = 1720
-finSize true (suc (suc (suc (suc zero)))) = 5120
-finSize true (suc (suc (suc (suc (suc zero))))) = 3050
-finSize true (suc (suc (suc (suc (suc (suc i)))))) = 48
+abbrev finSize : Bool → Bool → ℕ → ℕ
+finSize false false i = 1025
+finSize true false zero = 1025
+finSize true false (suc zero) = 1740
+finSize true false (suc (suc zero)) = 3100
+finSize true false (suc (suc (suc zero))) = 2561
+finSize true false (suc (suc (suc (suc zero)))) = 7900
+finSize true false (suc (suc (suc (suc (suc zero))))) = 5300
+finSize true false (suc (suc (suc (suc (suc (suc i)))))) = 90
+finSize false true i = 703
+finSize true true zero = 703
+finSize true true (suc zero) = 1195
+finSize true true (suc (suc zero)) = 2140
+finSize true true (suc (suc (suc zero))) = 1720
+finSize true true (suc (suc (suc (suc zero)))) = 5120
+finSize true true (suc (suc (suc (suc (suc zero))))) = 3050
+finSize true true (suc (suc (suc (suc (suc (suc i)))))) = 48
 
-module _ (root tip span sweep scale thickness radius : Float) where
-  abbrev F : List Given
-  F = finList root tip span sweep scale thickness radius
+module _ (f : Fin) where
+  abbrev FinPasses : Bool → Section → ℕ → Type 0
+  FinPasses far s i =
+      T (nearer (finList far f) (finTarget s i) (finError far i * 2 ^ 30) (unitOf i) []
+      (judgeIn (finList far f) (judgeAll (finList far f) [] (partsOf s i)) (finS i))
+      && sizeTest (finList far f) (finTarget s i) (finSize far (isFoil s) i * 2 ^ 20) (unitOf i) [])
 
-  abbrev FinPasses : Section → ℕ → Type 0
-  FinPasses s i =
-      T (nearer F (finTarget s i) (finError i * 2 ^ 30) (unitOf i) [] (judgeIn F (judgeAll F [] (partsOf s i)) (finS i))
-      && sizeTest F (finTarget s i) (finSize (isFoil s) i * 2 ^ 20) (unitOf i) [])
-
-  square0 : FinPasses Square 0
+  square0 : FinPasses true Square 0
   unfolding round ofBits nodes kronrodWeights airfoilConstants
   square0 = tt
 
-  square1 : FinPasses Square 1
+  square1 : FinPasses true Square 1
   unfolding round ofBits nodes kronrodWeights airfoilConstants
   square1 = tt
 
-  square2 : FinPasses Square 2
+  square2 : FinPasses true Square 2
   unfolding round ofBits nodes kronrodWeights airfoilConstants
   square2 = tt
 
-  square3 : FinPasses Square 3
+  square3 : FinPasses true Square 3
   unfolding round ofBits nodes kronrodWeights airfoilConstants
   square3 = tt
 
-  square4 : FinPasses Square 4
+  square4 : FinPasses true Square 4
   unfolding round ofBits nodes kronrodWeights airfoilConstants
   square4 = tt
 
-  square5 : FinPasses Square 5
+  square5 : FinPasses true Square 5
   unfolding round ofBits nodes kronrodWeights airfoilConstants
   square5 = tt
 
-  square6 : FinPasses Square 6
+  square6 : FinPasses true Square 6
   unfolding round ofBits nodes kronrodWeights airfoilConstants
   square6 = tt
 
-  foil0 : FinPasses Airfoil 0
+  foil0 : FinPasses true Airfoil 0
   unfolding round ofBits nodes kronrodWeights airfoilConstants
   foil0 = tt
 
-  foil1 : FinPasses Airfoil 1
+  foil1 : FinPasses true Airfoil 1
   unfolding round ofBits nodes kronrodWeights airfoilConstants
   foil1 = tt
 
-  foil2 : FinPasses Airfoil 2
+  foil2 : FinPasses true Airfoil 2
   unfolding round ofBits nodes kronrodWeights airfoilConstants
   foil2 = tt
 
-  foil3 : FinPasses Airfoil 3
+  foil3 : FinPasses true Airfoil 3
   unfolding round ofBits nodes kronrodWeights airfoilConstants
   foil3 = tt
 
-  foil4 : FinPasses Airfoil 4
+  foil4 : FinPasses true Airfoil 4
   unfolding round ofBits nodes kronrodWeights airfoilConstants
   foil4 = tt
 
-  foil5 : FinPasses Airfoil 5
+  foil5 : FinPasses true Airfoil 5
   unfolding round ofBits nodes kronrodWeights airfoilConstants
   foil5 = tt
 
-  foil6 : FinPasses Airfoil 6
+  foil6 : FinPasses true Airfoil 6
   unfolding round ofBits nodes kronrodWeights airfoilConstants
   foil6 = tt
 
-  open0 : FinPasses AirfoilOpen 0
+  open0 : FinPasses true AirfoilOpen 0
   unfolding round ofBits nodes kronrodWeights airfoilConstants
   open0 = tt
 
-  open1 : FinPasses AirfoilOpen 1
+  open1 : FinPasses true AirfoilOpen 1
   unfolding round ofBits nodes kronrodWeights airfoilConstants
   open1 = tt
 
-  open2 : FinPasses AirfoilOpen 2
+  open2 : FinPasses true AirfoilOpen 2
   unfolding round ofBits nodes kronrodWeights airfoilConstants
   open2 = tt
 
-  open3 : FinPasses AirfoilOpen 3
+  open3 : FinPasses true AirfoilOpen 3
   unfolding round ofBits nodes kronrodWeights airfoilConstants
   open3 = tt
 
-  open4 : FinPasses AirfoilOpen 4
+  open4 : FinPasses true AirfoilOpen 4
   unfolding round ofBits nodes kronrodWeights airfoilConstants
   open4 = tt
 
-  open5 : FinPasses AirfoilOpen 5
+  open5 : FinPasses true AirfoilOpen 5
   unfolding round ofBits nodes kronrodWeights airfoilConstants
   open5 = tt
 
-  open6 : FinPasses AirfoilOpen 6
+  open6 : FinPasses true AirfoilOpen 6
   unfolding round ofBits nodes kronrodWeights airfoilConstants
   open6 = tt
+
+  near-square0 : FinPasses false Square 0
+  unfolding round ofBits nodes kronrodWeights airfoilConstants
+  near-square0 = tt
+
+  near-square3 : FinPasses false Square 3
+  unfolding round ofBits nodes kronrodWeights airfoilConstants
+  near-square3 = tt
+
+  near-foil0 : FinPasses false Airfoil 0
+  unfolding round ofBits nodes kronrodWeights airfoilConstants
+  near-foil0 = tt
+
+  near-foil3 : FinPasses false Airfoil 3
+  unfolding round ofBits nodes kronrodWeights airfoilConstants
+  near-foil3 = tt
+
+  near-open0 : FinPasses false AirfoilOpen 0
+  unfolding round ofBits nodes kronrodWeights airfoilConstants
+  near-open0 = tt
+
+  near-open3 : FinPasses false AirfoilOpen 3
+  unfolding round ofBits nodes kronrodWeights airfoilConstants
+  near-open3 = tt
 
 -- ---- the tab as terms: the variables height, length, offset, thickness, radius, 3 and 12
 abbrev tabList : (height length offset thickness radius : Float) → List Given
@@ -365,9 +422,9 @@ slabSize (suc (suc (suc (suc zero)))) = 2390
 slabSize (suc (suc (suc (suc (suc zero))))) = 2310
 slabSize (suc (suc (suc (suc (suc (suc i)))))) = 90
 
-module _ (height length offset thickness radius : Float) where
+module _ (f : Fin) (height length offset : Float) where
   abbrev S : List Given
-  S = tabList height length offset thickness radius
+  S = tabList height length offset (f .thickness) (f .radius)
 
   abbrev SlabPasses : ℕ → Type 0
   SlabPasses i =
@@ -402,19 +459,7 @@ module _ (height length offset thickness radius : Float) where
   unfolding round ofBits
   slab6 = tt
 
--- ---- a fin and its tab, and what is known of their lengths
-pub record Fin : Type 0 where
-  pub section : Section
-  pub root : Float
-  pub tip : Float
-  pub span : Float
-  pub sweep : Float
-  pub scale : Float
-  pub thickness : Float
-  pub radius : Float
-  pub tab : Tab
-  pub density : Float
-
+-- ---- what is known of their lengths
 -- length and offset of a tab do not pass the root chord, height and radius not the span
 pub record TabSizes (f : Fin) (height length offset : Float) : Type 0 where
   pub height-finite : T (finite height)
@@ -431,7 +476,7 @@ abbrev pub TabKnown : Fin → Tab → Type 0
 TabKnown f None = Unit {0}
 TabKnown f (Slab height length offset) = TabSizes f height length offset
 
-pub record Sizes (f : Fin) (b d : ℕ) : Type 0 where
+pub record Sizes (f : Fin) (far : Bool) (b d : ℕ) : Type 0 where
   pub plain-section : NotRounded (f .section)
   pub root-positive : T (positive (f .root))
   pub span-positive : T (positive (f .span))
@@ -443,7 +488,7 @@ pub record Sizes (f : Fin) (b d : ℕ) : Type 0 where
   pub radius-finite : T (finite (f .radius))
   pub tip-from-zero : NotBelow (valueOf (f .tip))
   pub tip-under : Under (1 of sizeOf (f .root)) (valueOf (f .tip))
-  pub sweep-under : Under (4 of sizeOf (f .root)) (valueOf (f .sweep))
+  pub sweep-under : Under (sweepsOf far of sizeOf (f .root)) (valueOf (f .sweep))
   pub is-size : 0 < d
   pub root-most : num (f .root) * d ≤ b * den (f .root)
   pub span-most : num (f .span) * d ≤ b * den (f .span)
@@ -523,8 +568,8 @@ abbrev pub integralAt : Fin → ℕ → Float
 integralAt f i = finAt f (f .section) i ⊕ tabAt f i
 
 -- errors and sizes, in the units of `unitOf`
-abbrev finShape : Bool → ℕ → Shape
-finShape foil i = shape (finError i * 2 ^ 30) (finSize foil i * 2 ^ 20) (unitOf i) []
+abbrev finShape : Bool → Bool → ℕ → Shape
+finShape far foil i = shape (finError far i * 2 ^ 30) (finSize far foil i * 2 ^ 20) (unitOf i) []
 
 abbrev tabError : Tab → ℕ → ℕ
 tabError None i = 0
@@ -537,8 +582,8 @@ tabSize (Slab height length offset) i = slabSize i
 abbrev tabShape : Tab → ℕ → Shape
 tabShape tab i = shape (tabError tab i * 2 ^ 30) (tabSize tab i * 2 ^ 20) (unitOf i) []
 
-abbrev pub shapeAt : Bool → Tab → ℕ → Shape
-shapeAt foil tab i = sumShape (finShape foil i) (tabShape tab i)
+abbrev pub shapeAt : Bool → Bool → Tab → ℕ → Shape
+shapeAt far foil tab i = sumShape (finShape far foil i) (tabShape tab i)
 
 -- the volume is at least so many parts of its unit
 abbrev pub lessParts : Bool → ℕ
@@ -548,51 +593,27 @@ lessParts true = 365000000
 abbrev pub leastParts : Bool → ℕ
 leastParts foil = suc (lessParts foil)
 
-beyond : (i : ℕ) → suc (suc (suc (suc (suc (suc (suc i)))))) < 7 → ⊥
-beyond i l = omega arith
+abbrev sumFine : Bool → Bool → Tab → ℕ → Bool
+sumFine far foil tab i = (fine (finShape far foil i) && fine (tabShape tab i)) && sumTest (finShape far foil i) (tabShape tab i)
 
-sums-fine : (foil : Bool) (tab : Tab) (i : ℕ) → i < 7
-    → T ((fine (finShape foil i) && fine (tabShape tab i)) && sumTest (finShape foil i) (tabShape tab i))
-sums-fine false None zero l = tt
-sums-fine false None (suc zero) l = tt
-sums-fine false None (suc (suc zero)) l = tt
-sums-fine false None (suc (suc (suc zero))) l = tt
-sums-fine false None (suc (suc (suc (suc zero)))) l = tt
-sums-fine false None (suc (suc (suc (suc (suc zero))))) l = tt
-sums-fine false None (suc (suc (suc (suc (suc (suc zero)))))) l = tt
-sums-fine false None (suc (suc (suc (suc (suc (suc (suc i))))))) l = absurd (beyond i l)
-sums-fine false (Slab x y z) zero l = tt
-sums-fine false (Slab x y z) (suc zero) l = tt
-sums-fine false (Slab x y z) (suc (suc zero)) l = tt
-sums-fine false (Slab x y z) (suc (suc (suc zero))) l = tt
-sums-fine false (Slab x y z) (suc (suc (suc (suc zero)))) l = tt
-sums-fine false (Slab x y z) (suc (suc (suc (suc (suc zero))))) l = tt
-sums-fine false (Slab x y z) (suc (suc (suc (suc (suc (suc zero)))))) l = tt
-sums-fine false (Slab x y z) (suc (suc (suc (suc (suc (suc (suc i))))))) l = absurd (beyond i l)
-sums-fine true None zero l = tt
-sums-fine true None (suc zero) l = tt
-sums-fine true None (suc (suc zero)) l = tt
-sums-fine true None (suc (suc (suc zero))) l = tt
-sums-fine true None (suc (suc (suc (suc zero)))) l = tt
-sums-fine true None (suc (suc (suc (suc (suc zero))))) l = tt
-sums-fine true None (suc (suc (suc (suc (suc (suc zero)))))) l = tt
-sums-fine true None (suc (suc (suc (suc (suc (suc (suc i))))))) l = absurd (beyond i l)
-sums-fine true (Slab x y z) zero l = tt
-sums-fine true (Slab x y z) (suc zero) l = tt
-sums-fine true (Slab x y z) (suc (suc zero)) l = tt
-sums-fine true (Slab x y z) (suc (suc (suc zero))) l = tt
-sums-fine true (Slab x y z) (suc (suc (suc (suc zero)))) l = tt
-sums-fine true (Slab x y z) (suc (suc (suc (suc (suc zero))))) l = tt
-sums-fine true (Slab x y z) (suc (suc (suc (suc (suc (suc zero)))))) l = tt
-sums-fine true (Slab x y z) (suc (suc (suc (suc (suc (suc (suc i))))))) l = absurd (beyond i l)
+sums-fine : (far foil : Bool) (tab : Tab) (i : ℕ) → i < 7 → T (sumFine far foil tab i)
+sums-fine = each-class (λ far foil tab. (i : ℕ) → i < 7 → T (sumFine far foil tab i))
+    (each-of-seven (λ i. T (sumFine false false None i)) tt tt tt tt tt tt tt)
+    (each-of-seven (λ i. T (sumFine false true None i)) tt tt tt tt tt tt tt)
+    (each-of-seven (λ i. T (sumFine true false None i)) tt tt tt tt tt tt tt)
+    (each-of-seven (λ i. T (sumFine true true None i)) tt tt tt tt tt tt tt)
+    (λ x y z. each-of-seven (λ i. T (sumFine false false (Slab x y z) i)) tt tt tt tt tt tt tt)
+    (λ x y z. each-of-seven (λ i. T (sumFine false true (Slab x y z) i)) tt tt tt tt tt tt tt)
+    (λ x y z. each-of-seven (λ i. T (sumFine true false (Slab x y z) i)) tt tt tt tt tt tt tt)
+    (λ x y z. each-of-seven (λ i. T (sumFine true true (Slab x y z) i)) tt tt tt tt tt tt tt)
 
 -- root, tip, span, thickness and what a tab adds
-abbrev volumeList : (root tip span thickness slab : Float) → Number → Tab → List Given
-volumeList root tip span thickness slab v tab =
-    entry root (valueOf root) (shape 0 full (place 0) []) full ∷
-    entry tip (valueOf tip) (shape 0 (1 * 2 ^ 30) (place 0) []) 0 ∷
-    entry span (valueOf span) (shape 0 full (place 1) []) full ∷
-    entry thickness (valueOf thickness) (shape 0 full (place 3) []) full ∷
+abbrev volumeList : Fin → Float → Number → Tab → List Given
+volumeList f slab v tab =
+    entry (f .root) (valueOf (f .root)) (shape 0 full (place 0) []) full ∷
+    entry (f .tip) (valueOf (f .tip)) (shape 0 (1 * 2 ^ 30) (place 0) []) 0 ∷
+    entry (f .span) (valueOf (f .span)) (shape 0 full (place 1) []) full ∷
+    entry (f .thickness) (valueOf (f .thickness)) (shape 0 full (place 3) []) full ∷
     entry slab v (tabShape tab 0) 0 ∷
     []
 
@@ -602,58 +623,62 @@ volumeTarget s = finE s (given 0) (given 2) (given 4) (ratio 0 0) (given 6) (rat
 abbrev pub errorIn : Shape → ℕ
 errorIn (shape k i p q) = k
 
-volumes-least : (s : Section) → NotRounded s → (tab : Tab) (root tip span thickness slab : Float) (v : Number)
-    → T (lowTest (volumeList root tip span thickness slab v tab) (volumeTarget s) (errorIn (shapeAt (isFoil s) tab 0)) (lessParts
-    (isFoil s)) (unitOf 0) [])
-volumes-least Rounded e tab root tip span thickness slab v = absurd e
-volumes-least Square e None root tip span thickness slab v = tt
-volumes-least Square e (Slab x y z) root tip span thickness slab v = tt
-volumes-least Airfoil e None root tip span thickness slab v = tt
-volumes-least Airfoil e (Slab x y z) root tip span thickness slab v = tt
-volumes-least AirfoilOpen e None root tip span thickness slab v = tt
-volumes-least AirfoilOpen e (Slab x y z) root tip span thickness slab v = tt
+-- ---- the mass: density times volume
+abbrev pub massUnit : List ℕ
+massUnit = 1 ∷ 1 ∷ 0 ∷ 1 ∷ 0 ∷ 1 ∷ []
 
-module _ (f : Fin) (b d : ℕ) (g : Sizes f b d) where
+abbrev pub massShape : Bool → Bool → Tab → Shape
+massShape far foil tab = productShape (shape 0 full (place 5) []) (shapeAt far foil tab 0)
+
+abbrev pub massList : Bool → Bool → Tab → Float → Number → (density : Float) → List Given
+massList far foil tab v n density =
+    entry v n (shapeAt far foil tab 0) (leastParts foil) ∷ entry density (valueOf density) (shape 0 full (place 5) []) full ∷ []
+
+abbrev massTerm : Term
+massTerm = var 1 mulT var 0
+
+module _ (x : Float) (v : Number) (f : Fin) where
+  abbrev LeastVolume : Section → Bool → Tab → Type 0
+  LeastVolume s far tab =
+      T (lowTest (volumeList f x v tab) (volumeTarget s) (errorIn (shapeAt far (isFoil s) tab 0)) (lessParts (isFoil s)) (unitOf 0) [])
+
+  volumes-least : (s : Section) → NotRounded s → (far : Bool) (tab : Tab) → LeastVolume s far tab
+  volumes-least = plain-sections (λ s. (far : Bool) (tab : Tab) → LeastVolume s far tab)
+      (λ far tab. each-class (λ a b c. LeastVolume Square a c) tt tt tt tt (λ x y z. tt) (λ x y z. tt) (λ x y z. tt) (λ x y z. tt)
+      far false tab)
+      (λ far tab. each-class (λ a b c. LeastVolume Airfoil a c) tt tt tt tt (λ x y z. tt) (λ x y z. tt) (λ x y z. tt) (λ x y z. tt)
+      far true tab)
+      (λ far tab. each-class (λ a b c. LeastVolume AirfoilOpen a c) tt tt tt tt (λ x y z. tt) (λ x y z. tt) (λ x y z. tt)
+      (λ x y z. tt) far true tab)
+
+  mass-okay : (far foil : Bool) (tab : Tab) → T (ok (massList far foil tab x v (f .density)) massTerm)
+  mass-okay = each-class (λ far foil tab. T (ok (massList far foil tab x v (f .density)) massTerm)) tt tt tt tt (λ x y z. tt)
+      (λ x y z. tt) (λ x y z. tt) (λ x y z. tt)
+
+  abbrev LeastMass : Bool → Bool → Tab → Type 0
+  LeastMass far foil tab =
+      T (lowTest (massList far foil tab x v (f .density)) (given 2 mul given 0) (errorIn (massShape far foil tab)) (lessParts foil) massUnit [])
+
+  mass-least : (far foil : Bool) (tab : Tab) → LeastMass far foil tab
+  mass-least = each-class LeastMass tt tt tt tt (λ x y z. tt) (λ x y z. tt) (λ x y z. tt) (λ x y z. tt)
+
+-- what is tested: all seven where the sweep is far, else volume and x1
+abbrev pub Tested : Bool → ℕ → Type 0
+Tested far zero = Unit {0}
+Tested far (suc zero) = T far
+Tested far (suc (suc zero)) = T far
+Tested far (suc (suc (suc zero))) = Unit {0}
+Tested far (suc (suc (suc (suc i)))) = T far
+
+module _ (f : Fin) (far : Bool) (b d : ℕ) (g : Sizes f far b d) where
   abbrev pub bases : List Size
   bases = sizeOf (f .root) ∷ sizeOf (f .span) ∷ sizeOf (f .scale) ∷ sizeOf (f .thickness) ∷ (b per d) ∷ sizeOf (f .density) ∷ []
 
   abbrev pub foil : Bool
   foil = isFoil (f .section)
 
-  abbrev fins : List Given
-  fins = finList (f .root) (f .tip) (f .span) (f .sweep) (f .scale) (f .thickness) (f .radius)
-
-  fins-known : AllKnown bases fins
-  unfolding ofBits
-  fins-known =
-      let root = own-entry bases 0 (f .root) refl (g .root-positive) in
-      let tip = many-entry bases 0 (num (f .root)) (den (f .root)) refl (f .tip) 1 (den-pos (f .root)) (g .tip-finite) (g .tip-under) in
-      let sweep = many-entry bases 0 (num (f .root)) (den (f .root)) refl (f .sweep) 4 (den-pos (f .root)) (g .sweep-finite)
-      (g .sweep-under) in
-      let span = own-entry bases 1 (f .span) refl (g .span-positive) in
-      let scale = own-entry bases 2 (f .scale) refl (g .scale-positive) in
-      let thickness = own-entry bases 3 (f .thickness) refl (g .thickness-positive) in
-      let radius = sized-entry bases 4 b d refl (f .radius) (g .is-size) (g .radius-finite) (g .radius-under) in
-      let third = const-entry bases (g .ranges) three (3 * 2 ^ 30 - 1) tt in
-      let twelfth = const-entry bases (g .ranges) twelve (12 * 2 ^ 30 - 1) tt in
-      (root, ((tip, tt), ((sweep, tt), (span, (scale, (thickness, ((radius, tt), (third, (twelfth, (g .span-most, tt))))))))))
-
-  abbrev FinKnown : Section → ℕ → Type 0
-  FinKnown s i = Known bases (finAt f s i) (evaluate (among (numbersIn f)) (finIn s i)) (finShape (isFoil s) i)
-
-  abbrev FinPass : Section → ℕ → Type 0
-  FinPass s i = FinPasses (f .root) (f .tip) (f .span) (f .sweep) (f .scale) (f .thickness) (f .radius) s i
-
-  by-test : (s : Section) (i : ℕ) → FinPass s i
-      → Known bases (value fins (expand [] (bindAll (partsOf s i) (finS i)))) (evaluate (numbersOf fins) (finTarget s i)) (finShape
-      (isFoil s) i)
-  by-test s i t =
-      let a = nearer fins (finTarget s i) (finError i * 2 ^ 30) (unitOf i) [] (judgeIn fins (judgeAll fins [] (partsOf s i)) (finS i)) in
-      let c = sizeTest fins (finTarget s i) (finSize (isFoil s) i * 2 ^ 20) (unitOf i) [] in
-      target-known bases (g .ranges) fins fins-known _ (finTarget s i) (finError i * 2 ^ 30) (finSize (isFoil s) i * 2 ^ 20) (unitOf i) []
-      (all-within bases (g .ranges) fins fins-known (partsOf s i) (finS i) (finTarget s i) (finError i * 2 ^ 30) (unitOf i) []
-      (and-l a c t))
-      (and-r a c t)
+  abbrev FinKnown : Bool → Section → ℕ → Type 0
+  FinKnown far s i = Known bases (finAt f s i) (evaluate (among (numbersIn f)) (finIn s i)) (finShape far (isFoil s) i)
 
   is-numbers : (e : Expression) → IsNumber (evaluate (among (numbersIn f)) e)
   is-numbers e = evaluated-is (numbersIn f) (numbers-all f) e
@@ -668,50 +693,58 @@ module _ (f : Fin) (b d : ℕ) (g : Sizes f b d) where
   unfolding ofBits
   by-twelfths {v = v} i h = equalled h v i (ones-times _ v (lit≤ tt) i twelve-inverse)
 
-  fin-known : (s : Section) → NotRounded s → (i : ℕ) → i < 7 → FinKnown s i
+  module _ (wide : Bool) (u : Under (sweepsOf wide of sizeOf (f .root)) (valueOf (f .sweep))) where
+    abbrev fins : List Given
+    fins = finList wide f
+
+    fins-known : AllKnown bases fins
+    unfolding ofBits
+    fins-known =
+        let root = own-entry bases 0 (f .root) refl (g .root-positive) in
+        let tip = many-entry bases 0 (num (f .root)) (den (f .root)) refl (f .tip) 1 (den-pos (f .root)) (g .tip-finite) (g .tip-under) in
+        let sweep = many-entry bases 0 (num (f .root)) (den (f .root)) refl (f .sweep) (sweepsOf wide) (den-pos (f .root)) (g .sweep-finite) u in
+        let span = own-entry bases 1 (f .span) refl (g .span-positive) in
+        let scale = own-entry bases 2 (f .scale) refl (g .scale-positive) in
+        let thickness = own-entry bases 3 (f .thickness) refl (g .thickness-positive) in
+        let radius = sized-entry bases 4 b d refl (f .radius) (g .is-size) (g .radius-finite) (g .radius-under) in
+        let third = const-entry bases (g .ranges) three (3 * 2 ^ 30 - 1) tt in
+        let twelfth = const-entry bases (g .ranges) twelve (12 * 2 ^ 30 - 1) tt in
+        (root, ((tip, tt), ((sweep, tt), (span, (scale, (thickness, ((radius, tt), (third, (twelfth, (g .span-most, tt))))))))))
+
+    tested : (s : Section) (i : ℕ) → FinPasses f wide s i
+        → Known bases (value fins (expand [] (bindAll (partsOf s i) (finS i)))) (evaluate (numbersOf fins) (finTarget s i))
+        (finShape wide (isFoil s) i)
+    tested s i t =
+        let K = finError wide i * 2 ^ 30 in
+        let a = nearer fins (finTarget s i) K (unitOf i) [] (judgeIn fins (judgeAll fins [] (partsOf s i)) (finS i)) in
+        let c = sizeTest fins (finTarget s i) (finSize wide (isFoil s) i * 2 ^ 20) (unitOf i) [] in
+        target-known bases (g .ranges) fins fins-known _ (finTarget s i) K (finSize wide (isFoil s) i * 2 ^ 20) (unitOf i) []
+        (all-within bases (g .ranges) fins fins-known (partsOf s i) (finS i) (finTarget s i) K (unitOf i) [] (and-l a c t))
+        (and-r a c t)
+
+  fin-known : (wide : Bool) → Under (sweepsOf wide of sizeOf (f .root)) (valueOf (f .sweep)) → (s : Section) → NotRounded s
+      → (i : ℕ) → i < 7 → Tested wide i → FinKnown wide s i
   unfolding weightedTo
-  fin-known Rounded e i l = absurd e
-  fin-known Square e zero l = by-test Square 0 (square0 (f .root) (f .tip) (f .span) (f .sweep) (f .scale) (f .thickness) (f .radius))
-  fin-known Square e (suc zero) l = by-test Square 1 (square1 (f .root) (f .tip) (f .span) (f .sweep) (f .scale) (f .thickness) (f .radius))
-  fin-known Square e (suc (suc zero)) l = by-test Square 2 (square2 (f .root) (f .tip) (f .span) (f .sweep) (f .scale) (f .thickness)
-      (f .radius))
-  fin-known Square e (suc (suc (suc zero))) l = by-test Square 3 (square3 (f .root) (f .tip) (f .span) (f .sweep) (f .scale)
-      (f .thickness) (f .radius))
-  fin-known Square e (suc (suc (suc (suc zero)))) l = by-thirds (is-numbers (finIn Square 4)) (by-test Square 4 (square4 (f .root)
-      (f .tip) (f .span) (f .sweep) (f .scale) (f .thickness) (f .radius)))
-  fin-known Square e (suc (suc (suc (suc (suc zero))))) l = by-test Square 5 (square5 (f .root) (f .tip) (f .span) (f .sweep)
-      (f .scale) (f .thickness) (f .radius))
-  fin-known Square e (suc (suc (suc (suc (suc (suc zero)))))) l = by-twelfths (is-numbers (finIn Square 6)) (by-test Square 6 (square6
-      (f .root) (f .tip) (f .span) (f .sweep) (f .scale) (f .thickness) (f .radius)))
-  fin-known Square e (suc (suc (suc (suc (suc (suc (suc i))))))) l = absurd (beyond i l)
-  fin-known Airfoil e zero l = by-test Airfoil 0 (foil0 (f .root) (f .tip) (f .span) (f .sweep) (f .scale) (f .thickness) (f .radius))
-  fin-known Airfoil e (suc zero) l = by-test Airfoil 1 (foil1 (f .root) (f .tip) (f .span) (f .sweep) (f .scale) (f .thickness) (f .radius))
-  fin-known Airfoil e (suc (suc zero)) l = by-test Airfoil 2 (foil2 (f .root) (f .tip) (f .span) (f .sweep) (f .scale) (f .thickness)
-      (f .radius))
-  fin-known Airfoil e (suc (suc (suc zero))) l = by-test Airfoil 3 (foil3 (f .root) (f .tip) (f .span) (f .sweep) (f .scale)
-      (f .thickness) (f .radius))
-  fin-known Airfoil e (suc (suc (suc (suc zero)))) l = by-test Airfoil 4 (foil4 (f .root) (f .tip) (f .span) (f .sweep) (f .scale)
-      (f .thickness) (f .radius))
-  fin-known Airfoil e (suc (suc (suc (suc (suc zero))))) l = by-test Airfoil 5 (foil5 (f .root) (f .tip) (f .span) (f .sweep)
-      (f .scale) (f .thickness) (f .radius))
-  fin-known Airfoil e (suc (suc (suc (suc (suc (suc zero)))))) l = by-twelfths (is-numbers (finIn Airfoil 6)) (by-test Airfoil 6
-      (foil6 (f .root) (f .tip) (f .span) (f .sweep) (f .scale) (f .thickness) (f .radius)))
-  fin-known Airfoil e (suc (suc (suc (suc (suc (suc (suc i))))))) l = absurd (beyond i l)
-  fin-known AirfoilOpen e zero l = by-test AirfoilOpen 0 (open0 (f .root) (f .tip) (f .span) (f .sweep) (f .scale) (f .thickness)
-      (f .radius))
-  fin-known AirfoilOpen e (suc zero) l = by-test AirfoilOpen 1 (open1 (f .root) (f .tip) (f .span) (f .sweep) (f .scale)
-      (f .thickness) (f .radius))
-  fin-known AirfoilOpen e (suc (suc zero)) l = by-test AirfoilOpen 2 (open2 (f .root) (f .tip) (f .span) (f .sweep) (f .scale)
-      (f .thickness) (f .radius))
-  fin-known AirfoilOpen e (suc (suc (suc zero))) l = by-test AirfoilOpen 3 (open3 (f .root) (f .tip) (f .span) (f .sweep) (f .scale)
-      (f .thickness) (f .radius))
-  fin-known AirfoilOpen e (suc (suc (suc (suc zero)))) l = by-test AirfoilOpen 4 (open4 (f .root) (f .tip) (f .span) (f .sweep)
-      (f .scale) (f .thickness) (f .radius))
-  fin-known AirfoilOpen e (suc (suc (suc (suc (suc zero))))) l = by-test AirfoilOpen 5 (open5 (f .root) (f .tip) (f .span) (f .sweep)
-      (f .scale) (f .thickness) (f .radius))
-  fin-known AirfoilOpen e (suc (suc (suc (suc (suc (suc zero)))))) l = by-twelfths (is-numbers (finIn AirfoilOpen 6))
-      (by-test AirfoilOpen 6 (open6 (f .root) (f .tip) (f .span) (f .sweep) (f .scale) (f .thickness) (f .radius)))
-  fin-known AirfoilOpen e (suc (suc (suc (suc (suc (suc (suc i))))))) l = absurd (beyond i l)
+  fin-known true u =
+      let by = tested true u in
+      plain-sections (λ s. (i : ℕ) → i < 7 → Tested true i → FinKnown true s i)
+      (λ i l t. each-of-seven (λ i. FinKnown true Square i) (by Square 0 (square0 f)) (by Square 1 (square1 f)) (by Square 2 (square2 f))
+      (by Square 3 (square3 f)) (by-thirds (is-numbers (finIn Square 4)) (by Square 4 (square4 f))) (by Square 5 (square5 f))
+      (by-twelfths (is-numbers (finIn Square 6)) (by Square 6 (square6 f))) i l)
+      (λ i l t. each-of-seven (λ i. FinKnown true Airfoil i) (by Airfoil 0 (foil0 f)) (by Airfoil 1 (foil1 f)) (by Airfoil 2 (foil2 f))
+      (by Airfoil 3 (foil3 f)) (by Airfoil 4 (foil4 f)) (by Airfoil 5 (foil5 f)) (by-twelfths (is-numbers (finIn Airfoil 6)) (by Airfoil 6 (foil6 f))) i l)
+      (λ i l t. each-of-seven (λ i. FinKnown true AirfoilOpen i) (by AirfoilOpen 0 (open0 f)) (by AirfoilOpen 1 (open1 f))
+      (by AirfoilOpen 2 (open2 f)) (by AirfoilOpen 3 (open3 f)) (by AirfoilOpen 4 (open4 f)) (by AirfoilOpen 5 (open5 f))
+      (by-twelfths (is-numbers (finIn AirfoilOpen 6)) (by AirfoilOpen 6 (open6 f))) i l)
+  fin-known false u =
+      let by = tested false u in
+      plain-sections (λ s. (i : ℕ) → i < 7 → Tested false i → FinKnown false s i)
+      (each-of-seven (λ i. Tested false i → FinKnown false Square i) (λ t. by Square 0 (near-square0 f)) (λ t. absurd t) (λ t. absurd t)
+      (λ t. by Square 3 (near-square3 f)) (λ t. absurd t) (λ t. absurd t) (λ t. absurd t))
+      (each-of-seven (λ i. Tested false i → FinKnown false Airfoil i) (λ t. by Airfoil 0 (near-foil0 f)) (λ t. absurd t) (λ t. absurd t)
+      (λ t. by Airfoil 3 (near-foil3 f)) (λ t. absurd t) (λ t. absurd t) (λ t. absurd t))
+      (each-of-seven (λ i. Tested false i → FinKnown false AirfoilOpen i) (λ t. by AirfoilOpen 0 (near-open0 f)) (λ t. absurd t)
+      (λ t. absurd t) (λ t. by AirfoilOpen 3 (near-open3 f)) (λ t. absurd t) (λ t. absurd t) (λ t. absurd t))
 
   -- ---- the tab
   module _ (height length offset : Float) (t : TabSizes f height length offset) where
@@ -767,7 +800,7 @@ module _ (f : Fin) (b d : ℕ) (g : Sizes f b d) where
     abbrev slabIn : ℕ → Expression
     slabIn i = slabsE (given 6) (given 7) (given 8) (given 4) (given 5) i
 
-    by-slab : (i : ℕ) → SlabPasses height length offset (f .thickness) (f .radius) i
+    by-slab : (i : ℕ) → SlabPasses f height length offset i
         → Known bases (value slabs (slabT i)) (evaluate (numbersOf slabs) (slabTarget i)) (tabShape (Slab height length offset) i)
     by-slab i p =
         let a = nearer slabs (slabTarget i) (slabError i * 2 ^ 30) (unitOf i) [] (judge slabs (slabT i)) in
@@ -776,21 +809,19 @@ module _ (f : Fin) (b d : ℕ) (g : Sizes f b d) where
         (near-within bases (g .ranges) slabs slabs-known (slabT i) (slabTarget i) (slabError i * 2 ^ 30) (unitOf i) [] (and-l a c p))
         (and-r a c p)
 
+    slab-is : (i : ℕ) → IsNumber (evaluate (among slabNumbers) (slabIn i))
+    slab-is i = evaluated-is slabNumbers slab-numbers (slabIn i)
+
     slab-known : (i : ℕ) → i < 7
         → Known bases (at (tabIntegralsOf (Slab height length offset) (f .thickness) (f .radius)) i)
         (evaluate (among slabNumbers) (slabIn i)) (tabShape (Slab height length offset) i)
     unfolding tabIntegralsOf
-    slab-known zero l = by-slab 0 (slab0 height length offset (f .thickness) (f .radius))
-    slab-known (suc zero) l = by-slab 1 (slab1 height length offset (f .thickness) (f .radius))
-    slab-known (suc (suc zero)) l = by-thirds (evaluated-is slabNumbers slab-numbers (slabIn 2)) (by-slab 2
-        (slab2 height length offset (f .thickness) (f .radius)))
-    slab-known (suc (suc (suc zero))) l = by-slab 3 (slab3 height length offset (f .thickness) (f .radius))
-    slab-known (suc (suc (suc (suc zero)))) l = by-thirds (evaluated-is slabNumbers slab-numbers (slabIn 4)) (by-slab 4
-        (slab4 height length offset (f .thickness) (f .radius)))
-    slab-known (suc (suc (suc (suc (suc zero))))) l = by-slab 5 (slab5 height length offset (f .thickness) (f .radius))
-    slab-known (suc (suc (suc (suc (suc (suc zero)))))) l = by-twelfths (evaluated-is slabNumbers slab-numbers (slabIn 6)) (by-slab 6
-        (slab6 height length offset (f .thickness) (f .radius)))
-    slab-known (suc (suc (suc (suc (suc (suc (suc i))))))) l = absurd (beyond i l)
+    slab-known = each-of-seven (λ i. Known bases (at (tabIntegralsOf (Slab height length offset) (f .thickness) (f .radius)) i)
+        (evaluate (among slabNumbers) (slabIn i)) (tabShape (Slab height length offset) i))
+        (by-slab 0 (slab0 f height length offset)) (by-slab 1 (slab1 f height length offset))
+        (by-thirds (slab-is 2) (by-slab 2 (slab2 f height length offset))) (by-slab 3 (slab3 f height length offset))
+        (by-thirds (slab-is 4) (by-slab 4 (slab4 f height length offset))) (by-slab 5 (slab5 f height length offset))
+        (by-twelfths (slab-is 6) (by-slab 6 (slab6 f height length offset)))
 
   -- ---- both
   none-known : (i : ℕ) → i < 7 → Known bases (at (tabIntegralsOf None (f .thickness) (f .radius)) i) (number 0 0 1) (tabShape None i)
@@ -807,12 +838,16 @@ module _ (f : Fin) (b d : ℕ) (g : Sizes f b d) where
           rw e (slab-known height length offset (subst (λ (t : Tab). TabKnown f t) e (g .tab)) i l)
 
   -- the integrals that the program works with
-  pub seven-known : (i : ℕ) → i < 7 → Known bases (integralAt f i) (exactly f i) (shapeAt foil (f .tab) i)
-  seven-known i l =
+  pub seven-known : (i : ℕ) → i < 7 → Tested far i → Known bases (integralAt f i) (exactly f i) (shapeAt far foil (f .tab) i)
+  seven-known i l t =
       sound bases (g .ranges)
-      (entry (finAt f (f .section) i) (evaluate (among (numbersIn f)) (finIn (f .section) i)) (finShape foil i) 0 ∷
+      (entry (finAt f (f .section) i) (evaluate (among (numbersIn f)) (finIn (f .section) i)) (finShape far foil i) 0 ∷
       entry (tabAt f i) (evaluate (among (numbersIn f)) (tabE (f .tab) i)) (tabShape (f .tab) i) 0 ∷ [])
-      ((fin-known (f .section) (g .plain-section) i l, tt), ((tab-known i l, tt), tt)) (var 0 addT var 1) (sums-fine foil (f .tab) i l)
+      ((fin-known far (g .sweep-under) (f .section) (g .plain-section) i l t, tt), ((tab-known i l, tt), tt)) (var 0 addT var 1)
+      (sums-fine far foil (f .tab) i l)
+
+  pub is-exactly : (i : ℕ) → IsNumber (exactly f i)
+  is-exactly i = is-numbers (exactE f i)
 
   -- ---- what the volume is at least
   tab-from-zero : NotBelow (evaluate (among (numbersIn f)) (tabE (f .tab) 0))
@@ -828,7 +863,7 @@ module _ (f : Fin) (b d : ℕ) (g : Sizes f b d) where
           (t .height-from-zero))
 
   abbrev volumes : List Given
-  volumes = volumeList (f .root) (f .tip) (f .span) (f .thickness) (tabAt f 0) (evaluate (among (numbersIn f)) (tabE (f .tab) 0)) (f .tab)
+  volumes = volumeList f (tabAt f 0) (evaluate (among (numbersIn f)) (tabE (f .tab) 0)) (f .tab)
 
   volumes-known : AllKnown bases volumes
   volumes-known =
@@ -849,38 +884,59 @@ module _ (f : Fin) (b d : ℕ) (g : Sizes f b d) where
     ),
   )
 
-  pub volume-lowest : Lowest bases (integralAt f 0) (exactly f 0) (shapeAt foil (f .tab) 0) (leastParts foil)
-  volume-lowest = at (f .section) (g .plain-section) refl
+  abbrev pub volumeShape : Shape
+  volumeShape = shapeAt far foil (f .tab) 0
+
+  abbrev exactBy : Section → Number
+  exactBy s = evaluate (among (numbersIn f)) (finIn s 0 add tabE (f .tab) 0)
+
+  pub volume-lowest : Lowest bases (integralAt f 0) (exactly f 0) volumeShape (leastParts foil)
+  volume-lowest = plain-sections
+      (λ s. f .section ≡ s → Lowest bases (integralAt f 0) (exactly f 0) volumeShape (leastParts foil))
+      (λ q. by Square tt q (ap exactBy (sym q))) (λ q. by Airfoil tt q (ap exactBy (sym q))) (λ q. by AirfoilOpen tt q (ap exactBy (sym q)))
+      (f .section) (g .plain-section) refl
     where
-      near : Near (integralAt f 0) (exactly f 0) (errorIn (shapeAt foil (f .tab) 0) roundoffs unitBy bases (unitOf 0) [])
-      near = seven-known 0 (lit≤ tt) .near
+      near : Near (integralAt f 0) (exactly f 0) (errorIn volumeShape roundoffs unitBy bases (unitOf 0) [])
+      near = seven-known 0 (lit≤ tt) tt .near
 
-      by : (s : Section) → f .section ≡ s → evaluate (numbersOf volumes) (volumeTarget s) ≡ exactly f 0
-          → T (lowTest volumes (volumeTarget s) (errorIn (shapeAt foil (f .tab) 0)) (lessParts foil) (unitOf 0) [])
-          → Lowest bases (integralAt f 0) (exactly f 0) (shapeAt foil (f .tab) 0) (leastParts foil)
-      by s e same t =
-          subst (λ (v : Number). Lowest bases (integralAt f 0) v (shapeAt foil (f .tab) 0) (leastParts foil)) same
-          (target-lowest bases (g .ranges) volumes volumes-known volumes-signed (integralAt f 0) (volumeTarget s) (errorIn (shapeAt foil
-          (f .tab) 0)) 0
+      by : (s : Section) → NotRounded s → f .section ≡ s → evaluate (numbersOf volumes) (volumeTarget s) ≡ exactly f 0
+          → Lowest bases (integralAt f 0) (exactly f 0) volumeShape (leastParts foil)
+      by s e q same =
+          subst (λ (v : Number). Lowest bases (integralAt f 0) v volumeShape (leastParts foil)) same
+          (target-lowest bases (g .ranges) volumes volumes-known volumes-signed (integralAt f 0) (volumeTarget s) (errorIn volumeShape) 0
           (lessParts foil) (unitOf 0) []
-          (subst (λ (v : Number). Near (integralAt f 0) v (errorIn (shapeAt foil (f .tab) 0) roundoffs unitBy bases (unitOf 0) []))
-          (sym same) near) t)
+          (subst (λ (v : Number). Near (integralAt f 0) v (errorIn volumeShape roundoffs unitBy bases (unitOf 0) [])) (sym same) near)
+          (subst (λ (x : Section). T (lowTest volumes (volumeTarget s) (errorIn (shapeAt far (isFoil x) (f .tab) 0))
+          (lessParts (isFoil x)) (unitOf 0) [])) (sym q)
+          (volumes-least (tabAt f 0) (evaluate (among (numbersIn f)) (tabE (f .tab) 0)) f s e far (f .tab))))
 
-      test : (s : Section) → NotRounded s → f .section ≡ s
-          → T (lowTest volumes (volumeTarget s) (errorIn (shapeAt foil (f .tab) 0)) (lessParts foil) (unitOf 0) [])
-      test s e q =
-          subst (λ (x : Section). T (lowTest volumes (volumeTarget s) (errorIn (shapeAt (isFoil x) (f .tab) 0)) (lessParts (isFoil x))
-          (unitOf 0) []))
-          (sym q) (volumes-least s e (f .tab) (f .root) (f .tip) (f .span) (f .thickness) (tabAt f 0)
-          (evaluate (among (numbersIn f)) (tabE (f .tab) 0)))
+  pub volume-from-zero : NotBelow (exactly f 0)
+  volume-from-zero = not-below (leastParts foil) (mono top bases (unitOf 0) * mono bottom bases [])
+      (mono bottom bases (unitOf 0) * mono top bases [] * 2 ^ 30) (exactly f 0) (unit-real bases (g .ranges) (unitOf 0) [])
+      (volume-lowest .1)
 
-      at : (s : Section) → NotRounded s → f .section ≡ s → Lowest bases (integralAt f 0) (exactly f 0) (shapeAt foil (f .tab) 0)
-          (leastParts foil)
-      at Rounded e q = absurd e
-      at Square e q = by Square q (ap (λ (s : Section). evaluate (among (numbersIn f)) (finIn s 0 add tabE (f .tab) 0)) (sym q))
-          (test Square e q)
-      at Airfoil e q = by Airfoil q (ap (λ (s : Section). evaluate (among (numbersIn f)) (finIn s 0 add tabE (f .tab) 0)) (sym q))
-          (test Airfoil e q)
-      at AirfoilOpen e q =
-          by AirfoilOpen q (ap (λ (s : Section). evaluate (among (numbersIn f)) (finIn s 0 add tabE (f .tab) 0)) (sym q))
-          (test AirfoilOpen e q)
+  -- ---- the mass
+  abbrev pub massOf : Float
+  massOf = f .density ⊗ integralAt f 0
+
+  abbrev pub massNumber : Number
+  massNumber = valueOf (f .density) times exactly f 0
+
+  pub density-own : Known bases (f .density) (valueOf (f .density)) (shape 0 full (place 5) [])
+      × Lowest bases (f .density) (valueOf (f .density)) (shape 0 full (place 5) []) full
+  density-own = own-entry bases 5 (f .density) refl (g .density-positive)
+
+  abbrev pub masses : List Given
+  masses = massList far foil (f .tab) (integralAt f 0) (exactly f 0) (f .density)
+
+  pub masses-known : AllKnown bases masses
+  masses-known = ((seven-known 0 (lit≤ tt) tt, volume-lowest), (density-own, tt))
+
+  pub mass-known : Known bases massOf massNumber (massShape far foil (f .tab))
+  mass-known = sound bases (g .ranges) masses masses-known massTerm (mass-okay (integralAt f 0) (exactly f 0) f far foil (f .tab))
+
+  pub mass-lowest : Lowest bases massOf massNumber (massShape far foil (f .tab)) (leastParts foil)
+  mass-lowest =
+      target-lowest bases (g .ranges) masses masses-known (volume-from-zero, (positive-from (f .density) (g .density-positive), tt)) massOf
+      (given 2 mul given 0) (errorIn (massShape far foil (f .tab))) 0 (lessParts foil) massUnit [] (mass-known .near)
+      (mass-least (integralAt f 0) (exactly f 0) f far foil (f .tab))

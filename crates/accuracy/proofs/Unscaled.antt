@@ -10,7 +10,7 @@ use lib.Pow.{pow-pos}
 use lib.Ieee.{Float}
 use lib.Ieee.Positive.{den-pos, positive, positive-finite}
 use Rattle.floats.specs.Operations.{_⊗_}
-use Rattle.floats.specs.Floats.{cube, fourth}
+use Rattle.floats.specs.Floats.{cube}
 use Rattle.rounding_error.proofs.Numbers.{Number, number, Size, _per_, _times_, _by_, _of_, IsNumber, IsSize, valueOf, sizeOf, Ranges}
 use Rattle.rounding_error.proofs.Ranges.{ranges-by, in-range}
 use Rattle.rounding_error.proofs.Counts as Counts
@@ -41,19 +41,6 @@ thickE = given 5 mul given 7
 abbrev pub m0E : Expression
 m0E = thickE mul (endE take startE)
 
-abbrev pub m1E : Expression
-m1E = ratio 1 1 mul thickE mul (endE mul endE take startE mul startE)
-
--- how the chord's ends change with the fraction, and so the second coefficient of M_1
-abbrev pub startSlope : Expression
-startSlope = given 4 mul given 7
-
-abbrev pub endSlope : Expression
-endSlope = (given 4 add (given 2 take given 1)) mul given 7
-
-abbrev pub m1Second : Expression
-m1Second = thickE mul (endSlope mul endSlope take startSlope mul startSlope)
-
 -- the integral over the span, times a power of the scale
 abbrev pub integralE : Expression → Expression → Expression → Expression
 integralE v q power = given 3 mul given 7 mul (v add ratio 1 23 mul q) mul power
@@ -66,9 +53,6 @@ onesE (suc n) e = given 8 mul given 7 mul onesE n e
 abbrev pub cubeE : Expression
 cubeE = given 8 mul (given 8 mul given 8)
 
-abbrev pub fourthE : Expression
-fourthE = given 8 mul given 8 mul (given 8 mul given 8)
-
 -- ---- the closed forms, in which root, tip, span, sweep and thickness stand at the places 0 to 4
 abbrev pub volumeE : Expression
 volumeE = given 4 mul (given 2 mul ((given 0 add given 1) mul ratio 1 1))
@@ -76,9 +60,6 @@ volumeE = given 4 mul (given 2 mul ((given 0 add given 1) mul ratio 1 1))
 -- root² + root·tip + tip² + sweep·(root + 2·tip)
 abbrev alongE : Expression
 alongE = given 0 mul given 0 add given 0 mul given 1 add given 1 mul given 1 add given 3 mul (given 0 add ratio 2 0 mul given 1)
-
-abbrev pub x1E : Expression
-x1E = given 4 mul (given 2 mul (alongE mul ratio 1 5))
 
 module _ (root tip span sweep scale : Float) (b d : ℕ) (g : Lengths root tip span sweep scale (b per d)) (thickness : Float) (radius : Number)
     (ir : IsNumber radius) where
@@ -139,9 +120,6 @@ module _ (root tip span sweep scale : Float) (b d : ℕ) (g : Lengths root tip s
   pub cube-ranges : Ranges 72 (SS by (SS by SS))
   cube-ranges = ranges-by 24 48 SS (SS by SS) (g .scale-ranges) r2
 
-  pub fourth-ranges : Ranges 96 (SS by SS by (SS by SS))
-  fourth-ranges = ranges-by 48 48 (SS by SS) (SS by SS) r2 r2
-
   square-valued : Valued (scale ⊗ scale) (s times s) 2 1 (SS by SS)
   square-valued =
       exact-times scale 1 SS (den-pos scale) (den-pos scale) (in-range 48 (SS by SS) (omega arith) r2) tt (positive-finite scale sp)
@@ -151,11 +129,6 @@ module _ (root tip span sweep scale : Float) (b d : ℕ) (g : Lengths root tip s
   cube-valued =
       exact-times scale 1 SS (den-pos scale) (r2 .real) (in-range 72 (SS by (SS by SS)) (omega arith) cube-ranges) tt
       (positive-finite scale sp) (own-size scale sp) square-valued
-
-  pub fourth-valued : Valued (fourth scale) (atMiddle fourthE) 10 1 (SS by SS by (SS by SS))
-  fourth-valued =
-      times-valued {A = SS by SS} {B = SS by SS} (r2 .real) (r2 .real) (in-range 96 (SS by SS by (SS by SS)) (omega arith) fourth-ranges) tt
-      square-valued square-valued
 
   -- ---- n pieces, whose total x is near the integral of the polynomial v, whose second coefficient is q; D is the unit of the power of the scale
   module _ (n : ℕ) (high : Ranges 48 (n of H)) where

@@ -26,7 +26,7 @@ use Rattle.figures.specs.declared.Figures.{Figures}
 use Rattle.one_piece.specs.OnePiece.{NotRounded, Proportions}
 use Rattle.accuracy.specs.Centroids.{inHeight}
 use Rattle.accuracy.specs.Masses.{Plate, Mount, SectionGiven, finVolume, tabVolume, filled}
-use Rattle.accuracy.specs.Balances.{finMomentWith, forward, tabMoment}
+use Rattle.accuracy.specs.Balances.{finMoment, forward, tabMoment, TabGiven}
 
 infixl 65 _less_
 abbrev pub _less_ : Fraction → Fraction → Fraction
@@ -114,9 +114,9 @@ finIntegrals section p radius =
       r1 = valueOf radius times (filled section times finVolume p) plus filled section times heightMoment p;
       r2 = square (valueOf radius) times (filled section times finVolume p)
           plus (pos 2 over 1) times (valueOf radius times (filled section times heightMoment p)) plus filled section times heightSquares p;
-      x1 = finMomentWith section p;
+      x1 = finMoment section p;
       x2 = alongSquares section p;
-      rx = valueOf radius times finMomentWith section p plus heightAlong section p;
+      rx = valueOf radius times finMoment section p plus heightAlong section p;
       tau2 = throughThickness (p .thickness) (filledCube section times finVolume p);
     }
 
@@ -200,14 +200,11 @@ pub record Alone (p : Plate) (m : Mount) (b d : ℕ) : Type 0 where
   pub radius-most : AtMost b d (m .radius)
   pub thickness-most : AtMost b d (p .thickness)
 
--- the numbers of a tab are f64s, its length and its offset at most the root chord, its height and the radius at most
--- the span
+-- beside a tab the radius is at most the span
 abbrev pub TabBeside : Tab → Plate → Float → Type 0
 TabBeside None p radius = Unit {0}
 TabBeside (Slab height length offset) p radius =
-    (T (fits binary64 height) × T (fits binary64 length))
-    × ((AtMost (num (p .root)) (den (p .root)) length × AtMost (num (p .root)) (den (p .root)) offset)
-    × (AtMost (num (p .span)) (den (p .span)) height × AtMost (num (p .span)) (den (p .span)) radius))
+    TabGiven (Slab height length offset) p × AtMost (num (p .span)) (den (p .span)) radius
 
 -- at most so many unit roundoffs of density·thickness·root·span·L² from the exact number
 abbrev pub NumberNear : Section → Plate → Mount → ℕ → ℕ → ℕ → Float → Fraction → Type 0

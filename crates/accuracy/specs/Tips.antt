@@ -1,7 +1,6 @@
 -- No sample of a trapezoid or an ellipse lies at its span, which document 02, Paper 1, gave a chord, if its strip ends
 -- with at most 40 pieces.
 use mathlib.Core.Path.{_≡_}
-use mathlib.Core.Bool.{true}
 use mathlib.Core.List.{List}
 use Prim.Native.Nat.{ℕ, _≤_}
 use lib.Dec.{T}

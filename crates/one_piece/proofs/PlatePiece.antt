@@ -162,8 +162,25 @@ entriesOf root tip span sweep scale thickness radius kt ks ls rs rl rest =
     entry twelve (valueOf twelve) (shape 0 (most twelve) [] []) (12 * 2 ^ 30) ∷
     rest
 
-beyond : (k : ℕ) → suc (suc (suc (suc (suc (suc (suc k)))))) < 7 → ⊥
-beyond k l = omega arith
+-- what holds of each of the seven components, and of each section that is not rounded
+pub each-of-seven : (P : ℕ → Type 0) → P 0 → P 1 → P 2 → P 3 → P 4 → P 5 → P 6 → (i : ℕ) → i < 7 → P i
+each-of-seven P a b c d e f g zero l = a
+each-of-seven P a b c d e f g (suc zero) l = b
+each-of-seven P a b c d e f g (suc (suc zero)) l = c
+each-of-seven P a b c d e f g (suc (suc (suc zero))) l = d
+each-of-seven P a b c d e f g (suc (suc (suc (suc zero)))) l = e
+each-of-seven P a b c d e f g (suc (suc (suc (suc (suc zero))))) l = f
+each-of-seven P a b c d e f g (suc (suc (suc (suc (suc (suc zero)))))) l = g
+each-of-seven P a b c d e f g (suc (suc (suc (suc (suc (suc (suc i))))))) l = absurd (beyond i l)
+  where
+    beyond : (i : ℕ) → suc (suc (suc (suc (suc (suc (suc i)))))) < 7 → ⊥
+    beyond i l = omega arith
+
+pub plain-sections : (P : Section → Type 0) → P Square → P Airfoil → P AirfoilOpen → (c : Section) → NotRounded c → P c
+plain-sections P a b d Rounded e = absurd e
+plain-sections P a b d Square e = a
+plain-sections P a b d Airfoil e = b
+plain-sections P a b d AirfoilOpen e = d
 
 module _ (root tip span sweep scale thickness radius : Float) (kt ks ls : ℕ) (rs : Shape) (rl : ℕ) (rest : List Given) where
   abbrev G : List Given
@@ -186,34 +203,18 @@ module _ (root tip span sweep scale thickness radius : Float) (kt ks ls : ℕ) (
     by-test c k t = within-bound _ _ (accepted-in B r G all signed (partsOf c k) (errorOf u k) (totalOf u k) t)
 
     -- all seven, of a section that is not rounded
-    pub fits : (c : Section) → NotRounded c → (k : ℕ) → k < 7 → T (componentTest c G u k)
-        → Fits (bits 0 ⊘ scale) (span ⊘ scale) (sevenAt c) k
+    abbrev Passed : Section → ℕ → Type 0
+    Passed c k = T (componentTest c G u k) → Fits (bits 0 ⊘ scale) (span ⊘ scale) (sevenAt c) k
+
+    pub fits : (c : Section) → NotRounded c → (k : ℕ) → k < 7 → Passed c k
     unfolding weightedTo
-    fits Rounded e k l t = absurd e
-    fits Square e zero l t = by-test Square 0 t
-    fits Square e (suc zero) l t = by-test Square 1 t
-    fits Square e (suc (suc zero)) l t = by-test Square 2 t
-    fits Square e (suc (suc (suc zero))) l t = by-test Square 3 t
-    fits Square e (suc (suc (suc (suc zero)))) l t = by-test Square 4 t
-    fits Square e (suc (suc (suc (suc (suc zero))))) l t = by-test Square 5 t
-    fits Square e (suc (suc (suc (suc (suc (suc zero)))))) l t = by-test Square 6 t
-    fits Square e (suc (suc (suc (suc (suc (suc (suc k))))))) l t = absurd (beyond k l)
-    fits Airfoil e zero l t = by-test Airfoil 0 t
-    fits Airfoil e (suc zero) l t = by-test Airfoil 1 t
-    fits Airfoil e (suc (suc zero)) l t = by-test Airfoil 2 t
-    fits Airfoil e (suc (suc (suc zero))) l t = by-test Airfoil 3 t
-    fits Airfoil e (suc (suc (suc (suc zero)))) l t = by-test Airfoil 4 t
-    fits Airfoil e (suc (suc (suc (suc (suc zero))))) l t = by-test Airfoil 5 t
-    fits Airfoil e (suc (suc (suc (suc (suc (suc zero)))))) l t = by-test Airfoil 6 t
-    fits Airfoil e (suc (suc (suc (suc (suc (suc (suc k))))))) l t = absurd (beyond k l)
-    fits AirfoilOpen e zero l t = by-test AirfoilOpen 0 t
-    fits AirfoilOpen e (suc zero) l t = by-test AirfoilOpen 1 t
-    fits AirfoilOpen e (suc (suc zero)) l t = by-test AirfoilOpen 2 t
-    fits AirfoilOpen e (suc (suc (suc zero))) l t = by-test AirfoilOpen 3 t
-    fits AirfoilOpen e (suc (suc (suc (suc zero)))) l t = by-test AirfoilOpen 4 t
-    fits AirfoilOpen e (suc (suc (suc (suc (suc zero))))) l t = by-test AirfoilOpen 5 t
-    fits AirfoilOpen e (suc (suc (suc (suc (suc (suc zero)))))) l t = by-test AirfoilOpen 6 t
-    fits AirfoilOpen e (suc (suc (suc (suc (suc (suc (suc k))))))) l t = absurd (beyond k l)
+    fits = plain-sections (λ c. (k : ℕ) → k < 7 → Passed c k)
+        (each-of-seven (λ k. Passed Square k) (by-test Square 0) (by-test Square 1) (by-test Square 2) (by-test Square 3)
+        (by-test Square 4) (by-test Square 5) (by-test Square 6))
+        (each-of-seven (λ k. Passed Airfoil k) (by-test Airfoil 0) (by-test Airfoil 1) (by-test Airfoil 2) (by-test Airfoil 3)
+        (by-test Airfoil 4) (by-test Airfoil 5) (by-test Airfoil 6))
+        (each-of-seven (λ k. Passed AirfoilOpen k) (by-test AirfoilOpen 0) (by-test AirfoilOpen 1) (by-test AirfoilOpen 2)
+        (by-test AirfoilOpen 3) (by-test AirfoilOpen 4) (by-test AirfoilOpen 5) (by-test AirfoilOpen 6))
 
 -- ---- the program's own integrand
 moments-there : (c : Section) (x : Bool) (root tip sweep f scale h t q : Float) → x ≡ true
