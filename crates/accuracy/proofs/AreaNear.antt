@@ -31,6 +31,7 @@ use Rattle.rounding_error.proofs.Fractions.{IsFraction, plus-fraction, times-fr
 use Rattle.rounding_error.proofs.Fractions.{within-fraction}
 use Rattle.refusals.specs.declared.Refusal.the-variants.{NoArea}
 use Rattle.refusals.specs.declared.Verdict.the-variants.{Accepted}
+use Rattle.limits.specs.Limits.{mostPieces}
 use Rattle.strips.specs.Claim.{Report}
 use Rattle.planforms.specs.declared.Planform.{Planform}
 use Rattle.planforms.specs.declared.Planform.the-variants.{Trapezoid}
@@ -181,8 +182,8 @@ module _ (root tip span sweep scale : Float) (B : Size) (g : Lengths root tip sp
   unit-twice = ranges-by 123 24 (unit by S) S unit-once (g .scale-ranges)
 
   -- n pieces, each within M roundoffs of the unit
-  module _ (n M : ℕ) (n-least : 1 ≤ n) (n-most : n ≤ 64) (M-most : M ≤ 2 ^ 20) (t : Float) (z : Valued t whole (n * M) (n * 8) unit) where
-    product-most : n * M ≤ 64 * 2 ^ 20
+  module _ (n M : ℕ) (n-least : 1 ≤ n) (n-most : n ≤ mostPieces) (M-most : M ≤ 2 ^ 20) (t : Float) (z : Valued t whole (n * M) (n * 8) unit) where
+    product-most : n * M ≤ mostPieces * 2 ^ 20
     product-most = mul-le-mul n-most M-most
 
     counts : (k : ℕ) → k ≤ 2 ^ 40 → T (some k && some 0 && few (suc (8 * n) * 2))
@@ -291,7 +292,7 @@ module _ (root tip span sweep : Float) (points : List Float) (L : ℕ) (entry : 
     widths : Widths.Widths root tip span sweep scale B l (λ h. at (areaThree Shape points h) 0)
     widths = record { there = width-there root tip span sweep points; nowhere = width-missing root tip span sweep points }
 
-    kept : Sums.Kept root tip span sweep scale B l 3 (areaThree Shape points) low pieces × (length pieces ≤ 64)
+    kept : Sums.Kept root tip span sweep scale B l 3 (areaThree Shape points) low pieces × (length pieces ≤ mostPieces)
     kept =
         strip-kept root tip span sweep scale B l (shape-sized .1 .1 .0) scaled 3 (areaThree Shape points) L
         (area-limit Shape points L (length entry) (figures-given root tip span sweep points L entry r exit g .accepted) .1)
@@ -334,7 +335,7 @@ module _ (root tip span sweep : Float) (points : List Float) (L : ℕ) (entry : 
         (ap (λ (k : List Piece). sumFrom (bits 0) (λ p. at (p .value) 0) k) one ∙ ap (λ (x : Float). bits 0 ⊕ x) value)))
         (area-sum root tip span sweep scale b d l)
 
-    pub counted : (1 ≤ r .intervals) × (r .intervals ≤ 64)
+    pub counted : (1 ≤ r .intervals) × (r .intervals ≤ mostPieces)
     counted = let e = pieces-counted root tip span sweep points L entry r exit g in (omega (arith, e, kept .0 .some), omega (arith, e, kept .1))
 
 pub trapezoid-area : TrapezoidArea

@@ -26,6 +26,7 @@ use Rattle.rounding_error.proofs.Counts as Counts
 use Rattle.rounding_error.proofs.Chains.{Valued, zero-valued, inverse, inverse-is, inverse-times, in-bounds, equalled, counted-by, plus-valued}
 use Rattle.rounding_error.proofs.Polynomials.{_equals_, trans, symm, itself, by-left, plus-equal, times-equal, plus-is, times-is, given, ratio}
 use Rattle.rounding_error.proofs.Polynomials.{_add_, _take_, _mul_, equal-by, evaluated-is}
+use Rattle.limits.specs.Limits.{mostPieces}
 use Rattle.accuracy.proofs.Given.{Lengths}
 use Rattle.accuracy.proofs.Weighted.{middle}
 use Rattle.accuracy.proofs.Quadratic.{Quadratic, integral}
@@ -313,9 +314,9 @@ module _ (root tip span sweep scale : Float) (B : Size) (g : Lengths root tip sp
     no-more-than limit K h (full pieces heights k t l) = omega arith
     no-more-than limit K h (uncut pieces heights k t l m) = omega arith
 
-    -- so it holds of the strip's pieces, at most 64
+    -- so it holds of the strip's pieces, at most as many as the limit allows
     pub halving-kept : (lower : Float) (limit : ℕ) → eq lower Top ≡ false → InStrip Top lower Top → valueOf lower equals zeroNumber → limit ≤ 64
-        → Kept lower (halving w f lower Top limit .pieces) × (length (halving w f lower Top limit .pieces) ≤ 64)
+        → Kept lower (halving w f lower Top limit .pieces) × (length (halving w f lower Top limit .pieces) ≤ mostPieces)
     unfolding halving
     halving-kept lower limit e s z l =
         let o = outcome w f (1 + (limit - 1)) (λ pieces heights. Kept lower pieces) (λ pieces heights k h m. halves-kept lower pieces k) (limit - 1)
@@ -327,7 +328,7 @@ module _ (root tip span sweep scale : Float) (B : Size) (g : Lengths root tip sp
     sumIn k pieces = sumFrom (bits 0) (valueIn k) pieces
 
     pub added : (k K J M : ℕ) (I : Float → Float → Number) (i : Additive I) (unit : Size) → InRange unit → K ≤ 2 ^ 30 → J ≤ 2 ^ 18 → M ≤ 2 ^ 19
-        → (lower : Float) (pieces : List Piece) → Kept lower pieces → length pieces ≤ 64 → length pieces * J ≤ M
+        → (lower : Float) (pieces : List Piece) → Kept lower pieces → length pieces ≤ mostPieces → length pieces * J ≤ M
         → All (λ p. Valued (valueIn k p) (overPiece I p) K J unit) pieces
         → Valued (sumIn k pieces) (I lower Top) (length pieces * (K + (M + J + 2))) (length pieces * J) unit
     added k K J M I i unit t fk fj fm lower pieces z most all a =
@@ -342,5 +343,5 @@ module _ (root tip span sweep scale : Float) (B : Size) (g : Lengths root tip sp
         counted-by (equalled s (I lower Top) (i .is lower Top) (trans iX (zero-first X iX) (z .sum I i)))
         (n * E) (n * J) (t .real) (omega (arith, errors)) (omega (arith, sizes))
       where
-        at-most : (n E : ℕ) → E ≤ 2 ^ 32 → n ≤ 64 → {m : ℕ} → m ≡ n * E → 0 + m ≤ 2 ^ 40
+        at-most : (n E : ℕ) → E ≤ 2 ^ 32 → n ≤ mostPieces → {m : ℕ} → m ≡ n * E → 0 + m ≤ 2 ^ 40
         at-most n E h k {m = m} e = omega (arith, e, mul-le-mul k h)

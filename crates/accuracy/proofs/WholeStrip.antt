@@ -25,6 +25,7 @@ use Rattle.halving.specs.Halving.{halving}
 use Rattle.rounding_error.proofs.Numbers.{Size, valueOf, zeroNumber}
 use Rattle.rounding_error.proofs.Ranges.{in-range}
 use Rattle.rounding_error.proofs.Polynomials.{_equals_, trans}
+use Rattle.limits.specs.Limits.{mostPieces}
 use Rattle.accuracy.proofs.Given.{Lengths}
 use Rattle.one_piece.proofs.PlatePiece.{positive-above}
 use Rattle.one_piece.proofs.Answers.{lower-none}
@@ -92,9 +93,9 @@ module _ (span scale : Float) (s : PositiveLength span) (q : Scale scale) where
   lower-value = no-value low low-finite low-from-zero low-none
 
 pub strip-kept : (root tip span sweep scale : Float) (B : Size) (g : Lengths root tip span sweep scale B) → PositiveLength span → Scale scale
-    → (w : ℕ) (f : Float → List Float) (limit : ℕ) → limit ≤ 64
+    → (w : ℕ) (f : Float → List Float) (limit : ℕ) → limit ≤ mostPieces
     → Sums.Kept root tip span sweep scale B g w f (bits 0 ⊘ scale) (halving w f (bits 0 ⊘ scale) (span ⊘ scale) limit .pieces)
-    × (length (halving w f (bits 0 ⊘ scale) (span ⊘ scale) limit .pieces) ≤ 64)
+    × (length (halving w f (bits 0 ⊘ scale) (span ⊘ scale) limit .pieces) ≤ mostPieces)
 strip-kept root tip span sweep scale B g s q w f limit l =
     Sums.halving-kept root tip span sweep scale B g w f (bits 0 ⊘ scale) limit
     (ends-differ span scale (g .span-positive) (g .scale-positive) (in-range 48 _ (omega arith) (Chord.height-ranges root tip span sweep scale B g)))

@@ -13,6 +13,7 @@ use Rattle.tolerance.proofs.AllPieces.{All}
 use Rattle.rounding_error.proofs.Numbers.{Number, Size}
 use Rattle.rounding_error.proofs.Ranges.{in-range}
 use Rattle.rounding_error.proofs.Chains.{Valued, equalled}
+use Rattle.limits.specs.Limits.{mostPieces}
 use Rattle.accuracy.proofs.Given.{Lengths}
 use Rattle.accuracy.proofs.Parts.{Cubic}
 use Rattle.accuracy.proofs.AreaSamples as Area
@@ -25,7 +26,7 @@ use Rattle.accuracy.proofs.PieceSums.{overPiece, all-map}
 -- ---- the sum over the strip's pieces, of which each is at most 8 units and all together at most 512
 module _ (root tip span sweep scale : Float) (B : Size) (g : Lengths root tip span sweep scale B) (f : Float → List Float)
     (widths : Widths.Widths root tip span sweep scale B g (λ h. at (f h) 0)) (lower : Float) (pieces : List Piece)
-    (kept : Sums.Kept root tip span sweep scale B g 3 f lower pieces) (most : length pieces ≤ 64) where
+    (kept : Sums.Kept root tip span sweep scale B g 3 f lower pieces) (most : length pieces ≤ mostPieces) where
   abbrev unit : Size
   unit = Widths.unit root tip span sweep scale B g
 

@@ -9,6 +9,7 @@ use Rattle.floats.specs.Fractions.{Fraction, _over_, _plus_, _times_, valueOf}
 use Rattle.rounding.specs.Sizes.{AtMost}
 use Rattle.rounding_error.specs.Distances.{Within}
 use Rattle.refusals.specs.declared.Verdict.the-variants.{Accepted}
+use Rattle.limits.specs.Limits.{mostPieces}
 use Rattle.planforms.specs.declared.Planform.the-variants.{Trapezoid}
 use Rattle.figures.specs.Answers.{AreaAnswers}
 use Rattle.figures.specs.declared.Area.{Area}
@@ -36,7 +37,7 @@ exactArea root tip span = (pos 1 over 2) times ((valueOf root plus valueOf tip) 
 -- than 2^-40 of the strip, at whose samples h·scale may round past the span, where there is no chord: then at most
 -- n·2^-43·span·B.
 pub record AreaNear (b d : ℕ) (root tip span : Float) (r : Area) : Type 0 where
-  pub pieces : (1 ≤ r .intervals) × (r .intervals ≤ 64)
+  pub pieces : (1 ≤ r .intervals) × (r .intervals ≤ mostPieces)
   pub one-piece :
       r .intervals ≡ 1
       → Within ((pos (b * 45) over (d * 2 ^ 53)) times valueOf span) (valueOf (r .«area_m2»)) (exactArea root tip span)

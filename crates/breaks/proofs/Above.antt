@@ -20,6 +20,7 @@ use Rattle.planforms.specs.declared.Planform.{Planform}
 use Rattle.planforms.specs.declared.Planform.the-variants.{Trapezoid, Ellipse, Outline}
 use Rattle.sorting.specs.Sorted.{belowAll, insert, sorted, Ascending, Rising, Each, NoNan}
 use Rattle.sorting.proofs.Sorted.{sorted-ascends, sorted-each, sorted-no-nan}
+use Rattle.limits.specs.Limits.{mostPoints}
 use Rattle.breaks.specs.declared.Standing.{Standing}
 use Rattle.breaks.specs.Breaks.{heights, outlineHeights, everyY, once, allHeights, breakHeights, placeAbove, leastAbove, foundWith}
 use Rattle.breaks.proofs.Strips.{below-first, break-heights-rise, heights-length, zero-itself}
@@ -340,16 +341,16 @@ heights-behind points zero j b = refl
 heights-behind points (suc n) zero b = absurd (let z : ⊥ = omega arith in z)
 heights-behind points (suc n) (suc j) b = heights-behind points n j (omega arith)
 
-pub too-many-at : (points : List Float) (j : ℕ) → 64 < pairCount points → bits 0 ⊘ bits 0 ≡ at (outlineHeights points) j
-too-many-at points j b = no-number ∙ rw (lt-leb (pairCount points) 64 b)
+pub too-many-at : (points : List Float) (j : ℕ) → mostPoints < pairCount points → bits 0 ⊘ bits 0 ≡ at (outlineHeights points) j
+too-many-at points j b = no-number ∙ rw (lt-leb (pairCount points) mostPoints b)
 
-pub outline-at : (points : List Float) (j : ℕ) → pairCount points ≤ 64 → j < pairCount points
+pub outline-at : (points : List Float) (j : ℕ) → pairCount points ≤ mostPoints → j < pairCount points
     → heightAt points (pairCount points - 1 - j) ≡ at (outlineHeights points) j
-outline-at points j b h = rw (le-leb (pairCount points) 64 b) (sym (heights-at points (pairCount points) j h))
+outline-at points j b h = rw (le-leb (pairCount points) mostPoints b) (sym (heights-at points (pairCount points) j h))
 
-pub outline-behind : (points : List Float) (j : ℕ) → pairCount points ≤ 64 → pairCount points ≤ j
+pub outline-behind : (points : List Float) (j : ℕ) → pairCount points ≤ mostPoints → pairCount points ≤ j
     → bits 0 ⊘ bits 0 ≡ at (outlineHeights points) j
-outline-behind points j b h = no-number ∙ rw (le-leb (pairCount points) 64 b) (sym (heights-behind points (pairCount points) j h))
+outline-behind points j b h = no-number ∙ rw (le-leb (pairCount points) mostPoints b) (sym (heights-behind points (pairCount points) j h))
 
 pub from-two : (planform : Planform) (points : List Float) (i : ℕ) → 2 ≤ i
     → at (everyY planform points) (i - 2) ≡ at (allHeights planform points) i
@@ -477,7 +478,7 @@ every-above : (planform : Planform) (points : List Float) (h : Float) → anyAbo
 unfolding everyY spanOf anyAbove
 every-above (Trapezoid root tip span sweep) points h a = no (sym a)
 every-above (Ellipse root span) points h a = no (sym a)
-every-above Outline points h a = go (leb (pairCount points) 64) a
+every-above Outline points h a = go (leb (pairCount points) mostPoints) a
   where
     go : (b : Bool) → anyAbove h (cond b (heights points (pairCount points)) []) ≡ true → lt h (largestHeight points (pairCount points)) ≡ true
     go true a = outline-above points (pairCount points) h a

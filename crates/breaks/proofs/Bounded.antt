@@ -12,6 +12,7 @@ use Rattle.rounding.proofs.Signs.{finite-no-nan}
 use Rattle.rounding.proofs.Sizes.{zero-below, weaker}
 use Rattle.sorting.specs.Sorted.{Each, sorted, Rising, NoNan}
 use Rattle.sorting.proofs.Sorted.{sorted-each}
+use Rattle.limits.specs.Limits.{mostPoints}
 use Rattle.limits.proofs.Lengths.{Length, Height}
 use Rattle.planforms.specs.Planforms.{xAt, heightAt, pairCount}
 use Rattle.planforms.specs.declared.Planform.{Planform}
@@ -29,7 +30,7 @@ every-y : (planform : Planform) (points : List Float) → Sized planform points 
 unfolding everyY
 every-y (Trapezoid root tip span sweep) points s = tt
 every-y (Ellipse root span) points s = tt
-every-y Outline points s = go (leb (pairCount points) 64)
+every-y Outline points s = go (leb (pairCount points) mostPoints)
   where
     go : (b : Bool) → Each (Below 6) (cond b (heights points (pairCount points)) [])
     go true = heights-bounded points (pairCount points) (s .0)

@@ -1,5 +1,6 @@
 // The break heights of a planform (fins.rs, `breakpoints`; document 01, "Set and planform"): 0, the span and every
 // height of an outline's points, sorted, equal ones once. Neighbours bound a strip, within which no edge ends.
+use limits::MOST_POINTS;
 use planforms::Planform;
 ghost use mathlib.Core.Path.{_≡_};
 ghost use Prim.Native.Nat.{_+_, _<_, _≤_, _^_};
@@ -7,13 +8,16 @@ ghost use lib.ListN.{length, take};
 ghost use Rattle.sorting.specs.Sorted.{sorted, Written};
 ghost use Rattle.planforms.specs.Planforms.{pairCount, spanOf};
 ghost use Rattle.floats.specs.Operations.{at};
-ghost use Rattle.breaks.specs.Breaks.{everyY, outlineHeights, allHeights, oneStrip, breakHeights, keep, once, listed, leastAbove, foundWith};
+ghost use Rattle.limits.specs.Limits.{mostPoints};
+ghost use Rattle.breaks.specs.Breaks.{everyY, outlineHeights, allHeights, oneStrip, breakHeights, keep, once, mostHeights, listed, leastAbove, foundWith};
 
-// The first `count` heights, metres; zeros stand after them. An outline of 64 points and the two others make 66 at
-// most.
+// An outline's points and the two others.
+const MOST_HEIGHTS: usize = MOST_POINTS + 2;
+
+// The first `count` heights, metres; zeros stand after them.
 pub struct BreakHeights {
     pub count: usize,
-    pub heights: [f64; 66],
+    pub heights: [f64; MOST_HEIGHTS],
 }
 
 // A height and where it stands among others.
@@ -26,7 +30,7 @@ pub fn break_heights(planform: Planform, points: &[f64]) -> BreakHeights
     ensures { λ r. ⌜ r ≡ listed (breakHeights planform (now (points .entry))) ⌝ }
 {
     let span = planforms::span_m(planform, points);
-    let mut all = [0.0; 66];
+    let mut all = [0.0; MOST_HEIGHTS];
     let n = put_heights(planform, points, &mut all);
     sorting::insert(&mut all, n, span);
     sorting::insert(&mut all, n + 1, 0.0);
@@ -54,7 +58,7 @@ pub fn is_one_strip(planform: Planform) -> bool
 }
 
 // Writes the sorted heights of an outline's points over the start of xs, and returns how many there are.
-fn put_heights(planform: Planform, points: &[f64], xs: &mut [f64; 66]) -> usize
+fn put_heights(planform: Planform, points: &[f64], xs: &mut [f64; MOST_HEIGHTS]) -> usize
     ensures { λ r. ⌜ Written (sorted (everyY planform (now (points .entry)))) (now (xs .entry)) (now (xs .exit)) r ⌝ }
 {
     match planform {
@@ -72,11 +76,11 @@ fn put_heights(planform: Planform, points: &[f64], xs: &mut [f64; 66]) -> usize
     }
 }
 
-fn put_outline_heights(points: &[f64], xs: &mut [f64; 66]) -> usize
+fn put_outline_heights(points: &[f64], xs: &mut [f64; MOST_HEIGHTS]) -> usize
     ensures { λ r. ⌜ Written (sorted (outlineHeights (now (points .entry)))) (now (xs .entry)) (now (xs .exit)) r ⌝ }
 {
     let n = points.len() / 2;
-    if 64 < n {
+    if MOST_POINTS < n {
         return 0;
     }
     let mut i: usize = 0;
@@ -89,10 +93,10 @@ fn put_outline_heights(points: &[f64], xs: &mut [f64; 66]) -> usize
 
 // Of the first n of xs, equal neighbours once.
 fn distinct(xs: &[f64], n: usize) -> BreakHeights
-    requires { ⌜ (0 < n) × (n ≤ 66) × (n ≤ length (now xs)) ⌝ }
+    requires { ⌜ (0 < n) × (n ≤ mostHeights) × (n ≤ length (now xs)) ⌝ }
     ensures { λ r. ⌜ r ≡ listed (once (take n (now (xs .entry)))) ⌝ }
 {
-    let mut heights = [0.0; 66];
+    let mut heights = [0.0; MOST_HEIGHTS];
     let mut count: usize = 0;
     let mut i: usize = 1;
     while i < n {
@@ -147,7 +151,7 @@ fn outline_height_at(points: &[f64], place: usize) -> f64
     ensures { λ r. ⌜ r ≡ at (outlineHeights (now (points .entry))) place ⌝ }
 {
     let n = points.len() / 2;
-    if 64 < n {
+    if MOST_POINTS < n {
         return 0.0 / 0.0;
     }
     if place < n {
@@ -167,7 +171,7 @@ pub fn least_above(planform: Planform, points: &[f64], span: f64, h: f64) -> Sta
 }
 
 fn least_of_points(planform: Planform, points: &[f64], h: f64) -> Standing
-    ensures { λ r. ⌜ (r ≡ leastAbove h (everyY planform (now (points .entry)))) × (r .place ≤ 64) ⌝ }
+    ensures { λ r. ⌜ (r ≡ leastAbove h (everyY planform (now (points .entry)))) × (r .place ≤ mostPoints) ⌝ }
 {
     match planform {
         Planform::Outline => least_of_outline(points, h),
@@ -191,14 +195,14 @@ fn least_of_points(planform: Planform, points: &[f64], h: f64) -> Standing
 }
 
 fn least_of_outline(points: &[f64], h: f64) -> Standing
-    ensures { λ r. ⌜ (r ≡ leastAbove h (outlineHeights (now (points .entry)))) × (r .place ≤ 64) ⌝ }
+    ensures { λ r. ⌜ (r ≡ leastAbove h (outlineHeights (now (points .entry)))) × (r .place ≤ mostPoints) ⌝ }
 {
     let n = points.len() / 2;
     let mut found = Standing {
         place: 0,
         height: 0.0 / 0.0,
     };
-    if 64 < n {
+    if MOST_POINTS < n {
         return found;
     }
     let mut i: usize = 0;

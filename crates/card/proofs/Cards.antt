@@ -21,7 +21,7 @@ use Rattle.refusals.specs.Order.{isRefused}
 use Rattle.refusals.specs.Refusals.{numberOf}
 use Rattle.refusals.specs.Calls.{CallOf, leavesAlone, byVerdict}
 use Rattle.refusals.proofs.Accepted.{both}
-use Rattle.limits.specs.Limits.{limitCheck, scratchCheck}
+use Rattle.limits.specs.Limits.{scratchNumbers, limitCheck, scratchCheck}
 use Rattle.fins.specs.declared.FinSet.{FinSet}
 use Rattle.fins.specs.declared.NumberedSet.{NumberedSet}
 use Rattle.fins.specs.declared.NumberedSet.the-variants.{Known as setKnown, Unknown as noSet}
@@ -64,7 +64,7 @@ use Rattle.lines.specs.Lines.{Memory, Effect, refusedReply, plainReply, setRepl
 use Rattle.lines.specs.Lines.{setEffect, areaEffect, submitEffect, changeEffect, turnEffect, effectOf, askedEffect, lineEffect}
 use Rattle.inputs.specs.Inputs.{reply, leftByLine, leftByLines}
 use Rattle.inputs.proofs.Lines.{left-append}
-use Rattle.card.specs.Program.{scratchLength, atFirst}
+use Rattle.card.specs.Program.{atFirst}
 use Rattle.card.specs.Screens.{callsOver}
 use Rattle.card.specs.Cards.{WritesSet, AsksTurn, Replies, foundThen, leftThen, leftNow, HeldSince}
 use Rattle.card.specs.Cards.{ownSince, setNow, cardNow, CardOnLines}
@@ -149,11 +149,11 @@ unfolding leftByLines
 lines-no-shorter [] m = omega arith
 lines-no-shorter (line ∷ lines) m = le-trans (line-no-shorter line m) (lines-no-shorter lines (leftByLine line m))
 
-first-length : length (atFirst .scratch) ≡ scratchLength
+first-length : length (atFirst .scratch) ≡ scratchNumbers
 unfolding atFirst
-first-length = length-replicate scratchLength (bits 0)
+first-length = length-replicate scratchNumbers (bits 0)
 
-stays-long : (lines : List (List ℕ)) → scratchLength ≤ length (leftByLines lines atFirst .scratch)
+stays-long : (lines : List (List ℕ)) → scratchNumbers ≤ length (leftByLines lines atFirst .scratch)
 stays-long lines = omega (arith, first-length, lines-no-shorter lines atFirst)
 
 -- ---- the set's own line
@@ -193,7 +193,7 @@ same-figures set points L n m e f =
 
 set-line : (line : List ℕ) (set : FinSet) (points : List Float) (L : ℕ) → WritesSet Set line set points L → limitCheck L ≡ Accepted
     → (lines : List (List ℕ)) (card : Figures)
-    → card ≡ setFigures set points L scratchLength → Replies line (leftByLines lines atFirst) (setReply card)
+    → card ≡ setFigures set points L scratchNumbers → Replies line (leftByLines lines atFirst) (setReply card)
 unfolding setEffect
 set-line line set points L w limit lines card c =
     let m = leftByLines lines atFirst in
@@ -201,7 +201,7 @@ set-line line set points L w limit lines card c =
     reply-is line Set (w .numbers) (w .figures) (w .asks) m
     ∙ ap (λ (f : Figures). textOf (setReply f) ++ (10 ∷ []))
     (ap (λ (c : CallOf Figures). c .answer) (own-call Set line set points L w n)
-    ∙ same-figures set points L n scratchLength (enough L n limit (stays-long lines)) (enough L scratchLength limit (omega arith))
+    ∙ same-figures set points L n scratchNumbers (enough L n limit (stays-long lines)) (enough L scratchNumbers limit (omega arith))
     ∙ sym c)
 
 -- ---- a submission that is answered taken
@@ -217,13 +217,13 @@ accepted-if-taken Accepted e = refl
 accepted-if-taken (Refused r) e = absurd (refused-other r e)
 
 -- ---- the turn that serves a screen, as a line
-module _ (m : Memory) (long : scratchLength ≤ length (m .scratch)) (screen : ℕ) (some : 1 ≤ screen)
+module _ (m : Memory) (long : scratchNumbers ≤ length (m .scratch)) (screen : ℕ) (some : 1 ≤ screen)
     (next : nextScreen (m .engine .screens) ≡ screen) where
   abbrev Turned· : Turned
   Turned· = turnOf (m .engine) (length (m .scratch)) .answer
 
   serves-screen : screen ≡ screenOf (m .engine) (turn (m .scratch))
-  serves-screen = sym next ∙ sym (ap (λ (b : Bool). cond b 0 (nextScreen (m .engine .screens))) (le-ltb (length (m .scratch)) 1024 long))
+  serves-screen = sym next ∙ sym (ap (λ (b : Bool). cond b 0 (nextScreen (m .engine .screens))) (le-ltb (length (m .scratch)) scratchNumbers long))
 
   turn-replies : (line : List ℕ) → AsksTurn line → (t : Turning) → Turned· .turn ≡ t → Replies line m (turnReply t (turnedRow Turned· .figures))
   unfolding turnEffect
@@ -308,7 +308,7 @@ module _ (before : List (List ℕ)) (submission : List ℕ) (since : List (List 
   unfolding makingCheck
   limit-checked = both _ _ (on .job .accepted) .0
 
-  long : scratchLength ≤ length (Now· .scratch)
+  long : scratchNumbers ≤ length (Now· .scratch)
   long = stays-long (before ++ submission ∷ since)
 
   module _ (next : nextScreen (Now· .engine .screens) ≡ screen) where
@@ -340,8 +340,8 @@ module _ (before : List (List ℕ)) (submission : List ℕ) (since : List (List 
         → (card : Figures) → card ≡ cardNow before submission since screen set points L
         → Replies line Now· (doneReply screen (card .verdict) card)
     card-replied line t free card c =
-        let long-enough = enough L scratchLength limit-checked (omega arith) in
-        let ended = serves .ends-as-fresh (Held· line t false free) scratchLength long-enough in
+        let long-enough = enough L scratchNumbers limit-checked (omega arith) in
+        let ended = serves .ends-as-fresh (Held· line t false free) scratchNumbers long-enough in
         let told : turnedRow Turned·· .figures ≡ card =
         ap (λ (x : Turning). turnRow x (jobOf (Turned·· .engine) (servedScreen x)) .figures) (ended .0) ∙ ended .1 ∙ sym c in
         Replied· line t (Ended screen) (ended .0) ∙ ap (λ (f : Figures). textOf (doneReply screen (f .verdict) f) ++ (10 ∷ [])) told

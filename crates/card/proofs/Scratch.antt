@@ -8,15 +8,14 @@ use borrow.Author.Tests.{le-leb, lt-leb}
 use Rattle.refusals.specs.Order.{refuseUnless}
 use Rattle.refusals.specs.declared.Refusal.the-variants.{Scratch}
 use Rattle.refusals.specs.declared.Verdict.the-variants.{Accepted, Refused}
-use Rattle.limits.specs.Limits.{limitCheck, scratchCheck}
+use Rattle.limits.specs.Limits.{mostPieces, pieceNumbers, scratchNumbers, limitCheck, scratchCheck}
 use Rattle.limits.proofs.Accepted.{limit-within}
-use Rattle.card.specs.Program.{scratchLength}
 
 -- more is accepted too
-pub enough : (L n : ℕ) → limitCheck L ≡ Accepted → scratchLength ≤ n → scratchCheck L n ≡ Accepted
+pub enough : (L n : ℕ) → limitCheck L ≡ Accepted → scratchNumbers ≤ n → scratchCheck L n ≡ Accepted
 unfolding scratchCheck
-enough L n h more = ap (λ (t : Bool). refuseUnless t Scratch) (le-leb (16 * L) n (omega (arith, limit-within L h .1)))
+enough L n h more = ap (λ (t : Bool). refuseUnless t Scratch) (le-leb (pieceNumbers * L) n (omega (arith, limit-within L h .1)))
 
-pub one-fewer : scratchCheck 64 (scratchLength - 1) ≡ Refused Scratch
+pub one-fewer : scratchCheck mostPieces (scratchNumbers - 1) ≡ Refused Scratch
 unfolding scratchCheck
-one-fewer = ap (λ (t : Bool). refuseUnless t Scratch) (lt-leb (16 * 64) (scratchLength - 1) (omega arith))
+one-fewer = ap (λ (t : Bool). refuseUnless t Scratch) (lt-leb (pieceNumbers * mostPieces) (scratchNumbers - 1) (omega arith))

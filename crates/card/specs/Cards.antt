@@ -5,6 +5,7 @@ use mathlib.Core.List.{List, [], _∷_, _++_}
 use mathlib.Core.Path.{_≡_}
 use Prim.Native.Nat.{ℕ}
 use lib.Ieee.{Float}
+use Rattle.limits.specs.Limits.{scratchNumbers}
 use Rattle.fins.specs.declared.FinSet.{FinSet}
 use Rattle.fins.specs.declared.NumberedSet.the-variants.{Known as setKnown}
 use Rattle.forms.specs.declared.Form.{Form}
@@ -22,7 +23,7 @@ use Rattle.engines.specs.Engines.{holdsJob, nextScreen}
 use Rattle.engines.specs.Calls.{sinceThen, engineNow, holdsOver, AsAlone, OnScreen, DrawnOnScreen}
 use Rattle.lines.specs.Lines.{Memory, setReply, doneReply}
 use Rattle.inputs.specs.Inputs.{reply, leftByLine, leftByLines}
-use Rattle.card.specs.Program.{scratchLength, atFirst}
+use Rattle.card.specs.Program.{atFirst}
 use Rattle.card.specs.Screens.{callsOver}
 
 -- a line of a form that holds a whole set, `(set ..)` or `(submit N (set ..))`, and what that writes
@@ -73,7 +74,7 @@ module _ (before : List (List ℕ)) (submission : List ℕ) (since : List (List 
     setNow = setAfter set points L ownSince
 
     abbrev pub cardNow : Figures
-    cardNow = setFigures setNow points L scratchLength
+    cardNow = setFigures setNow points L scratchNumbers
 
     pub record CardOnLines : Type 0 where
       -- the engine is the one that the calls of these lines leave, so that what holds of a job on its screen, of its

@@ -12,6 +12,7 @@ use lib.Ieee.{Float}
 use Rattle.floats.specs.Operations.{bits}
 use Rattle.tokens.specs.Tokens.{lineBytes}
 use Rattle.tokens.specs.Text.{text}
+use Rattle.limits.specs.Limits.{scratchNumbers}
 use Rattle.reads.specs.Reads.{brought, atEnd, mostRead}
 use Rattle.lent_engines.specs.Memory.{engineNumbers, engineCounts}
 use Rattle.lent_engines.specs.Lent.{Room}
@@ -26,14 +27,10 @@ use Rattle.card.specs.declared.Turn.{Turn}
 use Rattle.card.specs.declared.Last.{Last}
 use Rattle.card.specs.declared.End.{End}
 
--- "no run needs more than 1,024 numbers of scratch; .. the program lends just that many" (document 02, Paper 8)
-abbrev pub scratchLength : ℕ
-scratchLength = 1024
-
--- before the first line: a scratch of zeros, and the engine that lists of zeros hold, with no job and none served
--- (`no-job-at-first`)
+-- before the first line: a scratch of zeros, of which "no run needs more ..; the program lends just that many"
+-- (document 02, Paper 8), and the engine that lists of zeros hold, with no job and none served (`no-job-at-first`)
 unfoldable pub atFirst : Memory
-atFirst = memoryIn (replicate scratchLength (bits 0)) (replicate engineNumbers (bits 0)) (replicate engineCounts 0)
+atFirst = memoryIn (replicate scratchNumbers (bits 0)) (replicate engineNumbers (bits 0)) (replicate engineCounts 0)
 
 -- what is told on standard error, by whether every line was answered (docs/FORMS.md, "Where a read or a write fails")
 unfoldable pub told : Bool → List ℕ

@@ -311,7 +311,7 @@ fn run(
 fn answer_input() {
     let mut buffer = io::buffer();
     let mut chunk = io::large_buffer();
-    let mut scratch = [0.0; 1024];
+    let mut scratch = [0.0; limits::SCRATCH_NUMBERS];
     let mut engine_numbers = [0.0; ENGINE_NUMBERS];
     let mut engine_counts = [0; ENGINE_COUNTS];
     let mut out = io::large_buffer();

@@ -17,6 +17,7 @@ use Rattle.floats.proofs.Order.{not-lt-through, below-through, le-not-below, be
 use Rattle.planforms.specs.Planforms.{heightAt, pairCount}
 use Rattle.segments.specs.Segments.{next}
 use Rattle.sorting.specs.Sorted.{sorted}
+use Rattle.limits.specs.Limits.{mostPoints}
 use Rattle.chords.specs.Chords.{crossed, edgeCrossed, edgeCrossing, crossings, outlineCrossings}
 use Rattle.chords.specs.Edges.{crossingsAmong, Holding, Near, Kept}
 use Rattle.chords.proofs.Crossed.{from-first, from-second, from-neither}
@@ -140,7 +141,7 @@ closed points (suc n) lo hi i edges after count found below above c p room e f w
 
 -- ---- the whole list
 module _ (points : List Float) (lo hi : Float) (edges : List ℕ) where
-  pub all-near : (count : ℕ) → pairCount points ≤ 64 → length edges ≡ 64 → KeptTo points (pairCount points) lo hi (pairCount points) edges count → Near points lo hi edges count
+  pub all-near : (count : ℕ) → pairCount points ≤ mostPoints → length edges ≡ mostPoints → KeptTo points (pairCount points) lo hi (pairCount points) edges count → Near points lo hi edges count
   unfolding outlineCrossings
   all-near count b s w =
       let f = w .fewer in
@@ -152,7 +153,7 @@ module _ (points : List Float) (lo hi : Float) (edges : List ℕ) where
         holding = λ h u v. record {
           few = rw e (omega arith);
           each = λ k l. let l' : k < count = rw e at l in rw (start k l') (w .each k l');
-          every = rw (e, le-leb (pairCount points) 64 b, same-start points (pairCount points) h edges (take count edges) count start, w .same h u v);
+          every = rw (e, le-leb (pairCount points) mostPoints b, same-start points (pairCount points) h edges (take count edges) count start, w .same h u v);
         };
       }
 
@@ -164,9 +165,9 @@ module _ (points : List Float) (lo hi : Float) (edges : List ℕ) where
   unfolding outlineCrossings crossings sorted
   no-points e = none-near (λ h. rw e)
 
-  pub too-many : 64 < pairCount points → Near points lo hi edges 0
+  pub too-many : mostPoints < pairCount points → Near points lo hi edges 0
   unfolding outlineCrossings
-  too-many b = none-near (λ h. rw (lt-leb (pairCount points) 64 b))
+  too-many b = none-near (λ h. rw (lt-leb (pairCount points) mostPoints b))
 
 -- of one height
 pub at-one-height : {points : List Float} {h : Float} {edges : List ℕ} {count : ℕ} → Near points h h edges count → Holding points h (take count edges)

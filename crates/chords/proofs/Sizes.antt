@@ -1,5 +1,5 @@
--- The ends of the chords at a height of at most 2^35 are at most 2^116, and there are at most 64 of them, of a planform within its limits.
--- Assumes nothing.
+-- The ends of the chords at a height of at most 2^35 are at most 2^116, and at most as many as an outline may have points, of a planform
+-- within its limits. Assumes nothing.
 use mathlib.Core.Path.{_≡_, refl, sym, _∙_, subst}
 use mathlib.Core.List.{List, [], _∷_}
 use mathlib.Core.Bool.{Bool, true, false, cond}
@@ -24,6 +24,7 @@ use Rattle.rounding.proofs.Gaps.{sub-above}
 use Rattle.rounding.proofs.Roots.{root-below}
 use Rattle.sorting.specs.Sorted.{Each, sorted}
 use Rattle.sorting.proofs.Sorted.{sorted-each, sorted-length}
+use Rattle.limits.specs.Limits.{mostPoints}
 use Rattle.limits.proofs.Lengths.{Length, Height, PositiveLength}
 use Rattle.planforms.specs.Planforms.{xAt, heightAt, pairCount}
 use Rattle.segments.specs.Segments.{next}
@@ -41,11 +42,11 @@ pub record Ends (p n : ℕ) (l : List Float) : Type 0 where
 none : (p n : ℕ) → Ends p n []
 none p n = record { bounded = tt; few = zero-le }
 
-two-of : (b : Bool) (x y : Float) → Below 116 x → Below 116 y → Ends 116 64 (cond b (x ∷ y ∷ []) [])
+two-of : (b : Bool) (x y : Float) → Below 116 x → Below 116 y → Ends 116 mostPoints (cond b (x ∷ y ∷ []) [])
 two-of true x y h k = record { bounded = (h, (k, tt)); few = lit≤ tt }
-two-of false x y h k = none 116 64
+two-of false x y h k = none 116 mostPoints
 
-trapezoid-ends : (root tip span sweep h : Float) → Below 35 h → PositiveLength root → Length tip → PositiveLength span → Length sweep → Ends 116 64 (trapezoidEnds root tip span sweep h)
+trapezoid-ends : (root tip span sweep h : Float) → Below 35 h → PositiveLength root → Length tip → PositiveLength span → Length sweep → Ends 116 mostPoints (trapezoidEnds root tip span sweep h)
 trapezoid-ends root tip span sweep h b pr pt ps pw =
     let up-to = within (6 ∷ 6 ∷ 6 ∷ 35 ∷ []) (20 ∷ []) (root ∷ tip ∷ sweep ∷ h ∷ []) (span ∷ []) (pr .length .below, (pt .below, (pw .below, (b, tt)))) (ps .above, tt) in
     two-of (inSpan span h) _ _ (up-to (given 2 times (given 3 over 0)) 116 tt) (up-to (given 2 times (given 3 over 0) plus given 0 plus (given 1 less given 0) times (given 3 over 0)) 116 tt)
@@ -67,7 +68,7 @@ max-not-below x = go (ne x x) (lt x (bits 0)) refl
     go false true e = zero-not-below
     go false false e = e
 
-ellipse-ends : (root span h : Float) → Below 35 h → PositiveLength root → PositiveLength span → Ends 116 64 (ellipseEnds root span h)
+ellipse-ends : (root span h : Float) → Below 35 h → PositiveLength root → PositiveLength span → Ends 116 mostPoints (ellipseEnds root span h)
 ellipse-ends root span h b pr ps =
     let f = h ⊘ span in
     let x = one ⊖ f ⊗ f in
@@ -121,21 +122,21 @@ crossings-ends points n h b p (suc i) l =
     go true c e = record { bounded = (c tt, e .bounded); few = (let k = e .few in omega arith) }
     go false c e = record { bounded = e .bounded; few = le-trans (e .few) (le-suc i) }
 
-outline-ends : (points : List Float) (h : Float) → Below 35 h → ((i : ℕ) → i < pairCount points → Length (xAt points i) × Height (heightAt points i)) → Ends 116 64 (outlineCrossings points h)
+outline-ends : (points : List Float) (h : Float) → Below 35 h → ((i : ℕ) → i < pairCount points → Length (xAt points i) × Height (heightAt points i)) → Ends 116 mostPoints (outlineCrossings points h)
 unfolding outlineCrossings
 outline-ends points h b p =
     let n = pairCount points in
-    go (leb n 64) (leb→le n 64) (crossings-ends points n h b p n (le-refl n))
+    go (leb n mostPoints) (leb→le n mostPoints) (crossings-ends points n h b p n (le-refl n))
   where
-    go : (t : Bool) → (T t → pairCount points ≤ 64) → Ends 116 (pairCount points) (crossings points (pairCount points) h (pairCount points))
-        → Ends 116 64 (cond t (sorted (crossings points (pairCount points) h (pairCount points))) [])
+    go : (t : Bool) → (T t → pairCount points ≤ mostPoints) → Ends 116 (pairCount points) (crossings points (pairCount points) h (pairCount points))
+        → Ends 116 mostPoints (cond t (sorted (crossings points (pairCount points) h (pairCount points))) [])
     go true l e =
         let c = crossings points (pairCount points) h (pairCount points) in
         record { bounded = sorted-each (Below 116) c (e .bounded); few = rw (sorted-length c) (le-trans (e .few) (l tt)) }
-    go false l e = none 116 64
+    go false l e = none 116 mostPoints
 
 -- ---- any planform
-pub ends-at : (planform : Planform) (points : List Float) (h : Float) → Sized planform points → Below 35 h → Ends 116 64 (endsAt planform points h)
+pub ends-at : (planform : Planform) (points : List Float) (h : Float) → Sized planform points → Below 35 h → Ends 116 mostPoints (endsAt planform points h)
 unfolding endsAt
 ends-at (Trapezoid root tip span sweep) points h s b = trapezoid-ends root tip span sweep h b (s .0) (s .1 .0) (s .1 .1 .0) (s .1 .1 .1)
 ends-at (Ellipse root span) points h s b = ellipse-ends root span h b (s .0) (s .1)

@@ -9,11 +9,13 @@
 // 29.
 //
 // Most outlines are crossed twice: that one chord needs no list. Where there are more crossings, they are listed.
+use limits::MOST_POINTS;
 use planforms::Planform;
 ghost use mathlib.Core.Path.{_≡_};
 ghost use Prim.Native.Nat.{_<_};
 ghost use lib.ListN.{length, take};
 ghost use Rattle.sorting.specs.Sorted.{Written};
+ghost use Rattle.limits.specs.Limits.{mostPoints};
 ghost use Rattle.planforms.specs.Planforms.{pairCount};
 ghost use Rattle.segments.specs.Segments.{next};
 ghost use Rattle.chords.specs.Chords.{inSpan, trapezoidEnds, ellipseEnds, crossed, edgeCrossed, edgeCrossing, outlineCrossings, endsAt, chordsOf};
@@ -48,14 +50,14 @@ pub fn chords_at(planform: Planform, points: &[f64], edges: &[u8], h: f64) -> Ch
 }
 
 // Lists the edges that a height from lo to hi can cross, in order, and returns how many there are.
-pub fn edges_near(points: &[f64], lo: f64, hi: f64, edges: &mut [u8; 64]) -> usize
+pub fn edges_near(points: &[f64], lo: f64, hi: f64, edges: &mut [u8; MOST_POINTS]) -> usize
     ensures { λ r. ⌜ Near (now (points .entry)) lo hi (now (edges .exit)) r ⌝ }
 {
     let n = points.len() / 2;
     if n == 0 {
         return 0;
     }
-    if 64 < n {
+    if MOST_POINTS < n {
         return 0;
     }
     let first_below = points[1] <= lo;
@@ -84,7 +86,7 @@ pub fn edges_near(points: &[f64], lo: f64, hi: f64, edges: &mut [u8; 64]) -> usi
 
 // Lists edge i after the count listed, unless both of its ends are at most the least height, or both above the largest.
 fn keep_edge(edges: &mut [u8], count: usize, i: usize, below: bool, above: bool) -> usize
-    requires { ⌜ (count < length (now edges)) × (i < 64) ⌝ }
+    requires { ⌜ (count < length (now edges)) × (i < mostPoints) ⌝ }
     ensures { λ r. ⌜ Kept (now (edges .entry)) (now (edges .exit)) count i below above r ⌝ }
 {
     if below {
@@ -98,16 +100,16 @@ fn keep_edge(edges: &mut [u8], count: usize, i: usize, below: bool, above: bool)
 }
 
 // Writes the sorted crossings of an outline over the start of xs, and returns how many there are.
-pub fn outline_crossings(points: &[f64], h: f64, xs: &mut [f64; 64]) -> usize
+pub fn outline_crossings(points: &[f64], h: f64, xs: &mut [f64; MOST_POINTS]) -> usize
     ensures { λ r. ⌜ Written (outlineCrossings (now (points .entry)) h) (now (xs .entry)) (now (xs .exit)) r ⌝ }
 {
-    let mut edges = [0; 64];
+    let mut edges = [0; MOST_POINTS];
     let n = edges_near(points, h, h, &mut edges);
     crossings_of(points, &edges[..n], h, xs)
 }
 
 // The same from a list of edges that has every crossing at h.
-pub fn crossings_of(points: &[f64], edges: &[u8], h: f64, xs: &mut [f64; 64]) -> usize
+pub fn crossings_of(points: &[f64], edges: &[u8], h: f64, xs: &mut [f64; MOST_POINTS]) -> usize
     requires { ⌜ Holding (now points) h (now edges) ⌝ }
     ensures { λ r. ⌜ Written (outlineCrossings (now (points .entry)) h) (now (xs .entry)) (now (xs .exit)) r ⌝ }
 {

@@ -22,7 +22,7 @@ use Rattle.refusals.proofs.Order.{in-order, after-accepted, after-refused}
 use Rattle.planforms.specs.declared.Planform.{Planform}
 use Rattle.planforms.specs.declared.Planform.the-variants.{Trapezoid, Ellipse, Outline}
 use Rattle.planforms.specs.Planforms.{pairCount}
-use Rattle.limits.specs.Limits.{zeroAllowed, negativeAllowed, shortest, longest, isWithin, lengthWithin, lengthCheck, drillXField, drillHeightField, rootChordField, tipChordField, spanField, sweepField, pointXField, pointYField}
+use Rattle.limits.specs.Limits.{mostPoints, outlineNumbers, zeroAllowed, negativeAllowed, shortest, longest, isWithin, lengthWithin, lengthCheck, drillXField, drillHeightField, rootChordField, tipChordField, spanField, sweepField, pointXField, pointYField}
 use Rattle.outlines.specs.Outlines.{arePairs, pointCheck, pointsCheck, outlineCheck}
 use Rattle.outlines.proofs.Accepted.{points-within}
 use Rattle.outlines.specs.Outlines.{planformCheck}
@@ -114,7 +114,7 @@ module _ (points : List Float) (accepted : outlineCheck points ≡ Accepted) whe
   unfolding outlineCheck
   whole-pairs =
       let p = holds (arePairs points) _ (both _ _ accepted .0) in
-      eqb-true (length points % 2) 0 (both-true (eqb (length points % 2) 0) (leb 3 (pairCount points)) (both-true (eqb (length points % 2) 0 && leb 3 (pairCount points)) (leb (pairCount points) 64) p .0) .0)
+      eqb-true (length points % 2) 0 (both-true (eqb (length points % 2) 0) (leb 3 (pairCount points)) (both-true (eqb (length points % 2) 0 && leb 3 (pairCount points)) (leb (pairCount points) mostPoints) p .0) .0)
 
   point : (i : ℕ) → i < pairCount points → pointCheck points i ≡ Accepted
   unfolding outlineCheck
@@ -133,5 +133,5 @@ module _ (points : List Float) (accepted : outlineCheck points ≡ Accepted) whe
       by zero e l = subst (λ (j : ℕ). IsLength (at points j)) (let z : 2 * (k / 2) ≡ k = omega arith in z) (is-length pointXField (at points (2 * (k / 2))) (both _ _ checked .0))
       by (suc r) e l = subst (λ (j : ℕ). IsLength (at points j)) (let z : 2 * (k / 2) + 1 ≡ k = omega arith in z) (is-length pointYField (at points (2 * (k / 2) + 1)) (both _ _ (both _ _ checked .1) .0))
 
-  pub outline-fits : (length points ≤ 128) × (0 < pairCount points)
+  pub outline-fits : (length points ≤ outlineNumbers) × (0 < pairCount points)
   outline-fits = let w = points-within points accepted in (omega (arith, whole-pairs), omega arith)

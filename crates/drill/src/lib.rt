@@ -10,6 +10,7 @@ ghost use lib.IntN.{natAbs, _+ℤ_};
 ghost use lib.ListN.{length, take};
 ghost use mathlib.Core.List.{[], _∷_, map};
 ghost use Rattle.refusals.specs.Given.{IsAnswer};
+ghost use Rattle.limits.specs.Limits.{outlineNumbers};
 ghost use Rattle.planforms.specs.Planforms.{pairCount};
 ghost use Rattle.polygons.specs.Polygons.{cornerCount};
 ghost use Rattle.polygons.specs.Bounds.{InReach};
@@ -64,11 +65,11 @@ fn are_whole(points: &[f64]) -> bool
 }
 
 // An outline's coordinates in steps, from the start of the array on.
-fn steps_of(points: &[f64]) -> [i64; 128]
-    requires { ⌜ AreLengths (now points) × (length (now points) ≤ 128) ⌝ }
+fn steps_of(points: &[f64]) -> [i64; limits::OUTLINE_NUMBERS]
+    requires { ⌜ AreLengths (now points) × (length (now points) ≤ outlineNumbers) ⌝ }
     ensures { λ r. ⌜ take (length (now (points .entry))) r ≡ map stepsOf (map exactOf (now (points .entry))) ⌝ }
 {
-    let mut corners = [0i64; 128];
+    let mut corners = [0i64; limits::OUTLINE_NUMBERS];
     let mut i: usize = 0;
     while i < points.len() {
         let coordinate = steps(points[i]);
@@ -120,7 +121,7 @@ fn drill_trapezoid(
 }
 
 fn drill_outline(points: &[f64], x_m: f64, height_m: f64) -> Answer
-    requires { ⌜ AreLengths («x_m» ∷ «height_m» ∷ now points) × (length (now points) ≤ 128) × (0 < pairCount (now points)) ⌝ }
+    requires { ⌜ AreLengths («x_m» ∷ «height_m» ∷ now points) × (length (now points) ≤ outlineNumbers) × (0 < pairCount (now points)) ⌝ }
     ensures { λ r. ⌜ r ≡ inSteps (map exactOf (now (points .entry))) (exactOf «x_m») (exactOf «height_m») ⌝ }
 {
     if !(is_whole(x_m) & is_whole(height_m) & are_whole(points)) {

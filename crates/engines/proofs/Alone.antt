@@ -19,6 +19,7 @@ use Rattle.jobs.specs.declared.Progress.the-variants.{Ended}
 use Rattle.jobs.specs.declared.Row.{Row}
 use Rattle.jobs.specs.declared.Stepped.{Stepped}
 use Rattle.refusals.specs.Calls.{CallOf}
+use Rattle.limits.specs.Limits.{scratchNumbers}
 use Rattle.jobs.specs.Jobs.{stepRow, replyRow, stepAfter, steppedOn, steppedBy, stepOf}
 use Rattle.jobs.specs.Calls as alone
 use Rattle.jobs.proofs.Laws.{yes, no, step-on, after-both}
@@ -40,7 +41,7 @@ pub record Served (engine : Engine) (screen n : ℕ) : Type 0 where
   pub turn-is : turnOf engine n ≡ turnedAt engine (placeOf screen) (steppedAt (engine .screens) screen (steppedOn (jobOf engine screen)))
   pub step-is : stepOf (jobOf engine screen) n ≡ steppedBy (steppedOn (jobOf engine screen))
 
-pub served : (engine : Engine) (screen : ℕ) → isScreen screen ≡ true → (n : ℕ) (c : Bool) → ltb n 1024 ≡ c
+pub served : (engine : Engine) (screen : ℕ) → isScreen screen ≡ true → (n : ℕ) (c : Bool) → ltb n scratchNumbers ≡ c
     → screen ≡ cond c 0 (nextScreen (engine .screens)) → Served engine screen n
 served engine screen s n true c e = absurd (not-suc-le-zero (subst (λ (k : ℕ). 1 ≤ k) e (in-eight screen s .0)))
 served engine screen s n false c e =
@@ -75,7 +76,7 @@ module _ (engine : Engine) (w : EightScreens engine) (screen : ℕ) (holds : hol
         → (jobOf (turnOf engine (length scratch) .answer .engine) screen ≡ alone.jobBy (jobOf engine screen) (alone.step scratch))
         × (turnedRow (turnOf engine (length scratch) .answer) ≡ alone.answerBy (jobOf engine screen) (alone.step scratch))
     own-served e =
-        let s = served engine screen is-screen (length scratch) (ltb (length scratch) 1024) refl e in (
+        let s = served engine screen is-screen (length scratch) (ltb (length scratch) scratchNumbers) refl e in (
           ap (λ (t : CallOf Turned). jobOf (t .answer .engine) screen) (s .turn-is) ∙ job-set Job·
               ∙ sym (ap (λ (c : CallOf Stepped). c .answer .job) (s .step-is)),
           ap (λ (t : CallOf Turned). turnedRow (t .answer)) (s .turn-is) ∙ row-is (Job· .ended)

@@ -14,6 +14,7 @@ use Rattle.figures.proofs.Owned.{SetF64}
 use Rattle.jobs.specs.declared.Job.{Job}
 use Rattle.jobs.specs.declared.Stepped.{Stepped}
 use Rattle.refusals.specs.Calls.{CallOf, leavesAlone}
+use Rattle.limits.specs.Limits.{scratchNumbers}
 use Rattle.jobs.specs.Jobs.{steppedOn}
 use Rattle.jobs.specs.Calls.{stripsBy}
 use Rattle.jobs.specs.Calls as alone
@@ -33,7 +34,7 @@ turn-writes : (engine : Engine) (screen : ℕ) → holdsJob (engine .screens) sc
     → (scratch : List Float) → screen ≡ screenOf engine (turn scratch)
     → turnOf engine (length scratch) .leaves scratch ≡ scratchAfter (stripsBy (jobOf engine screen) (alone.step scratch)) scratch
 turn-writes engine screen holds scratch e =
-    let s = served engine screen (holds-is-screen (engine .screens) screen holds) (length scratch) (ltb (length scratch) 1024) refl e in
+    let s = served engine screen (holds-is-screen (engine .screens) screen holds) (length scratch) (ltb (length scratch) scratchNumbers) refl e in
     ap (λ (t : CallOf Turned). t .leaves scratch) (s .turn-is) ∙ sym (ap (λ (c : CallOf Stepped). c .leaves scratch) (s .step-is))
     ∙ writes-own-strip (jobOf engine screen) scratch
 
@@ -46,7 +47,7 @@ Still· engine t = leavesAlone (record { screens = engine .screens; job = Job· 
 
 pub turn-no-shorter : (engine : Engine) (scratch : List Float) → length scratch ≤ length (turnOf engine (length scratch) .leaves scratch)
 unfolding turnOf servedOf
-turn-no-shorter engine scratch = by (ltb (length scratch) 1024) (ltb 0 (nextScreen (engine .screens)))
+turn-no-shorter engine scratch = by (ltb (length scratch) scratchNumbers) (ltb 0 (nextScreen (engine .screens)))
   where
     by : (c d : Bool) → length scratch
         ≤ length (cond c (Still· engine Short) (cond d (steppedAt (engine .screens) (nextScreen (engine .screens)) (steppedOn (Job· engine))) (Still· engine Idle)) .leaves scratch)

@@ -19,6 +19,7 @@ use Rattle.refusals.specs.Calls.{CallOf}
 use Rattle.refusals.specs.declared.Verdict.{Verdict}
 use Rattle.refusals.specs.declared.Verdict.the-variants.{Accepted, Refused}
 use Rattle.refusals.specs.Order.{isRefused}
+use Rattle.limits.specs.Limits.{scratchNumbers}
 use Rattle.jobs.specs.Jobs.{steppedOn, changeOf, madeOf}
 use Rattle.jobs.specs.Calls.{isTaken}
 use Rattle.jobs.proofs.Laws.{yes, change-ended, change-refused, change-taken}
@@ -112,13 +113,13 @@ module _ (engine : Engine) where
     unfolding turnOf
     turn-from s e = ap (turnedAt engine (pickOf screens·)) e
 
-    pub turn-short : n < 1024 → turnOf engine n .answer .engine ≡ engine
+    pub turn-short : n < scratchNumbers → turnOf engine n .answer .engine ≡ engine
     turn-short h = ap (λ (t : CallOf Turned). t .answer .engine) (turn-from _ (served-short screens· _ n h)) ∙ same-job (pickOf screens·)
 
-    pub turn-idle : 1024 ≤ n → next· ≤ 0 → turnOf engine n .answer .engine ≡ engine
+    pub turn-idle : scratchNumbers ≤ n → next· ≤ 0 → turnOf engine n .answer .engine ≡ engine
     turn-idle h z = ap (λ (t : CallOf Turned). t .answer .engine) (turn-from _ (served-idle screens· _ n next· refl h z)) ∙ same-job (pickOf screens·)
 
-    pub turn-serves : 1024 ≤ n → 0 < next· → turnOf engine n ≡ turnedAt engine (placeOf next·) (steppedAt screens· next· (steppedOn (jobAt engine (placeOf next·))))
+    pub turn-serves : scratchNumbers ≤ n → 0 < next· → turnOf engine n ≡ turnedAt engine (placeOf next·) (steppedAt screens· next· (steppedOn (jobAt engine (placeOf next·))))
     unfolding pickOf
     turn-serves h z = turn-from _ (served-step screens· _ n next· refl h z)
 
@@ -163,7 +164,7 @@ module _ (engine : Engine) where
         → changeAt engine screen density ≡ record { engine = withJob engine (placeOf screen) screens· (Changed· .job); reply = Changed· .reply }
     change-goes h = change-from _ (change-held screens· _ screen density h)
 
-turn-leaves : (engine : Engine) (scratch : List Float) (c d : Bool) → ltb (length scratch) 1024 ≡ c → ltb 0 (nextScreen (engine .screens)) ≡ d
+turn-leaves : (engine : Engine) (scratch : List Float) (c d : Bool) → ltb (length scratch) scratchNumbers ≡ c → ltb 0 (nextScreen (engine .screens)) ≡ d
     → Leaves engine (cond c 0 (nextScreen (engine .screens))) (turnOf engine (length scratch) .answer .engine)
 turn-leaves engine scratch true d c z = the-same (turn-short engine (length scratch) (ltb-true _ _ c))
 turn-leaves engine scratch false false c z = the-same (turn-idle engine (length scratch) (ltb-false _ _ c) (ltb-false _ _ z))
@@ -184,7 +185,7 @@ change-leaves engine screen density true h =
     its-job _ (holds-is-screen (engine .screens) screen h) (ap (λ (t : Called). t .engine) (change-goes engine screen density h))
 
 pub leaves : (engine : Engine) (call : Call) → Leaves engine (screenOf engine call) (engineBy engine call)
-leaves engine (turn scratch) = turn-leaves engine scratch (ltb (length scratch) 1024) (ltb 0 (nextScreen (engine .screens))) refl refl
+leaves engine (turn scratch) = turn-leaves engine scratch (ltb (length scratch) scratchNumbers) (ltb 0 (nextScreen (engine .screens))) refl refl
 leaves engine (submit screen set points L) = submit-leaves engine screen set points L (isFree (engine .screens) screen) (madeOf set points L .job .ended) refl refl
 leaves engine (change screen density) = change-leaves engine screen density (holdsJob (engine .screens) screen) refl
 
@@ -208,12 +209,12 @@ pub changes-nothing : ChangesNothing
 changes-nothing =
     record {
       short-turn = turn-short;
-      idle-turn = λ engine n z. by engine n (ltb n 1024) refl z;
+      idle-turn = λ engine n z. by engine n (ltb n scratchNumbers) refl z;
       density-kept = λ engine screen density r. kept-by engine screen density (holdsJob (engine .screens) screen) refl r;
       refused = λ engine screen set points L r. refused-by engine screen set points L (isFree (engine .screens) screen) (madeOf set points L .job .ended) refl refl r;
     }
   where
-    by : (engine : Engine) (n : ℕ) (c : Bool) → ltb n 1024 ≡ c → nextScreen (engine .screens) ≡ 0 → turnOf engine n .answer .engine ≡ engine
+    by : (engine : Engine) (n : ℕ) (c : Bool) → ltb n scratchNumbers ≡ c → nextScreen (engine .screens) ≡ 0 → turnOf engine n .answer .engine ≡ engine
     by engine n true c z = turn-short engine n (ltb-true _ _ c)
     by engine n false c z = turn-idle engine n (ltb-false _ _ c) (omega (arith, z))
 

@@ -14,7 +14,7 @@ use Rattle.refusals.specs.declared.Refusal.the-variants.{Scratch, Density as no
 use Rattle.refusals.specs.declared.Verdict.{Verdict}
 use Rattle.refusals.specs.declared.Verdict.the-variants.{Accepted, Refused}
 use Rattle.refusals.specs.Order.{isRefused, refuseUnless}
-use Rattle.limits.specs.Limits.{limitCheck, scratchCheck}
+use Rattle.limits.specs.Limits.{pieceNumbers, scratchNumbers, limitCheck, scratchCheck}
 use Rattle.limits.proofs.Accepted.{limit-within}
 use Rattle.materials.specs.declared.Density.{Density}
 use Rattle.fins.specs.declared.FinSet.{FinSet}
@@ -63,15 +63,15 @@ module _ (screens : Screens) where
   none screen (suc n) h = absurd (not-suc-le-zero h)
 
 -- ---- a turn
--- a limit is at most 64, so that 1,024 numbers serve every step
-pub long-enough : (over : Bool) (L n : ℕ) → 1024 ≤ n → isShort over L n ≡ false
+-- whatever its limit, these numbers serve every step
+pub long-enough : (over : Bool) (L n : ℕ) → scratchNumbers ≤ n → isShort over L n ≡ false
 unfolding isRefused scratchCheck
 long-enough true L n h = refl
 long-enough false L n h = by (limitCheck L) refl
   where
     by : (v : Verdict) → limitCheck L ≡ v → (not (isRefused v) && isRefused (scratchCheck L n)) ≡ false
     by (Refused r) e = refl
-    by Accepted e = ap (λ (b : Bool). isRefused (refuseUnless b Scratch)) (le-leb (16 * L) n (let most = limit-within L e .1 in omega (arith, most, h)))
+    by Accepted e = ap (λ (b : Bool). isRefused (refuseUnless b Scratch)) (le-leb (pieceNumbers * L) n (let most = limit-within L e .1 in omega (arith, most, h)))
 
 -- a turn that serves a screen tells which
 pub served-is : (screen : ℕ) (over : Bool) → servedScreen (turnAfter screen over) ≡ screen
@@ -82,18 +82,18 @@ module _ (screens : Screens) (job : Job) (n : ℕ) where
   abbrev Idle· : CallOf Served
   Idle· = leavesAlone (record { screens = screens; job = job; turn = Idle })
 
-  pub served-short : n < 1024 → servedOf screens job n ≡ leavesAlone (record { screens = screens; job = job; turn = Short })
+  pub served-short : n < scratchNumbers → servedOf screens job n ≡ leavesAlone (record { screens = screens; job = job; turn = Short })
   unfolding servedOf
   served-short h = yes _ _ (lt-ltb _ _ h)
 
-  pub served-step : (screen : ℕ) → screen ≡ nextScreen screens → 1024 ≤ n → 0 < screen → servedOf screens job n ≡ steppedAt screens screen (steppedOn job)
+  pub served-step : (screen : ℕ) → screen ≡ nextScreen screens → scratchNumbers ≤ n → 0 < screen → servedOf screens job n ≡ steppedAt screens screen (steppedOn job)
   unfolding servedOf
   served-step screen e h k =
       no _ _ (le-ltb _ _ h)
       ∙ ap (λ (m : ℕ). cond (ltb 0 m) (steppedAt screens m (steppedOn job)) Idle·) (sym e)
       ∙ yes _ _ (lt-ltb _ _ k)
 
-  pub served-idle : (screen : ℕ) → screen ≡ nextScreen screens → 1024 ≤ n → screen ≤ 0 → servedOf screens job n ≡ Idle·
+  pub served-idle : (screen : ℕ) → screen ≡ nextScreen screens → scratchNumbers ≤ n → screen ≤ 0 → servedOf screens job n ≡ Idle·
   unfolding servedOf
   served-idle screen e h k =
       no _ _ (le-ltb _ _ h)

@@ -15,6 +15,7 @@ use Rattle.materials.specs.declared.Density.{Density}
 use Rattle.fins.specs.declared.FinSet.{FinSet}
 use Rattle.floats.proofs.Bools.{and-right}
 use Rattle.refusals.specs.Calls.{CallOf}
+use Rattle.limits.specs.Limits.{scratchNumbers}
 use Rattle.jobs.specs.Jobs.{madeOf}
 use Rattle.engines.specs.declared.Engine.{Engine}
 use Rattle.engines.specs.declared.Turned.{Turned}
@@ -133,7 +134,7 @@ module _ (engine : Engine) (screen m : ℕ) (lm : m < 8) (far : (engine .screens
       call-before engine screen m m call calls waits (omega (arith, zero-more))
       (ih m lm (ap (λ (t : ℕ). (t + m) % 8 + 1) (keeps .order) ∙ far) (keeps .waits) (omega (arith, l, zero-more, counted)))
 
-  module _ (scratch : List Float) (long : 1024 ≤ length scratch) (calls : List Call)
+  module _ (scratch : List Float) (long : scratchNumbers ≤ length scratch) (calls : List Call)
       (l : m < length (servedOver engine (turn scratch ∷ calls))) where
     abbrev Next· : ℕ
     Next· = nextScreen (engine .screens)
@@ -142,10 +143,10 @@ module _ (engine : Engine) (screen m : ℕ) (lm : m < 8) (far : (engine .screens
     After· = turnOf engine (length scratch) .answer .engine
 
     served : screenOf engine (turn scratch) ≡ Next·
-    served = ap (λ (b : Bool). cond b 0 Next·) (le-ltb (length scratch) 1024 long)
+    served = ap (λ (b : Bool). cond b 0 Next·) (le-ltb (length scratch) scratchNumbers long)
 
     counts-one : length (servedBy engine (turn scratch)) ≡ 1
-    counts-one = ap (λ (b : Bool). length (cond b [] (Next· ∷ []))) (le-ltb (length scratch) 1024 long)
+    counts-one = ap (λ (b : Bool). length (cond b [] (Next· ∷ []))) (le-ltb (length scratch) scratchNumbers long)
 
     now-served : Next· ≡ screen → Served engine screen m (turn scratch ∷ calls)
     now-served e =
@@ -191,7 +192,7 @@ module _ (engine : Engine) (screen m : ℕ) (lm : m < 8) (far : (engine .screens
           | inr nearer ↦ later (b .0) (b .1 .1) nearer ih
         ]
 
-  by-turn : (scratch : List Float) (calls : List Call) (c : Bool) → ltb (length scratch) 1024 ≡ c
+  by-turn : (scratch : List Float) (calls : List Call) (c : Bool) → ltb (length scratch) scratchNumbers ≡ c
       → m < length (servedOver engine (turn scratch ∷ calls)) → Behind (turnOf engine (length scratch) .answer .engine) screen calls
       → Served engine screen m (turn scratch ∷ calls)
   by-turn scratch calls true c l ih =
@@ -203,7 +204,7 @@ found : (calls : List Call) (engine : Engine) (screen m : ℕ) → m < 8 → (en
     → m < length (servedOver engine calls) → Served engine screen m calls
 found [] engine screen m lm far waits l = let k = ap length (none-over engine) in absurd (let z : ⊥ = omega (arith, l, k) in z)
 found (turn scratch ∷ calls) engine screen m lm far waits l =
-    by-turn engine screen m lm far waits scratch calls (ltb (length scratch) 1024) refl l
+    by-turn engine screen m lm far waits scratch calls (ltb (length scratch) scratchNumbers) refl l
     (found calls (turnOf engine (length scratch) .answer .engine) screen)
 found (submit other set points L ∷ calls) engine screen m lm far waits l =
     kept engine screen m lm far waits (submit other set points L) calls refl (submit-keeps engine screen waits other set points L) l
@@ -250,7 +251,7 @@ served-at screen (first ∷ before) engine call after e =
 
 one-served : (engine : Engine) (screen : ℕ) (scratch : List Float) → 1 ≤ screen → screen ≡ screenOf engine (turn scratch)
     → servedBy engine (turn scratch) ≡ screen ∷ []
-one-served engine screen scratch some e = by (ltb (length scratch) 1024) e
+one-served engine screen scratch some e = by (ltb (length scratch) scratchNumbers) e
   where
     by : (c : Bool) → screen ≡ cond c 0 (nextScreen (engine .screens)) → cond c [] (nextScreen (engine .screens) ∷ []) ≡ screen ∷ []
     by true z = absurd (not-suc-le-zero (subst (λ (k : ℕ). 1 ≤ k) z some))

@@ -11,11 +11,11 @@ use lib.ListN.{length}
 use lib.Ieee.{Float}
 use Rattle.materials.specs.declared.Density.{Density}
 use Rattle.fins.specs.declared.FinSet.{FinSet}
-use Rattle.figures.specs.Answers.{mostSamples}
 use Rattle.jobs.specs.declared.Job.{Job}
 use Rattle.jobs.specs.declared.Replied.{Replied}
 use Rattle.jobs.specs.declared.Row.{Row}
 use Rattle.refusals.specs.Calls.{CallOf}
+use Rattle.limits.specs.Limits.{scratchNumbers, mostSamples}
 use Rattle.jobs.specs.Jobs.{replyRow, madeOf}
 use Rattle.jobs.specs.Calls as alone
 use Rattle.jobs.proofs.SampleCount as job
@@ -57,7 +57,7 @@ module _ (engine : Engine) (w : EightScreens engine) (all : AllSubmitted engine)
     abbrev Row· : CallOf Served → Row
     Row· s = turnedRow (turnedAt engine (pickOf (engine .screens)) s .answer)
 
-    turn-few : (c d : Bool) → ltb (length scratch) 1024 ≡ c → ltb 0 Next· ≡ d → Few (turnedRow (turnOf engine (length scratch) .answer))
+    turn-few : (c d : Bool) → ltb (length scratch) scratchNumbers ≡ c → ltb 0 Next· ≡ d → Few (turnedRow (turnOf engine (length scratch) .answer))
     unfolding turnOf
     turn-few true d c z =
         subst (λ (s : CallOf Served). Few (Row· s))
@@ -96,7 +96,7 @@ module _ (engine : Engine) (w : EightScreens engine) (all : AllSubmitted engine)
       subst (λ (s : Called). Few (replyRow (s .reply))) (sym (change-goes engine screen density h)) (held-few screen h (alone.change density))
 
   answer-few : (call : Call) → Few (answerBy engine call)
-  answer-few (turn scratch) = turn-few scratch (ltb (length scratch) 1024) (ltb 0 (nextScreen (engine .screens))) refl refl
+  answer-few (turn scratch) = turn-few scratch (ltb (length scratch) scratchNumbers) (ltb 0 (nextScreen (engine .screens))) refl refl
   answer-few (submit screen set points L) =
       submit-few screen set points L (isFree (engine .screens) screen) (madeOf set points L .job .ended) refl refl
   answer-few (change screen density) = change-few screen density (holdsJob (engine .screens) screen) refl

@@ -17,7 +17,7 @@ use Rattle.refusals.specs.declared.Verdict.{Verdict}
 use Rattle.refusals.specs.declared.Verdict.the-variants.{Accepted, Refused}
 use Rattle.refusals.specs.Order.{isRefused, refuseUnless, firstRefusal}
 use Rattle.refusals.proofs.Accepted.{both}
-use Rattle.limits.specs.Limits.{scratchCheck}
+use Rattle.limits.specs.Limits.{pieceNumbers, scratchNumbers, scratchCheck}
 use Rattle.limits.proofs.Accepted.{limit-within}
 use Rattle.materials.specs.declared.Density.{Density}
 use Rattle.materials.specs.Materials.{densityCheck}
@@ -66,17 +66,17 @@ module _ (set : FinSet) (points : List Float) (L : ℕ) where
   runs-accepted Accepted v e = v
   runs-accepted (Refused r) v e = not-both (ap isRefused v) e
 
-  enough : (n : ℕ) → makingCheck set points L ≡ Accepted → 1024 ≤ n → runCheck L n ≡ Accepted
+  enough : (n : ℕ) → makingCheck set points L ≡ Accepted → scratchNumbers ≤ n → runCheck L n ≡ Accepted
   unfolding makingCheck scratchCheck firstRefusal
   enough n v h =
       let limit = both _ _ v .0 in
       let within = limit-within L limit in
-      ap (λ (x : Verdict). firstRefusal x (scratchCheck L n)) limit ∙ ap (λ (b : Bool). refuseUnless b Scratch) (le-leb (16 * L) n (omega (arith, within .1, h)))
+      ap (λ (x : Verdict). firstRefusal x (scratchCheck L n)) limit ∙ ap (λ (b : Bool). refuseUnless b Scratch) (le-leb (pieceNumbers * L) n (omega (arith, within .1, h)))
 
 -- ---- the screen that a call serves
 -- it holds a job
 served-held : (engine : Engine) (screen : ℕ) (scratch : List Float) → screen ≡ screenOf engine (turn scratch) → isScreen screen ≡ true → holdsJob (engine .screens) screen ≡ true
-served-held engine screen scratch e s = by (ltb (length scratch) 1024) e
+served-held engine screen scratch e s = by (ltb (length scratch) scratchNumbers) e
   where
     by : (c : Bool) → screen ≡ cond c 0 (nextScreen (engine .screens)) → holdsJob (engine .screens) screen ≡ true
     by true z = absurd (not-suc-le-zero (subst (λ (k : ℕ). 1 ≤ k) z (in-eight screen s .0)))
@@ -91,7 +91,7 @@ module _ (engine : Engine) (w : EightScreens engine) (screen : ℕ) (holds : hol
 
   module _ (scratch : List Float) (e : screen ≡ screenOf engine (turn scratch)) where
     serving : Served engine screen (length scratch)
-    serving = served engine screen (holds-is-screen (engine .screens) screen holds) (length scratch) (ltb (length scratch) 1024) refl e
+    serving = served engine screen (holds-is-screen (engine .screens) screen holds) (length scratch) (ltb (length scratch) scratchNumbers) refl e
 
     -- its job's end frees it
     turn-holds : holdsJob (turnOf engine (length scratch) .answer .engine .screens) screen ≡ not (After· .ended)
@@ -102,7 +102,7 @@ module _ (engine : Engine) (w : EightScreens engine) (screen : ℕ) (holds : hol
     turn-job : jobOf (turnOf engine (length scratch) .answer .engine) screen ≡ After·
     turn-job = ap (λ (t : CallOf Turned). jobOf (t .answer .engine) screen) (serving .turn-is) ∙ job-set engine w screen holds After·
 
-    long : (c : Bool) → ltb (length scratch) 1024 ≡ c → screen ≡ cond c 0 (nextScreen (engine .screens)) → 1024 ≤ length scratch
+    long : (c : Bool) → ltb (length scratch) scratchNumbers ≡ c → screen ≡ cond c 0 (nextScreen (engine .screens)) → scratchNumbers ≤ length scratch
     long true c z = absurd (not-suc-le-zero (subst (λ (k : ℕ). 1 ≤ k) z (in-eight screen (holds-is-screen (engine .screens) screen holds) .0)))
     long false c z = ltb-false _ _ c
 
@@ -147,9 +147,9 @@ module _ (engine : Engine) (w : EightScreens engine) (screen : ℕ) (holds : hol
         }
 
     module _ (scratch : List Float) (e : screen ≡ screenOf engine (turn scratch)) where
-      -- number 2 never comes up: L is at most 64
+      -- number 2 never comes up, whatever L is
       room : runCheck L (length scratch) ≡ Accepted
-      room = enough set points L (length scratch) (r .accepted) (long scratch e (ltb (length scratch) 1024) refl e)
+      room = enough set points L (length scratch) (r .accepted) (long scratch e (ltb (length scratch) scratchNumbers) refl e)
 
       pub works-strip : counts Job· (length scratch) ≡ true
       works-strip =

@@ -8,12 +8,11 @@ use lib.Dec.{ltb, eqb}
 use lib.ListN.{length, getD}
 use lib.Ieee.{Float}
 use Rattle.refusals.specs.declared.Verdict.the-variants.{Accepted}
-use Rattle.limits.specs.Limits.{scratchCheck}
+use Rattle.limits.specs.Limits.{scratchNumbers, mostSamples, scratchCheck}
 use Rattle.materials.specs.declared.Density.{Density}
 use Rattle.fins.specs.declared.FinSet.{FinSet}
 use Rattle.strips.specs.Strips.{scratchAfter}
 use Rattle.figures.specs.Figures.{setFigures}
-use Rattle.figures.specs.Answers.{mostSamples}
 use Rattle.jobs.specs.declared.Job.{Job}
 use Rattle.jobs.specs.declared.Row.{Row}
 use Rattle.jobs.specs.Jobs.{replyRow, makingCheck}
@@ -59,7 +58,7 @@ jobOf engine screen = jobAt engine (placeOf screen)
 
 -- "A turn lent under 1,024 numbers .. does not count": the screen that a turn serves, 0 where it was idle
 abbrev pub servedBy : Engine → Call → List ℕ
-servedBy engine (turn scratch) = cond (ltb (length scratch) 1024) [] (nextScreen (engine .screens) ∷ [])
+servedBy engine (turn scratch) = cond (ltb (length scratch) scratchNumbers) [] (nextScreen (engine .screens) ∷ [])
 servedBy engine (submit screen set points L) = []
 servedBy engine (change screen density) = []
 
@@ -77,7 +76,7 @@ WithinEight = (engine : Engine) (screen : ℕ) (calls : List Call) → holdsJob 
 
 -- the screen that a call is about: the one that a turn serves, or the one named; 0 is none
 abbrev pub screenOf : Engine → Call → ℕ
-screenOf engine (turn scratch) = cond (ltb (length scratch) 1024) 0 (nextScreen (engine .screens))
+screenOf engine (turn scratch) = cond (ltb (length scratch) scratchNumbers) 0 (nextScreen (engine .screens))
 screenOf engine (submit screen set points L) = screen
 screenOf engine (change screen density) = screen
 
@@ -90,7 +89,7 @@ OthersStay = (engine : Engine) (call : Call) (screen : ℕ) → isScreen screen 
 -- "does nothing and does not count"; "with no jobs a turn does nothing"; "refused and changes nothing"; 12 "leaves the
 -- old one": the order of service too
 pub record ChangesNothing : Type 0 where
-  pub short-turn : (engine : Engine) (n : ℕ) → n < 1024 → turnOf engine n .answer .engine ≡ engine
+  pub short-turn : (engine : Engine) (n : ℕ) → n < scratchNumbers → turnOf engine n .answer .engine ≡ engine
   pub idle-turn : (engine : Engine) (n : ℕ) → nextScreen (engine .screens) ≡ 0 → turnOf engine n .answer .engine ≡ engine
   pub refused : (engine : Engine) (screen : ℕ) (set : FinSet) (points : List Float) (L : ℕ)
       → isTaken (submitOf engine screen set points L .reply) ≡ false → submitOf engine screen set points L .engine ≡ engine

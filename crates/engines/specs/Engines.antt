@@ -18,6 +18,7 @@ use Rattle.jobs.specs.declared.Progress.the-variants.{More as moreRemain, Ended
 use Rattle.jobs.specs.declared.Replied.{Replied}
 use Rattle.jobs.specs.declared.Row.{Row}
 use Rattle.refusals.specs.Calls.{CallOf, leavesAlone}
+use Rattle.limits.specs.Limits.{scratchNumbers}
 use Rattle.jobs.specs.Jobs.{bareFigures, figuresRow, plainRow, stepRow, steppedOn, changeOf, madeOf}
 use Rattle.engines.specs.declared.Screens.{Screens}
 use Rattle.engines.specs.declared.Engine.{Engine}
@@ -101,7 +102,7 @@ steppedAt screens screen call = record { answer = stepped screens screen (call .
 -- a short turn "does nothing", and so does an idle one
 unfoldable pub servedOf : Screens → Job → ℕ → CallOf Served
 servedOf screens job scratchLength =
-    cond (ltb scratchLength 1024) (leavesAlone (record { screens = screens; job = job; turn = Short }))
+    cond (ltb scratchLength scratchNumbers) (leavesAlone (record { screens = screens; job = job; turn = Short }))
     (cond (ltb 0 (nextScreen screens)) (steppedAt screens (nextScreen screens) (steppedOn job))
     (leavesAlone (record { screens = screens; job = job; turn = Idle })))
 

@@ -159,11 +159,11 @@ fn after_step(screens: Screens, screen: usize, job: Job) -> Served
     Served { screens, job, turn }
 }
 
-// A turn on the screens and the job at the place picked. A limit is at most 64, so that 1,024 numbers serve every step.
+// A turn on the screens and the job at the place picked. `SCRATCH_NUMBERS` serve every step, whatever its limit.
 pub fn serve(screens: Screens, job: Job, scratch: &mut [f64]) -> Served
     ensures { λ r. ⌜ ServesTo screens job (now (scratch .entry)) r (now (scratch .exit)) ⌝ }
 {
-    if scratch.len() < 1024 {
+    if scratch.len() < limits::SCRATCH_NUMBERS {
         let turn = Turn::Short;
         return Served { screens, job, turn };
     }

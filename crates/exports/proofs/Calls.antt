@@ -28,6 +28,7 @@ use Rattle.refusals.specs.Lent.{over, withValues, withCounts, room}
 use Rattle.figures.specs.Numbered.{figureCounts}
 use Rattle.exports.specs.Calls.{SetCall, areaNumbers, areaCounts, AreaCall, chordCounts, ChordsCall, DrillCall, BodyCall, ClosingCall, JoinCall, momentsNumbers, MomentsCall, CheckCall}
 use Rattle.refusals.proofs.Rooms.{has-room, few-figures, few-counts}
+use Rattle.limits.specs.Limits.{mostPoints}
 
 -- one of the two lists that a call fills is too short
 pub record NoRoom {A : Type 0} (m : ℕ) (figures : List A) (n : ℕ) (counts : List ℕ) : Type 0 where
@@ -76,14 +77,14 @@ module _ {planform : NumberedPlanform} {points : List Float} {L : ℕ} {scratch 
       }
 
 module _ {planform : NumberedPlanform} {points : List Float} {h : Float} {ends : List Float} {counts : List ℕ} where
-  pub chords-refused : NoRoom 64 ends 3 counts → ChordsCall planform points h ends counts 18 ends counts
+  pub chords-refused : NoRoom mostPoints ends 3 counts → ChordsCall planform points h ends counts 18 ends counts
   chords-refused short = let none = short .none in record { returned = rw none; listed = rw none; counted = rw none }
 
-  pub chords-written : 64 ≤ length ends → 3 ≤ length counts → {read : NumberedPlanform} {l : ChordList} {r : ℕ} {ends' : List Float} {counts' : List ℕ} →
+  pub chords-written : mostPoints ≤ length ends → 3 ≤ length counts → {read : NumberedPlanform} {l : ChordList} {r : ℕ} {ends' : List Float} {counts' : List ℕ} →
       read ≡ planform → Does (numberedChords read points h) l ends ends' → counts' ≡ chordCounts l counts → r ≡ numberIn (l .verdict) →
       ChordsCall planform points h ends counts r ends' counts'
   chords-written k j same d c n =
-      let fits = has-room 64 ends 3 counts k j in
+      let fits = has-room mostPoints ends 3 counts k j in
       record {
         returned = rw (fits, ← same, ← d .0) n;
         listed = rw (fits, ← same) (d .1);

@@ -25,6 +25,7 @@ use Rattle.figures.specs.declared.Area.{Area}
 use Rattle.requests.specs.Calls.{numberedCall, numberedArea, numberedChords, numberedDrill, tensorMoments, bodyVerdict}
 use Rattle.refusals.specs.Numbered.{numberIn}
 use Rattle.refusals.specs.Lent.{over, withValues, withCount, withCounts, room}
+use Rattle.limits.specs.Limits.{mostPoints}
 use Rattle.figures.specs.Numbered.{figureCounts}
 
 -- ---- a set's figures
@@ -55,9 +56,9 @@ abbrev pub chordCounts : ChordList → List ℕ → List ℕ
 chordCounts l counts = withCount counts (l .verdict) (l .count)
 
 pub record ChordsCall (planform : NumberedPlanform) (points : List Float) (h : Float) (ends : List Float) (counts : List ℕ) (r : ℕ) (ends' : List Float) (counts' : List ℕ) : Type 0 where
-  pub returned : r ≡ cond (room 64 ends 3 counts) (numberIn (numberedChords planform points h .answer .verdict)) (numberOf NoForm)
-  pub listed : ends' ≡ cond (room 64 ends 3 counts) (numberedChords planform points h .leaves ends) ends
-  pub counted : counts' ≡ cond (room 64 ends 3 counts) (chordCounts (numberedChords planform points h .answer) counts) counts
+  pub returned : r ≡ cond (room mostPoints ends 3 counts) (numberIn (numberedChords planform points h .answer .verdict)) (numberOf NoForm)
+  pub listed : ends' ≡ cond (room mostPoints ends 3 counts) (numberedChords planform points h .leaves ends) ends
+  pub counted : counts' ≡ cond (room mostPoints ends 3 counts) (chordCounts (numberedChords planform points h .answer) counts) counts
 
 -- ---- where a point lies beside a planform (document 02, Paper 11): the place, 1 inside, 2 on the edge, 3 outside, and the nearest corner's position
 

@@ -15,10 +15,10 @@ ghost use Prim.Native.Nat.{_≤_};
 ghost use lib.ListN.{length};
 ghost use Rattle.root.specs.Root.{rootOf, IsRoot};
 ghost use Rattle.planforms.specs.Numbered.{listedPlanform};
-ghost use Rattle.figures.specs.Answers.{mostSamples};
 ghost use Rattle.requests.specs.Calls.{ringBy, copiedBy, placedBy, movedBy, withoutBy};
 ghost use Rattle.fins.specs.Numbered.{listedSet};
 ghost use Rattle.refusals.specs.Lent.{over};
+ghost use Rattle.limits.specs.Limits.{mostSamples};
 ghost use Rattle.exports.specs.Calls.{SetCall, AreaCall, ChordsCall, DrillCall, BodyCall, ClosingCall, JoinCall, MomentsCall, CheckCall};
 use bodies::BODY_NUMBERS;
 use joins::Joined;
@@ -65,10 +65,10 @@ pub extern "C" fn delvouzh_sqrt(x: f64) -> f64
 pub extern "C" fn delvouzh_most_samples() -> usize
     ensures { λ r. ⌜ r ≡ mostSamples ⌝ }
 {
-    62 * 15 * 127
+    limits::MOST_SAMPLES
 }
 
-// A set's figures over a lent scratch of at least 16·limit numbers: writes the body's numbers, and as counts two values
+// A set's figures over a lent scratch with room for limit pieces: writes the body's numbers, and as counts two values
 // of a refusal, the intervals and the samples.
 #[no_mangle]
 pub extern "C" fn delvouzh_mass_properties(

@@ -31,6 +31,7 @@ use Rattle.figures.proofs.Rising.{set-pieces-rise, set-samples-finite, 
 use Rattle.figures.proofs.StripCount.{set-strips-counted, area-strips-counted}
 use Rattle.refusals.proofs.Given.{gives-row}
 use Rattle.refusals.specs.Calls.{Does}
+use Rattle.limits.specs.Limits.{mostStrips}
 use Rattle.figures.proofs.Reports.{ZeroFigures, ZeroArea, no-refusal, concluded-samples, concluded-intervals, concluded-verdict, concluded-zeros, concluded-area-samples, concluded-area-intervals, concluded-area-verdict, concluded-area-zeros}
 
 -- ---- an accepted set, and a refused one
@@ -58,7 +59,7 @@ module _ (set : FinSet) (points : List Float) (L : ℕ) (entry : List Float) (r 
         zero-figures = concluded-zeros set (rootChordOf (set .planform) points) (scaleOf (set .planform) points) (setStrips set points L) r (w .0);
         strip-count = set-strips-counted set points L (length entry);
         demand-3 = λ h. claim;
-        samples-at-most = samples-at-most (setRun set points L) (setStrips set points L) (setReport r) entry exit 62 (set-limit set points L (length entry) accepts .1)
+        samples-at-most = samples-at-most (setRun set points L) (setStrips set points L) (setReport r) entry exit mostStrips (set-limit set points L (length entry) accepts .1)
             (set-strips-counted set points L (length entry) accepts .1) claim;
         pieces-rise = set-pieces-rise set points L (length entry) f64s;
         samples-finite = set-samples-finite set points L (length entry) f64s;
@@ -103,7 +104,7 @@ module _ (planform : Planform) (points : List Float) (L : ℕ) (entry : List Flo
         zero-figures = concluded-area-zeros (scaleOf planform points) (areaSeven planform points L) r (w .0);
         strip-count = area-strips-counted planform points L (length entry);
         demand-3 = λ h. claim;
-        samples-at-most = samples-at-most (areaRun planform points L) (areaStrips planform points L) (areaReport r) entry exit 62 (area-limit planform points L (length entry) accepts .1)
+        samples-at-most = samples-at-most (areaRun planform points L) (areaStrips planform points L) (areaReport r) entry exit mostStrips (area-limit planform points L (length entry) accepts .1)
             (area-strips-counted planform points L (length entry) accepts .1) claim;
         pieces-rise = area-pieces-rise planform points L (length entry) f64s;
         samples-finite = area-samples-finite planform points L (length entry) f64s;

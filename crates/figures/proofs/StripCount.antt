@@ -18,12 +18,12 @@ use Rattle.floats.proofs.Order.{lt-asym, equal-no-nan, equal-itself, equal-sym,
 use Rattle.planforms.specs.declared.Planform.{Planform}
 use Rattle.planforms.specs.declared.Planform.the-variants.{Trapezoid, Ellipse, Outline}
 use Rattle.planforms.specs.Planforms.{xAt, heightAt, pairCount, largestHeight, spanOf}
-use Rattle.limits.specs.Limits.{spanField, isWithin, shortest, longest, lengthWithin, lengthCheck}
+use Rattle.limits.specs.Limits.{mostStrips, mostPoints, spanField, isWithin, shortest, longest, lengthWithin, lengthCheck}
 use Rattle.refusals.proofs.Accepted.{holds, both, both-true, each-accepted}
 use Rattle.outlines.specs.Outlines.{pointCheck, twiceArea, outlineCheck}
 use Rattle.outlines.proofs.Accepted.{points-within}
 use Rattle.breaks.specs.Breaks.{heights, everyY, allHeights, oneStrip, breakHeights}
-use Rattle.breaks.proofs.Strips.{at-most-63, break-heights-members}
+use Rattle.breaks.proofs.Strips.{most-outline-breaks, break-heights-members}
 use Rattle.breaks.proofs.Listed.{at-most-two-more, two-heights}
 use Rattle.breaks.proofs.Above.{NotUnder}
 use Rattle.integrands.specs.Integrands.{scaleOf, areaThree}
@@ -108,7 +108,7 @@ outline-points points h k less =
     let all : n - 0 ≡ n = omega arith in
     rw (let e : 0 + k ≡ k = omega arith in e) at (each-accepted (pointCheck points) 0 n (rw all at (both _ _ (both _ _ h .1) .0)) k less)
 
-outline-few : (points : List Float) → outlineCheck points ≡ Accepted → length (breakHeights Outline points) ≤ 63
+outline-few : (points : List Float) → outlineCheck points ≡ Accepted → length (breakHeights Outline points) ≤ mostStrips + 1
 unfolding outlineCheck
 outline-few points h =
     let n = pairCount points in
@@ -122,9 +122,9 @@ outline-few points h =
     let ends : (p && q && c && d) ≡ true = holds (p && q && c && d) Ends (both _ _ (both _ _ after-pairs .1) .0) in
     let first-three = both-true (p && q && c) d ends in
     let first-two = both-true (p && q) c (first-three .0) in
-    at-most-63 points (omega (arith, b)) (b .1) (each-number (heights points n) (heights-fit points n (outline-points points h))) (both-true p q (first-two .0) .1) (first-three .1)
+    most-outline-breaks points (omega (arith, b)) (b .1) (each-number (heights points n) (heights-fit points n (outline-points points h))) (both-true p q (first-two .0) .1) (first-three .1)
 
-heights-few : (planform : Planform) (points : List Float) → planformCheck planform points ≡ Accepted → length (breakHeights planform points) ≤ 63
+heights-few : (planform : Planform) (points : List Float) → planformCheck planform points ≡ Accepted → length (breakHeights planform points) ≤ mostStrips + 1
 unfolding planformCheck everyY
 heights-few (Trapezoid root tip span sweep) points h = omega (arith, at-most-two-more (Trapezoid root tip span sweep) points)
 heights-few (Ellipse root span) points h = omega (arith, at-most-two-more (Ellipse root span) points)
@@ -144,7 +144,7 @@ all-fit (Trapezoid root tip span sweep) points h = (zero-fit, (above-fit span (s
 all-fit (Ellipse root span) points h = (zero-fit, (above-fit span (span-above-zero span (both _ _ (both _ _ h .1) .0)), tt))
 all-fit Outline points h =
     let n = pairCount points in
-    (zero-fit, (largest-fit points n (outline-points points h), rw (le-leb n 64 (points-within points h .1)) (heights-fit points n (outline-points points h))))
+    (zero-fit, (largest-fit points n (outline-points points h), rw (le-leb n mostPoints (points-within points h .1)) (heights-fit points n (outline-points points h))))
 
 pub all-numbers : (planform : Planform) (points : List Float) → planformCheck planform points ≡ Accepted → NoNan (allHeights planform points)
 all-numbers planform points h = each-number (allHeights planform points) (all-fit planform points h)
@@ -199,7 +199,7 @@ outline-some points h = go (leb 2 (length (breakHeights Outline points))) refl
     all-heights k l =
         let y = heightAt points k in
         let found : among y (everyY Outline points) ≡ true =
-        rw (le-leb n 64 (points-within points h .1)) (height-among points n k (point-fit points k (outline-points points h k l) .0) l) in
+        rw (le-leb n mostPoints (points-within points h .1)) (height-among points n k (point-fit points k (outline-points points h k l) .0) l) in
         or-true (eq y (bits 0)) (eq y (spanOf Outline points) || among y (everyY Outline points)) (or-true (eq y (spanOf Outline points)) (among y (everyY Outline points)) found)
 
     go : (b : Bool) → leb 2 (length (breakHeights Outline points)) ≡ b → 2 ≤ length (breakHeights Outline points)
@@ -231,16 +231,16 @@ worked-some w f limit scale (a ∷ b ∷ l) h = omega arith
 -- ---- the strips of an accepted set, and of an accepted planform
 
 counted : (w : ℕ) (f : Float → List Float) (limit : ℕ) (scale : Float) (planform : Planform) (points : List Float) → planformCheck planform points ≡ Accepted
-    → (1 ≤ length (workedOf w f limit scale (breakHeights planform points))) × (length (workedOf w f limit scale (breakHeights planform points)) ≤ 62)
+    → (1 ≤ length (workedOf w f limit scale (breakHeights planform points))) × (length (workedOf w f limit scale (breakHeights planform points)) ≤ mostStrips)
 counted w f limit scale planform points accepted =
     (worked-some w f limit scale (breakHeights planform points) (heights-some planform points accepted), omega (arith, worked-few w f limit scale (breakHeights planform points), heights-few planform points accepted))
 
 pub set-strips-counted : (set : FinSet) (points : List Float) (L n : ℕ) → setCheck set points L n ≡ Accepted
-    → (1 ≤ length (setStrips set points L)) × (length (setStrips set points L) ≤ 62)
+    → (1 ≤ length (setStrips set points L)) × (length (setStrips set points L) ≤ mostStrips)
 set-strips-counted set points L n accepted =
     counted 7 (setIntegrand set points) L (scaleOf (set .planform) points) (set .planform) points (set-planform set points L n accepted)
 
 pub area-strips-counted : (planform : Planform) (points : List Float) (L n : ℕ) → areaCheck planform points L n ≡ Accepted
-    → (1 ≤ length (areaStrips planform points L)) × (length (areaStrips planform points L) ≤ 62)
+    → (1 ≤ length (areaStrips planform points L)) × (length (areaStrips planform points L) ≤ mostStrips)
 area-strips-counted planform points L n accepted =
     counted 3 (areaThree planform points) L (scaleOf planform points) planform points (area-planform planform points L n accepted)

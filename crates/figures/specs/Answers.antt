@@ -2,7 +2,7 @@
 -- claim about its whole run, that its pieces rise, and that its samples and the numbers worked from them are finite.
 use mathlib.Core.Path.{_≡_}
 use mathlib.Core.List.{List}
-use Prim.Native.Nat.{ℕ, _*_, _≤_}
+use Prim.Native.Nat.{ℕ, _≤_}
 use lib.ListN.{length}
 use lib.Ieee.{Float}
 use Rattle.floats.specs.Operations.{bits}
@@ -11,6 +11,7 @@ use Rattle.refusals.specs.Given.{Gives}
 use Rattle.refusals.specs.Calls.{Does}
 use Rattle.refusals.specs.declared.Refusal.{Refusal}
 use Rattle.refusals.specs.declared.Verdict.the-variants.{Accepted, Refused}
+use Rattle.limits.specs.Limits.{mostStrips, mostSamples}
 use Rattle.planforms.specs.declared.Planform.{Planform}
 use Rattle.fins.specs.declared.FinSet.{FinSet}
 use Rattle.fins.specs.Fins.{setCheck, areaCheck}
@@ -28,10 +29,6 @@ setReport r = record { verdict = r .verdict; samples = r .samples; intervals = r
 abbrev pub areaReport : Area → Report
 areaReport r = record { verdict = r .verdict; samples = r .samples; intervals = r .intervals }
 
--- "A whole outline can take no more than 62·15·127 = 118,110 samples" (document 02, Paper 8)
-abbrev pub mostSamples : ℕ
-mostSamples = 62 * 15 * 127
-
 -- of a set ("Order: 18, 1, 2, 3; ..", `FinSet::mass_properties`): its figures, the scratch at exit, and demand 3
 pub record SetAnswers (set : FinSet) (points : List Float) (L : ℕ) (entry : List Float) (r : Figures) (exit : List Float) : Type 0 where
   pub call : Does (setCall set points L (length entry)) r entry exit
@@ -42,7 +39,7 @@ pub record SetAnswers (set : FinSet) (points : List Float) (L : ℕ) (entry : Li
   pub zero-figures : (number : ℕ) (values : List ℕ) → Gives (r .verdict) number values → (r .body ≡ emptyBody) × (r .intervals ≡ 0)
   -- "A set is accepted when it passes every check before the strips": it has a strip, so that demand 3 is about
   -- something, and "at most 62 strips"
-  pub strip-count : setCheck set points L (length entry) ≡ Accepted → (1 ≤ length (setStrips set points L)) × (length (setStrips set points L) ≤ 62)
+  pub strip-count : setCheck set points L (length entry) ≡ Accepted → (1 ≤ length (setStrips set points L)) × (length (setStrips set points L) ≤ mostStrips)
   pub demand-3 : setCheck set points L (length entry) ≡ Accepted
       → Demand3 (setRun set points L) (setStrips set points L) (setReport r) entry exit
   -- whatever is handed in
@@ -61,7 +58,7 @@ pub record AreaAnswers (planform : Planform) (points : List Float) (L : ℕ) (en
   pub zero-figures : (number : ℕ) (values : List ℕ) → Gives (r .verdict) number values
       → (r .«area_m2» ≡ bits 0) × (r .«centroid_x_m» ≡ bits 0) × (r .«centroid_span_m» ≡ bits 0) × (r .intervals ≡ 0)
   -- accepted is a planform that passes every check before the strips
-  pub strip-count : areaCheck planform points L (length entry) ≡ Accepted → (1 ≤ length (areaStrips planform points L)) × (length (areaStrips planform points L) ≤ 62)
+  pub strip-count : areaCheck planform points L (length entry) ≡ Accepted → (1 ≤ length (areaStrips planform points L)) × (length (areaStrips planform points L) ≤ mostStrips)
   pub demand-3 : areaCheck planform points L (length entry) ≡ Accepted
       → Demand3 (areaRun planform points L) (areaStrips planform points L) (areaReport r) entry exit
   pub samples-at-most : r .samples ≤ mostSamples

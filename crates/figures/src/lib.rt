@@ -110,7 +110,7 @@ fn work_set(set: FinSet, points: &[f64], limit: usize, scratch: &mut [f64]) -> F
     concluded(set, root_chord_m, integrand.scale, total)
 }
 
-// A set's figures, over a lent scratch of at least 16·limit numbers.
+// A set's figures, over a lent scratch with room for limit pieces.
 pub fn mass_properties(set: FinSet, points: &[f64], limit: usize, scratch: &mut [f64]) -> Figures
     ensures { λ r. ⌜ SetAnswers set (now (points .entry)) limit (now (scratch .entry)) r (now (scratch .exit)) ⌝ }
 {
@@ -169,7 +169,7 @@ fn work_area(planform: Planform, points: &[f64], limit: usize, scratch: &mut [f6
     concluded_area(integrand.scale, total)
 }
 
-// A planform's area and centroid, over a lent scratch of at least 16·limit numbers.
+// A planform's area and centroid, over a lent scratch with room for limit pieces.
 pub fn geometry(planform: Planform, points: &[f64], limit: usize, scratch: &mut [f64]) -> Area
     ensures { λ r. ⌜ AreaAnswers planform (now (points .entry)) limit (now (scratch .entry)) r (now (scratch .exit)) ⌝ }
 {

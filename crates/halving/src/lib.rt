@@ -9,6 +9,7 @@
 ghost use mathlib.Core.Path.{_≡_};
 ghost use Prim.Native.Nat.{_+_, _*_, _<_, _≤_};
 ghost use lib.ListN.{length};
+ghost use Rattle.limits.specs.Limits.{mostPieces, pieceNumbers, pieceSamples};
 ghost use Rattle.integrands.specs.Integrands.{sampleOf};
 ghost use Rattle.pieces.specs.Stored.{piecesIn};
 ghost use Rattle.tolerance.specs.Bounds.{middleOf, middleIsEnd};
@@ -71,7 +72,7 @@ struct Judged {
 }
 
 fn judge(scratch: &[f64], n: usize, limit: usize) -> Judged
-    requires { ⌜ (1 ≤ n) × (n * 16 ≤ length (now scratch)) ⌝ }
+    requires { ⌜ (1 ≤ n) × (n * pieceNumbers ≤ length (now scratch)) ⌝ }
     ensures { λ r. ⌜ r ≡ judgedOf limit (piecesIn n (now (scratch .entry))) ⌝ }
 {
     let sums = tolerance::total(scratch, n);
@@ -106,7 +107,7 @@ fn judge(scratch: &[f64], n: usize, limit: usize) -> Judged
 // Measures the left half of the piece at a place, then the right. The left half replaces it and the right is stored
 // after the n pieces. The answer is how many samples both took.
 fn halve(scratch: &mut [f64], integrand: Integrand, points: &[f64], n: usize, place: usize) -> usize
-    requires { ⌜ (place < n) × (n * 16 + 16 ≤ length (now scratch)) ⌝ }
+    requires { ⌜ (place < n) × (n * pieceNumbers + pieceNumbers ≤ length (now scratch)) ⌝ }
     ensures { λ r. ⌜ HalvesPiece (sampleOf integrand (now (points .entry))) n place (now (scratch .entry)) r (now (scratch .exit)) ⌝ }
 {
     let p = pieces::read(scratch, place);
@@ -139,7 +140,7 @@ fn repeat(
     limit: usize,
     taken: usize,
 ) -> Integral
-    requires { ⌜ (1 ≤ limit) × (limit ≤ 64) × (limit * 16 ≤ length (now scratch)) × (taken ≤ 15) ⌝ }
+    requires { ⌜ (1 ≤ limit) × (limit ≤ mostPieces) × (limit * pieceNumbers ≤ length (now scratch)) × (taken ≤ pieceSamples) ⌝ }
     ensures { λ r. ⌜ Repeats (sampleOf integrand (now (points .entry))) limit taken (now (scratch .entry)) r (now (scratch .exit)) ⌝ }
 {
     let mut n: usize = 1;
@@ -169,7 +170,7 @@ pub fn integrate(
     upper: f64,
     limit: usize,
 ) -> Integral
-    requires { ⌜ (1 ≤ limit) × (limit ≤ 64) × (limit * 16 ≤ length (now scratch)) ⌝ }
+    requires { ⌜ (1 ≤ limit) × (limit ≤ mostPieces) × (limit * pieceNumbers ≤ length (now scratch)) ⌝ }
     ensures { λ r. ⌜ Integrates (sampleOf integrand (now (points .entry))) lower upper limit (now (scratch .entry)) r (now (scratch .exit)) ⌝ }
 {
     if lower == upper {

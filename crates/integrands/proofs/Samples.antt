@@ -13,6 +13,7 @@ use Rattle.rounding.specs.Sizes.{Below}
 use Rattle.rounding.proofs.Sizes.{zero-below, half-below, mul-below, div-below, add-below, weaker}
 use Rattle.rounding.proofs.Terms.{given, _less_, _times_, _plus_, within}
 use Rattle.sorting.specs.Sorted.{Each}
+use Rattle.limits.specs.Limits.{mostPoints}
 use Rattle.planforms.proofs.Sized.{Sized}
 use Rattle.chords.specs.Chords.{endsAt, chordsAt}
 use Rattle.chords.proofs.Sizes.{Pairs, ends-at, paired-few}
@@ -117,7 +118,7 @@ pub sample-below : (f : Integrand) (points : List Float) (h : Float) → Sized (
 unfolding sampleOf
 sample-below f points h s c k b =
     let metres = mul-below h (f .scale) 28 7 (lit≤ tt) b (c .below) in
-    let few = paired-few 116 64 (endsAt (f .planform) points (h ⊗ f .scale)) (ends-at (f .planform) points (h ⊗ f .scale) s metres) in
+    let few = paired-few 116 mostPoints (endsAt (f .planform) points (h ⊗ f .scale)) (ends-at (f .planform) points (h ⊗ f .scale) s metres) in
     let l = chordsAt (f .planform) points (h ⊗ f .scale) in
     let n = few .few in
     let sums = sums-below (f .kind) (f .scale) h k c b l (tabulate 4 (λ i. bits 0)) 556 (lit≤ tt) (omega arith) (few .bounded) zeros in

@@ -79,7 +79,7 @@ pub fn sample(integrand: Integrand, points: &[f64], h: f64) -> [f64; 7]
 {
     let kind = integrand.kind;
     let scale = integrand.scale;
-    let mut edges = [0; 64];
+    let mut edges = [0; limits::MOST_POINTS];
     let n = chords::edges_near(points, h * scale, h * scale, &mut edges);
     let found = chords_at(integrand, points, &edges[..n], h);
     values_over(found, kind, scale, points, &edges[..n], h)
@@ -122,7 +122,7 @@ fn values_over_several(kind: Kind, scale: f64, points: &[f64], edges: &[u8], h: 
     requires { ⌜ Holding (now points) (h ⊗ scale) (now edges) ⌝ }
     ensures { λ r. ⌜ r ≡ valuesOver kind scale h (paired (outlineCrossings (now (points .entry)) (h ⊗ scale))) ⌝ }
 {
-    let mut ends = [0.0; 64];
+    let mut ends = [0.0; limits::MOST_POINTS];
     let n = chords::crossings_of(points, edges, h * scale, &mut ends);
     values(kind, h, chord_sums(kind, scale, h, &ends[..n]))
 }

@@ -1,4 +1,4 @@
--- A copy of at most 128 numbers, made one by one over zeros. Assumes nothing.
+-- A copy of as many numbers as an outline may have, made one by one over zeros. Assumes nothing.
 use mathlib.Core.Path.{_≡_, refl, sym, ap, subst, _∙_}
 use mathlib.Core.Bool.{Bool, true, false, cond}
 use mathlib.Core.List.{List, [], _∷_, _++_}
@@ -13,24 +13,25 @@ use lib.Ieee.{Float, nan}
 use Rattle.floats.specs.Operations.{bits, at}
 use Rattle.sorting.specs.Sorted.{Written}
 use Rattle.sorting.proofs.Over.{written-nothing, written-put}
+use Rattle.limits.specs.Limits.{outlineNumbers}
 use Rattle.jobs.specs.declared.Points.{Points}
 use Rattle.jobs.specs.Jobs.{heldOf, pointsOf}
 
 abbrev pub Zeros : List Float
-Zeros = replicate 128 (bits 0)
+Zeros = replicate outlineNumbers (bits 0)
 
-pub held-most : (count : ℕ) → (heldOf count ≤ count) × (heldOf count ≤ 128)
-held-most count = go (leb count 128) refl
+pub held-most : (count : ℕ) → (heldOf count ≤ count) × (heldOf count ≤ outlineNumbers)
+held-most count = go (leb count outlineNumbers) refl
   where
-    go : (b : Bool) → leb count 128 ≡ b → (cond b count 128 ≤ count) × (cond b count 128 ≤ 128)
-    go true e = let h = leb-true count 128 e in (omega arith, h)
-    go false e = let h = leb-false count 128 e in (omega (arith, h), omega arith)
+    go : (b : Bool) → leb count outlineNumbers ≡ b → (cond b count outlineNumbers ≤ count) × (cond b count outlineNumbers ≤ outlineNumbers)
+    go true e = let h = leb-true count outlineNumbers e in (omega arith, h)
+    go false e = let h = leb-false count outlineNumbers e in (omega (arith, h), omega arith)
 
-held-take : (points : List Float) → take (heldOf (length points)) points ≡ take 128 points
-held-take points = go (leb (length points) 128) refl
+held-take : (points : List Float) → take (heldOf (length points)) points ≡ take outlineNumbers points
+held-take points = go (leb (length points) outlineNumbers) refl
   where
-    go : (b : Bool) → leb (length points) 128 ≡ b → take (cond b (length points) 128) points ≡ take 128 points
-    go true e = take-all (length points) points (omega arith) ∙ sym (take-all 128 points (leb-true (length points) 128 e))
+    go : (b : Bool) → leb (length points) outlineNumbers ≡ b → take (cond b (length points) outlineNumbers) points ≡ take outlineNumbers points
+    go true e = take-all (length points) points (omega arith) ∙ sym (take-all outlineNumbers points (leb-true (length points) outlineNumbers e))
     go false e = refl
 
 -- what holds where i numbers are copied
@@ -59,6 +60,6 @@ module _ (points numbers : List Float) (i : ℕ) (c : Copying points numbers i) 
   pub end : heldOf (length points) ≤ i → Made numbers i ≡ pointsOf points
   end h =
       let i-is : i ≡ heldOf (length points) = omega (arith, c .inside) in
-      let all : take i points ≡ take 128 points = ap (λ (k : ℕ). take k points) i-is ∙ held-take points in
+      let all : take i points ≡ take outlineNumbers points = ap (λ (k : ℕ). take k points) i-is ∙ held-take points in
       let w = subst (λ (l : List Float). Written l Zeros numbers i) all (c .written) in
       ap (λ (l : List Float). Made l i) (w .array) ∙ ap (Made _) (w .count)

@@ -8,6 +8,7 @@ use lib.Ieee.{Float, nan, inf, fin, add}
 use Rattle.floats.specs.Operations.{_⊕_, bits}
 use Rattle.floats.specs.Floats.{isFinite}
 use Rattle.refusals.specs.declared.Verdict.the-variants.{Accepted}
+use Rattle.limits.specs.Limits.{pieceNumbers}
 use Rattle.fins.specs.declared.FinSet.{FinSet}
 use Rattle.strips.specs.Strips.{Run, Worked, valueFrom}
 use Rattle.strips.specs.Rising.{PiecesRise, SamplesFinite, NumbersFinite}
@@ -54,9 +55,9 @@ module _ (set : FinSet) (points : List Float) (L : ℕ) (f64s : SetF64 set point
       let first = over-calls set points L made calls .worked-so-far in
       let strips = stripsAfter set points L calls in
       let all = sym (first .are .halvings) in
-      let rise = subst PiecesRise all (set-pieces-rise set points L (16 * L) f64s accepts) in
-      let finite = subst (SamplesFinite run) all (set-samples-finite set points L (16 * L) f64s accepts) in
-      let numbers = subst (NumbersFinite run) all (set-numbers-finite set points L (16 * L) f64s accepts) in
+      let rise = subst PiecesRise all (set-pieces-rise set points L (pieceNumbers * L) f64s accepts) in
+      let finite = subst (SamplesFinite run) all (set-samples-finite set points L (pieceNumbers * L) f64s accepts) in
+      let numbers = subst (NumbersFinite run) all (set-numbers-finite set points L (pieceNumbers * L) f64s accepts) in
       record {
         pieces-rise = each-front _ strips (first .to-come) rise;
         samples-finite = each-front _ strips (first .to-come) finite;

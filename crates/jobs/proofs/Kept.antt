@@ -1,5 +1,5 @@
--- A job's copy of the points serves as the points do: an accepted outline has at most 128 numbers, which are all kept, and of a trapezoid or an
--- ellipse no point is read. Assumes nothing.
+-- A job's copy of the points serves as the points do: an accepted outline has no more numbers than the copy has room for, and of a
+-- trapezoid or an ellipse no point is read. Assumes nothing.
 use mathlib.Core.Path.{_≡_, refl, ap, _∙_}
 use mathlib.Core.Bool.{Bool, cond, _&&_}
 use mathlib.Core.List.{List}
@@ -15,6 +15,7 @@ use Rattle.sorting.specs.Sorted.{over}
 use Rattle.sorting.proofs.Over.{take-over}
 use Rattle.refusals.specs.declared.Verdict.the-variants.{Accepted}
 use Rattle.refusals.proofs.Accepted.{holds, both, both-true}
+use Rattle.limits.specs.Limits.{mostPoints, outlineNumbers}
 use Rattle.planforms.specs.declared.Planform.{Planform}
 use Rattle.planforms.specs.declared.Planform.the-variants.{Trapezoid, Ellipse, Outline}
 use Rattle.planforms.specs.Planforms.{pairCount, rootChordOf, spanOf}
@@ -30,20 +31,20 @@ use Rattle.jobs.specs.Jobs.{heldOf, pointsOf}
 abbrev pub keptOf : List Float → List Float
 keptOf points = take (heldOf (pointsOf points .count)) (pointsOf points .numbers)
 
-all-kept : (points : List Float) → length points ≤ 128 → keptOf points ≡ points
+all-kept : (points : List Float) → length points ≤ outlineNumbers → keptOf points ≡ points
 all-kept points few =
-    ap (λ (l : List Float). take (heldOf (length l)) (over l (replicate 128 (bits 0)))) (take-all 128 points few)
-    ∙ ap (λ (b : Bool). take (cond b (length points) 128) (over points (replicate 128 (bits 0)))) (le-leb (length points) 128 few)
-    ∙ take-over points (replicate 128 (bits 0))
+    ap (λ (l : List Float). take (heldOf (length l)) (over l (replicate outlineNumbers (bits 0)))) (take-all outlineNumbers points few)
+    ∙ ap (λ (b : Bool). take (cond b (length points) outlineNumbers) (over points (replicate outlineNumbers (bits 0)))) (le-leb (length points) outlineNumbers few)
+    ∙ take-over points (replicate outlineNumbers (bits 0))
 
 -- "points not 3 to 64 whole pairs"
-pub outline-few : (points : List Float) → outlineCheck points ≡ Accepted → length points ≤ 128
+pub outline-few : (points : List Float) → outlineCheck points ≡ Accepted → length points ≤ outlineNumbers
 unfolding outlineCheck
 outline-few points h =
     let n = pairCount points in
-    let pairs = both-true (eqb (length points % 2) 0 && leb 3 n) (leb n 64) (holds (arePairs points) _ (both _ _ h .0)) in
+    let pairs = both-true (eqb (length points % 2) 0 && leb 3 n) (leb n mostPoints) (holds (arePairs points) _ (both _ _ h .0)) in
     let whole = eqb-true (length points % 2) 0 (both-true (eqb (length points % 2) 0) (leb 3 n) (pairs .0) .0) in
-    let most = leb-true n 64 (pairs .1) in
+    let most = leb-true n mostPoints (pairs .1) in
     omega (arith, whole, most)
 
 -- what strips and figures read of points is the same of others

@@ -18,13 +18,14 @@ use Rattle.strips.proofs.Claims.{demand-3}
 use Rattle.strips.proofs.SampleCount.{samples-at-most as run-at-most}
 use Rattle.figures.specs.declared.Figures.{Figures}
 use Rattle.figures.specs.Figures.{setRun, setStrips, workedFigures}
-use Rattle.figures.specs.Answers.{setReport, mostSamples}
+use Rattle.figures.specs.Answers.{setReport}
 use Rattle.figures.proofs.StripCount.{set-strips-counted}
 use Rattle.figures.proofs.Answers.{set-reported}
 use Rattle.jobs.specs.declared.Job.{Job}
 use Rattle.jobs.specs.declared.Stepped.{Stepped}
 use Rattle.jobs.specs.declared.Replied.{Replied}
 use Rattle.refusals.specs.Calls.{CallOf}
+use Rattle.limits.specs.Limits.{pieceNumbers, mostStrips, mostSamples}
 use Rattle.jobs.specs.Jobs.{makingCheck, madeWith, madeOf}
 use Rattle.jobs.specs.Calls.{Call, step, change, answerBy, afterCalls, jobAfter, stripsAfter, SamplesAtMost}
 use Rattle.jobs.proofs.Laws.{step-ended, change-ended, step-samples, change-samples, after-both}
@@ -39,11 +40,11 @@ module _ (set : FinSet) (points : List Float) (L : ℕ) (made : makingCheck set 
   whole-run : samplesIn (setStrips set points L) ≤ mostSamples
   whole-run =
       let accepts = made-accepted set points L made in
-      let limit = set-limit set points L (16 * L) accepts in
-      let counted = set-strips-counted set points L (16 * L) accepts in
-      let reported = set-reported set points L (16 * L) (workedFigures set points L) accepts refl in
+      let limit = set-limit set points L (pieceNumbers * L) accepts in
+      let counted = set-strips-counted set points L (pieceNumbers * L) accepts in
+      let reported = set-reported set points L (pieceNumbers * L) (workedFigures set points L) accepts refl in
       let claim = demand-3 (setRun set points L) (limit .0) (setReport (workedFigures set points L)) [] _ reported refl in
-      let most = run-at-most (setRun set points L) (setStrips set points L) _ [] _ 62 (limit .1) (counted .1) claim in
+      let most = run-at-most (setRun set points L) (setStrips set points L) _ [] _ mostStrips (limit .1) (counted .1) claim in
       subst (λ (n : ℕ). n ≤ mostSamples) (reported .samples-reported) (omega (arith, most))
 
   so-far : (calls : List Call) → samplesIn (stripsAfter set points L calls) ≤ mostSamples

@@ -7,6 +7,8 @@ use native.Mathlib.Omega.{arith}
 use lib.ListN.{length}
 use lib.Ieee.{Float}
 use Rattle.floats.specs.Operations.{_⊘_}
+use Rattle.limits.specs.Limits.{mostPieces}
+use Rattle.halving.specs.Cover.{samplesFor}
 use Rattle.halving.specs.Halving.{halving}
 use Rattle.halving.specs.Scratch.{intervalsOf}
 use Rattle.halving.specs.declared.Ending.{Ending}
@@ -32,9 +34,9 @@ ending-with e (x ∷ strips) s = ending-with (x .halved .ending) strips s
 
 -- ---- few intervals and samples
 abbrev pub Few : Worked → Type 0
-Few s = (intervalsOf (s .lower) (s .upper) (s .halved) ≤ 64) × (samplesOf s ≤ 1905)
+Few s = (intervalsOf (s .lower) (s .upper) (s .halved) ≤ mostPieces) × (samplesOf s ≤ samplesFor mostPieces)
 
-pub few-in : (strips : List Worked) → Each Few strips → (intervalsIn strips ≤ 64 * length strips) × (samplesIn strips ≤ 1905 * length strips)
+pub few-in : (strips : List Worked) → Each Few strips → (intervalsIn strips ≤ mostPieces * length strips) × (samplesIn strips ≤ samplesFor mostPieces * length strips)
 few-in [] e = (omega arith, omega arith)
 few-in (s ∷ strips) e =
     let rest = few-in strips (e .1) in
@@ -48,7 +50,7 @@ pub each-with : (P : Worked → Type 0) (strips : List Worked) (s : Worked) → 
 each-with P [] s e p = (p, tt)
 each-with P (x ∷ strips) s e p = (e .0, each-with P strips s (e .1) p)
 
-module _ (f : Float → List Float) (L : ℕ) (scale : Float) (some : 1 ≤ L) (most : L ≤ 64) where
+module _ (f : Float → List Float) (L : ℕ) (scale : Float) (some : 1 ≤ L) (most : L ≤ mostPieces) where
   pub strip-is-few : (lower upper : Float) → Few (stripOf 7 f L lower upper)
   strip-is-few lower upper =
       let n = strip-few f L scale lower upper some in

@@ -19,13 +19,13 @@ use Rattle.refusals.specs.declared.Verdict.the-variants.{Accepted, Refused}
 use Rattle.refusals.specs.Order.{isRefused, firstRefusal}
 use Rattle.refusals.specs.Calls.{CallOf, leavesAlone, byVerdict}
 use Rattle.refusals.proofs.Accepted.{both, each-accepts, where-each-accepts}
-use Rattle.limits.specs.Limits.{limitCheck, scratchCheck, countCheck}
+use Rattle.limits.specs.Limits.{mostPieces, pieceNumbers, limitCheck, scratchCheck, countCheck}
 use Rattle.limits.proofs.Accepted.{limit-within}
 use Rattle.materials.specs.declared.Density.{Density}
 use Rattle.materials.specs.Materials.{densityCheck}
 use Rattle.planforms.specs.Planforms.{rootChordOf}
-use Rattle.breaks.specs.Breaks.{allHeights, breakHeights, placeAbove}
-use Rattle.breaks.proofs.Listed.{at-most-66}
+use Rattle.breaks.specs.Breaks.{allHeights, breakHeights, placeAbove, mostHeights}
+use Rattle.breaks.proofs.Listed.{most-breaks}
 use Rattle.breaks.proofs.Above.{next-break, next-above, none-above, first-break}
 use Rattle.integrands.specs.Integrands.{scaleOf}
 use Rattle.fins.specs.declared.FinSet.{FinSet}
@@ -93,7 +93,7 @@ module _ (set : FinSet) (points : List Float) (L : ℕ) (made : makingCheck set 
   unfolding makingCheck
   own-checked = both _ _ made .1
 
-  limits : (1 ≤ L) × (L ≤ 64)
+  limits : (1 ≤ L) × (L ≤ mostPieces)
   limits = limit-within L limit-checked
 
   -- ---- the job of the strips worked so far and a density
@@ -191,8 +191,8 @@ module _ (set : FinSet) (points : List Float) (L : ℕ) (made : makingCheck set 
     inside : length strips + 1 < length Heights·
     inside = omega (arith, g .below)
 
-    short : length Heights· ≤ 66
-    short = at-most-66 (set .planform) points
+    short : length Heights· ≤ mostHeights
+    short = most-breaks (set .planform) points
 
     with-few : Each Few With·
     with-few =
@@ -408,14 +408,14 @@ module _ (set : FinSet) (points : List Float) (L : ℕ) (made : makingCheck set 
       where-each-accepts (limitCheck L ∷ scratchCheck L n ∷ ownChecks (withDensity set d) points)
       (limit-checked, (scratch, (count, (planform, (thickness, (thickness-root, (cant, (base-angle, (fillet-radius, (tab, (radius, (depth, (dense, (glue, (ratio, none)))))))))))))))
 
-  long-enough : scratchCheck L (16 * L) ≡ Accepted
+  long-enough : scratchCheck L (pieceNumbers * L) ≡ Accepted
   unfolding scratchCheck
-  long-enough = rw (le-leb (16 * L) (16 * L) (omega arith))
+  long-enough = rw (le-leb (pieceNumbers * L) (pieceNumbers * L) (omega arith))
 
-  pub made-accepted : setCheck set points L (16 * L) ≡ Accepted
+  pub made-accepted : setCheck set points L (pieceNumbers * L) ≡ Accepted
   unfolding ownCheck
   made-accepted =
-      accepted-with (set .density) (each-accepts (ownChecks set points) own-checked .1 .1 .1 .1 .1 .1 .1 .1 .1 .1 .0) (16 * L) long-enough
+      accepted-with (set .density) (each-accepts (ownChecks set points) own-checked .1 .1 .1 .1 .1 .1 .1 .1 .1 .1 .0) (pieceNumbers * L) long-enough
 
   fresh : (d : Density) → densityCheck d ≡ Accepted → (n : ℕ) → scratchCheck L n ≡ Accepted → workedFigures (withDensity set d) points L ≡ setFigures (withDensity set d) points L n
   unfolding setCall
@@ -473,7 +473,7 @@ module _ (set : FinSet) (points : List Float) (L : ℕ) (made : makingCheck set 
           answers-as-fresh = answers-fresh (inr z);
           worked = λ e. subst (StripsAre Run·) (sym (z .whole)) (strips-are Run· (limits .0));
           reported = λ e. subst (λ (l : List Worked). AreReported l (setReport (After· .outcome))) (sym (z .whole))
-              (set-reported (withDensity set Density·) points L (16 * L) (After· .outcome) (accepted-with Density· (z .dense) (16 * L) long-enough) (z .answer));
+              (set-reported (withDensity set Density·) points L (pieceNumbers * L) (After· .outcome) (accepted-with Density· (z .dense) (pieceNumbers * L) long-enough) (z .answer));
           no-more-steps = subst (λ (l : List Worked). length l ≤ stripsFrom Run· 0) (sym (z .whole)) (let n = worked-few 7 f· L Scale· Heights· in omega (arith, n));
           runs-on = λ e. not-both _ e (z .over-now);
           works-next = λ e n v. not-both _ e (z .over-now);

@@ -10,7 +10,7 @@ use Rattle.refusals.specs.declared.Refusal.{Refusal}
 use Rattle.refusals.specs.declared.Verdict.{Verdict}
 use Rattle.refusals.specs.declared.Verdict.the-variants.{Accepted, Refused}
 use Rattle.refusals.specs.Calls.{CallOf, leavesAlone, byVerdict}
-use Rattle.limits.specs.Limits.{limitCheck}
+use Rattle.limits.specs.Limits.{pieceNumbers, limitCheck}
 use Rattle.quadrature.specs.declared.Piece.{Piece}
 use Rattle.pieces.specs.Stored.{stored, written}
 use Rattle.strips.specs.Strips.{Run, Worked, piecesOf, hasStrip, stripFrom, scratchOnward, scratchAfter}
@@ -38,14 +38,14 @@ writes-own-strip job scratch =
     to strips e = ap (λ (l : List Worked). scratchAfter l scratch) (sym e)
 
 -- ---- no scratch gets shorter
-stored-length : (pieces : List Piece) → length (stored pieces) ≡ length pieces * 16
+stored-length : (pieces : List Piece) → length (stored pieces) ≡ length pieces * pieceNumbers
 stored-length [] = refl
 stored-length (p ∷ pieces) = rw (stored-length pieces) (omega arith)
 
 written-no-shorter : (pieces : List Piece) (scratch : List Float) → length scratch ≤ length (written pieces scratch)
 written-no-shorter pieces scratch =
-    let both = length-append (stored pieces) (drop (length pieces * 16) scratch) in
-    let rest = length-drop (length pieces * 16) scratch in
+    let both = length-append (stored pieces) (drop (length pieces * pieceNumbers) scratch) in
+    let rest = length-drop (length pieces * pieceNumbers) scratch in
     omega (arith, both, rest, stored-length pieces)
 
 after-no-shorter : (strips : List Worked) (scratch : List Float) → length scratch ≤ length (scratchAfter strips scratch)

@@ -9,7 +9,7 @@ use lib.Ieee.{Float}
 use Rattle.floats.specs.Operations.{at}
 use Rattle.refusals.specs.declared.Verdict.the-variants.{Accepted}
 use Rattle.refusals.specs.Order.{isRefused}
-use Rattle.limits.specs.Limits.{scratchCheck}
+use Rattle.limits.specs.Limits.{mostSamples, scratchCheck}
 use Rattle.materials.specs.declared.Density.{Density}
 use Rattle.fins.specs.declared.FinSet.{FinSet}
 use Rattle.planforms.specs.declared.Planform.{Planform}
@@ -20,7 +20,7 @@ use Rattle.strips.specs.Strips.{samplesIn, intervalsIn, endingOf, summedOf, scr
 use Rattle.strips.specs.Claim.{StripsAre, AreReported}
 use Rattle.strips.specs.Rising.{PiecesRise, SamplesFinite, NumbersFinite}
 use Rattle.figures.specs.Figures.{setRun, setFigures}
-use Rattle.figures.specs.Answers.{setReport, mostSamples}
+use Rattle.figures.specs.Answers.{setReport}
 use Rattle.jobs.specs.declared.Job.{Job}
 use Rattle.jobs.specs.declared.Progress.the-variants.{Ended}
 use Rattle.jobs.specs.declared.Reply.{Reply}

@@ -17,7 +17,7 @@ use Rattle.refusals.specs.Order.{isRefused, firstRefusal}
 use Rattle.refusals.specs.Refusals.{numberOf}
 use Rattle.refusals.specs.Given.{IsAnswer}
 use Rattle.refusals.specs.Calls.{CallOf, leavesAlone, byVerdict}
-use Rattle.limits.specs.Limits.{limitCheck, scratchCheck, countCheck}
+use Rattle.limits.specs.Limits.{outlineNumbers, limitCheck, scratchCheck, countCheck}
 use Rattle.materials.specs.declared.Density.{Density}
 use Rattle.materials.specs.Materials.{densityCheck}
 use Rattle.planforms.specs.Planforms.{rootChordOf}
@@ -49,12 +49,12 @@ stepRun set points L =
 
 -- ---- the record
 
--- "It keeps its own copy of the outline": at most 128 numbers of it, zeros after them
+-- "It keeps its own copy of the outline": at most as many numbers as an outline may have, zeros after them
 abbrev pub heldOf : ℕ → ℕ
-heldOf count = cond (leb count 128) count 128
+heldOf count = cond (leb count outlineNumbers) count outlineNumbers
 
 abbrev pub pointsOf : List Float → Points
-pointsOf points = record { numbers = over (take 128 points) (replicate 128 (bits 0)); count = length (take 128 points) }
+pointsOf points = record { numbers = over (take outlineNumbers points) (replicate outlineNumbers (bits 0)); count = length (take outlineNumbers points) }
 
 abbrev pub outlineOf : Job → List Float
 outlineOf job = take (heldOf (job .points .count)) (job .points .numbers)

@@ -16,15 +16,16 @@ use figures::Figures;
 use fins::FinSet;
 use halving::Ending;
 use halving::Integral;
+use limits::OUTLINE_NUMBERS;
 use materials::Density;
 use refusals::Refusal;
 use refusals::Verdict;
 use refusals::first_refusal;
 use strips::Onward;
 
-// A copy of an outline: room for 64 points, and how many of the numbers are the outline's.
+// A copy of an outline: room for the most points, and how many of the numbers are the outline's.
 pub struct Points {
-    pub numbers: [f64; 128],
+    pub numbers: [f64; OUTLINE_NUMBERS],
     pub count: usize,
 }
 
@@ -78,10 +79,10 @@ pub struct Replied {
 fn held(count: usize) -> usize
     ensures { λ r. ⌜ r ≡ heldOf count ⌝ }
 {
-    if count <= 128 {
+    if count <= OUTLINE_NUMBERS {
         return count;
     }
-    128
+    OUTLINE_NUMBERS
 }
 
 // A job's own copy, zeros after it.
@@ -89,7 +90,7 @@ fn copied(points: &[f64]) -> Points
     ensures { λ r. ⌜ r ≡ pointsOf (now (points .entry)) ⌝ }
 {
     let n = held(points.len());
-    let mut numbers = [0.0; 128];
+    let mut numbers = [0.0; OUTLINE_NUMBERS];
     let mut i: usize = 0;
     while i < n {
         numbers[i] = points[i];
@@ -249,7 +250,7 @@ fn after_strip(job: Job, onward: Onward) -> Job
     end(job, total, figures)
 }
 
-// A limit that is not 1 to 64, which no job that was made has, ends the job with 1.
+// A limit outside its limits, which no job that was made has, ends the job with 1.
 fn end_refused(job: Job, refusal: Refusal) -> Job
     ensures { λ r. ⌜ r ≡ endedBy job refusal ⌝ }
 {

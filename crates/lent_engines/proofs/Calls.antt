@@ -17,6 +17,7 @@ use Rattle.jobs.specs.declared.Job.{Job}
 use Rattle.jobs.specs.declared.Replied.{Replied}
 use Rattle.jobs.specs.declared.Row.{Row}
 use Rattle.refusals.specs.Calls.{CallOf}
+use Rattle.limits.specs.Limits.{scratchNumbers}
 use Rattle.jobs.specs.Jobs.{bareFigures, figuresRow, plainRow, steppedOn, madeOf}
 use Rattle.jobs.specs.Calls.{isTaken}
 use Rattle.jobs.proofs.Laws.{yes, no}
@@ -43,7 +44,7 @@ module _ (engine : Engine) (scratch : List Float) where
   next· = nextScreen (engine .screens)
 
   -- a turn tells the screen that it serves
-  told-by : (c d : Bool) → ltb (length scratch) 1024 ≡ c → ltb 0 next· ≡ d → servedScreen (turnOf engine (length scratch) .answer .turn) ≡ cond c 0 next·
+  told-by : (c d : Bool) → ltb (length scratch) scratchNumbers ≡ c → ltb 0 next· ≡ d → servedScreen (turnOf engine (length scratch) .answer .turn) ≡ cond c 0 next·
   unfolding turnOf
   told-by true d c e = ap (λ (s : CallOf Served). servedScreen (s .answer .turn)) (served-short (engine .screens) _ (length scratch) (ltb-true _ _ c))
   told-by false true c e =
@@ -55,7 +56,7 @@ module _ (engine : Engine) (scratch : List Float) where
       ap (λ (s : CallOf Served). servedScreen (s .answer .turn)) (served-idle (engine .screens) _ (length scratch) next· refl (ltb-false _ _ c) z) ∙ none
 
   pub told-screen : servedScreen (turnOf engine (length scratch) .answer .turn) ≡ screenOf engine (turn scratch)
-  told-screen = told-by (ltb (length scratch) 1024) (ltb 0 next·) refl refl
+  told-screen = told-by (ltb (length scratch) scratchNumbers) (ltb 0 next·) refl refl
 
   -- and works at its place
   place-by : (c : Bool) → 0 < cond c 0 next· → placeOf next· ≡ placeOf (cond c 0 next·)
@@ -64,14 +65,14 @@ module _ (engine : Engine) (scratch : List Float) where
 
   pub served-place : 0 < screenOf engine (turn scratch) → pickOf (engine .screens) ≡ placeOf (screenOf engine (turn scratch))
   unfolding pickOf
-  served-place h = place-by (ltb (length scratch) 1024) h
+  served-place h = place-by (ltb (length scratch) scratchNumbers) h
 
-  idle-by : (c : Bool) → ltb (length scratch) 1024 ≡ c → ltb 0 (cond c 0 next·) ≡ false → turnOf engine (length scratch) .answer .engine ≡ engine
+  idle-by : (c : Bool) → ltb (length scratch) scratchNumbers ≡ c → ltb 0 (cond c 0 next·) ≡ false → turnOf engine (length scratch) .answer .engine ≡ engine
   idle-by true c e = changes-nothing .short-turn engine (length scratch) (ltb-true _ _ c)
   idle-by false c e = let z : next· ≤ 0 = ltb-false _ _ e in changes-nothing .idle-turn engine (length scratch) (omega arith)
 
   pub turn-idle : ltb 0 (screenOf engine (turn scratch)) ≡ false → turnOf engine (length scratch) .answer .engine ≡ engine
-  turn-idle e = idle-by (ltb (length scratch) 1024) refl e
+  turn-idle e = idle-by (ltb (length scratch) scratchNumbers) refl e
 
 -- the engine is as it was
 pub unwritten : (engine : Engine) (call : Call) → writes engine call ≡ false → engineBy engine call ≡ engine

@@ -1,5 +1,5 @@
-// The engine in lent memory: 1272 numbers and 145 counts, for the library and for the card program's lines (document
-// 02, Paper 10).
+// The engine in lent memory: `ENGINE_NUMBERS` numbers and `ENGINE_COUNTS` counts, for the library and for the card
+// program's lines (document 02, Paper 10).
 //
 // A call reads the screens and the job at its place, works on them by value as `engines` does, and where it changed
 // them writes the two back; the other seven jobs stay where they lie. Any lists hold some engine; lists of zeros hold

@@ -11,6 +11,7 @@ use lib.Ieee.{Float, nan}
 use Rattle.floats.specs.Operations.{at, tabulate, tabulateFrom}
 use Rattle.refusals.specs.declared.Verdict.{Verdict}
 use Rattle.refusals.proofs.Numbered.{verdict-back}
+use Rattle.limits.specs.Limits.{outlineNumbers}
 use Rattle.materials.specs.declared.Density.{Density}
 use Rattle.fins.specs.declared.FinSet.{FinSet}
 use Rattle.fins.specs.Numbered.{setNumbers, numbersOf as setNumbersOf, knownSet}
@@ -91,7 +92,7 @@ unfolding jobIn
 job-back job s more others =
     same-job job _ _ _ _ _
     (job-set-back job more others)
-    (take-at (job .points .numbers) more 128 (s .outline))
+    (take-at (job .points .numbers) more outlineNumbers (s .outline))
     (elements (job .value) 7 0 (sym (s .sums)))
     (ended-back (job .ended))
     (outcome-back job s more others)

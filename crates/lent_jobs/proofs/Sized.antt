@@ -6,6 +6,7 @@ use lib.Ieee.{Float}
 use mir.Val.{Val}
 use denote.Laws.{Is}
 use denote.Struct.Laws as LL
+use Rattle.limits.specs.Limits.{outlineNumbers}
 use Rattle.bodies.proofs.Body as B
 use Rattle.bodies.proofs.Body.Laws as B′
 use Rattle.bodies.proofs.Tensor as T
@@ -15,11 +16,11 @@ use Rattle.figures.proofs.Figures.Laws as F′
 use Rattle.jobs.specs.declared.Job.{Job}
 use Rattle.jobs.proofs.Job as J
 use Rattle.jobs.proofs.Job.Laws as J′
-use Rattle.jobs.proofs.Lengths.{numbers-128}
+use Rattle.jobs.proofs.Lengths.{outline-length}
 
 -- its copy of the outline, its sums, and its answer's tensor
 pub record Sized (job : Job) : Type 0 where
-  pub outline : length (job .points .numbers) ≡ 128
+  pub outline : length (job .points .numbers) ≡ outlineNumbers
   pub sums : length (job .value) ≡ 7
   pub tensor : length (job .outcome .body .«inertia_kg_m2» .0) ≡ 6
 
@@ -30,7 +31,7 @@ sized job vals is =
     let body = LL.owed B.the-type B′.the-laws (job .outcome .body) _ (outcome .1 .0) in
     let tensor = LL.owed T.the-type T′.the-laws (job .outcome .body .«inertia_kg_m2») _ (body .1 .1 .0) in
     record {
-      outline = numbers-128 job vals is;
+      outline = outline-length job vals is;
       sums = sym (length-map (job .value) (λ (x : Float). x)) ∙ parts .1 .1 .1 .1 .0 .1 .0 .1;
       tensor = sym (length-map (job .outcome .body .«inertia_kg_m2» .0) (λ (x : Float). x)) ∙ tensor .0 .1 .0 .1;
     }

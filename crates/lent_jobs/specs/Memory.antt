@@ -9,15 +9,23 @@ use lib.ListN.{length, take, drop, getD}
 use lib.Ieee.{Float}
 use Rattle.floats.specs.Operations.{bits, at, tabulate}
 use Rattle.refusals.specs.Numbered.{numberIn, firstIn, secondIn, verdictFrom}
+use Rattle.limits.specs.Limits.{outlineNumbers}
 use Rattle.fins.specs.declared.FinSet.{FinSet}
 use Rattle.fins.specs.Numbered.{setNumbers, setCounts, numbersOf as setNumbersOf, countsOf as setCountsOf, setIn as numberedSetIn, knownSet}
-use Rattle.bodies.specs.Layout.{bodyOf, numbersOf as bodyNumbersOf}
+use Rattle.bodies.specs.Layout.{bodyNumbers, bodyOf, numbersOf as bodyNumbersOf}
 use Rattle.figures.specs.declared.Figures.{Figures}
 use Rattle.jobs.specs.declared.Job.{Job}
 
--- how many numbers and counts a job has
+-- where the body of the answer and the outline's copy stand after the set's numbers and the seven sums, and how many
+-- numbers and counts a job has
+abbrev pub bodyPlace : ℕ
+bodyPlace = setNumbers + 7
+
+abbrev pub outlinePlace : ℕ
+outlinePlace = bodyPlace + bodyNumbers
+
 abbrev pub jobNumbers : ℕ
-jobNumbers = setNumbers + 17 + 128
+jobNumbers = outlinePlace + outlineNumbers
 
 abbrev pub jobCounts : ℕ
 jobCounts = setCounts + 11
@@ -59,7 +67,7 @@ unfoldable pub outcomeIn : List Float → List ℕ → Figures
 outcomeIn numbers counts =
     record {
       verdict = verdictFrom (countAt counts (setCounts + 5)) (countAt counts (setCounts + 6)) (countAt counts (setCounts + 7));
-      body = bodyOf (at (take 10 (drop (setNumbers + 7) numbers)));
+      body = bodyOf (at (take bodyNumbers (drop bodyPlace numbers)));
       intervals = countAt counts (setCounts + 8);
       samples = countAt counts (setCounts + 9);
     }
@@ -68,7 +76,7 @@ unfoldable pub jobIn : List Float → List ℕ → Job
 jobIn numbers counts =
     record {
       set = setIn numbers counts;
-      points = record { numbers = take 128 (drop (setNumbers + 17) numbers); count = countAt counts (setCounts + 10) };
+      points = record { numbers = take outlineNumbers (drop outlinePlace numbers); count = countAt counts (setCounts + 10) };
       limit = countAt counts setCounts;
       next = countAt counts (setCounts + 1);
       value = tabulate 7 (at (take 7 (drop setNumbers numbers)));

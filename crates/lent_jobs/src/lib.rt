@@ -1,4 +1,4 @@
-// A job in lent memory: 159 numbers and 17 counts, as C and Rust lend it (document 02, Paper 9; include/delvouzh.h).
+// A job in lent memory: `JOB_NUMBERS` numbers and `JOB_COUNTS` counts, as C and Rust lend it (document 02, Paper 9; include/delvouzh.h).
 //
 // A call reads the job into a local, lends that to `jobs::step` or `jobs::change_density`, and writes it back over the
 // start of both lists; a call that changes nothing writes nothing. A set's parts stand there by the library's numbers;
@@ -7,6 +7,7 @@ ghost use mathlib.Core.Path.{_≡_};
 ghost use Prim.Native.Nat.{_+_, _≤_};
 ghost use lib.ListN.{length};
 ghost use lib.Seq.{paste};
+ghost use Rattle.limits.specs.Limits.{outlineNumbers};
 ghost use Rattle.jobs.specs.Jobs.{stepRow};
 ghost use Rattle.lent_jobs.specs.Memory.{flag, workedNumbers, countsOf, setIn, outcomeIn, jobIn};
 ghost use Rattle.lent_jobs.specs.Lent.{Room, Holds, Makes, densityTaken, Steps, Changes, StepsThere, ChangesThere};
@@ -21,6 +22,7 @@ use jobs::Points;
 use jobs::Progress;
 use jobs::Reply;
 use jobs::Row;
+use limits::OUTLINE_NUMBERS;
 use materials::Density;
 use refusals::Refusal;
 use refusals::Verdict;
@@ -33,7 +35,7 @@ const BODY: usize = SUMS + 7;
 
 const OUTLINE: usize = BODY + BODY_NUMBERS;
 
-pub const JOB_NUMBERS: usize = OUTLINE + 128;
+pub const JOB_NUMBERS: usize = OUTLINE + OUTLINE_NUMBERS;
 
 const WORKED_NUMBERS: usize = OUTLINE - SUMS;
 
@@ -171,7 +173,7 @@ pub fn write_job(numbers: &mut [f64], counts: &mut [usize], job: Job)
     write_numbers(numbers, SET_NUMBERS, &worked[..WORKED_NUMBERS]);
     let points = job.points;
     let outline = points.numbers;
-    write_numbers(numbers, OUTLINE, &outline[..128]);
+    write_numbers(numbers, OUTLINE, &outline[..OUTLINE_NUMBERS]);
     let of_job = counts_of(job);
     write_counts(counts, &of_job[..JOB_COUNTS]);
 }
@@ -183,13 +185,13 @@ fn read_set(numbers: &[f64], counts: &[usize]) -> FinSet
     fins::known_set(fins::set_in(numbers, counts))
 }
 
-fn read_outline(numbers: &[f64]) -> [f64; 128]
-    requires { ⌜ length (now numbers) ≡ 128 ⌝ }
+fn read_outline(numbers: &[f64]) -> [f64; OUTLINE_NUMBERS]
+    requires { ⌜ length (now numbers) ≡ outlineNumbers ⌝ }
     ensures { λ r. ⌜ r ≡ now (numbers .entry) ⌝ }
 {
-    let mut outline = [0.0; 128];
+    let mut outline = [0.0; OUTLINE_NUMBERS];
     let mut i: usize = 0;
-    while i < 128 {
+    while i < OUTLINE_NUMBERS {
         outline[i] = numbers[i];
         i += 1;
     }

@@ -8,6 +8,28 @@ use refusals::Refusal;
 use refusals::Verdict;
 use refusals::refuse_unless;
 
+// The most pieces of a strip, which is L's upper limit, and the numbers that a piece takes of the scratch: no run needs
+// more of these than their product.
+pub const MOST_PIECES: usize = 64;
+
+pub const PIECE_NUMBERS: usize = 16;
+
+pub const SCRATCH_NUMBERS: usize = PIECE_NUMBERS * MOST_PIECES;
+
+// The samples of a piece.
+pub const PIECE_SAMPLES: usize = 15;
+
+// The most points of an outline, the numbers that hold them, and the strips between their heights: the first and the
+// last point both lie at the root.
+pub const MOST_POINTS: usize = 64;
+
+pub const OUTLINE_NUMBERS: usize = 2 * MOST_POINTS;
+
+pub const MOST_STRIPS: usize = MOST_POINTS - 2;
+
+// The most samples of a run: a strip takes those of one piece, and of two more for each cut.
+pub const MOST_SAMPLES: usize = MOST_STRIPS * PIECE_SAMPLES * (2 * MOST_PIECES - 1);
+
 // The numbers of the fields, as a refusal 4 or 9 carries them.
 pub const ROOT_CHORD: usize = 1;
 
@@ -57,18 +79,18 @@ const LONGEST_M: f64 = 64.0;
 // The largest magnitude of an angle.
 const WIDEST_RAD: f64 = 4.0;
 
-// 1: the interval limit is 1 to 64.
+// 1: the interval limit is 1 to `MOST_PIECES`.
 pub fn check_limit(limit: usize) -> Verdict
     ensures { λ r. ⌜ r ≡ limitCheck limit ⌝ }
 {
-    refuse_unless((1 <= limit) & (limit <= 64), Refusal::Limit)
+    refuse_unless((1 <= limit) & (limit <= MOST_PIECES), Refusal::Limit)
 }
 
-// 2: a scratch of `scratch_len` numbers holds the 16 of each of `limit` pieces. Written so that no product can wrap.
+// 2: a scratch of `scratch_len` numbers holds those of `limit` pieces. Written so that no product can wrap.
 pub fn check_scratch(limit: usize, scratch_len: usize) -> Verdict
     ensures { λ r. ⌜ r ≡ scratchCheck limit «scratch_len» ⌝ }
 {
-    refuse_unless(limit <= scratch_len / 16, Refusal::Scratch)
+    refuse_unless(limit <= scratch_len / PIECE_NUMBERS, Refusal::Scratch)
 }
 
 // 3: fins, or bodies to be joined, are 1 to 32.

@@ -13,6 +13,7 @@ use Rattle.floats.specs.Operations.{bits}
 use Rattle.rounding.specs.Sizes.{AtMost}
 use Rattle.refusals.specs.declared.Refusal.the-variants.{NoArea}
 use Rattle.refusals.specs.declared.Verdict.the-variants.{Accepted, Refused}
+use Rattle.limits.specs.Limits.{pieceSamples}
 use Rattle.sections.specs.declared.Section.{Section}
 use Rattle.sections.specs.declared.Section.the-variants.{Square, Rounded, Airfoil, AirfoilOpen}
 use Rattle.planforms.specs.declared.Planform.the-variants.{Trapezoid}
@@ -49,7 +50,7 @@ AreF64s root tip span sweep =
 
 -- 15 samples were taken, and what is reported is figures by one piece, or 8: never 13
 pub record OnePiece (report : Report) : Type 0 where
-  pub fifteen : report .samples ≡ 15
+  pub fifteen : report .samples ≡ pieceSamples
   pub figures-or-8 : ((report .verdict ≡ Accepted) × (report .intervals ≡ 1)) ⊎ (report .verdict ≡ Refused NoArea)
 
 -- the call for the area (`figures::geometry`) answered r for a trapezoid that passes the checks: tip up to 4 root

@@ -167,12 +167,13 @@ fn check_twice_area(points: &[f64]) -> Verdict
     refusals::refuse_when(twice_area(points) == 0.0, Refusal::NoArea)
 }
 
-// The first refusal of an outline, whatever slice is lent. Only with 3 to 64 points is anything else looked at.
+// The first refusal of an outline, whatever slice is lent. Only with 3 to `MOST_POINTS` points is anything else looked
+// at.
 fn check_outline(points: &[f64]) -> Verdict
     ensures { λ r. ⌜ r ≡ outlineCheck (now (points .entry)) ⌝ }
 {
     let n = points.len() / 2;
-    if !((points.len() % 2 == 0) & (3 <= n) & (n <= 64)) {
+    if !((points.len() % 2 == 0) & (3 <= n) & (n <= limits::MOST_POINTS)) {
         return Verdict::Refused(Refusal::Points);
     }
     let v = check_points(points);

@@ -4,6 +4,7 @@ use Prim.Native.Nat.{ℕ, zero, suc, _+_, _*_}
 use lib.ListN.{length, take, drop, replicate}
 use lib.Ieee.{Float}
 use Rattle.floats.specs.Operations.{bits, at, tabulate}
+use Rattle.limits.specs.Limits.{pieceNumbers}
 use Rattle.quadrature.specs.declared.Piece.{Piece}
 
 -- "A piece holds start, end, seven values, seven errors: 16 numbers of the lent scratch"
@@ -22,7 +23,7 @@ stored (p ∷ pieces) = numbersOf p ++ stored pieces
 -- "scratch holds, in storage order from its start, what each strip wrote ..; elsewhere it is unchanged", and "What a
 -- strip wrote is the pieces it ended with"
 abbrev pub written : List Piece → List Float → List Float
-written pieces scratch = stored pieces ++ drop (length pieces * 16) scratch
+written pieces scratch = stored pieces ++ drop (length pieces * pieceNumbers) scratch
 
 -- the piece that sixteen numbers hold
 abbrev pub pieceIn : List Float → Piece
@@ -30,11 +31,11 @@ pieceIn l = record { start = at l 0; end = at l 1; value = tabulate 7 (λ k. at 
 
 -- the piece at place i of a scratch, its first n pieces, and a piece put at place i
 abbrev pub readAt : List Float → ℕ → Piece
-readAt scratch i = pieceIn (take 16 (drop (i * 16) scratch))
+readAt scratch i = pieceIn (take pieceNumbers (drop (i * pieceNumbers) scratch))
 
 abbrev pub piecesIn : ℕ → List Float → List Piece
 piecesIn zero scratch = []
-piecesIn (suc n) scratch = pieceIn (take 16 scratch) ∷ piecesIn n (drop 16 scratch)
+piecesIn (suc n) scratch = pieceIn (take pieceNumbers scratch) ∷ piecesIn n (drop pieceNumbers scratch)
 
 abbrev pub putAt : List Float → ℕ → Piece → List Float
-putAt scratch i p = take (i * 16) scratch ++ (numbersOf p ++ drop (i * 16 + 16) scratch)
+putAt scratch i p = take (i * pieceNumbers) scratch ++ (numbersOf p ++ drop (i * pieceNumbers + pieceNumbers) scratch)

@@ -4,12 +4,14 @@ ghost use mathlib.Core.Path.{_≡_};
 ghost use Prim.Native.Nat.{_+_, _*_, _≤_};
 ghost use lib.ListN.{length};
 ghost use Rattle.floats.specs.Operations.{_⊕_, at, tabulate};
+ghost use Rattle.limits.specs.Limits.{pieceNumbers};
 ghost use Rattle.pieces.specs.Stored.{numbersOf, pieceIn, readAt, putAt};
+use limits::PIECE_NUMBERS;
 use quadrature::Piece;
 
 // The piece that sixteen numbers hold.
 fn load(s: &[f64]) -> Piece
-    requires { ⌜ length (now s) ≡ 16 ⌝ }
+    requires { ⌜ length (now s) ≡ pieceNumbers ⌝ }
     ensures { λ r. ⌜ r ≡ pieceIn (now (s .entry)) ⌝ }
 {
     let value = [s[2], s[3], s[4], s[5], s[6], s[7], s[8]];
@@ -37,7 +39,7 @@ fn store_seven(s: &mut [f64], v: [f64; 7])
 }
 
 fn store(s: &mut [f64], p: Piece)
-    requires { ⌜ length (now s) ≡ 16 ⌝ }
+    requires { ⌜ length (now s) ≡ pieceNumbers ⌝ }
     ensures { λ _. ⌜ now (s .exit) ≡ numbersOf p ⌝ }
 {
     let v = p.value;
@@ -45,25 +47,25 @@ fn store(s: &mut [f64], p: Piece)
     s[0] = p.start;
     s[1] = p.end;
     store_seven(&mut s[2..9], v);
-    store_seven(&mut s[9..16], e);
+    store_seven(&mut s[9..PIECE_NUMBERS], e);
 }
 
 // The piece at place i.
 pub fn read(scratch: &[f64], i: usize) -> Piece
-    requires { ⌜ i * 16 + 16 ≤ length (now scratch) ⌝ }
+    requires { ⌜ i * pieceNumbers + pieceNumbers ≤ length (now scratch) ⌝ }
     ensures { λ r. ⌜ r ≡ readAt (now (scratch .entry)) i ⌝ }
 {
-    let o = i * 16;
-    let e = o + 16;
+    let o = i * PIECE_NUMBERS;
+    let e = o + PIECE_NUMBERS;
     load(&scratch[o..e])
 }
 
 pub fn write(scratch: &mut [f64], i: usize, p: Piece)
-    requires { ⌜ i * 16 + 16 ≤ length (now scratch) ⌝ }
+    requires { ⌜ i * pieceNumbers + pieceNumbers ≤ length (now scratch) ⌝ }
     ensures { λ _. ⌜ now (scratch .exit) ≡ putAt (now (scratch .entry)) i p ⌝ }
 {
-    let o = i * 16;
-    let e = o + 16;
+    let o = i * PIECE_NUMBERS;
+    let e = o + PIECE_NUMBERS;
     store(&mut scratch[o..e], p)
 }
 

@@ -5,6 +5,7 @@ ghost use mathlib.Core.Path.{_≡_};
 ghost use Prim.Native.Nat.{_≤_};
 ghost use lib.ListN.{length, take};
 ghost use Rattle.sorting.specs.Sorted.{over};
+ghost use Rattle.limits.specs.Limits.{mostPoints};
 ghost use Rattle.chords.specs.Chords.{outlineCrossings, endsOf, paired, chordsAt};
 ghost use Rattle.planform_chords.specs.PlanformChords.{Listed, chordsCall, IsChordList};
 use chords::Chords;
@@ -12,8 +13,8 @@ use planforms::Planform;
 use refusals::Refusal;
 use refusals::Verdict;
 
-// The numbers that a list must have room for: an outline of 64 points has at most 32 chords.
-pub const ROOM: usize = 64;
+// The numbers that a list must have room for: an outline is crossed at most once an edge.
+pub const ROOM: usize = limits::MOST_POINTS;
 
 // How many chords are listed; none with a refusal.
 pub struct ChordList {
@@ -21,9 +22,9 @@ pub struct ChordList {
     pub count: usize,
 }
 
-// Where nothing is listed, the list is left alone. One without room for 64 numbers is the caller's to refuse.
+// Where nothing is listed, the list is left alone. One without this room is the caller's to refuse.
 pub fn chords_at(planform: Planform, points: &[f64], h: f64, ends: &mut [f64]) -> ChordList
-    requires { ⌜ 64 ≤ length (now ends) ⌝ }
+    requires { ⌜ mostPoints ≤ length (now ends) ⌝ }
     ensures { λ r. ⌜ IsChordList r (chordsCall planform (now (points .entry)) h .answer) ⌝ }
     ensures { λ _. ⌜ now (ends .exit) ≡ chordsCall planform (now (points .entry)) h .leaves (now (ends .entry)) ⌝ }
 {
@@ -75,7 +76,7 @@ fn refused(refusal: Refusal) -> ChordList
 
 // Writes the chords found over the start of the list, and returns how many there are.
 fn write_chords(found: Chords, points: &[f64], h: f64, ends: &mut [f64]) -> usize
-    requires { ⌜ 64 ≤ length (now ends) ⌝ }
+    requires { ⌜ mostPoints ≤ length (now ends) ⌝ }
     ensures { λ r. ⌜ Listed (paired (endsOf found (now (points .entry)) h)) (now (ends .entry)) (now (ends .exit)) r ⌝ }
 {
     match found {
@@ -90,10 +91,10 @@ fn write_chords(found: Chords, points: &[f64], h: f64, ends: &mut [f64]) -> usiz
 }
 
 fn write_several(points: &[f64], h: f64, ends: &mut [f64]) -> usize
-    requires { ⌜ 64 ≤ length (now ends) ⌝ }
+    requires { ⌜ mostPoints ≤ length (now ends) ⌝ }
     ensures { λ r. ⌜ Listed (paired (outlineCrossings (now (points .entry)) h)) (now (ends .entry)) (now (ends .exit)) r ⌝ }
 {
-    let mut xs = [0.0; 64];
+    let mut xs = [0.0; ROOM];
     let count = chords::outline_crossings(points, h, &mut xs) / 2;
     write_first(&xs, 2 * count, ends);
     count

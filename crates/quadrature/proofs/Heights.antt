@@ -20,6 +20,7 @@ use Rattle.rounding.proofs.Sizes.{half-below, weaker}
 use Rattle.rounding.proofs.Terms.{given, _less_, _times_, _plus_, within}
 use Rattle.sorting.specs.Sorted.{Each}
 use Rattle.gauss_kronrod.specs.Tables.{nodes}
+use Rattle.limits.specs.Limits.{pieceSamples}
 use Rattle.quadrature.specs.Rule.{halfSum, halfWidth, minusSide, plusSide, heightsTo, heightsOf, finiteSample, finiteAt}
 
 -- ---- "it appends the fifteen heights"
@@ -28,7 +29,7 @@ unfolding heightsTo
 heights-count zero centre half = refl
 heights-count (suc n) centre half = rw length-append (omega (arith, heights-count n centre half))
 
-pub fifteen : (start end : Float) → length (heightsOf start end) ≡ 15
+pub fifteen : (start end : Float) → length (heightsOf start end) ≡ pieceSamples
 fifteen start end = heights-count 7 (halfSum start end) (halfWidth start end)
 
 -- ---- lists of bounded f64s

@@ -10,11 +10,14 @@
 ghost use mathlib.Core.Path.{_≡_};
 ghost use Rattle.floats.specs.Operations.{_⊖_, _⊗_, at, tabulate};
 ghost use Rattle.floats.specs.Floats.{absOf};
+ghost use Rattle.limits.specs.Limits.{pieceSamples};
 ghost use Rattle.integrands.specs.Integrands.{sampleOf};
 ghost use Rattle.quadrature.specs.Rule.{heightsTo, kronrodWeight, gaussWeight, measurementOf};
 ghost use Rattle.quadrature.specs.Tally.{FoundTo, HoldingTo, EdgesNear, WithinTo, weightsTo, plusWeighted, tallyOf};
 use chords::Chords;
 use integrands::Integrand;
+use limits::MOST_POINTS;
+use limits::PIECE_SAMPLES;
 use planforms::Planform;
 
 // A part of a strip with its integral and that integral's error estimate.
@@ -53,7 +56,7 @@ fn plus_weighted(sum: [f64; 7], weight: f64, y: [f64; 7]) -> [f64; 7]
 }
 
 // Where the samples are: centre, then for each node the minus side, then the plus side.
-fn sample_heights(centre: f64, half: f64) -> [f64; 15]
+fn sample_heights(centre: f64, half: f64) -> [f64; PIECE_SAMPLES]
     ensures { λ r. ⌜ r ≡ heightsTo 7 centre half ⌝ }
 {
     let x0 = half * gauss_kronrod::node(0);
@@ -83,7 +86,7 @@ fn sample_heights(centre: f64, half: f64) -> [f64; 15]
 }
 
 // The Kronrod weights of the same samples.
-fn kronrod_weights() -> [f64; 15]
+fn kronrod_weights() -> [f64; PIECE_SAMPLES]
     ensures { λ r. ⌜ r ≡ weightsTo 7 kronrodWeight ⌝ }
 {
     let w0 = gauss_kronrod::kronrod_weight(0);
@@ -99,7 +102,7 @@ fn kronrod_weights() -> [f64; 15]
 
 // Their Gauss weights: the table's four are those of the nodes 1, 3, 5 and 7. An even node's is 0, which is added times
 // the sample as in the Rust.
-fn gauss_weights() -> [f64; 15]
+fn gauss_weights() -> [f64; PIECE_SAMPLES]
     ensures { λ r. ⌜ r ≡ weightsTo 7 gaussWeight ⌝ }
 {
     let w1 = gauss_kronrod::gauss_weight(0);
@@ -131,13 +134,13 @@ struct Bounds {
     hi: f64,
 }
 
-fn bounds_m(scale: f64, heights: [f64; 15]) -> Bounds
-    ensures { λ r. ⌜ WithinTo 15 scale heights (r .lo) (r .hi) ⌝ }
+fn bounds_m(scale: f64, heights: [f64; PIECE_SAMPLES]) -> Bounds
+    ensures { λ r. ⌜ WithinTo pieceSamples scale heights (r .lo) (r .hi) ⌝ }
 {
     let mut lo = heights[0] * scale;
     let mut hi = lo;
     let mut i: usize = 1;
-    while i < 15 {
+    while i < PIECE_SAMPLES {
         let h = heights[i] * scale;
         if h < lo {
             lo = h;
@@ -155,8 +158,8 @@ fn bounds_m(scale: f64, heights: [f64; 15]) -> Bounds
 fn edges_near(
     integrand: Integrand,
     points: &[f64],
-    heights: [f64; 15],
-    edges: &mut [u8; 64],
+    heights: [f64; PIECE_SAMPLES],
+    edges: &mut [u8; MOST_POINTS],
 ) -> usize
     ensures { λ r. ⌜ EdgesNear integrand (now (points .entry)) heights (now (edges .exit)) r ⌝ }
 {
@@ -174,14 +177,14 @@ fn chords_found(
     integrand: Integrand,
     points: &[f64],
     edges: &[u8],
-    heights: [f64; 15],
-) -> [Chords; 15]
-    requires { ⌜ HoldingTo 15 integrand (now points) heights (now edges) ⌝ }
-    ensures { λ r. ⌜ FoundTo 15 integrand (now (points .entry)) heights r ⌝ }
+    heights: [f64; PIECE_SAMPLES],
+) -> [Chords; PIECE_SAMPLES]
+    requires { ⌜ HoldingTo pieceSamples integrand (now points) heights (now edges) ⌝ }
+    ensures { λ r. ⌜ FoundTo pieceSamples integrand (now (points .entry)) heights r ⌝ }
 {
-    let mut found = [Chords::Nothing; 15];
+    let mut found = [Chords::Nothing; PIECE_SAMPLES];
     let mut i: usize = 0;
-    while i < 15 {
+    while i < PIECE_SAMPLES {
         let one = integrands::chords_at(integrand, points, edges, heights[i]);
         found[i] = one;
         i += 1;
@@ -195,7 +198,7 @@ fn sums(integrand: Integrand, points: &[f64], centre: f64, half: f64) -> Tally
     ensures { λ r. ⌜ r ≡ tallyOf (sampleOf integrand (now (points .entry))) centre half ⌝ }
 {
     let heights = sample_heights(centre, half);
-    let mut edges = [0; 64];
+    let mut edges = [0; MOST_POINTS];
     let n = edges_near(integrand, points, heights, &mut edges);
     let found = chords_found(integrand, points, &edges[..n], heights);
     let kw = kronrod_weights();
@@ -203,7 +206,7 @@ fn sums(integrand: Integrand, points: &[f64], centre: f64, half: f64) -> Tally
     let mut kronrod = [0.0; 7];
     let mut gauss = [0.0; 7];
     let mut j: usize = 0;
-    while j < 15 {
+    while j < PIECE_SAMPLES {
         let kind = integrand.kind;
         let scale = integrand.scale;
         let h = heights[j];

@@ -76,7 +76,7 @@ pub extern "C" fn delvouzh_job_make(
     refusals::verdict_number(verdict)
 }
 
-// One step of the job there, over a lent scratch of at least 16·limit numbers: 1000 where more strips remain, else the
+// One step of the job there, over a lent scratch with room for limit pieces: 1000 where more strips remain, else the
 // figures or the refusal that it has ended with. Writes the body's numbers and the counts; where more remain, zeros.
 #[no_mangle]
 pub extern "C" fn delvouzh_job_step(

@@ -13,6 +13,7 @@ use Rattle.floats.specs.Operations.{_⊕_, bits, at}
 use Rattle.rounding.specs.Sizes.{AtMost, Below, Above, InOrder}
 use Rattle.rounding.proofs.Sizes.{sum-step}
 use Rattle.sorting.specs.Sorted.{Rising, Each as EachHeight}
+use Rattle.limits.specs.Limits.{mostStrips}
 use Rattle.quadrature.specs.declared.Piece.{Piece}
 use Rattle.quadrature.proofs.Heights.{is-finite, finite-at}
 use Rattle.tolerance.specs.Bounds.{totalOf}
@@ -36,7 +37,7 @@ pub record SizedRun (run : Run) : Type 0 where
   pub heights-rise : Rising (run .heights)
   pub samples-below : (h : Float) → Below 28 h → EachHeight (Below 700) (run .integrand h)
   pub samples-wide : (h : Float) → run .width ≤ length (run .integrand h)
-  pub few-strips : length (stripsIn run) ≤ 62
+  pub few-strips : length (stripsIn run) ≤ mostStrips
 
 -- ---- the numbers of a strip's pieces
 finite-pieces : (w : ℕ) (pieces : List Piece) → All (PieceBelow w) pieces → FinitePieces w pieces
@@ -93,5 +94,5 @@ module _ (run : Run) (z : SizedRun run) where
             (value-most k (stripsIn run) (bits 0) 0 (le-trans (enough (length (stripsIn run)) (z .few-strips)) (lit≤ tt)) (none-most 755) (totals-below k l) .finite);
       }
     where
-      enough : (n : ℕ) → n ≤ 62 → suc (0 + n) ≤ 63
+      enough : (n : ℕ) → n ≤ mostStrips → suc (0 + n) ≤ mostStrips + 1
       enough n l = omega arith

@@ -3,8 +3,8 @@
 //
 // Neighbouring break heights bound a strip, and its ends are divided by the scale. Strips are worked upward, to the
 // last or the first that is not accepted, each over the scratch as the one before left it. Values, intervals and
-// samples are added up from zero. How the last strip worked ended is told beside them; a limit that is not 1 to 64 and
-// a scratch under 16·limit numbers are the caller's to refuse.
+// samples are added up from zero. How the last strip worked ended is told beside them; a limit that is not 1 to
+// `MOST_PIECES`, and a scratch without room for that many pieces, are the caller's to refuse.
 ghost use Prim.Native.Nat.{_+_, _-_, _<_, _^_};
 ghost use mathlib.Core.Path.{_≡_};
 ghost use lib.ListN.{length};
@@ -130,7 +130,7 @@ fn work_upward(
     total
 }
 
-// The strips between the break heights of the integrand's planform, over a lent scratch of at least 16·limit numbers.
+// The strips between the break heights of the integrand's planform, over a lent scratch with room for limit pieces.
 pub fn work_strips(
     scratch: &mut [f64],
     integrand: Integrand,

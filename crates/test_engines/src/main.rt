@@ -3,6 +3,7 @@
 // answer is compared, and the scratch of every turn.
 ghost use Prim.Native.Nat.{_≤_};
 ghost use lib.ListN.{length};
+ghost use Rattle.limits.specs.Limits.{scratchNumbers};
 ghost use Rattle.lent_engines.specs.Lent.{Room};
 use fins::FinSet;
 use jobs::Job;
@@ -201,7 +202,7 @@ fn short_turn(
     counts: &mut [usize],
     scratch: &mut [f64],
 ) -> Called
-    requires { ⌜ Room (now numbers) (now counts) × (1024 ≤ length (now scratch)) ⌝ }
+    requires { ⌜ Room (now numbers) (now counts) × (scratchNumbers ≤ length (now scratch)) ⌝ }
 {
     let turn = lent_engines::turn(numbers, counts, &mut scratch[..1023]);
     let row = lent_engines::turn_row(numbers, counts, turn);
@@ -266,7 +267,7 @@ fn call(
     scratch: &mut [f64],
     other: &mut [f64],
 ) -> Called
-    requires { ⌜ Room (now numbers) (now counts) × (1024 ≤ length (now scratch)) ⌝ }
+    requires { ⌜ Room (now numbers) (now counts) × (scratchNumbers ≤ length (now scratch)) ⌝ }
 {
     let pick = seed % 16;
     if pick == 0 {
@@ -314,7 +315,7 @@ fn call_all(
     scratch: &mut [f64],
     other: &mut [f64],
 ) -> Tally
-    requires { ⌜ Room (now numbers) (now counts) × (1024 ≤ length (now scratch)) ⌝ }
+    requires { ⌜ Room (now numbers) (now counts) × (scratchNumbers ≤ length (now scratch)) ⌝ }
 {
     let mut tally = Tally {
         ended: 0,
@@ -336,8 +337,8 @@ fn call_all(
 fn main() {
     let mut numbers = [0.0; ENGINE_NUMBERS];
     let mut counts = [0; ENGINE_COUNTS];
-    let mut scratch = [0.0; 1024];
-    let mut other = [0.0; 1024];
+    let mut scratch = [0.0; limits::SCRATCH_NUMBERS];
+    let mut other = [0.0; limits::SCRATCH_NUMBERS];
     let tally = call_all(&mut numbers, &mut counts, &mut scratch, &mut other);
     io::print_decimal(STDOUT_FILENO, CALLS);
     io::write_all(STDOUT_FILENO, b" calls, ");

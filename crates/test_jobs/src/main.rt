@@ -4,6 +4,7 @@
 // `jobs::change_density` over `&mut Job`.
 ghost use Prim.Native.Nat.{_≤_};
 ghost use lib.ListN.{length};
+ghost use Rattle.limits.specs.Limits.{scratchNumbers};
 ghost use Rattle.lent_jobs.specs.Lent.{Room};
 use figures::Figures;
 use jobs::Reply;
@@ -27,7 +28,7 @@ fn is_taken(reply: Reply) -> bool {
 // One call by the row's number, and whether it was a density that is taken: a change, one that is refused, a step lent
 // too little, or a step.
 fn call(numbers: &mut [f64], counts: &mut [usize], seed: u64, scratch: &mut [f64]) -> bool
-    requires { ⌜ Room (now numbers) (now counts) × (1024 ≤ length (now scratch)) ⌝ }
+    requires { ⌜ Room (now numbers) (now counts) × (scratchNumbers ≤ length (now scratch)) ⌝ }
 {
     let pick = seed % 8;
     if pick == 0 {
@@ -55,7 +56,7 @@ fn drive(
     kg_m3: f64,
     scratch: &mut [f64],
 ) -> f64
-    requires { ⌜ Room (now numbers) (now counts) × (1024 ≤ length (now scratch)) ⌝ }
+    requires { ⌜ Room (now numbers) (now counts) × (scratchNumbers ≤ length (now scratch)) ⌝ }
 {
     let mut accepted = kg_m3;
     let mut s = seed;
@@ -117,7 +118,7 @@ fn work_job(
     limit: usize,
     scratch: &mut [f64],
 ) -> f64
-    requires { ⌜ Room (now numbers) (now counts) × (1024 ≤ length (now scratch)) ⌝ }
+    requires { ⌜ Room (now numbers) (now counts) × (scratchNumbers ≤ length (now scratch)) ⌝ }
 {
     make_job(numbers, counts, seed, limit);
     drive(numbers, counts, seed, test_sets::wood(seed), scratch)
@@ -196,7 +197,7 @@ fn compare(
     scratch: &mut [f64],
     other: &mut [f64],
 ) -> Tally
-    requires { ⌜ Room (now numbers) (now counts) × (1024 ≤ length (now scratch)) ⌝ }
+    requires { ⌜ Room (now numbers) (now counts) × (scratchNumbers ≤ length (now scratch)) ⌝ }
 {
     let limit = 1 + ((seed >> 30) % 65) as usize;
     let kg_m3 = work_job(numbers, counts, seed, limit, scratch);
@@ -209,7 +210,7 @@ fn compare_all(
     scratch: &mut [f64],
     other: &mut [f64],
 ) -> Tally
-    requires { ⌜ Room (now numbers) (now counts) × (1024 ≤ length (now scratch)) ⌝ }
+    requires { ⌜ Room (now numbers) (now counts) × (scratchNumbers ≤ length (now scratch)) ⌝ }
 {
     let mut tally = Tally {
         figures: 0,
@@ -228,8 +229,8 @@ fn compare_all(
 fn main() {
     let mut numbers = [0.0; JOB_NUMBERS];
     let mut counts = [0; JOB_COUNTS];
-    let mut scratch = [0.0; 1024];
-    let mut other = [0.0; 1024];
+    let mut scratch = [0.0; limits::SCRATCH_NUMBERS];
+    let mut other = [0.0; limits::SCRATCH_NUMBERS];
     let tally = compare_all(&mut numbers, &mut counts, &mut scratch, &mut other);
     io::print_decimal(STDOUT_FILENO, JOBS);
     io::write_all(STDOUT_FILENO, b" jobs, ");

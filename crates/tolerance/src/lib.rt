@@ -10,6 +10,7 @@ ghost use mathlib.Core.Bool.{false};
 ghost use lib.Ieee.{le, ne};
 ghost use Rattle.floats.specs.Floats.{maxOf};
 ghost use Rattle.floats.specs.Operations.{_⊘_, at, tabulate, every};
+ghost use Rattle.limits.specs.Limits.{pieceNumbers};
 ghost use Rattle.pieces.specs.Stored.{readAt, piecesIn};
 ghost use Rattle.tolerance.specs.Bounds.{boundFor, scoreOf, lastHighest};
 ghost use Rattle.tolerance.specs.Steps.{withPiece, sumsOf, higherOf, keepsOrder, largerError, seenWith};
@@ -39,7 +40,7 @@ fn add_piece(sums: Sums, p: Piece) -> Sums
 
 // Over the first n pieces, in storage order.
 pub fn total(scratch: &[f64], n: usize) -> Sums
-    requires { ⌜ n * 16 ≤ length (now scratch) ⌝ }
+    requires { ⌜ n * pieceNumbers ≤ length (now scratch) ⌝ }
     ensures { λ r. ⌜ r ≡ sumsOf (piecesIn n (now (scratch .entry))) ⌝ }
 {
     let mut sums = Sums {
@@ -197,7 +198,7 @@ fn seen_with(seen: Seen, p: Piece, b: [f64; 7], ordered: bool, place: usize) -> 
 
 // The place of the worst of n pieces, looked for from the last one down.
 pub fn worst(scratch: &[f64], n: usize, b: [f64; 7]) -> usize
-    requires { ⌜ (1 ≤ n) × (n * 16 ≤ length (now scratch)) ⌝ }
+    requires { ⌜ (1 ≤ n) × (n * pieceNumbers ≤ length (now scratch)) ⌝ }
     ensures { λ r. ⌜ (r ≡ lastHighest (λ i. scoreOf 7 (at b) (readAt (now (scratch .entry)) i)) (n - 1)) × (r < n) ⌝ }
 {
     let ordered = keep_order(b);

@@ -3,6 +3,7 @@ use mathlib.Core.Path.{_≡_, refl}
 use Prim.Native.Nat.{_-_, _≤_}
 use native.Mathlib.Omega.{arith}
 use borrow.Author.Tests.{le-leb, lt-leb}
+use Rattle.limits.specs.Limits.{mostPoints}
 use Rattle.planforms.specs.Planforms.{pairCount}
 use Rattle.breaks.specs.Breaks.{heights, leastAbove}
 use Rattle.breaks.proofs.Above.{none-found, begins, one-point, place-few}
@@ -18,7 +19,7 @@ abbrev μ-loop : tie.MeasureT-loop
 returns : tie.Need-returns Inv-loop μ-loop
 returns c =
     let a = c .before .before .args in
-    (rw (lt-leb (pairCount (a .points .now)) 64 (c .if1 .taken)) (none-found (a .h)), omega arith)
+    (rw (lt-leb (pairCount (a .points .now)) mostPoints (c .if1 .taken)) (none-found (a .h)), omega arith)
 
 loop-holds : tie.Need-loop-holds Inv-loop μ-loop
 loop-holds c = (omega arith, begins _ _ _ refl)
@@ -60,9 +61,9 @@ returns-2 c =
     let a = head .before .before .before .args in
     let n = pairCount (a .points .now) in
     let few = place-few (a .points .now) (a .h) (head .loop .i) (head .loop .found) (head .loop .inv .1) in
-    let most : n ≤ 64 = omega arith in
+    let most : n ≤ mostPoints = omega arith in
     let all : head .loop .i ≡ n = omega arith in
-    (rw (le-leb n 64 most) (rw all at (head .loop .inv .1)), omega arith)
+    (rw (le-leb n mostPoints most) (rw all at (head .loop .inv .1)), omega arith)
 
 pub least-of-outline-spec : {M : Type 1} → statement M
 least-of-outline-spec =

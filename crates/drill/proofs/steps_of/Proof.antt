@@ -12,6 +12,7 @@ use lib.Seq.{ext-getD, getD-take, length-take-le}
 use lib.Ieee.{Float}
 use Rattle.floats.specs.Operations.{Filled}
 use Rattle.floats.proofs.Filled.{one-filled}
+use Rattle.limits.specs.Limits.{outlineNumbers}
 use Rattle.polygons.proofs.Sizes.{result-back}
 use Rattle.steps.specs.Steps.{exactOf, stepsOf}
 use Rattle.drill.proofs.Reach.{steps-at}
@@ -23,7 +24,7 @@ in-steps points = map stepsOf (map exactOf points)
 
 abbrev Inv-loop : tie.InvT-loop
 Inv-loop points corners₀ i₀ corners i =
-    (i ≤ length points) × (length corners ≡ 128) × Filled i (pos 0) (λ k. getD (in-steps points) k (pos 0)) corners
+    (i ≤ length points) × (length corners ≡ outlineNumbers) × Filled i (pos 0) (λ k. getD (in-steps points) k (pos 0)) corners
 
 abbrev μ-loop : tie.MeasureT-loop
 μ-loop points corners₀ i₀ corners i = length points - i

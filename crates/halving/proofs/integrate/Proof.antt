@@ -2,6 +2,7 @@
 use mathlib.Core.Path.{_≡_, ap, _∙_}
 use native.Mathlib.Omega.{arith}
 use borrow.Author.Needs.{needs}
+use Rattle.limits.specs.Limits.{pieceSamples}
 use Rattle.quadrature.specs.declared.Measurement.{Measurement}
 use Rattle.quadrature.proofs.Heights.{fifteen}
 use Rattle.halving.proofs.Strip.{equal-ends, goes-on}
@@ -21,7 +22,7 @@ repeat-requires : tie.Need-repeat-requires
 repeat-requires c κs =
     let w = c .before .before .before in
     let k = w .before .before .before in
-    let taken : k .rule .result .samples ≡ 15 = ap (λ (x : Measurement). x .samples) (k .rule .ensures) ∙ fifteen _ _ in
+    let taken : k .rule .result .samples ≡ pieceSamples = ap (λ (x : Measurement). x .samples) (k .rule .ensures) ∙ fifteen _ _ in
     omega (arith, w .write .kept .0, k .before .before .before .before .pre)
 
 same-length : tie.Need-same-length

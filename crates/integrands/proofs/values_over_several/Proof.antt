@@ -7,7 +7,7 @@ use lib.Ieee.{Float}
 use Rattle.floats.specs.Operations.{_⊗_}
 use Rattle.sorting.proofs.Over.{written-take, written-length}
 use Rattle.chords.specs.Chords.{paired}
-use Rattle.chords.proofs.Listed.{at-most-64}
+use Rattle.chords.proofs.Listed.{most-crossings}
 use Rattle.integrands.specs.Integrands.{sampleValues, valuesOver}
 use borrow.Author.Needs.{needs}
 use Rattle.integrands.proofs.values_over_several.Statement.{statement}
@@ -20,7 +20,7 @@ array-share-prefix-ends : tie.Need-array-share-prefix-ends
 array-share-prefix-ends c =
     let a = c .before .before .before .before .args in
     let w = c .crossings-of .ensures in
-    let few = at-most-64 (a .points .now) (a .h ⊗ a .scale) in
+    let few = most-crossings (a .points .now) (a .h ⊗ a .scale) in
     let same = written-length w (omega arith) in
     omega (arith, w .count)
 

@@ -3,7 +3,7 @@ use mathlib.Core.Path.{sym, ap, _∙_}
 use native.Mathlib.Omega.{arith}
 use lib.Seq.{length-take-le}
 use Rattle.jobs.proofs.Laws.{both-told, after-more, ends-so}
-use Rattle.jobs.proofs.Lengths.{numbers-128}
+use Rattle.jobs.proofs.Lengths.{outline-length}
 use Rattle.jobs.proofs.Copies.{held-most}
 use borrow.Author.Needs.{needs}
 use Rattle.jobs.proofs.after_strip.Statement.{statement}
@@ -25,7 +25,7 @@ array-share-prefix-numbers : tie.Need-array-share-prefix-numbers
 array-share-prefix-numbers c =
     let s = c .before .before .before .before .before .before .before .before in
     let job = s .args .job in
-    omega (arith, c .held .ensures, numbers-128 job _ (s .good .0), held-most (job .points .count))
+    omega (arith, c .held .ensures, outline-length job _ (s .good .0), held-most (job .points .count))
 
 slice-aggregate-conclude : tie.Need-slice-aggregate-conclude
 slice-aggregate-conclude c = sym (length-take-le _ _ (array-share-prefix-numbers (c .before)))

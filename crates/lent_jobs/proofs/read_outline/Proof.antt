@@ -9,18 +9,19 @@ use lib.Seq.{paste, paste-zero}
 use lib.Ieee.{Float, nan}
 use denote.Ref.{now}
 use Rattle.floats.specs.Operations.{bits}
+use Rattle.limits.specs.Limits.{outlineNumbers}
 use Rattle.lent_jobs.proofs.Copying.{one-more-first, all-pasted}
 use Rattle.lent_jobs.proofs.read_outline.Statement.{statement}
 use Rattle.lent_jobs.proofs.read_outline.Tie as tie
 
 abbrev Zeros : List Float
-Zeros = replicate 128 (bits 0)
+Zeros = replicate outlineNumbers (bits 0)
 
 abbrev Inv-loop : tie.InvT-loop
-Inv-loop numbers outline₀ i₀ outline i = (i ≤ 128) × (outline ≡ paste Zeros 0 numbers i)
+Inv-loop numbers outline₀ i₀ outline i = (i ≤ outlineNumbers) × (outline ≡ paste Zeros 0 numbers i)
 
 abbrev μ-loop : tie.MeasureT-loop
-μ-loop numbers outline₀ i₀ outline i = 128 - i
+μ-loop numbers outline₀ i₀ outline i = outlineNumbers - i
 
 loop-holds : tie.Need-loop-holds Inv-loop μ-loop
 loop-holds c = (omega arith, paste-zero Zeros 0 (now (c .args .numbers)))

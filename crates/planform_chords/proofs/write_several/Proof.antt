@@ -2,7 +2,7 @@
 use native.Mathlib.Omega.{arith}
 use borrow.Author.Needs.{needs}
 use Rattle.sorting.proofs.Over.{written-length}
-use Rattle.chords.proofs.Listed.{at-most-64}
+use Rattle.chords.proofs.Listed.{most-crossings}
 use Rattle.planform_chords.proofs.Answer.{several-listed}
 use Rattle.planform_chords.proofs.write_several.Statement.{statement}
 use Rattle.planform_chords.proofs.write_several.Tie as tie
@@ -14,7 +14,7 @@ slice-aggregate-write-first : tie.Need-slice-aggregate-write-first
 slice-aggregate-write-first c =
     let listed = c .before in
     let a = listed .before .before .before .before .args in
-    omega (arith, written-length (listed .outline-crossings .ensures) (at-most-64 (a .points .now) (a .h)))
+    omega (arith, written-length (listed .outline-crossings .ensures) (most-crossings (a .points .now) (a .h)))
 
 mul-write-first : tie.Need-mul-write-first
 mul-write-first c = search needs
@@ -24,7 +24,7 @@ write-first-requires c κs =
     let listed = c .before .before in
     let a = listed .before .before .before .before .args in
     let w = listed .outline-crossings .ensures in
-    let few = at-most-64 (a .points .now) (a .h) in
+    let few = most-crossings (a .points .now) (a .h) in
     (omega (arith, w .count, written-length w few), omega (arith, w .count))
 
 same-length : tie.Need-same-length

@@ -7,6 +7,7 @@ use native.Mathlib.Omega.{arith}
 use borrow.Author.Needs.{needs}
 use lib.Ieee.{lt}
 use Rattle.floats.specs.Operations.{_⊗_, at}
+use Rattle.limits.specs.Limits.{pieceSamples}
 use Rattle.quadrature.specs.Tally.{WithinTo}
 use Rattle.quadrature.proofs.Within.{first-within, one-within}
 use Rattle.quadrature.proofs.bounds_m.Statement.{statement}
@@ -14,10 +15,10 @@ use Rattle.quadrature.proofs.bounds_m.Tie as tie
 
 abbrev Inv-loop : tie.InvT-loop
 Inv-loop scale heights lo₀ hi₀ i₀ lo hi i =
-    (1 ≤ i) × (i ≤ 15) × WithinTo i scale heights lo hi
+    (1 ≤ i) × (i ≤ pieceSamples) × WithinTo i scale heights lo hi
 
 abbrev μ-loop : tie.MeasureT-loop
-μ-loop scale heights lo₀ hi₀ i₀ lo hi i = 15 - i
+μ-loop scale heights lo₀ hi₀ i₀ lo hi i = pieceSamples - i
 
 array-read-lo : tie.Need-array-read-lo Inv-loop μ-loop
 array-read-lo c = search needs

@@ -6,16 +6,17 @@ use native.Mathlib.Omega.{arith}
 use borrow.Author.Needs.{needs}
 use lib.ListN.{length, length-set}
 use Rattle.floats.proofs.Filled.{one-filled}
+use Rattle.limits.specs.Limits.{pieceSamples}
 use Rattle.quadrature.specs.Tally.{FoundTo}
 use Rattle.quadrature.proofs.chords_found.Statement.{statement}
 use Rattle.quadrature.proofs.chords_found.Tie as tie
 
 abbrev Inv-loop : tie.InvT-loop
 Inv-loop integrand points edges heights found₀ i₀ found i =
-    (i ≤ 15) × (length found ≡ 15) × FoundTo i integrand points heights found
+    (i ≤ pieceSamples) × (length found ≡ pieceSamples) × FoundTo i integrand points heights found
 
 abbrev μ-loop : tie.MeasureT-loop
-μ-loop integrand points edges heights found₀ i₀ found i = 15 - i
+μ-loop integrand points edges heights found₀ i₀ found i = pieceSamples - i
 
 loop-holds : tie.Need-loop-holds Inv-loop μ-loop
 loop-holds c = (omega arith, refl, λ i l. absurd (not-suc-le-zero l))

@@ -8,6 +8,7 @@ use lib.ListN.{getD}
 use lib.Seq.{length-take-le}
 use lib.Ieee.{Float}
 use Rattle.floats.specs.Operations.{_⊗_, at}
+use Rattle.limits.specs.Limits.{pieceSamples}
 use Rattle.chords.specs.declared.Chords.the-variants.{Nothing}
 use Rattle.chords.proofs.Answer.{several-outline}
 use Rattle.integrands.specs.Integrands.{sampleOf}
@@ -18,11 +19,11 @@ use Rattle.quadrature.proofs.sums.Tie as tie
 
 abbrev Inv-loop : tie.InvT-loop
 Inv-loop integrand points centre half heights edges n found kw gw kronrod₀ gauss₀ j₀ kronrod gauss j =
-    (j ≤ 15) × Summed (sampleOf integrand points) heights kw gw j kronrod gauss
+    (j ≤ pieceSamples) × Summed (sampleOf integrand points) heights kw gw j kronrod gauss
 
 abbrev μ-loop : tie.MeasureT-loop
 μ-loop integrand points centre half heights edges n found kw gw kronrod₀ gauss₀ j₀ kronrod gauss j =
-    15 - j
+    pieceSamples - j
 
 sample-heights-requires : tie.Need-sample-heights-requires Inv-loop μ-loop
 sample-heights-requires c κs = search needs
@@ -127,7 +128,7 @@ loop-again c =
 returns : tie.Need-returns Inv-loop μ-loop
 returns c =
     let head = c .before in
-    let e : head .loop .j ≡ 15 = omega arith in
+    let e : head .loop .j ≡ pieceSamples = omega arith in
     all-summed (sampleAt head) _ _ _ _ _ _ _ (listed head .before .before .sample-heights .ensures) (head .before .before .kronrod-weights .ensures) (head .before .gauss-weights .ensures) _ e (head .loop .inv .1)
 
 pub sums-spec : {M : Type 1} → statement M

@@ -6,7 +6,7 @@ use lib.ListN.{length}
 use lib.Ieee.{Float}
 use Rattle.floats.specs.Operations.{bits}
 use Rattle.strips.proofs.Upward.{same-heights}
-use Rattle.breaks.proofs.Listed.{at-most-66, two-heights, heights-taken, heights-count, heights-room}
+use Rattle.breaks.proofs.Listed.{most-breaks, two-heights, heights-taken, heights-count, heights-room}
 use borrow.Author.Needs.{needs}
 use Rattle.strips.proofs.work_strips.Statement.{statement}
 use Rattle.strips.proofs.work_strips.Tie as tie
@@ -42,7 +42,7 @@ array-share-prefix-heights : tie.Need-array-share-prefix-heights
 array-share-prefix-heights c =
     let h = c .before .before in
     let a = h .before .before .before .before .before .args in
-    omega (arith, heights-count (a .integrand .planform) (a .points .now) (h .break-heights .result) (h .break-heights .ensures), heights-room (a .integrand .planform) (a .points .now) (h .break-heights .result) (h .break-heights .ensures), at-most-66 (a .integrand .planform) (a .points .now))
+    omega (arith, heights-count (a .integrand .planform) (a .points .now) (h .break-heights .result) (h .break-heights .ensures), heights-room (a .integrand .planform) (a .points .now) (h .break-heights .result) (h .break-heights .ensures), most-breaks (a .integrand .planform) (a .points .now))
 
 slice-aggregate-work-upward-2 : tie.Need-slice-aggregate-work-upward-2
 slice-aggregate-work-upward-2 c =
@@ -56,7 +56,7 @@ work-upward-requires-2 c κs =
     let h = c .before .before .before in
     let s = h .before .before .before .before .before in
     let a = s .args in
-    let few = at-most-66 (a .integrand .planform) (a .points .now) in
+    let few = most-breaks (a .integrand .planform) (a .points .now) in
     let taken = heights-taken (a .integrand .planform) (a .points .now) (h .break-heights .result) (h .break-heights .ensures) in
     (s .pre, rw taken (omega (arith, few)))
 

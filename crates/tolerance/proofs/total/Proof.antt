@@ -5,6 +5,7 @@ use native.Mathlib.Nat.{sub-zero}
 use native.Mathlib.Omega.{arith}
 use borrow.Author.Needs.{needs}
 use lib.ListN.{drop}
+use Rattle.limits.specs.Limits.{pieceNumbers}
 use Rattle.pieces.specs.Stored.{piecesIn}
 use Rattle.pieces.proofs.Storage.{pieces-step}
 use Rattle.tolerance.proofs.Added.{sumsFrom, noSums, sums-are}
@@ -12,7 +13,7 @@ use Rattle.tolerance.proofs.total.Statement.{statement}
 use Rattle.tolerance.proofs.total.Tie as tie
 
 abbrev Inv-loop : tie.InvT-loop
-Inv-loop scratch n sums₀ i₀ sums i = (sumsFrom sums (piecesIn (n - i) (drop (i * 16) scratch)) ≡ sumsFrom noSums (piecesIn n scratch)) × (i ≤ n)
+Inv-loop scratch n sums₀ i₀ sums i = (sumsFrom sums (piecesIn (n - i) (drop (i * pieceNumbers) scratch)) ≡ sumsFrom noSums (piecesIn n scratch)) × (i ≤ n)
 
 abbrev μ-loop : tie.MeasureT-loop
 μ-loop scratch n sums₀ i₀ sums i = n - i

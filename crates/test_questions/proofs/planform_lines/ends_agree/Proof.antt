@@ -5,7 +5,7 @@ use native.Mathlib.Omega.{arith}
 use lib.Seq.{length-take-le}
 use Rattle.sorting.proofs.Over.{written-length}
 use Rattle.chords.proofs.Near.{at-one-height}
-use Rattle.chords.proofs.Listed.{at-most-64}
+use Rattle.chords.proofs.Listed.{most-crossings}
 use borrow.Author.Needs.{needs}
 use Rattle.test_questions.proofs.planform_lines.ends_agree.Statement.{statement}
 use Rattle.test_questions.proofs.planform_lines.ends_agree.Tie as tie
@@ -41,7 +41,7 @@ outline-crossings-requires : tie.Need-outline-crossings-requires
 outline-crossings-requires c κs = search needs
 
 slice-aggregate-agree-2 : tie.Need-slice-aggregate-agree-2
-slice-aggregate-agree-2 c = omega (arith, written-length (c .before .outline-crossings .ensures) (at-most-64 _ _))
+slice-aggregate-agree-2 c = omega (arith, written-length (c .before .outline-crossings .ensures) (most-crossings _ _))
 
 agree-requires-2 : tie.Need-agree-requires-2
 agree-requires-2 c κs = search needs
