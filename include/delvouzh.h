@@ -1,9 +1,10 @@
-/* Fin figures that are proved: the functions of two static libraries (x86-64 Linux), which `rt staticlib exports` and `rt staticlib screen_exports` write.
- * libexports.a has the calls on numbers alone, libscreen_exports.a those of a kiosk's screens; below each call stands under its library. Either may
- * be linked alone; both together: cc main.c -lscreen_exports -lexports.
+/* Fin figures that are proved: the functions of two static libraries (x86-64 Linux), which `rt staticlib exports` and
+ * `rt staticlib screen_exports` write. libexports.a has the calls on numbers alone, libscreen_exports.a those of a
+ * kiosk's screens; below, each call stands under its library. Either may be linked alone; both together:
+ * cc main.c -lscreen_exports -lexports.
  *
- * Lengths are metres, angles radians, figures f64. Every function but delvouzh_sqrt and delvouzh_most_samples returns 0, a step of a job also
- * DELVOUZH_MORE, a turn of an engine also DELVOUZH_MORE or DELVOUZH_IDLE, or the number of a refusal:
+ * Lengths are metres, angles radians, figures f64. Every function but delvouzh_sqrt and delvouzh_most_samples returns 0,
+ * a step of a job also DELVOUZH_MORE, a turn of an engine also DELVOUZH_MORE or DELVOUZH_IDLE, or the number of a refusal:
  *
  *      1 limit not 1 to 64               7 outline touches itself       13 not converged
  *      2 scratch under 16 * limit        8 no area, or no volume
@@ -15,28 +16,29 @@
  *     22 fillet too wide for the body  23 no such screen, or it is busy  24 no corners: an ellipse
  *     25 not whole steps of 2^-20 m    26 the whole is not heavier
  *
- * It writes its figures and counts over the start of the lent arrays; a refusal writes zero figures, but of chords none. Two counts are the values of a
- * refusal: the field of 4 and 9, the two edges of 7, the component of 13, the case of 17 (a to e as 0 to 4, without c); else both are 0.
+ * It writes its figures and counts over the start of the lent arrays. With a refusal the figures are zeros; only a
+ * planform's chords are left as they were. Two counts are the values of a refusal: the field of 4 and 9, the two edges
+ * of 7, the component of 13, the case of 17 (a to e as 0 to 4, without c); else both are 0.
  * Fields: 1 root chord, 2 tip chord, 3 span, 4 sweep, 5 x, 6 y, 7 thickness, 8 tab height, 9 tab length, 10 tab offset,
  * 11 body radius, 12 cant, 13 base angle, 14 tube length, 15 outer radius, 16 fillet radius,
  * 17 drill x, 18 drill height, 19 offset, 20 roll. Edges and components are counted from 0.
  *
- * 18 is an unknown number of a planform, section, tab, fillet or density, or another count of numbers than a call asks for, with two exceptions:
- * an outline's points that are not 3 to 64 whole pairs are 5, and a join's that are not 1 to 32 whole bodies, or
- * offsets and places that are not 1 to 32 whole ones, are 3. An array that is
- * too short for what is written over it is 18 too, and then nothing at all is written.
+ * 18 is an unknown number of a planform, section, tab, fillet or density, or an array of another length than the call
+ * asks for, with two exceptions: an outline's points that are not 3 to 64 whole pairs are 5; bodies to be joined, offsets
+ * and places that are not 1 to 32 whole ones are 3. Where an array is too short for what a call writes, it returns 18 too,
+ * and writes nothing at all.
  *
  * What a caller owes, and nothing checks:
- *  - An array goes in as a pointer and how many numbers lie there. Where there are none the pointer may be null; arrays that are
- *    written overlap no other. What they hold on entry, the scratch too, does not matter to an answer; but a job's memory is the job, and an engine's
- *    the engine.
- *  - The floating-point environment is the one that a process starts with: rounding to nearest, subnormal numbers kept (no flushing to
- *    zero), exceptions masked. Linking with -ffast-math changes it before main; some libraries change it for their thread. In another
- *    environment no call faults, but figures differ in their last bits, and what lies at a limit may be refused or not: docs/ASSUMED.md has
- *    what tests/rounding measured.
+ *  - An array is handed over as a pointer and how many numbers lie there. Where there are none the pointer may be null.
+ *    An array that is written overlaps no other. What it holds on entry does not matter to an answer, the scratch
+ *    neither; but a job's memory is the job, and an engine's memory is the engine.
+ *  - The floating-point environment is the one that a process starts with: rounding to nearest, subnormal numbers kept
+ *    (no flushing to zero), exceptions masked. Linking with -ffast-math changes it before main; some libraries change
+ *    it for their thread. In another environment no call faults, but figures differ in their last bits, and what lies
+ *    at a limit may be refused or not: docs/ASSUMED.md has what tests/rounding measured.
  *  - DELVOUZH_STACK bytes of stack for a call.
- * A call keeps no pointer and nothing between calls: any number of threads may call at the same time, each with arrays of its own. It
- * takes no memory but its stack, and calls nothing but memcpy and memset.
+ * A call keeps no pointer, and nothing between calls: any number of threads may call at the same time, each with arrays
+ * of its own. It takes no memory but its stack, and calls nothing but memcpy and memset.
  */
 #ifndef DELVOUZH_H
 #define DELVOUZH_H
@@ -70,9 +72,10 @@ extern "C" {
 #define DELVOUZH_SURFACE 2
 #define DELVOUZH_LINE 3
 
-/* A set is two arrays: delvouzh_set_lists below fills them from a struct. `set_numbers`: the planform's DELVOUZH_LENGTHS lengths; thickness,
- * cant, base angle, body radius, density; the tab's height, length and offset; the fillet's radius and density. `set_counts`: how many fins, then
- * the numbers of planform, section, tab, density and fillet. What a planform, a tab or a fillet does not have is not read. */
+/* A set is two arrays, which delvouzh_set_lists below fills from a struct. `set_numbers`: the planform's
+ * DELVOUZH_LENGTHS lengths; thickness, cant, base angle, body radius, density; the tab's height, length and offset; the
+ * fillet's radius and density. `set_counts`: how many fins, then the numbers of planform, section, tab, density and
+ * fillet. Places that a planform, a tab or a fillet does not use are not read. */
 #define DELVOUZH_SET_NUMBERS 14
 #define DELVOUZH_SET_COUNTS 6
 
@@ -116,8 +119,9 @@ extern "C" {
 
 /* ---- libexports.a: calls on numbers alone */
 
-/* A set's figures. Writes a body, and as counts two values of a refusal, the intervals and the samples. `scratch` has at least 16 * limit
- * numbers; the pieces of the strips are left in it, 16 numbers each from its start, and the rest of it is as it was. */
+/* A set's figures. Writes a body, and as counts two values of a refusal, the intervals and the samples. `scratch` has at
+ * least 16 * limit numbers; the pieces of the strips are left in it, 16 numbers each from its start, and the rest of it
+ * is as it was. */
 size_t delvouzh_mass_properties(size_t limit, const double *set_numbers, size_t set_numbers_len, const size_t *set_counts,
                                 size_t set_counts_len, const double *points, size_t points_len, double *scratch, size_t scratch_len,
                                 double *body, size_t body_len, size_t *counts, size_t counts_len);
@@ -130,26 +134,28 @@ size_t delvouzh_geometry(size_t limit, size_t planform, const double *lengths, s
 /* DELVOUZH_MOST_SAMPLES: no call of the two above reports more samples, with figures or refused. */
 size_t delvouzh_most_samples(void);
 
-/* A planform's chords at a height in metres, which may be any number: the planform is checked as for its area. Writes start and end of each
- * chord over `ends`, which has room for DELVOUZH_CHORDS numbers, and leaves the rest of it, and with a refusal all of it, as it was; as
- * counts two values of a refusal, and how many chords there are. At the span, or a few last bits below it, a trapezoid's chord may end before
- * it starts, by the rounding of its ends: root 0.273, tip 0 and sweep 0.225 give 0.225 and 0.22499999999999998 there. */
+/* A planform's chords at a height in metres, which may be any number; the planform is checked as for its area. Writes
+ * start and end of each chord over `ends`, which has room for DELVOUZH_CHORDS numbers, and leaves the rest of it as it
+ * was, with a refusal all of it. Writes as counts two values of a refusal, and how many chords there are. At the span, or
+ * a few last bits below it, a trapezoid's chord may end before it starts, as both ends are rounded: root 0.273, tip 0 and
+ * sweep 0.225 give 0.225 and 0.22499999999999998 there. */
 size_t delvouzh_chords_at(size_t planform, const double *lengths, size_t lengths_len, const double *points, size_t points_len,
                           double height_m, double *ends, size_t ends_len, size_t *counts, size_t counts_len);
 
-/* Where a point lies beside a trapezoid or an outline, exactly in steps of 2^-20 m, and the nearest corner. Corners, counted from 0: an outline's
- * points, or (0, 0), (sweep, span), (sweep + tip chord, span), (root chord, 0). Writes as counts two values of a refusal, the place, and
- * the nearest corner's position, the lowest of equally near ones; with a refusal the last two are 0. */
+/* Where a point lies beside a trapezoid or an outline, exactly in steps of 2^-20 m, and the nearest corner. Corners are
+ * counted from 0: an outline's points, or (0, 0), (sweep, span), (sweep + tip chord, span), (root chord, 0). Writes as
+ * counts two values of a refusal, the place, and the nearest corner's position, the lowest of equally near ones; with a
+ * refusal the last two are 0. */
 size_t delvouzh_drill(size_t planform, const double *lengths, size_t lengths_len, const double *points, size_t points_len, double x_m,
                       double height_m, size_t *counts, size_t counts_len);
 
-/* A ring of tubes around a body, 1 to 32 of them. `figures`: length, outer radius, wall, which may be 0, base angle, body radius, density.
- * Writes a body, its origin on the axis at the tubes' forward end, and two values of a refusal. */
+/* A ring of 1 to 32 tubes around a body. `figures`: length, outer radius, wall (which may be 0), base angle, body
+ * radius, density. Writes a body, its origin on the axis at the tubes' forward end, and two values of a refusal. */
 size_t delvouzh_tube_mass_properties(size_t count, size_t density, const double *figures, size_t figures_len, double *body,
                                      size_t body_len, size_t *values, size_t values_len);
 
-/* The outer radius of 1 to 32 tubes that close the ring around a body, each touching the body and its two neighbours; of one or two the body
- * radius. Writes the radius, which is held to no limit, and two values of a refusal. */
+/* The outer radius of 1 to 32 tubes that close the ring around a body, each touching the body and its two neighbours; for
+ * one or two tubes the body's radius. Writes the radius, which is held to no limit, and two values of a refusal. */
 size_t delvouzh_closing_radius(size_t count, double body_radius_m, double *radius, size_t radius_len, size_t *values,
                                size_t values_len);
 
@@ -157,12 +163,12 @@ size_t delvouzh_closing_radius(size_t count, double body_radius_m, double *radiu
  * No other number is given. */
 size_t delvouzh_combine(const double *bodies, size_t bodies_len, double *body, size_t body_len);
 
-/* Copies of a body, checked as delvouzh_check does, one moved by each offset, x and y, 1 to 32 of them, joined. One that moves by 0 and 0 is the body itself. Writes
- * a body, and two values of a refusal. */
+/* Copies of a body, which is checked as delvouzh_check does, joined: one copy for each of 1 to 32 offsets, x and y, moved
+ * by it. A copy that moves by 0 and 0 is the body itself. Writes a body, and two values of a refusal. */
 size_t delvouzh_copied(const double *body, size_t body_len, const double *offsets, size_t offsets_len, double *joined,
                        size_t joined_len, size_t *values, size_t values_len);
 
-/* The same by places, x, y and roll of each: a copy is rolled about the axis, then moved. */
+/* The same by 1 to 32 places, x, y and roll of each: a copy is rolled about the axis, then moved. */
 size_t delvouzh_placed(const double *body, size_t body_len, const double *places, size_t places_len, double *joined,
                        size_t joined_len, size_t *values, size_t values_len);
 

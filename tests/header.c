@@ -59,13 +59,13 @@ struct lists {
 };
 
 /* Three fins without a tab, whose figures are not read; `lengths` are not an outline's, which has points. */
-static struct lists lists_of(size_t planform, const double *lengths, size_t section, const double *figures, size_t fillet, const double *glue) {
+static struct lists lists_of(size_t planform, const double *lengths, size_t section, const double *figures, size_t fillet, const double *fillet_numbers) {
     struct lists set;
     const size_t counts[DELVOUZH_SET_COUNTS] = {3, planform, section, DELVOUZH_NO_TAB, DELVOUZH_BULK, fillet};
     for (int i = 0; i < DELVOUZH_SET_NUMBERS; i++) set.numbers[i] = NAN;
     if (planform != DELVOUZH_OUTLINE) memcpy(set.numbers, lengths, DELVOUZH_LENGTHS * sizeof *lengths);
     memcpy(set.numbers + 4, figures, 5 * sizeof *figures);
-    if (glue != NULL) memcpy(set.numbers + 12, glue, 2 * sizeof *glue);
+    if (fillet_numbers != NULL) memcpy(set.numbers + 12, fillet_numbers, 2 * sizeof *fillet_numbers);
     memcpy(set.counts, counts, sizeof counts);
     return set;
 }
@@ -77,8 +77,8 @@ static void set_of(struct lent *l, size_t limit, size_t planform, const double *
                                          SCRATCH, l->numbers, DELVOUZH_BODY, l->counts, DELVOUZH_COUNTS);
 }
 
-static void glued_set_of(struct lent *l, size_t fillet, const double *glue, size_t numbers_len, size_t counts_len) {
-    const struct lists set = lists_of(DELVOUZH_TRAPEZOID, TRAPEZOID, DELVOUZH_SQUARE, FIGURES, fillet, glue);
+static void filleted_set_of(struct lent *l, size_t fillet, const double *fillet_numbers, size_t numbers_len, size_t counts_len) {
+    const struct lists set = lists_of(DELVOUZH_TRAPEZOID, TRAPEZOID, DELVOUZH_SQUARE, FIGURES, fillet, fillet_numbers);
     l->number = delvouzh_mass_properties(LIMIT, set.numbers, numbers_len, set.counts, counts_len, NULL, 0, l->scratch, SCRATCH, l->numbers,
                                          DELVOUZH_BODY, l->counts, DELVOUZH_COUNTS);
 }
@@ -122,8 +122,8 @@ static void figures(void) {
     holds("a set's centre", bits(at.numbers[3]) == 0xbfb9999999999999);
     holds("a set's tensor", bits(at.numbers[4]) == 0x3f561772f7ea12f8 && bits(at.numbers[6]) == 0x3f616435485c1b52);
     holds("a set's counts", refused(0, 0, 0) && at.counts[2] == 1 && at.counts[3] == 15);
-    const double glue[2] = {0.01, 1200.0};
-    glued_set_of(&at, DELVOUZH_BULK, glue, DELVOUZH_SET_NUMBERS, DELVOUZH_SET_COUNTS);
+    const double fillet_numbers[2] = {0.01, 1200.0};
+    filleted_set_of(&at, DELVOUZH_BULK, fillet_numbers, DELVOUZH_SET_NUMBERS, DELVOUZH_SET_COUNTS);
     holds("a set with fillets", refused(0, 0, 0) && bits(at.numbers[0]) == 0x3fc4a28891b0e97b && bits(at.numbers[6]) == 0x3f61e9ed0a3848ba);
     area_of(&at, DELVOUZH_ELLIPSE, ELLIPSE, 2);
     holds("an area", at.number == 0 && bits(at.numbers[0]) == 0x3f9015bf9217273e);
@@ -194,15 +194,15 @@ static void refusals(void) {
     set_of(&at, LIMIT, DELVOUZH_TRAPEZOID, TRAPEZOID, 4, cant);
     holds("9 with its field", refused(9, 12, 0));
     const double wide[2] = {51.0, 0.0};
-    glued_set_of(&at, DELVOUZH_BULK, wide, DELVOUZH_SET_NUMBERS, DELVOUZH_SET_COUNTS);
+    filleted_set_of(&at, DELVOUZH_BULK, wide, DELVOUZH_SET_NUMBERS, DELVOUZH_SET_COUNTS);
     holds("22", refused(22, 0, 0));
-    glued_set_of(&at, DELVOUZH_SURFACE, wide, DELVOUZH_SET_NUMBERS, DELVOUZH_SET_COUNTS);
+    filleted_set_of(&at, DELVOUZH_SURFACE, wide, DELVOUZH_SET_NUMBERS, DELVOUZH_SET_COUNTS);
     holds("12 of a fillet", refused(12, 0, 0));
-    glued_set_of(&at, 4, wide, DELVOUZH_SET_NUMBERS, DELVOUZH_SET_COUNTS);
+    filleted_set_of(&at, 4, wide, DELVOUZH_SET_NUMBERS, DELVOUZH_SET_COUNTS);
     holds("18 of an unknown fillet", refused(18, 0, 0));
-    glued_set_of(&at, DELVOUZH_NO_FILLET, wide, DELVOUZH_SET_NUMBERS - 1, DELVOUZH_SET_COUNTS);
+    filleted_set_of(&at, DELVOUZH_NO_FILLET, wide, DELVOUZH_SET_NUMBERS - 1, DELVOUZH_SET_COUNTS);
     holds("18 of a set's numbers without the last", refused(18, 0, 0));
-    glued_set_of(&at, DELVOUZH_NO_FILLET, wide, DELVOUZH_SET_NUMBERS, DELVOUZH_SET_COUNTS - 1);
+    filleted_set_of(&at, DELVOUZH_NO_FILLET, wide, DELVOUZH_SET_NUMBERS, DELVOUZH_SET_COUNTS - 1);
     holds("18 of a set's counts without the last", refused(18, 0, 0));
     at.number = delvouzh_geometry(LIMIT, DELVOUZH_ELLIPSE, ELLIPSE, 2, NULL, 0, at.scratch, SCRATCH, at.numbers, DELVOUZH_AREA, at.counts,
                                   DELVOUZH_COUNTS);

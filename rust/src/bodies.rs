@@ -95,7 +95,8 @@ pub fn combine(bodies: &[Body]) -> Result<Body, Error> {
     body_or_error(number, body, [0, 0])
 }
 
-/// Copies of a body, one moved by each x and y across the axis, joined. An only one that moves by 0 and 0 is the body itself.
+/// Copies of a body, joined: one for each offset, moved by its x and y across the axis. A single copy that moves by 0
+/// and 0 is the body itself.
 pub fn copied(body: &Body, offsets_m: &[[f64; 2]]) -> Result<Body, Error> {
     let body = body.own_numbers();
     let offsets = offsets_m.as_flattened();
@@ -117,7 +118,7 @@ pub fn copied(body: &Body, offsets_m: &[[f64; 2]]) -> Result<Body, Error> {
     body_or_error(number, joined, values)
 }
 
-/// Copies of a body, one at each place, joined. An only one at [`Placement::HERE`] is the body itself.
+/// Copies of a body, joined: one at each place. A single copy at [`Placement::HERE`] is the body itself.
 pub fn placed(body: &Body, places: &[Placement]) -> Result<Body, Error> {
     let body = body.own_numbers();
     let mut joined = [0.0; raw::BODY];

@@ -13,7 +13,7 @@ pub struct Figures {
     pub samples: usize,
 }
 
-/// A planform's area and centroid, likewise.
+/// A planform's area and centroid, with the totals of intervals and samples.
 #[derive(Debug, Clone, Copy, PartialEq)]
 pub struct Area {
     /// The area.
@@ -119,7 +119,7 @@ pub fn geometry(planform: &Planform, limit: usize, scratch: &mut [f64]) -> Resul
 }
 
 /// A planform's chords at a height: start and end of each, in order. The planform is checked as for its area. At the
-/// span, or a few last bits below it, a trapezoid's chord may end before it starts, by the rounding of its ends.
+/// span, or a few last bits below it, a trapezoid's chord may end before it starts, as both ends are rounded.
 pub fn chords_at(planform: &Planform, height_m: f64) -> Result<Vec<[f64; 2]>, Error> {
     let crossing = planform.numbers();
     let mut ends = [0.0; raw::CHORDS];
@@ -145,8 +145,8 @@ pub fn chords_at(planform: &Planform, height_m: f64) -> Result<Vec<[f64; 2]>, Er
     Ok(chords.map(|chord| [chord[0], chord[1]]).collect())
 }
 
-/// Where a point lies beside a trapezoid or an outline, exactly in steps of 2^-20 m, and the nearest corner, the lowest of equally near
-/// ones.
+/// Where a point lies beside a trapezoid or an outline, exactly in steps of 2^-20 m, and the nearest corner, the lowest
+/// of equally near ones.
 pub fn drill(planform: &Planform, x_m: f64, height_m: f64) -> Result<Place, Error> {
     let crossing = planform.numbers();
     let mut counts = [0; raw::COUNTS];
@@ -211,7 +211,7 @@ pub fn tube_mass_properties(set: &TubeFinSet, body_radius_m: f64) -> Result<Body
     Error::unless_zero(number, values).map(|()| Body::from_numbers(body))
 }
 
-/// The outer radius of `count` tubes that close the ring around a body; one or two have the body's.
+/// The outer radius of `count` tubes that close the ring around a body; for one or two tubes it is the body's radius.
 ///
 /// ```
 /// assert_eq!(delvouzh::closing_radius_m(0.05, 2)?, 0.05);
@@ -235,8 +235,8 @@ pub fn closing_radius_m(body_radius_m: f64, count: usize) -> Result<f64, Error> 
     Error::unless_zero(number, values).map(|()| radius_m)
 }
 
-/// The answer to a card line (docs/FORMS.md), a refusal's text too; neither has a newline. Submissions, densities and turns go to the
-/// engine.
+/// The answer to a card line (docs/FORMS.md), which may be a refusal's text; neither has a newline. Submissions,
+/// densities and turns go to the engine.
 ///
 /// ```
 /// use delvouzh::{answer_line, Engine};

@@ -17,8 +17,8 @@ pub enum Turn {
     },
 }
 
-/// An engine of eight screens, 1 to 8: the memory that the library's calls are lent. Every call gets it as the one before left it, since it is
-/// borrowed mutably.
+/// An engine of eight screens, 1 to 8: the memory that the library's calls are lent. Every call gets it as the one before
+/// left it, since it is borrowed mutably.
 #[derive(Debug, Clone)]
 pub struct Engine {
     pub(crate) numbers: [f64; raw::ENGINE_NUMBERS],
@@ -46,8 +46,8 @@ impl Engine {
         unsafe { raw::delvouzh_engine_clear(self.counts.as_mut_ptr(), self.counts.len()) };
     }
 
-    /// Submits a set to a screen with at most `limit` intervals a strip. A screen that is not 1 to 8 or holds a job is refused before anything else; a
-    /// refused submission changes nothing.
+    /// Submits a set to a screen with at most `limit` intervals a strip. A screen that is not 1 to 8, or holds a job, is
+    /// refused before anything else; a refused submission changes nothing.
     pub fn submit(&mut self, screen: usize, set: &FinSet, limit: usize) -> Result<(), Error> {
         let crossing = set.numbers();
         let mut values = [0; raw::VALUES];
@@ -73,8 +73,8 @@ impl Engine {
         Error::unless_zero(number, values)
     }
 
-    /// Works one strip for the next screen with a job, in ascending order from the one after the last served, wrapping round. A scratch of fewer than
-    /// 1,024 numbers is refused, and then nothing changes.
+    /// Works one strip for the next screen with a job, in ascending order from the one after the last served, wrapping
+    /// round. A scratch of fewer than 1,024 numbers is refused, and then nothing changes.
     pub fn turn(&mut self, scratch: &mut [f64]) -> Result<Turn, RunError> {
         let mut body = [0.0; raw::BODY];
         let mut counts = [0; raw::TURN_COUNTS];

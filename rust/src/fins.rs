@@ -152,7 +152,7 @@ impl FinSet<'_> {
     }
 }
 
-/// A planform's number and its lengths, zeros behind them; and an outline's points as they lie.
+/// A planform's number, its lengths with zeros after them, and an outline's points as they lie.
 pub(crate) struct PlanformNumbers<'a> {
     pub(crate) number: usize,
     pub(crate) lengths: [f64; raw::LENGTHS],

@@ -11,8 +11,8 @@ pub enum Step {
     Done(Figures),
 }
 
-/// A running job: the memory that the library's calls are lent. Every call gets it as the one before left it, since it is borrowed mutably; a clone
-/// is a job of its own.
+/// A running job: the memory that the library's calls are lent. Every call gets it as the one before left it, since it
+/// is borrowed mutably; a clone is a job of its own.
 #[derive(Debug, Clone)]
 pub struct Job {
     numbers: [f64; raw::JOB_NUMBERS],
@@ -20,8 +20,8 @@ pub struct Job {
 }
 
 impl Job {
-    /// A job of a set with at most `limit` intervals a strip; it keeps its own copy of an outline. Every check of the set is run here, and a refused
-    /// set has no job; how long the scratch is, each step checks.
+    /// A job of a set with at most `limit` intervals a strip; it keeps its own copy of an outline. Every check of the set
+    /// runs here, and a set that is refused has no job; each step checks how long its scratch is.
     pub fn new(set: &FinSet, limit: usize) -> Result<Self, Error> {
         let crossing = set.numbers();
         let mut job = Self {
@@ -51,8 +51,9 @@ impl Job {
         Ok(job)
     }
 
-    /// Works the next strip. The last one's step, or that of one refused, gives the answer of `mass_properties` for the set with the density taken
-    /// last. A scratch that is too short is refused, and the job goes on as it was.
+    /// Works the next strip. The step that works the last strip, or one that is refused, answers what `mass_properties`
+    /// does for the set with the density that was taken last. A scratch that is too short is refused, and the job stays
+    /// as it was.
     pub fn step(&mut self, scratch: &mut [f64]) -> Result<Step, RunError> {
         let mut body = [0.0; raw::BODY];
         let mut counts = [0; raw::COUNTS];
