@@ -1,17 +1,18 @@
 -- From the call for a set's figures to the fin of proofs/SevenIntegrals: its lengths, its integrals, and the exact ones of
 -- specs/Inertias in fractions. Assumes nothing.
 use mathlib.Core.Path.{_≡_, refl, sym, ap, _∙_, subst}
-use mathlib.Core.Bool.{Bool, true, false}
+use mathlib.Core.Bool.{Bool, true, false, cond}
 use mathlib.Core.List.{List, [], _∷_}
+use mathlib.Core.Logic.{_⊎_, inl, inr}
 use Prim.Native.Nat.{ℕ, zero, suc, _*_, _^_, _≤_, _<_}
-use native.Mathlib.Nat.{le-trans, mul-le-mul-right, one-mul}
+use native.Mathlib.Nat.{le-trans, mul-le-mul-right, one-mul, add-zero}
 use native.Mathlib.Omega.{arith}
 use lib.Dec.{T, lit≤}
 use lib.ListN.{length}
-use lib.Ieee.{Float, binary64, fits}
+use lib.Ieee.{Float, binary64, fits, lt, eq}
 use lib.Ieee.Scale.{finite}
 use lib.Ieee.Positive.{num, den, positive, positive-finite}
-use Rattle.floats.specs.Operations.{_⊕_, _⊗_, _⊘_, bits}
+use Rattle.floats.specs.Operations.{_⊕_, _⊗_, _⊘_, bits, at}
 use Rattle.floats.specs.Fractions.{Fraction, _plus_ as sum, valueOf as fractionOf}
 use Rattle.rounding.specs.Sizes.{AtMost}
 use Rattle.rounding.proofs.Sizes.{positive-of}
@@ -30,9 +31,10 @@ use Rattle.sections.specs.declared.Section.{Section}
 use Rattle.sections.specs.declared.Section.the-variants.{Square, Airfoil, AirfoilOpen}
 use Rattle.integrands.specs.Integrands.{scaleOf, plateOf}
 use Rattle.integrands.proofs.Scales.{Scale, scale-sized}
-use Rattle.quadrature.specs.Rule.{halfWidth, kronrodWeight, sumOf}
-use Rattle.tolerance.specs.Bounds.{totalOf}
-use Rattle.strips.specs.Strips.{valueFrom}
+use Rattle.quadrature.specs.Rule.{halfWidth, kronrodWeight, sumOf, pieceOf}
+use Rattle.quadrature.specs.declared.Piece.{Piece}
+use Rattle.tolerance.specs.Bounds.{totalOf, sumFrom}
+use Rattle.strips.specs.Strips.{Worked, valueFrom, stripOf, piecesOf, intervalsIn}
 use Rattle.fins.specs.declared.FinSet.{FinSet}
 use Rattle.fins.specs.declared.Tab.{Tab}
 use Rattle.fins.specs.declared.Tab.the-variants.{None, Slab}
@@ -43,18 +45,23 @@ use Rattle.figures.specs.Figures.{setStrips}
 use Rattle.figures.specs.declared.Figures.{Figures}
 use Rattle.one_piece.specs.OnePiece.{NotRounded, tipsOf, Proportions}
 use Rattle.one_piece.proofs.AreaPiece.{positive-from}
-use Rattle.one_piece.proofs.PlatePiece.{each-of-seven, plain-sections}
-use Rattle.one_piece.proofs.PlateFits.{plate-sums}
-use Rattle.one_piece.proofs.Answers.{plate-fin, plate-strips}
-use Rattle.accuracy.specs.Masses.{Plate, Mount, setWith, SectionGiven}
+use Rattle.one_piece.proofs.PlatePiece.{each-of-seven, plain-sections, positive-above}
+use Rattle.one_piece.proofs.Answers.{plate-strips}
+use Rattle.accuracy.specs.Masses.{Plate, Mount, setWith, SectionGiven, OneStrip}
 use Rattle.accuracy.specs.Inertias.{Integrals, finIntegrals, tabIntegrals, together, TabBeside}
 use Rattle.accuracy.proofs.Limits.{ranges-of, least-of, most-under}
-use Rattle.accuracy.proofs.WholePieces.{value-is, wider}
+use Rattle.accuracy.proofs.WholePieces.{value-is, wider, whole-piece}
+use Rattle.accuracy.proofs.StripEnds.{ends-differ}
+use Rattle.accuracy.proofs.Called.{heights-are, one-strip}
+use Rattle.accuracy.proofs.ChordWidths.{one-sums}
+use Rattle.error_terms.proofs.Floors.{NotBelow}
+use Rattle.rounding_error.proofs.Ranges.{in-range, ranges-for}
 use Rattle.accuracy.proofs.MassNear.{density-checked}
 use Rattle.accuracy.proofs.SetCalled as Called
 use Rattle.accuracy.proofs.SetCalled.{set-given}
 use Rattle.accuracy.proofs.CentroidNear.{tip-checked, not-below as from-zero}
-use Rattle.accuracy.proofs.SevenIntegrals.{Fin, Sizes, sweepsOf, TabKnown, exactly, exactE, numbersIn, tabNumbers, finIn, tabE, totalAt}
+use Rattle.accuracy.proofs.SevenIntegrals.{Fin, Class, near, far, wide, tipsIn, sweepsIn, spansIn, Sizes, TabKnown, exactly}
+use Rattle.accuracy.proofs.SevenIntegrals.{exactE, numbersIn, tabNumbers, finIn, tabE, totalAt}
 use Rattle.accuracy.proofs.ToFractions.{fractionIn, amongFractions, AreFractions, expression-fraction}
 
 -- ---- the exact integrals of specs/Inertias
@@ -132,7 +139,7 @@ pub record Reached (p : Plate) (radius : Float) (b d : ℕ) : Type 0 where
 
 module _ (section : Section) (p : Plate) (m : Mount) (points : List Float) (L : ℕ) (start : List Float) (r : Figures)
     (exit : List Float) (plain-section : NotRounded section) (g : SectionGiven section p m points L start r exit)
-    (radius-f64 : T (fits binary64 (m .radius))) (far : Bool) (q : Proportions 1 (sweepsOf far) (p .root) (p .tip) (p .sweep)) where
+    (radius-f64 : T (fits binary64 (m .radius))) (c : Class) (q : OneStrip (tipsIn c) (sweepsIn c) section p (r .intervals)) where
   abbrev pub planform : Planform
   planform = Trapezoid (p .root) (p .tip) (p .span) (p .sweep)
 
@@ -172,27 +179,17 @@ module _ (section : Section) (p : Plate) (m : Mount) (points : List Float) (L : 
   pub root-positive : T (positive (p .root))
   root-positive = long (p .root) (sized .0) .0
 
-  chords-under : (k : ℕ) (x : Float) → AtMost (k * num (p .root)) (den (p .root)) x → Under (k of sizeOf (p .root)) (valueOf x)
-  chords-under k x h = subst (λ (n : ℕ). Under (n per den (p .root)) (valueOf x)) (one-mul (k * num (p .root)))
-      (most-under x (k * num (p .root)) (den (p .root)) h)
+  lengths-under : (y : Float) (k : ℕ) (x : Float) → AtMost (k * num y) (den y) x → Under (k of sizeOf y) (valueOf x)
+  lengths-under y k x h = subst (λ (n : ℕ). Under (n per den y) (valueOf x)) (one-mul (k * num y)) (most-under x (k * num y) (den y) h)
 
-  wide : Proportions (tipsOf section) 4 (p .root) (p .tip) (p .sweep)
-  wide = record {
-    tip-most = more 1 (tipsOf section) (p .tip)
-        (plain-sections (λ s. 1 ≤ tipsOf s) (lit≤ tt) (lit≤ tt) (lit≤ tt) section plain-section) (q .tip-most);
-    sweep-most = more (sweepsOf far) 4 (p .sweep) (few far) (q .sweep-most);
-    backward = q .backward;
-  }
-    where
-      few : (far : Bool) → sweepsOf far ≤ 4
-      few false = lit≤ tt
-      few true = lit≤ tt
+  chords-most : (k j : ℕ) (x : Float) → k ≤ j → AtMost (k * num (p .root)) (den (p .root)) x → Under (j of sizeOf (p .root)) (valueOf x)
+  chords-most k j x l h = lengths-under (p .root) j x
+      (record { finite = h .finite; size = le-trans (h .size) (mul-le-mul-right (den x) (mul-le-mul-right (num (p .root)) l)) })
 
-      more : (k j : ℕ) (x : Float) → k ≤ j → AtMost (k * num (p .root)) (den (p .root)) x → AtMost (j * num (p .root)) (den (p .root)) x
-      more k j x l h = record {
-        finite = h .finite;
-        size = le-trans (h .size) (mul-le-mul-right (den x) (mul-le-mul-right (num (p .root)) l));
-      }
+  few : (c : Class) → (tipsIn c ≤ 2) × (sweepsIn c ≤ 8)
+  few near = (lit≤ tt, lit≤ tt)
+  few far = (lit≤ tt, lit≤ tt)
+  few wide = (lit≤ tt, lit≤ tt)
 
   -- the fin, at a distance from the axis that may stand for its own where it counts for nothing
   abbrev pub finAt : Float → Fin
@@ -219,62 +216,111 @@ module _ (section : Section) (p : Plate) (m : Mount) (points : List Float) (L : 
   abbrev pub high : Float
   high = p .span ⊘ S
 
+  -- ---- its one piece
+  span-positive : T (positive (p .span))
+  span-positive = long (p .span) (sized .1 .1 .0) .0
+
+  span-above : lt (bits 0) (p .span) ≡ true
+  span-above = positive-above (p .span) span-positive
+
+  abbrev strip : Worked
+  strip = stripOf 7 f L low high
+
+  strips-are : setStrips set points L ≡ strip ∷ []
+  strips-are =
+      rw (heights-are (p .root) (p .tip) (p .span) (p .sweep) points L span-above)
+      (one-strip (p .root) (p .tip) (p .span) (p .sweep) points L span-above 7 f L S (bits 0) (p .span))
+
+  apart : eq low high ≡ false
+  apart = ends-differ (p .span) S span-positive (scaled .is-positive)
+      (in-range 48 _ (omega arith) (ranges-for 24 24 (sizeOf (p .span)) S (scaled .is-positive)
+      (ranges-of (p .span) 6 20 (omega arith) (omega arith) (sized .1 .1 .0 .length .below) (sized .1 .1 .0 .above))
+      (ranges-of S 7 20 (omega arith) (omega arith) (scaled .below) (scaled .above))))
+
+  pieces-counted : r .intervals ≡ length (piecesOf strip)
+  pieces-counted = subst (λ (x : Bool). r .intervals ≡ cond x 1 (length (piecesOf strip))) apart
+      (figures .intervals ∙ ap intervalsIn strips-are ∙ add-zero _)
+
   pub sum-is : (k : ℕ) → k < 7 → valueFrom (bits 0) k (setStrips set points L) ≡ bits 0 ⊕
       (bits 0 ⊕ halfWidth low high ⊗ sumOf kronrodWeight f low high k)
   unfolding totalOf
-  sum-is k l =
-      ap (valueFrom (bits 0) k)
-      (plate-strips (p .root) (p .tip) (p .span) (p .sweep) points (g .f64s) (checks .planform) section plain-section
-      (p .thickness) (m .radius) thick out L wide)
-      ∙ ap (λ (z : Float). bits 0 ⊕ (bits 0 ⊕ z)) (value-is 7 f low high k l)
+  sum-is k l = go (q .one-piece) ∙ ap (λ (z : Float). bits 0 ⊕ (bits 0 ⊕ z)) (value-is 7 f low high k l)
+    where
+      go : Proportions (tipsOf section) 4 (p .root) (p .tip) (p .sweep) ⊎ (r .intervals ≡ 1)
+          → valueFrom (bits 0) k (setStrips set points L) ≡ bits 0 ⊕ (bits 0 ⊕ at (pieceOf 7 f low high .value) k)
+      go (inl proportions) =
+          ap (valueFrom (bits 0) k)
+          (plate-strips (p .root) (p .tip) (p .span) (p .sweep) points (g .f64s) (checks .planform) section plain-section
+          (p .thickness) (m .radius) thick out L proportions)
+      go (inr one) =
+          ap (valueFrom (bits 0) k) strips-are
+          ∙ ap (λ (pieces : List Piece). bits 0 ⊕ sumFrom (bits 0) (λ x. at (x .value) k) pieces)
+          (whole-piece 7 f low high L apart (sym pieces-counted ∙ one))
+
+  tip-from-zero : NotBelow (valueOf (p .tip))
+  tip-from-zero = from-zero (p .tip) (q .tip-most .finite)
+      (tip-checked (p .root) (p .tip) (p .span) (p .sweep) points (g .f64s .1 .0) (checks .planform))
+
+  scale-ranges : Ranges 32 (sizeOf S)
+  scale-ranges = wider 24 (sizeOf S) (omega arith) (ranges-of S 7 20 (omega arith) (omega arith) (scaled .below) (scaled .above))
 
   pub total-is : (k : ℕ) → k < 7 → valueFrom (bits 0) k (setStrips set points L) ≡ totalAt (finAt (m .radius)) section k
   total-is k l =
       sum-is k l
       ∙ ap (λ (z : Float). bits 0 ⊕ (bits 0 ⊕ halfWidth low high ⊗ z))
-      (plate-sums section plain-section (p .root) (p .tip) (p .span) (p .sweep) (p .thickness) (m .radius) points
-      (plate-fin (p .root) (p .tip) (p .span) (p .sweep) points (g .f64s) (checks .planform) section plain-section (p .thickness)
-      (m .radius) thick out wide) kronrodWeight k)
+      (one-sums section (p .root) (p .tip) (p .span) (p .sweep) (p .thickness) (m .radius) points
+      (record {
+        root-positive = root-positive;
+        span-positive = span-positive;
+        scale-positive = scaled .is-positive;
+        tip-finite = q .tip-most .finite;
+        sweep-finite = q .sweep-most .finite;
+        tip-from-zero = tip-from-zero;
+        tip-under = chords-most (tipsIn c) 2 (p .tip) (few c .0) (q .tip-most);
+        sweep-under = chords-most (sweepsIn c) 8 (p .sweep) (few c .1) (q .sweep-most);
+        root-ranges = long (p .root) (sized .0) .1;
+        span-ranges = long (p .span) (sized .1 .1 .0) .1;
+        scale-ranges = scale-ranges;
+      }) kronrodWeight k)
 
   pub tab-accepted : tabCheck (p .tab) (p .root) ≡ Accepted
   unfolding rootChordOf
   tab-accepted = checks .tab
 
   -- ---- its lengths
-  module _ (x : Float) (b d : ℕ) (reached : Reached p x b d) (beside : TabBeside (p .tab) p x) where
-    tab-sizes : (t : Tab) → TabBeside t p x → tabCheck t (p .root) ≡ Accepted → TabKnown (finAt x) t
-    tab-sizes None w c = tt
-    tab-sizes (Slab height length offset) w c =
+  module _ (x : Float) (b d : ℕ) (reached : Reached p x b d) (beside : TabBeside (spansIn c) (p .tab) p x) where
+    tab-sizes : (t : Tab) → TabBeside (spansIn c) t p x → tabCheck t (p .root) ≡ Accepted → TabKnown (finAt x) c t
+    tab-sizes None w k = tt
+    tab-sizes (Slab height length offset) w k =
         let v = w .0 in
-        let l = tab-lengths height length offset (p .root) (v .0 .0) (v .0 .1) c in
+        let l = tab-lengths height length offset (p .root) (v .0 .0) (v .0 .1) k in
         record {
           height-finite = v .1 .1 .finite;
           length-finite = v .1 .0 .0 .finite;
           offset-finite = v .1 .0 .1 .finite;
           height-from-zero = positive-from height (long height (l .0) .0);
           length-from-zero = positive-from length (long length (l .1) .0);
-          height-under = most-under height (num (p .span)) (den (p .span)) (v .1 .1);
+          height-under = lengths-under (p .span) (spansIn c) height (v .1 .1);
           length-under = most-under length (num (p .root)) (den (p .root)) (v .1 .0 .0);
           offset-under = most-under offset (num (p .root)) (den (p .root)) (v .1 .0 .1);
           radius-under = most-under x (num (p .span)) (den (p .span)) (w .1);
         }
 
-    pub sizes : Sizes (finAt x) far b d
+    pub sizes : Sizes (finAt x) c b d
     sizes =
         record {
           plain-section = plain-section;
           root-positive = root-positive;
-          span-positive = long (p .span) (sized .1 .1 .0) .0;
+          span-positive = span-positive;
           scale-positive = scaled .is-positive;
           thickness-positive = long (p .thickness) thick .0;
           density-positive = heavy .0;
           tip-finite = q .tip-most .finite;
           sweep-finite = q .sweep-most .finite;
           radius-finite = reached .radius-most .finite;
-          tip-from-zero = from-zero (p .tip) (q .tip-most .finite)
-              (tip-checked (p .root) (p .tip) (p .span) (p .sweep) points (g .f64s .1 .0) (checks .planform));
-          tip-under = chords-under 1 (p .tip) (q .tip-most);
-          sweep-under = chords-under (sweepsOf far) (p .sweep) (q .sweep-most);
+          tip-from-zero = tip-from-zero;
+          tip-under = lengths-under (p .root) (tipsIn c) (p .tip) (q .tip-most);
+          sweep-under = lengths-under (p .root) (sweepsIn c) (p .sweep) (q .sweep-most);
           is-size = reached .is-size;
           root-most = reached .root-most .size;
           span-most = reached .span-most .size;
@@ -286,7 +332,7 @@ module _ (section : Section) (p : Plate) (m : Mount) (points : List Float) (L : 
             (
               long (p .span) (sized .1 .1 .0) .1,
               (
-                wider 24 (sizeOf S) (omega arith) (ranges-of S 7 20 (omega arith) (omega arith) (scaled .below) (scaled .above)),
+                scale-ranges,
                 (
                   long (p .thickness) thick .1,
                   (wider 24 (b per d) (omega arith) size-ranges, (wider 24 (sizeOf (p .density)) (omega arith) (heavy .1), tt)),
@@ -308,10 +354,18 @@ module _ (section : Section) (p : Plate) (m : Mount) (points : List Float) (L : 
             below b d h = omega arith
 
     -- ---- in fractions
-    tab-fractions : (t : Tab) → TabKnown (finAt x) t → AreFractions (tabNumbers t) (tabFractions t)
+    tab-fractions : (t : Tab) → TabKnown (finAt x) c t → AreFractions (tabNumbers t) (tabFractions t)
     tab-fractions None h = tt
-    tab-fractions (Slab height length offset) h =
-        (value-fraction height (h .height-finite), (value-fraction length (h .length-finite), (value-fraction offset (h .offset-finite), tt)))
+    tab-fractions (Slab height length offset) h = (
+      value-fraction height (h .height-finite),
+      (
+        value-fraction length (h .length-finite),
+        (
+          value-fraction offset (h .offset-finite),
+          tt,
+        ),
+      ),
+    )
 
     lengths-are : AreFractions (numbersIn (finAt x)) (fractionsOf p x)
     lengths-are = (

@@ -48,6 +48,7 @@ pub mod NoRoll
 pub mod BelowSpan
 pub mod ToFractions
 pub mod SevenIntegrals
+pub mod ChordWidths
 pub mod FinCalled
 pub mod OrdinaryBalance
 pub mod OrdinaryInertia

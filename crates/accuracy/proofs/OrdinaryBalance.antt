@@ -66,9 +66,9 @@ use Rattle.plates.specs.Integrals.{volume, r1, x1, firstMoment, tabIntegralsOf}
 use Rattle.plates.specs.Plates.{plateBody}
 use Rattle.figures.specs.Figures.{setStrips}
 use Rattle.figures.specs.declared.Figures.{Figures}
-use Rattle.one_piece.specs.OnePiece.{NotRounded, Proportions}
+use Rattle.one_piece.specs.OnePiece.{NotRounded}
 use Rattle.one_piece.proofs.AreaPiece.{positive-from}
-use Rattle.accuracy.specs.Masses.{Plate, Mount, setWith, SectionGiven, finVolume, tabVolume, filled, exactMassWith}
+use Rattle.accuracy.specs.Masses.{Plate, Mount, setWith, SectionGiven, OneStrip, finVolume, tabVolume, filled, exactMassWith}
 use Rattle.accuracy.specs.Balances.{finMoment, tabMoment, exactMoment, TabGiven, byTab, OrdinaryBalance}
 use Rattle.accuracy.specs.Inertias.{Integrals, tabIntegrals, TabBeside}
 use Rattle.accuracy.proofs.SetCalled as Called
@@ -79,8 +79,10 @@ use Rattle.accuracy.proofs.OrdinaryMass.{one-more, first-power}
 use Rattle.accuracy.proofs.OrdinaryCentroid.{inverse-pair}
 use Rattle.accuracy.proofs.CentroidNear.{positive-fraction, product-fraction}
 use Rattle.accuracy.proofs.ToFractions.{to-fractions}
-use Rattle.accuracy.proofs.SevenIntegrals.{Fin, Sizes, sweepsOf, isFoil, unitOf, shapeAt, errorIn, lessParts, leastParts, massUnit, massShape}
-use Rattle.accuracy.proofs.SevenIntegrals.{massList, each-class, bases, exactly, is-exactly, integralAt, totalAt, seven-known, volume-lowest}
+use Rattle.accuracy.proofs.SevenIntegrals.{Fin, Class, near, far, wide, tipsIn, sweepsIn, spansIn, Sizes, isFoil, unitOf, shapeAt}
+use Rattle.accuracy.proofs.SevenIntegrals.{errorIn, lessParts, leastParts, massUnit, massShape}
+use Rattle.accuracy.proofs.SevenIntegrals.{massList, each-class, bases, exactly, is-exactly, integralAt, totalAt, seven-known}
+use Rattle.accuracy.proofs.SevenIntegrals.{volume-lowest}
 use Rattle.accuracy.proofs.SevenIntegrals.{volume-from-zero, density-own, massOf, massNumber, masses, mass-known, mass-lowest}
 use Rattle.accuracy.proofs.FinCalled as Fins
 
@@ -90,7 +92,7 @@ times-minus : (x y : Number) → x times minus y ≡ minus (x times y)
 times-minus (number p n d) (number q m e) = refl
 
 -- ---- sums of f64s that are all near one number
-module _ (U : Size) (t : Ranges 900 U) (w : Number) (K H : ℕ) (few-K : K ≤ 2 ^ 44) (few-H : H ≤ 2 ^ 34) where
+module _ (U : Size) (t : Ranges 900 U) (w : Number) (K H : ℕ) (few-K : K ≤ 2 ^ 47) (few-H : H ≤ 2 ^ 34) where
   pub sums-to : (f : ℕ → Float) (n : ℕ) → n ≤ 32 → IsNumber w → ((k : ℕ) → k < n → Valued (f k) w K (2 * H) U)
       → Valued (inOrder (λ x y. x ⊕ y) (bits 0) f n) (number n 0 1 times w) (n * K + (n * suc n * H + 2 * n)) (n * (2 * H)) U
   unfolding inOrder ofBits
@@ -100,7 +102,7 @@ module _ (U : Size) (t : Ranges 900 U) (w : Number) (K H : ℕ) (few-K : K ≤ 2
       (0 * K + (0 * suc 0 * H + 2 * 0)) (0 * (2 * H)) (t .real) (omega arith) (omega arith)
   sums-to f (suc n) l i each =
       let a : n * H ≤ 31 * 2 ^ 34 = mul-le-mul (at-most n l) few-H in
-      let b : n * K ≤ 31 * 2 ^ 44 = mul-le-mul (at-most n l) few-K in
+      let b : n * K ≤ 31 * 2 ^ 47 = mul-le-mul (at-most n l) few-K in
       counted-by
       (equalled (plus-law U t (most n (at-most n l) a b (mul-le-mul-right (n * H) l)) (small few-K) (sizes n a)
       (sums-to f n (lower n l) i (λ k h. each k (up-one k n h))) (each n (le-refl (suc n))))
@@ -116,10 +118,10 @@ module _ (U : Size) (t : Ranges 900 U) (w : Number) (K H : ℕ) (few-K : K ≤ 2
       up-one : (k n : ℕ) → k < n → k < suc n
       up-one k n h = omega arith
 
-      small : K ≤ 2 ^ 44 → K ≤ 2 ^ 53
+      small : K ≤ 2 ^ 47 → K ≤ 2 ^ 53
       small h = omega arith
 
-      most : (n : ℕ) → n ≤ 31 → n * H ≤ 31 * 2 ^ 34 → n * K ≤ 31 * 2 ^ 44 → suc n * (n * H) ≤ 32 * (n * H)
+      most : (n : ℕ) → n ≤ 31 → n * H ≤ 31 * 2 ^ 34 → n * K ≤ 31 * 2 ^ 47 → suc n * (n * H) ≤ 32 * (n * H)
           → n * K + (n * suc n * H + 2 * n) ≤ 2 ^ 53
       most n l h k m = omega arith
 
@@ -193,9 +195,10 @@ counted-unit B n e p x v E J r h =
 
 -- n f64s near one number, in the unit of n
 sums-known : (B : List Size) → AllRanges 32 B → (n : ℕ) → getD B 6 unit ≡ n per 1 → n ≤ 32 → (p : List ℕ) → Ranges 900 (unitBy B p [])
-    → (w : Number) (K size : ℕ) → K ≤ 2 ^ 44 → size * 2 ^ 19 ≤ 2 ^ 34 → (f : ℕ → Float) → IsNumber w
+    → (w : Number) (K size : ℕ) → K ≤ 2 ^ 47 → size * 2 ^ 19 ≤ 2 ^ 34 → (f : ℕ → Float) → IsNumber w
     → ((k : ℕ) → k < n → Known B (f k) w (shape K (size * 2 ^ 20) p []))
-    → Known B (inOrder (λ x y. x ⊕ y) (bits 0) f n) (number n 0 1 times w) (shape (K + 33 * (size * 2 ^ 19) + 2) (size * 2 ^ 20) (added p (place 6)) [])
+    → Known B (inOrder (λ x y. x ⊕ y) (bits 0) f n) (number n 0 1 times w) (shape (K + 33 * (size * 2 ^ 19) + 2) (size * 2 ^ 20) (added p
+    (place 6)) [])
 sums-known B r n e l p t w K size few-K few-H f i each =
     counted-unit B n e p (inOrder (λ x y. x ⊕ y) (bits 0) f n) (number n 0 1 times w) (K + 33 * (size * 2 ^ 19) + 2) (size * 2 ^ 20) r
     (counted-by
@@ -286,26 +289,31 @@ abbrev termUnit : List ℕ
 termUnit = 2 ∷ 1 ∷ 0 ∷ 1 ∷ 0 ∷ 1 ∷ []
 
 -- errors in roundoffs and sizes in 1024ths of the units
-abbrev massSize : Tab → ℕ
-massSize tab = byTab 1026 2052 tab
+abbrev massSize : Class → Tab → ℕ
+massSize near tab = byTab 1026 2052 tab
+massSize far tab = byTab 1026 2052 tab
+massSize wide tab = byTab 1539 5650 tab
 
-abbrev termSize : Bool → Tab → ℕ
-termSize false tab = byTab 1026 2564 tab
-termSize true tab = byTab 2562 4100 tab
+abbrev termSize : Class → Tab → ℕ
+termSize near tab = byTab 1026 2564 tab
+termSize far tab = byTab 2562 4100 tab
+termSize wide tab = byTab 8026 14180 tab
 
-abbrev termError : Bool → Tab → ℕ
-termError false tab = byTab 487 2940 tab
-termError true tab = byTab 1900 7010 tab
+abbrev termError : Class → Tab → ℕ
+termError near tab = byTab 487 2940 tab
+termError far tab = byTab 1900 7010 tab
+termError wide tab = byTab 13040 119500 tab
 
-abbrev balanceError : Bool → Tab → ℕ
-balanceError false tab = byTab 2100 11000 tab
-balanceError true tab = byTab 8100 26000 tab
+abbrev balanceError : Class → Tab → ℕ
+balanceError near tab = byTab 2100 11000 tab
+balanceError far tab = byTab 8100 26000 tab
+balanceError wide tab = byTab 52000 388000 tab
 
 -- volume, the moment's negative, density and a zero
-abbrev termList : Bool → Bool → Tab → (v x : Float) → (V₀ X₀ : Number) → (density naught : Float) → List Given
-termList far foil tab v x V₀ X₀ density naught =
-    entry v V₀ (shapeAt far foil tab 0) (leastParts foil) ∷
-    entry x X₀ (shapeAt far foil tab 3) 0 ∷
+abbrev termList : Class → Bool → Tab → (v x : Float) → (V₀ X₀ : Number) → (density naught : Float) → List Given
+termList c foil tab v x V₀ X₀ density naught =
+    entry v V₀ (shapeAt c foil tab 0) (leastParts foil) ∷
+    entry x X₀ (shapeAt c foil tab 3) 0 ∷
     entry density (valueOf density) (shape 0 full (place 5) []) full ∷
     entry naught zeroNumber (shape 0 0 (place 0) []) 0 ∷
     []
@@ -321,71 +329,89 @@ termE = (given 6 add (given 2 mul given 1)) mul (given 4 mul given 0)
 abbrev sumError : ℕ → ℕ → ℕ
 sumError K size = K + 33 * (size * 2 ^ 19) + 2
 
-abbrev massesShape : Bool → Bool → Tab → Shape
-massesShape far foil tab =
-    shape (sumError (errorIn (massShape far foil tab)) (massSize tab)) (massSize tab * 2 ^ 20) (added massUnit (place 6)) []
+abbrev massesShape : Class → Bool → Tab → Shape
+massesShape c foil tab =
+    shape (sumError (errorIn (massShape c foil tab)) (massSize c tab)) (massSize c tab * 2 ^ 20) (added massUnit (place 6)) []
 
-abbrev termsShape : Bool → Tab → Shape
-termsShape far tab = shape (sumError (termError far tab * 2 ^ 30) (termSize far tab)) (termSize far tab * 2 ^ 20) (added termUnit (place 6)) []
+abbrev termsShape : Class → Tab → Shape
+termsShape c tab = shape (sumError (termError c tab * 2 ^ 30) (termSize c tab)) (termSize c tab * 2 ^ 20) (added termUnit (place 6)) []
 
-abbrev ringList : Bool → Bool → Tab → (m t : Float) → (M₀ T₀ : Number) → List Given
-ringList far foil tab m t M₀ T₀ = entry m M₀ (massesShape far foil tab) (leastParts foil) ∷ entry t T₀ (termsShape far tab) 0 ∷ []
+abbrev ringList : Class → Bool → Tab → (m t : Float) → (M₀ T₀ : Number) → List Given
+ringList c foil tab m t M₀ T₀ = entry m M₀ (massesShape c foil tab) (leastParts foil) ∷ entry t T₀ (termsShape c tab) 0 ∷ []
 
 module _ (v x : Float) (V₀ X₀ : Number) (density naught m t : Float) (M₀ T₀ : Number) where
-  pub record RingPass (far foil : Bool) (tab : Tab) : Type 0 where
-    pub mass-most : T (sizeTest (massList far foil tab v V₀ density) (given 2 mul given 0) (massSize tab * 2 ^ 20) massUnit [])
-    pub mass-few : T (leb (errorIn (massShape far foil tab)) (2 ^ 44))
-    pub term : T (nearer (termList far foil tab v x V₀ X₀ density naught) termE (termError far tab * 2 ^ 30) termUnit []
-        (judge (termList far foil tab v x V₀ X₀ density naught) termT))
-    pub term-most : T (sizeTest (termList far foil tab v x V₀ X₀ density naught) termE (termSize far tab * 2 ^ 20) termUnit [])
-    pub quotient : T (nearer (ringList far foil tab m t M₀ T₀) (given 2 mul given 1) (balanceError far tab * 2 ^ 30) (1 ∷ []) []
-        (judge (ringList far foil tab m t M₀ T₀) (var 1 overT 0)))
+  pub record RingPass (c : Class) (foil : Bool) (tab : Tab) : Type 0 where
+    pub mass-most : T (sizeTest (massList c foil tab v V₀ density) (given 2 mul given 0) (massSize c tab * 2 ^ 20) massUnit [])
+    pub mass-few : T (leb (errorIn (massShape c foil tab)) (2 ^ 47))
+    pub term : T (nearer (termList c foil tab v x V₀ X₀ density naught) termE (termError c tab * 2 ^ 30) termUnit []
+        (judge (termList c foil tab v x V₀ X₀ density naught) termT))
+    pub term-most : T (sizeTest (termList c foil tab v x V₀ X₀ density naught) termE (termSize c tab * 2 ^ 20) termUnit [])
+    pub quotient : T (nearer (ringList c foil tab m t M₀ T₀) (given 2 mul given 1) (balanceError c tab * 2 ^ 30) (1 ∷ []) []
+        (judge (ringList c foil tab m t M₀ T₀) (var 1 overT 0)))
 
-  near-square : RingPass false false None
+  near-square : RingPass near false None
   unfolding round ofBits
   near-square = record { mass-most = tt; mass-few = tt; term = tt; term-most = tt; quotient = tt }
 
-  near-square-tab : (height length offset : Float) → RingPass false false (Slab height length offset)
+  near-square-tab : (height length offset : Float) → RingPass near false (Slab height length offset)
   unfolding round ofBits
   near-square-tab height length offset = record { mass-most = tt; mass-few = tt; term = tt; term-most = tt; quotient = tt }
 
-  near-foil : RingPass false true None
+  near-foil : RingPass near true None
   unfolding round ofBits
   near-foil = record { mass-most = tt; mass-few = tt; term = tt; term-most = tt; quotient = tt }
 
-  near-foil-tab : (height length offset : Float) → RingPass false true (Slab height length offset)
+  near-foil-tab : (height length offset : Float) → RingPass near true (Slab height length offset)
   unfolding round ofBits
   near-foil-tab height length offset = record { mass-most = tt; mass-few = tt; term = tt; term-most = tt; quotient = tt }
 
-  far-square : RingPass true false None
+  far-square : RingPass far false None
   unfolding round ofBits
   far-square = record { mass-most = tt; mass-few = tt; term = tt; term-most = tt; quotient = tt }
 
-  far-square-tab : (height length offset : Float) → RingPass true false (Slab height length offset)
+  far-square-tab : (height length offset : Float) → RingPass far false (Slab height length offset)
   unfolding round ofBits
   far-square-tab height length offset = record { mass-most = tt; mass-few = tt; term = tt; term-most = tt; quotient = tt }
 
-  far-foil : RingPass true true None
+  far-foil : RingPass far true None
   unfolding round ofBits
   far-foil = record { mass-most = tt; mass-few = tt; term = tt; term-most = tt; quotient = tt }
 
-  far-foil-tab : (height length offset : Float) → RingPass true true (Slab height length offset)
+  far-foil-tab : (height length offset : Float) → RingPass far true (Slab height length offset)
   unfolding round ofBits
   far-foil-tab height length offset = record { mass-most = tt; mass-few = tt; term = tt; term-most = tt; quotient = tt }
 
-  ring-pass : (far foil : Bool) (tab : Tab) → RingPass far foil tab
-  ring-pass = each-class RingPass near-square near-foil far-square far-foil near-square-tab near-foil-tab far-square-tab far-foil-tab
+  wide-square : RingPass wide false None
+  unfolding round ofBits
+  wide-square = record { mass-most = tt; mass-few = tt; term = tt; term-most = tt; quotient = tt }
 
-terms-few : (far : Bool) (tab : Tab) → (termError far tab * 2 ^ 30 ≤ 2 ^ 44) × (termSize far tab * 2 ^ 19 ≤ 2 ^ 34)
-terms-few far tab = each-class (λ far foil tab. (termError far tab * 2 ^ 30 ≤ 2 ^ 44) × (termSize far tab * 2 ^ 19 ≤ 2 ^ 34))
-    (lit≤ tt, lit≤ tt) (lit≤ tt, lit≤ tt) (lit≤ tt, lit≤ tt) (lit≤ tt, lit≤ tt) (λ x y z. (lit≤ tt, lit≤ tt)) (λ x y z. (lit≤ tt, lit≤ tt))
-    (λ x y z. (lit≤ tt, lit≤ tt)) (λ x y z. (lit≤ tt, lit≤ tt)) far false tab
+  wide-square-tab : (height length offset : Float) → RingPass wide false (Slab height length offset)
+  unfolding round ofBits
+  wide-square-tab height length offset = record { mass-most = tt; mass-few = tt; term = tt; term-most = tt; quotient = tt }
 
-masses-few : (tab : Tab) → massSize tab * 2 ^ 19 ≤ 2 ^ 34
-masses-few None = lit≤ tt
-masses-few (Slab x y z) = lit≤ tt
+  wide-foil : RingPass wide true None
+  unfolding round ofBits
+  wide-foil = record { mass-most = tt; mass-few = tt; term = tt; term-most = tt; quotient = tt }
 
-module _ (f : Fin) (far : Bool) (b d : ℕ) (g : Sizes f far b d) (n : ℕ) (some : 1 ≤ n) (few : n ≤ 32) (naught : ℕ → Float)
+  wide-foil-tab : (height length offset : Float) → RingPass wide true (Slab height length offset)
+  unfolding round ofBits
+  wide-foil-tab height length offset = record { mass-most = tt; mass-few = tt; term = tt; term-most = tt; quotient = tt }
+
+  ring-pass : (c : Class) (foil : Bool) (tab : Tab) → RingPass c foil tab
+  ring-pass = each-class RingPass near-square near-foil far-square far-foil wide-square wide-foil near-square-tab near-foil-tab
+      far-square-tab far-foil-tab wide-square-tab wide-foil-tab
+
+terms-few : (c : Class) (tab : Tab) → (termError c tab * 2 ^ 30 ≤ 2 ^ 47) × (termSize c tab * 2 ^ 19 ≤ 2 ^ 34)
+terms-few c tab = each-class (λ c foil tab. (termError c tab * 2 ^ 30 ≤ 2 ^ 47) × (termSize c tab * 2 ^ 19 ≤ 2 ^ 34))
+    (lit≤ tt, lit≤ tt) (lit≤ tt, lit≤ tt) (lit≤ tt, lit≤ tt) (lit≤ tt, lit≤ tt) (lit≤ tt, lit≤ tt) (lit≤ tt, lit≤ tt)
+    (λ x y z. (lit≤ tt, lit≤ tt)) (λ x y z. (lit≤ tt, lit≤ tt)) (λ x y z. (lit≤ tt, lit≤ tt)) (λ x y z. (lit≤ tt, lit≤ tt))
+    (λ x y z. (lit≤ tt, lit≤ tt)) (λ x y z. (lit≤ tt, lit≤ tt)) c false tab
+
+masses-few : (c : Class) (tab : Tab) → massSize c tab * 2 ^ 19 ≤ 2 ^ 34
+masses-few c tab = each-class (λ c foil tab. massSize c tab * 2 ^ 19 ≤ 2 ^ 34) (lit≤ tt) (lit≤ tt) (lit≤ tt) (lit≤ tt) (lit≤ tt) (lit≤ tt)
+    (λ x y z. lit≤ tt) (λ x y z. lit≤ tt) (λ x y z. lit≤ tt) (λ x y z. lit≤ tt) (λ x y z. lit≤ tt) (λ x y z. lit≤ tt) c false tab
+
+module _ (f : Fin) (c : Class) (b d : ℕ) (g : Sizes f c b d) (n : ℕ) (some : 1 ≤ n) (few : n ≤ 32) (naught : ℕ → Float)
     (naughts : (k : ℕ) → k < n → AtMost 0 1 (naught k)) where
   abbrev B : List Size
   B = sizeOf (f .root) ∷ sizeOf (f .span) ∷ sizeOf (f .scale) ∷ sizeOf (f .thickness) ∷ (b per d) ∷ sizeOf (f .density) ∷ (n per 1) ∷ []
@@ -418,29 +444,31 @@ module _ (f : Fin) (far : Bool) (b d : ℕ) (g : Sizes f far b d) (n : ℕ) (som
   X₀ = exactly f 3
 
   abbrev W₀ : Number
-  W₀ = massNumber f far b d g
+  W₀ = massNumber f c b d g
 
-  abbrev pass : (naught m t : Float) (M₀ T₀ : Number) → RingPass volumeAt behindAt V₀ (minus X₀) (f .density) naught m t M₀ T₀ far isAirfoil (f .tab)
-  pass naught m t M₀ T₀ = ring-pass volumeAt behindAt V₀ (minus X₀) (f .density) naught m t M₀ T₀ far isAirfoil (f .tab)
+  abbrev pass : (naught m t : Float) (M₀ T₀ : Number)
+      → RingPass volumeAt behindAt V₀ (minus X₀) (f .density) naught m t M₀ T₀ c isAirfoil (f .tab)
+  pass naught m t M₀ T₀ = ring-pass volumeAt behindAt V₀ (minus X₀) (f .density) naught m t M₀ T₀ c isAirfoil (f .tab)
 
-  volume-known : Known B volumeAt V₀ (shapeAt far isAirfoil (f .tab) 0) × Lowest B volumeAt V₀ (shapeAt far isAirfoil (f .tab) 0) (leastParts isAirfoil)
-  volume-known = (seven-known f far b d g 0 (lit≤ tt) tt, volume-lowest f far b d g)
+  volume-known : Known B volumeAt V₀ (shapeAt c isAirfoil (f .tab) 0) × Lowest B volumeAt V₀ (shapeAt c isAirfoil (f .tab) 0) (leastParts
+      isAirfoil)
+  volume-known = (seven-known f c b d g 0 (lit≤ tt) tt, volume-lowest f c b d g)
 
   density-known : Known B (f .density) (valueOf (f .density)) (shape 0 full (place 5) [])
       × Lowest B (f .density) (valueOf (f .density)) (shape 0 full (place 5) []) full
-  density-known = density-own f far b d g
+  density-known = density-own f c b d g
 
   -- ---- the masses
   abbrev massL : List Given
-  massL = masses f far b d g
+  massL = masses f c b d g
 
-  mass-target : Known B (massOf f far b d g) W₀ (shape (errorIn (massShape far isAirfoil (f .tab))) (massSize (f .tab) * 2 ^ 20) massUnit [])
-  mass-target = target-known B ranges massL (volume-known, (density-known, tt)) (massOf f far b d g) (given 2 mul given 0)
-      (errorIn (massShape far isAirfoil (f .tab))) (massSize (f .tab) * 2 ^ 20) massUnit [] (mass-known f far b d g .near)
+  mass-target : Known B (massOf f c b d g) W₀ (shape (errorIn (massShape c isAirfoil (f .tab))) (massSize c (f .tab) * 2 ^ 20) massUnit [])
+  mass-target = target-known B ranges massL (volume-known, (density-known, tt)) (massOf f c b d g) (given 2 mul given 0)
+      (errorIn (massShape c isAirfoil (f .tab))) (massSize c (f .tab) * 2 ^ 20) massUnit [] (mass-known f c b d g .near)
       (pass (bits 0) (bits 0) (bits 0) zeroNumber zeroNumber .mass-most)
 
   abbrev pub massSum : Float
-  massSum = inOrder (λ x y. x ⊕ y) (bits 0) (λ k. massOf f far b d g) n
+  massSum = inOrder (λ x y. x ⊕ y) (bits 0) (λ k. massOf f c b d g) n
 
   abbrev pub M₀ : Number
   M₀ = number n 0 1 times W₀
@@ -456,34 +484,34 @@ module _ (f : Fin) (far : Bool) (b d : ℕ) (g : Sizes f far b d) (n : ℕ) (som
             most = le-trans (t .most) (mul-le-mul-left k (pow-mono {i = 840} {j = 900} (omega arith)));
           }
 
-  masses-known : Known B massSum M₀ (massesShape far isAirfoil (f .tab))
+  masses-known : Known B massSum M₀ (massesShape c isAirfoil (f .tab))
   masses-known =
-      sums-known B ranges n refl few massUnit (unit-range massUnit tt) W₀ (errorIn (massShape far isAirfoil (f .tab))) (massSize (f .tab))
-      (leb→le (errorIn (massShape far isAirfoil (f .tab))) (2 ^ 44) (pass (bits 0) (bits 0) (bits 0) zeroNumber zeroNumber .mass-few))
-      (masses-few (f .tab)) (λ k. massOf f far b d g) (mass-target .is) (λ k h. mass-target)
+      sums-known B ranges n refl few massUnit (unit-range massUnit tt) W₀ (errorIn (massShape c isAirfoil (f .tab))) (massSize c (f .tab))
+      (leb→le (errorIn (massShape c isAirfoil (f .tab))) (2 ^ 47) (pass (bits 0) (bits 0) (bits 0) zeroNumber zeroNumber .mass-few))
+      (masses-few c (f .tab)) (λ k. massOf f c b d g) (mass-target .is) (λ k h. mass-target)
 
   -- ---- the moments
   abbrev pub termOf : ℕ → Float
-  termOf k = (naught k ⊕ one ⊗ (behindAt ⊘ volumeAt)) ⊗ massOf f far b d g
+  termOf k = (naught k ⊕ one ⊗ (behindAt ⊘ volumeAt)) ⊗ massOf f c b d g
 
   abbrev Q₀ : Number
   Q₀ = (zeroNumber plus (minus X₀ times inverseOf V₀)) times (valueOf (f .density) times V₀)
 
   abbrev termL : ℕ → List Given
-  termL k = termList far isAirfoil (f .tab) volumeAt behindAt V₀ (minus X₀) (f .density) (naught k)
+  termL k = termList c isAirfoil (f .tab) volumeAt behindAt V₀ (minus X₀) (f .density) (naught k)
 
-  behind-known : Known B behindAt (minus X₀) (shapeAt far isAirfoil (f .tab) 3)
-  behind-known = neg-known (unitBy B (unitOf 3) []) (seven-known f far b d g 3 (lit≤ tt) tt)
+  behind-known : Known B behindAt (minus X₀) (shapeAt c isAirfoil (f .tab) 3)
+  behind-known = neg-known (unitBy B (unitOf 3) []) (seven-known f c b d g 3 (lit≤ tt) tt)
 
   term-known : (k : ℕ) → k < n → AllKnown B (termL k)
   term-known k h =
       (volume-known, ((behind-known, tt), (density-known, ((naught-known B ranges (naught k) (naughts k h) (place 0), tt), tt))))
 
-  term-target : (k : ℕ) → k < n → Known B (termOf k) Q₀ (shape (termError far (f .tab) * 2 ^ 30) (termSize far (f .tab) * 2 ^ 20) termUnit [])
+  term-target : (k : ℕ) → k < n → Known B (termOf k) Q₀ (shape (termError c (f .tab) * 2 ^ 30) (termSize c (f .tab) * 2 ^ 20) termUnit [])
   term-target k h =
       let r = pass (naught k) (bits 0) (bits 0) zeroNumber zeroNumber in
-      let K = termError far (f .tab) * 2 ^ 30 in
-      target-known B ranges (termL k) (term-known k h) (termOf k) termE K (termSize far (f .tab) * 2 ^ 20) termUnit []
+      let K = termError c (f .tab) * 2 ^ 30 in
+      target-known B ranges (termL k) (term-known k h) (termOf k) termE K (termSize c (f .tab) * 2 ^ 20) termUnit []
       (near-within B ranges (termL k) (term-known k h) termT termE K termUnit [] (r .term)) (r .term-most)
 
   abbrev pub momentSum : Float
@@ -492,33 +520,34 @@ module _ (f : Fin) (far : Bool) (b d : ℕ) (g : Sizes f far b d) (n : ℕ) (som
   abbrev pub T₀ : Number
   T₀ = number n 0 1 times Q₀
 
-  moments-known : Known B momentSum T₀ (termsShape far (f .tab))
+  moments-known : Known B momentSum T₀ (termsShape c (f .tab))
   moments-known =
-      let s = terms-few far (f .tab) in
-      sums-known B ranges n refl few termUnit (unit-range termUnit tt) Q₀ (termError far (f .tab) * 2 ^ 30) (termSize far (f .tab)) (s .0) (s .1)
+      let s = terms-few c (f .tab) in
+      sums-known B ranges n refl few termUnit (unit-range termUnit tt) Q₀ (termError c (f .tab) * 2 ^ 30) (termSize c (f .tab)) (s .0) (s
+      .1)
       termOf (term-target 0 some .is) term-target
 
   -- ---- their quotient
   masses-reach : Reaches (leastParts isAirfoil) (mono top B (added massUnit (place 6)) * mono bottom B [])
       (mono bottom B (added massUnit (place 6)) * mono top B [] * 2 ^ 30) M₀
-  masses-reach = count-reaches B n refl massUnit (leastParts isAirfoil) W₀ (mass-lowest f far b d g .1)
+  masses-reach = count-reaches B n refl massUnit (leastParts isAirfoil) W₀ (mass-lowest f c b d g .1)
 
   pub masses-positive : T (positive massSum)
   masses-positive =
       let N = mono top B (added massUnit (place 6)) * mono bottom B [] in
       let C = mono bottom B (added massUnit (place 6)) * mono top B [] * 2 ^ 30 in
-      let K = errorIn (massShape far isAirfoil (f .tab)) in
-      near-above massSum M₀ (sumError K (massSize (f .tab))) N C (top-pos 32 B ranges (added massUnit (place 6)) [])
+      let K = errorIn (massShape c isAirfoil (f .tab)) in
+      near-above massSum M₀ (sumError K (massSize c (f .tab))) N C (top-pos 32 B ranges (added massUnit (place 6)) [])
       (unit-real B ranges (added massUnit (place 6)) []) (masses-known .is) (masses-known .near)
-      (finer (leastParts isAirfoil) N C (suc (sumError K (massSize (f .tab)))) (2 ^ 53) M₀
-      (few-errors (lessParts isAirfoil) K (massSize (f .tab) * 2 ^ 19)
-      (leb→le K (2 ^ 44) (pass (bits 0) (bits 0) (bits 0) zeroNumber zeroNumber .mass-few)) (masses-few (f .tab))) masses-reach)
+      (finer (leastParts isAirfoil) N C (suc (sumError K (massSize c (f .tab)))) (2 ^ 53) M₀
+      (few-errors (lessParts isAirfoil) K (massSize c (f .tab) * 2 ^ 19)
+      (leb→le K (2 ^ 47) (pass (bits 0) (bits 0) (bits 0) zeroNumber zeroNumber .mass-few)) (masses-few c (f .tab))) masses-reach)
     where
-      few-errors : (x K H : ℕ) → K ≤ 2 ^ 44 → H ≤ 2 ^ 34 → suc (K + 33 * H + 2) ≤ suc x * 2 ^ 53
+      few-errors : (x K H : ℕ) → K ≤ 2 ^ 47 → H ≤ 2 ^ 34 → suc (K + 33 * H + 2) ≤ suc x * 2 ^ 53
       few-errors x K H h k = omega arith
 
   abbrev ringL : List Given
-  ringL = ringList far isAirfoil (f .tab) massSum momentSum M₀ T₀
+  ringL = ringList c isAirfoil (f .tab) massSum momentSum M₀ T₀
 
   ring-known : AllKnown B ringL
   ring-known = ((masses-known, (masses-positive, masses-reach)), ((moments-known, tt), tt))
@@ -527,13 +556,14 @@ module _ (f : Fin) (far : Bool) (b d : ℕ) (g : Sizes f far b d) (n : ℕ) (som
   ιM = inverseOf M₀
 
   pub balance-near : Near (momentSum ⊘ massSum) (T₀ times ιM)
-      ((balanceError far (f .tab) * 2 ^ 30) roundoffs (num (f .root) per (den (f .root) * 2 ^ 30)))
+      ((balanceError c (f .tab) * 2 ^ 30) roundoffs (num (f .root) per (den (f .root) * 2 ^ 30)))
   balance-near =
-      let K = balanceError far (f .tab) * 2 ^ 30 in
+      let K = balanceError c (f .tab) * 2 ^ 30 in
       subst (λ (k : ℕ). Near (momentSum ⊘ massSum) (T₀ times ιM) (K roundoffs (num (f .root) per (k * 2 ^ 30)))) (one-power (den (f .root)))
       (subst (λ (k : ℕ). Near (momentSum ⊘ massSum) (T₀ times ιM) (K roundoffs (k per (den (f .root) ^ 1 * 1 * 1 * 2 ^ 30))))
       (one-power (num (f .root)))
-      (near-within B ranges ringL ring-known (var 1 overT 0) (given 2 mul given 1) K (1 ∷ []) [] (pass (bits 0) massSum momentSum M₀ T₀ .quotient)))
+      (near-within B ranges ringL ring-known (var 1 overT 0) (given 2 mul given 1) K (1 ∷ []) [] (pass (bits 0) massSum momentSum M₀ T₀
+      .quotient)))
     where
       one-power : (x : ℕ) → x ^ 1 * 1 * 1 ≡ x
       one-power x = rw (first-power x) (simp plain)
@@ -554,7 +584,7 @@ module _ (f : Fin) (far : Bool) (b d : ℕ) (g : Sizes f far b d) (n : ℕ) (som
     (
       Counts.value-is (f .density),
       (
-        is-exactly f far b d g 0,
+        is-exactly f c b d g 0,
         (
           numbers-are B ranges massL (volume-known, (density-known, tt)) 1,
           (behind-known .is, (numbers-are B ranges ringL ring-known 1, tt)),
@@ -576,20 +606,21 @@ module _ (f : Fin) (far : Bool) (b d : ℕ) (g : Sizes f far b d) (n : ℕ) (som
       let e = (given 0 mul (given 1 mul given 4)) mul ((given 2 mul given 3) mul ((given 0 mul (given 1 mul given 2)) mul given 5)) in
       trans (evaluated-is numbers numbers-all e)
       (equal-by numbers numbers-all
-      (((given 0 mul ((ratio 0 0 add (given 4 mul given 3)) mul (given 1 mul given 2))) mul given 5) mul (given 0 mul (given 1 mul given 2))) e tt)
+      (((given 0 mul ((ratio 0 0 add (given 4 mul given 3)) mul (given 1 mul given 2))) mul given 5) mul (given 0 mul (given 1 mul given
+      2))) e tt)
       (trans (evaluated-is (N ∷ number 1 0 1 ∷ number 1 0 1 ∷ []) (i, (pow-pos 0, (pow-pos 0, tt))) (given 0 mul (given 1 mul given 2)))
       (evaluated-equal (N ∷ (V₀ times ιV) ∷ (M₀ times ιM) ∷ []) (N ∷ number 1 0 1 ∷ number 1 0 1 ∷ []) (i, (ia, (ib, tt)))
       (i, (pow-pos 0, (pow-pos 0, tt)))
-      (itself, (inverse-pair V₀ (volume-from-zero f far b d g), (inverse-pair M₀ M-from-zero, tt))) (given 0 mul (given 1 mul given 2)))
+      (itself, (inverse-pair V₀ (volume-from-zero f c b d g), (inverse-pair M₀ M-from-zero, tt))) (given 0 mul (given 1 mul given 2)))
       (equal-by (N ∷ []) (i, tt) (given 0 mul (ratio 1 0 mul ratio 1 0)) (given 0) tt))
 
 -- what a tab adds to the first moment about the axis is at most 2^27
-tab-radius-below : (thickness radius : Float) (tab : Tab) (p : Plate) → Below 6 thickness → Below 6 radius → TabGiven tab p
+tab-radius-below : (thickness radius : Float) (tab : Tab) (p : Plate) (k : ℕ) → Below 6 thickness → Below 6 radius → TabGiven k tab p
     → tabCheck tab (p .root) ≡ Accepted
     → Below 27 (r1 (tabIntegralsOf tab thickness radius))
 unfolding tabIntegralsOf ofBits
-tab-radius-below thickness radius None p t r h c = weaker (bits 0) 0 27 (lit≤ tt) zero-below
-tab-radius-below thickness radius (Slab height length offset) p t r h c =
+tab-radius-below thickness radius None p k t r h c = weaker (bits 0) 0 27 (lit≤ tt) zero-below
+tab-radius-below thickness radius (Slab height length offset) p k t r h c =
     let s = Fins.tab-lengths height length offset (p .root) (h .0 .0) (h .0 .1) c in
     let inner : Below 7 (radius ⊖ height) = sub-below radius height 6 (lit≤ tt) r (s .0 .length .below) in
     let outer : Below 14 (radius ⊗ radius) = weaker (radius ⊗ radius) 12 14 (lit≤ tt) (mul-below radius radius 6 6 (lit≤ tt) r r) in
@@ -601,7 +632,8 @@ tab-radius-below thickness radius (Slab height length offset) p t r h c =
     (mul-below half (radius ⊗ radius ⊖ (radius ⊖ height) ⊗ (radius ⊖ height)) 0 15 (lit≤ tt) half-below squares)
 
 -- ---- copies of a plate, turned and joined
-plate-centre : (v : List Float) (density base : Float) (count : ℕ) → T (positive (inOrder (λ x y. x ⊕ y) (bits 0) (λ k. density ⊗ volume v) count))
+plate-centre : (v : List Float) (density base : Float) (count : ℕ)
+    → T (positive (inOrder (λ x y. x ⊕ y) (bits 0) (λ k. density ⊗ volume v) count))
     → joinedCopies (plateBody v density) base count .«centre_m» .z
     ≡ inOrder (λ x y. x ⊕ y) (bits 0) (λ k. (acrossAt base count (r1 v ⊘ volume v) k ⊕ one ⊗ (neg (x1 v) ⊘ volume v)) ⊗
     (density ⊗ volume v)) count ⊘ inOrder (λ x y. x ⊕ y) (bits 0) (λ k. density ⊗ volume v) count
@@ -628,18 +660,19 @@ centre-by v density base count w u hw hu h =
     (λ (s : Float). joinedCopies (plateBody v density) base count .«centre_m» .z
     ≡ inOrder (λ x y. x ⊕ y) (bits 0) (λ k. (acrossAt base count (r1 v ⊘ volume v) k ⊕ one ⊗ (neg s ⊘ volume v)) ⊗
     (density ⊗ volume v)) count ⊘ inOrder (λ x y. x ⊕ y) (bits 0) (λ k. density ⊗ volume v) count) hu
-    (plate-centre v density base count (subst (λ (s : Float). T (positive (inOrder (λ x y. x ⊕ y) (bits 0) (λ k. density ⊗ s) count))) (sym hw) h)))
+    (plate-centre v density base count (subst (λ (s : Float). T (positive (inOrder (λ x y. x ⊕ y) (bits 0) (λ k. density ⊗ s) count)))
+    (sym hw) h)))
 
 -- ---- to fractions: K roundoffs of the size of an f64 above 0
 by-size : (x z : Float) → T (positive z) → (W D N : Number) (K : ℕ) (f h : Fraction) → IsNumber W → IsNumber D → IsNumber N → NotBelow D
     → IsFraction D f → IsFraction N h → Near x W ((K * 2 ^ 30) roundoffs (num z per (den z * 2 ^ 30))) → W times D equals N
     → Apart (product (product (pos K over 2 ^ 53) (fractionOf z)) f) (product (fractionOf x) f) h
-by-size x z zp W D N K f h iW iD iN from df nh near e =
+by-size x z zp W D N K f h iW iD iN from df nh w e =
     to-fractions x W D N ((K * 2 ^ 30) roundoffs (num z per (den z * 2 ^ 30))) (K * num z) (2 ^ 53 * den z)
     (product (pos K over 2 ^ 53) (fractionOf z)) f h iW iD iN from (mul-pos (mul-pos (den-pos z) (pow-pos 30)) (pow-pos 53))
     (mul-pos (pow-pos 53) (den-pos z))
     (product-fraction K (2 ^ 53) (num z) (den z) (pos K over 2 ^ 53) (fractionOf z) (whole-fraction K (2 ^ 53))
-    (positive-fraction z zp)) df nh near
+    (positive-fraction z zp)) df nh w
     (size (num z) (den z) (2 ^ 30) (2 ^ 53)) e
   where
     size : (n d P Q : ℕ) → K * P * n * (Q * d) ≤ K * n * (d * P * Q)
@@ -687,35 +720,35 @@ tab-moment : (t : Tab) (thickness radius : Float) → tabIntegrals t thickness r
 tab-moment None thickness radius = refl
 tab-moment (Slab x y z) thickness radius = refl
 
-module _ (far : Bool) (section : Section) (p : Plate) (m : Mount) (points : List Float) (L : ℕ) (start : List Float) (r : Figures)
+module _ (c : Class) (section : Section) (p : Plate) (m : Mount) (points : List Float) (L : ℕ) (start : List Float) (r : Figures)
     (exit : List Float) (plain-section : NotRounded section) (g : SectionGiven section p m points L start r exit)
     (radius-f64 : T (fits binary64 (m .radius))) (no-cant : eq (m .cant) (bits 0) ≡ true)
-    (q : Proportions 1 (sweepsOf far) (p .root) (p .tip) (p .sweep)) (tab : TabGiven (p .tab) p) where
+    (q : OneStrip (tipsIn c) (sweepsIn c) section p (r .intervals)) (tab : TabGiven (spansIn c) (p .tab) p) where
   -- the distance from the axis counts for nothing here: 0 stands for it
   abbrev F : Fin
-  F = Fins.finAt section p m points L start r exit plain-section g radius-f64 far q (bits 0)
+  F = Fins.finAt section p m points L start r exit plain-section g radius-f64 c q (bits 0)
 
   abbrev S : Float
-  S = Fins.S section p m points L start r exit plain-section g radius-f64 far q
+  S = Fins.S section p m points L start r exit plain-section g radius-f64 c q
 
-  sized : Sized (Fins.planform section p m points L start r exit plain-section g radius-f64 far q) points
-  sized = Fins.sized section p m points L start r exit plain-section g radius-f64 far q
+  sized : Sized (Fins.planform section p m points L start r exit plain-section g radius-f64 c q) points
+  sized = Fins.sized section p m points L start r exit plain-section g radius-f64 c q
 
   scaled : Scale S
-  scaled = Fins.scaled section p m points L start r exit plain-section g radius-f64 far q
+  scaled = Fins.scaled section p m points L start r exit plain-section g radius-f64 c q
 
   thick : PositiveLength (p .thickness)
-  thick = Fins.thick section p m points L start r exit plain-section g radius-f64 far q
+  thick = Fins.thick section p m points L start r exit plain-section g radius-f64 c q
 
   out : Height (m .radius)
-  out = Fins.out section p m points L start r exit plain-section g radius-f64 far q
+  out = Fins.out section p m points L start r exit plain-section g radius-f64 c q
 
   checks : AcceptedSet (setWith section p m) points L (length start)
-  checks = Fins.checks section p m points L start r exit plain-section g radius-f64 far q
+  checks = Fins.checks section p m points L start r exit plain-section g radius-f64 c q
 
   counts : (1 ≤ m .count) × (m .count ≤ 32)
   counts = set-count (setWith section p m) points L (length start)
-      (Fins.figures section p m points L start r exit plain-section g radius-f64 far q .accepted)
+      (Fins.figures section p m points L start r exit plain-section g radius-f64 c q .accepted)
 
   zero-under : (b d : ℕ) → AtMost b d (bits 0)
   unfolding ofBits
@@ -731,19 +764,19 @@ module _ (far : Bool) (section : Section) (p : Plate) (m : Mount) (points : List
     thickness-most = thick .length .below;
   }
 
-  beside : TabBeside (p .tab) p (bits 0)
+  beside : TabBeside (spansIn c) (p .tab) p (bits 0)
   beside = go (p .tab) tab
     where
-      go : (t : Tab) → TabGiven t p → TabBeside t p (bits 0)
+      go : (t : Tab) → TabGiven (spansIn c) t p → TabBeside (spansIn c) t p (bits 0)
       go None h = tt
       go (Slab x y z) h = (h, zero-under (num (p .span)) (den (p .span)))
 
-  sizes : Sizes F far 64 1
-  sizes = Fins.sizes section p m points L start r exit plain-section g radius-f64 far q (bits 0) 64 1 reached beside
+  sizes : Sizes F c 64 1
+  sizes = Fins.sizes section p m points L start r exit plain-section g radius-f64 c q (bits 0) 64 1 reached beside
 
   total-is : (k : ℕ) → k < 7 → valueFrom (bits 0) k (setStrips (setWith section p m) points L)
-      ≡ totalAt (Fins.finAt section p m points L start r exit plain-section g radius-f64 far q (m .radius)) section k
-  total-is = Fins.total-is section p m points L start r exit plain-section g radius-f64 far q
+      ≡ totalAt (Fins.finAt section p m points L start r exit plain-section g radius-f64 c q (m .radius)) section k
+  total-is = Fins.total-is section p m points L start r exit plain-section g radius-f64 c q
 
   abbrev v : List Float
   v = Called.integrals section p m points L (length start) r (g .answers .call .0) (g .given) (g .no-fillet)
@@ -753,7 +786,8 @@ module _ (far : Bool) (section : Section) (p : Plate) (m : Mount) (points : List
   unfolding tabIntegralsOf
   tab-at k e = go (p .tab) e
     where
-      go : (t : Tab) → (k ≡ 0) ⊎ (k ≡ 3) → at (tabIntegralsOf t (p .thickness) (m .radius)) k ≡ at (tabIntegralsOf t (p .thickness) (bits 0)) k
+      go : (t : Tab) → (k ≡ 0) ⊎ (k ≡ 3)
+          → at (tabIntegralsOf t (p .thickness) (m .radius)) k ≡ at (tabIntegralsOf t (p .thickness) (bits 0)) k
       go None e = refl
       go (Slab x y z) (inl e) = rw e
       go (Slab x y z) (inr e) = rw e
@@ -766,9 +800,9 @@ module _ (far : Bool) (section : Section) (p : Plate) (m : Mount) (points : List
   moment-is = ap (λ (z : Float). z ⊗ fourth S ⊕ at (tabIntegralsOf (p .tab) (p .thickness) (m .radius)) 3) (total-is 3 (lit≤ tt))
       ∙ ap (λ (z : Float). totalAt F section 3 ⊗ fourth S ⊕ z) (tab-at 3 (inr refl))
 
-  -- ---- how far out the fin's centre is: no more than f64 holds
+  -- ---- how c out the fin's centre is: no more than f64 holds
   abbrev f : Float → List Float
-  f = Fins.f section p m points L start r exit plain-section g radius-f64 far q
+  f = Fins.f section p m points L start r exit plain-section g radius-f64 c q
 
   abbrev low : Float
   low = bits 0 ⊘ S
@@ -797,30 +831,33 @@ module _ (far : Bool) (section : Section) (p : Plate) (m : Mount) (points : List
       (over-scale (p .span) (sized .1 .1 .0 .length .below)) 1 (lit≤ tt) in
       let once = add-below (bits 0) _ 743 (lit≤ tt) (weaker (bits 0) 0 743 (lit≤ tt) none) value in
       let twice : Below 745 (valueFrom (bits 0) 1 strips) =
-      subst (Below 745) (sym (Fins.sum-is section p m points L start r exit plain-section g radius-f64 far q 1 (lit≤ tt)))
+      subst (Below 745) (sym (Fins.sum-is section p m points L start r exit plain-section g radius-f64 c q 1 (lit≤ tt)))
       (add-below (bits 0) _ 744 (lit≤ tt) (weaker (bits 0) 0 744 (lit≤ tt) none) once) in
       let square = mul-below S S 7 7 (lit≤ tt) (scaled .below) (scaled .below) in
       let slab = at (tabIntegralsOf (p .tab) (p .thickness) (m .radius)) 1 in
       add-below (valueFrom (bits 0) 1 strips ⊗ fourth S) slab 774 (lit≤ tt)
       (weaker (valueFrom (bits 0) 1 strips ⊗ fourth S) 773 774 (lit≤ tt)
       (mul-below _ (fourth S) 745 28 (lit≤ tt) twice (mul-below (S ⊗ S) (S ⊗ S) 14 14 (lit≤ tt) square square)))
-      (weaker slab 27 774 (lit≤ tt) (tab-radius-below (p .thickness) (m .radius) (p .tab) p (thick .length .below) (out .length .below) tab
-      (Fins.tab-accepted section p m points L start r exit plain-section g radius-f64 far q)))
+      (weaker slab 27 774 (lit≤ tt) (tab-radius-below (p .thickness) (m .radius) (p .tab) p (spansIn c) (thick .length .below) (out
+      .length .below) tab
+      (Fins.tab-accepted section p m points L start r exit plain-section g radius-f64 c q)))
 
   abbrev B₆ : List Size
-  B₆ = bases F far 64 1 sizes
+  B₆ = bases F c 64 1 sizes
 
   w-above : Above 126 (integralAt F 0)
   w-above =
-      let z = seven-known F far 64 1 sizes 0 (lit≤ tt) tt in
-      let low = volume-lowest F far 64 1 sizes in
+      let z = seven-known F c 64 1 sizes 0 (lit≤ tt) tt in
+      let low = volume-lowest F c 64 1 sizes in
       above-by (integralAt F 0) (exactly F 0) (mono top B₆ (unitOf 0) * mono bottom B₆ []) (mono bottom B₆ (unitOf 0) * mono top B₆ [])
-      (leastParts (isFoil section)) (errorIn (shapeAt far (isFoil section) (p .tab) 0)) (low .0) (z .is) (top-pos 32 B₆ (sizes .ranges) (unitOf 0) [])
-      (ranges-by-units 32 B₆ (sizes .ranges) (unitOf 0) [] .least) (enough far (isFoil section) (p .tab)) (low .1) (z .near .within)
+      (leastParts (isFoil section)) (errorIn (shapeAt c (isFoil section) (p .tab) 0)) (low .0) (z .is) (top-pos 32 B₆ (sizes .ranges)
+      (unitOf 0) [])
+      (ranges-by-units 32 B₆ (sizes .ranges) (unitOf 0) [] .least) (enough c (isFoil section) (p .tab)) (low .1) (z .near .within)
     where
-      enough : (far foil : Bool) (tab : Tab) → errorIn (shapeAt far foil tab 0) + 2 ^ 53 ≤ leastParts foil * 2 ^ 53
-      enough = each-class (λ far foil tab. errorIn (shapeAt far foil tab 0) + 2 ^ 53 ≤ leastParts foil * 2 ^ 53) (lit≤ tt) (lit≤ tt)
-          (lit≤ tt) (lit≤ tt) (λ x y z. lit≤ tt) (λ x y z. lit≤ tt) (λ x y z. lit≤ tt) (λ x y z. lit≤ tt)
+      enough : (c : Class) (foil : Bool) (tab : Tab) → errorIn (shapeAt c foil tab 0) + 2 ^ 53 ≤ leastParts foil * 2 ^ 53
+      enough = each-class (λ c foil tab. errorIn (shapeAt c foil tab 0) + 2 ^ 53 ≤ leastParts foil * 2 ^ 53) (lit≤ tt) (lit≤ tt)
+          (lit≤ tt) (lit≤ tt) (lit≤ tt) (lit≤ tt) (λ x y z. lit≤ tt) (λ x y z. lit≤ tt) (λ x y z. lit≤ tt) (λ x y z. lit≤ tt)
+          (λ x y z. lit≤ tt) (λ x y z. lit≤ tt)
 
   out-finite : T (finite (r1 v ⊘ volume v))
   out-finite = subst (λ (z : Float). T (finite (r1 v ⊘ z))) (sym volume-is)
@@ -835,14 +872,15 @@ module _ (far : Bool) (section : Section) (p : Plate) (m : Mount) (points : List
       (plate-naught v (p .density) (m .base) (m .count) (checks .base-angle) (counts .0) (counts .1) out-finite k i)
 
   abbrev balance : Float
-  balance = momentSum F far 64 1 sizes (m .count) (counts .0) (counts .1) naught naughts
-      ⊘ massSum F far 64 1 sizes (m .count) (counts .0) (counts .1) naught naughts
+  balance = momentSum F c 64 1 sizes (m .count) (counts .0) (counts .1) naught naughts
+      ⊘ massSum F c 64 1 sizes (m .count) (counts .0) (counts .1) naught naughts
 
   centre-is : r .body .«centre_m» .z ≡ balance
   centre-is =
-      ap (λ (b : Body). b .«centre_m» .z) (set-body section p m points L (length start) r (g .answers .call .0) (g .given) (g .no-fillet) no-cant)
+      ap (λ (b : Body). b .«centre_m» .z) (set-body section p m points L (length start) r (g .answers .call .0) (g .given) (g .no-fillet)
+      no-cant)
       ∙ centre-by v (p .density) (m .base) (m .count) (integralAt F 0) (integralAt F 3) volume-is moment-is
-      (masses-positive F far 64 1 sizes (m .count) (counts .0) (counts .1) naught naughts)
+      (masses-positive F c 64 1 sizes (m .count) (counts .0) (counts .1) naught naughts)
 
   -- ---- in fractions
   abbrev ρ : Number
@@ -852,7 +890,7 @@ module _ (far : Bool) (section : Section) (p : Plate) (m : Mount) (points : List
   exact = Fins.exactAt section p (bits 0)
 
   field-is : (i : ℕ) → i < 7 → IsFraction (exactly F i) (Fins.fieldOf exact i)
-  field-is = Fins.field-is section p m points L start r exit plain-section g radius-f64 far q (bits 0) 64 1 reached beside
+  field-is = Fins.field-is section p m points L start r exit plain-section g radius-f64 c q (bits 0) 64 1 reached beside
 
   -- count times density times a number
   all-fins : (x : Number) (y : Fraction) → IsFraction x y
@@ -860,7 +898,8 @@ module _ (far : Bool) (section : Section) (p : Plate) (m : Mount) (points : List
   all-fins x y h =
       times-fraction (number (m .count) 0 1) (ρ times x) (pos (m .count) over 1) (product (fractionOf (p .density)) y)
       (whole-fraction (m .count) 1)
-      (times-fraction ρ x (fractionOf (p .density)) y (Fins.density-fraction section p m points L start r exit plain-section g radius-f64 far q) h)
+      (times-fraction ρ x (fractionOf (p .density)) y (Fins.density-fraction section p m points L start r exit plain-section g radius-f64
+      c q) h)
 
   mass-fraction : IsFraction (number (m .count) 0 1 times (ρ times exactly F 0)) (exactMassWith section p m)
   mass-fraction = all-fins (exactly F 0) (sum (product (filled section) (finVolume p)) (tabVolume (p .tab) (p .thickness)))
@@ -884,24 +923,26 @@ module _ (far : Bool) (section : Section) (p : Plate) (m : Mount) (points : List
   D-from-zero : NotBelow D
   D-from-zero =
       not-below-times (number (m .count) 0 1) (ρ times exactly F 0) zero-le
-      (not-below-times ρ (exactly F 0) (positive-from (p .density) (sizes .density-positive)) (volume-from-zero F far 64 1 sizes))
+      (not-below-times ρ (exactly F 0) (positive-from (p .density) (sizes .density-positive)) (volume-from-zero F c 64 1 sizes))
 
-  pub set-balance : Apart (product (product (pos (balanceError far (p .tab)) over 2 ^ 53) (fractionOf (p .root))) (exactMassWith section p m))
+  pub set-balance : Apart (product (product (pos (balanceError c (p .tab)) over 2 ^ 53) (fractionOf (p .root))) (exactMassWith section p m))
       (product (fractionOf (r .body .«centre_m» .z)) (exactMassWith section p m)) (negatedFraction (exactMoment section p m))
   set-balance =
-      let W = T₀ F far 64 1 sizes (m .count) (counts .0) (counts .1) naught naughts times ιM F far 64 1 sizes (m .count)
+      let W = T₀ F c 64 1 sizes (m .count) (counts .0) (counts .1) naught naughts times ιM F c 64 1 sizes (m .count)
       (counts .0) (counts .1) naught naughts in
-      subst (λ (z : Float). Apart (product (product (pos (balanceError far (p .tab)) over 2 ^ 53) (fractionOf (p .root))) (exactMassWith section p m))
+      subst (λ (z : Float). Apart (product (product (pos (balanceError c (p .tab)) over 2 ^ 53) (fractionOf (p .root))) (exactMassWith
+      section p m))
       (product (fractionOf z) (exactMassWith section p m)) (negatedFraction (exactMoment section p m))) (sym centre-is)
-      (by-size balance (p .root) (sizes .root-positive) W D (minus Y) (balanceError far (p .tab)) (exactMassWith section p m)
+      (by-size balance (p .root) (sizes .root-positive) W D (minus Y) (balanceError c (p .tab)) (exactMassWith section p m)
       (negatedFraction (exactMoment section p m))
-      (W-is F far 64 1 sizes (m .count) (counts .0) (counts .1) naught naughts) (is-all (exactly F 0) (is-exactly F far 64 1 sizes 0))
-      (minus-number Y (is-all (exactly F 3) (is-exactly F far 64 1 sizes 3))) D-from-zero mass-fraction
+      (W-is F c 64 1 sizes (m .count) (counts .0) (counts .1) naught naughts) (is-all (exactly F 0) (is-exactly F c 64 1 sizes 0))
+      (minus-number Y (is-all (exactly F 3) (is-exactly F c 64 1 sizes 3))) D-from-zero mass-fraction
       (minus-fraction Y (exactMoment section p m) moment-fraction)
-      (balance-near F far 64 1 sizes (m .count) (counts .0) (counts .1) naught naughts)
+      (balance-near F c 64 1 sizes (m .count) (counts .0) (counts .1) naught naughts)
       (subst (λ (z : Number). W times D equals z)
-      (ap (λ (z : Number). number (m .count) 0 1 times z) (times-minus ρ (exactly F 3)) ∙ times-minus (number (m .count) 0 1) (ρ times exactly F 3))
-      (exactly-moment F far 64 1 sizes (m .count) (counts .0) (counts .1) naught naughts)))
+      (ap (λ (z : Number). number (m .count) 0 1 times z) (times-minus ρ (exactly F 3)) ∙ times-minus (number (m .count) 0 1) (ρ times
+      exactly F 3))
+      (exactly-moment F c 64 1 sizes (m .count) (counts .0) (counts .1) naught naughts)))
 
-pub ordinary-balance : OrdinaryBalance 1 2100 11000 × OrdinaryBalance 4 8100 26000
-ordinary-balance = (set-balance false, set-balance true)
+pub ordinary-balance : OrdinaryBalance 1 1 1 2100 11000 × (OrdinaryBalance 1 4 1 8100 26000 × OrdinaryBalance 2 8 4 52000 388000)
+ordinary-balance = (set-balance near, (set-balance far, set-balance wide))

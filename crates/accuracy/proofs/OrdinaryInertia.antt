@@ -55,17 +55,19 @@ use Rattle.error_terms.proofs.Judged.{Judged, nearer}
 use Rattle.error_terms.proofs.Shared.{Shared, local, whole, _⊞_, _⊟_, _⊠_, _⊡_, tightly, raisedBy, judgeIn, judgeAll, bindAll, expand}
 use Rattle.error_terms.proofs.Shared.{all-within}
 use Rattle.error_terms.proofs.Entries.{full}
-use Rattle.one_piece.specs.OnePiece.{NotRounded, Proportions}
+use Rattle.one_piece.specs.OnePiece.{NotRounded}
 use Rattle.figures.specs.declared.Figures.{Figures}
-use Rattle.accuracy.specs.Masses.{Plate, Mount, SectionGiven}
+use Rattle.accuracy.specs.Masses.{Plate, Mount, SectionGiven, OneStrip}
 use Rattle.accuracy.specs.Inertias.{Integrals, exactIntegrals, Alone, TabBeside, TensorNear}
 use Rattle.accuracy.specs.Inertias.{OffAxisNear, FinNear}
 use Rattle.accuracy.specs.Inertias.{tensorError, outwardError, OrdinaryInertia}
 use Rattle.accuracy.proofs.WholePieces.{value-is}
 use Rattle.accuracy.proofs.SetCalled as Called
 use Rattle.accuracy.proofs.SetCalled.{set-body}
-use Rattle.accuracy.proofs.SevenIntegrals.{Fin, Sizes, unitOf, isFoil, shapeAt, massShape, leastParts, bases, seven-known, volume-lowest}
-use Rattle.accuracy.proofs.SevenIntegrals.{integralAt, exactly, is-exactly, density-own, masses-known, massOf, mass-known, mass-lowest}
+use Rattle.accuracy.proofs.SevenIntegrals.{Fin, far, Sizes, unitOf, isFoil, shapeAt, massShape, leastParts, bases, seven-known}
+use Rattle.accuracy.proofs.SevenIntegrals.{volume-lowest}
+use Rattle.accuracy.proofs.SevenIntegrals.{integralAt, exactly, is-exactly, density-own, masses-known, massOf, mass-known}
+use Rattle.accuracy.proofs.SevenIntegrals.{mass-lowest}
 use Rattle.accuracy.proofs.SevenIntegrals.{volume-from-zero}
 use Rattle.accuracy.proofs.FinCalled as Fins
 use Rattle.accuracy.proofs.OrdinaryCentroid.{inverse-pair}
@@ -81,15 +83,15 @@ ruleset plain = (sorted, one-mul, mul-one, zero-mul, mul-zero, zero-add, add-zer
 -- ---- V, r1, r2, −x1, x2, rx, tau2, density and mass, in the units of proofs/SevenIntegrals
 abbrev bodyList : Bool → Tab → (ℕ → Float) → (ℕ → Number) → (density : Float) → List Given
 bodyList foil tab v n density =
-    entry (v 0) (n 0) (shapeAt true foil tab 0) (leastParts foil) ∷
-    entry (v 1) (n 1) (shapeAt true foil tab 1) 0 ∷
-    entry (v 2) (n 2) (shapeAt true foil tab 2) 0 ∷
-    entry (neg (v 3)) (zeroNumber less n 3) (shapeAt true foil tab 3) 0 ∷
-    entry (v 4) (n 4) (shapeAt true foil tab 4) 0 ∷
-    entry (v 5) (n 5) (shapeAt true foil tab 5) 0 ∷
-    entry (v 6) (n 6) (shapeAt true foil tab 6) 0 ∷
+    entry (v 0) (n 0) (shapeAt far foil tab 0) (leastParts foil) ∷
+    entry (v 1) (n 1) (shapeAt far foil tab 1) 0 ∷
+    entry (v 2) (n 2) (shapeAt far foil tab 2) 0 ∷
+    entry (neg (v 3)) (zeroNumber less n 3) (shapeAt far foil tab 3) 0 ∷
+    entry (v 4) (n 4) (shapeAt far foil tab 4) 0 ∷
+    entry (v 5) (n 5) (shapeAt far foil tab 5) 0 ∷
+    entry (v 6) (n 6) (shapeAt far foil tab 6) 0 ∷
     entry density (valueOf density) (shape 0 full (place 5) []) full ∷
-    entry (density ⊗ v 0) (valueOf density times n 0) (massShape true foil tab) (leastParts foil) ∷
+    entry (density ⊗ v 0) (valueOf density times n 0) (massShape far foil tab) (leastParts foil) ∷
     larger 0 4 ∷
     larger 3 4 ∷
     []
@@ -423,7 +425,7 @@ module _ (U ι : Number) (iU : IsNumber U) (iι : IsNumber ι) (pair : U times �
 second-power : (x : ℕ) → x ^ 2 ≡ x * x
 second-power x = pow-suc x 1 ∙ ap (λ (y : ℕ). y * x) (first-power x)
 
-module _ (f : Fin) (b d : ℕ) (g : Sizes f true b d) where
+module _ (f : Fin) (b d : ℕ) (g : Sizes f far b d) where
   abbrev v : ℕ → Float
   v i = integralAt f i
 
@@ -431,15 +433,15 @@ module _ (f : Fin) (b d : ℕ) (g : Sizes f true b d) where
   n i = exactly f i
 
   abbrev B : List Size
-  B = bases f true b d g
+  B = bases f far b d g
 
   abbrev body : List Given
   body = bodyList (isFoil (f .section)) (f .tab) v n (f .density)
 
   known : AllKnown B body
   known =
-      let k = seven-known f true b d g in (
-        masses-known f true b d g .0,
+      let k = seven-known f far b d g in (
+        masses-known f far b d g .0,
         (
           (k 1 (lit≤ tt) tt, tt),
           (
@@ -453,8 +455,8 @@ module _ (f : Fin) (b d : ℕ) (g : Sizes f true b d) where
                   (
                     (k 6 (lit≤ tt) tt, tt),
                     (
-                      density-own f true b d g,
-                      ((mass-known f true b d g, mass-lowest f true b d g), (g .root-most, (g .thickness-most, tt))),
+                      density-own f far b d g,
+                      ((mass-known f far b d g, mass-lowest f far b d g), (g .root-most, (g .thickness-most, tt))),
                     ),
                   ),
                 ),
@@ -477,7 +479,8 @@ module _ (f : Fin) (b d : ℕ) (g : Sizes f true b d) where
       all-within B (g .ranges) body known parts s e (K * 2 ^ 30) p []
       (and-l (nearer body e (K * 2 ^ 30) p [] (judgeIn body (judgeAll body [] parts) s)) (passes body (judgeAll body [] parts) l) t)
   all-near (test s e K p ∷ l) t (suc i) h =
-      all-near l (and-r (nearer body e (K * 2 ^ 30) p [] (judgeIn body (judgeAll body [] parts) s)) (passes body (judgeAll body [] parts) l) t) i
+      all-near l (and-r (nearer body e (K * 2 ^ 30) p [] (judgeIn body (judgeAll body [] parts) s)) (passes body (judgeAll body [] parts)
+      l) t) i
       (le-of-suc-le-suc h)
 
   -- by its place among the tests
@@ -486,10 +489,10 @@ module _ (f : Fin) (b d : ℕ) (g : Sizes f true b d) where
 
   -- ---- the body: turned by nothing and joined alone
   abbrev μ : Float
-  μ = massOf f true b d g
+  μ = massOf f far b d g
 
   mass-positive : T (positive μ)
-  mass-positive = mass-lowest f true b d g .0
+  mass-positive = mass-lowest f far b d g .0
 
   abbrev turned : Body
   turned = turnedOf v (f .density)
@@ -499,7 +502,7 @@ module _ (f : Fin) (b d : ℕ) (g : Sizes f true b d) where
 
   whole-mass : bits 0 ⊕ μ ≡ μ
   whole-mass = zero-plus μ (mul-fits binary64 (f .density) (v 0)) (product-plus (f .density) (v 0) (g .density-positive)
-      (volume-lowest f true b d g .0))
+      (volume-lowest f far b d g .0))
 
   centre-is : alone .«centre_m» ≡ centreBy turned μ
   unfolding rotatedOf plateBody ofOriginTensor
@@ -619,7 +622,7 @@ module _ (f : Fin) (b d : ℕ) (g : Sizes f true b d) where
   ι = inverseOf (n 0)
 
   n-is : (i : ℕ) → IsNumber (n i)
-  n-is i = is-exactly f true b d g i
+  n-is i = is-exactly f far b d g i
 
   ι-is : IsNumber ι
   ι-is = numbers-are B (g .ranges) body known 1
@@ -631,14 +634,14 @@ module _ (f : Fin) (b d : ℕ) (g : Sizes f true b d) where
   rest-are = (n-is 1, (n-is 2, (n-is 3, (n-is 4, (n-is 5, (n-is 6, (Counts.value-is (f .density), tt)))))))
 
   abbrev clear : (s m o c t : Expression) → T (vanishes (normal (s take m)))
-      → evaluate (among (paired (n 0) ι (n-is 0) ι-is (inverse-pair (n 0) (volume-from-zero f true b d g)) restList rest-are)) m
-      ≡ evaluate (among (paired (n 0) ι (n-is 0) ι-is (inverse-pair (n 0) (volume-from-zero f true b d g)) restList rest-are)) o
-      → evaluate (among (unpaired (n 0) ι (n-is 0) ι-is (inverse-pair (n 0) (volume-from-zero f true b d g)) restList rest-are)) o
-      ≡ evaluate (among (unpaired (n 0) ι (n-is 0) ι-is (inverse-pair (n 0) (volume-from-zero f true b d g)) restList rest-are)) c
+      → evaluate (among (paired (n 0) ι (n-is 0) ι-is (inverse-pair (n 0) (volume-from-zero f far b d g)) restList rest-are)) m
+      ≡ evaluate (among (paired (n 0) ι (n-is 0) ι-is (inverse-pair (n 0) (volume-from-zero f far b d g)) restList rest-are)) o
+      → evaluate (among (unpaired (n 0) ι (n-is 0) ι-is (inverse-pair (n 0) (volume-from-zero f far b d g)) restList rest-are)) o
+      ≡ evaluate (among (unpaired (n 0) ι (n-is 0) ι-is (inverse-pair (n 0) (volume-from-zero f far b d g)) restList rest-are)) c
       → T (vanishes (normal (c take t)))
-      → evaluate (among (paired (n 0) ι (n-is 0) ι-is (inverse-pair (n 0) (volume-from-zero f true b d g)) restList rest-are)) s
-      equals evaluate (among (unpaired (n 0) ι (n-is 0) ι-is (inverse-pair (n 0) (volume-from-zero f true b d g)) restList rest-are)) t
-  clear = cleared (n 0) ι (n-is 0) ι-is (inverse-pair (n 0) (volume-from-zero f true b d g)) restList rest-are
+      → evaluate (among (paired (n 0) ι (n-is 0) ι-is (inverse-pair (n 0) (volume-from-zero f far b d g)) restList rest-are)) s
+      equals evaluate (among (unpaired (n 0) ι (n-is 0) ι-is (inverse-pair (n 0) (volume-from-zero f far b d g)) restList rest-are)) t
+  clear = cleared (n 0) ι (n-is 0) ι-is (inverse-pair (n 0) (volume-from-zero f far b d g)) restList rest-are
 
   abbrev pub book : ℕ → Number
   book i = evaluate (among (number 1 0 1 ∷ n 0 ∷ ι ∷ restList)) (bookE i)
@@ -675,7 +678,8 @@ module _ (f : Fin) (b d : ℕ) (g : Sizes f true b d) where
   abbrev pub tensorNear : ℕ → ℕ → Type 0
   tensorNear k i = Near (numberAt (alone .«inertia_kg_m2») k) (W i) ((tensorError (f .tab) * 2 ^ 30) roundoffs unitBy B tensorUnit [])
 
-  by-tensor : (k i : ℕ) (s : Shared) → numberAt (tensorBy turned μ) k ≡ termOf s → IsNear (test s (tensorE i) (tensorError (f .tab)) tensorUnit)
+  by-tensor : (k i : ℕ) (s : Shared) → numberAt (tensorBy turned μ) k ≡ termOf s
+      → IsNear (test s (tensorE i) (tensorError (f .tab)) tensorUnit)
       → tensorNear k i
   by-tensor k i s e h =
       subst (λ (x : Float). Near x (W i) ((tensorError (f .tab) * 2 ^ 30) roundoffs unitBy B tensorUnit []))
@@ -709,12 +713,12 @@ tensor-unit r s c t b q = rw (first-power r, first-power s, pow-zero c, first-po
 module _ (section : Section) (p : Plate) (m : Mount) (points : List Float) (L : ℕ) (start : List Float) (r : Figures)
     (exit : List Float) (b d : ℕ)
     (plain-section : NotRounded section) (g : SectionGiven section p m points L start r exit)
-    (q : Proportions 1 4 (p .root) (p .tip) (p .sweep)) (single : Alone p m b d) (beside : TabBeside (p .tab) p (m .radius)) where
+    (q : OneStrip 1 4 section p (r .intervals)) (single : Alone p m b d) (beside : TabBeside 1 (p .tab) p (m .radius)) where
   abbrev radius-f64 : T (fits binary64 (m .radius))
   radius-f64 = single .radius-f64
 
   abbrev fin′ : Fin
-  fin′ = Fins.finAt section p m points L start r exit plain-section g radius-f64 true q (m .radius)
+  fin′ = Fins.finAt section p m points L start r exit plain-section g radius-f64 far q (m .radius)
 
   reached : Fins.Reached p (m .radius) b d
   reached = record {
@@ -726,17 +730,17 @@ module _ (section : Section) (p : Plate) (m : Mount) (points : List Float) (L : 
     thickness-most = single .thickness-most;
   }
 
-  sizes : Sizes fin′ true b d
-  sizes = Fins.sizes section p m points L start r exit plain-section g radius-f64 true q (m .radius) b d reached beside
+  sizes : Sizes fin′ far b d
+  sizes = Fins.sizes section p m points L start r exit plain-section g radius-f64 far q (m .radius) b d reached beside
 
   abbrev S : Float
-  S = Fins.S section p m points L start r exit plain-section g radius-f64 true q
+  S = Fins.S section p m points L start r exit plain-section g radius-f64 far q
 
   -- ---- what the call works with
   integrals-are : Called.integrals section p m points L (length start) r (g .answers .call .0) (g .given) (g .no-fillet) ≡ listOf
       (integralAt fin′)
   integrals-are =
-      let total = Fins.total-is section p m points L start r exit plain-section g radius-f64 true q in
+      let total = Fins.total-is section p m points L start r exit plain-section g radius-f64 far q in
       rw (
         total 0 (lit≤ tt),
         total 1 (lit≤ tt),
@@ -762,7 +766,7 @@ module _ (section : Section) (p : Plate) (m : Mount) (points : List Float) (L : 
   exact = exactIntegrals section p m
 
   field-is : (i : ℕ) → i < 7 → IsFraction (exactly fin′ i) (Fins.fieldOf exact i)
-  field-is = Fins.field-is section p m points L start r exit plain-section g radius-f64 true q (m .radius) b d reached beside
+  field-is = Fins.field-is section p m points L start r exit plain-section g radius-f64 far q (m .radius) b d reached beside
 
   heavy : T (positive (p .density))
   heavy = sizes .density-positive
@@ -795,7 +799,20 @@ module _ (section : Section) (p : Plate) (m : Mount) (points : List Float) (L : 
             field-is 2 (lit≤ tt),
             (
               field-is 3 (lit≤ tt),
-              (field-is 4 (lit≤ tt), (field-is 5 (lit≤ tt), (field-is 6 (lit≤ tt), (Fins.density-fraction section p m points L start r exit plain-section g radius-f64 true q, tt)))),
+              (
+                field-is 4 (lit≤ tt),
+                (
+                  field-is 5 (lit≤ tt),
+                  (
+                    field-is 6 (lit≤ tt),
+                    (
+                      Fins.density-fraction section p m points L start r
+                          exit plain-section g radius-f64 far q,
+                      tt,
+                    ),
+                  ),
+                ),
+              ),
             ),
           ),
         ),
@@ -810,7 +827,7 @@ module _ (section : Section) (p : Plate) (m : Mount) (points : List Float) (L : 
   book-fraction (suc (suc (suc i))) = expression-fraction bookNumbers bookFractions book-are (bookE 3)
 
   abbrev B′ : List Size
-  B′ = bases fin′ true b d sizes
+  B′ = bases fin′ far b d sizes
 
   abbrev K : ℕ
   K = tensorError (p .tab)
@@ -868,7 +885,7 @@ module _ (section : Section) (p : Plate) (m : Mount) (points : List Float) (L : 
   number-near x i l z h e =
       to-fractions x (W fin′ b d sizes i) (exactly fin′ 0) (book fin′ b d sizes i) ((K * 2 ^ 30) roundoffs unitBy B′ tensorUnit [])
       tops bottoms error
-      (exact .volume) h (W-is fin′ b d sizes i) (n-is fin′ b d sizes 0) (book-is fin′ b d sizes i) (volume-from-zero fin′ true b d sizes)
+      (exact .volume) h (W-is fin′ b d sizes i) (n-is fin′ b d sizes 0) (book-is fin′ b d sizes i) (volume-from-zero fin′ far b d sizes)
       (Counts.roundoffs-is (K * 2 ^ 30) (unitBy B′ tensorUnit []) (unit-real B′ (sizes .ranges) tensorUnit [])) bottoms-some error-fraction
       (field-is 0 (lit≤ tt)) e z unit-small (times-book fin′ b d sizes i l)
 
@@ -904,7 +921,7 @@ module _ (section : Section) (p : Plate) (m : Mount) (points : List Float) (L : 
             to-fractions (alone fin′ b d sizes .«centre_m» .x) (exactly fin′ 1 times ι′) (exactly fin′ 0) (exactly fin′ 1)
             ((O * 2 ^ 30) roundoffs unitBy B′ (place 4) []) (O * b) (d * 2 ^ 53) (pos (O * b) over (d * 2 ^ 53)) (exact .volume) (exact .r1)
             (times-is (exactly fin′ 1) ι′ (n-is fin′ b d sizes 1) (ι-is fin′ b d sizes)) (n-is fin′ b d sizes 0) (n-is fin′ b d sizes 1)
-            (volume-from-zero fin′ true b d sizes)
+            (volume-from-zero fin′ far b d sizes)
             (Counts.roundoffs-is (O * 2 ^ 30) (unitBy B′ (place 4) []) (unit-real B′ (sizes .ranges) (place 4) []))
             (mul-pos (single .is-size) (pow-pos 53)) (whole-fraction (O * b) (d * 2 ^ 53)) (field-is 0 (lit≤ tt)) (field-is 1 (lit≤ tt))
             (x-near fin′ b d sizes) length-small (times-out fin′ b d sizes);

@@ -29,7 +29,8 @@ use Rattle.fins.specs.declared.Tab.the-variants.{None, Slab}
 use Rattle.plates.specs.Integrals.{tabIntegralsOf}
 use Rattle.error_terms.proofs.Laws.{inverseOf}
 use Rattle.error_terms.proofs.Monomials.{place, added, mono, top, bottom, AllRanges}
-use Rattle.error_terms.proofs.Terms.{Shape, shape, sumShape, productShape, fine, ok, sumTest, sound, Given, entry, larger, Term, var, const, nought, value}
+use Rattle.error_terms.proofs.Terms.{Shape, shape, sumShape, productShape, fine, ok, sumTest, sound, Given, entry, larger, Term, var}
+use Rattle.error_terms.proofs.Terms.{const, nought, value}
 use Rattle.error_terms.proofs.Terms.{Known, Lowest, AllKnown, numbersOf, unitBy, unit-real}
 use Rattle.error_terms.proofs.Terms.{_add_ as _addT_, _take_ as _takeT_, _mul_ as _mulT_, _over_ as _overT_, raised as raisedT}
 use Rattle.error_terms.proofs.Terms.{tight as tightT}
@@ -131,29 +132,49 @@ pub record Fin : Type 0 where
   pub tab : Tab
   pub density : Float
 
--- its sweep is at most 1 root chord, or 4 where it is far
-abbrev pub sweepsOf : Bool → ℕ
-sweepsOf false = 1
-sweepsOf true = 4
+-- how many root chords its tip and its sweep have at most, and how many spans the height of its tab
+pub data Class : Type 0 where
+  near far wide : Class
 
--- what holds by class: whether the sweep is far, whether the section is an airfoil, and the tab
-pub each-class : (P : Bool → Bool → Tab → Type 0) → P false false None → P false true None → P true false None → P true true None
-    → ((x y z : Float) → P false false (Slab x y z)) → ((x y z : Float) → P false true (Slab x y z))
-    → ((x y z : Float) → P true false (Slab x y z)) → ((x y z : Float) → P true true (Slab x y z))
-    → (far foil : Bool) (tab : Tab) → P far foil tab
-each-class P a b c d e f g h false false None = a
-each-class P a b c d e f g h false true None = b
-each-class P a b c d e f g h true false None = c
-each-class P a b c d e f g h true true None = d
-each-class P a b c d e f g h false false (Slab x y z) = e x y z
-each-class P a b c d e f g h false true (Slab x y z) = f x y z
-each-class P a b c d e f g h true false (Slab x y z) = g x y z
-each-class P a b c d e f g h true true (Slab x y z) = h x y z
+abbrev pub tipsIn : Class → ℕ
+tipsIn near = 1
+tipsIn far = 1
+tipsIn wide = 2
+
+abbrev pub sweepsIn : Class → ℕ
+sweepsIn near = 1
+sweepsIn far = 4
+sweepsIn wide = 8
+
+abbrev pub spansIn : Class → ℕ
+spansIn near = 1
+spansIn far = 1
+spansIn wide = 4
+
+-- what holds by class, by whether the section is an airfoil, and by the tab
+pub each-class : (P : Class → Bool → Tab → Type 0)
+    → P near false None → P near true None → P far false None → P far true None → P wide false None → P wide true None
+    → ((x y z : Float) → P near false (Slab x y z)) → ((x y z : Float) → P near true (Slab x y z))
+    → ((x y z : Float) → P far false (Slab x y z)) → ((x y z : Float) → P far true (Slab x y z))
+    → ((x y z : Float) → P wide false (Slab x y z)) → ((x y z : Float) → P wide true (Slab x y z))
+    → (c : Class) (foil : Bool) (tab : Tab) → P c foil tab
+each-class P a b c d e f g h i j k l near false None = a
+each-class P a b c d e f g h i j k l near true None = b
+each-class P a b c d e f g h i j k l far false None = c
+each-class P a b c d e f g h i j k l far true None = d
+each-class P a b c d e f g h i j k l wide false None = e
+each-class P a b c d e f g h i j k l wide true None = f
+each-class P a b c d e f g h i j k l near false (Slab x y z) = g x y z
+each-class P a b c d e f g h i j k l near true (Slab x y z) = h x y z
+each-class P a b c d e f g h i j k l far false (Slab x y z) = i x y z
+each-class P a b c d e f g h i j k l far true (Slab x y z) = j x y z
+each-class P a b c d e f g h i j k l wide false (Slab x y z) = k x y z
+each-class P a b c d e f g h i j k l wide true (Slab x y z) = l x y z
 
 -- ---- the fin as terms: the variables of one_piece/proofs/PlatePiece, and a size that radius and span do not pass
-abbrev finList : Bool → Fin → List Given
-finList far f =
-    entriesOf (f .root) (f .tip) (f .span) (f .sweep) (f .scale) (f .thickness) (f .radius) 1 (sweepsOf far) 0
+abbrev finList : Class → Fin → List Given
+finList c f =
+    entriesOf (f .root) (f .tip) (f .span) (f .sweep) (f .scale) (f .thickness) (f .radius) (tipsIn c) (sweepsIn c) 0
     (shape 0 full (place 4) []) 0 (larger 1 4 ∷ [])
 
 abbrev placed : Section → ℕ → Expression
@@ -205,17 +226,19 @@ finS i =
     (whole (nought (unitOf i) (added (bottomOf i) (place 2)))
     ⊞ totalS (topOf (place 4) i) (bottomOf i) (unitOf i) (added (bottomOf i) (place 2))) ⊠ whole (powerT i)
 
--- errors in roundoffs, and sizes in 1024ths of the unit; where the sweep is not far, only volume and x1 are asked for
-abbrev finError : Bool → ℕ → ℕ
-finError false zero = 53
-finError false (suc i) = 74
-finError true zero = 90
-finError true (suc zero) = 165
-finError true (suc (suc zero)) = 370
-finError true (suc (suc (suc zero))) = 250
-finError true (suc (suc (suc (suc zero)))) = 900
-finError true (suc (suc (suc (suc (suc zero))))) = 550
-finError true (suc (suc (suc (suc (suc (suc i)))))) = 16
+-- errors in roundoffs, and sizes in 1024ths of the unit; but for the far ones only volume and x1 are asked for
+abbrev finError : Class → ℕ → ℕ
+finError near zero = 53
+finError near (suc i) = 74
+finError wide zero = 160
+finError wide (suc i) = 900
+finError far zero = 90
+finError far (suc zero) = 165
+finError far (suc (suc zero)) = 370
+finError far (suc (suc (suc zero))) = 250
+finError far (suc (suc (suc (suc zero)))) = 900
+finError far (suc (suc (suc (suc (suc zero))))) = 550
+finError far (suc (suc (suc (suc (suc (suc i)))))) = 16
 
 abbrev pub isFoil : Section → Bool
 isFoil Square = false
@@ -224,143 +247,171 @@ isFoil Airfoil = true
 isFoil AirfoilOpen = true
 
 -- of a square section, and of an airfoil
-abbrev finSize : Bool → Bool → ℕ → ℕ
-finSize false false i = 1025
-finSize true false zero = 1025
-finSize true false (suc zero) = 1740
-finSize true false (suc (suc zero)) = 3100
-finSize true false (suc (suc (suc zero))) = 2561
-finSize true false (suc (suc (suc (suc zero)))) = 7900
-finSize true false (suc (suc (suc (suc (suc zero))))) = 5300
-finSize true false (suc (suc (suc (suc (suc (suc i)))))) = 90
-finSize false true i = 703
-finSize true true zero = 703
-finSize true true (suc zero) = 1195
-finSize true true (suc (suc zero)) = 2140
-finSize true true (suc (suc (suc zero))) = 1720
-finSize true true (suc (suc (suc (suc zero)))) = 5120
-finSize true true (suc (suc (suc (suc (suc zero))))) = 3050
-finSize true true (suc (suc (suc (suc (suc (suc i)))))) = 48
+abbrev finSize : Class → Bool → ℕ → ℕ
+finSize near false i = 1025
+finSize near true i = 703
+finSize wide false zero = 1537
+finSize wide false (suc i) = 8024
+finSize wide true zero = 1060
+finSize wide true (suc i) = 5400
+finSize far false zero = 1025
+finSize far false (suc zero) = 1740
+finSize far false (suc (suc zero)) = 3100
+finSize far false (suc (suc (suc zero))) = 2561
+finSize far false (suc (suc (suc (suc zero)))) = 7900
+finSize far false (suc (suc (suc (suc (suc zero))))) = 5300
+finSize far false (suc (suc (suc (suc (suc (suc i)))))) = 90
+finSize far true zero = 703
+finSize far true (suc zero) = 1195
+finSize far true (suc (suc zero)) = 2140
+finSize far true (suc (suc (suc zero))) = 1720
+finSize far true (suc (suc (suc (suc zero)))) = 5120
+finSize far true (suc (suc (suc (suc (suc zero))))) = 3050
+finSize far true (suc (suc (suc (suc (suc (suc i)))))) = 48
 
 module _ (f : Fin) where
-  abbrev FinPasses : Bool → Section → ℕ → Type 0
-  FinPasses far s i =
-      T (nearer (finList far f) (finTarget s i) (finError far i * 2 ^ 30) (unitOf i) []
-      (judgeIn (finList far f) (judgeAll (finList far f) [] (partsOf s i)) (finS i))
-      && sizeTest (finList far f) (finTarget s i) (finSize far (isFoil s) i * 2 ^ 20) (unitOf i) [])
+  abbrev FinPasses : Class → Section → ℕ → Type 0
+  FinPasses c s i =
+      T (nearer (finList c f) (finTarget s i) (finError c i * 2 ^ 30) (unitOf i) []
+      (judgeIn (finList c f) (judgeAll (finList c f) [] (partsOf s i)) (finS i))
+      && sizeTest (finList c f) (finTarget s i) (finSize c (isFoil s) i * 2 ^ 20) (unitOf i) [])
 
-  square0 : FinPasses true Square 0
+  square0 : FinPasses far Square 0
   unfolding round ofBits nodes kronrodWeights airfoilConstants
   square0 = tt
 
-  square1 : FinPasses true Square 1
+  square1 : FinPasses far Square 1
   unfolding round ofBits nodes kronrodWeights airfoilConstants
   square1 = tt
 
-  square2 : FinPasses true Square 2
+  square2 : FinPasses far Square 2
   unfolding round ofBits nodes kronrodWeights airfoilConstants
   square2 = tt
 
-  square3 : FinPasses true Square 3
+  square3 : FinPasses far Square 3
   unfolding round ofBits nodes kronrodWeights airfoilConstants
   square3 = tt
 
-  square4 : FinPasses true Square 4
+  square4 : FinPasses far Square 4
   unfolding round ofBits nodes kronrodWeights airfoilConstants
   square4 = tt
 
-  square5 : FinPasses true Square 5
+  square5 : FinPasses far Square 5
   unfolding round ofBits nodes kronrodWeights airfoilConstants
   square5 = tt
 
-  square6 : FinPasses true Square 6
+  square6 : FinPasses far Square 6
   unfolding round ofBits nodes kronrodWeights airfoilConstants
   square6 = tt
 
-  foil0 : FinPasses true Airfoil 0
+  foil0 : FinPasses far Airfoil 0
   unfolding round ofBits nodes kronrodWeights airfoilConstants
   foil0 = tt
 
-  foil1 : FinPasses true Airfoil 1
+  foil1 : FinPasses far Airfoil 1
   unfolding round ofBits nodes kronrodWeights airfoilConstants
   foil1 = tt
 
-  foil2 : FinPasses true Airfoil 2
+  foil2 : FinPasses far Airfoil 2
   unfolding round ofBits nodes kronrodWeights airfoilConstants
   foil2 = tt
 
-  foil3 : FinPasses true Airfoil 3
+  foil3 : FinPasses far Airfoil 3
   unfolding round ofBits nodes kronrodWeights airfoilConstants
   foil3 = tt
 
-  foil4 : FinPasses true Airfoil 4
+  foil4 : FinPasses far Airfoil 4
   unfolding round ofBits nodes kronrodWeights airfoilConstants
   foil4 = tt
 
-  foil5 : FinPasses true Airfoil 5
+  foil5 : FinPasses far Airfoil 5
   unfolding round ofBits nodes kronrodWeights airfoilConstants
   foil5 = tt
 
-  foil6 : FinPasses true Airfoil 6
+  foil6 : FinPasses far Airfoil 6
   unfolding round ofBits nodes kronrodWeights airfoilConstants
   foil6 = tt
 
-  open0 : FinPasses true AirfoilOpen 0
+  open0 : FinPasses far AirfoilOpen 0
   unfolding round ofBits nodes kronrodWeights airfoilConstants
   open0 = tt
 
-  open1 : FinPasses true AirfoilOpen 1
+  open1 : FinPasses far AirfoilOpen 1
   unfolding round ofBits nodes kronrodWeights airfoilConstants
   open1 = tt
 
-  open2 : FinPasses true AirfoilOpen 2
+  open2 : FinPasses far AirfoilOpen 2
   unfolding round ofBits nodes kronrodWeights airfoilConstants
   open2 = tt
 
-  open3 : FinPasses true AirfoilOpen 3
+  open3 : FinPasses far AirfoilOpen 3
   unfolding round ofBits nodes kronrodWeights airfoilConstants
   open3 = tt
 
-  open4 : FinPasses true AirfoilOpen 4
+  open4 : FinPasses far AirfoilOpen 4
   unfolding round ofBits nodes kronrodWeights airfoilConstants
   open4 = tt
 
-  open5 : FinPasses true AirfoilOpen 5
+  open5 : FinPasses far AirfoilOpen 5
   unfolding round ofBits nodes kronrodWeights airfoilConstants
   open5 = tt
 
-  open6 : FinPasses true AirfoilOpen 6
+  open6 : FinPasses far AirfoilOpen 6
   unfolding round ofBits nodes kronrodWeights airfoilConstants
   open6 = tt
 
-  near-square0 : FinPasses false Square 0
+  near-square0 : FinPasses near Square 0
   unfolding round ofBits nodes kronrodWeights airfoilConstants
   near-square0 = tt
 
-  near-square3 : FinPasses false Square 3
+  near-square3 : FinPasses near Square 3
   unfolding round ofBits nodes kronrodWeights airfoilConstants
   near-square3 = tt
 
-  near-foil0 : FinPasses false Airfoil 0
+  near-foil0 : FinPasses near Airfoil 0
   unfolding round ofBits nodes kronrodWeights airfoilConstants
   near-foil0 = tt
 
-  near-foil3 : FinPasses false Airfoil 3
+  near-foil3 : FinPasses near Airfoil 3
   unfolding round ofBits nodes kronrodWeights airfoilConstants
   near-foil3 = tt
 
-  near-open0 : FinPasses false AirfoilOpen 0
+  near-open0 : FinPasses near AirfoilOpen 0
   unfolding round ofBits nodes kronrodWeights airfoilConstants
   near-open0 = tt
 
-  near-open3 : FinPasses false AirfoilOpen 3
+  near-open3 : FinPasses near AirfoilOpen 3
   unfolding round ofBits nodes kronrodWeights airfoilConstants
   near-open3 = tt
 
+  wide-square0 : FinPasses wide Square 0
+  unfolding round ofBits nodes kronrodWeights airfoilConstants
+  wide-square0 = tt
+
+  wide-square3 : FinPasses wide Square 3
+  unfolding round ofBits nodes kronrodWeights airfoilConstants
+  wide-square3 = tt
+
+  wide-foil0 : FinPasses wide Airfoil 0
+  unfolding round ofBits nodes kronrodWeights airfoilConstants
+  wide-foil0 = tt
+
+  wide-foil3 : FinPasses wide Airfoil 3
+  unfolding round ofBits nodes kronrodWeights airfoilConstants
+  wide-foil3 = tt
+
+  wide-open0 : FinPasses wide AirfoilOpen 0
+  unfolding round ofBits nodes kronrodWeights airfoilConstants
+  wide-open0 = tt
+
+  wide-open3 : FinPasses wide AirfoilOpen 3
+  unfolding round ofBits nodes kronrodWeights airfoilConstants
+  wide-open3 = tt
+
 -- ---- the tab as terms: the variables height, length, offset, thickness, radius, 3 and 12
-abbrev tabList : (height length offset thickness radius : Float) → List Given
-tabList height length offset thickness radius =
-    entry height (valueOf height) (shape 0 full (place 1) []) 0 ∷
+abbrev tabList : Class → (height length offset thickness radius : Float) → List Given
+tabList c height length offset thickness radius =
+    entry height (valueOf height) (shape 0 (spansIn c * 2 ^ 30) (place 1) []) 0 ∷
     entry length (valueOf length) (shape 0 full (place 0) []) 0 ∷
     entry offset (valueOf offset) (shape 0 full (place 0) []) 0 ∷
     entry thickness (valueOf thickness) (shape 0 full (place 3) []) full ∷
@@ -423,60 +474,68 @@ slabSize (suc (suc (suc (suc (suc zero))))) = 2310
 slabSize (suc (suc (suc (suc (suc (suc i)))))) = 90
 
 module _ (f : Fin) (height length offset : Float) where
-  abbrev S : List Given
-  S = tabList height length offset (f .thickness) (f .radius)
+  abbrev S : Class → List Given
+  S c = tabList c height length offset (f .thickness) (f .radius)
 
-  abbrev SlabPasses : ℕ → Type 0
-  SlabPasses i =
-      T (nearer S (slabTarget i) (slabError i * 2 ^ 30) (unitOf i) [] (judge S (slabT i))
-      && sizeTest S (slabTarget i) (slabSize i * 2 ^ 20) (unitOf i) [])
+  abbrev SlabPasses : Class → ℕ → Type 0
+  SlabPasses c i =
+      T (nearer (S c) (slabTarget i) (spansIn c * slabError i * 2 ^ 30) (unitOf i) [] (judge (S c) (slabT i))
+      && sizeTest (S c) (slabTarget i) (spansIn c * slabSize i * 2 ^ 20) (unitOf i) [])
 
-  slab0 : SlabPasses 0
+  slab0 : SlabPasses far 0
   unfolding round ofBits
   slab0 = tt
 
-  slab1 : SlabPasses 1
+  slab1 : SlabPasses far 1
   unfolding round ofBits
   slab1 = tt
 
-  slab2 : SlabPasses 2
+  slab2 : SlabPasses far 2
   unfolding round ofBits
   slab2 = tt
 
-  slab3 : SlabPasses 3
+  slab3 : SlabPasses far 3
   unfolding round ofBits
   slab3 = tt
 
-  slab4 : SlabPasses 4
+  slab4 : SlabPasses far 4
   unfolding round ofBits
   slab4 = tt
 
-  slab5 : SlabPasses 5
+  slab5 : SlabPasses far 5
   unfolding round ofBits
   slab5 = tt
 
-  slab6 : SlabPasses 6
+  slab6 : SlabPasses far 6
   unfolding round ofBits
   slab6 = tt
 
+  wide-slab0 : SlabPasses wide 0
+  unfolding round ofBits
+  wide-slab0 = tt
+
+  wide-slab3 : SlabPasses wide 3
+  unfolding round ofBits
+  wide-slab3 = tt
+
 -- ---- what is known of their lengths
--- length and offset of a tab do not pass the root chord, height and radius not the span
-pub record TabSizes (f : Fin) (height length offset : Float) : Type 0 where
+-- length and offset of a tab do not pass the root chord, the radius not the span
+pub record TabSizes (f : Fin) (c : Class) (height length offset : Float) : Type 0 where
   pub height-finite : T (finite height)
   pub length-finite : T (finite length)
   pub offset-finite : T (finite offset)
   pub height-from-zero : NotBelow (valueOf height)
   pub length-from-zero : NotBelow (valueOf length)
-  pub height-under : Under (1 of sizeOf (f .span)) (valueOf height)
+  pub height-under : Under (spansIn c of sizeOf (f .span)) (valueOf height)
   pub length-under : Under (1 of sizeOf (f .root)) (valueOf length)
   pub offset-under : Under (1 of sizeOf (f .root)) (valueOf offset)
   pub radius-under : Under (1 of sizeOf (f .span)) (valueOf (f .radius))
 
-abbrev pub TabKnown : Fin → Tab → Type 0
-TabKnown f None = Unit {0}
-TabKnown f (Slab height length offset) = TabSizes f height length offset
+abbrev pub TabKnown : Fin → Class → Tab → Type 0
+TabKnown f c None = Unit {0}
+TabKnown f c (Slab height length offset) = TabSizes f c height length offset
 
-pub record Sizes (f : Fin) (far : Bool) (b d : ℕ) : Type 0 where
+pub record Sizes (f : Fin) (c : Class) (b d : ℕ) : Type 0 where
   pub plain-section : NotRounded (f .section)
   pub root-positive : T (positive (f .root))
   pub span-positive : T (positive (f .span))
@@ -487,14 +546,14 @@ pub record Sizes (f : Fin) (far : Bool) (b d : ℕ) : Type 0 where
   pub sweep-finite : T (finite (f .sweep))
   pub radius-finite : T (finite (f .radius))
   pub tip-from-zero : NotBelow (valueOf (f .tip))
-  pub tip-under : Under (1 of sizeOf (f .root)) (valueOf (f .tip))
-  pub sweep-under : Under (sweepsOf far of sizeOf (f .root)) (valueOf (f .sweep))
+  pub tip-under : Under (tipsIn c of sizeOf (f .root)) (valueOf (f .tip))
+  pub sweep-under : Under (sweepsIn c of sizeOf (f .root)) (valueOf (f .sweep))
   pub is-size : 0 < d
   pub root-most : num (f .root) * d ≤ b * den (f .root)
   pub span-most : num (f .span) * d ≤ b * den (f .span)
   pub thickness-most : num (f .thickness) * d ≤ b * den (f .thickness)
   pub radius-under : Under (1 of (b per d)) (valueOf (f .radius))
-  pub tab : TabKnown f (f .tab)
+  pub tab : TabKnown f c (f .tab)
   pub ranges : AllRanges 32 (sizeOf (f .root) ∷ sizeOf (f .span) ∷ sizeOf (f .scale) ∷ sizeOf (f .thickness) ∷ (b per d) ∷ sizeOf
       (f .density) ∷ [])
 
@@ -568,22 +627,22 @@ abbrev pub integralAt : Fin → ℕ → Float
 integralAt f i = finAt f (f .section) i ⊕ tabAt f i
 
 -- errors and sizes, in the units of `unitOf`
-abbrev finShape : Bool → Bool → ℕ → Shape
-finShape far foil i = shape (finError far i * 2 ^ 30) (finSize far foil i * 2 ^ 20) (unitOf i) []
+abbrev finShape : Class → Bool → ℕ → Shape
+finShape c foil i = shape (finError c i * 2 ^ 30) (finSize c foil i * 2 ^ 20) (unitOf i) []
 
-abbrev tabError : Tab → ℕ → ℕ
-tabError None i = 0
-tabError (Slab height length offset) i = slabError i
+abbrev tabError : Class → Tab → ℕ → ℕ
+tabError c None i = 0
+tabError c (Slab height length offset) i = spansIn c * slabError i
 
-abbrev tabSize : Tab → ℕ → ℕ
-tabSize None i = 0
-tabSize (Slab height length offset) i = slabSize i
+abbrev tabSize : Class → Tab → ℕ → ℕ
+tabSize c None i = 0
+tabSize c (Slab height length offset) i = spansIn c * slabSize i
 
-abbrev tabShape : Tab → ℕ → Shape
-tabShape tab i = shape (tabError tab i * 2 ^ 30) (tabSize tab i * 2 ^ 20) (unitOf i) []
+abbrev tabShape : Class → Tab → ℕ → Shape
+tabShape c tab i = shape (tabError c tab i * 2 ^ 30) (tabSize c tab i * 2 ^ 20) (unitOf i) []
 
-abbrev pub shapeAt : Bool → Bool → Tab → ℕ → Shape
-shapeAt far foil tab i = sumShape (finShape far foil i) (tabShape tab i)
+abbrev pub shapeAt : Class → Bool → Tab → ℕ → Shape
+shapeAt c foil tab i = sumShape (finShape c foil i) (tabShape c tab i)
 
 -- the volume is at least so many parts of its unit
 abbrev pub lessParts : Bool → ℕ
@@ -593,28 +652,32 @@ lessParts true = 365000000
 abbrev pub leastParts : Bool → ℕ
 leastParts foil = suc (lessParts foil)
 
-abbrev sumFine : Bool → Bool → Tab → ℕ → Bool
-sumFine far foil tab i = (fine (finShape far foil i) && fine (tabShape tab i)) && sumTest (finShape far foil i) (tabShape tab i)
+abbrev sumFine : Class → Bool → Tab → ℕ → Bool
+sumFine c foil tab i = (fine (finShape c foil i) && fine (tabShape c tab i)) && sumTest (finShape c foil i) (tabShape c tab i)
 
-sums-fine : (far foil : Bool) (tab : Tab) (i : ℕ) → i < 7 → T (sumFine far foil tab i)
-sums-fine = each-class (λ far foil tab. (i : ℕ) → i < 7 → T (sumFine far foil tab i))
-    (each-of-seven (λ i. T (sumFine false false None i)) tt tt tt tt tt tt tt)
-    (each-of-seven (λ i. T (sumFine false true None i)) tt tt tt tt tt tt tt)
-    (each-of-seven (λ i. T (sumFine true false None i)) tt tt tt tt tt tt tt)
-    (each-of-seven (λ i. T (sumFine true true None i)) tt tt tt tt tt tt tt)
-    (λ x y z. each-of-seven (λ i. T (sumFine false false (Slab x y z) i)) tt tt tt tt tt tt tt)
-    (λ x y z. each-of-seven (λ i. T (sumFine false true (Slab x y z) i)) tt tt tt tt tt tt tt)
-    (λ x y z. each-of-seven (λ i. T (sumFine true false (Slab x y z) i)) tt tt tt tt tt tt tt)
-    (λ x y z. each-of-seven (λ i. T (sumFine true true (Slab x y z) i)) tt tt tt tt tt tt tt)
+sums-fine : (c : Class) (foil : Bool) (tab : Tab) (i : ℕ) → i < 7 → T (sumFine c foil tab i)
+sums-fine = each-class (λ c foil tab. (i : ℕ) → i < 7 → T (sumFine c foil tab i))
+    (each-of-seven (λ i. T (sumFine near false None i)) tt tt tt tt tt tt tt)
+    (each-of-seven (λ i. T (sumFine near true None i)) tt tt tt tt tt tt tt)
+    (each-of-seven (λ i. T (sumFine far false None i)) tt tt tt tt tt tt tt)
+    (each-of-seven (λ i. T (sumFine far true None i)) tt tt tt tt tt tt tt)
+    (each-of-seven (λ i. T (sumFine wide false None i)) tt tt tt tt tt tt tt)
+    (each-of-seven (λ i. T (sumFine wide true None i)) tt tt tt tt tt tt tt)
+    (λ x y z. each-of-seven (λ i. T (sumFine near false (Slab x y z) i)) tt tt tt tt tt tt tt)
+    (λ x y z. each-of-seven (λ i. T (sumFine near true (Slab x y z) i)) tt tt tt tt tt tt tt)
+    (λ x y z. each-of-seven (λ i. T (sumFine far false (Slab x y z) i)) tt tt tt tt tt tt tt)
+    (λ x y z. each-of-seven (λ i. T (sumFine far true (Slab x y z) i)) tt tt tt tt tt tt tt)
+    (λ x y z. each-of-seven (λ i. T (sumFine wide false (Slab x y z) i)) tt tt tt tt tt tt tt)
+    (λ x y z. each-of-seven (λ i. T (sumFine wide true (Slab x y z) i)) tt tt tt tt tt tt tt)
 
 -- root, tip, span, thickness and what a tab adds
-abbrev volumeList : Fin → Float → Number → Tab → List Given
-volumeList f slab v tab =
+abbrev volumeList : Class → Fin → Float → Number → Tab → List Given
+volumeList c f slab v tab =
     entry (f .root) (valueOf (f .root)) (shape 0 full (place 0) []) full ∷
-    entry (f .tip) (valueOf (f .tip)) (shape 0 (1 * 2 ^ 30) (place 0) []) 0 ∷
+    entry (f .tip) (valueOf (f .tip)) (shape 0 (tipsIn c * 2 ^ 30) (place 0) []) 0 ∷
     entry (f .span) (valueOf (f .span)) (shape 0 full (place 1) []) full ∷
     entry (f .thickness) (valueOf (f .thickness)) (shape 0 full (place 3) []) full ∷
-    entry slab v (tabShape tab 0) 0 ∷
+    entry slab v (tabShape c tab 0) 0 ∷
     []
 
 abbrev volumeTarget : Section → Expression
@@ -627,58 +690,102 @@ errorIn (shape k i p q) = k
 abbrev pub massUnit : List ℕ
 massUnit = 1 ∷ 1 ∷ 0 ∷ 1 ∷ 0 ∷ 1 ∷ []
 
-abbrev pub massShape : Bool → Bool → Tab → Shape
-massShape far foil tab = productShape (shape 0 full (place 5) []) (shapeAt far foil tab 0)
+abbrev pub massShape : Class → Bool → Tab → Shape
+massShape c foil tab = productShape (shape 0 full (place 5) []) (shapeAt c foil tab 0)
 
-abbrev pub massList : Bool → Bool → Tab → Float → Number → (density : Float) → List Given
-massList far foil tab v n density =
-    entry v n (shapeAt far foil tab 0) (leastParts foil) ∷ entry density (valueOf density) (shape 0 full (place 5) []) full ∷ []
+abbrev pub massList : Class → Bool → Tab → Float → Number → (density : Float) → List Given
+massList c foil tab v n density =
+    entry v n (shapeAt c foil tab 0) (leastParts foil) ∷ entry density (valueOf density) (shape 0 full (place 5) []) full ∷ []
 
 abbrev massTerm : Term
 massTerm = var 1 mulT var 0
 
 module _ (x : Float) (v : Number) (f : Fin) where
-  abbrev LeastVolume : Section → Bool → Tab → Type 0
-  LeastVolume s far tab =
-      T (lowTest (volumeList f x v tab) (volumeTarget s) (errorIn (shapeAt far (isFoil s) tab 0)) (lessParts (isFoil s)) (unitOf 0) [])
+  abbrev LeastVolume : Section → Class → Tab → Type 0
+  LeastVolume s c tab =
+      T (lowTest (volumeList c f x v tab) (volumeTarget s) (errorIn (shapeAt c (isFoil s) tab 0)) (lessParts (isFoil s)) (unitOf 0) [])
 
-  volumes-least : (s : Section) → NotRounded s → (far : Bool) (tab : Tab) → LeastVolume s far tab
-  volumes-least = plain-sections (λ s. (far : Bool) (tab : Tab) → LeastVolume s far tab)
-      (λ far tab. each-class (λ a b c. LeastVolume Square a c) tt tt tt tt (λ x y z. tt) (λ x y z. tt) (λ x y z. tt) (λ x y z. tt)
-      far false tab)
-      (λ far tab. each-class (λ a b c. LeastVolume Airfoil a c) tt tt tt tt (λ x y z. tt) (λ x y z. tt) (λ x y z. tt) (λ x y z. tt)
-      far true tab)
-      (λ far tab. each-class (λ a b c. LeastVolume AirfoilOpen a c) tt tt tt tt (λ x y z. tt) (λ x y z. tt) (λ x y z. tt)
-      (λ x y z. tt) far true tab)
+  volumes-least : (s : Section) → NotRounded s → (c : Class) (tab : Tab) → LeastVolume s c tab
+  volumes-least = plain-sections (λ s. (c : Class) (tab : Tab) → LeastVolume s c tab)
+      (λ c tab. each-class (λ a b d. LeastVolume Square a d) tt tt tt tt tt tt (λ x y z. tt) (λ x y z. tt) (λ x y z. tt) (λ x y z. tt) (λ
+      x y z. tt) (λ x y z. tt) c false tab)
+      (λ c tab. each-class (λ a b d. LeastVolume Airfoil a d) tt tt tt tt tt tt (λ x y z. tt) (λ x y z. tt) (λ x y z. tt) (λ x y z. tt) (λ
+      x y z. tt) (λ x y z. tt) c true tab)
+      (λ c tab. each-class (λ a b d. LeastVolume AirfoilOpen a d) tt tt tt tt tt tt (λ x y z. tt) (λ x y z. tt) (λ x y z. tt) (λ x y z.
+      tt) (λ x y z. tt) (λ x y z. tt) c true tab)
 
-  mass-okay : (far foil : Bool) (tab : Tab) → T (ok (massList far foil tab x v (f .density)) massTerm)
-  mass-okay = each-class (λ far foil tab. T (ok (massList far foil tab x v (f .density)) massTerm)) tt tt tt tt (λ x y z. tt)
-      (λ x y z. tt) (λ x y z. tt) (λ x y z. tt)
+  mass-okay : (c : Class) (foil : Bool) (tab : Tab) → T (ok (massList c foil tab x v (f .density)) massTerm)
+  mass-okay = each-class (λ c foil tab. T (ok (massList c foil tab x v (f .density)) massTerm)) tt tt tt tt tt tt (λ x y z. tt) (λ x y z.
+      tt) (λ x y z. tt) (λ x y z. tt) (λ x y z. tt) (λ x y z. tt)
 
-  abbrev LeastMass : Bool → Bool → Tab → Type 0
-  LeastMass far foil tab =
-      T (lowTest (massList far foil tab x v (f .density)) (given 2 mul given 0) (errorIn (massShape far foil tab)) (lessParts foil) massUnit [])
+  abbrev LeastMass : Class → Bool → Tab → Type 0
+  LeastMass c foil tab =
+      T (lowTest (massList c foil tab x v (f .density)) (given 2 mul given 0) (errorIn (massShape c foil tab)) (lessParts foil) massUnit [])
 
-  mass-least : (far foil : Bool) (tab : Tab) → LeastMass far foil tab
-  mass-least = each-class LeastMass tt tt tt tt (λ x y z. tt) (λ x y z. tt) (λ x y z. tt) (λ x y z. tt)
+  mass-least : (c : Class) (foil : Bool) (tab : Tab) → LeastMass c foil tab
+  mass-least = each-class LeastMass tt tt tt tt tt tt (λ x y z. tt) (λ x y z. tt) (λ x y z. tt) (λ x y z. tt) (λ x y z. tt) (λ x y z. tt)
 
--- what is tested: all seven where the sweep is far, else volume and x1
-abbrev pub Tested : Bool → ℕ → Type 0
-Tested far zero = Unit {0}
-Tested far (suc zero) = T far
-Tested far (suc (suc zero)) = T far
-Tested far (suc (suc (suc zero))) = Unit {0}
-Tested far (suc (suc (suc (suc i)))) = T far
+-- what is tested: of the far ones all seven, else volume and x1
+abbrev pub IsFar : Class → Type 0
+IsFar near = ⊥
+IsFar far = Unit {0}
+IsFar wide = ⊥
 
-module _ (f : Fin) (far : Bool) (b d : ℕ) (g : Sizes f far b d) where
+abbrev pub Tested : Class → ℕ → Type 0
+Tested c zero = Unit {0}
+Tested c (suc zero) = IsFar c
+Tested c (suc (suc zero)) = IsFar c
+Tested c (suc (suc (suc zero))) = Unit {0}
+Tested c (suc (suc (suc (suc i)))) = IsFar c
+
+-- the tests by class, section and component
+fin-passes : (f : Fin) (c : Class) (s : Section) → NotRounded s → (i : ℕ) → i < 7 → Tested c i → FinPasses f c s i
+fin-passes f near = plain-sections (λ s. (i : ℕ) → i < 7 → Tested near i → FinPasses f near s i)
+    (each-of-seven (λ i. Tested near i → FinPasses f near Square i) (λ t. near-square0 f) (λ t. absurd t) (λ t. absurd t) (λ t.
+    near-square3 f)
+    (λ t. absurd t) (λ t. absurd t) (λ t. absurd t))
+    (each-of-seven (λ i. Tested near i → FinPasses f near Airfoil i) (λ t. near-foil0 f) (λ t. absurd t) (λ t. absurd t) (λ t. near-foil3 f)
+    (λ t. absurd t) (λ t. absurd t) (λ t. absurd t))
+    (each-of-seven (λ i. Tested near i → FinPasses f near AirfoilOpen i) (λ t. near-open0 f) (λ t. absurd t) (λ t. absurd t) (λ t.
+    near-open3 f)
+    (λ t. absurd t) (λ t. absurd t) (λ t. absurd t))
+fin-passes f far = plain-sections (λ s. (i : ℕ) → i < 7 → Tested far i → FinPasses f far s i)
+    (each-of-seven (λ i. Tested far i → FinPasses f far Square i) (λ t. square0 f) (λ t. square1 f) (λ t. square2 f) (λ t. square3 f)
+    (λ t. square4 f) (λ t. square5 f) (λ t. square6 f))
+    (each-of-seven (λ i. Tested far i → FinPasses f far Airfoil i) (λ t. foil0 f) (λ t. foil1 f) (λ t. foil2 f) (λ t. foil3 f)
+    (λ t. foil4 f) (λ t. foil5 f) (λ t. foil6 f))
+    (each-of-seven (λ i. Tested far i → FinPasses f far AirfoilOpen i) (λ t. open0 f) (λ t. open1 f) (λ t. open2 f) (λ t. open3 f)
+    (λ t. open4 f) (λ t. open5 f) (λ t. open6 f))
+fin-passes f wide = plain-sections (λ s. (i : ℕ) → i < 7 → Tested wide i → FinPasses f wide s i)
+    (each-of-seven (λ i. Tested wide i → FinPasses f wide Square i) (λ t. wide-square0 f) (λ t. absurd t) (λ t. absurd t) (λ t.
+    wide-square3 f)
+    (λ t. absurd t) (λ t. absurd t) (λ t. absurd t))
+    (each-of-seven (λ i. Tested wide i → FinPasses f wide Airfoil i) (λ t. wide-foil0 f) (λ t. absurd t) (λ t. absurd t) (λ t. wide-foil3 f)
+    (λ t. absurd t) (λ t. absurd t) (λ t. absurd t))
+    (each-of-seven (λ i. Tested wide i → FinPasses f wide AirfoilOpen i) (λ t. wide-open0 f) (λ t. absurd t) (λ t. absurd t) (λ t.
+    wide-open3 f)
+    (λ t. absurd t) (λ t. absurd t) (λ t. absurd t))
+
+slab-passes : (f : Fin) (height length offset : Float) (c : Class) (i : ℕ) → i < 7 → Tested c i → SlabPasses f height length offset c i
+slab-passes f h l o near = each-of-seven (λ i. Tested near i → SlabPasses f h l o near i) (λ t. slab0 f h l o) (λ t. slab1 f h l o) (λ t.
+    slab2 f h l o)
+    (λ t. slab3 f h l o) (λ t. slab4 f h l o) (λ t. slab5 f h l o) (λ t. slab6 f h l o)
+slab-passes f h l o far = each-of-seven (λ i. Tested far i → SlabPasses f h l o far i) (λ t. slab0 f h l o) (λ t. slab1 f h l o) (λ t.
+    slab2 f h l o)
+    (λ t. slab3 f h l o) (λ t. slab4 f h l o) (λ t. slab5 f h l o) (λ t. slab6 f h l o)
+slab-passes f h l o wide = each-of-seven (λ i. Tested wide i → SlabPasses f h l o wide i) (λ t. wide-slab0 f h l o) (λ t. absurd t) (λ t.
+    absurd t)
+    (λ t. wide-slab3 f h l o) (λ t. absurd t) (λ t. absurd t) (λ t. absurd t)
+
+module _ (f : Fin) (c : Class) (b d : ℕ) (g : Sizes f c b d) where
   abbrev pub bases : List Size
   bases = sizeOf (f .root) ∷ sizeOf (f .span) ∷ sizeOf (f .scale) ∷ sizeOf (f .thickness) ∷ (b per d) ∷ sizeOf (f .density) ∷ []
 
   abbrev pub foil : Bool
   foil = isFoil (f .section)
 
-  abbrev FinKnown : Bool → Section → ℕ → Type 0
-  FinKnown far s i = Known bases (finAt f s i) (evaluate (among (numbersIn f)) (finIn s i)) (finShape far (isFoil s) i)
+  abbrev FinKnown : Section → ℕ → Type 0
+  FinKnown s i = Known bases (finAt f s i) (evaluate (among (numbersIn f)) (finIn s i)) (finShape c (isFoil s) i)
 
   is-numbers : (e : Expression) → IsNumber (evaluate (among (numbersIn f)) e)
   is-numbers e = evaluated-is (numbersIn f) (numbers-all f) e
@@ -693,70 +800,67 @@ module _ (f : Fin) (far : Bool) (b d : ℕ) (g : Sizes f far b d) where
   unfolding ofBits
   by-twelfths {v = v} i h = equalled h v i (ones-times _ v (lit≤ tt) i twelve-inverse)
 
-  module _ (wide : Bool) (u : Under (sweepsOf wide of sizeOf (f .root)) (valueOf (f .sweep))) where
-    abbrev fins : List Given
-    fins = finList wide f
+  abbrev fins : List Given
+  fins = finList c f
 
-    fins-known : AllKnown bases fins
-    unfolding ofBits
-    fins-known =
-        let root = own-entry bases 0 (f .root) refl (g .root-positive) in
-        let tip = many-entry bases 0 (num (f .root)) (den (f .root)) refl (f .tip) 1 (den-pos (f .root)) (g .tip-finite) (g .tip-under) in
-        let sweep = many-entry bases 0 (num (f .root)) (den (f .root)) refl (f .sweep) (sweepsOf wide) (den-pos (f .root)) (g .sweep-finite) u in
-        let span = own-entry bases 1 (f .span) refl (g .span-positive) in
-        let scale = own-entry bases 2 (f .scale) refl (g .scale-positive) in
-        let thickness = own-entry bases 3 (f .thickness) refl (g .thickness-positive) in
-        let radius = sized-entry bases 4 b d refl (f .radius) (g .is-size) (g .radius-finite) (g .radius-under) in
-        let third = const-entry bases (g .ranges) three (3 * 2 ^ 30 - 1) tt in
-        let twelfth = const-entry bases (g .ranges) twelve (12 * 2 ^ 30 - 1) tt in
-        (root, ((tip, tt), ((sweep, tt), (span, (scale, (thickness, ((radius, tt), (third, (twelfth, (g .span-most, tt))))))))))
+  fins-known : AllKnown bases fins
+  unfolding ofBits
+  fins-known =
+      let R = f .root in
+      let tip = many-entry bases 0 (num R) (den R) refl (f .tip) (tipsIn c) (den-pos R) (g .tip-finite) (g .tip-under) in
+      let sweep = many-entry bases 0 (num R) (den R) refl (f .sweep) (sweepsIn c) (den-pos R) (g .sweep-finite) (g .sweep-under) in
+      let span = own-entry bases 1 (f .span) refl (g .span-positive) in
+      let scale = own-entry bases 2 (f .scale) refl (g .scale-positive) in
+      let thickness = own-entry bases 3 (f .thickness) refl (g .thickness-positive) in
+      let radius = sized-entry bases 4 b d refl (f .radius) (g .is-size) (g .radius-finite) (g .radius-under) in
+      let third = const-entry bases (g .ranges) three (3 * 2 ^ 30 - 1) tt in
+      let twelfth = const-entry bases (g .ranges) twelve (12 * 2 ^ 30 - 1) tt in (
+        own-entry bases 0 R refl (g .root-positive),
+        ((tip, tt), ((sweep, tt), (span, (scale, (thickness, ((radius, tt), (third, (twelfth, (g .span-most, tt))))))))),
+      )
 
-    tested : (s : Section) (i : ℕ) → FinPasses f wide s i
-        → Known bases (value fins (expand [] (bindAll (partsOf s i) (finS i)))) (evaluate (numbersOf fins) (finTarget s i))
-        (finShape wide (isFoil s) i)
-    tested s i t =
-        let K = finError wide i * 2 ^ 30 in
-        let a = nearer fins (finTarget s i) K (unitOf i) [] (judgeIn fins (judgeAll fins [] (partsOf s i)) (finS i)) in
-        let c = sizeTest fins (finTarget s i) (finSize wide (isFoil s) i * 2 ^ 20) (unitOf i) [] in
-        target-known bases (g .ranges) fins fins-known _ (finTarget s i) K (finSize wide (isFoil s) i * 2 ^ 20) (unitOf i) []
-        (all-within bases (g .ranges) fins fins-known (partsOf s i) (finS i) (finTarget s i) K (unitOf i) [] (and-l a c t))
-        (and-r a c t)
+  tested : (s : Section) → NotRounded s → (i : ℕ) → i < 7 → Tested c i
+      → Known bases (value fins (expand [] (bindAll (partsOf s i) (finS i)))) (evaluate (numbersOf fins) (finTarget s i))
+      (finShape c (isFoil s) i)
+  tested s e i l t =
+      let K = finError c i * 2 ^ 30 in
+      let j = finSize c (isFoil s) i * 2 ^ 20 in
+      let x = nearer fins (finTarget s i) K (unitOf i) [] (judgeIn fins (judgeAll fins [] (partsOf s i)) (finS i)) in
+      let y = sizeTest fins (finTarget s i) j (unitOf i) [] in
+      let z = fin-passes f c s e i l t in
+      target-known bases (g .ranges) fins fins-known _ (finTarget s i) K j (unitOf i) []
+      (all-within bases (g .ranges) fins fins-known (partsOf s i) (finS i) (finTarget s i) K (unitOf i) [] (and-l x y z)) (and-r x y z)
 
-  fin-known : (wide : Bool) → Under (sweepsOf wide of sizeOf (f .root)) (valueOf (f .sweep)) → (s : Section) → NotRounded s
-      → (i : ℕ) → i < 7 → Tested wide i → FinKnown wide s i
+  fin-known : (s : Section) → NotRounded s → (i : ℕ) → i < 7 → Tested c i → FinKnown s i
   unfolding weightedTo
-  fin-known true u =
-      let by = tested true u in
-      plain-sections (λ s. (i : ℕ) → i < 7 → Tested true i → FinKnown true s i)
-      (λ i l t. each-of-seven (λ i. FinKnown true Square i) (by Square 0 (square0 f)) (by Square 1 (square1 f)) (by Square 2 (square2 f))
-      (by Square 3 (square3 f)) (by-thirds (is-numbers (finIn Square 4)) (by Square 4 (square4 f))) (by Square 5 (square5 f))
-      (by-twelfths (is-numbers (finIn Square 6)) (by Square 6 (square6 f))) i l)
-      (λ i l t. each-of-seven (λ i. FinKnown true Airfoil i) (by Airfoil 0 (foil0 f)) (by Airfoil 1 (foil1 f)) (by Airfoil 2 (foil2 f))
-      (by Airfoil 3 (foil3 f)) (by Airfoil 4 (foil4 f)) (by Airfoil 5 (foil5 f)) (by-twelfths (is-numbers (finIn Airfoil 6)) (by Airfoil 6 (foil6 f))) i l)
-      (λ i l t. each-of-seven (λ i. FinKnown true AirfoilOpen i) (by AirfoilOpen 0 (open0 f)) (by AirfoilOpen 1 (open1 f))
-      (by AirfoilOpen 2 (open2 f)) (by AirfoilOpen 3 (open3 f)) (by AirfoilOpen 4 (open4 f)) (by AirfoilOpen 5 (open5 f))
-      (by-twelfths (is-numbers (finIn AirfoilOpen 6)) (by AirfoilOpen 6 (open6 f))) i l)
-  fin-known false u =
-      let by = tested false u in
-      plain-sections (λ s. (i : ℕ) → i < 7 → Tested false i → FinKnown false s i)
-      (each-of-seven (λ i. Tested false i → FinKnown false Square i) (λ t. by Square 0 (near-square0 f)) (λ t. absurd t) (λ t. absurd t)
-      (λ t. by Square 3 (near-square3 f)) (λ t. absurd t) (λ t. absurd t) (λ t. absurd t))
-      (each-of-seven (λ i. Tested false i → FinKnown false Airfoil i) (λ t. by Airfoil 0 (near-foil0 f)) (λ t. absurd t) (λ t. absurd t)
-      (λ t. by Airfoil 3 (near-foil3 f)) (λ t. absurd t) (λ t. absurd t) (λ t. absurd t))
-      (each-of-seven (λ i. Tested false i → FinKnown false AirfoilOpen i) (λ t. by AirfoilOpen 0 (near-open0 f)) (λ t. absurd t)
-      (λ t. absurd t) (λ t. by AirfoilOpen 3 (near-open3 f)) (λ t. absurd t) (λ t. absurd t) (λ t. absurd t))
+  fin-known =
+      plain-sections (λ s. (i : ℕ) → i < 7 → Tested c i → FinKnown s i)
+      (each-of-seven (λ i. Tested c i → FinKnown Square i) (λ t. tested Square tt 0 (lit≤ tt) t) (λ t. tested Square tt 1 (lit≤ tt) t)
+      (λ t. tested Square tt 2 (lit≤ tt) t) (λ t. tested Square tt 3 (lit≤ tt) t)
+      (λ t. by-thirds (is-numbers (finIn Square 4)) (tested Square tt 4 (lit≤ tt) t))
+      (λ t. tested Square tt 5 (lit≤ tt) t) (λ t. by-twelfths (is-numbers (finIn Square 6)) (tested Square tt 6 (lit≤ tt) t)))
+      (each-of-seven (λ i. Tested c i → FinKnown Airfoil i) (λ t. tested Airfoil tt 0 (lit≤ tt) t) (λ t. tested Airfoil tt 1 (lit≤ tt) t)
+      (λ t. tested Airfoil tt 2 (lit≤ tt) t) (λ t. tested Airfoil tt 3 (lit≤ tt) t)
+      (λ t. tested Airfoil tt 4 (lit≤ tt) t)
+      (λ t. tested Airfoil tt 5 (lit≤ tt) t) (λ t. by-twelfths (is-numbers (finIn Airfoil 6)) (tested Airfoil tt 6 (lit≤ tt) t)))
+      (each-of-seven (λ i. Tested c i → FinKnown AirfoilOpen i) (λ t. tested AirfoilOpen tt 0 (lit≤ tt) t) (λ t. tested AirfoilOpen tt 1
+      (lit≤ tt) t)
+      (λ t. tested AirfoilOpen tt 2 (lit≤ tt) t) (λ t. tested AirfoilOpen tt 3 (lit≤ tt) t)
+      (λ t. tested AirfoilOpen tt 4 (lit≤ tt) t)
+      (λ t. tested AirfoilOpen tt 5 (lit≤ tt) t) (λ t. by-twelfths (is-numbers (finIn AirfoilOpen 6)) (tested AirfoilOpen tt 6 (lit≤ tt)
+      t)))
 
   -- ---- the tab
-  module _ (height length offset : Float) (t : TabSizes f height length offset) where
+  module _ (height length offset : Float) (t : TabSizes f c height length offset) where
     abbrev slabs : List Given
-    slabs = tabList height length offset (f .thickness) (f .radius)
+    slabs = tabList c height length offset (f .thickness) (f .radius)
 
     slabs-known : AllKnown bases slabs
     unfolding ofBits
     slabs-known =
         let P = f .span in
         let R = f .root in
-        let tall = sized-entry bases 1 (num P) (den P) refl height (den-pos P) (t .height-finite) (t .height-under) in
+        let tall = many-entry bases 1 (num P) (den P) refl height (spansIn c) (den-pos P) (t .height-finite) (t .height-under) in
         let long = sized-entry bases 0 (num R) (den R) refl length (den-pos R) (t .length-finite) (t .length-under) in
         let behind = sized-entry bases 0 (num R) (den R) refl offset (den-pos R) (t .offset-finite) (t .offset-under) in
         let thickness = own-entry bases 3 (f .thickness) refl (g .thickness-positive) in
@@ -800,51 +904,53 @@ module _ (f : Fin) (far : Bool) (b d : ℕ) (g : Sizes f far b d) where
     abbrev slabIn : ℕ → Expression
     slabIn i = slabsE (given 6) (given 7) (given 8) (given 4) (given 5) i
 
-    by-slab : (i : ℕ) → SlabPasses f height length offset i
-        → Known bases (value slabs (slabT i)) (evaluate (numbersOf slabs) (slabTarget i)) (tabShape (Slab height length offset) i)
-    by-slab i p =
-        let a = nearer slabs (slabTarget i) (slabError i * 2 ^ 30) (unitOf i) [] (judge slabs (slabT i)) in
-        let c = sizeTest slabs (slabTarget i) (slabSize i * 2 ^ 20) (unitOf i) [] in
-        target-known bases (g .ranges) slabs slabs-known _ (slabTarget i) (slabError i * 2 ^ 30) (slabSize i * 2 ^ 20) (unitOf i) []
-        (near-within bases (g .ranges) slabs slabs-known (slabT i) (slabTarget i) (slabError i * 2 ^ 30) (unitOf i) [] (and-l a c p))
-        (and-r a c p)
+    by-slab : (i : ℕ) → i < 7 → Tested c i
+        → Known bases (value slabs (slabT i)) (evaluate (numbersOf slabs) (slabTarget i)) (tabShape c (Slab height length offset) i)
+    by-slab i l s =
+        let K = spansIn c * slabError i * 2 ^ 30 in
+        let j = spansIn c * slabSize i * 2 ^ 20 in
+        let x = nearer slabs (slabTarget i) K (unitOf i) [] (judge slabs (slabT i)) in
+        let y = sizeTest slabs (slabTarget i) j (unitOf i) [] in
+        let z = slab-passes f height length offset c i l s in
+        target-known bases (g .ranges) slabs slabs-known _ (slabTarget i) K j (unitOf i) []
+        (near-within bases (g .ranges) slabs slabs-known (slabT i) (slabTarget i) K (unitOf i) [] (and-l x y z)) (and-r x y z)
 
     slab-is : (i : ℕ) → IsNumber (evaluate (among slabNumbers) (slabIn i))
     slab-is i = evaluated-is slabNumbers slab-numbers (slabIn i)
 
-    slab-known : (i : ℕ) → i < 7
-        → Known bases (at (tabIntegralsOf (Slab height length offset) (f .thickness) (f .radius)) i)
-        (evaluate (among slabNumbers) (slabIn i)) (tabShape (Slab height length offset) i)
+    abbrev SlabKnown : ℕ → Type 0
+    SlabKnown i = Known bases (at (tabIntegralsOf (Slab height length offset) (f .thickness) (f .radius)) i)
+        (evaluate (among slabNumbers) (slabIn i)) (tabShape c (Slab height length offset) i)
+
+    slab-known : (i : ℕ) → i < 7 → Tested c i → SlabKnown i
     unfolding tabIntegralsOf
-    slab-known = each-of-seven (λ i. Known bases (at (tabIntegralsOf (Slab height length offset) (f .thickness) (f .radius)) i)
-        (evaluate (among slabNumbers) (slabIn i)) (tabShape (Slab height length offset) i))
-        (by-slab 0 (slab0 f height length offset)) (by-slab 1 (slab1 f height length offset))
-        (by-thirds (slab-is 2) (by-slab 2 (slab2 f height length offset))) (by-slab 3 (slab3 f height length offset))
-        (by-thirds (slab-is 4) (by-slab 4 (slab4 f height length offset))) (by-slab 5 (slab5 f height length offset))
-        (by-twelfths (slab-is 6) (by-slab 6 (slab6 f height length offset)))
+    slab-known = each-of-seven (λ i. Tested c i → SlabKnown i) (by-slab 0 (lit≤ tt)) (by-slab 1 (lit≤ tt))
+        (λ s. by-thirds (slab-is 2) (by-slab 2 (lit≤ tt) s)) (by-slab 3 (lit≤ tt)) (λ s. by-thirds (slab-is 4) (by-slab 4 (lit≤ tt) s))
+        (by-slab 5 (lit≤ tt)) (λ s. by-twelfths (slab-is 6) (by-slab 6 (lit≤ tt) s))
 
   -- ---- both
-  none-known : (i : ℕ) → i < 7 → Known bases (at (tabIntegralsOf None (f .thickness) (f .radius)) i) (number 0 0 1) (tabShape None i)
+  none-known : (i : ℕ) → i < 7 → Known bases (at (tabIntegralsOf None (f .thickness) (f .radius)) i) (number 0 0 1) (tabShape c None i)
   unfolding tabIntegralsOf ofBits
-  none-known i l = subst (λ (x : Float). Known bases x (number 0 0 1) (tabShape None i)) (sym (at-tabulate 7 (λ k. bits 0) i l))
+  none-known i l = subst (λ (x : Float). Known bases x (number 0 0 1) (tabShape c None i)) (sym (at-tabulate 7 (λ k. bits 0) i l))
       (zero-valued (unitBy bases (unitOf i) []))
 
-  tab-known : (i : ℕ) → i < 7 → Known bases (tabAt f i) (evaluate (among (numbersIn f)) (tabE (f .tab) i)) (tabShape (f .tab) i)
-  tab-known i l = go (f .tab) refl
+  tab-known : (i : ℕ) → i < 7 → Tested c i
+      → Known bases (tabAt f i) (evaluate (among (numbersIn f)) (tabE (f .tab) i)) (tabShape c (f .tab) i)
+  tab-known i l s = go (f .tab) refl
     where
-      go : (t : Tab) → f .tab ≡ t → Known bases (tabAt f i) (evaluate (among (numbersIn f)) (tabE (f .tab) i)) (tabShape (f .tab) i)
+      go : (t : Tab) → f .tab ≡ t → Known bases (tabAt f i) (evaluate (among (numbersIn f)) (tabE (f .tab) i)) (tabShape c (f .tab) i)
       go None e = rw e (none-known i l)
       go (Slab height length offset) e =
-          rw e (slab-known height length offset (subst (λ (t : Tab). TabKnown f t) e (g .tab)) i l)
+          rw e (slab-known height length offset (subst (λ (t : Tab). TabKnown f c t) e (g .tab)) i l s)
 
   -- the integrals that the program works with
-  pub seven-known : (i : ℕ) → i < 7 → Tested far i → Known bases (integralAt f i) (exactly f i) (shapeAt far foil (f .tab) i)
+  pub seven-known : (i : ℕ) → i < 7 → Tested c i → Known bases (integralAt f i) (exactly f i) (shapeAt c foil (f .tab) i)
   seven-known i l t =
       sound bases (g .ranges)
-      (entry (finAt f (f .section) i) (evaluate (among (numbersIn f)) (finIn (f .section) i)) (finShape far foil i) 0 ∷
-      entry (tabAt f i) (evaluate (among (numbersIn f)) (tabE (f .tab) i)) (tabShape (f .tab) i) 0 ∷ [])
-      ((fin-known far (g .sweep-under) (f .section) (g .plain-section) i l t, tt), ((tab-known i l, tt), tt)) (var 0 addT var 1)
-      (sums-fine far foil (f .tab) i l)
+      (entry (finAt f (f .section) i) (evaluate (among (numbersIn f)) (finIn (f .section) i)) (finShape c foil i) 0 ∷
+      entry (tabAt f i) (evaluate (among (numbersIn f)) (tabE (f .tab) i)) (tabShape c (f .tab) i) 0 ∷ [])
+      ((fin-known (f .section) (g .plain-section) i l t, tt), ((tab-known i l t, tt), tt)) (var 0 addT var 1)
+      (sums-fine c foil (f .tab) i l)
 
   pub is-exactly : (i : ℕ) → IsNumber (exactly f i)
   is-exactly i = is-numbers (exactE f i)
@@ -856,21 +962,22 @@ module _ (f : Fin) (far : Bool) (b d : ℕ) (g : Sizes f far b d) where
       go : (t : Tab) → f .tab ≡ t → NotBelow (evaluate (among (numbersIn f)) (tabE (f .tab) 0))
       go None e = rw e zero-le
       go (Slab height length offset) e =
-          let t = subst (λ (t : Tab). TabKnown f t) e (g .tab) in
+          let t = subst (λ (t : Tab). TabKnown f c t) e (g .tab) in
           rw e (not-below-times (valueOf (f .thickness) times valueOf length) (valueOf height)
           (not-below-times (valueOf (f .thickness)) (valueOf length) (positive-from (f .thickness) (g .thickness-positive))
           (t .length-from-zero))
           (t .height-from-zero))
 
   abbrev volumes : List Given
-  volumes = volumeList f (tabAt f 0) (evaluate (among (numbersIn f)) (tabE (f .tab) 0)) (f .tab)
+  volumes = volumeList c f (tabAt f 0) (evaluate (among (numbersIn f)) (tabE (f .tab) 0)) (f .tab)
 
   volumes-known : AllKnown bases volumes
   volumes-known =
       let root = own-entry bases 0 (f .root) refl (g .root-positive) in
-      let tip = many-entry bases 0 (num (f .root)) (den (f .root)) refl (f .tip) 1 (den-pos (f .root)) (g .tip-finite) (g .tip-under) in
+      let tip = many-entry bases 0 (num (f .root)) (den (f .root)) refl (f .tip) (tipsIn c) (den-pos (f .root)) (g .tip-finite) (g
+      .tip-under) in
       let span = own-entry bases 1 (f .span) refl (g .span-positive) in
-      (root, ((tip, tt), (span, (own-entry bases 3 (f .thickness) refl (g .thickness-positive), ((tab-known 0 (lit≤ tt), tt), tt)))))
+      (root, ((tip, tt), (span, (own-entry bases 3 (f .thickness) refl (g .thickness-positive), ((tab-known 0 (lit≤ tt) tt, tt), tt)))))
 
   volumes-signed : Signed volumes
   volumes-signed = (
@@ -885,7 +992,7 @@ module _ (f : Fin) (far : Bool) (b d : ℕ) (g : Sizes f far b d) where
   )
 
   abbrev pub volumeShape : Shape
-  volumeShape = shapeAt far foil (f .tab) 0
+  volumeShape = shapeAt c foil (f .tab) 0
 
   abbrev exactBy : Section → Number
   exactBy s = evaluate (among (numbersIn f)) (finIn s 0 add tabE (f .tab) 0)
@@ -906,9 +1013,9 @@ module _ (f : Fin) (far : Bool) (b d : ℕ) (g : Sizes f far b d) where
           (target-lowest bases (g .ranges) volumes volumes-known volumes-signed (integralAt f 0) (volumeTarget s) (errorIn volumeShape) 0
           (lessParts foil) (unitOf 0) []
           (subst (λ (v : Number). Near (integralAt f 0) v (errorIn volumeShape roundoffs unitBy bases (unitOf 0) [])) (sym same) near)
-          (subst (λ (x : Section). T (lowTest volumes (volumeTarget s) (errorIn (shapeAt far (isFoil x) (f .tab) 0))
+          (subst (λ (x : Section). T (lowTest volumes (volumeTarget s) (errorIn (shapeAt c (isFoil x) (f .tab) 0))
           (lessParts (isFoil x)) (unitOf 0) [])) (sym q)
-          (volumes-least (tabAt f 0) (evaluate (among (numbersIn f)) (tabE (f .tab) 0)) f s e far (f .tab))))
+          (volumes-least (tabAt f 0) (evaluate (among (numbersIn f)) (tabE (f .tab) 0)) f s e c (f .tab))))
 
   pub volume-from-zero : NotBelow (exactly f 0)
   volume-from-zero = not-below (leastParts foil) (mono top bases (unitOf 0) * mono bottom bases [])
@@ -927,16 +1034,16 @@ module _ (f : Fin) (far : Bool) (b d : ℕ) (g : Sizes f far b d) where
   density-own = own-entry bases 5 (f .density) refl (g .density-positive)
 
   abbrev pub masses : List Given
-  masses = massList far foil (f .tab) (integralAt f 0) (exactly f 0) (f .density)
+  masses = massList c foil (f .tab) (integralAt f 0) (exactly f 0) (f .density)
 
   pub masses-known : AllKnown bases masses
   masses-known = ((seven-known 0 (lit≤ tt) tt, volume-lowest), (density-own, tt))
 
-  pub mass-known : Known bases massOf massNumber (massShape far foil (f .tab))
-  mass-known = sound bases (g .ranges) masses masses-known massTerm (mass-okay (integralAt f 0) (exactly f 0) f far foil (f .tab))
+  pub mass-known : Known bases massOf massNumber (massShape c foil (f .tab))
+  mass-known = sound bases (g .ranges) masses masses-known massTerm (mass-okay (integralAt f 0) (exactly f 0) f c foil (f .tab))
 
-  pub mass-lowest : Lowest bases massOf massNumber (massShape far foil (f .tab)) (leastParts foil)
+  pub mass-lowest : Lowest bases massOf massNumber (massShape c foil (f .tab)) (leastParts foil)
   mass-lowest =
       target-lowest bases (g .ranges) masses masses-known (volume-from-zero, (positive-from (f .density) (g .density-positive), tt)) massOf
-      (given 2 mul given 0) (errorIn (massShape far foil (f .tab))) 0 (lessParts foil) massUnit [] (mass-known .near)
-      (mass-least (integralAt f 0) (exactly f 0) f far foil (f .tab))
+      (given 2 mul given 0) (errorIn (massShape c foil (f .tab))) 0 (lessParts foil) massUnit [] (mass-known .near)
+      (mass-least (integralAt f 0) (exactly f 0) f c foil (f .tab))

@@ -5,7 +5,7 @@
 use mathlib.Core.Path.{_≡_}
 use mathlib.Core.Bool.{true}
 use mathlib.Core.List.{List}
-use Prim.Native.Nat.{ℕ, _^_}
+use Prim.Native.Nat.{ℕ, _*_, _^_}
 use lib.Dec.{T}
 use lib.IntN.{pos}
 use lib.Ieee.{Float, binary64, fits, eq}
@@ -20,8 +20,8 @@ use Rattle.sections.specs.declared.Section.the-variants.{Square, Rounded, Airfo
 use Rattle.fins.specs.declared.Tab.{Tab}
 use Rattle.fins.specs.declared.Tab.the-variants.{None, Slab}
 use Rattle.figures.specs.declared.Figures.{Figures}
-use Rattle.one_piece.specs.OnePiece.{NotRounded, Proportions}
-use Rattle.accuracy.specs.Masses.{Plate, Mount, SectionGiven, exactMassWith, filled}
+use Rattle.one_piece.specs.OnePiece.{NotRounded}
+use Rattle.accuracy.specs.Masses.{Plate, Mount, SectionGiven, OneStrip, exactMassWith, filled}
 
 -- the moment of a section about its leading edge, over thickness × chord²; of a rounded one nothing is said
 abbrev pub forward : Section → Fraction
@@ -49,30 +49,30 @@ abbrev pub exactMoment : Section → Plate → Mount → Fraction
 exactMoment section p m =
     (pos (m .count) over 1) times (valueOf (p .density) times (finMoment section p plus tabMoment (p .tab) (p .thickness)))
 
--- the numbers of a tab are f64s, its length and its offset at most the root chord, its height at most the span
-abbrev pub TabGiven : Tab → Plate → Type 0
-TabGiven None p = Unit {0}
-TabGiven (Slab height length offset) p =
+-- the numbers of a tab are f64s, its length and its offset at most the root chord, its height at most so many spans
+abbrev pub TabGiven : ℕ → Tab → Plate → Type 0
+TabGiven spans None p = Unit {0}
+TabGiven spans (Slab height length offset) p =
     (T (fits binary64 height) × T (fits binary64 length))
     × ((AtMost (num (p .root)) (den (p .root)) length × AtMost (num (p .root)) (den (p .root)) offset)
-    × AtMost (num (p .span)) (den (p .span)) height)
+    × AtMost (spans * num (p .span)) (den (p .span)) height)
 
 -- one number of a fin with no tab, another of a fin with one
 abbrev pub byTab : ℕ → ℕ → Tab → ℕ
 byTab without with None = without
 byTab without with (Slab height length offset) = with
 
--- of the sets that one piece is enough for (one_piece/specs/OnePiece), with no cant, tip at most the root chord and
--- sweep at most so many: at most so many unit roundoffs of the root chord from it, without a tab and with one
-abbrev pub OrdinaryBalance : ℕ → ℕ → ℕ → Type 0
-OrdinaryBalance sweeps without with =
+-- of sets of one piece, with no cant, tip and sweep at most so many root chords, a tab no deeper than so many spans: at
+-- most so many unit roundoffs of the root chord from it, without a tab and with one
+abbrev pub OrdinaryBalance : (tips sweeps spans without with : ℕ) → Type 0
+OrdinaryBalance tips sweeps spans without with =
     (section : Section) (p : Plate) (m : Mount) (points : List Float)
     (L : ℕ) (entry : List Float) (r : Figures) (exit : List Float)
     → NotRounded section
     → SectionGiven section p m points L entry r exit
     → T (fits binary64 (m .radius))
     → eq (m .cant) (bits 0) ≡ true
-    → Proportions 1 sweeps (p .root) (p .tip) (p .sweep)
-    → TabGiven (p .tab) p
+    → OneStrip tips sweeps section p (r .intervals)
+    → TabGiven spans (p .tab) p
     → Within ((pos (byTab without with (p .tab)) over 2 ^ 53) times valueOf (p .root) times exactMassWith section p m)
     (valueOf (r .body .«centre_m» .z) times exactMassWith section p m) (minus (exactMoment section p m))

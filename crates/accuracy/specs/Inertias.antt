@@ -23,9 +23,9 @@ use Rattle.bodies.specs.Tensors.{numberAt}
 use Rattle.fins.specs.declared.Tab.{Tab}
 use Rattle.fins.specs.declared.Tab.the-variants.{None, Slab}
 use Rattle.figures.specs.declared.Figures.{Figures}
-use Rattle.one_piece.specs.OnePiece.{NotRounded, Proportions}
+use Rattle.one_piece.specs.OnePiece.{NotRounded}
 use Rattle.accuracy.specs.Centroids.{inHeight}
-use Rattle.accuracy.specs.Masses.{Plate, Mount, SectionGiven, finVolume, tabVolume, filled}
+use Rattle.accuracy.specs.Masses.{Plate, Mount, SectionGiven, OneStrip, finVolume, tabVolume, filled}
 use Rattle.accuracy.specs.Balances.{finMoment, forward, tabMoment, TabGiven}
 
 infixl 65 _less_
@@ -200,11 +200,11 @@ pub record Alone (p : Plate) (m : Mount) (b d : ℕ) : Type 0 where
   pub radius-most : AtMost b d (m .radius)
   pub thickness-most : AtMost b d (p .thickness)
 
--- beside a tab the radius is at most the span
-abbrev pub TabBeside : Tab → Plate → Float → Type 0
-TabBeside None p radius = Unit {0}
-TabBeside (Slab height length offset) p radius =
-    TabGiven (Slab height length offset) p × AtMost (num (p .span)) (den (p .span)) radius
+-- a tab no deeper than so many spans, the radius beside it at most the span
+abbrev pub TabBeside : ℕ → Tab → Plate → Float → Type 0
+TabBeside spans None p radius = Unit {0}
+TabBeside spans (Slab height length offset) p radius =
+    TabGiven spans (Slab height length offset) p × AtMost (num (p .span)) (den (p .span)) radius
 
 -- at most so many unit roundoffs of density·thickness·root·span·L² from the exact number
 abbrev pub NumberNear : Section → Plate → Mount → ℕ → ℕ → ℕ → Float → Fraction → Type 0
@@ -231,7 +231,7 @@ pub record OffAxisNear (section : Section) (p : Plate) (m : Mount) (b d roundoff
       (valueOf (centre .x) times exactIntegrals section p m .volume) (exactIntegrals section p m .r1)
   pub aside : AtMost 0 1 (centre .y)
 
--- of the fins that one piece is enough for (one_piece/specs/OnePiece), by tab: a fin with none, a fin with one
+-- of the fins of one piece, by tab: a fin with none, a fin with one
 abbrev pub tensorError : Tab → ℕ
 tensorError None = 60000
 tensorError (Slab height length offset) = 350000
@@ -250,7 +250,7 @@ OrdinaryInertia =
     (L : ℕ) (entry : List Float) (r : Figures) (exit : List Float) (b d : ℕ)
     → NotRounded section
     → SectionGiven section p m points L entry r exit
-    → Proportions 1 4 (p .root) (p .tip) (p .sweep)
+    → OneStrip 1 4 section p (r .intervals)
     → Alone p m b d
-    → TabBeside (p .tab) p (m .radius)
+    → TabBeside 1 (p .tab) p (m .radius)
     → FinNear section p m b d r

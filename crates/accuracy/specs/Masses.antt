@@ -3,10 +3,12 @@
 use mathlib.Core.Path.{_≡_}
 use mathlib.Core.Bool.{true}
 use mathlib.Core.List.{List}
+use mathlib.Core.Logic.{_⊎_}
 use Prim.Native.Nat.{ℕ, _*_, _^_, _≤_, _<_}
 use lib.Dec.{T}
 use lib.IntN.{pos}
 use lib.Ieee.{Float, binary64, fits, lt}
+use lib.Ieee.Positive.{num, den}
 use Rattle.floats.specs.Operations.{bits}
 use Rattle.floats.specs.Fractions.{Fraction, _over_, _plus_, _times_, valueOf}
 use Rattle.rounding.specs.Sizes.{AtMost}
@@ -43,6 +45,13 @@ pub record Mount : Type 0 where
   pub base : Float
   pub radius : Float
   pub fillet : Fillet
+
+-- tip and sweep are at most so many root chords, and the strip is one piece: one is enough for it
+-- (one_piece/specs/OnePiece), or the call says that it took one
+pub record OneStrip (tips sweeps : ℕ) (section : Section) (p : Plate) (intervals : ℕ) : Type 0 where
+  pub tip-most : AtMost (tips * num (p .root)) (den (p .root)) (p .tip)
+  pub sweep-most : AtMost (sweeps * num (p .root)) (den (p .root)) (p .sweep)
+  pub one-piece : Proportions (tipsOf section) 4 (p .root) (p .tip) (p .sweep) ⊎ (intervals ≡ 1)
 
 -- with a section; of square section
 abbrev pub setWith : Section → Plate → Mount → FinSet

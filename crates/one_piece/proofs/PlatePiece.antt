@@ -140,10 +140,10 @@ componentTest c G u k = acceptsIn G (errorOf u k) (totalOf u k) (judgeAll G [] (
 abbrev fractionT : Term → Term
 fractionT h = tight (h mul var 4 over 3)
 
-abbrev startT : Term → Term
+abbrev pub startT : Term → Term
 startT h = var 2 mul fractionT h over 4
 
-abbrev endT : Term → Term
+abbrev pub endT : Term → Term
 endT h = tight (var 2 mul fractionT h add var 0 add (var 1 take var 0) mul fractionT h) over 4
 
 abbrev pub roomTest : List Given → Term → Bool
@@ -236,7 +236,7 @@ positive-above (fin false m e) p = is-true _ (lt→ltb _ _ (go (m * up e) (down 
     go : (N D : ℕ) → 0 < N → 0 * D < N * 1
     go N D h = omega arith
 
-not-at-most : (x : Float) → T (positive x) → le x (bits 0) ≡ false
+pub not-at-most : (x : Float) → T (positive x) → le x (bits 0) ≡ false
 not-at-most x p = go (le x (bits 0)) refl
   where
     go : (b : Bool) → le x (bits 0) ≡ b → b ≡ false
@@ -261,7 +261,7 @@ module _ (c : Section) (root tip span sweep thickness radius : Float) (points : 
     abbrev pub seven : Float → List Float
     seven = sevenAt root tip span sweep scaleIn thickness radius kt ks ls rs rl rest c
 
-    plate-there : (h : Float) → T (inSpan span (h ⊗ scaleIn))
+    pub plate-there : (h : Float) → T (inSpan span (h ⊗ scaleIn))
         → le ((sweep ⊗ (h ⊗ scaleIn ⊘ span) ⊕ root ⊕ (tip ⊖ root) ⊗ (h ⊗ scaleIn ⊘ span)) ⊘ scaleIn ⊖ sweep ⊗
         (h ⊗ scaleIn ⊘ span) ⊘ scaleIn) (bits 0) ≡ false → plate h ≡ seven h
     unfolding plateOf sampleOf endsAt

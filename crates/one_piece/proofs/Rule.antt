@@ -140,7 +140,7 @@ abbrev pub atHeights : (Term → Bool) → ℕ → Bool
 atHeights test zero = test centreT
 atHeights test (suc n) = (test (minusT n) && test (plusT n)) && atHeights test n
 
-at-heights : (test : Term → Bool) (n : ℕ) → T (atHeights test n)
+pub at-heights : (test : Term → Bool) (n : ℕ) → T (atHeights test n)
     → T (test centreT) × ((i : ℕ) → i < n → T (test (minusT i)) × T (test (plusT i)))
 at-heights test zero t = (t, λ i l. absurd (not-suc-le-zero l))
 at-heights test (suc n) t =
