@@ -60,7 +60,8 @@ pub record ChordsCall (planform : NumberedPlanform) (points : List Float) (h : F
   pub listed : ends' ≡ cond (room mostPoints ends 3 counts) (numberedChords planform points h .leaves ends) ends
   pub counted : counts' ≡ cond (room mostPoints ends 3 counts) (chordCounts (numberedChords planform points h .answer) counts) counts
 
--- ---- where a point lies beside a planform (document 02, Paper 11): the place, 1 inside, 2 on the edge, 3 outside, and the nearest corner's position
+-- ---- where a point lies beside a planform (document 02, Paper 11): the place, 1 inside, 2 on the edge, 3 outside,
+-- and the nearest corner's position
 
 abbrev pub drillCounts : Answer → List ℕ → List ℕ
 drillCounts a counts = withCounts counts (verdictOf a) (placeNumber a) (nearestOf a)
@@ -82,7 +83,8 @@ pub record JoinCall (bodies body : List Float) (r : ℕ) (body' : List Float) : 
   pub returned : r ≡ cond (leb bodyNumbers (length body)) (numberIn (combineOf bodies .verdict)) (numberOf NoForm)
   pub figures : body' ≡ cond (leb bodyNumbers (length body)) (withBody body 0 (combineOf bodies .body)) body
 
--- ---- a ring of tubes (document 02, Paper 3), copies of a body, and a part moved or taken off (Paper 13): the answer as a body, and why it is refused
+-- ---- a ring of tubes (document 02, Paper 3), copies of a body, and a part moved or taken off (Paper 13): the answer
+-- is a body, or says why it is refused
 
 pub record BodyCall (j : Joined) (body : List Float) (values : List ℕ) (r : ℕ) (body' : List Float) (values' : List ℕ) : Type 0 where
   pub returned : r ≡ cond (room bodyNumbers body 2 values) (numberIn (j .verdict)) (numberOf NoForm)

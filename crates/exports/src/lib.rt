@@ -1,14 +1,14 @@
 // What C and Rust link (include/delvouzh.h, libexports.a): each function under its plain name, over numbers and slices
-// alone. A job's, an engine's and a line's calls stand in an archive of their own, `screen_exports`: each has its own
-// copy of what both use, and here a whole run stays the only caller of its parts, which the compiler then puts into it
+// alone. The calls on jobs, engines and lines stand in an archive of their own, `screen_exports`. Each archive has its
+// own copy of what both use: so a whole run is here the only caller of its parts, and the compiler puts them into it
 // (docs/SPEED.md).
 //
-// A call returns 0, or the number of the refusal, and writes its figures and counts over the start of lent slices; a
-// refusal writes zero figures, but of chords none. Only the root returns its f64, and the most samples their number. A
-// set is the two lists of `fins::numbers_of` and `fins::counts_of`, a planform its number and four lengths, an
-// outline's points a list of their own: an unknown number, or lists of another count, are 18 (no form); but points that
-// are not 3 to 64 pairs are 5, and bodies that are not 1 to 32 whole ones are 3. A lent slice that is too short for
-// what is written over it is 18 too, and then nothing at all is written.
+// A call returns 0, or the number of the refusal, and writes its figures and counts over the start of lent slices. With
+// a refusal the figures are zeros; only a planform's chords are left as they were. The call for a root returns its f64,
+// the one for the most samples that number. A set is the two lists of `fins::numbers_of` and `fins::counts_of`; a
+// planform is its number and four lengths, and an outline's points are a list of their own. An unknown number, or a
+// list of another length, is 18 (no form); but points that are not 3 to 64 pairs are 5, and bodies that are not 1 to 32
+// whole ones are 3. A lent slice that is too short for what is written over it is 18 too, and then nothing is written.
 ghost use mathlib.Core.Path.{_≡_};
 ghost use mathlib.Core.List.{[], _∷_};
 ghost use Prim.Native.Nat.{_≤_};
@@ -34,8 +34,8 @@ fn write_three(figures: &mut [f64], x: f64, y: f64, z: f64)
     figures[2] = z;
 }
 
-// A body that is answered: writes its numbers and two values of a refusal, and gives the number that its verdict
-// crosses as. Where a list has no room it is 18, and nothing is written.
+// Writes the numbers of a body that is answered and two values of a refusal, and returns the number of its verdict.
+// Where a list has no room it returns 18, and writes nothing.
 fn told_body(answer: Joined, body: &mut [f64], values: &mut [usize]) -> usize
     ensures { λ r. ⌜ BodyCall answer (now (body .entry)) (now (values .entry)) r (now (body .exit)) (now (values .exit)) ⌝ }
 {
@@ -60,7 +60,7 @@ pub extern "C" fn delvouzh_sqrt(x: f64) -> f64
     root::sqrt(x)
 }
 
-// No set's figures and no planform's area report more samples: the screen scales its bar by this number.
+// The most samples that a set's figures or a planform's area report, by which a screen scales its bar.
 #[no_mangle]
 pub extern "C" fn delvouzh_most_samples() -> usize
     ensures { λ r. ⌜ r ≡ mostSamples ⌝ }
@@ -100,7 +100,7 @@ pub extern "C" fn delvouzh_mass_properties(
     refusals::verdict_number(verdict)
 }
 
-// A planform's area and centroid (x, then height), likewise: writes three figures.
+// A planform's area and centroid over such a scratch: writes the area, the centroid's x and its height, and the counts.
 #[no_mangle]
 pub extern "C" fn delvouzh_geometry(
     limit: usize,
@@ -268,7 +268,7 @@ pub extern "C" fn delvouzh_copied(
     told_body(requests::copied_by(body, offsets), joined, values)
 }
 
-// The same, one at each x, y and roll of a list.
+// Copies of a body, one rolled and then moved by each x, y and roll of a list, joined: writes as `delvouzh_copied`.
 #[no_mangle]
 pub extern "C" fn delvouzh_placed(
     body: &[f64],
@@ -283,7 +283,7 @@ pub extern "C" fn delvouzh_placed(
     told_body(requests::placed_by(body, places), joined, values)
 }
 
-// A body with a part moved by x, y and z: writes likewise.
+// A body with a part of it moved by x, y and z: writes as `delvouzh_copied`.
 #[no_mangle]
 pub extern "C" fn delvouzh_with_part_moved(
     whole: &[f64],
@@ -299,7 +299,7 @@ pub extern "C" fn delvouzh_with_part_moved(
     told_body(requests::moved_by(whole, part, offset), joined, values)
 }
 
-// A body with a part taken off: writes likewise.
+// A body with a part of it taken off: writes as `delvouzh_copied`.
 #[no_mangle]
 pub extern "C" fn delvouzh_without_part(
     whole: &[f64],

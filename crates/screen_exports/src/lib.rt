@@ -2,9 +2,9 @@
 // of eight screens, a line's answer.
 //
 // Numbers, slices and refusals cross as in `exports`. A step of a job returns 1000 where more strips remain, a turn
-// with no job 1001; a line is answered, by 0, also where the answer's text is a refusal. An unknown number of a set's
-// part or of a density is 18, and leaves the memory as it was; a lent slice that is too short is 18 too, and then
-// nothing at all is written.
+// with no job 1001; the call on a line returns 0, also where the answer's text is a refusal. An unknown number of a
+// set's part or of a density is 18, and leaves the memory as it was; a lent slice that is too short is 18 too, and then
+// nothing is written.
 ghost use Prim.Native.Nat.{_≤_};
 ghost use lib.ListN.{length};
 ghost use Rattle.bodies.specs.Layout.{bodyNumbers};
@@ -27,7 +27,7 @@ use refusals::NO_FORM;
 use refusals::Refusal;
 use refusals::Verdict;
 
-// Writes an answer's body and counts, and gives its number.
+// Writes an answer's body and counts, and returns its number.
 fn tell(body: &mut [f64], counts: &mut [usize], row: Row) -> usize
     requires { ⌜ (bodyNumbers ≤ length (now body)) × (4 ≤ length (now counts)) ⌝ }
     ensures { λ r. ⌜ Tells row (now (body .entry)) (now (counts .entry)) r (now (body .exit)) (now (counts .exit)) ⌝ }
@@ -40,8 +40,8 @@ fn tell(body: &mut [f64], counts: &mut [usize], row: Row) -> usize
     row.number
 }
 
-// Makes a job in the lent memory: 0 where it is taken; a refused one has ended with that. Writes two values of a
-// refusal.
+// Makes a job in the lent memory: returns 0 where it is taken. A job that is refused has ended with its refusal. Writes
+// two values of a refusal.
 #[no_mangle]
 pub extern "C" fn delvouzh_job_make(
     limit: usize,
@@ -107,7 +107,8 @@ pub extern "C" fn delvouzh_job_step(
     tell(body, counts, row)
 }
 
-// Another density for the job there: 0 where it is taken, or 12. Writes the counts, with 12 the samples so far.
+// Another density for the job there: returns 0 where it is taken, or 12. Writes the counts; with 12 they have the
+// samples so far.
 #[no_mangle]
 pub extern "C" fn delvouzh_job_change_density(
     job_numbers: &mut [f64],
@@ -218,7 +219,8 @@ pub extern "C" fn delvouzh_engine_turn(
     number
 }
 
-// Another density for the job of a screen: 0 where it is taken, or 12. Writes the counts, with 12 the samples so far.
+// Another density for the job of a screen: returns 0 where it is taken, or 12. Writes the counts; with 12 they have the
+// samples so far.
 #[no_mangle]
 pub extern "C" fn delvouzh_engine_change_density(
     engine_numbers: &mut [f64],
@@ -248,8 +250,8 @@ pub extern "C" fn delvouzh_engine_change_density(
     refusals::verdict_number(verdict)
 }
 
-// The answer to a line of docs/FORMS.md, a refusal's text too, over the engine that is lent: writes its bytes, and how
-// many they are.
+// The answer to a line (docs/FORMS.md), which may be a refusal's text, with the engine that is lent: writes its bytes,
+// and how many they are.
 #[no_mangle]
 pub extern "C" fn delvouzh_answer_line(
     line: &[u8],
