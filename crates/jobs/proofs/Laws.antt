@@ -134,7 +134,7 @@ module _ (job : Job) (onward : Onward) where
   after-more e = yes _ _ e
 
   pub after-last : (isAccepted (onward .total .ending) && onward .more) ≡ false
-      → afterStrip job onward ≡ ended job (onward .total) (outcomeOf (job .set) (outlineOf job) (onward .total))
+      → afterStrip job onward ≡ ended job (onward .total) (onward .next) (outcomeOf (job .set) (outlineOf job) (onward .total))
   unfolding afterStrip
   after-last e = no _ _ e
 
@@ -143,9 +143,9 @@ pub both-told : (a b answer : Bool) {t : Bool} → answer ≡ a → (answer && b
 both-told a b answer e h = ap (λ (x : Bool). x && b) (sym e) ∙ h
 
 pub ends-so : (job : Job) (onward : Onward) (n : ℕ) → n ≡ heldOf (job .points .count) → (figures : Figures) → figures ≡ outcomeOf (job .set) (take n (job .points .numbers)) (onward .total)
-    → (r : Job) → r ≡ ended job (onward .total) figures → (isAccepted (onward .total .ending) && onward .more) ≡ false → r ≡ afterStrip job onward
+    → (r : Job) → r ≡ ended job (onward .total) (onward .next) figures → (isAccepted (onward .total .ending) && onward .more) ≡ false → r ≡ afterStrip job onward
 ends-so job onward n e figures f r k h =
-    k ∙ ap (ended job (onward .total)) (f ∙ ap (λ (m : ℕ). outcomeOf (job .set) (take m (job .points .numbers)) (onward .total)) e) ∙ sym (after-last job onward h)
+    k ∙ ap (ended job (onward .total) (onward .next)) (f ∙ ap (λ (m : ℕ). outcomeOf (job .set) (take m (job .points .numbers)) (onward .total)) e) ∙ sym (after-last job onward h)
 
 -- the strips that the code works are those of the record's set
 same-run : (job : Job) (n : ℕ) → n ≡ heldOf (job .points .count) → (integrand : Integrand)

@@ -6,6 +6,7 @@ pub mod Laws
 pub mod Writes
 pub mod Sums
 pub mod Kept
+pub mod Below
 pub mod Together
 pub mod SampleCount
 pub mod Drawn

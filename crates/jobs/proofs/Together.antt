@@ -13,7 +13,7 @@ use lib.ListN.{length, drop, length-append}
 use lib.Seq.{append-snoc}
 use lib.Ieee.{Float, lt}
 use Rattle.floats.specs.Operations.{_⊘_, at}
-use Rattle.sorting.specs.Sorted.{over}
+use Rattle.sorting.specs.Sorted.{over, sorted}
 use Rattle.refusals.specs.declared.Verdict.{Verdict}
 use Rattle.refusals.specs.declared.Verdict.the-variants.{Accepted, Refused}
 use Rattle.refusals.specs.Order.{isRefused, firstRefusal}
@@ -24,7 +24,8 @@ use Rattle.limits.proofs.Accepted.{limit-within}
 use Rattle.materials.specs.declared.Density.{Density}
 use Rattle.materials.specs.Materials.{densityCheck}
 use Rattle.planforms.specs.Planforms.{rootChordOf}
-use Rattle.breaks.specs.Breaks.{allHeights, breakHeights, placeAbove, mostHeights}
+use Rattle.breaks.specs.Breaks.{allHeights, breakHeights, placeAbove, once, mostHeights}
+use Rattle.breaks.proofs.Strips.{break-heights-rise}
 use Rattle.breaks.proofs.Listed.{most-breaks}
 use Rattle.breaks.proofs.Above.{next-break, next-above, none-above, first-break}
 use Rattle.integrands.specs.Integrands.{scaleOf}
@@ -45,11 +46,13 @@ use Rattle.figures.proofs.StripCount.{worked-few, heights-some, all-numbers, no
 use Rattle.figures.proofs.Answers.{set-reported}
 use Rattle.jobs.specs.declared.Job.{Job}
 use Rattle.jobs.specs.declared.Progress.the-variants.{Ended}
+use Rattle.jobs.specs.declared.JobProgress.{JobProgress}
 use Rattle.jobs.specs.declared.Stepped.{Stepped}
 use Rattle.jobs.specs.declared.Replied.{Replied}
-use Rattle.jobs.specs.Jobs.{pointsOf, outlineOf, stepRun, runOfJob, totalOf, bareFigures, more, ended, outcomeOf, afterStrip, stepOf, withDensity, taken, changeOf, makingCheck, madeWith, madeOf}
+use Rattle.jobs.specs.Jobs.{pointsOf, outlineOf, stepRun, runOfJob, totalOf, bareFigures, more, ended, outcomeOf, afterStrip, stepOf, withDensity, taken, changeOf, makingCheck, madeWith, madeOf, countBelow, progressOf}
 use Rattle.jobs.specs.Calls.{Call, step, change, jobBy, afterCalls, counts, stripsBy, stripsOver}
-use Rattle.jobs.specs.Calls.{isTaken, densityBy, densityOver, placeOfStrip, runningJob, OverCalls}
+use Rattle.jobs.specs.Calls.{isTaken, densityBy, densityOver, placeOfStrip, runningJob, progressOver, OverCalls}
+use Rattle.jobs.proofs.Below.{below-rising}
 use Rattle.jobs.proofs.Kept.{keptOf, Same, kept-same}
 use Rattle.jobs.proofs.Laws.{yes, given, step-ended, step-scratch, step-works, after-more, after-last, says-ended}
 use Rattle.jobs.proofs.Laws.{none-ended, none-refused, one-if-there, change-ended, change-refused, change-taken}
@@ -145,6 +148,28 @@ module _ (set : FinSet) (points : List Float) (L : ℕ) (made : makingCheck set 
   no-strip : (k : ℕ) → k < length Heights· → stripsFrom Run· k ≤ 0 → hasStrip Steps· (Place· k) ≡ false
   no-strip k b h = has-is k b ∙ none-above (set .planform) points (all-numbers (set .planform) points planform-checked) k (omega (arith, h))
 
+  -- ---- how far a job is, by the place where its next strip begins
+  same-breaks : breakHeights (set .planform) (keptOf points) ≡ Heights·
+  unfolding breakHeights
+  same-breaks = ap (λ (l : List Float). once (sorted l)) (same .heights)
+
+  below-place : (k : ℕ) → k < length Heights· → countBelow (at Every· (Place· k)) Heights· ≡ k
+  below-place k b =
+      ap (λ (h : Float). countBelow h Heights·) (place-is k b)
+      ∙ below-rising Heights· (break-heights-rise (set .planform) points (all-numbers (set .planform) points planform-checked)) k b
+
+  abbrev progressBy : List Float → List Float → ℕ → List Worked → JobProgress
+  progressBy every breaks next strips =
+      record { worked = countBelow (at every next) breaks; strips = length breaks - 1; intervals = intervalsIn strips; samples = samplesIn strips }
+
+  progress-is : (next : ℕ) (strips : List Worked) → next ≡ Place· (length strips) → length strips < length Heights·
+      → progressBy (allHeights (set .planform) (keptOf points)) (breakHeights (set .planform) (keptOf points)) next strips ≡ progressOver Run· strips
+  progress-is next strips e b =
+      ap₂ (λ (every breaks : List Float). progressBy every breaks next strips) (same .heights) same-breaks
+      ∙ ap (λ (place : ℕ). progressBy Every· Heights· place strips) e
+      ∙ ap₂ (λ (worked all : ℕ). record { worked = worked; strips = all; intervals = intervalsIn strips; samples = samplesIn strips })
+      (below-place (length strips) b) (omega arith)
+
   -- a step over scratch that is long enough works a strip where one is left
   going-counts : (d : Density) (strips : List Worked) (n : ℕ) → runCheck L n ≡ Accepted → 0 < stripsFrom Run· (length strips) → counts (jobAt d strips) n ≡ true
   unfolding isRefused
@@ -167,6 +192,7 @@ module _ (set : FinSet) (points : List Float) (L : ℕ) (made : makingCheck set 
     pub answer : job .outcome ≡ workedFigures (withDensity set d) points L
     pub samples : job .samples ≡ samplesIn strips
     pub intervals : job .intervals ≡ intervalsIn strips
+    pub progress : progressOf job ≡ progressOver Run· strips
 
   abbrev State : Density → List Worked → Job → Type 0
   State d strips job = Going d strips job ⊎ Done d strips job
@@ -258,8 +284,8 @@ module _ (set : FinSet) (points : List Float) (L : ℕ) (made : makingCheck set 
     unfolding firstRefusal ownCheck
     checked-again = ap₂ firstRefusal (each-accepts (ownChecks set points) own-checked .0) (g .dense)
 
-    ends : With· ≡ All· → Done d With· (ended J· (summedOf With·) (outcomeOf (J· .set) (outlineOf J·) (summedOf With·)))
-    unfolding outcomeOf
+    ends : With· ≡ All· → Done d With· (ended J· (summedOf With·) Next· (outcomeOf (J· .set) (outlineOf J·) (summedOf With·)))
+    unfolding outcomeOf progressOf
     ends whole =
         record {
           over-now = refl;
@@ -272,6 +298,7 @@ module _ (set : FinSet) (points : List Float) (L : ℕ) (made : makingCheck set 
               ∙ ap (λ (l : List Worked). concludedSet (withDensity set d) (rootChordOf (set .planform) points) Scale· (summedOf l)) whole;
           samples = refl;
           intervals = refl;
+          progress = progress-is Next· With· (ap Place· (sym (one-longer ∙ add-one (length strips)))) (omega (arith, one-longer, inside));
         }
 
     last : With· ≡ All· → (isAccepted (summedOf With· .ending) && ltb 0 Left·) ≡ false → State d With· (afterStrip J· (Onward· (summedOf With·)))
@@ -450,6 +477,8 @@ module _ (set : FinSet) (points : List Float) (L : ℕ) (made : makingCheck set 
           worked-so-far = record { to-come = _; are = subst (StripsAre Run·) (sym (g .rest)) (strips-are Run· (limits .0)) };
           samples-so-far = ap (λ (j : Job). j .samples) (g .is);
           intervals-so-far = ap (λ (j : Job). j .intervals) (g .is);
+          progress-so-far = ap progressOf (g .is) ∙ (unfold progressOf in progress-is (Place· (length Strips·)) Strips· refl (omega (arith, g .below)));
+          all-worked = λ e k. not-both _ still e;
           worked = λ e. not-both _ still e;
           reported = λ e. not-both _ still e;
           ends-as-fresh = λ e n s. not-both _ still e;
@@ -462,6 +491,8 @@ module _ (set : FinSet) (points : List Float) (L : ℕ) (made : makingCheck set 
 
     ended-so : Done Density· Strips· After· → OverCalls set points L calls
     ended-so z =
+        let all : endingOf Strips· ≡ accepted → length Strips· ≡ stripsFrom Run· 0 =
+        λ k. ap length (z .whole) ∙ worked-all f· L Scale· Heights· accepted (sym (ap endingOf (z .whole)) ∙ k) in
         record {
           set-is = z .set-is;
           carries = λ e. not-both _ e (z .over-now);
@@ -469,6 +500,8 @@ module _ (set : FinSet) (points : List Float) (L : ℕ) (made : makingCheck set 
               record { to-come = []; are = subst (StripsAre Run·) (sym (append-nil Strips· ∙ z .whole)) (strips-are Run· (limits .0)) };
           samples-so-far = z .samples;
           intervals-so-far = z .intervals;
+          progress-so-far = z .progress;
+          all-worked = λ e k. ap (λ (p : JobProgress). p .worked) (z .progress) ∙ all k ∙ sym (ap (λ (p : JobProgress). p .strips) (z .progress));
           ends-as-fresh = λ e n s. z .answer ∙ fresh Density· (z .dense) n s;
           answers-as-fresh = answers-fresh (inr z);
           worked = λ e. subst (StripsAre Run·) (sym (z .whole)) (strips-are Run· (limits .0));
@@ -477,7 +510,7 @@ module _ (set : FinSet) (points : List Float) (L : ℕ) (made : makingCheck set 
           no-more-steps = subst (λ (l : List Worked). length l ≤ stripsFrom Run· 0) (sym (z .whole)) (let n = worked-few 7 f· L Scale· Heights· in omega (arith, n));
           runs-on = λ e. not-both _ e (z .over-now);
           works-next = λ e n v. not-both _ e (z .over-now);
-          as-many-steps = λ e k. ap length (z .whole) ∙ worked-all f· L Scale· Heights· accepted (sym (ap endingOf (z .whole)) ∙ k);
+          as-many-steps = λ e k. all k;
         }
 
     by-state : State Density· Strips· After· → OverCalls set points L calls

@@ -23,9 +23,10 @@ use Rattle.figures.specs.Figures.{setRun, setFigures}
 use Rattle.figures.specs.Answers.{setReport}
 use Rattle.jobs.specs.declared.Job.{Job}
 use Rattle.jobs.specs.declared.Progress.the-variants.{Ended}
+use Rattle.jobs.specs.declared.JobProgress.{JobProgress}
 use Rattle.jobs.specs.declared.Reply.{Reply}
 use Rattle.jobs.specs.declared.Row.{Row}
-use Rattle.jobs.specs.Jobs.{pointsOf, runOfJob, bareFigures, stepRow, replyRow, withDensity, stepOf, changeOf, madeOf}
+use Rattle.jobs.specs.Jobs.{pointsOf, runOfJob, bareFigures, stepRow, replyRow, withDensity, stepOf, changeOf, madeOf, progressOf}
 
 -- a step over the scratch lent to it, or a change of density
 pub data Call : Type 0 where
@@ -107,6 +108,11 @@ runningJob set points L strips =
       outcome = bareFigures Accepted 0;
     }
 
+-- how far a job is whose strips so far are these
+abbrev pub progressOver : Run → List Worked → JobProgress
+progressOver run strips =
+    record { worked = length strips; strips = stripsFrom run 0; intervals = intervalsIn strips; samples = samplesIn strips }
+
 -- ---- a job that was made, and any calls
 
 module _ (set : FinSet) (points : List Float) (L : ℕ) (calls : List Call) where
@@ -132,6 +138,9 @@ module _ (set : FinSet) (points : List Float) (L : ℕ) (calls : List Call) wher
     -- "the job's samples so far", before the end and at it; the intervals likewise
     pub samples-so-far : jobAfter .samples ≡ samplesIn stripsAfter
     pub intervals-so-far : jobAfter .intervals ≡ intervalsIn stripsAfter
+    -- and so it is told how far the job is, before the end and at it; at an end with figures all strips are worked
+    pub progress-so-far : progressOf jobAfter ≡ progressOver (setRun set points L) stripsAfter
+    pub all-worked : jobAfter .ended ≡ true → endingOf stripsAfter ≡ accepted → progressOf jobAfter .worked ≡ progressOf jobAfter .strips
     -- at the end they are all strips of the run, and what is reported is of them; what was written is `WritesOwnStrip`
     pub worked : jobAfter .ended ≡ true → StripsAre (setRun set points L) stripsAfter
     pub reported : jobAfter .ended ≡ true → AreReported stripsAfter (setReport (jobAfter .outcome))

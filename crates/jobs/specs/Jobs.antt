@@ -2,12 +2,12 @@
 -- every state of the record, and what it leaves of record and scratch.
 use mathlib.Core.Path.{_≡_}
 use mathlib.Core.Bool.{Bool, true, false, not, cond, _&&_}
-use mathlib.Core.List.{List}
-use Prim.Native.Nat.{ℕ}
+use mathlib.Core.List.{List, [], _∷_}
+use Prim.Native.Nat.{ℕ, suc, _-_}
 use lib.Dec.{leb}
 use lib.ListN.{length, take, replicate}
-use lib.Ieee.{Float}
-use Rattle.floats.specs.Operations.{bits}
+use lib.Ieee.{Float, lt}
+use Rattle.floats.specs.Operations.{bits, at}
 use Rattle.sorting.specs.Sorted.{over}
 use Rattle.refusals.specs.declared.Refusal.{Refusal}
 use Rattle.refusals.specs.declared.Refusal.the-variants.{Scratch, Density as notTaken}
@@ -21,7 +21,8 @@ use Rattle.limits.specs.Limits.{outlineNumbers, limitCheck, scratchCheck, count
 use Rattle.materials.specs.declared.Density.{Density}
 use Rattle.materials.specs.Materials.{densityCheck}
 use Rattle.planforms.specs.Planforms.{rootChordOf}
-use Rattle.breaks.specs.Breaks.{allHeights}
+use Rattle.planforms.specs.declared.Planform.{Planform}
+use Rattle.breaks.specs.Breaks.{allHeights, breakHeights}
 use Rattle.integrands.specs.Integrands.{scaleOf}
 use Rattle.quadrature.specs.Rule.{zeros}
 use Rattle.fins.specs.declared.FinSet.{FinSet}
@@ -37,6 +38,7 @@ use Rattle.jobs.specs.declared.Points.{Points}
 use Rattle.jobs.specs.declared.Job.{Job}
 use Rattle.jobs.specs.declared.Progress.{Progress}
 use Rattle.jobs.specs.declared.Progress.the-variants.{Short, More, Ended}
+use Rattle.jobs.specs.declared.JobProgress.{JobProgress}
 use Rattle.jobs.specs.declared.Reply.{Reply}
 use Rattle.jobs.specs.declared.Row.{Row}
 use Rattle.jobs.specs.declared.Stepped.{Stepped}
@@ -118,14 +120,14 @@ more job total next =
       outcome = job .outcome;
     }
 
--- the job ends with these figures
-abbrev pub ended : Job → Integral → Figures → Job
-ended job total outcome =
+-- the job ends with these figures, and no strip begins at this place
+abbrev pub ended : Job → Integral → ℕ → Figures → Job
+ended job total next outcome =
     record {
       set = job .set;
       points = job .points;
       limit = job .limit;
-      next = job .next;
+      next = next;
       value = total .value;
       intervals = total .intervals;
       samples = total .samples;
@@ -138,7 +140,7 @@ unfoldable pub afterStrip : Job → Onward → Job
 afterStrip job onward =
     cond (isAccepted (onward .total .ending) && onward .more)
     (more job (onward .total) (onward .next))
-    (ended job (onward .total) (outcomeOf (job .set) (outlineOf job) (onward .total)))
+    (ended job (onward .total) (onward .next) (outcomeOf (job .set) (outlineOf job) (onward .total)))
 
 -- "A step writes its own strip's pieces from the start of the scratch lent to it and leaves the rest"
 abbrev pub workedStrip : Job → CallOf Job
@@ -150,7 +152,7 @@ workedStrip job =
 
 -- 1, which no job that was made is given, ends the job, with the samples so far
 abbrev pub endedBy : Job → Refusal → Job
-endedBy job refusal = ended job (totalOf job) (bareFigures (Refused refusal) (job .samples))
+endedBy job refusal = ended job (totalOf job) (job .next) (bareFigures (Refused refusal) (job .samples))
 
 -- a step that is lent enough: "one that repeats an answer writes nothing"
 unfoldable pub steppedOn : Job → CallOf Job
@@ -258,3 +260,26 @@ madeWith verdict set points L =
 
 unfoldable pub madeOf : FinSet → List Float → ℕ → Replied
 madeOf set points L = madeWith (makingCheck set points L) set points L
+
+-- ---- how far a job is
+
+-- how many of some heights lie below h
+unfoldable pub countBelow : Float → List Float → ℕ
+countBelow h [] = 0
+countBelow h (x ∷ l) = cond (lt x h) (suc (countBelow h l)) (countBelow h l)
+
+-- the strips below the height at a place: of the break heights, which bound them, so many are below it
+abbrev pub stripsBelow : Planform → List Float → ℕ → ℕ
+stripsBelow planform points place = countBelow (at (allHeights planform points) place) (breakHeights planform points)
+
+-- how many strips of how many are worked, and the intervals and samples so far. Those are worked that lie below the
+-- next one, or below where the last one worked ended: of a job that has ended with figures all, and where a strip was
+-- refused that one too
+unfoldable pub progressOf : Job → JobProgress
+progressOf job =
+    record {
+      worked = stripsBelow (job .set .planform) (outlineOf job) (job .next);
+      strips = length (breakHeights (job .set .planform) (outlineOf job)) - 1;
+      intervals = job .intervals;
+      samples = job .samples;
+    }

@@ -5,11 +5,12 @@
 // and scratch may be handed in.
 ghost use mathlib.Core.Path.{_≡_};
 ghost use lib.ListN.{length};
+ghost use Prim.Native.Nat.{suc, _<_, _^_};
 ghost use Rattle.strips.specs.Strips.{Room, WorksNext};
-ghost use mathlib.Core.Bool.{false};
+ghost use mathlib.Core.Bool.{false, cond};
 ghost use Rattle.refusals.specs.Calls.{Does};
 ghost use Rattle.jobs.specs.Jobs.{heldOf, pointsOf, outlineOf, runOfJob, totalOf, bareFigures, figuresRow, plainRow, outcomeOf, more, ended, endedBy, afterStrip, isShort, stepAfter, steppedOn, StepsTo};
-ghost use Rattle.jobs.specs.Jobs.{withDensity, taken, kept, IsReplied, changeOf, makingCheck, madeOf};
+ghost use Rattle.jobs.specs.Jobs.{withDensity, taken, kept, IsReplied, changeOf, makingCheck, madeOf, countBelow, progressOf};
 ghost use Rattle.jobs.specs.Lent.{StepsLent, ChangesLent};
 use bodies::Body;
 use figures::Figures;
@@ -49,6 +50,14 @@ pub enum Progress {
     Short,
     More,
     Ended,
+}
+
+// How far a job is: how many strips of how many are worked, and the intervals and samples so far.
+pub struct JobProgress {
+    pub worked: usize,
+    pub strips: usize,
+    pub intervals: usize,
+    pub samples: usize,
 }
 
 // What a making, a submission or a change of density answers: taken where the verdict accepts, else its number with the
@@ -155,9 +164,9 @@ fn go_on(job: Job, total: Integral, next: usize) -> Job
     }
 }
 
-// The job ends with these figures.
-fn end(job: Job, total: Integral, outcome: Figures) -> Job
-    ensures { λ r. ⌜ r ≡ ended job total outcome ⌝ }
+// The job ends with these figures, and no strip begins at this place.
+fn end(job: Job, total: Integral, next: usize, outcome: Figures) -> Job
+    ensures { λ r. ⌜ r ≡ ended job total next outcome ⌝ }
 {
     let set = job.set;
     let points = job.points;
@@ -166,7 +175,7 @@ fn end(job: Job, total: Integral, outcome: Figures) -> Job
         set,
         points,
         limit: job.limit,
-        next: job.next,
+        next,
         value,
         intervals: total.intervals,
         samples: total.samples,
@@ -247,7 +256,7 @@ fn after_strip(job: Job, onward: Onward) -> Job
     let numbers = points.numbers;
     let n = held(points.count);
     let figures = conclude(set, &numbers[..n], total);
-    end(job, total, figures)
+    end(job, total, onward.next, figures)
 }
 
 // A limit outside its limits, which no job that was made has, ends the job with 1.
@@ -263,7 +272,7 @@ fn end_refused(job: Job, refusal: Refusal) -> Job
         samples: job.samples,
     };
     let outcome = bare_figures(Verdict::Refused(refusal), job.samples);
-    end(job, total, outcome)
+    end(job, total, job.next, outcome)
 }
 
 // A step that is lent enough: a job that has ended stays as it is.
@@ -441,4 +450,51 @@ pub fn change_density(job: &mut Job, density: Density) -> Reply
     let s = change_by_value(*job, density);
     *job = s.job;
     s.reply
+}
+
+// A count, one more where a test holds.
+fn counted(count: usize, holds: bool) -> usize
+    requires { ⌜ count < 2 ^ 32 ⌝ }
+    ensures { λ r. ⌜ r ≡ cond holds (suc count) count ⌝ }
+{
+    if holds {
+        return count + 1;
+    }
+    count
+}
+
+// How many of some heights lie below h.
+fn count_below(heights: &[f64], h: f64) -> usize
+    requires { ⌜ length (now heights) < 2 ^ 32 ⌝ }
+    ensures { λ r. ⌜ r ≡ countBelow h (now (heights .entry)) ⌝ }
+{
+    let mut count: usize = 0;
+    let mut i = heights.len();
+    while 0 < i {
+        i -= 1;
+        count = counted(count, heights[i] < h);
+    }
+    count
+}
+
+// How far a job is.
+pub fn progress_of(job: Job) -> JobProgress
+    ensures { λ r. ⌜ r ≡ progressOf job ⌝ }
+{
+    let set = job.set;
+    let planform = set.planform;
+    let points = job.points;
+    let numbers = points.numbers;
+    let n = held(points.count);
+    let next = breaks::height_at(planform, &numbers[..n], job.next);
+    let breaks = breaks::break_heights(planform, &numbers[..n]);
+    let count = breaks.count;
+    let heights = breaks.heights;
+    let worked = count_below(&heights[..count], next);
+    JobProgress {
+        worked,
+        strips: count - 1,
+        intervals: job.intervals,
+        samples: job.samples,
+    }
 }

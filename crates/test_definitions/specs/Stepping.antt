@@ -19,7 +19,7 @@ use Rattle.sections.specs.ChordMoments.{chordMoments}
 use Rattle.planforms.specs.declared.Planform.the-variants.{Outline}
 use Rattle.planforms.specs.Planforms.{largestHeight, rootChordOf, spanOf}
 use Rattle.sorting.specs.Sorted.{belowAll, insert, sorted}
-use Rattle.breaks.specs.Breaks.{heights, everyY, placeAbove}
+use Rattle.breaks.specs.Breaks.{heights, everyY, placeAbove, once, breakHeights}
 use Rattle.chords.specs.Chords.{crossed, crossings, outlineCrossings, endsAt, paired}
 use Rattle.integrands.specs.Integrands.{scaleOf, sumsFrom, sampleOf, plateOf}
 use Rattle.fillets.specs.Numbered.{noFillet}
@@ -36,13 +36,14 @@ use Rattle.strips.specs.Strips.{withStrip, onwardOf, scratchOnward}
 use Rattle.figures.specs.declared.Figures.{Figures}
 use Rattle.figures.specs.Figures.{concludedSet}
 use Rattle.jobs.specs.declared.Job.{Job}
+use Rattle.jobs.specs.declared.JobProgress.{JobProgress}
 use Rattle.jobs.specs.declared.Stepped.{Stepped}
 use Rattle.jobs.specs.declared.Progress.{Progress}
 use Rattle.jobs.specs.declared.Progress.the-variants.{Short, More, Ended}
 use Rattle.jobs.specs.declared.Row.{Row}
-use Rattle.jobs.specs.Jobs.{pointsOf, bareFigures, stepRow, outcomeOf, afterStrip, steppedOn, stepOf, changeOf}
+use Rattle.jobs.specs.Jobs.{pointsOf, bareFigures, stepRow, outcomeOf, afterStrip, steppedOn, stepOf, changeOf, countBelow, progressOf}
 use Rattle.jobs.specs.Calls.{isTaken}
-use Rattle.test_definitions.specs.Rows.{is, are, refused}
+use Rattle.test_definitions.specs.Rows.{is, are, same, refused}
 
 abbrev one : ℕ
 one = 0x3ff0_0000_0000_0000
@@ -224,9 +225,10 @@ abbrev pub one-strip-a-step : Stepped → Bool
 one-strip-a-step s =
     isMore (s .progress) && eqb (stepRow (s .progress) (s .job) .number) 1000 && eqb (s .job .next) 3 && eqb (s .job .samples) 15 && eqb (s .job .intervals) 1 && not (s .job .ended)
 
--- "the sums and totals over those worked": the last strip's are added to those of the record, whose first is 1
+-- "the sums and totals over those worked": the last strip's are added to those of the record, whose first is 1; and
+-- the job has come to the place of the span
 abbrev pub sums-go-on : Stepped → Bool
-sums-go-on s = isEnded (s .progress) && s .job .ended && eqb (s .job .samples) 30 && eqb (s .job .intervals) 2 && lt (bits one) (at (s .job .value) 0)
+sums-go-on s = isEnded (s .progress) && s .job .ended && eqb (s .job .next) 1 && eqb (s .job .samples) 30 && eqb (s .job .intervals) 2 && lt (bits one) (at (s .job .value) 0)
 
 -- "A step writes its own strip's pieces from the start of the scratch lent to it and leaves the rest", the last step
 -- too
@@ -237,6 +239,21 @@ last-strip-written scratch =
 pub calls-hold : T (short-step && repeats && no-limit && density-taken && density-left && job-ends && asked-again)
 unfolding ofBits toBits ofInt round add sub mul div lt le eq ne absOf every belowAll insert sorted isRefused firstRefusal scratchCheck densityCheck chordMoments largestHeight rootChordOf spanOf heights everyY placeAbove crossed crossings outlineCrossings endsAt paired scaleOf sumsFrom sampleOf plateOf nodes kronrodWeights gaussWeights heightsTo weightedTo pieceOf totalOf errorOf absolute relative converged scoreOf lastHighest worstPlace componentOf repeat halving withStrip onwardOf scratchOnward outcomeOf concludedSet afterStrip steppedOn stepOf changeOf
 calls-hold = tt
+
+-- the next strip's place told for the strips worked; equal heights counted twice among all; a refused strip not counted
+abbrev isProgress : JobProgress → List ℕ → Bool
+isProgress p ns = same (p .worked ∷ p .strips ∷ p .intervals ∷ p .samples ∷ []) ns
+
+abbrev pub progress-counted : Bool
+progress-counted =
+    isProgress (progressOf (worked 0 0 0 zeros)) (0 ∷ 2 ∷ 0 ∷ 0 ∷ [])
+    && isProgress (progressOf (worked 1 3 15 zeros)) (1 ∷ 2 ∷ 1 ∷ 15 ∷ [])
+    && isProgress (progressOf (worked 2 1 30 zeros)) (2 ∷ 2 ∷ 2 ∷ 30 ∷ [])
+    && isProgress (progressOf over) (1 ∷ 2 ∷ 1 ∷ 135 ∷ [])
+
+pub progress-holds : T progress-counted
+unfolding ofBits toBits lt eq ne belowAll insert sorted largestHeight spanOf heights everyY once breakHeights countBelow progressOf
+progress-holds = tt
 
 -- each apart, since fifteen samples are worked for each piece, and by a `let`, by which they are worked once
 
