@@ -21,7 +21,7 @@ use Rattle.fins.specs.declared.FinSet.{FinSet}
 use Rattle.jobs.specs.declared.Job.{Job}
 use Rattle.jobs.specs.declared.Replied.{Replied}
 use Rattle.refusals.specs.Calls.{CallOf, leavesAlone}
-use Rattle.jobs.specs.Jobs.{isShort, steppedOn, changeOf, madeOf}
+use Rattle.jobs.specs.Jobs.{isShort, steppedOn, changeOf, madeOf, progressOf}
 use Rattle.jobs.proofs.Laws.{yes, no}
 use Rattle.engines.specs.declared.Screens.{Screens}
 use Rattle.engines.specs.declared.Engine.{Engine}
@@ -29,7 +29,7 @@ use Rattle.engines.specs.declared.Served.{Served}
 use Rattle.engines.specs.declared.Turn.the-variants.{Short, Idle}
 use Rattle.engines.specs.declared.AtScreen.{AtScreen}
 use Rattle.engines.specs.Engines.{isScreen, placeOf, holdsJob, isFree, screenAfter, firstHeld, nextScreen, pickOf}
-use Rattle.engines.specs.Engines.{withHeld, servedScreen, turnAfter, steppedAt, servedOf, refused, submittedOf, changedOf}
+use Rattle.engines.specs.Engines.{withHeld, servedScreen, turnAfter, steppedAt, servedOf, refused, submittedOf, changedOf, noProgress, toldOf}
 use Rattle.engines.specs.Engines.{jobAt, turnedAt, calledAt, turnOf, submitOf, changeAt}
 
 -- ---- a screen's place
@@ -125,6 +125,16 @@ module _ (screens : Screens) (job : Job) (screen : ℕ) (density : Density) wher
   pub change-none : holdsJob screens screen ≡ false → changedOf screens job screen density ≡ refused screens job notTaken
   unfolding changedOf
   change-none h = no _ _ h
+
+-- ---- how far a screen's job is
+module _ (screens : Screens) (job : Job) (screen : ℕ) where
+  pub told-held : holdsJob screens screen ≡ true → toldOf screens job screen ≡ progressOf job
+  unfolding toldOf
+  told-held h = yes _ _ h
+
+  pub told-none : holdsJob screens screen ≡ false → toldOf screens job screen ≡ noProgress
+  unfolding toldOf
+  told-none h = no _ _ h
 
 -- ---- the engine: what a call left at the place where it worked
 module _ (engine : Engine) (place : ℕ) where

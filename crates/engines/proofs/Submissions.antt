@@ -23,24 +23,24 @@ use Rattle.materials.specs.declared.Density.{Density}
 use Rattle.materials.specs.Materials.{densityCheck}
 use Rattle.fins.specs.declared.FinSet.{FinSet}
 use Rattle.strips.specs.Strips.{runCheck}
-use Rattle.figures.specs.Figures.{setFigures}
+use Rattle.figures.specs.Figures.{setRun, setFigures}
 use Rattle.jobs.specs.declared.Job.{Job}
 use Rattle.jobs.specs.declared.Stepped.{Stepped}
 use Rattle.jobs.specs.declared.Replied.{Replied}
 use Rattle.refusals.specs.Calls.{CallOf}
-use Rattle.jobs.specs.Jobs.{steppedOn, steppedBy, stepOf, changeOf, makingCheck, madeOf}
-use Rattle.jobs.specs.Calls.{isTaken, counts, jobAfter, setAfter}
+use Rattle.jobs.specs.Jobs.{steppedOn, steppedBy, stepOf, changeOf, makingCheck, madeOf, progressOf}
+use Rattle.jobs.specs.Calls.{isTaken, counts, jobAfter, setAfter, stripsAfter, progressOver}
 use Rattle.jobs.specs.Calls as alone
 use Rattle.jobs.proofs.Laws.{yes, change-refused, change-taken, after-both}
 use Rattle.jobs.proofs.Together.{over-calls}
 use Rattle.engines.specs.declared.Engine.{Engine}
 use Rattle.engines.specs.declared.Turned.{Turned}
 use Rattle.engines.specs.declared.Called.{Called}
-use Rattle.engines.specs.Engines.{isScreen, placeOf, holdsJob, isFree, nextScreen, servedScreen, turnAfter, turnOf, submitOf, changeAt}
+use Rattle.engines.specs.Engines.{isScreen, placeOf, holdsJob, isFree, nextScreen, servedScreen, turnAfter, turnOf, submitOf, changeAt, progressAt}
 use Rattle.engines.specs.Calls.{Call, turn, submit, change, engineBy, afterCalls, EightScreens, jobOf}
 use Rattle.engines.specs.Calls.{screenOf, servedOver, ownBy, ownOver, holdsOver}
 use Rattle.engines.specs.Calls.{GetsStrip, StripWithinEight, RunsBy, Submitted, AllSubmitted, Serves, sinceThen, engineNow, OnScreen}
-use Rattle.engines.proofs.Laws.{served-is}
+use Rattle.engines.proofs.Laws.{served-is, told-held}
 use Rattle.engines.proofs.Effects.{in-eight, place-below, holds-is-screen, free-is-screen, mark-own, busy-not-taken, refused-not-taken, submit-takes, change-not-held, others-stay, changes-nothing, still-eight}
 use Rattle.engines.proofs.Order.{next-holds}
 use Rattle.engines.proofs.Alone.{Served, served, own-call, job-set}
@@ -240,6 +240,13 @@ module _ (screen : ℕ) (set : FinSet) (points : List Float) (L : ℕ) where
       (append-assoc own (ownBy screen engine call) (ownOver screen (engineBy engine call) calls) ∙ ap (λ (l : List alone.Call). own ++ l) (sym (own-first call calls engine (n .0))))
       (since calls (engineBy engine call) (still-eight engine call w) (own ++ ownBy screen engine call) (one-more engine w screen (n .0) set points L own r call here) (n .1) h)
 
+-- how far its job is told to be, which was made of an accepted set
+told-so-far : (engine : Engine) (screen : ℕ) → holdsJob (engine .screens) screen ≡ true → (set : FinSet) (points : List Float) (L : ℕ) (own : List alone.Call)
+    → RunsBy set points L own (jobOf engine screen) → progressAt engine screen ≡ progressOver (setRun set points L) (stripsAfter set points L own)
+unfolding progressAt
+told-so-far engine screen h set points L own r =
+    told-held (engine .screens) (jobOf engine screen) screen h ∙ ap progressOf (r .is) ∙ over-calls set points L (r .accepted) own .progress-so-far
+
 -- a submission that was taken
 pub on-screen : (engine : Engine) → EightScreens engine → (screen : ℕ) (set : FinSet) (points : List Float) (L : ℕ) (calls : List Call)
     → isTaken (submitOf engine screen set points L .reply) ≡ true → holdsOver screen (engineBy engine (submit screen set points L)) calls ≡ true
@@ -251,6 +258,7 @@ on-screen engine w screen set points L calls t over h =
     let own = sinceThen engine screen set points L calls in
     record {
       job = r;
+      progress = told-so-far (afterCalls first calls) screen h set points L own r;
       gets-strip = λ scratch e. works-strip (afterCalls first calls) (eight-behind calls first w1) screen h set points L own r scratch e;
       next-turn = λ scratch e. serves (afterCalls first calls) (eight-behind calls first w1) screen h set points L own r scratch e;
     }

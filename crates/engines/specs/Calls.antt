@@ -12,17 +12,17 @@ use Rattle.limits.specs.Limits.{scratchNumbers, mostSamples, scratchCheck}
 use Rattle.materials.specs.declared.Density.{Density}
 use Rattle.fins.specs.declared.FinSet.{FinSet}
 use Rattle.strips.specs.Strips.{scratchAfter}
-use Rattle.figures.specs.Figures.{setFigures}
+use Rattle.figures.specs.Figures.{setRun, setFigures}
 use Rattle.jobs.specs.declared.Job.{Job}
 use Rattle.jobs.specs.declared.Row.{Row}
 use Rattle.jobs.specs.Jobs.{replyRow, makingCheck}
-use Rattle.jobs.specs.Calls.{isTaken, jobAfter, setAfter, Drawable}
+use Rattle.jobs.specs.Calls.{isTaken, jobAfter, setAfter, stripsAfter, progressOver, Drawable}
 use Rattle.jobs.specs.Calls as alone
 use Rattle.engines.specs.declared.Engine.{Engine}
 use Rattle.engines.specs.declared.Turn.the-variants.{More, Ended}
 use Rattle.engines.specs.declared.Turned.{Turned}
 use Rattle.engines.specs.Engines.{isScreen, placeOf, holdsJob, nextScreen}
-use Rattle.engines.specs.Engines.{jobAt, servedScreen, turnOf, turnedRow, submitOf, changeAt}
+use Rattle.engines.specs.Engines.{jobAt, servedScreen, turnOf, turnedRow, submitOf, changeAt, progressAt}
 
 -- a turn over the scratch lent to it, a submission to a screen, or a change of a screen's density
 pub data Call : Type 0 where
@@ -216,6 +216,8 @@ module _ (engine : Engine) (screen : ℕ) (set : FinSet) (points : List Float) (
   pub record OnScreen : Type 0 where
     -- the job is that of the set submitted, with the calls since: what holds of it alone is `jobs/Calls: OverCalls`
     pub job : RunsBy set points L sinceThen (jobOf engineNow screen)
+    -- how far the screen is told that it is: the strips that its turns worked, of all of its run
+    pub progress : progressAt engineNow screen ≡ progressOver (setRun set points L) (stripsAfter set points L sinceThen)
     -- "gets its strip": the turn that serves it works one
     pub gets-strip : (scratch : List Float) → screen ≡ screenOf engineNow (turn scratch) → alone.counts (jobOf engineNow screen) (length scratch) ≡ true
     pub next-turn : (scratch : List Float) → screen ≡ screenOf engineNow (turn scratch)

@@ -15,11 +15,12 @@ use Rattle.materials.specs.declared.Density.{Density}
 use Rattle.fins.specs.declared.FinSet.{FinSet}
 use Rattle.jobs.specs.declared.Job.{Job}
 use Rattle.jobs.specs.declared.Progress.the-variants.{More as moreRemain, Ended as hasEnded}
+use Rattle.jobs.specs.declared.JobProgress.{JobProgress}
 use Rattle.jobs.specs.declared.Replied.{Replied}
 use Rattle.jobs.specs.declared.Row.{Row}
 use Rattle.refusals.specs.Calls.{CallOf, leavesAlone}
 use Rattle.limits.specs.Limits.{scratchNumbers}
-use Rattle.jobs.specs.Jobs.{bareFigures, figuresRow, plainRow, stepRow, steppedOn, changeOf, madeOf}
+use Rattle.jobs.specs.Jobs.{bareFigures, figuresRow, plainRow, stepRow, steppedOn, changeOf, madeOf, progressOf}
 use Rattle.engines.specs.declared.Screens.{Screens}
 use Rattle.engines.specs.declared.Engine.{Engine}
 use Rattle.engines.specs.declared.Turn.{Turn}
@@ -138,6 +139,15 @@ changedOf screens job screen density =
     (record { screens = screens; job = changeOf job density .job; reply = changeOf job density .reply })
     (refused screens job notTaken)
 
+-- ---- how far a screen's job is, on the screens and the job at the screen's place
+
+-- with no job there, or no such screen
+abbrev pub noProgress : JobProgress
+noProgress = record { worked = 0; strips = 0; intervals = 0; samples = 0 }
+
+unfoldable pub toldOf : Screens → Job → ℕ → JobProgress
+toldOf screens job screen = cond (holdsJob screens screen) (progressOf job) noProgress
+
 -- ---- the engine
 
 -- the job at a place
@@ -176,3 +186,7 @@ submitOf engine screen set points L =
 unfoldable pub changeAt : Engine → ℕ → Density → Called
 changeAt engine screen density =
     calledAt engine (placeOf screen) (changedOf (engine .screens) (jobAt engine (placeOf screen)) screen density)
+
+-- how far the job of a screen is: a question, which leaves the engine as it is
+unfoldable pub progressAt : Engine → ℕ → JobProgress
+progressAt engine screen = toldOf (engine .screens) (jobAt engine (placeOf screen)) screen

@@ -8,8 +8,9 @@ ghost use mathlib.Core.Path.{_≡_};
 ghost use Prim.Native.Nat.{_<_};
 ghost use lib.ListN.{length};
 ghost use Rattle.engines.specs.Engines.{isScreen, placeOf, holdsJob, isFree, nextScreen, pickOf, withHeld};
-ghost use Rattle.engines.specs.Engines.{turnAfter, servedScreen, stepped, ServesTo, IsAtScreen, refused, submittedOf, changedOf};
+ghost use Rattle.engines.specs.Engines.{turnAfter, servedScreen, stepped, ServesTo, IsAtScreen, refused, submittedOf, changedOf, toldOf};
 use jobs::Job;
+use jobs::JobProgress;
 use jobs::Replied;
 use jobs::Reply;
 use materials::Density;
@@ -231,4 +232,20 @@ pub fn change_at(screens: Screens, job: Job, screen: usize, density: Density) ->
         };
     }
     refuse(screens, job, Refusal::Density)
+}
+
+// How far the job of a screen is, of the screens and the job at the screen's place; all 0 with no job there, or no such
+// screen.
+pub fn progress_at(screens: Screens, job: Job, screen: usize) -> JobProgress
+    ensures { λ r. ⌜ r ≡ toldOf screens job screen ⌝ }
+{
+    if holds_job(screens, screen) {
+        return jobs::progress_of(job);
+    }
+    JobProgress {
+        worked: 0,
+        strips: 0,
+        intervals: 0,
+        samples: 0,
+    }
 }

@@ -15,7 +15,7 @@ use Rattle.sorting.proofs.Sorted.{sorted-length}
 use Rattle.planforms.specs.declared.Planform.{Planform}
 use Rattle.breaks.specs.declared.BreakHeights.{BreakHeights}
 use Rattle.breaks.specs.Breaks.{once, allHeights, breakHeights, listed}
-use Rattle.breaks.proofs.Listed.{at-most-66, heights-taken, heights-count, heights-room}
+use Rattle.breaks.proofs.Listed.{most-breaks, heights-taken, heights-count, heights-room}
 use Rattle.jobs.specs.declared.Job.{Job}
 use Rattle.jobs.specs.declared.JobProgress.{JobProgress}
 use Rattle.jobs.specs.Jobs.{heldOf, countBelow, progressOf}
@@ -101,7 +101,7 @@ module _ (planform : Planform) (points : List Float) (b : BreakHeights) (e : b �
   pub few-breaks : (b .count ≤ length (b .heights)) × (b .count ≤ 66)
   few-breaks =
       let n = heights-count planform points b e in
-      let m = at-most-66 planform points in
+      let m = most-breaks planform points in
       (omega (arith, n, m, heights-room planform points b e), omega (arith, n, m))
 
 module _ (job : Job) (n : ℕ) (held : n ≡ heldOf (job .points .count)) (h : Float) (b : BreakHeights) (worked : ℕ) where

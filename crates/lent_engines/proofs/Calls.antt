@@ -14,6 +14,7 @@ use Rattle.materials.specs.declared.Density.{Density}
 use Rattle.figures.specs.declared.Figures.{Figures}
 use Rattle.fins.specs.declared.FinSet.{FinSet}
 use Rattle.jobs.specs.declared.Job.{Job}
+use Rattle.jobs.specs.declared.JobProgress.{JobProgress}
 use Rattle.jobs.specs.declared.Replied.{Replied}
 use Rattle.jobs.specs.declared.Row.{Row}
 use Rattle.refusals.specs.Calls.{CallOf}
@@ -29,7 +30,7 @@ use Rattle.engines.specs.declared.Turn.{Turn}
 use Rattle.engines.specs.declared.Turn.the-variants.{Short, Idle, More, Ended}
 use Rattle.engines.specs.declared.Turned.{Turned}
 use Rattle.engines.specs.declared.Called.{Called}
-use Rattle.engines.specs.Engines.{placeOf, nextScreen, pickOf, turnRow, servedScreen, servedOf, ServesTo, submittedOf, changedOf, jobAt, withJob, turnedAt, calledAt, turnOf, turnedRow, submitOf, changeAt}
+use Rattle.engines.specs.Engines.{placeOf, nextScreen, pickOf, turnRow, servedScreen, servedOf, ServesTo, submittedOf, changedOf, jobAt, withJob, turnedAt, calledAt, turnOf, turnedRow, submitOf, changeAt, toldOf, progressAt}
 use Rattle.engines.specs.Calls.{Call, turn, submit, change, engineBy, screenOf}
 use Rattle.engines.proofs.Laws.{served-short, served-step, served-is, served-idle, turn-is, submit-is, change-is}
 use Rattle.engines.proofs.Effects.{changes-nothing}
@@ -200,6 +201,13 @@ turn-told numbers counts scratch r numbers' counts' scratch' h =
 pub outcome-is : (numbers : List Float) (counts : List ℕ) (place screen : ℕ) (job : Job) → place ≡ placeOf screen → job ≡ jobAt (engineIn numbers counts) place
     → job .outcome ≡ jobAt (engineIn numbers counts) (placeOf screen) .outcome
 outcome-is numbers counts place screen job p e = ap (λ (j : Job). j .outcome) (e ∙ ap (jobAt (engineIn numbers counts)) p)
+
+-- how far a screen's job is, of the screens and the job that are read
+pub told-there : (numbers : List Float) (counts : List ℕ) (screens : Screens) → screens ≡ screensIn counts → (place screen : ℕ) (job : Job) → place ≡ placeOf screen
+    → job ≡ jobAt (engineIn numbers counts) place → (r : JobProgress) → r ≡ toldOf screens job screen → r ≡ progressAt (engineIn numbers counts) screen
+unfolding progressAt
+told-there numbers counts screens s place screen job p e r h =
+    h ∙ ap₂ (λ (x : Screens) (j : Job). toldOf x j screen) (s ∙ sym (screens-of numbers counts)) (e ∙ ap (jobAt (engineIn numbers counts)) p)
 
 module _ (numbers : List Float) (counts : List ℕ) where
   abbrev Row· : Turn → Row

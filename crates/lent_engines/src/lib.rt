@@ -9,12 +9,13 @@ ghost use Prim.Native.Nat.{_≤_, _<_};
 ghost use lib.ListN.{length};
 ghost use Rattle.lent_engines.specs.Memory.{engineCounts, screenCounts, screensIn, engineIn};
 ghost use Rattle.lent_engines.specs.Lent.{Room, lists, WritesScreens, WritesAt, Clears, Turns, Submits, Changes};
-ghost use Rattle.engines.specs.Engines.{placeOf, turnRow, servedScreen, jobAt, withJob};
+ghost use Rattle.engines.specs.Engines.{placeOf, turnRow, servedScreen, jobAt, withJob, progressAt};
 use engines::Screens;
 use engines::Turn;
 use figures::Figures;
 use fins::FinSet;
 use jobs::Job;
+use jobs::JobProgress;
 use jobs::Reply;
 use jobs::Row;
 use lent_jobs::JOB_COUNTS;
@@ -226,4 +227,15 @@ pub fn change_density(
     let job = s.job;
     write_at(numbers, counts, place, screens, job);
     reply
+}
+
+// How far the job of a screen of the engine there is.
+pub fn progress_at(numbers: &[f64], counts: &[usize], screen: usize) -> JobProgress
+    requires { ⌜ Room (now numbers) (now counts) ⌝ }
+    ensures { λ r. ⌜ r ≡ progressAt (engineIn (now (numbers .entry)) (now (counts .entry))) screen ⌝ }
+{
+    let screens = read_screens(counts);
+    let place = engines::place_of(screen);
+    let job = read_at(numbers, counts, place);
+    engines::progress_at(screens, job, screen)
 }

@@ -8,7 +8,7 @@ ghost use Prim.Native.Nat.{_+_, _≤_};
 ghost use lib.ListN.{length};
 ghost use lib.Seq.{paste};
 ghost use Rattle.limits.specs.Limits.{outlineNumbers};
-ghost use Rattle.jobs.specs.Jobs.{stepRow};
+ghost use Rattle.jobs.specs.Jobs.{stepRow, progressOf};
 ghost use Rattle.lent_jobs.specs.Memory.{flag, workedNumbers, countsOf, setIn, outcomeIn, jobIn};
 ghost use Rattle.lent_jobs.specs.Lent.{Room, Holds, Makes, densityTaken, Steps, Changes, StepsThere, ChangesThere};
 use bodies::BODY_NUMBERS;
@@ -18,6 +18,7 @@ use fins::FinSet;
 use fins::SET_COUNTS;
 use fins::SET_NUMBERS;
 use jobs::Job;
+use jobs::JobProgress;
 use jobs::Points;
 use jobs::Progress;
 use jobs::Reply;
@@ -341,4 +342,13 @@ pub fn change_density(numbers: &mut [f64], counts: &mut [usize], density: Densit
     let job = read_job(numbers, counts);
     let changed = jobs::change_by_value(job, density);
     changed.reply
+}
+
+// How far the job there is.
+pub fn progress_of(numbers: &[f64], counts: &[usize]) -> JobProgress
+    requires { ⌜ Room (now numbers) (now counts) ⌝ }
+    ensures { λ r. ⌜ r ≡ progressOf (jobIn (now (numbers .entry)) (now (counts .entry))) ⌝ }
+{
+    let job = read_job(numbers, counts);
+    jobs::progress_of(job)
 }

@@ -15,7 +15,9 @@ use Rattle.materials.specs.declared.Density.{Density}
 use Rattle.materials.specs.declared.Density.the-variants.{Bulk, Surface, Line}
 use Rattle.materials.specs.Materials.{densityCheck}
 use Rattle.planforms.specs.declared.Planform.the-variants.{Trapezoid}
-use Rattle.planforms.specs.Planforms.{rootChordOf}
+use Rattle.planforms.specs.Planforms.{rootChordOf, spanOf}
+use Rattle.sorting.specs.Sorted.{belowAll, insert, sorted}
+use Rattle.breaks.specs.Breaks.{everyY, once, breakHeights}
 use Rattle.sections.specs.declared.Section.the-variants.{Square}
 use Rattle.fins.specs.declared.Tab.the-variants.{None}
 use Rattle.fins.specs.declared.FinSet.{FinSet}
@@ -23,12 +25,12 @@ use Rattle.outlines.specs.Outlines.{planformCheck}
 use Rattle.fins.specs.Fins.{tabCheck, depthCheck, ownCheck}
 use Rattle.jobs.specs.declared.Job.{Job}
 use Rattle.jobs.specs.declared.Row.{Row}
-use Rattle.jobs.specs.Jobs.{bareFigures, steppedOn, stepOf, changeOf, makingCheck, madeOf}
+use Rattle.jobs.specs.Jobs.{bareFigures, steppedOn, stepOf, changeOf, makingCheck, madeOf, countBelow, progressOf}
 use Rattle.engines.specs.declared.Screens.{Screens}
 use Rattle.engines.specs.declared.Engine.{Engine}
 use Rattle.engines.specs.declared.Called.{Called}
 use Rattle.engines.specs.NoJob.{noJob}
-use Rattle.engines.specs.Engines.{placeOf, holdsJob, isFree, firstHeld, nextScreen, pickOf, withHeld, servedScreen, stepped, servedOf, submittedOf, changedOf, turnOf, turnedRow, submitOf, changeAt}
+use Rattle.engines.specs.Engines.{placeOf, holdsJob, isFree, firstHeld, nextScreen, pickOf, withHeld, servedScreen, stepped, servedOf, submittedOf, changedOf, turnOf, turnedRow, submitOf, changeAt, toldOf, progressAt}
 use Rattle.engines.specs.Calls.{Call, turn, afterCalls, servedOver}
 use Rattle.test_definitions.specs.Rows.{is, same, refused}
 
@@ -170,6 +172,20 @@ own-density =
     && refused 12 [] (changeAt two 9 (Bulk tenth) .reply .verdict)
     && refused 12 [] (changeAt two 2 (Surface tenth) .reply .verdict)
 
+-- how far the job is that another screen holds, or one that has ended and is held no more
+abbrev pub own-progress : Bool
+own-progress =
+    eqb (progressAt two 2 .strips) 1
+    && eqb (progressAt two 2 .samples) 0
+    && eqb (progressAt two 3 .samples) 0
+    && eqb (progressAt two 3 .strips) 0
+    && eqb (progressAt two 9 .strips) 0
+    && eqb (progressAt (engineOf (1 ∷ 0 ∷ 0 ∷ 0 ∷ 0 ∷ 0 ∷ 0 ∷ 0 ∷ []) 0 over) 1 .samples) 7
+
 pub serving-holds : T (from-the-next && from-screen-one && eight-turns && short-turn && turns-told && ended-frees && busy-first && refused-stays-free && own-density)
 unfolding ofBits toBits ofInt add sub mul div neg lt le eq ne absOf isRefused firstRefusal firstFrom every lengthWithin lengthCheck angleCheck scratchCheck densityCheck tabCheck depthCheck isNone isSound ratioCheck rootChordOf planformCheck ownCheck steppedOn stepOf changeOf makingCheck madeOf placeOf holdsJob isFree firstHeld nextScreen pickOf withHeld servedOf submittedOf changedOf turnOf submitOf changeAt servedOver inTurn
 serving-holds = tt
+
+pub progress-holds : T own-progress
+unfolding ofBits toBits ofInt add sub mul div neg lt le eq ne absOf isRefused firstRefusal firstFrom every lengthWithin lengthCheck angleCheck scratchCheck densityCheck tabCheck depthCheck isNone isSound ratioCheck rootChordOf planformCheck ownCheck makingCheck madeOf placeOf holdsJob isFree withHeld submittedOf submitOf belowAll insert sorted spanOf everyY once breakHeights countBelow progressOf toldOf progressAt
+progress-holds = tt
