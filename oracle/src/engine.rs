@@ -47,6 +47,12 @@ impl Engine {
         Ok(())
     }
 
+    /// The set of a screen's job, and how many strips of it were worked.
+    pub fn held(&self, screen: u64) -> Option<(&Set, usize)> {
+        let job = self.jobs[Self::place(screen)?].as_ref()?;
+        Some((&job.set, job.worked))
+    }
+
     /// "for the next screen with a job, in ascending order from the one after the last served, wrapping round": its number, its set and how many
     /// strips of it are worked with this turn.
     pub fn serve(&mut self) -> Option<(usize, &Set, usize)> {

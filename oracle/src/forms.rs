@@ -23,6 +23,7 @@ pub enum Form {
     Submit { screen: u64, set: Set },
     Density { screen: u64, density: Density },
     Turn,
+    Progress { screen: u64 },
 }
 
 pub struct Set {
@@ -189,6 +190,7 @@ impl<'l> Reader<'_, 'l> {
                 density: self.density()?,
             },
             b"turn" => Form::Turn,
+            b"progress" => Form::Progress { screen: self.count()? },
             _ => return None,
         };
         self.close()?;

@@ -15,6 +15,7 @@ use crate::words;
 pub const KINDS: &[&str] = &[
     "set", "area", "outline", "narrow", "merging", "noise", "touch", "points", "limits", "faults", "table", "join",
     "moments", "check", "tubes", "closing", "fillets", "drill", "copied", "placed", "moved", "without", "decimals", "words", "spaces", "mixed", "engine",
+    "progress",
 ];
 
 /// How many of them are made figure by figure; the others are such lines, written otherwise.
@@ -26,6 +27,9 @@ pub fn lines(kind: &str, count: u64, seed: u64) -> Option<Vec<String>> {
     let count = count as usize;
     if kind == "engine" {
         return Some(screens::traffic(r, count));
+    }
+    if kind == "progress" {
+        return Some(screens::questions(r, count));
     }
     let listed: fn(&mut Random) -> Vec<String> = match kind {
         "limits" => limits,

@@ -1,4 +1,5 @@
-//! Lines to the engine, each of which may depend on those before it: submissions, changes of density and turns, with other lines among them.
+//! Lines to the engine, each of which may depend on those before it: submissions, changes of density and turns, with other lines among them, and
+//! in a kind of its own with questions of how far the jobs are.
 
 use crate::forms::Density;
 use crate::lines::{densities, density, density_part, one, spaced};
@@ -7,6 +8,25 @@ use crate::words;
 
 /// Stretches of few and of many screens, with few and with many turns to each submission, so that screens stand idle, wait and are all taken.
 pub fn traffic(r: &mut Random, count: usize) -> Vec<String> {
+    stretches(r, count, line)
+}
+
+/// The same with a question before each second or third line, mostly of a screen that may hold a job.
+pub fn questions(r: &mut Random, count: usize) -> Vec<String> {
+    stretches(r, count, |r, screens, submissions| {
+        if !r.once_in(3) {
+            return line(r, screens, submissions);
+        }
+        let question = format!("(progress {})", screen(r, screens));
+        match r.below(24) {
+            0 => words::mistyped(r, &question),
+            1 => spaced(r, &question),
+            _ => question,
+        }
+    })
+}
+
+fn stretches(r: &mut Random, count: usize, line: fn(&mut Random, i64, usize) -> String) -> Vec<String> {
     let mut made = Vec::new();
     while made.len() < count {
         let screens = r.pick(&[1, 2, 3, 8, 8, 8]);

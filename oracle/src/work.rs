@@ -1,9 +1,9 @@
 //! Answers to card lines: document 01's refusals first, then the Rust.
 
-use hpr_core::record::{self, Record, Strip};
+use hpr_core::record::{self, Strip};
 use hpr_core::{CoreError, DMat3, DVec3};
 use hpr_design::error::DesignError;
-use hpr_design::fins::{FinCrossSection, FinFillet, FinPlanform, FinSet, FinTab, TubeFinSet};
+use hpr_design::fins::{FinCrossSection, FinFillet, FinPlanform, FinSet, FinTab, TubeFinSet, reach};
 use hpr_design::mass::{MassProperties, Placement};
 use hpr_design::material::Material;
 
@@ -33,6 +33,8 @@ pub enum Figures {
     More(usize),
     /// A screen's job has ended.
     Done(usize, Result<MassProperties, Refusal>),
+    /// How far a screen's job is: strips worked, strips in all, intervals, samples.
+    Progress([u64; 4]),
 }
 
 /// What a line gives. Intervals, samples and scratch are those of lines that run strips, and else 0 and untouched.
@@ -79,6 +81,9 @@ impl Worked {
             Ok(Figures::More(screen)) => format!("(more {screen})"),
             Ok(Figures::Done(screen, Ok(b))) => format!("(done {screen} (figures {} {counts}))", body(b)),
             Ok(Figures::Done(screen, Err(refusal))) => format!("(done {screen} (refused {}))", refusal.number()),
+            Ok(Figures::Progress([worked, strips, intervals, samples])) => {
+                format!("(progress (worked {worked}) (strips {strips}) (intervals {intervals}) (samples {samples}))")
+            }
             Err(refusal) => format!("(refused {})", refusal.number()),
         }
     }
@@ -151,12 +156,13 @@ pub fn work(engine: &mut Engine, line: &[u8], lent: usize) -> Worked {
         Ok(Form::Submit { screen, set }) => engine.submit(screen, set, check_set).map(|()| Figures::Taken),
         Ok(Form::Density { screen, density }) => engine.change(screen, density).map(|()| Figures::Taken),
         Ok(Form::Turn) => return turn(engine, lent),
+        Ok(Form::Progress { screen }) => return plain(Ok(Figures::Progress(progress(engine, screen))), lent),
     };
     let run = record::finish();
-    let intervals = if figures.is_ok() { intervals(&run) } else { 0 };
+    let intervals = if figures.is_ok() { intervals(&run.strips) } else { 0 };
     Worked {
         intervals,
-        samples: samples(&run),
+        samples: samples(&run.strips),
         figures,
         wrote: wrote(&run.strips, lent),
         lent,
@@ -167,21 +173,39 @@ pub fn work(engine: &mut Engine, line: &[u8], lent: usize) -> Worked {
 /// The fewest numbers of scratch that a turn takes.
 const TURN: usize = 1024;
 
-/// A turn. The plain answers carry neither intervals nor samples; what is written are the pieces of its own strip.
-fn turn(engine: &mut Engine, lent: usize) -> Worked {
-    let plain = |figures| Worked {
+/// An answer that ran no strips, or whose intervals and samples are not told.
+fn plain(figures: Result<Figures, Refusal>, lent: usize) -> Worked {
+    Worked {
         intervals: 0,
         samples: 0,
         figures,
         wrote: Vec::new(),
         lent,
         of_area: false,
+    }
+}
+
+/// How far a screen's job is: of a fresh run of its set, the first strips. Strips lie between neighbouring break heights, also those behind one that the
+/// run will refuse.
+fn progress(engine: &Engine, screen: u64) -> [u64; 4] {
+    let Some((set, worked)) = engine.held(screen) else {
+        return [0; 4];
     };
+    let planform = checked_planform(&set.planform).ok().expect("a job's set was accepted");
+    let strips = reach::breakpoints(&planform).len() - 1;
+    let _ = fin_set(set, TURN);
+    let run = record::finish();
+    let so_far = &run.strips[..worked];
+    [worked as u64, strips as u64, intervals(so_far) as u64, samples(so_far)]
+}
+
+/// A turn. The plain answers carry neither intervals nor samples; what is written are the pieces of its own strip.
+fn turn(engine: &mut Engine, lent: usize) -> Worked {
     if lent < TURN {
-        return plain(Err(Refusal::Scratch));
+        return plain(Err(Refusal::Scratch), lent);
     }
     let Some((screen, set, worked)) = engine.serve() else {
-        return plain(Ok(Figures::Idle));
+        return plain(Ok(Figures::Idle), lent);
     };
     let fresh = fin_set(set, lent);
     let run = record::finish();
@@ -189,20 +213,20 @@ fn turn(engine: &mut Engine, lent: usize) -> Worked {
     if worked < run.strips.len() {
         return Worked {
             wrote,
-            ..plain(Ok(Figures::More(screen)))
+            ..plain(Ok(Figures::More(screen)), lent)
         };
     }
     engine.free(screen);
     Worked {
-        intervals: if fresh.is_ok() { intervals(&run) } else { 0 },
-        samples: samples(&run),
+        intervals: if fresh.is_ok() { intervals(&run.strips) } else { 0 },
+        samples: samples(&run.strips),
         wrote,
-        ..plain(Ok(Figures::Done(screen, fresh)))
+        ..plain(Ok(Figures::Done(screen, fresh)), lent)
     }
 }
 
-fn samples(run: &Record) -> u64 {
-    run.strips.iter().map(|s| s.samples).sum()
+fn samples(strips: &[Strip]) -> u64 {
+    strips.iter().map(|s| s.samples).sum()
 }
 
 /// The scratch from its start, as far as these strips wrote it, one over the other.
@@ -220,9 +244,9 @@ fn wrote(strips: &[Strip], lent: usize) -> Vec<f64> {
 }
 
 /// The pieces added up, one for a strip of equal ends. An accepted strip's samples are 15·(2·n − 1) or none.
-fn intervals(run: &Record) -> usize {
+fn intervals(strips: &[Strip]) -> usize {
     let mut total = 0;
-    for strip in &run.strips {
+    for strip in strips {
         let pieces = strip.pieces.len();
         if strip.lower == strip.upper {
             assert!(pieces == 0 && strip.samples == 0);

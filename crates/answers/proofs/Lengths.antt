@@ -5,7 +5,7 @@ use lib.ListN.{length}
 use Rattle.tokens.specs.Text.{text, codes}
 use Rattle.answers.specs.declared.Reply.{Reply}
 use Rattle.answers.specs.declared.Shape.{Shape}
-use Rattle.answers.specs.declared.Shape.the-variants.{Figures, Area, Joined, Ring, Body, Closing, Inside, Edge, Outside, Moments, Sound, Taken, Idle, More, Done, DoneRefused, Refused}
+use Rattle.answers.specs.declared.Shape.the-variants.{Figures, Area, Joined, Ring, Body, Closing, Inside, Edge, Outside, Moments, Sound, Taken, Idle, More, Done, DoneRefused, Progress, Refused}
 use Rattle.answers.specs.Filled.{room}
 use Rattle.answers.specs.Answers.{answerBytes, template, textOf}
 use Rattle.answers.proofs.Filling.{filled-fits}
@@ -28,6 +28,7 @@ template-fits Idle = omega arith
 template-fits More = omega arith
 template-fits Done = omega arith
 template-fits DoneRefused = omega arith
+template-fits Progress = omega arith
 template-fits Refused = omega arith
 
 pub text-short : (reply : Reply) → length (textOf reply) ≤ answerBytes

@@ -30,6 +30,7 @@ pub enum Shape {
     More,
     Done,
     DoneRefused,
+    Progress,
     Refused,
 }
 
@@ -38,7 +39,7 @@ pub enum Shape {
 pub struct Reply {
     pub shape: Shape,
     pub figures: [f64; 10],
-    pub counts: [u64; 3],
+    pub counts: [u64; 4],
 }
 
 // Where printing stands: how many bytes are there, and how many figures and counts have been used.
@@ -175,6 +176,13 @@ pub fn put_reply(out: &mut [u8], n: usize, reply: Reply) -> usize
             &counts,
         ),
         Shape::DoneRefused => put_filled(out, n, b"(done N (refused N))", &figures, &counts),
+        Shape::Progress => put_filled(
+            out,
+            n,
+            b"(progress (worked N) (strips N) (intervals N) (samples N))",
+            &figures,
+            &counts,
+        ),
         Shape::Refused => put_filled(out, n, b"(refused N)", &figures, &counts),
     }
 }

@@ -166,6 +166,7 @@ cards =
     ∷ text "(done N (figures (mass F) (centre F F F) (inertia F F F F F F) (intervals N) (samples N)))"
     ∷ all (text "screen N: done" ∷ newline ∷ text "Bthe root's leading edgeCDpieces N, samples N" ∷ newline ∷ [])
     ∷ text "(done N (refused N))" ∷ all (text "screen N: refused R" ∷ newline ∷ [])
+    ∷ text "(progress (worked N) (strips N) (intervals N) (samples N))" ∷ all (text "N of N strips worked; pieces N, samples N so far" ∷ newline ∷ [])
     ∷ []
 
 -- what is shown for a line: the block of the answer that it looks like, and an empty line; "no answer .." where it is

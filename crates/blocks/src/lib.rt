@@ -76,7 +76,9 @@ fn put_shown(out: &mut [u8], n: usize, shape: &[u8], figures: &[f64], counts: &[
         (more N)|screen N: more to come\n|\
         (done N (figures (mass F) (centre F F F) (inertia F F F F F F) (intervals N) (samples N)))|screen N: done\n\
         Bthe root's leading edgeCDpieces N, samples N\n|\
-        (done N (refused N))|screen N: refused R\n",
+        (done N (refused N))|screen N: refused R\n|\
+        (progress (worked N) (strips N) (intervals N) (samples N))|\
+        N of N strips worked; pieces N, samples N so far\n",
         shape,
         figures,
         counts,

@@ -30,7 +30,7 @@ use Rattle.planforms.specs.declared.NumberedPlanform.{NumberedPlanform}
 use Rattle.planforms.specs.declared.NumberedPlanform.the-variants.{Known as planformKnown, Unknown as noPlanform}
 use Rattle.forms.specs.declared.Form.{Form}
 use Rattle.forms.specs.declared.Form.the-variants.{Set, Area, Join, Moments, Check, Tubes, Closing, Drill}
-use Rattle.forms.specs.declared.Form.the-variants.{Copied, Placed, Moved, Without, Submit, Density, Turn, NoForm}
+use Rattle.forms.specs.declared.Form.the-variants.{Copied, Placed, Moved, Without, Submit, Density, Turn, Progress, NoForm}
 use Rattle.forms.specs.Forms.{Asked, refused, asked, pickAsked, anyForm, lineAsked}
 use Rattle.requests.specs.declared.SetRequest.{SetRequest}
 use Rattle.requests.specs.Calls.{numberedCall, numberedSubmit, numberedArea}
@@ -130,6 +130,7 @@ form-no-shorter Without ns figures m = omega arith
 form-no-shorter Submit ns figures m = omega arith
 form-no-shorter Density ns figures m = omega arith
 form-no-shorter Turn ns figures m = turn-no-shorter (m .engine) (m .scratch)
+form-no-shorter Progress ns figures m = omega arith
 form-no-shorter NoForm ns figures m = omega arith
 
 asked-no-shorter : (a : Asked) (m : Memory) → length (m .scratch) ≤ length (askedEffect a m .memory .scratch)

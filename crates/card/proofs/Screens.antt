@@ -15,7 +15,7 @@ use Rattle.materials.specs.declared.NumberedDensity.the-variants.{Known as dens
 use Rattle.fins.specs.declared.NumberedSet.{NumberedSet}
 use Rattle.fins.specs.declared.NumberedSet.the-variants.{Known as setKnown, Unknown as noSet}
 use Rattle.forms.specs.declared.Form.{Form}
-use Rattle.forms.specs.declared.Form.the-variants.{Set, Area, Join, Moments, Check, Tubes, Closing, Drill, Copied, Placed, Moved, Without, Submit, Density, Turn, NoForm}
+use Rattle.forms.specs.declared.Form.the-variants.{Set, Area, Join, Moments, Check, Tubes, Closing, Drill, Copied, Placed, Moved, Without, Submit, Density, Turn, Progress, NoForm}
 use Rattle.forms.specs.Forms.{Asked, refused, asked, lineAsked}
 use Rattle.requests.specs.Calls.{numberedSubmit, numberedChange}
 use Rattle.requests.specs.Requests.{number, between, setRequestOf, askedSubmit, askedChange}
@@ -55,6 +55,7 @@ by-form Without verdict ns figures m = refl
 by-form Submit verdict ns figures m = by-submission (m .engine) (number ns 7) (setRequestOf ns figures .set) (between 0 (setRequestOf ns figures .points) figures) (setRequestOf ns figures .limit)
 by-form Density verdict ns figures m = by-change (m .engine) (number ns 1) _
 by-form Turn verdict ns figures m = refl
+by-form Progress verdict ns figures m = refl
 by-form NoForm verdict ns figures m = refl
 
 by-asked : (a : Asked) (m : Memory) → askedEffect a m .memory .engine ≡ afterCalls (m .engine) (askedEffect a m .calls)

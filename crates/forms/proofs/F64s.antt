@@ -72,5 +72,5 @@ line-f64 line =
     (read _ _ _ _ (read _ _ _ _ (read _ _ _ _ (read _ _ _ _ (read _ _ _ _
     (read _ _ _ _ (read _ _ _ _ (read _ _ _ _
     (read _ _ _ _ (read _ _ _ _ (read _ _ _ _ (read _ _ _ _
-    (read _ _ _ _ (read _ _ _ _ (read _ _ _ (refused noForm) tt)))))))))))))))
+    (read _ _ _ _ (read _ _ _ _ (read _ _ _ _ (read _ _ _ (refused noForm) tt))))))))))))))))
     tt

@@ -13,7 +13,7 @@ use Rattle.tokens.specs.Text.{text}
 use Rattle.tokens.specs.Tokens.{lineBytes, tokens}
 use Rattle.templates.specs.Matching.{Reading, failed, reading, pick, sameBytes, takeOne, takeText, takeEach, oneOf, optional}
 use Rattle.forms.specs.declared.Form.{Form}
-use Rattle.forms.specs.declared.Form.the-variants.{Set, Area, Join, Moments, Check, Tubes, Closing, Drill, Copied, Placed, Moved, Without, Submit, Density, Turn}
+use Rattle.forms.specs.declared.Form.the-variants.{Set, Area, Join, Moments, Check, Tubes, Closing, Drill, Copied, Placed, Moved, Without, Submit, Density, Turn, Progress}
 
 -- ---- parts, numbered by their places in the list, from 1 on; a part that is left out is 0
 
@@ -138,13 +138,14 @@ abbrev pub row : List ℕ → String → Form → String → Asked → Asked
 row line word form template others = pickAsked (sameBytes (wordOf line) (text word)) (readAs form (text template) line) others
 
 -- the engine on lines (document 02, Papers 9 and 10): a screen's number and a whole set; a density for the job of a
--- screen; a turn
+-- screen; a turn. And a question: how far the job of a screen is
 unfoldable pub engineForm : List ℕ → Asked
 engineForm line =
     row line "submit" Submit "(submit N (set (limit N) (count N) PLANFORM (thickness F) (section SECTION) TAB FILLET (cant F) (base F) (radius F) DENSITY))"
     (row line "density" Density "(density N DENSITY)"
     (row line "turn" Turn "(turn)"
-    (refused noForm)))
+    (row line "progress" Progress "(progress N)"
+    (refused noForm))))
 
 -- document 02, Paper 13
 unfoldable pub bodyForm : List ℕ → Asked

@@ -32,6 +32,7 @@ pub enum Form {
     Submit,
     Density,
     Turn,
+    Progress,
     NoForm,
 }
 
@@ -245,6 +246,9 @@ fn read_engine_form(line: &[u8], word: &[u8], values: &mut [f64]) -> Request
     }
     if same_bytes(word, b"turn") {
         return read_form(line, Form::Turn, b"(turn)", values);
+    }
+    if same_bytes(word, b"progress") {
+        return read_form(line, Form::Progress, b"(progress N)", values);
     }
     refused(Refusal::NoForm)
 }

@@ -47,7 +47,7 @@ use Rattle.jobs.specs.Jobs.{makingCheck, madeOf}
 use Rattle.engines.specs.declared.Screens.{Screens}
 use Rattle.engines.specs.declared.AtScreen.{AtScreen}
 use Rattle.engines.specs.declared.Engine.{Engine}
-use Rattle.engines.specs.Engines.{isScreen, placeOf, isFree, holdsJob, refused as refusedAt, submittedOf, changedOf, jobAt, calledAt, submitOf, changeAt}
+use Rattle.engines.specs.Engines.{isScreen, placeOf, isFree, holdsJob, refused as refusedAt, submittedOf, changedOf, jobAt, calledAt, submitOf, changeAt, noProgress, toldOf, progressAt}
 use Rattle.lines.specs.Lines.{Memory, setReply, areaReply, works, setEffect, areaEffect}
 
 -- ---- the two checks
@@ -266,3 +266,11 @@ module _ (engine : Engine) where
   unfolding numberedChange
   change-capped screen (densityKnown density) = at-capped (λ (k : ℕ). changeAt engine k density) 8 (omega arith) (λ i j h g. change-outside density i h ∙ sym (change-outside density j g)) screen
   change-capped screen noDensity = refl
+
+  -- how far a screen's job is
+  progress-outside : (k : ℕ) → 8 < k → progressAt engine k ≡ noProgress
+  unfolding progressAt toldOf holdsJob
+  progress-outside k h = rw (no-screen k h)
+
+  pub progress-capped : (screen : ℕ) → progressAt engine (capped screen) ≡ progressAt engine screen
+  progress-capped = at-capped (progressAt engine) 8 (omega arith) (λ i j h g. progress-outside i h ∙ sym (progress-outside j g))

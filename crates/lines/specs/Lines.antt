@@ -23,17 +23,18 @@ use Rattle.answers.specs.declared.Reply.{Reply}
 use Rattle.answers.specs.declared.Shape.{Shape}
 use Rattle.answers.specs.declared.Shape.the-variants.{Figures as FiguresShape, Area as AreaShape, Joined as JoinedShape, Ring as RingShape, Body as BodyShape, Closing as ClosingShape}
 use Rattle.answers.specs.declared.Shape.the-variants.{Inside as InsideShape, Edge as EdgeShape, Outside as OutsideShape, Moments as MomentsShape, Sound as SoundShape, Taken as TakenShape, Idle as IdleShape}
-use Rattle.answers.specs.declared.Shape.the-variants.{More as MoreShape, Done as DoneShape, DoneRefused as DoneRefusedShape, Refused as RefusedShape}
+use Rattle.answers.specs.declared.Shape.the-variants.{More as MoreShape, Done as DoneShape, DoneRefused as DoneRefusedShape, Progress as ProgressShape, Refused as RefusedShape}
 use Rattle.answers.specs.Answers.{AnswerFits, textOf, reply}
 use Rattle.forms.specs.declared.Form.{Form}
-use Rattle.forms.specs.declared.Form.the-variants.{Set as SetForm, Area as AreaForm, Join as JoinForm, Moments as MomentsForm, Check as CheckForm, Tubes as TubesForm, Closing as ClosingForm, Drill as DrillForm, Copied as CopiedForm, Placed as PlacedForm, Moved as MovedForm, Without as WithoutForm, Submit as SubmitForm, Density as DensityForm, Turn as TurnForm, NoForm}
+use Rattle.forms.specs.declared.Form.the-variants.{Set as SetForm, Area as AreaForm, Join as JoinForm, Moments as MomentsForm, Check as CheckForm, Tubes as TubesForm, Closing as ClosingForm, Drill as DrillForm, Copied as CopiedForm, Placed as PlacedForm, Moved as MovedForm, Without as WithoutForm, Submit as SubmitForm, Density as DensityForm, Turn as TurnForm, Progress as ProgressForm, NoForm}
 use Rattle.forms.specs.Forms.{Asked, refused, asked, lineAsked}
 use Rattle.requests.specs.declared.AreaRequest.{AreaRequest}
 use Rattle.requests.specs.declared.SetRequest.{SetRequest}
 use Rattle.requests.specs.Calls.{joinedPointsOf, tensorMoments, bodyVerdict}
-use Rattle.requests.specs.Requests.{number, setRequestOf, askedSubmit, askedChange, askedSubmitCalls, askedChangeCalls, areaRequestOf, askedSet, askedArea, askedRing, askedClosing, askedDrill, askedCopied, askedPlaced, askedMoved, askedWithout}
+use Rattle.requests.specs.Requests.{number, setRequestOf, askedSubmit, askedChange, askedProgress, askedSubmitCalls, askedChangeCalls, areaRequestOf, askedSet, askedArea, askedRing, askedClosing, askedDrill, askedCopied, askedPlaced, askedMoved, askedWithout}
 use Rattle.figures.specs.declared.Figures.{Figures}
 use Rattle.figures.specs.declared.Area.{Area}
+use Rattle.jobs.specs.declared.JobProgress.{JobProgress}
 use Rattle.engines.specs.declared.Engine.{Engine}
 use Rattle.engines.specs.declared.Turn.{Turn}
 use Rattle.engines.specs.declared.Turn.the-variants.{Short, Idle, More, Ended}
@@ -106,6 +107,10 @@ turnReply Idle f = reply IdleShape [] []
 turnReply (More screen) f = reply MoreShape [] (screen ∷ [])
 turnReply (Ended screen) f = doneReply screen (f .verdict) f
 
+-- how far a screen's job is
+abbrev pub progressReply : JobProgress → Reply
+progressReply p = reply ProgressShape [] (p .worked ∷ p .strips ∷ p .intervals ∷ p .samples ∷ [])
+
 -- ---- what a line does: its answer; the memory that it leaves, of which only the strips of a set, an area or a turn write to the scratch ("Refusal
 -- numbers") and only the engine's own lines change the engine; and the calls of the engine that it asks for, one or
 -- none, without which the engine's two lists stay as they are
@@ -177,6 +182,7 @@ effectOf WithoutForm verdict ns figures m = answers (bodyReply BodyShape (askedW
 effectOf SubmitForm verdict ns figures m = submitEffect (number ns 7) (setRequestOf ns figures) figures m
 effectOf DensityForm verdict ns figures m = changeEffect ns figures m
 effectOf TurnForm verdict ns figures m = turnEffect m
+effectOf ProgressForm verdict ns figures m = answers (progressReply (askedProgress ns (m .engine))) m
 effectOf NoForm verdict ns figures m = answers (refusedReply (whyRefused verdict)) m
 
 abbrev pub askedEffect : Asked → Memory → Effect

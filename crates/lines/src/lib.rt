@@ -16,7 +16,7 @@ ghost use Rattle.answers.specs.Answers.{answerBytes, AnswerFits, textOf, reply}
 ghost use Rattle.lent_engines.specs.Memory.{engineNumbers, engineCounts};
 ghost use Rattle.lent_engines.specs.Lent.{Room};
 ghost use Rattle.lines.specs.Lines.{refusedReply, unlessRefused, plainReply, setReply, areaReply, bodyReply, closingReply, momentsReply};
-ghost use Rattle.lines.specs.Lines.{drillReply, doneReply, turnReply, whyRefused, effectOf, lineEffect};
+ghost use Rattle.lines.specs.Lines.{drillReply, doneReply, turnReply, progressReply, whyRefused, effectOf, lineEffect};
 ghost use Rattle.lines.specs.Lines.{memoryIn, lentIn, Serves, LeavesLent, Answers};
 use answers::ANSWER_BYTES;
 use answers::Reply;
@@ -27,6 +27,7 @@ use figures::Area;
 use figures::Figures;
 use forms::Form;
 use forms::Request;
+use jobs::JobProgress;
 use jobs::Row;
 use joins::Joined;
 use lent_engines::ENGINE_COUNTS;
@@ -53,16 +54,20 @@ pub fn refused_reply(refusal: Refusal) -> Reply
     Reply {
         shape,
         figures,
-        counts: [number, 0, 0],
+        counts: [number, 0, 0, 0],
     }
 }
 
-// An answer that a verdict may refuse.
-fn unless_refused(verdict: Verdict, answer: Reply) -> Reply
-    ensures { λ r. ⌜ r ≡ unlessRefused verdict answer ⌝ }
+// An answer of this shape, these figures and these counts, unless a verdict refuses it.
+fn unless_refused(verdict: Verdict, shape: Shape, figures: [f64; 10], counts: [u64; 4]) -> Reply
+    ensures { λ r. ⌜ r ≡ unlessRefused verdict (record { shape = shape; figures = figures; counts = counts }) ⌝ }
 {
     match verdict {
-        Verdict::Accepted => answer,
+        Verdict::Accepted => Reply {
+            shape,
+            figures,
+            counts,
+        },
         Verdict::Refused(refusal) => refused_reply(refusal),
     }
 }
@@ -72,14 +77,7 @@ fn plain_reply(verdict: Verdict, shape: Shape) -> Reply
     ensures { λ r. ⌜ r ≡ plainReply verdict shape ⌝ }
 {
     let figures = [0.0; 10];
-    unless_refused(
-        verdict,
-        Reply {
-            shape,
-            figures,
-            counts: [0; 3],
-        },
-    )
+    unless_refused(verdict, shape, figures, [0; 4])
 }
 
 fn set_reply(f: Figures) -> Reply
@@ -91,11 +89,9 @@ fn set_reply(f: Figures) -> Reply
     let figures = body.numbers();
     unless_refused(
         verdict,
-        Reply {
-            shape,
-            figures,
-            counts: [f.intervals as u64, f.samples as u64, 0],
-        },
+        shape,
+        figures,
+        [f.intervals as u64, f.samples as u64, 0, 0],
     )
 }
 
@@ -110,11 +106,9 @@ fn area_reply(a: Area) -> Reply
     figures[2] = a.centroid_span_m;
     unless_refused(
         verdict,
-        Reply {
-            shape,
-            figures,
-            counts: [a.intervals as u64, a.samples as u64, 0],
-        },
+        shape,
+        figures,
+        [a.intervals as u64, a.samples as u64, 0, 0],
     )
 }
 
@@ -125,14 +119,7 @@ fn body_reply(shape: Shape, joined: Joined) -> Reply
     let verdict = joined.verdict;
     let body = joined.body;
     let figures = body.numbers();
-    unless_refused(
-        verdict,
-        Reply {
-            shape,
-            figures,
-            counts: [0; 3],
-        },
-    )
+    unless_refused(verdict, shape, figures, [0; 4])
 }
 
 fn closing_reply(found: ClosingRadius) -> Reply
@@ -142,14 +129,7 @@ fn closing_reply(found: ClosingRadius) -> Reply
     let shape = Shape::Closing;
     let mut figures = [0.0; 10];
     figures[0] = found.radius_m;
-    unless_refused(
-        verdict,
-        Reply {
-            shape,
-            figures,
-            counts: [0; 3],
-        },
-    )
+    unless_refused(verdict, shape, figures, [0; 4])
 }
 
 fn moments_reply(m: Moments) -> Reply
@@ -162,14 +142,7 @@ fn moments_reply(m: Moments) -> Reply
     figures[0] = moments[0];
     figures[1] = moments[1];
     figures[2] = moments[2];
-    unless_refused(
-        verdict,
-        Reply {
-            shape,
-            figures,
-            counts: [0; 3],
-        },
-    )
+    unless_refused(verdict, shape, figures, [0; 4])
 }
 
 // An answer of one count.
@@ -180,7 +153,7 @@ fn count_reply(shape: Shape, count: usize) -> Reply
     Reply {
         shape,
         figures,
-        counts: [count as u64, 0, 0],
+        counts: [count as u64, 0, 0, 0],
     }
 }
 
@@ -217,7 +190,7 @@ fn done_reply(screen: usize, f: Figures) -> Reply
             Reply {
                 shape,
                 figures,
-                counts: [screen as u64, f.intervals as u64, f.samples as u64],
+                counts: [screen as u64, f.intervals as u64, f.samples as u64, 0],
             }
         }
         Verdict::Refused(refusal) => {
@@ -227,7 +200,7 @@ fn done_reply(screen: usize, f: Figures) -> Reply
             Reply {
                 shape,
                 figures,
-                counts: [screen as u64, number, 0],
+                counts: [screen as u64, number, 0, 0],
             }
         }
     }
@@ -243,6 +216,24 @@ fn turn_reply(turn: Turn, row: Row) -> Reply
         Turn::Idle => plain_reply(Verdict::Accepted, Shape::Idle),
         Turn::More(screen) => count_reply(Shape::More, screen),
         Turn::Ended(screen) => done_reply(screen, f),
+    }
+}
+
+// How far a screen's job is.
+fn progress_reply(p: JobProgress) -> Reply
+    ensures { λ r. ⌜ r ≡ progressReply p ⌝ }
+{
+    let shape = Shape::Progress;
+    let figures = [0.0; 10];
+    Reply {
+        shape,
+        figures,
+        counts: [
+            p.worked as u64,
+            p.strips as u64,
+            p.intervals as u64,
+            p.samples as u64,
+        ],
     }
 }
 
@@ -301,6 +292,9 @@ fn request_reply(
             let turn = lent_engines::turn(engine_numbers, engine_counts, scratch);
             let row = lent_engines::turn_row(engine_numbers, engine_counts, turn);
             turn_reply(turn, row)
+        }
+        Form::Progress => {
+            progress_reply(requests::asked_progress(q, engine_numbers, engine_counts))
         }
         Form::NoForm => refused_reply(why_refused(verdict)),
     }

@@ -20,8 +20,10 @@ use Rattle.figures.specs.declared.Area.{Area}
 use Rattle.figures.specs.declared.Figures.{Figures}
 use Rattle.requests.specs.declared.AreaRequest.{AreaRequest}
 use Rattle.requests.specs.declared.SetRequest.{SetRequest}
+use Rattle.jobs.specs.declared.JobProgress.{JobProgress}
 use Rattle.engines.specs.declared.Engine.{Engine}
 use Rattle.engines.specs.declared.Called.{Called}
+use Rattle.engines.specs.Engines.{progressAt}
 use Rattle.engines.specs.Calls.{Call}
 use Rattle.lent_engines.specs.Lent.{submitCalls, changeCalls}
 use Rattle.requests.specs.Calls.{numberedCall, numberedSubmit, numberedChange, numberedArea, numberedDrill, ringBy, copiedBy, placedBy, movedBy, withoutBy}
@@ -75,7 +77,11 @@ askedSubmit screen q figures engine = numberedSubmit engine screen (q .set) (bet
 unfoldable pub askedChange : List ℕ → List Float → Engine → Called
 askedChange ns figures engine = numberedChange engine (number ns 1) (numberedDensity (number ns 0) (at figures 0))
 
--- the calls of the engine that these two make
+-- "(progress N)": screen 0
+unfoldable pub askedProgress : List ℕ → Engine → JobProgress
+askedProgress ns engine = progressAt engine (number ns 0)
+
+-- the calls of the engine that a submission and a density make
 abbrev pub askedSubmitCalls : ℕ → SetRequest → List Float → List Call
 askedSubmitCalls screen q figures = submitCalls screen (q .set) (between 0 (q .points) figures) (q .limit)
 

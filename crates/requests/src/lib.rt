@@ -1,6 +1,6 @@
 // What a line or a call asks by numbers, as the calls take it (docs/FORMS.md; include/delvouzh.h): a set, one submitted
-// to a screen, a density for a screen's job, a planform, a planform's chords, a point beside a planform, a ring of
-// tubes, points to join, a tensor, a body, copies of one, a part moved or taken off.
+// to a screen, a density for a screen's job, how far that is, a planform, a planform's chords, a point beside a
+// planform, a ring of tubes, points to join, a tensor, a body, copies of one, a part moved or taken off.
 //
 // A line's figures stand in a lent slice in the order of its form. Any numbers and any figures may be handed in: what
 // they do not make up is no form.
@@ -19,7 +19,7 @@ ghost use Rattle.figures.specs.Areas.{refusedArea};
 ghost use Rattle.lent_engines.specs.Memory.{engineIn};
 ghost use Rattle.lent_engines.specs.Lent.{Room, lists, submitCalls, changeCalls};
 ghost use Rattle.requests.specs.Calls.{CallsEngine, numberedCall, numberedSubmit, numberedChange, numberedArea, numberedChords, numberedDrill, ringBy, copiedBy, placedBy, movedBy, withoutBy, pointBodyAt, joinedPointsOf, tensorMoments, bodyVerdict};
-ghost use Rattle.requests.specs.Requests.{number, between, setRequestOf, askedSubmit, askedChange, askedSubmitCalls, askedChangeCalls, areaRequestOf, askedRing, askedClosing, askedDrill, askedCopied, askedPlaced, askedMoved, askedWithout, askedSet, askedArea};
+ghost use Rattle.requests.specs.Requests.{number, between, setRequestOf, askedSubmit, askedChange, askedProgress, askedSubmitCalls, askedChangeCalls, areaRequestOf, askedRing, askedClosing, askedDrill, askedCopied, askedPlaced, askedMoved, askedWithout, askedSet, askedArea};
 use bodies::BODY_NUMBERS;
 use bodies::Body;
 use bodies::TENSOR_NUMBERS;
@@ -31,6 +31,7 @@ use fillets::NumberedFillet;
 use fins::NumberedSet;
 use fins::NumberedTab;
 use forms::Request;
+use jobs::JobProgress;
 use jobs::Reply;
 use joins::Joined;
 use materials::NumberedDensity;
@@ -451,6 +452,15 @@ pub fn asked_change(q: Request, values: &[f64], numbers: &mut [f64], counts: &mu
     let n = q.numbers;
     let density = materials::numbered_density(n[1], figure(values, 0));
     change_density(numbers, counts, n[3], density)
+}
+
+// How far the job of the screen is that a line asks for.
+pub fn asked_progress(q: Request, numbers: &[f64], counts: &[usize]) -> JobProgress
+    requires { ⌜ Room (now numbers) (now counts) ⌝ }
+    ensures { λ r. ⌜ r ≡ askedProgress (q .numbers) (engineIn (now (numbers .entry)) (now (counts .entry))) ⌝ }
+{
+    let n = q.numbers;
+    lent_engines::progress_at(numbers, counts, n[1])
 }
 
 // The area of a planform that a line asks, over a lent scratch.

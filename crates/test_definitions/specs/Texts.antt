@@ -19,7 +19,7 @@ use Rattle.templates.specs.Matching.{isWordByte, isWord, takeWord, takeOne, tak
 use Rattle.forms.specs.Forms.{Asked, asked, refused as refusedBy, part, laterPart, density, readItems, engineForm, bodyForm, laterForm, anyForm, lineAsked}
 use Rattle.answers.specs.Filled.{filled}
 use Rattle.answers.specs.declared.Shape.{Shape}
-use Rattle.answers.specs.declared.Shape.the-variants.{Area, Joined, Moments, Sound, Taken, Idle, More, Done, DoneRefused, Refused as RefusedShape}
+use Rattle.answers.specs.declared.Shape.the-variants.{Area, Joined, Moments, Sound, Taken, Idle, More, Done, DoneRefused, Progress, Refused as RefusedShape}
 use Rattle.answers.specs.Answers.{textOf, reply}
 use Rattle.test_definitions.specs.Rows.{is, same, refused}
 
@@ -114,6 +114,8 @@ engine-lines =
     && numbered (1 ∷ 1 ∷ 0 ∷ 3 ∷ []) (lineAsked (text "(density 3 (bulk 5))"))
     && isRefused 19 (lineAsked (text "(density 3 (bulk x))"))
     && isRefused 18 (lineAsked (text "(density x (bulk 5))"))
+    && numbered (0 ∷ 3 ∷ []) (lineAsked (text "(progress 3)"))
+    && isRefused 18 (lineAsked (text "(progress)"))
 
 -- ---- answers
 
@@ -131,13 +133,14 @@ answers-printed =
     && prints Joined (tabulate 10 (λ i. bits i)) []
     (text "(joined (mass 0000000000000000) (centre 0000000000000001 0000000000000002 0000000000000003) (inertia 0000000000000004 0000000000000005 0000000000000006 0000000000000007 0000000000000008 0000000000000009))")
 
--- the screen first, then intervals and samples, or the refusal's number
+-- the screen first, then intervals and samples, or the refusal's number; strips worked before strips in all
 abbrev pub engine-answers : Bool
 engine-answers =
     prints Taken [] [] (text "(taken)")
     && prints Idle [] [] (text "(idle)")
     && prints More [] (3 ∷ []) (text "(more 3)")
     && prints DoneRefused [] (3 ∷ 13 ∷ []) (text "(done 3 (refused 13))")
+    && prints Progress [] (1 ∷ 2 ∷ 3 ∷ 45 ∷ []) (text "(progress (worked 1) (strips 2) (intervals 3) (samples 45))")
     && prints Done (tabulate 10 (λ i. bits i)) (8 ∷ 2 ∷ 30 ∷ [])
     (text "(done 8 (figures (mass 0000000000000000) (centre 0000000000000001 0000000000000002 0000000000000003) (inertia 0000000000000004 0000000000000005 0000000000000006 0000000000000007 0000000000000008 0000000000000009) (intervals 2) (samples 30)))")
 

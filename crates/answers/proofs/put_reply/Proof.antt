@@ -75,6 +75,10 @@ put-filled-requires-17 : tie.Need-put-filled-requires-17
 unfolding room
 put-filled-requires-17 c κs = omega arith
 
+put-filled-requires-18 : tie.Need-put-filled-requires-18
+unfolding room
+put-filled-requires-18 c κs = omega arith
+
 returns : tie.Need-returns
 unfolding textOf text codes
 returns c = let put = c .before .before in rw (put .before .before .before .before .before .enum-told .given .1) (put .put-filled .ensures)
@@ -142,6 +146,10 @@ returns-16 c = let put = c .before .before in rw (put .before .before .before .b
 returns-17 : tie.Need-returns-17
 unfolding textOf text codes
 returns-17 c = let put = c .before .before in rw (put .before .before .before .before .before .enum-told17 .given .1) (put .put-filled17 .ensures)
+
+returns-18 : tie.Need-returns-18
+unfolding textOf text codes
+returns-18 c = let put = c .before .before in rw (put .before .before .before .before .before .enum-told18 .given .1) (put .put-filled18 .ensures)
 
 pub put-reply-spec : {M : Type 1} → statement M
 put-reply-spec =
@@ -233,6 +241,11 @@ put-reply-spec =
     (λ c. search needs)
     put-filled-requires-17
     (λ c. search needs)
+    (λ c. search needs)
+    (λ c. search needs)
+    (λ c. search needs)
+    put-filled-requires-18
+    (λ c. search needs)
     returns
     (λ c. search needs)
     returns-2
@@ -265,4 +278,6 @@ put-reply-spec =
     (λ c. search needs)
     returns-16
     (λ c. search needs)
-    returns-17)
+    returns-17
+    (λ c. search needs)
+    returns-18)

@@ -79,17 +79,46 @@ returns-3 c =
     let s = i1 .before .before .before .before .before .before in
     rw (← s .pre .2, sym (i1 .before .same-bytes .ensures) ∙ i1 .if1 .left, sym (i2 .before .same-bytes2 .ensures) ∙ i2 .if2 .left, sym (i3 .before .same-bytes3 .ensures) ∙ i3 .if3 .taken) (t .read-form3 .ensures)
 
-refused-requires : tie.Need-refused-requires
-refused-requires c κs = search needs
+slice-aggregate-same-bytes-4 : tie.Need-slice-aggregate-same-bytes-4
+slice-aggregate-same-bytes-4 c = search needs
+
+same-bytes-requires-4 : tie.Need-same-bytes-requires-4
+same-bytes-requires-4 c κs = search needs
+
+slice-aggregate-read-form-4 : tie.Need-slice-aggregate-read-form-4
+slice-aggregate-read-form-4 c = search needs
+
+read-form-requires-4 : tie.Need-read-form-requires-4
+read-form-requires-4 c κs = search needs
+
+same-length-4 : tie.Need-same-length-4
+same-length-4 c = search needs
 
 returns-4 : tie.Need-returns-4
 unfolding engineForm text codes
 returns-4 c =
-    let i3 = c .before in
+    let t = c .before .before in
+    let i4 = t .before .before .before in
+    let i3 = i4 .before .before .before in
     let i2 = i3 .before .before .before in
     let i1 = i2 .before .before .before in
     let s = i1 .before .before .before .before .before .before in
-    no-form _ _ _ (c .refused .ensures) (rw (← s .pre .2, sym (i1 .before .same-bytes .ensures) ∙ i1 .if1 .left, sym (i2 .before .same-bytes2 .ensures) ∙ i2 .if2 .left, sym (i3 .before .same-bytes3 .ensures) ∙ i3 .if3 .left))
+    rw (← s .pre .2, sym (i1 .before .same-bytes .ensures) ∙ i1 .if1 .left, sym (i2 .before .same-bytes2 .ensures) ∙ i2 .if2 .left, sym (i3 .before .same-bytes3 .ensures) ∙ i3 .if3 .left, sym (i4 .before .same-bytes4 .ensures) ∙ i4 .if4 .taken)
+    (t .read-form4 .ensures)
+
+refused-requires : tie.Need-refused-requires
+refused-requires c κs = search needs
+
+returns-5 : tie.Need-returns-5
+unfolding engineForm text codes
+returns-5 c =
+    let i4 = c .before in
+    let i3 = i4 .before .before .before in
+    let i2 = i3 .before .before .before in
+    let i1 = i2 .before .before .before in
+    let s = i1 .before .before .before .before .before .before in
+    no-form _ _ _ (c .refused .ensures)
+    (rw (← s .pre .2, sym (i1 .before .same-bytes .ensures) ∙ i1 .if1 .left, sym (i2 .before .same-bytes2 .ensures) ∙ i2 .if2 .left, sym (i3 .before .same-bytes3 .ensures) ∙ i3 .if3 .left, sym (i4 .before .same-bytes4 .ensures) ∙ i4 .if4 .left))
 
 pub read-engine-form-spec : {M : Type 1} → statement M
 read-engine-form-spec =
@@ -113,5 +142,11 @@ read-engine-form-spec =
     read-form-requires-3
     same-length-3
     returns-3
+    slice-aggregate-same-bytes-4
+    same-bytes-requires-4
+    slice-aggregate-read-form-4
+    read-form-requires-4
+    same-length-4
+    returns-4
     refused-requires
-    returns-4)
+    returns-5)

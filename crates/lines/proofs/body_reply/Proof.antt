@@ -11,7 +11,7 @@ returns : tie.Need-returns
 returns c =
     let s = c .before .before .before .args in
     c .unless-refused .ensures
-    ∙ ap (λ (l : List Float). unlessRefused (s .joined .verdict) (record { shape = s .shape; figures = l; counts = 0 ∷ 0 ∷ 0 ∷ [] }))
+    ∙ ap (λ (l : List Float). unlessRefused (s .joined .verdict) (record { shape = s .shape; figures = l; counts = 0 ∷ 0 ∷ 0 ∷ 0 ∷ [] }))
     (c .before .numbers .ensures)
 
 pub body-reply-spec : {M : Type 1} → statement M

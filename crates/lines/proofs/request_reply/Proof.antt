@@ -11,7 +11,7 @@ use Rattle.engines.specs.declared.Turn.{Turn}
 use Rattle.answers.specs.declared.Reply.{Reply}
 use Rattle.answers.specs.declared.Shape.the-variants.{Joined as JoinedShape, Ring as RingShape, Body as BodyShape, Sound as SoundShape, Taken as TakenShape}
 use Rattle.lent_engines.proofs.Calls.{leaves-none, turn-told}
-use Rattle.lines.specs.Lines.{refusedReply, plainReply, setReply, areaReply, bodyReply, closingReply, momentsReply, drillReply, turnReply}
+use Rattle.lines.specs.Lines.{refusedReply, plainReply, setReply, areaReply, bodyReply, closingReply, momentsReply, drillReply, turnReply, progressReply}
 use Rattle.lines.specs.Lines.{Memory, memoryIn, LentMemory, memoryOf, Serves, answers, setEffect, areaEffect, submitEffect, changeEffect, turnEffect}
 use borrow.Author.Needs.{needs}
 use Rattle.lines.proofs.request_reply.Statement.{statement}
@@ -121,7 +121,12 @@ returns-15 c =
     })
 
 returns-16 : tie.Need-returns-16
-returns-16 c = rw (c .before .before .enum-told16 .given .1) (stays (c .refused-reply .ensures ∙ ap refusedReply (c .before .why-refused .ensures)))
+returns-16 c =
+    let p = c .before in
+    rw (p .before .before .before .enum-told16 .given .1) (stays (c .progress-reply .ensures ∙ ap progressReply (p .asked-progress .ensures)))
+
+returns-17 : tie.Need-returns-17
+returns-17 c = rw (c .before .before .enum-told17 .given .1) (stays (c .refused-reply .ensures ∙ ap refusedReply (c .before .why-refused .ensures)))
 
 pub request-reply-spec : {M : Type 1} → statement M
 request-reply-spec =
@@ -177,6 +182,9 @@ request-reply-spec =
     (λ c κs. search needs)
     (λ c κs. search needs)
     (λ c. search needs)
+    (λ c κs. search needs)
+    (λ c κs. search needs)
+    (λ c. search needs)
     returns
     (λ c. search needs)
     returns-2
@@ -200,4 +208,7 @@ request-reply-spec =
     (λ c. search needs)
     (λ c. search needs)
     returns-15
-    returns-16)
+    (λ c. search needs)
+    (λ c. search needs)
+    returns-16
+    returns-17)

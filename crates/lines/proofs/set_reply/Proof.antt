@@ -12,7 +12,7 @@ returns : tie.Need-returns
 returns c =
     let f = c .before .before .before .args .f in
     c .unless-refused .ensures
-    ∙ ap (λ (l : List Float). unlessRefused (f .verdict) (record { shape = FiguresShape; figures = l; counts = f .intervals ∷ f .samples ∷ 0 ∷ [] }))
+    ∙ ap (λ (l : List Float). unlessRefused (f .verdict) (record { shape = FiguresShape; figures = l; counts = f .intervals ∷ f .samples ∷ 0 ∷ 0 ∷ [] }))
     (c .before .numbers .ensures)
 
 pub set-reply-spec : {M : Type 1} → statement M
