@@ -2,7 +2,7 @@
 use mathlib.Core.Path.{sym}
 use native.Mathlib.Omega.{arith}
 use lib.Seq.{length-take-le}
-use Rattle.jobs.proofs.Lengths.{numbers-128}
+use Rattle.jobs.proofs.Lengths.{outline-length}
 use Rattle.jobs.proofs.Copies.{held-most}
 use Rattle.jobs.proofs.Below.{some-break, few-breaks, progress-read}
 use borrow.Author.Needs.{needs}
@@ -16,7 +16,7 @@ array-share-prefix-numbers : tie.Need-array-share-prefix-numbers
 array-share-prefix-numbers c =
     let s = c .before .before .before .before in
     let job = s .args .job in
-    omega (arith, c .held .ensures, numbers-128 job _ (s .good .0), held-most (job .points .count))
+    omega (arith, c .held .ensures, outline-length job _ (s .good .0), held-most (job .points .count))
 
 slice-aggregate-height-at : tie.Need-slice-aggregate-height-at
 slice-aggregate-height-at c = sym (length-take-le _ _ (array-share-prefix-numbers (c .before)))
