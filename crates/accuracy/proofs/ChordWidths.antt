@@ -19,7 +19,8 @@ use Rattle.rounding_error.proofs.Numbers.{sizeOf}
 use Rattle.error_terms.proofs.Laws.{inverseOf}
 use Rattle.rounding_error.proofs.Polynomials.{Expression, given, ratio, _add_, _take_, _mul_, evaluate}
 use Rattle.error_terms.proofs.Monomials.{AllRanges, place}
-use Rattle.error_terms.proofs.Terms.{shape, Given, entry, Term, var, const, nought, tight, raised, value, constant, numbersOf, unitBy}
+use Rattle.error_terms.proofs.Terms.{shape, Given, entry, Term, var, const, nought, divided, inverseConstant, tight, raised, value}
+use Rattle.error_terms.proofs.Terms.{constant, numbersOf, unitBy}
 use Rattle.error_terms.proofs.Terms.{AllKnown}
 use Rattle.error_terms.proofs.Terms.{_add_ as _addT_, _take_ as _takeT_, _mul_ as _mulT_, _over_ as _overT_}
 use Rattle.error_terms.proofs.Judged.{judge, nearer, near-within}
@@ -39,6 +40,7 @@ shareE (s addT t) = shareE s add shareE t
 shareE (s takeT t) = shareE s take shareE t
 shareE (s mulT t) = shareE s mul shareE t
 shareE (s overT i) = shareE s
+shareE (divided c s) = shareE s mul inverseConstant c
 shareE (tight s) = shareE s
 shareE (raised k s) = shareE s
 
@@ -54,6 +56,7 @@ same-share x y (s addT t) = rw (same-share x y s, same-share x y t)
 same-share x y (s takeT t) = rw (same-share x y s, same-share x y t)
 same-share x y (s mulT t) = rw (same-share x y s, same-share x y t)
 same-share x y (s overT i) = same-share x y s
+same-share x y (divided c s) = rw (same-share x y s)
 same-share x y (tight s) = same-share x y s
 same-share x y (raised k s) = same-share x y s
 

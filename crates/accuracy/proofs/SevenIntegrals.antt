@@ -5,7 +5,6 @@ use mathlib.Core.Bool.{Bool, true, false, _&&_}
 use mathlib.Core.List.{List, [], _∷_}
 use Prim.Native.Nat.{ℕ, zero, suc, _-_, _*_, _^_, _≤_, _<_, zero-le}
 use lib.Dec.{T, lit≤}
-use lib.Pow.{pow-pos}
 use lib.Ieee.{Float, round, ofBits}
 use lib.Ieee.Fits.{and-l, and-r}
 use lib.Ieee.Scale.{finite}
@@ -16,8 +15,8 @@ use Rattle.floats.specs.Floats.{cube, fourth, fifth}
 use Rattle.rounding_error.proofs.Numbers.{Number, number, Size, _per_, _of_, _roundoffs_, _times_, IsNumber, Under, Near}
 use Rattle.rounding_error.proofs.Numbers.{valueOf, sizeOf}
 use Rattle.rounding_error.proofs.Counts as Counts
-use Rattle.rounding_error.proofs.Chains.{Valued, zero-valued, equalled}
-use Rattle.rounding_error.proofs.Polynomials.{_equals_, trans, times-is, times-equal, equal-by, itself, AllNumbers, evaluated-is, among}
+use Rattle.rounding_error.proofs.Chains.{zero-valued}
+use Rattle.rounding_error.proofs.Polynomials.{AllNumbers, evaluated-is, among}
 use Rattle.rounding_error.proofs.Polynomials.{Expression, given, ratio, _add_, _take_, _mul_, evaluate}
 use Rattle.quadrature.specs.Rule.{halfWidth, weightedTo, kronrodWeight, sumOf}
 use Rattle.gauss_kronrod.specs.Tables.{nodes, kronrodWeights}
@@ -27,17 +26,16 @@ use Rattle.sections.specs.declared.Section.the-variants.{Square, Rounded, Airfo
 use Rattle.fins.specs.declared.Tab.{Tab}
 use Rattle.fins.specs.declared.Tab.the-variants.{None, Slab}
 use Rattle.plates.specs.Integrals.{tabIntegralsOf}
-use Rattle.error_terms.proofs.Laws.{inverseOf}
 use Rattle.error_terms.proofs.Monomials.{place, added, mono, top, bottom, AllRanges}
 use Rattle.error_terms.proofs.Terms.{Shape, shape, sumShape, productShape, fine, ok, sumTest, sound, Given, entry, larger, Term, var}
 use Rattle.error_terms.proofs.Terms.{const, nought, value}
 use Rattle.error_terms.proofs.Terms.{Known, Lowest, AllKnown, numbersOf, unitBy, unit-real}
-use Rattle.error_terms.proofs.Terms.{_add_ as _addT_, _take_ as _takeT_, _mul_ as _mulT_, _over_ as _overT_, raised as raisedT}
-use Rattle.error_terms.proofs.Terms.{tight as tightT}
+use Rattle.error_terms.proofs.Terms.{_add_ as _addT_, _take_ as _takeT_, _mul_ as _mulT_, raised as raisedT}
+use Rattle.error_terms.proofs.Terms.{tight as tightT, divided}
 use Rattle.error_terms.proofs.Judged.{judge, nearer, near-within}
 use Rattle.error_terms.proofs.Shared.{Shared, whole, _⊞_, _⊠_, judgeIn, judgeAll, bindAll, expand, all-within}
 use Rattle.error_terms.proofs.Stages.{sizeTest, lowTest, target-known, target-lowest}
-use Rattle.error_terms.proofs.Entries.{full, most, sized-entry, many-entry, own-entry, const-entry}
+use Rattle.error_terms.proofs.Entries.{full, sized-entry, many-entry, own-entry}
 use Rattle.error_terms.proofs.Floors.{NotBelow, Signed, not-below}
 use Rattle.tolerance.proofs.Numbers.{at-tabulate}
 use Rattle.one_piece.specs.OnePiece.{NotRounded}
@@ -177,27 +175,8 @@ finList c f =
     entriesOf (f .root) (f .tip) (f .span) (f .sweep) (f .scale) (f .thickness) (f .radius) (tipsIn c) (sweepsIn c) 0
     (shape 0 full (place 4) []) 0 (larger 1 4 ∷ [])
 
-abbrev placed : Section → ℕ → Expression
-placed s i = finE s (given 0) (given 2) (given 6) (given 4) (given 10) (given 12) i
-
--- with 3·(1/3) and 12·(1/12), where the program divides by these
-abbrev thirds : Expression → Expression
-thirds e = (ratio 3 0 mul given 15) mul e
-
-abbrev twelfths : Expression → Expression
-twelfths e = (ratio 12 0 mul given 17) mul e
-
 abbrev finTarget : Section → ℕ → Expression
-finTarget s zero = placed s 0
-finTarget s (suc zero) = placed s 1
-finTarget s (suc (suc zero)) = placed s 2
-finTarget s (suc (suc (suc zero))) = placed s 3
-finTarget Square (suc (suc (suc (suc zero)))) = thirds (placed Square 4)
-finTarget Rounded (suc (suc (suc (suc zero)))) = placed Rounded 4
-finTarget Airfoil (suc (suc (suc (suc zero)))) = placed Airfoil 4
-finTarget AirfoilOpen (suc (suc (suc (suc zero)))) = placed AirfoilOpen 4
-finTarget s (suc (suc (suc (suc (suc zero))))) = placed s 5
-finTarget s (suc (suc (suc (suc (suc (suc i)))))) = twelfths (placed s 6)
+finTarget s i = finE s (given 0) (given 2) (given 6) (given 4) (given 10) (given 12) i
 
 abbrev powerT : ℕ → Term
 powerT zero = var 4 mulT (var 4 mulT var 4)
@@ -408,7 +387,7 @@ module _ (f : Fin) where
   unfolding round ofBits nodes kronrodWeights airfoilConstants
   wide-open3 = tt
 
--- ---- the tab as terms: the variables height, length, offset, thickness, radius, 3 and 12
+-- ---- the tab as terms: the variables height, length, offset, thickness, radius
 abbrev tabList : Class → (height length offset thickness radius : Float) → List Given
 tabList c height length offset thickness radius =
     entry height (valueOf height) (shape 0 (spansIn c * 2 ^ 30) (place 1) []) 0 ∷
@@ -417,9 +396,6 @@ tabList c height length offset thickness radius =
     entry thickness (valueOf thickness) (shape 0 full (place 3) []) full ∷
     entry radius (valueOf radius) (shape 0 full (place 1) []) 0 ∷
     larger 1 4 ∷
-    larger 1 4 ∷
-    entry three (valueOf three) (shape 0 (most three) [] []) (3 * 2 ^ 30) ∷
-    entry twelve (valueOf twelve) (shape 0 (most twelve) [] []) (12 * 2 ^ 30) ∷
     []
 
 abbrev cubeT : Term → Term
@@ -437,23 +413,14 @@ firstT a b = tightT (const half mulT (b mulT b takeT a mulT a))
 abbrev slabT : ℕ → Term
 slabT zero = (var 3 mulT var 1) mulT var 0
 slabT (suc zero) = raisedT 5 ((var 3 mulT var 1) mulT firstT innerT (var 4))
-slabT (suc (suc zero)) = raisedT 5 (raisedT 5 (((var 3 mulT var 1) mulT tightT (cubeT (var 4) takeT cubeT innerT)) overT 7))
+slabT (suc (suc zero)) = raisedT 5 (raisedT 5 (divided three ((var 3 mulT var 1) mulT tightT (cubeT (var 4) takeT cubeT innerT))))
 slabT (suc (suc (suc zero))) = (var 3 mulT var 0) mulT firstT (var 2) aftT
-slabT (suc (suc (suc (suc zero)))) = ((var 3 mulT var 0) mulT tightT (cubeT aftT takeT cubeT (var 2))) overT 7
+slabT (suc (suc (suc (suc zero)))) = divided three ((var 3 mulT var 0) mulT tightT (cubeT aftT takeT cubeT (var 2)))
 slabT (suc (suc (suc (suc (suc zero))))) = raisedT 5 ((var 3 mulT firstT (var 2) aftT) mulT firstT innerT (var 4))
-slabT (suc (suc (suc (suc (suc (suc i)))))) = ((cubeT (var 3) overT 8) mulT var 1) mulT var 0
-
-abbrev slabPlaced : ℕ → Expression
-slabPlaced i = slabsE (given 0) (given 2) (given 4) (given 6) (given 8) i
+slabT (suc (suc (suc (suc (suc (suc i)))))) = (divided twelve (cubeT (var 3)) mulT var 1) mulT var 0
 
 abbrev slabTarget : ℕ → Expression
-slabTarget zero = slabPlaced 0
-slabTarget (suc zero) = slabPlaced 1
-slabTarget (suc (suc zero)) = thirds (slabPlaced 2)
-slabTarget (suc (suc (suc zero))) = slabPlaced 3
-slabTarget (suc (suc (suc (suc zero)))) = thirds (slabPlaced 4)
-slabTarget (suc (suc (suc (suc (suc zero))))) = slabPlaced 5
-slabTarget (suc (suc (suc (suc (suc (suc i)))))) = twelfths (slabPlaced 6)
+slabTarget i = slabsE (given 0) (given 2) (given 4) (given 6) (given 8) i
 
 abbrev slabError : ℕ → ℕ
 slabError zero = 8
@@ -556,20 +523,6 @@ pub record Sizes (f : Fin) (c : Class) (b d : ℕ) : Type 0 where
   pub tab : TabKnown f c (f .tab)
   pub ranges : AllRanges 32 (sizeOf (f .root) ∷ sizeOf (f .span) ∷ sizeOf (f .scale) ∷ sizeOf (f .thickness) ∷ (b per d) ∷ sizeOf
       (f .density) ∷ [])
-
--- 3·(1/3) and 12·(1/12) are 1
-three-inverse : number 3 0 1 times inverseOf (valueOf three) equals number 1 0 1
-unfolding ofBits
-three-inverse = record { same = refl }
-
-twelve-inverse : number 12 0 1 times inverseOf (valueOf twelve) equals number 1 0 1
-unfolding ofBits
-twelve-inverse = record { same = refl }
-
-ones-times : (a v : Number) → IsNumber a → IsNumber v → a equals number 1 0 1 → a times v equals v
-ones-times a v ia iv e =
-    trans (times-is (number 1 0 1) v (pow-pos 0) iv) (times-equal ia (pow-pos 0) iv iv e (itself {x = v}))
-    (equal-by (v ∷ []) (iv, tt) (ratio 1 0 mul given 0) (given 0) tt)
 
 abbrev pub tabNumbers : Tab → List Number
 tabNumbers None = []
@@ -790,16 +743,6 @@ module _ (f : Fin) (c : Class) (b d : ℕ) (g : Sizes f c b d) where
   is-numbers : (e : Expression) → IsNumber (evaluate (among (numbersIn f)) e)
   is-numbers e = evaluated-is (numbersIn f) (numbers-all f) e
 
-  by-thirds : {x : Float} {v : Number} {k j : ℕ} {U : Size} → IsNumber v
-      → Valued x ((number 3 0 1 times inverseOf (valueOf three)) times v) k j U → Valued x v k j U
-  unfolding ofBits
-  by-thirds {v = v} i h = equalled h v i (ones-times _ v (lit≤ tt) i three-inverse)
-
-  by-twelfths : {x : Float} {v : Number} {k j : ℕ} {U : Size} → IsNumber v
-      → Valued x ((number 12 0 1 times inverseOf (valueOf twelve)) times v) k j U → Valued x v k j U
-  unfolding ofBits
-  by-twelfths {v = v} i h = equalled h v i (ones-times _ v (lit≤ tt) i twelve-inverse)
-
   abbrev fins : List Given
   fins = finList c f
 
@@ -812,11 +755,9 @@ module _ (f : Fin) (c : Class) (b d : ℕ) (g : Sizes f c b d) where
       let span = own-entry bases 1 (f .span) refl (g .span-positive) in
       let scale = own-entry bases 2 (f .scale) refl (g .scale-positive) in
       let thickness = own-entry bases 3 (f .thickness) refl (g .thickness-positive) in
-      let radius = sized-entry bases 4 b d refl (f .radius) (g .is-size) (g .radius-finite) (g .radius-under) in
-      let third = const-entry bases (g .ranges) three (3 * 2 ^ 30 - 1) tt in
-      let twelfth = const-entry bases (g .ranges) twelve (12 * 2 ^ 30 - 1) tt in (
+      let radius = sized-entry bases 4 b d refl (f .radius) (g .is-size) (g .radius-finite) (g .radius-under) in (
         own-entry bases 0 R refl (g .root-positive),
-        ((tip, tt), ((sweep, tt), (span, (scale, (thickness, ((radius, tt), (third, (twelfth, (g .span-most, tt))))))))),
+        ((tip, tt), ((sweep, tt), (span, (scale, (thickness, ((radius, tt), (g .span-most, tt))))))),
       )
 
   tested : (s : Section) → NotRounded s → (i : ℕ) → i < 7 → Tested c i
@@ -837,18 +778,18 @@ module _ (f : Fin) (c : Class) (b d : ℕ) (g : Sizes f c b d) where
       plain-sections (λ s. (i : ℕ) → i < 7 → Tested c i → FinKnown s i)
       (each-of-seven (λ i. Tested c i → FinKnown Square i) (λ t. tested Square tt 0 (lit≤ tt) t) (λ t. tested Square tt 1 (lit≤ tt) t)
       (λ t. tested Square tt 2 (lit≤ tt) t) (λ t. tested Square tt 3 (lit≤ tt) t)
-      (λ t. by-thirds (is-numbers (finIn Square 4)) (tested Square tt 4 (lit≤ tt) t))
-      (λ t. tested Square tt 5 (lit≤ tt) t) (λ t. by-twelfths (is-numbers (finIn Square 6)) (tested Square tt 6 (lit≤ tt) t)))
+      (λ t. tested Square tt 4 (lit≤ tt) t)
+      (λ t. tested Square tt 5 (lit≤ tt) t) (λ t. tested Square tt 6 (lit≤ tt) t))
       (each-of-seven (λ i. Tested c i → FinKnown Airfoil i) (λ t. tested Airfoil tt 0 (lit≤ tt) t) (λ t. tested Airfoil tt 1 (lit≤ tt) t)
       (λ t. tested Airfoil tt 2 (lit≤ tt) t) (λ t. tested Airfoil tt 3 (lit≤ tt) t)
       (λ t. tested Airfoil tt 4 (lit≤ tt) t)
-      (λ t. tested Airfoil tt 5 (lit≤ tt) t) (λ t. by-twelfths (is-numbers (finIn Airfoil 6)) (tested Airfoil tt 6 (lit≤ tt) t)))
+      (λ t. tested Airfoil tt 5 (lit≤ tt) t) (λ t. tested Airfoil tt 6 (lit≤ tt) t))
       (each-of-seven (λ i. Tested c i → FinKnown AirfoilOpen i) (λ t. tested AirfoilOpen tt 0 (lit≤ tt) t) (λ t. tested AirfoilOpen tt 1
       (lit≤ tt) t)
       (λ t. tested AirfoilOpen tt 2 (lit≤ tt) t) (λ t. tested AirfoilOpen tt 3 (lit≤ tt) t)
       (λ t. tested AirfoilOpen tt 4 (lit≤ tt) t)
-      (λ t. tested AirfoilOpen tt 5 (lit≤ tt) t) (λ t. by-twelfths (is-numbers (finIn AirfoilOpen 6)) (tested AirfoilOpen tt 6 (lit≤ tt)
-      t)))
+      (λ t. tested AirfoilOpen tt 5 (lit≤ tt) t) (λ t. tested AirfoilOpen tt 6 (lit≤ tt)
+      t))
 
   -- ---- the tab
   module _ (height length offset : Float) (t : TabSizes f c height length offset) where
@@ -865,41 +806,12 @@ module _ (f : Fin) (c : Class) (b d : ℕ) (g : Sizes f c b d) where
         let behind = sized-entry bases 0 (num R) (den R) refl offset (den-pos R) (t .offset-finite) (t .offset-under) in
         let thickness = own-entry bases 3 (f .thickness) refl (g .thickness-positive) in
         let radius = sized-entry bases 1 (num P) (den P) refl (f .radius) (den-pos P) (g .radius-finite) (t .radius-under) in
-        let third = const-entry bases (g .ranges) three (3 * 2 ^ 30 - 1) tt in
-        let twelfth = const-entry bases (g .ranges) twelve (12 * 2 ^ 30 - 1) tt in
-        ((tall, tt), ((long, tt), ((behind, tt), (thickness, ((radius, tt), (g .span-most, (g .span-most, (third, (twelfth, tt)))))))))
+        ((tall, tt), ((long, tt), ((behind, tt), (thickness, ((radius, tt), (g .span-most, tt))))))
 
     abbrev slabNumbers : List Number
     slabNumbers =
         valueOf (f .root) ∷ valueOf (f .tip) ∷ valueOf (f .span) ∷ valueOf (f .sweep) ∷ valueOf (f .thickness) ∷ valueOf (f .radius) ∷
         valueOf height ∷ valueOf length ∷ valueOf offset ∷ []
-
-    slab-numbers : AllNumbers slabNumbers
-    slab-numbers = (
-      Counts.value-is (f .root),
-      (
-        Counts.value-is (f .tip),
-        (
-          Counts.value-is (f .span),
-          (
-            Counts.value-is (f .sweep),
-            (
-              Counts.value-is (f .thickness),
-              (
-                Counts.value-is (f .radius),
-                (
-                  Counts.value-is height,
-                  (
-                    Counts.value-is length,
-                    (Counts.value-is offset, tt),
-                  ),
-                ),
-              ),
-            ),
-          ),
-        ),
-      ),
-    )
 
     abbrev slabIn : ℕ → Expression
     slabIn i = slabsE (given 6) (given 7) (given 8) (given 4) (given 5) i
@@ -915,9 +827,6 @@ module _ (f : Fin) (c : Class) (b d : ℕ) (g : Sizes f c b d) where
         target-known bases (g .ranges) slabs slabs-known _ (slabTarget i) K j (unitOf i) []
         (near-within bases (g .ranges) slabs slabs-known (slabT i) (slabTarget i) K (unitOf i) [] (and-l x y z)) (and-r x y z)
 
-    slab-is : (i : ℕ) → IsNumber (evaluate (among slabNumbers) (slabIn i))
-    slab-is i = evaluated-is slabNumbers slab-numbers (slabIn i)
-
     abbrev SlabKnown : ℕ → Type 0
     SlabKnown i = Known bases (at (tabIntegralsOf (Slab height length offset) (f .thickness) (f .radius)) i)
         (evaluate (among slabNumbers) (slabIn i)) (tabShape c (Slab height length offset) i)
@@ -925,8 +834,8 @@ module _ (f : Fin) (c : Class) (b d : ℕ) (g : Sizes f c b d) where
     slab-known : (i : ℕ) → i < 7 → Tested c i → SlabKnown i
     unfolding tabIntegralsOf
     slab-known = each-of-seven (λ i. Tested c i → SlabKnown i) (by-slab 0 (lit≤ tt)) (by-slab 1 (lit≤ tt))
-        (λ s. by-thirds (slab-is 2) (by-slab 2 (lit≤ tt) s)) (by-slab 3 (lit≤ tt)) (λ s. by-thirds (slab-is 4) (by-slab 4 (lit≤ tt) s))
-        (by-slab 5 (lit≤ tt)) (λ s. by-twelfths (slab-is 6) (by-slab 6 (lit≤ tt) s))
+        (by-slab 2 (lit≤ tt)) (by-slab 3 (lit≤ tt)) (by-slab 4 (lit≤ tt))
+        (by-slab 5 (lit≤ tt)) (by-slab 6 (lit≤ tt))
 
   -- ---- both
   none-known : (i : ℕ) → i < 7 → Known bases (at (tabIntegralsOf None (f .thickness) (f .radius)) i) (number 0 0 1) (tabShape c None i)

@@ -17,7 +17,7 @@ use Rattle.rounding_error.proofs.Counts as Counts
 use Rattle.rounding_error.proofs.Chains.{Valued}
 use Rattle.error_terms.proofs.Monomials.{top, bottom, mono, mono-none, place, unit, mono-place, AllRanges}
 use Rattle.error_terms.proofs.Laws.{rounded-up, parts, Reaches}
-use Rattle.error_terms.proofs.Terms.{shape, Known, Lowest, unitBy, const-known}
+use Rattle.error_terms.proofs.Terms.{shape, Known, Lowest, unitBy, const-known, const-lowest, const-lowest}
 
 ruleset plain = (sorted, one-mul, mul-one, zero-mul, mul-zero, zero-add, add-zero)
 
@@ -112,19 +112,6 @@ pub const-entry : (B : List Size) → AllRanges 32 B → (c : Float) (low : ℕ)
 const-entry B r c low t =
     let p = and-l (positive c) (leb (suc low * den c) (num c * 2 ^ 30)) t in (
       const-known B r c (positive-finite c p),
-      (
-        p,
-        reaches c (mono top B []) (mono bottom B []) p
-            (leb→le (suc low * den c) (num c * 2 ^ 30) (and-r (positive c) (leb (suc low * den c) (num c * 2 ^ 30)) t)),
-      ),
+      const-lowest B r c (suc low) p (leb→le (suc low * den c) (num c * 2 ^ 30) (and-r (positive c) (leb (suc low * den c) (num c * 2 ^
+          30)) t)),
     )
-  where
-    reaches : (c : Float) (x y : ℕ) → T (positive c) → suc low * den c ≤ num c * 2 ^ 30
-        → Reaches (suc low) (x * y) (y * x * 2 ^ 30) (valueOf c)
-    reaches nan x y p h = absurd p
-    reaches (inf s) x y p h = absurd p
-    reaches (fin true m e) x y p h = absurd p
-    reaches (fin false m e) x y p h = go (suc low) (m * up e) (down e) (2 ^ 30) (mul-le-mul-right (x * y) h)
-      where
-        go : (l N D P : ℕ) → l * D * (x * y) ≤ N * P * (x * y) → l * (x * y) * D + 0 * (y * x * P) ≤ N * (y * x * P)
-        go l N D P u = let z = simp plain at u in simp plain (omega (arith, z))

@@ -8,8 +8,9 @@ use native.Mathlib.Omega.{arith}
 use lib.Dec.{T, leb, leb→le}
 use lib.Pow.{pow-pos}
 use lib.ListN.{getD}
+use lib.Ieee.{Float}
 use lib.Ieee.Scale.{finite}
-use lib.Ieee.Positive.{num, den}
+use lib.Ieee.Positive.{positive}
 use lib.Ieee.Fits.{and-l, and-r}
 use Rattle.rounding_error.proofs.Numbers.{Size, _of_, _roundoffs_, zeroNumber, valueOf, Under, Near}
 use Rattle.rounding_error.proofs.Distances.{sorted, within-trans, within-upto}
@@ -18,8 +19,8 @@ use Rattle.rounding_error.proofs.Chains.{reach}
 use Rattle.rounding_error.proofs.Polynomials as Poly
 use Rattle.rounding_error.proofs.Polynomials.{Expression, given as at-place, Product, normal, evaluate}
 use Rattle.error_terms.proofs.Monomials.{top, bottom, mono, AllRanges, added, alike}
-use Rattle.error_terms.proofs.Laws.{rounded-up}
-use Rattle.error_terms.proofs.Terms.{Shape, shape, Given, none, shapeOf, lowOf, Term, var, const, nought, tight}
+use Rattle.error_terms.proofs.Terms.{Shape, shape, Given, none, shapeOf, lowOf, Term, var, const, nought, divided, tight}
+use Rattle.error_terms.proofs.Terms.{constShape, constLeast, dividedTest, inverseConstant}
 use Rattle.error_terms.proofs.Terms.{raised, raisedBy, _add_, _take_, _mul_, _over_, value, exact, bound, ok, fine, sumTest}
 use Rattle.error_terms.proofs.Terms.{sumShape, productShape, quotientShape, quotientTest, double, constant, normalOf}
 use Rattle.error_terms.proofs.Terms.{plainTerm, numbersOf, cancelled, tightSize, tightTest, resizedShape, unitsTest, reachOf}
@@ -45,6 +46,10 @@ overJudged (judged a b s F) t low i =
     judged (a && ((fine s && fine (quotientShape s t low)) && quotientTest t low)) b (quotientShape s t low)
     (Poly.multiplied F (normal (at-place i)))
 
+abbrev pub dividedJudged : Float → Judged → Judged
+dividedJudged c (judged a b s F) = judged (a && dividedTest c s) (b && positive c) (quotientShape s (constShape c) (constLeast c))
+    (Poly.multiplied F (normal (inverseConstant c)))
+
 abbrev pub tightJudged : List Given → Judged → Judged
 tightJudged G (judged a b s F) = judged (a && (b && tightTest G s (cancelled G F))) b (resizedShape s (tightSize G (cancelled G F)))
     (cancelled G F)
@@ -54,12 +59,13 @@ raisedJudged g (judged a b s F) = judged a b (raisedBy g s) F
 
 abbrev pub judge : List Given → Term → Judged
 judge G (var i) = judged true true (shapeOf (getD G i none)) (normal (at-place (double i)))
-judge G (const c) = judged (finite c) (finite c) (shape 0 (rounded-up (num c * 2 ^ 30) (den c)) [] []) (normal (constant c))
+judge G (const c) = judged (finite c) (finite c) (constShape c) (normal (constant c))
 judge G (nought p q) = judged true true (shape 0 0 p q) []
 judge G (s add t) = addJudged (judge G s) (judge G t)
 judge G (s take t) = takeJudged (judge G s) (judge G t)
 judge G (s mul t) = mulJudged (judge G s) (judge G t)
 judge G (s over i) = overJudged (judge G s) (shapeOf (getD G i none)) (lowOf (getD G i none)) (suc (double i))
+judge G (divided c s) = dividedJudged c (judge G s)
 judge G (tight s) = tightJudged G (judge G s)
 judge G (raised k s) = raisedJudged (getD G k none) (judge G s)
 
@@ -72,6 +78,7 @@ judgement G (s take t) = ap₂ (λ (a b : Judged). takeJudged a b) (judgement G 
 judgement G (s mul t) = ap₂ (λ (a b : Judged). mulJudged a b) (judgement G s) (judgement G t)
 judgement G (s over i) = ap (λ (a : Judged). overJudged a (shapeOf (getD G i none)) (lowOf (getD G i none)) (suc (double i)))
     (judgement G s)
+judgement G (divided c s) = ap (λ (a : Judged). dividedJudged c a) (judgement G s)
 judgement G (tight s) = ap (λ (a : Judged). tightJudged G a) (judgement G s)
 judgement G (raised k s) = ap (λ (a : Judged). raisedJudged (getD G k none) a) (judgement G s)
 

@@ -3,13 +3,15 @@ use mathlib.Core.Path.{_≡_, refl, sym, ap, ap₂, _∙_, subst}
 use mathlib.Core.List.{List, [], _∷_}
 use Prim.Native.Nat.{ℕ, zero, suc}
 use lib.Dec.{T}
+use lib.Ieee.{Float}
 use lib.ListN.{getD}
 use Rattle.rounding_error.proofs.Numbers.{Size, _of_, _roundoffs_, valueOf, Under, Near}
 use Rattle.rounding_error.proofs.Polynomials.{Expression, evaluate}
 use Rattle.error_terms.proofs.Monomials.{AllRanges}
-use Rattle.error_terms.proofs.Terms.{Given, none, shapeOf, lowOf, Term, var, tight, raised, _add_, _take_, _mul_}
+use Rattle.error_terms.proofs.Terms.{Given, none, shapeOf, lowOf, Term, var, divided, tight, raised, _add_, _take_, _mul_}
 use Rattle.error_terms.proofs.Terms.{_over_, value, double, AllKnown, unitBy, numbersOf}
-use Rattle.error_terms.proofs.Judged.{Judged, judge, addJudged, takeJudged, mulJudged, overJudged, tightJudged, raisedJudged}
+use Rattle.error_terms.proofs.Judged.{Judged, judge, addJudged, takeJudged, mulJudged, overJudged, dividedJudged, tightJudged}
+use Rattle.error_terms.proofs.Judged.{raisedJudged}
 use Rattle.error_terms.proofs.Judged.{nearer, near-within, reaching, reach-within}
 
 infixl 65 _⊞_
@@ -21,6 +23,7 @@ pub data Shared : Type 0 where
   whole : Term → Shared
   _⊞_ _⊟_ _⊠_ : Shared → Shared → Shared
   _⊡_ : Shared → ℕ → Shared
+  dividedBy : Float → Shared → Shared
   tightly : Shared → Shared
   raisedBy : ℕ → Shared → Shared
   bind : Shared → Shared → Shared
@@ -33,6 +36,7 @@ expand L (s ⊞ t) = expand L s add expand L t
 expand L (s ⊟ t) = expand L s take expand L t
 expand L (s ⊠ t) = expand L s mul expand L t
 expand L (s ⊡ i) = expand L s over i
+expand L (dividedBy c s) = divided c (expand L s)
 expand L (tightly s) = tight (expand L s)
 expand L (raisedBy k s) = raised k (expand L s)
 expand L (bind s t) = expand (expand L s ∷ L) t
@@ -44,6 +48,7 @@ judgeIn G M (s ⊞ t) = addJudged (judgeIn G M s) (judgeIn G M t)
 judgeIn G M (s ⊟ t) = takeJudged (judgeIn G M s) (judgeIn G M t)
 judgeIn G M (s ⊠ t) = mulJudged (judgeIn G M s) (judgeIn G M t)
 judgeIn G M (s ⊡ i) = overJudged (judgeIn G M s) (shapeOf (getD G i none)) (lowOf (getD G i none)) (suc (double i))
+judgeIn G M (dividedBy c s) = dividedJudged c (judgeIn G M s)
 judgeIn G M (tightly s) = tightJudged G (judgeIn G M s)
 judgeIn G M (raisedBy k s) = raisedJudged (getD G k none) (judgeIn G M s)
 judgeIn G M (bind s t) = judgeIn G (judgeIn G M s ∷ M) t
@@ -65,6 +70,7 @@ shared-is G L (s ⊟ t) = ap₂ (λ (a b : Judged). takeJudged a b) (shared-is G
 shared-is G L (s ⊠ t) = ap₂ (λ (a b : Judged). mulJudged a b) (shared-is G L s) (shared-is G L t)
 shared-is G L (s ⊡ i) = ap (λ (a : Judged). overJudged a (shapeOf (getD G i none)) (lowOf (getD G i none)) (suc (double i)))
     (shared-is G L s)
+shared-is G L (dividedBy c s) = ap (λ (a : Judged). dividedJudged c a) (shared-is G L s)
 shared-is G L (tightly s) = ap (λ (a : Judged). tightJudged G a) (shared-is G L s)
 shared-is G L (raisedBy k s) = ap (λ (a : Judged). raisedJudged (getD G k none) a) (shared-is G L s)
 shared-is G L (bind s t) = ap (λ (a : Judged). judgeIn G (a ∷ judges G L) t) (shared-is G L s) ∙ shared-is G (expand L s ∷ L) t

@@ -3,7 +3,7 @@ use mathlib.Core.Path.{_≡_, refl, subst}
 use mathlib.Core.List.{List, [], _∷_}
 use Prim.Native.Nat.{ℕ, _-_, _*_, _^_}
 use lib.Dec.{T}
-use lib.Ieee.{Float, round, ofBits, ofInt}
+use lib.Ieee.{Float, round, ofInt}
 use Rattle.floats.specs.Operations.{whole}
 use Rattle.trig.specs.Trig.{sineSeries, steps}
 use Rattle.rounding_error.proofs.Numbers.{_roundoffs_, Near, valueOf}

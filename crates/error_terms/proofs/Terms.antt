@@ -6,15 +6,15 @@ use mathlib.Core.Bool.{Bool, true, false, _&&_, _||_, cond}
 use mathlib.Core.List.{List, [], _∷_}
 use Prim.Native.Nat.{ℕ, zero, suc, _+_, _-_, _*_, _/_, _^_, _≤_, _<_}
 use native.Mathlib.Nat.{le-refl, le-trans, le-of-eq, mul-pos, mul-le-mul, mul-le-mul-left, mul-le-mul-right, le-of-mul-le-mul-right}
-use native.Mathlib.Nat.{mul-comm, one-mul, mul-one, zero-mul, mul-zero, zero-add, add-zero, zero-lt-suc}
+use native.Mathlib.Nat.{mul-comm, one-mul, mul-one, zero-mul, mul-zero, zero-add, add-zero, zero-lt-suc, not-suc-le-zero, div-mul-le-self}
 use native.Mathlib.Omega.{arith}
 use lib.Dec.{T, leb, ltb, eqb, leb→le, ltb→lt, eqb→eq}
 use lib.Pow.{pow-add, pow-pos, pow-mono}
 use lib.ListN.{getD}
 use lib.Ieee.{Float, nan, inf, fin, up, down, ofBits}
-use lib.Ieee.Fits.{and-l, and-r, down-pos}
+use lib.Ieee.Fits.{and-l, and-r, down-pos, up-pos}
 use lib.Ieee.Scale.{finite}
-use lib.Ieee.Positive.{num, den, positive}
+use lib.Ieee.Positive.{num, den, positive, positive-finite}
 use Rattle.floats.specs.Operations.{_⊕_, _⊖_, _⊗_, _⊘_, bits}
 use Rattle.rounding_error.proofs.Numbers.{Number, number, Size, _per_, _plus_, minus, _less_, _times_, _by_, _of_, _roundoffs_, _upto_}
 use Rattle.rounding_error.proofs.Numbers.{IsNumber, IsSize, Within, Under, zeroNumber, valueOf, Ranges}
@@ -50,6 +50,7 @@ pub data Term : Type 0 where
   nought : List ℕ → List ℕ → Term
   _add_ _take_ _mul_ : Term → Term → Term
   _over_ : Term → ℕ → Term
+  divided : Float → Term → Term
   tight : Term → Term
   raised : ℕ → Term → Term
 
@@ -90,8 +91,16 @@ value G (s add t) = value G s ⊕ value G t
 value G (s take t) = value G s ⊖ value G t
 value G (s mul t) = value G s ⊗ value G t
 value G (s over i) = value G s ⊘ floatOf (getD G i none)
+value G (divided c s) = value G s ⊘ c
 value G (tight s) = value G s
 value G (raised k s) = value G s
+
+-- 1 over a constant above 0
+abbrev pub inverseConstant : Float → Expression
+inverseConstant c = ratio (den c) (num c - 1)
+
+abbrev inverseNumber : Float → Number
+inverseNumber c = number (den c) 0 (suc (num c - 1))
 
 -- the exact number
 abbrev pub exact : List Given → Term → Number
@@ -102,6 +111,7 @@ exact G (s add t) = exact G s plus exact G t
 exact G (s take t) = exact G s less exact G t
 exact G (s mul t) = exact G s times exact G t
 exact G (s over i) = exact G s times inverseBy (lowOf (getD G i none)) (numberOf (getD G i none))
+exact G (divided c s) = exact G s times inverseNumber c
 exact G (tight s) = exact G s
 exact G (raised k s) = exact G s
 
@@ -116,7 +126,7 @@ constant (inf s) = ratio 0 0
 constant (fin true m e) = Poly._take_ (ratio 0 0) (ratio (m * up e) (down e - 1))
 constant (fin false m e) = ratio (m * up e) (down e - 1)
 
--- all constants finite
+-- all constants finite, all divisors above 0
 abbrev pub plainTerm : Term → Bool
 plainTerm (var i) = true
 plainTerm (const c) = finite c
@@ -125,6 +135,7 @@ plainTerm (s add t) = plainTerm s && plainTerm t
 plainTerm (s take t) = plainTerm s && plainTerm t
 plainTerm (s mul t) = plainTerm s && plainTerm t
 plainTerm (s over i) = plainTerm s
+plainTerm (divided c s) = plainTerm s && positive c
 plainTerm (tight s) = plainTerm s
 plainTerm (raised k s) = plainTerm s
 
@@ -221,6 +232,7 @@ normalOf G (s add t) = Poly.added (normalOf G s) (normalOf G t)
 normalOf G (s take t) = Poly.added (normalOf G s) (Poly.negated (normalOf G t))
 normalOf G (s mul t) = Poly.multiplied (normalOf G s) (normalOf G t)
 normalOf G (s over i) = Poly.multiplied (normalOf G s) (normal (at-place (suc (double i))))
+normalOf G (divided c s) = Poly.multiplied (normalOf G s) (normal (inverseConstant c))
 normalOf G (tight s) = cancelled G (normalOf G s)
 normalOf G (raised k s) = normalOf G s
 
@@ -266,14 +278,22 @@ abbrev pub raisedBy : Given → Shape → Shape
 raisedBy (entry x v s low) t = t
 raisedBy (larger i j) (shape k l p q) = shape k l (added p (place j)) (added q (place i))
 
+-- of a constant, and what it is at least, where it is above 0
+abbrev pub constShape : Float → Shape
+constShape c = shape 0 (rounded-up (num c * 2 ^ 30) (den c)) [] []
+
+abbrev pub constLeast : Float → ℕ
+constLeast c = num c * 2 ^ 30 / den c
+
 abbrev pub bound : List Given → Term → Shape
 bound G (var i) = shapeOf (getD G i none)
-bound G (const c) = shape 0 (rounded-up (num c * 2 ^ 30) (den c)) [] []
+bound G (const c) = constShape c
 bound G (nought p q) = shape 0 0 p q
 bound G (s add t) = sumShape (bound G s) (bound G t)
 bound G (s take t) = sumShape (bound G s) (bound G t)
 bound G (s mul t) = productShape (bound G s) (bound G t)
 bound G (s over i) = quotientShape (bound G s) (shapeOf (getD G i none)) (lowOf (getD G i none))
+bound G (divided c s) = quotientShape (bound G s) (constShape c) (constLeast c)
 bound G (tight s) = resizedShape (bound G s) (tightSize G (cancelled G (normalOf G s)))
 bound G (raised k s) = raisedBy (getD G k none) (bound G s)
 
@@ -290,6 +310,10 @@ divides l low = ltb 0 (lowest l low) && leb (lowest l low * 2 ^ 53 + l) (low * 2
 abbrev pub quotientTest : Shape → ℕ → Bool
 quotientTest (shape l j p q) low = divides l low && leb (32 * total p + 32 * total q) 800
 
+abbrev pub dividedTest : Float → Shape → Bool
+dividedTest c s = positive c && ((fine s && fine (quotientShape s (constShape c) (constLeast c))) && quotientTest (constShape c)
+    (constLeast c))
+
 abbrev pub ok : List Given → Term → Bool
 ok G (var i) = true
 ok G (const c) = finite c
@@ -300,6 +324,7 @@ ok G (s mul t) = (ok G s && ok G t) && (fine (bound G s) && fine (bound G t) && 
 ok G (s over i) = ok G s && ((fine (bound G s) && fine
     (quotientShape (bound G s) (shapeOf (getD G i none)) (lowOf (getD G i none)))) && quotientTest (shapeOf (getD G i none))
     (lowOf (getD G i none)))
+ok G (divided c s) = ok G s && dividedTest c (bound G s)
 ok G (tight s) = ok G s && (plainTerm s && tightTest G (bound G s) (cancelled G (normalOf G s)))
 ok G (raised k s) = ok G s
 
@@ -555,6 +580,32 @@ module _ (B : List Size) (r : AllRanges 32 B) where
 
   pub const-known : (c : Float) → T (finite c) → Known B c (valueOf c) (shape 0 (rounded-up (num c * 2 ^ 30) (den c)) [] [])
   const-known c f = record { near = Counts.itself c (unitBy B [] []) f; size = const-size c f; is = Counts.value-is c }
+
+  pub const-lowest : (c : Float) (low : ℕ) → T (positive c) → low * den c ≤ num c * 2 ^ 30 → Lowest B c (valueOf c) (constShape c) low
+  const-lowest c zero p h = tt
+  const-lowest c (suc low) p h = (p, reaches c (mono top B []) (mono bottom B []) p h)
+    where
+      reaches : (c : Float) (x y : ℕ) → T (positive c) → suc low * den c ≤ num c * 2 ^ 30
+          → Reaches (suc low) (x * y) (y * x * 2 ^ 30) (valueOf c)
+      reaches nan x y p h = absurd p
+      reaches (inf s) x y p h = absurd p
+      reaches (fin true m e) x y p h = absurd p
+      reaches (fin false m e) x y p h = go (suc low) (m * up e) (down e) (2 ^ 30) (mul-le-mul-right (x * y) h)
+        where
+          go : (l N D P : ℕ) → l * D * (x * y) ≤ N * P * (x * y) → l * (x * y) * D + 0 * (y * x * P) ≤ N * (y * x * P)
+          go l N D P u = let z = simp plain at u in simp plain (omega (arith, z))
+
+  -- the inverse of a constant as a number
+  inverse-const : (low : ℕ) (c : Float) → T (positive c) → 0 < low → inverseBy low (valueOf c) ≡ inverseNumber c
+  inverse-const zero c p h = absurd (not-suc-le-zero h)
+  inverse-const (suc low) nan p h = absurd p
+  inverse-const (suc low) (inf s) p h = absurd p
+  inverse-const (suc low) (fin true m e) p h = absurd p
+  inverse-const (suc low) (fin false m e) p h =
+      ap (λ (n : ℕ). number (down e) 0 n) (go (m * up e) (mul-pos (ltb→lt 0 m p) (up-pos e)))
+    where
+      go : (n : ℕ) → 0 < n → n - 0 ≡ suc (n - 1)
+      go n h = omega arith
 
   zero-same : valueOf (bits 0) equals zeroNumber
   unfolding ofBits
@@ -872,6 +923,7 @@ module _ (B : List Size) (r : AllRanges 32 B) where
     exact-is (s mul t) = Poly.times-is (exact G s) (exact G t) (exact-is s) (exact-is t)
     exact-is (s over i) = Poly.times-is (exact G s) (inverseBy (lowOf (getD G i none)) (numberOf (getD G i none))) (exact-is s)
         (subst (λ (v : Number). IsNumber v) (inverse-at i) (is (suc (double i))))
+    exact-is (divided c s) = Poly.times-is (exact G s) (inverseNumber c) (exact-is s) (zero-lt-suc (num c - 1))
     exact-is (tight s) = exact-is s
     exact-is (raised k s) = exact-is s
 
@@ -913,6 +965,12 @@ module _ (B : List Size) (r : AllRanges 32 B) where
         Poly.trans (Poly.times-is (sumOf x A) (sumOf x C) (sums A) (sums C)) (Poly.multiplied-sum x is A C)
         (Poly.times-equal (sums A) (exact-is s) (sums C) (subst (λ (v : Number). IsNumber v) (inverse-at i) (is (suc (double i))))
         (normal-is s e) (by-place (suc (double i)) v (inverse-at i)))
+    normal-is (divided c s) e =
+        let A = normalOf G s in
+        let C = normal (inverseConstant c) in
+        Poly.trans (Poly.times-is (sumOf x A) (sumOf x C) (sums A) (sums C)) (Poly.multiplied-sum x is A C)
+        (Poly.times-equal (sums A) (exact-is s) (sums C) (zero-lt-suc (num c - 1)) (normal-is s (and-l (plainTerm s) (positive c) e))
+        (symm (Poly.normal-sum x is (inverseConstant c))))
     normal-is (tight s) e = Poly.trans (sums (normalOf G s)) (cancelled-sum (normalOf G s)) (normal-is s e)
     normal-is (raised k s) e = normal-is s e
 
@@ -997,6 +1055,15 @@ module _ (B : List Size) (r : AllRanges 32 B) where
       go : (a c b d P : ℕ) → a * d ≤ b * c → a * (d * P) ≤ b * (c * P)
       go a c b d P h = let x = simp sorted at (mul-le-mul-right P h) in simp sorted (omega (arith, x))
 
+  divisor-some : (c : Float) → T (quotientTest (constShape c) (constLeast c)) → 0 < constLeast c
+  divisor-some c t = go (constLeast c) (ltb→lt 0 (lowest 0 (constLeast c))
+      (and-l (ltb 0 (lowest 0 (constLeast c))) (leb (lowest 0 (constLeast c) * 2 ^ 53 + 0) (constLeast c * 2 ^ 53))
+      (and-l (ltb 0 (lowest 0 (constLeast c)) && leb (lowest 0 (constLeast c) * 2 ^ 53 + 0) (constLeast c * 2 ^ 53))
+      (leb (inverseSize 0 (constLeast c)) (2 ^ 49)) (and-l (divides 0 (constLeast c)) (leb (32 * total [] + 32 * total []) 800) t))))
+    where
+      go : (low : ℕ) → 0 < low - (0 / 2 ^ 53 + 1) → 0 < low
+      go low h = omega arith
+
   -- ---- the theorem
   pub sound : (G : List Given) → AllKnown B G → (t : Term) → T (ok G t) → Known B (value G t) (exact G t) (bound G t)
   sound G h (var i) e = known-at B G h i
@@ -1037,6 +1104,18 @@ module _ (B : List Size) (r : AllRanges 32 B) where
       (and-r (fine (bound G s) && fine P) (quotientTest (shapeOf y) (lowOf y)) b)
       (sound G h s (and-l (ok G s) ((fine (bound G s) && fine P) && quotientTest (shapeOf y) (lowOf y)) e))
       (known-at B G h i) (lowest-at B G h i)
+  sound G h (divided c s) e =
+      let low = constLeast c in
+      let P = quotientShape (bound G s) (constShape c) low in
+      let a = and-r (ok G s) (dividedTest c (bound G s)) e in
+      let p = and-l (positive c) ((fine (bound G s) && fine P) && quotientTest (constShape c) low) a in
+      let b = and-r (positive c) ((fine (bound G s) && fine P) && quotientTest (constShape c) low) a in
+      let f = and-l (fine (bound G s) && fine P) (quotientTest (constShape c) low) b in
+      let q = and-r (fine (bound G s) && fine P) (quotientTest (constShape c) low) b in
+      subst (λ (v : Number). Known B (value G s ⊘ c) (exact G s times v) P) (inverse-const low c p (divisor-some c q))
+      (over-known (value G s) c (exact G s) (valueOf c) (bound G s) (constShape c) low (and-l (fine (bound G s)) (fine P) f)
+      (and-r (fine (bound G s)) (fine P) f) q (sound G h s (and-l (ok G s) (dividedTest c (bound G s)) e))
+      (const-known c (positive-finite c p)) (const-lowest c low p (div-mul-le-self (num c * 2 ^ 30) (den c))))
   sound G h (tight s) e =
       let t = plainTerm s && tightTest G (bound G s) (cancelled G (normalOf G s)) in
       tight-known G h s (value G s) (bound G s) (and-r (ok G s) t e) (sound G h s (and-l (ok G s) t e))

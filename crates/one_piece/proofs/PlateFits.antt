@@ -4,7 +4,7 @@ use mathlib.Core.Path.{_≡_, refl}
 use mathlib.Core.Bool.{true, false}
 use mathlib.Core.Logic.{_⊎_, inl, inr}
 use mathlib.Core.List.{List, [], _∷_}
-use Prim.Native.Nat.{ℕ, zero, suc, _+_, _-_, _*_, _^_, _≤_, _<_, zero-le}
+use Prim.Native.Nat.{ℕ, zero, suc, _+_, _*_, _^_, _≤_, _<_, zero-le}
 use native.Mathlib.Nat.{mul-pos, mul-le-mul-right, le-of-mul-le-mul-right, one-mul, mul-one, zero-mul, mul-zero, zero-add, add-zero}
 use native.Mathlib.Nat.{zero-lt-suc}
 use native.Mathlib.Omega.{arith}
@@ -15,7 +15,6 @@ use lib.Ieee.Scale.{finite}
 use lib.Ieee.Fits.{down-pos}
 use lib.Ieee.Positive.{num, den, den-pos, positive, positive-finite}
 use Rattle.floats.specs.Operations.{_⊘_, bits}
-use Rattle.floats.specs.Constants.{three, twelve}
 use Rattle.quadrature.specs.Rule.{kronrodWeight, gaussWeight, sumOf, pieceOf}
 use Rattle.rounding.proofs.Monotone.{positive-num}
 use Rattle.sections.specs.declared.Section.{Section}
@@ -26,7 +25,7 @@ use Rattle.rounding_error.proofs.Counts as Counts
 use Rattle.error_terms.proofs.Monomials.{AllRanges, top, bottom, mono, place, unit}
 use Rattle.error_terms.proofs.Laws.{Reaches}
 use Rattle.error_terms.proofs.Terms.{Shape, shape, larger, Lowest, AllKnown}
-use Rattle.error_terms.proofs.Entries.{full, most, sized-entry, many-entry, many-low, own-entry, const-entry}
+use Rattle.error_terms.proofs.Entries.{full, most, sized-entry, many-entry, many-low, own-entry}
 use Rattle.error_terms.proofs.Floors.{NotBelow, Signed}
 use Rattle.one_piece.proofs.Rule.{Fits, all-converged}
 use Rattle.one_piece.proofs.AreaPiece.{positive-from}
@@ -99,10 +98,6 @@ module _ (c : Section) (plain-section : NotRounded c) (root tip span sweep thick
   abbrev S : Float
   S = scaleIn c root tip span sweep thickness radius points
 
-  constants-from : NotBelow (valueOf three) × NotBelow (valueOf twelve)
-  unfolding ofBits
-  constants-from = (zero-le, zero-le)
-
   -- component k of the samples, with the distance x of the root from the axis
   abbrev Fit : Float → ℕ → Type 0
   Fit x k = Fits (bits 0 ⊘ S) (span ⊘ S) (sevenAt root tip span sweep S thickness x 0 0 0 (shape 0 0 [] []) 0 [] c) k
@@ -125,7 +120,7 @@ module _ (c : Section) (plain-section : NotRounded c) (root tip span sweep thick
           positive-from span (g .span-positive),
           (
             positive-from S (g .scale-positive),
-            (positive-from thickness (g .thickness-positive), (n, (constants-from .0, (constants-from .1, tt)))),
+            (positive-from thickness (g .thickness-positive), (n, tt)),
           ),
         ),
       ),
@@ -151,13 +146,7 @@ module _ (c : Section) (plain-section : NotRounded c) (root tip span sweep thick
               own-entry inner 2 S refl (g .scale-positive),
               (
                 own-entry inner 3 thickness refl (g .thickness-positive),
-                (
-                  (sized-entry inner 1 (num span) (den span) refl x (den-pos span) f R, tt),
-                  (
-                    const-entry inner inner-ranges three (3 * 2 ^ 30 - 1) tt,
-                    (const-entry inner inner-ranges twelve (12 * 2 ^ 30 - 1) tt, tt),
-                  ),
-                ),
+                ((sized-entry inner 1 (num span) (den span) refl x (den-pos span) f R, tt), tt),
               ),
             ),
           ),
@@ -206,13 +195,7 @@ module _ (c : Section) (plain-section : NotRounded c) (root tip span sweep thick
                   own-entry B 2 S refl (g .scale-positive),
                   (
                     own-entry B 3 thickness refl (g .thickness-positive),
-                    (
-                      own-entry B 4 radius refl rp,
-                      (
-                        const-entry B r three (3 * 2 ^ 30 - 1) tt,
-                        (const-entry B r twelve (12 * 2 ^ 30 - 1) tt, (wide, tt)),
-                      ),
-                    ),
+                    (own-entry B 4 radius refl rp, (wide, tt)),
                   ),
                 ),
               ),

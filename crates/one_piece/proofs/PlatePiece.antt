@@ -32,9 +32,9 @@ use Rattle.error_terms.proofs.Monomials.{AllRanges, place, added}
 use Rattle.error_terms.proofs.Terms.{Shape, shape, Given, entry, Term, var, const, nought, tight, _add_, _take_, _mul_, _over_, value}
 use Rattle.error_terms.proofs.Terms.{AllKnown}
 use Rattle.error_terms.proofs.Judged.{judge}
-use Rattle.error_terms.proofs.Shared.{Shared, local, whole, _⊞_, _⊟_, _⊠_, _⊡_, tightly, raisedBy, bind, expand}
+use Rattle.error_terms.proofs.Shared.{Shared, local, whole, _⊞_, _⊟_, _⊠_, dividedBy, tightly, raisedBy, bind, expand}
 use Rattle.error_terms.proofs.Shared.{judgeAll, bindAll}
-use Rattle.error_terms.proofs.Entries.{full, most}
+use Rattle.error_terms.proofs.Entries.{full}
 use Rattle.error_terms.proofs.Floors.{Signed}
 use Rattle.error_terms.proofs.Orders.{above, above-zero}
 use Rattle.one_piece.proofs.Rule.{acceptsIn, accepted-in, within-bound, ruleParts, errorS, totalS, atHeights}
@@ -42,7 +42,7 @@ use Rattle.one_piece.proofs.Rule.{Fits, insideTest, inside, same-sums}
 use Rattle.one_piece.proofs.AreaPiece.{chordS}
 use Rattle.one_piece.specs.OnePiece.{NotRounded}
 
--- ---- the samples, behind start and end: the variables root, tip, sweep, span, scale, thickness, radius, 3, 12; u is the unit of the
+-- ---- the samples, behind start and end: the variables root, tip, sweep, span, scale, thickness, radius; u is the unit of the
 -- distance from the axis
 abbrev thickT : Term
 thickT = var 5 over 4
@@ -61,10 +61,10 @@ m1S = tightly (whole (nought (2 ∷ 0 ∷ 0 ∷ 1 ∷ []) (0 ∷ 0 ∷ 3 ∷ [])
     (local 0 ⊠ local 0 ⊟ local 1 ⊠ local 1))
 
 abbrev m2S : Shared
-m2S = tightly (whole (nought (3 ∷ 0 ∷ 0 ∷ 1 ∷ []) (0 ∷ 0 ∷ 4 ∷ [])) ⊞ whole thickT ⊠ tightly (cubeS (local 0) ⊟ cubeS (local 1)) ⊡ 7)
+m2S = tightly (whole (nought (3 ∷ 0 ∷ 0 ∷ 1 ∷ []) (0 ∷ 0 ∷ 4 ∷ [])) ⊞ dividedBy three (whole thickT ⊠ tightly (cubeS (local 0) ⊟ cubeS (local 1))))
 
 abbrev m3S : Shared
-m3S = tightly (whole (nought (1 ∷ 0 ∷ 0 ∷ 3 ∷ []) (0 ∷ 0 ∷ 4 ∷ [])) ⊞ whole (thickT mul (thickT mul thickT)) ⊠ widthS ⊡ 8)
+m3S = tightly (whole (nought (1 ∷ 0 ∷ 0 ∷ 3 ∷ []) (0 ∷ 0 ∷ 4 ∷ [])) ⊞ dividedBy twelve (whole (thickT mul (thickT mul thickT)) ⊠ widthS))
 
 -- airfoils: the width c stands before them, local 0; k holds the section's constants
 abbrev constantT : Coefficients → ℕ → Shared
@@ -84,12 +84,12 @@ f2S p =
     (local 0) ⊠ constantT p 2))
 
 abbrev f3S : Coefficients → Shared
-f3S p = tightly (whole (nought (1 ∷ 0 ∷ 0 ∷ 3 ∷ []) (0 ∷ 0 ∷ 4 ∷ [])) ⊞ whole
-    (thickT mul (thickT mul thickT)) ⊠ local 0 ⊠ constantT p 3 ⊡ 8)
+f3S p = tightly (whole (nought (1 ∷ 0 ∷ 0 ∷ 3 ∷ []) (0 ∷ 0 ∷ 4 ∷ [])) ⊞ dividedBy twelve
+    (whole (thickT mul (thickT mul thickT)) ⊠ local 0 ⊠ constantT p 3))
 
 -- the distance from the axis, where the height is local i
 abbrev radiusS : ℕ → Shared
-radiusS i = tightly (whole (var 6 over 4) ⊞ raisedBy 9 (local i))
+radiusS i = tightly (whole (var 6 over 4) ⊞ raisedBy 7 (local i))
 
 -- component k of moments m, and the unit of its samples, above the line and below it
 abbrev componentS : Shared → Shared → Shared → Shared → Shared → ℕ → Shared
@@ -158,8 +158,6 @@ entriesOf root tip span sweep scale thickness radius kt ks ls rs rl rest =
     entry scale (valueOf scale) (shape 0 full (place 2) []) full ∷
     entry thickness (valueOf thickness) (shape 0 full (place 3) []) full ∷
     entry radius (valueOf radius) rs rl ∷
-    entry three (valueOf three) (shape 0 (most three) [] []) (3 * 2 ^ 30) ∷
-    entry twelve (valueOf twelve) (shape 0 (most twelve) [] []) (12 * 2 ^ 30) ∷
     rest
 
 -- what holds of each of the seven components, and of each section that is not rounded
