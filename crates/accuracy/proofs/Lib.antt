@@ -41,6 +41,7 @@ pub mod Unscaled
 pub mod PlateIntegrals
 pub mod SetCalled
 pub mod MassNear
+pub mod RingSums
 pub mod OrdinaryMass
 pub mod OrdinaryCentroid
 pub mod Turned

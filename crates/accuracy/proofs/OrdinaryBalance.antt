@@ -4,13 +4,13 @@ use mathlib.Core.Path.{_≡_, refl, sym, ap, _∙_, subst}
 use mathlib.Core.Bool.{Bool, true, false}
 use mathlib.Core.List.{List, [], _∷_}
 use mathlib.Core.Logic.{_⊎_, inl, inr}
-use Prim.Native.Nat.{ℕ, zero, suc, _+_, _*_, _^_, _≤_, _<_, zero-le}
-use native.Mathlib.Nat.{le-refl, le-trans, le-of-eq, mul-pos, mul-le-mul, mul-le-mul-left, mul-le-mul-right, le-of-mul-le-mul-right}
+use Prim.Native.Nat.{ℕ, suc, _+_, _*_, _^_, _≤_, _<_, zero-le}
+use native.Mathlib.Nat.{le-refl, le-trans, le-of-eq, mul-pos, mul-le-mul-right, le-of-mul-le-mul-right}
 use native.Mathlib.Nat.{one-mul, mul-one, zero-mul, mul-zero, zero-add, add-zero}
 use native.Mathlib.Omega.{arith}
 use lib.Dec.{T, leb, leb→le, lit≤}
-use lib.ListN.{length, getD}
-use lib.Pow.{pow-add, pow-pos, pow-mono}
+use lib.ListN.{length}
+use lib.Pow.{pow-add, pow-pos}
 use lib.IntN.{pos}
 use lib.Ieee.{Float, binary64, nan, inf, fin, up, down, neg, eq, fits, round, ofBits}
 use lib.Ieee.Scale.{finite}
@@ -25,18 +25,18 @@ use Rattle.rounding.proofs.Sizes.{weaker, zero-below, half-below, mul-below, ad
 use Rattle.rounding_error.specs.Distances.{Within as Apart}
 use Rattle.rounding_error.proofs.Numbers.{Number, number, Size, _per_, _of_, _roundoffs_, _plus_, minus, _times_, IsNumber, Within}
 use Rattle.rounding_error.proofs.Numbers.{Near, Ranges, valueOf, zeroNumber, sizeOf}
-use Rattle.rounding_error.proofs.Distances.{sorted, within-upto, within-minus}
+use Rattle.rounding_error.proofs.Distances.{sorted, within-minus}
 use Rattle.rounding_error.proofs.Operations.{neg-value}
 use Rattle.rounding_error.proofs.Counts as Counts
-use Rattle.rounding_error.proofs.Chains.{Valued, zero-valued, equalled, counted-by}
+use Rattle.rounding_error.proofs.Chains.{Valued}
 use Rattle.rounding_error.proofs.Polynomials.{_equals_, trans, itself, times-is, equal-by, evaluated-is, evaluated-equal, AllNumbers}
 use Rattle.rounding_error.proofs.Polynomials.{Expression, given, ratio, _add_, _mul_}
 use Rattle.rounding_error.proofs.Fractions.{IsFraction, minus-fraction, times-fraction, whole-fraction}
-use Rattle.error_terms.proofs.Laws.{plus-law, inverseOf, Reaches}
-use Rattle.error_terms.proofs.Monomials.{place, added, mono, mono-none, mono-place, top, bottom, unit, top-by, bottom-by, AllRanges}
-use Rattle.error_terms.proofs.Monomials.{top-pos, total as totalOf, ranges-of as ranges-by-units}
+use Rattle.error_terms.proofs.Laws.{inverseOf, Reaches}
+use Rattle.error_terms.proofs.Monomials.{place, added, mono, top, bottom, AllRanges}
+use Rattle.error_terms.proofs.Monomials.{top-pos, ranges-of as ranges-by-units}
 use Rattle.error_terms.proofs.Terms.{Shape, shape, Given, entry, Term, var, const, _add_ as _addT_, _mul_ as _mulT_, _over_ as _overT_}
-use Rattle.error_terms.proofs.Terms.{Known, Lowest, AllKnown, unitBy, unit-real, unit-ranges, numbers-are}
+use Rattle.error_terms.proofs.Terms.{Known, Lowest, AllKnown, unitBy, unit-real, numbers-are}
 use Rattle.error_terms.proofs.Judged.{judge, nearer, near-within}
 use Rattle.error_terms.proofs.Stages.{sizeTest, target-known}
 use Rattle.error_terms.proofs.Entries.{full}
@@ -75,10 +75,10 @@ use Rattle.accuracy.proofs.SetCalled as Called
 use Rattle.accuracy.proofs.SetCalled.{set-body}
 use Rattle.accuracy.proofs.Turned.{acrossAt, ring-centre, across-naught}
 use Rattle.accuracy.proofs.Centroids.{not-below-times}
-use Rattle.accuracy.proofs.OrdinaryMass.{one-more, first-power}
+use Rattle.accuracy.proofs.RingSums.{unit-range, count-reaches, sums-known}
 use Rattle.accuracy.proofs.OrdinaryCentroid.{inverse-pair}
 use Rattle.accuracy.proofs.CentroidNear.{positive-fraction, product-fraction}
-use Rattle.accuracy.proofs.ToFractions.{to-fractions}
+use Rattle.accuracy.proofs.ToFractions.{to-fractions, first-power}
 use Rattle.accuracy.proofs.SevenIntegrals.{Fin, Class, near, far, wide, tipsIn, sweepsIn, spansIn, Sizes, isFoil, unitOf, shapeAt}
 use Rattle.accuracy.proofs.SevenIntegrals.{errorIn, lessParts, leastParts, massUnit, massShape}
 use Rattle.accuracy.proofs.SevenIntegrals.{massList, each-class, bases, exactly, is-exactly, integralAt, totalAt, seven-known}
@@ -90,135 +90,6 @@ ruleset plain = (sorted, one-mul, mul-one, zero-mul, mul-zero, zero-add, add-zer
 
 times-minus : (x y : Number) → x times minus y ≡ minus (x times y)
 times-minus (number p n d) (number q m e) = refl
-
--- ---- sums of f64s that are all near one number
-module _ (U : Size) (t : Ranges 900 U) (w : Number) (K H : ℕ) (few-K : K ≤ 2 ^ 47) (few-H : H ≤ 2 ^ 34) where
-  pub sums-to : (f : ℕ → Float) (n : ℕ) → n ≤ 32 → IsNumber w → ((k : ℕ) → k < n → Valued (f k) w K (2 * H) U)
-      → Valued (inOrder (λ x y. x ⊕ y) (bits 0) f n) (number n 0 1 times w) (n * K + (n * suc n * H + 2 * n)) (n * (2 * H)) U
-  unfolding inOrder ofBits
-  sums-to f zero l i each =
-      counted-by (equalled (zero-valued U) (number 0 0 1 times w) (times-is (number 0 0 1) w (pow-pos 0) i)
-      (equal-by (w ∷ []) (i, tt) (ratio 0 0) (ratio 0 0 mul given 0) tt))
-      (0 * K + (0 * suc 0 * H + 2 * 0)) (0 * (2 * H)) (t .real) (omega arith) (omega arith)
-  sums-to f (suc n) l i each =
-      let a : n * H ≤ 31 * 2 ^ 34 = mul-le-mul (at-most n l) few-H in
-      let b : n * K ≤ 31 * 2 ^ 47 = mul-le-mul (at-most n l) few-K in
-      counted-by
-      (equalled (plus-law U t (most n (at-most n l) a b (mul-le-mul-right (n * H) l)) (small few-K) (sizes n a)
-      (sums-to f n (lower n l) i (λ k h. each k (up-one k n h))) (each n (le-refl (suc n))))
-      (number (suc n) 0 1 times w) (times-is (number (suc n) 0 1) w (pow-pos 0) i) (one-more n w))
-      (suc n * K + (suc n * suc (suc n) * H + 2 * suc n)) (suc n * (2 * H)) (t .real) (omega arith) (omega arith)
-    where
-      at-most : (n : ℕ) → suc n ≤ 32 → n ≤ 31
-      at-most n h = omega arith
-
-      lower : (n : ℕ) → suc n ≤ 32 → n ≤ 32
-      lower n h = omega arith
-
-      up-one : (k n : ℕ) → k < n → k < suc n
-      up-one k n h = omega arith
-
-      small : K ≤ 2 ^ 47 → K ≤ 2 ^ 53
-      small h = omega arith
-
-      most : (n : ℕ) → n ≤ 31 → n * H ≤ 31 * 2 ^ 34 → n * K ≤ 31 * 2 ^ 47 → suc n * (n * H) ≤ 32 * (n * H)
-          → n * K + (n * suc n * H + 2 * n) ≤ 2 ^ 53
-      most n l h k m = omega arith
-
-      sizes : (n : ℕ) → n * H ≤ 31 * 2 ^ 34 → suc (n * (2 * H)) + suc (2 * H) ≤ 2 ^ 100
-      sizes n h = omega arith
-
--- n times a unit is a unit, with n among the sizes
-count-top : (B : List Size) (n : ℕ) → getD B 6 unit ≡ n per 1 → (p : List ℕ)
-    → mono top B (added p (place 6)) * mono bottom B [] ≡ mono top B p * mono bottom B [] * n
-count-top B n e p =
-    top-by B p [] (place 6) []
-    ∙ ap (λ (a : ℕ). mono top B p * mono bottom B [] * a)
-    (ap (λ (a : ℕ). mono top B (place 6) * a) (mono-none bottom B) ∙ mul-one (mono top B (place 6)) ∙ mono-place top refl B 6 ∙ ap top e)
-
-count-bottom : (B : List Size) (n : ℕ) → getD B 6 unit ≡ n per 1 → (p : List ℕ)
-    → mono bottom B (added p (place 6)) * mono top B [] ≡ mono bottom B p * mono top B []
-count-bottom B n e p =
-    bottom-by B p [] (place 6) []
-    ∙ ap (λ (a : ℕ). mono bottom B p * mono top B [] * a)
-    (ap (λ (a : ℕ). mono bottom B (place 6) * a) (mono-none top B) ∙ mul-one
-    (mono bottom B (place 6)) ∙ mono-place bottom refl B 6 ∙ ap bottom e)
-    ∙ mul-one (mono bottom B p * mono top B [])
-
--- what n times a number is at least
-count-reaches : (B : List Size) (n : ℕ) → getD B 6 unit ≡ n per 1 → (p : List ℕ) (low : ℕ) (v : Number)
-    → Reaches low (mono top B p * mono bottom B []) (mono bottom B p * mono top B [] * 2 ^ 30) v
-    → Reaches low (mono top B (added p (place 6)) * mono bottom B []) (mono bottom B (added p (place 6)) * mono top B [] * 2 ^ 30)
-    (number n 0 1 times v)
-count-reaches B n e p low v h =
-    subst (λ (a : ℕ). Reaches low a (mono bottom B (added p (place 6)) * mono top B [] * 2 ^ 30) (number n 0 1 times v))
-    (sym (count-top B n e p))
-    (subst (λ (a : ℕ). Reaches low (mono top B p * mono bottom B [] * n) (a * 2 ^ 30) (number n 0 1 times v)) (sym (count-bottom B n e p))
-    (go (mono top B p * mono bottom B []) (mono bottom B p * mono top B [] * 2 ^ 30) v h))
-  where
-    go : (X C : ℕ) (v : Number) → Reaches low X C v → Reaches low (X * n) C (number n 0 1 times v)
-    go X C (number q m d) h = all (mul-le-mul-left n h)
-      where
-        all : n * (low * X * d + m * C) ≤ n * (q * C) → low * (X * n) * (1 * d) + (n * m + 0 * q) * C ≤ (n * q + 0 * m) * C
-        all u = let x = simp plain at u in simp plain (omega (arith, x))
-
-counted-unit : (B : List Size) (n : ℕ) → getD B 6 unit ≡ n per 1 → (p : List ℕ) (x : Float) (v : Number) (E J : ℕ) → AllRanges 32 B
-    → Valued x v (n * E) (n * J) (unitBy B p []) → Known B x v (shape E J (added p (place 6)) [])
-counted-unit B n e p x v E J r h =
-    subst (λ (a : ℕ). Valued x v E J (a per (mono bottom B (added p (place 6)) * mono top B [] * 2 ^ 30))) (sym (count-top B n e p))
-    (subst (λ (a : ℕ). Valued x v E J ((X * n) per (a * 2 ^ 30))) (sym (count-bottom B n e p)) there)
-  where
-    X : ℕ
-    X = mono top B p * mono bottom B []
-
-    Y : ℕ
-    Y = mono bottom B p * mono top B []
-
-    there : Valued x v E J ((X * n) per (Y * 2 ^ 30))
-    there =
-        record {
-          near = record {
-            finite = h .near .finite;
-            within = within-upto ((n * E) roundoffs unitBy B p []) (E roundoffs ((X * n) per (Y * 2 ^ 30))) (valueOf x) v
-                (mul-pos (unit-real B r p []) (pow-pos 53)) (errors X (Y * 2 ^ 30) (2 ^ 53)) (h .near .within);
-          };
-          size = within-upto ((n * J) of unitBy B p []) (J of ((X * n) per (Y * 2 ^ 30))) v zeroNumber (unit-real B r p [])
-              (sizes X (Y * 2 ^ 30)) (h .size);
-          is = h .is;
-        }
-      where
-        errors : (X Z Q : ℕ) → n * E * X * (Z * Q) ≤ E * (X * n) * (Z * Q)
-        errors X Z Q = simp plain (le-refl _)
-
-        sizes : (X Z : ℕ) → n * J * X * Z ≤ J * (X * n) * Z
-        sizes X Z = simp plain (le-refl _)
-
--- n f64s near one number, in the unit of n
-sums-known : (B : List Size) → AllRanges 32 B → (n : ℕ) → getD B 6 unit ≡ n per 1 → n ≤ 32 → (p : List ℕ) → Ranges 900 (unitBy B p [])
-    → (w : Number) (K size : ℕ) → K ≤ 2 ^ 47 → size * 2 ^ 19 ≤ 2 ^ 34 → (f : ℕ → Float) → IsNumber w
-    → ((k : ℕ) → k < n → Known B (f k) w (shape K (size * 2 ^ 20) p []))
-    → Known B (inOrder (λ x y. x ⊕ y) (bits 0) f n) (number n 0 1 times w) (shape (K + 33 * (size * 2 ^ 19) + 2) (size * 2 ^ 20) (added p
-    (place 6)) [])
-sums-known B r n e l p t w K size few-K few-H f i each =
-    counted-unit B n e p (inOrder (λ x y. x ⊕ y) (bits 0) f n) (number n 0 1 times w) (K + 33 * (size * 2 ^ 19) + 2) (size * 2 ^ 20) r
-    (counted-by
-    (sums-to (unitBy B p []) t w K (size * 2 ^ 19) few-K few-H f n l i
-    (λ k h. subst (λ (j : ℕ). Valued (f k) w K j (unitBy B p [])) (sym (halves size)) (each k h)))
-    (n * (K + 33 * (size * 2 ^ 19) + 2)) (n * (size * 2 ^ 20)) (unit-real B r p [])
-    (each-less n K (size * 2 ^ 19) l) (le-of-eq (ap (λ (j : ℕ). n * j) (halves size))))
-  where
-    -- n·(K + 33·H + 2)
-    each-less : (n K H : ℕ) → n ≤ 32 → n * K + (n * suc n * H + 2 * n) ≤ n * (K + 33 * H + 2)
-    each-less n K H l = go (mul-le-mul-right (n * H) (one-up n l))
-      where
-        one-up : (n : ℕ) → n ≤ 32 → suc n ≤ 33
-        one-up n h = omega arith
-
-        go : suc n * (n * H) ≤ 33 * (n * H) → n * K + (n * suc n * H + 2 * n) ≤ n * (K + 33 * H + 2)
-        go h = omega arith
-
-    halves : (s : ℕ) → 2 * (s * 2 ^ 19) ≡ s * 2 ^ 20
-    halves s = omega arith
 
 -- ---- a zero, and a negative
 naught-known : (B : List Size) → AllRanges 32 B → (x : Float) → AtMost 0 1 x → (p : List ℕ) → Known B x zeroNumber (shape 0 0 p [])
@@ -473,20 +344,10 @@ module _ (f : Fin) (c : Class) (b d : ℕ) (g : Sizes f c b d) (n : ℕ) (some :
   abbrev pub M₀ : Number
   M₀ = number n 0 1 times W₀
 
-  unit-range : (p : List ℕ) → T (leb (32 * totalOf p + 32 * totalOf []) 800) → Ranges 900 (unitBy B p [])
-  unit-range p t = upward (unit-ranges B ranges p [] t)
-    where
-      upward : {A : Size} → Ranges 840 A → Ranges 900 A
-      upward {A = a per k} t =
-          record {
-            real = t .real;
-            least = le-trans (t .least) (mul-le-mul-left a (pow-mono {i = 840} {j = 900} (omega arith)));
-            most = le-trans (t .most) (mul-le-mul-left k (pow-mono {i = 840} {j = 900} (omega arith)));
-          }
-
   masses-known : Known B massSum M₀ (massesShape c isAirfoil (f .tab))
   masses-known =
-      sums-known B ranges n refl few massUnit (unit-range massUnit tt) W₀ (errorIn (massShape c isAirfoil (f .tab))) (massSize c (f .tab))
+      sums-known B ranges n refl few massUnit (unit-range B ranges massUnit tt) W₀ (errorIn (massShape c isAirfoil (f .tab))) (massSize c
+      (f .tab))
       (leb→le (errorIn (massShape c isAirfoil (f .tab))) (2 ^ 47) (pass (bits 0) (bits 0) (bits 0) zeroNumber zeroNumber .mass-few))
       (masses-few c (f .tab)) (λ k. massOf f c b d g) (mass-target .is) (λ k h. mass-target)
 
@@ -523,7 +384,8 @@ module _ (f : Fin) (c : Class) (b d : ℕ) (g : Sizes f c b d) (n : ℕ) (some :
   moments-known : Known B momentSum T₀ (termsShape c (f .tab))
   moments-known =
       let s = terms-few c (f .tab) in
-      sums-known B ranges n refl few termUnit (unit-range termUnit tt) Q₀ (termError c (f .tab) * 2 ^ 30) (termSize c (f .tab)) (s .0) (s
+      sums-known B ranges n refl few termUnit (unit-range B ranges termUnit tt) Q₀ (termError c (f .tab) * 2 ^ 30) (termSize c (f .tab))
+      (s .0) (s
       .1)
       termOf (term-target 0 some .is) term-target
 

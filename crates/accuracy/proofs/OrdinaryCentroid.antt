@@ -68,7 +68,7 @@ use Rattle.accuracy.proofs.Limits.{most-under, ranges-of}
 use Rattle.accuracy.proofs.CentroidNear.{positive-fraction, own-fraction, product-fraction, sum-fraction, last-fraction}
 use Rattle.accuracy.proofs.CentroidNear.{along-fraction, not-below, tip-checked}
 use Rattle.accuracy.proofs.Called.{threeValues, total-is, values-there}
-use Rattle.accuracy.proofs.OrdinaryMass.{first-power}
+use Rattle.accuracy.proofs.ToFractions.{first-power}
 
 ruleset plain = (sorted, one-mul, mul-one, zero-mul, mul-zero, zero-add, add-zero)
 

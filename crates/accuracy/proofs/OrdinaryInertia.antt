@@ -75,8 +75,7 @@ use Rattle.accuracy.proofs.Turned.{zero-most, none-times, times-none, n
 use Rattle.accuracy.proofs.NoRoll.{identity, only-copy}
 use Rattle.accuracy.proofs.CentroidNear.{positive-fraction, product-fraction}
 use Rattle.rounding_error.proofs.Operations.{neg-value}
-use Rattle.accuracy.proofs.OrdinaryMass.{first-power}
-use Rattle.accuracy.proofs.ToFractions.{to-fractions, fractionIn, amongFractions, AreFractions, expression-fraction}
+use Rattle.accuracy.proofs.ToFractions.{to-fractions, first-power, fractionIn, amongFractions, AreFractions, expression-fraction}
 
 ruleset plain = (sorted, one-mul, mul-one, zero-mul, mul-zero, zero-add, add-zero)
 

@@ -1,22 +1,22 @@
--- The mass of a set that one piece is enough for, of square or airfoil section: near the exact one by a computed bound. Assumes nothing.
+-- The mass of a set of one piece, of square or airfoil section: near the exact one by a computed bound. Assumes nothing.
 use mathlib.Core.Path.{_≡_, refl, sym, ap, _∙_, subst}
-use mathlib.Core.Bool.{Bool, false, _&&_}
+use mathlib.Core.Bool.{Bool, _&&_}
 use mathlib.Core.List.{List, [], _∷_}
-use Prim.Native.Nat.{ℕ, zero, suc, _+_, _-_, _*_, _^_, _≤_, _<_}
-use native.Mathlib.Nat.{le-refl, le-trans, mul-pos, mul-le-mul, mul-le-mul-left, mul-le-mul-right}
-use native.Mathlib.Nat.{one-mul, mul-one, zero-mul, mul-zero, zero-add, add-zero, pow-zero, pow-suc}
+use Prim.Native.Nat.{ℕ, suc, _+_, _*_, _^_, _≤_}
+use native.Mathlib.Nat.{le-refl, mul-pos, mul-le-mul-right}
+use native.Mathlib.Nat.{one-mul, mul-one, zero-mul, mul-zero, zero-add, add-zero, pow-zero}
 use native.Mathlib.Omega.{arith}
-use lib.Dec.{T, ltb, ltb→lt, lit≤}
+use lib.Dec.{T, lit≤}
 use lib.ListN.{length}
-use lib.Pow.{pow-pos, pow-mono}
-use lib.IntN.{pos, negsuc}
+use lib.Pow.{pow-pos}
+use lib.IntN.{pos}
 use lib.Ieee.{Float, binary64, fits, round, ofBits}
 use lib.Ieee.Fits.{and-l, and-r}
 use lib.Ieee.Scale.{finite}
 use lib.Ieee.Positive.{num, den, den-pos, positive, positive-finite}
 use Rattle.floats.specs.Operations.{_⊕_, _⊗_, _⊘_, bits, at}
 use Rattle.floats.specs.Floats.{cube}
-use Rattle.floats.specs.Fractions.{Fraction, _over_, _plus_ as sum, _times_ as product, valueOf as fractionOf}
+use Rattle.floats.specs.Fractions.{_over_, _plus_ as sum, _times_ as product, valueOf as fractionOf}
 use Rattle.rounding.specs.Sizes.{AtMost}
 use Rattle.rounding.proofs.Sizes.{positive-of}
 use Rattle.rounding_error.specs.Distances.{Within as Apart}
@@ -24,8 +24,8 @@ use Rattle.rounding_error.proofs.Numbers.{Number, number, Size, _per_, _by_, _a
 use Rattle.rounding_error.proofs.Numbers.{Within, Under, Near, Ranges, valueOf, sizeOf}
 use Rattle.rounding_error.proofs.Distances.{sorted, within-upto, within-trans, within-times}
 use Rattle.rounding_error.proofs.Counts as Counts
-use Rattle.rounding_error.proofs.Chains.{Valued, exactly, zero-valued, equalled, counted-by}
-use Rattle.rounding_error.proofs.Polynomials.{_equals_, times-is, equal-by, Expression, given, ratio, _add_, _mul_, evaluate}
+use Rattle.rounding_error.proofs.Chains.{Valued, exactly, counted-by}
+use Rattle.rounding_error.proofs.Polynomials.{times-is, Expression, given, ratio, _add_, _mul_, evaluate}
 use Rattle.rounding_error.proofs.Polynomials.{evaluate-is}
 use Rattle.rounding_error.proofs.Fractions.{IsFraction, plus-fraction, times-fraction, value-fraction, whole-fraction, within-fraction}
 use Rattle.gauss_kronrod.specs.Tables.{nodes, kronrodWeights}
@@ -33,96 +33,41 @@ use Rattle.quadrature.specs.Rule.{halfWidth, weightedTo, kronrodWeight, sumOf}
 use Rattle.sections.specs.Airfoil.{airfoilConstants}
 use Rattle.sections.specs.declared.Section.{Section}
 use Rattle.sections.specs.declared.Section.the-variants.{Square, Rounded, Airfoil, AirfoilOpen}
-use Rattle.planforms.specs.declared.Planform.{Planform}
-use Rattle.planforms.specs.declared.Planform.the-variants.{Trapezoid}
 use Rattle.planforms.proofs.Sized.{Sized}
-use Rattle.limits.specs.Limits.{thicknessField, bodyRadiusField}
-use Rattle.limits.proofs.Lengths.{PositiveLength, Height, field-above, height-checked}
-use Rattle.integrands.specs.Integrands.{scaleOf, plateOf}
-use Rattle.integrands.proofs.Scales.{Scale, scale-sized}
+use Rattle.limits.proofs.Lengths.{PositiveLength}
+use Rattle.integrands.proofs.Scales.{Scale}
 use Rattle.joins.specs.Joins.{inOrder}
 use Rattle.fins.specs.declared.Tab.{Tab}
 use Rattle.fins.specs.declared.Tab.the-variants.{None, Slab}
-use Rattle.fins.proofs.Accepted.{AcceptedSet, set-accepted, set-count}
-use Rattle.fins.proofs.Sized.{planform-sized}
-use Rattle.tolerance.specs.Bounds.{totalOf}
+use Rattle.fins.proofs.Accepted.{set-count}
 use Rattle.plates.specs.Integrals.{volume, tabIntegralsOf}
 use Rattle.strips.specs.Strips.{valueFrom}
 use Rattle.figures.specs.Figures.{setStrips}
 use Rattle.figures.specs.declared.Figures.{Figures}
-use Rattle.error_terms.proofs.Laws.{plus-law}
 use Rattle.error_terms.proofs.Monomials.{AllRanges, place, mono, top, bottom}
 use Rattle.error_terms.proofs.Terms.{shape, Given, entry, larger, var, nought, _mul_ as _mulT_, value, AllKnown, unitBy, unit-real}
-use Rattle.error_terms.proofs.Terms.{unit-ranges}
 use Rattle.error_terms.proofs.Terms.{numbersOf, numbers-are}
 use Rattle.error_terms.proofs.Judged.{Judged, nearer, reaching}
 use Rattle.error_terms.proofs.Shared.{Shared, whole, _⊞_, _⊠_, tightly, raisedBy, judgeIn, judgeAll, bindAll, expand, all-within}
 use Rattle.error_terms.proofs.Shared.{all-reach}
 use Rattle.error_terms.proofs.Entries.{full, sized-entry, own-entry}
-use Rattle.one_piece.specs.OnePiece.{NotRounded, tipsOf, Proportions}
+use Rattle.one_piece.specs.OnePiece.{NotRounded}
 use Rattle.one_piece.proofs.Rule.{totalS}
 use Rattle.one_piece.proofs.PlatePiece.{sevenAt, partsOf}
-use Rattle.one_piece.proofs.PlateFits.{plate-sums}
-use Rattle.one_piece.proofs.Answers.{plate-fin, plate-strips}
 use Rattle.accuracy.specs.Masses.{Plate, Mount, setWith, SectionGiven, finVolume, tabVolume, filled, exactMassWith, TabWithin}
-use Rattle.accuracy.specs.Masses.{Extents}
+use Rattle.accuracy.specs.Masses.{Extents, OneStrip}
 use Rattle.accuracy.specs.Masses.{OrdinaryMass}
 use Rattle.accuracy.proofs.Given.{Lengths}
 use Rattle.accuracy.proofs.Limits.{ranges-of, least-of, lengths, most-under}
 use Rattle.accuracy.proofs.WholePieces.{value-is, wider}
 use Rattle.accuracy.proofs.CentroidNear.{positive-fraction, product-fraction}
-use Rattle.accuracy.proofs.MassNear.{density-checked}
 use Rattle.accuracy.proofs.SetCalled as Called
-use Rattle.accuracy.proofs.SetCalled.{set-given}
+use Rattle.accuracy.proofs.RingSums.{unit-range, sums-to}
+use Rattle.accuracy.proofs.SevenIntegrals.{wide}
+use Rattle.accuracy.proofs.FinCalled as Fins
+use Rattle.accuracy.proofs.ToFractions.{fractionE, fraction-number, first-power}
 
 ruleset plain = (sorted, one-mul, mul-one, zero-mul, mul-zero, zero-add, add-zero)
-
--- ---- n copies of an f64, added up
-step-error : (n H : ℕ) → suc (n * (2 * H)) + suc (2 * H) + (n * suc n * H + 2 * n + 0) ≤ suc n * suc (suc n) * H + 2 * suc n
-step-error n H = omega arith
-
-pub one-more : (n : ℕ) (v : Number) → number n 0 1 times v plus v equals number (suc n) 0 1 times v
-one-more n (number p m d) = record { same = go n p m d }
-  where
-    go : (n p m d : ℕ) → ((n * p + 0 * m) * d + p * (1 * d)) * (1 * d) + (suc n * m + 0 * p) * (1 * d * d)
-        ≡ (suc n * p + 0 * m) * (1 * d * d) + ((n * m + 0 * p) * d + m * (1 * d)) * (1 * d)
-    go n p m d = simp plain (omega arith)
-
--- n·(n + 1)/2 times the size of one, which is at most 2·H units
-module _ (U : Size) (t : Ranges 900 U) (x : Float) (H : ℕ) (few : H ≤ 2 ^ 32) (f : T (finite x))
-    (u : Under ((2 * H) of U) (valueOf x)) where
-  pub copies : (n : ℕ) → n ≤ 32
-      → Valued (inOrder (λ x y. x ⊕ y) (bits 0) (λ k. x) n) (number n 0 1 times valueOf x) (n * suc n * H + 2 * n) (n * (2 * H)) U
-  unfolding inOrder ofBits
-  copies zero l =
-      counted-by (equalled (zero-valued U) (number 0 0 1 times valueOf x)
-      (times-is (number 0 0 1) (valueOf x) (pow-pos 0) (Counts.value-is x))
-      (equal-by (valueOf x ∷ []) (Counts.value-is x, tt) (ratio 0 0) (ratio 0 0 mul given 0) tt))
-      (0 * suc 0 * H + 2 * 0) (0 * (2 * H)) (t .real) (omega arith) (omega arith)
-  copies (suc n) l =
-      let m = at-most n l in
-      let k : n * H ≤ 31 * 2 ^ 32 = mul-le-mul m few in
-      counted-by
-      (equalled (plus-law U t (most n m k (mul-le-mul-right (n * H) l)) (none 53) (sizes n k) (copies n (lower n l))
-      (exactly x (2 * H) U f u))
-      (number (suc n) 0 1 times valueOf x) (times-is (number (suc n) 0 1) (valueOf x) (pow-pos 0) (Counts.value-is x))
-      (one-more n (valueOf x)))
-      (suc n * suc (suc n) * H + 2 * suc n) (suc n * (2 * H)) (t .real) (step-error n H) (omega arith)
-    where
-      at-most : (n : ℕ) → suc n ≤ 32 → n ≤ 31
-      at-most n h = omega arith
-
-      lower : (n : ℕ) → suc n ≤ 32 → n ≤ 32
-      lower n h = omega arith
-
-      none : (k : ℕ) → 0 ≤ 2 ^ k
-      none k = omega arith
-
-      most : (n : ℕ) → n ≤ 31 → n * H ≤ 31 * 2 ^ 32 → suc n * (n * H) ≤ 32 * (n * H) → n * suc n * H + 2 * n ≤ 2 ^ 53
-      most n l h k = omega arith
-
-      sizes : (n : ℕ) → n * H ≤ 31 * 2 ^ 32 → suc (n * (2 * H)) + suc (2 * H) ≤ 2 ^ 100
-      sizes n k = omega arith
 
 -- ---- the terms: the variables are root, tip, sweep, span, scale, thickness, density, a tab's length and height
 abbrev volumeS : Shared
@@ -137,10 +82,6 @@ slabS (Slab height length offset) = whole (var 5 mulT var 7 mulT var 8)
 -- in units of thickness·B·Y, as the span does not pass Y
 abbrev massS : Tab → Shared
 massS tab = whole (var 6) ⊠ (raisedBy 9 (tightly volumeS) ⊞ slabS tab)
-
-abbrev pub fractionE : Fraction → Expression
-fractionE (pos a over b) = ratio a (b - 1)
-fractionE (negsuc a over b) = ratio 0 0
 
 abbrev slabE : Tab → Expression
 slabE None = ratio 0 0
@@ -260,27 +201,12 @@ mass-is root tip sweep span scale thickness density radius AirfoilOpen e None = 
 mass-is root tip sweep span scale thickness density radius AirfoilOpen e (Slab h l o) = refl
 
 -- ---- fractions
-abbrev pub plainFraction : Fraction → Bool
-plainFraction (pos a over b) = ltb 0 b
-plainFraction (negsuc a over b) = false
-
-pub fraction-number : (x : ℕ → Number) (f : Fraction) → T (plainFraction f) → IsFraction (evaluate x (fractionE f)) f
-fraction-number x (pos a over b) t = subst (λ (k : ℕ). IsFraction (number a 0 k) (pos a over b)) (sym (one b (ltb→lt 0 b t)))
-    (whole-fraction a b)
-  where
-    one : (b : ℕ) → 0 < b → suc (b - 1) ≡ b
-    one b h = omega arith
-fraction-number x (negsuc a over b) t = absurd t
-
-pub fill-fraction : (x : ℕ → Number) (section : Section) → NotRounded section
+fill-fraction : (x : ℕ → Number) (section : Section) → NotRounded section
     → IsFraction (evaluate x (fractionE (filled section))) (filled section)
 fill-fraction x Rounded e = absurd e
 fill-fraction x Square e = fraction-number x (filled Square) tt
 fill-fraction x Airfoil e = fraction-number x (filled Airfoil) tt
 fill-fraction x AirfoilOpen e = fraction-number x (filled AirfoilOpen) tt
-
-pub first-power : (x : ℕ) → x ^ 1 ≡ x
-first-power x = rw (pow-suc x 0, pow-zero x) (one-mul x)
 
 unit-parts : (b s S t k y : ℕ) → b ^ 1 * (s ^ 0 * (S ^ 0 * (t ^ 1 * (k ^ 1 * (y ^ 1 * 1))))) * 1 ≡ b * y * (k * t)
 unit-parts b s S t k y = rw (first-power b, pow-zero s, pow-zero S, first-power t, first-power k, first-power y) (simp plain)
@@ -295,24 +221,18 @@ both-errors c E K BY NN DE DD P Q h =
 module _ (section : Section) (p : Plate) (m : Mount) (points : List Float) (L : ℕ) (entry : List Float) (r : Figures) (exit : List Float)
     (b d y e : ℕ)
     (plain-section : NotRounded section) (g : SectionGiven section p m points L entry r exit) (radius-f64 : T (fits binary64 (m .radius)))
-    (proportions : Proportions (tipsOf section) 4 (p .root) (p .tip) (p .sweep)) (x : Extents p b d y e) where
-  abbrev Shape : Planform
-  Shape = Trapezoid (p .root) (p .tip) (p .span) (p .sweep)
-
+    (q : OneStrip 2 8 section p (r .intervals)) (x : Extents p b d y e) where
   abbrev S : Float
-  S = scaleOf Shape points
+  S = Fins.S section p m points L entry r exit plain-section g radius-f64 wide q
 
   figures : Called.Given section p m points L (length entry) r
-  figures = set-given section p m points L (length entry) r (g .answers .call .0) (g .given) (g .no-fillet)
+  figures = Fins.figures section p m points L entry r exit plain-section g radius-f64 wide q
 
-  checks : AcceptedSet (setWith section p m) points L (length entry)
-  checks = set-accepted (setWith section p m) points L (length entry) (figures .accepted)
-
-  sized : Sized Shape points
-  sized = planform-sized Shape points (g .f64s) (checks .planform)
+  sized : Sized (Fins.planform section p m points L entry r exit plain-section g radius-f64 wide q) points
+  sized = Fins.sized section p m points L entry r exit plain-section g radius-f64 wide q
 
   scaled : Scale S
-  scaled = scale-sized Shape points sized
+  scaled = Fins.scaled section p m points L entry r exit plain-section g radius-f64 wide q
 
   N : Lengths (p .root) (p .tip) (p .span) (p .sweep) S (b per d)
   N =
@@ -320,13 +240,13 @@ module _ (section : Section) (p : Plate) (m : Mount) (points : List Float) (L : 
       (x .along .root-most) (x .along .tip-most) (x .along .sweep-most)
 
   thick : PositiveLength (p .thickness)
-  thick = field-above thicknessField (p .thickness) (g .thickness-f64) (checks .thickness) refl refl
+  thick = Fins.thick section p m points L entry r exit plain-section g radius-f64 wide q
 
   thick-positive : T (positive (p .thickness))
   thick-positive = positive-of (p .thickness) 20 (thick .not-minus) (thick .above)
 
   heavy : T (positive (p .density)) × Ranges 24 (sizeOf (p .density))
-  heavy = density-checked (p .density) (checks .density) (g .heavy)
+  heavy = Fins.heavy section p m points L entry r exit plain-section g radius-f64 wide q
 
   -- ---- the fin's mass
   abbrev bases : List Size
@@ -436,30 +356,10 @@ module _ (section : Section) (p : Plate) (m : Mount) (points : List Float) (L : 
       (and-r (nearer entries (massE section (p .tab)) (55 * 2 ^ 30) unitP [] judgement) (reaching most unitP [] judgement) passed))
 
   -- ---- the set's
-  abbrev plate : Float → List Float
-  plate = plateOf Shape points section (p .thickness) (m .radius)
-
-  out : Height (m .radius)
-  out = height-checked bodyRadiusField (m .radius) radius-f64 (checks .radius) refl refl
-
   total-is : valueFrom (bits 0) 0 (setStrips (setWith section p m) points L)
       ≡ sampled (p .root) (p .tip) (p .sweep) (p .span) S (p .thickness) (p .density) (lengthOf (p .tab)) (heightOf (p .tab)) section
       (m .radius)
-  unfolding totalOf
-  total-is =
-      let low = bits 0 ⊘ S in
-      let high = p .span ⊘ S in
-      ap (valueFrom (bits 0) 0)
-      (plate-strips (p .root) (p .tip) (p .span) (p .sweep) points (g .f64s) (checks .planform) section plain-section (p .thickness)
-      (m .radius) thick out
-      L proportions)
-      ∙ ap (λ (z : Float). bits 0 ⊕ (bits 0 ⊕ z))
-      (value-is 7 plate low high 0 (lit≤ tt)
-      ∙ ap (λ (z : Float). halfWidth low high ⊗ z)
-      (plate-sums section plain-section (p .root) (p .tip) (p .span) (p .sweep) (p .thickness) (m .radius) points
-      (plate-fin (p .root) (p .tip) (p .span) (p .sweep) points (g .f64s) (checks .planform) section plain-section (p .thickness)
-      (m .radius) thick out
-      proportions) kronrodWeight 0))
+  total-is = Fins.total-is section p m points L entry r exit plain-section g radius-f64 wide q 0 (lit≤ tt)
 
   abbrev summed : Float
   summed = inOrder (λ a c. a ⊕ c) (bits 0) (λ k. one) (m .count)
@@ -474,18 +374,8 @@ module _ (section : Section) (p : Plate) (m : Mount) (points : List Float) (L : 
   abbrev c : ℕ
   c = m .count
 
-  unit-range : Ranges 900 U
-  unit-range = in-range-of (unit-ranges bases ranges unitP [] tt)
-    where
-      in-range-of : {A : Size} → Ranges 840 A → Ranges 900 A
-      in-range-of {A = a per k} t =
-          record {
-            real = t .real;
-            least = le-trans (t .least)
-                (mul-le-mul-left a (pow-mono {i = 840} {j = 900} (omega arith)));
-            most =
-                le-trans (t .most) (mul-le-mul-left k (pow-mono {i = 840} {j = 900} (omega arith)));
-          }
+  unit-in : Ranges 900 U
+  unit-in = unit-range bases ranges unitP tt
 
   X-is : IsNumber X
   X-is = evaluate-is (numbersOf entries) (numbers-are bases ranges entries known) (massE section (p .tab))
@@ -494,14 +384,14 @@ module _ (section : Section) (p : Plate) (m : Mount) (points : List Float) (L : 
   few = set-count (setWith section p m) points L (length entry) (figures .accepted) .1
 
   copied : Valued summed (number c 0 1 times valueOf one) (c * (33 * half-most + 2)) (c * most) U
-  copied = counted-by (copies U unit-range one half-most (lit≤ tt) (one-near .finite) one-most c few) (c * (33 * half-most + 2))
-      (c * most) (unit-range .real)
-      (each c half-most (mul-le-mul-right (c * half-most) (more c few))) (le-refl _)
+  copied = counted-by (sums-to U unit-in (valueOf one) 0 half-most (lit≤ tt) (lit≤ tt) (λ k. one) c few (Counts.value-is one)
+      (λ k h. exactly one (2 * half-most) U (one-near .finite) one-most))
+      (c * (33 * half-most + 2)) (c * most) (unit-in .real) (each c half-most (mul-le-mul-right (c * half-most) (more c few))) (le-refl _)
     where
       more : (c : ℕ) → c ≤ 32 → suc c ≤ 33
       more c h = omega arith
 
-      each : (c H : ℕ) → suc c * (c * H) ≤ 33 * (c * H) → c * suc c * H + 2 * c ≤ c * (33 * H + 2)
+      each : (c H : ℕ) → suc c * (c * H) ≤ 33 * (c * H) → c * 0 + (c * suc c * H + 2 * c) ≤ c * (33 * H + 2)
       each c H h = omega arith
 
   -- the unit, without its powers
@@ -562,16 +452,16 @@ module _ (section : Section) (p : Plate) (m : Mount) (points : List Float) (L : 
       (value-fraction (p .thickness) (positive-finite (p .thickness) thick-positive)) (value-fraction length (w .0 .finite)))
       (value-fraction height (w .1 .finite))
 
-  abbrev wide : Number
-  wide = (valueOf (p .root) plus valueOf (p .tip)) times number 1 0 2
+  abbrev width : Number
+  width = (valueOf (p .root) plus valueOf (p .tip)) times number 1 0 2
 
-  volume-fraction : IsFraction (valueOf (p .thickness) times (valueOf (p .span) times wide)) (finVolume p)
+  volume-fraction : IsFraction (valueOf (p .thickness) times (valueOf (p .span) times width)) (finVolume p)
   volume-fraction =
       let w = product (sum (fractionOf (p .root)) (fractionOf (p .tip))) (pos 1 over 2) in
-      times-fraction (valueOf (p .thickness)) (valueOf (p .span) times wide) (fractionOf (p .thickness))
+      times-fraction (valueOf (p .thickness)) (valueOf (p .span) times width) (fractionOf (p .thickness))
       (product (fractionOf (p .span)) w)
       (value-fraction (p .thickness) (positive-finite (p .thickness) thick-positive))
-      (times-fraction (valueOf (p .span)) wide (fractionOf (p .span)) w
+      (times-fraction (valueOf (p .span)) width (fractionOf (p .span)) w
       (value-fraction (p .span) (positive-finite (p .span) (N .span-positive)))
       (times-fraction (valueOf (p .root) plus valueOf (p .tip)) (number 1 0 2) (sum (fractionOf (p .root)) (fractionOf (p .tip)))
       (pos 1 over 2)
@@ -582,7 +472,7 @@ module _ (section : Section) (p : Plate) (m : Mount) (points : List Float) (L : 
   exact-fraction : IsFraction (number c 0 1 times X) (exactMassWith section p m)
   exact-fraction =
       let fill = evaluate (numbersOf entries) (fractionE (filled section)) in
-      let fin' = valueOf (p .thickness) times (valueOf (p .span) times wide) in
+      let fin' = valueOf (p .thickness) times (valueOf (p .span) times width) in
       let slab = evaluate (numbersOf entries) (slabE (p .tab)) in
       let plate' = product (filled section) (finVolume p) in
       times-fraction (number c 0 1) X (pos c over 1) (product (fractionOf (p .density)) (sum plate' (tabVolume (p .tab) (p .thickness))))

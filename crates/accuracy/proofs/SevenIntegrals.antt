@@ -45,7 +45,7 @@ use Rattle.one_piece.proofs.AreaPiece.{positive-from}
 use Rattle.accuracy.specs.Masses.{filled}
 use Rattle.accuracy.specs.Balances.{forward}
 use Rattle.accuracy.specs.Inertias.{forwardSquare, filledCube}
-use Rattle.accuracy.proofs.OrdinaryMass.{fractionE}
+use Rattle.accuracy.proofs.ToFractions.{fractionE}
 use Rattle.accuracy.proofs.Centroids.{not-below-times}
 
 -- ---- the exact integrals, of root, tip, span, sweep, thickness and radius, in the forms of specs/Inertias

@@ -2,12 +2,14 @@
 -- its divisor. Assumes nothing.
 use mathlib.Core.Path.{_≡_, sym, subst}
 use mathlib.Core.List.{List, [], _∷_}
-use Prim.Native.Nat.{ℕ, zero, suc, _+_, _-_, _*_, _≤_, _<_}
+use mathlib.Core.Bool.{Bool, false}
+use Prim.Native.Nat.{ℕ, zero, suc, _+_, _-_, _*_, _^_, _≤_, _<_}
 use native.Mathlib.Nat.{mul-pos, mul-le-mul-left}
-use native.Mathlib.Nat.{one-mul, mul-one, zero-mul, mul-zero, zero-add, add-zero}
+use native.Mathlib.Nat.{one-mul, mul-one, zero-mul, mul-zero, zero-add, add-zero, pow-zero, pow-suc}
 use native.Mathlib.Omega.{arith}
 use lib.ListN.{getD}
-use lib.IntN.{pos}
+use lib.Dec.{T, ltb, ltb→lt}
+use lib.IntN.{pos, negsuc}
 use lib.Ieee.{Float, add}
 use lib.Ieee.Scale.{finite}
 use Rattle.floats.specs.Operations.{at}
@@ -70,6 +72,26 @@ module _ (l : List Number) (k : List Fraction) (are : AreFractions l k) where
       (minus-fraction (numberOf t) (fractionBy t) (expression-fraction t))
   expression-fraction (s mul t) =
       times-fraction (numberOf s) (numberOf t) (fractionBy s) (fractionBy t) (expression-fraction s) (expression-fraction t)
+
+-- a fraction that is not below 0 as an expression
+abbrev pub fractionE : Fraction → Expression
+fractionE (pos a over b) = ratio a (b - 1)
+fractionE (negsuc a over b) = ratio 0 0
+
+abbrev pub plainFraction : Fraction → Bool
+plainFraction (pos a over b) = ltb 0 b
+plainFraction (negsuc a over b) = false
+
+pub fraction-number : (x : ℕ → Number) (f : Fraction) → T (plainFraction f) → IsFraction (evaluate x (fractionE f)) f
+fraction-number x (pos a over b) t = subst (λ (k : ℕ). IsFraction (number a 0 k) (pos a over b)) (sym (one b (ltb→lt 0 b t)))
+    (whole-fraction a b)
+  where
+    one : (b : ℕ) → 0 < b → suc (b - 1) ≡ b
+    one b h = omega arith
+fraction-number x (negsuc a over b) t = absurd t
+
+pub first-power : (x : ℕ) → x ^ 1 ≡ x
+first-power x = rw (pow-suc x 0, pow-zero x) (one-mul x)
 
 -- ---- from a number near W, of which W·D is N, to fractions
 above-of : Number → ℕ

@@ -135,8 +135,8 @@ exactMassWith section p m =
     (pos (m .count) over 1)
     times (valueOf (p .density) times (filled section times finVolume p plus tabVolume (p .tab) (p .thickness)))
 
--- of the sets that one piece is enough for (one_piece/specs/OnePiece): at most 90·2^-53·count·density·thickness·B·Y
--- from it
+-- of sets of one piece, tip at most 2 root chords and sweep at most 8: at most 90·2^-53·count·density·thickness·B·Y from
+-- it
 abbrev pub OrdinaryMass : Type 0
 OrdinaryMass =
     (section : Section) (p : Plate) (m : Mount) (points : List Float)
@@ -144,7 +144,7 @@ OrdinaryMass =
     → NotRounded section
     → SectionGiven section p m points L entry r exit
     → T (fits binary64 (m .radius))
-    → Proportions (tipsOf section) 4 (p .root) (p .tip) (p .sweep)
+    → OneStrip 2 8 section p (r .intervals)
     → Extents p b d y e
     → Within
     ((pos (m .count * 90 * (b * y)) over (d * e * 2 ^ 53)) times (valueOf (p .density) times valueOf (p .thickness)))
