@@ -214,6 +214,18 @@ size_t delvouzh_job_step(double *job_numbers, size_t job_numbers_len, size_t *jo
 size_t delvouzh_job_change_density(double *job_numbers, size_t job_numbers_len, size_t *job_counts, size_t job_counts_len,
                                    size_t density, double figure, size_t *counts, size_t counts_len);
 
+/* How far the job is, for a bar: writes DELVOUZH_COUNTS counts, the strips worked, the strips in all, the intervals and the samples so far. Returns 0.
+ * Of a job that has ended with figures every strip is worked; a strip that was refused counts as worked too, and of a job that was refused when it was
+ * made none is. `samples` never passes DELVOUZH_MOST_SAMPLES, which scales any bar, but most fins end far below it, a trapezoid mostly at 15: then strips
+ * worked of strips in all make the better bar.
+ *
+ * To draw the strip just worked: a step leaves its pieces at the start of `scratch`, 16 numbers each, of which the first two are its start and end,
+ * heights over the root divided by root chord plus span. Of what `samples` grew by in that step, s, they are (s + 15) / 30: none where s is 0, as where a
+ * strip's two ends are one when divided. Sorted by their start they rise, end to end, from the strip's lower end to its upper one; in the scratch they
+ * stand as they were cut. */
+size_t delvouzh_job_progress(const double *job_numbers, size_t job_numbers_len, const size_t *job_counts, size_t job_counts_len, size_t *counts,
+                             size_t counts_len);
+
 /* An engine of eight screens, 1 to 8, each of which may hold one job. It lies in `engine_numbers` and `engine_counts`, which are lent to every call on
  * it as the one before left them; memory of zeros is an engine with no job, none served. A call writes there the job of one screen and the screens' own
  * counts, which are the first nine; where it changes nothing, no number and no count of the engine is written.
@@ -239,6 +251,10 @@ size_t delvouzh_engine_turn(double *engine_numbers, size_t engine_numbers_len, s
 size_t delvouzh_engine_change_density(double *engine_numbers, size_t engine_numbers_len, size_t *engine_counts,
                                       size_t engine_counts_len, size_t screen, size_t density, double figure, size_t *counts,
                                       size_t counts_len);
+
+/* How far the job of a screen is, as delvouzh_job_progress; all 0 with no job there, or no such screen. A job that has ended has freed its screen. */
+size_t delvouzh_engine_progress(const double *engine_numbers, size_t engine_numbers_len, const size_t *engine_counts,
+                                size_t engine_counts_len, size_t screen, size_t *counts, size_t counts_len);
 
 /* The answer to a card line (docs/FORMS.md); neither has a newline. Writes the answer's bytes, and as `written` how many they are. Every
  * line is answered, and returns 0, also where its answer is "(refused N)". The engine of eight screens is lent as two arrays, which begin as zeros and

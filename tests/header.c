@@ -319,6 +319,15 @@ static void change_job(size_t density, double figure) {
                                             DELVOUZH_COUNTS);
 }
 
+static void tell_job(void) {
+    keep_job();
+    at.number = delvouzh_job_progress(job_numbers, DELVOUZH_JOB_NUMBERS + 1, job_counts, DELVOUZH_JOB_COUNTS + 1, at.counts, DELVOUZH_COUNTS);
+}
+
+static int told_so(size_t worked, size_t strips, size_t intervals, size_t samples) {
+    return at.number == 0 && at.counts[0] == worked && at.counts[1] == strips && at.counts[2] == intervals && at.counts[3] == samples;
+}
+
 static int no_figures(void) {
     return at.numbers[0] == 0.0 && at.numbers[9] == 0.0 && refused(at.number, 0, 0) && at.counts[2] == 0 && at.counts[3] == 0;
 }
@@ -341,11 +350,15 @@ static void jobs(void) {
     holds("a job is taken", refused(0, 0, 0));
     change_job(DELVOUZH_LINE, 160.0);
     holds("12 before the first strip", refused(12, 0, 0) && at.counts[3] == 0 && job_alone());
+    tell_job();
+    holds("no strip of two is worked", told_so(0, 2, 0, 0) && job_alone());
     step_job(SCRATCH);
     holds("more remain", at.number == DELVOUZH_MORE && no_figures());
     step_job(SCRATCH - 1);
     samples = at.counts[3];
     holds("2 with the samples so far", refused(2, 0, 0) && samples >= 15 && samples < whole.counts[3] && job_alone());
+    tell_job();
+    holds("one strip of two is worked", told_so(1, 2, (samples + 15) / 30, samples) && job_alone());
     change_job(DELVOUZH_BULK, 160.0);
     holds("another wood is taken", at.number == 0 && at.counts[3] == 0);
     change_job(DELVOUZH_BULK, 40000.0);
@@ -361,6 +374,8 @@ static void jobs(void) {
     holds("the same again, with no scratch", at.number == 0 && memcmp(at.numbers, whole.numbers, sizeof at.numbers) == 0 && job_alone());
     change_job(DELVOUZH_BULK, 160.0);
     holds("12 after the end", refused(12, 0, 0) && at.counts[3] == whole.counts[3] && job_alone());
+    tell_job();
+    holds("all strips are worked", told_so(2, 2, whole.counts[2], whole.counts[3]) && job_alone());
     make_job(5, balsa);
     holds("18 of an unknown section", refused(18, 0, 0) && job_alone());
     step_job(0);
@@ -388,6 +403,12 @@ static void no_room_for_a_job(void) {
     at.number = delvouzh_job_change_density(job_numbers, DELVOUZH_JOB_NUMBERS, job_counts, DELVOUZH_JOB_COUNTS, DELVOUZH_BULK, 160.0, at.counts,
                                             DELVOUZH_COUNTS - 1);
     holds("no room for a change's counts", at.number == 18 && left_alone());
+    at.number = delvouzh_job_progress(job_numbers, DELVOUZH_JOB_NUMBERS - 1, job_counts, DELVOUZH_JOB_COUNTS, at.counts, DELVOUZH_COUNTS);
+    holds("no numbers to tell of", at.number == 18 && left_alone());
+    at.number = delvouzh_job_progress(job_numbers, DELVOUZH_JOB_NUMBERS, job_counts, DELVOUZH_JOB_COUNTS - 1, at.counts, DELVOUZH_COUNTS);
+    holds("no counts to tell of", at.number == 18 && left_alone());
+    at.number = delvouzh_job_progress(job_numbers, DELVOUZH_JOB_NUMBERS, job_counts, DELVOUZH_JOB_COUNTS, at.counts, DELVOUZH_COUNTS - 1);
+    holds("no room for what is told", at.number == 18 && left_alone());
     step_job(SCRATCH);
     holds("the job is as it was", at.number == DELVOUZH_MORE);
 }
@@ -448,6 +469,12 @@ static void change_at(size_t screen, size_t density, double figure) {
                                                figure, at.counts, DELVOUZH_COUNTS);
 }
 
+static void tell_at(size_t screen) {
+    keep_engine();
+    at.number = delvouzh_engine_progress(engine_numbers, DELVOUZH_ENGINE_NUMBERS + 1, engine_counts, DELVOUZH_ENGINE_COUNTS + 1, screen, at.counts,
+                                         DELVOUZH_COUNTS);
+}
+
 /* A set of two strips on two of the eight screens, beside the same set in one run. */
 static void engine(void) {
     const double outline[8] = {0.0, 0.0, 0.05, 0.15, 0.15, 0.05, 0.2, 0.0}, balsa[5] = {0.003, 0.0, 0.0, 0.05, 160.0}, thick[5] = {65.0, 0.0, 0.0, 0.05, 160.0};
@@ -482,6 +509,18 @@ static void engine(void) {
     holds("12 of a job that keeps its wood", refused(12, 0, 0) && at.counts[3] == 0 && engine_alone());
     turn(SCRATCH);
     holds("from screen 1 on", at.number == DELVOUZH_MORE && told[4] == 2 && only_screen(2));
+    tell_at(2);
+    holds("a strip of two is worked", told_so(1, 2, 1, 15) && engine_alone());
+    tell_at(8);
+    holds("none of the other screen's", told_so(0, 2, 0, 0) && engine_alone());
+    tell_at(1);
+    holds("no job there", told_so(0, 0, 0, 0) && engine_alone());
+    tell_at(9);
+    holds("no such screen", told_so(0, 0, 0, 0) && engine_alone());
+    at.number = delvouzh_engine_progress(engine_numbers, DELVOUZH_ENGINE_NUMBERS - 1, engine_counts, DELVOUZH_ENGINE_COUNTS, 2, at.counts, DELVOUZH_COUNTS);
+    holds("no numbers to tell of", at.number == 18 && at.counts[1] == 0 && engine_alone());
+    at.number = delvouzh_engine_progress(engine_numbers, DELVOUZH_ENGINE_NUMBERS, engine_counts, DELVOUZH_ENGINE_COUNTS, 2, at.counts, DELVOUZH_COUNTS - 1);
+    holds("no room for what is told", at.number == 18 && at.counts[1] == 0 && engine_alone());
     turn(SCRATCH - 1);
     holds("2 between two strips", at.number == 2 && told[3] == 0 && told[4] == 0 && engine_alone());
     turn(SCRATCH);
@@ -497,6 +536,8 @@ static void engine(void) {
     holds("and frees its own screen alone", engine_counts[1] == 0 && only_screen(2));
     change_at(2, DELVOUZH_BULK, 160.0);
     holds("the screen is freed", refused(12, 0, 0) && at.counts[3] == 0 && engine_alone());
+    tell_at(2);
+    holds("and tells of no job", told_so(0, 0, 0, 0) && engine_alone());
     turn(SCRATCH);
     holds("the other one", at.number == 0 && told[4] == 8 && memcmp(at.numbers, whole.numbers, sizeof at.numbers) == 0 && only_screen(8));
     submit(1, DELVOUZH_SQUARE, FIGURES);
@@ -530,6 +571,7 @@ static void lines_and_engine(void) {
         "(moved " BODY " " BODY " (offset 0 0 1))",
         "(without " BODY " (body (mass 0.2) (centre 0 0 0) (inertia 0 0 0 0 0 0)))",
         "(join)",
+        "(progress 3)",
         "(submit 3 x)",
         "(submit 3 (set (limit 64) (count 3) (ellipse x 0.1) (thickness 0.003) (section square) (cant 0) (base 0) (radius 0.05) (bulk 680)))",
         "(submit 4 (set (limit 64) (count 33) (ellipse 0.2 0.1) (thickness 0.003) (section square) (cant 0) (base 0) (radius 0.05) (bulk 680)))",

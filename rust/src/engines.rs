@@ -1,6 +1,6 @@
 //! Eight screens, one engine: each screen may hold one job, and a turn works one strip for the next of them.
 
-use crate::{raw, Body, Density, Error, Figures, FinSet, RunError};
+use crate::{raw, Body, Density, Error, Figures, FinSet, Progress, RunError};
 
 /// What a turn did.
 #[derive(Debug, Clone, Copy, PartialEq)]
@@ -133,5 +133,23 @@ impl Engine {
         };
         let [first, second, _, samples] = counts;
         RunError::unless_zero(number, [first, second], samples)
+    }
+
+    /// How far the job of a screen is: all 0 with no job there, or no such screen.
+    pub fn progress(&self, screen: usize) -> Progress {
+        let mut counts = [0; raw::COUNTS];
+        // SAFETY: each pointer goes with the length of its own live list; what is written is borrowed by nobody else.
+        unsafe {
+            raw::delvouzh_engine_progress(
+                self.numbers.as_ptr(),
+                self.numbers.len(),
+                self.counts.as_ptr(),
+                self.counts.len(),
+                screen,
+                counts.as_mut_ptr(),
+                counts.len(),
+            )
+        };
+        Progress::of_counts(counts)
     }
 }

@@ -11,6 +11,28 @@ pub enum Step {
     Done(Figures),
 }
 
+/// How far a job is: `worked` of `strips` strips, with so many intervals and samples. A strip that was refused counts as
+/// worked.
+#[derive(Debug, Clone, Copy, PartialEq, Eq)]
+#[allow(missing_docs)]
+pub struct Progress {
+    pub worked: usize,
+    pub strips: usize,
+    pub intervals: usize,
+    pub samples: usize,
+}
+
+impl Progress {
+    pub(crate) fn of_counts([worked, strips, intervals, samples]: [usize; raw::COUNTS]) -> Self {
+        Self {
+            worked,
+            strips,
+            intervals,
+            samples,
+        }
+    }
+}
+
 /// A running job: the memory that the library's calls are lent. Every call gets it as the one before left it, since it
 /// is borrowed mutably; a clone is a job of its own.
 #[derive(Debug, Clone)]
@@ -104,5 +126,22 @@ impl Job {
         };
         let [first, second, _, samples] = counts;
         RunError::unless_zero(number, [first, second], samples)
+    }
+
+    /// How far the job is.
+    pub fn progress(&self) -> Progress {
+        let mut counts = [0; raw::COUNTS];
+        // SAFETY: each pointer goes with the length of its own live list; what is written is borrowed by nobody else.
+        unsafe {
+            raw::delvouzh_job_progress(
+                self.numbers.as_ptr(),
+                self.numbers.len(),
+                self.counts.as_ptr(),
+                self.counts.len(),
+                counts.as_mut_ptr(),
+                counts.len(),
+            )
+        };
+        Progress::of_counts(counts)
     }
 }

@@ -17,5 +17,5 @@ pub use calls::{
 };
 pub use engines::{Engine, Turn};
 pub use fins::{Density, Fillet, FinSet, Planform, Section, Tab, TubeFinSet};
-pub use jobs::{Job, Step};
+pub use jobs::{Job, Progress, Step};
 pub use refusals::{field_name, Error, Refusal, RunError, TensorFault};

@@ -101,6 +101,15 @@ extern "C" {
         counts_len: usize,
     ) -> usize;
 
+    pub fn delvouzh_job_progress(
+        job_numbers: *const f64,
+        job_numbers_len: usize,
+        job_counts: *const usize,
+        job_counts_len: usize,
+        counts: *mut usize,
+        counts_len: usize,
+    ) -> usize;
+
     pub fn delvouzh_engine_clear(engine_counts: *mut usize, engine_counts_len: usize) -> usize;
 
     pub fn delvouzh_engine_submit(
@@ -141,6 +150,16 @@ extern "C" {
         screen: usize,
         density: usize,
         figure: f64,
+        counts: *mut usize,
+        counts_len: usize,
+    ) -> usize;
+
+    pub fn delvouzh_engine_progress(
+        engine_numbers: *const f64,
+        engine_numbers_len: usize,
+        engine_counts: *const usize,
+        engine_counts_len: usize,
+        screen: usize,
         counts: *mut usize,
         counts_len: usize,
     ) -> usize;

@@ -1,8 +1,16 @@
 //! An engine of eight screens under random traffic, beside jobs stepped alone.
 mod random;
 
-use delvouzh::{Engine, Error, Job, Refusal, RunError, Step, Turn};
+use delvouzh::{Engine, Error, Job, Progress, Refusal, RunError, Step, Turn};
 use random::Random;
+
+/// How far the job of a screen is that holds none.
+const NONE: Progress = Progress {
+    worked: 0,
+    strips: 0,
+    intervals: 0,
+    samples: 0,
+};
 
 fn refused(refusal: Refusal) -> Error {
     Error::Refused(refusal)
@@ -98,6 +106,9 @@ fn eight_screens_answer_as_jobs_alone() {
     let mut other = scratch;
     let (mut done, mut idle) = (0, 0);
     for call in 0..20_000 {
+        let screen = random.below(10) as usize;
+        let held = alone.job(screen).map(|job| job.progress());
+        assert_eq!(engine.progress(screen), held.unwrap_or(NONE));
         // at times nothing is submitted, so that the engine runs empty
         match random.below(16) {
             0 => {

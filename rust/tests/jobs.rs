@@ -1,7 +1,9 @@
 //! Jobs worked strip by strip, beside whole runs.
 mod random;
 
-use delvouzh::{mass_properties, scratch_len, Density, Error, FinSet, Job, Planform, Refusal, RunError, Step};
+use delvouzh::{
+    mass_properties, scratch_len, Density, Error, FinSet, Job, Planform, Progress, Refusal, RunError, Step,
+};
 use random::Random;
 
 fn refused(refusal: Refusal, samples: usize) -> RunError {
@@ -34,12 +36,24 @@ fn worked(
             assert_eq!(short.error, Error::Refused(Refusal::Scratch));
             assert_eq!(before, scratch, "a short step writes nothing");
         }
+        assert_eq!(job.progress().worked, steps);
         steps += 1;
         let answer = job.step(scratch);
         if answer != Ok(Step::More) {
             return (answer, steps, last);
         }
     }
+}
+
+/// One less than the heights of a planform's points, equal ones once, with 0 and the span.
+fn strips(planform: &Planform) -> usize {
+    let Planform::Outline { points_m } = planform else {
+        return 1;
+    };
+    let mut heights: Vec<f64> = points_m.iter().map(|point| point[1]).collect();
+    heights.sort_by(f64::total_cmp);
+    heights.dedup_by(|a, b| a == b);
+    heights.len() - 1
 }
 
 #[test]
@@ -69,6 +83,15 @@ fn a_job_ends_as_a_fresh_run_with_the_density_taken_last() {
         assert_eq!(job.step(&mut []), answer, "the same again, with no scratch");
         assert!(steps <= 63);
         let samples = fresh.map_or_else(|failed| failed.samples, |figures| figures.samples);
+        let progress = job.progress();
+        assert_eq!((progress.worked, progress.samples), (steps, samples));
+        assert_eq!(progress.strips, strips(&set.planform));
+        if let Ok(figures) = fresh {
+            assert_eq!(
+                (progress.worked, progress.intervals),
+                (progress.strips, figures.intervals)
+            );
+        }
         assert_eq!(
             job.change_density(set.density),
             Err(refused(Refusal::Density, samples)),
@@ -111,9 +134,17 @@ fn short_steps_and_refused_changes_carry_the_samples_so_far() {
     let line = Density::Line { kg_m: 1.0 };
     assert_eq!(job.change_density(line), Err(refused(Refusal::Density, 0)));
     assert_eq!(job.step(&mut scratch[..1023]), Err(refused(Refusal::Scratch, 0)));
+    let progress = |worked, intervals, samples| Progress {
+        worked,
+        strips: 2,
+        intervals,
+        samples,
+    };
+    assert_eq!(job.progress(), progress(0, 0, 0));
     assert_eq!(job.step(&mut scratch), Ok(Step::More));
     let so_far = job.change_density(line).unwrap_err().samples;
     assert!(so_far >= 15);
+    assert_eq!(job.progress(), progress(1, (so_far + 15) / 30, so_far));
     assert_eq!(job.step(&mut []), Err(refused(Refusal::Scratch, so_far)));
     let mut other = job.clone();
     assert_eq!(

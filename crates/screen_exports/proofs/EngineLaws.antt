@@ -23,7 +23,7 @@ use Rattle.refusals.specs.Lent.{withValues, withCounts, room}
 use Rattle.figures.specs.Numbered.{figureCounts}
 use Rattle.screen_exports.specs.JobCalls.{Tells}
 use Rattle.screen_exports.specs.EngineCalls.{engineRoom, EngineCall, clearRoom, ClearCall}
-use Rattle.screen_exports.specs.EngineCalls.{submitRoom, SubmitCall, turnRoom, TurnCall, densityRoom, DensityCall}
+use Rattle.screen_exports.specs.EngineCalls.{submitRoom, SubmitCall, turnRoom, TurnCall, toldRoom, DensityCall}
 use Rattle.refusals.proofs.Rooms.{has-room, few-figures, few-counts}
 
 never : {A : Type 0} {b : Bool} → b ≡ true → b ≡ false → A
@@ -65,7 +65,7 @@ module _ (numbers : List Float) (counts : List ℕ) where
     turn-refused none = record { call = refused _ _ _ none; figures = rw none; counted = rw none; lent = rw none }
 
   module _ (density : NumberedDensity) (screen : ℕ) (told : List ℕ) where
-    pub density-refused : densityRoom numbers counts told ≡ false → DensityCall numbers counts density screen told 18 numbers counts told
+    pub density-refused : toldRoom numbers counts told ≡ false → DensityCall numbers counts density screen told 18 numbers counts told
     density-refused none = record { call = refused _ _ _ none; counted = rw none }
 
   -- ---- the engine is worked on
@@ -102,7 +102,7 @@ module _ (numbers : List Float) (counts : List ℕ) where
           (record { call = called _ _ _ _ fits (rw (← m .answer) r-is) (m .leaves); counted = rw (fits, ← m .answer) v })
 
       pub density-written : (screen : ℕ) (told told' : List ℕ) (asked read : NumberedDensity) → read ≡ asked →
-          densityRoom numbers counts told ≡ true →
+          toldRoom numbers counts told ≡ true →
           CallsEngine (numberedChange (engineIn numbers counts) screen read) (changeCalls screen read) a (lists numbers counts) (lists numbers' counts') →
           told' ≡ withCounts told (a .verdict) 0 (a .samples) → DensityCall numbers counts asked screen told r numbers' counts' told'
       density-written screen told told' asked read same fits m v =

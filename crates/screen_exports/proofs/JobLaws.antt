@@ -16,6 +16,7 @@ use Rattle.fins.specs.declared.NumberedSet.{NumberedSet}
 use Rattle.fins.specs.declared.NumberedSet.the-variants.{Known as setKnown, Unknown as noSet}
 use Rattle.joins.specs.Flat.{withBody}
 use Rattle.jobs.specs.declared.Job.{Job}
+use Rattle.jobs.specs.declared.JobProgress.{JobProgress}
 use Rattle.jobs.specs.declared.Progress.{Progress}
 use Rattle.jobs.specs.declared.Reply.{Reply}
 use Rattle.jobs.specs.declared.Row.{Row}
@@ -26,7 +27,7 @@ use Rattle.lent_jobs.proofs.Unchanged.{step-told}
 use Rattle.refusals.specs.Numbered.{numberIn}
 use Rattle.refusals.specs.Lent.{withValues, withCounts, room}
 use Rattle.figures.specs.Numbered.{figureCounts}
-use Rattle.screen_exports.specs.JobCalls.{Tells, madeBy, changedBy, jobRoom, JobCall, makeRoom, MakeCall, stepRoom, StepCall, changeRoom, ChangeCall}
+use Rattle.screen_exports.specs.JobCalls.{withProgress, ProgressCall, Tells, madeBy, changedBy, jobRoom, JobCall, makeRoom, MakeCall, stepRoom, StepCall, toldRoom, ChangeCall}
 use Rattle.refusals.proofs.Rooms.{has-room, few-figures, few-counts}
 
 pub first-not : {a : Bool} (b : Bool) → a ≡ false → (a && b) ≡ false
@@ -37,6 +38,13 @@ second-not e f = rw (e, f)
 
 pub both : {a b : Bool} → a ≡ true → b ≡ true → (a && b) ≡ true
 both e f = rw (e, f)
+
+-- what tells how far a job is
+pub progress-refused : {fits : Bool} (p : JobProgress) (told : List ℕ) → fits ≡ false → ProgressCall fits p told 18 told
+progress-refused p told none = record { returned = rw none; counted = rw none }
+
+pub progress-told : {fits : Bool} {p q : JobProgress} {told told' : List ℕ} → fits ≡ true → q ≡ p → told' ≡ withProgress told q → ProgressCall fits p told 0 told'
+progress-told {told = told} fits e w = record { returned = rw fits; counted = rw fits (w ∙ ap (withProgress told) e) }
 
 module _ (numbers : List Float) (counts : List ℕ) where
   pub job-room : jobNumbers ≤ length numbers → jobCounts ≤ length counts → jobRoom numbers counts ≡ true
@@ -66,7 +74,7 @@ module _ (numbers : List Float) (counts : List ℕ) where
     step-refused none = record { call = refused _ _ _ _ none; figures = rw none; counted = rw none; lent = rw none }
 
   module _ (density : NumberedDensity) (told : List ℕ) where
-    pub change-refused : changeRoom numbers counts told ≡ false → ChangeCall numbers counts density told 18 numbers counts told
+    pub change-refused : toldRoom numbers counts told ≡ false → ChangeCall numbers counts density told 18 numbers counts told
     change-refused none = record { call = refused _ _ _ _ none; counted = rw none }
 
   -- ---- a number that stands for nothing
@@ -80,7 +88,7 @@ module _ (numbers : List Float) (counts : List ℕ) where
         record { call = record { returned = rw fits; leaves = unwritten _ _ (rw fits) (rw fits) }; counted = rw fits v })
 
   module _ (told told' : List ℕ) where
-    pub change-unknown : (density read : NumberedDensity) → read ≡ density → read ≡ noDensity → changeRoom numbers counts told ≡ true →
+    pub change-unknown : (density read : NumberedDensity) → read ≡ density → read ≡ noDensity → toldRoom numbers counts told ≡ true →
         told' ≡ withCounts told (Refused NoForm) 0 0 → ChangeCall numbers counts density told 18 numbers counts told'
     change-unknown density read same none fits v =
         subst (λ (x : NumberedDensity). ChangeCall numbers counts x told 18 numbers counts told') (sym none ∙ same)
@@ -121,7 +129,7 @@ module _ (numbers : List Float) (counts : List ℕ) where
           record { call = called _ _ _ _ fits (rw (← m .answered) r-is) (made _ (m .holds)); counted = rw (fits, ← m .answered) v })
 
       pub change-written : (told told' : List ℕ) (asked read : NumberedDensity) (density : Density) →
-          read ≡ asked → read ≡ densityKnown density → changeRoom numbers counts told ≡ true → Changes numbers counts density a numbers' counts' →
+          read ≡ asked → read ≡ densityKnown density → toldRoom numbers counts told ≡ true → Changes numbers counts density a numbers' counts' →
           told' ≡ withCounts told (a .verdict) 0 (a .samples) → ChangeCall numbers counts asked told r numbers' counts' told'
       change-written told told' asked read density same known fits m v =
           subst (λ (x : NumberedDensity). ChangeCall numbers counts x told r numbers' counts' told') (sym known ∙ same)

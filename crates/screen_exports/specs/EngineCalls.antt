@@ -80,13 +80,13 @@ module _ (numbers : List Float) (counts : List ℕ) where
     pub counted : told' ≡ cond (turnRoom body told) (turnCounts (turning scratch .answer) told) told
     pub lent : scratch' ≡ cond (turnRoom body told) (turning scratch .leaves scratch) scratch
 
-  -- a change of the density of a screen's job
-  abbrev pub densityRoom : List ℕ → Bool
-  densityRoom told = engineRoom numbers counts && leb 4 (length told)
+  -- a change of the density of a screen's job, and how far that is, tell four counts
+  abbrev pub toldRoom : List ℕ → Bool
+  toldRoom told = engineRoom numbers counts && leb 4 (length told)
 
   abbrev pub densityChange : NumberedDensity → ℕ → Called
   densityChange density screen = numberedChange (engineIn numbers counts) screen density
 
   pub record DensityCall (density : NumberedDensity) (screen : ℕ) (told : List ℕ) (r : ℕ) (numbers' : List Float) (counts' told' : List ℕ) : Type 0 where
-    pub call : EngineCall (densityRoom told) (changeCalls screen density) (numberIn (densityChange density screen .reply .verdict)) numbers counts r numbers' counts'
-    pub counted : told' ≡ cond (densityRoom told) (withCounts told (densityChange density screen .reply .verdict) 0 (densityChange density screen .reply .samples)) told
+    pub call : EngineCall (toldRoom told) (changeCalls screen density) (numberIn (densityChange density screen .reply .verdict)) numbers counts r numbers' counts'
+    pub counted : told' ≡ cond (toldRoom told) (withCounts told (densityChange density screen .reply .verdict) 0 (densityChange density screen .reply .samples)) told

@@ -2,7 +2,7 @@
 -- An unknown number of a set's part or of a density is 18, and the memory stays as it was, as where a list has no room.
 use mathlib.Core.Path.{_≡_}
 use mathlib.Core.Bool.{Bool, true, false, cond, _&&_}
-use mathlib.Core.List.{List}
+use mathlib.Core.List.{List, [], _∷_}
 use Prim.Native.Nat.{ℕ}
 use lib.Dec.{leb}
 use lib.ListN.{length}
@@ -17,6 +17,7 @@ use Rattle.fins.specs.declared.NumberedSet.the-variants.{Known as setKnown, Unk
 use Rattle.bodies.specs.Layout.{bodyNumbers}
 use Rattle.joins.specs.Flat.{withBody}
 use Rattle.jobs.specs.declared.Job.{Job}
+use Rattle.jobs.specs.declared.JobProgress.{JobProgress}
 use Rattle.jobs.specs.declared.Stepped.{Stepped}
 use Rattle.jobs.specs.declared.Replied.{Replied}
 use Rattle.jobs.specs.declared.Row.{Row}
@@ -26,7 +27,7 @@ use Rattle.jobs.specs.Calls.{step, answerBy, isTaken}
 use Rattle.lent_jobs.specs.Memory.{jobNumbers, jobCounts, jobIn}
 use Rattle.lent_jobs.specs.Lent.{stepWrites, Leaves}
 use Rattle.refusals.specs.Numbered.{numberIn}
-use Rattle.refusals.specs.Lent.{withValues, withCounts, room}
+use Rattle.refusals.specs.Lent.{over, withValues, withCounts, room}
 use Rattle.figures.specs.Numbered.{figureCounts}
 
 -- what a call writes of its answer into the lent lists, and the number that it returns: `stepRow` and `turnRow` have
@@ -35,6 +36,15 @@ pub record Tells (row : Row) (body : List Float) (told : List ℕ) (r : ℕ) (bo
   pub returned : r ≡ row .number
   pub figures : body' ≡ withBody body 0 (row .figures .body)
   pub counted : told' ≡ figureCounts (row .figures) told
+
+-- how far a job is, as four counts over the start of a list
+unfoldable pub withProgress : List ℕ → JobProgress → List ℕ
+withProgress told p = over (p .worked ∷ p .strips ∷ p .intervals ∷ p .samples ∷ []) told
+
+-- what a call does that tells this: 0, or 18 with no room, and then nothing is written
+pub record ProgressCall (fits : Bool) (progress : JobProgress) (told : List ℕ) (r : ℕ) (told' : List ℕ) : Type 0 where
+  pub returned : r ≡ cond fits 0 (numberOf NoForm)
+  pub counted : told' ≡ cond fits (withProgress told progress) told
 
 -- ---- what is asked by numbers
 
@@ -97,13 +107,13 @@ module _ (numbers : List Float) (counts : List ℕ) where
     pub counted : told' ≡ cond (stepRoom body told) (figureCounts (stepTold scratch .figures) told) told
     pub lent : scratch' ≡ cond (stepRoom body told) (stepping scratch .leaves scratch) scratch
 
-  -- a change of density
-  abbrev pub changeRoom : List ℕ → Bool
-  changeRoom told = jobRoom numbers counts && leb 4 (length told)
+  -- a change of density, and how far the job is, tell four counts
+  abbrev pub toldRoom : List ℕ → Bool
+  toldRoom told = jobRoom numbers counts && leb 4 (length told)
 
   abbrev pub changing : NumberedDensity → Replied
   changing density = changedBy density (jobIn numbers counts)
 
   pub record ChangeCall (density : NumberedDensity) (told : List ℕ) (r : ℕ) (numbers' : List Float) (counts' told' : List ℕ) : Type 0 where
-    pub call : JobCall (changeRoom told) (isTaken (changing density .reply)) (changing density .job) (numberIn (changing density .reply .verdict)) numbers counts r numbers' counts'
-    pub counted : told' ≡ cond (changeRoom told) (withCounts told (changing density .reply .verdict) 0 (changing density .reply .samples)) told
+    pub call : JobCall (toldRoom told) (isTaken (changing density .reply)) (changing density .job) (numberIn (changing density .reply .verdict)) numbers counts r numbers' counts'
+    pub counted : told' ≡ cond (toldRoom told) (withCounts told (changing density .reply .verdict) 0 (changing density .reply .samples)) told

@@ -5,6 +5,7 @@
 // with no job 1001; the call on a line returns 0, also where the answer's text is a refusal. An unknown number of a
 // set's part or of a density is 18, and leaves the memory as it was; a lent slice that is too short is 18 too, and then
 // nothing is written.
+ghost use mathlib.Core.Path.{_≡_};
 ghost use Prim.Native.Nat.{_≤_};
 ghost use lib.ListN.{length};
 ghost use Rattle.bodies.specs.Layout.{bodyNumbers};
@@ -12,11 +13,17 @@ ghost use Rattle.materials.specs.Numbered.{numberedDensity};
 ghost use Rattle.lines.specs.Lines.{lentIn};
 ghost use Rattle.fins.specs.Numbered.{listedSet};
 ghost use Rattle.screen_exports.specs.LineCalls.{LineCall};
-ghost use Rattle.screen_exports.specs.JobCalls.{Tells, MakeCall, StepCall, ChangeCall};
+ghost use Rattle.jobs.specs.Jobs.{progressOf};
+ghost use Rattle.lent_jobs.specs.Memory.{jobIn};
+ghost use Rattle.engines.specs.Engines.{progressAt};
+ghost use Rattle.lent_engines.specs.Memory.{engineIn};
+ghost use Rattle.screen_exports.specs.JobCalls.{Tells, withProgress, ProgressCall, MakeCall, StepCall, toldRoom, ChangeCall};
 ghost use Rattle.screen_exports.specs.EngineCalls.{ClearCall, SubmitCall, TurnCall, DensityCall};
+ghost use Rattle.screen_exports.specs.EngineCalls.{toldRoom as engineToldRoom};
 use answers::ANSWER_BYTES;
 use bodies::BODY_NUMBERS;
 use fins::NumberedSet;
+use jobs::JobProgress;
 use jobs::Row;
 use lent_engines::ENGINE_COUNTS;
 use lent_engines::ENGINE_NUMBERS;
@@ -38,6 +45,17 @@ fn tell(body: &mut [f64], counts: &mut [usize], row: Row) -> usize
     joins::write_body(body, 0, of_job);
     refusals::write_counts(counts, verdict, found.intervals, found.samples);
     row.number
+}
+
+// Writes how far a job is over the first four counts.
+fn tell_progress(counts: &mut [usize], p: JobProgress)
+    requires { ⌜ 4 ≤ length (now counts) ⌝ }
+    ensures { λ _. ⌜ now (counts .exit) ≡ withProgress (now (counts .entry)) p ⌝ }
+{
+    counts[0] = p.worked;
+    counts[1] = p.strips;
+    counts[2] = p.intervals;
+    counts[3] = p.samples;
 }
 
 // Makes a job in the lent memory: returns 0 where it is taken. A job that is refused has ended with its refusal. Writes
@@ -138,6 +156,32 @@ pub extern "C" fn delvouzh_job_change_density(
     let verdict = reply.verdict;
     refusals::write_counts(counts, verdict, 0, reply.samples);
     refusals::verdict_number(verdict)
+}
+
+// How far the job there is: writes the strips worked, the strips in all, the intervals and the samples so far.
+#[no_mangle]
+pub extern "C" fn delvouzh_job_progress(
+    job_numbers: &[f64],
+    job_counts: &[usize],
+    counts: &mut [usize],
+) -> usize
+    ensures { λ r. ⌜ ProgressCall
+        (toldRoom (now («job_numbers» .entry)) (now («job_counts» .entry)) (now (counts .entry)))
+        (progressOf (jobIn (now («job_numbers» .entry)) (now («job_counts» .entry))))
+        (now (counts .entry)) r (now (counts .exit)) ⌝ }
+{
+    if job_numbers.len() < JOB_NUMBERS {
+        return NO_FORM;
+    }
+    if job_counts.len() < JOB_COUNTS {
+        return NO_FORM;
+    }
+    if counts.len() < 4 {
+        return NO_FORM;
+    }
+    let p = lent_jobs::progress_of(job_numbers, job_counts);
+    tell_progress(counts, p);
+    0
 }
 
 // Clears an engine's memory: no screen holds a job, and none was served.
@@ -248,6 +292,33 @@ pub extern "C" fn delvouzh_engine_change_density(
     let verdict = reply.verdict;
     refusals::write_counts(counts, verdict, 0, reply.samples);
     refusals::verdict_number(verdict)
+}
+
+// How far the job of a screen is, likewise; all 0 with no job there, or no such screen.
+#[no_mangle]
+pub extern "C" fn delvouzh_engine_progress(
+    engine_numbers: &[f64],
+    engine_counts: &[usize],
+    screen: usize,
+    counts: &mut [usize],
+) -> usize
+    ensures { λ r. ⌜ ProgressCall
+        (engineToldRoom (now («engine_numbers» .entry)) (now («engine_counts» .entry)) (now (counts .entry)))
+        (progressAt (engineIn (now («engine_numbers» .entry)) (now («engine_counts» .entry))) screen)
+        (now (counts .entry)) r (now (counts .exit)) ⌝ }
+{
+    if engine_numbers.len() < ENGINE_NUMBERS {
+        return NO_FORM;
+    }
+    if engine_counts.len() < ENGINE_COUNTS {
+        return NO_FORM;
+    }
+    if counts.len() < 4 {
+        return NO_FORM;
+    }
+    let p = lent_engines::progress_at(engine_numbers, engine_counts, screen);
+    tell_progress(counts, p);
+    0
 }
 
 // The answer to a line (docs/FORMS.md), which may be a refusal's text, with the engine that is lent: writes its bytes,
