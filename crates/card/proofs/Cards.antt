@@ -8,7 +8,7 @@ use native.Mathlib.Nat.{le-trans}
 use native.Mathlib.Omega.{arith}
 use borrow.Author.Tests.{le-ltb}
 use lib.Dec.{leb}
-use lib.ListN.{length, getD, length-replicate}
+use lib.ListN.{length, take, getD, length-replicate}
 use lib.Ieee.{Float}
 use Rattle.floats.specs.Operations.{bits}
 use Rattle.tokens.specs.Text.{codes, text}
@@ -23,19 +23,12 @@ use Rattle.refusals.specs.Calls.{CallOf, leavesAlone, byVerdict}
 use Rattle.refusals.proofs.Accepted.{both}
 use Rattle.limits.specs.Limits.{scratchNumbers, limitCheck, scratchCheck}
 use Rattle.fins.specs.declared.FinSet.{FinSet}
-use Rattle.fins.specs.declared.NumberedSet.{NumberedSet}
-use Rattle.fins.specs.declared.NumberedSet.the-variants.{Known as setKnown, Unknown as noSet}
 use Rattle.fins.specs.Fins.{setCheck, areaCheck}
-use Rattle.planforms.specs.declared.NumberedPlanform.{NumberedPlanform}
-use Rattle.planforms.specs.declared.NumberedPlanform.the-variants.{Known as planformKnown, Unknown as noPlanform}
-use Rattle.forms.specs.declared.Form.{Form}
-use Rattle.forms.specs.declared.Form.the-variants.{Set, Area, Join, Moments, Check, Tubes, Closing, Drill}
-use Rattle.forms.specs.declared.Form.the-variants.{Copied, Placed, Moved, Without, Submit, Density, Turn, Progress, NoForm}
-use Rattle.forms.specs.Forms.{Asked, refused, asked, pickAsked, anyForm, lineAsked}
-use Rattle.requests.specs.declared.SetRequest.{SetRequest}
-use Rattle.requests.specs.Calls.{numberedCall, numberedSubmit, numberedArea}
-use Rattle.requests.specs.Requests.{number, between, setRequestOf, areaRequestOf}
-use Rattle.requests.specs.Requests.{askedSet, askedSubmit, askedArea}
+use Rattle.planforms.specs.declared.Planform.{Planform}
+use Rattle.reading.specs.declared.Asked.{Asked}
+use Rattle.reading.specs.declared.Asked.the-variants.{Refused as RefusedAsked, Set, Area, Join, Moments, Check, Tubes, Closing, Drill}
+use Rattle.reading.specs.declared.Asked.the-variants.{Copied, Placed, Moved, Without, Submit, Density, Turn, Progress}
+use Rattle.reading.specs.Lines.{Read, refusedRead, pickRead, formRead, formNamed, wordOf, lineRead}
 use Rattle.answers.specs.Filled.{filled}
 use Rattle.answers.specs.declared.Reply.{Reply}
 use Rattle.answers.specs.declared.Shape.the-variants.{Taken as TakenShape, More as MoreShape}
@@ -61,7 +54,7 @@ use Rattle.engines.proofs.Alone as one
 use Rattle.engines.proofs.Submissions.{eight-behind, on-screen, strip-within-eight}
 use Rattle.engines.proofs.Drawn.{turn-no-shorter, drawn-on-screen}
 use Rattle.lines.specs.Lines.{Memory, Effect, refusedReply, plainReply, setReply, doneReply, turnReply}
-use Rattle.lines.specs.Lines.{setEffect, areaEffect, submitEffect, changeEffect, turnEffect, effectOf, askedEffect, lineEffect}
+use Rattle.lines.specs.Lines.{setEffect, areaEffect, submitEffect, densityEffect, turnEffect, effectOf, lineEffect}
 use Rattle.inputs.specs.Inputs.{reply, leftByLine, leftByLines}
 use Rattle.inputs.proofs.Lines.{left-append}
 use Rattle.card.specs.Program.{atFirst}
@@ -69,81 +62,70 @@ use Rattle.card.specs.Screens.{callsOver}
 use Rattle.card.specs.Cards.{WritesSet, AsksTurn, Replies, foundThen, leftThen, leftNow, HeldSince}
 use Rattle.card.specs.Cards.{ownSince, setNow, cardNow, CardOnLines}
 use Rattle.card.proofs.AtFirst.{begins-at-first}
-use Rattle.card.proofs.F64s.{written-f64}
+use Rattle.card.proofs.F64s.{submitted-f64}
 use Rattle.card.proofs.Scratch.{enough}
 use Rattle.card.proofs.Screens.{engine-by-calls}
 
--- ---- a line that asks something
-abbrev isAsked : Asked → Bool
-isAsked (refused refusal) = false
-isAsked (asked form ns figures) = true
+-- ---- a line that asks something: a longer line than any form is refused as one that is none
+reply-is : (line : List ℕ) (a : Asked) → lineRead line .asked ≡ a → (m : Memory)
+    → reply line m ≡ textOf (effectOf a (lineRead line .figures) m .reply) ++ (10 ∷ [])
+unfolding reply lineEffect lineRead
+reply-is line a asks m =
+    by (leb (length line) lineBytes) ∙ ap (λ (x : Asked). textOf (effectOf x (lineRead line .figures) m .reply) ++ (10 ∷ [])) asks
+  where
+    by : (b : Bool) → let r = pickRead b (formRead (formNamed (wordOf line)) line) (refusedRead noForm) in
+        cond b (textOf (effectOf (r .asked) (r .figures) m .reply)) (textOf (refusedReply noForm)) ++ (10 ∷ [])
+        ≡ textOf (effectOf (r .asked) (r .figures) m .reply) ++ (10 ∷ [])
+    by true = refl
+    by false = refl
 
-module _ (line : List ℕ) (form : Form) (ns : List ℕ) (figures : List Float) (asks : lineAsked line ≡ asked form ns figures) where
-  short : leb (length line) lineBytes ≡ true
-  unfolding lineAsked
-  short = by (leb (length line) lineBytes) asks
-    where
-      by : (b : Bool) → pickAsked b (anyForm line) (refused noForm) ≡ asked form ns figures → b ≡ true
-      by true e = refl
-      by false e = ap isAsked e
-
-  reply-is : (m : Memory) → reply line m ≡ textOf (effectOf form Accepted ns figures m .reply) ++ (10 ∷ [])
-  unfolding reply lineEffect
-  reply-is m =
-      ap (λ (b : Bool). cond b (textOf (askedEffect (lineAsked line) m .reply)) (textOf (refusedReply noForm)) ++ (10 ∷ [])) short
-      ∙ ap (λ (a : Asked). textOf (askedEffect a m .reply) ++ (10 ∷ [])) asks
-
-  left-is : (m : Memory) → leftByLine line m ≡ effectOf form Accepted ns figures m .memory
-  unfolding leftByLine lineEffect
-  left-is m = ap (λ (b : Bool). cond b (askedEffect (lineAsked line) m .memory) m) short ∙ ap (λ (a : Asked). askedEffect a m .memory) asks
+left-is : (line : List ℕ) (a : Asked) → lineRead line .asked ≡ a → (m : Memory) → leftByLine line m ≡ effectOf a (lineRead line .figures) m .memory
+unfolding leftByLine lineEffect lineRead
+left-is line a asks m =
+    by (leb (length line) lineBytes) ∙ ap (λ (x : Asked). effectOf x (lineRead line .figures) m .memory) asks
+  where
+    by : (b : Bool) → let r = pickRead b (formRead (formNamed (wordOf line)) line) (refusedRead noForm) in
+        cond b (effectOf (r .asked) (r .figures) m .memory) m ≡ effectOf (r .asked) (r .figures) m .memory
+    by true = refl
+    by false = refl
 
 -- ---- the scratch stays long enough
-set-no-shorter : (set : NumberedSet) (points : List Float) (L : ℕ) (scratch : List Float)
-    → length scratch ≤ length (numberedCall set points L (length scratch) .leaves scratch)
-unfolding numberedCall setCall
-set-no-shorter (setKnown set) points L scratch =
+set-no-shorter : (set : FinSet) (points : List Float) (L : ℕ) (scratch : List Float)
+    → length scratch ≤ length (setCall set points L (length scratch) .leaves scratch)
+unfolding setCall
+set-no-shorter set points L scratch =
     run-no-shorter (setCheck set points L (length scratch)) (workedFigures set points L) (λ refusal. refusedFigures refusal 0) (setStrips set points L) scratch
-set-no-shorter noSet points L scratch = omega arith
 
-area-no-shorter : (planform : NumberedPlanform) (points : List Float) (L : ℕ) (scratch : List Float)
-    → length scratch ≤ length (numberedArea planform points L (length scratch) .leaves scratch)
-unfolding numberedArea areaCall
-area-no-shorter (planformKnown planform) points L scratch =
+area-no-shorter : (planform : Planform) (points : List Float) (L : ℕ) (scratch : List Float)
+    → length scratch ≤ length (areaCall planform points L (length scratch) .leaves scratch)
+unfolding areaCall
+area-no-shorter planform points L scratch =
     run-no-shorter (areaCheck planform points L (length scratch)) (workedArea planform points L) (λ refusal. refusedArea refusal 0) (areaSeven planform points L) scratch
-area-no-shorter noPlanform points L scratch = omega arith
 
-form-no-shorter : (form : Form) (ns : List ℕ) (figures : List Float) (m : Memory)
-    → length (m .scratch) ≤ length (effectOf form Accepted ns figures m .memory .scratch)
-unfolding setEffect areaEffect submitEffect changeEffect turnEffect askedSet askedArea
-form-no-shorter Set ns figures m = set-no-shorter (setRequestOf ns figures .set) _ _ (m .scratch)
-form-no-shorter Area ns figures m = area-no-shorter (areaRequestOf ns figures .planform) _ _ (m .scratch)
-form-no-shorter Join ns figures m = omega arith
-form-no-shorter Moments ns figures m = omega arith
-form-no-shorter Check ns figures m = omega arith
-form-no-shorter Tubes ns figures m = omega arith
-form-no-shorter Closing ns figures m = omega arith
-form-no-shorter Drill ns figures m = omega arith
-form-no-shorter Copied ns figures m = omega arith
-form-no-shorter Placed ns figures m = omega arith
-form-no-shorter Moved ns figures m = omega arith
-form-no-shorter Without ns figures m = omega arith
-form-no-shorter Submit ns figures m = omega arith
-form-no-shorter Density ns figures m = omega arith
-form-no-shorter Turn ns figures m = turn-no-shorter (m .engine) (m .scratch)
-form-no-shorter Progress ns figures m = omega arith
-form-no-shorter NoForm ns figures m = omega arith
-
-asked-no-shorter : (a : Asked) (m : Memory) → length (m .scratch) ≤ length (askedEffect a m .memory .scratch)
-asked-no-shorter (refused refusal) m = omega arith
-asked-no-shorter (asked form ns figures) m = form-no-shorter form ns figures m
+asked-no-shorter : (a : Asked) (figures : List Float) (m : Memory) → length (m .scratch) ≤ length (effectOf a figures m .memory .scratch)
+unfolding setEffect areaEffect submitEffect densityEffect turnEffect
+asked-no-shorter (RefusedAsked refusal) figures m = omega arith
+asked-no-shorter (Set limit set points) figures m = set-no-shorter set _ limit (m .scratch)
+asked-no-shorter (Area limit planform points) figures m = area-no-shorter planform _ limit (m .scratch)
+asked-no-shorter Join figures m = omega arith
+asked-no-shorter Moments figures m = omega arith
+asked-no-shorter Check figures m = omega arith
+asked-no-shorter (Tubes set radius) figures m = omega arith
+asked-no-shorter (Closing count radius) figures m = omega arith
+asked-no-shorter (Drill planform points x height) figures m = omega arith
+asked-no-shorter Copied figures m = omega arith
+asked-no-shorter Placed figures m = omega arith
+asked-no-shorter Moved figures m = omega arith
+asked-no-shorter Without figures m = omega arith
+asked-no-shorter (Submit screen limit set points) figures m = omega arith
+asked-no-shorter (Density screen density) figures m = omega arith
+asked-no-shorter Turn figures m = turn-no-shorter (m .engine) (m .scratch)
+asked-no-shorter (Progress screen) figures m = omega arith
 
 line-no-shorter : (line : List ℕ) (m : Memory) → length (m .scratch) ≤ length (leftByLine line m .scratch)
-unfolding leftByLine lineEffect
-line-no-shorter line m = by (leb (length line) lineBytes)
-  where
-    by : (b : Bool) → length (m .scratch) ≤ length (cond b (askedEffect (lineAsked line) m .memory) m .scratch)
-    by true = asked-no-shorter (lineAsked line) m
-    by false = omega arith
+line-no-shorter line m =
+    subst (λ (x : Memory). length (m .scratch) ≤ length (x .scratch)) (sym (left-is line _ refl m))
+    (asked-no-shorter (lineRead line .asked) (lineRead line .figures) m)
 
 lines-no-shorter : (lines : List (List ℕ)) (m : Memory) → length (m .scratch) ≤ length (leftByLines lines m .scratch)
 unfolding leftByLines
@@ -158,27 +140,6 @@ stays-long : (lines : List (List ℕ)) → scratchNumbers ≤ length (leftByLine
 stays-long lines = omega (arith, first-length, lines-no-shorter lines atFirst)
 
 -- ---- the set's own line
-module _ (form : Form) (line : List ℕ) (set : FinSet) (points : List Float) (L : ℕ) (w : WritesSet form line set points L) where
-  abbrev Request· : SetRequest
-  Request· = setRequestOf (w .numbers) (w .figures)
-
-  abbrev Points· : List Float
-  Points· = between 0 (Request· .points) (w .figures)
-
-  own-call : (n : ℕ) → askedSet Request· (w .figures) n ≡ setCall set points L n
-  unfolding askedSet numberedCall
-  own-call n =
-      ap (λ (s : NumberedSet). numberedCall s Points· (Request· .limit) n) (w .set-is)
-      ∙ ap (λ (p : List Float). setCall set p (Request· .limit) n) (w .points-are)
-      ∙ ap (λ (l : ℕ). setCall set points l n) (w .limit-is)
-
-  own-submit : (engine : Engine) (screen : ℕ) → askedSubmit screen Request· (w .figures) engine ≡ submitOf engine screen set points L
-  unfolding askedSubmit numberedSubmit
-  own-submit engine screen =
-      ap (λ (s : NumberedSet). numberedSubmit engine screen s Points· (Request· .limit)) (w .set-is)
-      ∙ ap (λ (p : List Float). submitOf engine screen set p (Request· .limit)) (w .points-are)
-      ∙ ap (λ (l : ℕ). submitOf engine screen set points l) (w .limit-is)
-
 -- over any scratch that is long enough
 same-check : (set : FinSet) (points : List Float) (L n m : ℕ) → scratchCheck L n ≡ Accepted → scratchCheck L m ≡ Accepted
     → setCheck set points L n ≡ setCheck set points L m
@@ -199,9 +160,9 @@ unfolding setEffect
 set-line line set points L w limit lines card c =
     let m = leftByLines lines atFirst in
     let n = length (m .scratch) in
-    reply-is line Set (w .numbers) (w .figures) (w .asks) m
+    reply-is line _ (w .asks) m
     ∙ ap (λ (f : Figures). textOf (setReply f) ++ (10 ∷ []))
-    (ap (λ (c : CallOf Figures). c .answer) (own-call Set line set points L w n)
+    (ap (λ (p : List Float). setFigures set p L n) (w .points-are)
     ∙ same-figures set points L n scratchNumbers (enough L n limit (stays-long lines)) (enough L scratchNumbers limit (omega arith))
     ∙ sym c)
 
@@ -229,13 +190,13 @@ module _ (m : Memory) (long : scratchNumbers ≤ length (m .scratch)) (screen : 
   turn-replies : (line : List ℕ) → AsksTurn line → (t : Turning) → Turned· .turn ≡ t → Replies line m (turnReply t (turnedRow Turned· .figures))
   unfolding turnEffect
   turn-replies line t a e =
-      reply-is line Turn (t .numbers) (t .figures) (t .asks) m ∙ ap (λ (x : Turning). textOf (turnReply x (turnedRow Turned· .figures)) ++ (10 ∷ [])) e
+      reply-is line Turn t m ∙ ap (λ (x : Turning). textOf (turnReply x (turnedRow Turned· .figures)) ++ (10 ∷ [])) e
 
   held-after : (line : List ℕ) → AsksTurn line → (b : Bool) → holdsJob (leftByLine line m .engine .screens) screen ≡ b
       → holdsJob (Turned· .engine .screens) screen ≡ b
   unfolding turnEffect
   held-after line t b h =
-      ap (λ (x : Memory). holdsJob (x .engine .screens) screen) (sym (left-is line Turn (t .numbers) (t .figures) (t .asks) m)) ∙ h
+      ap (λ (x : Memory). holdsJob (x .engine .screens) screen) (sym (left-is line Turn t m)) ∙ h
 
 -- ---- since a submission
 module _ (before : List (List ℕ)) (submission : List ℕ) (since : List (List ℕ)) (screen : ℕ) (set : FinSet) (points : List Float) (L : ℕ)
@@ -255,29 +216,20 @@ module _ (before : List (List ℕ)) (submission : List ℕ) (since : List (List 
   abbrev Own· : List alone.Call
   Own· = ownSince before submission since screen set points L
 
-  abbrev Numbers· : List ℕ
-  Numbers· = h .writes .numbers
-
-  abbrev Figures· : List Float
-  Figures· = h .writes .figures
-
-  named : askedSubmit (number Numbers· 7) (setRequestOf Numbers· Figures·) Figures· (Found· .engine)
-      ≡ submitOf (Found· .engine) screen set points L
-  named =
-      own-submit Submit submission set points L (h .writes) (Found· .engine) _
-      ∙ ap (λ (k : ℕ). submitOf (Found· .engine) k set points L) (h .names)
+  named : submitOf (Found· .engine) screen set (take (h .writes .count) (lineRead submission .figures)) L ≡ submitOf (Found· .engine) screen set points L
+  named = ap (λ (p : List Float). submitOf (Found· .engine) screen set p L) (h .writes .points-are)
 
   was-taken : isTaken (submitOf (Found· .engine) screen set points L .reply) ≡ true
   unfolding submitEffect isRefused
   was-taken =
       ap (λ (v : Verdict). not (isRefused v))
       (ap (λ (c : Called). c .reply .verdict) (sym named)
-      ∙ accepted-if-taken _ (sym (reply-is submission Submit Numbers· Figures· (h .writes .asks) Found·) ∙ h .taken))
+      ∙ accepted-if-taken _ (sym (reply-is submission _ (h .writes .asks) Found·) ∙ h .taken))
 
   left-engine : Left· .engine ≡ engineBy (Found· .engine) (submit screen set points L)
   unfolding submitEffect
   left-engine =
-      ap (λ (m : Memory). m .engine) (left-is submission Submit Numbers· Figures· (h .writes .asks) Found·)
+      ap (λ (m : Memory). m .engine) (left-is submission _ (h .writes .asks) Found·)
       ∙ ap (λ (c : Called). c .engine) named
 
   now-is : Now· ≡ leftByLines since Left·
@@ -355,7 +307,7 @@ module _ (before : List (List ℕ)) (submission : List ℕ) (since : List (List 
         over-calls = job.over-calls set points L (on .job .accepted) Own·;
         as-alone = one.as-alone Calls· (Left· .engine) eight-left screen;
         drawn =
-            let f64s = written-f64 Submit submission set points L (h .writes) in
+            let f64s = submitted-f64 submission screen set points L (h .writes) in
             drawn-on-screen (Found· .engine) screen set points L Calls· f64s on held-now;
         goes-on = λ line t next held. more-replied next line t held;
         ends = λ line t next free. card-replied next line t free _ refl;

@@ -8,66 +8,43 @@ use lib.Dec.{leb}
 use lib.ListN.{length, getD}
 use lib.Ieee.{Float}
 use Rattle.tokens.specs.Tokens.{lineBytes}
-use Rattle.refusals.specs.declared.Verdict.{Verdict}
-use Rattle.refusals.specs.declared.Verdict.the-variants.{Accepted}
-use Rattle.materials.specs.declared.NumberedDensity.{NumberedDensity}
-use Rattle.materials.specs.declared.NumberedDensity.the-variants.{Known as densityKnown, Unknown as noDensity}
-use Rattle.fins.specs.declared.NumberedSet.{NumberedSet}
-use Rattle.fins.specs.declared.NumberedSet.the-variants.{Known as setKnown, Unknown as noSet}
-use Rattle.forms.specs.declared.Form.{Form}
-use Rattle.forms.specs.declared.Form.the-variants.{Set, Area, Join, Moments, Check, Tubes, Closing, Drill, Copied, Placed, Moved, Without, Submit, Density, Turn, Progress, NoForm}
-use Rattle.forms.specs.Forms.{Asked, refused, asked, lineAsked}
-use Rattle.requests.specs.Calls.{numberedSubmit, numberedChange}
-use Rattle.requests.specs.Requests.{number, between, setRequestOf, askedSubmit, askedChange}
+use Rattle.reading.specs.declared.Asked.{Asked}
+use Rattle.reading.specs.declared.Asked.the-variants.{Refused, Set, Area, Join, Moments, Check, Tubes, Closing, Drill, Copied, Placed, Moved, Without, Submit, Density, Turn, Progress}
+use Rattle.reading.specs.Lines.{lineRead}
 use Rattle.engines.specs.declared.Engine.{Engine}
 use Rattle.engines.specs.Engines.{holdsJob}
 use Rattle.engines.specs.Calls.{afterCalls, servedOver}
 use Rattle.engines.proofs.Rounds.{within-eight, calls-both}
-use Rattle.lent_engines.specs.Lent.{submitCalls, changeCalls}
-use Rattle.lines.specs.Lines.{Memory, Effect, submitEffect, changeEffect, turnEffect, setEffect, areaEffect, effectOf, askedEffect, lineEffect}
+use Rattle.lines.specs.Lines.{Memory, Effect, submitEffect, densityEffect, turnEffect, setEffect, areaEffect, effectOf, lineEffect}
 use Rattle.inputs.specs.Inputs.{leftByLine, leftByLines}
 use Rattle.card.specs.Screens.{callsBy, callsOver, EngineByCalls}
 
-by-submission : (engine : Engine) (screen : ℕ) (set : NumberedSet) (points : List Float) (L : ℕ) → numberedSubmit engine screen set points L .engine ≡ afterCalls engine (submitCalls screen set points L)
-unfolding numberedSubmit
-by-submission engine screen (setKnown set) points L = refl
-by-submission engine screen noSet points L = refl
-
-by-change : (engine : Engine) (screen : ℕ) (density : NumberedDensity) → numberedChange engine screen density .engine ≡ afterCalls engine (changeCalls screen density)
-unfolding numberedChange
-by-change engine screen (densityKnown density) = refl
-by-change engine screen noDensity = refl
-
-by-form : (form : Form) (verdict : Verdict) (ns : List ℕ) (figures : List Float) (m : Memory) → effectOf form verdict ns figures m .memory .engine ≡ afterCalls (m .engine) (effectOf form verdict ns figures m .calls)
-unfolding setEffect areaEffect submitEffect changeEffect turnEffect askedSubmit askedChange
-by-form Set verdict ns figures m = refl
-by-form Area verdict ns figures m = refl
-by-form Join verdict ns figures m = refl
-by-form Moments verdict ns figures m = refl
-by-form Check verdict ns figures m = refl
-by-form Tubes verdict ns figures m = refl
-by-form Closing verdict ns figures m = refl
-by-form Drill verdict ns figures m = refl
-by-form Copied verdict ns figures m = refl
-by-form Placed verdict ns figures m = refl
-by-form Moved verdict ns figures m = refl
-by-form Without verdict ns figures m = refl
-by-form Submit verdict ns figures m = by-submission (m .engine) (number ns 7) (setRequestOf ns figures .set) (between 0 (setRequestOf ns figures .points) figures) (setRequestOf ns figures .limit)
-by-form Density verdict ns figures m = by-change (m .engine) (number ns 1) _
-by-form Turn verdict ns figures m = refl
-by-form Progress verdict ns figures m = refl
-by-form NoForm verdict ns figures m = refl
-
-by-asked : (a : Asked) (m : Memory) → askedEffect a m .memory .engine ≡ afterCalls (m .engine) (askedEffect a m .calls)
-by-asked (refused refusal) m = refl
-by-asked (asked form ns figures) m = by-form form Accepted ns figures m
+by-asked : (a : Asked) (figures : List Float) (m : Memory) → effectOf a figures m .memory .engine ≡ afterCalls (m .engine) (effectOf a figures m .calls)
+unfolding setEffect areaEffect submitEffect densityEffect turnEffect
+by-asked (Refused refusal) figures m = refl
+by-asked (Set limit set points) figures m = refl
+by-asked (Area limit planform points) figures m = refl
+by-asked Join figures m = refl
+by-asked Moments figures m = refl
+by-asked Check figures m = refl
+by-asked (Tubes set radius) figures m = refl
+by-asked (Closing count radius) figures m = refl
+by-asked (Drill planform points x height) figures m = refl
+by-asked Copied figures m = refl
+by-asked Placed figures m = refl
+by-asked Moved figures m = refl
+by-asked Without figures m = refl
+by-asked (Submit screen limit set points) figures m = refl
+by-asked (Density screen density) figures m = refl
+by-asked Turn figures m = refl
+by-asked (Progress screen) figures m = refl
 
 by-line : (line : List ℕ) (m : Memory) → leftByLine line m .engine ≡ afterCalls (m .engine) (callsBy line m)
 unfolding leftByLine lineEffect
 by-line line m = by (leb (length line) lineBytes)
   where
-    by : (t : Bool) → cond t (askedEffect (lineAsked line) m .memory) m .engine ≡ afterCalls (m .engine) (cond t (askedEffect (lineAsked line) m .calls) [])
-    by true = by-asked (lineAsked line) m
+    by : (t : Bool) → cond t (lineEffect line m .memory) m .engine ≡ afterCalls (m .engine) (cond t (lineEffect line m .calls) [])
+    by true = by-asked (lineRead line .asked) (lineRead line .figures) m
     by false = refl
 
 pub engine-by-calls : EngineByCalls

@@ -4,14 +4,13 @@ use mathlib.Core.Bool.{true, false}
 use mathlib.Core.List.{List, [], _∷_, _++_}
 use mathlib.Core.Path.{_≡_}
 use Prim.Native.Nat.{ℕ}
+use lib.ListN.{take}
 use lib.Ieee.{Float}
 use Rattle.limits.specs.Limits.{scratchNumbers}
 use Rattle.fins.specs.declared.FinSet.{FinSet}
-use Rattle.fins.specs.declared.NumberedSet.the-variants.{Known as setKnown}
-use Rattle.forms.specs.declared.Form.{Form}
-use Rattle.forms.specs.declared.Form.the-variants.{Set, Submit, Turn}
-use Rattle.forms.specs.Forms.{asked, lineAsked}
-use Rattle.requests.specs.Requests.{number, between, setRequestOf}
+use Rattle.reading.specs.declared.Asked.{Asked}
+use Rattle.reading.specs.declared.Asked.the-variants.{Set, Submit, Turn}
+use Rattle.reading.specs.Lines.{lineRead}
 use Rattle.answers.specs.declared.Shape.the-variants.{Taken as TakenShape, More as MoreShape}
 use Rattle.answers.specs.declared.Reply.{Reply}
 use Rattle.answers.specs.Answers.{textOf, reply as answered}
@@ -27,19 +26,14 @@ use Rattle.card.specs.Program.{atFirst}
 use Rattle.card.specs.Screens.{callsOver}
 
 -- a line of a form that holds a whole set, `(set ..)` or `(submit N (set ..))`, and what that writes
-pub record WritesSet (form : Form) (line : List ℕ) (set : FinSet) (points : List Float) (L : ℕ) : Type 0 where
-  pub numbers : List ℕ
-  pub figures : List Float
-  pub asks : lineAsked line ≡ asked form numbers figures
-  pub set-is : setRequestOf numbers figures .set ≡ setKnown set
-  pub points-are : between 0 (setRequestOf numbers figures .points) figures ≡ points
-  pub limit-is : setRequestOf numbers figures .limit ≡ L
+pub record WritesSet (form : ℕ → FinSet → ℕ → Asked) (line : List ℕ) (set : FinSet) (points : List Float) (L : ℕ) : Type 0 where
+  pub count : ℕ
+  pub asks : lineRead line .asked ≡ form L set count
+  pub points-are : take count (lineRead line .figures) ≡ points
 
 -- `(turn)`
-pub record AsksTurn (line : List ℕ) : Type 0 where
-  pub numbers : List ℕ
-  pub figures : List Float
-  pub asks : lineAsked line ≡ asked Turn numbers figures
+abbrev pub AsksTurn : List ℕ → Type 0
+AsksTurn line = lineRead line .asked ≡ Turn
 
 -- a line is replied by this answer, and a newline
 abbrev pub Replies : List ℕ → Memory → Reply → Type 0
@@ -60,8 +54,7 @@ module _ (before : List (List ℕ)) (submission : List ℕ) (since : List (List 
   module _ (screen : ℕ) (set : FinSet) (points : List Float) (L : ℕ) where
     -- the submission writes the set and names the screen, it is taken, and from then on the screen holds its job
     pub record HeldSince : Type 0 where
-      pub writes : WritesSet Submit submission set points L
-      pub names : number (writes .numbers) 7 ≡ screen
+      pub writes : WritesSet (Submit screen) submission set points L
       pub taken : Replies submission foundThen (answered TakenShape [] [])
       pub holds : holdsOver screen (leftThen .engine) (callsOver since leftThen) ≡ true
       pub holds-now : holdsJob (leftNow .engine .screens) screen ≡ true

@@ -1,13 +1,13 @@
 -- A count is capped at a million when it is read (`counts`). No answer, no scratch and no engine shows it: a larger limit or count is refused, by 1
 -- or 3, and a larger number is no screen's, as it would be uncapped. Assumes nothing.
 use mathlib.Core.Bool.{Bool, true, false, _&&_, cond}
-use mathlib.Core.List.{List}
+use mathlib.Core.List.{List, []}
 use mathlib.Core.Path.{_≡_, refl, sym, ap, _∙_}
 use Prim.Native.Nat.{ℕ, _<_}
 use native.Mathlib.Omega.{arith}
 use borrow.Author.Tests.{leb-true, leb-false, lt-leb}
 use lib.Dec.{leb}
-use lib.ListN.{length}
+use lib.ListN.{length, take}
 use lib.Ieee.{Float}
 use Rattle.refusals.specs.declared.Refusal.{Refusal}
 use Rattle.refusals.specs.declared.Refusal.the-variants.{Limit, Count, Screen as notFree, Density as notTaken}
@@ -21,23 +21,11 @@ use Rattle.planforms.specs.declared.Planform.{Planform}
 use Rattle.fins.specs.declared.FinSet.{FinSet}
 use Rattle.floats.proofs.Bools.{and-false}
 use Rattle.fins.specs.Fins.{ownCheck, setCheck, areaCheck}
-use Rattle.planforms.specs.declared.NumberedPlanform.{NumberedPlanform}
-use Rattle.planforms.specs.declared.NumberedPlanform.the-variants.{Known as planformKnown, Unknown as noPlanform}
-use Rattle.fins.specs.declared.NumberedSet.{NumberedSet}
-use Rattle.fins.specs.declared.NumberedSet.the-variants.{Known as setKnown, Unknown as noSet}
 use Rattle.materials.specs.declared.Density.{Density}
-use Rattle.materials.specs.declared.NumberedDensity.{NumberedDensity}
-use Rattle.materials.specs.declared.NumberedDensity.the-variants.{Known as densityKnown, Unknown as noDensity}
-use Rattle.materials.specs.Numbered.{numberedDensity}
 use Rattle.joins.specs.Joins.{refusedBody}
 use Rattle.tubes.specs.declared.TubeFinSet.{TubeFinSet}
 use Rattle.tubes.specs.Tubes.{tubeCheck, tubesOf}
 use Rattle.tubes.specs.Closing.{closingOf}
-use Rattle.floats.specs.Operations.{at}
-use Rattle.requests.specs.declared.AreaRequest.{AreaRequest}
-use Rattle.requests.specs.declared.SetRequest.{SetRequest}
-use Rattle.requests.specs.Calls.{numberedCall, numberedSubmit, numberedChange, numberedArea, ringOfKnown, ringBy}
-use Rattle.requests.specs.Requests.{between, askedSet, askedSubmit, askedArea}
 use Rattle.figures.specs.declared.Figures.{Figures}
 use Rattle.figures.specs.declared.Area.{Area}
 use Rattle.figures.specs.Figures.{refusedFigures, workedSet, setCall}
@@ -48,7 +36,13 @@ use Rattle.engines.specs.declared.Screens.{Screens}
 use Rattle.engines.specs.declared.AtScreen.{AtScreen}
 use Rattle.engines.specs.declared.Engine.{Engine}
 use Rattle.engines.specs.Engines.{isScreen, placeOf, isFree, holdsJob, refused as refusedAt, submittedOf, changedOf, jobAt, calledAt, submitOf, changeAt, noProgress, toldOf, progressAt}
-use Rattle.lines.specs.Lines.{Memory, setReply, areaReply, works, setEffect, areaEffect}
+use Rattle.engines.specs.declared.Called.{Called}
+use Rattle.answers.specs.declared.Shape.the-variants.{Ring as RingShape}
+use Rattle.reading.specs.declared.Asked.{Asked}
+use Rattle.reading.specs.declared.Asked.the-variants.{Refused as RefusedAsked, Set as SetAsked, Area as AreaAsked, Join as JoinAsked, Moments as MomentsAsked, Check as CheckAsked}
+use Rattle.reading.specs.declared.Asked.the-variants.{Tubes as TubesAsked, Closing as ClosingAsked, Drill as DrillAsked, Copied as CopiedAsked, Placed as PlacedAsked, Moved as MovedAsked}
+use Rattle.reading.specs.declared.Asked.the-variants.{Without as WithoutAsked, Submit as SubmitAsked, Density as DensityAsked, Turn as TurnAsked, Progress as ProgressAsked}
+use Rattle.lines.specs.Lines.{Memory, Effect, setReply, areaReply, bodyReply, closingReply, progressReply, works, engages, setEffect, areaEffect, submitEffect, densityEffect, effectOf}
 
 -- ---- the two checks
 
@@ -138,61 +132,27 @@ module _ (set : FinSet) (points : List Float) (L : ℕ) where
 
 -- ---- the count of tubes
 
+abbrev withTubes : TubeFinSet → ℕ → TubeFinSet
+withTubes s n =
+    record {
+      count = n;
+      «length_m» = s .«length_m»;
+      «outer_radius_m» = s .«outer_radius_m»;
+      «thickness_m» = s .«thickness_m»;
+      «base_angle_rad» = s .«base_angle_rad»;
+      density = s .density;
+    }
+
 tubes-many : (set : TubeFinSet) (radius : Float) → 32 < set .count → tubesOf set radius ≡ refusedBody Count
 unfolding tubeCheck firstRefusal
 tubes-many set radius h = rw (too-many (set .count) h)
 
-module _ (figures : List Float) where
-  same-ring : (i j : ℕ) → 32 < i → 32 < j → (density : NumberedDensity) → ringOfKnown i density figures ≡ ringOfKnown j density figures
-  same-ring i j h g (densityKnown density) = tubes-many _ _ h ∙ sym (tubes-many _ _ g)
-  same-ring i j h g noDensity = refl
+tubes-capped : (set : TubeFinSet) (radius : Float) → tubesOf (withTubes set (capped (set .count))) radius ≡ tubesOf set radius
+tubes-capped set radius = at-capped (λ (k : ℕ). tubesOf (withTubes set k) radius) 32 (omega arith) (λ i j h g. tubes-many (withTubes set i) radius h ∙ sym (tubes-many (withTubes set j) radius g)) (set .count)
 
-  pub ring-capped : (density count : ℕ) → ringBy (capped count) density figures ≡ ringBy count density figures
-  unfolding ringBy
-  ring-capped density = at-capped (λ (k : ℕ). ringBy k density figures) 32 (omega arith) (λ i j h g. rw (same-ring i j h g (numberedDensity density (at figures 5))))
-
-pub closing-capped : (radius : Float) (count : ℕ) → closingOf radius (capped count) ≡ closingOf radius count
+closing-capped : (radius : Float) (count : ℕ) → closingOf radius (capped count) ≡ closingOf radius count
 unfolding closingOf firstRefusal
 closing-capped radius = at-capped (closingOf radius) 32 (omega arith) (λ i j h g. rw (too-many i h, too-many j g))
-
--- ---- what a line asks, with numbers of any size, and capped
-
-abbrev pub cappedSet : NumberedSet → NumberedSet
-cappedSet (setKnown set) = setKnown (withCount set (capped (set .count)))
-cappedSet noSet = noSet
-
-abbrev pub cappedSetRequest : SetRequest → SetRequest
-cappedSetRequest q = record { limit = capped (q .limit); set = cappedSet (q .set); points = q .points }
-
-abbrev pub cappedAreaRequest : AreaRequest → AreaRequest
-cappedAreaRequest q = record { limit = capped (q .limit); planform = q .planform; points = q .points }
-
-set-capped : (set : NumberedSet) (points : List Float) (L m : ℕ) → numberedCall (cappedSet set) points (capped L) m ≡ numberedCall set points L m
-unfolding numberedCall
-set-capped (setKnown set) points L m = call-limit (withCount set (capped (set .count))) points m L ∙ call-count set points L m (set .count)
-set-capped noSet points L m = refl
-
-area-capped : (planform : NumberedPlanform) (points : List Float) (L m : ℕ) → numberedArea planform points (capped L) m ≡ numberedArea planform points L m
-unfolding numberedArea
-area-capped (planformKnown planform) points L m = area-call-limit planform points m L
-area-capped noPlanform points L m = refl
-
-module _ (figures : List Float) where
-  pub set-asked-capped : (q : SetRequest) (m : ℕ) → askedSet (cappedSetRequest q) figures m ≡ askedSet q figures m
-  unfolding askedSet
-  set-asked-capped q m = set-capped (q .set) (between 0 (q .points) figures) (q .limit) m
-
-  pub area-asked-capped : (q : AreaRequest) (m : ℕ) → askedArea (cappedAreaRequest q) figures m ≡ askedArea q figures m
-  unfolding askedArea
-  area-asked-capped q m = area-capped (q .planform) (between 0 (q .points) figures) (q .limit) m
-
-  pub set-effect-capped : (q : SetRequest) (m : Memory) → setEffect (cappedSetRequest q) figures m ≡ setEffect q figures m
-  unfolding setEffect
-  set-effect-capped q m = ap (λ (c : CallOf Figures). works c setReply m) (set-asked-capped q (length (m .scratch)))
-
-  pub area-effect-capped : (q : AreaRequest) (m : Memory) → areaEffect (cappedAreaRequest q) figures m ≡ areaEffect q figures m
-  unfolding areaEffect
-  area-effect-capped q m = ap (λ (c : CallOf Area). works c areaReply m) (area-asked-capped q (length (m .scratch)))
 
 -- ---- the engine: a number that is no screen's is refused whatever it is, and a set as above
 
@@ -247,30 +207,73 @@ module _ (engine : Engine) (points : List Float) where
       at-capped (λ (k : ℕ). submitOf engine screen (withCount set k) points L) 32 (omega arith)
       (λ i j h g. refused-submission screen (withCount set i) L (r .0) (making-count set points L i h ∙ r .1) ∙ sym (refused-submission screen (withCount set j) L (r .0) (making-count set points L j g ∙ r .1)))
 
-  numbered-submit-capped : (screen : ℕ) (set : NumberedSet) (L : ℕ) → numberedSubmit engine (capped screen) (cappedSet set) points (capped L) ≡ numberedSubmit engine screen set points L
-  unfolding numberedSubmit
-  numbered-submit-capped screen (setKnown set) L = submit-screen (withCount set (capped (set .count))) (capped L) screen ∙ submit-limit screen (withCount set (capped (set .count))) L ∙ submit-count screen set L (set .count)
-  numbered-submit-capped screen noSet L = refl
+  submit-capped : (screen : ℕ) (set : FinSet) (L : ℕ) → submitOf engine (capped screen) (withCount set (capped (set .count))) points (capped L) ≡ submitOf engine screen set points L
+  submit-capped screen set L = submit-screen (withCount set (capped (set .count))) (capped L) screen ∙ submit-limit screen (withCount set (capped (set .count))) L ∙ submit-count screen set L (set .count)
 
 module _ (engine : Engine) where
   change-outside : (density : Density) (k : ℕ) → 8 < k → changeAt engine k density ≡ calledAt engine 0 (refusedAt (engine .screens) (jobAt engine 0) notTaken)
   unfolding changeAt changedOf holdsJob placeOf
   change-outside density k h = rw (no-screen k h)
 
-  -- answer and engine of a submission, and of a change of density
-  pub submit-capped : (figures : List Float) (screen : ℕ) (q : SetRequest) → askedSubmit (capped screen) (cappedSetRequest q) figures engine ≡ askedSubmit screen q figures engine
-  unfolding askedSubmit
-  submit-capped figures screen q = numbered-submit-capped engine (between 0 (q .points) figures) screen (q .set) (q .limit)
-
-  pub change-capped : (screen : ℕ) (density : NumberedDensity) → numberedChange engine (capped screen) density ≡ numberedChange engine screen density
-  unfolding numberedChange
-  change-capped screen (densityKnown density) = at-capped (λ (k : ℕ). changeAt engine k density) 8 (omega arith) (λ i j h g. change-outside density i h ∙ sym (change-outside density j g)) screen
-  change-capped screen noDensity = refl
+  change-capped : (screen : ℕ) (density : Density) → changeAt engine (capped screen) density ≡ changeAt engine screen density
+  change-capped screen density = at-capped (λ (k : ℕ). changeAt engine k density) 8 (omega arith) (λ i j h g. change-outside density i h ∙ sym (change-outside density j g)) screen
 
   -- how far a screen's job is
   progress-outside : (k : ℕ) → 8 < k → progressAt engine k ≡ noProgress
   unfolding progressAt toldOf holdsJob
   progress-outside k h = rw (no-screen k h)
 
-  pub progress-capped : (screen : ℕ) → progressAt engine (capped screen) ≡ progressAt engine screen
+  progress-capped : (screen : ℕ) → progressAt engine (capped screen) ≡ progressAt engine screen
   progress-capped = at-capped (progressAt engine) 8 (omega arith) (λ i j h g. progress-outside i h ∙ sym (progress-outside j g))
+
+-- ---- what a line asks, with its limit, count and screen as they are written, and capped
+abbrev pub cappedAsked : Asked → Asked
+cappedAsked (RefusedAsked refusal) = RefusedAsked refusal
+cappedAsked (SetAsked limit set points) = SetAsked (capped limit) (withCount set (capped (set .count))) points
+cappedAsked (AreaAsked limit planform points) = AreaAsked (capped limit) planform points
+cappedAsked JoinAsked = JoinAsked
+cappedAsked MomentsAsked = MomentsAsked
+cappedAsked CheckAsked = CheckAsked
+cappedAsked (TubesAsked set radius) = TubesAsked (withTubes set (capped (set .count))) radius
+cappedAsked (ClosingAsked count radius) = ClosingAsked (capped count) radius
+cappedAsked (DrillAsked planform points x height) = DrillAsked planform points x height
+cappedAsked CopiedAsked = CopiedAsked
+cappedAsked PlacedAsked = PlacedAsked
+cappedAsked MovedAsked = MovedAsked
+cappedAsked WithoutAsked = WithoutAsked
+cappedAsked (SubmitAsked screen limit set points) = SubmitAsked (capped screen) (capped limit) (withCount set (capped (set .count))) points
+cappedAsked (DensityAsked screen density) = DensityAsked (capped screen) density
+cappedAsked TurnAsked = TurnAsked
+cappedAsked (ProgressAsked screen) = ProgressAsked (capped screen)
+
+-- its answer, the memory that it leaves; so what is read of a line shows no cap
+pub effect-capped : (a : Asked) (figures : List Float) (m : Memory)
+    → (effectOf (cappedAsked a) figures m .reply ≡ effectOf a figures m .reply) × (effectOf (cappedAsked a) figures m .memory ≡ effectOf a figures m .memory)
+unfolding setEffect areaEffect submitEffect densityEffect
+effect-capped (RefusedAsked refusal) figures m = (refl, refl)
+effect-capped (SetAsked limit set points) figures m =
+    let p = take points figures in
+    let n = length (m .scratch) in
+    let e = call-limit (withCount set (capped (set .count))) p n limit ∙ call-count set p limit n (set .count) in
+    (ap (λ (c : CallOf Figures). works c setReply m .reply) e, ap (λ (c : CallOf Figures). works c setReply m .memory) e)
+effect-capped (AreaAsked limit planform points) figures m =
+    let e = area-call-limit planform (take points figures) (length (m .scratch)) limit in
+    (ap (λ (c : CallOf Area). works c areaReply m .reply) e, ap (λ (c : CallOf Area). works c areaReply m .memory) e)
+effect-capped JoinAsked figures m = (refl, refl)
+effect-capped MomentsAsked figures m = (refl, refl)
+effect-capped CheckAsked figures m = (refl, refl)
+effect-capped (TubesAsked set radius) figures m = (ap (bodyReply RingShape) (tubes-capped set radius), refl)
+effect-capped (ClosingAsked count radius) figures m = (ap closingReply (closing-capped radius count), refl)
+effect-capped (DrillAsked planform points x height) figures m = (refl, refl)
+effect-capped CopiedAsked figures m = (refl, refl)
+effect-capped PlacedAsked figures m = (refl, refl)
+effect-capped MovedAsked figures m = (refl, refl)
+effect-capped WithoutAsked figures m = (refl, refl)
+effect-capped (SubmitAsked screen limit set points) figures m =
+    let e = submit-capped (m .engine) (take points figures) screen set limit in
+    (ap (λ (c : Called). engages c [] m .reply) e, ap (λ (c : Called). engages c [] m .memory) e)
+effect-capped (DensityAsked screen density) figures m =
+    let e = change-capped (m .engine) screen density in
+    (ap (λ (c : Called). engages c [] m .reply) e, ap (λ (c : Called). engages c [] m .memory) e)
+effect-capped TurnAsked figures m = (refl, refl)
+effect-capped (ProgressAsked screen) figures m = (ap progressReply (progress-capped (m .engine) screen), refl)

@@ -3,20 +3,26 @@
 use mathlib.Core.List.{List, [], _∷_}
 use mathlib.Core.Path.{_≡_}
 use Prim.Native.Nat.{ℕ, _+_, _<_}
-use lib.ListN.{length}
+use lib.ListN.{length, take, drop}
 use lib.Ieee.{Float}
 use Rattle.floats.specs.Operations.{at}
 use Rattle.refusals.specs.declared.Refusal.{Refusal}
-use Rattle.refusals.specs.declared.Refusal.the-variants.{NoForm as noForm, Scratch as short}
+use Rattle.refusals.specs.declared.Refusal.the-variants.{Scratch as short}
 use Rattle.refusals.specs.declared.Verdict.{Verdict}
 use Rattle.refusals.specs.declared.Verdict.the-variants.{Accepted, Refused}
 use Rattle.refusals.specs.Refusals.{numberOf}
 use Rattle.refusals.specs.Calls.{CallOf}
-use Rattle.bodies.specs.Layout.{numbersOf}
+use Rattle.planforms.specs.declared.Planform.{Planform}
+use Rattle.materials.specs.declared.Density.{Density}
+use Rattle.fins.specs.declared.FinSet.{FinSet}
+use Rattle.bodies.specs.Layout.{bodyNumbers, numbersOf}
 use Rattle.joins.specs.declared.Joined.{Joined}
 use Rattle.tubes.specs.declared.ClosingRadius.{ClosingRadius}
+use Rattle.tubes.specs.Tubes.{tubesOf}
+use Rattle.tubes.specs.Closing.{closingOf}
 use Rattle.drill.specs.declared.Answer.{Answer}
 use Rattle.drill.specs.declared.Answer.the-variants.{Inside, Edge, Outside, Refused as refusedPoint}
+use Rattle.drill.specs.Drill.{drillOf}
 use Rattle.moments.specs.declared.Moments.{Moments}
 use Rattle.texts.specs.Appended.{Appended}
 use Rattle.answers.specs.declared.Reply.{Reply}
@@ -25,22 +31,23 @@ use Rattle.answers.specs.declared.Shape.the-variants.{Figures as FiguresShape, 
 use Rattle.answers.specs.declared.Shape.the-variants.{Inside as InsideShape, Edge as EdgeShape, Outside as OutsideShape, Moments as MomentsShape, Sound as SoundShape, Taken as TakenShape, Idle as IdleShape}
 use Rattle.answers.specs.declared.Shape.the-variants.{More as MoreShape, Done as DoneShape, DoneRefused as DoneRefusedShape, Progress as ProgressShape, Refused as RefusedShape}
 use Rattle.answers.specs.Answers.{AnswerFits, textOf, reply}
-use Rattle.forms.specs.declared.Form.{Form}
-use Rattle.forms.specs.declared.Form.the-variants.{Set as SetForm, Area as AreaForm, Join as JoinForm, Moments as MomentsForm, Check as CheckForm, Tubes as TubesForm, Closing as ClosingForm, Drill as DrillForm, Copied as CopiedForm, Placed as PlacedForm, Moved as MovedForm, Without as WithoutForm, Submit as SubmitForm, Density as DensityForm, Turn as TurnForm, Progress as ProgressForm, NoForm}
-use Rattle.forms.specs.Forms.{Asked, refused, asked, lineAsked}
-use Rattle.requests.specs.declared.AreaRequest.{AreaRequest}
-use Rattle.requests.specs.declared.SetRequest.{SetRequest}
-use Rattle.requests.specs.Calls.{joinedPointsOf, tensorMoments, bodyVerdict}
-use Rattle.requests.specs.Requests.{number, setRequestOf, askedSubmit, askedChange, askedProgress, askedSubmitCalls, askedChangeCalls, areaRequestOf, askedSet, askedArea, askedRing, askedClosing, askedDrill, askedCopied, askedPlaced, askedMoved, askedWithout}
+use Rattle.reading.specs.declared.Asked.{Asked}
+use Rattle.reading.specs.declared.Asked.the-variants.{Refused as RefusedAsked, Set as SetAsked, Area as AreaAsked, Join as JoinAsked, Moments as MomentsAsked, Check as CheckAsked}
+use Rattle.reading.specs.declared.Asked.the-variants.{Tubes as TubesAsked, Closing as ClosingAsked, Drill as DrillAsked, Copied as CopiedAsked, Placed as PlacedAsked, Moved as MovedAsked}
+use Rattle.reading.specs.declared.Asked.the-variants.{Without as WithoutAsked, Submit as SubmitAsked, Density as DensityAsked, Turn as TurnAsked, Progress as ProgressAsked}
+use Rattle.reading.specs.Lines.{lineRead}
+use Rattle.requests.specs.Calls.{joinedPointsOf, tensorMoments, bodyVerdict, copiedBy, placedBy, movedBy, withoutBy}
 use Rattle.figures.specs.declared.Figures.{Figures}
 use Rattle.figures.specs.declared.Area.{Area}
+use Rattle.figures.specs.Figures.{setCall}
+use Rattle.figures.specs.Areas.{areaCall}
 use Rattle.jobs.specs.declared.JobProgress.{JobProgress}
 use Rattle.engines.specs.declared.Engine.{Engine}
 use Rattle.engines.specs.declared.Turn.{Turn}
 use Rattle.engines.specs.declared.Turn.the-variants.{Short, Idle, More, Ended}
 use Rattle.engines.specs.declared.Called.{Called}
-use Rattle.engines.specs.Engines.{turnOf, turnedRow}
-use Rattle.engines.specs.Calls.{Call, turn}
+use Rattle.engines.specs.Engines.{turnOf, turnedRow, submitOf, changeAt}
+use Rattle.engines.specs.Calls.{Call, submit, change, turn}
 use Rattle.lent_engines.specs.Memory.{engineIn}
 use Rattle.lent_engines.specs.Lent.{Room, Lists, lists, Leaves}
 
@@ -138,18 +145,17 @@ engages c calls m =
       calls = calls;
     }
 
--- a limit and a count are capped at a million when a line is read; no answer shows it (proofs/Capped)
-unfoldable pub setEffect : SetRequest → List Float → Memory → Effect
-setEffect q figures m = works (askedSet q figures (length (m .scratch))) setReply m
+unfoldable pub setEffect : FinSet → List Float → ℕ → Memory → Effect
+setEffect set points limit m = works (setCall set points limit (length (m .scratch))) setReply m
 
-unfoldable pub areaEffect : AreaRequest → List Float → Memory → Effect
-areaEffect q figures m = works (askedArea q figures (length (m .scratch))) areaReply m
+unfoldable pub areaEffect : Planform → List Float → ℕ → Memory → Effect
+areaEffect planform points limit m = works (areaCall planform points limit (length (m .scratch))) areaReply m
 
-unfoldable pub submitEffect : ℕ → SetRequest → List Float → Memory → Effect
-submitEffect screen q figures m = engages (askedSubmit screen q figures (m .engine)) (askedSubmitCalls screen q figures) m
+unfoldable pub submitEffect : ℕ → FinSet → List Float → ℕ → Memory → Effect
+submitEffect screen set points limit m = engages (submitOf (m .engine) screen set points limit) (submit screen set points limit ∷ []) m
 
-unfoldable pub changeEffect : List ℕ → List Float → Memory → Effect
-changeEffect ns figures m = engages (askedChange ns figures (m .engine)) (askedChangeCalls ns figures) m
+unfoldable pub densityEffect : ℕ → Density → Memory → Effect
+densityEffect screen density m = engages (changeAt (m .engine) screen density) (change screen density ∷ []) m
 
 unfoldable pub turnEffect : Memory → Effect
 turnEffect m =
@@ -160,37 +166,31 @@ turnEffect m =
       calls = turn (m .scratch) ∷ [];
     }
 
--- why a line is no form
-abbrev pub whyRefused : Verdict → Refusal
-whyRefused Accepted = noForm
-whyRefused (Refused refusal) = refusal
-
--- each form, of its counts and parts and of its figures
-abbrev pub effectOf : Form → Verdict → List ℕ → List Float → Memory → Effect
-effectOf SetForm verdict ns figures m = setEffect (setRequestOf ns figures) figures m
-effectOf AreaForm verdict ns figures m = areaEffect (areaRequestOf ns figures) figures m
-effectOf JoinForm verdict ns figures m = answers (bodyReply JoinedShape (joinedPointsOf figures)) m
-effectOf MomentsForm verdict ns figures m = answers (momentsReply (tensorMoments figures)) m
-effectOf CheckForm verdict ns figures m = answers (plainReply (bodyVerdict figures) SoundShape) m
-effectOf TubesForm verdict ns figures m = answers (bodyReply RingShape (askedRing ns figures)) m
-effectOf ClosingForm verdict ns figures m = answers (closingReply (askedClosing ns figures)) m
-effectOf DrillForm verdict ns figures m = answers (drillReply (askedDrill ns figures)) m
-effectOf CopiedForm verdict ns figures m = answers (bodyReply BodyShape (askedCopied figures)) m
-effectOf PlacedForm verdict ns figures m = answers (bodyReply BodyShape (askedPlaced figures)) m
-effectOf MovedForm verdict ns figures m = answers (bodyReply BodyShape (askedMoved figures)) m
-effectOf WithoutForm verdict ns figures m = answers (bodyReply BodyShape (askedWithout figures)) m
-effectOf SubmitForm verdict ns figures m = submitEffect (number ns 7) (setRequestOf ns figures) figures m
-effectOf DensityForm verdict ns figures m = changeEffect ns figures m
-effectOf TurnForm verdict ns figures m = turnEffect m
-effectOf ProgressForm verdict ns figures m = answers (progressReply (askedProgress ns (m .engine))) m
-effectOf NoForm verdict ns figures m = answers (refusedReply (whyRefused verdict)) m
-
-abbrev pub askedEffect : Asked → Memory → Effect
-askedEffect (refused refusal) m = answers (refusedReply refusal) m
-askedEffect (asked form ns figures) m = effectOf form Accepted ns figures m
+-- each form, of its parts and of the line's figures: an outline's points are the first of them, and a body has ten. A
+-- limit, a count and a screen are capped at a million when a line is read; no answer shows it (proofs/Capped)
+abbrev pub effectOf : Asked → List Float → Memory → Effect
+effectOf (RefusedAsked refusal) figures m = answers (refusedReply refusal) m
+effectOf (SetAsked limit set points) figures m = setEffect set (take points figures) limit m
+effectOf (AreaAsked limit planform points) figures m = areaEffect planform (take points figures) limit m
+effectOf JoinAsked figures m = answers (bodyReply JoinedShape (joinedPointsOf figures)) m
+effectOf MomentsAsked figures m = answers (momentsReply (tensorMoments figures)) m
+effectOf CheckAsked figures m = answers (plainReply (bodyVerdict figures) SoundShape) m
+effectOf (TubesAsked set radius) figures m = answers (bodyReply RingShape (tubesOf set radius)) m
+effectOf (ClosingAsked count radius) figures m = answers (closingReply (closingOf radius count)) m
+effectOf (DrillAsked planform points x height) figures m = answers (drillReply (drillOf planform (take points figures) x height)) m
+effectOf CopiedAsked figures m = answers (bodyReply BodyShape (copiedBy (take bodyNumbers figures) (drop bodyNumbers figures))) m
+effectOf PlacedAsked figures m = answers (bodyReply BodyShape (placedBy (take bodyNumbers figures) (drop bodyNumbers figures))) m
+effectOf MovedAsked figures m =
+    let behindWhole = drop bodyNumbers figures in
+    answers (bodyReply BodyShape (movedBy (take bodyNumbers figures) (take bodyNumbers behindWhole) (drop bodyNumbers behindWhole))) m
+effectOf WithoutAsked figures m = answers (bodyReply BodyShape (withoutBy (take bodyNumbers figures) (drop bodyNumbers figures))) m
+effectOf (SubmitAsked screen limit set points) figures m = submitEffect screen set (take points figures) limit m
+effectOf (DensityAsked screen density) figures m = densityEffect screen density m
+effectOf TurnAsked figures m = turnEffect m
+effectOf (ProgressAsked screen) figures m = answers (progressReply (progressAt (m .engine) screen)) m
 
 unfoldable pub lineEffect : List ℕ → Memory → Effect
-lineEffect line m = askedEffect (lineAsked line) m
+lineEffect line m = effectOf (lineRead line .asked) (lineRead line .figures) m
 
 -- the bytes of a line's answer, the memory that the line leaves, and its calls of the engine
 abbrev pub answerOf : List ℕ → Memory → List ℕ

@@ -16,23 +16,23 @@ ghost use Rattle.answers.specs.Answers.{answerBytes, AnswerFits, textOf, reply}
 ghost use Rattle.lent_engines.specs.Memory.{engineNumbers, engineCounts};
 ghost use Rattle.lent_engines.specs.Lent.{Room};
 ghost use Rattle.lines.specs.Lines.{refusedReply, unlessRefused, plainReply, setReply, areaReply, bodyReply, closingReply, momentsReply};
-ghost use Rattle.lines.specs.Lines.{drillReply, doneReply, turnReply, progressReply, whyRefused, effectOf, lineEffect};
+ghost use Rattle.lines.specs.Lines.{drillReply, doneReply, turnReply, progressReply, effectOf, lineEffect};
 ghost use Rattle.lines.specs.Lines.{memoryIn, lentIn, Serves, LeavesLent, Answers};
 use answers::ANSWER_BYTES;
 use answers::Reply;
 use answers::Shape;
+use bodies::BODY_NUMBERS;
 use drill::Answer;
 use engines::Turn;
 use figures::Area;
 use figures::Figures;
-use forms::Form;
-use forms::Request;
 use jobs::JobProgress;
 use jobs::Row;
 use joins::Joined;
 use lent_engines::ENGINE_COUNTS;
 use lent_engines::ENGINE_NUMBERS;
 use moments::Moments;
+use reading::Asked;
 use refusals::Refusal;
 use refusals::Verdict;
 use templates::LINE_FIGURES;
@@ -237,18 +237,9 @@ fn progress_reply(p: JobProgress) -> Reply
     }
 }
 
-fn why_refused(verdict: Verdict) -> Refusal
-    ensures { λ r. ⌜ r ≡ whyRefused verdict ⌝ }
-{
-    match verdict {
-        Verdict::Accepted => Refusal::NoForm,
-        Verdict::Refused(refusal) => refusal,
-    }
-}
-
-// The answer to a request and its figures.
+// The answer to what a line asks, of its figures.
 fn request_reply(
-    q: Request,
+    asked: Asked,
     values: &[f64],
     scratch: &mut [f64],
     engine_numbers: &mut [f64],
@@ -256,47 +247,96 @@ fn request_reply(
 ) -> Reply
     requires { ⌜ Room (now «engine_numbers») (now «engine_counts») ⌝ }
     ensures { λ r. ⌜ Serves
-        (effectOf (q .form) (q .verdict) (q .numbers) (now (values .entry))
+        (effectOf asked (now (values .entry))
         (memoryIn (now (scratch .entry)) (now («engine_numbers» .entry)) (now («engine_counts» .entry))))
         (lentIn (now (scratch .entry)) (now («engine_numbers» .entry)) (now («engine_counts» .entry)))
         (lentIn (now (scratch .exit)) (now («engine_numbers» .exit)) (now («engine_counts» .exit))) r ⌝ }
 {
-    let form = q.form;
-    let verdict = q.verdict;
-    match form {
-        Form::Set => set_reply(requests::asked_figures(q, values, scratch)),
-        Form::Area => area_reply(requests::asked_area(q, values, scratch)),
-        Form::Join => body_reply(Shape::Joined, requests::join_points(values)),
-        Form::Moments => moments_reply(requests::tensor_moments(values)),
-        Form::Check => plain_reply(requests::body_verdict(values), Shape::Sound),
-        Form::Tubes => body_reply(Shape::Ring, requests::asked_ring(q, values)),
-        Form::Closing => closing_reply(requests::asked_closing(q, values)),
-        Form::Drill => drill_reply(requests::asked_drill(q, values)),
-        Form::Copied => body_reply(Shape::Body, requests::asked_copied(values)),
-        Form::Placed => body_reply(Shape::Body, requests::asked_placed(values)),
-        Form::Moved => body_reply(Shape::Body, requests::asked_moved(values)),
-        Form::Without => body_reply(Shape::Body, requests::asked_without(values)),
-        Form::Submit => taken_reply(requests::asked_submit(
-            q,
-            values,
+    match asked {
+        Asked::Refused(refusal) => refused_reply(refusal),
+        Asked::Set { limit, set, points } => {
+            let outline = reading::first(values, points);
+            set_reply(figures::mass_properties(set, outline, limit, scratch))
+        }
+        Asked::Area {
+            limit,
+            planform,
+            points,
+        } => {
+            let outline = reading::first(values, points);
+            area_reply(figures::geometry(planform, outline, limit, scratch))
+        }
+        Asked::Join => body_reply(Shape::Joined, requests::join_points(values)),
+        Asked::Moments => moments_reply(requests::tensor_moments(values)),
+        Asked::Check => plain_reply(requests::body_verdict(values), Shape::Sound),
+        Asked::Tubes { set, body_radius_m } => {
+            body_reply(Shape::Ring, tubes::mass_properties(set, body_radius_m))
+        }
+        Asked::Closing {
+            count,
+            body_radius_m,
+        } => closing_reply(tubes::closing_radius_m(body_radius_m, count)),
+        Asked::Drill {
+            planform,
+            points,
+            x_m,
+            height_m,
+        } => {
+            let outline = reading::first(values, points);
+            drill_reply(drill::drill(planform, outline, x_m, height_m))
+        }
+        Asked::Copied => {
+            let body = reading::first(values, BODY_NUMBERS);
+            let offsets = reading::behind(values, BODY_NUMBERS);
+            body_reply(Shape::Body, requests::copied_by(body, offsets))
+        }
+        Asked::Placed => {
+            let body = reading::first(values, BODY_NUMBERS);
+            let places = reading::behind(values, BODY_NUMBERS);
+            body_reply(Shape::Body, requests::placed_by(body, places))
+        }
+        Asked::Moved => {
+            let whole = reading::first(values, BODY_NUMBERS);
+            let rest = reading::behind(values, BODY_NUMBERS);
+            let part = reading::first(rest, BODY_NUMBERS);
+            let offset = reading::behind(rest, BODY_NUMBERS);
+            body_reply(Shape::Body, requests::moved_by(whole, part, offset))
+        }
+        Asked::Without => {
+            let whole = reading::first(values, BODY_NUMBERS);
+            let part = reading::behind(values, BODY_NUMBERS);
+            body_reply(Shape::Body, requests::without_by(whole, part))
+        }
+        Asked::Submit {
+            screen,
+            limit,
+            set,
+            points,
+        } => {
+            let outline = reading::first(values, points);
+            taken_reply(lent_engines::submit(
+                engine_numbers,
+                engine_counts,
+                screen,
+                set,
+                outline,
+                limit,
+            ))
+        }
+        Asked::Density { screen, density } => taken_reply(lent_engines::change_density(
             engine_numbers,
             engine_counts,
+            screen,
+            density,
         )),
-        Form::Density => taken_reply(requests::asked_change(
-            q,
-            values,
-            engine_numbers,
-            engine_counts,
-        )),
-        Form::Turn => {
+        Asked::Turn => {
             let turn = lent_engines::turn(engine_numbers, engine_counts, scratch);
             let row = lent_engines::turn_row(engine_numbers, engine_counts, turn);
             turn_reply(turn, row)
         }
-        Form::Progress => {
-            progress_reply(requests::asked_progress(q, engine_numbers, engine_counts))
+        Asked::Progress { screen } => {
+            progress_reply(lent_engines::progress_at(engine_numbers, engine_counts, screen))
         }
-        Form::NoForm => refused_reply(why_refused(verdict)),
     }
 }
 
@@ -334,9 +374,16 @@ fn answer_read(
         (lentIn (now (scratch .entry)) (now («engine_numbers» .entry)) (now («engine_counts» .entry)))
         (lentIn (now (scratch .exit)) (now («engine_numbers» .exit)) (now («engine_counts» .exit))) ⌝ }
 {
-    let q = forms::read_line(line, values);
-    let end = q.figures;
-    let reply = request_reply(q, &values[..end], scratch, engine_numbers, engine_counts);
+    let read = reading::read_line(line, values);
+    let end = read.figures;
+    let asked = read.asked;
+    let reply = request_reply(
+        asked,
+        &values[..end],
+        scratch,
+        engine_numbers,
+        engine_counts,
+    );
     answers::put_reply(out, n, reply)
 }
 

@@ -1,13 +1,14 @@
 -- Lines and answers as text: figures as words, tokens, forms, and what is printed (docs/FORMS.md).
 use mathlib.Core.Bool.{Bool, true, false, not, _&&_, cond}
 use mathlib.Core.List.{List, [], _∷_}
+use mathlib.Core.Path.{_≡_, refl}
 use Prim.Native.Nat.{ℕ}
 use Prim.Native.String.{String}
 use lib.Dec.{T, eqb}
-use lib.ListN.{length, drop, getD}
+use lib.ListN.{length}
 use lib.Ieee.{Float, ofBits, toBits, round, isNan, eq}
 use Rattle.floats.specs.Operations.{bits, tabulate}
-use Rattle.refusals.specs.declared.Verdict.the-variants.{Refused}
+use Rattle.refusals.specs.Refusals as refusals
 use Rattle.hex.specs.declared.Figure.{Figure}
 use Rattle.hex.specs.declared.Figure.the-variants.{Number, NotFigure}
 use Rattle.hex.specs.Hex as hex
@@ -16,12 +17,19 @@ use Rattle.tokens.specs.Text.{text, codes}
 use Rattle.tokens.specs.Tokens.{tokensAfter, tokens}
 use Rattle.figure_words.specs.FigureWords.{leadingDigits, behindDigits, numberFrom, unsignedFigure, decimalFigure, figureWord}
 use Rattle.templates.specs.Matching.{isWordByte, isWord, takeWord, takeOne, takeToken, takeTokens, takeText, firstOf}
-use Rattle.forms.specs.Forms.{Asked, asked, refused as refusedBy, part, laterPart, density, readItems, engineForm, bodyForm, laterForm, anyForm, lineAsked}
+use Rattle.materials.specs.declared.Density.the-variants.{Bulk}
+use Rattle.materials.specs.Numbered.{numberedDensity}
+use Rattle.reading.specs.declared.Asked.{Asked}
+use Rattle.reading.specs.declared.Asked.the-variants.{Refused as RefusedAsked, Set as SetAsked, Area as AreaAsked, Join as JoinAsked, Moments as MomentsAsked, Check as CheckAsked}
+use Rattle.reading.specs.declared.Asked.the-variants.{Tubes as TubesAsked, Closing as ClosingAsked, Drill as DrillAsked, Copied as CopiedAsked, Placed as PlacedAsked, Moved as MovedAsked}
+use Rattle.reading.specs.declared.Asked.the-variants.{Without as WithoutAsked, Submit as SubmitAsked, Density as DensityAsked, Turn as TurnAsked}
+use Rattle.reading.specs.Parts.{takeDensity}
+use Rattle.reading.specs.Lines.{closingRead, densityRead, plainRead, pickForm, formNamed, lineRead}
 use Rattle.answers.specs.Filled.{filled}
 use Rattle.answers.specs.declared.Shape.{Shape}
 use Rattle.answers.specs.declared.Shape.the-variants.{Area, Joined, Moments, Sound, Taken, Idle, More, Done, DoneRefused, Progress, Refused as RefusedShape}
 use Rattle.answers.specs.Answers.{textOf, reply}
-use Rattle.test_definitions.specs.Rows.{is, same, refused}
+use Rattle.test_definitions.specs.Rows.{is, same}
 
 -- ---- words
 
@@ -80,42 +88,47 @@ tokens-cut =
 
 -- ---- forms
 
-abbrev isAsked : Asked → Bool
-isAsked (refusedBy refusal) = false
-isAsked (asked form numbers figures) = true
+-- the number by which a line is refused, or 0
+abbrev numberOf : Asked → ℕ
+numberOf (RefusedAsked refusal) = refusals.numberOf refusal
+numberOf (SetAsked limit set points) = 0
+numberOf (AreaAsked limit planform points) = 0
+numberOf JoinAsked = 0
+numberOf MomentsAsked = 0
+numberOf CheckAsked = 0
+numberOf (TubesAsked set radius) = 0
+numberOf (ClosingAsked count radius) = 0
+numberOf (DrillAsked planform points x height) = 0
+numberOf CopiedAsked = 0
+numberOf PlacedAsked = 0
+numberOf MovedAsked = 0
+numberOf WithoutAsked = 0
+numberOf (SubmitAsked screen limit set points) = 0
+numberOf (DensityAsked screen density) = 0
+numberOf TurnAsked = 0
 
-abbrev isRefused : ℕ → Asked → Bool
-isRefused n (refusedBy refusal) = refused n [] (Refused refusal)
-isRefused n (asked form numbers figures) = false
+abbrev read : ℕ → List ℕ → Bool
+read n line = eqb (numberOf (lineRead line .asked)) n
 
 -- 19 for a word that is no figure where one belongs, 18 wherever the line is no form, and 18 first
 abbrev pub no-form-first : Bool
 no-form-first =
-    isAsked (lineAsked (text "(closing (count 4) (radius 1))"))
-    && isRefused 19 (lineAsked (text "(closing (count 4) (radius x))"))
-    && isRefused 18 (lineAsked (text "(closing (count 4) (radius x)) 1"))
-    && isRefused 18 (lineAsked (text "(closing (count x) (radius 1))"))
-    && isRefused 18 (lineAsked (text "(closing (count 4)"))
+    read 0 (text "(closing (count 4) (radius 1))")
+    && read 19 (text "(closing (count 4) (radius x))")
+    && read 18 (text "(closing (count 4) (radius x)) 1")
+    && read 18 (text "(closing (count x) (radius 1))")
+    && read 18 (text "(closing (count 4)")
 
--- the counts and parts of a line, the last first: of each how many figures stand up to its end, and its number
-abbrev numbered : List ℕ → Asked → Bool
-numbered ns (refusedBy refusal) = false
-numbered ns (asked form numbers figures) = starts ns numbers
-  where
-    starts : List ℕ → List ℕ → Bool
-    starts [] numbers = true
-    starts (k ∷ ks) numbers = eqb (getD numbers 0 0) k && starts ks (drop 1 numbers)
-
--- of a density's line the screen stands before the density, a bulk one; a turn has nothing after its word
+-- a density's line has the screen and then the density; a turn has nothing after its word
 abbrev pub engine-lines : Bool
 engine-lines =
-    isAsked (lineAsked (text "(turn)"))
-    && isRefused 18 (lineAsked (text "(turn 1)"))
-    && numbered (1 ∷ 1 ∷ 0 ∷ 3 ∷ []) (lineAsked (text "(density 3 (bulk 5))"))
-    && isRefused 19 (lineAsked (text "(density 3 (bulk x))"))
-    && isRefused 18 (lineAsked (text "(density x (bulk 5))"))
-    && numbered (0 ∷ 3 ∷ []) (lineAsked (text "(progress 3)"))
-    && isRefused 18 (lineAsked (text "(progress)"))
+    read 0 (text "(turn)")
+    && read 18 (text "(turn 1)")
+    && read 0 (text "(density 3 (bulk 5))")
+    && read 19 (text "(density 3 (bulk x))")
+    && read 18 (text "(density x (bulk 5))")
+    && read 0 (text "(progress 3)")
+    && read 18 (text "(progress)")
 
 -- ---- answers
 
@@ -144,7 +157,12 @@ engine-answers =
     && prints Done (tabulate 10 (λ i. bits i)) (8 ∷ 2 ∷ 30 ∷ [])
     (text "(done 8 (figures (mass 0000000000000000) (centre 0000000000000001 0000000000000002 0000000000000003) (inertia 0000000000000004 0000000000000005 0000000000000006 0000000000000007 0000000000000008 0000000000000009) (intervals 2) (samples 30)))")
 
+-- the screen and the density of its line
+pub density-line : lineRead (text "(density 3 (bulk 5))") .asked ≡ DensityAsked 3 (Bulk (bits 0x4014000000000000))
+unfolding ofBits toBits round isNan eq text codes tokensAfter leadingDigits behindDigits numberFrom unsignedFigure decimalFigure figureWord isWord takeWord takeOne takeToken takeTokens takeText firstOf takeDensity numberedDensity closingRead densityRead plainRead pickForm formNamed lineRead filled textOf hex.figureOf hex.readDigits hex.digits hex.figureText counts.countOf counts.readDigits counts.digits counts.countText
+density-line = refl
+
 pub texts-hold :
     T (figure-words && nearest-to-decimals && word-bytes && tokens-cut && no-form-first && engine-lines && answers-printed && engine-answers)
-unfolding ofBits toBits round isNan eq text codes tokensAfter leadingDigits behindDigits numberFrom unsignedFigure decimalFigure figureWord isWord takeWord takeOne takeToken takeTokens takeText firstOf part laterPart readItems density engineForm bodyForm laterForm anyForm lineAsked filled textOf hex.figureOf hex.readDigits hex.digits hex.figureText counts.countOf counts.readDigits counts.digits counts.countText
+unfolding ofBits toBits round isNan eq text codes tokensAfter leadingDigits behindDigits numberFrom unsignedFigure decimalFigure figureWord isWord takeWord takeOne takeToken takeTokens takeText firstOf takeDensity numberedDensity closingRead densityRead plainRead pickForm formNamed lineRead filled textOf hex.figureOf hex.readDigits hex.digits hex.figureText counts.countOf counts.readDigits counts.digits counts.countText
 texts-hold = tt

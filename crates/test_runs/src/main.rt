@@ -5,9 +5,10 @@ ghost use mathlib.Core.Path.{_≡_};
 ghost use Prim.Native.Nat.{_+_, _≤_};
 ghost use lib.ListN.{length};
 ghost use Rattle.templates.specs.Cursors.{lineFigures};
-use forms::Form;
-use forms::Request;
+use fins::FinSet;
 use libc::STDOUT_FILENO;
+use planforms::Planform;
+use reading::Asked;
 use refusals::Verdict;
 use templates::Cursor;
 use templates::LINE_FIGURES;
@@ -68,10 +69,16 @@ fn sum_over(scratch: &[f64]) -> u64 {
     sum
 }
 
-fn print_set(q: Request, values: &[f64], scratch: &mut [f64], out: &mut [u8]) -> usize
+fn print_set(
+    set: FinSet,
+    points: &[f64],
+    limit: usize,
+    scratch: &mut [f64],
+    out: &mut [u8],
+) -> usize
     requires { ⌜ 512 ≤ length (now out) ⌝ }
 {
-    let r = requests::asked_figures(q, values, scratch);
+    let r = figures::mass_properties(set, points, limit, scratch);
     let verdict = r.verdict;
     let body = r.body;
     let why = reason_of(verdict);
@@ -93,10 +100,16 @@ fn print_set(q: Request, values: &[f64], scratch: &mut [f64], out: &mut [u8]) ->
     )
 }
 
-fn print_area(q: Request, values: &[f64], scratch: &mut [f64], out: &mut [u8]) -> usize
+fn print_area(
+    planform: Planform,
+    points: &[f64],
+    limit: usize,
+    scratch: &mut [f64],
+    out: &mut [u8],
+) -> usize
     requires { ⌜ 512 ≤ length (now out) ⌝ }
 {
-    let r = requests::asked_area(q, values, scratch);
+    let r = figures::geometry(planform, points, limit, scratch);
     let verdict = r.verdict;
     let why = reason_of(verdict);
     let figures = [r.area_m2, r.centroid_x_m, r.centroid_span_m];
@@ -121,25 +134,24 @@ fn print_run(line: &[u8], values: &mut [f64], scratch: &mut [f64], out: &mut [u8
     requires { ⌜ (lineFigures ≤ length (now values)) × (512 ≤ length (now out)) ⌝ }
 {
     number_all(scratch);
-    let q = forms::read_line(line, values);
-    let form = q.form;
-    match form {
-        Form::Set => print_set(q, values, scratch, out),
-        Form::Area => print_area(q, values, scratch, out),
-        Form::Join => 0,
-        Form::Moments => 0,
-        Form::Check => 0,
-        Form::Tubes => 0,
-        Form::Closing => 0,
-        Form::Drill => 0,
-        Form::Copied => 0,
-        Form::Placed => 0,
-        Form::Moved => 0,
-        Form::Without => 0,
-        Form::Submit => 0,
-        Form::Density => 0,
-        Form::Turn => 0,
-        Form::NoForm => 0,
+    let read = reading::read_line(line, values);
+    let asked = read.asked;
+    match asked {
+        Asked::Set { limit, set, points } => {
+            print_set(set, reading::first(values, points), limit, scratch, out)
+        }
+        Asked::Area {
+            limit,
+            planform,
+            points,
+        } => print_area(
+            planform,
+            reading::first(values, points),
+            limit,
+            scratch,
+            out,
+        ),
+        _ => 0,
     }
 }
 

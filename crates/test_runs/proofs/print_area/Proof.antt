@@ -8,8 +8,8 @@ use borrow.Author.Needs.{needs}
 use Rattle.test_runs.proofs.print_area.Statement.{statement}
 use Rattle.test_runs.proofs.print_area.Tie as tie
 
-asked-area-requires : tie.Need-asked-area-requires
-asked-area-requires c κs = search needs
+geometry-requires : tie.Need-geometry-requires
+geometry-requires c κs = search needs
 
 reason-of-requires : tie.Need-reason-of-requires
 reason-of-requires c κs = search needs
@@ -43,7 +43,7 @@ pub print-area-spec : {M : Type 1} → statement M
 print-area-spec =
     tie.close
     (tie.spec
-    asked-area-requires
+    geometry-requires
     reason-of-requires
     sum-over-requires
     slice-aggregate-put-filled

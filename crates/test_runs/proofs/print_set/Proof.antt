@@ -8,8 +8,8 @@ use borrow.Author.Needs.{needs}
 use Rattle.test_runs.proofs.print_set.Statement.{statement}
 use Rattle.test_runs.proofs.print_set.Tie as tie
 
-asked-figures-requires : tie.Need-asked-figures-requires
-asked-figures-requires c κs = search needs
+mass-properties-requires : tie.Need-mass-properties-requires
+mass-properties-requires c κs = search needs
 
 reason-of-requires : tie.Need-reason-of-requires
 reason-of-requires c κs = search needs
@@ -46,7 +46,7 @@ pub print-set-spec : {M : Type 1} → statement M
 print-set-spec =
     tie.close
     (tie.spec
-    asked-figures-requires
+    mass-properties-requires
     reason-of-requires
     numbers-requires
     sum-over-requires

@@ -1,2 +1,0 @@
-pub mod NoForms
-pub mod F64s

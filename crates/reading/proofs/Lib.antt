@@ -1,0 +1,4 @@
+pub mod Parts
+pub mod Stands
+pub mod Sets
+pub mod F64s
