@@ -38,9 +38,11 @@ use refusals::Verdict;
 use templates::LINE_FIGURES;
 use tubes::ClosingRadius;
 
-// Most lines have no more bytes than this, and so no more figures: room for these is cleared in less time. With a dozen
-// points they have some more.
-const SHORT_LINE: usize = 512;
+// Lines but those of sets have no more bytes than the first, and so no more figures: room for these is cleared in less
+// time. Most sets have no more than the second, and with a dozen points some more.
+const SHORT_LINE: usize = 128;
+
+const SET_LINE: usize = 512;
 
 const MIDDLE_LINE: usize = 1024;
 
@@ -408,6 +410,18 @@ pub fn answer_line(
     }
     if line.len() <= SHORT_LINE {
         let mut values = [0.0; SHORT_LINE];
+        return answer_read(
+            line,
+            &mut values,
+            scratch,
+            engine_numbers,
+            engine_counts,
+            out,
+            n,
+        );
+    }
+    if line.len() <= SET_LINE {
+        let mut values = [0.0; SET_LINE];
         return answer_read(
             line,
             &mut values,

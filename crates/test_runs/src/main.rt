@@ -169,7 +169,7 @@ fn replay_line(line: &[u8], values: &mut [f64], scratch: &mut [f64], out: &mut [
         number: 0,
         spoiled: false,
     };
-    let c = templates::take_text(line, start, b"N", values);
+    let c = templates::take_one(line, start, b"N", values);
     let lent = c.number;
     let at = c.at;
     if line.len() < at {

@@ -10,11 +10,11 @@ use Rattle.test_runs.proofs.replay_line.Tie as tie
 returns : tie.Need-returns
 returns c = search needs
 
-slice-aggregate-take-text : tie.Need-slice-aggregate-take-text
-slice-aggregate-take-text c = search needs
+slice-aggregate-take-one : tie.Need-slice-aggregate-take-one
+slice-aggregate-take-one c = search needs
 
-take-text-requires : tie.Need-take-text-requires
-take-text-requires c κs = search needs
+take-one-requires : tie.Need-take-one-requires
+take-one-requires c κs = search needs
 
 same-length : tie.Need-same-length
 same-length c = search needs
@@ -43,7 +43,7 @@ slice-relend-prefix-print-run c = search needs
 slice-aggregate-print-run : tie.Need-slice-aggregate-print-run
 slice-aggregate-print-run c =
     let taken = c .before .before .before .before .before .before .before in
-    sym (length-take-le (taken .take-text .result .number) (now (taken .before .before .before .before .before .before .before .before .args .scratch)) (omega arith))
+    sym (length-take-le (taken .take-one .result .number) (now (taken .before .before .before .before .before .before .before .before .args .scratch)) (omega arith))
 
 print-run-requires : tie.Need-print-run-requires
 print-run-requires c κs = search needs
@@ -65,8 +65,8 @@ replay-line-spec =
     tie.close
     (tie.spec
     returns
-    slice-aggregate-take-text
-    take-text-requires
+    slice-aggregate-take-one
+    take-one-requires
     same-length
     returns-2
     same-length-2
