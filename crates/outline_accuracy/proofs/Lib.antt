@@ -1,0 +1,17 @@
+pub mod Signs
+pub mod Crossings
+pub mod Heights
+pub mod Lines
+pub mod Samples
+pub mod Chord
+pub mod WeightedSum
+pub mod Product
+pub mod StripArea
+pub mod Edges
+pub mod OutlineStrip
+pub mod StripSums
+pub mod Corners
+pub mod ExactFractions
+pub mod BuiltStrips
+pub mod OutlineArea
+pub mod Example
