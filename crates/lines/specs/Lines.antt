@@ -3,14 +3,14 @@
 use mathlib.Core.List.{List, [], _∷_}
 use mathlib.Core.Path.{_≡_}
 use Prim.Native.Nat.{ℕ, _+_, _<_}
-use lib.ListN.{length, take, drop}
+use lib.ListN.{length, take, drop, getD}
 use lib.Ieee.{Float}
 use Rattle.floats.specs.Operations.{at}
 use Rattle.refusals.specs.declared.Refusal.{Refusal}
 use Rattle.refusals.specs.declared.Refusal.the-variants.{Scratch as short}
 use Rattle.refusals.specs.declared.Verdict.{Verdict}
 use Rattle.refusals.specs.declared.Verdict.the-variants.{Accepted, Refused}
-use Rattle.refusals.specs.Refusals.{numberOf}
+use Rattle.refusals.specs.Refusals.{numberOf, valuesOf, inTwoPlaces}
 use Rattle.refusals.specs.Calls.{CallOf}
 use Rattle.planforms.specs.declared.Planform.{Planform}
 use Rattle.materials.specs.declared.Density.{Density}
@@ -62,8 +62,11 @@ memoryIn scratch numbers counts = record { scratch = scratch; engine = engineIn 
 
 -- ---- what is answered: figures, or "A refused line prints `(refused N)`"
 
+-- the number, which is printed, and the values that go with it
 abbrev pub refusedReply : Refusal → Reply
-refusedReply refusal = reply RefusedShape [] (numberOf refusal ∷ [])
+refusedReply refusal =
+    let values = inTwoPlaces (valuesOf refusal) in
+    reply RefusedShape [] (numberOf refusal ∷ getD values 0 0 ∷ getD values 1 0 ∷ [])
 
 -- an answer that a verdict may refuse
 abbrev pub unlessRefused : Verdict → Reply → Reply

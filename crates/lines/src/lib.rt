@@ -46,17 +46,18 @@ const SET_LINE: usize = 512;
 
 const MIDDLE_LINE: usize = 1024;
 
-// The answer to what is refused.
+// The answer to what is refused: its number, and the values that go with it, which are not printed.
 pub fn refused_reply(refusal: Refusal) -> Reply
     ensures { λ r. ⌜ r ≡ refusedReply refusal ⌝ }
 {
     let shape = Shape::Refused;
     let number = refusals::number(refusal) as u64;
+    let values = refusals::values(refusal);
     let figures = [0.0; 10];
     Reply {
         shape,
         figures,
-        counts: [number, 0, 0, 0],
+        counts: [number, values[0] as u64, values[1] as u64, 0],
     }
 }
 
@@ -356,7 +357,33 @@ fn has_engine(numbers: usize, counts: usize) -> bool
     (ENGINE_NUMBERS <= numbers) & (ENGINE_COUNTS <= counts)
 }
 
-// The answer to a line, whose figures go to the start of values.
+// The answer to a line, before it is printed; the line's figures go to the start of values.
+pub fn reply_line(
+    line: &[u8],
+    values: &mut [f64],
+    scratch: &mut [f64],
+    engine_numbers: &mut [f64],
+    engine_counts: &mut [usize],
+) -> Reply
+    requires { ⌜ Room (now «engine_numbers») (now «engine_counts») × (length (now line) ≤ lineBytes → length (now line) ≤ length (now values)) ⌝ }
+    ensures { λ r. ⌜ Serves
+        (lineEffect (now (line .entry)) (memoryIn (now (scratch .entry)) (now («engine_numbers» .entry)) (now («engine_counts» .entry))))
+        (lentIn (now (scratch .entry)) (now («engine_numbers» .entry)) (now («engine_counts» .entry)))
+        (lentIn (now (scratch .exit)) (now («engine_numbers» .exit)) (now («engine_counts» .exit))) r ⌝ }
+{
+    let read = reading::read_line(line, values);
+    let end = read.figures;
+    let asked = read.asked;
+    request_reply(
+        asked,
+        &values[..end],
+        scratch,
+        engine_numbers,
+        engine_counts,
+    )
+}
+
+// The answer to a line, printed.
 fn answer_read(
     line: &[u8],
     values: &mut [f64],
@@ -376,16 +403,7 @@ fn answer_read(
         (lentIn (now (scratch .entry)) (now («engine_numbers» .entry)) (now («engine_counts» .entry)))
         (lentIn (now (scratch .exit)) (now («engine_numbers» .exit)) (now («engine_counts» .exit))) ⌝ }
 {
-    let read = reading::read_line(line, values);
-    let end = read.figures;
-    let asked = read.asked;
-    let reply = request_reply(
-        asked,
-        &values[..end],
-        scratch,
-        engine_numbers,
-        engine_counts,
-    );
+    let reply = reply_line(line, values, scratch, engine_numbers, engine_counts);
     answers::put_reply(out, n, reply)
 }
 

@@ -1,49 +1,21 @@
--- `lines::answer_read` meets its contract: the request that was read is answered. Assumes nothing.
-use mathlib.Core.Path.{sym, ap, _∙_}
-use native.Mathlib.Omega.{arith}
-use denote.Ref.{now}
-use lib.ListN.{length, length-take}
+-- `lines::answer_read` meets its contract: the answer is printed. Assumes nothing.
+use mathlib.Core.Path.{ap}
 use Rattle.answers.specs.Answers.{textOf}
-use Rattle.lines.specs.Lines.{lentIn, memoryOf, Effect}
 use Rattle.lines.proofs.Texts.{same-text}
-use Rattle.lines.proofs.Asking.{all-there, effect-is, same-left}
 use borrow.Author.Needs.{needs}
 use Rattle.lines.proofs.answer_read.Statement.{statement}
 use Rattle.lines.proofs.answer_read.Tie as tie
 
-slice-reshare-prefix-request-reply : tie.Need-slice-reshare-prefix-request-reply
-slice-reshare-prefix-request-reply c =
-    let r = c .before .before in
-    let s = r .before .before .before .before .before .before .before .before in
-    let e = all-there (now (s .args .line)) (r .read-line .last .1 .0) (r .read-line .result) (r .read-line .ensures) in
-    let l = length-take (r .read-line .result .figures) (r .read-line .last .1 .0) in
-    omega arith
-
-slice-aggregate-request-reply : tie.Need-slice-aggregate-request-reply
-slice-aggregate-request-reply c =
-    let r = c .before .before .before in
-    let s = r .before .before .before .before .before .before .before .before in
-    sym (all-there (now (s .args .line)) (r .read-line .last .1 .0) (r .read-line .result) (r .read-line .ensures))
-
 returns : tie.Need-returns
 returns c =
     let p = c .before .before in
-    let a = p .before .before .before .before .before .before .before .before in
-    let r = a .before .before .before .before .before .before .before in
-    let s = r .before .before .before .before .before .before .before .before in
-    let lent = lentIn (now (s .args .scratch)) (now (s .args .engine-numbers)) (now (s .args .engine-counts)) in
-    let e = effect-is (now (s .args .line)) (r .read-line .last .1 .0) (r .read-line .result) (r .read-line .ensures) (memoryOf lent) in (
-      same-text (ap textOf (a .request-reply .ensures .replies ∙ ap (λ (x : Effect). x .reply) e)) (p .put-reply .ensures),
-      same-left e (a .request-reply .ensures .left),
-    )
+    let a = p .before .before .before .before .before .before .before .before .before .before in
+    (same-text (ap textOf (a .reply-line .ensures .replies)) (p .put-reply .ensures), a .reply-line .ensures .left)
 
 pub answer-read-spec : {M : Type 1} → statement M
 answer-read-spec =
     tie.close
     (tie.spec
-    (λ c κs. search needs)
-    slice-reshare-prefix-request-reply
-    slice-aggregate-request-reply
     (λ c κs. search needs)
     (λ c κs. search needs)
     (λ c. search needs)
