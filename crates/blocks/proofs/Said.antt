@@ -45,11 +45,11 @@ module _ (out after p t other : List ℕ) (n r : ℕ) (e : p ≡ t) where
 
 -- ---- what holds of every text of a table holds of the one that is found
 
-abbrev each : (List ℕ → Bool) → List (List ℕ) → Bool
+abbrev pub each : (List ℕ → Bool) → List (List ℕ) → Bool
 each f [] = true
 each f (t ∷ ts) = f t && each f ts
 
-at-most : (m : List ℕ → ℕ) (k : ℕ) (key : List ℕ) (ts : List (List ℕ)) → m [] ≤ k → T (each (λ t. leb (m t) k) ts) → m (textFor key ts) ≤ k
+pub at-most : (m : List ℕ → ℕ) (k : ℕ) (key : List ℕ) (ts : List (List ℕ)) → m [] ≤ k → T (each (λ t. leb (m t) k) ts) → m (textFor key ts) ≤ k
 unfolding textFor
 at-most m k key [] o h = o
 at-most m k key (s ∷ []) o h = o

@@ -5,8 +5,8 @@
 // table of the answers with their blocks. Every line has a block, whatever its bytes: one that looks like no answer
 // says so.
 mod filling;
-mod lookup;
-mod sentences;
+pub mod lookup;
+pub mod sentences;
 mod words;
 
 ghost use mathlib.Core.List.{_++_};

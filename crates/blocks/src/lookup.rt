@@ -7,13 +7,13 @@ use templates::bar_end;
 use templates::same_bytes;
 
 // Where a text begins and ends.
-pub(crate) struct Part {
-    pub(crate) from: usize,
-    pub(crate) to: usize,
+pub struct Part {
+    pub from: usize,
+    pub to: usize,
 }
 
 // The text after the first key that is the same; one of no bytes where there is none.
-pub(crate) fn find(table: &[u8], key: &[u8]) -> Part
+pub fn find(table: &[u8], key: &[u8]) -> Part
     requires { ⌜ length (now table) ≤ 4096 ⌝ }
     ensures { λ r. ⌜ IsTextFor (now (table .entry)) (now (key .entry)) r ⌝ }
 {

@@ -61,7 +61,7 @@ fn put_sentence(out: &mut [u8], n: usize, key: &[u8]) -> usize
 }
 
 // A refusal's number and its sentence.
-pub(crate) fn put_refusal(out: &mut [u8], n: usize, number: u64) -> usize
+pub fn put_refusal(out: &mut [u8], n: usize, number: u64) -> usize
     requires { ⌜ n + 180 ≤ length (now out) ⌝ }
     ensures { λ r. ⌜ Appended (now (out .entry)) n (refusalText number) (now (out .exit)) r ⌝ }
 {

@@ -1,0 +1,4 @@
+pub mod Places
+pub mod Saving
+pub mod Wanting
+pub mod Ends

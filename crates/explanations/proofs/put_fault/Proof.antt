@@ -1,0 +1,45 @@
+-- `explanations::put_fault` meets its contract: a word, number and sentence, what goes with it, and the place. Assumes nothing.
+use Prim.Native.Nat.{ℕ, _+_}
+use native.Mathlib.Omega.{arith}
+use Rattle.tokens.specs.Text.{text, codes}
+use Rattle.blocks.proofs.Said.{refusal-fits}
+use Rattle.explanations.proofs.Wanting.{also}
+use borrow.Author.Needs.{needs}
+use Rattle.explanations.proofs.put_fault.Statement.{statement}
+use Rattle.explanations.proofs.put_fault.Tie as tie
+
+put-refusal-requires : tie.Need-put-refusal-requires
+put-refusal-requires c κs =
+    let s = c .before .before .before .before .before .before .before .before in let p = c .before .before .before in let h = s .pre .0 in let e = p .put-bytes .ensures .ends in let k = p .put-bytes .kept .0 in
+    omega (arith, h, e, k)
+
+put-detail-requires : tie.Need-put-detail-requires
+put-detail-requires c κs =
+    let s = c .before .before .before .before .before .before .before .before .before .before .before .before in let p = c .before .before .before .before .before .before .before in let q = c .before .before .before in let h = s .pre .0 in let e = p .put-bytes .ensures .ends in let k = p .put-bytes .kept .0 in
+    let f = q .put-refusal .ensures .ends in let l = q .put-refusal .kept .0 in let t = refusal-fits (s .args .fault .number) in
+    omega (arith, h, e, k, f, l, t)
+
+put-where-requires : tie.Need-put-where-requires
+put-where-requires c κs =
+    let s = c .before .before .before .before .before .before .before .before .before .before .before .before .before .before .before .before .before in let p = c .before .before .before .before .before .before .before .before .before .before .before .before in let q = c .before .before .before .before .before .before .before .before in let d = c .before .before .before .before in let h = s .pre .0 in let e = p .put-bytes .ensures .ends in let k = p .put-bytes .kept .0 in
+    let f = q .put-refusal .ensures .ends in let l = q .put-refusal .kept .0 in let t = refusal-fits (s .args .fault .number) in
+    let g = d .put-detail .ensures .1 in let m = d .put-detail .kept .0 in
+    (omega (arith, h, e, k, f, l, t, g, m), s .pre .1, omega arith)
+
+returns : tie.Need-returns
+unfolding text codes
+returns c =
+    also (c .before .before .before .before .before .before .before .before .before .before .before .before .before .before .before .before .put-bytes .ensures) (also (c .before .before .before .before .before .before .before .before .before .before .before .before .put-refusal .ensures) (also (c .before .before .before .before .before .before .before .before .put-detail .ensures .0) (c .before .before .before .put-where .ensures)))
+
+pub put-fault-spec : {M : Type 1} → statement M
+put-fault-spec =
+    tie.close
+    (tie.spec
+    (λ c. search needs)
+    (λ c κs. search needs)
+    put-refusal-requires
+    put-detail-requires
+    (λ c. search needs)
+    put-where-requires
+    (λ c. search needs)
+    returns)
