@@ -46,7 +46,7 @@ use Rattle.engines.specs.declared.Engine.{Engine}
 use Rattle.engines.specs.declared.Turn.{Turn}
 use Rattle.engines.specs.declared.Turn.the-variants.{Short, Idle, More, Ended}
 use Rattle.engines.specs.declared.Called.{Called}
-use Rattle.engines.specs.Engines.{turnOf, turnedRow, submitOf, changeAt}
+use Rattle.engines.specs.Engines.{turnOf, turnedRow, submitOf, changeAt, progressAt}
 use Rattle.engines.specs.Calls.{Call, submit, change, turn}
 use Rattle.lent_engines.specs.Memory.{engineIn}
 use Rattle.lent_engines.specs.Lent.{Room, Lists, lists, Leaves}
