@@ -89,9 +89,9 @@ chosen (Refused refusal) given withheld verdictIn refuses r e a = no-refusal ref
 -- what an answer that gives figures says
 pub record Given (planform : Planform) (points : List Float) (L n : ℕ) (r : Area) : Type 0 where
   pub accepted : areaCheck planform points L n ≡ Accepted
-  pub area : r .«area_m2» ≡ unscaledArea (scaleOf planform points) (summedOf (areaSeven planform points L) .value)
-  pub centroid-x : r .«centroid_x_m» ≡ scaleOf planform points ⊗ at (summedOf (areaSeven planform points L) .value) 1 ⊘ at (summedOf (areaSeven planform points L) .value) 0
-  pub centroid-height : r .«centroid_span_m» ≡ scaleOf planform points ⊗ at (summedOf (areaSeven planform points L) .value) 2 ⊘ at (summedOf (areaSeven planform points L) .value) 0
+  pub area : r .«area_m2» ≡ unscaledArea (scaleOf planform points) (summedOf (areaSeven planform points L) .totals .value)
+  pub centroid-x : r .«centroid_x_m» ≡ scaleOf planform points ⊗ at (summedOf (areaSeven planform points L) .totals .value) 1 ⊘ at (summedOf (areaSeven planform points L) .totals .value) 0
+  pub centroid-height : r .«centroid_span_m» ≡ scaleOf planform points ⊗ at (summedOf (areaSeven planform points L) .totals .value) 2 ⊘ at (summedOf (areaSeven planform points L) .totals .value) 0
   pub intervals : r .intervals ≡ intervalsIn (areaSeven planform points L)
 
 module _ (planform : Planform) (points : List Float) (L n : ℕ) (r : Area) (answer : r ≡ areaFigures planform points L n) (given : r .verdict ≡ Accepted) where
@@ -107,7 +107,7 @@ module _ (planform : Planform) (points : List Float) (L n : ℕ) (r : Area) (ans
       let called = chosen (areaCheck planform points L n) (workedPlanform planform points L) (λ refusal. leavesAlone (refusedArea refusal 0)) (λ (c : CallOf Area). c .answer .verdict) (λ refusal. refl)
       (areaCall planform points L n) refl (sym (ap verdictIn answer) ∙ given) in
       let worked : r ≡ workedArea planform points L = answer ∙ ap (λ (c : CallOf Area). c .answer) (called .1) in
-      let concluded = chosen (conclusionOf total (unscaledArea scale (total .value))) (areaBy Accepted scale total) (λ refusal. refusedArea refusal (total .samples)) verdictIn
+      let concluded = chosen (conclusionOf (total .ending) (unscaledArea scale (total .totals .value))) (areaBy Accepted scale (total .totals)) (λ refusal. refusedArea refusal (total .totals .samples)) verdictIn
       (λ refusal. refl) r worked given .1 in
       record {
         accepted = called .0;

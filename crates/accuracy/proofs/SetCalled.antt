@@ -149,12 +149,12 @@ module _ (section : Section) (p : Plate) (m : Mount) (points : List Float) (L n 
   total = summedOf strips
 
   abbrev v : List Float
-  v = integralsOf set scale (total .value)
+  v = integralsOf set scale (total .totals .value)
 
-  concluded : r ≡ figuresBy Accepted (finsOf set root v) total
+  concluded : r ≡ figuresBy Accepted (finsOf set root v) (total .totals)
   unfolding concludedSet
   concluded =
-      chosen (conclusionOf total (volume v)) (figuresBy Accepted (finsOf set root v) total) (λ refusal. refusedFigures refusal (total .samples)) verdictIn (λ refusal. refl) r
+      chosen (conclusionOf (total .ending) (volume v)) (figuresBy Accepted (finsOf set root v) (total .totals)) (λ refusal. refusedFigures refusal (total .totals .samples)) verdictIn (λ refusal. refl) r
       (set-chosen .1) given .1
 
   one-mass : finOf set root v .«mass_kg» ≡ p .density ⊗ volume v

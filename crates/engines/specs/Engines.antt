@@ -20,7 +20,8 @@ use Rattle.jobs.specs.declared.Replied.{Replied}
 use Rattle.jobs.specs.declared.Row.{Row}
 use Rattle.refusals.specs.Calls.{CallOf, leavesAlone}
 use Rattle.limits.specs.Limits.{scratchNumbers}
-use Rattle.jobs.specs.Jobs.{bareFigures, figuresRow, plainRow, stepRow, steppedOn, changeOf, madeOf, progressOf}
+use Rattle.figures.specs.Figures.{bareFigures}
+use Rattle.jobs.specs.Jobs.{figuresRow, plainRow, stepRow, steppedOn, changeOf, madeOf, progressOf}
 use Rattle.engines.specs.declared.Screens.{Screens}
 use Rattle.engines.specs.declared.Engine.{Engine}
 use Rattle.engines.specs.declared.Turn.{Turn}

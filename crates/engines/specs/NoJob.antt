@@ -43,9 +43,7 @@ noJob =
       points = record { numbers = []; count = 0 };
       limit = 0;
       next = 0;
-      value = [];
-      intervals = 0;
-      samples = 0;
+      totals = record { value = []; intervals = 0; samples = 0 };
       ended = false;
       outcome = noOutcome;
     }

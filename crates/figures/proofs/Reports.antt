@@ -20,6 +20,7 @@ use Rattle.fins.specs.declared.FinSet.{FinSet}
 use Rattle.halving.specs.declared.Ending.{Ending}
 use Rattle.halving.specs.declared.Ending.the-variants.{Accepted as accepted, NotConverged as notConverged}
 use Rattle.halving.specs.Halving.{verdictOf}
+use Rattle.halving.specs.declared.Totals.{Totals}
 use Rattle.halving.specs.declared.Integral.{Integral}
 use Rattle.strips.specs.Strips.{Worked, samplesIn, intervalsIn, endingOf, summedOf}
 use Rattle.strips.specs.Claim.{Reported}
@@ -49,62 +50,62 @@ reported (notConverged component) size = (refl, refl)
 abbrev pub ZeroFigures : Figures → Type 0
 ZeroFigures r = (number : ℕ) (values : List ℕ) → Gives (r .verdict) number values → (r .body ≡ emptyBody) × (r .intervals ≡ 0)
 
-module _ (body : Body) (total : Integral) where
-  figures-verdict : (verdict : Verdict) → figuresBy verdict body total .verdict ≡ verdict
+module _ (body : Body) (totals : Totals) where
+  figures-verdict : (verdict : Verdict) → figuresBy verdict body totals .verdict ≡ verdict
   figures-verdict Accepted = refl
   figures-verdict (Refused refusal) = refl
 
-  figures-samples : (verdict : Verdict) → figuresBy verdict body total .samples ≡ total .samples
+  figures-samples : (verdict : Verdict) → figuresBy verdict body totals .samples ≡ totals .samples
   figures-samples Accepted = refl
   figures-samples (Refused refusal) = refl
 
-  figures-intervals : (verdict : Verdict) → figuresBy verdict body total .verdict ≡ Accepted → figuresBy verdict body total .intervals ≡ total .intervals
+  figures-intervals : (verdict : Verdict) → figuresBy verdict body totals .verdict ≡ Accepted → figuresBy verdict body totals .intervals ≡ totals .intervals
   figures-intervals Accepted h = refl
   figures-intervals (Refused refusal) h = no-refusal refusal h
 
-  figures-zeros : (verdict : Verdict) → ZeroFigures (figuresBy verdict body total)
+  figures-zeros : (verdict : Verdict) → ZeroFigures (figuresBy verdict body totals)
   figures-zeros Accepted number values g = absurd g
   figures-zeros (Refused refusal) number values g = (refl, refl)
 
 -- by what the integrals and the verdict are known to be
 pub set-concluded : (set : FinSet) (root scale : Float) (total : Integral) {v : List Float} {known : Verdict} {r : Figures}
-    → v ≡ integralsOf set scale (total .value) → conclusionOf total (volume v) ≡ known → r ≡ figuresBy known (finsOf set root v) total
+    → v ≡ integralsOf set scale (total .totals .value) → conclusionOf (total .ending) (volume v) ≡ known → r ≡ figuresBy known (finsOf set root v) (total .totals)
     → r ≡ concludedSet set root scale total
 unfolding concludedSet
 set-concluded set root scale total {v} e k a =
-    a ∙ ap (λ (x : Verdict). figuresBy x (finsOf set root v) total) (sym k)
-    ∙ ap (λ (w : List Float). figuresBy (conclusionOf total (volume w)) (finsOf set root w) total) e
+    a ∙ ap (λ (x : Verdict). figuresBy x (finsOf set root v) (total .totals)) (sym k)
+    ∙ ap (λ (w : List Float). figuresBy (conclusionOf (total .ending) (volume w)) (finsOf set root w) (total .totals)) e
 
 -- of the strips worked
 module _ (set : FinSet) (root scale : Float) (strips : List Worked) (r : Figures) (answer : r ≡ concludedSet set root scale (summedOf strips)) where
   abbrev Integrals· : List Float
-  Integrals· = integralsOf set scale (summedOf strips .value)
+  Integrals· = integralsOf set scale (summedOf strips .totals .value)
 
   abbrev Body· : Body
   Body· = finsOf set root Integrals·
 
   abbrev Verdict· : Verdict
-  Verdict· = conclusionOf (summedOf strips) (volume Integrals·)
+  Verdict· = conclusionOf (endingOf strips) (volume Integrals·)
 
   pub concluded-samples : r .samples ≡ samplesIn strips
   unfolding concludedSet
-  concluded-samples = ap (λ (x : Figures). x .samples) answer ∙ figures-samples Body· (summedOf strips) Verdict·
+  concluded-samples = ap (λ (x : Figures). x .samples) answer ∙ figures-samples Body· (summedOf strips .totals) Verdict·
 
   pub concluded-intervals : r .verdict ≡ Accepted → r .intervals ≡ intervalsIn strips
   unfolding concludedSet
   concluded-intervals h =
       ap (λ (x : Figures). x .intervals) answer
-      ∙ figures-intervals Body· (summedOf strips) Verdict· (sym (ap (λ (x : Figures). x .verdict) answer) ∙ h)
+      ∙ figures-intervals Body· (summedOf strips .totals) Verdict· (sym (ap (λ (x : Figures). x .verdict) answer) ∙ h)
 
   pub concluded-verdict : Reported (endingOf strips) (r .verdict)
   unfolding concludedSet
   concluded-verdict =
-      subst (Reported (endingOf strips)) (sym (ap (λ (x : Figures). x .verdict) answer ∙ figures-verdict Body· (summedOf strips) Verdict·))
+      subst (Reported (endingOf strips)) (sym (ap (λ (x : Figures). x .verdict) answer ∙ figures-verdict Body· (summedOf strips .totals) Verdict·))
       (reported (endingOf strips) (volume Integrals·))
 
   pub concluded-zeros : ZeroFigures r
   unfolding concludedSet
-  concluded-zeros = subst ZeroFigures (sym answer) (figures-zeros Body· (summedOf strips) Verdict·)
+  concluded-zeros = subst ZeroFigures (sym answer) (figures-zeros Body· (summedOf strips .totals) Verdict·)
 
 -- ---- a planform
 
@@ -112,43 +113,43 @@ abbrev pub ZeroArea : Area → Type 0
 ZeroArea r = (number : ℕ) (values : List ℕ) → Gives (r .verdict) number values
     → (r .«area_m2» ≡ bits 0) × (r .«centroid_x_m» ≡ bits 0) × (r .«centroid_span_m» ≡ bits 0) × (r .intervals ≡ 0)
 
-module _ (scale : Float) (total : Integral) where
-  area-verdict : (verdict : Verdict) → areaBy verdict scale total .verdict ≡ verdict
+module _ (scale : Float) (totals : Totals) where
+  area-verdict : (verdict : Verdict) → areaBy verdict scale totals .verdict ≡ verdict
   area-verdict Accepted = refl
   area-verdict (Refused refusal) = refl
 
-  area-samples : (verdict : Verdict) → areaBy verdict scale total .samples ≡ total .samples
+  area-samples : (verdict : Verdict) → areaBy verdict scale totals .samples ≡ totals .samples
   area-samples Accepted = refl
   area-samples (Refused refusal) = refl
 
-  area-intervals : (verdict : Verdict) → areaBy verdict scale total .verdict ≡ Accepted → areaBy verdict scale total .intervals ≡ total .intervals
+  area-intervals : (verdict : Verdict) → areaBy verdict scale totals .verdict ≡ Accepted → areaBy verdict scale totals .intervals ≡ totals .intervals
   area-intervals Accepted h = refl
   area-intervals (Refused refusal) h = no-refusal refusal h
 
-  area-zeros : (verdict : Verdict) → ZeroArea (areaBy verdict scale total)
+  area-zeros : (verdict : Verdict) → ZeroArea (areaBy verdict scale totals)
   area-zeros Accepted number values n = absurd n
   area-zeros (Refused refusal) number values n = (refl, refl, refl, refl)
 
 module _ (scale : Float) (strips : List Worked) (r : Area) (answer : r ≡ concludedArea scale (summedOf strips)) where
   abbrev AreaVerdict· : Verdict
-  AreaVerdict· = conclusionOf (summedOf strips) (unscaledArea scale (summedOf strips .value))
+  AreaVerdict· = conclusionOf (endingOf strips) (unscaledArea scale (summedOf strips .totals .value))
 
   pub concluded-area-samples : r .samples ≡ samplesIn strips
   unfolding concludedArea
-  concluded-area-samples = ap (λ (x : Area). x .samples) answer ∙ area-samples scale (summedOf strips) AreaVerdict·
+  concluded-area-samples = ap (λ (x : Area). x .samples) answer ∙ area-samples scale (summedOf strips .totals) AreaVerdict·
 
   pub concluded-area-intervals : r .verdict ≡ Accepted → r .intervals ≡ intervalsIn strips
   unfolding concludedArea
   concluded-area-intervals h =
       ap (λ (x : Area). x .intervals) answer
-      ∙ area-intervals scale (summedOf strips) AreaVerdict· (sym (ap (λ (x : Area). x .verdict) answer) ∙ h)
+      ∙ area-intervals scale (summedOf strips .totals) AreaVerdict· (sym (ap (λ (x : Area). x .verdict) answer) ∙ h)
 
   pub concluded-area-verdict : Reported (endingOf strips) (r .verdict)
   unfolding concludedArea
   concluded-area-verdict =
-      subst (Reported (endingOf strips)) (sym (ap (λ (x : Area). x .verdict) answer ∙ area-verdict scale (summedOf strips) AreaVerdict·))
-      (reported (endingOf strips) (unscaledArea scale (summedOf strips .value)))
+      subst (Reported (endingOf strips)) (sym (ap (λ (x : Area). x .verdict) answer ∙ area-verdict scale (summedOf strips .totals) AreaVerdict·))
+      (reported (endingOf strips) (unscaledArea scale (summedOf strips .totals .value)))
 
   pub concluded-area-zeros : ZeroArea r
   unfolding concludedArea
-  concluded-area-zeros = subst ZeroArea (sym answer) (area-zeros scale (summedOf strips) AreaVerdict·)
+  concluded-area-zeros = subst ZeroArea (sym answer) (area-zeros scale (summedOf strips .totals) AreaVerdict·)

@@ -11,6 +11,7 @@ use Rattle.planforms.specs.declared.Planform.{Planform}
 use Rattle.breaks.specs.Breaks.{breakHeights}
 use Rattle.integrands.specs.Integrands.{scaleOf, areaThree}
 use Rattle.fins.specs.Fins.{areaCheck}
+use Rattle.halving.specs.declared.Totals.{Totals}
 use Rattle.halving.specs.declared.Integral.{Integral}
 use Rattle.strips.specs.Strips.{Run, Worked, stripsIn, sevenWide, summedOf, scratchAfter}
 use Rattle.figures.specs.declared.Area.{Area}
@@ -38,22 +39,22 @@ refusedArea refusal samples =
 abbrev pub unscaledArea : Float → List Float → Float
 unscaledArea scale v = at v 0 ⊗ scale ⊗ scale
 
-abbrev pub areaBy : Verdict → Float → Integral → Area
-areaBy verdict scale total =
+abbrev pub areaBy : Verdict → Float → Totals → Area
+areaBy verdict scale totals =
     byVerdict verdict
     (record {
       verdict = Accepted;
-      «area_m2» = unscaledArea scale (total .value);
-      «centroid_x_m» = scale ⊗ at (total .value) 1 ⊘ at (total .value) 0;
-      «centroid_span_m» = scale ⊗ at (total .value) 2 ⊘ at (total .value) 0;
-      intervals = total .intervals;
-      samples = total .samples;
+      «area_m2» = unscaledArea scale (totals .value);
+      «centroid_x_m» = scale ⊗ at (totals .value) 1 ⊘ at (totals .value) 0;
+      «centroid_span_m» = scale ⊗ at (totals .value) 2 ⊘ at (totals .value) 0;
+      intervals = totals .intervals;
+      samples = totals .samples;
     })
-    (λ refusal. refusedArea refusal (total .samples))
+    (λ refusal. refusedArea refusal (totals .samples))
 
 -- the answer of a planform whose strips add up to these totals: area and centroid, 13 or 8
 unfoldable pub concludedArea : Float → Integral → Area
-concludedArea scale total = areaBy (conclusionOf total (unscaledArea scale (total .value))) scale total
+concludedArea scale total = areaBy (conclusionOf (total .ending) (unscaledArea scale (total .totals .value))) scale (total .totals)
 
 -- the answer of a planform that is accepted
 abbrev pub workedArea : Planform → List Float → ℕ → Area

@@ -16,6 +16,8 @@ use Rattle.breaks.specs.Breaks.{breakHeights}
 use Rattle.integrands.specs.Integrands.{scaleOf, plateOf}
 use Rattle.fins.specs.declared.FinSet.{FinSet}
 use Rattle.fins.specs.Fins.{setCheck}
+use Rattle.halving.specs.declared.Ending.{Ending}
+use Rattle.halving.specs.declared.Totals.{Totals}
 use Rattle.halving.specs.declared.Integral.{Integral}
 use Rattle.halving.specs.Halving.{verdictOf}
 use Rattle.strips.specs.Strips.{Run, Worked, stripsIn, summedOf, scratchAfter}
@@ -36,22 +38,26 @@ setRun set points L =
 abbrev pub setStrips : FinSet → List Float → ℕ → List Worked
 setStrips set points L = stripsIn (setRun set points L)
 
+-- a verdict with no figures: "Figures zero; intervals 0; samples taken so far"
+abbrev pub bareFigures : Verdict → ℕ → Figures
+bareFigures verdict samples = record { verdict = verdict; body = emptyBody; intervals = 0; samples = samples }
+
 abbrev pub refusedFigures : Refusal → ℕ → Figures
-refusedFigures refusal samples = record { verdict = Refused refusal; body = emptyBody; intervals = 0; samples = samples }
+refusedFigures refusal = bareFigures (Refused refusal)
 
 -- 8: "area or volume <= 0"; not a NaN
 abbrev pub sizeCheck : Float → Verdict
 sizeCheck size = refuseWhen (le size (bits 0)) NoArea
 
 -- "strips; 8": what the last strip worked ended in, and then the size that the strips add up to
-abbrev pub conclusionOf : Integral → Float → Verdict
-conclusionOf total size = firstRefusal (verdictOf (total .ending)) (sizeCheck size)
+abbrev pub conclusionOf : Ending → Float → Verdict
+conclusionOf ending size = firstRefusal (verdictOf ending) (sizeCheck size)
 
--- "Figures zero; intervals 0; samples taken so far"
-abbrev pub figuresBy : Verdict → Body → Integral → Figures
-figuresBy verdict body total =
-    byVerdict verdict (record { verdict = Accepted; body = body; intervals = total .intervals; samples = total .samples })
-    (λ refusal. refusedFigures refusal (total .samples))
+-- a body with its totals, or the refusal with the samples
+abbrev pub figuresBy : Verdict → Body → Totals → Figures
+figuresBy verdict body totals =
+    byVerdict verdict (record { verdict = Accepted; body = body; intervals = totals .intervals; samples = totals .samples })
+    (λ refusal. refusedFigures refusal (totals .samples))
 
 -- a set's body from the integrals of one fin and the root chord
 abbrev pub finsOf : FinSet → Float → List Float → Body
@@ -60,12 +66,15 @@ finsOf set root v = joinedCopies (finOf set root v) (set .«base_angle_rad») (s
 -- the answer of a set whose strips add up to these totals: figures, 13 or 8
 unfoldable pub concludedSet : FinSet → Float → Float → Integral → Figures
 concludedSet set root scale total =
-    let v = integralsOf set scale (total .value) in
-    figuresBy (conclusionOf total (volume v)) (finsOf set root v) total
+    let v = integralsOf set scale (total .totals .value) in
+    figuresBy (conclusionOf (total .ending) (volume v)) (finsOf set root v) (total .totals)
+
+abbrev pub concludedAt : FinSet → List Float → Integral → Figures
+concludedAt set points total = concludedSet set (rootChordOf (set .planform) points) (scaleOf (set .planform) points) total
 
 -- the answer of a set that is accepted
 abbrev pub workedFigures : FinSet → List Float → ℕ → Figures
-workedFigures set points L = concludedSet set (rootChordOf (set .planform) points) (scaleOf (set .planform) points) (summedOf (setStrips set points L))
+workedFigures set points L = concludedAt set points (summedOf (setStrips set points L))
 
 -- "Once strips have run, with figures or a refusal at the end, scratch holds, in storage order from its start, what
 -- each strip wrote over the last one's; elsewhere it is unchanged." ("Refusal numbers")

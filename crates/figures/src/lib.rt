@@ -7,11 +7,12 @@ ghost use lib.ListN.{length};
 ghost use Rattle.refusals.specs.declared.Verdict.the-variants.{Accepted};
 ghost use Rattle.refusals.specs.Calls.{Does};
 ghost use Rattle.fins.specs.Fins.{setCheck, areaCheck};
-ghost use Rattle.figures.specs.Figures.{refusedFigures, sizeCheck, conclusionOf, concludedSet, workedSet};
+ghost use Rattle.figures.specs.Figures.{bareFigures, sizeCheck, conclusionOf, concludedSet, concludedAt, workedSet};
 ghost use Rattle.figures.specs.Areas.{refusedArea, concludedArea, workedPlanform};
 ghost use Rattle.figures.specs.Answers.{SetAnswers, AreaAnswers};
 use bodies::Body;
 use fins::FinSet;
+use halving::Ending;
 use halving::Integral;
 use planforms::Planform;
 use refusals::Refusal;
@@ -36,10 +37,10 @@ pub struct Area {
     pub samples: usize,
 }
 
-pub fn refused_figures(refusal: Refusal, samples: usize) -> Figures
-    ensures { λ r. ⌜ r ≡ refusedFigures refusal samples ⌝ }
+// A verdict with no figures.
+pub fn bare_figures(verdict: Verdict, samples: usize) -> Figures
+    ensures { λ r. ⌜ r ≡ bareFigures verdict samples ⌝ }
 {
-    let verdict = Verdict::Refused(refusal);
     let body = Body::ZERO;
     Figures {
         verdict,
@@ -57,22 +58,23 @@ fn check_size(size: f64) -> Verdict
 }
 
 // What the last strip worked ended in, and then the size that the strips add up to.
-fn conclusion(total: Integral, size: f64) -> Verdict
-    ensures { λ r. ⌜ r ≡ conclusionOf total size ⌝ }
+fn conclusion(ending: Ending, size: f64) -> Verdict
+    ensures { λ r. ⌜ r ≡ conclusionOf ending size ⌝ }
 {
-    let ending = total.ending;
     refusals::first_refusal(halving::verdict_of(ending), check_size(size))
 }
 
 // The figures of a set whose strips add up to these totals, or 13 or 8: the one place where this is decided. `scale_m`
 // is what every length of a strip was divided by.
-pub fn concluded(set: FinSet, root_chord_m: f64, scale_m: f64, total: Integral) -> Figures
+fn concluded(set: FinSet, root_chord_m: f64, scale_m: f64, total: Integral) -> Figures
     requires { ⌜ set .count ≤ 32 ⌝ }
     ensures { λ r. ⌜ r ≡ concludedSet set «root_chord_m» «scale_m» total ⌝ }
 {
-    let value = total.value;
+    let ending = total.ending;
+    let totals = total.totals;
+    let value = totals.value;
     let v = plates::integrals(set, scale_m, value);
-    let verdict = conclusion(total, v[0]);
+    let verdict = conclusion(ending, v[0]);
     match verdict {
         Verdict::Accepted => {
             let fin = plates::fin(set, root_chord_m, v);
@@ -81,12 +83,23 @@ pub fn concluded(set: FinSet, root_chord_m: f64, scale_m: f64, total: Integral) 
             Figures {
                 verdict,
                 body,
-                intervals: total.intervals,
-                samples: total.samples,
+                intervals: totals.intervals,
+                samples: totals.samples,
             }
         }
-        Verdict::Refused(refusal) => refused_figures(refusal, total.samples),
+        Verdict::Refused(refusal) => bare_figures(Verdict::Refused(refusal), totals.samples),
     }
+}
+
+// The same, where root chord and scale are not known yet.
+pub fn concluded_at(set: FinSet, points: &[f64], total: Integral) -> Figures
+    requires { ⌜ set .count ≤ 32 ⌝ }
+    ensures { λ r. ⌜ r ≡ concludedAt set (now (points .entry)) total ⌝ }
+{
+    let planform = set.planform;
+    let scale_m = integrands::scale_m(planform, points);
+    let root_chord_m = planforms::root_chord_m(planform, points);
+    concluded(set, root_chord_m, scale_m, total)
 }
 
 // The strips of an accepted set, and its figures.
@@ -117,7 +130,7 @@ pub fn mass_properties(set: FinSet, points: &[f64], limit: usize, scratch: &mut 
     let verdict = fins::check_set(set, points, limit, scratch.len());
     match verdict {
         Verdict::Accepted => work_set(set, points, limit, scratch),
-        Verdict::Refused(refusal) => refused_figures(refusal, 0),
+        Verdict::Refused(refusal) => bare_figures(Verdict::Refused(refusal), 0),
     }
 }
 
@@ -139,9 +152,11 @@ fn refused_area(refusal: Refusal, samples: usize) -> Area
 fn concluded_area(scale_m: f64, total: Integral) -> Area
     ensures { λ r. ⌜ r ≡ concludedArea «scale_m» total ⌝ }
 {
-    let value = total.value;
+    let ending = total.ending;
+    let totals = total.totals;
+    let value = totals.value;
     let area_m2 = value[0] * scale_m * scale_m;
-    let verdict = conclusion(total, area_m2);
+    let verdict = conclusion(ending, area_m2);
     match verdict {
         Verdict::Accepted => {
             let verdict = Verdict::Accepted;
@@ -150,11 +165,11 @@ fn concluded_area(scale_m: f64, total: Integral) -> Area
                 area_m2,
                 centroid_x_m: scale_m * value[1] / value[0],
                 centroid_span_m: scale_m * value[2] / value[0],
-                intervals: total.intervals,
-                samples: total.samples,
+                intervals: totals.intervals,
+                samples: totals.samples,
             }
         }
-        Verdict::Refused(refusal) => refused_area(refusal, total.samples),
+        Verdict::Refused(refusal) => refused_area(refusal, totals.samples),
     }
 }
 

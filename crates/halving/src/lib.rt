@@ -37,13 +37,18 @@ pub fn verdict_of(ending: Ending) -> Verdict
     }
 }
 
-// The answer for one strip, and for the strips of a set: the ending, the integral of each component, the intervals and
-// the samples.
-pub struct Integral {
-    pub ending: Ending,
+// What is added up over the pieces of a strip and over the strips of a set: the integral of each component, the
+// intervals and the samples.
+pub struct Totals {
     pub value: [f64; 7],
     pub intervals: usize,
     pub samples: usize,
+}
+
+// The answer for one strip, and for the strips of a set.
+pub struct Integral {
+    pub ending: Ending,
+    pub totals: Totals,
 }
 
 fn middle(p: Piece) -> f64
@@ -122,14 +127,14 @@ fn halve(scratch: &mut [f64], integrand: Integrand, points: &[f64], n: usize, pl
 }
 
 fn answer(ending: Ending, value: [f64; 7], intervals: usize, samples: usize) -> Integral
-    ensures { λ r. ⌜ r ≡ record { ending = ending; value = value; intervals = intervals; samples = samples } ⌝ }
+    ensures { λ r. ⌜ r ≡ record { ending = ending; totals = record { value = value; intervals = intervals; samples = samples } } ⌝ }
 {
-    Integral {
-        ending,
+    let totals = Totals {
         value,
         intervals,
         samples,
-    }
+    };
+    Integral { ending, totals }
 }
 
 // From the first piece in the scratch on, of which so many samples were taken. Those of each halving are added.
@@ -174,12 +179,13 @@ pub fn integrate(
     ensures { λ r. ⌜ Integrates (sampleOf integrand (now (points .entry))) lower upper limit (now (scratch .entry)) r (now (scratch .exit)) ⌝ }
 {
     if lower == upper {
-        return Integral {
-            ending: Ending::Accepted,
+        let ending = Ending::Accepted;
+        let totals = Totals {
             value: [0.0; 7],
             intervals: 1,
             samples: 0,
         };
+        return Integral { ending, totals };
     }
     let whole = quadrature::rule(integrand, points, lower, upper);
     let piece = whole.piece;

@@ -109,14 +109,14 @@ module _ (job : Job) (n : ℕ) (held : n ≡ heldOf (job .points .count)) (h : F
   Outline· k = take k (job .points .numbers)
 
   abbrev Progress· : Float → List Float → JobProgress
-  Progress· height breaks = record { worked = countBelow height breaks; strips = length breaks - 1; intervals = job .intervals; samples = job .samples }
+  Progress· height breaks = record { worked = countBelow height breaks; strips = length breaks - 1; intervals = job .totals .intervals; samples = job .totals .samples }
 
   pub progress-read : h ≡ at (allHeights (job .set .planform) (Outline· n)) (job .next) → b ≡ listed (breakHeights (job .set .planform) (Outline· n))
       → worked ≡ countBelow h (take (b .count) (b .heights))
-      → _≡_ {A = JobProgress} (record { worked = worked; strips = b .count - 1; intervals = job .intervals; samples = job .samples }) (progressOf job)
+      → _≡_ {A = JobProgress} (record { worked = worked; strips = b .count - 1; intervals = job .totals .intervals; samples = job .totals .samples }) (progressOf job)
   unfolding progressOf
   progress-read height breaks counted =
-      ap₂ (λ (w s : ℕ). record { worked = w; strips = s - 1; intervals = job .intervals; samples = job .samples })
+      ap₂ (λ (w s : ℕ). record { worked = w; strips = s - 1; intervals = job .totals .intervals; samples = job .totals .samples })
       (counted ∙ ap (countBelow h) (heights-taken _ _ b breaks)) (heights-count _ _ b breaks)
       ∙ ap (λ (x : Float). Progress· x (breakHeights (job .set .planform) (Outline· n))) height
       ∙ ap (λ (k : ℕ). Progress· (at (allHeights (job .set .planform) (Outline· k)) (job .next)) (breakHeights (job .set .planform) (Outline· k))) held

@@ -18,14 +18,14 @@ use Rattle.materials.specs.declared.Density.{Density}
 use Rattle.materials.specs.Materials.{densityCheck}
 use Rattle.integrands.specs.declared.Integrand.{Integrand}
 use Rattle.integrands.specs.Integrands.{plateIntegrand, plateOf}
-use Rattle.strips.specs.Strips.{Run, Worked, isAccepted, stepRunOf, runCheck, hasStrip, stripFrom, WorksNext}
+use Rattle.strips.specs.Strips.{Run, Worked, isAccepted, stepRunOf, runCheck, hasStrip, stripFrom, onwardOf}
 use Rattle.strips.specs.declared.Onward.{Onward}
 use Rattle.jobs.specs.declared.Job.{Job}
 use Rattle.jobs.specs.declared.Progress.the-variants.{Short, Ended}
 use Rattle.jobs.specs.declared.Stepped.{Stepped}
 use Rattle.jobs.specs.declared.Replied.{Replied}
 use Rattle.figures.specs.declared.Figures.{Figures}
-use Rattle.jobs.specs.Jobs.{heldOf, outlineOf, stepRun, runOfJob, totalOf, stepRow, more, ended, endedBy, outcomeOf, afterStrip, workedStrip, steppedOn, stepAfter, steppedBy, isShort, stepOf}
+use Rattle.jobs.specs.Jobs.{heldOf, outlineOf, stepRun, runOfJob, nextStrip, stepRow, more, ended, endedBy, outcomeOf, afterStrip, workedStrip, steppedOn, stepAfter, steppedBy, isShort, stepOf}
 use Rattle.jobs.specs.Jobs.{taken, kept, changeOf}
 use Rattle.jobs.specs.Calls.{Call, jobBy, afterCalls, counts, stripsBy, step}
 
@@ -129,12 +129,12 @@ module _ (job : Job) (n : ℕ) where
       by-end false e = by-check e (limitCheck (job .limit)) (scratchCheck (job .limit) n) refl refl
 
 module _ (job : Job) (onward : Onward) where
-  pub after-more : (isAccepted (onward .total .ending) && onward .more) ≡ true → afterStrip job onward ≡ more job (onward .total) (onward .next)
+  pub after-more : (isAccepted (onward .total .ending) && onward .more) ≡ true → afterStrip job onward ≡ more job (onward .total .totals) (onward .next)
   unfolding afterStrip
   after-more e = yes _ _ e
 
   pub after-last : (isAccepted (onward .total .ending) && onward .more) ≡ false
-      → afterStrip job onward ≡ ended job (onward .total) (onward .next) (outcomeOf (job .set) (outlineOf job) (onward .total))
+      → afterStrip job onward ≡ ended job (onward .total .totals) (onward .next) (outcomeOf (job .set) (outlineOf job) (onward .total))
   unfolding afterStrip
   after-last e = no _ _ e
 
@@ -143,9 +143,9 @@ pub both-told : (a b answer : Bool) {t : Bool} → answer ≡ a → (answer && b
 both-told a b answer e h = ap (λ (x : Bool). x && b) (sym e) ∙ h
 
 pub ends-so : (job : Job) (onward : Onward) (n : ℕ) → n ≡ heldOf (job .points .count) → (figures : Figures) → figures ≡ outcomeOf (job .set) (take n (job .points .numbers)) (onward .total)
-    → (r : Job) → r ≡ ended job (onward .total) (onward .next) figures → (isAccepted (onward .total .ending) && onward .more) ≡ false → r ≡ afterStrip job onward
+    → (r : Job) → r ≡ ended job (onward .total .totals) (onward .next) figures → (isAccepted (onward .total .ending) && onward .more) ≡ false → r ≡ afterStrip job onward
 ends-so job onward n e figures f r k h =
-    k ∙ ap (ended job (onward .total) (onward .next)) (f ∙ ap (λ (m : ℕ). outcomeOf (job .set) (take m (job .points .numbers)) (onward .total)) e) ∙ sym (after-last job onward h)
+    k ∙ ap (ended job (onward .total .totals) (onward .next)) (f ∙ ap (λ (m : ℕ). outcomeOf (job .set) (take m (job .points .numbers)) (onward .total)) e) ∙ sym (after-last job onward h)
 
 -- the strips that the code works are those of the record's set
 same-run : (job : Job) (n : ℕ) → n ≡ heldOf (job .points .count) → (integrand : Integrand)
@@ -157,9 +157,10 @@ same-run job n e integrand f =
 
 pub same-next : (job : Job) (n : ℕ) → n ≡ heldOf (job .points .count) → (integrand : Integrand)
     → integrand ≡ plateIntegrand (job .set .planform) (take n (job .points .numbers)) (job .set .«cross_section») (job .set .«thickness_m») (job .set .«body_radius_m»)
-    → (entry : List Float) (r : Onward) (exit : List Float) → WorksNext (stepRunOf integrand (take n (job .points .numbers)) (job .limit)) (job .next) (totalOf job) entry r exit
-    → WorksNext (runOfJob job) (job .next) (totalOf job) entry r exit
-same-next job n e integrand f entry r exit w = subst (λ (run : Run). WorksNext run (job .next) (totalOf job) entry r exit) (same-run job n e integrand f) w
+    → (entry : List Float) (r : Onward) (exit : List Float)
+    → Does (onwardOf (stepRunOf integrand (take n (job .points .numbers)) (job .limit)) (job .next) (job .totals)) r entry exit
+    → Does (nextStrip job) r entry exit
+same-next job n e integrand f entry r exit w = subst (λ (run : Run). Does (onwardOf run (job .next) (job .totals)) r entry exit) (same-run job n e integrand f) w
 
 -- ---- the strip of a step
 module _ (job : Job) (scratch : List Float) where
@@ -209,7 +210,7 @@ module _ (job : Job) (n : ℕ) where
       of-step job n (λ (c : CallOf Stepped). c .answer .job .ended ≡ true → c .answer .progress ≡ Ended) (λ e k. refl)
       (λ r e v k. absurd (true≢false (sym k ∙ e))) (λ r e v k. refl) (λ e v k. ap stepAfter k)
 
-  pub step-samples : (most : ℕ) → job .samples ≤ most
+  pub step-samples : (most : ℕ) → job .totals .samples ≤ most
       → (stepOf job n .answer .job .ended ≡ true → stepOf job n .answer .job .outcome .samples ≤ most)
       → stepRow (stepOf job n .answer .progress) (stepOf job n .answer .job) .figures .samples ≤ most
   step-samples most so-far =
@@ -222,7 +223,7 @@ module _ (job : Job) (n : ℕ) where
       by h true e = subst (λ (b : Bool). stepRow (stepAfter b) After· .figures .samples ≤ most) (sym e) (h e)
       by h false e = subst (λ (b : Bool). stepRow (stepAfter b) After· .figures .samples ≤ most) (sym e) (omega arith)
 
-pub change-samples : (job : Job) (density : Density) (most : ℕ) → job .samples ≤ most
+pub change-samples : (job : Job) (density : Density) (most : ℕ) → job .totals .samples ≤ most
     → changeOf job density .reply .samples ≤ most
 change-samples job density most so-far = by (job .ended) refl (densityCheck density) refl
   where

@@ -54,7 +54,7 @@ module _ (set : FinSet) (points : List Float) (L : ℕ) (made : makingCheck set 
       let all = ap samplesIn (first .are .halvings) in
       omega (arith, front, all, whole-run)
 
-  job-samples : (calls : List Call) → jobAfter set points L calls .samples ≤ mostSamples
+  job-samples : (calls : List Call) → jobAfter set points L calls .totals .samples ≤ mostSamples
   job-samples calls = subst (λ (n : ℕ). n ≤ mostSamples) (sym (over-calls set points L made calls .samples-so-far)) (so-far calls)
 
   end-samples : (calls : List Call) → jobAfter set points L calls .ended ≡ true
@@ -77,7 +77,7 @@ ended-stays job e (step scratch ∷ calls) =
 ended-stays job e (change density ∷ calls) =
     ap (λ (s : Replied). afterCalls (s .job) calls) (change-ended job density e) ∙ ended-stays job e calls
 
-ended-most : (job : Job) → job .ended ≡ true → job .samples ≤ mostSamples → job .outcome .samples ≤ mostSamples → (call : Call)
+ended-most : (job : Job) → job .ended ≡ true → job .totals .samples ≤ mostSamples → job .outcome .samples ≤ mostSamples → (call : Call)
     → answerBy job call .figures .samples ≤ mostSamples
 ended-most job e few few-at-end (step scratch) =
     step-samples job (length scratch) mostSamples few

@@ -20,13 +20,13 @@ use Rattle.strips.proofs.Upward.{none, totalsFrom, totals-are, strip-few}
 use Rattle.strips.proofs.Claims.{each-worked}
 
 -- ---- one strip more
-totals-with : (t : Integral) (strips : List Worked) (s : Worked) → totalsFrom t (strips ++ (s ∷ [])) ≡ withStrip (totalsFrom t strips) (integralIn s)
+totals-with : (t : Integral) (strips : List Worked) (s : Worked) → totalsFrom t (strips ++ (s ∷ [])) ≡ withStrip (totalsFrom t strips .totals) (integralIn s)
 totals-with t [] s = refl
-totals-with t (x ∷ strips) s = totals-with (withStrip t (integralIn x)) strips s
+totals-with t (x ∷ strips) s = totals-with (withStrip (t .totals) (integralIn x)) strips s
 
-pub summed-with : (strips : List Worked) (s : Worked) → withStrip (summedOf strips) (integralIn s) ≡ summedOf (strips ++ (s ∷ []))
+pub summed-with : (strips : List Worked) (s : Worked) → withStrip (summedOf strips .totals) (integralIn s) ≡ summedOf (strips ++ (s ∷ []))
 summed-with strips s =
-    ap (λ (t : Integral). withStrip t (integralIn s)) (sym (totals-are strips)) ∙ sym (totals-with none strips s) ∙ totals-are (strips ++ (s ∷ []))
+    ap (λ (t : Integral). withStrip (t .totals) (integralIn s)) (sym (totals-are strips)) ∙ sym (totals-with none strips s) ∙ totals-are (strips ++ (s ∷ []))
 
 pub ending-with : (e : Ending) (strips : List Worked) (s : Worked) → endingFrom e (strips ++ (s ∷ [])) ≡ s .halved .ending
 ending-with e [] s = refl

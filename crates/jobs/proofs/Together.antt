@@ -35,12 +35,12 @@ use Rattle.fins.specs.Fins.{ownChecks, ownCheck, setCheck}
 use Rattle.halving.specs.declared.Ending.the-variants.{Accepted as accepted}
 use Rattle.halving.specs.declared.Integral.{Integral}
 use Rattle.strips.specs.declared.Onward.{Onward}
-use Rattle.strips.specs.Strips.{Run, Worked, isAccepted, workedOf, stripsIn, stripOf, stripAt, stripsFrom, nextPlace, hasStrip, stripFrom, runCheck, samplesIn, intervalsIn, endingOf, summedOf, withStrip, inWords, integralIn, onwardOf}
+use Rattle.strips.specs.Strips.{Run, Worked, isAccepted, workedOf, stripsIn, stripOf, stripAt, stripsFrom, nextPlace, hasStrip, stripFrom, runCheck, samplesIn, intervalsIn, endingOf, summedOf, withStrip, inWords, integralIn, workedOn, onwardOf}
 use Rattle.strips.specs.Claim.{Each, StripsAre, AreReported}
 use Rattle.strips.proofs.Upward.{strip-at, none-left, fits-words}
-use Rattle.strips.proofs.Onwards.{WorkedOn, onward-works}
+use Rattle.strips.proofs.Onwards.{onward-works}
 use Rattle.strips.proofs.Claims.{strips-are}
-use Rattle.figures.specs.Figures.{setIntegrand, setRun, refusedFigures, concludedSet, workedFigures, workedSet, setFigures, setCall}
+use Rattle.figures.specs.Figures.{bareFigures, setIntegrand, setRun, refusedFigures, concludedSet, workedFigures, workedSet, setFigures, setCall}
 use Rattle.figures.specs.Answers.{setReport}
 use Rattle.figures.proofs.StripCount.{worked-few, heights-some, all-numbers, none-under-zero}
 use Rattle.figures.proofs.Answers.{set-reported}
@@ -49,7 +49,7 @@ use Rattle.jobs.specs.declared.Progress.the-variants.{Ended}
 use Rattle.jobs.specs.declared.JobProgress.{JobProgress}
 use Rattle.jobs.specs.declared.Stepped.{Stepped}
 use Rattle.jobs.specs.declared.Replied.{Replied}
-use Rattle.jobs.specs.Jobs.{pointsOf, outlineOf, stepRun, runOfJob, totalOf, bareFigures, more, ended, outcomeOf, afterStrip, stepOf, withDensity, taken, changeOf, makingCheck, madeWith, madeOf, countBelow, progressOf}
+use Rattle.jobs.specs.Jobs.{pointsOf, outlineOf, stepRun, runOfJob, nextStrip, more, ended, outcomeOf, afterStrip, stepOf, withDensity, taken, changeOf, makingCheck, madeWith, madeOf, countBelow, progressOf}
 use Rattle.jobs.specs.Calls.{Call, step, change, jobBy, afterCalls, counts, stripsBy, stripsOver}
 use Rattle.jobs.specs.Calls.{isTaken, densityBy, densityOver, placeOfStrip, runningJob, progressOver, OverCalls}
 use Rattle.jobs.proofs.Below.{below-rising}
@@ -190,8 +190,8 @@ module _ (set : FinSet) (points : List Float) (L : ℕ) (made : makingCheck set 
     pub dense : densityCheck d ≡ Accepted
     pub whole : strips ≡ All·
     pub answer : job .outcome ≡ workedFigures (withDensity set d) points L
-    pub samples : job .samples ≡ samplesIn strips
-    pub intervals : job .intervals ≡ intervalsIn strips
+    pub samples : job .totals .samples ≡ samplesIn strips
+    pub intervals : job .totals .intervals ≡ intervalsIn strips
     pub progress : progressOf job ≡ progressOver Run· strips
 
   abbrev State : Density → List Worked → Job → Type 0
@@ -232,10 +232,6 @@ module _ (set : FinSet) (points : List Float) (L : ℕ) (made : makingCheck set 
         let n = few-in With· with-few in
         fits-words (summedOf With·) (omega (arith, n .0, one-longer, inside, short)) (omega (arith, n .1, one-longer, inside, short))
 
-    same-sums : withStrip (totalOf J·) (integralIn S·) ≡ withStrip (summedOf strips) (integralIn S·)
-    unfolding withStrip
-    same-sums = refl
-
     -- where this strip begins, and the next
     abbrev Here· : ℕ
     Here· = Place· (length strips)
@@ -253,21 +249,21 @@ module _ (set : FinSet) (points : List Float) (L : ℕ) (made : makingCheck set 
     abbrev Onward· : Integral → Onward
     Onward· total = record { total = total; next = Next·; more = ltb 0 Left· }
 
-    worked-on : WorkedOn Steps· Here· (totalOf J·) ≡ Onward· (inWords (withStrip (totalOf J·) (integralIn S·)))
+    worked-on : workedOn Steps· Here· (J· .totals) .answer ≡ Onward· (inWords (withStrip (J· .totals) (integralIn S·)))
     worked-on =
         ap
         (λ (s : Worked).
-        record { total = inWords (withStrip (totalOf J·) (integralIn s)); next = nextPlace Steps· Here·; more = hasStrip Steps· (nextPlace Steps· Here·) })
+        record { total = inWords (withStrip (J· .totals) (integralIn s)); next = nextPlace Steps· Here·; more = hasStrip Steps· (nextPlace Steps· Here·) })
         (strip-is (length strips) (omega (arith, inside)))
-        ∙ ap (λ (n : ℕ). record { total = inWords (withStrip (totalOf J·) (integralIn S·)); next = n; more = hasStrip Steps· n }) (next-is (length strips) (omega (arith, inside)))
-        ∙ ap (λ (b : Bool). record { total = inWords (withStrip (totalOf J·) (integralIn S·)); next = Next·; more = b }) more-left
+        ∙ ap (λ (n : ℕ). record { total = inWords (withStrip (J· .totals) (integralIn S·)); next = n; more = hasStrip Steps· n }) (next-is (length strips) (omega (arith, inside)))
+        ∙ ap (λ (b : Bool). record { total = inWords (withStrip (J· .totals) (integralIn S·)); next = Next·; more = b }) more-left
 
-    onward-is : onwardOf (runOfJob J·) Here· (totalOf J·) ≡ Onward· (summedOf With·)
+    onward-is : nextStrip J· .answer ≡ Onward· (summedOf With·)
     onward-is =
-        ap (λ (r : Run). onwardOf r Here· (totalOf J·)) (run-is d strips)
-        ∙ onward-works Steps· Here· (totalOf J·) (has-strip (length strips) (g .below))
+        ap (λ (r : Run). onwardOf r Here· (J· .totals) .answer) (run-is d strips)
+        ∙ ap (λ (c : CallOf Onward). c .answer) (onward-works Steps· Here· (J· .totals) (has-strip (length strips) (g .below)))
         ∙ worked-on
-        ∙ ap (λ (t : Integral). Onward· (inWords t)) (same-sums ∙ summed-with strips S·)
+        ∙ ap (λ (t : Integral). Onward· (inWords t)) (summed-with strips S·)
         ∙ ap Onward· fit
 
     next-strips : (b : Bool) → isAccepted (S· .halved .ending) ≡ b → (tail : List Worked) → cond b (workedOf 7 f· L Scale· (drop (length strips + 1) Heights·)) [] ≡ tail → With· ++ tail ≡ All·
@@ -284,7 +280,7 @@ module _ (set : FinSet) (points : List Float) (L : ℕ) (made : makingCheck set 
     unfolding firstRefusal ownCheck
     checked-again = ap₂ firstRefusal (each-accepts (ownChecks set points) own-checked .0) (g .dense)
 
-    ends : With· ≡ All· → Done d With· (ended J· (summedOf With·) Next· (outcomeOf (J· .set) (outlineOf J·) (summedOf With·)))
+    ends : With· ≡ All· → Done d With· (ended J· (summedOf With· .totals) Next· (outcomeOf (J· .set) (outlineOf J·) (summedOf With·)))
     unfolding outcomeOf progressOf
     ends whole =
         record {
@@ -304,7 +300,7 @@ module _ (set : FinSet) (points : List Float) (L : ℕ) (made : makingCheck set 
     last : With· ≡ All· → (isAccepted (summedOf With· .ending) && ltb 0 Left·) ≡ false → State d With· (afterStrip J· (Onward· (summedOf With·)))
     last whole e = subst (State d With·) (sym (after-last J· (Onward· (summedOf With·)) e)) (inr (ends whole))
 
-    more-is : more J· (summedOf With·) Next· ≡ jobAt d With·
+    more-is : more J· (summedOf With· .totals) Next· ≡ jobAt d With·
     more-is =
         ap
         (λ (n : ℕ).
@@ -313,15 +309,13 @@ module _ (set : FinSet) (points : List Float) (L : ℕ) (made : makingCheck set 
           points = pointsOf points;
           limit = L;
           next = n;
-          value = summedOf With· .value;
-          intervals = intervalsIn With·;
-          samples = samplesIn With·;
+          totals = summedOf With· .totals;
           ended = false;
           outcome = bareFigures Accepted 0;
         })
         (ap Place· (sym (one-longer ∙ add-one (length strips))))
 
-    goes-on : isAccepted (S· .halved .ending) ≡ true → 0 < Left· → Going d With· (more J· (summedOf With·) Next·)
+    goes-on : isAccepted (S· .halved .ending) ≡ true → 0 < Left· → Going d With· (more J· (summedOf With· .totals) Next·)
     goes-on a b =
         record {
           is = more-is;
@@ -475,8 +469,8 @@ module _ (set : FinSet) (points : List Float) (L : ℕ) (made : makingCheck set 
           set-is = ap (λ (j : Job). j .set) (g .is);
           carries = λ e. g .is;
           worked-so-far = record { to-come = _; are = subst (StripsAre Run·) (sym (g .rest)) (strips-are Run· (limits .0)) };
-          samples-so-far = ap (λ (j : Job). j .samples) (g .is);
-          intervals-so-far = ap (λ (j : Job). j .intervals) (g .is);
+          samples-so-far = ap (λ (j : Job). j .totals .samples) (g .is);
+          intervals-so-far = ap (λ (j : Job). j .totals .intervals) (g .is);
           progress-so-far = ap progressOf (g .is) ∙ (unfold progressOf in progress-is (Place· (length Strips·)) Strips· refl (omega (arith, g .below)));
           all-worked = λ e k. not-both _ still e;
           worked = λ e. not-both _ still e;

@@ -13,18 +13,20 @@ use Rattle.refusals.specs.Calls.{CallOf, leavesAlone, byVerdict}
 use Rattle.limits.specs.Limits.{pieceNumbers, limitCheck}
 use Rattle.quadrature.specs.declared.Piece.{Piece}
 use Rattle.pieces.specs.Stored.{stored, written}
-use Rattle.strips.specs.Strips.{Run, Worked, piecesOf, hasStrip, stripFrom, scratchOnward, scratchAfter}
+use Rattle.halving.specs.declared.Totals.{Totals}
+use Rattle.strips.specs.Strips.{Run, Worked, piecesOf, hasStrip, stripFrom, workedOn, noStrip, onwardOf, scratchAfter}
 use Rattle.jobs.specs.declared.Job.{Job}
 use Rattle.jobs.specs.declared.Stepped.{Stepped}
 use Rattle.jobs.specs.Jobs.{runOfJob, workedStrip, endedBy, steppedOn}
 use Rattle.jobs.specs.Calls.{stripsBy, step, WritesOwnStrip}
 use Rattle.jobs.proofs.Laws.{of-step, none-ended, none-refused, one-if-there}
 
-onward-writes : (run : Run) (i : ℕ) (scratch : List Float) → scratchOnward run i scratch ≡ scratchAfter (cond (hasStrip run i) (stripFrom run i ∷ []) []) scratch
-unfolding scratchOnward
-onward-writes run i scratch = go (hasStrip run i)
+onward-writes : (run : Run) (i : ℕ) (totals : Totals) (scratch : List Float)
+    → onwardOf run i totals .leaves scratch ≡ scratchAfter (cond (hasStrip run i) (stripFrom run i ∷ []) []) scratch
+unfolding onwardOf
+onward-writes run i totals scratch = go (hasStrip run i)
   where
-    go : (b : Bool) → cond b (written (piecesOf (stripFrom run i)) scratch) scratch ≡ scratchAfter (cond b (stripFrom run i ∷ []) []) scratch
+    go : (b : Bool) → cond b (workedOn run i totals) (noStrip i totals) .leaves scratch ≡ scratchAfter (cond b (stripFrom run i ∷ []) []) scratch
     go true = refl
     go false = refl
 
@@ -32,7 +34,7 @@ pub writes-own-strip : WritesOwnStrip
 writes-own-strip job scratch =
     of-step job (length scratch) (λ (c : CallOf Stepped). c .leaves scratch ≡ scratchAfter (stripsBy job (step scratch)) scratch)
     (λ e. to [] (none-ended job scratch e)) (λ r e v. to [] (none-refused job scratch r e v)) (λ r e v. to [] (none-refused job scratch r e v))
-    (λ e v. onward-writes (runOfJob job) (job .next) scratch ∙ to _ (one-if-there job scratch e v))
+    (λ e v. onward-writes (runOfJob job) (job .next) (job .totals) scratch ∙ to _ (one-if-there job scratch e v))
   where
     to : (strips : List Worked) → stripsBy job (step scratch) ≡ strips → scratchAfter strips scratch ≡ scratchAfter (stripsBy job (step scratch)) scratch
     to strips e = ap (λ (l : List Worked). scratchAfter l scratch) (sym e)
@@ -67,5 +69,5 @@ on-no-shorter job scratch = by (job .ended) (limitCheck (job .limit))
     by true v = omega arith
     by false (Refused r) = omega arith
     by false Accepted =
-        subst (λ (l : List Float). length scratch ≤ length l) (sym (onward-writes (runOfJob job) (job .next) scratch))
+        subst (λ (l : List Float). length scratch ≤ length l) (sym (onward-writes (runOfJob job) (job .next) (job .totals) scratch))
         (after-no-shorter (cond (hasStrip (runOfJob job) (job .next)) (stripFrom (runOfJob job) (job .next) ∷ []) []) scratch)

@@ -19,14 +19,14 @@ use Rattle.strips.specs.Strips.{Run, Worked, runCheck, stripsFrom, hasStrip, st
 use Rattle.strips.specs.Strips.{samplesIn, intervalsIn, endingOf, summedOf, scratchAfter}
 use Rattle.strips.specs.Claim.{StripsAre, AreReported}
 use Rattle.strips.specs.Rising.{PiecesRise, SamplesFinite, NumbersFinite}
-use Rattle.figures.specs.Figures.{setRun, setFigures}
+use Rattle.figures.specs.Figures.{setRun, bareFigures, setFigures}
 use Rattle.figures.specs.Answers.{setReport}
 use Rattle.jobs.specs.declared.Job.{Job}
 use Rattle.jobs.specs.declared.Progress.the-variants.{Ended}
 use Rattle.jobs.specs.declared.JobProgress.{JobProgress}
 use Rattle.jobs.specs.declared.Reply.{Reply}
 use Rattle.jobs.specs.declared.Row.{Row}
-use Rattle.jobs.specs.Jobs.{pointsOf, runOfJob, bareFigures, stepRow, replyRow, withDensity, stepOf, changeOf, madeOf, progressOf}
+use Rattle.jobs.specs.Jobs.{pointsOf, runOfJob, stepRow, replyRow, withDensity, stepOf, changeOf, madeOf, progressOf}
 
 -- a step over the scratch lent to it, or a change of density
 pub data Call : Type 0 where
@@ -101,9 +101,7 @@ runningJob set points L strips =
       points = pointsOf points;
       limit = L;
       next = placeOfStrip (set .planform) points (length strips);
-      value = summedOf strips .value;
-      intervals = intervalsIn strips;
-      samples = samplesIn strips;
+      totals = summedOf strips .totals;
       ended = false;
       outcome = bareFigures Accepted 0;
     }
@@ -136,8 +134,8 @@ module _ (set : FinSet) (points : List Float) (L : ℕ) (calls : List Call) wher
     -- all steps so far
     pub worked-so-far : FirstStrips (setRun set points L) stripsAfter
     -- "the job's samples so far", before the end and at it; the intervals likewise
-    pub samples-so-far : jobAfter .samples ≡ samplesIn stripsAfter
-    pub intervals-so-far : jobAfter .intervals ≡ intervalsIn stripsAfter
+    pub samples-so-far : jobAfter .totals .samples ≡ samplesIn stripsAfter
+    pub intervals-so-far : jobAfter .totals .intervals ≡ intervalsIn stripsAfter
     -- and so it is told how far the job is, before the end and at it; at an end with figures all strips are worked
     pub progress-so-far : progressOf jobAfter ≡ progressOver (setRun set points L) stripsAfter
     pub all-worked : jobAfter .ended ≡ true → endingOf stripsAfter ≡ accepted → progressOf jobAfter .worked ≡ progressOf jobAfter .strips

@@ -20,20 +20,18 @@ use Rattle.refusals.specs.Calls.{CallOf, leavesAlone, byVerdict}
 use Rattle.limits.specs.Limits.{outlineNumbers, limitCheck, scratchCheck, countCheck}
 use Rattle.materials.specs.declared.Density.{Density}
 use Rattle.materials.specs.Materials.{densityCheck}
-use Rattle.planforms.specs.Planforms.{rootChordOf}
 use Rattle.planforms.specs.declared.Planform.{Planform}
 use Rattle.breaks.specs.Breaks.{allHeights, breakHeights}
 use Rattle.integrands.specs.Integrands.{scaleOf}
 use Rattle.quadrature.specs.Rule.{zeros}
 use Rattle.fins.specs.declared.FinSet.{FinSet}
 use Rattle.fins.specs.Fins.{ownCheck}
+use Rattle.halving.specs.declared.Totals.{Totals}
 use Rattle.halving.specs.declared.Integral.{Integral}
-use Rattle.halving.specs.declared.Ending.the-variants.{Accepted as accepted}
 use Rattle.strips.specs.declared.Onward.{Onward}
-use Rattle.strips.specs.Strips.{Run, isAccepted, onwardOf, scratchOnward}
-use Rattle.bodies.specs.Bodies.{emptyBody}
+use Rattle.strips.specs.Strips.{Run, isAccepted, onwardOf}
 use Rattle.figures.specs.declared.Figures.{Figures}
-use Rattle.figures.specs.Figures.{setIntegrand, refusedFigures, concludedSet}
+use Rattle.figures.specs.Figures.{setIntegrand, bareFigures, refusedFigures, concludedAt}
 use Rattle.jobs.specs.declared.Points.{Points}
 use Rattle.jobs.specs.declared.Job.{Job}
 use Rattle.jobs.specs.declared.Progress.{Progress}
@@ -66,15 +64,7 @@ outlineOf job = take (heldOf (job .points .count)) (job .points .numbers)
 abbrev pub runOfJob : Job → Run
 runOfJob job = stepRun (job .set) (outlineOf job) (job .limit)
 
--- "the sums and totals over those worked"
-abbrev pub totalOf : Job → Integral
-totalOf job = record { ending = accepted; value = job .value; intervals = job .intervals; samples = job .samples }
-
 -- ---- what is answered
-
--- a verdict with no figures
-abbrev pub bareFigures : Verdict → ℕ → Figures
-bareFigures verdict samples = record { verdict = verdict; body = emptyBody; intervals = 0; samples = samples }
 
 -- figures, or a refusal with the number and values that document 01's table has for it
 abbrev pub figuresRow : Figures → Row
@@ -87,7 +77,7 @@ plainRow number = record { number = number; figures = bareFigures Accepted 0 }
 -- "A step lent under 16·L numbers answers 2", with "the job's samples so far"; "a step with strips still to come
 -- answers only that more remain"; the answer of a job that has ended is its outcome
 abbrev pub stepRow : Progress → Job → Row
-stepRow Short job = figuresRow (bareFigures (Refused Scratch) (job .samples))
+stepRow Short job = figuresRow (bareFigures (Refused Scratch) (job .totals .samples))
 stepRow More job = plainRow 1000
 stepRow Ended job = figuresRow (job .outcome)
 
@@ -102,35 +92,30 @@ replyRow reply = figuresRow (bareFigures (reply .verdict) (reply .samples))
 unfoldable pub outcomeOf : FinSet → List Float → Integral → Figures
 outcomeOf set points total =
     byVerdict (firstRefusal (countCheck (set .count)) (densityCheck (set .density)))
-    (concludedSet set (rootChordOf (set .planform) points) (scaleOf (set .planform) points) total)
-    (λ refusal. refusedFigures refusal (total .samples))
+    (concludedAt set points total) (λ refusal. refusedFigures refusal (total .totals .samples))
 
 -- more strips remain, the next at this place
-abbrev pub more : Job → Integral → ℕ → Job
-more job total next =
+abbrev pub more : Job → Totals → ℕ → Job
+more job totals next =
     record {
       set = job .set;
       points = job .points;
       limit = job .limit;
       next = next;
-      value = total .value;
-      intervals = total .intervals;
-      samples = total .samples;
+      totals = totals;
       ended = false;
       outcome = job .outcome;
     }
 
 -- the job ends with these figures, and no strip begins at this place
-abbrev pub ended : Job → Integral → ℕ → Figures → Job
-ended job total next outcome =
+abbrev pub ended : Job → Totals → ℕ → Figures → Job
+ended job totals next outcome =
     record {
       set = job .set;
       points = job .points;
       limit = job .limit;
       next = next;
-      value = total .value;
-      intervals = total .intervals;
-      samples = total .samples;
+      totals = totals;
       ended = true;
       outcome = outcome;
     }
@@ -139,20 +124,19 @@ ended job total next outcome =
 unfoldable pub afterStrip : Job → Onward → Job
 afterStrip job onward =
     cond (isAccepted (onward .total .ending) && onward .more)
-    (more job (onward .total) (onward .next))
-    (ended job (onward .total) (onward .next) (outcomeOf (job .set) (outlineOf job) (onward .total)))
+    (more job (onward .total .totals) (onward .next))
+    (ended job (onward .total .totals) (onward .next) (outcomeOf (job .set) (outlineOf job) (onward .total)))
 
 -- "A step writes its own strip's pieces from the start of the scratch lent to it and leaves the rest"
+abbrev pub nextStrip : Job → CallOf Onward
+nextStrip job = onwardOf (runOfJob job) (job .next) (job .totals)
+
 abbrev pub workedStrip : Job → CallOf Job
-workedStrip job =
-    record {
-      answer = afterStrip job (onwardOf (runOfJob job) (job .next) (totalOf job));
-      leaves = scratchOnward (runOfJob job) (job .next);
-    }
+workedStrip job = record { answer = afterStrip job (nextStrip job .answer); leaves = nextStrip job .leaves }
 
 -- 1, which no job that was made is given, ends the job, with the samples so far
 abbrev pub endedBy : Job → Refusal → Job
-endedBy job refusal = ended job (totalOf job) (job .next) (bareFigures (Refused refusal) (job .samples))
+endedBy job refusal = ended job (job .totals) (job .next) (bareFigures (Refused refusal) (job .totals .samples))
 
 -- a step that is lent enough: "one that repeats an answer writes nothing"
 unfoldable pub steppedOn : Job → CallOf Job
@@ -212,9 +196,7 @@ taken job density =
             points = job .points;
             limit = job .limit;
             next = job .next;
-            value = job .value;
-            intervals = job .intervals;
-            samples = job .samples;
+            totals = job .totals;
             ended = false;
             outcome = job .outcome;
           };
@@ -223,7 +205,7 @@ taken job density =
 
 -- "leaves the old one"; "that 12" carries "the job's samples so far"
 abbrev pub kept : Job → Refusal → Replied
-kept job refusal = record { job = job; reply = record { verdict = Refused refusal; samples = job .samples } }
+kept job refusal = record { job = job; reply = record { verdict = Refused refusal; samples = job .totals .samples } }
 
 -- what a call leaves and answers is the definition's, with the number and values of its verdict
 abbrev pub IsReplied : Replied → Replied → Type 0
@@ -249,9 +231,7 @@ madeWith verdict set points L =
             points = pointsOf points;
             limit = L;
             next = 0;
-            value = zeros;
-            intervals = 0;
-            samples = 0;
+            totals = record { value = zeros; intervals = 0; samples = 0 };
             ended = isRefused verdict;
             outcome = bareFigures verdict 0;
           };
@@ -280,6 +260,6 @@ progressOf job =
     record {
       worked = stripsBelow (job .set .planform) (outlineOf job) (job .next);
       strips = length (breakHeights (job .set .planform) (outlineOf job)) - 1;
-      intervals = job .intervals;
-      samples = job .samples;
+      intervals = job .totals .intervals;
+      samples = job .totals .samples;
     }

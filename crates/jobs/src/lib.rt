@@ -6,17 +6,17 @@
 ghost use mathlib.Core.Path.{_≡_};
 ghost use lib.ListN.{length};
 ghost use Prim.Native.Nat.{suc, _<_, _^_};
-ghost use Rattle.strips.specs.Strips.{Room, WorksNext};
+ghost use Rattle.strips.specs.Strips.{Room};
 ghost use mathlib.Core.Bool.{false, cond};
 ghost use Rattle.refusals.specs.Calls.{Does};
-ghost use Rattle.jobs.specs.Jobs.{heldOf, pointsOf, outlineOf, runOfJob, totalOf, bareFigures, figuresRow, plainRow, outcomeOf, more, ended, endedBy, afterStrip, isShort, stepAfter, steppedOn, StepsTo};
+ghost use Rattle.jobs.specs.Jobs.{heldOf, pointsOf, outlineOf, figuresRow, plainRow, outcomeOf, more, ended, endedBy, afterStrip, nextStrip, isShort, stepAfter, steppedOn, StepsTo};
 ghost use Rattle.jobs.specs.Jobs.{withDensity, taken, kept, IsReplied, changeOf, makingCheck, madeOf, countBelow, progressOf};
 ghost use Rattle.jobs.specs.Lent.{StepsLent, ChangesLent};
-use bodies::Body;
 use figures::Figures;
+use figures::bare_figures;
 use fins::FinSet;
-use halving::Ending;
 use halving::Integral;
+use halving::Totals;
 use limits::OUTLINE_NUMBERS;
 use materials::Density;
 use refusals::Refusal;
@@ -31,15 +31,13 @@ pub struct Points {
 }
 
 // The set, its own copy of the outline and L; which strip is next, by the place of its lower end among all heights; the
-// sums and totals over those worked; and, once it has ended, its answer.
+// totals over those worked; and, once it has ended, its answer.
 pub struct Job {
     pub set: FinSet,
     pub points: Points,
     pub limit: usize,
     pub next: usize,
-    pub value: [f64; 7],
-    pub intervals: usize,
-    pub samples: usize,
+    pub totals: Totals,
     pub ended: bool,
     pub outcome: Figures,
 }
@@ -108,19 +106,6 @@ fn copied(points: &[f64]) -> Points
     Points { numbers, count: i }
 }
 
-// A verdict with no figures.
-pub fn bare_figures(verdict: Verdict, samples: usize) -> Figures
-    ensures { λ r. ⌜ r ≡ bareFigures verdict samples ⌝ }
-{
-    let body = Body::ZERO;
-    Figures {
-        verdict,
-        body,
-        intervals: 0,
-        samples,
-    }
-}
-
 // Figures or a refusal: 0, or its number.
 pub fn figures_row(figures: Figures) -> Row
     ensures { λ r. ⌜ r ≡ figuresRow figures ⌝ }
@@ -144,41 +129,35 @@ pub fn plain_row(number: usize) -> Row
 }
 
 // More strips remain after these totals.
-fn go_on(job: Job, total: Integral, next: usize) -> Job
-    ensures { λ r. ⌜ r ≡ more job total next ⌝ }
+fn go_on(job: Job, totals: Totals, next: usize) -> Job
+    ensures { λ r. ⌜ r ≡ more job totals next ⌝ }
 {
     let set = job.set;
     let points = job.points;
     let outcome = job.outcome;
-    let value = total.value;
     Job {
         set,
         points,
         limit: job.limit,
         next,
-        value,
-        intervals: total.intervals,
-        samples: total.samples,
+        totals,
         ended: false,
         outcome,
     }
 }
 
 // The job ends with these figures, and no strip begins at this place.
-fn end(job: Job, total: Integral, next: usize, outcome: Figures) -> Job
-    ensures { λ r. ⌜ r ≡ ended job total next outcome ⌝ }
+fn end(job: Job, totals: Totals, next: usize, outcome: Figures) -> Job
+    ensures { λ r. ⌜ r ≡ ended job totals next outcome ⌝ }
 {
     let set = job.set;
     let points = job.points;
-    let value = total.value;
     Job {
         set,
         points,
         limit: job.limit,
         next,
-        value,
-        intervals: total.intervals,
-        samples: total.samples,
+        totals,
         ended: true,
         outcome,
     }
@@ -189,26 +168,24 @@ fn end(job: Job, total: Integral, next: usize, outcome: Figures) -> Job
 fn conclude(set: FinSet, points: &[f64], total: Integral) -> Figures
     ensures { λ r. ⌜ r ≡ outcomeOf set (now (points .entry)) total ⌝ }
 {
-    let planform = set.planform;
     let density = set.density;
     let verdict = first_refusal(
         limits::check_count(set.count),
         materials::check_density(density),
     );
     match verdict {
-        Verdict::Accepted => {
-            let scale_m = integrands::scale_m(planform, points);
-            let root_chord_m = planforms::root_chord_m(planform, points);
-            figures::concluded(set, root_chord_m, scale_m, total)
+        Verdict::Accepted => figures::concluded_at(set, points, total),
+        Verdict::Refused(refusal) => {
+            let totals = total.totals;
+            bare_figures(Verdict::Refused(refusal), totals.samples)
         }
-        Verdict::Refused(refusal) => figures::refused_figures(refusal, total.samples),
     }
 }
 
 // The next strip of a job, added to its totals.
 fn work_next(job: Job, scratch: &mut [f64]) -> Onward
     requires { ⌜ Room (job .limit) (length (now scratch)) ⌝ }
-    ensures { λ r. ⌜ WorksNext (runOfJob job) (job .next) (totalOf job) (now (scratch .entry)) r (now (scratch .exit)) ⌝ }
+    ensures { λ r. ⌜ Does (nextStrip job) r (now (scratch .entry)) (now (scratch .exit)) ⌝ }
 {
     let set = job.set;
     let planform = set.planform;
@@ -223,21 +200,14 @@ fn work_next(job: Job, scratch: &mut [f64]) -> Onward
         set.thickness_m,
         set.body_radius_m,
     );
-    let ending = Ending::Accepted;
-    let sums = job.value;
-    let total = Integral {
-        ending,
-        value: sums,
-        intervals: job.intervals,
-        samples: job.samples,
-    };
+    let totals = job.totals;
     strips::work_next(
         scratch,
         integrand,
         &numbers[..n],
         job.next,
         job.limit,
-        total,
+        totals,
     )
 }
 
@@ -247,32 +217,26 @@ fn after_strip(job: Job, onward: Onward) -> Job
 {
     let total = onward.total;
     let ending = total.ending;
+    let totals = total.totals;
     let accepted = strips::is_accepted(ending);
     if accepted & onward.more {
-        return go_on(job, total, onward.next);
+        return go_on(job, totals, onward.next);
     }
     let set = job.set;
     let points = job.points;
     let numbers = points.numbers;
     let n = held(points.count);
     let figures = conclude(set, &numbers[..n], total);
-    end(job, total, onward.next, figures)
+    end(job, totals, onward.next, figures)
 }
 
 // A limit outside its limits, which no job that was made has, ends the job with 1.
 fn end_refused(job: Job, refusal: Refusal) -> Job
     ensures { λ r. ⌜ r ≡ endedBy job refusal ⌝ }
 {
-    let ending = Ending::Accepted;
-    let value = job.value;
-    let total = Integral {
-        ending,
-        value,
-        intervals: job.intervals,
-        samples: job.samples,
-    };
-    let outcome = bare_figures(Verdict::Refused(refusal), job.samples);
-    end(job, total, job.next, outcome)
+    let totals = job.totals;
+    let outcome = bare_figures(Verdict::Refused(refusal), totals.samples);
+    end(job, totals, job.next, outcome)
 }
 
 // A step that is lent enough: a job that has ended stays as it is.
@@ -352,16 +316,14 @@ fn take_density(job: Job, density: Density) -> Replied
     let set = job.set;
     let set = with_density(set, density);
     let points = job.points;
-    let value = job.value;
+    let totals = job.totals;
     let outcome = job.outcome;
     let job = Job {
         set,
         points,
         limit: job.limit,
         next: job.next,
-        value,
-        intervals: job.intervals,
-        samples: job.samples,
+        totals,
         ended: false,
         outcome,
     };
@@ -378,9 +340,10 @@ fn keep_density(job: Job, refusal: Refusal) -> Replied
     ensures { λ r. ⌜ r ≡ kept job refusal ⌝ }
 {
     let verdict = Verdict::Refused(refusal);
+    let totals = job.totals;
     let reply = Reply {
         verdict,
-        samples: job.samples,
+        samples: totals.samples,
     };
     Replied { job, reply }
 }
@@ -416,14 +379,17 @@ pub fn make(set: FinSet, points: &[f64], limit: usize) -> Replied
     let ended = refusals::is_refused(verdict);
     let outcome = bare_figures(verdict, 0);
     let points = copied(points);
+    let totals = Totals {
+        value: [0.0; 7],
+        intervals: 0,
+        samples: 0,
+    };
     let job = Job {
         set,
         points,
         limit,
         next: 0,
-        value: [0.0; 7],
-        intervals: 0,
-        samples: 0,
+        totals,
         ended,
         outcome,
     };
@@ -491,10 +457,11 @@ pub fn progress_of(job: Job) -> JobProgress
     let count = breaks.count;
     let heights = breaks.heights;
     let worked = count_below(&heights[..count], next);
+    let totals = job.totals;
     JobProgress {
         worked,
         strips: count - 1,
-        intervals: job.intervals,
-        samples: job.samples,
+        intervals: totals.intervals,
+        samples: totals.samples,
     }
 }

@@ -19,7 +19,8 @@ use Rattle.jobs.specs.declared.Replied.{Replied}
 use Rattle.jobs.specs.declared.Row.{Row}
 use Rattle.refusals.specs.Calls.{CallOf}
 use Rattle.limits.specs.Limits.{scratchNumbers}
-use Rattle.jobs.specs.Jobs.{bareFigures, figuresRow, plainRow, steppedOn, madeOf}
+use Rattle.figures.specs.Figures.{bareFigures}
+use Rattle.jobs.specs.Jobs.{figuresRow, plainRow, steppedOn, madeOf}
 use Rattle.jobs.specs.Calls.{isTaken}
 use Rattle.jobs.proofs.Laws.{yes, no}
 use Rattle.engines.specs.declared.Screens.{Screens}

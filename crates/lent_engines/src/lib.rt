@@ -163,7 +163,7 @@ pub fn turn_row(numbers: &[f64], counts: &[usize], turn: Turn) -> Row
 {
     match turn {
         Turn::Short => {
-            let figures = jobs::bare_figures(Verdict::Refused(Refusal::Scratch), 0);
+            let figures = figures::bare_figures(Verdict::Refused(Refusal::Scratch), 0);
             jobs::figures_row(figures)
         }
         Turn::Idle => jobs::plain_row(IDLE),

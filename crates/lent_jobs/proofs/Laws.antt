@@ -24,7 +24,7 @@ use Rattle.jobs.specs.declared.Stepped.{Stepped}
 use Rattle.jobs.specs.declared.Replied.{Replied}
 use Rattle.jobs.specs.Jobs.{madeOf}
 use Rattle.jobs.specs.Lent.{StepsLent, ChangesLent}
-use Rattle.lent_jobs.specs.Memory.{flag, jobNumbers, jobCounts, workedNumbers, workedCounts, numbersOf, countsOf, setIn, outcomeIn, jobIn}
+use Rattle.lent_jobs.specs.Memory.{flag, outlinePlace, jobNumbers, jobCounts, workedNumbers, workedCounts, numbersOf, countsOf, setIn, outcomeIn, jobIn}
 use Rattle.lent_jobs.specs.Lent.{Holds, Makes, StepsThere, ChangesThere}
 use Rattle.lent_jobs.proofs.Sized.{Sized}
 use Rattle.lent_jobs.proofs.Copying.{pasted-first, pasted-second}
@@ -71,15 +71,13 @@ ended-back true = refl
 ended-back false = refl
 
 same-job : (job : Job) (set : FinSet) (outline value : List Float) (ended : Bool) (outcome : Figures) →
-    set ≡ job .set → outline ≡ job .points .numbers → value ≡ job .value → ended ≡ job .ended → outcome ≡ job .outcome →
+    set ≡ job .set → outline ≡ job .points .numbers → value ≡ job .totals .value → ended ≡ job .ended → outcome ≡ job .outcome →
     record {
       set = set;
       points = record { numbers = outline; count = job .points .count };
       limit = job .limit;
       next = job .next;
-      value = value;
-      intervals = job .intervals;
-      samples = job .samples;
+      totals = record { value = value; intervals = job .totals .intervals; samples = job .totals .samples };
       ended = ended;
       outcome = outcome;
     }
@@ -93,7 +91,7 @@ job-back job s more others =
     same-job job _ _ _ _ _
     (job-set-back job more others)
     (take-at (job .points .numbers) more outlineNumbers (s .outline))
-    (elements (job .value) 7 0 (sym (s .sums)))
+    (elements (job .totals .value) 7 0 (sym (s .sums)))
     (ended-back (job .ended))
     (outcome-back job s more others)
 
@@ -104,7 +102,7 @@ module _ (job : Job) (s : Sized job) (numbers : List Float) (counts : List ℕ) 
   pub job-written : (of-set first worked second numbers' : List Float) (row counts' : List ℕ) →
       of-set ≡ setNumbersOf (job .set) → first ≡ paste numbers 0 of-set (length of-set) →
       worked ≡ workedNumbers job → second ≡ paste first setNumbers worked (length worked) →
-      numbers' ≡ paste second (setNumbers + 17) (job .points .numbers) (length (job .points .numbers)) →
+      numbers' ≡ paste second outlinePlace (job .points .numbers) (length (job .points .numbers)) →
       row ≡ countsOf job → counts' ≡ paste counts 0 row (length row) → Holds job numbers counts numbers' counts'
   job-written of-set first worked second numbers' row counts' s-is first-is w-is second-is n-is row-is c-is =
       let outline = job .points .numbers in
@@ -112,13 +110,13 @@ module _ (job : Job) (s : Sized job) (numbers : List Float) (counts : List ℕ) 
       let one : first ≡ setNumbersOf (job .set) ++ drop setNumbers numbers =
       first-is ∙ ap (λ (l : List Float). paste numbers 0 l (length l)) s-is ∙ pasted-first numbers (setNumbersOf (job .set))
       in
-      let two : second ≡ figures ++ drop (setNumbers + 17) numbers =
+      let two : second ≡ figures ++ drop (outlinePlace) numbers =
       second-is ∙ ap₂ (λ (l w : List Float). paste l setNumbers w (length w)) one w-is ∙ pasted-second numbers (setNumbersOf (job .set)) (workedNumbers job)
       in
-      let long : setNumbers + 17 + length outline ≡ jobNumbers = omega (arith, s .outline) in
+      let long : outlinePlace + length outline ≡ jobNumbers = omega (arith, s .outline) in
       let all : numbers' ≡ numbersOf job ++ drop jobNumbers numbers =
       n-is
-      ∙ ap (λ (l : List Float). paste l (setNumbers + 17) outline (length outline)) two
+      ∙ ap (λ (l : List Float). paste l (outlinePlace) outline (length outline)) two
       ∙ pasted-second numbers figures outline
       ∙ ap (λ (n : ℕ). numbersOf job ++ drop n numbers) long
       in

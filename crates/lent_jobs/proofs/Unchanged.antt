@@ -22,7 +22,8 @@ use Rattle.jobs.specs.declared.Row.{Row}
 use Rattle.jobs.specs.declared.Stepped.{Stepped}
 use Rattle.jobs.specs.declared.Replied.{Replied}
 use Rattle.refusals.specs.Calls.{CallOf}
-use Rattle.jobs.specs.Jobs.{bareFigures, figuresRow, plainRow, stepRow, isShort, stepOf, changeOf}
+use Rattle.figures.specs.Figures.{bareFigures}
+use Rattle.jobs.specs.Jobs.{figuresRow, plainRow, stepRow, isShort, stepOf, changeOf}
 use Rattle.jobs.specs.Calls.{step, answerBy, isTaken}
 use Rattle.jobs.proofs.Laws.{yes, no, step-ended, step-short, change-ended, change-refused, change-taken}
 use Rattle.lent_jobs.specs.Memory.{countAt, outcomeIn, jobIn}

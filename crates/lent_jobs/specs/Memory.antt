@@ -40,7 +40,7 @@ flag b = cond b 1 0
 
 -- the sums over the strips worked, and the body of the answer
 abbrev pub workedNumbers : Job → List Float
-workedNumbers job = tabulate 7 (at (job .value)) ++ bodyNumbersOf (job .outcome .body)
+workedNumbers job = tabulate 7 (at (job .totals .value)) ++ bodyNumbersOf (job .outcome .body)
 
 -- the set as numbers (fins/specs/Numbered), these, and after them the copy of the outline
 abbrev pub numbersOf : Job → List Float
@@ -49,7 +49,7 @@ numbersOf job = setNumbersOf (job .set) ++ workedNumbers job ++ job .points .num
 -- L, the next strip, the totals, 1 where the job has ended; its answer's verdict and counts; the outline's numbers
 abbrev pub workedCounts : Job → List ℕ
 workedCounts job =
-    job .limit ∷ job .next ∷ job .intervals ∷ job .samples ∷ flag (job .ended)
+    job .limit ∷ job .next ∷ job .totals .intervals ∷ job .totals .samples ∷ flag (job .ended)
     ∷ numberIn (job .outcome .verdict) ∷ firstIn (job .outcome .verdict) ∷ secondIn (job .outcome .verdict)
     ∷ job .outcome .intervals ∷ job .outcome .samples ∷ job .points .count ∷ []
 
@@ -79,9 +79,12 @@ jobIn numbers counts =
       points = record { numbers = take outlineNumbers (drop outlinePlace numbers); count = countAt counts (setCounts + 10) };
       limit = countAt counts setCounts;
       next = countAt counts (setCounts + 1);
-      value = tabulate 7 (at (take 7 (drop setNumbers numbers)));
-      intervals = countAt counts (setCounts + 2);
-      samples = countAt counts (setCounts + 3);
+      totals =
+          record {
+            value = tabulate 7 (at (take 7 (drop setNumbers numbers)));
+            intervals = countAt counts (setCounts + 2);
+            samples = countAt counts (setCounts + 3);
+          };
       ended = not (eqb (countAt counts (setCounts + 4)) 0);
       outcome = outcomeIn numbers counts;
     }

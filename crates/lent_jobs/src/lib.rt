@@ -1,4 +1,5 @@
-// A job in lent memory: `JOB_NUMBERS` numbers and `JOB_COUNTS` counts, as C and Rust lend it (document 02, Paper 9; include/delvouzh.h).
+// A job in lent memory: `JOB_NUMBERS` numbers and `JOB_COUNTS` counts, as C and Rust lend it (document 02, Paper 9;
+// include/delvouzh.h).
 //
 // A call reads the job into a local, lends that to `jobs::step` or `jobs::change_density`, and writes it back over the
 // start of both lists; a call that changes nothing writes nothing. A set's parts stand there by the library's numbers;
@@ -17,6 +18,7 @@ use figures::Figures;
 use fins::FinSet;
 use fins::SET_COUNTS;
 use fins::SET_NUMBERS;
+use halving::Totals;
 use jobs::Job;
 use jobs::JobProgress;
 use jobs::Points;
@@ -81,7 +83,8 @@ pub fn flag_of(holds: bool) -> usize
 fn worked_numbers(job: Job) -> [f64; WORKED_NUMBERS]
     ensures { λ r. ⌜ r ≡ workedNumbers job ⌝ }
 {
-    let v = job.value;
+    let totals = job.totals;
+    let v = totals.value;
     let outcome = job.outcome;
     let body = outcome.body;
     let b = body.numbers();
@@ -115,6 +118,7 @@ fn counts_of(job: Job) -> [usize; JOB_COUNTS]
     let verdict = outcome.verdict;
     let values = refusals::verdict_values(verdict);
     let points = job.points;
+    let totals = job.totals;
     [
         s[0],
         s[1],
@@ -124,8 +128,8 @@ fn counts_of(job: Job) -> [usize; JOB_COUNTS]
         s[5],
         job.limit,
         job.next,
-        job.intervals,
-        job.samples,
+        totals.intervals,
+        totals.samples,
         flag_of(job.ended),
         refusals::verdict_number(verdict),
         values[0],
@@ -236,14 +240,17 @@ pub fn read_job(numbers: &[f64], counts: &[usize]) -> Job
         sums[5],
         sums[6],
     ];
+    let totals = Totals {
+        value,
+        intervals: counts[INTERVALS],
+        samples: counts[SAMPLES],
+    };
     Job {
         set,
         points,
         limit: counts[LIMIT],
         next: counts[NEXT],
-        value,
-        intervals: counts[INTERVALS],
-        samples: counts[SAMPLES],
+        totals,
         ended: counts[ENDED] != 0,
         outcome,
     }
@@ -302,7 +309,10 @@ pub fn step_row(numbers: &[f64], counts: &[usize], progress: Progress) -> Row
 {
     match progress {
         Progress::Short => {
-            let figures = jobs::bare_figures(Verdict::Refused(Refusal::Scratch), counts[SAMPLES]);
+            let figures = figures::bare_figures(
+                Verdict::Refused(Refusal::Scratch),
+                counts[SAMPLES],
+            );
             jobs::figures_row(figures)
         }
         Progress::More => jobs::plain_row(MORE),

@@ -31,7 +31,7 @@ use Rattle.refusals.specs.declared.Verdict.the-variants.{Accepted as accepted}
 use Rattle.refusals.specs.Order.{refuseWhen, firstRefusal}
 use Rattle.refusals.specs.Calls.{leavesAlone, byVerdict}
 use Rattle.refusals.proofs.Accepted.{both}
-use Rattle.limits.specs.Limits.{rootChordField, tipChordField, thicknessField, bodyRadiusField, lengthCheck}
+use Rattle.limits.specs.Limits.{pieceSamples, rootChordField, tipChordField, thicknessField, bodyRadiusField, lengthCheck}
 use Rattle.limits.proofs.Lengths.{PositiveLength, Height, field-above, height-checked}
 use Rattle.planforms.specs.Planforms.{rootChordOf, spanOf}
 use Rattle.planforms.specs.declared.Planform.{Planform}
@@ -48,7 +48,7 @@ use Rattle.quadrature.specs.declared.Piece.{Piece}
 use Rattle.tolerance.specs.Bounds.{converged}
 use Rattle.halving.specs.Halving.{ended, repeat, halving}
 use Rattle.halving.specs.declared.Ending.the-variants.{Accepted}
-use Rattle.halving.specs.declared.Integral.{Integral}
+use Rattle.halving.specs.declared.Totals.{Totals}
 use Rattle.strips.specs.Strips.{Worked, workedOf, summedOf, sevenWide}
 use Rattle.bodies.specs.declared.Body.{Body}
 use Rattle.outlines.specs.Outlines.{planformCheck}
@@ -300,8 +300,8 @@ module _ (root tip span sweep : Float) (points : List Float) (f64s : PlanformF64
         (fin-converged c plain-section root tip span sweep thickness radius points (plate-fin q)))
 
 -- ---- the answers of the two calls: figures or 8, by one piece and 15 samples
-abbrev oneTotal : List Float → Integral
-oneTotal value = record { ending = Accepted; value = value; intervals = 1; samples = 15 }
+abbrev oneTotal : List Float → Totals
+oneTotal value = record { value = value; intervals = 1; samples = pieceSamples }
 
 abbrev oneArea : Float → List Float → Area
 oneArea scale value = areaBy (sizeCheck (unscaledArea scale value)) scale (oneTotal value)
@@ -320,7 +320,7 @@ module _ (root tip span sweep : Float) (points : List Float) (L n : ℕ) (f64s :
   -- the area: figures or 8, by one piece and 15 samples
   pub area-figures : areaCheck shape points L n ≡ accepted → Proportions 4 4 root tip sweep
       → workedArea shape points L
-      ≡ oneArea scale (summedOf (sevenWide 3 (oneWorked 3 (areaThree shape points) (bits 0 ⊘ scale) (span ⊘ scale) ∷ [])) .value)
+      ≡ oneArea scale (summedOf (sevenWide 3 (oneWorked 3 (areaThree shape points) (bits 0 ⊘ scale) (span ⊘ scale) ∷ [])) .totals .value)
   unfolding concludedArea firstRefusal heightsTo
   area-figures c q =
       let checked = area-planform shape points L n c in
@@ -337,7 +337,7 @@ module _ (root tip span sweep : Float) (points : List Float) (L n : ℕ) (f64s :
       → workedFigures set points L
       ≡ oneSet set (rootChordOf (set .planform) points) scale
       (summedOf (oneWorked 7 (plateOf shape points (set .«cross_section») (set .«thickness_m») (set .«body_radius_m»)) (bits 0 ⊘ scale)
-      (span ⊘ scale) ∷ []) .value)
+      (span ⊘ scale) ∷ []) .totals .value)
   unfolding concludedSet firstRefusal heightsTo
   set-figures set e s ft fr c q =
       let a = set-accepted set points L n c in
@@ -369,7 +369,7 @@ unfolding areaCall
 area-one-piece root tip span sweep points L entry r exit f64s answers checked q =
     let planform = Trapezoid root tip span sweep in
     let scale = scaleOf planform points in
-    let total = summedOf (sevenWide 3 (oneWorked 3 (areaThree planform points) (bits 0 ⊘ scale) (span ⊘ scale) ∷ [])) .value in
+    let total = summedOf (sevenWide 3 (oneWorked 3 (areaThree planform points) (bits 0 ⊘ scale) (span ⊘ scale) ∷ [])) .totals .value in
     subst (λ (a : Area). OnePiece (areaReport a))
     (sym (answers .call .0
     ∙ ap (λ (v : Verdict). byVerdict v (workedPlanform planform points L) (λ refusal. leavesAlone (refusedArea refusal 0)) .answer) checked
@@ -382,7 +382,7 @@ set-one-piece set root tip span sweep points L entry r exit e plain f64s (thick,
     let planform = Trapezoid root tip span sweep in
     let scale = scaleOf planform points in
     let plate = plateOf planform points (set .«cross_section») (set .«thickness_m») (set .«body_radius_m») in
-    let total = summedOf (oneWorked 7 plate (bits 0 ⊘ scale) (span ⊘ scale) ∷ []) .value in
+    let total = summedOf (oneWorked 7 plate (bits 0 ⊘ scale) (span ⊘ scale) ∷ []) .totals .value in
     let v = integralsOf set scale total in
     subst (λ (f : Figures). OnePiece (setReport f))
     (sym (answers .call .0

@@ -6,46 +6,32 @@ use Prim.Native.Nat.{ℕ}
 use lib.Ieee.{Float, lt}
 use Rattle.floats.specs.Operations.{_⊘_, bits, at}
 use Rattle.halving.specs.declared.Integral.{Integral}
+use Rattle.halving.specs.declared.Totals.{Totals}
+use Rattle.refusals.specs.Calls.{CallOf, Does}
 use Rattle.integrands.specs.Integrands.{sampleOf}
 use Rattle.integrands.specs.declared.Integrand.{Integrand}
 use Rattle.planforms.specs.Planforms.{spanOf}
 use Rattle.breaks.specs.declared.Standing.{Standing}
 use Rattle.breaks.specs.Breaks.{allHeights, placeAbove, leastAbove}
 use Rattle.breaks.proofs.Above.{span-above}
-use Rattle.pieces.specs.Stored.{written}
 use Rattle.strips.specs.declared.Onward.{Onward}
-use Rattle.strips.specs.Strips.{Run, Worked, piecesOf, stripOf, inWords, withStrip, integralIn, nextPlace, hasStrip, stripFrom, onwardOf, scratchOnward, stripBetween, stepRunOf, WorksStrip, WorksNext}
+use Rattle.strips.specs.Strips.{Run, Worked, stripOf, inWords, withStrip, integralIn, nextPlace, hasStrip, stripFrom, workedOn, noStrip, onwardOf, stripBetween, stepRunOf, WorksStrip}
 
-module _ (run : Run) (i : ℕ) (total : Integral) where
-  abbrev pub WorkedOn : Onward
-  WorkedOn =
-      record {
-        total = inWords (withStrip total (integralIn (stripFrom run i)));
-        next = nextPlace run i;
-        more = hasStrip run (nextPlace run i);
-      }
-
-  pub onward-works : hasStrip run i ≡ true → onwardOf run i total ≡ WorkedOn
+module _ (run : Run) (i : ℕ) (totals : Totals) where
+  onward-by : {b : Bool} → hasStrip run i ≡ b → onwardOf run i totals ≡ cond b (workedOn run i totals) (noStrip i totals)
   unfolding onwardOf
-  onward-works h = ap (λ (b : Bool). cond b WorkedOn (record { total = total; next = i; more = false })) h
+  onward-by h = ap (λ (b : Bool). cond b (workedOn run i totals) (noStrip i totals)) h
 
-  pub onward-none : hasStrip run i ≡ false → onwardOf run i total ≡ record { total = total; next = i; more = false }
-  unfolding onwardOf
-  onward-none h = ap (λ (b : Bool). cond b WorkedOn (record { total = total; next = i; more = false })) h
+  pub onward-works : hasStrip run i ≡ true → onwardOf run i totals ≡ workedOn run i totals
+  onward-works h = onward-by h
 
-module _ (run : Run) (i : ℕ) (scratch : List Float) where
-  pub scratch-works : hasStrip run i ≡ true → scratchOnward run i scratch ≡ written (piecesOf (stripFrom run i)) scratch
-  unfolding scratchOnward
-  scratch-works h = ap (λ (b : Bool). cond b (written (piecesOf (stripFrom run i)) scratch) scratch) h
-
-  pub scratch-none : hasStrip run i ≡ false → scratchOnward run i scratch ≡ scratch
-  unfolding scratchOnward
-  scratch-none h = ap (λ (b : Bool). cond b (written (piecesOf (stripFrom run i)) scratch) scratch) h
+  pub onward-none : hasStrip run i ≡ false → onwardOf run i totals ≡ noStrip i totals
+  onward-none h = onward-by h
 
 -- the ends as the code finds them
 module _ (integrand : Integrand) (points : List Float) (L i : ℕ) (lower : Float)
     (from : lower ≡ at (allHeights (integrand .planform) points) i) (found : Standing)
-    (above : found ≡ leastAbove lower (allHeights (integrand .planform) points)) (total : Integral) (entry : List Float) where
+    (above : found ≡ leastAbove lower (allHeights (integrand .planform) points)) (totals : Totals) (entry : List Float) where
   abbrev Run· : Run
   Run· = stepRunOf integrand points L
 
@@ -68,32 +54,30 @@ module _ (integrand : Integrand) (points : List Float) (L i : ℕ) (lower : Floa
   On· t n b = record { total = t; next = n; more = b }
 
   abbrev After· : Integral
-  After· = inWords (withStrip total (integralIn (stripFrom Run· i)))
+  After· = inWords (withStrip totals (integralIn (stripFrom Run· i)))
 
   pub went-on : lt lower (found .height) ≡ true → (span : Float) → span ≡ spanOf (integrand .planform) points
       → (after : Integral) (exit : List Float)
-      → WorksStrip (stripBetween integrand points L (lower ∷ found .height ∷ []) 0) total entry after exit
-      → WorksNext Run· i total entry (On· after (found .place) (lt (found .height) span || lt (found .height) (bits 0))) exit
+      → WorksStrip (stripBetween integrand points L (lower ∷ found .height ∷ []) 0) totals entry after exit
+      → Does (onwardOf Run· i totals) (On· after (found .place) (lt (found .height) span || lt (found .height) (bits 0))) entry exit
   went-on h span s after exit w =
       let some : hasStrip Run· i ≡ true = sym there-is ∙ h in
-      let v : WorksStrip (stripFrom Run· i) total entry after exit =
-      subst (λ (k : Float). WorksStrip (Strip· (at All· i) k) total entry after exit) upper-is
-      (subst (λ (l : Float). WorksStrip (Strip· l (found .height)) total entry after exit) from w) in
+      let v : WorksStrip (stripFrom Run· i) totals entry after exit =
+      subst (λ (k : Float). WorksStrip (Strip· (at All· i) k) totals entry after exit) upper-is
+      (subst (λ (l : Float). WorksStrip (Strip· l (found .height)) totals entry after exit) from w) in
       let again : (lt (found .height) span || lt (found .height) (bits 0)) ≡ hasStrip Run· (nextPlace Run· i) =
       ap (λ (top : Float). lt (found .height) top || lt (found .height) (bits 0)) s
       ∙ span-above (integrand .planform) points (found .height)
       ∙ ap (λ (k : Float). lt k (at All· (placeAbove k All·))) upper-is in
-      record {
-        onward =
-            ap (λ (t : Integral). On· t (found .place) (lt (found .height) span || lt (found .height) (bits 0))) (v .totals)
+      let on = sym (onward-works Run· i totals some) in (
+        ap (λ (t : Integral). On· t (found .place) (lt (found .height) span || lt (found .height) (bits 0))) (v .total)
             ∙ ap (λ (n : ℕ). On· After· n (lt (found .height) span || lt (found .height) (bits 0))) place-is
             ∙ ap (On· After· (nextPlace Run· i)) again
-            ∙ sym (onward-works Run· i total some);
-        scratch = v .scratch ∙ sym (scratch-works Run· i entry some);
-      }
+            ∙ ap (λ (c : CallOf Onward). c .answer) on,
+        v .scratch ∙ ap (λ (c : CallOf Onward). c .leaves entry) on,
+      )
 
-  pub went-nowhere : lt lower (found .height) ≡ false
-      → WorksNext Run· i total entry (record { total = total; next = i; more = false }) entry
+  pub went-nowhere : lt lower (found .height) ≡ false → Does (onwardOf Run· i totals) (noStrip i totals .answer) entry entry
   went-nowhere h =
-      let none : hasStrip Run· i ≡ false = sym there-is ∙ h in
-      record { onward = sym (onward-none Run· i total none); scratch = sym (scratch-none Run· i entry none) }
+      let none = sym (onward-none Run· i totals (sym there-is ∙ h)) in
+      (ap (λ (c : CallOf Onward). c .answer) none, ap (λ (c : CallOf Onward). c .leaves entry) none)

@@ -8,9 +8,11 @@
 ghost use Prim.Native.Nat.{_+_, _-_, _<_, _^_};
 ghost use mathlib.Core.Path.{_≡_};
 ghost use lib.ListN.{length};
-ghost use Rattle.strips.specs.Strips.{isAccepted, withStrip, inWords, stripBetween, WorksStrip, Room, runBetween, runOf, stepRunOf, WorksNext, Runs};
+ghost use Rattle.refusals.specs.Calls.{Does};
+ghost use Rattle.strips.specs.Strips.{isAccepted, withStrip, inWords, stripBetween, WorksStrip, Room, runBetween, runOf, stepRunOf, onwardOf, Runs};
 use halving::Ending;
 use halving::Integral;
+use halving::Totals;
 use integrands::Integrand;
 use std::num::wrapping_add_usize;
 
@@ -31,19 +33,20 @@ pub fn is_accepted(ending: Ending) -> bool
 }
 
 // The totals with one strip more; the ending is that strip's. The counts wrap, so that any totals may be handed in.
-fn add_strip(total: Integral, strip: Integral) -> Integral
-    ensures { λ r. ⌜ r ≡ inWords (withStrip total strip) ⌝ }
+fn add_strip(totals: Totals, strip: Integral) -> Integral
+    ensures { λ r. ⌜ r ≡ inWords (withStrip totals strip) ⌝ }
 {
-    let x = total.value;
-    let y = strip.value;
     let ending = strip.ending;
+    let more = strip.totals;
+    let x = totals.value;
+    let y = more.value;
     let value = pieces::plus(x, y);
-    Integral {
-        ending,
+    let totals = Totals {
         value,
-        intervals: wrapping_add_usize(total.intervals, strip.intervals),
-        samples: wrapping_add_usize(total.samples, strip.samples),
-    }
+        intervals: wrapping_add_usize(totals.intervals, more.intervals),
+        samples: wrapping_add_usize(totals.samples, more.samples),
+    };
+    Integral { ending, totals }
 }
 
 // One strip, between the break heights i and i + 1: what it makes of the totals so far.
@@ -54,17 +57,17 @@ fn work_strip(
     heights: &[f64],
     i: usize,
     limit: usize,
-    total: Integral,
+    totals: Totals,
 ) -> Integral
     requires { ⌜ Room limit (length (now scratch)) × (i + 1 < length (now heights)) × (length (now heights) < 2 ^ 32) ⌝ }
-    ensures { λ r. ⌜ WorksStrip (stripBetween integrand (now (points .entry)) limit (now (heights .entry)) i) total
+    ensures { λ r. ⌜ WorksStrip (stripBetween integrand (now (points .entry)) limit (now (heights .entry)) i) totals
         (now (scratch .entry)) r (now (scratch .exit)) ⌝ }
 {
     let scale = integrand.scale;
     let lower = heights[i] / scale;
     let upper = heights[i + 1] / scale;
     let strip = halving::integrate(scratch, integrand, points, lower, upper, limit);
-    add_strip(total, strip)
+    add_strip(totals, strip)
 }
 
 // The strip of the integrand's planform from the height at a place on, where there is one: the job's step (document 02,
@@ -75,10 +78,11 @@ pub fn work_next(
     points: &[f64],
     i: usize,
     limit: usize,
-    total: Integral,
+    totals: Totals,
 ) -> Onward
     requires { ⌜ Room limit (length (now scratch)) ⌝ }
-    ensures { λ r. ⌜ WorksNext (stepRunOf integrand (now (points .entry)) limit) i total (now (scratch .entry)) r (now (scratch .exit)) ⌝ }
+    ensures { λ r. ⌜ Does (onwardOf (stepRunOf integrand (now (points .entry)) limit) i totals)
+        r (now (scratch .entry)) (now (scratch .exit)) ⌝ }
 {
     let planform = integrand.planform;
     let span = planforms::span_m(planform, points);
@@ -87,13 +91,15 @@ pub fn work_next(
     let upper = found.height;
     if lower < upper {
         let ends = [lower, upper];
-        let total = work_strip(scratch, integrand, points, &ends, 0, limit, total);
+        let total = work_strip(scratch, integrand, points, &ends, 0, limit, totals);
         return Onward {
             total,
             next: found.place,
             more: (upper < span) | (upper < 0.0),
         };
     }
+    let ending = Ending::Accepted;
+    let total = Integral { ending, totals };
     Onward {
         total,
         next: i,
@@ -112,15 +118,17 @@ fn work_upward(
     requires { ⌜ Room limit (length (now scratch)) × (length (now heights) < 2 ^ 32) ⌝ }
     ensures { λ r. ⌜ Runs (runBetween integrand (now (points .entry)) limit (now (heights .entry))) (now (scratch .entry)) r (now (scratch .exit)) ⌝ }
 {
-    let mut total = Integral {
-        ending: Ending::Accepted,
+    let ending = Ending::Accepted;
+    let totals = Totals {
         value: [0.0; 7],
         intervals: 0,
         samples: 0,
     };
+    let mut total = Integral { ending, totals };
     let mut i: usize = 0;
     while i + 1 < heights.len() {
-        total = work_strip(scratch, integrand, points, heights, i, limit, total);
+        let totals = total.totals;
+        total = work_strip(scratch, integrand, points, heights, i, limit, totals);
         let ending = total.ending;
         if !is_accepted(ending) {
             return total;

@@ -45,7 +45,7 @@ five = 0x4014_0000_0000_0000
 
 -- totals of strips that ended so
 abbrev totals : Ending → List ℕ → Integral
-totals ending value = record { ending = ending; value = map bits value; intervals = 1; samples = 15 }
+totals ending value = record { ending = ending; totals = record { value = map bits value; intervals = 1; samples = 15 } }
 
 -- 8: "area or volume <= 0", of either zero and of no NaN, and behind 13; a refused one has no area
 abbrev pub zero-refused : Bool
@@ -54,7 +54,7 @@ zero-refused =
     && refused 8 [] (sizeCheck (bits 0x8000_0000_0000_0000))
     && accepted (sizeCheck (bits 1))
     && accepted (sizeCheck nan)
-    && refused 13 (3 ∷ []) (conclusionOf (totals (NotConverged 3) []) (bits 0))
+    && refused 13 (3 ∷ []) (conclusionOf (NotConverged 3) (bits 0))
     && refused 8 [] (concludedArea (bits one) (totals Accepted (0 ∷ one ∷ one ∷ [])) .verdict)
     && is (concludedArea (bits one) (totals Accepted (0 ∷ one ∷ one ∷ [])) .«centroid_x_m») 0
 

@@ -25,7 +25,8 @@ use Rattle.outlines.specs.Outlines.{planformCheck}
 use Rattle.fins.specs.Fins.{tabCheck, depthCheck, ownCheck}
 use Rattle.jobs.specs.declared.Job.{Job}
 use Rattle.jobs.specs.declared.Row.{Row}
-use Rattle.jobs.specs.Jobs.{bareFigures, steppedOn, stepOf, changeOf, makingCheck, madeOf, countBelow, progressOf}
+use Rattle.figures.specs.Figures.{bareFigures}
+use Rattle.jobs.specs.Jobs.{steppedOn, stepOf, changeOf, makingCheck, madeOf, countBelow, progressOf}
 use Rattle.engines.specs.declared.Screens.{Screens}
 use Rattle.engines.specs.declared.Engine.{Engine}
 use Rattle.engines.specs.declared.Called.{Called}
@@ -42,7 +43,7 @@ waiting = noJob
 
 -- one that has ended: a step repeats its answer
 abbrev over : Job
-over = record { set = noJob .set; points = noJob .points; limit = 1; next = 0; value = []; intervals = 0; samples = 7; ended = true; outcome = bareFigures Accepted 7 }
+over = record { set = noJob .set; points = noJob .points; limit = 1; next = 0; totals = record { value = []; intervals = 0; samples = 7 }; ended = true; outcome = bareFigures Accepted 7 }
 
 -- eight screens of which these hold a job, 1 for each that does
 abbrev marks : List ℕ → List Bool

@@ -32,16 +32,16 @@ use Rattle.halving.specs.declared.Ending.{Ending}
 use Rattle.halving.specs.declared.Ending.the-variants.{Accepted, NotConverged}
 use Rattle.halving.specs.Halving.{repeat, halving}
 use Rattle.strips.specs.declared.Onward.{Onward}
-use Rattle.strips.specs.Strips.{withStrip, onwardOf, scratchOnward}
+use Rattle.strips.specs.Strips.{withStrip, onwardOf}
 use Rattle.figures.specs.declared.Figures.{Figures}
-use Rattle.figures.specs.Figures.{concludedSet}
+use Rattle.figures.specs.Figures.{bareFigures, concludedSet}
 use Rattle.jobs.specs.declared.Job.{Job}
 use Rattle.jobs.specs.declared.JobProgress.{JobProgress}
 use Rattle.jobs.specs.declared.Stepped.{Stepped}
 use Rattle.jobs.specs.declared.Progress.{Progress}
 use Rattle.jobs.specs.declared.Progress.the-variants.{Short, More, Ended}
 use Rattle.jobs.specs.declared.Row.{Row}
-use Rattle.jobs.specs.Jobs.{pointsOf, bareFigures, stepRow, outcomeOf, afterStrip, steppedOn, stepOf, changeOf, countBelow, progressOf}
+use Rattle.jobs.specs.Jobs.{pointsOf, stepRow, outcomeOf, afterStrip, steppedOn, stepOf, changeOf, countBelow, progressOf}
 use Rattle.jobs.specs.Calls.{isTaken}
 use Rattle.test_definitions.specs.Rows.{is, are, same, refused}
 
@@ -90,9 +90,7 @@ limited L strips next samples value =
       points = pointsOf points;
       limit = L;
       next = next;
-      value = value;
-      intervals = strips;
-      samples = samples;
+      totals = record { value = value; intervals = strips; samples = samples };
       ended = false;
       outcome = bareFigures verdict.Accepted 0;
     }
@@ -108,9 +106,7 @@ over =
       points = pointsOf points;
       limit = 8;
       next = 3;
-      value = zeros;
-      intervals = 1;
-      samples = 135;
+      totals = record { value = zeros; intervals = 1; samples = 135 };
       ended = true;
       outcome = bareFigures (verdict.Refused (refusal.NotConverged 6)) 135;
     }
@@ -197,7 +193,7 @@ density-left =
 
 -- "Until the job ends, with its last strip or one refused": of totals with strips left, with none left, and refused
 abbrev totals : Ending → Bool → Onward
-totals ending more = record { total = record { ending = ending; value = zeros; intervals = 2; samples = 30 }; next = 1; more = more }
+totals ending more = record { total = record { ending = ending; totals = record { value = zeros; intervals = 2; samples = 30 } }; next = 1; more = more }
 
 abbrev pub job-ends : Bool
 job-ends =
@@ -223,12 +219,12 @@ asked-again =
 -- which stands after 0, the span and the last point's
 abbrev pub one-strip-a-step : Stepped → Bool
 one-strip-a-step s =
-    isMore (s .progress) && eqb (stepRow (s .progress) (s .job) .number) 1000 && eqb (s .job .next) 3 && eqb (s .job .samples) 15 && eqb (s .job .intervals) 1 && not (s .job .ended)
+    isMore (s .progress) && eqb (stepRow (s .progress) (s .job) .number) 1000 && eqb (s .job .next) 3 && eqb (s .job .totals .samples) 15 && eqb (s .job .totals .intervals) 1 && not (s .job .ended)
 
 -- "the sums and totals over those worked": the last strip's are added to those of the record, whose first is 1; and
 -- the job has come to the place of the span
 abbrev pub sums-go-on : Stepped → Bool
-sums-go-on s = isEnded (s .progress) && s .job .ended && eqb (s .job .next) 1 && eqb (s .job .samples) 30 && eqb (s .job .intervals) 2 && lt (bits one) (at (s .job .value) 0)
+sums-go-on s = isEnded (s .progress) && s .job .ended && eqb (s .job .next) 1 && eqb (s .job .totals .samples) 30 && eqb (s .job .totals .intervals) 2 && lt (bits one) (at (s .job .totals .value) 0)
 
 -- "A step writes its own strip's pieces from the start of the scratch lent to it and leaves the rest", the last step
 -- too
@@ -237,7 +233,7 @@ last-strip-written scratch =
     eqb (length scratch) 128 && are (take 2 scratch) (third ∷ 0x3fe5_5555_5555_5555 ∷ []) && are (take 2 (drop 16 scratch)) (one ∷ one ∷ [])
 
 pub calls-hold : T (short-step && repeats && no-limit && density-taken && density-left && job-ends && asked-again)
-unfolding ofBits toBits ofInt round add sub mul div lt le eq ne absOf every belowAll insert sorted isRefused firstRefusal scratchCheck densityCheck chordMoments largestHeight rootChordOf spanOf heights everyY placeAbove crossed crossings outlineCrossings endsAt paired scaleOf sumsFrom sampleOf plateOf nodes kronrodWeights gaussWeights heightsTo weightedTo pieceOf totalOf errorOf absolute relative converged scoreOf lastHighest worstPlace componentOf repeat halving withStrip onwardOf scratchOnward outcomeOf concludedSet afterStrip steppedOn stepOf changeOf
+unfolding ofBits toBits ofInt round add sub mul div lt le eq ne absOf every belowAll insert sorted isRefused firstRefusal scratchCheck densityCheck chordMoments largestHeight rootChordOf spanOf heights everyY placeAbove crossed crossings outlineCrossings endsAt paired scaleOf sumsFrom sampleOf plateOf nodes kronrodWeights gaussWeights heightsTo weightedTo pieceOf totalOf errorOf absolute relative converged scoreOf lastHighest worstPlace componentOf repeat halving withStrip onwardOf outcomeOf concludedSet afterStrip steppedOn stepOf changeOf
 calls-hold = tt
 
 -- the next strip's place told for the strips worked; equal heights counted twice among all; a refused strip not counted
@@ -258,13 +254,13 @@ progress-holds = tt
 -- each apart, since fifteen samples are worked for each piece, and by a `let`, by which they are worked once
 
 pub first-step-holds : T (let s = stepOf (worked 0 0 0 zeros) 128 .answer in one-strip-a-step s)
-unfolding ofBits toBits ofInt round add sub mul div lt le eq ne absOf every belowAll insert sorted isRefused firstRefusal scratchCheck densityCheck chordMoments largestHeight rootChordOf spanOf heights everyY placeAbove crossed crossings outlineCrossings endsAt paired scaleOf sumsFrom sampleOf plateOf nodes kronrodWeights gaussWeights heightsTo weightedTo pieceOf totalOf errorOf absolute relative converged scoreOf lastHighest worstPlace componentOf repeat halving withStrip onwardOf scratchOnward outcomeOf concludedSet afterStrip steppedOn stepOf changeOf
+unfolding ofBits toBits ofInt round add sub mul div lt le eq ne absOf every belowAll insert sorted isRefused firstRefusal scratchCheck densityCheck chordMoments largestHeight rootChordOf spanOf heights everyY placeAbove crossed crossings outlineCrossings endsAt paired scaleOf sumsFrom sampleOf plateOf nodes kronrodWeights gaussWeights heightsTo weightedTo pieceOf totalOf errorOf absolute relative converged scoreOf lastHighest worstPlace componentOf repeat halving withStrip onwardOf outcomeOf concludedSet afterStrip steppedOn stepOf changeOf
 first-step-holds = tt
 
 pub last-step-holds : T (let s = stepOf (worked 1 3 15 (map bits (one ∷ 0 ∷ 0 ∷ 0 ∷ 0 ∷ 0 ∷ 0 ∷ []))) 128 .answer in sums-go-on s)
-unfolding ofBits toBits ofInt round add sub mul div lt le eq ne absOf every belowAll insert sorted isRefused firstRefusal scratchCheck densityCheck chordMoments largestHeight rootChordOf spanOf heights everyY placeAbove crossed crossings outlineCrossings endsAt paired scaleOf sumsFrom sampleOf plateOf nodes kronrodWeights gaussWeights heightsTo weightedTo pieceOf totalOf errorOf absolute relative converged scoreOf lastHighest worstPlace componentOf repeat halving withStrip onwardOf scratchOnward outcomeOf concludedSet afterStrip steppedOn stepOf changeOf
+unfolding ofBits toBits ofInt round add sub mul div lt le eq ne absOf every belowAll insert sorted isRefused firstRefusal scratchCheck densityCheck chordMoments largestHeight rootChordOf spanOf heights everyY placeAbove crossed crossings outlineCrossings endsAt paired scaleOf sumsFrom sampleOf plateOf nodes kronrodWeights gaussWeights heightsTo weightedTo pieceOf totalOf errorOf absolute relative converged scoreOf lastHighest worstPlace componentOf repeat halving withStrip onwardOf outcomeOf concludedSet afterStrip steppedOn stepOf changeOf
 last-step-holds = tt
 
 pub last-scratch-holds : T (let scratch = stepOf (worked 1 3 15 zeros) 128 .leaves (replicate 128 (bits one)) in last-strip-written scratch)
-unfolding ofBits toBits ofInt round add sub mul div lt le eq ne absOf every belowAll insert sorted isRefused firstRefusal scratchCheck densityCheck chordMoments largestHeight rootChordOf spanOf heights everyY placeAbove crossed crossings outlineCrossings endsAt paired scaleOf sumsFrom sampleOf plateOf nodes kronrodWeights gaussWeights heightsTo weightedTo pieceOf totalOf errorOf absolute relative converged scoreOf lastHighest worstPlace componentOf repeat halving withStrip onwardOf scratchOnward outcomeOf concludedSet afterStrip steppedOn stepOf changeOf
+unfolding ofBits toBits ofInt round add sub mul div lt le eq ne absOf every belowAll insert sorted isRefused firstRefusal scratchCheck densityCheck chordMoments largestHeight rootChordOf spanOf heights everyY placeAbove crossed crossings outlineCrossings endsAt paired scaleOf sumsFrom sampleOf plateOf nodes kronrodWeights gaussWeights heightsTo weightedTo pieceOf totalOf errorOf absolute relative converged scoreOf lastHighest worstPlace componentOf repeat halving withStrip onwardOf outcomeOf concludedSet afterStrip steppedOn stepOf changeOf
 last-scratch-holds = tt

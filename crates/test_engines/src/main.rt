@@ -49,7 +49,7 @@ fn same_rows(a: Row, b: Row) -> bool {
 // What a submission or a change of density answers, by its number.
 fn reply_row(reply: Reply) -> Row {
     let verdict = reply.verdict;
-    let figures = jobs::bare_figures(verdict, reply.samples);
+    let figures = figures::bare_figures(verdict, reply.samples);
     jobs::figures_row(figures)
 }
 
@@ -57,7 +57,10 @@ fn reply_row(reply: Reply) -> Row {
 fn step_row(progress: Progress, job: Job) -> Row {
     match progress {
         Progress::Short => {
-            let figures = jobs::bare_figures(Verdict::Refused(Refusal::Scratch), job.samples);
+            let figures = figures::bare_figures(
+                Verdict::Refused(Refusal::Scratch),
+                job.totals.samples,
+            );
             jobs::figures_row(figures)
         }
         Progress::More => jobs::plain_row(MORE),

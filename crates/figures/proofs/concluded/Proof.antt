@@ -30,25 +30,25 @@ ring-requires c κs = search needs
 enum-known-verdict : tie.Need-enum-known-verdict
 enum-known-verdict c = search needs
 
-refused-figures-requires : tie.Need-refused-figures-requires
-refused-figures-requires c κs = search needs
+bare-figures-requires : tie.Need-bare-figures-requires
+bare-figures-requires c κs = search needs
 
 returns : tie.Need-returns
 returns c =
     let told = c .before .before in
     let v = told .before .before in
-    let s = v .before .before .before .args in
+    let s = v .before .before .before .before .args in
     set-concluded (s .set) _ _ (s .total) (v .before .integrals .ensures) (sym (v .conclusion .ensures) ∙ told .enum-told .given .1)
-    (ap (λ (b : Body). figuresBy Accepted b (s .total))
+    (ap (λ (b : Body). figuresBy Accepted b (s .total .totals))
     (c .ring .ensures ∙ ap (λ (b : Body). joinedCopies b (s .set .«base_angle_rad») (s .set .count)) (c .before .fin .ensures)))
 
 returns-2 : tie.Need-returns-2
 returns-2 c =
     let told = c .before .before in
     let v = told .before .before in
-    let s = v .before .before .before .args in
+    let s = v .before .before .before .before .args in
     set-concluded (s .set) _ _ (s .total) (v .before .integrals .ensures) (sym (v .conclusion .ensures) ∙ told .verdict .given .1)
-    (c .refused-figures .ensures)
+    (c .bare-figures .ensures)
 
 pub concluded-spec : {M : Type 1} → statement M
 concluded-spec =
@@ -61,6 +61,6 @@ concluded-spec =
     fin-requires
     ring-requires
     enum-known-verdict
-    refused-figures-requires
+    bare-figures-requires
     returns
     returns-2)

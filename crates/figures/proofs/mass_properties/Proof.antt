@@ -18,8 +18,8 @@ work-set-requires c κs = sym (c .before .before .before .check-set .ensures .is
 enum-known-verdict : tie.Need-enum-known-verdict
 enum-known-verdict c = search needs
 
-refused-figures-requires : tie.Need-refused-figures-requires
-refused-figures-requires c κs = search needs
+bare-figures-requires : tie.Need-bare-figures-requires
+bare-figures-requires c κs = search needs
 
 same-length : tie.Need-same-length
 same-length c = search needs
@@ -39,7 +39,7 @@ returns-2 c =
     let v = c .before .before in
     let checked = v .before .before in
     let a = checked .before .before .before .args in
-    set-refused (a .set) (a .points .now) (a .limit) (a .scratch .now) _ _ _ (sym (checked .check-set .ensures .is) ∙ v .verdict .given .1) (c .refused-figures .ensures) refl
+    set-refused (a .set) (a .points .now) (a .limit) (a .scratch .now) _ _ _ (sym (checked .check-set .ensures .is) ∙ v .verdict .given .1) (c .bare-figures .ensures) refl
 
 pub mass-properties-spec : {M : Type 1} → statement M
 mass-properties-spec =
@@ -49,7 +49,7 @@ mass-properties-spec =
     enum-told
     work-set-requires
     enum-known-verdict
-    refused-figures-requires
+    bare-figures-requires
     same-length
     returns
     returns-2)

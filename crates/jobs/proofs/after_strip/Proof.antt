@@ -23,7 +23,7 @@ held-requires c κs = search needs
 
 array-share-prefix-numbers : tie.Need-array-share-prefix-numbers
 array-share-prefix-numbers c =
-    let s = c .before .before .before .before .before .before .before .before in
+    let s = c .before .before .before .before .before .before .before .before .before in
     let job = s .args .job in
     omega (arith, c .held .ensures, outline-length job _ (s .good .0), held-most (job .points .count))
 
@@ -42,7 +42,7 @@ returns-2 c =
     let held = concluded .before .before in
     let other = held .before .before .before .before in
     let told = other .before .before in
-    let a = told .before .before .args in
+    let a = told .before .before .before .args in
     ends-so (a .job) (a .onward) (held .held .result) (held .held .ensures) (concluded .conclude .result) (concluded .conclude .ensures) _ (c .end .ensures)
     (both-told _ _ _ (told .is-accepted .ensures) (other .if1 .left))
 

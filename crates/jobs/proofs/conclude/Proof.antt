@@ -21,41 +21,32 @@ first-refusal-requires c κs = search needs
 enum-told : tie.Need-enum-told
 enum-told c = search needs
 
-scale-m-requires : tie.Need-scale-m-requires
-scale-m-requires c κs = search needs
-
-root-chord-m-requires : tie.Need-root-chord-m-requires
-root-chord-m-requires c κs = search needs
-
-concluded-requires : tie.Need-concluded-requires
-concluded-requires c κs =
-    let told = c .before .before in
-    let first = told .before .before in
-    count-within _ (sym (first .before .before .check-count .ensures) ∙ both _ _ (sym (first .first-refusal .ensures) ∙ told .enum-told .given .1) .0) .1
+concluded-at-requires : tie.Need-concluded-at-requires
+concluded-at-requires c κs =
+    let first = c .before .before in
+    count-within _ (sym (first .before .before .check-count .ensures) ∙ both _ _ (sym (first .first-refusal .ensures) ∙ c .enum-told .given .1) .0) .1
 
 enum-known-verdict : tie.Need-enum-known-verdict
 enum-known-verdict c = search needs
 
-refused-figures-requires : tie.Need-refused-figures-requires
-refused-figures-requires c κs = search needs
+bare-figures-requires : tie.Need-bare-figures-requires
+bare-figures-requires c κs = search needs
 
 returns : tie.Need-returns
 unfolding outcomeOf
 returns c =
-    let root = c .before in
-    let told = root .before .before in
+    let told = c .before in
     let first = told .before .before in
     let checked = first .first-refusal .ensures ∙ ap₂ firstRefusal (first .before .before .check-count .ensures) (first .before .check-density .ensures) in
-    c .concluded .ensures
-    ∙ rw (root .root-chord-m .ensures, root .before .scale-m .ensures) (sym (given _ _ (sym checked ∙ told .enum-told .given .1)))
+    c .concluded-at .ensures ∙ sym (given _ _ (sym checked ∙ told .enum-told .given .1))
 
 returns-2 : tie.Need-returns-2
 unfolding outcomeOf
 returns-2 c =
-    let told = c .before .before in
+    let told = c .before .before .before in
     let first = told .before .before in
     let checked = first .first-refusal .ensures ∙ ap₂ firstRefusal (first .before .before .check-count .ensures) (first .before .check-density .ensures) in
-    c .refused-figures .ensures ∙ sym (withheld _ _ _ (sym checked ∙ told .verdict .given .1))
+    c .bare-figures .ensures ∙ sym (withheld _ _ _ (sym checked ∙ told .verdict .given .1))
 
 pub conclude-spec : {M : Type 1} → statement M
 conclude-spec =
@@ -65,10 +56,8 @@ conclude-spec =
     check-density-requires
     first-refusal-requires
     enum-told
-    scale-m-requires
-    root-chord-m-requires
-    concluded-requires
+    concluded-at-requires
     enum-known-verdict
-    refused-figures-requires
+    bare-figures-requires
     returns
     returns-2)

@@ -31,7 +31,7 @@ returns-2 c =
     let check = told .before .before in
     let job = Start· check .args .job in
     does-by (on-works job (Else· check .if1 .left) (sym (check .check-limit .ensures) ∙ told .enum-told .given .1))
-    (c .after-strip .ensures ∙ ap (afterStrip job) (work .work-next .ensures .onward), work .work-next .ensures .scratch)
+    (c .after-strip .ensures ∙ ap (afterStrip job) (work .work-next .ensures .0), work .work-next .ensures .1)
 
 returns-3 : tie.Need-returns-3
 returns-3 c =

@@ -5,7 +5,7 @@ use Rattle.lent_jobs.proofs.counts_of.Tie as tie
 
 returns : tie.Need-returns
 returns c =
-    let v = c .before .before .before in
+    let v = c .before .before .before .before in
     rw (c .verdict-number .ensures, c .before .flag-of .ensures, v .verdict-values .ensures, v .before .before .counts-of .ensures)
 
 pub counts-of-spec : {M : Type 1} → statement M

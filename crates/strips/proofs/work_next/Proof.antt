@@ -31,7 +31,7 @@ returns c =
     let spanned = from .before in
     let a = spanned .before .before .before .args in
     went-on (a .integrand) (a .points .now) (a .limit) (a .i) (from .height-at .result) (from .height-at .ensures) (found .least-above .result)
-    (found .least-above .ensures) (a .total) (a .scratch .now) (some .if1 .taken) (spanned .span-m .result) (spanned .span-m .ensures) _ _
+    (found .least-above .ensures) (a .totals) (a .scratch .now) (some .if1 .taken) (spanned .span-m .result) (spanned .span-m .ensures) _ _
     (worked .work-strip .ensures)
 
 returns-2 : tie.Need-returns-2
@@ -40,7 +40,7 @@ returns-2 c =
     let from = found .before in
     let a = from .before .before .before .before .args in
     went-nowhere (a .integrand) (a .points .now) (a .limit) (a .i) (from .height-at .result) (from .height-at .ensures) (found .least-above .result)
-    (found .least-above .ensures) (a .total) (a .scratch .now) (c .if1 .left)
+    (found .least-above .ensures) (a .totals) (a .scratch .now) (c .if1 .left)
 
 pub work-next-spec : {M : Type 1} → statement M
 work-next-spec =

@@ -2,12 +2,13 @@
 use mathlib.Core.Path.{_≡_, ap, _∙_}
 use borrow.Author.Needs.{needs}
 use Rattle.halving.specs.declared.Integral.{Integral}
+use Rattle.halving.specs.declared.Totals.{Totals}
 use Rattle.strips.specs.Strips.{withStrip, inWords}
 use Rattle.strips.proofs.work_strip.Statement.{statement}
 use Rattle.strips.proofs.work_strip.Tie as tie
 
-added : (total r strip x : Integral) → x ≡ inWords (withStrip total r) → r ≡ strip → x ≡ inWords (withStrip total strip)
-added total r strip x sum e = sum ∙ ap (λ (y : Integral). inWords (withStrip total y)) e
+added : (totals : Totals) (r strip x : Integral) → x ≡ inWords (withStrip totals r) → r ≡ strip → x ≡ inWords (withStrip totals strip)
+added totals r strip x sum e = sum ∙ ap (λ (y : Integral). inWords (withStrip totals y)) e
 
 mul-lower : tie.Need-mul-lower
 mul-lower c = search needs
@@ -37,7 +38,7 @@ returns : tie.Need-returns
 returns c =
     let i = c .before .before .before in
     record {
-      totals = added _ _ _ _ (c .add-strip .ensures) (i .integrate .ensures .answer);
+      total = added _ _ _ _ (c .add-strip .ensures) (i .integrate .ensures .answer);
       scratch = i .integrate .ensures .scratch;
     }
 

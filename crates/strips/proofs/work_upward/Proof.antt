@@ -21,7 +21,7 @@ Start· l = l .before .before .before .before
 
 -- the loop's head before a strip
 abbrev Loop· : tie.After-work-strip Inv-loop μ-loop → tie.At-loop Inv-loop μ-loop
-Loop· w = w .before .before .before
+Loop· w = w .before .before .before .before
 
 loop-holds : tie.Need-loop-holds Inv-loop μ-loop
 loop-holds c = begin _ _ _ _ _
@@ -31,9 +31,9 @@ add-loop c = omega (arith, c .loop .inv .inside, Start· c .pre .1)
 
 work-strip-requires : tie.Need-work-strip-requires Inv-loop μ-loop
 work-strip-requires c κs =
-    let l = c .before .before in
+    let l = c .before .before .before in
     let pre = Start· l .pre in
-    (rw (l .loop .inv .long) (pre .0), c .before .loop-test .taken, pre .1)
+    (rw (l .loop .inv .long) (pre .0), c .before .before .loop-test .taken, pre .1)
 
 is-accepted-requires : tie.Need-is-accepted-requires Inv-loop μ-loop
 is-accepted-requires c κs = search needs
@@ -49,18 +49,18 @@ returns c =
     let w = a .before .before .before in
     let l = Loop· w in
     let pre = Start· l .pre in
-    ends-here _ _ _ _ _ _ _ _ _ (l .loop .inv) (pre .0 .0) (pre .0 .1) (w .before .before .loop-test .taken) (pre .1) (w .work-strip .kept .0) _ (w .work-strip .ensures)
+    ends-here _ _ _ _ _ _ _ _ _ (l .loop .inv) (pre .0 .0) (pre .0 .1) (w .before .before .before .loop-test .taken) (pre .1) (w .work-strip .kept .0) _ (w .work-strip .ensures)
     (sym (a .is-accepted .ensures) ∙ not-true _ (c .if1 .taken))
 
 add-i : tie.Need-add-i Inv-loop μ-loop
 add-i c =
     let w = c .before .before .before .before in
-    omega (arith, w .before .before .loop-test .taken, Start· (Loop· w) .pre .1)
+    omega (arith, w .before .before .before .loop-test .taken, Start· (Loop· w) .pre .1)
 
 loop-less : tie.Need-loop-less Inv-loop μ-loop
 loop-less c =
     let w = c .before .before .before .before in
-    omega (arith, w .before .before .loop-test .taken)
+    omega (arith, w .before .before .before .loop-test .taken)
 
 loop-again : tie.Need-loop-again Inv-loop μ-loop
 loop-again c =
@@ -68,7 +68,7 @@ loop-again c =
     let w = a .before .before .before in
     let l = Loop· w in
     let pre = Start· l .pre in
-    goes-on _ _ _ _ _ _ _ _ _ (l .loop .inv) (pre .0 .0) (pre .0 .1) (w .before .before .loop-test .taken) (pre .1) (w .work-strip .kept .0) _ (w .work-strip .ensures)
+    goes-on _ _ _ _ _ _ _ _ _ (l .loop .inv) (pre .0 .0) (pre .0 .1) (w .before .before .before .loop-test .taken) (pre .1) (w .work-strip .kept .0) _ (w .work-strip .ensures)
     (sym (a .is-accepted .ensures) ∙ not-false _ (c .if1 .left))
 
 same-length-2 : tie.Need-same-length-2 Inv-loop μ-loop
