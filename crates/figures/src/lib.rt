@@ -111,9 +111,11 @@ fn work_set(set: FinSet, points: &[f64], limit: usize, scratch: &mut [f64]) -> F
     let section = set.cross_section;
     let thickness_m = set.thickness_m;
     let body_radius_m = set.body_radius_m;
+    let span_m = planforms::span_m(planform, points);
     let integrand = integrands::plate_integrand(
         planform,
         points,
+        span_m,
         section,
         thickness_m,
         body_radius_m,

@@ -12,6 +12,7 @@ use planforms::Planform;
 use sections::Section;
 ghost use mathlib.Core.Path.{_≡_};
 ghost use Rattle.floats.specs.Operations.{_⊗_, _⊘_};
+ghost use Rattle.planforms.specs.Planforms.{spanOf};
 ghost use Rattle.chords.specs.Chords.{outlineCrossings, paired, endsOf};
 ghost use Rattle.chords.specs.Edges.{Holding};
 ghost use Rattle.integrands.specs.Integrands.{scaleOf, areaIntegrand, plateIntegrand, termOf, plus, sumsOver, sampleValues, valuesOver, chordsFor, HoldingAt, sampleOf};
@@ -51,17 +52,20 @@ pub fn area_integrand(planform: Planform, points: &[f64]) -> Integrand
     }
 }
 
-// The integrand of a plate's volume integrals, on a body of the radius given; lengths in metres.
+// The integrand of a plate's volume integrals, on a body of the radius given; lengths in metres. The span is the
+// caller's to work, once a strip: an outline's is a pass over its points.
 pub fn plate_integrand(
     planform: Planform,
     points: &[f64],
+    span_m: f64,
     section: Section,
     thickness_m: f64,
     body_radius_m: f64,
 ) -> Integrand
+    requires { ⌜ «span_m» ≡ spanOf planform (now points) ⌝ }
     ensures { λ r. ⌜ r ≡ plateIntegrand planform (now (points .entry)) section «thickness_m» «body_radius_m» ⌝ }
 {
-    let scale = scale_m(planform, points);
+    let scale = planforms::root_chord_m(planform, points) + span_m;
     Integrand {
         kind: Kind::Plate {
             section,

@@ -18,12 +18,14 @@ use Rattle.materials.specs.declared.Density.{Density}
 use Rattle.materials.specs.Materials.{densityCheck}
 use Rattle.integrands.specs.declared.Integrand.{Integrand}
 use Rattle.integrands.specs.Integrands.{plateIntegrand, plateOf}
+use Rattle.halving.specs.declared.Totals.{Totals}
 use Rattle.strips.specs.Strips.{Run, Worked, isAccepted, stepRunOf, runCheck, hasStrip, stripFrom, onwardOf}
 use Rattle.strips.specs.declared.Onward.{Onward}
 use Rattle.jobs.specs.declared.Job.{Job}
 use Rattle.jobs.specs.declared.Progress.the-variants.{Short, Ended}
 use Rattle.jobs.specs.declared.Stepped.{Stepped}
 use Rattle.jobs.specs.declared.Replied.{Replied}
+use Rattle.fins.specs.declared.FinSet.{FinSet}
 use Rattle.figures.specs.declared.Figures.{Figures}
 use Rattle.jobs.specs.Jobs.{heldOf, outlineOf, stepRun, runOfJob, nextStrip, stepRow, more, ended, endedBy, outcomeOf, afterStrip, workedStrip, steppedOn, stepAfter, steppedBy, isShort, stepOf}
 use Rattle.jobs.specs.Jobs.{taken, kept, changeOf}
@@ -147,20 +149,25 @@ pub ends-so : (job : Job) (onward : Onward) (n : ℕ) → n ≡ heldOf (job .poi
 ends-so job onward n e figures f r k h =
     k ∙ ap (ended job (onward .total .totals) (onward .next)) (f ∙ ap (λ (m : ℕ). outcomeOf (job .set) (take m (job .points .numbers)) (onward .total)) e) ∙ sym (after-last job onward h)
 
--- the strips that the code works are those of the record's set
-same-run : (job : Job) (n : ℕ) → n ≡ heldOf (job .points .count) → (integrand : Integrand)
-    → integrand ≡ plateIntegrand (job .set .planform) (take n (job .points .numbers)) (job .set .«cross_section») (job .set .«thickness_m») (job .set .«body_radius_m»)
-    → stepRunOf integrand (take n (job .points .numbers)) (job .limit) ≡ runOfJob job
+-- the strips that the code works are those of the set
+same-run : (set : FinSet) (points : List Float) (L : ℕ) (integrand : Integrand)
+    → integrand ≡ plateIntegrand (set .planform) points (set .«cross_section») (set .«thickness_m») (set .«body_radius_m»)
+    → stepRunOf integrand points L ≡ stepRun set points L
 unfolding plateOf
-same-run job n e integrand f =
-    ap (λ (g : Integrand). stepRunOf g (take n (job .points .numbers)) (job .limit)) f ∙ ap (λ (m : ℕ). stepRun (job .set) (take m (job .points .numbers)) (job .limit)) e
+same-run set points L integrand f = ap (λ (g : Integrand). stepRunOf g points L) f
 
-pub same-next : (job : Job) (n : ℕ) → n ≡ heldOf (job .points .count) → (integrand : Integrand)
-    → integrand ≡ plateIntegrand (job .set .planform) (take n (job .points .numbers)) (job .set .«cross_section») (job .set .«thickness_m») (job .set .«body_radius_m»)
-    → (entry : List Float) (r : Onward) (exit : List Float)
-    → Does (onwardOf (stepRunOf integrand (take n (job .points .numbers)) (job .limit)) (job .next) (job .totals)) r entry exit
+pub same-next : (set : FinSet) (points : List Float) (L : ℕ) (integrand : Integrand)
+    → integrand ≡ plateIntegrand (set .planform) points (set .«cross_section») (set .«thickness_m») (set .«body_radius_m»)
+    → (i : ℕ) (totals : Totals) (entry : List Float) (r : Onward) (exit : List Float)
+    → Does (onwardOf (stepRunOf integrand points L) i totals) r entry exit → Does (onwardOf (stepRun set points L) i totals) r entry exit
+same-next set points L integrand f i totals entry r exit w = subst (λ (run : Run). Does (onwardOf run i totals) r entry exit) (same-run set points L integrand f) w
+
+-- and the points those of the record's copy
+pub same-copy : (job : Job) (n : ℕ) → n ≡ heldOf (job .points .count) → (entry : List Float) (r : Onward) (exit : List Float)
+    → Does (onwardOf (stepRun (job .set) (take n (job .points .numbers)) (job .limit)) (job .next) (job .totals)) r entry exit
     → Does (nextStrip job) r entry exit
-same-next job n e integrand f entry r exit w = subst (λ (run : Run). Does (onwardOf run (job .next) (job .totals)) r entry exit) (same-run job n e integrand f) w
+same-copy job n e entry r exit w =
+    subst (λ (m : ℕ). Does (onwardOf (stepRun (job .set) (take m (job .points .numbers)) (job .limit)) (job .next) (job .totals)) r entry exit) e w
 
 -- ---- the strip of a step
 module _ (job : Job) (scratch : List Float) where

@@ -6,10 +6,10 @@
 ghost use mathlib.Core.Path.{_≡_};
 ghost use lib.ListN.{length};
 ghost use Prim.Native.Nat.{suc, _<_, _^_};
-ghost use Rattle.strips.specs.Strips.{Room};
+ghost use Rattle.strips.specs.Strips.{Room, onwardOf};
 ghost use mathlib.Core.Bool.{false, cond};
 ghost use Rattle.refusals.specs.Calls.{Does};
-ghost use Rattle.jobs.specs.Jobs.{heldOf, pointsOf, outlineOf, figuresRow, plainRow, outcomeOf, more, ended, endedBy, afterStrip, nextStrip, isShort, stepAfter, steppedOn, StepsTo};
+ghost use Rattle.jobs.specs.Jobs.{stepRun, heldOf, pointsOf, outlineOf, figuresRow, plainRow, outcomeOf, more, ended, endedBy, afterStrip, nextStrip, isShort, stepAfter, steppedOn, StepsTo};
 ghost use Rattle.jobs.specs.Jobs.{withDensity, taken, kept, IsReplied, changeOf, makingCheck, madeOf, countBelow, progressOf};
 ghost use Rattle.jobs.specs.Lent.{StepsLent, ChangesLent};
 use figures::Figures;
@@ -182,33 +182,44 @@ fn conclude(set: FinSet, points: &[f64], total: Integral) -> Figures
     }
 }
 
+// The strip of a set from the height at a place on, where there is one, added to the totals.
+fn work_from(
+    set: FinSet,
+    points: &[f64],
+    next: usize,
+    limit: usize,
+    totals: Totals,
+    scratch: &mut [f64],
+) -> Onward
+    requires { ⌜ Room limit (length (now scratch)) ⌝ }
+    ensures { λ r. ⌜ Does (onwardOf (stepRun set (now (points .entry)) limit) next totals)
+        r (now (scratch .entry)) (now (scratch .exit)) ⌝ }
+{
+    let planform = set.planform;
+    let section = set.cross_section;
+    let span_m = planforms::span_m(planform, points);
+    let integrand = integrands::plate_integrand(
+        planform,
+        points,
+        span_m,
+        section,
+        set.thickness_m,
+        set.body_radius_m,
+    );
+    strips::work_next(scratch, integrand, points, span_m, next, limit, totals)
+}
+
 // The next strip of a job, added to its totals.
 fn work_next(job: Job, scratch: &mut [f64]) -> Onward
     requires { ⌜ Room (job .limit) (length (now scratch)) ⌝ }
     ensures { λ r. ⌜ Does (nextStrip job) r (now (scratch .entry)) (now (scratch .exit)) ⌝ }
 {
     let set = job.set;
-    let planform = set.planform;
-    let section = set.cross_section;
     let points = job.points;
     let numbers = points.numbers;
     let n = held(points.count);
-    let integrand = integrands::plate_integrand(
-        planform,
-        &numbers[..n],
-        section,
-        set.thickness_m,
-        set.body_radius_m,
-    );
     let totals = job.totals;
-    strips::work_next(
-        scratch,
-        integrand,
-        &numbers[..n],
-        job.next,
-        job.limit,
-        totals,
-    )
+    work_from(set, &numbers[..n], job.next, job.limit, totals, scratch)
 }
 
 // The job once its next strip is worked: it goes on, or it ends with its last strip or one refused.

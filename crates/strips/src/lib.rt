@@ -9,6 +9,7 @@ ghost use Prim.Native.Nat.{_+_, _-_, _<_, _^_};
 ghost use mathlib.Core.Path.{_≡_};
 ghost use lib.ListN.{length};
 ghost use Rattle.refusals.specs.Calls.{Does};
+ghost use Rattle.planforms.specs.Planforms.{spanOf};
 ghost use Rattle.strips.specs.Strips.{isAccepted, withStrip, inWords, stripBetween, WorksStrip, Room, runBetween, runOf, stepRunOf, onwardOf, Runs};
 use halving::Ending;
 use halving::Integral;
@@ -71,21 +72,21 @@ fn work_strip(
 }
 
 // The strip of the integrand's planform from the height at a place on, where there is one: the job's step (document 02,
-// Paper 9).
+// Paper 9), which has worked the span already.
 pub fn work_next(
     scratch: &mut [f64],
     integrand: Integrand,
     points: &[f64],
+    span: f64,
     i: usize,
     limit: usize,
     totals: Totals,
 ) -> Onward
-    requires { ⌜ Room limit (length (now scratch)) ⌝ }
+    requires { ⌜ Room limit (length (now scratch)) × (span ≡ spanOf (integrand .planform) (now points)) ⌝ }
     ensures { λ r. ⌜ Does (onwardOf (stepRunOf integrand (now (points .entry)) limit) i totals)
         r (now (scratch .entry)) (now (scratch .exit)) ⌝ }
 {
     let planform = integrand.planform;
-    let span = planforms::span_m(planform, points);
     let lower = breaks::height_at(planform, points, i);
     let found = breaks::least_above(planform, points, span, lower);
     let upper = found.height;

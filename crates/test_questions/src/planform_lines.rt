@@ -95,9 +95,11 @@ pub(crate) fn plate_agrees(
         return false;
     }
     let points = &values[2..end];
+    let planform = planform_of(planform, points);
     let integrand = integrands::plate_integrand(
-        planform_of(planform, points),
+        planform,
         points,
+        planforms::span_m(planform, points),
         section_lines::section_of(section),
         values[0],
         values[1],

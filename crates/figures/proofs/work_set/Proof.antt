@@ -7,20 +7,23 @@ use borrow.Author.Needs.{needs}
 use Rattle.figures.proofs.work_set.Statement.{statement}
 use Rattle.figures.proofs.work_set.Tie as tie
 
+span-m-requires : tie.Need-span-m-requires
+span-m-requires c κs = search needs
+
 plate-integrand-requires : tie.Need-plate-integrand-requires
-plate-integrand-requires c κs = search needs
+plate-integrand-requires c κs = c .span-m .ensures
 
 root-chord-m-requires : tie.Need-root-chord-m-requires
 root-chord-m-requires c κs = search needs
 
 work-strips-requires : tie.Need-work-strips-requires
 work-strips-requires c κs =
-    let s = c .before .before .before .before .before in
+    let s = c .before .before .before .before .before .before in
     set-run (s .args .set) (s .args .points .now) (s .args .limit) _ (s .pre)
 
 concluded-requires : tie.Need-concluded-requires
 concluded-requires c κs =
-    let s = c .before .before .before .before .before .before .before .before in
+    let s = c .before .before .before .before .before .before .before .before .before in
     count-within _ (set-accepted (s .args .set) (s .args .points .now) (s .args .limit) _ (s .pre) .count) .1
 
 same-length : tie.Need-same-length
@@ -31,7 +34,7 @@ returns c =
     let i = c .before .before .before in
     let root = i .before .before in
     let plate = root .before in
-    let s = plate .before .before .before in
+    let s = plate .before .before .before .before in
     let a = s .args in
     let run = run-of _ (a .points .now) (a .limit) (a .scratch .now) _ _
     (plate-strips (a .set) (a .points .now) (a .limit) _ (plate .plate-integrand .ensures))
@@ -42,6 +45,7 @@ pub work-set-spec : {M : Type 1} → statement M
 work-set-spec =
     tie.close
     (tie.spec
+    span-m-requires
     plate-integrand-requires
     root-chord-m-requires
     work-strips-requires

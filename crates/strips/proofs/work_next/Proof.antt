@@ -4,14 +4,11 @@ use Rattle.strips.proofs.Onwards.{went-on, went-nowhere}
 use Rattle.strips.proofs.work_next.Statement.{statement}
 use Rattle.strips.proofs.work_next.Tie as tie
 
-span-m-requires : tie.Need-span-m-requires
-span-m-requires c κs = search needs
-
 height-at-requires : tie.Need-height-at-requires
 height-at-requires c κs = search needs
 
 least-above-requires : tie.Need-least-above-requires
-least-above-requires c κs = c .before .span-m .ensures
+least-above-requires c κs = c .before .before .before .pre .1
 
 slice-aggregate-work-strip : tie.Need-slice-aggregate-work-strip
 slice-aggregate-work-strip c = search needs
@@ -28,17 +25,17 @@ returns c =
     let some = c .before .before .before .before .before in
     let found = some .before in
     let from = found .before in
-    let spanned = from .before in
-    let a = spanned .before .before .before .args in
+    let start = from .before .before .before in
+    let a = start .args in
     went-on (a .integrand) (a .points .now) (a .limit) (a .i) (from .height-at .result) (from .height-at .ensures) (found .least-above .result)
-    (found .least-above .ensures) (a .totals) (a .scratch .now) (some .if1 .taken) (spanned .span-m .result) (spanned .span-m .ensures) _ _
+    (found .least-above .ensures) (a .totals) (a .scratch .now) (some .if1 .taken) (a .span) (start .pre .1) _ _
     (worked .work-strip .ensures)
 
 returns-2 : tie.Need-returns-2
 returns-2 c =
     let found = c .before in
     let from = found .before in
-    let a = from .before .before .before .before .args in
+    let a = from .before .before .before .args in
     went-nowhere (a .integrand) (a .points .now) (a .limit) (a .i) (from .height-at .result) (from .height-at .ensures) (found .least-above .result)
     (found .least-above .ensures) (a .totals) (a .scratch .now) (c .if1 .left)
 
@@ -46,7 +43,6 @@ pub work-next-spec : {M : Type 1} → statement M
 work-next-spec =
     tie.close
     (tie.spec
-    span-m-requires
     height-at-requires
     least-above-requires
     slice-aggregate-work-strip
