@@ -16,7 +16,8 @@ use Rattle.figures.specs.declared.Area.{Area}
 use Rattle.one_piece.specs.OnePiece.{Proportions}
 
 -- the call for the area (`figures::geometry`) answered r, with figures; its four lengths are f64s
-pub record AreaGiven (root tip span sweep : Float) (points : List Float) (L : ℕ) (entry : List Float) (r : Area) (exit : List Float)
+pub record AreaGiven (root tip span sweep : Float) (points : List Float) (L : ℕ) (entry : List Float) (r : Area)
+    (exit : List Float)
     : Type 0 where
   pub f64s : T (fits binary64 root) × (T (fits binary64 tip) × (T (fits binary64 span) × T (fits binary64 sweep)))
   pub answers : AreaAnswers (Trapezoid root tip span sweep) points L entry r exit
@@ -43,13 +44,16 @@ pub record AreaNear (b d : ℕ) (root tip span : Float) (r : Area) : Type 0 wher
       → Within ((pos (b * 45) over (d * 2 ^ 53)) times valueOf span) (valueOf (r .«area_m2»)) (exactArea root tip span)
   pub near :
       r .intervals ≤ 40
-      → Within ((pos (b * r .intervals) over (d * 2 ^ 44)) times valueOf span) (valueOf (r .«area_m2»)) (exactArea root tip span)
+      → Within ((pos (b * r .intervals) over (d * 2 ^ 44)) times valueOf span) (valueOf (r .«area_m2»))
+      (exactArea root tip span)
   pub with-slivers :
-      Within ((pos (b * r .intervals) over (d * 2 ^ 43)) times valueOf span) (valueOf (r .«area_m2»)) (exactArea root tip span)
+      Within ((pos (b * r .intervals) over (d * 2 ^ 43)) times valueOf span) (valueOf (r .«area_m2»))
+      (exactArea root tip span)
 
 abbrev pub TrapezoidArea : Type 0
 TrapezoidArea =
-    (root tip span sweep : Float) (points : List Float) (L : ℕ) (entry : List Float) (r : Area) (exit : List Float) (b d : ℕ)
+    (root tip span sweep : Float) (points : List Float) (L : ℕ) (entry : List Float) (r : Area) (exit : List Float)
+    (b d : ℕ)
     → AreaGiven root tip span sweep points L entry r exit
     → Reach b d root tip sweep
     → AreaNear b d root tip span r

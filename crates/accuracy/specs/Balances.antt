@@ -35,19 +35,22 @@ forward AirfoilOpen = phiExactly openTail 1
 abbrev pub finMoment : Section → Plate → Fraction
 finMoment section p =
     valueOf (p .thickness) times (valueOf (p .span) times
-    (filled section times (valueOf (p .sweep) times (valueOf (p .root) plus (pos 2 over 1) times valueOf (p .tip))) times (pos 1 over 6)
+    (filled section times
+    (valueOf (p .sweep) times (valueOf (p .root) plus (pos 2 over 1) times valueOf (p .tip))) times (pos 1 over 6)
     plus forward section times (valueOf (p .root) times valueOf (p .root) plus valueOf (p .root) times valueOf (p .tip)
     plus valueOf (p .tip) times valueOf (p .tip)) times (pos 1 over 3)))
 
 abbrev pub tabMoment : Tab → Float → Fraction
 tabMoment None thickness = pos 0 over 1
 tabMoment (Slab height length offset) thickness =
-    valueOf thickness times valueOf height times (valueOf length times (valueOf offset plus valueOf length times (pos 1 over 2)))
+    valueOf thickness times valueOf height times
+    (valueOf length times (valueOf offset plus valueOf length times (pos 1 over 2)))
 
 -- count·density·moment
 abbrev pub exactMoment : Section → Plate → Mount → Fraction
 exactMoment section p m =
-    (pos (m .count) over 1) times (valueOf (p .density) times (finMoment section p plus tabMoment (p .tab) (p .thickness)))
+    (pos (m .count) over 1) times
+    (valueOf (p .density) times (finMoment section p plus tabMoment (p .tab) (p .thickness)))
 
 -- the numbers of a tab are f64s, its length and its offset at most the root chord, its height at most so many spans
 abbrev pub TabGiven : ℕ → Tab → Plate → Type 0

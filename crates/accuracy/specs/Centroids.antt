@@ -27,16 +27,19 @@ inHeight root tip span = valueOf span times (valueOf root plus (pos 2 over 1) ti
 -- x is at most κ²·2^-34·B from it, the height κ²·2^-34·span, B = b / d the largest of root, tip and |sweep|
 pub record CentroidNear (κ b d : ℕ) (root tip span sweep : Float) (r : Area) : Type 0 where
   pub along-root :
-      Within ((pos (κ * κ * b) over (d * 2 ^ 34)) times thrice root tip) (valueOf (r .«centroid_x_m») times thrice root tip) (alongRoot root tip sweep)
+      Within ((pos (κ * κ * b) over (d * 2 ^ 34)) times thrice root tip)
+      (valueOf (r .«centroid_x_m») times thrice root tip) (alongRoot root tip sweep)
   pub in-height :
-      Within ((pos (κ * κ) over 2 ^ 34) times valueOf span times thrice root tip) (valueOf (r .«centroid_span_m») times thrice root tip)
+      Within ((pos (κ * κ) over 2 ^ 34) times valueOf span times thrice root tip)
+      (valueOf (r .«centroid_span_m») times thrice root tip)
       (inHeight root tip span)
 
 -- where the strip has n pieces, at most 40, and B is at most κ root chords: so near with n·κ. Within the limits B is at
 -- most 64, and of one piece κ 2^26 is enough.
 abbrev pub TrapezoidCentroid : Type 0
 TrapezoidCentroid =
-    (root tip span sweep : Float) (points : List Float) (L : ℕ) (entry : List Float) (r : Area) (exit : List Float) (b d κ : ℕ)
+    (root tip span sweep : Float) (points : List Float) (L : ℕ) (entry : List Float) (r : Area) (exit : List Float)
+    (b d κ : ℕ)
     → AreaGiven root tip span sweep points L entry r exit
     → r .intervals ≤ 40
     → Reach b d root tip sweep

@@ -65,13 +65,16 @@ filledCube AirfoilOpen = psiExactly openTail
 
 -- ∫y of a square plate: thickness·span²·(root + 2·tip)/6
 abbrev pub heightMoment : Plate → Fraction
-heightMoment p = valueOf (p .thickness) times (valueOf (p .span) times (inHeight (p .root) (p .tip) (p .span) times (pos 1 over 6)))
+heightMoment p =
+    valueOf (p .thickness) times (valueOf (p .span) times (inHeight (p .root) (p .tip) (p .span) times (pos 1 over 6)))
 
 -- ∫y²: thickness·span³·(root + 3·tip)/12
 abbrev pub heightSquares : Plate → Fraction
 heightSquares p =
     valueOf (p .thickness)
-    times (cubed (valueOf (p .span)) times ((valueOf (p .root) plus (pos 3 over 1) times valueOf (p .tip)) times (pos 1 over 12)))
+    times
+    (cubed (valueOf (p .span)) times
+    ((valueOf (p .root) plus (pos 3 over 1) times valueOf (p .tip)) times (pos 1 over 12)))
 
 -- root + 3·tip, root² + 2·root·tip + 3·tip², and root³ + root²·tip + root·tip² + tip³
 abbrev pub toTip : Plate → Fraction
@@ -100,7 +103,8 @@ alongSquares section p =
 abbrev pub heightAlong : Section → Plate → Fraction
 heightAlong section p =
     valueOf (p .thickness) times (square (valueOf (p .span)) times
-    ((filled section times (valueOf (p .sweep) times toTip p) plus forward section times toTipSquare p) times (pos 1 over 12)))
+    ((filled section times (valueOf (p .sweep) times toTip p) plus forward section times toTipSquare p) times
+    (pos 1 over 12)))
 
 -- ∫τ² of a plate is thickness²/12 of its volume
 abbrev pub throughThickness : Float → Fraction → Fraction
@@ -113,14 +117,16 @@ finIntegrals section p radius =
       volume = filled section times finVolume p;
       r1 = valueOf radius times (filled section times finVolume p) plus filled section times heightMoment p;
       r2 = square (valueOf radius) times (filled section times finVolume p)
-          plus (pos 2 over 1) times (valueOf radius times (filled section times heightMoment p)) plus filled section times heightSquares p;
+          plus (pos 2 over 1) times
+          (valueOf radius times (filled section times heightMoment p)) plus filled section times heightSquares p;
       x1 = finMoment section p;
       x2 = alongSquares section p;
       rx = valueOf radius times finMoment section p plus heightAlong section p;
       tau2 = throughThickness (p .thickness) (filledCube section times finVolume p);
     }
 
--- ---- the tab: its volume times the mean of r, radius − height/2, of r², radius² − radius·height + height²/3, and of x²,
+-- ---- the tab: its volume times the mean of r, radius − height/2, of r², radius² − radius·height + height²/3, and of
+-- x²,
 -- offset² + offset·length + length²/3
 abbrev pub meanRadius : Float → Float → Fraction
 meanRadius height radius = valueOf radius less valueOf height times (pos 1 over 2)
@@ -170,7 +176,8 @@ together a b =
     }
 
 abbrev pub exactIntegrals : Section → Plate → Mount → Integrals
-exactIntegrals section p m = together (finIntegrals section p (m .radius)) (tabIntegrals (p .tab) (p .thickness) (m .radius))
+exactIntegrals section p m =
+    together (finIntegrals section p (m .radius)) (tabIntegrals (p .tab) (p .thickness) (m .radius))
 
 -- the tensor about the balance point at density 1, times the volume; the xz number of points (r, τ, −x) is +∫rx
 abbrev pub exactXX : Integrals → Fraction

@@ -76,7 +76,9 @@ setOf p m = setWith Square p m
 -- fillet, and the density lies above 0
 pub record SectionGiven (section : Section) (p : Plate) (m : Mount) (points : List Float)
     (L : ℕ) (entry : List Float) (r : Figures) (exit : List Float) : Type 0 where
-  pub f64s : T (fits binary64 (p .root)) × (T (fits binary64 (p .tip)) × (T (fits binary64 (p .span)) × T (fits binary64 (p .sweep))))
+  pub f64s :
+      T (fits binary64 (p .root))
+      × (T (fits binary64 (p .tip)) × (T (fits binary64 (p .span)) × T (fits binary64 (p .sweep))))
   pub thickness-f64 : T (fits binary64 (p .thickness))
   pub answers : SetAnswers (setWith section p m) points L entry r exit
   pub given : r .verdict ≡ Accepted
@@ -88,7 +90,9 @@ SetGiven p m points L entry r exit = SectionGiven Square p m points L entry r ex
 
 -- thickness·span·(root + tip)/2, and thickness·length·height of a tab
 abbrev pub finVolume : Plate → Fraction
-finVolume p = valueOf (p .thickness) times (valueOf (p .span) times ((valueOf (p .root) plus valueOf (p .tip)) times (pos 1 over 2)))
+finVolume p =
+    valueOf (p .thickness) times
+    (valueOf (p .span) times ((valueOf (p .root) plus valueOf (p .tip)) times (pos 1 over 2)))
 
 abbrev pub tabVolume : Tab → Float → Fraction
 tabVolume None thickness = pos 0 over 1
@@ -96,7 +100,8 @@ tabVolume (Slab height length offset) thickness = valueOf thickness times valueO
 
 -- count·density·volume
 abbrev pub exactMass : Plate → Mount → Fraction
-exactMass p m = (pos (m .count) over 1) times (valueOf (p .density) times (finVolume p plus tabVolume (p .tab) (p .thickness)))
+exactMass p m =
+    (pos (m .count) over 1) times (valueOf (p .density) times (finVolume p plus tabVolume (p .tab) (p .thickness)))
 
 -- B = b / d, at most 64: root, tip, |sweep| and the length of a tab do not pass it; Y = y / e, at most 64: nor span and
 -- height of a tab that
@@ -115,11 +120,14 @@ pub record Extents (p : Plate) (b d y e : ℕ) : Type 0 where
 -- where the strip has n pieces, at most 40: at most n·2^-41·count·density·thickness·B·Y from it
 abbrev pub TrapezoidMass : Type 0
 TrapezoidMass =
-    (p : Plate) (m : Mount) (points : List Float) (L : ℕ) (entry : List Float) (r : Figures) (exit : List Float) (b d y e : ℕ)
+    (p : Plate) (m : Mount) (points : List Float) (L : ℕ) (entry : List Float) (r : Figures) (exit : List Float)
+    (b d y e : ℕ)
     → SetGiven p m points L entry r exit
     → r .intervals ≤ 40
     → Extents p b d y e
-    → Within ((pos (r .intervals * (m .count * (b * y))) over (d * e * 2 ^ 41)) times (valueOf (p .density) times valueOf (p .thickness)))
+    → Within
+    ((pos (r .intervals * (m .count * (b * y))) over (d * e * 2 ^ 41)) times
+    (valueOf (p .density) times valueOf (p .thickness)))
     (valueOf (r .body .«mass_kg»)) (exactMass p m)
 
 -- how much of thickness × chord a section fills: a square one all, an airfoil the integral of its thickness; of a
@@ -135,7 +143,8 @@ exactMassWith section p m =
     (pos (m .count) over 1)
     times (valueOf (p .density) times (filled section times finVolume p plus tabVolume (p .tab) (p .thickness)))
 
--- of sets of one piece, tip at most 2 root chords and sweep at most 8: at most 90·2^-53·count·density·thickness·B·Y from
+-- of sets of one piece, tip at most 2 root chords and sweep at most 8: at most 90·2^-53·count·density·thickness·B·Y
+-- from
 -- it
 abbrev pub OrdinaryMass : Type 0
 OrdinaryMass =

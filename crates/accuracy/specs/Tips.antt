@@ -21,7 +21,9 @@ use Rattle.outlines.specs.Outlines.{planformCheck}
 abbrev pub BelowSpan : Planform → List Float → Type 0
 BelowSpan planform points =
     (w : ℕ) (f : Float → List Float) (limit : ℕ)
-    → length (halving w f (bits 0 ⊘ scaleOf planform points) (spanOf planform points ⊘ scaleOf planform points) limit .pieces) ≤ 40
+    → length
+    (halving w f (bits 0 ⊘ scaleOf planform points)
+    (spanOf planform points ⊘ scaleOf planform points) limit .pieces) ≤ 40
     → Each (λ h. T (lt (h ⊗ scaleOf planform points) (spanOf planform points)))
     (halving w f (bits 0 ⊘ scaleOf planform points) (spanOf planform points ⊘ scaleOf planform points) limit .heights)
 

@@ -8,7 +8,9 @@ use Rattle.tokens.specs.Text.{text}
 use Rattle.answers.specs.Filled.{filled}
 use Rattle.answers.specs.declared.Reply.{Reply}
 use Rattle.answers.specs.declared.Shape.{Shape}
-use Rattle.answers.specs.declared.Shape.the-variants.{Figures, Area, Joined, Ring, Body, Closing, Inside, Edge, Outside, Moments, Sound, Taken, Idle, More, Done, DoneRefused, Progress, Refused}
+use Rattle.answers.specs.declared.Shape.the-variants.{Figures, Area, Joined, Ring, Body, Closing, Inside, Edge}
+use Rattle.answers.specs.declared.Shape.the-variants.{Outside, Moments, Sound, Taken, Idle, More, Done}
+use Rattle.answers.specs.declared.Shape.the-variants.{DoneRefused, Progress, Refused}
 
 -- how many bytes an answer may have; none has more (proofs/Lengths)
 abbrev pub answerBytes : ℕ
@@ -49,4 +51,9 @@ textOf reply = filled (template (reply .shape)) (reply .figures) (reply .counts)
 
 -- an answer of these figures and counts: ten and four, with zeros after those that are given
 abbrev pub reply : Shape → List Float → List ℕ → Reply
-reply shape figures counts = record { shape = shape; figures = take 10 (figures ++ replicate 10 (bits 0)); counts = take 4 (counts ++ replicate 4 0) }
+reply shape figures counts =
+    record {
+      shape = shape;
+      figures = take 10 (figures ++ replicate 10 (bits 0));
+      counts = take 4 (counts ++ replicate 4 0);
+    }

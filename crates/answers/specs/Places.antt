@@ -14,7 +14,8 @@ pub record HasRoom (out : List ℕ) (p : Place) (b : ℕ) (figures : List Float)
   pub counts-left : p .counts ≤ length counts
   pub bytes : p .n + roomFor b ≤ length out
 
-pub record PutPiece (before after : List ℕ) (p r : Place) (b : ℕ) (figures : List Float) (counts : List ℕ) : Type 0 where
+pub record PutPiece (before after : List ℕ) (p r : Place) (b : ℕ) (figures : List Float)
+    (counts : List ℕ) : Type 0 where
   pub put : Appended before (p .n) (piece b (drop (p .figures) figures) (drop (p .counts) counts)) after (r .n)
   pub next-figures : drop (r .figures) figures ≡ figuresAfter b (drop (p .figures) figures)
   pub next-counts : drop (r .counts) counts ≡ countsAfter b (drop (p .counts) counts)

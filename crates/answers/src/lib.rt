@@ -52,7 +52,8 @@ struct Place {
 // One byte of a template, filled in.
 fn put_piece(out: &mut [u8], p: Place, b: u8, figures: &[f64], counts: &[u64]) -> Place
     requires { ⌜ HasRoom (now out) p b (now figures) (now counts) ⌝ }
-    ensures { λ r. ⌜ PutPiece (now (out .entry)) (now (out .exit)) p r b (now (figures .entry)) (now (counts .entry)) ⌝ }
+    ensures { λ r. ⌜
+        PutPiece (now (out .entry)) (now (out .exit)) p r b (now (figures .entry)) (now (counts .entry)) ⌝ }
 {
     let n = p.n;
     let i = p.figures;

@@ -24,7 +24,8 @@ figureAs b x = decimalText 6 (cond (eqb b 71) 3 0) false x
 
 -- N (78) is the mark of a count
 abbrev pub plainPiece : ℕ → List Float → List ℕ → List ℕ
-plainPiece b figures counts = cond (isFigureMark b) (ofFirst (figureAs b) figures) (cond (eqb b 78) (ofFirst countText counts) (b ∷ []))
+plainPiece b figures counts =
+    cond (isFigureMark b) (ofFirst (figureAs b) figures) (cond (eqb b 78) (ofFirst countText counts) (b ∷ []))
 
 -- what a byte gives, and the counts that are left after it
 pub record Marks : Type 0 where
@@ -40,7 +41,8 @@ figuresAfter b figures = cond (isFigureMark b) (drop 1 figures) figures
 
 unfoldable pub filled : Marks → List ℕ → List Float → List ℕ → List ℕ
 filled m [] figures counts = []
-filled m (b ∷ bs) figures counts = m .piece b figures counts ++ filled m bs (figuresAfter b figures) (m .countsAfter b counts)
+filled m (b ∷ bs) figures counts =
+    m .piece b figures counts ++ filled m bs (figuresAfter b figures) (m .countsAfter b counts)
 
 -- the most bytes that a text can take, by what each of its bytes can
 unfoldable pub room : (ℕ → ℕ) → List ℕ → ℕ

@@ -39,7 +39,9 @@ wordCounts w = ofWord w (λ x. []) (λ n. n ∷ []) []
 -- word by word, with the word that is being read: what it gives, then what the byte that ends it gives
 unfoldable pub overWords : {A : Type 0} → (List ℕ → List A) → (ℕ → List A) → List ℕ → List ℕ → List A
 overWords word between w [] = word w
-overWords word between w (b ∷ bs) = cond (endsWord b) (word w ++ (between b ++ overWords word between [] bs)) (overWords word between (w ++ (b ∷ [])) bs)
+overWords word between w (b ∷ bs) =
+    cond (endsWord b) (word w ++ (between b ++ overWords word between [] bs))
+    (overWords word between (w ++ (b ∷ [])) bs)
 
 -- spaces and brackets stay as they are
 abbrev pub shapeIn : List ℕ → List ℕ

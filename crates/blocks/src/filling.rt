@@ -8,7 +8,8 @@ ghost use lib.Ieee.{nan};
 ghost use Rattle.floats.specs.Operations.{at};
 ghost use Rattle.texts.specs.Appended.{Appended};
 ghost use Rattle.blocks.specs.Filled.{isFigureMark, figureAs, plain, filled, room, plainMost};
-ghost use Rattle.blocks.specs.Cards.{largestFrom, besideFrom, massFigures, massLine, momentFigures, momentLine, allZero, mixedText};
+ghost use Rattle.blocks.specs.Cards.{largestFrom, besideFrom, massFigures, massLine, momentFigures, momentLine};
+ghost use Rattle.blocks.specs.Cards.{allZero, mixedText};
 ghost use Rattle.blocks.specs.Cards.{isBodyMark, bodyPiece, bodyMost, card, cardMost};
 ghost use Rattle.blocks.specs.Steps.{HasRoom, PutsPiece};
 use crate::sentences;
@@ -46,7 +47,8 @@ fn put_figure(out: &mut [u8], n: usize, b: u8, x: f64) -> usize
 // One byte of a text: a figure's mark, a count's, or itself.
 fn put_piece(out: &mut [u8], p: Place, b: u8, figures: &[f64], counts: &[u64]) -> Place
     requires { ⌜ HasRoom plainMost (now out) p b (now figures) (now counts) ⌝ }
-    ensures { λ r. ⌜ PutsPiece plain (now (out .entry)) (now (out .exit)) p r b (now (figures .entry)) (now (counts .entry)) ⌝ }
+    ensures { λ r. ⌜
+        PutsPiece plain (now (out .entry)) (now (out .exit)) p r b (now (figures .entry)) (now (counts .entry)) ⌝ }
 {
     let n = p.n;
     let i = p.figures;
@@ -148,7 +150,8 @@ fn mass_figures(figures: &[f64]) -> [f64; 2]
 // The mass, and the balance point up to the name of the origin.
 fn put_mass(out: &mut [u8], n: usize, figures: &[f64]) -> usize
     requires { ⌜ n + 130 ≤ length (now out) ⌝ }
-    ensures { λ r. ⌜ Appended (now (out .entry)) n (filled plain massLine (massFigures (now (figures .entry))) []) (now (out .exit)) r ⌝ }
+    ensures { λ r. ⌜ Appended (now (out .entry)) n (filled plain massLine (massFigures (now (figures .entry))) [])
+        (now (out .exit)) r ⌝ }
 {
     let shown = mass_figures(figures);
     let counts: [u64; 0] = [];
@@ -176,7 +179,8 @@ fn moment_figures(figures: &[f64]) -> [f64; 5]
 // The rest of the balance point's line, and the moments about it.
 fn put_moments(out: &mut [u8], n: usize, figures: &[f64]) -> usize
     requires { ⌜ n + 330 ≤ length (now out) ⌝ }
-    ensures { λ r. ⌜ Appended (now (out .entry)) n (filled plain momentLine (momentFigures (now (figures .entry))) []) (now (out .exit)) r ⌝ }
+    ensures { λ r. ⌜ Appended (now (out .entry)) n (filled plain momentLine (momentFigures (now (figures .entry))) [])
+        (now (out .exit)) r ⌝ }
 {
     let shown = moment_figures(figures);
     let counts: [u64; 0] = [];
@@ -253,7 +257,8 @@ fn put_body(out: &mut [u8], n: usize, b: u8, figures: &[f64]) -> usize
 // One byte of a block's text: a body's mark, a refusal's, or one that a text without them has.
 fn put_mark(out: &mut [u8], p: Place, b: u8, figures: &[f64], counts: &[u64]) -> Place
     requires { ⌜ HasRoom cardMost (now out) p b (now figures) (now counts) ⌝ }
-    ensures { λ r. ⌜ PutsPiece card (now (out .entry)) (now (out .exit)) p r b (now (figures .entry)) (now (counts .entry)) ⌝ }
+    ensures { λ r. ⌜
+        PutsPiece card (now (out .entry)) (now (out .exit)) p r b (now (figures .entry)) (now (counts .entry)) ⌝ }
 {
     let i = p.figures;
     let j = p.counts;

@@ -34,7 +34,9 @@ fn put_from(
     requires { ⌜ BlockFits n (now out) × (length (now table) ≤ 4096)
         × (room cardMost (textFor (now shape) (cutAtBars (now table))) ≤ 1000) ⌝ }
     ensures { λ r. ⌜ Appended (now (out .entry)) n
-        (orElse (filled card (textFor (now (shape .entry)) (cutAtBars (now (table .entry)))) (now (figures .entry)) (now (counts .entry))) noAnswer
+        (orElse
+        (filled card (textFor (now (shape .entry)) (cutAtBars (now (table .entry)))) (now (figures .entry))
+        (now (counts .entry))) noAnswer
         ++ newline) (now (out .exit)) r ⌝ }
 {
     let p = lookup::find(table, shape);

@@ -10,9 +10,11 @@ use crate::lookup;
 
 // The table's text for a key, or that there is none.
 fn put_text(out: &mut [u8], n: usize, table: &[u8], key: &[u8]) -> usize
-    requires { ⌜ (n + 150 ≤ length (now out)) × (length (now table) ≤ 4096) × (length (textFor (now key) (cutAtBars (now table))) ≤ 150) ⌝ }
+    requires { ⌜ (n + 150 ≤ length (now out)) × (length (now table) ≤ 4096)
+        × (length (textFor (now key) (cutAtBars (now table))) ≤ 150) ⌝ }
     ensures { λ r. ⌜ Appended (now (out .entry)) n
-        (orElse (textFor (now (key .entry)) (cutAtBars (now (table .entry)))) (text "no number of the table")) (now (out .exit)) r ⌝ }
+        (orElse (textFor (now (key .entry)) (cutAtBars (now (table .entry)))) (text "no number of the table"))
+        (now (out .exit)) r ⌝ }
 {
     let p = lookup::find(table, key);
     let from = p.from;

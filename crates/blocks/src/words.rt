@@ -2,7 +2,8 @@
 ghost use mathlib.Core.Path.{_≡_};
 ghost use Prim.Native.Nat.{_+_, _≤_, _<_};
 ghost use lib.ListN.{length};
-ghost use Rattle.blocks.specs.Steps.{IsEnd, endBytes, PutsFigure, PutsCount, PutsPlain, PutsOther, PutsWord, IsRead};
+ghost use Rattle.blocks.specs.Steps.{IsEnd, endBytes, PutsFigure, PutsCount, PutsPlain, PutsOther, PutsWord};
+ghost use Rattle.blocks.specs.Steps.{IsRead};
 use counts::Count;
 use hex::Figure;
 
@@ -31,7 +32,8 @@ fn word_end(line: &[u8], at: usize) -> usize
 // A figure: `F`, and the figure after those before it.
 fn put_figure(shape: &mut [u8], figures: &mut [f64], p: Read, x: f64) -> Read
     requires { ⌜ (p .bytes < length (now shape)) × (p .figures < length (now figures)) ⌝ }
-    ensures { λ r. ⌜ PutsFigure x p r (now (shape .entry)) (now (shape .exit)) (now (figures .entry)) (now (figures .exit)) ⌝ }
+    ensures { λ r. ⌜
+        PutsFigure x p r (now (shape .entry)) (now (shape .exit)) (now (figures .entry)) (now (figures .exit)) ⌝ }
 {
     let n = p.bytes;
     let k = p.figures;
@@ -47,7 +49,8 @@ fn put_figure(shape: &mut [u8], figures: &mut [f64], p: Read, x: f64) -> Read
 // A count: `N`, and the count after those before it.
 fn put_count(shape: &mut [u8], counts: &mut [u64], p: Read, n: u64) -> Read
     requires { ⌜ (p .bytes < length (now shape)) × (p .counts < length (now counts)) ⌝ }
-    ensures { λ r. ⌜ PutsCount n p r (now (shape .entry)) (now (shape .exit)) (now (counts .entry)) (now (counts .exit)) ⌝ }
+    ensures { λ r. ⌜
+        PutsCount n p r (now (shape .entry)) (now (shape .exit)) (now (counts .entry)) (now (counts .exit)) ⌝ }
 {
     let at = p.bytes;
     let k = p.counts;
@@ -77,7 +80,8 @@ fn put_plain(shape: &mut [u8], p: Read, bytes: &[u8]) -> Read
 fn put_other(shape: &mut [u8], counts: &mut [u64], p: Read, word: &[u8]) -> Read
     requires { ⌜ (1 ≤ length (now word)) × (p .bytes + length (now word) ≤ length (now shape))
         × (p .counts + length (now word) ≤ length (now counts)) ⌝ }
-    ensures { λ r. ⌜ PutsOther (now (word .entry)) p r (now (shape .entry)) (now (shape .exit)) (now (counts .entry)) (now (counts .exit)) ⌝ }
+    ensures { λ r. ⌜ PutsOther (now (word .entry)) p r (now (shape .entry)) (now (shape .exit)) (now (counts .entry))
+        (now (counts .exit)) ⌝ }
 {
     match counts::read_count(word) {
         Count::Whole(n) => put_count(shape, counts, p, n),
@@ -93,7 +97,8 @@ fn put_other(shape: &mut [u8], counts: &mut [u64], p: Read, word: &[u8]) -> Read
 
 // A word of the line.
 fn put_word(shape: &mut [u8], figures: &mut [f64], counts: &mut [u64], p: Read, word: &[u8]) -> Read
-    requires { ⌜ (p .bytes + length (now word) ≤ length (now shape)) × (p .figures + length (now word) ≤ length (now figures)) ⌝ }
+    requires { ⌜ (p .bytes + length (now word) ≤ length (now shape))
+        × (p .figures + length (now word) ≤ length (now figures)) ⌝ }
     requires { ⌜ p .counts + length (now word) ≤ length (now counts) ⌝ }
     ensures { λ r. ⌜ PutsWord (now (word .entry)) p r (now (shape .entry)) (now (shape .exit))
         (now (figures .entry)) (now (figures .exit)) (now (counts .entry)) (now (counts .exit)) ⌝ }

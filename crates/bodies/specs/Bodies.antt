@@ -15,14 +15,26 @@ emptyBody = record { «mass_kg» = bits 0; «centre_m» = zeroVector; «inertia_
 
 -- I + m (|d|² E − d dᵀ), with d = centre − point
 unfoldable pub inertiaAboutOf : Body → Vector → Tensor
-inertiaAboutOf b point = addTensors (b .«inertia_kg_m2») (scaleTensor (offsetTensorOf (subtractVectors (b .«centre_m») point)) (b .«mass_kg»))
+inertiaAboutOf b point =
+    addTensors (b .«inertia_kg_m2»)
+    (scaleTensor (offsetTensorOf (subtractVectors (b .«centre_m») point)) (b .«mass_kg»))
 
 abbrev pub translatedOf : Body → Vector → Body
-translatedOf b offset = record { «mass_kg» = b .«mass_kg»; «centre_m» = addVectors (b .«centre_m») offset; «inertia_kg_m2» = b .«inertia_kg_m2» }
+translatedOf b offset =
+    record {
+      «mass_kg» = b .«mass_kg»;
+      «centre_m» = addVectors (b .«centre_m») offset;
+      «inertia_kg_m2» = b .«inertia_kg_m2»;
+    }
 
 -- R·centre and R·I·Rᵀ
 unfoldable pub rotatedOf : Body → Matrix → Body
-rotatedOf b rotation = record { «mass_kg» = b .«mass_kg»; «centre_m» = timesVector rotation (b .«centre_m»); «inertia_kg_m2» = turnTensor (b .«inertia_kg_m2») rotation }
+rotatedOf b rotation =
+    record {
+      «mass_kg» = b .«mass_kg»;
+      «centre_m» = timesVector rotation (b .«centre_m»);
+      «inertia_kg_m2» = turnTensor (b .«inertia_kg_m2») rotation;
+    }
 
 -- a mass at a place, with no tensor of its own
 abbrev pub pointMass : Float → Vector → Body

@@ -20,4 +20,6 @@ abbrev pub bodyOf : (ℕ → Float) → Body
 bodyOf f = record { «mass_kg» = f 0; «centre_m» = vector (f 1) (f 2) (f 3); «inertia_kg_m2» = tensor (λ i. f (4 + i)) }
 
 abbrev pub numbersOf : Body → List Float
-numbersOf b = b .«mass_kg» ∷ b .«centre_m» .x ∷ b .«centre_m» .y ∷ b .«centre_m» .z ∷ tabulate tensorNumbers (numberAt (b .«inertia_kg_m2»))
+numbersOf b =
+    b .«mass_kg» ∷ b .«centre_m» .x ∷ b .«centre_m» .y ∷ b .«centre_m» .z ∷
+    tabulate tensorNumbers (numberAt (b .«inertia_kg_m2»))

@@ -29,7 +29,9 @@ transposeOf a = fromColumns (row a 0) (row a 1) (row a 2)
 
 -- "matrix times vector is column 1·x, plus column 2·y, plus column 3·z"
 abbrev pub timesVector : Matrix → Vector → Vector
-timesVector a v = addVectors (addVectors (scaleVector (column a 0) (v .x)) (scaleVector (column a 1) (v .y))) (scaleVector (column a 2) (v .z))
+timesVector a v =
+    addVectors (addVectors (scaleVector (column a 0) (v .x)) (scaleVector (column a 1) (v .y)))
+    (scaleVector (column a 2) (v .z))
 
 -- "matrix product by columns"
 abbrev pub timesMatrix : Matrix → Matrix → Matrix

@@ -12,7 +12,8 @@ ghost use lib.ListN.{length};
 ghost use Rattle.floats.specs.Operations.{at};
 ghost use Rattle.bodies.specs.Vectors.{addVectors, subtractVectors, scaleVector, divideVector};
 ghost use Rattle.bodies.specs.Matrices.{timesVector, timesMatrix, transposeOf};
-ghost use Rattle.bodies.specs.Tensors.{symmetric, tensor, asMatrix, averaged, addTensors, subtractTensors, scaleTensor, turnTensor, offsetTensorOf};
+ghost use Rattle.bodies.specs.Tensors.{symmetric, tensor, asMatrix, averaged, addTensors, subtractTensors};
+ghost use Rattle.bodies.specs.Tensors.{scaleTensor, turnTensor, offsetTensorOf};
 ghost use Rattle.bodies.specs.Bodies.{inertiaAboutOf, translatedOf, rotatedOf, ofOriginTensor};
 ghost use Rattle.bodies.specs.Layout.{tensorNumbers, bodyNumbers, bodyOf, numbersOf};
 

@@ -6,7 +6,8 @@
 ghost use mathlib.Core.Path.{_≡_};
 ghost use Rattle.bodies.specs.Layout.{tensorNumbers};
 ghost use Rattle.refusals.specs.Given.{IsVerdict};
-ghost use Rattle.body_check.specs.BodyCheck.{finiteVector, largestMagnitude, masslessInertia, checkMoments, checkTensor, checkOf};
+ghost use Rattle.body_check.specs.BodyCheck.{finiteVector, largestMagnitude, masslessInertia, checkMoments};
+ghost use Rattle.body_check.specs.BodyCheck.{checkTensor, checkOf};
 use bodies::Body;
 use bodies::TENSOR_NUMBERS;
 use bodies::Tensor;

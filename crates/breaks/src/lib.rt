@@ -9,7 +9,8 @@ ghost use Rattle.sorting.specs.Sorted.{sorted, Written};
 ghost use Rattle.planforms.specs.Planforms.{pairCount, spanOf};
 ghost use Rattle.floats.specs.Operations.{at};
 ghost use Rattle.limits.specs.Limits.{mostPoints};
-ghost use Rattle.breaks.specs.Breaks.{everyY, outlineHeights, allHeights, oneStrip, breakHeights, keep, once, mostHeights, listed, leastAbove, foundWith};
+ghost use Rattle.breaks.specs.Breaks.{everyY, outlineHeights, allHeights, oneStrip, breakHeights, keep, once};
+ghost use Rattle.breaks.specs.Breaks.{mostHeights, listed, leastAbove, foundWith};
 
 // An outline's points and the two others.
 const MOST_HEIGHTS: usize = MOST_POINTS + 2;

@@ -26,7 +26,8 @@ use Rattle.card.specs.Program.{atFirst}
 use Rattle.card.specs.Screens.{callsOver}
 
 -- a line of a form that holds a whole set, `(set ..)` or `(submit N (set ..))`, and what that writes
-pub record WritesSet (form : ℕ → FinSet → ℕ → Asked) (line : List ℕ) (set : FinSet) (points : List Float) (L : ℕ) : Type 0 where
+pub record WritesSet (form : ℕ → FinSet → ℕ → Asked) (line : List ℕ) (set : FinSet) (points : List Float)
+    (L : ℕ) : Type 0 where
   pub count : ℕ
   pub asks : lineRead line .asked ≡ form L set count
   pub points-are : take count (lineRead line .figures) ≡ points
@@ -79,7 +80,8 @@ module _ (before : List (List ℕ)) (submission : List ℕ) (since : List (List 
       pub drawn : DrawnOnScreen (foundThen .engine) screen set points L (callsOver since leftThen)
       -- the turn that serves the screen answers that more strips remain, as long as the screen holds the job
       pub goes-on : (line : List ℕ) → AsksTurn line → nextScreen (leftNow .engine .screens) ≡ screen
-          → holdsJob (leftByLine line leftNow .engine .screens) screen ≡ true → Replies line leftNow (answered MoreShape [] (screen ∷ []))
+          → holdsJob (leftByLine line leftNow .engine .screens) screen ≡ true
+          → Replies line leftNow (answered MoreShape [] (screen ∷ []))
       -- or it ends the job and answers the card
       pub ends : (line : List ℕ) → AsksTurn line → nextScreen (leftNow .engine .screens) ≡ screen
           → holdsJob (leftByLine line leftNow .engine .screens) screen ≡ false

@@ -21,4 +21,6 @@ callsOver (line ∷ lines) memory = callsBy line memory ++ callsOver lines (left
 
 -- the engine is left as these calls leave it
 abbrev pub EngineByCalls : Type 0
-EngineByCalls = (lines : List (List ℕ)) (memory : Memory) → leftByLines lines memory .engine ≡ afterCalls (memory .engine) (callsOver lines memory)
+EngineByCalls =
+    (lines : List (List ℕ)) (memory : Memory)
+    → leftByLines lines memory .engine ≡ afterCalls (memory .engine) (callsOver lines memory)

@@ -24,7 +24,8 @@ use Rattle.sections.specs.declared.Section.the-variants.{Square}
 use Rattle.sections.specs.ChordMoments.{chordMoments}
 use Rattle.gauss_kronrod.specs.Tables.{nodes, kronrodWeights, gaussWeights}
 use Rattle.quadrature.specs.Rule.{heightsTo, weightedTo, pieceOf}
-use Rattle.tolerance.specs.Bounds.{totalOf, errorOf, absolute, relative, converged, scoreOf, lastHighest, worstPlace, componentOf}
+use Rattle.tolerance.specs.Bounds.{totalOf, errorOf, absolute, relative, converged, scoreOf, lastHighest, worstPlace}
+use Rattle.tolerance.specs.Bounds.{componentOf}
 use Rattle.halving.specs.Halving.{Halved, repeat, halving}
 use Rattle.bodies.specs.declared.Body.{Body}
 use Rattle.bodies.specs.declared.Tensor.{Tensor}
@@ -126,7 +127,8 @@ cases =
     pieces 8 225 ∷
     sine 0 0 ∷
     cosine 0 one ∷
-    joined ((one ∷ 0 ∷ 0 ∷ 0 ∷ noTensor) ++ (one ∷ two ∷ 0 ∷ 0 ∷ noTensor)) (two ∷ one ∷ 0 ∷ 0 ∷ 0 ∷ two ∷ two ∷ 0 ∷ 0 ∷ 0 ∷ []) ∷
+    joined ((one ∷ 0 ∷ 0 ∷ 0 ∷ noTensor) ++ (one ∷ two ∷ 0 ∷ 0 ∷ noTensor))
+    (two ∷ one ∷ 0 ∷ 0 ∷ 0 ∷ two ∷ two ∷ 0 ∷ 0 ∷ 0 ∷ []) ∷
     moments two 0 two (0 ∷ two ∷ two ∷ []) ∷
     sound one two three ∷
     unsound one one three ∷

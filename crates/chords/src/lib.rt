@@ -18,7 +18,8 @@ ghost use Rattle.sorting.specs.Sorted.{Written};
 ghost use Rattle.limits.specs.Limits.{mostPoints};
 ghost use Rattle.planforms.specs.Planforms.{pairCount};
 ghost use Rattle.segments.specs.Segments.{next};
-ghost use Rattle.chords.specs.Chords.{inSpan, trapezoidEnds, ellipseEnds, crossed, edgeCrossed, edgeCrossing, outlineCrossings, endsAt, chordsOf};
+ghost use Rattle.chords.specs.Chords.{inSpan, trapezoidEnds, ellipseEnds, crossed, edgeCrossed, edgeCrossing};
+ghost use Rattle.chords.specs.Chords.{outlineCrossings, endsAt, chordsOf};
 ghost use Rattle.chords.specs.Edges.{crossEdge, addFew, fewEdge, fewChords, Holding, Near, Kept};
 
 // What there is at a height: no chord, one with its ends in metres aft of the root's leading edge, or an outline that
@@ -240,7 +241,8 @@ fn few_chords(few: Few) -> Chords
 // Puts the crossing of edge i, if there is one, among the count that xs begins with.
 fn cross_edge(points: &[f64], h: f64, i: usize, n: usize, xs: &mut [f64], count: usize) -> usize
     requires { ⌜ (i < n) × (n ≡ pairCount (now points)) × (count < length (now xs)) ⌝ }
-    ensures { λ r. ⌜ Written (crossEdge (now (points .entry)) n h i (take count (now (xs .entry)))) (now (xs .entry)) (now (xs .exit)) r ⌝ }
+    ensures { λ r. ⌜ Written (crossEdge (now (points .entry)) n h i (take count (now (xs .entry)))) (now (xs .entry))
+        (now (xs .exit)) r ⌝ }
 {
     let j = segments::next_point(n, i);
     if !edge_crossed(points, h, i, j) {

@@ -41,7 +41,8 @@ areWhole l = every (length l) (λ k. isWhole (getD l k (pos 0)))
 unfoldable pub placeOf : List ℤ → ℤ → ℤ → Answer
 placeOf corners x height =
     let nearest = nearestCorner corners x height in
-    cond (isOnEdge corners x height) (Edge nearest) (cond (isInside corners x height) (Inside nearest) (Outside nearest))
+    cond (isOnEdge corners x height) (Edge nearest)
+    (cond (isInside corners x height) (Inside nearest) (Outside nearest))
 
 -- 24: "an ellipse"
 abbrev pub hasCorners : Planform → Bool

@@ -20,4 +20,6 @@ AreLengths l = (k : ℕ) → k < length l → IsLength (at l k)
 
 -- 25, or the answer: of corners and a point in units
 unfoldable pub inSteps : List ℤ → ℤ → ℤ → Answer
-inSteps corners x height = cond (areWhole (x ∷ height ∷ corners)) (placeOf (map stepsOf corners) (stepsOf x) (stepsOf height)) (Refused NotWholeSteps)
+inSteps corners x height =
+    cond (areWhole (x ∷ height ∷ corners)) (placeOf (map stepsOf corners) (stepsOf x) (stepsOf height))
+    (Refused NotWholeSteps)

@@ -109,7 +109,9 @@ fn drill_trapezoid(
     height_m: f64,
 ) -> Answer
     requires { ⌜ AreLengths («root_chord_m» ∷ «tip_chord_m» ∷ «span_m» ∷ «sweep_m» ∷ «x_m» ∷ «height_m» ∷ []) ⌝ }
-    ensures { λ r. ⌜ r ≡ inSteps (cornersOf (Trapezoid «root_chord_m» «tip_chord_m» «span_m» «sweep_m») []) (exactOf «x_m») (exactOf «height_m») ⌝ }
+    ensures { λ r. ⌜
+        r ≡ inSteps (cornersOf (Trapezoid «root_chord_m» «tip_chord_m» «span_m» «sweep_m») []) (exactOf «x_m»)
+        (exactOf «height_m») ⌝ }
 {
     let point = is_whole(x_m) & is_whole(height_m);
     let tip = is_whole(sweep_m) & is_whole(span_m) & is_whole(tip_chord_m);
@@ -121,7 +123,8 @@ fn drill_trapezoid(
 }
 
 fn drill_outline(points: &[f64], x_m: f64, height_m: f64) -> Answer
-    requires { ⌜ AreLengths («x_m» ∷ «height_m» ∷ now points) × (length (now points) ≤ outlineNumbers) × (0 < pairCount (now points)) ⌝ }
+    requires { ⌜ AreLengths («x_m» ∷ «height_m» ∷ now points) × (length (now points) ≤ outlineNumbers)
+        × (0 < pairCount (now points)) ⌝ }
     ensures { λ r. ⌜ r ≡ inSteps (map exactOf (now (points .entry))) (exactOf «x_m») (exactOf «height_m») ⌝ }
 {
     if !(is_whole(x_m) & is_whole(height_m) & are_whole(points)) {

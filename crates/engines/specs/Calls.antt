@@ -69,7 +69,9 @@ servedOver engine (call ∷ calls) = servedBy engine call ++ servedOver (engineB
 -- a waiting screen is served "within eight turns, whatever the others submit"; that it gets its strip then:
 -- `StripWithinEight`
 abbrev pub WithinEight : Type 0
-WithinEight = (engine : Engine) (screen : ℕ) (calls : List Call) → holdsJob (engine .screens) screen ≡ true → 8 ≤ length (servedOver engine calls)
+WithinEight =
+    (engine : Engine) (screen : ℕ) (calls : List Call) → holdsJob (engine .screens) screen ≡ true
+    → 8 ≤ length (servedOver engine calls)
     → (i : ℕ) × ((i < 8) × (getD (servedOver engine calls) i 0 ≡ screen))
 
 -- ---- each call's own screen
@@ -90,9 +92,11 @@ OthersStay = (engine : Engine) (call : Call) (screen : ℕ) → isScreen screen 
 -- old one": the order of service too
 pub record ChangesNothing : Type 0 where
   pub short-turn : (engine : Engine) (n : ℕ) → n < scratchNumbers → turnOf engine n .answer .engine ≡ engine
-  pub idle-turn : (engine : Engine) (n : ℕ) → nextScreen (engine .screens) ≡ 0 → turnOf engine n .answer .engine ≡ engine
+  pub idle-turn :
+      (engine : Engine) (n : ℕ) → nextScreen (engine .screens) ≡ 0 → turnOf engine n .answer .engine ≡ engine
   pub refused : (engine : Engine) (screen : ℕ) (set : FinSet) (points : List Float) (L : ℕ)
-      → isTaken (submitOf engine screen set points L .reply) ≡ false → submitOf engine screen set points L .engine ≡ engine
+      → isTaken (submitOf engine screen set points L .reply) ≡ false
+      → submitOf engine screen set points L .engine ≡ engine
   pub density-kept : (engine : Engine) (screen : ℕ) (density : Density)
       → isTaken (changeAt engine screen density .reply) ≡ false → changeAt engine screen density .engine ≡ engine
 
@@ -107,25 +111,30 @@ ownBy screen engine (change other density) = cond (eqb screen other) (alone.chan
 
 -- what these calls answer
 abbrev pub answersBy : ℕ → Engine → Call → List Row
-answersBy screen engine (turn scratch) = cond (eqb screen (screenOf engine (turn scratch))) (turnedRow (turnOf engine (length scratch) .answer) ∷ []) []
+answersBy screen engine (turn scratch) =
+    cond (eqb screen (screenOf engine (turn scratch))) (turnedRow (turnOf engine (length scratch) .answer) ∷ []) []
 answersBy screen engine (submit other set points L) = []
-answersBy screen engine (change other density) = cond (eqb screen other) (replyRow (changeAt engine other density .reply) ∷ []) []
+answersBy screen engine (change other density) =
+    cond (eqb screen other) (replyRow (changeAt engine other density .reply) ∷ []) []
 
 -- of a list of calls, until the screen is free
 unfoldable pub ownOver : ℕ → Engine → List Call → List alone.Call
 ownOver screen engine [] = []
 ownOver screen engine (call ∷ calls) =
-    cond (holdsJob (engine .screens) screen) (ownBy screen engine call ++ ownOver screen (engineBy engine call) calls) []
+    cond (holdsJob (engine .screens) screen)
+    (ownBy screen engine call ++ ownOver screen (engineBy engine call) calls) []
 
 unfoldable pub answersOver : ℕ → Engine → List Call → List Row
 answersOver screen engine [] = []
 answersOver screen engine (call ∷ calls) =
-    cond (holdsJob (engine .screens) screen) (answersBy screen engine call ++ answersOver screen (engineBy engine call) calls) []
+    cond (holdsJob (engine .screens) screen)
+    (answersBy screen engine call ++ answersOver screen (engineBy engine call) calls) []
 
 -- the screen holds the job before each of the calls; the last of them may end it
 unfoldable pub holdsOver : ℕ → Engine → List Call → Bool
 holdsOver screen engine [] = true
-holdsOver screen engine (call ∷ calls) = holdsJob (engine .screens) screen && holdsOver screen (engineBy engine call) calls
+holdsOver screen engine (call ∷ calls) =
+    holdsJob (engine .screens) screen && holdsOver screen (engineBy engine call) calls
 
 -- "A waiting screen gets its strip": one of the calls is a turn that works a strip of the job that the screen held
 -- before them
@@ -196,14 +205,16 @@ abbrev pub AllSubmitted : Engine → Type 0
 AllSubmitted engine = (screen : ℕ) → holdsJob (engine .screens) screen ≡ true → Submitted screen engine
 
 -- the turn that serves the screen of such a job answers that more remain, or the job's end, and that frees the screen
-pub record Serves (screen : ℕ) (set : FinSet) (points : List Float) (L : ℕ) (calls : List alone.Call) (turned : Turned) : Type 0 where
+pub record Serves (screen : ℕ) (set : FinSet) (points : List Float) (L : ℕ) (calls : List alone.Call)
+    (turned : Turned) : Type 0 where
   -- "it answers the screen served and the step's answer"
   pub served : servedScreen (turned .turn) ≡ screen
   pub goes-on : holdsJob (turned .engine .screens) screen ≡ true → turned .turn ≡ More screen
   -- "The answer ending the job equals a fresh run's with the last density accepted" (Paper 9), over any scratch that is
   -- long enough
   pub ends-as-fresh : holdsJob (turned .engine .screens) screen ≡ false → (n : ℕ) → scratchCheck L n ≡ Accepted
-      → (turned .turn ≡ Ended screen) × (jobOf (turned .engine) screen .outcome ≡ setFigures (setAfter set points L calls) points L n)
+      → (turned .turn ≡ Ended screen)
+      × (jobOf (turned .engine) screen .outcome ≡ setFigures (setAfter set points L calls) points L n)
 
 -- a submission that is taken, and any calls after it before each of which, and at whose end, the screen holds its job
 module _ (engine : Engine) (screen : ℕ) (set : FinSet) (points : List Float) (L : ℕ) (calls : List Call) where
@@ -219,7 +230,9 @@ module _ (engine : Engine) (screen : ℕ) (set : FinSet) (points : List Float) (
     -- how far the screen is told that it is: the strips that its turns worked, of all of its run
     pub progress : progressAt engineNow screen ≡ progressOver (setRun set points L) (stripsAfter set points L sinceThen)
     -- "gets its strip": the turn that serves it works one
-    pub gets-strip : (scratch : List Float) → screen ≡ screenOf engineNow (turn scratch) → alone.counts (jobOf engineNow screen) (length scratch) ≡ true
+    pub gets-strip :
+        (scratch : List Float) → screen ≡ screenOf engineNow (turn scratch)
+        → alone.counts (jobOf engineNow screen) (length scratch) ≡ true
     pub next-turn : (scratch : List Float) → screen ≡ screenOf engineNow (turn scratch)
         → Serves screen set points L sinceThen (turnOf engineNow (length scratch) .answer)
 

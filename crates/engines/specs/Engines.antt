@@ -95,7 +95,12 @@ turnAfter screen over = cond over (Ended screen) (More screen)
 -- "A job that finishes or is refused frees its screen."
 abbrev pub stepped : Screens → ℕ → Job → Served
 stepped screens screen job =
-    record { screens = withHeld screens screen (not (job .ended)) screen; job = job; turn = turnAfter screen (job .ended) }
+    record {
+      screens =
+          withHeld screens screen (not (job .ended)) screen;
+      job = job;
+      turn = turnAfter screen (job .ended);
+    }
 
 -- "The scratch serves one strip at a time": that of the step
 abbrev pub steppedAt : Screens → ℕ → CallOf Job → CallOf Served
@@ -110,7 +115,9 @@ servedOf screens job scratchLength =
 
 -- a turn does this, and gives the number and values of its answer
 pub record ServesTo (screens : Screens) (job : Job) (entry : List Float) (r : Served) (exit : List Float) : Type 0 where
-  pub answered : IsAnswer (λ (s : Served). turnRow (s .turn) (s .job) .figures .verdict) r (servedOf screens job (length entry) .answer)
+  pub answered :
+      IsAnswer (λ (s : Served). turnRow (s .turn) (s .job) .figures .verdict) r
+      (servedOf screens job (length entry) .answer)
   pub scratch : exit ≡ servedOf screens job (length entry) .leaves entry
 
 -- ---- a submission and a change of density, on the screens and the job at the screen's place
@@ -121,7 +128,8 @@ IsAtScreen r definition = IsAnswer (λ (s : AtScreen). s .reply .verdict) r defi
 
 -- a number with 0 samples, and nothing changes
 abbrev pub refused : Screens → Job → Refusal → AtScreen
-refused screens job refusal = record { screens = screens; job = job; reply = record { verdict = Refused refusal; samples = 0 } }
+refused screens job refusal =
+    record { screens = screens; job = job; reply = record { verdict = Refused refusal; samples = 0 } }
 
 -- "A submission is answered taken, or refused and changes nothing"; 23 "before anything else in that submission". A job
 -- that was refused has ended when it is made
@@ -162,7 +170,11 @@ withJob engine place screens job = record { screens = screens; jobs = set (engin
 abbrev pub turnedAt : Engine → ℕ → CallOf Served → CallOf Turned
 turnedAt engine place call =
     record {
-      answer = record { engine = withJob engine place (call .answer .screens) (call .answer .job); turn = call .answer .turn };
+      answer =
+          record {
+            engine = withJob engine place (call .answer .screens) (call .answer .job);
+            turn = call .answer .turn;
+          };
       leaves = call .leaves;
     }
 
@@ -172,7 +184,8 @@ calledAt engine place s = record { engine = withJob engine place (s .screens) (s
 -- "A turn works one strip for the next screen with a job"
 unfoldable pub turnOf : Engine → ℕ → CallOf Turned
 turnOf engine scratchLength =
-    turnedAt engine (pickOf (engine .screens)) (servedOf (engine .screens) (jobAt engine (pickOf (engine .screens))) scratchLength)
+    turnedAt engine (pickOf (engine .screens))
+    (servedOf (engine .screens) (jobAt engine (pickOf (engine .screens))) scratchLength)
 
 -- what a turn answers, with the outcome of the job served where that has ended
 abbrev pub turnedRow : Turned → Row
@@ -181,7 +194,8 @@ turnedRow t = turnRow (t .turn) (jobAt (t .engine) (placeOf (servedScreen (t .tu
 -- a submission of a set with its points and L to a screen
 unfoldable pub submitOf : Engine → ℕ → FinSet → List Float → ℕ → Called
 submitOf engine screen set points L =
-    calledAt engine (placeOf screen) (submittedOf (engine .screens) (jobAt engine (placeOf screen)) screen (madeOf set points L))
+    calledAt engine (placeOf screen)
+    (submittedOf (engine .screens) (jobAt engine (placeOf screen)) screen (madeOf set points L))
 
 -- a change of the density of a screen's job
 unfoldable pub changeAt : Engine → ℕ → Density → Called

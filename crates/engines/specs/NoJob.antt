@@ -31,7 +31,12 @@ abbrev noOutcome : Figures
 noOutcome =
     record {
       verdict = Accepted;
-      body = record { «mass_kg» = nan; «centre_m» = record { x = nan; y = nan; z = nan }; «inertia_kg_m2» = record { 0 = [] } };
+      body =
+          record {
+            «mass_kg» = nan;
+            «centre_m» = record { x = nan; y = nan; z = nan };
+            «inertia_kg_m2» = record { 0 = [] };
+          };
       intervals = 0;
       samples = 0;
     }

@@ -1,4 +1,5 @@
-// Why lines are refused: `explain < lines`. One explanation a line, which `explanations` makes; the loop over the lines is
+// Why lines are refused: `explain < lines`. One explanation a line, which `explanations` makes; the loop over the lines
+// is
 // that of `shown_lines`.
 use arguments::Asked;
 use libc::STDERR_FILENO;

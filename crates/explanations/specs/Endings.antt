@@ -20,7 +20,8 @@ sameFault a b = eqb (a .number) (b .number) && (eqb (a .first) (b .first) && eqb
 abbrev pub savesFrom : Fault → Fault → Bool
 savesFrom fault other =
     not (eqb (other .number) 18)
-    && (not (sameFault other fault) && (eqb (fault .number) 18 || (not (eqb (other .number) 5) && not (eqb (other .number) 19))))
+    && (not (sameFault other fault)
+    && (eqb (fault .number) 18 || (not (eqb (other .number) 5) && not (eqb (other .number) 19))))
 
 -- the part of a text before its first bar
 abbrev pub firstText : List (List ℕ) → List ℕ
@@ -54,7 +55,8 @@ pickFound false a b = b
 unfoldable pub faultFrom : ℕ → Fault → List ℕ → List ℕ → ℕ → Found
 faultFrom zero fault endings line at = record { from = at; to = at }
 faultFrom (suc n) fault endings line at =
-    pickFound (passes fault endings line (tokenAt line at)) (faultFrom n fault endings line (tokenAt line at .to)) (tokenAt line at)
+    pickFound (passes fault endings line (tokenAt line at)) (faultFrom n fault endings line (tokenAt line at .to))
+    (tokenAt line at)
 
 abbrev pub faultPlace : Fault → List ℕ → List ℕ → Found
 faultPlace fault endings line = faultFrom lineBytes fault endings line 0

@@ -33,7 +33,8 @@ byteText from = text "; byte " ++ countText (from + 1)
 
 -- of a line that is no form, what is wanted there
 abbrev pub expectedText : List ℕ → List ℕ → List ℕ → Fault → ℕ → List ℕ
-expectedText endings table line fault from = text "; wanted there:" ++ wantedText fault endings table (take from line ++ text " ")
+expectedText endings table line fault from =
+    text "; wanted there:" ++ wantedText fault endings table (take from line ++ text " ")
 
 -- of any other, the first 40 bytes of the word at fault
 abbrev pub shortEnd : ℕ → ℕ → ℕ
@@ -44,18 +45,21 @@ shownText line f = text ": " ++ part line (f .from) (shortEnd (f .from) (f .to))
 
 abbrev pub atPlace : List ℕ → List ℕ → List ℕ → Fault → Found → List ℕ
 atPlace endings table line fault f =
-    byteText (f .from) ++ cond (eqb (fault .number) 18) (expectedText endings table line fault (f .from)) (shownText line f)
+    byteText (f .from)
+    ++ cond (eqb (fault .number) 18) (expectedText endings table line fault (f .from)) (shownText line f)
 
 -- a scratch that is too short, edges that touch, no area and sums that do not settle are not one word's
 abbrev pub isPlaced : ℕ → Bool
 isPlaced number = not (eqb number 2) && (not (eqb number 7) && (not (eqb number 8) && not (eqb number 13)))
 
 abbrev pub placeText : List ℕ → List ℕ → List ℕ → Fault → List ℕ
-placeText endings table line fault = cond (isPlaced (fault .number)) (atPlace endings table line fault (faultPlace fault endings line)) []
+placeText endings table line fault =
+    cond (isPlaced (fault .number)) (atPlace endings table line fault (faultPlace fault endings line)) []
 
 abbrev pub faultText : List ℕ → Fault → List ℕ
 faultText line fault =
-    text "refused " ++ (refusalText (fault .number) ++ (detailText details fault ++ placeText examples formWords line fault))
+    text "refused "
+    ++ (refusalText (fault .number) ++ (detailText details fault ++ placeText examples formWords line fault))
 
 abbrev pub explained : List ℕ → Fault → List ℕ
 explained line fault = cond (eqb (fault .number) 0) (text "accepted") (faultText line fault)

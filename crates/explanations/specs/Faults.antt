@@ -7,7 +7,9 @@ use Rattle.floats.specs.Operations.{bits}
 use Rattle.limits.specs.Limits.{scratchNumbers}
 use Rattle.answers.specs.declared.Reply.{Reply}
 use Rattle.answers.specs.declared.Shape.{Shape}
-use Rattle.answers.specs.declared.Shape.the-variants.{Figures, Area, Joined, Ring, Body, Closing, Inside, Edge, Outside, Moments, Sound, Taken, Idle, More, Done, DoneRefused, Progress, Refused}
+use Rattle.answers.specs.declared.Shape.the-variants.{Figures, Area, Joined, Ring, Body, Closing, Inside, Edge, Outside}
+use Rattle.answers.specs.declared.Shape.the-variants.{Moments, Sound, Taken, Idle, More, Done, DoneRefused, Progress}
+use Rattle.answers.specs.declared.Shape.the-variants.{Refused}
 use Rattle.lent_engines.specs.Memory.{engineNumbers, engineCounts}
 use Rattle.lines.specs.Lines.{Memory, memoryIn, lineEffect}
 use Rattle.explanations.specs.declared.Fault.{Fault}

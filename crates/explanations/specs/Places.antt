@@ -31,7 +31,8 @@ tokenFrom line at = at + run isSpace (drop at line)
 
 -- the first token from a place on
 abbrev pub tokenAt : List ℕ → ℕ → Found
-tokenAt line at = record { from = tokenFrom line at; to = tokenFrom line at + tokenBytes (drop (tokenFrom line at) line) }
+tokenAt line at =
+    record { from = tokenFrom line at; to = tokenFrom line at + tokenBytes (drop (tokenFrom line at) line) }
 
 pub record IsToken (line : List ℕ) (at : ℕ) (r : Found) : Type 0 where
   pub is : r ≡ tokenAt line at

@@ -13,9 +13,12 @@ ghost use Rattle.templates.specs.Matching.{cutAtBars};
 ghost use Rattle.blocks.specs.Tables.{textFor};
 ghost use Rattle.explanations.specs.Places.{run, inWord, tokenFrom, IsToken, IsPlace};
 ghost use Rattle.explanations.specs.Faults.{noFault, IsFault, faultOf};
-ghost use Rattle.explanations.specs.Endings.{savesFrom, savesWith, savesHere, saved, passes, faultPlace, wantedWord, wantedOf, wantedText};
+ghost use Rattle.explanations.specs.Endings.{savesFrom, savesWith, savesHere, saved, passes, faultPlace};
+ghost use Rattle.explanations.specs.Endings.{wantedWord, wantedOf, wantedText};
 ghost use Rattle.explanations.specs.Examples.{examples, formWords, details};
-ghost use Rattle.explanations.specs.Explanations.{detailKey, edgesText, detailText, expectedText, shortEnd, shownText, byteText, atPlace, isPlaced, placeText, faultText, explained};
+ghost use Rattle.explanations.specs.Explanations.{detailKey, edgesText, detailText, expectedText, shortEnd};
+ghost use Rattle.explanations.specs.Explanations.{shownText, byteText, atPlace, isPlaced, placeText, faultText};
+ghost use Rattle.explanations.specs.Explanations.{explained};
 ghost use Rattle.explanations.specs.Explanations.{tooLong, keptExplanation, numberedKept};
 use answers::Reply;
 use answers::Shape;
@@ -158,7 +161,8 @@ fn saves_with(trial: &mut [u8], n: usize, ending: &[u8], fault: Fault) -> bool
 // Whether an ending begins at a place of the examples, and saves.
 fn saves_here(trial: &mut [u8], n: usize, endings: &[u8], j: usize, fault: Fault) -> bool
     requires { ⌜ (n + length (now endings) ≤ length (now trial)) × (j < length (now endings)) ⌝ }
-    ensures { λ r. ⌜ r ≡ savesHere fault (take n (now (trial .entry))) (getD (now (endings .entry)) j 0) (drop j (now (endings .entry))) ⌝ }
+    ensures { λ r. ⌜ r ≡ savesHere fault (take n (now (trial .entry))) (getD (now (endings .entry)) j 0)
+        (drop j (now (endings .entry))) ⌝ }
     ensures { λ _. ⌜ take n (now (trial .exit)) ≡ take n (now (trial .entry)) ⌝ }
 {
     if endings[j] != 32 {
@@ -235,9 +239,11 @@ fn put_word(
     fault: Fault,
     word: &[u8],
 ) -> usize
-    requires { ⌜ (n + length (now word) + 1 ≤ length (now out)) × (k + length (now word) + length (now endings) ≤ length (now trial)) ⌝ }
+    requires { ⌜ (n + length (now word) + 1 ≤ length (now out))
+        × (k + length (now word) + length (now endings) ≤ length (now trial)) ⌝ }
     ensures { λ r. ⌜ Appended (now (out .entry)) n
-        (wantedWord fault (now (endings .entry)) (take k (now (trial .entry))) (now (word .entry))) (now (out .exit)) r ⌝ }
+        (wantedWord fault (now (endings .entry)) (take k (now (trial .entry))) (now (word .entry)))
+        (now (out .exit)) r ⌝ }
     ensures { λ _. ⌜ take k (now (trial .exit)) ≡ take k (now (trial .entry)) ⌝ }
 {
     if !word_saves(trial, k, endings, fault, word) {
@@ -257,9 +263,11 @@ fn put_words(
     fault: Fault,
     table: &[u8],
 ) -> usize
-    requires { ⌜ (n + length (now table) + 1 ≤ length (now out)) × (k + length (now table) + length (now endings) ≤ length (now trial)) ⌝ }
+    requires { ⌜ (n + length (now table) + 1 ≤ length (now out))
+        × (k + length (now table) + length (now endings) ≤ length (now trial)) ⌝ }
     ensures { λ r. ⌜ Appended (now (out .entry)) n
-        (wantedOf fault (now (endings .entry)) (take k (now (trial .entry))) (cutAtBars (now (table .entry)))) (now (out .exit)) r ⌝ }
+        (wantedOf fault (now (endings .entry)) (take k (now (trial .entry))) (cutAtBars (now (table .entry))))
+        (now (out .exit)) r ⌝ }
     ensures { λ _. ⌜ take k (now (trial .exit)) ≡ take k (now (trial .entry)) ⌝ }
 {
     let mut at = n;
@@ -284,9 +292,11 @@ fn put_wanted(
     fault: Fault,
     table: &[u8],
 ) -> usize
-    requires { ⌜ (n + length (now table) + 2 ≤ length (now out)) × (k + length (now table) + length (now endings) + 1 ≤ length (now trial)) ⌝ }
+    requires { ⌜ (n + length (now table) + 2 ≤ length (now out))
+        × (k + length (now table) + length (now endings) + 1 ≤ length (now trial)) ⌝ }
     ensures { λ r. ⌜ Appended (now (out .entry)) n
-        (wantedText fault (now (endings .entry)) (now (table .entry)) (take k (now (trial .entry)))) (now (out .exit)) r ⌝ }
+        (wantedText fault (now (endings .entry)) (now (table .entry)) (take k (now (trial .entry))))
+        (now (out .exit)) r ⌝ }
 {
     if word_saves(trial, k, endings, fault, b"F") {
         return texts::put_bytes(out, n, b" F");
@@ -308,7 +318,8 @@ fn put_expected(
     requires { ⌜ (n + length (now table) + 20 ≤ length (now out)) × (from ≤ length (now line))
         × (length (now line) + length (now table) + length (now endings) + 2 ≤ length (now trial)) ⌝ }
     ensures { λ r. ⌜ Appended (now (out .entry)) n
-        (expectedText (now (endings .entry)) (now (table .entry)) (now (line .entry)) fault from) (now (out .exit)) r ⌝ }
+        (expectedText (now (endings .entry)) (now (table .entry)) (now (line .entry)) fault from)
+        (now (out .exit)) r ⌝ }
 {
     let heading = texts::put_bytes(out, n, b"; wanted there:");
     let m = texts::put_bytes(trial, 0, &line[..from]);
@@ -358,7 +369,8 @@ fn put_place(
     requires { ⌜ (n + length (now table) + 70 ≤ length (now out)) × (length (now line) ≤ lineBytes)
         × (length (now line) + length (now table) + length (now endings) + 2 ≤ length (now trial)) ⌝ }
     ensures { λ r. ⌜ Appended (now (out .entry)) n
-        (atPlace (now (endings .entry)) (now (table .entry)) (now (line .entry)) fault (faultPlace fault (now (endings .entry)) (now (line .entry))))
+        (atPlace (now (endings .entry)) (now (table .entry)) (now (line .entry)) fault
+        (faultPlace fault (now (endings .entry)) (now (line .entry))))
         (now (out .exit)) r ⌝ }
 {
     let f = find_fault(line, trial, endings, fault);
@@ -380,7 +392,8 @@ fn is_placed(number: u64) -> bool
 // Where the line went wrong, by the examples of the forms.
 fn put_where(out: &mut [u8], n: usize, line: &[u8], trial: &mut [u8], fault: Fault) -> usize
     requires { ⌜ (n + 500 ≤ length (now out)) × (length (now line) ≤ lineBytes) × (8192 ≤ length (now trial)) ⌝ }
-    ensures { λ r. ⌜ Appended (now (out .entry)) n (placeText examples formWords (now (line .entry)) fault) (now (out .exit)) r ⌝ }
+    ensures { λ r. ⌜
+        Appended (now (out .entry)) n (placeText examples formWords (now (line .entry)) fault) (now (out .exit)) r ⌝ }
 {
     if !is_placed(fault.number) {
         return n;
@@ -438,7 +451,8 @@ fn put_edges(out: &mut [u8], n: usize, fault: Fault) -> usize
 fn put_found(out: &mut [u8], n: usize, table: &[u8], fault: Fault) -> usize
     requires { ⌜ (n + 100 ≤ length (now out)) × (length (now table) ≤ 4096)
         × (length (textFor (detailKey fault) (cutAtBars (now table))) ≤ 100) ⌝ }
-    ensures { λ r. ⌜ Appended (now (out .entry)) n (textFor (detailKey fault) (cutAtBars (now (table .entry)))) (now (out .exit)) r ⌝ }
+    ensures { λ r. ⌜ Appended (now (out .entry)) n (textFor (detailKey fault) (cutAtBars (now (table .entry))))
+        (now (out .exit)) r ⌝ }
 {
     let mut key = [0u8; 64];
     let number = counts::put_count(&mut key, 0, fault.number);
@@ -505,7 +519,8 @@ fn put_fault(out: &mut [u8], n: usize, line: &[u8], fault: Fault) -> usize
 // The explanation of a line of at most 4,096 bytes.
 fn put_explained(out: &mut [u8], n: usize, line: &[u8]) -> usize
     requires { ⌜ (n + 900 ≤ length (now out)) × (length (now line) ≤ lineBytes) ⌝ }
-    ensures { λ r. ⌜ Appended (now (out .entry)) n (explained (now (line .entry)) (faultOf (now (line .entry)))) (now (out .exit)) r ⌝ }
+    ensures { λ r. ⌜ Appended (now (out .entry)) n (explained (now (line .entry)) (faultOf (now (line .entry))))
+        (now (out .exit)) r ⌝ }
 {
     let fault = fault_of(line);
     if fault.number == 0 {

@@ -19,7 +19,8 @@ ghost use Rattle.requests.specs.Calls.{ringBy, copiedBy, placedBy, movedBy, wit
 ghost use Rattle.fins.specs.Numbered.{listedSet};
 ghost use Rattle.refusals.specs.Lent.{over};
 ghost use Rattle.limits.specs.Limits.{mostSamples};
-ghost use Rattle.exports.specs.Calls.{SetCall, AreaCall, ChordsCall, DrillCall, BodyCall, ClosingCall, JoinCall, MomentsCall, CheckCall};
+ghost use Rattle.exports.specs.Calls.{SetCall, AreaCall, ChordsCall, DrillCall, BodyCall, ClosingCall, JoinCall};
+ghost use Rattle.exports.specs.Calls.{MomentsCall, CheckCall};
 use bodies::BODY_NUMBERS;
 use joins::Joined;
 use refusals::NO_FORM;
@@ -37,7 +38,8 @@ fn write_three(figures: &mut [f64], x: f64, y: f64, z: f64)
 // Writes the numbers of a body that is answered and two values of a refusal, and returns the number of its verdict.
 // Where a list has no room it returns 18, and writes nothing.
 fn told_body(answer: Joined, body: &mut [f64], values: &mut [usize]) -> usize
-    ensures { λ r. ⌜ BodyCall answer (now (body .entry)) (now (values .entry)) r (now (body .exit)) (now (values .exit)) ⌝ }
+    ensures { λ r. ⌜
+        BodyCall answer (now (body .entry)) (now (values .entry)) r (now (body .exit)) (now (values .exit)) ⌝ }
 {
     if body.len() < BODY_NUMBERS {
         return NO_FORM;

@@ -36,12 +36,15 @@ numberFrom n (b ∷ l) = numberFrom (n * 10 + digitValue b) l
 
 -- digits alone; where there is no sign (`bare`), exactly sixteen are none
 abbrev pub wholeFigure : Bool → Bool → ℕ → ℕ → Figure
-wholeFigure bare minus n c = pick (leb 1 c && leb c 19 && not (bare && eqb c 16)) (Number (decimalOf minus n 0)) NotFigure
+wholeFigure bare minus n c =
+    pick (leb 1 c && leb c 19 && not (bare && eqb c 16)) (Number (decimalOf minus n 0)) NotFigure
 
 -- after them stands the byte b, which must be the point (46), then l, which must be digits
 abbrev pub pointFigure : Bool → ℕ → ℕ → ℕ → List ℕ → Figure
 pointFigure minus n c b l =
-    pick (eqb b 46 && leb 1 c && leb 1 (length (leadingDigits l)) && leb (c + length (leadingDigits l)) 19 && eqb (length (behindDigits l)) 0)
+    pick
+    (eqb b 46 && leb 1 c && leb 1 (length (leadingDigits l)) && leb (c + length (leadingDigits l)) 19
+    && eqb (length (behindDigits l)) 0)
     (Number (decimalOf minus (numberFrom n (leadingDigits l)) (length (leadingDigits l))))
     NotFigure
 
@@ -50,14 +53,17 @@ digitsFigure bare minus n c [] = wholeFigure bare minus n c
 digitsFigure bare minus n c (b ∷ l) = pointFigure minus n c b l
 
 unfoldable pub unsignedFigure : Bool → Bool → List ℕ → Figure
-unsignedFigure bare minus l = digitsFigure bare minus (numberFrom 0 (leadingDigits l)) (length (leadingDigits l)) (behindDigits l)
+unsignedFigure bare minus l =
+    digitsFigure bare minus (numberFrom 0 (leadingDigits l)) (length (leadingDigits l)) (behindDigits l)
 
 -- ---- a word
 
 -- an optional `+` (43) or `-` (45)
 unfoldable pub decimalFigure : List ℕ → Figure
 decimalFigure [] = NotFigure
-decimalFigure (b ∷ l) = pick (eqb b 43) (unsignedFigure false false l) (pick (eqb b 45) (unsignedFigure false true l) (unsignedFigure true false (b ∷ l)))
+decimalFigure (b ∷ l) =
+    pick (eqb b 43) (unsignedFigure false false l)
+    (pick (eqb b 45) (unsignedFigure false true l) (unsignedFigure true false (b ∷ l)))
 
 -- `#` is 35
 unfoldable pub figureWord : List ℕ → Figure

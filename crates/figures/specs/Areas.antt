@@ -21,7 +21,8 @@ use Rattle.figures.specs.Figures.{conclusionOf}
 -- by root chord plus span" ("Set and planform"; "Const generics become two widths"); and every strip worked
 abbrev pub areaRun : Planform → List Float → ℕ → Run
 areaRun planform points L =
-    record { width = 3; integrand = areaThree planform points; limit = L; scale = scaleOf planform points; heights = breakHeights planform points }
+    record
+    { width = 3; integrand = areaThree planform points; limit = L; scale = scaleOf planform points; heights = breakHeights planform points }
 
 abbrev pub areaStrips : Planform → List Float → ℕ → List Worked
 areaStrips planform points L = stripsIn (areaRun planform points L)
@@ -32,7 +33,8 @@ areaSeven planform points L = sevenWide 3 (areaStrips planform points L)
 
 abbrev pub refusedArea : Refusal → ℕ → Area
 refusedArea refusal samples =
-    record { verdict = Refused refusal; «area_m2» = bits 0; «centroid_x_m» = bits 0; «centroid_span_m» = bits 0; intervals = 0; samples = samples }
+    record
+    { verdict = Refused refusal; «area_m2» = bits 0; «centroid_x_m» = bits 0; «centroid_span_m» = bits 0; intervals = 0; samples = samples }
 
 -- the strips' area, x and height summed over it, as they were before they were divided by the scale; "Figures zero;
 -- intervals 0; samples taken so far"
@@ -54,14 +56,16 @@ areaBy verdict scale totals =
 
 -- the answer of a planform whose strips add up to these totals: area and centroid, 13 or 8
 unfoldable pub concludedArea : Float → Integral → Area
-concludedArea scale total = areaBy (conclusionOf (total .ending) (unscaledArea scale (total .totals .value))) scale (total .totals)
+concludedArea scale total =
+    areaBy (conclusionOf (total .ending) (unscaledArea scale (total .totals .value))) scale (total .totals)
 
 -- the answer of a planform that is accepted
 abbrev pub workedArea : Planform → List Float → ℕ → Area
 workedArea planform points L = concludedArea (scaleOf planform points) (summedOf (areaSeven planform points L))
 
 abbrev pub workedPlanform : Planform → List Float → ℕ → CallOf Area
-workedPlanform planform points L = record { answer = workedArea planform points L; leaves = scratchAfter (areaSeven planform points L) }
+workedPlanform planform points L =
+    record { answer = workedArea planform points L; leaves = scratchAfter (areaSeven planform points L) }
 
 -- "1, 2, planform, strips, 8": every check before the strips, then the strips
 unfoldable pub areaCall : Planform → List Float → ℕ → ℕ → CallOf Area

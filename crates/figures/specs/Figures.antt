@@ -28,12 +28,14 @@ use Rattle.figures.specs.declared.Figures.{Figures}
 
 -- the plate's integrand, which the halving is fed: worked from the set alone
 abbrev pub setIntegrand : FinSet → List Float → Float → List Float
-setIntegrand set points = plateOf (set .planform) points (set .«cross_section») (set .«thickness_m») (set .«body_radius_m»)
+setIntegrand set points =
+    plateOf (set .planform) points (set .«cross_section») (set .«thickness_m») (set .«body_radius_m»)
 
 -- what the strips are worked from, between the break heights, "divided by root chord plus span"; and every strip worked
 abbrev pub setRun : FinSet → List Float → ℕ → Run
 setRun set points L =
-    record { width = 7; integrand = setIntegrand set points; limit = L; scale = scaleOf (set .planform) points; heights = breakHeights (set .planform) points }
+    record
+    { width = 7; integrand = setIntegrand set points; limit = L; scale = scaleOf (set .planform) points; heights = breakHeights (set .planform) points }
 
 abbrev pub setStrips : FinSet → List Float → ℕ → List Worked
 setStrips set points L = stripsIn (setRun set points L)
@@ -56,7 +58,12 @@ conclusionOf ending size = firstRefusal (verdictOf ending) (sizeCheck size)
 -- a body with its totals, or the refusal with the samples
 abbrev pub figuresBy : Verdict → Body → Totals → Figures
 figuresBy verdict body totals =
-    byVerdict verdict (record { verdict = Accepted; body = body; intervals = totals .intervals; samples = totals .samples })
+    byVerdict verdict (record {
+      verdict = Accepted;
+      body = body;
+      intervals = totals .intervals;
+      samples = totals .samples;
+    })
     (λ refusal. refusedFigures refusal (totals .samples))
 
 -- a set's body from the integrals of one fin and the root chord
@@ -70,7 +77,8 @@ concludedSet set root scale total =
     figuresBy (conclusionOf (total .ending) (volume v)) (finsOf set root v) (total .totals)
 
 abbrev pub concludedAt : FinSet → List Float → Integral → Figures
-concludedAt set points total = concludedSet set (rootChordOf (set .planform) points) (scaleOf (set .planform) points) total
+concludedAt set points total =
+    concludedSet set (rootChordOf (set .planform) points) (scaleOf (set .planform) points) total
 
 -- the answer of a set that is accepted
 abbrev pub workedFigures : FinSet → List Float → ℕ → Figures
@@ -84,7 +92,8 @@ workedSet set points L = record { answer = workedFigures set points L; leaves = 
 -- every check before the strips, then the strips
 unfoldable pub setCall : FinSet → List Float → ℕ → ℕ → CallOf Figures
 setCall set points L scratchLength =
-    byVerdict (setCheck set points L scratchLength) (workedSet set points L) (λ refusal. leavesAlone (refusedFigures refusal 0))
+    byVerdict (setCheck set points L scratchLength) (workedSet set points L)
+    (λ refusal. leavesAlone (refusedFigures refusal 0))
 
 abbrev pub setFigures : FinSet → List Float → ℕ → ℕ → Figures
 setFigures set points L scratchLength = setCall set points L scratchLength .answer

@@ -23,7 +23,9 @@ abbrev pub areaMoments : Float → Float → Float → Float → AreaMoments
 areaMoments area sx sxx syy = record { «area_m2» = area; «sx_m3» = sx; «sxx_m4» = sxx; «syy_m4» = syy }
 
 abbrev pub lessMoments : AreaMoments → AreaMoments → AreaMoments
-lessMoments a b = areaMoments (a .«area_m2» ⊖ b .«area_m2») (a .«sx_m3» ⊖ b .«sx_m3») (a .«sxx_m4» ⊖ b .«sxx_m4») (a .«syy_m4» ⊖ b .«syy_m4»)
+lessMoments a b =
+    areaMoments (a .«area_m2» ⊖ b .«area_m2») (a .«sx_m3» ⊖ b .«sx_m3») (a .«sxx_m4» ⊖ b .«sxx_m4»)
+    (a .«syy_m4» ⊖ b .«syy_m4»)
 
 -- ---- x − sin x
 
@@ -42,7 +44,8 @@ spanLessSineSeries x = sumTerms x termDivisors (cube x ⊘ six) (bits 0)
 unfoldable pub spanLessSineOf : Float → Float
 spanLessSineOf x = cond (le quarter (absOf x)) (x ⊖ sinOf x) (spanLessSineSeries x)
 
--- ---- a circular sector about (x0, y0), of radius ρ, from an angle to another; `span` is their difference, `middle` half their sum
+-- ---- a circular sector about (x0, y0), of radius ρ, from an angle to another; `span` is their difference, `middle`
+-- half their sum
 
 abbrev pub sectorArea : Float → Float → Float
 sectorArea rho span = half ⊗ rho ⊗ rho ⊗ span

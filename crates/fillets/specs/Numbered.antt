@@ -27,4 +27,5 @@ filletFigures fillet = fillet .«radius_m» ∷ densityFigure (fillet .density) 
 
 -- and back (proofs/Numbered: `fillet-back`)
 unfoldable pub filletOf : ℕ → List Float → NumberedFillet
-filletOf number figures = cond (eqb number 0) (Known noFillet) (ofKnown (at figures 0) (numberedDensity number (at figures 1)))
+filletOf number figures =
+    cond (eqb number 0) (Known noFillet) (ofKnown (at figures 0) (numberedDensity number (at figures 1)))

@@ -7,9 +7,11 @@
 // 2ρ(S_xx l + A l³/3), I_zz = 2ρ(S_xx + S_yy) l, I_xz = ρ S_x l².
 ghost use mathlib.Core.Path.{_≡_};
 ghost use Rattle.fillets.specs.Angles.{halved, angleSeries, angleOf};
-ghost use Rattle.fillets.specs.FilletSections.{lessMoments, spanLessSineSeries, spanLessSineOf, sectorWith, sectorOf, triangleOf, filletSectionOf};
+ghost use Rattle.fillets.specs.FilletSections.{lessMoments, spanLessSineSeries, spanLessSineOf, sectorWith};
+ghost use Rattle.fillets.specs.FilletSections.{sectorOf, triangleOf, filletSectionOf};
 ghost use Rattle.fillets.specs.Numbered.{filletFigures, filletOf};
-ghost use Rattle.fillets.specs.Fillets.{isNone, isSound, isRefused, glueCheck, ratioCheck, aboutOrigin, pairOf, filletsOf};
+ghost use Rattle.fillets.specs.Fillets.{isNone, isSound, isRefused, glueCheck, ratioCheck, aboutOrigin, pairOf};
+ghost use Rattle.fillets.specs.Fillets.{filletsOf};
 use bodies::Body;
 use bodies::Tensor;
 use bodies::Vector;

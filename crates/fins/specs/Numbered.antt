@@ -40,17 +40,24 @@ tabFigures (Slab height length offset) = height ∷ length ∷ offset ∷ []
 
 -- and back (proofs/Numbered: `tab-back`)
 unfoldable pub tabOf : ℕ → List Float → NumberedTab
-tabOf number figures = cond (eqb number 0) (tabKnown None) (cond (eqb number 1) (tabKnown (Slab (at figures 0) (at figures 1) (at figures 2))) noTab)
+tabOf number figures =
+    cond (eqb number 0) (tabKnown None)
+    (cond (eqb number 1) (tabKnown (Slab (at figures 0) (at figures 1) (at figures 2))) noTab)
 
 -- count, planform, thickness, section, tab, fillet, cant, base angle, body radius, density: a set where each part is
 -- known
-abbrev pub numberedSet : ℕ → NumberedPlanform → Float → NumberedSection → NumberedTab → NumberedFillet → Float → Float → Float → NumberedDensity → NumberedSet
+abbrev pub numberedSet : ℕ → NumberedPlanform → Float → NumberedSection → NumberedTab → NumberedFillet → Float → Float
+    → Float → NumberedDensity → NumberedSet
 numberedSet count noPlanform thickness section tab fillet cant base radius density = noSet
 numberedSet count (planformKnown planform) thickness noSection tab fillet cant base radius density = noSet
-numberedSet count (planformKnown planform) thickness (sectionKnown section) noTab fillet cant base radius density = noSet
-numberedSet count (planformKnown planform) thickness (sectionKnown section) (tabKnown tab) unknownFillet cant base radius density = noSet
-numberedSet count (planformKnown planform) thickness (sectionKnown section) (tabKnown tab) (filletKnown fillet) cant base radius noDensity = noSet
-numberedSet count (planformKnown planform) thickness (sectionKnown section) (tabKnown tab) (filletKnown fillet) cant base radius (densityKnown density) =
+numberedSet count (planformKnown planform) thickness (sectionKnown section) noTab fillet cant base radius density =
+    noSet
+numberedSet count (planformKnown planform) thickness (sectionKnown section) (tabKnown tab) unknownFillet cant base radius density =
+    noSet
+numberedSet count (planformKnown planform) thickness (sectionKnown section) (tabKnown tab) (filletKnown fillet) cant base radius noDensity =
+    noSet
+numberedSet count (planformKnown planform) thickness (sectionKnown section) (tabKnown tab)
+    (filletKnown fillet) cant base radius (densityKnown density) =
     setKnown
     (record {
       count = count;
@@ -71,7 +78,8 @@ numberedSet count (planformKnown planform) thickness (sectionKnown section) (tab
 abbrev pub numbersOf : FinSet → List Float
 numbersOf set =
     tabulate 4 (at (lengthsOf (set .planform)))
-    ++ (set .«thickness_m» ∷ set .«cant_rad» ∷ set .«base_angle_rad» ∷ set .«body_radius_m» ∷ densityFigure (set .density)
+    ++ (set .«thickness_m» ∷ set .«cant_rad» ∷ set .«base_angle_rad» ∷ set .«body_radius_m» ∷
+    densityFigure (set .density)
     ∷ (tabulate 3 (at (tabFigures (set .tab))) ++ filletFigures (set .fillet)))
 
 -- how many fins; planform, section, tab, density and fillet by their numbers
@@ -105,7 +113,8 @@ setIn numbers counts =
 
 -- the same of lists that C or Rust lends: another count of either is no set's
 unfoldable pub listedSet : List Float → List ℕ → NumberedSet
-listedSet numbers counts = cond (eqb (length numbers) setNumbers) (cond (eqb (length counts) setCounts) (setIn numbers counts) noSet) noSet
+listedSet numbers counts =
+    cond (eqb (length numbers) setNumbers) (cond (eqb (length counts) setCounts) (setIn numbers counts) noSet) noSet
 
 -- a set of no fins, where there is none
 abbrev pub noFins : FinSet

@@ -6,8 +6,10 @@
 ghost use mathlib.Core.Path.{_≡_};
 ghost use Rattle.refusals.specs.Given.{IsVerdict};
 ghost use Rattle.refusals.specs.Order.{firstOf};
-ghost use Rattle.fins.specs.Fins.{slabCheck, tabCheck, depthCheck, plateChecks, mountChecks, filletChecks, ownCheck, setCheck, areaCheck};
-ghost use Rattle.fins.specs.Numbered.{tabNumber, tabFigures, tabOf, numberedSet, numbersOf, countsOf, SetRoom, setIn, listedSet, knownSet};
+ghost use Rattle.fins.specs.Fins.{slabCheck, tabCheck, depthCheck, plateChecks, mountChecks, filletChecks};
+ghost use Rattle.fins.specs.Fins.{ownCheck, setCheck, areaCheck};
+ghost use Rattle.fins.specs.Numbered.{tabNumber, tabFigures, tabOf, numberedSet, numbersOf, countsOf, SetRoom};
+ghost use Rattle.fins.specs.Numbered.{setIn, listedSet, knownSet};
 use fillets::FILLET_FIGURES;
 use fillets::Fillet;
 use fillets::NumberedFillet;
@@ -121,7 +123,8 @@ pub fn numbered_set(
     body_radius_m: f64,
     density: NumberedDensity,
 ) -> NumberedSet
-    ensures { λ r. ⌜ r ≡ numberedSet count planform «thickness_m» section tab fillet «cant_rad» «base_angle_rad» «body_radius_m» density ⌝ }
+    ensures { λ r. ⌜ r
+        ≡ numberedSet count planform «thickness_m» section tab fillet «cant_rad» «base_angle_rad» «body_radius_m» density ⌝ }
 {
     let NumberedPlanform::Known(planform) = planform else {
         return NumberedSet::Unknown;

@@ -23,4 +23,6 @@ pub record IsNearest (s : Bool) (n d : ℕ) (r : Float) : Type 0 where
   pub held : T (fits binary64 r)
   pub sign : Signed s r
   pub least : (y : Float) → T (fits binary64 y) → T (isFinite y) → distance n d r ≤ distance n d y
-  pub even : (y : Float) → T (fits binary64 y) → T (isFinite y) → distance n d r ≡ distance n d y → (unitsOf r ≡ unitsOf y → ⊥) → toBits binary64 r % 2 ≡ 0
+  pub even :
+      (y : Float) → T (fits binary64 y) → T (isFinite y) → distance n d r ≡ distance n d y → (unitsOf r ≡ unitsOf y → ⊥)
+      → toBits binary64 r % 2 ≡ 0

@@ -31,7 +31,8 @@ StartsRise (p ∷ q ∷ pieces) = (lt (p .start) (q .start) ≡ true) × StartsR
 abbrev pub CutsBetween : Float → Float → Tree → Type 0
 CutsBetween a b (piece i) = Unit {0}
 CutsBetween a b (halves left right) =
-    (lt a (halfSum a b) ≡ true) × (lt (halfSum a b) b ≡ true) × CutsBetween a (halfSum a b) left × CutsBetween (halfSum a b) b right
+    (lt a (halfSum a b) ≡ true) × (lt (halfSum a b) b ≡ true) × CutsBetween a (halfSum a b) left
+    × CutsBetween (halfSum a b) b right
 
 -- the pieces of a strip, in storage order
 pub record Rises (lower upper : Float) (pieces : List Piece) : Type 0 where

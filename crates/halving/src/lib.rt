@@ -113,7 +113,8 @@ fn judge(scratch: &[f64], n: usize, limit: usize) -> Judged
 // after the n pieces. The answer is how many samples both took.
 fn halve(scratch: &mut [f64], integrand: Integrand, points: &[f64], n: usize, place: usize) -> usize
     requires { ⌜ (place < n) × (n * pieceNumbers + pieceNumbers ≤ length (now scratch)) ⌝ }
-    ensures { λ r. ⌜ HalvesPiece (sampleOf integrand (now (points .entry))) n place (now (scratch .entry)) r (now (scratch .exit)) ⌝ }
+    ensures { λ r. ⌜ HalvesPiece (sampleOf integrand (now (points .entry))) n place (now (scratch .entry)) r
+        (now (scratch .exit)) ⌝ }
 {
     let p = pieces::read(scratch, place);
     let m = middle(p);
@@ -127,7 +128,8 @@ fn halve(scratch: &mut [f64], integrand: Integrand, points: &[f64], n: usize, pl
 }
 
 fn answer(ending: Ending, value: [f64; 7], intervals: usize, samples: usize) -> Integral
-    ensures { λ r. ⌜ r ≡ record { ending = ending; totals = record { value = value; intervals = intervals; samples = samples } } ⌝ }
+    ensures { λ r. ⌜
+        r ≡ record { ending = ending; totals = record { value = value; intervals = intervals; samples = samples } } ⌝ }
 {
     let totals = Totals {
         value,
@@ -145,8 +147,10 @@ fn repeat(
     limit: usize,
     taken: usize,
 ) -> Integral
-    requires { ⌜ (1 ≤ limit) × (limit ≤ mostPieces) × (limit * pieceNumbers ≤ length (now scratch)) × (taken ≤ pieceSamples) ⌝ }
-    ensures { λ r. ⌜ Repeats (sampleOf integrand (now (points .entry))) limit taken (now (scratch .entry)) r (now (scratch .exit)) ⌝ }
+    requires { ⌜
+        (1 ≤ limit) × (limit ≤ mostPieces) × (limit * pieceNumbers ≤ length (now scratch)) × (taken ≤ pieceSamples) ⌝ }
+    ensures { λ r. ⌜ Repeats (sampleOf integrand (now (points .entry))) limit taken (now (scratch .entry)) r
+        (now (scratch .exit)) ⌝ }
 {
     let mut n: usize = 1;
     let mut samples = taken;
@@ -176,7 +180,8 @@ pub fn integrate(
     limit: usize,
 ) -> Integral
     requires { ⌜ (1 ≤ limit) × (limit ≤ mostPieces) × (limit * pieceNumbers ≤ length (now scratch)) ⌝ }
-    ensures { λ r. ⌜ Integrates (sampleOf integrand (now (points .entry))) lower upper limit (now (scratch .entry)) r (now (scratch .exit)) ⌝ }
+    ensures { λ r. ⌜ Integrates (sampleOf integrand (now (points .entry))) lower upper limit (now (scratch .entry)) r
+        (now (scratch .exit)) ⌝ }
 {
     if lower == upper {
         let ending = Ending::Accepted;

@@ -23,7 +23,8 @@ pub record KeepsBytes (before after : List ℕ) (s r : State) (bytes : List ℕ)
 -- the bytes of a line kept, up to its newline or their end: after whatever has begun, no line ends in them
 pub record KeepsLine (before after : List ℕ) (s : State) (bytes : List ℕ) (r : KeptLine) : Type 0 where
   pub none-ends : (begun : List ℕ) → linesWithin begun (take (r .taken) bytes) ≡ []
-  pub keeps : (begun : List ℕ) → Keeps before s begun → Keeps after (r .state) (begunAfter begun (take (r .taken) bytes))
+  pub keeps :
+      (begun : List ℕ) → Keeps before s begun → Keeps after (r .state) (begunAfter begun (take (r .taken) bytes))
   pub within : r .state .kept ≤ lineBytes
   pub some : r .taken ≤ length bytes
   pub ends : r .taken < length bytes → getD bytes (r .taken) 0 ≡ 10

@@ -24,7 +24,9 @@ pub data Calls (memory₀ : Memory) : List ℕ → List ℕ → State → Memory
       → Calls memory₀ [] buffer s memory input replied
       → Calls memory₀ bytes buffer s memory (input ++ bytes) replied
   -- a call of `feed` with what is left of the chunk
-  feeds : (rest buffer : List ℕ) (s : State) (memory : Memory) (input replied after : List ℕ) (left : Memory) (out written : List ℕ) (n : ℕ) (r : Fed)
+  feeds :
+      (rest buffer : List ℕ) (s : State) (memory : Memory) (input replied after : List ℕ) (left : Memory)
+      (out written : List ℕ) (n : ℕ) (r : Fed)
       → Calls memory₀ rest buffer s memory input replied
       → n ≤ length out → Feeds buffer after s rest memory left out written n r
       → Calls memory₀ (drop (r .taken) rest) after (r .state) left input (replied ++ appendedIn written n (r .written))

@@ -15,7 +15,8 @@ ghost use Rattle.floats.specs.Operations.{_⊗_, _⊘_};
 ghost use Rattle.planforms.specs.Planforms.{spanOf};
 ghost use Rattle.chords.specs.Chords.{outlineCrossings, paired, endsOf};
 ghost use Rattle.chords.specs.Edges.{Holding};
-ghost use Rattle.integrands.specs.Integrands.{scaleOf, areaIntegrand, plateIntegrand, termOf, plus, sumsOver, sampleValues, valuesOver, chordsFor, HoldingAt, sampleOf};
+ghost use Rattle.integrands.specs.Integrands.{scaleOf, areaIntegrand, plateIntegrand, termOf, plus, sumsOver};
+ghost use Rattle.integrands.specs.Integrands.{sampleValues, valuesOver, chordsFor, HoldingAt, sampleOf};
 
 // What is summed over the chords. Thickness and body radius are divided by the scale.
 pub enum Kind {

@@ -26,7 +26,8 @@ use Rattle.jobs.specs.declared.Progress.the-variants.{Ended}
 use Rattle.jobs.specs.declared.JobProgress.{JobProgress}
 use Rattle.jobs.specs.declared.Reply.{Reply}
 use Rattle.jobs.specs.declared.Row.{Row}
-use Rattle.jobs.specs.Jobs.{pointsOf, runOfJob, stepRow, replyRow, withDensity, stepOf, changeOf, madeOf, progressOf}
+use Rattle.jobs.specs.Jobs.{pointsOf, runOfJob, stepRow, replyRow, withDensity, stepOf, changeOf, madeOf}
+use Rattle.jobs.specs.Jobs.{progressOf}
 
 -- a step over the scratch lent to it, or a change of density
 pub data Call : Type 0 where
@@ -40,7 +41,8 @@ jobBy job (change density) = changeOf job density .job
 
 -- what a call answers
 abbrev pub answerBy : Job → Call → Row
-answerBy job (step scratch) = stepRow (stepOf job (length scratch) .answer .progress) (stepOf job (length scratch) .answer .job)
+answerBy job (step scratch) =
+    stepRow (stepOf job (length scratch) .answer .progress) (stepOf job (length scratch) .answer .job)
 answerBy job (change density) = replyRow (changeOf job density .reply)
 
 abbrev pub afterCalls : Job → List Call → Job
@@ -51,7 +53,8 @@ afterCalls job (call ∷ calls) = afterCalls (jobBy job call) calls
 
 -- a step counts where the job has not ended, the scratch is long enough and a strip is there
 abbrev pub counts : Job → ℕ → Bool
-counts job scratchLength = not (job .ended) && (not (isRefused (runCheck (job .limit) scratchLength)) && hasStrip (runOfJob job) (job .next))
+counts job scratchLength =
+    not (job .ended) && (not (isRefused (runCheck (job .limit) scratchLength)) && hasStrip (runOfJob job) (job .next))
 
 -- the strip of a call: one, or none
 abbrev pub stripsBy : Job → Call → List Worked
@@ -65,7 +68,9 @@ stripsOver job (call ∷ calls) = stripsBy job call ++ stripsOver (jobBy job cal
 -- "A step writes its own strip's pieces from the start of the scratch lent to it and leaves the rest": of every record
 -- and scratch
 abbrev pub WritesOwnStrip : Type 0
-WritesOwnStrip = (job : Job) (scratch : List Float) → stepOf job (length scratch) .leaves scratch ≡ scratchAfter (stripsBy job (step scratch)) scratch
+WritesOwnStrip =
+    (job : Job) (scratch : List Float)
+    → stepOf job (length scratch) .leaves scratch ≡ scratchAfter (stripsBy job (step scratch)) scratch
 
 -- ---- the density accepted last
 
@@ -109,7 +114,13 @@ runningJob set points L strips =
 -- how far a job is whose strips so far are these
 abbrev pub progressOver : Run → List Worked → JobProgress
 progressOver run strips =
-    record { worked = length strips; strips = stripsFrom run 0; intervals = intervalsIn strips; samples = samplesIn strips }
+    record {
+      worked =
+          length strips;
+      strips = stripsFrom run 0;
+      intervals = intervalsIn strips;
+      samples = samplesIn strips;
+    }
 
 -- ---- a job that was made, and any calls
 
@@ -138,7 +149,9 @@ module _ (set : FinSet) (points : List Float) (L : ℕ) (calls : List Call) wher
     pub intervals-so-far : jobAfter .totals .intervals ≡ intervalsIn stripsAfter
     -- and so it is told how far the job is, before the end and at it; at an end with figures all strips are worked
     pub progress-so-far : progressOf jobAfter ≡ progressOver (setRun set points L) stripsAfter
-    pub all-worked : jobAfter .ended ≡ true → endingOf stripsAfter ≡ accepted → progressOf jobAfter .worked ≡ progressOf jobAfter .strips
+    pub all-worked :
+        jobAfter .ended ≡ true → endingOf stripsAfter ≡ accepted
+        → progressOf jobAfter .worked ≡ progressOf jobAfter .strips
     -- at the end they are all strips of the run, and what is reported is of them; what was written is `WritesOwnStrip`
     pub worked : jobAfter .ended ≡ true → StripsAre (setRun set points L) stripsAfter
     pub reported : jobAfter .ended ≡ true → AreReported stripsAfter (setReport (jobAfter .outcome))
@@ -154,8 +167,12 @@ module _ (set : FinSet) (points : List Float) (L : ℕ) (calls : List Call) wher
     pub no-more-steps : length stripsAfter ≤ stripsFrom (setRun set points L) 0
     pub runs-on : jobAfter .ended ≡ false → length stripsAfter < stripsFrom (setRun set points L) 0
     -- until it ends, a step that is lent enough works a strip
-    pub works-next : jobAfter .ended ≡ false → (scratchLength : ℕ) → runCheck L scratchLength ≡ Accepted → counts jobAfter scratchLength ≡ true
-    pub as-many-steps : jobAfter .ended ≡ true → endingOf stripsAfter ≡ accepted → length stripsAfter ≡ stripsFrom (setRun set points L) 0
+    pub works-next :
+        jobAfter .ended ≡ false → (scratchLength : ℕ) → runCheck L scratchLength ≡ Accepted
+        → counts jobAfter scratchLength ≡ true
+    pub as-many-steps :
+        jobAfter .ended ≡ true → endingOf stripsAfter ≡ accepted
+        → length stripsAfter ≡ stripsFrom (setRun set points L) 0
 
   -- of the strips worked so far, whose pieces the screen draws: these "strictly rise, every cut lying between its
   -- parent's ends", and "no sample is infinite or NaN" (document 02, Paper 14), nor a number worked from the samples

@@ -45,7 +45,8 @@ use Rattle.jobs.specs.declared.Replied.{Replied}
 -- the run of a set whose strips are worked one a step: over all heights, not sorted
 abbrev pub stepRun : FinSet → List Float → ℕ → Run
 stepRun set points L =
-    record { width = 7; integrand = setIntegrand set points; limit = L; scale = scaleOf (set .planform) points; heights = allHeights (set .planform) points }
+    record
+    { width = 7; integrand = setIntegrand set points; limit = L; scale = scaleOf (set .planform) points; heights = allHeights (set .planform) points }
 
 -- ---- the record
 
@@ -54,7 +55,11 @@ abbrev pub heldOf : ℕ → ℕ
 heldOf count = cond (leb count outlineNumbers) count outlineNumbers
 
 abbrev pub pointsOf : List Float → Points
-pointsOf points = record { numbers = over (take outlineNumbers points) (replicate outlineNumbers (bits 0)); count = length (take outlineNumbers points) }
+pointsOf points =
+    record {
+      numbers = over (take outlineNumbers points) (replicate outlineNumbers (bits 0));
+      count = length (take outlineNumbers points);
+    }
 
 abbrev pub outlineOf : Job → List Float
 outlineOf job = take (heldOf (job .points .count)) (job .points .numbers)
@@ -149,7 +154,8 @@ stepAfter over = cond over Ended More
 
 -- what it leaves, and that more strips remain or that the job has ended
 abbrev pub steppedBy : CallOf Job → CallOf Stepped
-steppedBy call = record { answer = record { job = call .answer; progress = stepAfter (call .answer .ended) }; leaves = call .leaves }
+steppedBy call =
+    record { answer = record { job = call .answer; progress = stepAfter (call .answer .ended) }; leaves = call .leaves }
 
 -- "number 2 at each step", where the job has not ended
 abbrev pub isShort : Bool → ℕ → ℕ → Bool
@@ -158,7 +164,11 @@ isShort over L scratchLength = not over && (not (isRefused (limitCheck L)) && is
 -- a step that is short "changes nothing"; a step on an ended job "repeats its answer, with any scratch"
 unfoldable pub stepOf : Job → ℕ → CallOf Stepped
 stepOf job scratchLength =
-    cond (isShort (job .ended) (job .limit) scratchLength) (leavesAlone (record { job = job; progress = Short })) (steppedBy (steppedOn job))
+    cond (isShort (job .ended) (job .limit) scratchLength) (leavesAlone (record {
+      job =
+          job;
+      progress = Short;
+    })) (steppedBy (steppedOn job))
 
 -- a step does this, and gives the number and values of its answer
 abbrev pub verdictOf : Stepped → Verdict
@@ -213,7 +223,8 @@ IsReplied r definition = IsAnswer (λ (s : Replied). s .reply .verdict) r defini
 
 -- "a density not bulk or outside the limits, or any change after the end, answers 12 and leaves the old one"
 unfoldable pub changeOf : Job → Density → Replied
-changeOf job density = cond (job .ended) (kept job notTaken) (byVerdict (densityCheck density) (taken job density) (kept job))
+changeOf job density =
+    cond (job .ended) (kept job notTaken) (byVerdict (densityCheck density) (taken job density) (kept job))
 
 -- ---- making one
 

@@ -86,7 +86,9 @@ joinedOf f n = unlessRefused (countCheck n) (joinOf f n)
 
 -- a list that is no whole number of bodies is refused 3 too
 abbrev pub combineOf : List Float → Joined
-combineOf numbers = cond (eqb (length numbers % bodyNumbers) 0) (joinedOf (bodyAt numbers) (length numbers / bodyNumbers)) (refusedBody Count)
+combineOf numbers =
+    cond (eqb (length numbers % bodyNumbers) 0) (joinedOf (bodyAt numbers) (length numbers / bodyNumbers))
+    (refusedBody Count)
 
 -- ---- what the steps do
 

@@ -21,7 +21,8 @@ use Rattle.engines.specs.declared.Screens.{Screens}
 use Rattle.engines.specs.declared.Turn.{Turn}
 use Rattle.engines.specs.Engines.{placeOf, jobAt, turnOf, submitOf, changeAt}
 use Rattle.engines.specs.Calls.{Call, turn, submit, change, engineBy, afterCalls, screenOf}
-use Rattle.lent_engines.specs.Memory.{engineNumbers, engineCounts, screenCounts, screensIn, noScreens, put, engineIn}
+use Rattle.lent_engines.specs.Memory.{engineNumbers, engineCounts, screenCounts, screensIn, noScreens, put}
+use Rattle.lent_engines.specs.Memory.{engineIn}
 
 -- lists with room for an engine
 abbrev pub Room : List Float → List ℕ → Type 0
@@ -44,7 +45,9 @@ abbrev pub written : Engine → ℕ → Lists → Lists
 written engine place l =
     record {
       numbers = put (place * jobNumbers) jobNumbers (l .numbers) (numbersOf (jobAt engine place));
-      counts = put (9 + place * jobCounts) jobCounts (screenCounts (engine .screens) ++ drop 9 (l .counts)) (countsOf (jobAt engine place));
+      counts =
+          put (9 + place * jobCounts) jobCounts (screenCounts (engine .screens) ++ drop 9 (l .counts))
+          (countsOf (jobAt engine place));
     }
 
 -- a turn writes where it serves a screen, a submission and a change of density where they are taken; else "changes
@@ -56,7 +59,8 @@ writes engine (change screen density) = isTaken (changeAt engine screen density 
 
 -- the lists as a call leaves them, by what they were and by the call alone
 unfoldable pub listsBy : Lists → Call → Lists
-listsBy l call = cond (writes (engineOf l) call) (written (engineBy (engineOf l) call) (placeOf (screenOf (engineOf l) call)) l) l
+listsBy l call =
+    cond (writes (engineOf l) call) (written (engineBy (engineOf l) call) (placeOf (screenOf (engineOf l) call)) l) l
 
 -- calls in a row, "each call gets the record, in Paper 10 the engine's, as the one before left it"
 unfoldable pub listsAfter : Lists → List Call → Lists
@@ -81,16 +85,19 @@ changeCalls screen noDensity = []
 
 -- ---- the calls
 
-pub record Turns (numbers : List Float) (counts : List ℕ) (scratch : List Float) (r : Turn) (numbers' : List Float) (counts' : List ℕ) (scratch' : List Float) : Type 0 where
+pub record Turns (numbers : List Float) (counts : List ℕ) (scratch : List Float) (r : Turn) (numbers' : List Float)
+    (counts' : List ℕ) (scratch' : List Float) : Type 0 where
   pub answered : r ≡ turnOf (engineIn numbers counts) (length scratch) .answer .turn
   pub leaves : Leaves (turn scratch ∷ []) (lists numbers counts) (lists numbers' counts')
   pub lent : scratch' ≡ turnOf (engineIn numbers counts) (length scratch) .leaves scratch
 
-pub record Submits (screen : ℕ) (set : FinSet) (points : List Float) (L : ℕ) (numbers : List Float) (counts : List ℕ) (r : Reply) (numbers' : List Float) (counts' : List ℕ) : Type 0 where
+pub record Submits (screen : ℕ) (set : FinSet) (points : List Float) (L : ℕ) (numbers : List Float) (counts : List ℕ)
+    (r : Reply) (numbers' : List Float) (counts' : List ℕ) : Type 0 where
   pub answered : r ≡ submitOf (engineIn numbers counts) screen set points L .reply
   pub leaves : Leaves (submit screen set points L ∷ []) (lists numbers counts) (lists numbers' counts')
 
-pub record Changes (screen : ℕ) (density : Density) (numbers : List Float) (counts : List ℕ) (r : Reply) (numbers' : List Float) (counts' : List ℕ) : Type 0 where
+pub record Changes (screen : ℕ) (density : Density) (numbers : List Float) (counts : List ℕ) (r : Reply)
+    (numbers' : List Float) (counts' : List ℕ) : Type 0 where
   pub answered : r ≡ changeAt (engineIn numbers counts) screen density .reply
   pub leaves : Leaves (change screen density ∷ []) (lists numbers counts) (lists numbers' counts')
 

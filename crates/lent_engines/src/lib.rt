@@ -159,7 +159,8 @@ fn outcome_at(numbers: &[f64], counts: &[usize], screen: usize) -> Figures
 // What a turn answers, by its number and figures: of the job served, as the turn left it there.
 pub fn turn_row(numbers: &[f64], counts: &[usize], turn: Turn) -> Row
     requires { ⌜ Room (now numbers) (now counts) ⌝ }
-    ensures { λ r. ⌜ r ≡ turnRow turn (jobAt (engineIn (now (numbers .entry)) (now (counts .entry))) (placeOf (servedScreen turn))) ⌝ }
+    ensures { λ r. ⌜ r ≡ turnRow turn
+        (jobAt (engineIn (now (numbers .entry)) (now (counts .entry))) (placeOf (servedScreen turn))) ⌝ }
 {
     match turn {
         Turn::Short => {
@@ -212,7 +213,8 @@ pub fn change_density(
     density: Density,
 ) -> Reply
     requires { ⌜ Room (now numbers) (now counts) ⌝ }
-    ensures { λ r. ⌜ Changes screen density (now (numbers .entry)) (now (counts .entry)) r (now (numbers .exit)) (now (counts .exit)) ⌝ }
+    ensures { λ r. ⌜ Changes screen density (now (numbers .entry)) (now (counts .entry)) r (now (numbers .exit))
+        (now (counts .exit)) ⌝ }
 {
     let screens = read_screens(counts);
     let place = engines::place_of(screen);

@@ -22,16 +22,19 @@ abbrev pub Room : List Float → List ℕ → Type 0
 Room numbers counts = (jobNumbers ≤ length numbers) × (jobCounts ≤ length counts)
 
 -- the job is written over their start, and is the one that they then hold
-pub record Holds (job : Job) (numbers : List Float) (counts : List ℕ) (numbers' : List Float) (counts' : List ℕ) : Type 0 where
+pub record Holds (job : Job) (numbers : List Float) (counts : List ℕ) (numbers' : List Float)
+    (counts' : List ℕ) : Type 0 where
   pub numbers-are : numbers' ≡ numbersOf job ++ drop jobNumbers numbers
   pub counts-are : counts' ≡ countsOf job ++ drop jobCounts counts
   pub held : jobIn numbers' counts' ≡ job
 
-pub record Makes (set : FinSet) (points : List Float) (L : ℕ) (numbers : List Float) (counts : List ℕ) (r : Reply) (numbers' : List Float) (counts' : List ℕ) : Type 0 where
+pub record Makes (set : FinSet) (points : List Float) (L : ℕ) (numbers : List Float) (counts : List ℕ) (r : Reply)
+    (numbers' : List Float) (counts' : List ℕ) : Type 0 where
   pub answered : r ≡ madeOf set points L .reply
   pub holds : Holds (madeOf set points L .job) numbers counts numbers' counts'
 
--- ---- a step and a change of density: the job is written where they change it, else "changes nothing" is said of the lists themselves
+-- ---- a step and a change of density: the job is written where they change it, else "changes nothing" is said of the
+-- lists themselves
 
 -- a step changes the job unless it finds it ended or is short
 abbrev pub stepWrites : Job → ℕ → Bool
@@ -42,27 +45,36 @@ abbrev pub densityTaken : Bool → Density → Bool
 densityTaken ended density = not ended && not (isRefused (densityCheck density))
 
 -- the lists at exit, by what they were, and the job that they then hold
-pub record Leaves (written : Bool) (job : Job) (numbers : List Float) (counts : List ℕ) (numbers' : List Float) (counts' : List ℕ) : Type 0 where
+pub record Leaves (written : Bool) (job : Job) (numbers : List Float) (counts : List ℕ) (numbers' : List Float)
+    (counts' : List ℕ) : Type 0 where
   pub numbers-are : numbers' ≡ cond written (numbersOf job ++ drop jobNumbers numbers) numbers
   pub counts-are : counts' ≡ cond written (countsOf job ++ drop jobCounts counts) counts
   pub held : jobIn numbers' counts' ≡ job
 
-pub record Steps (numbers : List Float) (counts : List ℕ) (scratch : List Float) (r : Progress) (numbers' : List Float) (counts' : List ℕ) (scratch' : List Float) : Type 0 where
+pub record Steps (numbers : List Float) (counts : List ℕ) (scratch : List Float) (r : Progress) (numbers' : List Float)
+    (counts' : List ℕ) (scratch' : List Float) : Type 0 where
   pub answered : r ≡ stepOf (jobIn numbers counts) (length scratch) .answer .progress
-  pub leaves : Leaves (stepWrites (jobIn numbers counts) (length scratch)) (stepOf (jobIn numbers counts) (length scratch) .answer .job) numbers counts numbers' counts'
+  pub leaves :
+      Leaves (stepWrites (jobIn numbers counts) (length scratch))
+      (stepOf (jobIn numbers counts) (length scratch) .answer .job) numbers counts numbers' counts'
   pub lent : scratch' ≡ stepOf (jobIn numbers counts) (length scratch) .leaves scratch
 
-pub record Changes (numbers : List Float) (counts : List ℕ) (density : Density) (r : Reply) (numbers' : List Float) (counts' : List ℕ) : Type 0 where
+pub record Changes (numbers : List Float) (counts : List ℕ) (density : Density) (r : Reply) (numbers' : List Float)
+    (counts' : List ℕ) : Type 0 where
   pub answered : r ≡ changeOf (jobIn numbers counts) density .reply
-  pub leaves : Leaves (isTaken (changeOf (jobIn numbers counts) density .reply)) (changeOf (jobIn numbers counts) density .job) numbers counts numbers' counts'
+  pub leaves :
+      Leaves (isTaken (changeOf (jobIn numbers counts) density .reply))
+      (changeOf (jobIn numbers counts) density .job) numbers counts numbers' counts'
 
 -- ---- what functions inside do: the job is written, whatever the call did
 
-pub record StepsThere (numbers : List Float) (counts : List ℕ) (scratch : List Float) (r : Progress) (numbers' : List Float) (counts' : List ℕ) (scratch' : List Float) : Type 0 where
+pub record StepsThere (numbers : List Float) (counts : List ℕ) (scratch : List Float) (r : Progress)
+    (numbers' : List Float) (counts' : List ℕ) (scratch' : List Float) : Type 0 where
   pub answered : r ≡ stepOf (jobIn numbers counts) (length scratch) .answer .progress
   pub holds : Holds (stepOf (jobIn numbers counts) (length scratch) .answer .job) numbers counts numbers' counts'
   pub lent : scratch' ≡ stepOf (jobIn numbers counts) (length scratch) .leaves scratch
 
-pub record ChangesThere (numbers : List Float) (counts : List ℕ) (density : Density) (r : Reply) (numbers' : List Float) (counts' : List ℕ) : Type 0 where
+pub record ChangesThere (numbers : List Float) (counts : List ℕ) (density : Density) (r : Reply) (numbers' : List Float)
+    (counts' : List ℕ) : Type 0 where
   pub answered : r ≡ changeOf (jobIn numbers counts) density .reply
   pub holds : Holds (changeOf (jobIn numbers counts) density .job) numbers counts numbers' counts'

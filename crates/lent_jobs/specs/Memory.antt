@@ -11,7 +11,8 @@ use Rattle.floats.specs.Operations.{bits, at, tabulate}
 use Rattle.refusals.specs.Numbered.{numberIn, firstIn, secondIn, verdictFrom}
 use Rattle.limits.specs.Limits.{outlineNumbers}
 use Rattle.fins.specs.declared.FinSet.{FinSet}
-use Rattle.fins.specs.Numbered.{setNumbers, setCounts, numbersOf as setNumbersOf, countsOf as setCountsOf, setIn as numberedSetIn, knownSet}
+use Rattle.fins.specs.Numbered.{setNumbers, setCounts, numbersOf as setNumbersOf, countsOf as setCountsOf}
+use Rattle.fins.specs.Numbered.{setIn as numberedSetIn, knownSet}
 use Rattle.bodies.specs.Layout.{bodyNumbers, bodyOf, numbersOf as bodyNumbersOf}
 use Rattle.figures.specs.declared.Figures.{Figures}
 use Rattle.jobs.specs.declared.Job.{Job}
@@ -66,7 +67,9 @@ setIn numbers counts = knownSet (numberedSetIn numbers counts)
 unfoldable pub outcomeIn : List Float → List ℕ → Figures
 outcomeIn numbers counts =
     record {
-      verdict = verdictFrom (countAt counts (setCounts + 5)) (countAt counts (setCounts + 6)) (countAt counts (setCounts + 7));
+      verdict =
+          verdictFrom (countAt counts (setCounts + 5)) (countAt counts (setCounts + 6))
+          (countAt counts (setCounts + 7));
       body = bodyOf (at (take bodyNumbers (drop bodyPlace numbers)));
       intervals = countAt counts (setCounts + 8);
       samples = countAt counts (setCounts + 9);
@@ -76,7 +79,8 @@ unfoldable pub jobIn : List Float → List ℕ → Job
 jobIn numbers counts =
     record {
       set = setIn numbers counts;
-      points = record { numbers = take outlineNumbers (drop outlinePlace numbers); count = countAt counts (setCounts + 10) };
+      points =
+          record { numbers = take outlineNumbers (drop outlinePlace numbers); count = countAt counts (setCounts + 10) };
       limit = countAt counts setCounts;
       next = countAt counts (setCounts + 1);
       totals =

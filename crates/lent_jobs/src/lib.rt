@@ -11,7 +11,8 @@ ghost use lib.Seq.{paste};
 ghost use Rattle.limits.specs.Limits.{outlineNumbers};
 ghost use Rattle.jobs.specs.Jobs.{stepRow, progressOf};
 ghost use Rattle.lent_jobs.specs.Memory.{flag, workedNumbers, countsOf, setIn, outcomeIn, jobIn};
-ghost use Rattle.lent_jobs.specs.Lent.{Room, Holds, Makes, densityTaken, Steps, Changes, StepsThere, ChangesThere};
+ghost use Rattle.lent_jobs.specs.Lent.{Room, Holds, Makes, densityTaken, Steps, Changes, StepsThere};
+ghost use Rattle.lent_jobs.specs.Lent.{ChangesThere};
 use bodies::BODY_NUMBERS;
 use bodies::Body;
 use figures::Figures;
@@ -143,7 +144,8 @@ fn counts_of(job: Job) -> [usize; JOB_COUNTS]
 // Numbers over others, from a place on.
 fn write_numbers(numbers: &mut [f64], at: usize, written: &[f64])
     requires { ⌜ at + length (now written) ≤ length (now numbers) ⌝ }
-    ensures { λ _. ⌜ now (numbers .exit) ≡ paste (now (numbers .entry)) at (now (written .entry)) (length (now (written .entry))) ⌝ }
+    ensures { λ _. ⌜ now (numbers .exit) ≡ paste (now (numbers .entry)) at (now (written .entry))
+        (length (now (written .entry))) ⌝ }
 {
     let n = written.len();
     let mut i: usize = 0;
@@ -156,7 +158,8 @@ fn write_numbers(numbers: &mut [f64], at: usize, written: &[f64])
 // Counts over the start of others.
 pub fn write_counts(counts: &mut [usize], written: &[usize])
     requires { ⌜ length (now written) ≤ length (now counts) ⌝ }
-    ensures { λ _. ⌜ now (counts .exit) ≡ paste (now (counts .entry)) 0 (now (written .entry)) (length (now (written .entry))) ⌝ }
+    ensures { λ _. ⌜
+        now (counts .exit) ≡ paste (now (counts .entry)) 0 (now (written .entry)) (length (now (written .entry))) ⌝ }
 {
     let n = written.len();
     let mut i: usize = 0;
@@ -169,7 +172,8 @@ pub fn write_counts(counts: &mut [usize], written: &[usize])
 // Writes a job over the start of both lists.
 pub fn write_job(numbers: &mut [f64], counts: &mut [usize], job: Job)
     requires { ⌜ Room (now numbers) (now counts) ⌝ }
-    ensures { λ _. ⌜ Holds job (now (numbers .entry)) (now (counts .entry)) (now (numbers .exit)) (now (counts .exit)) ⌝ }
+    ensures { λ _. ⌜
+        Holds job (now (numbers .entry)) (now (counts .entry)) (now (numbers .exit)) (now (counts .exit)) ⌝ }
 {
     let set = job.set;
     let of_set = fins::numbers_of(set);
@@ -326,7 +330,8 @@ pub fn step_row(numbers: &[f64], counts: &[usize], progress: Progress) -> Row
 // A change of density of the job there that is taken.
 fn change_there(numbers: &mut [f64], counts: &mut [usize], density: Density) -> Reply
     requires { ⌜ Room (now numbers) (now counts) ⌝ }
-    ensures { λ r. ⌜ ChangesThere (now (numbers .entry)) (now (counts .entry)) density r (now (numbers .exit)) (now (counts .exit)) ⌝ }
+    ensures { λ r. ⌜ ChangesThere (now (numbers .entry)) (now (counts .entry)) density r (now (numbers .exit))
+        (now (counts .exit)) ⌝ }
 {
     let mut job = read_job(numbers, counts);
     let reply = jobs::change_density(&mut job, density);
@@ -344,7 +349,8 @@ fn takes_density(ended: bool, density: Density) -> bool
 // A change of density of the job there. One that is refused writes nothing.
 pub fn change_density(numbers: &mut [f64], counts: &mut [usize], density: Density) -> Reply
     requires { ⌜ Room (now numbers) (now counts) ⌝ }
-    ensures { λ r. ⌜ Changes (now (numbers .entry)) (now (counts .entry)) density r (now (numbers .exit)) (now (counts .exit)) ⌝ }
+    ensures { λ r. ⌜
+        Changes (now (numbers .entry)) (now (counts .entry)) density r (now (numbers .exit)) (now (counts .exit)) ⌝ }
 {
     if takes_density(counts[ENDED] != 0, density) {
         return change_there(numbers, counts, density);

@@ -3,7 +3,8 @@
 // Document 01, "Set and planform": a length is zero or has magnitude 2^-20 to 64, an angle at most 4 rad. The Rust's
 // `check_dimension` asks only that a length is finite and above 0, or 0 where that is allowed.
 ghost use mathlib.Core.Path.{_≡_};
-ghost use Rattle.limits.specs.Limits.{zeroAllowed, negativeAllowed, lengthWithin, lengthCheck, angleCheck, limitCheck, scratchCheck, countCheck};
+ghost use Rattle.limits.specs.Limits.{zeroAllowed, negativeAllowed, lengthWithin, lengthCheck, angleCheck};
+ghost use Rattle.limits.specs.Limits.{limitCheck, scratchCheck, countCheck};
 use refusals::Refusal;
 use refusals::Verdict;
 use refusals::refuse_unless;

@@ -27,14 +27,23 @@ use Rattle.moments.specs.declared.Moments.{Moments}
 use Rattle.texts.specs.Appended.{Appended}
 use Rattle.answers.specs.declared.Reply.{Reply}
 use Rattle.answers.specs.declared.Shape.{Shape}
-use Rattle.answers.specs.declared.Shape.the-variants.{Figures as FiguresShape, Area as AreaShape, Joined as JoinedShape, Ring as RingShape, Body as BodyShape, Closing as ClosingShape}
-use Rattle.answers.specs.declared.Shape.the-variants.{Inside as InsideShape, Edge as EdgeShape, Outside as OutsideShape, Moments as MomentsShape, Sound as SoundShape, Taken as TakenShape, Idle as IdleShape}
-use Rattle.answers.specs.declared.Shape.the-variants.{More as MoreShape, Done as DoneShape, DoneRefused as DoneRefusedShape, Progress as ProgressShape, Refused as RefusedShape}
+use Rattle.answers.specs.declared.Shape.the-variants.{Figures as FiguresShape, Area as AreaShape, Joined as JoinedShape}
+use Rattle.answers.specs.declared.Shape.the-variants.{Ring as RingShape, Body as BodyShape, Closing as ClosingShape}
+use Rattle.answers.specs.declared.Shape.the-variants.{Inside as InsideShape, Edge as EdgeShape, Outside as OutsideShape}
+use Rattle.answers.specs.declared.Shape.the-variants.{Moments as MomentsShape, Sound as SoundShape, Taken as TakenShape}
+use Rattle.answers.specs.declared.Shape.the-variants.{Idle as IdleShape}
+use Rattle.answers.specs.declared.Shape.the-variants.{More as MoreShape, Done as DoneShape}
+use Rattle.answers.specs.declared.Shape.the-variants.{DoneRefused as DoneRefusedShape, Progress as ProgressShape}
+use Rattle.answers.specs.declared.Shape.the-variants.{Refused as RefusedShape}
 use Rattle.answers.specs.Answers.{AnswerFits, textOf, reply}
 use Rattle.reading.specs.declared.Asked.{Asked}
-use Rattle.reading.specs.declared.Asked.the-variants.{Refused as RefusedAsked, Set as SetAsked, Area as AreaAsked, Join as JoinAsked, Moments as MomentsAsked, Check as CheckAsked}
-use Rattle.reading.specs.declared.Asked.the-variants.{Tubes as TubesAsked, Closing as ClosingAsked, Drill as DrillAsked, Copied as CopiedAsked, Placed as PlacedAsked, Moved as MovedAsked}
-use Rattle.reading.specs.declared.Asked.the-variants.{Without as WithoutAsked, Submit as SubmitAsked, Density as DensityAsked, Turn as TurnAsked, Progress as ProgressAsked}
+use Rattle.reading.specs.declared.Asked.the-variants.{Refused as RefusedAsked, Set as SetAsked, Area as AreaAsked}
+use Rattle.reading.specs.declared.Asked.the-variants.{Join as JoinAsked, Moments as MomentsAsked, Check as CheckAsked}
+use Rattle.reading.specs.declared.Asked.the-variants.{Tubes as TubesAsked, Closing as ClosingAsked, Drill as DrillAsked}
+use Rattle.reading.specs.declared.Asked.the-variants.{Copied as CopiedAsked, Placed as PlacedAsked, Moved as MovedAsked}
+use Rattle.reading.specs.declared.Asked.the-variants.{Without as WithoutAsked, Submit as SubmitAsked}
+use Rattle.reading.specs.declared.Asked.the-variants.{Density as DensityAsked, Turn as TurnAsked}
+use Rattle.reading.specs.declared.Asked.the-variants.{Progress as ProgressAsked}
 use Rattle.reading.specs.Lines.{lineRead}
 use Rattle.requests.specs.Calls.{joinedPointsOf, tensorMoments, bodyVerdict, copiedBy, placedBy, movedBy, withoutBy}
 use Rattle.figures.specs.declared.Figures.{Figures}
@@ -83,7 +92,10 @@ setReply f = unlessRefused (f .verdict) (reply FiguresShape (numbersOf (f .body)
 
 -- "centroid: x, then height"
 abbrev pub areaReply : Area → Reply
-areaReply a = unlessRefused (a .verdict) (reply AreaShape (a .«area_m2» ∷ a .«centroid_x_m» ∷ a .«centroid_span_m» ∷ []) (a .intervals ∷ a .samples ∷ []))
+areaReply a =
+    unlessRefused (a .verdict)
+    (reply AreaShape (a .«area_m2» ∷ a .«centroid_x_m» ∷ a .«centroid_span_m» ∷ [])
+    (a .intervals ∷ a .samples ∷ []))
 
 -- a body of points joined, of a ring, or of copies and parts
 abbrev pub bodyReply : Shape → Joined → Reply
@@ -121,7 +133,8 @@ turnReply (Ended screen) f = doneReply screen (f .verdict) f
 abbrev pub progressReply : JobProgress → Reply
 progressReply p = reply ProgressShape [] (p .worked ∷ p .strips ∷ p .intervals ∷ p .samples ∷ [])
 
--- ---- what a line does: its answer; the memory that it leaves, of which only the strips of a set, an area or a turn write to the scratch ("Refusal
+-- ---- what a line does: its answer; the memory that it leaves, of which only the strips of a set, an area or a turn
+-- write to the scratch ("Refusal
 -- numbers") and only the engine's own lines change the engine; and the calls of the engine that it asks for, one or
 -- none, without which the engine's two lists stay as they are
 
@@ -137,7 +150,8 @@ answers r m = record { reply = r; memory = m; calls = [] }
 -- an answer worked in the scratch
 abbrev pub works : {A : Type 0} → CallOf A → (A → Reply) → Memory → Effect
 works call replyTo m =
-    record { reply = replyTo (call .answer); memory = record { scratch = call .leaves (m .scratch); engine = m .engine }; calls = [] }
+    record
+    { reply = replyTo (call .answer); memory = record { scratch = call .leaves (m .scratch); engine = m .engine }; calls = [] }
 
 -- a submission or a change of density
 abbrev pub engages : Called → List Call → Memory → Effect
@@ -155,7 +169,8 @@ unfoldable pub areaEffect : Planform → List Float → ℕ → Memory → Effec
 areaEffect planform points limit m = works (areaCall planform points limit (length (m .scratch))) areaReply m
 
 unfoldable pub submitEffect : ℕ → FinSet → List Float → ℕ → Memory → Effect
-submitEffect screen set points limit m = engages (submitOf (m .engine) screen set points limit) (submit screen set points limit ∷ []) m
+submitEffect screen set points limit m =
+    engages (submitOf (m .engine) screen set points limit) (submit screen set points limit ∷ []) m
 
 unfoldable pub densityEffect : ℕ → Density → Memory → Effect
 densityEffect screen density m = engages (changeAt (m .engine) screen density) (change screen density ∷ []) m
@@ -180,13 +195,19 @@ effectOf MomentsAsked figures m = answers (momentsReply (tensorMoments figures))
 effectOf CheckAsked figures m = answers (plainReply (bodyVerdict figures) SoundShape) m
 effectOf (TubesAsked set radius) figures m = answers (bodyReply RingShape (tubesOf set radius)) m
 effectOf (ClosingAsked count radius) figures m = answers (closingReply (closingOf radius count)) m
-effectOf (DrillAsked planform points x height) figures m = answers (drillReply (drillOf planform (take points figures) x height)) m
-effectOf CopiedAsked figures m = answers (bodyReply BodyShape (copiedBy (take bodyNumbers figures) (drop bodyNumbers figures))) m
-effectOf PlacedAsked figures m = answers (bodyReply BodyShape (placedBy (take bodyNumbers figures) (drop bodyNumbers figures))) m
+effectOf (DrillAsked planform points x height) figures m =
+    answers (drillReply (drillOf planform (take points figures) x height)) m
+effectOf CopiedAsked figures m =
+    answers (bodyReply BodyShape (copiedBy (take bodyNumbers figures) (drop bodyNumbers figures))) m
+effectOf PlacedAsked figures m =
+    answers (bodyReply BodyShape (placedBy (take bodyNumbers figures) (drop bodyNumbers figures))) m
 effectOf MovedAsked figures m =
     let behindWhole = drop bodyNumbers figures in
-    answers (bodyReply BodyShape (movedBy (take bodyNumbers figures) (take bodyNumbers behindWhole) (drop bodyNumbers behindWhole))) m
-effectOf WithoutAsked figures m = answers (bodyReply BodyShape (withoutBy (take bodyNumbers figures) (drop bodyNumbers figures))) m
+    answers
+    (bodyReply BodyShape
+    (movedBy (take bodyNumbers figures) (take bodyNumbers behindWhole) (drop bodyNumbers behindWhole))) m
+effectOf WithoutAsked figures m =
+    answers (bodyReply BodyShape (withoutBy (take bodyNumbers figures) (drop bodyNumbers figures))) m
 effectOf (SubmitAsked screen limit set points) figures m = submitEffect screen set (take points figures) limit m
 effectOf (DensityAsked screen density) figures m = densityEffect screen density m
 effectOf TurnAsked figures m = turnEffect m
@@ -205,7 +226,8 @@ memoryAfter line m = lineEffect line m .memory
 abbrev pub callsOfLine : List ℕ → Memory → List Call
 callsOfLine line m = lineEffect line m .calls
 
--- ---- what answering a line does, after the n bytes at the start of `out`: where an answer may not fit, or the engine's lists are too short, nothing
+-- ---- what answering a line does, after the n bytes at the start of `out`: where an answer may not fit, or the
+-- engine's lists are too short, nothing
 
 -- scratch and engine as they are lent
 pub record LentMemory : Type 0 where
@@ -238,7 +260,8 @@ pub record Fits (lent : LentMemory) (out : List ℕ) (n : ℕ) : Type 0 where
   pub answer : AnswerFits out n
   pub engine : Room (lent .numbers) (lent .counts)
 
-pub record Answers (line : List ℕ) (lent after : LentMemory) (out : List ℕ) (n : ℕ) (written : List ℕ) (r : ℕ) : Type 0 where
+pub record Answers (line : List ℕ) (lent after : LentMemory) (out : List ℕ) (n : ℕ) (written : List ℕ)
+    (r : ℕ) : Type 0 where
   pub answer : Fits lent out n → Appended out n (answerOf line (memoryOf lent)) written r
   pub left : Fits lent out n → LeavesLent (lineEffect line (memoryOf lent)) lent after
   pub no-room : (Fits lent out n → ⊥) → (r ≡ n) × (written ≡ out) × (after ≡ lent)

@@ -15,7 +15,8 @@ ghost use Rattle.answers.specs.declared.Shape.the-variants.{Taken};
 ghost use Rattle.answers.specs.Answers.{answerBytes, AnswerFits, textOf, reply};
 ghost use Rattle.lent_engines.specs.Memory.{engineNumbers, engineCounts};
 ghost use Rattle.lent_engines.specs.Lent.{Room};
-ghost use Rattle.lines.specs.Lines.{refusedReply, unlessRefused, plainReply, setReply, areaReply, bodyReply, closingReply, momentsReply};
+ghost use Rattle.lines.specs.Lines.{refusedReply, unlessRefused, plainReply, setReply, areaReply, bodyReply};
+ghost use Rattle.lines.specs.Lines.{closingReply, momentsReply};
 ghost use Rattle.lines.specs.Lines.{drillReply, doneReply, turnReply, progressReply, effectOf, lineEffect};
 ghost use Rattle.lines.specs.Lines.{memoryIn, lentIn, Serves, LeavesLent, Answers};
 use answers::ANSWER_BYTES;
@@ -365,9 +366,11 @@ pub fn reply_line(
     engine_numbers: &mut [f64],
     engine_counts: &mut [usize],
 ) -> Reply
-    requires { ⌜ Room (now «engine_numbers») (now «engine_counts») × (length (now line) ≤ lineBytes → length (now line) ≤ length (now values)) ⌝ }
+    requires { ⌜ Room (now «engine_numbers») (now «engine_counts»)
+        × (length (now line) ≤ lineBytes → length (now line) ≤ length (now values)) ⌝ }
     ensures { λ r. ⌜ Serves
-        (lineEffect (now (line .entry)) (memoryIn (now (scratch .entry)) (now («engine_numbers» .entry)) (now («engine_counts» .entry))))
+        (lineEffect (now (line .entry))
+        (memoryIn (now (scratch .entry)) (now («engine_numbers» .entry)) (now («engine_counts» .entry))))
         (lentIn (now (scratch .entry)) (now («engine_numbers» .entry)) (now («engine_counts» .entry)))
         (lentIn (now (scratch .exit)) (now («engine_numbers» .exit)) (now («engine_counts» .exit))) r ⌝ }
 {
@@ -396,10 +399,14 @@ fn answer_read(
     requires { ⌜ AnswerFits (now out) n × Room (now «engine_numbers») (now «engine_counts»)
         × (length (now line) ≤ lineBytes → length (now line) ≤ length (now values)) ⌝ }
     ensures { λ r. ⌜ Appended (now (out .entry)) n
-        (textOf (lineEffect (now (line .entry)) (memoryIn (now (scratch .entry)) (now («engine_numbers» .entry)) (now («engine_counts» .entry))) .reply))
+        (textOf
+        (lineEffect (now (line .entry))
+        (memoryIn (now (scratch .entry)) (now («engine_numbers» .entry))
+        (now («engine_counts» .entry))) .reply))
         (now (out .exit)) r ⌝ }
     ensures { λ _. ⌜ LeavesLent
-        (lineEffect (now (line .entry)) (memoryIn (now (scratch .entry)) (now («engine_numbers» .entry)) (now («engine_counts» .entry))))
+        (lineEffect (now (line .entry))
+        (memoryIn (now (scratch .entry)) (now («engine_numbers» .entry)) (now («engine_counts» .entry))))
         (lentIn (now (scratch .entry)) (now («engine_numbers» .entry)) (now («engine_counts» .entry)))
         (lentIn (now (scratch .exit)) (now («engine_numbers» .exit)) (now («engine_counts» .exit))) ⌝ }
 {

@@ -20,4 +20,6 @@ densityFigure (Line density) = density
 
 -- and back (proofs/Numbered: `density-back`)
 unfoldable pub numberedDensity : ℕ → Float → NumberedDensity
-numberedDensity number density = cond (eqb number 1) (Known (Bulk density)) (cond (eqb number 2) (Known (Surface density)) (cond (eqb number 3) (Known (Line density)) Unknown))
+numberedDensity number density =
+    cond (eqb number 1) (Known (Bulk density))
+    (cond (eqb number 2) (Known (Surface density)) (cond (eqb number 3) (Known (Line density)) Unknown))

@@ -47,11 +47,13 @@ rotationOf app apq aqq = rotationBy (tangentOf ((aqq ⊖ app) ⊘ (two ⊗ apq))
 -- the numbers x at i and y at j become c·x − s·y and s·x + c·y
 unfoldable pub turnPair : Rotation → ℕ → ℕ → Matrix → Matrix
 turnPair r i j a =
-    record { 0 = set (set (a .0) i (r .cosine ⊗ placeAt a i ⊖ r .sine ⊗ placeAt a j)) j (r .sine ⊗ placeAt a i ⊕ r .cosine ⊗ placeAt a j) }
+    record
+    { 0 = set (set (a .0) i (r .cosine ⊗ placeAt a i ⊖ r .sine ⊗ placeAt a j)) j (r .sine ⊗ placeAt a i ⊕ r .cosine ⊗ placeAt a j) }
 
 -- A·J: in each row, the numbers in columns p and q
 unfoldable pub turnColumns : Rotation → ℕ → ℕ → Matrix → Matrix
-turnColumns r p q a = turnPair r (3 * p + 2) (3 * q + 2) (turnPair r (3 * p + 1) (3 * q + 1) (turnPair r (3 * p) (3 * q) a))
+turnColumns r p q a =
+    turnPair r (3 * p + 2) (3 * q + 2) (turnPair r (3 * p + 1) (3 * q + 1) (turnPair r (3 * p) (3 * q) a))
 
 -- Jᵀ·A: in each column, the numbers in rows p and q
 unfoldable pub turnRows : Rotation → ℕ → ℕ → Matrix → Matrix
@@ -105,4 +107,5 @@ abbrev pub IsMoments : Moments → Moments → Type 0
 IsMoments r definition = IsAnswer (λ (m : Moments). m .verdict) r definition
 
 abbrev pub principalMomentsOf : Tensor → Moments
-principalMomentsOf t = cond (entriesFit t) (record { verdict = Accepted; «moments_kg_m2» = eigenvaluesOf t }) refusedEntry
+principalMomentsOf t =
+    cond (entriesFit t) (record { verdict = Accepted; «moments_kg_m2» = eigenvaluesOf t }) refusedEntry

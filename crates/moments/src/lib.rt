@@ -7,7 +7,9 @@
 ghost use mathlib.Core.Path.{_≡_};
 ghost use mathlib.Core.List.{[], _∷_};
 ghost use Prim.Native.Nat.{_<_};
-ghost use Rattle.moments.specs.Moments.{entryFits, entriesFit, tangentOf, rotationOf, turnPair, turnColumns, turnRows, rotate, sweep, offDiagonal, sweeps, insertMoment, ascending, eigenvaluesOf, refusedEntry, IsMoments, principalMomentsOf};
+ghost use Rattle.moments.specs.Moments.{entryFits, entriesFit, tangentOf, rotationOf, turnPair, turnColumns};
+ghost use Rattle.moments.specs.Moments.{turnRows, rotate, sweep, offDiagonal, sweeps, insertMoment, ascending};
+ghost use Rattle.moments.specs.Moments.{eigenvaluesOf, refusedEntry, IsMoments, principalMomentsOf};
 use bodies::Matrix;
 use bodies::TENSOR_NUMBERS;
 use bodies::Tensor;

@@ -13,7 +13,13 @@ numbersOf p = p .start ∷ p .end ∷ (tabulate 7 (at (p .value)) ++ tabulate 7 
 
 -- a piece with d zeros, each +0, after its values and its errors: "an area run uses three of the seven, the rest zero"
 abbrev pub widened : ℕ → Piece → Piece
-widened d p = record { start = p .start; end = p .end; value = p .value ++ replicate d (bits 0); error = p .error ++ replicate d (bits 0) }
+widened d p =
+    record {
+      start = p .start;
+      end = p .end;
+      value = p .value ++ replicate d (bits 0);
+      error = p .error ++ replicate d (bits 0);
+    }
 
 -- the numbers of the pieces, in storage order
 abbrev pub stored : List Piece → List Float
@@ -27,7 +33,13 @@ written pieces scratch = stored pieces ++ drop (length pieces * pieceNumbers) sc
 
 -- the piece that sixteen numbers hold
 abbrev pub pieceIn : List Float → Piece
-pieceIn l = record { start = at l 0; end = at l 1; value = tabulate 7 (λ k. at l (2 + k)); error = tabulate 7 (λ k. at l (9 + k)) }
+pieceIn l =
+    record {
+      start = at l 0;
+      end = at l 1;
+      value = tabulate 7 (λ k. at l (2 + k));
+      error = tabulate 7 (λ k. at l (9 + k));
+    }
 
 -- the piece at place i of a scratch, its first n pieces, and a piece put at place i
 abbrev pub readAt : List Float → ℕ → Piece

@@ -35,7 +35,8 @@ unfoldable pub copiesCheck : Bool → Body → List Float → Verdict
 copiesCheck rolled b numbers = firstOf (checkOf b ∷ listCheck rolled numbers ∷ placesCheck rolled numbers ∷ [])
 
 unfoldable pub copiesOf : Bool → Body → List Float → Joined
-copiesOf rolled b numbers = unlessRefused (copiesCheck rolled b numbers) (placedOf b (placeAt rolled numbers) (placeCount rolled numbers))
+copiesOf rolled b numbers =
+    unlessRefused (copiesCheck rolled b numbers) (placedOf b (placeAt rolled numbers) (placeCount rolled numbers))
 
 -- `copied` by offsets, `placed` by places
 abbrev pub copiedOf : Body → List Float → Joined

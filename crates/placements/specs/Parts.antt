@@ -29,12 +29,14 @@ partMovedOf whole part offset =
     record {
       «mass_kg» = whole .«mass_kg»;
       «centre_m» = centre;
-      «inertia_kg_m2» = addTensors (inertiaAboutOf whole centre) (scaleTensor (subtractTensors after before) (part .«mass_kg»));
+      «inertia_kg_m2» =
+          addTensors (inertiaAboutOf whole centre) (scaleTensor (subtractTensors after before) (part .«mass_kg»));
     }
 
 -- each number of an offset
 abbrev pub offsetChecks : Vector → List Verdict
-offsetChecks offset = lengthCheck offsetField (offset .x) ∷ lengthCheck offsetField (offset .y) ∷ lengthCheck offsetField (offset .z) ∷ []
+offsetChecks offset =
+    lengthCheck offsetField (offset .x) ∷ lengthCheck offsetField (offset .y) ∷ lengthCheck offsetField (offset .z) ∷ []
 
 -- "Each body handed in, the whole before the part, is checked 15 to 17 first"; 26: "a part is moved in a body of mass
 -- 0, last"
@@ -55,7 +57,8 @@ movedOf whole part offset = unlessRefused (movedCheck whole part offset) (partMo
 abbrev pub centreWithout : Body → Body → Vector
 centreWithout whole part =
     divideVector
-    (subtractVectors (scaleVector (whole .«centre_m») (whole .«mass_kg»)) (scaleVector (part .«centre_m») (part .«mass_kg»)))
+    (subtractVectors (scaleVector (whole .«centre_m») (whole .«mass_kg»))
+    (scaleVector (part .«centre_m») (part .«mass_kg»)))
     (whole .«mass_kg» ⊖ part .«mass_kg»)
 
 unfoldable pub partOffOf : Body → Body → Body

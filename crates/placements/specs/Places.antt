@@ -22,7 +22,9 @@ here = place (bits 0) (bits 0) (bits 0)
 
 -- the Rust's ==: either zero is zero
 abbrev pub isHere : Placement → Bool
-isHere p = eq (p .«offset_x_m») (here .«offset_x_m») && eq (p .«offset_y_m») (here .«offset_y_m») && eq (p .«roll_rad») (here .«roll_rad»)
+isHere p =
+    eq (p .«offset_x_m») (here .«offset_x_m») && eq (p .«offset_y_m») (here .«offset_y_m»)
+    && eq (p .«roll_rad») (here .«roll_rad»)
 
 -- ---- a list of places: x and y of each, and in a list with rolls its roll after them
 
@@ -50,7 +52,10 @@ listCheck rolled numbers = cond (isWholeList rolled numbers) (countCheck (placeC
 -- "Offsets obey the length limits, zero and negative allowed, with field 19 for each number of an offset; roll obeys
 -- the angle limit, field 20"
 abbrev pub placeCheck : Placement → Verdict
-placeCheck p = firstOf (lengthCheck offsetField (p .«offset_x_m») ∷ lengthCheck offsetField (p .«offset_y_m») ∷ angleCheck rollField (p .«roll_rad») ∷ [])
+placeCheck p =
+    firstOf
+    (lengthCheck offsetField (p .«offset_x_m») ∷ lengthCheck offsetField (p .«offset_y_m») ∷
+    angleCheck rollField (p .«roll_rad») ∷ [])
 
 -- "offset and roll place by place"
 unfoldable pub placesCheck : Bool → List Float → Verdict

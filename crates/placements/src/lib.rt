@@ -12,9 +12,12 @@ ghost use lib.ListN.{length};
 ghost use Rattle.bodies.specs.Layout.{bodyNumbers};
 ghost use Rattle.joins.specs.Flat.{withBodies};
 ghost use Rattle.joins.specs.Joins.{acceptedBody, joinedOf, IsJoined};
-ghost use Rattle.placements.specs.Places.{isHere, placeCount, isWholeList, placeAt, listCheck, placeCheck, placesCheck};
-ghost use Rattle.placements.specs.Copies.{turnedCopy, copyAt, placedOf, copiesCheck, copiesOf, copiedOf, placedAtOf};
-ghost use Rattle.placements.specs.Parts.{partMovedOf, offsetChecks, movedCheck, movedOf, partOffOf, withoutCheck, withoutOf};
+ghost use Rattle.placements.specs.Places.{isHere, placeCount, isWholeList, placeAt, listCheck, placeCheck};
+ghost use Rattle.placements.specs.Places.{placesCheck};
+ghost use Rattle.placements.specs.Copies.{turnedCopy, copyAt, placedOf, copiesCheck, copiesOf, copiedOf};
+ghost use Rattle.placements.specs.Copies.{placedAtOf};
+ghost use Rattle.placements.specs.Parts.{partMovedOf, offsetChecks, movedCheck, movedOf, partOffOf, withoutCheck};
+ghost use Rattle.placements.specs.Parts.{withoutOf};
 ghost use Rattle.refusals.specs.Order.{firstOf};
 use bodies::BODY_NUMBERS;
 use bodies::Body;
@@ -173,7 +176,8 @@ fn check_copies(body: Body, places: &[f64], rolled: bool) -> Verdict
 // Writes each copy, one after another from the start of a list.
 fn write_copies(bodies: &mut [f64], body: Body, places: &[f64], rolled: bool, count: usize)
     requires { ⌜ (bodyNumbers * count ≤ length (now bodies)) × (count ≤ placeCount rolled (now places)) ⌝ }
-    ensures { λ _. ⌜ now (bodies .exit) ≡ withBodies (λ k. copyAt body (placeAt rolled (now (places .entry)) k)) count (now (bodies .entry)) ⌝ }
+    ensures { λ _. ⌜ now (bodies .exit) ≡ withBodies (λ k. copyAt body (placeAt rolled (now (places .entry)) k)) count
+        (now (bodies .entry)) ⌝ }
 {
     let mut k = 0;
     while k < count {
@@ -196,7 +200,8 @@ fn joined_copies(body: Body, places: &[f64], rolled: bool, count: usize) -> Join
 // The copies joined; one that neither moves nor turns is the body itself.
 fn placed_copies(body: Body, places: &[f64], rolled: bool) -> Joined
     requires { ⌜ (1 ≤ placeCount rolled (now places)) × (placeCount rolled (now places) ≤ 32) ⌝ }
-    ensures { λ r. ⌜ r ≡ acceptedBody (placedOf body (placeAt rolled (now (places .entry))) (placeCount rolled (now (places .entry)))) ⌝ }
+    ensures { λ r. ⌜ r ≡ acceptedBody
+        (placedOf body (placeAt rolled (now (places .entry))) (placeCount rolled (now (places .entry)))) ⌝ }
 {
     let count = count_places(places, rolled);
     let first = place_at(places, rolled, 0);

@@ -92,7 +92,8 @@ fn write_chords(found: Chords, points: &[f64], h: f64, ends: &mut [f64]) -> usiz
 
 fn write_several(points: &[f64], h: f64, ends: &mut [f64]) -> usize
     requires { ⌜ mostPoints ≤ length (now ends) ⌝ }
-    ensures { λ r. ⌜ Listed (paired (outlineCrossings (now (points .entry)) h)) (now (ends .entry)) (now (ends .exit)) r ⌝ }
+    ensures { λ r. ⌜
+        Listed (paired (outlineCrossings (now (points .entry)) h)) (now (ends .entry)) (now (ends .exit)) r ⌝ }
 {
     let mut xs = [0.0; ROOM];
     let count = chords::outline_crossings(points, h, &mut xs) / 2;

@@ -61,7 +61,8 @@ slabOf t h l inner outer fore aft =
 -- zeros
 unfoldable pub tabIntegralsOf : Tab → Float → Float → List Float
 tabIntegralsOf None thickness radius = tabulate 7 (λ k. bits 0)
-tabIntegralsOf (Slab height length offset) thickness radius = slabOf thickness height length (radius ⊖ height) radius offset (offset ⊕ length)
+tabIntegralsOf (Slab height length offset) thickness radius =
+    slabOf thickness height length (radius ⊖ height) radius offset (offset ⊕ length)
 
 -- the sums, place by place
 abbrev pub addIntegrals : List Float → List Float → List Float

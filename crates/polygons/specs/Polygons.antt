@@ -21,7 +21,9 @@ isZeroBetween a b = leZ a (pos 0) && leZ (pos 0) b || leZ b (pos 0) && leZ (pos 
 
 -- the point lies on the edge, its ends included: it is in line with them, and between them
 unfoldable pub liesOn : Offset → Offset → Bool
-liesOn a b = isSame (a .across *ℤ b .up) (b .across *ℤ a .up) && isZeroBetween (a .across) (b .across) && isZeroBetween (a .up) (b .up)
+liesOn a b =
+    isSame (a .across *ℤ b .up) (b .across *ℤ a .up) && isZeroBetween (a .across) (b .across)
+    && isZeroBetween (a .up) (b .up)
 
 -- "an edge counting from its lower end's height up to, but not at, its upper end's": by how far up the two ends are. A
 -- level edge never counts.
@@ -31,7 +33,8 @@ isCrossed lower upper = leZ lower (pos 0) && ltZ (pos 0) upper
 -- "cut to the right": at the point's height the edge lies (lower.across · upper.up − upper.across · lower.up) /
 -- (upper.up − lower.up) to its right, which has to be above 0. The divisor is above 0 already.
 unfoldable pub isCutRising : Offset → Offset → Bool
-isCutRising lower upper = isCrossed (lower .up) (upper .up) && ltZ (upper .across *ℤ lower .up) (lower .across *ℤ upper .up)
+isCutRising lower upper =
+    isCrossed (lower .up) (upper .up) && ltZ (upper .across *ℤ lower .up) (lower .across *ℤ upper .up)
 
 -- whichever end is the lower one
 unfoldable pub isCut : Offset → Offset → Bool
@@ -51,11 +54,13 @@ cornerCount corners = length corners / 2
 
 -- corner i as the point (x, height) sees it
 unfoldable pub offsetOf : List ℤ → ℤ → ℤ → ℕ → Offset
-offsetOf corners x height i = record { across = getD corners (2 * i) (pos 0) -ℤ x; up = getD corners (2 * i + 1) (pos 0) -ℤ height }
+offsetOf corners x height i =
+    record { across = getD corners (2 * i) (pos 0) -ℤ x; up = getD corners (2 * i + 1) (pos 0) -ℤ height }
 
 -- "an edge joins each to the next, the last to the first": the point lies on edge i; edge i is cut to its right
 unfoldable pub isOn : List ℤ → ℤ → ℤ → ℕ → Bool
-isOn corners x height i = liesOn (offsetOf corners x height i) (offsetOf corners x height (next (cornerCount corners) i))
+isOn corners x height i =
+    liesOn (offsetOf corners x height i) (offsetOf corners x height (next (cornerCount corners) i))
 
 unfoldable pub cuts : List ℤ → ℤ → ℤ → ℕ → Bool
 cuts corners x height i = isCut (offsetOf corners x height i) (offsetOf corners x height (next (cornerCount corners) i))

@@ -8,7 +8,9 @@ ghost use mathlib.Core.Path.{_≡_};
 ghost use Prim.Native.Nat.{_<_};
 ghost use lib.IntN.{_+ℤ_, _*ℤ_, _-ℤ_};
 ghost use lib.Signed.{ltZ};
-ghost use Rattle.polygons.specs.Polygons.{isSame, isZeroBetween, liesOn, isCrossed, isCutRising, isCut, squaredDistance, isNearer, cornerCount, offsetOf, isOn, cuts, nearerOf, isOnEdge, isInside, nearestCorner};
+ghost use Rattle.polygons.specs.Polygons.{isSame, isZeroBetween, liesOn, isCrossed, isCutRising, isCut};
+ghost use Rattle.polygons.specs.Polygons.{squaredDistance, isNearer, cornerCount, offsetOf, isOn, cuts, nearerOf};
+ghost use Rattle.polygons.specs.Polygons.{isOnEdge, isInside, nearestCorner};
 ghost use Rattle.polygons.specs.Bounds.{IsCoordinate, IsOffset, IsProduct, AreOffsets, InReach};
 
 // A corner as the point sees it: how far to the right, and how far up.
@@ -137,8 +139,10 @@ fn cuts(corners: &[i64], x: i64, height: i64, i: usize) -> bool
 
 // Of corners i and best the nearer one, and best where they are equally far.
 fn nearer(corners: &[i64], x: i64, height: i64, best: usize, i: usize) -> usize
-    requires { ⌜ (best < cornerCount (now corners)) × (i < cornerCount (now corners)) × InReach (now corners) x height ⌝ }
-    ensures { λ r. ⌜ (r ≡ nearerOf (now (corners .entry)) x height best i) × (r < cornerCount (now (corners .entry))) ⌝ }
+    requires { ⌜
+        (best < cornerCount (now corners)) × (i < cornerCount (now corners)) × InReach (now corners) x height ⌝ }
+    ensures { λ r. ⌜
+        (r ≡ nearerOf (now (corners .entry)) x height best i) × (r < cornerCount (now (corners .entry))) ⌝ }
 {
     if is_nearer(
         offset_of(corners, x, height, i),

@@ -21,9 +21,18 @@ use Rattle.materials.specs.Numbered.{numberedDensity}
 use Rattle.fins.specs.declared.NumberedSet.{NumberedSet}
 use Rattle.fins.specs.declared.NumberedSet.the-variants.{Known as setKnown, Unknown as noSet}
 use Rattle.reading.specs.declared.Asked.{Asked}
-use Rattle.reading.specs.declared.Asked.the-variants.{Refused, Set, Area, Join, Moments, Check, Tubes, Closing, Drill, Copied, Placed, Moved, Without, Submit, Density, Turn, Progress}
+use Rattle.reading.specs.declared.Asked.the-variants.{Refused, Set, Area, Join, Moments, Check, Tubes, Closing}
+use Rattle.reading.specs.declared.Asked.the-variants.{Drill, Copied, Placed, Moved, Without, Submit, Density}
+use Rattle.reading.specs.declared.Asked.the-variants.{Turn, Progress}
 use Rattle.reading.specs.declared.Form.{Form}
-use Rattle.reading.specs.declared.Form.the-variants.{Set as SetForm, Area as AreaForm, Join as JoinForm, Moments as MomentsForm, Check as CheckForm, Tubes as TubesForm, Closing as ClosingForm, Drill as DrillForm, Copied as CopiedForm, Placed as PlacedForm, Moved as MovedForm, Without as WithoutForm, Submit as SubmitForm, Density as DensityForm, Turn as TurnForm, Progress as ProgressForm, NoForm}
+use Rattle.reading.specs.declared.Form.the-variants.{Set as SetForm, Area as AreaForm, Join as JoinForm}
+use Rattle.reading.specs.declared.Form.the-variants.{Moments as MomentsForm, Check as CheckForm}
+use Rattle.reading.specs.declared.Form.the-variants.{Tubes as TubesForm, Closing as ClosingForm}
+use Rattle.reading.specs.declared.Form.the-variants.{Drill as DrillForm, Copied as CopiedForm}
+use Rattle.reading.specs.declared.Form.the-variants.{Placed as PlacedForm, Moved as MovedForm}
+use Rattle.reading.specs.declared.Form.the-variants.{Without as WithoutForm, Submit as SubmitForm}
+use Rattle.reading.specs.declared.Form.the-variants.{Density as DensityForm, Turn as TurnForm}
+use Rattle.reading.specs.declared.Form.the-variants.{Progress as ProgressForm, NoForm}
 use Rattle.reading.specs.Parts.{numberIn, figuresIn, endIn, takePlanform, takeDensity, takeSet, setPartsOf, setOf}
 
 -- what a line asks, and its figures in their order
@@ -46,7 +55,8 @@ start line = reading (tokens line) (record { figures = []; number = 0; spoiled =
 -- bare digits ..; after 18 and before 1" (document 02, Paper 2): so the line is a form, and nothing of it is asked
 abbrev pub ended : Reading → Asked → Read
 ended failed asked = refusedRead noForm
-ended (reading [] t) asked = pickRead (t .spoiled) (refusedRead noFigure) (record { asked = asked; figures = t .figures })
+ended (reading [] t) asked =
+    pickRead (t .spoiled) (refusedRead noFigure) (record { asked = asked; figures = t .figures })
 ended (reading (w ∷ ts) t) asked = refusedRead noForm
 
 -- ---- the forms
@@ -87,7 +97,8 @@ areaRead line =
 
 -- "(drill PLANFORM (at F F))"
 abbrev pub drillAsked : ℕ → NumberedPlanform → List Float → Asked
-drillAsked points (planformKnown planform) figures = let point = drop points figures in Drill planform points (at point 0) (at point 1)
+drillAsked points (planformKnown planform) figures =
+    let point = drop points figures in Drill planform points (at point 0) (at point 1)
 drillAsked points noPlanform figures = Refused noForm
 
 unfoldable pub drillRead : List ℕ → Read
@@ -146,7 +157,8 @@ plainRead template asked line = ended (takeText template (start line)) asked
 
 -- a form that ends with a part as often as it stands there
 unfoldable pub listRead : List ℕ → List ℕ → Asked → List ℕ → Read
-listRead head each asked line = ended (takeText (text ")") (takeEach (takeText each) (takeText head (start line)))) asked
+listRead head each asked line =
+    ended (takeText (text ")") (takeEach (takeText each) (takeText head (start line)))) asked
 
 -- ---- lines: which form it is says the word after the first bracket
 
@@ -188,8 +200,10 @@ formRead CheckForm line = plainRead (text "(check (mass F) (centre F F F) (inert
 formRead TubesForm line = tubesRead line
 formRead ClosingForm line = closingRead line
 formRead DrillForm line = drillRead line
-formRead CopiedForm line = listRead (text "(copied (body (mass F) (centre F F F) (inertia F F F F F F))") (text "(offset F F)") Copied line
-formRead PlacedForm line = listRead (text "(placed (body (mass F) (centre F F F) (inertia F F F F F F))") (text "(place F F F)") Placed line
+formRead CopiedForm line =
+    listRead (text "(copied (body (mass F) (centre F F F) (inertia F F F F F F))") (text "(offset F F)") Copied line
+formRead PlacedForm line =
+    listRead (text "(placed (body (mass F) (centre F F F) (inertia F F F F F F))") (text "(place F F F)") Placed line
 formRead MovedForm line =
     plainRead
     (text "(moved (body (mass F) (centre F F F) (inertia F F F F F F)) (body (mass F) (centre F F F) (inertia F F F F F F)) (offset F F F))")

@@ -45,7 +45,8 @@ takeFillet r = optional (text "(fillet F (bulk F))" ∷ text "(fillet F (surface
 unfoldable pub takeDensity : Reading → Reading
 takeDensity r = oneOf (text "(bulk F)" ∷ text "(surface F)" ∷ text "(line F)" ∷ []) r
 
--- ---- a set: "(set (limit N) (count N) PLANFORM (thickness F) (section SECTION) TAB FILLET (cant F) (base F) (radius F)
+-- ---- a set: "(set (limit N) (count N) PLANFORM (thickness F) (section SECTION) TAB FILLET (cant F) (base F) (radius
+-- F)
 -- DENSITY)"
 
 -- where reading stands behind each of its parts

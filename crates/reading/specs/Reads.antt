@@ -36,7 +36,11 @@ either false a b = b
 abbrev pub endOf : List ℕ → Cursor → Asked → Line
 endOf line c asked =
     either (c .ok)
-    (atEnd (tokens (drop (c .at) line)) (either (c .spoiled) (refusedLine noFigure) (record { asked = asked; figures = c .figures })))
+    (atEnd (tokens (drop (c .at) line)) (either (c .spoiled) (refusedLine noFigure) (record {
+      asked =
+          asked;
+      figures = c .figures;
+    })))
     (refusedLine noForm)
 
 -- where the word of a line's form stands; nowhere, and then it has no byte

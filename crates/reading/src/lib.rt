@@ -13,7 +13,10 @@ ghost use Rattle.templates.specs.Cursors.{Room, readingAt, Takes};
 ghost use Rattle.planforms.specs.Numbered.{planformOf};
 ghost use Rattle.materials.specs.Numbered.{numberedDensity};
 ghost use Rattle.reading.specs.Parts.{takePlanform, takeDensity, takeSet, setPartsOf, setOf};
-ghost use Rattle.reading.specs.Lines.{pickForm, formNamed, setAsked, submitAsked, areaAsked, drillAsked, tubesAsked, densityAsked, setRead, submitRead, areaRead, drillRead, tubesRead, closingRead, densityRead, progressRead, plainRead, listRead, lineRead, wordOf};
+ghost use Rattle.reading.specs.Lines.{pickForm, formNamed, setAsked, submitAsked, areaAsked, drillAsked};
+ghost use Rattle.reading.specs.Lines.{tubesAsked, densityAsked, setRead, submitRead, areaRead, drillRead};
+ghost use Rattle.reading.specs.Lines.{tubesRead, closingRead, densityRead, progressRead, plainRead, listRead};
+ghost use Rattle.reading.specs.Lines.{lineRead, wordOf};
 ghost use Rattle.reading.specs.Reads.{refusedLine, endOf, Reads, IsWordOf};
 use fins::FinSet;
 use fins::NumberedSet;
@@ -185,7 +188,8 @@ fn take_density(line: &[u8], c: Cursor, values: &mut [f64]) -> Cursor
 fn take_set(line: &[u8], c: Cursor, values: &mut [f64]) -> SetRead
     requires { ⌜ Room (now line) (now values) c ⌝ }
     ensures { λ r. ⌜ Takes takeSet (now (line .entry)) (now (values .entry)) (now (values .exit)) c (r .end) ⌝ }
-    ensures { λ r. ⌜ (r .end .ok ≡ true → r .parts ≡ setPartsOf (readingAt (now (line .entry)) (now (values .entry)) c)) ⌝ }
+    ensures { λ r. ⌜
+        (r .end .ok ≡ true → r .parts ≡ setPartsOf (readingAt (now (line .entry)) (now (values .entry)) c)) ⌝ }
 {
     let limit = templates::take_text(line, c, b"(set (limit N)", values);
     let count = templates::take_text(line, limit, b"(count N)", values);
@@ -322,7 +326,8 @@ fn drill_asked(planform: usize, points: usize, figures: &[f64]) -> Asked
 
 // A ring of tubes: length, outer radius, wall, base angle, body radius, density.
 fn tubes_asked(count: usize, density: usize, figures: &[f64]) -> Asked
-    ensures { λ r. ⌜ r ≡ tubesAsked count (numberedDensity density (at (now (figures .entry)) 5)) (now (figures .entry)) ⌝ }
+    ensures { λ r. ⌜
+        r ≡ tubesAsked count (numberedDensity density (at (now (figures .entry)) 5)) (now (figures .entry)) ⌝ }
 {
     match materials::numbered_density(density, figure(figures, 5)) {
         NumberedDensity::Known(density) => Asked::Tubes {
@@ -518,7 +523,8 @@ fn read_plain(line: &[u8], template: &[u8], asked: Asked, values: &mut [f64]) ->
 // A form that ends with a part as often as it stands there.
 fn read_list(line: &[u8], head: &[u8], each: &[u8], asked: Asked, values: &mut [f64]) -> Line
     requires { ⌜ (length (now line) ≤ lineBytes) × (length (now line) ≤ length (now values)) ⌝ }
-    ensures { λ r. ⌜ Reads (now (values .exit)) r (listRead (now (head .entry)) (now (each .entry)) asked (now (line .entry))) ⌝ }
+    ensures { λ r. ⌜
+        Reads (now (values .exit)) r (listRead (now (head .entry)) (now (each .entry)) asked (now (line .entry))) ⌝ }
 {
     let first = templates::take_text(line, templates::line_start(), head, values);
     let parts = templates::take_each(line, first, each, values);

@@ -6,7 +6,11 @@ use Prim.Native.Nat.{ℕ}
 use lib.Dec.{eqb}
 use lib.ListN.{getD}
 use Rattle.refusals.specs.declared.Refusal.{Refusal}
-use Rattle.refusals.specs.declared.Refusal.the-variants.{Limit, Scratch, Count, Length, Points, Ends, Touches, NoArea, Angle, TabOffRoot, TabTooDeep, Density, NotConverged, Mass, Centre, Tensor, NoForm, NoFigure, WallOverRadius, ThicknessOverRoot, FilletRatio, Screen, NoCorners, NotWholeSteps, NotHeavier}
+use Rattle.refusals.specs.declared.Refusal.the-variants.{Limit, Scratch, Count, Length, Points, Ends, Touches}
+use Rattle.refusals.specs.declared.Refusal.the-variants.{NoArea, Angle, TabOffRoot, TabTooDeep, Density}
+use Rattle.refusals.specs.declared.Refusal.the-variants.{NotConverged, Mass, Centre, Tensor, NoForm, NoFigure}
+use Rattle.refusals.specs.declared.Refusal.the-variants.{WallOverRadius, ThicknessOverRoot, FilletRatio, Screen}
+use Rattle.refusals.specs.declared.Refusal.the-variants.{NoCorners, NotWholeSteps, NotHeavier}
 use Rattle.refusals.specs.declared.Verdict.{Verdict}
 use Rattle.refusals.specs.declared.Verdict.the-variants.{Accepted, Refused}
 use Rattle.refusals.specs.Refusals.{numberOf, valuesOf, inTwoPlaces}

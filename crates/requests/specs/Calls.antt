@@ -53,7 +53,8 @@ unfoldable pub numberedCall : NumberedSet → List Float → ℕ → ℕ → Cal
 numberedCall (setKnown set) points L scratchLength = setCall set points L scratchLength
 numberedCall noSet points L scratchLength = leavesAlone (refusedFigures NoForm 0)
 
--- ---- the engine (document 02, Paper 10): a set submitted to a screen, with its points and L; another density for a screen's job
+-- ---- the engine (document 02, Paper 10): a set submitted to a screen, with its points and L; another density for a
+-- screen's job
 
 -- what a call of an engine answers, which engine the lent lists hold then, and what it leaves of the lists
 pub record CallsEngine (called : Called) (calls : List Call) (r : Reply) (before after : Lists) : Type 0 where
@@ -108,7 +109,9 @@ ringOfKnown count (densityKnown density) figures =
 ringOfKnown count noDensity figures = refusedBody NoForm
 
 unfoldable pub ringBy : ℕ → ℕ → List Float → Joined
-ringBy count density figures = cond (eqb (length figures) 6) (ringOfKnown count (numberedDensity density (at figures 5)) figures) (refusedBody NoForm)
+ringBy count density figures =
+    cond (eqb (length figures) 6) (ringOfKnown count (numberedDensity density (at figures 5)) figures)
+    (refusedBody NoForm)
 
 -- ---- points joined
 
@@ -153,7 +156,10 @@ placedBy body places = ofBody body (λ b. placedAtOf b places)
 -- an offset is x, y and z
 unfoldable pub movedBy : List Float → List Float → List Float → Joined
 movedBy whole part offset =
-    ofBody whole (λ w. ofBody part (λ p. cond (eqb (length offset) 3) (movedOf w p (vector (at offset 0) (at offset 1) (at offset 2))) (refusedBody NoForm)))
+    ofBody whole
+    (λ w. ofBody part
+    (λ p. cond (eqb (length offset) 3) (movedOf w p (vector (at offset 0) (at offset 1) (at offset 2)))
+    (refusedBody NoForm)))
 
 unfoldable pub withoutBy : List Float → List Float → Joined
 withoutBy whole part = ofBody whole (λ w. ofBody part (λ p. withoutOf w p))

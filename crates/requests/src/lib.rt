@@ -1,4 +1,5 @@
-// The calls on what is given by numbers (docs/FORMS.md; include/delvouzh.h): a set, one submitted to a screen, a density
+// The calls on what is given by numbers (docs/FORMS.md; include/delvouzh.h): a set, one submitted to a screen, a
+// density
 // for a screen's job, a planform, a planform's chords, a point beside a planform, a ring of tubes, points to join, a
 // tensor, a body, copies of one, a part moved or taken off.
 //
@@ -13,7 +14,9 @@ ghost use Rattle.figures.specs.Figures.{refusedFigures};
 ghost use Rattle.figures.specs.Areas.{refusedArea};
 ghost use Rattle.lent_engines.specs.Memory.{engineIn};
 ghost use Rattle.lent_engines.specs.Lent.{Room, lists, submitCalls, changeCalls};
-ghost use Rattle.requests.specs.Calls.{CallsEngine, numberedCall, numberedSubmit, numberedChange, numberedArea, numberedChords, numberedDrill, ringBy, copiedBy, placedBy, movedBy, withoutBy, pointBodyAt, joinedPointsOf, tensorMoments, bodyVerdict};
+ghost use Rattle.requests.specs.Calls.{CallsEngine, numberedCall, numberedSubmit, numberedChange, numberedArea};
+ghost use Rattle.requests.specs.Calls.{numberedChords, numberedDrill, ringBy, copiedBy, placedBy, movedBy};
+ghost use Rattle.requests.specs.Calls.{withoutBy, pointBodyAt, joinedPointsOf, tensorMoments, bodyVerdict};
 use bodies::BODY_NUMBERS;
 use bodies::Body;
 use bodies::TENSOR_NUMBERS;
@@ -79,7 +82,9 @@ pub fn submit_set(
     limit: usize,
 ) -> Reply
     requires { ⌜ Room (now numbers) (now counts) ⌝ }
-    ensures { λ r. ⌜ CallsEngine (numberedSubmit (engineIn (now (numbers .entry)) (now (counts .entry))) screen set (now (points .entry)) limit)
+    ensures { λ r. ⌜ CallsEngine
+        (numberedSubmit (engineIn (now (numbers .entry)) (now (counts .entry))) screen set
+        (now (points .entry)) limit)
         (submitCalls screen set (now (points .entry)) limit) r
         (lists (now (numbers .entry)) (now (counts .entry))) (lists (now (numbers .exit)) (now (counts .exit))) ⌝ }
 {

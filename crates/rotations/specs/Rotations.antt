@@ -25,9 +25,12 @@ double p q = p ⊗ (q ⊕ q)
 abbrev pub matrixOf : Quaternion → Matrix
 matrixOf q =
     fromColumns
-    (vector (one ⊖ (double (q .y) (q .y) ⊕ double (q .z) (q .z))) (double (q .x) (q .y) ⊕ double (q .w) (q .z)) (double (q .x) (q .z) ⊖ double (q .w) (q .y)))
-    (vector (double (q .x) (q .y) ⊖ double (q .w) (q .z)) (one ⊖ (double (q .x) (q .x) ⊕ double (q .z) (q .z))) (double (q .y) (q .z) ⊕ double (q .w) (q .x)))
-    (vector (double (q .x) (q .z) ⊕ double (q .w) (q .y)) (double (q .y) (q .z) ⊖ double (q .w) (q .x)) (one ⊖ (double (q .x) (q .x) ⊕ double (q .y) (q .y))))
+    (vector (one ⊖ (double (q .y) (q .y) ⊕ double (q .z) (q .z))) (double (q .x) (q .y) ⊕ double (q .w) (q .z))
+    (double (q .x) (q .z) ⊖ double (q .w) (q .y)))
+    (vector (double (q .x) (q .y) ⊖ double (q .w) (q .z)) (one ⊖ (double (q .x) (q .x) ⊕ double (q .z) (q .z)))
+    (double (q .y) (q .z) ⊕ double (q .w) (q .x)))
+    (vector (double (q .x) (q .z) ⊕ double (q .w) (q .y)) (double (q .y) (q .z) ⊖ double (q .w) (q .x))
+    (one ⊖ (double (q .x) (q .x) ⊕ double (q .y) (q .y))))
 
 -- the body turned by a quaternion
 abbrev pub turnedOf : Body → Quaternion → Body

@@ -41,7 +41,8 @@ engineRoom numbers counts = room engineNumbers numbers engineCounts counts
 
 -- what a call returns of its answer, and what it leaves of the two lists: as these calls of the engine do, and with no
 -- room as none does
-pub record EngineCall (fits : Bool) (calls : List Call) (number : ℕ) (numbers : List Float) (counts : List ℕ) (r : ℕ) (numbers' : List Float) (counts' : List ℕ) : Type 0 where
+pub record EngineCall (fits : Bool) (calls : List Call) (number : ℕ) (numbers : List Float) (counts : List ℕ) (r : ℕ)
+    (numbers' : List Float) (counts' : List ℕ) : Type 0 where
   pub returned : r ≡ cond fits number (numberOf NoForm)
   pub leaves : Leaves (cond fits calls []) (lists numbers counts) (lists numbers' counts')
 
@@ -64,7 +65,9 @@ module _ (numbers : List Float) (counts : List ℕ) where
     submitting = numberedSubmit (engineIn numbers counts) screen set points L
 
     pub record SubmitCall (values : List ℕ) (r : ℕ) (numbers' : List Float) (counts' values' : List ℕ) : Type 0 where
-      pub call : EngineCall (submitRoom values) (submitCalls screen set points L) (numberIn (submitting .reply .verdict)) numbers counts r numbers' counts'
+      pub call :
+          EngineCall (submitRoom values) (submitCalls screen set points L)
+          (numberIn (submitting .reply .verdict)) numbers counts r numbers' counts'
       pub counted : values' ≡ cond (submitRoom values) (withValues values (submitting .reply .verdict)) values
 
   -- a turn
@@ -74,9 +77,13 @@ module _ (numbers : List Float) (counts : List ℕ) where
   abbrev pub turning : List Float → CallOf Turned
   turning scratch = turnOf (engineIn numbers counts) (length scratch)
 
-  pub record TurnCall (scratch body : List Float) (told : List ℕ) (r : ℕ) (numbers' : List Float) (counts' : List ℕ) (scratch' body' : List Float) (told' : List ℕ) : Type 0 where
-    pub call : EngineCall (turnRoom body told) (turn scratch ∷ []) (turnedRow (turning scratch .answer) .number) numbers counts r numbers' counts'
-    pub figures : body' ≡ cond (turnRoom body told) (withBody body 0 (turnedRow (turning scratch .answer) .figures .body)) body
+  pub record TurnCall (scratch body : List Float) (told : List ℕ) (r : ℕ) (numbers' : List Float) (counts' : List ℕ)
+      (scratch' body' : List Float) (told' : List ℕ) : Type 0 where
+    pub call :
+        EngineCall (turnRoom body told) (turn scratch ∷ [])
+        (turnedRow (turning scratch .answer) .number) numbers counts r numbers' counts'
+    pub figures :
+        body' ≡ cond (turnRoom body told) (withBody body 0 (turnedRow (turning scratch .answer) .figures .body)) body
     pub counted : told' ≡ cond (turnRoom body told) (turnCounts (turning scratch .answer) told) told
     pub lent : scratch' ≡ cond (turnRoom body told) (turning scratch .leaves scratch) scratch
 
@@ -87,6 +94,12 @@ module _ (numbers : List Float) (counts : List ℕ) where
   abbrev pub densityChange : NumberedDensity → ℕ → Called
   densityChange density screen = numberedChange (engineIn numbers counts) screen density
 
-  pub record DensityCall (density : NumberedDensity) (screen : ℕ) (told : List ℕ) (r : ℕ) (numbers' : List Float) (counts' told' : List ℕ) : Type 0 where
-    pub call : EngineCall (toldRoom told) (changeCalls screen density) (numberIn (densityChange density screen .reply .verdict)) numbers counts r numbers' counts'
-    pub counted : told' ≡ cond (toldRoom told) (withCounts told (densityChange density screen .reply .verdict) 0 (densityChange density screen .reply .samples)) told
+  pub record DensityCall (density : NumberedDensity) (screen : ℕ) (told : List ℕ) (r : ℕ) (numbers' : List Float)
+      (counts' told' : List ℕ) : Type 0 where
+    pub call :
+        EngineCall (toldRoom told) (changeCalls screen density)
+        (numberIn (densityChange density screen .reply .verdict)) numbers counts r numbers' counts'
+    pub counted :
+        told' ≡ cond (toldRoom told)
+        (withCounts told (densityChange density screen .reply .verdict) 0
+        (densityChange density screen .reply .samples)) told

@@ -32,7 +32,8 @@ use Rattle.figures.specs.Numbered.{figureCounts}
 
 -- what a call writes of its answer into the lent lists, and the number that it returns: `stepRow` and `turnRow` have
 -- them
-pub record Tells (row : Row) (body : List Float) (told : List ℕ) (r : ℕ) (body' : List Float) (told' : List ℕ) : Type 0 where
+pub record Tells (row : Row) (body : List Float) (told : List ℕ) (r : ℕ) (body' : List Float)
+    (told' : List ℕ) : Type 0 where
   pub returned : r ≡ row .number
   pub figures : body' ≡ withBody body 0 (row .figures .body)
   pub counted : told' ≡ figureCounts (row .figures) told
@@ -73,7 +74,8 @@ jobRoom numbers counts = room jobNumbers numbers jobCounts counts
 
 -- what a call returns of its answer, and what it leaves in the memory: the job is written over its start, where it
 -- changes, and is the one that it then holds; with no room nothing is written
-pub record JobCall (fits written : Bool) (job : Job) (number : ℕ) (numbers : List Float) (counts : List ℕ) (r : ℕ) (numbers' : List Float) (counts' : List ℕ) : Type 0 where
+pub record JobCall (fits written : Bool) (job : Job) (number : ℕ) (numbers : List Float) (counts : List ℕ) (r : ℕ)
+    (numbers' : List Float) (counts' : List ℕ) : Type 0 where
   pub returned : r ≡ cond fits number (numberOf NoForm)
   pub leaves : Leaves (fits && written) (cond fits job (jobIn numbers counts)) numbers counts numbers' counts'
 
@@ -87,7 +89,9 @@ module _ (numbers : List Float) (counts : List ℕ) where
     making = madeBy set points L (jobIn numbers counts)
 
     pub record MakeCall (values : List ℕ) (r : ℕ) (numbers' : List Float) (counts' values' : List ℕ) : Type 0 where
-      pub call : JobCall (makeRoom values) (isSet set) (making .job) (numberIn (making .reply .verdict)) numbers counts r numbers' counts'
+      pub call :
+          JobCall (makeRoom values) (isSet set) (making .job)
+          (numberIn (making .reply .verdict)) numbers counts r numbers' counts'
       pub counted : values' ≡ cond (makeRoom values) (withValues values (making .reply .verdict)) values
 
   -- a step, with the figures and counts of its answer: zeros where it has none
@@ -100,8 +104,11 @@ module _ (numbers : List Float) (counts : List ℕ) where
   abbrev pub stepTold : List Float → Row
   stepTold scratch = answerBy (jobIn numbers counts) (step scratch)
 
-  pub record StepCall (scratch body : List Float) (told : List ℕ) (r : ℕ) (numbers' : List Float) (counts' : List ℕ) (scratch' body' : List Float) (told' : List ℕ) : Type 0 where
-    pub call : JobCall (stepRoom body told) (stepWrites (jobIn numbers counts) (length scratch)) (stepping scratch .answer .job) (stepTold scratch .number)
+  pub record StepCall (scratch body : List Float) (told : List ℕ) (r : ℕ) (numbers' : List Float) (counts' : List ℕ)
+      (scratch' body' : List Float) (told' : List ℕ) : Type 0 where
+    pub call :
+        JobCall (stepRoom body told) (stepWrites (jobIn numbers counts) (length scratch))
+        (stepping scratch .answer .job) (stepTold scratch .number)
         numbers counts r numbers' counts'
     pub figures : body' ≡ cond (stepRoom body told) (withBody body 0 (stepTold scratch .figures .body)) body
     pub counted : told' ≡ cond (stepRoom body told) (figureCounts (stepTold scratch .figures) told) told
@@ -114,6 +121,11 @@ module _ (numbers : List Float) (counts : List ℕ) where
   abbrev pub changing : NumberedDensity → Replied
   changing density = changedBy density (jobIn numbers counts)
 
-  pub record ChangeCall (density : NumberedDensity) (told : List ℕ) (r : ℕ) (numbers' : List Float) (counts' told' : List ℕ) : Type 0 where
-    pub call : JobCall (toldRoom told) (isTaken (changing density .reply)) (changing density .job) (numberIn (changing density .reply .verdict)) numbers counts r numbers' counts'
-    pub counted : told' ≡ cond (toldRoom told) (withCounts told (changing density .reply .verdict) 0 (changing density .reply .samples)) told
+  pub record ChangeCall (density : NumberedDensity) (told : List ℕ) (r : ℕ) (numbers' : List Float)
+      (counts' told' : List ℕ) : Type 0 where
+    pub call :
+        JobCall (toldRoom told) (isTaken (changing density .reply)) (changing density .job)
+        (numberIn (changing density .reply .verdict)) numbers counts r numbers' counts'
+    pub counted :
+        told' ≡ cond (toldRoom told)
+        (withCounts told (changing density .reply .verdict) 0 (changing density .reply .samples)) told

@@ -15,15 +15,21 @@ use Rattle.refusals.specs.Lent.{over, room}
 
 -- room for the engine, and for the answer
 abbrev pub lineRoom : LentMemory → List ℕ → List ℕ → Bool
-lineRoom lent answer written = room engineNumbers (lent .numbers) engineCounts (lent .counts) && room answerBytes answer 1 written
+lineRoom lent answer written =
+    room engineNumbers (lent .numbers) engineCounts (lent .counts) && room answerBytes answer 1 written
 
-pub record LineCall (line : List ℕ) (lent : LentMemory) (answer written : List ℕ) (r : ℕ) (lent' : LentMemory) (answer' written' : List ℕ) : Type 0 where
+pub record LineCall (line : List ℕ) (lent : LentMemory) (answer written : List ℕ) (r : ℕ) (lent' : LentMemory)
+    (answer' written' : List ℕ) : Type 0 where
   pub returned : r ≡ cond (lineRoom lent answer written) 0 (numberOf NoForm)
   pub answered : answer' ≡ cond (lineRoom lent answer written) (over (answerOf line (memoryOf lent)) answer) answer
-  pub counted : written' ≡ cond (lineRoom lent answer written) (over (length (answerOf line (memoryOf lent)) ∷ []) written) written
+  pub counted :
+      written' ≡ cond (lineRoom lent answer written)
+      (over (length (answerOf line (memoryOf lent)) ∷ []) written) written
   -- the scratch, and the engine that the two lists hold
-  pub memory-left : memoryOf lent' ≡ cond (lineRoom lent answer written) (memoryAfter line (memoryOf lent)) (memoryOf lent)
+  pub memory-left :
+      memoryOf lent' ≡ cond (lineRoom lent answer written) (memoryAfter line (memoryOf lent)) (memoryOf lent)
   -- and these two lists themselves: a line that is no submission, density or turn makes no call of the engine, and
   -- leaves them as they were
-  pub lists-left : Leaves (cond (lineRoom lent answer written) (callsOfLine line (memoryOf lent)) []) (listsOf lent) (listsOf lent')
+  pub lists-left :
+      Leaves (cond (lineRoom lent answer written) (callsOfLine line (memoryOf lent)) []) (listsOf lent) (listsOf lent')
   pub untouched : lineRoom lent answer written ≡ false → lent' ≡ lent

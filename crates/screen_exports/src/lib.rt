@@ -17,7 +17,8 @@ ghost use Rattle.jobs.specs.Jobs.{progressOf};
 ghost use Rattle.lent_jobs.specs.Memory.{jobIn};
 ghost use Rattle.engines.specs.Engines.{progressAt};
 ghost use Rattle.lent_engines.specs.Memory.{engineIn};
-ghost use Rattle.screen_exports.specs.JobCalls.{Tells, withProgress, ProgressCall, MakeCall, StepCall, toldRoom, ChangeCall};
+ghost use Rattle.screen_exports.specs.JobCalls.{Tells, withProgress, ProgressCall, MakeCall, StepCall, toldRoom};
+ghost use Rattle.screen_exports.specs.JobCalls.{ChangeCall};
 ghost use Rattle.screen_exports.specs.EngineCalls.{ClearCall, SubmitCall, TurnCall, DensityCall};
 ghost use Rattle.screen_exports.specs.EngineCalls.{toldRoom as engineToldRoom};
 use answers::ANSWER_BYTES;
@@ -106,7 +107,8 @@ pub extern "C" fn delvouzh_job_step(
 ) -> usize
     ensures { λ r. ⌜ StepCall (now («job_numbers» .entry)) (now («job_counts» .entry))
         (now (scratch .entry)) (now (body .entry)) (now (counts .entry))
-        r (now («job_numbers» .exit)) (now («job_counts» .exit)) (now (scratch .exit)) (now (body .exit)) (now (counts .exit)) ⌝ }
+        r (now («job_numbers» .exit)) (now («job_counts» .exit)) (now (scratch .exit)) (now (body .exit))
+        (now (counts .exit)) ⌝ }
 {
     if job_numbers.len() < JOB_NUMBERS {
         return NO_FORM;
@@ -135,7 +137,9 @@ pub extern "C" fn delvouzh_job_change_density(
     figure: f64,
     counts: &mut [usize],
 ) -> usize
-    ensures { λ r. ⌜ ChangeCall (now («job_numbers» .entry)) (now («job_counts» .entry)) (numberedDensity density figure) (now (counts .entry))
+    ensures { λ r. ⌜
+        ChangeCall (now («job_numbers» .entry)) (now («job_counts» .entry)) (numberedDensity density figure)
+        (now (counts .entry))
         r (now («job_numbers» .exit)) (now («job_counts» .exit)) (now (counts .exit)) ⌝ }
 {
     if job_numbers.len() < JOB_NUMBERS {
@@ -242,7 +246,8 @@ pub extern "C" fn delvouzh_engine_turn(
 ) -> usize
     ensures { λ r. ⌜ TurnCall (now («engine_numbers» .entry)) (now («engine_counts» .entry))
         (now (scratch .entry)) (now (body .entry)) (now (counts .entry))
-        r (now («engine_numbers» .exit)) (now («engine_counts» .exit)) (now (scratch .exit)) (now (body .exit)) (now (counts .exit)) ⌝ }
+        r (now («engine_numbers» .exit)) (now («engine_counts» .exit)) (now (scratch .exit)) (now (body .exit))
+        (now (counts .exit)) ⌝ }
 {
     if engine_numbers.len() < ENGINE_NUMBERS {
         return NO_FORM;

@@ -52,7 +52,8 @@ keptBy Explanations n kept over = numberedKept n kept over
 -- what is told where not every line was shown (docs/FORMS.md, "Where a read or a write fails")
 abbrev pub toldBy : Maker → List ℕ
 toldBy Blocks = text "readable: a read or a write failed; the answers without a block were not shown" ++ (10 ∷ [])
-toldBy Explanations = text "explain: a read or a write failed; the lines without an explanation were not explained" ++ (10 ∷ [])
+toldBy Explanations =
+    text "explain: a read or a write failed; the lines without an explanation were not explained" ++ (10 ∷ [])
 
 module _ (maker : Maker) where
   -- one block a line, numbered from n on

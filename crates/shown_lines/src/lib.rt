@@ -65,11 +65,13 @@ struct End {
     told: usize,
 }
 
-// What is made of the bytes that are kept of a line, and whether it has more, at the start of out; answers how many bytes
+// What is made of the bytes that are kept of a line, and whether it has more, at the start of out; answers how many
+// bytes
 // it has.
 fn put_made(out: &mut [u8], number: u64, line: &[u8], over: bool, maker: Maker) -> usize
     requires { ⌜ length (now out) ≡ numberedBytes ⌝ }
-    ensures { λ r. ⌜ Appended (now (out .entry)) 0 (keptBy maker number (now (line .entry)) over) (now (out .exit)) r ⌝ }
+    ensures { λ r. ⌜
+        Appended (now (out .entry)) 0 (keptBy maker number (now (line .entry)) over) (now (out .exit)) r ⌝ }
 {
     match maker {
         Maker::Blocks => blocks::put_numbered(out, number, line),
@@ -77,7 +79,8 @@ fn put_made(out: &mut [u8], number: u64, line: &[u8], over: bool, maker: Maker) 
     }
 }
 
-// Writes what is made of the line that is kept, which is at its end and has this number. A line of which not all is kept
+// Writes what is made of the line that is kept, which is at its end and has this number. A line of which not all is
+// kept
 // is no answer, as what is kept is too long for one.
 fn show_line(buffer: &[u8], s: State, number: u64, out: &mut [u8], maker: Maker) -> Last
     requires { ⌜ (s .kept ≤ length (now buffer)) × (length (now out) ≡ numberedBytes) ⌝ }
@@ -92,9 +95,11 @@ fn show_line(buffer: &[u8], s: State, number: u64, out: &mut [u8], maker: Maker)
 // The bytes of a chunk from where the program stands on, up to the next newline or the chunk's end; at a newline the
 // line's block is written.
 fn show_next(buffer: &mut [u8], s: Step, chunk: &[u8], out: &mut [u8], maker: Maker) -> Step
-    requires { ⌜ Lends (now buffer) (now chunk) (now out) × Counted (mostRead + s .taken) (s .state) (s .ended) (s .handed)
+    requires { ⌜
+        Lends (now buffer) (now chunk) (now out) × Counted (mostRead + s .taken) (s .state) (s .ended) (s .handed)
         × (s .taken < length (now chunk)) ⌝ }
-    ensures { λ r. ⌜ Steps maker (now (buffer .entry)) (now (buffer .exit)) s r (now (chunk .entry)) (now (out .exit)) ⌝ }
+    ensures { λ r. ⌜
+        Steps maker (now (buffer .entry)) (now (buffer .exit)) s r (now (chunk .entry)) (now (out .exit)) ⌝ }
 {
     let at = s.taken;
     let begun = s.state;
@@ -135,7 +140,8 @@ fn show_chunk(
     maker: Maker,
 ) -> Step
     requires { ⌜ Lends (now buffer) (now chunk) (now out) × Counted mostRead s ended handed ⌝ }
-    ensures { λ r. ⌜ ShowsChunk maker (now (buffer .entry)) (now (buffer .exit)) s ended (now (chunk .entry)) handed r ⌝ }
+    ensures { λ r. ⌜
+        ShowsChunk maker (now (buffer .entry)) (now (buffer .exit)) s ended (now (chunk .entry)) handed r ⌝ }
 {
     let mut step = Step {
         state: s,

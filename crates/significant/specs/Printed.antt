@@ -39,7 +39,8 @@ written power ds w = cond power (scientific ds w) (placed ds w)
 
 -- x times 10 ^ scale to n digits, its sign left out
 abbrev pub magnitudeText : ℕ → ℕ → Bool → Float → List ℕ
-magnitudeText n scale power x = written power (countText (digitsOf n (decimalUnitsOf x))) (n + placeOf n (decimalUnitsOf x) + scale)
+magnitudeText n scale power x =
+    written power (countText (digitsOf n (decimalUnitsOf x))) (n + placeOf n (decimalUnitsOf x) + scale)
 
 abbrev pub signText : Float → List ℕ
 signText x = cond (lt x (bits 0)) (text "-") []
@@ -49,4 +50,5 @@ signedText n scale power x = signText x ++ cond (isFinite x) (magnitudeText n sc
 
 -- x times 10 ^ scale to n significant digits
 abbrev pub decimalText : ℕ → ℕ → Bool → Float → List ℕ
-decimalText n scale power x = cond (ne x x) (text "no number") (cond (eq x (bits 0)) (text "0") (signedText n scale power x))
+decimalText n scale power x =
+    cond (ne x x) (text "no number") (cond (eq x (bits 0)) (text "0") (signedText n scale power x))

@@ -14,7 +14,8 @@ ghost use Rattle.floats.specs.Floats.{isFinite};
 ghost use Rattle.floats.specs.Operations.{bits};
 ghost use Rattle.significant.specs.Significant.{decimalUnitsOf, digitsOf, placeOf};
 ghost use Rattle.texts.specs.Appended.{Appended};
-ghost use Rattle.significant.specs.Printed.{pointed, fraction, exponentText, scientific, placed, written, magnitudeText, signText, signedText, decimalText};
+ghost use Rattle.significant.specs.Printed.{pointed, fraction, exponentText, scientific, placed, written};
+ghost use Rattle.significant.specs.Printed.{magnitudeText, signText, signedText, decimalText};
 ghost use Rattle.significant.specs.Digits.{value, Digits, timesPlus, Top, Scales, nearestDigit, Enough, RoundsTo};
 
 // 2^52: the leading one of 53 binary digits, and the weight of a bit pattern's exponent field.
@@ -84,7 +85,8 @@ fn step_of(left: usize) -> usize
 
 // The same number times base^k, where there is room for all of its digits.
 fn times_power(digits: &mut [u8], base: u64, k: usize)
-    requires { ⌜ (base ≤ 5) × (0 < base) × Digits (now digits) × (value (now digits) * base ^ k < 10 ^ length (now digits)) ⌝ }
+    requires { ⌜
+        (base ≤ 5) × (0 < base) × Digits (now digits) × (value (now digits) * base ^ k < 10 ^ length (now digits)) ⌝ }
     ensures { λ _. ⌜ Scales (now (digits .entry)) (now (digits .exit)) (base ^ k) ⌝ }
 {
     let mut left = k;
@@ -144,7 +146,8 @@ fn to_nearest(d: u64, next: u8, more: bool) -> u64
 // n digits that may have been rounded up to 10^n.
 fn carried(d: u64, place: usize, n: usize) -> Significant
     requires { ⌜ (1 ≤ n) × (n ≤ 16) × (place ≤ 2100) ⌝ }
-    ensures { λ r. ⌜ (r .digits ≡ cond (eqb d (10 ^ n)) (10 ^ (n - 1)) d) × (r .place ≡ cond (eqb d (10 ^ n)) (place + 1) place) ⌝ }
+    ensures { λ r. ⌜
+        (r .digits ≡ cond (eqb d (10 ^ n)) (10 ^ (n - 1)) d) × (r .place ≡ cond (eqb d (10 ^ n)) (place + 1) place) ⌝ }
 {
     if d == power(10, n) {
         let digits = power(10, n - 1);
@@ -158,7 +161,8 @@ fn carried(d: u64, place: usize, n: usize) -> Significant
 
 // The first n of all digits, rounded: the number that they write, times 10^shift, is 10^16 times as many units.
 fn rounded(digits: &[u8], n: usize, shift: usize) -> Significant
-    requires { ⌜ Digits (now digits) × (1 ≤ n) × (n ≤ 16) × (length (now digits) + shift ≤ 2116) × Enough (value (now digits)) shift ⌝ }
+    requires { ⌜ Digits (now digits) × (1 ≤ n) × (n ≤ 16) × (length (now digits) + shift ≤ 2116)
+        × Enough (value (now digits)) shift ⌝ }
     ensures { λ r. ⌜ RoundsTo n (value (now (digits .entry))) shift (r .digits) (r .place) ⌝ }
 {
     let c = top(digits);
@@ -180,7 +184,8 @@ fn rounded(digits: &[u8], n: usize, shift: usize) -> Significant
 fn spelled(digits: &mut [u8], m: u64, base: u64, k: usize, n: usize, shift: usize) -> Significant
     requires { ⌜ (m < 2 ^ 53) × (0 < base) × (base ≤ 5) × (1 ≤ n) × (n ≤ 16) ⌝ }
     requires { ⌜ (length (now digits) ≡ 33 + k) × (k + shift ≤ 2083) × (10 ^ 16 ≤ base ^ k * 10 ^ shift) ⌝ }
-    ensures { λ r. ⌜ (r .digits ≡ digitsOf n (m * base ^ k * 10 ^ shift)) × (r .place ≡ placeOf n (m * base ^ k * 10 ^ shift)) ⌝ }
+    ensures { λ r. ⌜
+        (r .digits ≡ digitsOf n (m * base ^ k * 10 ^ shift)) × (r .place ≡ placeOf n (m * base ^ k * 10 ^ shift)) ⌝ }
 {
     times_plus(digits, 0, m);
     times_plus(digits, MORE, 0);
@@ -205,7 +210,8 @@ fn worked(m: u64, j: usize, n: usize) -> Significant
 // The same of a finite f64's bit pattern.
 fn of_bits(b: u64, n: usize) -> Significant
     requires { ⌜ T (isFinite (bits b)) × (1 ≤ n) × (n ≤ 16) ⌝ }
-    ensures { λ r. ⌜ (r .digits ≡ digitsOf n (decimalUnitsOf (bits b))) × (r .place ≡ placeOf n (decimalUnitsOf (bits b))) ⌝ }
+    ensures { λ r. ⌜
+        (r .digits ≡ digitsOf n (decimalUnitsOf (bits b))) × (r .place ≡ placeOf n (decimalUnitsOf (bits b))) ⌝ }
 {
     let field = b % SIGN / LEADING;
     let t = b % LEADING;
@@ -229,7 +235,8 @@ fn significant_digits(x: f64, n: usize) -> Significant
 // Three texts, one after the other, appended to the `at` bytes at the start of out.
 fn put_three(out: &mut [u8], at: usize, a: &[u8], b: &[u8], c: &[u8]) -> usize
     requires { ⌜ at + (length (now a) + (length (now b) + length (now c))) ≤ length (now out) ⌝ }
-    ensures { λ r. ⌜ Appended (now (out .entry)) at (now (a .entry) ++ (now (b .entry) ++ now (c .entry))) (now (out .exit)) r ⌝ }
+    ensures { λ r. ⌜
+        Appended (now (out .entry)) at (now (a .entry) ++ (now (b .entry) ++ now (c .entry))) (now (out .exit)) r ⌝ }
 {
     let first = texts::put_bytes(out, at, a);
     let second = texts::put_bytes(out, first, b);

@@ -24,7 +24,9 @@ SamplesFinite run strips = Each (λ s. finiteAt (run .width) (run .integrand) (s
 -- and so no value and no error of a piece
 abbrev pub FinitePieces : ℕ → List Piece → Type 0
 FinitePieces w [] = Unit {0}
-FinitePieces w (p ∷ pieces) = ((k : ℕ) → k < w → (isFinite (at (p .value) k) ≡ true) × (isFinite (at (p .error) k) ≡ true)) × FinitePieces w pieces
+FinitePieces w (p ∷ pieces) =
+    ((k : ℕ) → k < w → (isFinite (at (p .value) k) ≡ true) × (isFinite (at (p .error) k) ≡ true))
+    × FinitePieces w pieces
 
 -- and no component's integral over the strips
 pub record NumbersFinite (run : Run) (strips : List Worked) : Type 0 where

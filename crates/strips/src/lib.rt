@@ -10,7 +10,8 @@ ghost use mathlib.Core.Path.{_≡_};
 ghost use lib.ListN.{length};
 ghost use Rattle.refusals.specs.Calls.{Does};
 ghost use Rattle.planforms.specs.Planforms.{spanOf};
-ghost use Rattle.strips.specs.Strips.{isAccepted, withStrip, inWords, stripBetween, WorksStrip, Room, runBetween, runOf, stepRunOf, onwardOf, Runs};
+ghost use Rattle.strips.specs.Strips.{isAccepted, withStrip, inWords, stripBetween, WorksStrip, Room, runBetween};
+ghost use Rattle.strips.specs.Strips.{runOf, stepRunOf, onwardOf, Runs};
 use halving::Ending;
 use halving::Integral;
 use halving::Totals;
@@ -60,7 +61,8 @@ fn work_strip(
     limit: usize,
     totals: Totals,
 ) -> Integral
-    requires { ⌜ Room limit (length (now scratch)) × (i + 1 < length (now heights)) × (length (now heights) < 2 ^ 32) ⌝ }
+    requires { ⌜
+        Room limit (length (now scratch)) × (i + 1 < length (now heights)) × (length (now heights) < 2 ^ 32) ⌝ }
     ensures { λ r. ⌜ WorksStrip (stripBetween integrand (now (points .entry)) limit (now (heights .entry)) i) totals
         (now (scratch .entry)) r (now (scratch .exit)) ⌝ }
 {
@@ -117,7 +119,9 @@ fn work_upward(
     limit: usize,
 ) -> Integral
     requires { ⌜ Room limit (length (now scratch)) × (length (now heights) < 2 ^ 32) ⌝ }
-    ensures { λ r. ⌜ Runs (runBetween integrand (now (points .entry)) limit (now (heights .entry))) (now (scratch .entry)) r (now (scratch .exit)) ⌝ }
+    ensures { λ r. ⌜
+        Runs (runBetween integrand (now (points .entry)) limit (now (heights .entry))) (now (scratch .entry)) r
+        (now (scratch .exit)) ⌝ }
 {
     let ending = Ending::Accepted;
     let totals = Totals {
@@ -147,7 +151,8 @@ pub fn work_strips(
     limit: usize,
 ) -> Integral
     requires { ⌜ Room limit (length (now scratch)) ⌝ }
-    ensures { λ r. ⌜ Runs (runOf integrand (now (points .entry)) limit) (now (scratch .entry)) r (now (scratch .exit)) ⌝ }
+    ensures { λ r. ⌜
+        Runs (runOf integrand (now (points .entry)) limit) (now (scratch .entry)) r (now (scratch .exit)) ⌝ }
 {
     let planform = integrand.planform;
     if breaks::is_one_strip(planform) {

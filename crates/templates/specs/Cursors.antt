@@ -74,7 +74,9 @@ counted NotCount c to = notAForm c
 
 -- after a word that is no figure, held against a template's
 abbrev pub plainTo : List ℕ → List ℕ → Cursor → ℕ → Cursor
-plainTo wanted w c to = pickCursor (sameBytes wanted (text "N")) (counted (cappedCount (countOf w)) c to) (pickCursor (sameBytes wanted w) (onTo c to) (notAForm c))
+plainTo wanted w c to =
+    pickCursor (sameBytes wanted (text "N")) (counted (cappedCount (countOf w)) c to)
+    (pickCursor (sameBytes wanted w) (onTo c to) (notAForm c))
 
 abbrev pub numberedCursor : ℕ → Cursor → Cursor
 numberedCursor k c = record { ok = c .ok; at = c .at; figures = c .figures; number = k; spoiled = c .spoiled }
@@ -83,4 +85,6 @@ numberedCursor k c = record { ok = c .ok; at = c .at; figures = c .figures; numb
 pub record IsBarEnd (alternatives : List ℕ) (i end : ℕ) : Type 0 where
   pub behind : i ≤ end
   pub within : end ≤ length alternatives
-  pub cut : cutAtBars (drop i alternatives) ≡ part alternatives i end ∷ cond (ltb end (length alternatives)) (cutAtBars (drop (end + 1) alternatives)) []
+  pub cut :
+      cutAtBars (drop i alternatives)
+      ≡ part alternatives i end ∷ cond (ltb end (length alternatives)) (cutAtBars (drop (end + 1) alternatives)) []

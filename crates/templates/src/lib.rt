@@ -10,8 +10,10 @@ ghost use lib.ListN.{length, drop};
 ghost use Rattle.counts.specs.Counts.{countOf, cappedCount};
 ghost use Rattle.tokens.specs.Tokens.{lineBytes, tokens};
 ghost use Rattle.tokens.specs.Found.{part};
-ghost use Rattle.templates.specs.Matching.{sameBytes, isWordByte, isWord, takeWord, takeOne, takeFigures, takeText, takeEach, oneOf, optional, cutAtBars};
-ghost use Rattle.templates.specs.Cursors.{takenBefore, Room, ReadsOn, Takes, IsWordAt, lineStart, notAForm, onTo, spoiledTo, pickCursor, counted, plainTo, numberedCursor, IsBarEnd};
+ghost use Rattle.templates.specs.Matching.{sameBytes, isWordByte, isWord, takeWord, takeOne, takeFigures};
+ghost use Rattle.templates.specs.Matching.{takeText, takeEach, oneOf, optional, cutAtBars};
+ghost use Rattle.templates.specs.Cursors.{takenBefore, Room, ReadsOn, Takes, IsWordAt, lineStart, notAForm, onTo};
+ghost use Rattle.templates.specs.Cursors.{spoiledTo, pickCursor, counted, plainTo, numberedCursor, IsBarEnd};
 use counts::Count;
 use hex::Figure;
 use tokens::Found;
@@ -200,7 +202,8 @@ fn take_word(line: &[u8], c: Cursor, wanted: &[u8], found: Found, values: &mut [
 // One token of the line.
 pub fn take_one(line: &[u8], c: Cursor, wanted: &[u8], values: &mut [f64]) -> Cursor
     requires { ⌜ Room (now line) (now values) c ⌝ }
-    ensures { λ r. ⌜ Takes (takeOne (now (wanted .entry))) (now (line .entry)) (now (values .entry)) (now (values .exit)) c r ⌝ }
+    ensures { λ r. ⌜
+        Takes (takeOne (now (wanted .entry))) (now (line .entry)) (now (values .entry)) (now (values .exit)) c r ⌝ }
 {
     let at = c.at;
     if !c.ok {
@@ -234,7 +237,8 @@ fn take_figures(line: &[u8], c: Cursor, values: &mut [f64]) -> Cursor
 // A template: its tokens, one after another, as long as they fit.
 pub fn take_text(line: &[u8], c: Cursor, template: &[u8], values: &mut [f64]) -> Cursor
     requires { ⌜ Room (now line) (now values) c ⌝ }
-    ensures { λ r. ⌜ Takes (takeText (now (template .entry))) (now (line .entry)) (now (values .entry)) (now (values .exit)) c r ⌝ }
+    ensures { λ r. ⌜
+        Takes (takeText (now (template .entry))) (now (line .entry)) (now (values .entry)) (now (values .exit)) c r ⌝ }
 {
     let mut s = c;
     let mut i: usize = 0;
@@ -262,7 +266,8 @@ pub fn take_text(line: &[u8], c: Cursor, template: &[u8], values: &mut [f64]) ->
 // A template as often as it fits.
 pub fn take_each(line: &[u8], c: Cursor, template: &[u8], values: &mut [f64]) -> Cursor
     requires { ⌜ Room (now line) (now values) c ⌝ }
-    ensures { λ r. ⌜ Takes (takeEach (takeText (now (template .entry)))) (now (line .entry)) (now (values .entry)) (now (values .exit)) c r ⌝ }
+    ensures { λ r. ⌜ Takes (takeEach (takeText (now (template .entry)))) (now (line .entry)) (now (values .entry))
+        (now (values .exit)) c r ⌝ }
 {
     let mut s = c;
     let mut turns = LINE_BYTES;
@@ -308,7 +313,8 @@ pub fn bar_end(alternatives: &[u8], i: usize) -> usize
 // The first of the alternatives that fits, a bar between each two.
 pub fn take_one_of(line: &[u8], c: Cursor, alternatives: &[u8], values: &mut [f64]) -> Cursor
     requires { ⌜ Room (now line) (now values) c × (length (now alternatives) ≤ lineBytes) ⌝ }
-    ensures { λ r. ⌜ Takes (oneOf (cutAtBars (now (alternatives .entry)))) (now (line .entry)) (now (values .entry)) (now (values .exit)) c r ⌝ }
+    ensures { λ r. ⌜ Takes (oneOf (cutAtBars (now (alternatives .entry)))) (now (line .entry)) (now (values .entry))
+        (now (values .exit)) c r ⌝ }
 {
     let mut i: usize = 0;
     let mut number: usize = 1;
@@ -329,7 +335,8 @@ pub fn take_one_of(line: &[u8], c: Cursor, alternatives: &[u8], values: &mut [f6
 // The same, or nothing: number 0.
 pub fn take_optional(line: &[u8], c: Cursor, alternatives: &[u8], values: &mut [f64]) -> Cursor
     requires { ⌜ Room (now line) (now values) c × (length (now alternatives) ≤ lineBytes) ⌝ }
-    ensures { λ r. ⌜ Takes (optional (cutAtBars (now (alternatives .entry)))) (now (line .entry)) (now (values .entry)) (now (values .exit)) c r ⌝ }
+    ensures { λ r. ⌜ Takes (optional (cutAtBars (now (alternatives .entry)))) (now (line .entry)) (now (values .entry))
+        (now (values .exit)) c r ⌝ }
 {
     let r = take_one_of(line, c, alternatives, values);
     if r.ok {

@@ -14,7 +14,8 @@ use Rattle.significant.specs.Significant.{digitsUpTo, digitCount, nearestWhole,
 use Rattle.blocks.specs.Words.{overWords}
 use Rattle.blocks.specs.Tables.{textFor}
 use Rattle.blocks.specs.Filled.{filled}
-use Rattle.blocks.specs.Cards.{all, newline, kilogramSquareMetre, besideFrom, massLine, momentLine, mixedLine, sentences, cards, blockOf, numberedBlock}
+use Rattle.blocks.specs.Cards.{all, newline, kilogramSquareMetre, besideFrom, massLine, momentLine, mixedLine}
+use Rattle.blocks.specs.Cards.{sentences, cards, blockOf, numberedBlock}
 use Rattle.test_definitions.specs.Rows.{is, same}
 
 -- one line, and an empty one after it
@@ -45,7 +46,9 @@ millimetres = shows "(closing 3fa999999999999a)" "the ring closes at an outer ra
 -- beside 1 the figure 2^-40 counts, and a last bit less is 0; all three are looked at for the largest, whatever their
 -- signs
 abbrev pub noise : Bool
-noise = beside 0x3ff0_0000_0000_0000 0x3d70_0000_0000_0000 0xbd6f_ffff_ffff_ffff && beside 0xbff0_0000_0000_0000 0xbd70_0000_0000_0000 0x3d6f_ffff_ffff_ffff
+noise =
+    beside 0x3ff0_0000_0000_0000 0x3d70_0000_0000_0000 0xbd6f_ffff_ffff_ffff
+    && beside 0xbff0_0000_0000_0000 0xbd70_0000_0000_0000 0x3d6f_ffff_ffff_ffff
   where
     beside : ℕ → ℕ → ℕ → Bool
     beside largest enough less =
@@ -69,7 +72,8 @@ body-shown =
 -- the number of the line stands above its block
 abbrev pub line-numbered : Bool
 line-numbered =
-    same (numberedBlock 12 (text "(idle)")) (all (text "line 12" ∷ newline ∷ text "no screen has a job" ∷ newline ∷ newline ∷ []))
+    same (numberedBlock 12 (text "(idle)"))
+    (all (text "line 12" ∷ newline ∷ text "no screen has a job" ∷ newline ∷ newline ∷ []))
 
 pub blocks-hold : T (answers-shown && no-answers && line-numbered)
 unfolding ofBits text codes overWords textFor filled massLine momentLine mixedLine besideFrom sentences cards blockOf numberedBlock hex.figureOf hex.readDigits counts.countOf counts.readDigits counts.digits counts.countText

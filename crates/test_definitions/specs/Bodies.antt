@@ -50,13 +50,15 @@ onAxis mass x = pointMass (bits mass) (vector (bits x) (bits 0) (bits 0))
 
 -- by (2, 0, 0): not by its own centre, which would give (2, 4, 6)
 abbrev pub moved-by-the-offset : Bool
-moved-by-the-offset = are (numbers (translatedOf point (vector (bits two) (bits 0) (bits 0)) .«centre_m»)) (three ∷ two ∷ three ∷ [])
+moved-by-the-offset =
+    are (numbers (translatedOf point (vector (bits two) (bits 0) (bits 0)) .«centre_m»)) (three ∷ two ∷ three ∷ [])
 
 -- about the origin 26, 20, 10, −4, −6, −12: m (|d|² E − d dᵀ)
 abbrev pub products-negative : Bool
 products-negative =
     are (inertiaAboutOf point zeroVector .0)
-    (0x403a_0000_0000_0000 ∷ 0x4034_0000_0000_0000 ∷ 0x4024_0000_0000_0000 ∷ 0xc010_0000_0000_0000 ∷ 0xc018_0000_0000_0000 ∷ 0xc028_0000_0000_0000 ∷ [])
+    (0x403a_0000_0000_0000 ∷ 0x4034_0000_0000_0000 ∷ 0x4024_0000_0000_0000 ∷ 0xc010_0000_0000_0000 ∷
+    0xc018_0000_0000_0000 ∷ 0xc028_0000_0000_0000 ∷ [])
 
 -- columns (1, 2, 3), (3, 1, 2) and (2, 3, 1) times (1, 2, 3): 13, 13, 10; by rows 14, 11, 11
 abbrev columns : Matrix
@@ -64,7 +66,8 @@ columns = record { 0 = map bits (one ∷ two ∷ three ∷ three ∷ one ∷ two
 
 abbrev pub by-columns : Bool
 by-columns =
-    are (numbers (timesVector columns (vector (bits one) (bits two) (bits three)))) (0x402a_0000_0000_0000 ∷ 0x402a_0000_0000_0000 ∷ 0x4024_0000_0000_0000 ∷ [])
+    are (numbers (timesVector columns (vector (bits one) (bits two) (bits three))))
+    (0x402a_0000_0000_0000 ∷ 0x402a_0000_0000_0000 ∷ 0x4024_0000_0000_0000 ∷ [])
 
 abbrev parts : Quaternion → List Float
 parts q = q .x ∷ q .y ∷ q .z ∷ q .w ∷ []
@@ -103,7 +106,8 @@ matrix-of-a-turn =
 -- copy k of four stands at k quarters of a turn
 abbrev pub angles-of-four : Bool
 angles-of-four =
-    are (tabulate 4 (λ k. angleOf (bits 0) 4 k)) (0 ∷ 0x3ff9_21fb_5444_2d18 ∷ 0x4009_21fb_5444_2d18 ∷ 0x4012_d97c_7f33_21d2 ∷ [])
+    are (tabulate 4 (λ k. angleOf (bits 0) 4 k))
+    (0 ∷ 0x3ff9_21fb_5444_2d18 ∷ 0x4009_21fb_5444_2d18 ∷ 0x4012_d97c_7f33_21d2 ∷ [])
 
 -- an only copy is turned too: a mass at (1, 0, 0), turned by 1 rad, lies at (cos 1, sin 1, 0)
 abbrev pub only-copy-turned : Bool
@@ -115,7 +119,8 @@ only-copy-turned =
 -- and joined: of a mass of 3 at 0.1 the join rounds 3·0.1/3 to the f64 after 0.1
 abbrev pub only-copy-joined : Bool
 only-copy-joined =
-    are (numbers (joinedCopies (onAxis three 0x3fb9_9999_9999_999a) (bits 0) 1 .«centre_m»)) (0x3fb9_9999_9999_999b ∷ 0 ∷ 0 ∷ [])
+    are (numbers (joinedCopies (onAxis three 0x3fb9_9999_9999_999a) (bits 0) 1 .«centre_m»))
+    (0x3fb9_9999_9999_999b ∷ 0 ∷ 0 ∷ [])
 
 -- ---- joins
 
@@ -123,7 +128,8 @@ only-copy-joined =
 abbrev joinedAt : Float → Float → Float
 joinedAt first second =
     joinOf
-    (twoBodies (pointMass first (vector (bits one) (bits 0) (bits 0))) (pointMass second (vector (bits three) (bits 0) (bits 0))))
+    (twoBodies (pointMass first (vector (bits one) (bits 0) (bits 0)))
+    (pointMass second (vector (bits three) (bits 0) (bits 0))))
     2
     .«centre_m»
     .x

@@ -37,7 +37,8 @@ use Rattle.bodies.specs.declared.Body.{Body}
 use Rattle.bodies.specs.declared.Tensor.{Tensor}
 use Rattle.bodies.specs.Vectors.{vector}
 use Rattle.bodies.specs.Tensors.{diagonal}
-use Rattle.moments.specs.Moments.{rotationOf, rotate, sweep, sweeps, insertMoment, insertAll, entriesFit, eigenvaluesOf, principalMomentsOf}
+use Rattle.moments.specs.Moments.{rotationOf, rotate, sweep, sweeps, insertMoment, insertAll, entriesFit, eigenvaluesOf}
+use Rattle.moments.specs.Moments.{principalMomentsOf}
 use Rattle.root.specs.Root.{nearRoot, rootOf}
 use Rattle.body_check.specs.BodyCheck.{largestMagnitude, checkTensor, checkOf}
 use Rattle.test_definitions.specs.Rows.{is, are, accepted, refused}
@@ -162,8 +163,12 @@ fieldsFrom field test (b ∷ bs) = cond b (test field) (not (test field)) && fie
 -- this check negative." A fillet's radius, field 16, may be zero.
 abbrev pub zero-and-negative : Bool
 zero-and-negative =
-    fieldsFrom 1 (λ field. accepted (lengthCheck field (bits 0))) (false ∷ true ∷ false ∷ true ∷ true ∷ true ∷ false ∷ false ∷ false ∷ true ∷ true ∷ false ∷ false ∷ false ∷ false ∷ true ∷ [])
-    && fieldsFrom 1 (λ field. accepted (lengthCheck field (bits (minus one)))) (false ∷ false ∷ false ∷ true ∷ true ∷ false ∷ false ∷ false ∷ false ∷ true ∷ false ∷ false ∷ false ∷ false ∷ false ∷ false ∷ [])
+    fieldsFrom 1 (λ field. accepted (lengthCheck field (bits 0)))
+    (false ∷ true ∷ false ∷ true ∷ true ∷ true ∷ false ∷ false ∷ false ∷ true ∷ true ∷ false ∷ false ∷ false ∷
+    false ∷ true ∷ [])
+    && fieldsFrom 1 (λ field. accepted (lengthCheck field (bits (minus one))))
+    (false ∷ false ∷ false ∷ true ∷ true ∷ false ∷ false ∷ false ∷ false ∷ true ∷ false ∷ false ∷ false ∷ false ∷
+    false ∷ false ∷ [])
 
 -- "bulk density 0 or 2^-10 to 2^15"; "surface 0.1"
 abbrev pub limits-of-densities : Bool
@@ -225,11 +230,13 @@ refusedFrom check k (row ∷ rows) = refused (row .0) (row .1) (check k) && refu
 
 abbrev planformAt : ℕ → Planform
 planformAt k =
-    Trapezoid (bits (unlessMended k 3 large d2)) (bits (unlessMended k 4 large d2)) (bits (unlessMended k 5 large d2)) (bits (unlessMended k 6 large d2))
+    Trapezoid (bits (unlessMended k 3 large d2)) (bits (unlessMended k 4 large d2)) (bits (unlessMended k 5 large d2))
+    (bits (unlessMended k 6 large d2))
 
 abbrev tabAt : ℕ → Tab
 tabAt k =
-    Slab (bits (unlessMended k 12 large d03)) (bits (unlessMended k 13 large d2)) (bits (unlessMended k 14 large (unlessMended k 15 d01 0)))
+    Slab (bits (unlessMended k 12 large d03)) (bits (unlessMended k 13 large d2))
+    (bits (unlessMended k 14 large (unlessMended k 15 d01 0)))
 
 abbrev densityAt : ℕ → ℕ → Density
 densityAt k fault = cond (leb k fault) (Surface (bits one)) (Bulk (bits 0))
@@ -316,7 +323,8 @@ thickness-over-root =
 -- "For area alone: 1, 2, planform": the faults 0, 1 and 3 to 6 of the above
 abbrev pub area-order : Bool
 area-order =
-    refusedFrom (λ k. areaCheck (planformAt (cond (leb k 1) k (suc k))) [] (unlessMended k 0 0 8) (unlessMended k 1 127 128)) 0
+    refusedFrom
+    (λ k. areaCheck (planformAt (cond (leb k 1) k (suc k))) [] (unlessMended k 0 0 8) (unlessMended k 1 127 128)) 0
     ((1, []) ∷ (2, []) ∷ (4, 1 ∷ []) ∷ (4, 2 ∷ []) ∷ (4, 3 ∷ []) ∷ (4, 4 ∷ []) ∷ [])
 
 abbrev bodyAt : ℕ → Body
@@ -325,7 +333,8 @@ bodyAt k =
       «mass_kg» = bits (unlessMended k 0 (minus one) (unlessMended k 3 0 one));
       «centre_m» = vector (bits 0) (bits 0) (bits (unlessMended k 1 notNumber 0));
       «inertia_kg_m2» =
-          diagonal (bits (unlessMended k 2 infinity (unlessMended k 4 (minus one) one))) (bits (unlessMended k 5 one two)) (bits three);
+          diagonal (bits (unlessMended k 2 infinity (unlessMended k 4 (minus one) one)))
+          (bits (unlessMended k 5 one two)) (bits three);
     }
 
 -- "The body check runs 15, 16, 17 a to e": mass −1, a centre that is not finite, an infinite entry, inertia without
@@ -338,7 +347,14 @@ body-order =
 
 -- no mass and no inertia, which is the empty body, passes
 abbrev pub empty-body-passes : Bool
-empty-body-passes = accepted (checkOf (record { «mass_kg» = bits 0; «centre_m» = vector (bits 0) (bits 0) (bits 0); «inertia_kg_m2» = lastEntry 0 }))
+empty-body-passes =
+    accepted
+    (checkOf
+    (record {
+      «mass_kg» = bits 0;
+      «centre_m» = vector (bits 0) (bits 0) (bits 0);
+      «inertia_kg_m2» = lastEntry 0;
+    }))
 
 pub checks-hold :
     T

@@ -15,7 +15,8 @@ use Rattle.segments.specs.Segments.{isInBox, segmentsTouch}
 use Rattle.outlines.specs.Outlines.{sumOfTerms, outlineCheck}
 use Rattle.outlines.specs.Outlines.{planformCheck}
 use Rattle.steps.specs.Steps.{exactOf, isWhole, stepsOf}
-use Rattle.polygons.specs.Polygons.{isSame, isCrossed, liesOn, isCutRising, isCut, squaredDistance, isNearer, offsetOf, isOn, cuts, some, count, isOnEdge, isInside, nearerOf, nearestTo, nearestCorner}
+use Rattle.polygons.specs.Polygons.{isSame, isCrossed, liesOn, isCutRising, isCut, squaredDistance, isNearer, offsetOf}
+use Rattle.polygons.specs.Polygons.{isOn, cuts, some, count, isOnEdge, isInside, nearerOf, nearestTo, nearestCorner}
 use Rattle.drill.specs.declared.Answer.{Answer}
 use Rattle.drill.specs.Drill.{areWhole, placeOf, drillCheck, drillOf, verdictOf, placeNumber, nearestOf}
 use Rattle.test_definitions.specs.Rows.{accepted, refused}
@@ -45,7 +46,9 @@ edge-before-inside = isInside square (pos 0) (pos 2) && lies 2 0 (placeOf square
 
 -- the closing edge left out: of the edges cut, and of the edges that a point may be on
 abbrev pub closing-edge-counts : Bool
-closing-edge-counts = lies 1 0 (placeOf turned (pos 2) (pos 2)) && lies 2 0 (placeOf square (pos 2) (pos 0)) && lies 2 0 (placeOf turned (pos 4) (pos 2))
+closing-edge-counts =
+    lies 1 0 (placeOf turned (pos 2) (pos 2)) && lies 2 0 (placeOf square (pos 2) (pos 0))
+    && lies 2 0 (placeOf turned (pos 4) (pos 2))
 
 -- the upper end counted: at the height of a corner between a lower and an upper edge only the upper one counts, and a
 -- level edge never does
@@ -63,7 +66,9 @@ edge-ends = lies 3 1 (placeOf square (pos 0) (pos 5)) && lies 2 1 (placeOf squar
 
 -- the last of equal corners; sums in place of squares: 3 and 3 is nearer than 0 and 5
 abbrev pub nearest-corners : Bool
-nearest-corners = lies 1 0 (placeOf square (pos 2) (pos 2)) && eqb (nearestCorner (polygon (0 ∷ 5 ∷ 3 ∷ 3 ∷ 9 ∷ 0 ∷ [])) (pos 0) (pos 0)) 1
+nearest-corners =
+    lies 1 0 (placeOf square (pos 2) (pos 2))
+    && eqb (nearestCorner (polygon (0 ∷ 5 ∷ 3 ∷ 3 ∷ 9 ∷ 0 ∷ [])) (pos 0) (pos 0)) 1
 
 -- ---- steps of 2^-20 m
 
@@ -132,7 +137,9 @@ abbrev mended : ℕ → ℕ → ℕ → ℕ → ℕ
 mended k fault bad good = cond (leb k fault) bad good
 
 abbrev planformAt : ℕ → Planform
-planformAt k = cond (leb k 3) (Ellipse (bits third) (bits (mended k 0 large third))) (trapezoid one (mended k 5 third half) one half)
+planformAt k =
+    cond (leb k 3) (Ellipse (bits third) (bits (mended k 0 large third)))
+    (trapezoid one (mended k 5 third half) one half)
 
 abbrev pointAt : ℕ → Answer
 pointAt k = drilled (planformAt k) [] (mended k 1 notNumber (mended k 4 third half)) (mended k 2 large half)
@@ -151,7 +158,8 @@ drill-order =
 abbrev pub outline-first : Bool
 outline-first =
     refused 5 [] (verdictOf (drilled Outline (0 ∷ 0 ∷ one ∷ 0 ∷ []) notNumber third))
-    && refused 7 (0 ∷ 2 ∷ []) (verdictOf (drilled Outline (0 ∷ 0 ∷ longest ∷ one ∷ 0 ∷ one ∷ longest ∷ 0 ∷ []) notNumber third))
+    && refused 7 (0 ∷ 2 ∷ [])
+    (verdictOf (drilled Outline (0 ∷ 0 ∷ longest ∷ one ∷ 0 ∷ one ∷ longest ∷ 0 ∷ []) notNumber third))
     && refused 8 [] (verdictOf (drilled Outline (0 ∷ 0 ∷ half ∷ 0 ∷ one ∷ 0 ∷ []) notNumber third))
 
 pub drilling-holds :

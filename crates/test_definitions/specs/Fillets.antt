@@ -58,18 +58,22 @@ angle-too-steep =
 
 -- below 0.25 the series; the difference ends in 6f00, and at 0.25, where the difference is taken, in a240
 abbrev pub span-less-sine : Bool
-span-less-sine = is (spanLessSineOf fifth) 0x3f55_cd3b_2de3_6ed2 && is (spanLessSineOf (bits 0x3fd0_0000_0000_0000)) 0x3f65_444a_c33a_a240
+span-less-sine =
+    is (spanLessSineOf fifth) 0x3f55_cd3b_2de3_6ed2
+    && is (spanLessSineOf (bits 0x3fd0_0000_0000_0000)) 0x3f65_444a_c33a_a240
 
 abbrev numbers : AreaMoments → List Float
 numbers s = s .«area_m2» ∷ s .«sx_m3» ∷ s .«sxx_m4» ∷ s .«syy_m4» ∷ []
 
 abbrev pub sector-moments : Bool
 sector-moments =
-    are (numbers (sectorOf one two half (bits 0x3fd0_0000_0000_0000) one)) (0x3fb8_0000_0000_0000 ∷ 0x3fbe_5632_f344_17db ∷ 0x3fc3_4d38_fe06_c8a0 ∷ 0x3fdc_d6e1_2a8c_4a50 ∷ [])
+    are (numbers (sectorOf one two half (bits 0x3fd0_0000_0000_0000) one))
+    (0x3fb8_0000_0000_0000 ∷ 0x3fbe_5632_f344_17db ∷ 0x3fc3_4d38_fe06_c8a0 ∷ 0x3fdc_d6e1_2a8c_4a50 ∷ [])
 
 abbrev pub section-moments : Bool
 section-moments =
-    are (numbers (filletSectionOf body radius)) (0x3ef1_1e9b_020e_6b08 ∷ 0x3eac_7b7a_af41_cd08 ∷ 0x3e67_b885_f39e_dad0 ∷ 0x3dda_3eb6_b04d_8380 ∷ [])
+    are (numbers (filletSectionOf body radius))
+    (0x3ef1_1e9b_020e_6b08 ∷ 0x3eac_7b7a_af41_cd08 ∷ 0x3e67_b885_f39e_dad0 ∷ 0x3dda_3eb6_b04d_8380 ∷ [])
 
 -- "ratio is radius over body radius", the f64 quotient: 0.0000161 on 16.1 is below 1e-6, 0.000001 on 1 is not
 abbrev pub none-below-a-millionth : Bool

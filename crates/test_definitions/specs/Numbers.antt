@@ -78,7 +78,8 @@ root-of-signs =
 
 -- √(1 + 2^-52) lies just below a half and is 1; the smallest f64 is 2^-1074, and its root 2^-537
 abbrev pub root-rounded : Bool
-root-rounded = is (rootOf (bits 0x3ff0_0000_0000_0001)) 0x3ff0_0000_0000_0000 && is (rootOf (bits 1)) 0x1e60_0000_0000_0000
+root-rounded =
+    is (rootOf (bits 0x3ff0_0000_0000_0001)) 0x3ff0_0000_0000_0000 && is (rootOf (bits 1)) 0x1e60_0000_0000_0000
 
 -- f·0.6366197723675814 is exactly 1.5 at f = 3π/4: "halves away from zero"
 abbrev pub halves-away-from-zero : Bool
@@ -90,10 +91,13 @@ halves-away-from-zero =
 -- bits
 abbrev pub four-quarters : Bool
 four-quarters =
-    are (sinOf (bits 0x3fe0_0000_0000_0000) ∷ cosOf (bits 0x3fe0_0000_0000_0000) ∷ []) (0x3fde_aee8_744b_05f0 ∷ 0x3fec_1528_065b_7d50 ∷ [])
+    are (sinOf (bits 0x3fe0_0000_0000_0000) ∷ cosOf (bits 0x3fe0_0000_0000_0000) ∷ [])
+    (0x3fde_aee8_744b_05f0 ∷ 0x3fec_1528_065b_7d50 ∷ [])
     && are (sinOf one ∷ cosOf one ∷ []) (0x3fea_ed54_8f09_0cee ∷ 0x3fe1_4a28_0fb5_068c ∷ [])
-    && are (sinOf (bits 0x4004_0000_0000_0000) ∷ cosOf (bits 0x4004_0000_0000_0000) ∷ []) (0x3fe3_26af_0dcf_cab0 ∷ 0xbfe9_a2f7_ef85_8b7d ∷ [])
-    && are (sinOf (bits 0x4014_0000_0000_0000) ∷ cosOf (bits 0x4014_0000_0000_0000) ∷ []) (0xbfee_af81_f5e0_9933 ∷ 0x3fd2_2785_706b_4ada ∷ [])
+    && are (sinOf (bits 0x4004_0000_0000_0000) ∷ cosOf (bits 0x4004_0000_0000_0000) ∷ [])
+    (0x3fe3_26af_0dcf_cab0 ∷ 0xbfe9_a2f7_ef85_8b7d ∷ [])
+    && are (sinOf (bits 0x4014_0000_0000_0000) ∷ cosOf (bits 0x4014_0000_0000_0000) ∷ [])
+    (0xbfee_af81_f5e0_9933 ∷ 0x3fd2_2785_706b_4ada ∷ [])
     && are (sinOf (neg one) ∷ cosOf (neg one) ∷ []) (0xbfea_ed54_8f09_0cee ∷ 0x3fe1_4a28_0fb5_068c ∷ [])
 
 -- ---- the airfoils' constants
@@ -102,8 +106,10 @@ four-quarters =
 -- end in 38, 53, 8b and 50, 26, 87
 abbrev pub airfoil-constants : Bool
 airfoil-constants =
-    are (airfoilConstants closedTail) (0x3fe5_c9cb_d821_dc3a ∷ 0x3fd2_35cb_4c52_7755 ∷ 0x3fc3_f527_c52c_738c ∷ 0x3fde_1ebf_45da_60e0 ∷ [])
-    && are (airfoilConstants openTail) (0x3fe5_ec33_e1f6_7153 ∷ 0x3fd2_6f23_5cb4_c527 ∷ 0x3fc4_5775_981e_1d88 ∷ 0x3fde_43d2_465b_1ff1 ∷ [])
+    are (airfoilConstants closedTail)
+    (0x3fe5_c9cb_d821_dc3a ∷ 0x3fd2_35cb_4c52_7755 ∷ 0x3fc3_f527_c52c_738c ∷ 0x3fde_1ebf_45da_60e0 ∷ [])
+    && are (airfoilConstants openTail)
+    (0x3fe5_ec33_e1f6_7153 ∷ 0x3fd2_6f23_5cb4_c527 ∷ 0x3fc4_5775_981e_1d88 ∷ 0x3fde_43d2_465b_1ff1 ∷ [])
 
 -- ---- texts
 
@@ -121,7 +127,8 @@ zerosAnd d = 48 ∷ 48 ∷ 48 ∷ 48 ∷ 48 ∷ 48 ∷ 48 ∷ 48 ∷ 48 ∷ 48 �
 
 -- "16 lowercase hexadecimal digits", the most significant first; fifteen are no figure
 abbrev pub lowercase-digits : Bool
-lowercase-digits = figure 10 (hex.figureOf (zerosAnd 97)) && noFigure (hex.figureOf (zerosAnd 65)) && noFigure (hex.figureOf (97 ∷ []))
+lowercase-digits =
+    figure 10 (hex.figureOf (zerosAnd 97)) && noFigure (hex.figureOf (zerosAnd 65)) && noFigure (hex.figureOf (97 ∷ []))
 
 -- four digits and twelve zeros
 abbrev thenZeros : ℕ → ℕ → ℕ → ℕ → List ℕ

@@ -50,7 +50,8 @@ notNumber = 0x7ff8_0000_0000_0000
 
 -- a mass at a place on the x axis
 abbrev point : ℕ → ℕ → Body
-point mass x = record { «mass_kg» = bits mass; «centre_m» = vector (bits x) (bits 0) (bits 0); «inertia_kg_m2» = zeroTensor }
+point mass x =
+    record { «mass_kg» = bits mass; «centre_m» = vector (bits x) (bits 0) (bits 0); «inertia_kg_m2» = zeroTensor }
 
 -- moved before turned: the body's centre lies on the axis, so a copy's centre is its offset, whatever the roll
 abbrev pub turned-before-moved : Bool
@@ -98,6 +99,7 @@ whole-before-part =
     && refused 16 [] (movedCheck (point one notNumber) (point minusOne 0) (vector (bits large) (bits 0) (bits 0)))
     && refused 15 [] (movedCheck (point one 0) (point minusOne 0) (vector (bits large) (bits 0) (bits 0)))
 
-pub placing-holds : T (turned-before-moved && here-is-the-body && places-counted && places-in-order && heavier && whole-before-part)
+pub placing-holds :
+    T (turned-before-moved && here-is-the-body && places-counted && places-in-order && heavier && whole-before-part)
 unfolding ofBits toBits ofInt round add sub mul div neg lt le eq ne isNan absOf rootOf nearRoot mOf sinCosOf isRefused firstRefusal firstFrom every lengthWithin lengthCheck angleCheck turnTensor inertiaAboutOf rotatedOf inOrder sumsOf inertiaOf joinOf rotationOf rotate sweep sweeps insertMoment insertAll eigenvaluesOf largestMagnitude checkTensor placesCheck turnedCopy copyAt placedOf copiesCheck movedCheck withoutCheck
 placing-holds = tt

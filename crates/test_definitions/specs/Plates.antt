@@ -45,7 +45,8 @@ five = 0x4014_0000_0000_0000
 
 -- totals of strips that ended so
 abbrev totals : Ending → List ℕ → Integral
-totals ending value = record { ending = ending; totals = record { value = map bits value; intervals = 1; samples = 15 } }
+totals ending value =
+    record { ending = ending; totals = record { value = map bits value; intervals = 1; samples = 15 } }
 
 -- 8: "area or volume <= 0", of either zero and of no NaN, and behind 13; a refused one has no area
 abbrev pub zero-refused : Bool
@@ -61,7 +62,9 @@ zero-refused =
 -- (scale·t1)/t0: divided first, (1/0.7)·0.3 ends in db
 abbrev pub centroid-scaled-first : Bool
 centroid-scaled-first =
-    is (concludedArea (bits 0x3fd3_3333_3333_3333) (totals Accepted (0x3fe6_6666_6666_6666 ∷ one ∷ one ∷ [])) .«centroid_x_m») 0x3fdb_6db6_db6d_b6dc
+    is
+    (concludedArea (bits 0x3fd3_3333_3333_3333)
+    (totals Accepted (0x3fe6_6666_6666_6666 ∷ one ∷ one ∷ [])) .«centroid_x_m») 0x3fdb_6db6_db6d_b6dc
 
 -- a tab 1 high and 2 long behind an offset of 1, 1 thick, on a body of radius 3: it reaches inward, from radius 2;
 -- outward ∫r is 7
@@ -95,8 +98,12 @@ cant-of-zero =
 
 -- "None is added for zero mass": joined with nothing, 0.1 would be the f64 after it
 abbrev pub no-fillets-joined : Bool
-no-fillets-joined = is (withFillets fin emptyBody .«centre_m» .x) tenth && is (joinOf (λ k. fin) 1 .«centre_m» .x) nextTenth
+no-fillets-joined =
+    is (withFillets fin emptyBody .«centre_m» .x) tenth && is (joinOf (λ k. fin) 1 .«centre_m» .x) nextTenth
 
-pub plates-hold : T (zero-refused && centroid-scaled-first && tab-inward && density-behind-the-sum && cant-of-zero && no-fillets-joined)
+pub plates-hold :
+    T
+    (zero-refused && centroid-scaled-first && tab-inward && density-behind-the-sum && cant-of-zero
+    && no-fillets-joined)
 unfolding ofBits toBits ofInt round add sub mul div neg lt le eq ne inertiaAboutOf ofOriginTensor inOrder sumsOf inertiaOf joinOf tabIntegralsOf plateBody withFillets cantedOf firstRefusal concludedArea
 plates-hold = tt

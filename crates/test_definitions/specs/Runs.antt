@@ -10,7 +10,8 @@ use Rattle.floats.specs.Floats.{absOf}
 use Rattle.gauss_kronrod.specs.Tables.{nodes, kronrodWeights, gaussWeights}
 use Rattle.quadrature.specs.declared.Piece.{Piece}
 use Rattle.quadrature.specs.Rule.{heightsTo, weightedTo, heightsOf, pieceOf, zeros}
-use Rattle.tolerance.specs.Bounds.{totalOf, errorOf, absolute, relative, boundFor, converged, scoreOf, lastHighest, worstPlace, componentOf}
+use Rattle.tolerance.specs.Bounds.{totalOf, errorOf, absolute, relative, boundFor, converged, scoreOf, lastHighest}
+use Rattle.tolerance.specs.Bounds.{worstPlace, componentOf}
 use Rattle.halving.specs.declared.Ending.{Ending}
 use Rattle.halving.specs.declared.Ending.the-variants.{Accepted, NotConverged}
 use Rattle.halving.specs.Halving.{Halved, repeat, halving}
@@ -43,7 +44,8 @@ stepAt height h = bits (cond (lt h (bits height)) 0 one) ∷ []
 abbrev pub samples-in-order : Bool
 samples-in-order =
     eqb (length (heightsOf (bits 0xbff0_0000_0000_0000) (bits one))) 15
-    && are (take 3 (heightsOf (bits 0xbff0_0000_0000_0000) (bits one))) (0 ∷ 0xbfef_ba00_9d4d_09b1 ∷ 0x3fef_ba00_9d4d_09b1 ∷ [])
+    && are (take 3 (heightsOf (bits 0xbff0_0000_0000_0000) (bits one)))
+    (0 ∷ 0xbfef_ba00_9d4d_09b1 ∷ 0x3fef_ba00_9d4d_09b1 ∷ [])
 
 -- "half its width × the Kronrod sum": of a step at 0, from −1 to 1; the Gauss sum gives 3ff357fafc0785f5
 abbrev pub value-from-kronrod : Bool
@@ -101,17 +103,20 @@ endsOf (p ∷ pieces) = p .start ∷ p .end ∷ endsOf pieces
 abbrev pub cut-in-the-middle : Bool
 cut-in-the-middle =
     let strip = halving 1 (stepAt 0x3fd5_5555_5555_5555) (bits 0) (bits one) 2 in
-    not (endsAccepted (strip .ending)) && are (endsOf (strip .pieces)) (0 ∷ half ∷ half ∷ one ∷ []) && eqb (length (strip .heights)) 45
+    not (endsAccepted (strip .ending)) && are (endsOf (strip .pieces)) (0 ∷ half ∷ half ∷ one ∷ [])
+    && eqb (length (strip .heights)) 45
 
 -- a sum that is a NaN is over its bound; the middle of two neighbours equals an end, so that nothing is cut
 abbrev pub middle-at-an-end : Bool
 middle-at-an-end =
     let strip = halving 1 (λ h. nan ∷ []) (bits one) (bits afterOne) 8 in
-    not (endsAccepted (strip .ending)) && are (endsOf (strip .pieces)) (one ∷ afterOne ∷ []) && eqb (length (strip .heights)) 15
+    not (endsAccepted (strip .ending)) && are (endsOf (strip .pieces)) (one ∷ afterOne ∷ [])
+    && eqb (length (strip .heights)) 15
 
 -- a strip's ends are break heights over the scale: from 1 to 2 at scale 2
 abbrev scaledRun : Run
-scaledRun = record { width = 1; integrand = stepAt 0; limit = 8; scale = bits two; heights = map bits (0 ∷ one ∷ two ∷ []) }
+scaledRun =
+    record { width = 1; integrand = stepAt 0; limit = 8; scale = bits two; heights = map bits (0 ∷ one ∷ two ∷ []) }
 
 abbrev pub ends-over-the-scale : Bool
 ends-over-the-scale = is (stripAt scaledRun 1 .lower) half && is (stripAt scaledRun 1 .upper) one

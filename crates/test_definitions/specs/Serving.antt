@@ -31,7 +31,9 @@ use Rattle.engines.specs.declared.Screens.{Screens}
 use Rattle.engines.specs.declared.Engine.{Engine}
 use Rattle.engines.specs.declared.Called.{Called}
 use Rattle.engines.specs.NoJob.{noJob}
-use Rattle.engines.specs.Engines.{placeOf, holdsJob, isFree, firstHeld, nextScreen, pickOf, withHeld, servedScreen, stepped, servedOf, submittedOf, changedOf, turnOf, turnedRow, submitOf, changeAt, toldOf, progressAt}
+use Rattle.engines.specs.Engines.{placeOf, holdsJob, isFree, firstHeld, nextScreen, pickOf, withHeld, servedScreen}
+use Rattle.engines.specs.Engines.{stepped, servedOf, submittedOf, changedOf, turnOf, turnedRow, submitOf, changeAt}
+use Rattle.engines.specs.Engines.{toldOf, progressAt}
 use Rattle.engines.specs.Calls.{Call, turn, afterCalls, servedOver}
 use Rattle.test_definitions.specs.Rows.{is, same, refused}
 
@@ -43,7 +45,16 @@ waiting = noJob
 
 -- one that has ended: a step repeats its answer
 abbrev over : Job
-over = record { set = noJob .set; points = noJob .points; limit = 1; next = 0; totals = record { value = []; intervals = 0; samples = 7 }; ended = true; outcome = bareFigures Accepted 7 }
+over =
+    record {
+      set = noJob .set;
+      points = noJob .points;
+      limit = 1;
+      next = 0;
+      totals = record { value = []; intervals = 0; samples = 7 };
+      ended = true;
+      outcome = bareFigures Accepted 7;
+    }
 
 -- eight screens of which these hold a job, 1 for each that does
 abbrev marks : List ℕ → List Bool
@@ -157,7 +168,8 @@ busy-first =
 
 -- a set that is refused leaves the screen free
 abbrev pub refused-stays-free : Bool
-refused-stays-free = refused 1 [] (submitted empty 1 65 .reply .verdict) && not (holdsJob (submitted empty 1 65 .engine .screens) 1)
+refused-stays-free =
+    refused 1 [] (submitted empty 1 65 .reply .verdict) && not (holdsJob (submitted empty 1 65 .engine .screens) 1)
 
 abbrev densityBits : Density → ℕ → Bool
 densityBits (Bulk x) b = is x b
@@ -183,7 +195,10 @@ own-progress =
     && eqb (progressAt two 9 .strips) 0
     && eqb (progressAt (engineOf (1 ∷ 0 ∷ 0 ∷ 0 ∷ 0 ∷ 0 ∷ 0 ∷ 0 ∷ []) 0 over) 1 .samples) 7
 
-pub serving-holds : T (from-the-next && from-screen-one && eight-turns && short-turn && turns-told && ended-frees && busy-first && refused-stays-free && own-density)
+pub serving-holds :
+    T
+    (from-the-next && from-screen-one && eight-turns && short-turn && turns-told && ended-frees && busy-first
+    && refused-stays-free && own-density)
 unfolding ofBits toBits ofInt add sub mul div neg lt le eq ne absOf isRefused firstRefusal firstFrom every lengthWithin lengthCheck angleCheck scratchCheck densityCheck tabCheck depthCheck isNone isSound ratioCheck rootChordOf planformCheck ownCheck steppedOn stepOf changeOf makingCheck madeOf placeOf holdsJob isFree firstHeld nextScreen pickOf withHeld servedOf submittedOf changedOf turnOf submitOf changeAt servedOver inTurn
 serving-holds = tt
 

@@ -106,7 +106,8 @@ heights-above =
 abbrev pub outline-crossings : Bool
 outline-crossings =
     are (endsAt Outline triangle (bits d2)) (0x3fc9_9999_9999_9999 ∷ 0x3fd1_1111_1111_1111 ∷ [])
-    && are (endsAt Outline teeth (bits d2)) (0x3fb1_1111_1111_1112 ∷ 0x3fc3_3333_3333_3333 ∷ 0x3fd0_0000_0000_0000 ∷ 0x3fd5_5555_5555_5555 ∷ [])
+    && are (endsAt Outline teeth (bits d2))
+    (0x3fb1_1111_1111_1112 ∷ 0x3fc3_3333_3333_3333 ∷ 0x3fd0_0000_0000_0000 ∷ 0x3fd5_5555_5555_5555 ∷ [])
     && are (endsAt Outline teeth (bits d3)) []
     && eqb (length (chordsAt Outline teeth (bits d2))) 2
 
@@ -143,10 +144,14 @@ touching-segments =
 -- each section of the chord from 0.1 to 0.4 at thickness 0.05; a chord from 0.4 to 0.1 weighs nothing
 abbrev pub section-moments : Bool
 section-moments =
-    are (chordMoments Square (bits d1) (bits d4) (bits d05)) (0x3f8e_b851_eb85_1eba ∷ 0x3f6e_b851_eb85_1eba ∷ 0x3f51_3404_ea4a_8c17 ∷ 0x3eca_36e2_eb1c_4330 ∷ [])
-    && are (chordMoments Rounded (bits d1) (bits d4) (bits d05)) (0x3f8d_9f09_7e1f_6362 ∷ 0x3f6d_9f09_7e1f_6362 ∷ 0x3f50_7865_9ff1_bca4 ∷ 0x3ec8_6b3e_bc94_6e08 ∷ [])
-    && are (chordMoments Airfoil (bits d1) (bits d4) (bits d05)) (0x3f84_eaaf_35e3_10dd ∷ 0x3f62_db11_332e_2ab7 ∷ 0x3f42_a2a0_da6e_2c60 ∷ 0x3eb8_aca4_e1fa_935d ∷ [])
-    && are (chordMoments AirfoilOpen (bits d1) (bits d4) (bits d05)) (0x3f85_0bb6_ed67_7709 ∷ 0x3f63_094f_341a_b9c1 ∷ 0x3f42_e44f_a673_fedd ∷ 0x3eb8_cb03_e95a_9fb5 ∷ [])
+    are (chordMoments Square (bits d1) (bits d4) (bits d05))
+    (0x3f8e_b851_eb85_1eba ∷ 0x3f6e_b851_eb85_1eba ∷ 0x3f51_3404_ea4a_8c17 ∷ 0x3eca_36e2_eb1c_4330 ∷ [])
+    && are (chordMoments Rounded (bits d1) (bits d4) (bits d05))
+    (0x3f8d_9f09_7e1f_6362 ∷ 0x3f6d_9f09_7e1f_6362 ∷ 0x3f50_7865_9ff1_bca4 ∷ 0x3ec8_6b3e_bc94_6e08 ∷ [])
+    && are (chordMoments Airfoil (bits d1) (bits d4) (bits d05))
+    (0x3f84_eaaf_35e3_10dd ∷ 0x3f62_db11_332e_2ab7 ∷ 0x3f42_a2a0_da6e_2c60 ∷ 0x3eb8_aca4_e1fa_935d ∷ [])
+    && are (chordMoments AirfoilOpen (bits d1) (bits d4) (bits d05))
+    (0x3f85_0bb6_ed67_7709 ∷ 0x3f63_094f_341a_b9c1 ∷ 0x3f42_e44f_a673_fedd ∷ 0x3eb8_cb03_e95a_9fb5 ∷ [])
     && are (chordMoments Square (bits d4) (bits d1) (bits d05)) (0 ∷ 0 ∷ 0 ∷ 0 ∷ [])
 
 -- at the scaled height 0.25, with one chord and with two: "an area run uses three of the seven, the rest zero"
@@ -156,18 +161,25 @@ sampled planform points = sampleOf (areaIntegrand planform points) points quarte
 abbrev pub area-values : Bool
 area-values =
     are (sampled plate []) (0x3fd9_e79e_79e7_9e7a ∷ 0x3fbd_9afe_422d_4768 ∷ 0x3fb9_e79e_79e7_9e7a ∷ 0 ∷ 0 ∷ 0 ∷ 0 ∷ [])
-    && are (sampled Outline teeth) (0x3fd3_0c30_c30c_30c5 ∷ 0x3fb5_c4ca_037b_a573 ∷ 0x3fb3_0c30_c30c_30c5 ∷ 0 ∷ 0 ∷ 0 ∷ 0 ∷ [])
-    && are (areaThree Outline teeth quarter) (0x3fd3_0c30_c30c_30c5 ∷ 0x3fb5_c4ca_037b_a573 ∷ 0x3fb3_0c30_c30c_30c5 ∷ [])
+    && are (sampled Outline teeth)
+    (0x3fd3_0c30_c30c_30c5 ∷ 0x3fb5_c4ca_037b_a573 ∷ 0x3fb3_0c30_c30c_30c5 ∷ 0 ∷ 0 ∷ 0 ∷ 0 ∷ [])
+    && are (areaThree Outline teeth quarter)
+    (0x3fd3_0c30_c30c_30c5 ∷ 0x3fb5_c4ca_037b_a573 ∷ 0x3fb3_0c30_c30c_30c5 ∷ [])
 
 -- at thickness 0.03 and body radius 0.05: "Every length of a strip, thickness and body radius too, is divided by root
 -- chord plus span"
 abbrev pub plate-values : Bool
 plate-values =
     are (plateOf plate [] Square (bits d03) (bits d05) quarter)
-    (0x3f91_c365_5ae7_f7a4 ∷ 0x3f76_d6a6_e297_f541 ∷ 0x3f5d_5d1f_b59e_cd9e ∷ 0x3f74_4d06_1ebf_f673 ∷ 0x3f5b_14cd_69b2_8841 ∷ 0x3f5a_19e3_4c1b_6170 ∷ 0x3ec6_45e0_ae2b_d843 ∷ [])
+    (0x3f91_c365_5ae7_f7a4 ∷ 0x3f76_d6a6_e297_f541 ∷ 0x3f5d_5d1f_b59e_cd9e ∷ 0x3f74_4d06_1ebf_f673 ∷
+    0x3f5b_14cd_69b2_8841 ∷ 0x3f5a_19e3_4c1b_6170 ∷ 0x3ec6_45e0_ae2b_d843 ∷ [])
     && are (plateOf Outline teeth Square (bits d03) (bits d05) quarter)
-    (0x3f8a_1f58_d0fa_c68a ∷ 0x3f70_cb02_3d33_7fa2 ∷ 0x3f55_974c_058b_5af6 ∷ 0x3f6d_daae_a5b0_e2e7 ∷ 0x3f54_de2b_4dee_d67a ∷ 0x3f53_3127_215f_6d4c ∷ 0x3ec0_608e_9e2f_4c33 ∷ [])
+    (0x3f8a_1f58_d0fa_c68a ∷ 0x3f70_cb02_3d33_7fa2 ∷ 0x3f55_974c_058b_5af6 ∷ 0x3f6d_daae_a5b0_e2e7 ∷
+    0x3f54_de2b_4dee_d67a ∷ 0x3f53_3127_215f_6d4c ∷ 0x3ec0_608e_9e2f_4c33 ∷ [])
 
-pub shapes-hold : T (sorted-lists && outline-lengths && break-heights && heights-above && outline-crossings && chords-listed && touching-segments && section-moments && area-values && plate-values)
+pub shapes-hold :
+    T
+    (sorted-lists && outline-lengths && break-heights && heights-above && outline-crossings && chords-listed
+    && touching-segments && section-moments && area-values && plate-values)
 unfolding ofBits toBits ofInt round add sub mul div neg lt le eq ne absOf belowAll insert sorted largestHeight rootChordOf spanOf heights everyY once breakHeights placeAbove oneStrip crossed crossings outlineCrossings endsAt paired isInBox segmentsTouch airfoilConstants chordMoments lengthWithin lengthCheck firstRefusal firstFrom planformCheck endsIn chordsCall scaleOf sumsFrom sampleOf areaThree plateOf
 shapes-hold = tt

@@ -27,7 +27,8 @@ use Rattle.fins.specs.declared.FinSet.{FinSet}
 use Rattle.fins.specs.declared.Tab.the-variants.{None}
 use Rattle.gauss_kronrod.specs.Tables.{nodes, kronrodWeights, gaussWeights}
 use Rattle.quadrature.specs.Rule.{heightsTo, weightedTo, pieceOf, zeros}
-use Rattle.tolerance.specs.Bounds.{totalOf, errorOf, absolute, relative, converged, scoreOf, lastHighest, worstPlace, componentOf}
+use Rattle.tolerance.specs.Bounds.{totalOf, errorOf, absolute, relative, converged, scoreOf, lastHighest, worstPlace}
+use Rattle.tolerance.specs.Bounds.{componentOf}
 use Rattle.halving.specs.declared.Ending.{Ending}
 use Rattle.halving.specs.declared.Ending.the-variants.{Accepted, NotConverged}
 use Rattle.halving.specs.Halving.{repeat, halving}
@@ -41,7 +42,8 @@ use Rattle.jobs.specs.declared.Stepped.{Stepped}
 use Rattle.jobs.specs.declared.Progress.{Progress}
 use Rattle.jobs.specs.declared.Progress.the-variants.{Short, More, Ended}
 use Rattle.jobs.specs.declared.Row.{Row}
-use Rattle.jobs.specs.Jobs.{pointsOf, stepRow, outcomeOf, afterStrip, steppedOn, stepOf, changeOf, countBelow, progressOf}
+use Rattle.jobs.specs.Jobs.{pointsOf, stepRow, outcomeOf, afterStrip, steppedOn, stepOf, changeOf, countBelow}
+use Rattle.jobs.specs.Jobs.{progressOf}
 use Rattle.jobs.specs.Calls.{isTaken}
 use Rattle.test_definitions.specs.Rows.{is, are, same, refused}
 
@@ -193,7 +195,12 @@ density-left =
 
 -- "Until the job ends, with its last strip or one refused": of totals with strips left, with none left, and refused
 abbrev totals : Ending → Bool → Onward
-totals ending more = record { total = record { ending = ending; totals = record { value = zeros; intervals = 2; samples = 30 } }; next = 1; more = more }
+totals ending more =
+    record {
+      total = record { ending = ending; totals = record { value = zeros; intervals = 2; samples = 30 } };
+      next = 1;
+      more = more;
+    }
 
 abbrev pub job-ends : Bool
 job-ends =
@@ -206,7 +213,8 @@ job-ends =
 -- of a set that no making took: 3, then 12, then what the strips come to, with their samples
 abbrev pub asked-again : Bool
 asked-again =
-    let answer : ℕ → Density → Figures = λ count density. outcomeOf (setOf count density) points (totals (NotConverged 3) false .total) in
+    let answer : ℕ → Density → Figures =
+    λ count density. outcomeOf (setOf count density) points (totals (NotConverged 3) false .total) in
     refused 3 [] (answer 33 (Line (bits one)) .verdict)
     && refused 3 [] (answer 0 plywood .verdict)
     && refused 12 [] (answer 32 (Line (bits one)) .verdict)
@@ -219,18 +227,22 @@ asked-again =
 -- which stands after 0, the span and the last point's
 abbrev pub one-strip-a-step : Stepped → Bool
 one-strip-a-step s =
-    isMore (s .progress) && eqb (stepRow (s .progress) (s .job) .number) 1000 && eqb (s .job .next) 3 && eqb (s .job .totals .samples) 15 && eqb (s .job .totals .intervals) 1 && not (s .job .ended)
+    isMore (s .progress) && eqb (stepRow (s .progress) (s .job) .number) 1000 && eqb (s .job .next) 3
+    && eqb (s .job .totals .samples) 15 && eqb (s .job .totals .intervals) 1 && not (s .job .ended)
 
 -- "the sums and totals over those worked": the last strip's are added to those of the record, whose first is 1; and
 -- the job has come to the place of the span
 abbrev pub sums-go-on : Stepped → Bool
-sums-go-on s = isEnded (s .progress) && s .job .ended && eqb (s .job .next) 1 && eqb (s .job .totals .samples) 30 && eqb (s .job .totals .intervals) 2 && lt (bits one) (at (s .job .totals .value) 0)
+sums-go-on s =
+    isEnded (s .progress) && s .job .ended && eqb (s .job .next) 1 && eqb (s .job .totals .samples) 30
+    && eqb (s .job .totals .intervals) 2 && lt (bits one) (at (s .job .totals .value) 0)
 
 -- "A step writes its own strip's pieces from the start of the scratch lent to it and leaves the rest", the last step
 -- too
 abbrev pub last-strip-written : List Float → Bool
 last-strip-written scratch =
-    eqb (length scratch) 128 && are (take 2 scratch) (third ∷ 0x3fe5_5555_5555_5555 ∷ []) && are (take 2 (drop 16 scratch)) (one ∷ one ∷ [])
+    eqb (length scratch) 128 && are (take 2 scratch) (third ∷ 0x3fe5_5555_5555_5555 ∷ [])
+    && are (take 2 (drop 16 scratch)) (one ∷ one ∷ [])
 
 pub calls-hold : T (short-step && repeats && no-limit && density-taken && density-left && job-ends && asked-again)
 unfolding ofBits toBits ofInt round add sub mul div lt le eq ne absOf every belowAll insert sorted isRefused firstRefusal scratchCheck densityCheck chordMoments largestHeight rootChordOf spanOf heights everyY placeAbove crossed crossings outlineCrossings endsAt paired scaleOf sumsFrom sampleOf plateOf nodes kronrodWeights gaussWeights heightsTo weightedTo pieceOf totalOf errorOf absolute relative converged scoreOf lastHighest worstPlace componentOf repeat halving withStrip onwardOf outcomeOf concludedSet afterStrip steppedOn stepOf changeOf
@@ -257,10 +269,12 @@ pub first-step-holds : T (let s = stepOf (worked 0 0 0 zeros) 128 .answer in one
 unfolding ofBits toBits ofInt round add sub mul div lt le eq ne absOf every belowAll insert sorted isRefused firstRefusal scratchCheck densityCheck chordMoments largestHeight rootChordOf spanOf heights everyY placeAbove crossed crossings outlineCrossings endsAt paired scaleOf sumsFrom sampleOf plateOf nodes kronrodWeights gaussWeights heightsTo weightedTo pieceOf totalOf errorOf absolute relative converged scoreOf lastHighest worstPlace componentOf repeat halving withStrip onwardOf outcomeOf concludedSet afterStrip steppedOn stepOf changeOf
 first-step-holds = tt
 
-pub last-step-holds : T (let s = stepOf (worked 1 3 15 (map bits (one ∷ 0 ∷ 0 ∷ 0 ∷ 0 ∷ 0 ∷ 0 ∷ []))) 128 .answer in sums-go-on s)
+pub last-step-holds :
+    T (let s = stepOf (worked 1 3 15 (map bits (one ∷ 0 ∷ 0 ∷ 0 ∷ 0 ∷ 0 ∷ 0 ∷ []))) 128 .answer in sums-go-on s)
 unfolding ofBits toBits ofInt round add sub mul div lt le eq ne absOf every belowAll insert sorted isRefused firstRefusal scratchCheck densityCheck chordMoments largestHeight rootChordOf spanOf heights everyY placeAbove crossed crossings outlineCrossings endsAt paired scaleOf sumsFrom sampleOf plateOf nodes kronrodWeights gaussWeights heightsTo weightedTo pieceOf totalOf errorOf absolute relative converged scoreOf lastHighest worstPlace componentOf repeat halving withStrip onwardOf outcomeOf concludedSet afterStrip steppedOn stepOf changeOf
 last-step-holds = tt
 
-pub last-scratch-holds : T (let scratch = stepOf (worked 1 3 15 zeros) 128 .leaves (replicate 128 (bits one)) in last-strip-written scratch)
+pub last-scratch-holds :
+    T (let scratch = stepOf (worked 1 3 15 zeros) 128 .leaves (replicate 128 (bits one)) in last-strip-written scratch)
 unfolding ofBits toBits ofInt round add sub mul div lt le eq ne absOf every belowAll insert sorted isRefused firstRefusal scratchCheck densityCheck chordMoments largestHeight rootChordOf spanOf heights everyY placeAbove crossed crossings outlineCrossings endsAt paired scaleOf sumsFrom sampleOf plateOf nodes kronrodWeights gaussWeights heightsTo weightedTo pieceOf totalOf errorOf absolute relative converged scoreOf lastHighest worstPlace componentOf repeat halving withStrip onwardOf outcomeOf concludedSet afterStrip steppedOn stepOf changeOf
 last-scratch-holds = tt

@@ -15,19 +15,24 @@ use Rattle.hex.specs.Hex as hex
 use Rattle.counts.specs.Counts as counts
 use Rattle.tokens.specs.Text.{text, codes}
 use Rattle.tokens.specs.Tokens.{tokensAfter, tokens}
-use Rattle.figure_words.specs.FigureWords.{leadingDigits, behindDigits, numberFrom, unsignedFigure, decimalFigure, figureWord}
+use Rattle.figure_words.specs.FigureWords.{leadingDigits, behindDigits, numberFrom, unsignedFigure, decimalFigure}
+use Rattle.figure_words.specs.FigureWords.{figureWord}
 use Rattle.templates.specs.Matching.{isWordByte, isWord, takeWord, takeOne, takeToken, takeTokens, takeText, firstOf}
 use Rattle.materials.specs.declared.Density.the-variants.{Bulk}
 use Rattle.materials.specs.Numbered.{numberedDensity}
 use Rattle.reading.specs.declared.Asked.{Asked}
-use Rattle.reading.specs.declared.Asked.the-variants.{Refused as RefusedAsked, Set as SetAsked, Area as AreaAsked, Join as JoinAsked, Moments as MomentsAsked, Check as CheckAsked}
-use Rattle.reading.specs.declared.Asked.the-variants.{Tubes as TubesAsked, Closing as ClosingAsked, Drill as DrillAsked, Copied as CopiedAsked, Placed as PlacedAsked, Moved as MovedAsked}
-use Rattle.reading.specs.declared.Asked.the-variants.{Without as WithoutAsked, Submit as SubmitAsked, Density as DensityAsked, Turn as TurnAsked}
+use Rattle.reading.specs.declared.Asked.the-variants.{Refused as RefusedAsked, Set as SetAsked, Area as AreaAsked}
+use Rattle.reading.specs.declared.Asked.the-variants.{Join as JoinAsked, Moments as MomentsAsked, Check as CheckAsked}
+use Rattle.reading.specs.declared.Asked.the-variants.{Tubes as TubesAsked, Closing as ClosingAsked, Drill as DrillAsked}
+use Rattle.reading.specs.declared.Asked.the-variants.{Copied as CopiedAsked, Placed as PlacedAsked, Moved as MovedAsked}
+use Rattle.reading.specs.declared.Asked.the-variants.{Without as WithoutAsked, Submit as SubmitAsked}
+use Rattle.reading.specs.declared.Asked.the-variants.{Density as DensityAsked, Turn as TurnAsked}
 use Rattle.reading.specs.Parts.{takeDensity}
 use Rattle.reading.specs.Lines.{closingRead, densityRead, plainRead, pickForm, formNamed, lineRead}
 use Rattle.answers.specs.Filled.{filled}
 use Rattle.answers.specs.declared.Shape.{Shape}
-use Rattle.answers.specs.declared.Shape.the-variants.{Area, Joined, Moments, Sound, Taken, Idle, More, Done, DoneRefused, Progress, Refused as RefusedShape}
+use Rattle.answers.specs.declared.Shape.the-variants.{Area, Joined, Moments, Sound, Taken, Idle, More, Done}
+use Rattle.answers.specs.declared.Shape.the-variants.{DoneRefused, Progress, Refused as RefusedShape}
 use Rattle.answers.specs.Answers.{textOf, reply}
 use Rattle.test_definitions.specs.Rows.{is, same}
 
@@ -68,11 +73,14 @@ figure-words =
 
 -- a tie goes to the even last bit; digits as one f64, then divided, end in 5d
 abbrev pub nearest-to-decimals : Bool
-nearest-to-decimals = figure 0x4340_0000_0000_0000 "9007199254740993.0" && figure 0x430a_8304_6267_065e "932800531062987.7"
+nearest-to-decimals =
+    figure 0x4340_0000_0000_0000 "9007199254740993.0" && figure 0x430a_8304_6267_065e "932800531062987.7"
 
 -- "A word is a run of the bytes 33 to 126 other than brackets"
 abbrev pub word-bytes : Bool
-word-bytes = isWordByte 33 && isWordByte 126 && not (isWordByte 127) && not (isWordByte 32) && not (isWordByte 40) && not (isWordByte 41)
+word-bytes =
+    isWordByte 33 && isWordByte 126 && not (isWordByte 127) && not (isWordByte 32) && not (isWordByte 40)
+    && not (isWordByte 41)
 
 abbrev sameTokens : List (List ℕ) → List (List ℕ) → Bool
 sameTokens [] [] = true
@@ -140,7 +148,8 @@ abbrev pub answers-printed : Bool
 answers-printed =
     prints RefusedShape [] (18 ∷ []) (text "(refused 18)")
     && prints Sound [] [] (text "(sound)")
-    && prints Moments (bits 1 ∷ bits 2 ∷ bits 3 ∷ []) [] (text "(moments 0000000000000001 0000000000000002 0000000000000003)")
+    && prints Moments (bits 1 ∷ bits 2 ∷ bits 3 ∷ []) []
+    (text "(moments 0000000000000001 0000000000000002 0000000000000003)")
     && prints Area (bits 1 ∷ bits 2 ∷ bits 3 ∷ []) (4 ∷ 105 ∷ [])
     (text "(area (area 0000000000000001) (centroid 0000000000000002 0000000000000003) (intervals 4) (samples 105))")
     && prints Joined (tabulate 10 (λ i. bits i)) []
@@ -163,6 +172,8 @@ unfolding ofBits toBits round isNan eq text codes tokensAfter leadingDigits behi
 density-line = refl
 
 pub texts-hold :
-    T (figure-words && nearest-to-decimals && word-bytes && tokens-cut && no-form-first && engine-lines && answers-printed && engine-answers)
+    T
+    (figure-words && nearest-to-decimals && word-bytes && tokens-cut && no-form-first && engine-lines
+    && answers-printed && engine-answers)
 unfolding ofBits toBits round isNan eq text codes tokensAfter leadingDigits behindDigits numberFrom unsignedFigure decimalFigure figureWord isWord takeWord takeOne takeToken takeTokens takeText firstOf takeDensity numberedDensity closingRead densityRead plainRead pickForm formNamed lineRead filled textOf hex.figureOf hex.readDigits hex.digits hex.figureText counts.countOf counts.readDigits counts.digits counts.countText
 texts-hold = tt

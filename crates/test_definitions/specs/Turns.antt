@@ -44,7 +44,9 @@ start = symmetric (bits one) (bits one) (bits three) (bits 0x3fb9_9999_9999_999a
 -- after one turn yz has the bits of neither side
 abbrev pub half-the-sum : Bool
 half-the-sum =
-    are (turnTensor start aboutX .0) (one ∷ 0x3ff8_72b0_20c4_9ba5 ∷ 0x4003_c6a7_ef9d_b22e ∷ 0x3fb4_7ae1_47ae_147c ∷ 0x3fae_b851_eb85_1eb8 ∷ 0xbfec_ed91_6872_b020 ∷ [])
+    are (turnTensor start aboutX .0)
+    (one ∷ 0x3ff8_72b0_20c4_9ba5 ∷ 0x4003_c6a7_ef9d_b22e ∷ 0x3fb4_7ae1_47ae_147c ∷ 0x3fae_b851_eb85_1eb8 ∷
+    0xbfec_ed91_6872_b020 ∷ [])
     && is (entry (turnMatrix (asMatrix start) aboutX) 1 2) 0xbfec_ed91_6872_b01f
     && is (entry (turnMatrix (asMatrix start) aboutX) 2 1) 0xbfec_ed91_6872_b022
 

@@ -23,7 +23,9 @@ pub record IsFound (line : List ℕ) (at : ℕ) (r : Found) : Type 0 where
 pub record IsWordEnd (line : List ℕ) (at r : ℕ) : Type 0 where
   pub behind : at ≤ r
   pub within : r ≤ length line
-  pub ends : at < length line → endsWord (getD line at 0) ≡ false → (at < r) × (tokens (drop at line) ≡ part line at r ∷ tokens (drop r line))
+  pub ends :
+      at < length line → endsWord (getD line at 0) ≡ false
+      → (at < r) × (tokens (drop at line) ≡ part line at r ∷ tokens (drop r line))
 
 -- the first place with no space
 pub record IsPastSpaces (line : List ℕ) (at r : ℕ) : Type 0 where

@@ -12,14 +12,19 @@ use Rattle.tolerance.specs.declared.Seen.{Seen}
 
 -- the sums with one piece more
 unfoldable pub withPiece : Sums → Piece → Sums
-withPiece sums p = record { value = tabulate 7 (λ k. at (sums .value) k ⊕ at (p .value) k); error = tabulate 7 (λ k. at (sums .error) k ⊕ at (p .error) k) }
+withPiece sums p =
+    record {
+      value = tabulate 7 (λ k. at (sums .value) k ⊕ at (p .value) k);
+      error = tabulate 7 (λ k. at (sums .error) k ⊕ at (p .error) k);
+    }
 
 abbrev pub sumsOf : List Piece → Sums
 sumsOf pieces = record { value = tabulate 7 (totalOf pieces); error = tabulate 7 (errorOf pieces) }
 
 -- the highest number so far and its place, with one place more
 unfoldable pub higherOf : Highest → Float → ℕ → Highest
-higherOf highest number place = cond (ne number number || le (highest .number) number) (record { number = number; place = place }) highest
+higherOf highest number place =
+    cond (ne number number || le (highest .number) number) (record { number = number; place = place }) highest
 
 -- 1e-300 and 1e300: between them a bound is above 0 and finite
 abbrev pub smallest : Float
@@ -40,5 +45,15 @@ unfoldable pub seenWith : Seen → Piece → List Float → Bool → ℕ → See
 seenWith seen p b ordered place =
     cond (ordered && every 7 (λ k. le (at (p .error) k) (at (seen .errors) k))) seen
     (cond (le (scoreOf 7 (at b) p) (seen .number))
-    (record { number = seen .number; place = seen .place; errors = tabulate 7 (λ k. largerError (at (seen .errors) k) (at (p .error) k)) })
-    (record { number = scoreOf 7 (at b) p; place = place; errors = tabulate 7 (λ k. largerError (at (seen .errors) k) (at (p .error) k)) }))
+    (record {
+      number =
+          seen .number;
+      place = seen .place;
+      errors = tabulate 7 (λ k. largerError (at (seen .errors) k) (at (p .error) k));
+    })
+    (record {
+      number =
+          scoreOf 7 (at b) p;
+      place = place;
+      errors = tabulate 7 (λ k. largerError (at (seen .errors) k) (at (p .error) k));
+    }))

@@ -76,7 +76,8 @@ byQuarter (suc (suc (suc k))) s c = record { sin = neg c; cos = s }
 
 unfoldable pub sinCosOf : Float → SinCos
 unfolding mOf steps quarterOf
-sinCosOf f = let q = quarterTurns f in let r = reduced f (mOf q) in byQuarter (quarterOf q) (sineSeries r) (cosineSeries r)
+sinCosOf f =
+    let q = quarterTurns f in let r = reduced f (mOf q) in byQuarter (quarterOf q) (sineSeries r) (cosineSeries r)
 
 abbrev pub sinOf : Float → Float
 sinOf f = sinCosOf f .sin

@@ -7,7 +7,8 @@ ghost use mathlib.Core.Path.{_≡_};
 ghost use Prim.Native.Nat.{_-_, _*_, _^_, _≤_, _<_};
 ghost use lib.Ieee.{binary64, ofInt};
 ghost use Rattle.floats.specs.Operations.{_⊗_, whole, at};
-ghost use Rattle.trig.specs.Trig.{nearestWhole, signed, mOf, steps, sineDivisors, cosineDivisors, modFour, quarterOf, byQuarter, sinOf, cosOf};
+ghost use Rattle.trig.specs.Trig.{nearestWhole, signed, mOf, steps, sineDivisors, cosineDivisors, modFour};
+ghost use Rattle.trig.specs.Trig.{quarterOf, byQuarter, sinOf, cosOf};
 
 const TWO_OVER_PI: f64 = 0.6366197723675814;
 

@@ -40,4 +40,5 @@ unlessRefused (Refused refusal) radius = refusedRadius refusal
 
 -- "count 0 or over 32 is refused 3, then a bad body radius 4"
 unfoldable pub closingOf : Float → ℕ → ClosingRadius
-closingOf radius count = unlessRefused (firstOf (countCheck count ∷ lengthCheck bodyRadiusField radius ∷ [])) (closingValue radius count)
+closingOf radius count =
+    unlessRefused (firstOf (countCheck count ∷ lengthCheck bodyRadiusField radius ∷ [])) (closingValue radius count)

@@ -11,7 +11,8 @@ use Rattle.bodies.specs.Bodies.{translatedOf}
 use Rattle.refusals.specs.declared.Refusal.the-variants.{Length, WallOverRadius}
 use Rattle.refusals.specs.declared.Verdict.{Verdict}
 use Rattle.refusals.specs.Order.{refuseUnless, refuseWhen, firstOf}
-use Rattle.limits.specs.Limits.{thicknessField, bodyRadiusField, baseAngleField, tubeLengthField, outerRadiusField, lengthWithin, lengthCheck, angleCheck, countCheck}
+use Rattle.limits.specs.Limits.{thicknessField, bodyRadiusField, baseAngleField, tubeLengthField, outerRadiusField}
+use Rattle.limits.specs.Limits.{lengthWithin, lengthCheck, angleCheck, countCheck}
 use Rattle.materials.specs.Materials.{densityCheck}
 use Rattle.materials.specs.Numbered.{densityFigure}
 use Rattle.joins.specs.declared.Joined.{Joined}
@@ -57,7 +58,8 @@ hollowCylinder kgPerM3 length outer wall =
 -- the first tube at roll 0: its axis at body radius + outer radius; a density that is taken is bulk
 unfoldable pub tubeAt : TubeFinSet → Float → Body
 tubeAt set radius =
-    translatedOf (hollowCylinder (densityFigure (set .density)) (set .«length_m») (set .«outer_radius_m») (set .«thickness_m»))
+    translatedOf
+    (hollowCylinder (densityFigure (set .density)) (set .«length_m») (set .«outer_radius_m») (set .«thickness_m»))
     (vector (radius ⊕ set .«outer_radius_m») (bits 0) (bits 0))
 
 -- "the wall takes 7 and may be zero"
@@ -67,7 +69,8 @@ wallCheck wall = refuseUnless (lengthWithin true false wall) (Length thicknessFi
 -- "count, body radius, base angle, density"
 abbrev pub mountChecks : TubeFinSet → Float → List Verdict
 mountChecks set radius =
-    countCheck (set .count) ∷ lengthCheck bodyRadiusField radius ∷ angleCheck baseAngleField (set .«base_angle_rad») ∷ densityCheck (set .density) ∷ []
+    countCheck (set .count) ∷ lengthCheck bodyRadiusField radius ∷ angleCheck baseAngleField (set .«base_angle_rad») ∷
+    densityCheck (set .density) ∷ []
 
 unfoldable pub mountCheck : TubeFinSet → Float → Verdict
 mountCheck set radius = firstOf (mountChecks set radius)
@@ -85,4 +88,5 @@ tubeCheck set radius =
 
 -- the ring of the fins: a tube is turned although it is round
 abbrev pub tubesOf : TubeFinSet → Float → Joined
-tubesOf set radius = unlessRefused (tubeCheck set radius) (joinedCopies (tubeAt set radius) (set .«base_angle_rad») (set .count))
+tubesOf set radius =
+    unlessRefused (tubeCheck set radius) (joinedCopies (tubeAt set radius) (set .«base_angle_rad») (set .count))

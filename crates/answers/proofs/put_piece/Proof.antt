@@ -10,22 +10,10 @@ returns c =
     let s = c .before .before .before .before .before in
     no-figure (now (s .args .out)) (s .args .p) (s .args .b) (now (s .args .figures)) (now (s .args .counts)) (c .before .if1 .taken) (s .pre .counts-left) (s .pre .figures-left) (c .if2 .taken)
 
-mul-put-figure : tie.Need-mul-put-figure
-mul-put-figure c = search needs
-
-shared-slice-read-put-figure : tie.Need-shared-slice-read-put-figure
-shared-slice-read-put-figure c = search needs
-
 put-figure-requires : tie.Need-put-figure-requires
 put-figure-requires c κs =
     let s = c .before .before .before .before .before .before .before in
     figure-room (now (s .args .out)) (s .args .p) (s .args .b) (now (s .args .figures)) (now (s .args .counts)) (s .pre) (c .before .before .before .if1 .taken)
-
-add-next : tie.Need-add-next
-add-next c = search needs
-
-same-length : tie.Need-same-length
-same-length c = search needs
 
 returns-2 : tie.Need-returns-2
 returns-2 c =
@@ -38,22 +26,10 @@ returns-3 c =
     let s = c .before .before .before .before .before .before in
     no-count (now (s .args .out)) (s .args .p) (s .args .b) (now (s .args .figures)) (now (s .args .counts)) (c .before .if3 .taken) (s .pre .figures-left) (s .pre .counts-left) (c .if4 .taken)
 
-mul-put-count : tie.Need-mul-put-count
-mul-put-count c = search needs
-
-shared-slice-read-put-count : tie.Need-shared-slice-read-put-count
-shared-slice-read-put-count c = search needs
-
 put-count-requires : tie.Need-put-count-requires
 put-count-requires c κs =
     let s = c .before .before .before .before .before .before .before .before in
     count-room (now (s .args .out)) (s .args .p) (s .args .b) (now (s .args .figures)) (now (s .args .counts)) (s .pre) (c .before .before .before .if3 .taken)
-
-add-next-2 : tie.Need-add-next-2
-add-next-2 c = search needs
-
-same-length-2 : tie.Need-same-length-2
-same-length-2 c = search needs
 
 returns-4 : tie.Need-returns-4
 returns-4 c =
@@ -66,12 +42,6 @@ slice-write-out c =
     let s = c .before .before .before .before .before in
     one-byte (now (s .args .out)) (s .args .p) (s .args .b) (now (s .args .figures)) (now (s .args .counts)) (s .pre) (c .before .if1 .left) (c .if3 .left)
 
-add-end : tie.Need-add-end
-add-end c = search needs
-
-same-length-3 : tie.Need-same-length-3
-same-length-3 c = search needs
-
 returns-5 : tie.Need-returns-5
 returns-5 c =
     let s = c .before .before .before .before .before in
@@ -82,20 +52,20 @@ put-piece-spec =
     tie.close
     (tie.spec
     returns
-    mul-put-figure
-    shared-slice-read-put-figure
+    (λ c. search needs)
+    (λ c. search needs)
     put-figure-requires
-    add-next
-    same-length
+    (λ c. search needs)
+    (λ c. search needs)
     returns-2
     returns-3
-    mul-put-count
-    shared-slice-read-put-count
+    (λ c. search needs)
+    (λ c. search needs)
     put-count-requires
-    add-next-2
-    same-length-2
+    (λ c. search needs)
+    (λ c. search needs)
     returns-4
     slice-write-out
-    add-end
-    same-length-3
+    (λ c. search needs)
+    (λ c. search needs)
     returns-5)

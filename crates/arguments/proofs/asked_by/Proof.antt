@@ -17,24 +17,12 @@ returns-2 c =
     let n = c .before .before .before .args .count in
     rw (le-leb 2 n (omega arith), lt-leb n 2 (c .if2 .taken))
 
-slice-aggregate-same-bytes : tie.Need-slice-aggregate-same-bytes
-slice-aggregate-same-bytes c = search needs
-
-same-bytes-requires : tie.Need-same-bytes-requires
-same-bytes-requires c κs = search needs
-
 returns-3 : tie.Need-returns-3
 unfolding text codes
 returns-3 c =
     let n = c .before .before .before .before .before .before .args .count in
     let help = c .before .same-bytes in
     rw (le-leb 2 n (omega arith), le-leb n 2 (omega arith), sym (help .ensures) ∙ c .if3 .taken)
-
-slice-aggregate-same-bytes-2 : tie.Need-slice-aggregate-same-bytes-2
-slice-aggregate-same-bytes-2 c = search needs
-
-same-bytes-requires-2 : tie.Need-same-bytes-requires-2
-same-bytes-requires-2 c κs = search needs
 
 returns-4 : tie.Need-returns-4
 unfolding text codes
@@ -60,10 +48,10 @@ asked-by-spec =
     (tie.spec
     returns
     returns-2
-    slice-aggregate-same-bytes
-    same-bytes-requires
+    (λ c. search needs)
+    (λ c κs. search needs)
     returns-3
-    slice-aggregate-same-bytes-2
-    same-bytes-requires-2
+    (λ c. search needs)
+    (λ c κs. search needs)
     returns-4
     returns-5)

@@ -28,18 +28,6 @@ first k = k .before .before .before .before
 abbrev called : tie.After-put-count → tie.Start
 called k = first k .before .before .before .before .before
 
-slice-aggregate-put-bytes : tie.Need-slice-aggregate-put-bytes
-slice-aggregate-put-bytes c = search needs
-
-put-bytes-requires : tie.Need-put-bytes-requires
-put-bytes-requires c κs = search needs
-
-put-count-requires : tie.Need-put-count-requires
-put-count-requires c κs = search needs
-
-slice-aggregate-put-bytes-2 : tie.Need-slice-aggregate-put-bytes-2
-slice-aggregate-put-bytes-2 c = search needs
-
 put-bytes-requires-2 : tie.Need-put-bytes-requires-2
 put-bytes-requires-2 c κs =
     let k = c .before .before .before .before in let p = first k in let s = called k in
@@ -55,9 +43,6 @@ put-block-requires c κs =
     let g = b .put-bytes2 .kept .0 in let l = k .put-count .kept .0 in let m = p .put-bytes .kept .0 in let n = s .pre in
     omega (arith, d, e, f, t, g, l, m, n)
 
-same-length : tie.Need-same-length
-same-length c = search needs
-
 returns : tie.Need-returns
 unfolding text codes
 returns c =
@@ -70,11 +55,11 @@ pub put-numbered-spec : {M : Type 1} → statement M
 put-numbered-spec =
     tie.close
     (tie.spec
-    slice-aggregate-put-bytes
-    put-bytes-requires
-    put-count-requires
-    slice-aggregate-put-bytes-2
+    (λ c. search needs)
+    (λ c κs. search needs)
+    (λ c κs. search needs)
+    (λ c. search needs)
     put-bytes-requires-2
     put-block-requires
-    same-length
+    (λ c. search needs)
     returns)

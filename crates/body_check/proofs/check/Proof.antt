@@ -7,9 +7,6 @@ use Rattle.body_check.proofs.check.Statement.{statement}
 use Rattle.body_check.proofs.check.Tie as tie
 use Rattle.floats.proofs.is_finite.Reads as is-finite-reads′
 
-is-finite-requires : tie.Need-is-finite-requires
-is-finite-requires c κs = search needs
-
 returns : tie.Need-returns
 returns c = is-answer (rw (sym (c .before .is-finite .ensures) ∙ not-true _ (c .if1 .taken)))
 
@@ -18,17 +15,11 @@ returns-2 c =
     let finite = c .before in
     is-answer (rw (sym (finite .before .is-finite .ensures) ∙ not-false _ (finite .if1 .left), c .if2 .taken))
 
-is-finite-requires-2 : tie.Need-is-finite-requires-2
-is-finite-requires-2 c κs = search needs
-
 returns-3 : tie.Need-returns-3
 returns-3 c =
     let positive = c .before .before .before in
     let finite = positive .before in
     is-answer (rw (sym (finite .before .is-finite .ensures) ∙ not-false _ (finite .if1 .left), positive .if2 .left, sym (c .before .is-finite2 .ensures) ∙ not-true _ (c .if3 .taken)))
-
-check-tensor-requires : tie.Need-check-tensor-requires
-check-tensor-requires c κs = search needs
 
 returns-4 : tie.Need-returns-4
 returns-4 c =
@@ -43,10 +34,10 @@ pub check-spec : {M : Type 1} → statement M
 check-spec =
     tie.close
     (tie.spec
-    is-finite-requires
+    (λ c κs. search needs)
     returns
     returns-2
-    is-finite-requires-2
+    (λ c κs. search needs)
     returns-3
-    check-tensor-requires
+    (λ c κs. search needs)
     returns-4)

@@ -6,24 +6,9 @@ use Rattle.body_check.specs.BodyCheck.{checkTensor}
 use Rattle.body_check.proofs.check_tensor.Statement.{statement}
 use Rattle.body_check.proofs.check_tensor.Tie as tie
 
-entries-fit-requires : tie.Need-entries-fit-requires
-entries-fit-requires c κs = search needs
-
-refused-requires : tie.Need-refused-requires
-refused-requires c κs = search needs
-
 returns : tie.Need-returns
 unfolding checkTensor
 returns c = rw (sym (c .before .before .entries-fit .ensures) ∙ not-true _ (c .before .if1 .taken)) (c .refused .ensures)
-
-largest-magnitude-requires : tie.Need-largest-magnitude-requires
-largest-magnitude-requires c κs = search needs
-
-is-massless-inertia-requires : tie.Need-is-massless-inertia-requires
-is-massless-inertia-requires c κs = search needs
-
-refused-requires-2 : tie.Need-refused-requires-2
-refused-requires-2 c κs = search needs
 
 returns-2 : tie.Need-returns-2
 unfolding checkTensor
@@ -32,12 +17,6 @@ returns-2 c =
     let fit = massless .before .before .before in
     rw (sym (fit .before .entries-fit .ensures) ∙ not-false _ (fit .if1 .left), ← massless .before .before .largest-magnitude .ensures, sym (massless .before .is-massless-inertia .ensures) ∙ massless .if2 .taken)
     (c .refused2 .ensures)
-
-eigenvalues-requires : tie.Need-eigenvalues-requires
-eigenvalues-requires c κs = search needs
-
-check-moments-requires : tie.Need-check-moments-requires
-check-moments-requires c κs = search needs
 
 returns-3 : tie.Need-returns-3
 unfolding checkTensor
@@ -51,13 +30,13 @@ pub check-tensor-spec : {M : Type 1} → statement M
 check-tensor-spec =
     tie.close
     (tie.spec
-    entries-fit-requires
-    refused-requires
+    (λ c κs. search needs)
+    (λ c κs. search needs)
     returns
-    largest-magnitude-requires
-    is-massless-inertia-requires
-    refused-requires-2
+    (λ c κs. search needs)
+    (λ c κs. search needs)
+    (λ c κs. search needs)
     returns-2
-    eigenvalues-requires
-    check-moments-requires
+    (λ c κs. search needs)
+    (λ c κs. search needs)
     returns-3)

@@ -38,12 +38,6 @@ mul-abs c = omega arith
 array-read-abs : tie.Need-array-read-abs Inv-loop μ-loop
 array-read-abs c = omega arith
 
-abs-requires : tie.Need-abs-requires Inv-loop μ-loop
-abs-requires c κs = search needs
-
-max-requires : tie.Need-max-requires Inv-loop μ-loop
-max-requires c κs = search needs
-
 add-k : tie.Need-add-k Inv-loop μ-loop
 add-k c = omega arith
 
@@ -65,8 +59,8 @@ largest-magnitude-spec =
     loop-holds
     mul-abs
     array-read-abs
-    abs-requires
-    max-requires
+    (λ c κs. search needs)
+    (λ c κs. search needs)
     add-k
     loop-less
     loop-again

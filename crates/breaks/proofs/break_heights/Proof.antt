@@ -6,12 +6,6 @@ use borrow.Author.Needs.{needs}
 use Rattle.breaks.proofs.break_heights.Statement.{statement}
 use Rattle.breaks.proofs.break_heights.Tie as tie
 
-span-m-requires : tie.Need-span-m-requires
-span-m-requires c κs = search needs
-
-put-heights-requires : tie.Need-put-heights-requires
-put-heights-requires c κs = search needs
-
 slice-aggregate-insert : tie.Need-slice-aggregate-insert
 slice-aggregate-insert c = let a = c .before .before .before .before .before .args in sym (within (a .planform) (a .points .now) _ _ (c .before .put-heights .ensures) .1)
 
@@ -20,9 +14,6 @@ insert-requires c κs =
     let a = c .before .before .before .before .before .args in
     let b = within (a .planform) (a .points .now) _ _ (c .before .put-heights .ensures) in
     omega arith
-
-slice-aggregate-insert-2 : tie.Need-slice-aggregate-insert-2
-slice-aggregate-insert-2 c = search needs
 
 add-insert : tie.Need-add-insert
 add-insert c =
@@ -37,9 +28,6 @@ insert-requires-2 c κs =
     let a = put .before .before .before .before .args in
     let b = within (a .planform) (a .points .now) _ _ (put .put-heights .ensures) in
     omega arith
-
-slice-aggregate-distinct : tie.Need-slice-aggregate-distinct
-slice-aggregate-distinct c = search needs
 
 add-distinct : tie.Need-add-distinct
 add-distinct c =
@@ -69,14 +57,14 @@ pub break-heights-spec : {M : Type 1} → statement M
 break-heights-spec =
     tie.close
     (tie.spec
-    span-m-requires
-    put-heights-requires
+    (λ c κs. search needs)
+    (λ c κs. search needs)
     slice-aggregate-insert
     insert-requires
-    slice-aggregate-insert-2
+    (λ c. search needs)
     add-insert
     insert-requires-2
-    slice-aggregate-distinct
+    (λ c. search needs)
     add-distinct
     distinct-requires
     returns)

@@ -7,29 +7,8 @@ use Rattle.breaks.proofs.Above.{of-outline, none-behind}
 use Rattle.breaks.proofs.height_at.Statement.{statement}
 use Rattle.breaks.proofs.height_at.Tie as tie
 
-returns : tie.Need-returns
-returns c = search needs
-
-span-m-requires : tie.Need-span-m-requires
-span-m-requires c κs = search needs
-
 returns-2 : tie.Need-returns-2
 returns-2 c = c .span-m .ensures ∙ rw (c .before .if2 .taken)
-
-enum-told : tie.Need-enum-told
-enum-told c = search needs
-
-sub-outline-height-at : tie.Need-sub-outline-height-at
-sub-outline-height-at c = search needs
-
-outline-height-at-requires : tie.Need-outline-height-at-requires
-outline-height-at-requires c κs = search needs
-
-enum-told-2 : tie.Need-enum-told-2
-enum-told-2 c = search needs
-
-enum-told-3 : tie.Need-enum-told-3
-enum-told-3 c = search needs
 
 returns-3 : tie.Need-returns-3
 returns-3 c =
@@ -52,14 +31,14 @@ pub height-at-spec : {M : Type 1} → statement M
 height-at-spec =
     tie.close
     (tie.spec
-    returns
-    span-m-requires
+    (λ c. search needs)
+    (λ c κs. search needs)
     returns-2
-    enum-told
-    sub-outline-height-at
-    outline-height-at-requires
-    enum-told-2
-    enum-told-3
+    (λ c. search needs)
+    (λ c. search needs)
+    (λ c κs. search needs)
+    (λ c. search needs)
+    (λ c. search needs)
     returns-3
     returns-4
     returns-5)

@@ -6,18 +6,6 @@ use Rattle.breaks.proofs.Above.{none-found}
 use Rattle.breaks.proofs.least_of_points.Statement.{statement}
 use Rattle.breaks.proofs.least_of_points.Tie as tie
 
-enum-told : tie.Need-enum-told
-enum-told c = search needs
-
-least-of-outline-requires : tie.Need-least-of-outline-requires
-least-of-outline-requires c κs = search needs
-
-enum-told-2 : tie.Need-enum-told-2
-enum-told-2 c = search needs
-
-enum-told-3 : tie.Need-enum-told-3
-enum-told-3 c = search needs
-
 returns : tie.Need-returns
 unfolding everyY
 returns c = rw (c .before .enum-told .given .1) (c .least-of-outline .ensures)
@@ -34,10 +22,10 @@ pub least-of-points-spec : {M : Type 1} → statement M
 least-of-points-spec =
     tie.close
     (tie.spec
-    enum-told
-    least-of-outline-requires
-    enum-told-2
-    enum-told-3
+    (λ c. search needs)
+    (λ c κs. search needs)
+    (λ c. search needs)
+    (λ c. search needs)
     returns
     returns-2
     returns-3)

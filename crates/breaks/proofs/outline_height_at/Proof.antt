@@ -8,24 +8,6 @@ use Rattle.breaks.proofs.outline_height_at.Tie as tie
 returns : tie.Need-returns
 returns c = let a = c .before .args in too-many-at (a .points .now) (a .place) (c .if1 .taken)
 
-sub-result : tie.Need-sub-result
-sub-result c = search needs
-
-sub-result-2 : tie.Need-sub-result-2
-sub-result-2 c = search needs
-
-mul-result : tie.Need-mul-result
-mul-result c = search needs
-
-add-result : tie.Need-add-result
-add-result c = search needs
-
-mul-result-2 : tie.Need-mul-result-2
-mul-result-2 c = search needs
-
-shared-slice-read-result : tie.Need-shared-slice-read-result
-shared-slice-read-result c = search needs
-
 returns-2 : tie.Need-returns-2
 returns-2 c = let a = c .before .before .before .args in outline-at (a .points .now) (a .place) (omega arith) (omega arith)
 
@@ -37,11 +19,11 @@ outline-height-at-spec =
     tie.close
     (tie.spec
     returns
-    sub-result
-    sub-result-2
-    mul-result
-    add-result
-    mul-result-2
-    shared-slice-read-result
+    (λ c. search needs)
+    (λ c. search needs)
+    (λ c. search needs)
+    (λ c. search needs)
+    (λ c. search needs)
+    (λ c. search needs)
     returns-2
     returns-3)

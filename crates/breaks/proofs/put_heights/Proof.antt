@@ -6,18 +6,6 @@ use borrow.Author.Needs.{needs}
 use Rattle.breaks.proofs.put_heights.Statement.{statement}
 use Rattle.breaks.proofs.put_heights.Tie as tie
 
-enum-told : tie.Need-enum-told
-enum-told c = search needs
-
-put-outline-heights-requires : tie.Need-put-outline-heights-requires
-put-outline-heights-requires c κs = search needs
-
-enum-told-2 : tie.Need-enum-told-2
-enum-told-2 c = search needs
-
-enum-told-3 : tie.Need-enum-told-3
-enum-told-3 c = search needs
-
 returns : tie.Need-returns
 unfolding everyY
 returns c = rw (c .before .before .enum-told .given .1) (c .put-outline-heights .ensures)
@@ -34,10 +22,10 @@ pub put-heights-spec : {M : Type 1} → statement M
 put-heights-spec =
     tie.close
     (tie.spec
-    enum-told
-    put-outline-heights-requires
-    enum-told-2
-    enum-told-3
+    (λ c. search needs)
+    (λ c κs. search needs)
+    (λ c. search needs)
+    (λ c. search needs)
     returns
     returns-2
     returns-3)

@@ -68,15 +68,6 @@ is-at-end c =
     (toZ-ofZ w64 (c .before .before .before .before .before .before .before .args .t .got)
     (record { sfits = c .before .struct-told .given .1 .0 .1 }))
 
-is-end-requires : tie.Need-is-end-requires
-is-end-requires c κs = search needs
-
-reply-last-requires : tie.Need-reply-last-requires
-reply-last-requires c κs = search needs
-
-tell-requires : tie.Need-tell-requires
-tell-requires c κs = search needs
-
 add-t22 : tie.Need-add-t22
 add-t22 c =
     let r = c .before .before .before .before .before .before .before .before .before .before .before .before .before .before in
@@ -87,18 +78,6 @@ add-t22 c =
     (r .reply-last .last .1 .1 .1 .1 .1 .0) (now (s .args .buffer)) 0
     (r .reply-last .result) (s .pre .2) (r .reply-last .ensures) in
     omega (arith, e)
-
-same-length : tie.Need-same-length
-same-length c = search needs
-
-same-length-2 : tie.Need-same-length-2
-same-length-2 c = search needs
-
-same-length-3 : tie.Need-same-length-3
-same-length-3 c = search needs
-
-same-length-4 : tie.Need-same-length-4
-same-length-4 c = search needs
 
 returns : tie.Need-returns
 returns c =
@@ -112,12 +91,6 @@ returns c =
     (r .reply-last .result) (sym (is-at-end i) ∙ r .before .before .before .before .before .before .if1 .taken) (r .reply-last .ensures)
     (t .tell .ensures)
 
-tell-requires-2 : tie.Need-tell-requires-2
-tell-requires-2 c κs = search needs
-
-same-length-5 : tie.Need-same-length-5
-same-length-5 c = search needs
-
 returns-2 : tie.Need-returns-2
 returns-2 c =
     let t = c .before .before in let i = t .before .before .before in let s = i .before .before .before .before .before .before .before in
@@ -129,15 +102,15 @@ pub end-run-spec : {M : Type 1} → statement M
 end-run-spec =
     tie.close
     (tie.spec
-    is-end-requires
-    reply-last-requires
-    tell-requires
+    (λ c κs. search needs)
+    (λ c κs. search needs)
+    (λ c κs. search needs)
     add-t22
-    same-length
-    same-length-2
-    same-length-3
-    same-length-4
+    (λ c. search needs)
+    (λ c. search needs)
+    (λ c. search needs)
+    (λ c. search needs)
     returns
-    tell-requires-2
-    same-length-5
+    (λ c κs. search needs)
+    (λ c. search needs)
     returns-2)

@@ -34,28 +34,10 @@ Stepped f all =
 stepped : (f : tie.After-feed) (all : Bool) → Stepped f all
 stepped f all = let s = called f in fed (now (s .args .chunk)) (s .args .s) (s .pre .2) (s .pre .0 .reply) (f .feed .ensures) all
 
-sub-feed : tie.Need-sub-feed
-sub-feed c = search needs
-
-part-feed-start : tie.Need-part-feed-start
-part-feed-start c = search needs
-
-part-feed-end : tie.Need-part-feed-end
-part-feed-end c = search needs
-
-feed-requires : tie.Need-feed-requires
-feed-requires c κs = search needs
-
-slice-reshare-prefix-write-all : tie.Need-slice-reshare-prefix-write-all
-slice-reshare-prefix-write-all c = search needs
-
 slice-aggregate-write-all : tie.Need-slice-aggregate-write-all
 slice-aggregate-write-all c =
     let f = c .before .before .before .before .before .before .before .before .before .before .before .before in
     sym (length-take-le (f .feed .result .written) (f .feed .last .1 .1 .1 .1 .1 .1 .0) (f .feed .ensures .into .room))
-
-write-all-requires : tie.Need-write-all-requires
-write-all-requires c κs = search needs
 
 add-t17 : tie.Need-add-t17
 add-t17 c =
@@ -70,21 +52,6 @@ add-t30 c =
     let e = fed-fits (now (s .args .chunk)) (s .args .s) (s .pre .2) (s .pre .0 .reply) (f .feed .ensures) (s .pre .1) (s .pre .0 .most) in
     omega (arith, e)
 
-same-length : tie.Need-same-length
-same-length c = search needs
-
-same-length-2 : tie.Need-same-length-2
-same-length-2 c = search needs
-
-same-length-3 : tie.Need-same-length-3
-same-length-3 c = search needs
-
-same-length-4 : tie.Need-same-length-4
-same-length-4 c = search needs
-
-same-length-5 : tie.Need-same-length-5
-same-length-5 c = search needs
-
 returns : tie.Need-returns
 returns c =
     stepped (c .before .before .before .before .before .before .before .before .before .before .before .before .before .before .before)
@@ -94,18 +61,18 @@ pub reply-next-spec : {M : Type 1} → statement M
 reply-next-spec =
     tie.close
     (tie.spec
-    sub-feed
-    part-feed-start
-    part-feed-end
-    feed-requires
-    slice-reshare-prefix-write-all
+    (λ c. search needs)
+    (λ c. search needs)
+    (λ c. search needs)
+    (λ c κs. search needs)
+    (λ c. search needs)
     slice-aggregate-write-all
-    write-all-requires
+    (λ c κs. search needs)
     add-t17
     add-t30
-    same-length
-    same-length-2
-    same-length-3
-    same-length-4
-    same-length-5
+    (λ c. search needs)
+    (λ c. search needs)
+    (λ c. search needs)
+    (λ c. search needs)
+    (λ c. search needs)
     returns)

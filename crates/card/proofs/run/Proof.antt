@@ -218,9 +218,6 @@ turned c = c .before .before .before .before .before .before .before .before .be
 abbrev topped : tie.After-take-turn Inv-loop μ-loop → tie.At-loop Inv-loop μ-loop
 topped t = t .before .before .before .before .before .before .before .before .before .before
 
-no-line-requires : tie.Need-no-line-requires Inv-loop μ-loop
-no-line-requires c κs = search needs
-
 loop-holds : tie.Need-loop-holds Inv-loop μ-loop
 loop-holds c =
     record {
@@ -307,7 +304,7 @@ run-spec =
     (tie.spec
     Inv-loop
     μ-loop
-    no-line-requires
+    (λ c κs. search needs)
     loop-holds
     take-turn-requires
     loop-less

@@ -72,15 +72,6 @@ brings k =
     (k .count .ensures .1 ∙ ap (λ (z : ℤ). clamped z (length (r .read .last .1 .0)))
     (toZ-ofZ w64 (r .read .result) (record { sfits = r .read .ok })))
 
-read-requires : tie.Need-read-requires
-read-requires c κs = search needs
-
-count-requires : tie.Need-count-requires
-count-requires c κs = search needs
-
-same-length : tie.Need-same-length
-same-length c = search needs
-
 returns : tie.Need-returns
 returns c =
     let k = c .before .before in let r = k .before .before .before .before in
@@ -89,12 +80,6 @@ returns c =
     (nothing-read (now (s .args .buffer)) (s .args .t) (r .read .last .1 .0)
     (memoryIn (now (s .args .scratch)) (now (s .args .engine-numbers)) (now (s .args .engine-counts))) (r .read .result) (k .count .result)
     (brings k) (c .if1 .taken))
-
-slice-reshare-prefix-reply-to : tie.Need-slice-reshare-prefix-reply-to
-slice-reshare-prefix-reply-to c = search needs
-
-slice-aggregate-reply-to : tie.Need-slice-aggregate-reply-to
-slice-aggregate-reply-to c = search needs
 
 reply-to-requires : tie.Need-reply-to-requires
 reply-to-requires c κs =
@@ -117,24 +102,6 @@ add-t30 c =
     let a = k .count .ensures .0 .0 in let b = r .read .kept .1 .0 in let d = s .pre .0 .most in let e = s .pre .2 in
     omega (arith, a, b, d, e)
 
-same-length-2 : tie.Need-same-length-2
-same-length-2 c = search needs
-
-same-length-3 : tie.Need-same-length-3
-same-length-3 c = search needs
-
-same-length-4 : tie.Need-same-length-4
-same-length-4 c = search needs
-
-same-length-5 : tie.Need-same-length-5
-same-length-5 c = search needs
-
-same-length-6 : tie.Need-same-length-6
-same-length-6 c = search needs
-
-same-length-7 : tie.Need-same-length-7
-same-length-7 c = search needs
-
 returns-2 : tie.Need-returns-2
 returns-2 c =
     let p = c .before .before .before .before .before .before .before .before .before .before .before .before in
@@ -152,18 +119,18 @@ pub take-turn-spec : {M : Type 1} → statement M
 take-turn-spec =
     tie.close
     (tie.spec
-    read-requires
-    count-requires
-    same-length
+    (λ c κs. search needs)
+    (λ c κs. search needs)
+    (λ c. search needs)
     returns
-    slice-reshare-prefix-reply-to
-    slice-aggregate-reply-to
+    (λ c. search needs)
+    (λ c. search needs)
     reply-to-requires
     add-t30
-    same-length-2
-    same-length-3
-    same-length-4
-    same-length-5
-    same-length-6
-    same-length-7
+    (λ c. search needs)
+    (λ c. search needs)
+    (λ c. search needs)
+    (λ c. search needs)
+    (λ c. search needs)
+    (λ c. search needs)
     returns-2)

@@ -4,21 +4,6 @@ use borrow.Author.Needs.{needs}
 use Rattle.chords.proofs.chords_at.Statement.{statement}
 use Rattle.chords.proofs.chords_at.Tie as tie
 
-enum-known-planform : tie.Need-enum-known-planform
-enum-known-planform c = search needs
-
-trapezoid-chord-requires : tie.Need-trapezoid-chord-requires
-trapezoid-chord-requires c κs = search needs
-
-enum-known-planform-2 : tie.Need-enum-known-planform-2
-enum-known-planform-2 c = search needs
-
-ellipse-chord-requires : tie.Need-ellipse-chord-requires
-ellipse-chord-requires c κs = search needs
-
-enum-told : tie.Need-enum-told
-enum-told c = search needs
-
 outline-chord-requires : tie.Need-outline-chord-requires
 outline-chord-requires c κs = c .before .before .before .before .pre (c .enum-told .given .1)
 
@@ -38,11 +23,11 @@ pub chords-at-spec : {M : Type 1} → statement M
 chords-at-spec =
     tie.close
     (tie.spec
-    enum-known-planform
-    trapezoid-chord-requires
-    enum-known-planform-2
-    ellipse-chord-requires
-    enum-told
+    (λ c. search needs)
+    (λ c κs. search needs)
+    (λ c. search needs)
+    (λ c κs. search needs)
+    (λ c. search needs)
     outline-chord-requires
     returns
     returns-2

@@ -7,12 +7,6 @@ use borrow.Author.Needs.{needs}
 use Rattle.chords.proofs.cross_edge.Statement.{statement}
 use Rattle.chords.proofs.cross_edge.Tie as tie
 
-next-point-requires : tie.Need-next-point-requires
-next-point-requires c κs = search needs
-
-edge-crossed-requires : tie.Need-edge-crossed-requires
-edge-crossed-requires c κs = search needs
-
 returns : tie.Need-returns
 returns c =
     let pointed = c .before .before in
@@ -20,18 +14,6 @@ returns c =
     not-crossed (a .points .now) (a .n) (a .h) (a .i) _ (a .xs .now) (a .count) (pointed .next-point .ensures .0)
     (sym (c .before .edge-crossed .ensures) ∙ not-true _ (c .if1 .taken))
     (omega arith)
-
-edge-crossing-requires : tie.Need-edge-crossing-requires
-edge-crossing-requires c κs = search needs
-
-insert-requires : tie.Need-insert-requires
-insert-requires c κs = search needs
-
-add-result : tie.Need-add-result
-add-result c = search needs
-
-same-length : tie.Need-same-length
-same-length c = search needs
 
 returns-2 : tie.Need-returns-2
 returns-2 c =
@@ -50,11 +32,11 @@ pub cross-edge-spec : {M : Type 1} → statement M
 cross-edge-spec =
     tie.close
     (tie.spec
-    next-point-requires
-    edge-crossed-requires
+    (λ c κs. search needs)
+    (λ c κs. search needs)
     returns
-    edge-crossing-requires
-    insert-requires
-    add-result
-    same-length
+    (λ c κs. search needs)
+    (λ c κs. search needs)
+    (λ c. search needs)
+    (λ c. search needs)
     returns-2)

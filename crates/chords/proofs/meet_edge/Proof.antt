@@ -5,31 +5,16 @@ use borrow.Author.Needs.{needs}
 use Rattle.chords.proofs.meet_edge.Statement.{statement}
 use Rattle.chords.proofs.meet_edge.Tie as tie
 
-next-point-requires : tie.Need-next-point-requires
-next-point-requires c κs = search needs
-
-edge-crossed-requires : tie.Need-edge-crossed-requires
-edge-crossed-requires c κs = search needs
-
 returns : tie.Need-returns
 returns c =
     let asked = c .before in
     rw (← asked .before .next-point .ensures .0, sym (asked .edge-crossed .ensures) ∙ not-true _ (c .if1 .taken))
-
-enum-told : tie.Need-enum-told
-enum-told c = search needs
 
 returns-2 : tie.Need-returns-2
 returns-2 c =
     let left = c .before .before in
     let asked = left .before in
     rw (← asked .before .next-point .ensures .0, sym (asked .edge-crossed .ensures) ∙ not-false _ (left .if1 .left), c .enum-told .given .1)
-
-edge-crossing-requires : tie.Need-edge-crossing-requires
-edge-crossing-requires c κs = search needs
-
-add-few-requires : tie.Need-add-few-requires
-add-few-requires c κs = search needs
 
 returns-3 : tie.Need-returns-3
 returns-3 c =
@@ -42,11 +27,11 @@ pub meet-edge-spec : {M : Type 1} → statement M
 meet-edge-spec =
     tie.close
     (tie.spec
-    next-point-requires
-    edge-crossed-requires
+    (λ c κs. search needs)
+    (λ c κs. search needs)
     returns
-    enum-told
+    (λ c. search needs)
     returns-2
-    edge-crossing-requires
-    add-few-requires
+    (λ c κs. search needs)
+    (λ c κs. search needs)
     returns-3)

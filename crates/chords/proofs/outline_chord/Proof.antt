@@ -27,9 +27,6 @@ cast-meet-edge c = omega (arith, c .shared-slice-known3 .given (c .before .befor
 meet-edge-requires : tie.Need-meet-edge-requires Inv-loop μ-loop
 meet-edge-requires c κs = (c .before .before .before .before .before .pre .each (c .before .before .loop .k) (omega arith), refl)
 
-enum-told : tie.Need-enum-told Inv-loop μ-loop
-enum-told c = search needs
-
 returns : tie.Need-returns Inv-loop μ-loop
 returns c =
     let met = c .before .before in
@@ -53,9 +50,6 @@ loop-again c =
     let a = head .before .before .before .args in
     (omega arith, one-more (a .points .now) (pairCount (a .points .now)) (a .h) (a .edges .now) (head .loop .k) (head .loop .few) _ (head .loop .inv .1) (met .meet-edge .ensures))
 
-few-chords-requires : tie.Need-few-chords-requires Inv-loop μ-loop
-few-chords-requires c κs = search needs
-
 returns-2 : tie.Need-returns-2 Inv-loop μ-loop
 returns-2 c =
     let head = c .before .before in
@@ -73,10 +67,10 @@ outline-chord-spec =
     shared-slice-read-meet-edge
     cast-meet-edge
     meet-edge-requires
-    enum-told
+    (λ c. search needs)
     returns
     add-k
     loop-less
     loop-again
-    few-chords-requires
+    (λ c κs. search needs)
     returns-2)

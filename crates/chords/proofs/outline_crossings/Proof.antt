@@ -6,27 +6,18 @@ use borrow.Author.Needs.{needs}
 use Rattle.chords.proofs.outline_crossings.Statement.{statement}
 use Rattle.chords.proofs.outline_crossings.Tie as tie
 
-edges-near-requires : tie.Need-edges-near-requires
-edges-near-requires c κs = search needs
-
-array-share-prefix-edges : tie.Need-array-share-prefix-edges
-array-share-prefix-edges c = search needs
-
 slice-aggregate-crossings-of : tie.Need-slice-aggregate-crossings-of
 slice-aggregate-crossings-of c = sym (length-take-le _ _ (c .before .edges-near .ensures .room))
 
 crossings-of-requires : tie.Need-crossings-of-requires
 crossings-of-requires c κs = at-one-height (c .before .before .edges-near .ensures)
 
-returns : tie.Need-returns
-returns c = search needs
-
 pub outline-crossings-spec : {M : Type 1} → statement M
 outline-crossings-spec =
     tie.close
     (tie.spec
-    edges-near-requires
-    array-share-prefix-edges
+    (λ c κs. search needs)
+    (λ c. search needs)
     slice-aggregate-crossings-of
     crossings-of-requires
-    returns)
+    (λ c. search needs))

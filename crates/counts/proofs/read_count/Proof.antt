@@ -25,9 +25,6 @@ loop-holds c = (omega arith, omega arith, ap cappedCount (some _ (omega arith)))
 shared-slice-read-digit-value : tie.Need-shared-slice-read-digit-value Inv-loop μ-loop
 shared-slice-read-digit-value c = omega arith
 
-digit-value-requires : tie.Need-digit-value-requires Inv-loop μ-loop
-digit-value-requires c κs = search needs
-
 returns-2 : tie.Need-returns-2 Inv-loop μ-loop
 returns-2 c =
     let a = c .before .before .before .before in
@@ -39,9 +36,6 @@ mul-cap c = omega arith
 
 add-cap : tie.Need-add-cap Inv-loop μ-loop
 add-cap c = omega arith
-
-cap-requires : tie.Need-cap-requires Inv-loop μ-loop
-cap-requires c κs = search needs
 
 add-i : tie.Need-add-i Inv-loop μ-loop
 add-i c = omega arith
@@ -71,11 +65,11 @@ read-count-spec =
     returns
     loop-holds
     shared-slice-read-digit-value
-    digit-value-requires
+    (λ c κs. search needs)
     returns-2
     mul-cap
     add-cap
-    cap-requires
+    (λ c κs. search needs)
     add-i
     loop-less
     loop-again

@@ -6,15 +6,6 @@ use borrow.Author.Needs.{needs}
 use Rattle.decimals.proofs.divided.Statement.{statement}
 use Rattle.decimals.proofs.divided.Tie as tie
 
-div-places : tie.Need-div-places
-div-places c = search needs
-
-rem-more-digits : tie.Need-rem-more-digits
-rem-more-digits c = search needs
-
-div-places-2 : tie.Need-div-places-2
-div-places-2 c = search needs
-
 sub-places : tie.Need-sub-places
 sub-places c = let a = c .args in let p = c .pre in lift (a .n) (a .e) (p .1) (p .0) (p .2) (p .3) .0
 
@@ -27,9 +18,6 @@ more-digits-requires c κs =
     let p = c .pre in
     let few = few-places (a .n) (a .e) (p .1) (p .0) (p .2) (p .3) in
     (first-fits (a .n) (a .e) (p .1) (p .0) (p .2) (p .3), mod-lt (a .n) (p .1), p .2, omega arith, omega arith)
-
-sub-more-digits : tie.Need-sub-more-digits
-sub-more-digits c = search needs
 
 more-digits-requires-2 : tie.Need-more-digits-requires-2
 more-digits-requires-2 c κs =
@@ -49,12 +37,12 @@ pub divided-spec : {M : Type 1} → statement M
 divided-spec =
     tie.close
     (tie.spec
-    div-places
-    rem-more-digits
-    div-places-2
+    (λ c. search needs)
+    (λ c. search needs)
+    (λ c. search needs)
     sub-places
     cast-places
     more-digits-requires
-    sub-more-digits
+    (λ c. search needs)
     more-digits-requires-2
     returns)

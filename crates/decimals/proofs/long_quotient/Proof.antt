@@ -12,35 +12,8 @@ use Rattle.decimals.proofs.long_quotient.Tie as tie
 divisor : (k five : ℕ) → k ≤ 18 → five ≡ 5 ^ k → (0 < five) × (five ≤ 2 ^ 42)
 divisor k five h e = rw e (five-pos k, le-trans (five-most k h) (leb→le (5 ^ 18) (2 ^ 42) tt))
 
-five-to-requires : tie.Need-five-to-requires
-five-to-requires c κs = search needs
-
 widened-requires : tie.Need-widened-requires
 widened-requires c κs = divisor (c .before .args .k) (c .five-to .result) (c .before .pre .1) (c .five-to .ensures)
-
-divided-requires : tie.Need-divided-requires
-divided-requires c κs = search needs
-
-to-nearest-requires : tie.Need-to-nearest-requires
-to-nearest-requires c κs = search needs
-
-add-from-bits : tie.Need-add-from-bits
-add-from-bits c = search needs
-
-sub-from-bits : tie.Need-sub-from-bits
-sub-from-bits c = search needs
-
-sub-from-bits-2 : tie.Need-sub-from-bits-2
-sub-from-bits-2 c = search needs
-
-mul-from-bits : tie.Need-mul-from-bits
-mul-from-bits c = search needs
-
-add-from-bits-2 : tie.Need-add-from-bits-2
-add-from-bits-2 c = search needs
-
-from-bits-requires : tie.Need-from-bits-requires
-from-bits-requires c κs = search needs
 
 returns : tie.Need-returns
 returns c =
@@ -54,14 +27,14 @@ pub long-quotient-spec : {M : Type 1} → statement M
 long-quotient-spec =
     tie.close
     (tie.spec
-    five-to-requires
+    (λ c κs. search needs)
     widened-requires
-    divided-requires
-    to-nearest-requires
-    add-from-bits
-    sub-from-bits
-    sub-from-bits-2
-    mul-from-bits
-    add-from-bits-2
-    from-bits-requires
+    (λ c κs. search needs)
+    (λ c κs. search needs)
+    (λ c. search needs)
+    (λ c. search needs)
+    (λ c. search needs)
+    (λ c. search needs)
+    (λ c. search needs)
+    (λ c κs. search needs)
     returns)

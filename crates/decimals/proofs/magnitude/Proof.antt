@@ -23,23 +23,11 @@ few-five k five h e = rw e (le-trans (five-most k h) (leb→le (5 ^ 18) (2 ^ 53)
 few-two : (k two : ℕ) → k ≤ 18 → two ≡ 2 ^ k → two ≤ 2 ^ 53
 few-two k two h e = rw e (pow-mono (let z : k ≤ 53 = omega arith in z))
 
-long-quotient-requires : tie.Need-long-quotient-requires
-long-quotient-requires c κs = search needs
-
-returns : tie.Need-returns
-returns c = search needs
-
 int-to-float-result : tie.Need-int-to-float-result
 int-to-float-result c = whole _ (omega arith)
 
-five-to-requires : tie.Need-five-to-requires
-five-to-requires c κs = search needs
-
 int-to-float-result-2 : tie.Need-int-to-float-result-2
 int-to-float-result-2 c = whole _ (few-five _ _ (omega arith) (c .before .five-to .ensures))
-
-two-to-requires : tie.Need-two-to-requires
-two-to-requires c κs = search needs
 
 int-to-float-result-3 : tie.Need-int-to-float-result-3
 int-to-float-result-3 c = whole _ (few-two _ _ (omega arith) (c .before .two-to .ensures))
@@ -51,11 +39,11 @@ pub magnitude-spec : {M : Type 1} → statement M
 magnitude-spec =
     tie.close
     (tie.spec
-    long-quotient-requires
-    returns
+    (λ c κs. search needs)
+    (λ c. search needs)
     int-to-float-result
-    five-to-requires
+    (λ c κs. search needs)
     int-to-float-result-2
-    two-to-requires
+    (λ c κs. search needs)
     int-to-float-result-3
     returns-2)

@@ -34,12 +34,6 @@ loop-holds : tie.Need-loop-holds Inv-loop μ-loop
 unfolding every
 loop-holds c = (omega arith, refl)
 
-mul-is-whole : tie.Need-mul-is-whole Inv-loop μ-loop
-mul-is-whole c = search needs
-
-shared-slice-read-is-whole : tie.Need-shared-slice-read-is-whole Inv-loop μ-loop
-shared-slice-read-is-whole c = search needs
-
 is-whole-requires : tie.Need-is-whole-requires Inv-loop μ-loop
 is-whole-requires c κs = c .before .before .before .before .pre (c .before .before .loop .i) (omega arith)
 
@@ -68,8 +62,8 @@ are-whole-spec =
     Inv-loop
     μ-loop
     loop-holds
-    mul-is-whole
-    shared-slice-read-is-whole
+    (λ c. search needs)
+    (λ c. search needs)
     is-whole-requires
     add-i
     loop-less

@@ -15,24 +15,6 @@ use Rattle.drill.proofs.Checks.{before, refused, no-corners, in-steps, 
 use Rattle.drill.proofs.drill.Statement.{statement}
 use Rattle.drill.proofs.drill.Tie as tie
 
-check-planform-requires : tie.Need-check-planform-requires
-check-planform-requires c κs = search needs
-
-check-length-requires : tie.Need-check-length-requires
-check-length-requires c κs = search needs
-
-first-refusal-requires : tie.Need-first-refusal-requires
-first-refusal-requires c κs = search needs
-
-check-length-requires-2 : tie.Need-check-length-requires-2
-check-length-requires-2 c κs = search needs
-
-first-refusal-requires-2 : tie.Need-first-refusal-requires-2
-first-refusal-requires-2 c κs = search needs
-
-enum-known-v : tie.Need-enum-known-v
-enum-known-v c = search needs
-
 -- the verdict of the planform and the point's limits
 told : (c : tie.After-first-refusal2) → let a = c .before .before .before .before .before .before .args in c .first-refusal2 .result ≡ before (a .planform) (now (a .points)) (a .x-m) (a .height-m)
 told c = rw (
@@ -51,12 +33,6 @@ returns c =
     let a = c .before .before .before .before .before .before .before .before .before .args in
     is-answer (refused (a .planform) (now (a .points)) (a .x-m) (a .height-m) _ (sym (told (c .before .before .before)) ∙ c .before .v .given .1))
 
-enum-told : tie.Need-enum-told
-enum-told c = search needs
-
-enum-known-planform : tie.Need-enum-known-planform
-enum-known-planform c = search needs
-
 drill-trapezoid-requires : tie.Need-drill-trapezoid-requires
 drill-trapezoid-requires c κs =
     let a = c .before .before .before .before .before .before .before .before .before .before .before .args in
@@ -66,12 +42,6 @@ drill-trapezoid-requires c κs =
     trapezoid-lengths _ _ _ _ points (a .x-m ∷ a .height-m ∷ [])
     (subst (λ (p : Planform). planformCheck p points ≡ Accepted) (c .before .planform .given .1) taken)
     (one-more (a .x-m) (a .height-m ∷ []) (x-length (a .planform) points (a .x-m) (a .height-m) ok) (one-more (a .height-m) [] (height-length (a .planform) points (a .x-m) (a .height-m) ok) none))
-
-enum-told-2 : tie.Need-enum-told-2
-enum-told-2 c = search needs
-
-enum-told-3 : tie.Need-enum-told-3
-enum-told-3 c = search needs
 
 drill-outline-requires : tie.Need-drill-outline-requires
 unfolding planformCheck
@@ -115,18 +85,18 @@ pub drill-spec : {M : Type 1} → statement M
 drill-spec =
     tie.close
     (tie.spec
-    check-planform-requires
-    check-length-requires
-    first-refusal-requires
-    check-length-requires-2
-    first-refusal-requires-2
-    enum-known-v
+    (λ c κs. search needs)
+    (λ c κs. search needs)
+    (λ c κs. search needs)
+    (λ c κs. search needs)
+    (λ c κs. search needs)
+    (λ c. search needs)
     returns
-    enum-told
-    enum-known-planform
+    (λ c. search needs)
+    (λ c. search needs)
     drill-trapezoid-requires
-    enum-told-2
-    enum-told-3
+    (λ c. search needs)
+    (λ c. search needs)
     drill-outline-requires
     returns-2
     returns-3

@@ -39,9 +39,6 @@ returns c = refused _ _ _ (tested (c .before)) (c .if1 .taken)
 steps-of-requires : tie.Need-steps-of-requires
 steps-of-requires c κs = (drawn (c .before .before .before .before .before), c .before .before .before .before .before .pre .1)
 
-array-share-prefix-corners : tie.Need-array-share-prefix-corners
-array-share-prefix-corners c = search needs
-
 slice-aggregate-place : tie.Need-slice-aggregate-place
 slice-aggregate-place c =
     let points = now (c .before .before .before .before .before .before .before .args .points) in
@@ -85,7 +82,7 @@ drill-outline-spec =
     are-whole-requires
     returns
     steps-of-requires
-    array-share-prefix-corners
+    (λ c. search needs)
     slice-aggregate-place
     steps-requires
     steps-requires-2

@@ -66,9 +66,6 @@ trapezoid-corners-requires c κs =
     let a = c .before .before .before .before .before .before .before .args in
     (four (a .root-chord-m) (a .tip-chord-m) (a .span-m) (a .sweep-m) (a .x-m) (a .height-m) (c .before .before .before .before .before .before .before .pre), tip-whole c .0, tip-whole c .1)
 
-slice-aggregate-place : tie.Need-slice-aggregate-place
-slice-aggregate-place c = search needs
-
 steps-requires : tie.Need-steps-requires
 steps-requires c κs = c .before .before .before .before .before .before .before .before .before .pre 4 (omega arith)
 
@@ -111,7 +108,7 @@ drill-trapezoid-spec =
     is-whole-requires-6
     returns
     trapezoid-corners-requires
-    slice-aggregate-place
+    (λ c. search needs)
     steps-requires
     steps-requires-2
     place-requires

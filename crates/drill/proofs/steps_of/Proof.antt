@@ -32,12 +32,6 @@ abbrev μ-loop : tie.MeasureT-loop
 loop-holds : tie.Need-loop-holds Inv-loop μ-loop
 loop-holds c = (omega arith, refl, λ k h. absurd (not-suc-le-zero h))
 
-mul-steps : tie.Need-mul-steps Inv-loop μ-loop
-mul-steps c = search needs
-
-shared-slice-read-steps : tie.Need-shared-slice-read-steps Inv-loop μ-loop
-shared-slice-read-steps c = search needs
-
 steps-requires : tie.Need-steps-requires Inv-loop μ-loop
 steps-requires c κs = c .before .before .before .before .pre .0 (c .before .before .loop .i) (omega arith)
 
@@ -82,8 +76,8 @@ steps-of-spec =
     Inv-loop
     μ-loop
     loop-holds
-    mul-steps
-    shared-slice-read-steps
+    (λ c. search needs)
+    (λ c. search needs)
     steps-requires
     mul-corners
     array-set-from-corners

@@ -14,28 +14,13 @@ Inv-loop screens screen₀ left₀ screen left = (firstHeld screens screen left 
 abbrev μ-loop : tie.MeasureT-loop
 μ-loop screens screen₀ left₀ screen left = left
 
-add-screen : tie.Need-add-screen Inv-loop μ-loop
-add-screen c = search needs
-
 loop-holds : tie.Need-loop-holds Inv-loop μ-loop
 loop-holds c = (refl, omega arith)
-
-holds-job-requires : tie.Need-holds-job-requires Inv-loop μ-loop
-holds-job-requires c κs = search needs
 
 returns : tie.Need-returns Inv-loop μ-loop
 unfolding nextScreen
 returns c = let l = c .before .before .before in
     sym (found _ _ _ (c .before .before .loop-test .taken) (sym (c .before .holds-job .ensures) ∙ c .if1 .taken)) ∙ l .loop .inv .0
-
-add-screen-2 : tie.Need-add-screen-2 Inv-loop μ-loop
-add-screen-2 c = search needs
-
-sub-left : tie.Need-sub-left Inv-loop μ-loop
-sub-left c = search needs
-
-loop-less : tie.Need-loop-less Inv-loop μ-loop
-loop-less c = search needs
 
 loop-again : tie.Need-loop-again Inv-loop μ-loop
 loop-again c = let l = c .before .before .before in
@@ -51,12 +36,12 @@ next-screen-spec =
     (tie.spec
     Inv-loop
     μ-loop
-    add-screen
+    (λ c. search needs)
     loop-holds
-    holds-job-requires
+    (λ c κs. search needs)
     returns
-    add-screen-2
-    sub-left
-    loop-less
+    (λ c. search needs)
+    (λ c. search needs)
+    (λ c. search needs)
     loop-again
     returns-2)

@@ -23,9 +23,6 @@ loop-holds c = (omega arith, refl)
 shared-slice-read-ends-word : tie.Need-shared-slice-read-ends-word Inv-loop μ-loop
 shared-slice-read-ends-word c = omega arith
 
-ends-word-requires : tie.Need-ends-word-requires Inv-loop μ-loop
-ends-word-requires c κs = search needs
-
 returns : tie.Need-returns Inv-loop μ-loop
 returns c =
     let a = c .before .before .before .before in (
@@ -59,7 +56,7 @@ word-end-spec =
     μ-loop
     loop-holds
     shared-slice-read-ends-word
-    ends-word-requires
+    (λ c κs. search needs)
     returns
     add-i
     loop-less

@@ -7,18 +7,6 @@ use Rattle.exports.proofs.delvouzh_check.Tie as tie
 returns : tie.Need-returns
 returns c = check-refused (c .if1 .taken)
 
-body-verdict-requires : tie.Need-body-verdict-requires
-body-verdict-requires c κs = search needs
-
-write-values-requires : tie.Need-write-values-requires
-write-values-requires c κs = search needs
-
-verdict-number-requires : tie.Need-verdict-number-requires
-verdict-number-requires c κs = search needs
-
-same-length : tie.Need-same-length
-same-length c = search needs
-
 returns-2 : tie.Need-returns-2
 returns-2 c =
     let w = c .before .before .before in
@@ -30,8 +18,8 @@ delvouzh-check-spec =
     tie.close
     (tie.spec
     returns
-    body-verdict-requires
-    write-values-requires
-    verdict-number-requires
-    same-length
+    (λ c κs. search needs)
+    (λ c κs. search needs)
+    (λ c κs. search needs)
+    (λ c. search needs)
     returns-2)

@@ -10,24 +10,6 @@ returns c = chords-refused (short-figures (c .if1 .taken))
 returns-2 : tie.Need-returns-2
 returns-2 c = chords-refused (short-counts (c .before .if1 .left) (c .if2 .taken))
 
-listed-planform-requires : tie.Need-listed-planform-requires
-listed-planform-requires c κs = search needs
-
-listed-chords-requires : tie.Need-listed-chords-requires
-listed-chords-requires c κs = search needs
-
-write-count-requires : tie.Need-write-count-requires
-write-count-requires c κs = search needs
-
-verdict-number-requires : tie.Need-verdict-number-requires
-verdict-number-requires c κs = search needs
-
-same-length : tie.Need-same-length
-same-length c = search needs
-
-same-length-2 : tie.Need-same-length-2
-same-length-2 c = search needs
-
 returns-3 : tie.Need-returns-3
 returns-3 c =
     let w = c .before .before .before in
@@ -41,10 +23,10 @@ delvouzh-chords-at-spec =
     (tie.spec
     returns
     returns-2
-    listed-planform-requires
-    listed-chords-requires
-    write-count-requires
-    verdict-number-requires
-    same-length
-    same-length-2
+    (λ c κs. search needs)
+    (λ c κs. search needs)
+    (λ c κs. search needs)
+    (λ c κs. search needs)
+    (λ c. search needs)
+    (λ c. search needs)
     returns-3)

@@ -11,24 +11,6 @@ returns c = closing-refused (short-figures (c .if1 .taken))
 returns-2 : tie.Need-returns-2
 returns-2 c = closing-refused (short-counts (c .before .if1 .left) (c .if2 .taken))
 
-closing-radius-m-requires : tie.Need-closing-radius-m-requires
-closing-radius-m-requires c κs = search needs
-
-slice-write-radius : tie.Need-slice-write-radius
-slice-write-radius c = search needs
-
-write-values-requires : tie.Need-write-values-requires
-write-values-requires c κs = search needs
-
-verdict-number-requires : tie.Need-verdict-number-requires
-verdict-number-requires c κs = search needs
-
-same-length : tie.Need-same-length
-same-length c = search needs
-
-same-length-2 : tie.Need-same-length-2
-same-length-2 c = search needs
-
 returns-3 : tie.Need-returns-3
 returns-3 c =
     let w = c .before .before .before in
@@ -44,10 +26,10 @@ delvouzh-closing-radius-spec =
     (tie.spec
     returns
     returns-2
-    closing-radius-m-requires
-    slice-write-radius
-    write-values-requires
-    verdict-number-requires
-    same-length
-    same-length-2
+    (λ c κs. search needs)
+    (λ c. search needs)
+    (λ c κs. search needs)
+    (λ c κs. search needs)
+    (λ c. search needs)
+    (λ c. search needs)
     returns-3)

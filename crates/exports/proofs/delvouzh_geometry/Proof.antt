@@ -10,30 +10,6 @@ returns c = area-refused (short-figures (c .if1 .taken))
 returns-2 : tie.Need-returns-2
 returns-2 c = area-refused (short-counts (c .before .if1 .left) (c .if2 .taken))
 
-listed-planform-requires : tie.Need-listed-planform-requires
-listed-planform-requires c κs = search needs
-
-area-figures-requires : tie.Need-area-figures-requires
-area-figures-requires c κs = search needs
-
-write-three-requires : tie.Need-write-three-requires
-write-three-requires c κs = search needs
-
-write-counts-requires : tie.Need-write-counts-requires
-write-counts-requires c κs = search needs
-
-verdict-number-requires : tie.Need-verdict-number-requires
-verdict-number-requires c κs = search needs
-
-same-length : tie.Need-same-length
-same-length c = search needs
-
-same-length-2 : tie.Need-same-length-2
-same-length-2 c = search needs
-
-same-length-3 : tie.Need-same-length-3
-same-length-3 c = search needs
-
 returns-3 : tie.Need-returns-3
 returns-3 c =
     let w = c .before .before .before in
@@ -48,12 +24,12 @@ delvouzh-geometry-spec =
     (tie.spec
     returns
     returns-2
-    listed-planform-requires
-    area-figures-requires
-    write-three-requires
-    write-counts-requires
-    verdict-number-requires
-    same-length
-    same-length-2
-    same-length-3
+    (λ c κs. search needs)
+    (λ c κs. search needs)
+    (λ c κs. search needs)
+    (λ c κs. search needs)
+    (λ c κs. search needs)
+    (λ c. search needs)
+    (λ c. search needs)
+    (λ c. search needs)
     returns-3)

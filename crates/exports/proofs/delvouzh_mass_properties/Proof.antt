@@ -10,30 +10,6 @@ returns c = set-refused (short-figures (c .if1 .taken))
 returns-2 : tie.Need-returns-2
 returns-2 c = set-refused (short-counts (c .before .if1 .left) (c .if2 .taken))
 
-listed-set-requires : tie.Need-listed-set-requires
-listed-set-requires c κs = search needs
-
-set-figures-requires : tie.Need-set-figures-requires
-set-figures-requires c κs = search needs
-
-write-body-requires : tie.Need-write-body-requires
-write-body-requires c κs = search needs
-
-write-counts-requires : tie.Need-write-counts-requires
-write-counts-requires c κs = search needs
-
-verdict-number-requires : tie.Need-verdict-number-requires
-verdict-number-requires c κs = search needs
-
-same-length : tie.Need-same-length
-same-length c = search needs
-
-same-length-2 : tie.Need-same-length-2
-same-length-2 c = search needs
-
-same-length-3 : tie.Need-same-length-3
-same-length-3 c = search needs
-
 returns-3 : tie.Need-returns-3
 returns-3 c =
     let w = c .before .before .before in
@@ -48,12 +24,12 @@ delvouzh-mass-properties-spec =
     (tie.spec
     returns
     returns-2
-    listed-set-requires
-    set-figures-requires
-    write-body-requires
-    write-counts-requires
-    verdict-number-requires
-    same-length
-    same-length-2
-    same-length-3
+    (λ c κs. search needs)
+    (λ c κs. search needs)
+    (λ c κs. search needs)
+    (λ c κs. search needs)
+    (λ c κs. search needs)
+    (λ c. search needs)
+    (λ c. search needs)
+    (λ c. search needs)
     returns-3)

@@ -11,21 +11,6 @@ returns c = body-refused (short-figures (c .if1 .taken))
 returns-2 : tie.Need-returns-2
 returns-2 c = body-refused (short-counts (c .before .if1 .left) (c .if2 .taken))
 
-write-body-requires : tie.Need-write-body-requires
-write-body-requires c κs = search needs
-
-write-values-requires : tie.Need-write-values-requires
-write-values-requires c κs = search needs
-
-verdict-number-requires : tie.Need-verdict-number-requires
-verdict-number-requires c κs = search needs
-
-same-length : tie.Need-same-length
-same-length c = search needs
-
-same-length-2 : tie.Need-same-length-2
-same-length-2 c = search needs
-
 returns-3 : tie.Need-returns-3
 returns-3 c =
     let w = c .before .before .before in
@@ -39,9 +24,9 @@ told-body-spec =
     (tie.spec
     returns
     returns-2
-    write-body-requires
-    write-values-requires
-    verdict-number-requires
-    same-length
-    same-length-2
+    (λ c κs. search needs)
+    (λ c κs. search needs)
+    (λ c κs. search needs)
+    (λ c. search needs)
+    (λ c. search needs)
     returns-3)

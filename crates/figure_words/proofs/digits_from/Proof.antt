@@ -18,18 +18,6 @@ Inv-loop word at n before end number₀ i₀ number i = Runs word at n before nu
 abbrev μ-loop : tie.MeasureT-loop
 μ-loop word at n before end number₀ i₀ number i = end - i
 
-sub-least : tie.Need-sub-least Inv-loop μ-loop
-sub-least c = search needs
-
-sub-least-2 : tie.Need-sub-least-2 Inv-loop μ-loop
-sub-least-2 c = search needs
-
-least-requires : tie.Need-least-requires Inv-loop μ-loop
-least-requires c κs = search needs
-
-add-end : tie.Need-add-end Inv-loop μ-loop
-add-end c = search needs
-
 loop-holds : tie.Need-loop-holds Inv-loop μ-loop
 loop-holds c =
     let a = c .before .before .args in
@@ -39,9 +27,6 @@ loop-holds c =
 
 shared-slice-read-digit-value : tie.Need-shared-slice-read-digit-value Inv-loop μ-loop
 shared-slice-read-digit-value c = omega arith
-
-digit-value-requires : tie.Need-digit-value-requires Inv-loop μ-loop
-digit-value-requires c κs = search needs
 
 returns : tie.Need-returns Inv-loop μ-loop
 returns c =
@@ -91,9 +76,6 @@ mul-number c = omega (arith, fits-number c)
 add-number : tie.Need-add-number Inv-loop μ-loop
 add-number c = omega (arith, fits-number c)
 
-add-i : tie.Need-add-i Inv-loop μ-loop
-add-i c = search needs
-
 loop-less : tie.Need-loop-less Inv-loop μ-loop
 loop-less c = omega arith
 
@@ -112,17 +94,17 @@ digits-from-spec =
     (tie.spec
     Inv-loop
     μ-loop
-    sub-least
-    sub-least-2
-    least-requires
-    add-end
+    (λ c. search needs)
+    (λ c. search needs)
+    (λ c κs. search needs)
+    (λ c. search needs)
     loop-holds
     shared-slice-read-digit-value
-    digit-value-requires
+    (λ c κs. search needs)
     returns
     mul-number
     add-number
-    add-i
+    (λ c. search needs)
     loop-less
     loop-again
     returns-2)

@@ -7,23 +7,11 @@ use Rattle.figure_words.proofs.read_decimal.Tie as tie
 returns : tie.Need-returns
 returns c = no-word (c .before .before .args .word .now) (c .if1 .taken)
 
-shared-slice-read-b : tie.Need-shared-slice-read-b
-shared-slice-read-b c = search needs
-
-read-unsigned-requires : tie.Need-read-unsigned-requires
-read-unsigned-requires c κs = search needs
-
 returns-2 : tie.Need-returns-2
 returns-2 c = let some = c .before .before .before in plus-word (some .before .before .args .word .now) (some .if1 .left) (c .before .if2 .taken) (c .read-unsigned .ensures)
 
-read-unsigned-requires-2 : tie.Need-read-unsigned-requires-2
-read-unsigned-requires-2 c κs = search needs
-
 returns-3 : tie.Need-returns-3
 returns-3 c = let some = c .before .before .before .before in minus-word (some .before .before .args .word .now) (some .if1 .left) (c .before .if3 .taken) (c .read-unsigned2 .ensures)
-
-read-unsigned-requires-3 : tie.Need-read-unsigned-requires-3
-read-unsigned-requires-3 c κs = search needs
 
 returns-4 : tie.Need-returns-4
 returns-4 c = let some = c .before .before .before .before in bare-word (some .before .before .args .word .now) (some .if1 .left) (c .before .before .if2 .left) (c .before .if3 .left) (c .read-unsigned3 .ensures)
@@ -33,10 +21,10 @@ read-decimal-spec =
     tie.close
     (tie.spec
     returns
-    shared-slice-read-b
-    read-unsigned-requires
+    (λ c. search needs)
+    (λ c κs. search needs)
     returns-2
-    read-unsigned-requires-2
+    (λ c κs. search needs)
     returns-3
-    read-unsigned-requires-3
+    (λ c κs. search needs)
     returns-4)

@@ -7,26 +7,8 @@ use Rattle.figure_words.proofs.read_figure.Tie as tie
 returns : tie.Need-returns
 returns c = no-figure (c .before .before .args .word .now) (c .if1 .taken)
 
-shared-slice-read-if2 : tie.Need-shared-slice-read-if2
-shared-slice-read-if2 c = search needs
-
-sub-read-figure : tie.Need-sub-read-figure
-sub-read-figure c = search needs
-
-part-read-figure-start : tie.Need-part-read-figure-start
-part-read-figure-start c = search needs
-
-part-read-figure-end : tie.Need-part-read-figure-end
-part-read-figure-end c = search needs
-
-read-figure-requires : tie.Need-read-figure-requires
-read-figure-requires c κs = search needs
-
 returns-2 : tie.Need-returns-2
 returns-2 c = let some = c .before .before .before .before in marked (some .before .before .args .word .now) (some .if1 .left) (c .before .before .if2 .taken) (c .read-figure .ensures)
-
-read-decimal-requires : tie.Need-read-decimal-requires
-read-decimal-requires c κs = search needs
 
 returns-3 : tie.Need-returns-3
 returns-3 c = let some = c .before .before .before in unmarked (some .before .before .args .word .now) (some .if1 .left) (c .before .if2 .left) (c .read-decimal .ensures)
@@ -36,11 +18,11 @@ read-figure-spec =
     tie.close
     (tie.spec
     returns
-    shared-slice-read-if2
-    sub-read-figure
-    part-read-figure-start
-    part-read-figure-end
-    read-figure-requires
+    (λ c. search needs)
+    (λ c. search needs)
+    (λ c. search needs)
+    (λ c. search needs)
+    (λ c κs. search needs)
     returns-2
-    read-decimal-requires
+    (λ c κs. search needs)
     returns-3)

@@ -13,26 +13,14 @@ use borrow.Author.Needs.{needs}
 use Rattle.figure_words.proofs.read_unsigned.Statement.{statement}
 use Rattle.figure_words.proofs.read_unsigned.Tie as tie
 
-digits-from-requires : tie.Need-digits-from-requires
-digits-from-requires c κs = search needs
-
 returns : tie.Need-returns
 returns c = let run = c .before in let a = run .before .before .args in none (a .bare) (a .minus) (a .word .now) (a .at) _ _ (run .digits-from .ensures) (c .if1 .taken)
-
-sub-whole-figure : tie.Need-sub-whole-figure
-sub-whole-figure c = search needs
-
-whole-figure-requires : tie.Need-whole-figure-requires
-whole-figure-requires c κs = search needs
 
 returns-2 : tie.Need-returns-2
 returns-2 c =
     let run = c .before .before .before in
     let a = run .before .before .args in
     whole-read (a .bare) (a .minus) (a .word .now) (a .at) _ _ (run .digits-from .ensures) (c .before .if2 .taken) (c .whole-figure .ensures)
-
-shared-slice-read-if3 : tie.Need-shared-slice-read-if3
-shared-slice-read-if3 c = search needs
 
 returns-3 : tie.Need-returns-3
 returns-3 c =
@@ -41,21 +29,12 @@ returns-3 c =
     let a = run .before .before .args in
     other-byte (a .bare) (a .minus) (a .word .now) (a .at) _ _ (run .digits-from .ensures) (past .if2 .left) (c .if3 .taken)
 
-add-digits-from : tie.Need-add-digits-from
-add-digits-from c = search needs
-
-sub-digits-from : tie.Need-sub-digits-from
-sub-digits-from c = search needs
-
 digits-from-requires-2 : tie.Need-digits-from-requires-2
 digits-from-requires-2 c κs =
     let past = c .before .before in
     let run = past .before .before in
     let a = run .before .before .args in
     for-second (a .bare) (a .minus) (a .word .now) (a .at) _ _ (run .digits-from .ensures) (past .if2 .left)
-
-add-if4 : tie.Need-add-if4
-add-if4 c = search needs
 
 -- what holds behind the point, wherever the second run ends
 record Behind (bare minus : Bool) (w : List ℕ) (at e m' e' : ℕ) : Type 0 where
@@ -90,12 +69,6 @@ returns-4 c = behind (c .before) .none-there (c .if4 .taken)
 returns-5 : tie.Need-returns-5
 returns-5 c = behind (c .before .before) .more-there (c .if5 .taken)
 
-sub-nearest-decimal : tie.Need-sub-nearest-decimal
-sub-nearest-decimal c = search needs
-
-sub-nearest-decimal-2 : tie.Need-sub-nearest-decimal-2
-sub-nearest-decimal-2 c = search needs
-
 nearest-decimal-requires : tie.Need-nearest-decimal-requires
 nearest-decimal-requires c κs = behind (c .before .before) .few
 
@@ -106,20 +79,20 @@ pub read-unsigned-spec : {M : Type 1} → statement M
 read-unsigned-spec =
     tie.close
     (tie.spec
-    digits-from-requires
+    (λ c κs. search needs)
     returns
-    sub-whole-figure
-    whole-figure-requires
+    (λ c. search needs)
+    (λ c κs. search needs)
     returns-2
-    shared-slice-read-if3
+    (λ c. search needs)
     returns-3
-    add-digits-from
-    sub-digits-from
+    (λ c. search needs)
+    (λ c. search needs)
     digits-from-requires-2
-    add-if4
+    (λ c. search needs)
     returns-4
     returns-5
-    sub-nearest-decimal
-    sub-nearest-decimal-2
+    (λ c. search needs)
+    (λ c. search needs)
     nearest-decimal-requires
     returns-6)

@@ -9,30 +9,6 @@ use borrow.Author.Needs.{needs}
 use Rattle.figures.proofs.concluded.Statement.{statement}
 use Rattle.figures.proofs.concluded.Tie as tie
 
-integrals-requires : tie.Need-integrals-requires
-integrals-requires c κs = search needs
-
-array-read-conclusion : tie.Need-array-read-conclusion
-array-read-conclusion c = search needs
-
-conclusion-requires : tie.Need-conclusion-requires
-conclusion-requires c κs = search needs
-
-enum-told : tie.Need-enum-told
-enum-told c = search needs
-
-fin-requires : tie.Need-fin-requires
-fin-requires c κs = search needs
-
-ring-requires : tie.Need-ring-requires
-ring-requires c κs = search needs
-
-enum-known-verdict : tie.Need-enum-known-verdict
-enum-known-verdict c = search needs
-
-bare-figures-requires : tie.Need-bare-figures-requires
-bare-figures-requires c κs = search needs
-
 returns : tie.Need-returns
 returns c =
     let told = c .before .before in
@@ -54,13 +30,13 @@ pub concluded-spec : {M : Type 1} → statement M
 concluded-spec =
     tie.close
     (tie.spec
-    integrals-requires
-    array-read-conclusion
-    conclusion-requires
-    enum-told
-    fin-requires
-    ring-requires
-    enum-known-verdict
-    bare-figures-requires
+    (λ c κs. search needs)
+    (λ c. search needs)
+    (λ c κs. search needs)
+    (λ c. search needs)
+    (λ c κs. search needs)
+    (λ c κs. search needs)
+    (λ c. search needs)
+    (λ c κs. search needs)
     returns
     returns-2)

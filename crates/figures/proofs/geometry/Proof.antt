@@ -6,23 +6,8 @@ use borrow.Author.Needs.{needs}
 use Rattle.figures.proofs.geometry.Statement.{statement}
 use Rattle.figures.proofs.geometry.Tie as tie
 
-check-area-requires : tie.Need-check-area-requires
-check-area-requires c κs = search needs
-
-enum-told : tie.Need-enum-told
-enum-told c = search needs
-
 work-area-requires : tie.Need-work-area-requires
 work-area-requires c κs = sym (c .before .before .before .check-area .ensures .is) ∙ c .before .enum-told .given .1
-
-enum-known-verdict : tie.Need-enum-known-verdict
-enum-known-verdict c = search needs
-
-refused-area-requires : tie.Need-refused-area-requires
-refused-area-requires c κs = search needs
-
-same-length : tie.Need-same-length
-same-length c = search needs
 
 returns : tie.Need-returns
 returns c =
@@ -45,11 +30,11 @@ pub geometry-spec : {M : Type 1} → statement M
 geometry-spec =
     tie.close
     (tie.spec
-    check-area-requires
-    enum-told
+    (λ c κs. search needs)
+    (λ c. search needs)
     work-area-requires
-    enum-known-verdict
-    refused-area-requires
-    same-length
+    (λ c. search needs)
+    (λ c κs. search needs)
+    (λ c. search needs)
     returns
     returns-2)

@@ -6,23 +6,8 @@ use borrow.Author.Needs.{needs}
 use Rattle.figures.proofs.mass_properties.Statement.{statement}
 use Rattle.figures.proofs.mass_properties.Tie as tie
 
-check-set-requires : tie.Need-check-set-requires
-check-set-requires c κs = search needs
-
-enum-told : tie.Need-enum-told
-enum-told c = search needs
-
 work-set-requires : tie.Need-work-set-requires
 work-set-requires c κs = sym (c .before .before .before .check-set .ensures .is) ∙ c .before .enum-told .given .1
-
-enum-known-verdict : tie.Need-enum-known-verdict
-enum-known-verdict c = search needs
-
-bare-figures-requires : tie.Need-bare-figures-requires
-bare-figures-requires c κs = search needs
-
-same-length : tie.Need-same-length
-same-length c = search needs
 
 returns : tie.Need-returns
 returns c =
@@ -45,11 +30,11 @@ pub mass-properties-spec : {M : Type 1} → statement M
 mass-properties-spec =
     tie.close
     (tie.spec
-    check-set-requires
-    enum-told
+    (λ c κs. search needs)
+    (λ c. search needs)
     work-set-requires
-    enum-known-verdict
-    bare-figures-requires
-    same-length
+    (λ c. search needs)
+    (λ c κs. search needs)
+    (λ c. search needs)
     returns
     returns-2)

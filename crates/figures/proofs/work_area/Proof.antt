@@ -7,19 +7,10 @@ use borrow.Author.Needs.{needs}
 use Rattle.figures.proofs.work_area.Statement.{statement}
 use Rattle.figures.proofs.work_area.Tie as tie
 
-area-integrand-requires : tie.Need-area-integrand-requires
-area-integrand-requires c κs = search needs
-
 work-strips-requires : tie.Need-work-strips-requires
 work-strips-requires c κs =
     let s = c .before .before .before .before in
     area-run (s .args .planform) (s .args .points .now) (s .args .limit) _ (s .pre)
-
-concluded-area-requires : tie.Need-concluded-area-requires
-concluded-area-requires c κs = search needs
-
-same-length : tie.Need-same-length
-same-length c = search needs
 
 returns : tie.Need-returns
 returns c =
@@ -38,8 +29,8 @@ pub work-area-spec : {M : Type 1} → statement M
 work-area-spec =
     tie.close
     (tie.spec
-    area-integrand-requires
+    (λ c κs. search needs)
     work-strips-requires
-    concluded-area-requires
-    same-length
+    (λ c κs. search needs)
+    (λ c. search needs)
     returns)

@@ -7,14 +7,8 @@ use borrow.Author.Needs.{needs}
 use Rattle.figures.proofs.work_set.Statement.{statement}
 use Rattle.figures.proofs.work_set.Tie as tie
 
-span-m-requires : tie.Need-span-m-requires
-span-m-requires c κs = search needs
-
 plate-integrand-requires : tie.Need-plate-integrand-requires
 plate-integrand-requires c κs = c .span-m .ensures
-
-root-chord-m-requires : tie.Need-root-chord-m-requires
-root-chord-m-requires c κs = search needs
 
 work-strips-requires : tie.Need-work-strips-requires
 work-strips-requires c κs =
@@ -25,9 +19,6 @@ concluded-requires : tie.Need-concluded-requires
 concluded-requires c κs =
     let s = c .before .before .before .before .before .before .before .before .before in
     count-within _ (set-accepted (s .args .set) (s .args .points .now) (s .args .limit) _ (s .pre) .count) .1
-
-same-length : tie.Need-same-length
-same-length c = search needs
 
 returns : tie.Need-returns
 returns c =
@@ -45,10 +36,10 @@ pub work-set-spec : {M : Type 1} → statement M
 work-set-spec =
     tie.close
     (tie.spec
-    span-m-requires
+    (λ c κs. search needs)
     plate-integrand-requires
-    root-chord-m-requires
+    (λ c κs. search needs)
     work-strips-requires
     concluded-requires
-    same-length
+    (λ c. search needs)
     returns)

@@ -7,21 +7,6 @@ use borrow.Author.Needs.{needs}
 use Rattle.fins.proofs.check_area.Statement.{statement}
 use Rattle.fins.proofs.check_area.Tie as tie
 
-check-limit-requires : tie.Need-check-limit-requires
-check-limit-requires c κs = search needs
-
-check-scratch-requires : tie.Need-check-scratch-requires
-check-scratch-requires c κs = search needs
-
-first-refusal-requires : tie.Need-first-refusal-requires
-first-refusal-requires c κs = search needs
-
-check-planform-requires : tie.Need-check-planform-requires
-check-planform-requires c κs = search needs
-
-first-refusal-requires-2 : tie.Need-first-refusal-requires-2
-first-refusal-requires-2 c κs = search needs
-
 returns : tie.Need-returns
 unfolding areaCheck
 returns c = is-answer (rw (
@@ -37,9 +22,9 @@ pub check-area-spec : {M : Type 1} → statement M
 check-area-spec =
     tie.close
     (tie.spec
-    check-limit-requires
-    check-scratch-requires
-    first-refusal-requires
-    check-planform-requires
-    first-refusal-requires-2
+    (λ c κs. search needs)
+    (λ c κs. search needs)
+    (λ c κs. search needs)
+    (λ c κs. search needs)
+    (λ c κs. search needs)
     returns)

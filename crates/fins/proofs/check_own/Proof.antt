@@ -38,20 +38,8 @@ by-group set points root e =
     ++ glue))
     e)
 
-check-count-requires : tie.Need-check-count-requires
-check-count-requires c κs = search needs
-
-is-refused-requires : tie.Need-is-refused-requires
-is-refused-requires c κs = search needs
-
 returns : tie.Need-returns
 returns c = is-answer (refused-here _ _ (c .before .before .check-count .ensures) (sym (c .before .is-refused .ensures) ∙ c .if1 .taken) ∙ by-group _ _ _ refl)
-
-check-planform-requires : tie.Need-check-planform-requires
-check-planform-requires c κs = search needs
-
-is-refused-requires-2 : tie.Need-is-refused-requires-2
-is-refused-requires-2 c κs = search needs
 
 returns-2 : tie.Need-returns-2
 returns-2 c =
@@ -60,15 +48,6 @@ returns-2 c =
     (refused-here _ _ (c .before .before .check-planform .ensures .is) (sym (c .before .is-refused2 .ensures) ∙ c .if2 .taken)
     ∙ sym (passed _ _ (e .before .before .check-count .ensures) (sym (e .before .is-refused .ensures) ∙ e .if1 .left))
     ∙ by-group _ _ _ refl)
-
-root-chord-m-requires : tie.Need-root-chord-m-requires
-root-chord-m-requires c κs = search needs
-
-check-plate-requires : tie.Need-check-plate-requires
-check-plate-requires c κs = search needs
-
-is-refused-requires-3 : tie.Need-is-refused-requires-3
-is-refused-requires-3 c κs = search needs
 
 returns-3 : tie.Need-returns-3
 returns-3 c =
@@ -80,12 +59,6 @@ returns-3 c =
     ∙ sym (passed _ _ (e .before .before .check-planform .ensures .is) (sym (e .before .is-refused2 .ensures) ∙ e .if2 .left))
     ∙ sym (passed _ _ (d .before .before .check-count .ensures) (sym (d .before .is-refused .ensures) ∙ d .if1 .left))
     ∙ by-group _ _ _ (root .root-chord-m .ensures))
-
-check-mount-requires : tie.Need-check-mount-requires
-check-mount-requires c κs = search needs
-
-is-refused-requires-4 : tie.Need-is-refused-requires-4
-is-refused-requires-4 c κs = search needs
 
 returns-4 : tie.Need-returns-4
 returns-4 c =
@@ -99,9 +72,6 @@ returns-4 c =
     ∙ sym (passed _ _ (e .before .before .check-planform .ensures .is) (sym (e .before .is-refused2 .ensures) ∙ e .if2 .left))
     ∙ sym (passed _ _ (d .before .before .check-count .ensures) (sym (d .before .is-refused .ensures) ∙ d .if1 .left))
     ∙ by-group _ _ _ (root .root-chord-m .ensures))
-
-check-fillet-requires : tie.Need-check-fillet-requires
-check-fillet-requires c κs = search needs
 
 returns-5 : tie.Need-returns-5
 returns-5 c =
@@ -122,18 +92,18 @@ pub check-own-spec : {M : Type 1} → statement M
 check-own-spec =
     tie.close
     (tie.spec
-    check-count-requires
-    is-refused-requires
+    (λ c κs. search needs)
+    (λ c κs. search needs)
     returns
-    check-planform-requires
-    is-refused-requires-2
+    (λ c κs. search needs)
+    (λ c κs. search needs)
     returns-2
-    root-chord-m-requires
-    check-plate-requires
-    is-refused-requires-3
+    (λ c κs. search needs)
+    (λ c κs. search needs)
+    (λ c κs. search needs)
     returns-3
-    check-mount-requires
-    is-refused-requires-4
+    (λ c κs. search needs)
+    (λ c κs. search needs)
     returns-4
-    check-fillet-requires
+    (λ c κs. search needs)
     returns-5)

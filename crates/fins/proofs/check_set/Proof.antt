@@ -16,18 +16,6 @@ unfolding firstRefusal
 in-a-row Accepted scratch later = refl
 in-a-row (Refused refusal) scratch later = refl
 
-check-limit-requires : tie.Need-check-limit-requires
-check-limit-requires c κs = search needs
-
-check-scratch-requires : tie.Need-check-scratch-requires
-check-scratch-requires c κs = search needs
-
-first-refusal-requires : tie.Need-first-refusal-requires
-first-refusal-requires c κs = search needs
-
-is-refused-requires : tie.Need-is-refused-requires
-is-refused-requires c κs = search needs
-
 returns : tie.Need-returns
 unfolding setCheck ownCheck
 returns c =
@@ -35,9 +23,6 @@ returns c =
     is-answer
     (refused-here _ _ (v .first-refusal .ensures ∙ ap₂ firstRefusal (v .before .before .check-limit .ensures) (v .before .check-scratch .ensures)) (sym (c .before .is-refused .ensures) ∙ c .if1 .taken)
     ∙ in-a-row _ _ _)
-
-check-own-requires : tie.Need-check-own-requires
-check-own-requires c κs = search needs
 
 returns-2 : tie.Need-returns-2
 unfolding setCheck ownCheck
@@ -53,10 +38,10 @@ pub check-set-spec : {M : Type 1} → statement M
 check-set-spec =
     tie.close
     (tie.spec
-    check-limit-requires
-    check-scratch-requires
-    first-refusal-requires
-    is-refused-requires
+    (λ c κs. search needs)
+    (λ c κs. search needs)
+    (λ c κs. search needs)
+    (λ c κs. search needs)
     returns
-    check-own-requires
+    (λ c κs. search needs)
     returns-2)

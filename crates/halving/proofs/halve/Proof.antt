@@ -14,18 +14,6 @@ use Rattle.halving.proofs.Halvings.{halves-are, halves-counted}
 use Rattle.halving.proofs.halve.Statement.{statement}
 use Rattle.halving.proofs.halve.Tie as tie
 
-read-requires : tie.Need-read-requires
-read-requires c κs = search needs
-
-middle-requires : tie.Need-middle-requires
-middle-requires c κs = search needs
-
-rule-requires : tie.Need-rule-requires
-rule-requires c κs = search needs
-
-rule-requires-2 : tie.Need-rule-requires-2
-rule-requires-2 c κs = search needs
-
 -- the arguments, from where the second half is measured
 abbrev start : tie.After-rule2 → tie.Start
 start c = c .before .before .before .before .before .before .before
@@ -50,9 +38,6 @@ add-result c =
     let r = ap (λ (x : Measurement). x .samples) (r2 .rule2 .ensures) ∙ fifteen _ _ in
     omega (arith, l, r)
 
-same-length : tie.Need-same-length
-same-length c = search needs
-
 returns : tie.Need-returns
 returns c =
     let w2 = c .before .before .before .before in
@@ -76,12 +61,12 @@ pub halve-spec : {M : Type 1} → statement M
 halve-spec =
     tie.close
     (tie.spec
-    read-requires
-    middle-requires
-    rule-requires
-    rule-requires-2
+    (λ c κs. search needs)
+    (λ c κs. search needs)
+    (λ c κs. search needs)
+    (λ c κs. search needs)
     write-requires
     write-requires-2
     add-result
-    same-length
+    (λ c. search needs)
     returns)

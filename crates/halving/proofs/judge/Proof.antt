@@ -4,40 +4,16 @@ use Rattle.halving.proofs.Judging.{judged-within, judged-full, judged-m
 use Rattle.halving.proofs.judge.Statement.{statement}
 use Rattle.halving.proofs.judge.Tie as tie
 
-total-requires : tie.Need-total-requires
-total-requires c κs = search needs
-
-bounds-requires : tie.Need-bounds-requires
-bounds-requires c κs = search needs
-
-all-within-requires : tie.Need-all-within-requires
-all-within-requires c κs = search needs
-
 returns : tie.Need-returns
 returns c =
     let r = c .before in
     judged-within _ _ _ _ _ _ (r .before .before .before .before .before .before .pre .0) (r .before .before .before .before .total .ensures) (r .before .bounds .ensures) (r .all-within .ensures) (c .if1 .taken)
-
-component-requires : tie.Need-component-requires
-component-requires c κs = search needs
 
 returns-2 : tie.Need-returns-2
 returns-2 c =
     let f = c .before .before in
     let r = f .before in
     judged-full _ _ _ _ _ _ (r .before .before .before .before .before .before .pre .0) (r .before .before .before .before .total .ensures) (r .before .bounds .ensures) (r .all-within .ensures) (f .if1 .left) (c .before .if2 .taken) _ (c .component .ensures)
-
-worst-requires : tie.Need-worst-requires
-worst-requires c κs = search needs
-
-read-requires : tie.Need-read-requires
-read-requires c κs = search needs
-
-middle-is-end-requires : tie.Need-middle-is-end-requires
-middle-is-end-requires c κs = search needs
-
-component-requires-2 : tie.Need-component-requires-2
-component-requires-2 c κs = search needs
 
 returns-3 : tie.Need-returns-3
 returns-3 c =
@@ -59,15 +35,15 @@ pub judge-spec : {M : Type 1} → statement M
 judge-spec =
     tie.close
     (tie.spec
-    total-requires
-    bounds-requires
-    all-within-requires
+    (λ c κs. search needs)
+    (λ c κs. search needs)
+    (λ c κs. search needs)
     returns
-    component-requires
+    (λ c κs. search needs)
     returns-2
-    worst-requires
-    read-requires
-    middle-is-end-requires
-    component-requires-2
+    (λ c κs. search needs)
+    (λ c κs. search needs)
+    (λ c κs. search needs)
+    (λ c κs. search needs)
     returns-3
     returns-4)

@@ -26,12 +26,6 @@ judge-requires c κs =
     let l = c .before in
     omega (arith, l .loop .inv, l .before .before .before .pre)
 
-enum-known-next : tie.Need-enum-known-next Inv-loop μ-loop
-enum-known-next c = search needs
-
-answer-requires : tie.Need-answer-requires Inv-loop μ-loop
-answer-requires c κs = search needs
-
 same-length : tie.Need-same-length Inv-loop μ-loop
 same-length c = c .before .before .before .before .before .before .before .loop .inv .long
 
@@ -42,9 +36,6 @@ returns c =
     let l = j .before .before in
     rw (c .answer .ensures)
     (turn-ended _ _ _ _ _ _ _ (l .loop .inv) (l .before .before .before .pre .2) _ (j .judge .ensures) _ (x .next .given .1))
-
-enum-known-next-2 : tie.Need-enum-known-next-2 Inv-loop μ-loop
-enum-known-next-2 c = search needs
 
 -- the turn that led to a halving
 abbrev Loop· : tie.After-next2 Inv-loop μ-loop → tie.At-loop Inv-loop μ-loop
@@ -104,11 +95,11 @@ repeat-spec =
     μ-loop
     loop-holds
     judge-requires
-    enum-known-next
-    answer-requires
+    (λ c. search needs)
+    (λ c κs. search needs)
     same-length
     returns
-    enum-known-next-2
+    (λ c. search needs)
     halve-requires
     add-samples
     add-n

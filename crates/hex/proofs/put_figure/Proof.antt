@@ -27,17 +27,11 @@ printed : (x : Float) (out₀ out : List ℕ) (n k rest : ℕ) → k ≡ 0 → t
 unfolding figureText
 printed x out₀ out n k rest z e t = all-printed (digits 16 (printedBits x)) out₀ out n k rest z e t
 
-printed-bits-requires : tie.Need-printed-bits-requires Inv-loop μ-loop
-printed-bits-requires c κs = search needs
-
 loop-holds : tie.Need-loop-holds Inv-loop μ-loop
 loop-holds c = (omega arith, refl, refl, start (c .before .before .args .x) (now (c .before .before .args .out)) (c .before .before .args .n) (c .printed-bits .result) (c .printed-bits .ensures), refl)
 
 sub-k : tie.Need-sub-k Inv-loop μ-loop
 sub-k c = omega arith
-
-digit-letter-requires : tie.Need-digit-letter-requires Inv-loop μ-loop
-digit-letter-requires c κs = search needs
 
 add-out : tie.Need-add-out Inv-loop μ-loop
 add-out c = omega arith
@@ -71,10 +65,10 @@ put-figure-spec =
     (tie.spec
     Inv-loop
     μ-loop
-    printed-bits-requires
+    (λ c κs. search needs)
     loop-holds
     sub-k
-    digit-letter-requires
+    (λ c κs. search needs)
     add-out
     slice-write-out
     loop-less

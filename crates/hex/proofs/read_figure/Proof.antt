@@ -12,23 +12,11 @@ use Rattle.hex.proofs.read_figure.Tie as tie
 returns : tie.Need-returns
 returns c = other-length _ (c .if1 .taken)
 
-load-requires : tie.Need-load-requires
-load-requires c κs = search needs
-
-load-requires-2 : tie.Need-load-requires-2
-load-requires-2 c κs = search needs
-
-all-digits-requires : tie.Need-all-digits-requires
-all-digits-requires c κs = search needs
-
 returns-2 : tie.Need-returns-2
 returns-2 c =
     let second = c .before .before in let first = second .before in
     first-bad _ (first .before .if1 .left) (first .load .result) (second .load2 .result) (first .load .ensures) (second .load2 .ensures)
     (sym (c .before .all-digits .ensures) ∙ not-true _ (c .if2 .taken))
-
-all-digits-requires-2 : tie.Need-all-digits-requires-2
-all-digits-requires-2 c κs = search needs
 
 first-good : (c : tie.Else2) → allDigits (bytesOf (c .before .before .before .load .result)) ≡ true
 first-good c = sym (c .before .all-digits .ensures) ∙ not-false _ (c .if2 .left)
@@ -45,17 +33,8 @@ second-good c = sym (c .before .all-digits2 .ensures) ∙ not-false _ (c .if3 .l
 number-requires : tie.Need-number-requires
 number-requires c κs = first-good (c .before .before)
 
-mul-from-bits : tie.Need-mul-from-bits
-mul-from-bits c = search needs
-
 number-requires-2 : tie.Need-number-requires-2
 number-requires-2 c κs = second-good (c .before)
-
-add-from-bits : tie.Need-add-from-bits
-add-from-bits c = search needs
-
-from-bits-requires : tie.Need-from-bits-requires
-from-bits-requires c κs = search needs
 
 returns-4 : tie.Need-returns-4
 returns-4 c =
@@ -69,15 +48,15 @@ read-figure-spec =
     tie.close
     (tie.spec
     returns
-    load-requires
-    load-requires-2
-    all-digits-requires
+    (λ c κs. search needs)
+    (λ c κs. search needs)
+    (λ c κs. search needs)
     returns-2
-    all-digits-requires-2
+    (λ c κs. search needs)
     returns-3
     number-requires
-    mul-from-bits
+    (λ c. search needs)
     number-requires-2
-    add-from-bits
-    from-bits-requires
+    (λ c. search needs)
+    (λ c κs. search needs)
     returns-4)

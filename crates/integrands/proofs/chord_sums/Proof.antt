@@ -38,9 +38,6 @@ mul-add-chord-4 c = omega arith
 shared-slice-read-add-chord-2 : tie.Need-shared-slice-read-add-chord-2 Inv-loop μ-loop
 shared-slice-read-add-chord-2 c = omega arith
 
-add-chord-requires : tie.Need-add-chord-requires Inv-loop μ-loop
-add-chord-requires c κs = search needs
-
 add-k : tie.Need-add-k Inv-loop μ-loop
 add-k c = omega arith
 
@@ -73,7 +70,7 @@ chord-sums-spec =
     add-add-chord
     mul-add-chord-4
     shared-slice-read-add-chord-2
-    add-chord-requires
+    (λ c κs. search needs)
     add-k
     loop-less
     loop-again

@@ -8,20 +8,11 @@ use borrow.Author.Needs.{needs}
 use Rattle.integrands.proofs.sample.Statement.{statement}
 use Rattle.integrands.proofs.sample.Tie as tie
 
-edges-near-requires : tie.Need-edges-near-requires
-edges-near-requires c κs = search needs
-
-array-share-prefix-edges : tie.Need-array-share-prefix-edges
-array-share-prefix-edges c = search needs
-
 slice-aggregate-chords-at : tie.Need-slice-aggregate-chords-at
 slice-aggregate-chords-at c = sym (length-take-le _ _ (c .before .edges-near .ensures .room))
 
 chords-at-requires : tie.Need-chords-at-requires
 chords-at-requires c κs = λ e. at-one-height (c .before .edges-near .ensures)
-
-array-share-prefix-edges-2 : tie.Need-array-share-prefix-edges-2
-array-share-prefix-edges-2 c = search needs
 
 slice-aggregate-values-over : tie.Need-slice-aggregate-values-over
 slice-aggregate-values-over c = sym (length-take-le _ _ (c .before .before .before .edges-near .ensures .room))
@@ -39,11 +30,11 @@ pub sample-spec : {M : Type 1} → statement M
 sample-spec =
     tie.close
     (tie.spec
-    edges-near-requires
-    array-share-prefix-edges
+    (λ c κs. search needs)
+    (λ c. search needs)
     slice-aggregate-chords-at
     chords-at-requires
-    array-share-prefix-edges-2
+    (λ c. search needs)
     slice-aggregate-values-over
     values-over-requires
     returns)

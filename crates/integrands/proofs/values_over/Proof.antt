@@ -6,24 +6,6 @@ use borrow.Author.Needs.{needs}
 use Rattle.integrands.proofs.values_over.Statement.{statement}
 use Rattle.integrands.proofs.values_over.Tie as tie
 
-enum-known-found : tie.Need-enum-known-found
-enum-known-found c = search needs
-
-add-chord-requires : tie.Need-add-chord-requires
-add-chord-requires c κs = search needs
-
-values-requires : tie.Need-values-requires
-values-requires c κs = search needs
-
-enum-told : tie.Need-enum-told
-enum-told c = search needs
-
-values-requires-2 : tie.Need-values-requires-2
-values-requires-2 c κs = search needs
-
-enum-told-2 : tie.Need-enum-told-2
-enum-told-2 c = search needs
-
 values-over-several-requires : tie.Need-values-over-several-requires
 values-over-several-requires c κs = c .before .before .before .before .pre (c .enum-told2 .given .1)
 
@@ -44,12 +26,12 @@ pub values-over-spec : {M : Type 1} → statement M
 values-over-spec =
     tie.close
     (tie.spec
-    enum-known-found
-    add-chord-requires
-    values-requires
-    enum-told
-    values-requires-2
-    enum-told-2
+    (λ c. search needs)
+    (λ c κs. search needs)
+    (λ c κs. search needs)
+    (λ c. search needs)
+    (λ c κs. search needs)
+    (λ c. search needs)
     values-over-several-requires
     returns
     returns-2

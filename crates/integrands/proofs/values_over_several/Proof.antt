@@ -13,9 +13,6 @@ use borrow.Author.Needs.{needs}
 use Rattle.integrands.proofs.values_over_several.Statement.{statement}
 use Rattle.integrands.proofs.values_over_several.Tie as tie
 
-crossings-of-requires : tie.Need-crossings-of-requires
-crossings-of-requires c κs = search needs
-
 array-share-prefix-ends : tie.Need-array-share-prefix-ends
 array-share-prefix-ends c =
     let a = c .before .before .before .before .args in
@@ -26,12 +23,6 @@ array-share-prefix-ends c =
 
 slice-aggregate-chord-sums : tie.Need-slice-aggregate-chord-sums
 slice-aggregate-chord-sums c = sym (length-take-le _ _ (array-share-prefix-ends (c .before)))
-
-chord-sums-requires : tie.Need-chord-sums-requires
-chord-sums-requires c κs = search needs
-
-values-requires : tie.Need-values-requires
-values-requires c κs = search needs
 
 returns : tie.Need-returns
 returns c =
@@ -46,9 +37,9 @@ pub values-over-several-spec : {M : Type 1} → statement M
 values-over-several-spec =
     tie.close
     (tie.spec
-    crossings-of-requires
+    (λ c κs. search needs)
     array-share-prefix-ends
     slice-aggregate-chord-sums
-    chord-sums-requires
-    values-requires
+    (λ c κs. search needs)
+    (λ c κs. search needs)
     returns)

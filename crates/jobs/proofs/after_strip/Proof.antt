@@ -9,17 +9,8 @@ use borrow.Author.Needs.{needs}
 use Rattle.jobs.proofs.after_strip.Statement.{statement}
 use Rattle.jobs.proofs.after_strip.Tie as tie
 
-is-accepted-requires : tie.Need-is-accepted-requires
-is-accepted-requires c κs = search needs
-
-go-on-requires : tie.Need-go-on-requires
-go-on-requires c κs = search needs
-
 returns : tie.Need-returns
 returns c = c .go-on .ensures ∙ sym (after-more _ _ (both-told _ _ _ (c .before .before .before .is-accepted .ensures) (c .before .if1 .taken)))
-
-held-requires : tie.Need-held-requires
-held-requires c κs = search needs
 
 array-share-prefix-numbers : tie.Need-array-share-prefix-numbers
 array-share-prefix-numbers c =
@@ -29,12 +20,6 @@ array-share-prefix-numbers c =
 
 slice-aggregate-conclude : tie.Need-slice-aggregate-conclude
 slice-aggregate-conclude c = sym (length-take-le _ _ (array-share-prefix-numbers (c .before)))
-
-conclude-requires : tie.Need-conclude-requires
-conclude-requires c κs = search needs
-
-end-requires : tie.Need-end-requires
-end-requires c κs = search needs
 
 returns-2 : tie.Need-returns-2
 returns-2 c =
@@ -50,12 +35,12 @@ pub after-strip-spec : {M : Type 1} → statement M
 after-strip-spec =
     tie.close
     (tie.spec
-    is-accepted-requires
-    go-on-requires
+    (λ c κs. search needs)
+    (λ c κs. search needs)
     returns
-    held-requires
+    (λ c κs. search needs)
     array-share-prefix-numbers
     slice-aggregate-conclude
-    conclude-requires
-    end-requires
+    (λ c κs. search needs)
+    (λ c κs. search needs)
     returns-2)

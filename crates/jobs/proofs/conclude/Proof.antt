@@ -9,28 +9,10 @@ use Rattle.jobs.proofs.Laws.{given, withheld}
 use Rattle.jobs.proofs.conclude.Statement.{statement}
 use Rattle.jobs.proofs.conclude.Tie as tie
 
-check-count-requires : tie.Need-check-count-requires
-check-count-requires c κs = search needs
-
-check-density-requires : tie.Need-check-density-requires
-check-density-requires c κs = search needs
-
-first-refusal-requires : tie.Need-first-refusal-requires
-first-refusal-requires c κs = search needs
-
-enum-told : tie.Need-enum-told
-enum-told c = search needs
-
 concluded-at-requires : tie.Need-concluded-at-requires
 concluded-at-requires c κs =
     let first = c .before .before in
     count-within _ (sym (first .before .before .check-count .ensures) ∙ both _ _ (sym (first .first-refusal .ensures) ∙ c .enum-told .given .1) .0) .1
-
-enum-known-verdict : tie.Need-enum-known-verdict
-enum-known-verdict c = search needs
-
-bare-figures-requires : tie.Need-bare-figures-requires
-bare-figures-requires c κs = search needs
 
 returns : tie.Need-returns
 unfolding outcomeOf
@@ -52,12 +34,12 @@ pub conclude-spec : {M : Type 1} → statement M
 conclude-spec =
     tie.close
     (tie.spec
-    check-count-requires
-    check-density-requires
-    first-refusal-requires
-    enum-told
+    (λ c κs. search needs)
+    (λ c κs. search needs)
+    (λ c κs. search needs)
+    (λ c. search needs)
     concluded-at-requires
-    enum-known-verdict
-    bare-figures-requires
+    (λ c. search needs)
+    (λ c κs. search needs)
     returns
     returns-2)

@@ -24,9 +24,6 @@ Points· c = c .before .before .before .before .args .points .now
 below : (c : tie.In-loop Inv-loop μ-loop) → c .before .loop .i < heldOf (length (Points· c))
 below c = subst (λ (k : ℕ). c .before .loop .i < k) (c .before .before .held .ensures) (c .loop-test .taken)
 
-held-requires : tie.Need-held-requires Inv-loop μ-loop
-held-requires c κs = search needs
-
 loop-holds : tie.Need-loop-holds Inv-loop μ-loop
 loop-holds c = begin _
 
@@ -62,7 +59,7 @@ copied-spec =
     (tie.spec
     Inv-loop
     μ-loop
-    held-requires
+    (λ c κs. search needs)
     loop-holds
     mul-numbers
     shared-slice-read-numbers

@@ -9,9 +9,6 @@ use borrow.Author.Needs.{needs}
 use Rattle.jobs.proofs.progress_of.Statement.{statement}
 use Rattle.jobs.proofs.progress_of.Tie as tie
 
-held-requires : tie.Need-held-requires
-held-requires c κs = search needs
-
 array-share-prefix-numbers : tie.Need-array-share-prefix-numbers
 array-share-prefix-numbers c =
     let s = c .before .before .before .before in
@@ -21,17 +18,11 @@ array-share-prefix-numbers c =
 slice-aggregate-height-at : tie.Need-slice-aggregate-height-at
 slice-aggregate-height-at c = sym (length-take-le _ _ (array-share-prefix-numbers (c .before)))
 
-height-at-requires : tie.Need-height-at-requires
-height-at-requires c κs = search needs
-
 array-share-prefix-numbers-2 : tie.Need-array-share-prefix-numbers-2
 array-share-prefix-numbers-2 c = array-share-prefix-numbers (c .before .before)
 
 slice-aggregate-break-heights : tie.Need-slice-aggregate-break-heights
 slice-aggregate-break-heights c = sym (length-take-le _ _ (array-share-prefix-numbers-2 (c .before)))
-
-break-heights-requires : tie.Need-break-heights-requires
-break-heights-requires c κs = search needs
 
 array-share-prefix-heights : tie.Need-array-share-prefix-heights
 array-share-prefix-heights c = few-breaks _ _ _ (c .before .break-heights .ensures) .0
@@ -61,13 +52,13 @@ pub progress-of-spec : {M : Type 1} → statement M
 progress-of-spec =
     tie.close
     (tie.spec
-    held-requires
+    (λ c κs. search needs)
     array-share-prefix-numbers
     slice-aggregate-height-at
-    height-at-requires
+    (λ c κs. search needs)
     array-share-prefix-numbers-2
     slice-aggregate-break-heights
-    break-heights-requires
+    (λ c κs. search needs)
     array-share-prefix-heights
     slice-aggregate-count-below
     count-below-requires

@@ -9,9 +9,6 @@ use borrow.Author.Needs.{needs}
 use Rattle.jobs.proofs.work_next.Statement.{statement}
 use Rattle.jobs.proofs.work_next.Tie as tie
 
-held-requires : tie.Need-held-requires
-held-requires c κs = search needs
-
 array-share-prefix-numbers : tie.Need-array-share-prefix-numbers
 array-share-prefix-numbers c =
     let s = c .before .before .before .before .before .before in
@@ -20,12 +17,6 @@ array-share-prefix-numbers c =
 
 slice-aggregate-work-from : tie.Need-slice-aggregate-work-from
 slice-aggregate-work-from c = sym (length-take-le _ _ (array-share-prefix-numbers (c .before)))
-
-work-from-requires : tie.Need-work-from-requires
-work-from-requires c κs = search needs
-
-same-length : tie.Need-same-length
-same-length c = search needs
 
 returns : tie.Need-returns
 returns c =
@@ -38,9 +29,9 @@ pub work-next-spec : {M : Type 1} → statement M
 work-next-spec =
     tie.close
     (tie.spec
-    held-requires
+    (λ c κs. search needs)
     array-share-prefix-numbers
     slice-aggregate-work-from
-    work-from-requires
-    same-length
+    (λ c κs. search needs)
+    (λ c. search needs)
     returns)

@@ -8,29 +8,8 @@ use Rattle.joins.proofs.JoinLaws.{by-verdict}
 use Rattle.joins.proofs.combine.Statement.{statement}
 use Rattle.joins.proofs.combine.Tie as tie
 
-refused-requires : tie.Need-refused-requires
-refused-requires c κs = search needs
-
 returns : tie.Need-returns
 returns c = is-answer (simp (ne-eqb _ _ (c .before .if1 .taken)) (c .refused .ensures))
-
-check-count-requires : tie.Need-check-count-requires
-check-count-requires c κs = search needs
-
-enum-told : tie.Need-enum-told
-enum-told c = search needs
-
-join-numbers-requires : tie.Need-join-numbers-requires
-join-numbers-requires c κs = search needs
-
-accepted-requires : tie.Need-accepted-requires
-accepted-requires c κs = search needs
-
-enum-known-verdict : tie.Need-enum-known-verdict
-enum-known-verdict c = search needs
-
-refused-requires-2 : tie.Need-refused-requires-2
-refused-requires-2 c κs = search needs
 
 returns-2 : tie.Need-returns-2
 returns-2 c =
@@ -46,13 +25,13 @@ pub combine-spec : {M : Type 1} → statement M
 combine-spec =
     tie.close
     (tie.spec
-    refused-requires
+    (λ c κs. search needs)
     returns
-    check-count-requires
-    enum-told
-    join-numbers-requires
-    accepted-requires
-    enum-known-verdict
-    refused-requires-2
+    (λ c κs. search needs)
+    (λ c. search needs)
+    (λ c κs. search needs)
+    (λ c κs. search needs)
+    (λ c. search needs)
+    (λ c κs. search needs)
     returns-2
     returns-3)

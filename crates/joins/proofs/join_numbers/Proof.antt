@@ -15,20 +15,11 @@ Inv-loop numbers count joined₀ k₀ joined k = (k ≤ count) × (joined ≡ jo
 abbrev μ-loop : tie.MeasureT-loop
 μ-loop numbers count joined₀ k₀ joined k = count - k
 
-sum-numbers-requires : tie.Need-sum-numbers-requires Inv-loop μ-loop
-sum-numbers-requires c κs = search needs
-
-at-centre-requires : tie.Need-at-centre-requires Inv-loop μ-loop
-at-centre-requires c κs = search needs
-
 loop-holds : tie.Need-loop-holds Inv-loop μ-loop
 loop-holds c = (omega arith, none-joined _ _ (c .before .sum-numbers .ensures) (c .at-centre .ensures))
 
 body-at-requires : tie.Need-body-at-requires Inv-loop μ-loop
 body-at-requires c κs = omega arith
-
-add-inertia-requires : tie.Need-add-inertia-requires Inv-loop μ-loop
-add-inertia-requires c κs = search needs
 
 add-k : tie.Need-add-k Inv-loop μ-loop
 add-k c = omega arith
@@ -48,11 +39,11 @@ join-numbers-spec =
     (tie.spec
     Inv-loop
     μ-loop
-    sum-numbers-requires
-    at-centre-requires
+    (λ c κs. search needs)
+    (λ c κs. search needs)
     loop-holds
     body-at-requires
-    add-inertia-requires
+    (λ c κs. search needs)
     add-k
     loop-less
     loop-again

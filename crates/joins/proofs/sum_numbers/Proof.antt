@@ -16,17 +16,11 @@ Inv-loop numbers count sums₀ k₀ sums k = (k ≤ count) × (sums ≡ sumsOf (
 abbrev μ-loop : tie.MeasureT-loop
 μ-loop numbers count sums₀ k₀ sums k = count - k
 
-no-sums-requires : tie.Need-no-sums-requires Inv-loop μ-loop
-no-sums-requires c κs = search needs
-
 loop-holds : tie.Need-loop-holds Inv-loop μ-loop
 loop-holds c = (omega arith, c .no-sums .ensures ∙ no-sums _)
 
 body-at-requires : tie.Need-body-at-requires Inv-loop μ-loop
 body-at-requires c κs = omega arith
-
-add-body-requires : tie.Need-add-body-requires Inv-loop μ-loop
-add-body-requires c κs = search needs
 
 add-k : tie.Need-add-k Inv-loop μ-loop
 add-k c = omega arith
@@ -46,10 +40,10 @@ sum-numbers-spec =
     (tie.spec
     Inv-loop
     μ-loop
-    no-sums-requires
+    (λ c κs. search needs)
     loop-holds
     body-at-requires
-    add-body-requires
+    (λ c κs. search needs)
     add-k
     loop-less
     loop-again

@@ -26,9 +26,6 @@ one-more d at s j h l e = ap (λ (b : List Float). set b (at + j) (getD s j nan)
 same-count : (d : List Float) (at : ℕ) (s : List Float) (j : ℕ) {b : List Float} → at + j ≤ length d → j ≤ length s → b ≡ paste d at s j → length b ≡ length d
 same-count d at s j h l e = ap length e ∙ length-paste d at s j h l
 
-numbers-requires : tie.Need-numbers-requires Inv-loop μ-loop
-numbers-requires c κs = search needs
-
 loop-holds : tie.Need-loop-holds Inv-loop μ-loop
 loop-holds c = (omega arith, ap length (c .numbers .ensures), paste-zero (now (c .before .before .args .bodies)) (bodyNumbers * c .before .before .args .k) (c .numbers .result))
 
@@ -82,7 +79,7 @@ write-body-spec =
     (tie.spec
     Inv-loop
     μ-loop
-    numbers-requires
+    (λ c κs. search needs)
     loop-holds
     mul-bodies
     array-read-bodies

@@ -6,59 +6,26 @@ use borrow.Author.Needs.{needs}
 use Rattle.lent_engines.proofs.write_screens.Statement.{statement}
 use Rattle.lent_engines.proofs.write_screens.Tie as tie
 
-counts-of-requires : tie.Need-counts-of-requires
-counts-of-requires c κs = search needs
-
-array-read-counts : tie.Need-array-read-counts
-array-read-counts c = search needs
-
-slice-write-counts : tie.Need-slice-write-counts
-slice-write-counts c = search needs
-
-array-read-counts-2 : tie.Need-array-read-counts-2
-array-read-counts-2 c = search needs
-
 slice-write-counts-2 : tie.Need-slice-write-counts-2
 slice-write-counts-2 c = simp length-set (omega arith)
-
-array-read-counts-3 : tie.Need-array-read-counts-3
-array-read-counts-3 c = search needs
 
 slice-write-counts-3 : tie.Need-slice-write-counts-3
 slice-write-counts-3 c = simp length-set (omega arith)
 
-array-read-counts-4 : tie.Need-array-read-counts-4
-array-read-counts-4 c = search needs
-
 slice-write-counts-4 : tie.Need-slice-write-counts-4
 slice-write-counts-4 c = simp length-set (omega arith)
-
-array-read-counts-5 : tie.Need-array-read-counts-5
-array-read-counts-5 c = search needs
 
 slice-write-counts-5 : tie.Need-slice-write-counts-5
 slice-write-counts-5 c = simp length-set (omega arith)
 
-array-read-counts-6 : tie.Need-array-read-counts-6
-array-read-counts-6 c = search needs
-
 slice-write-counts-6 : tie.Need-slice-write-counts-6
 slice-write-counts-6 c = simp length-set (omega arith)
-
-array-read-counts-7 : tie.Need-array-read-counts-7
-array-read-counts-7 c = search needs
 
 slice-write-counts-7 : tie.Need-slice-write-counts-7
 slice-write-counts-7 c = simp length-set (omega arith)
 
-array-read-counts-8 : tie.Need-array-read-counts-8
-array-read-counts-8 c = search needs
-
 slice-write-counts-8 : tie.Need-slice-write-counts-8
 slice-write-counts-8 c = simp length-set (omega arith)
-
-array-read-counts-9 : tie.Need-array-read-counts-9
-array-read-counts-9 c = search needs
 
 slice-write-counts-9 : tie.Need-slice-write-counts-9
 slice-write-counts-9 c = simp length-set (omega arith)
@@ -74,24 +41,24 @@ pub write-screens-spec : {M : Type 1} → statement M
 write-screens-spec =
     tie.close
     (tie.spec
-    counts-of-requires
-    array-read-counts
-    slice-write-counts
-    array-read-counts-2
+    (λ c κs. search needs)
+    (λ c. search needs)
+    (λ c. search needs)
+    (λ c. search needs)
     slice-write-counts-2
-    array-read-counts-3
+    (λ c. search needs)
     slice-write-counts-3
-    array-read-counts-4
+    (λ c. search needs)
     slice-write-counts-4
-    array-read-counts-5
+    (λ c. search needs)
     slice-write-counts-5
-    array-read-counts-6
+    (λ c. search needs)
     slice-write-counts-6
-    array-read-counts-7
+    (λ c. search needs)
     slice-write-counts-7
-    array-read-counts-8
+    (λ c. search needs)
     slice-write-counts-8
-    array-read-counts-9
+    (λ c. search needs)
     slice-write-counts-9
     same-length
     returns)

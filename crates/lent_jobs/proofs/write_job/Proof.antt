@@ -12,24 +12,6 @@ use borrow.Author.Needs.{needs}
 use Rattle.lent_jobs.proofs.write_job.Statement.{statement}
 use Rattle.lent_jobs.proofs.write_job.Tie as tie
 
-numbers-of-requires : tie.Need-numbers-of-requires
-numbers-of-requires c κs = search needs
-
-slice-aggregate-write-numbers : tie.Need-slice-aggregate-write-numbers
-slice-aggregate-write-numbers c = search needs
-
-write-numbers-requires : tie.Need-write-numbers-requires
-write-numbers-requires c κs = search needs
-
-worked-numbers-requires : tie.Need-worked-numbers-requires
-worked-numbers-requires c κs = search needs
-
-slice-aggregate-write-numbers-2 : tie.Need-slice-aggregate-write-numbers-2
-slice-aggregate-write-numbers-2 c = search needs
-
-write-numbers-requires-2 : tie.Need-write-numbers-requires-2
-write-numbers-requires-2 c κs = search needs
-
 slice-aggregate-write-numbers-3 : tie.Need-slice-aggregate-write-numbers-3
 slice-aggregate-write-numbers-3 c =
     let set-known = c .before .before .before .before .before .before .before .before .before .before .before .before .before .before .before .before in
@@ -52,21 +34,6 @@ write-numbers-requires-3 c κs =
     let e = same-count nan (one .write-numbers .last .0) setNumbers worked (length worked) (omega (arith, b, d, start .pre .0)) (omega arith) (two .write-numbers2 .ensures) in
     omega (arith, sized (start .args .job) _ (start .good .1 .1 .0) .outline, d, e, start .pre .0)
 
-counts-of-requires : tie.Need-counts-of-requires
-counts-of-requires c κs = search needs
-
-slice-aggregate-write-counts : tie.Need-slice-aggregate-write-counts
-slice-aggregate-write-counts c = search needs
-
-write-counts-requires : tie.Need-write-counts-requires
-write-counts-requires c κs = search needs
-
-same-length : tie.Need-same-length
-same-length c = search needs
-
-same-length-2 : tie.Need-same-length-2
-same-length-2 c = search needs
-
 returns : tie.Need-returns
 returns c =
     let k = c .before .before in
@@ -85,17 +52,17 @@ pub write-job-spec : {M : Type 1} → statement M
 write-job-spec =
     tie.close
     (tie.spec
-    numbers-of-requires
-    slice-aggregate-write-numbers
-    write-numbers-requires
-    worked-numbers-requires
-    slice-aggregate-write-numbers-2
-    write-numbers-requires-2
+    (λ c κs. search needs)
+    (λ c. search needs)
+    (λ c κs. search needs)
+    (λ c κs. search needs)
+    (λ c. search needs)
+    (λ c κs. search needs)
     slice-aggregate-write-numbers-3
     write-numbers-requires-3
-    counts-of-requires
-    slice-aggregate-write-counts
-    write-counts-requires
-    same-length
-    same-length-2
+    (λ c κs. search needs)
+    (λ c. search needs)
+    (λ c κs. search needs)
+    (λ c. search needs)
+    (λ c. search needs)
     returns)

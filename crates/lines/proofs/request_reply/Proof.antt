@@ -27,7 +27,7 @@ use Rattle.answers.specs.declared.Reply.{Reply}
 use Rattle.answers.specs.declared.Shape.the-variants.{Joined as JoinedShape, Ring as RingShape, Body as BodyShape, Sound as SoundShape, Taken as TakenShape}
 use Rattle.lent_engines.specs.Lent.{Submits}
 use Rattle.lent_engines.proofs.Calls.{leaves-none, turn-told}
-use Rattle.lines.specs.Lines.{plainReply, setReply, areaReply, bodyReply, closingReply, momentsReply, drillReply, turnReply}
+use Rattle.lines.specs.Lines.{plainReply, setReply, areaReply, bodyReply, closingReply, momentsReply, drillReply, turnReply, progressReply}
 use Rattle.lines.specs.Lines.{Memory, memoryIn, LentMemory, lentIn, memoryOf, Serves, answers, setEffect, areaEffect, submitEffect, densityEffect, turnEffect, effectOf}
 use borrow.Author.Needs.{needs}
 use Rattle.lines.proofs.request_reply.Statement.{statement}
@@ -167,6 +167,11 @@ returns-16 c =
       left = record { memory-left = ap₂ withScratchOf (t .turn .ensures .lent) (t .turn .ensures .leaves .held); lists-left = t .turn .ensures .leaves };
     })
 
+returns-17 : tie.Need-returns-17
+returns-17 c =
+    let p = c .before in
+    known _ _ (p .before .before .before .before .asked9 .given .1) (stays (c .progress-reply .ensures ∙ ap progressReply (p .progress-at .ensures)))
+
 pub request-reply-spec : {M : Type 1} → statement M
 request-reply-spec =
     tie.close
@@ -233,6 +238,9 @@ request-reply-spec =
     (λ c κs. search needs)
     (λ c κs. search needs)
     (λ c κs. search needs)
+    (λ c. search needs)
+    (λ c κs. search needs)
+    (λ c κs. search needs)
     returns
     (λ c. search needs)
     returns-2
@@ -257,4 +265,7 @@ request-reply-spec =
     (λ c. search needs)
     (λ c. search needs)
     (λ c. search needs)
-    returns-16)
+    returns-16
+    (λ c. search needs)
+    (λ c. search needs)
+    returns-17)

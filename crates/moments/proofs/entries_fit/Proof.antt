@@ -32,9 +32,6 @@ mul-entry-fits c = omega arith
 array-read-entry-fits : tie.Need-array-read-entry-fits Inv-loop μ-loop
 array-read-entry-fits c = omega arith
 
-entry-fits-requires : tie.Need-entry-fits-requires Inv-loop μ-loop
-entry-fits-requires c κs = search needs
-
 returns : tie.Need-returns Inv-loop μ-loop
 returns c =
     sym
@@ -62,7 +59,7 @@ entries-fit-spec =
     loop-holds
     mul-entry-fits
     array-read-entry-fits
-    entry-fits-requires
+    (λ c κs. search needs)
     returns
     add-k
     loop-less

@@ -4,54 +4,9 @@ use Rattle.moments.specs.Moments.{rotate}
 use Rattle.moments.proofs.rotate_plane.Statement.{statement}
 use Rattle.moments.proofs.rotate_plane.Tie as tie
 
-mul-apq : tie.Need-mul-apq
-mul-apq c = search needs
-
-add-apq : tie.Need-add-apq
-add-apq c = search needs
-
-mul-apq-2 : tie.Need-mul-apq-2
-mul-apq-2 c = search needs
-
-array-read-apq : tie.Need-array-read-apq
-array-read-apq c = search needs
-
 returns : tie.Need-returns
 unfolding rotate
 returns c = rw (c .if1 .taken)
-
-mul-symmetric-schur : tie.Need-mul-symmetric-schur
-mul-symmetric-schur c = search needs
-
-add-symmetric-schur : tie.Need-add-symmetric-schur
-add-symmetric-schur c = search needs
-
-mul-symmetric-schur-2 : tie.Need-mul-symmetric-schur-2
-mul-symmetric-schur-2 c = search needs
-
-array-read-symmetric-schur : tie.Need-array-read-symmetric-schur
-array-read-symmetric-schur c = search needs
-
-mul-symmetric-schur-3 : tie.Need-mul-symmetric-schur-3
-mul-symmetric-schur-3 c = search needs
-
-add-symmetric-schur-2 : tie.Need-add-symmetric-schur-2
-add-symmetric-schur-2 c = search needs
-
-mul-symmetric-schur-4 : tie.Need-mul-symmetric-schur-4
-mul-symmetric-schur-4 c = search needs
-
-array-read-symmetric-schur-2 : tie.Need-array-read-symmetric-schur-2
-array-read-symmetric-schur-2 c = search needs
-
-symmetric-schur-requires : tie.Need-symmetric-schur-requires
-symmetric-schur-requires c κs = search needs
-
-turn-columns-requires : tie.Need-turn-columns-requires
-turn-columns-requires c κs = search needs
-
-turn-rows-requires : tie.Need-turn-rows-requires
-turn-rows-requires c κs = search needs
 
 returns-2 : tie.Need-returns-2
 unfolding rotate
@@ -61,20 +16,20 @@ pub rotate-plane-spec : {M : Type 1} → statement M
 rotate-plane-spec =
     tie.close
     (tie.spec
-    mul-apq
-    add-apq
-    mul-apq-2
-    array-read-apq
+    (λ c. search needs)
+    (λ c. search needs)
+    (λ c. search needs)
+    (λ c. search needs)
     returns
-    mul-symmetric-schur
-    add-symmetric-schur
-    mul-symmetric-schur-2
-    array-read-symmetric-schur
-    mul-symmetric-schur-3
-    add-symmetric-schur-2
-    mul-symmetric-schur-4
-    array-read-symmetric-schur-2
-    symmetric-schur-requires
-    turn-columns-requires
-    turn-rows-requires
+    (λ c. search needs)
+    (λ c. search needs)
+    (λ c. search needs)
+    (λ c. search needs)
+    (λ c. search needs)
+    (λ c. search needs)
+    (λ c. search needs)
+    (λ c. search needs)
+    (λ c κs. search needs)
+    (λ c κs. search needs)
+    (λ c κs. search needs)
     returns-2)

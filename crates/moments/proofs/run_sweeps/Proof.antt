@@ -17,14 +17,8 @@ abbrev μ-loop : tie.MeasureT-loop
 loop-holds : tie.Need-loop-holds Inv-loop μ-loop
 loop-holds c = (refl, omega arith)
 
-off-diagonal-requires : tie.Need-off-diagonal-requires Inv-loop μ-loop
-off-diagonal-requires c κs = search needs
-
 returns : tie.Need-returns Inv-loop μ-loop
 returns c = sweeps-end _ _ (omega arith) (c .before .off-diagonal .ensures) (c .if1 .taken) (c .before .before .before .loop .inv .0)
-
-sweep-once-requires : tie.Need-sweep-once-requires Inv-loop μ-loop
-sweep-once-requires c κs = search needs
 
 sub-left : tie.Need-sub-left Inv-loop μ-loop
 sub-left c = omega arith
@@ -45,9 +39,9 @@ run-sweeps-spec =
     Inv-loop
     μ-loop
     loop-holds
-    off-diagonal-requires
+    (λ c κs. search needs)
     returns
-    sweep-once-requires
+    (λ c κs. search needs)
     sub-left
     loop-less
     loop-again

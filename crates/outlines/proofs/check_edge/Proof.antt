@@ -40,15 +40,6 @@ add-j c = omega arith
 returns : tie.Need-returns Inv-loop μ-loop
 returns c = ends _ _ _ _ (from-second (c .before .before .args .points .now) (c .before .before .args .i)) (c .if1 .taken)
 
-edge-at-requires : tie.Need-edge-at-requires Inv-loop μ-loop
-edge-at-requires c κs = search needs
-
-point-at-requires : tie.Need-point-at-requires Inv-loop μ-loop
-point-at-requires c κs = search needs
-
-place-beside-requires : tie.Need-place-beside-requires Inv-loop μ-loop
-place-beside-requires c κs = search needs
-
 loop-holds : tie.Need-loop-holds Inv-loop μ-loop
 loop-holds c =
     let start = c .before .before .before .before .before in
@@ -62,9 +53,6 @@ add-point-at c = omega arith
 
 point-at-requires-2 : tie.Need-point-at-requires-2 Inv-loop μ-loop
 point-at-requires-2 c κs = omega arith
-
-place-beside-requires-2 : tie.Need-place-beside-requires-2 Inv-loop μ-loop
-place-beside-requires-2 c κs = search needs
 
 edge-touches-requires : tie.Need-edge-touches-requires Inv-loop μ-loop
 edge-touches-requires c κs =
@@ -97,9 +85,6 @@ loop-again c =
       goes-on _ _ _ _ (head .inv .4) (head .inv .1) (apart-accepted points (start .args .i) (head .j) touch),
     )
 
-check-pair-requires : tie.Need-check-pair-requires Inv-loop μ-loop
-check-pair-requires c κs = search needs
-
 returns-3 : tie.Need-returns-3 Inv-loop μ-loop
 returns-3 c =
     let head = c .before .before .loop in
@@ -113,18 +98,18 @@ check-edge-spec =
     μ-loop
     add-j
     returns
-    edge-at-requires
-    point-at-requires
-    place-beside-requires
+    (λ c κs. search needs)
+    (λ c κs. search needs)
+    (λ c κs. search needs)
     loop-holds
     add-loop
     add-point-at
     point-at-requires-2
-    place-beside-requires-2
+    (λ c κs. search needs)
     edge-touches-requires
     returns-2
     add-j-2
     loop-less
     loop-again
-    check-pair-requires
+    (λ c κs. search needs)
     returns-3)

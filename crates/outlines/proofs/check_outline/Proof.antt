@@ -13,28 +13,10 @@ returns : tie.Need-returns
 unfolding outlineCheck
 returns c = rw (not-true (arePairs (c .before .before .args .points .now)) (c .if1 .taken), after-refused)
 
-check-points-requires : tie.Need-check-points-requires
-check-points-requires c κs = search needs
-
 check-ends-requires : tie.Need-check-ends-requires
 check-ends-requires c κs =
     let points = c .before .before .before .args .points .now in
     omega (arith, pairs-within points (not-false (arePairs points) (c .before .if1 .left)) .0)
-
-first-refusal-requires : tie.Need-first-refusal-requires
-first-refusal-requires c κs = search needs
-
-check-edges-requires : tie.Need-check-edges-requires
-check-edges-requires c κs = search needs
-
-first-refusal-requires-2 : tie.Need-first-refusal-requires-2
-first-refusal-requires-2 c κs = search needs
-
-check-twice-area-requires : tie.Need-check-twice-area-requires
-check-twice-area-requires c κs = search needs
-
-first-refusal-requires-3 : tie.Need-first-refusal-requires-3
-first-refusal-requires-3 c κs = search needs
 
 returns-2 : tie.Need-returns-2
 unfolding outlineCheck
@@ -58,11 +40,11 @@ check-outline-spec =
     tie.close
     (tie.spec
     returns
-    check-points-requires
+    (λ c κs. search needs)
     check-ends-requires
-    first-refusal-requires
-    check-edges-requires
-    first-refusal-requires-2
-    check-twice-area-requires
-    first-refusal-requires-3
+    (λ c κs. search needs)
+    (λ c κs. search needs)
+    (λ c κs. search needs)
+    (λ c κs. search needs)
+    (λ c κs. search needs)
     returns-2)

@@ -7,30 +7,6 @@ use borrow.Author.Needs.{needs}
 use Rattle.outlines.proofs.check_planform.Statement.{statement}
 use Rattle.outlines.proofs.check_planform.Tie as tie
 
-enum-known-planform : tie.Need-enum-known-planform
-enum-known-planform c = search needs
-
-check-trapezoid-requires : tie.Need-check-trapezoid-requires
-check-trapezoid-requires c κs = search needs
-
-enum-known-planform-2 : tie.Need-enum-known-planform-2
-enum-known-planform-2 c = search needs
-
-check-length-requires : tie.Need-check-length-requires
-check-length-requires c κs = search needs
-
-check-length-requires-2 : tie.Need-check-length-requires-2
-check-length-requires-2 c κs = search needs
-
-first-refusal-requires : tie.Need-first-refusal-requires
-first-refusal-requires c κs = search needs
-
-enum-told : tie.Need-enum-told
-enum-told c = search needs
-
-check-outline-requires : tie.Need-check-outline-requires
-check-outline-requires c κs = search needs
-
 returns : tie.Need-returns
 unfolding planformCheck
 returns c = is-answer (rw (c .before .before .planform .given .1) (c .check-trapezoid .ensures))
@@ -53,14 +29,14 @@ pub check-planform-spec : {M : Type 1} → statement M
 check-planform-spec =
     tie.close
     (tie.spec
-    enum-known-planform
-    check-trapezoid-requires
-    enum-known-planform-2
-    check-length-requires
-    check-length-requires-2
-    first-refusal-requires
-    enum-told
-    check-outline-requires
+    (λ c. search needs)
+    (λ c κs. search needs)
+    (λ c. search needs)
+    (λ c κs. search needs)
+    (λ c κs. search needs)
+    (λ c κs. search needs)
+    (λ c. search needs)
+    (λ c κs. search needs)
     returns
     returns-2
     returns-3)

@@ -33,9 +33,6 @@ loop-holds c = (omega arith, none _)
 edge-at-requires : tie.Need-edge-at-requires Inv-loop μ-loop
 edge-at-requires c κs = omega arith
 
-edge-term-requires : tie.Need-edge-term-requires Inv-loop μ-loop
-edge-term-requires c κs = search needs
-
 add-i : tie.Need-add-i Inv-loop μ-loop
 add-i c = omega arith
 
@@ -56,7 +53,7 @@ twice-area-spec =
     μ-loop
     loop-holds
     edge-at-requires
-    edge-term-requires
+    (λ c κs. search needs)
     add-i
     loop-less
     loop-again

@@ -6,27 +6,6 @@ use borrow.Author.Needs.{needs}
 use Rattle.placements.proofs.check_moved.Statement.{statement}
 use Rattle.placements.proofs.check_moved.Tie as tie
 
-check-requires : tie.Need-check-requires
-check-requires c κs = search needs
-
-check-requires-2 : tie.Need-check-requires-2
-check-requires-2 c κs = search needs
-
-first-refusal-requires : tie.Need-first-refusal-requires
-first-refusal-requires c κs = search needs
-
-check-offset-requires : tie.Need-check-offset-requires
-check-offset-requires c κs = search needs
-
-first-refusal-requires-2 : tie.Need-first-refusal-requires-2
-first-refusal-requires-2 c κs = search needs
-
-refuse-when-requires : tie.Need-refuse-when-requires
-refuse-when-requires c κs = search needs
-
-first-refusal-requires-3 : tie.Need-first-refusal-requires-3
-first-refusal-requires-3 c κs = search needs
-
 returns : tie.Need-returns
 unfolding movedCheck
 returns c =
@@ -49,11 +28,11 @@ pub check-moved-spec : {M : Type 1} → statement M
 check-moved-spec =
     tie.close
     (tie.spec
-    check-requires
-    check-requires-2
-    first-refusal-requires
-    check-offset-requires
-    first-refusal-requires-2
-    refuse-when-requires
-    first-refusal-requires-3
+    (λ c κs. search needs)
+    (λ c κs. search needs)
+    (λ c κs. search needs)
+    (λ c κs. search needs)
+    (λ c κs. search needs)
+    (λ c κs. search needs)
+    (λ c κs. search needs)
     returns)

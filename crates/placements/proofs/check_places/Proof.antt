@@ -15,9 +15,6 @@ Inv-loop places rolled n k₀ k = (n ≡ placeCount rolled places) × (firstBetw
 abbrev μ-loop : tie.MeasureT-loop
 μ-loop places rolled n k₀ k = n - k
 
-count-places-requires : tie.Need-count-places-requires Inv-loop μ-loop
-count-places-requires c κs = search needs
-
 loop-holds : tie.Need-loop-holds Inv-loop μ-loop
 unfolding placesCheck
 loop-holds c = (c .count-places .ensures, rw (c .count-places .ensures))
@@ -25,20 +22,11 @@ loop-holds c = (c .count-places .ensures, rw (c .count-places .ensures))
 place-at-requires : tie.Need-place-at-requires Inv-loop μ-loop
 place-at-requires c κs = rw (← c .before .loop .inv .0) (c .loop-test .taken)
 
-check-requires : tie.Need-check-requires Inv-loop μ-loop
-check-requires c κs = search needs
-
-enum-known-refusal : tie.Need-enum-known-refusal Inv-loop μ-loop
-enum-known-refusal c = search needs
-
 returns : tie.Need-returns Inv-loop μ-loop
 returns c =
     let turn = c .before .before .before in
     let at-loop = turn .before .before .before .loop in
     stops _ _ _ _ (at-loop .inv .1) _ (turn .before .before .loop-test .taken) (sym (turn .check .ensures ∙ ap placeCheck (turn .before .place-at .ensures)) ∙ c .before .refusal .given .1)
-
-enum-told : tie.Need-enum-told Inv-loop μ-loop
-enum-told c = search needs
 
 add-k : tie.Need-add-k Inv-loop μ-loop
 add-k c = omega arith
@@ -61,13 +49,13 @@ check-places-spec =
     (tie.spec
     Inv-loop
     μ-loop
-    count-places-requires
+    (λ c κs. search needs)
     loop-holds
     place-at-requires
-    check-requires
-    enum-known-refusal
+    (λ c κs. search needs)
+    (λ c. search needs)
     returns
-    enum-told
+    (λ c. search needs)
     add-k
     loop-less
     loop-again

@@ -6,21 +6,6 @@ use borrow.Author.Needs.{needs}
 use Rattle.placements.proofs.check_without.Statement.{statement}
 use Rattle.placements.proofs.check_without.Tie as tie
 
-check-requires : tie.Need-check-requires
-check-requires c κs = search needs
-
-check-requires-2 : tie.Need-check-requires-2
-check-requires-2 c κs = search needs
-
-first-refusal-requires : tie.Need-first-refusal-requires
-first-refusal-requires c κs = search needs
-
-refuse-when-requires : tie.Need-refuse-when-requires
-refuse-when-requires c κs = search needs
-
-first-refusal-requires-2 : tie.Need-first-refusal-requires-2
-first-refusal-requires-2 c κs = search needs
-
 returns : tie.Need-returns
 unfolding withoutCheck
 returns c =
@@ -39,9 +24,9 @@ pub check-without-spec : {M : Type 1} → statement M
 check-without-spec =
     tie.close
     (tie.spec
-    check-requires
-    check-requires-2
-    first-refusal-requires
-    refuse-when-requires
-    first-refusal-requires-2
+    (λ c κs. search needs)
+    (λ c κs. search needs)
+    (λ c κs. search needs)
+    (λ c κs. search needs)
+    (λ c κs. search needs)
     returns)

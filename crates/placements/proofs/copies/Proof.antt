@@ -8,20 +8,8 @@ use borrow.Author.Needs.{needs}
 use Rattle.placements.proofs.copies.Statement.{statement}
 use Rattle.placements.proofs.copies.Tie as tie
 
-check-copies-requires : tie.Need-check-copies-requires
-check-copies-requires c κs = search needs
-
-enum-told : tie.Need-enum-told
-enum-told c = search needs
-
 placed-copies-requires : tie.Need-placed-copies-requires
 placed-copies-requires c κs = counted _ _ _ (sym (c .before .before .check-copies .ensures) ∙ c .enum-told .given .1)
-
-enum-known-verdict : tie.Need-enum-known-verdict
-enum-known-verdict c = search needs
-
-refused-requires : tie.Need-refused-requires
-refused-requires c κs = search needs
 
 returns : tie.Need-returns
 unfolding copiesOf
@@ -35,10 +23,10 @@ pub copies-spec : {M : Type 1} → statement M
 copies-spec =
     tie.close
     (tie.spec
-    check-copies-requires
-    enum-told
+    (λ c κs. search needs)
+    (λ c. search needs)
     placed-copies-requires
-    enum-known-verdict
-    refused-requires
+    (λ c. search needs)
+    (λ c κs. search needs)
     returns
     returns-2)

@@ -8,23 +8,8 @@ use borrow.Author.Needs.{needs}
 use Rattle.placements.proofs.joined_copies.Statement.{statement}
 use Rattle.placements.proofs.joined_copies.Tie as tie
 
-slice-aggregate-write-copies : tie.Need-slice-aggregate-write-copies
-slice-aggregate-write-copies c = search needs
-
-write-copies-requires : tie.Need-write-copies-requires
-write-copies-requires c κs = search needs
-
-mul-end : tie.Need-mul-end
-mul-end c = search needs
-
-array-share-prefix-list : tie.Need-array-share-prefix-list
-array-share-prefix-list c = search needs
-
 slice-aggregate-combine : tie.Need-slice-aggregate-combine
 slice-aggregate-combine c = sym (ap length (first-bodies _ _ _ (c .before .before .write-copies .ensures)) ∙ length-listed _ _)
-
-combine-requires : tie.Need-combine-requires
-combine-requires c κs = search needs
 
 returns : tie.Need-returns
 returns c = c .combine .ensures .is ∙ ap combineOf (first-bodies _ _ _ (c .before .before .before .write-copies .ensures)) ∙ combine-listed _ _
@@ -33,10 +18,10 @@ pub joined-copies-spec : {M : Type 1} → statement M
 joined-copies-spec =
     tie.close
     (tie.spec
-    slice-aggregate-write-copies
-    write-copies-requires
-    mul-end
-    array-share-prefix-list
+    (λ c. search needs)
+    (λ c κs. search needs)
+    (λ c. search needs)
+    (λ c. search needs)
     slice-aggregate-combine
-    combine-requires
+    (λ c κs. search needs)
     returns)

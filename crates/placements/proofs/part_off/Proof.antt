@@ -4,27 +4,6 @@ use borrow.Author.Needs.{needs}
 use Rattle.placements.proofs.part_off.Statement.{statement}
 use Rattle.placements.proofs.part_off.Tie as tie
 
-scale-requires : tie.Need-scale-requires
-scale-requires c κs = search needs
-
-scale-requires-2 : tie.Need-scale-requires-2
-scale-requires-2 c κs = search needs
-
-subtract-requires : tie.Need-subtract-requires
-subtract-requires c κs = search needs
-
-divide-requires : tie.Need-divide-requires
-divide-requires c κs = search needs
-
-inertia-about-requires : tie.Need-inertia-about-requires
-inertia-about-requires c κs = search needs
-
-inertia-about-requires-2 : tie.Need-inertia-about-requires-2
-inertia-about-requires-2 c κs = search needs
-
-subtract-requires-2 : tie.Need-subtract-requires-2
-subtract-requires-2 c κs = search needs
-
 returns : tie.Need-returns
 unfolding partOffOf
 returns c =
@@ -47,11 +26,11 @@ pub part-off-spec : {M : Type 1} → statement M
 part-off-spec =
     tie.close
     (tie.spec
-    scale-requires
-    scale-requires-2
-    subtract-requires
-    divide-requires
-    inertia-about-requires
-    inertia-about-requires-2
-    subtract-requires-2
+    (λ c κs. search needs)
+    (λ c κs. search needs)
+    (λ c κs. search needs)
+    (λ c κs. search needs)
+    (λ c κs. search needs)
+    (λ c κs. search needs)
+    (λ c κs. search needs)
     returns)

@@ -4,26 +4,11 @@ use borrow.Author.Needs.{needs}
 use Rattle.placements.proofs.placed_copies.Statement.{statement}
 use Rattle.placements.proofs.placed_copies.Tie as tie
 
-count-places-requires : tie.Need-count-places-requires
-count-places-requires c κs = search needs
-
-place-at-requires : tie.Need-place-at-requires
-place-at-requires c κs = search needs
-
-is-here-requires : tie.Need-is-here-requires
-is-here-requires c κs = search needs
-
-accepted-requires : tie.Need-accepted-requires
-accepted-requires c κs = search needs
-
 returns : tie.Need-returns
 returns c =
     let asked = c .before .before in
     let first = asked .before in
     at-here _ _ _ (first .before .count-places .ensures) (first .place-at .ensures) (asked .is-here .ensures) (c .before .if1 .taken) (c .accepted .ensures)
-
-joined-copies-requires : tie.Need-joined-copies-requires
-joined-copies-requires c κs = search needs
 
 returns-2 : tie.Need-returns-2
 returns-2 c =
@@ -36,10 +21,10 @@ pub placed-copies-spec : {M : Type 1} → statement M
 placed-copies-spec =
     tie.close
     (tie.spec
-    count-places-requires
-    place-at-requires
-    is-here-requires
-    accepted-requires
+    (λ c κs. search needs)
+    (λ c κs. search needs)
+    (λ c κs. search needs)
+    (λ c κs. search needs)
     returns
-    joined-copies-requires
+    (λ c κs. search needs)
     returns-2)

@@ -8,24 +8,6 @@ use borrow.Author.Needs.{needs}
 use Rattle.placements.proofs.with_part_moved.Statement.{statement}
 use Rattle.placements.proofs.with_part_moved.Tie as tie
 
-check-moved-requires : tie.Need-check-moved-requires
-check-moved-requires c κs = search needs
-
-enum-told : tie.Need-enum-told
-enum-told c = search needs
-
-part-moved-requires : tie.Need-part-moved-requires
-part-moved-requires c κs = search needs
-
-accepted-requires : tie.Need-accepted-requires
-accepted-requires c κs = search needs
-
-enum-known-verdict : tie.Need-enum-known-verdict
-enum-known-verdict c = search needs
-
-refused-requires : tie.Need-refused-requires
-refused-requires c κs = search needs
-
 returns : tie.Need-returns
 unfolding movedOf
 returns c = is-answer (by-verdict _ (c .before .before .before .before .check-moved .ensures) (c .before .before .enum-told .given .1) (c .accepted .ensures ∙ ap acceptedBody (c .before .part-moved .ensures)))
@@ -38,11 +20,11 @@ pub with-part-moved-spec : {M : Type 1} → statement M
 with-part-moved-spec =
     tie.close
     (tie.spec
-    check-moved-requires
-    enum-told
-    part-moved-requires
-    accepted-requires
-    enum-known-verdict
-    refused-requires
+    (λ c κs. search needs)
+    (λ c. search needs)
+    (λ c κs. search needs)
+    (λ c κs. search needs)
+    (λ c. search needs)
+    (λ c κs. search needs)
     returns
     returns-2)

@@ -8,24 +8,6 @@ use borrow.Author.Needs.{needs}
 use Rattle.placements.proofs.without_part.Statement.{statement}
 use Rattle.placements.proofs.without_part.Tie as tie
 
-check-without-requires : tie.Need-check-without-requires
-check-without-requires c κs = search needs
-
-enum-told : tie.Need-enum-told
-enum-told c = search needs
-
-part-off-requires : tie.Need-part-off-requires
-part-off-requires c κs = search needs
-
-accepted-requires : tie.Need-accepted-requires
-accepted-requires c κs = search needs
-
-enum-known-verdict : tie.Need-enum-known-verdict
-enum-known-verdict c = search needs
-
-refused-requires : tie.Need-refused-requires
-refused-requires c κs = search needs
-
 returns : tie.Need-returns
 unfolding withoutOf
 returns c = is-answer (by-verdict _ (c .before .before .before .before .check-without .ensures) (c .before .before .enum-told .given .1) (c .accepted .ensures ∙ ap acceptedBody (c .before .part-off .ensures)))
@@ -38,11 +20,11 @@ pub without-part-spec : {M : Type 1} → statement M
 without-part-spec =
     tie.close
     (tie.spec
-    check-without-requires
-    enum-told
-    part-off-requires
-    accepted-requires
-    enum-known-verdict
-    refused-requires
+    (λ c κs. search needs)
+    (λ c. search needs)
+    (λ c κs. search needs)
+    (λ c κs. search needs)
+    (λ c. search needs)
+    (λ c κs. search needs)
     returns
     returns-2)

@@ -23,9 +23,6 @@ loop-holds c = (omega arith, none-written _ _)
 place-at-requires : tie.Need-place-at-requires Inv-loop μ-loop
 place-at-requires c κs = below (c .loop-test .taken) (c .before .before .before .before .pre .1)
 
-copy-at-requires : tie.Need-copy-at-requires Inv-loop μ-loop
-copy-at-requires c κs = search needs
-
 write-body-requires : tie.Need-write-body-requires Inv-loop μ-loop
 write-body-requires c κs =
     let at-loop = c .before .before .before .before .loop in
@@ -62,7 +59,7 @@ write-copies-spec =
     μ-loop
     loop-holds
     place-at-requires
-    copy-at-requires
+    (λ c κs. search needs)
     write-body-requires
     add-k
     loop-less

@@ -5,30 +5,6 @@ use borrow.Author.Needs.{needs}
 use Rattle.planform_chords.proofs.chords_at.Statement.{statement}
 use Rattle.planform_chords.proofs.chords_at.Tie as tie
 
-check-planform-requires : tie.Need-check-planform-requires
-check-planform-requires c κs = search needs
-
-enum-told : tie.Need-enum-told
-enum-told c = search needs
-
-chords-found-requires : tie.Need-chords-found-requires
-chords-found-requires c κs = search needs
-
-write-chords-requires : tie.Need-write-chords-requires
-write-chords-requires c κs = search needs
-
-listed-requires : tie.Need-listed-requires
-listed-requires c κs = search needs
-
-enum-known-verdict : tie.Need-enum-known-verdict
-enum-known-verdict c = search needs
-
-refused-requires : tie.Need-refused-requires
-refused-requires c κs = search needs
-
-same-length : tie.Need-same-length
-same-length c = search needs
-
 returns : tie.Need-returns
 returns c =
     let wrote = c .before .before .before in
@@ -50,13 +26,13 @@ pub chords-at-spec : {M : Type 1} → statement M
 chords-at-spec =
     tie.close
     (tie.spec
-    check-planform-requires
-    enum-told
-    chords-found-requires
-    write-chords-requires
-    listed-requires
-    enum-known-verdict
-    refused-requires
-    same-length
+    (λ c κs. search needs)
+    (λ c. search needs)
+    (λ c κs. search needs)
+    (λ c κs. search needs)
+    (λ c κs. search needs)
+    (λ c. search needs)
+    (λ c κs. search needs)
+    (λ c. search needs)
     returns
     returns-2)

@@ -7,37 +7,16 @@ use Rattle.planform_chords.proofs.Answer.{none-listed, one-listed}
 use Rattle.planform_chords.proofs.write_chords.Statement.{statement}
 use Rattle.planform_chords.proofs.write_chords.Tie as tie
 
-enum-told : tie.Need-enum-told
-enum-told c = search needs
-
-enum-known-found : tie.Need-enum-known-found
-enum-known-found c = search needs
-
-slice-write-ends : tie.Need-slice-write-ends
-slice-write-ends c = search needs
-
 slice-write-ends-2 : tie.Need-slice-write-ends-2
 slice-write-ends-2 c = simp length-set (omega arith)
-
-enum-told-2 : tie.Need-enum-told-2
-enum-told-2 c = search needs
-
-write-several-requires : tie.Need-write-several-requires
-write-several-requires c κs = search needs
 
 returns : tie.Need-returns
 unfolding paired
 returns c = rw (c .enum-told .given .1) (none-listed _)
 
-same-length : tie.Need-same-length
-same-length c = search needs
-
 returns-2 : tie.Need-returns-2
 unfolding paired
 returns-2 c = rw (c .before .found .given .1) (one-listed _ _ _ (omega arith))
-
-same-length-2 : tie.Need-same-length-2
-same-length-2 c = search needs
 
 returns-3 : tie.Need-returns-3
 returns-3 c = rw (c .before .before .before .before .enum-told2 .given .1) (c .before .before .write-several .ensures)
@@ -46,14 +25,14 @@ pub write-chords-spec : {M : Type 1} → statement M
 write-chords-spec =
     tie.close
     (tie.spec
-    enum-told
-    enum-known-found
-    slice-write-ends
+    (λ c. search needs)
+    (λ c. search needs)
+    (λ c. search needs)
     slice-write-ends-2
-    enum-told-2
-    write-several-requires
+    (λ c. search needs)
+    (λ c κs. search needs)
     returns
-    same-length
+    (λ c. search needs)
     returns-2
-    same-length-2
+    (λ c. search needs)
     returns-3)

@@ -7,17 +7,11 @@ use Rattle.planform_chords.proofs.Answer.{several-listed}
 use Rattle.planform_chords.proofs.write_several.Statement.{statement}
 use Rattle.planform_chords.proofs.write_several.Tie as tie
 
-outline-crossings-requires : tie.Need-outline-crossings-requires
-outline-crossings-requires c κs = search needs
-
 slice-aggregate-write-first : tie.Need-slice-aggregate-write-first
 slice-aggregate-write-first c =
     let listed = c .before in
     let a = listed .before .before .before .before .args in
     omega (arith, written-length (listed .outline-crossings .ensures) (most-crossings (a .points .now) (a .h)))
-
-mul-write-first : tie.Need-mul-write-first
-mul-write-first c = search needs
 
 write-first-requires : tie.Need-write-first-requires
 write-first-requires c κs =
@@ -26,9 +20,6 @@ write-first-requires c κs =
     let w = listed .outline-crossings .ensures in
     let few = most-crossings (a .points .now) (a .h) in
     (omega (arith, w .count, written-length w few), omega (arith, w .count))
-
-same-length : tie.Need-same-length
-same-length c = search needs
 
 returns : tie.Need-returns
 returns c =
@@ -40,9 +31,9 @@ pub write-several-spec : {M : Type 1} → statement M
 write-several-spec =
     tie.close
     (tie.spec
-    outline-crossings-requires
+    (λ c κs. search needs)
     slice-aggregate-write-first
-    mul-write-first
+    (λ c. search needs)
     write-first-requires
-    same-length
+    (λ c. search needs)
     returns)

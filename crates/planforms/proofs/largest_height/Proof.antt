@@ -42,9 +42,6 @@ mul-max-2 c = omega arith
 shared-slice-read-max : tie.Need-shared-slice-read-max Inv-loop μ-loop
 shared-slice-read-max c = omega arith
 
-max-requires : tie.Need-max-requires Inv-loop μ-loop
-max-requires c κs = search needs
-
 add-i : tie.Need-add-i Inv-loop μ-loop
 add-i c = omega arith
 
@@ -68,7 +65,7 @@ largest-height-spec =
     add-max
     mul-max-2
     shared-slice-read-max
-    max-requires
+    (λ c κs. search needs)
     add-i
     loop-less
     loop-again

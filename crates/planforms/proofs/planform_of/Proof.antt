@@ -5,27 +5,9 @@ use borrow.Author.Needs.{needs}
 use Rattle.planforms.proofs.planform_of.Statement.{statement}
 use Rattle.planforms.proofs.planform_of.Tie as tie
 
-array-read-t7 : tie.Need-array-read-t7
-array-read-t7 c = search needs
-
-array-read-t10 : tie.Need-array-read-t10
-array-read-t10 c = search needs
-
-array-read-t13 : tie.Need-array-read-t13
-array-read-t13 c = search needs
-
-array-read-t16 : tie.Need-array-read-t16
-array-read-t16 c = search needs
-
 returns : tie.Need-returns
 unfolding planformOf
 returns c = simp (eq-eqb _ _ (c .if1 .taken))
-
-array-read-t20 : tie.Need-array-read-t20
-array-read-t20 c = search needs
-
-array-read-t23 : tie.Need-array-read-t23
-array-read-t23 c = search needs
 
 returns-2 : tie.Need-returns-2
 unfolding planformOf
@@ -43,13 +25,13 @@ pub planform-of-spec : {M : Type 1} → statement M
 planform-of-spec =
     tie.close
     (tie.spec
-    array-read-t7
-    array-read-t10
-    array-read-t13
-    array-read-t16
+    (λ c. search needs)
+    (λ c. search needs)
+    (λ c. search needs)
+    (λ c. search needs)
     returns
-    array-read-t20
-    array-read-t23
+    (λ c. search needs)
+    (λ c. search needs)
     returns-2
     returns-3
     returns-4)

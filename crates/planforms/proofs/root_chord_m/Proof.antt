@@ -4,18 +4,6 @@ use Rattle.planforms.specs.Planforms.{rootChordOf}
 use Rattle.planforms.proofs.root_chord_m.Statement.{statement}
 use Rattle.planforms.proofs.root_chord_m.Tie as tie
 
-enum-known-planform : tie.Need-enum-known-planform
-enum-known-planform c = search needs
-
-enum-known-planform-2 : tie.Need-enum-known-planform-2
-enum-known-planform-2 c = search needs
-
-enum-told : tie.Need-enum-told
-enum-told c = search needs
-
-last-x-requires : tie.Need-last-x-requires
-last-x-requires c κs = search needs
-
 returns : tie.Need-returns
 unfolding rootChordOf
 returns c = rw (c .before .planform .given .1)
@@ -32,10 +20,10 @@ pub root-chord-m-spec : {M : Type 1} → statement M
 root-chord-m-spec =
     tie.close
     (tie.spec
-    enum-known-planform
-    enum-known-planform-2
-    enum-told
-    last-x-requires
+    (λ c. search needs)
+    (λ c. search needs)
+    (λ c. search needs)
+    (λ c κs. search needs)
     returns
     returns-2
     returns-3)

@@ -4,18 +4,6 @@ use Rattle.planforms.specs.Planforms.{spanOf}
 use Rattle.planforms.proofs.span_m.Statement.{statement}
 use Rattle.planforms.proofs.span_m.Tie as tie
 
-enum-known-planform : tie.Need-enum-known-planform
-enum-known-planform c = search needs
-
-enum-known-planform-2 : tie.Need-enum-known-planform-2
-enum-known-planform-2 c = search needs
-
-enum-told : tie.Need-enum-told
-enum-told c = search needs
-
-largest-height-requires : tie.Need-largest-height-requires
-largest-height-requires c κs = search needs
-
 returns : tie.Need-returns
 unfolding spanOf
 returns c = rw (c .before .planform .given .1)
@@ -32,10 +20,10 @@ pub span-m-spec : {M : Type 1} → statement M
 span-m-spec =
     tie.close
     (tie.spec
-    enum-known-planform
-    enum-known-planform-2
-    enum-told
-    largest-height-requires
+    (λ c. search needs)
+    (λ c. search needs)
+    (λ c. search needs)
+    (λ c κs. search needs)
     returns
     returns-2
     returns-3)

@@ -5,21 +5,6 @@ use borrow.Author.Needs.{needs}
 use Rattle.polygons.proofs.lies_on.Statement.{statement}
 use Rattle.polygons.proofs.lies_on.Tie as tie
 
-product-requires : tie.Need-product-requires
-product-requires c κs = search needs
-
-product-requires-2 : tie.Need-product-requires-2
-product-requires-2 c κs = search needs
-
-is-same-requires : tie.Need-is-same-requires
-is-same-requires c κs = search needs
-
-is-zero-between-requires : tie.Need-is-zero-between-requires
-is-zero-between-requires c κs = search needs
-
-is-zero-between-requires-2 : tie.Need-is-zero-between-requires-2
-is-zero-between-requires-2 c κs = search needs
-
 returns : tie.Need-returns
 unfolding liesOn
 returns c =
@@ -47,9 +32,9 @@ pub lies-on-spec : {M : Type 1} → statement M
 lies-on-spec =
     tie.close
     (tie.spec
-    product-requires
-    product-requires-2
-    is-same-requires
-    is-zero-between-requires
-    is-zero-between-requires-2
+    (λ c κs. search needs)
+    (λ c κs. search needs)
+    (λ c κs. search needs)
+    (λ c κs. search needs)
+    (λ c κs. search needs)
     returns)

@@ -10,32 +10,11 @@ use borrow.Author.Needs.{needs}
 use Rattle.polygons.proofs.offset_of.Statement.{statement}
 use Rattle.polygons.proofs.offset_of.Tie as tie
 
-mul-difference : tie.Need-mul-difference
-mul-difference c = search needs
-
-mul-difference-2 : tie.Need-mul-difference-2
-mul-difference-2 c = search needs
-
-shared-slice-copy-out-difference : tie.Need-shared-slice-copy-out-difference
-shared-slice-copy-out-difference c = search needs
-
 difference-requires : tie.Need-difference-requires
 difference-requires c κs =
     let at = c .before in
     let reach = at .pre .1 in
     (rw (coordinate-back (getD (now (at .args .corners)) (2 * at .args .i) (pos 0)) (reach .all (2 * at .args .i))) (reach .all _), rw (toZ-ofZ (at .fits .x)) (reach .across))
-
-mul-difference-3 : tie.Need-mul-difference-3
-mul-difference-3 c = search needs
-
-add-difference : tie.Need-add-difference
-add-difference c = search needs
-
-mul-difference-4 : tie.Need-mul-difference-4
-mul-difference-4 c = search needs
-
-shared-slice-copy-out-difference-2 : tie.Need-shared-slice-copy-out-difference-2
-shared-slice-copy-out-difference-2 c = search needs
 
 difference-requires-2 : tie.Need-difference-requires-2
 difference-requires-2 c κs =
@@ -69,13 +48,13 @@ pub offset-of-spec : {M : Type 1} → statement M
 offset-of-spec =
     tie.close
     (tie.spec
-    mul-difference
-    mul-difference-2
-    shared-slice-copy-out-difference
+    (λ c. search needs)
+    (λ c. search needs)
+    (λ c. search needs)
     difference-requires
-    mul-difference-3
-    add-difference
-    mul-difference-4
-    shared-slice-copy-out-difference-2
+    (λ c. search needs)
+    (λ c. search needs)
+    (λ c. search needs)
+    (λ c. search needs)
     difference-requires-2
     returns)

@@ -20,23 +20,8 @@ Inv-loop scale heights lo₀ hi₀ i₀ lo hi i =
 abbrev μ-loop : tie.MeasureT-loop
 μ-loop scale heights lo₀ hi₀ i₀ lo hi i = pieceSamples - i
 
-array-read-lo : tie.Need-array-read-lo Inv-loop μ-loop
-array-read-lo c = search needs
-
 loop-holds : tie.Need-loop-holds Inv-loop μ-loop
 loop-holds c = (omega arith, omega arith, first-within (c .args .scale) (c .args .t2))
-
-mul-h : tie.Need-mul-h Inv-loop μ-loop
-mul-h c = search needs
-
-array-read-h : tie.Need-array-read-h Inv-loop μ-loop
-array-read-h c = search needs
-
-add-i : tie.Need-add-i Inv-loop μ-loop
-add-i c = search needs
-
-loop-less : tie.Need-loop-less Inv-loop μ-loop
-loop-less c = search needs
 
 loop-again : tie.Need-loop-again Inv-loop μ-loop
 loop-again c =
@@ -58,11 +43,11 @@ bounds-m-spec =
     (tie.spec
     Inv-loop
     μ-loop
-    array-read-lo
+    (λ c. search needs)
     loop-holds
-    mul-h
-    array-read-h
-    add-i
-    loop-less
+    (λ c. search needs)
+    (λ c. search needs)
+    (λ c. search needs)
+    (λ c. search needs)
     loop-again
     returns)

@@ -21,20 +21,8 @@ abbrev μ-loop : tie.MeasureT-loop
 loop-holds : tie.Need-loop-holds Inv-loop μ-loop
 loop-holds c = (omega arith, refl, λ i l. absurd (not-suc-le-zero l))
 
-mul-chords-at : tie.Need-mul-chords-at Inv-loop μ-loop
-mul-chords-at c = search needs
-
-array-read-chords-at : tie.Need-array-read-chords-at Inv-loop μ-loop
-array-read-chords-at c = search needs
-
 chords-at-requires : tie.Need-chords-at-requires Inv-loop μ-loop
 chords-at-requires c κs = c .before .before .before .before .pre (c .before .loop .i) (omega arith)
-
-mul-found : tie.Need-mul-found Inv-loop μ-loop
-mul-found c = search needs
-
-array-set-from-found : tie.Need-array-set-from-found Inv-loop μ-loop
-array-set-from-found c = search needs
 
 add-i : tie.Need-add-i Inv-loop μ-loop
 add-i c = omega arith
@@ -57,11 +45,11 @@ chords-found-spec =
     Inv-loop
     μ-loop
     loop-holds
-    mul-chords-at
-    array-read-chords-at
+    (λ c. search needs)
+    (λ c. search needs)
     chords-at-requires
-    mul-found
-    array-set-from-found
+    (λ c. search needs)
+    (λ c. search needs)
     add-i
     loop-less
     loop-again

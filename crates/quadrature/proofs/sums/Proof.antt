@@ -25,26 +25,11 @@ abbrev μ-loop : tie.MeasureT-loop
 μ-loop integrand points centre half heights edges n found kw gw kronrod₀ gauss₀ j₀ kronrod gauss j =
     pieceSamples - j
 
-sample-heights-requires : tie.Need-sample-heights-requires Inv-loop μ-loop
-sample-heights-requires c κs = search needs
-
-edges-near-requires : tie.Need-edges-near-requires Inv-loop μ-loop
-edges-near-requires c κs = search needs
-
-array-share-prefix-edges : tie.Need-array-share-prefix-edges Inv-loop μ-loop
-array-share-prefix-edges c = search needs
-
 slice-aggregate-chords-found : tie.Need-slice-aggregate-chords-found Inv-loop μ-loop
 slice-aggregate-chords-found c = sym (length-take-le _ _ (c .before .edges-near .ensures .room))
 
 chords-found-requires : tie.Need-chords-found-requires Inv-loop μ-loop
 chords-found-requires c κs = c .before .edges-near .ensures .holding
-
-kronrod-weights-requires : tie.Need-kronrod-weights-requires Inv-loop μ-loop
-kronrod-weights-requires c κs = search needs
-
-gauss-weights-requires : tie.Need-gauss-weights-requires Inv-loop μ-loop
-gauss-weights-requires c κs = search needs
 
 loop-holds : tie.Need-loop-holds Inv-loop μ-loop
 loop-holds c = (omega arith, none-yet _ _ _ _)
@@ -58,9 +43,6 @@ array-read-h c = omega arith
 mul-one : tie.Need-mul-one Inv-loop μ-loop
 mul-one c = omega arith
 
-array-copy-out-one : tie.Need-array-copy-out-one Inv-loop μ-loop
-array-copy-out-one c = search needs
-
 -- what was made before the loop, with the arguments, and the integrand's sample
 abbrev made : tie.At-loop Inv-loop μ-loop → tie.After-chords-found Inv-loop μ-loop
 made head = head .before .before .before
@@ -73,9 +55,6 @@ sampleAt head = let a = listed head .before .before .before .before .args in sam
 
 abbrev height : tie.At-loop Inv-loop μ-loop → Float
 height head = at (listed head .before .before .sample-heights .result) (head .loop .j)
-
-array-share-prefix-edges-2 : tie.Need-array-share-prefix-edges-2 Inv-loop μ-loop
-array-share-prefix-edges-2 c = search needs
 
 slice-aggregate-values-over : tie.Need-slice-aggregate-values-over Inv-loop μ-loop
 slice-aggregate-values-over c = sym (length-take-le _ _ (listed (c .before .before .before) .edges-near .ensures .room))
@@ -101,17 +80,11 @@ mul-plus-weighted c = omega arith
 array-read-plus-weighted : tie.Need-array-read-plus-weighted Inv-loop μ-loop
 array-read-plus-weighted c = omega arith
 
-plus-weighted-requires : tie.Need-plus-weighted-requires Inv-loop μ-loop
-plus-weighted-requires c κs = search needs
-
 mul-plus-weighted-2 : tie.Need-mul-plus-weighted-2 Inv-loop μ-loop
 mul-plus-weighted-2 c = omega arith
 
 array-read-plus-weighted-2 : tie.Need-array-read-plus-weighted-2 Inv-loop μ-loop
 array-read-plus-weighted-2 c = omega arith
-
-plus-weighted-requires-2 : tie.Need-plus-weighted-requires-2 Inv-loop μ-loop
-plus-weighted-requires-2 c κs = search needs
 
 add-j : tie.Need-add-j Inv-loop μ-loop
 add-j c = omega arith
@@ -137,27 +110,27 @@ sums-spec =
     (tie.spec
     Inv-loop
     μ-loop
-    sample-heights-requires
-    edges-near-requires
-    array-share-prefix-edges
+    (λ c κs. search needs)
+    (λ c κs. search needs)
+    (λ c. search needs)
     slice-aggregate-chords-found
     chords-found-requires
-    kronrod-weights-requires
-    gauss-weights-requires
+    (λ c κs. search needs)
+    (λ c κs. search needs)
     loop-holds
     mul-h
     array-read-h
     mul-one
-    array-copy-out-one
-    array-share-prefix-edges-2
+    (λ c. search needs)
+    (λ c. search needs)
     slice-aggregate-values-over
     values-over-requires
     mul-plus-weighted
     array-read-plus-weighted
-    plus-weighted-requires
+    (λ c κs. search needs)
     mul-plus-weighted-2
     array-read-plus-weighted-2
-    plus-weighted-requires-2
+    (λ c κs. search needs)
     add-j
     loop-less
     loop-again

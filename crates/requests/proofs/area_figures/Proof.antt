@@ -5,21 +5,6 @@ use Rattle.requests.specs.Calls.{numberedArea}
 use Rattle.requests.proofs.area_figures.Statement.{statement}
 use Rattle.requests.proofs.area_figures.Tie as tie
 
-enum-known-planform : tie.Need-enum-known-planform
-enum-known-planform c = search needs
-
-geometry-requires : tie.Need-geometry-requires
-geometry-requires c κs = search needs
-
-enum-told : tie.Need-enum-told
-enum-told c = search needs
-
-no-area-requires : tie.Need-no-area-requires
-no-area-requires c κs = search needs
-
-same-length : tie.Need-same-length
-same-length c = search needs
-
 returns : tie.Need-returns
 unfolding numberedArea
 returns c =
@@ -37,10 +22,10 @@ pub area-figures-spec : {M : Type 1} → statement M
 area-figures-spec =
     tie.close
     (tie.spec
-    enum-known-planform
-    geometry-requires
-    enum-told
-    no-area-requires
-    same-length
+    (λ c. search needs)
+    (λ c κs. search needs)
+    (λ c. search needs)
+    (λ c κs. search needs)
+    (λ c. search needs)
     returns
     returns-2)

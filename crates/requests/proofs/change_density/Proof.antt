@@ -6,24 +6,6 @@ use borrow.Author.Needs.{needs}
 use Rattle.requests.proofs.change_density.Statement.{statement}
 use Rattle.requests.proofs.change_density.Tie as tie
 
-enum-known-density : tie.Need-enum-known-density
-enum-known-density c = search needs
-
-change-density-requires : tie.Need-change-density-requires
-change-density-requires c κs = search needs
-
-enum-told : tie.Need-enum-told
-enum-told c = search needs
-
-no-call-requires : tie.Need-no-call-requires
-no-call-requires c κs = search needs
-
-same-length : tie.Need-same-length
-same-length c = search needs
-
-same-length-2 : tie.Need-same-length-2
-same-length-2 c = search needs
-
 returns : tie.Need-returns
 unfolding numberedChange
 returns c =
@@ -41,11 +23,11 @@ pub change-density-spec : {M : Type 1} → statement M
 change-density-spec =
     tie.close
     (tie.spec
-    enum-known-density
-    change-density-requires
-    enum-told
-    no-call-requires
-    same-length
-    same-length-2
+    (λ c. search needs)
+    (λ c κs. search needs)
+    (λ c. search needs)
+    (λ c κs. search needs)
+    (λ c. search needs)
+    (λ c. search needs)
     returns
     returns-2)

@@ -9,18 +9,9 @@ use borrow.Author.Needs.{needs}
 use Rattle.requests.proofs.copied_by.Statement.{statement}
 use Rattle.requests.proofs.copied_by.Tie as tie
 
-refused-requires : tie.Need-refused-requires
-refused-requires c κs = search needs
-
 returns : tie.Need-returns
 unfolding copiedBy
 returns c = simp (ne-eqb _ _ (c .before .if1 .taken)) (c .refused .ensures)
-
-body-of-requires : tie.Need-body-of-requires
-body-of-requires c κs = search needs
-
-copied-requires : tie.Need-copied-requires
-copied-requires c κs = search needs
 
 returns-2 : tie.Need-returns-2
 unfolding copiedBy
@@ -33,8 +24,8 @@ pub copied-by-spec : {M : Type 1} → statement M
 copied-by-spec =
     tie.close
     (tie.spec
-    refused-requires
+    (λ c κs. search needs)
     returns
-    body-of-requires
-    copied-requires
+    (λ c κs. search needs)
+    (λ c κs. search needs)
     returns-2)

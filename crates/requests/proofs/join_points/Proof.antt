@@ -20,23 +20,8 @@ returns c =
     let g : 32 < length (now (c .before .before .args .values)) / 4 = omega arith in
     simp (le-leb _ _ h, lt-leb _ _ g)
 
-slice-aggregate-write-points : tie.Need-slice-aggregate-write-points
-slice-aggregate-write-points c = search needs
-
-write-points-requires : tie.Need-write-points-requires
-write-points-requires c κs = search needs
-
-mul-end : tie.Need-mul-end
-mul-end c = search needs
-
-array-share-prefix-bodies : tie.Need-array-share-prefix-bodies
-array-share-prefix-bodies c = search needs
-
 slice-aggregate-combine : tie.Need-slice-aggregate-combine
 slice-aggregate-combine c = sym (ap length (first-bodies _ _ _ (c .before .before .write-points .ensures)) ∙ length-listed _ _)
-
-combine-requires : tie.Need-combine-requires
-combine-requires c κs = search needs
 
 returns-2 : tie.Need-returns-2
 unfolding joinedPointsOf
@@ -51,10 +36,10 @@ join-points-spec =
     tie.close
     (tie.spec
     returns
-    slice-aggregate-write-points
-    write-points-requires
-    mul-end
-    array-share-prefix-bodies
+    (λ c. search needs)
+    (λ c κs. search needs)
+    (λ c. search needs)
+    (λ c. search needs)
     slice-aggregate-combine
-    combine-requires
+    (λ c κs. search needs)
     returns-2)

@@ -5,21 +5,6 @@ use Rattle.requests.specs.Calls.{numberedChords}
 use Rattle.requests.proofs.listed_chords.Statement.{statement}
 use Rattle.requests.proofs.listed_chords.Tie as tie
 
-enum-known-planform : tie.Need-enum-known-planform
-enum-known-planform c = search needs
-
-chords-at-requires : tie.Need-chords-at-requires
-chords-at-requires c κs = search needs
-
-enum-told : tie.Need-enum-told
-enum-told c = search needs
-
-no-chords-requires : tie.Need-no-chords-requires
-no-chords-requires c κs = search needs
-
-same-length : tie.Need-same-length
-same-length c = search needs
-
 returns : tie.Need-returns
 unfolding numberedChords
 returns c =
@@ -37,10 +22,10 @@ pub listed-chords-spec : {M : Type 1} → statement M
 listed-chords-spec =
     tie.close
     (tie.spec
-    enum-known-planform
-    chords-at-requires
-    enum-told
-    no-chords-requires
-    same-length
+    (λ c. search needs)
+    (λ c κs. search needs)
+    (λ c. search needs)
+    (λ c κs. search needs)
+    (λ c. search needs)
     returns
     returns-2)

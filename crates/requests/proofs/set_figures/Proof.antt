@@ -5,21 +5,6 @@ use Rattle.requests.specs.Calls.{numberedCall}
 use Rattle.requests.proofs.set_figures.Statement.{statement}
 use Rattle.requests.proofs.set_figures.Tie as tie
 
-enum-known-set : tie.Need-enum-known-set
-enum-known-set c = search needs
-
-mass-properties-requires : tie.Need-mass-properties-requires
-mass-properties-requires c κs = search needs
-
-enum-told : tie.Need-enum-told
-enum-told c = search needs
-
-no-figures-requires : tie.Need-no-figures-requires
-no-figures-requires c κs = search needs
-
-same-length : tie.Need-same-length
-same-length c = search needs
-
 returns : tie.Need-returns
 unfolding numberedCall
 returns c =
@@ -37,10 +22,10 @@ pub set-figures-spec : {M : Type 1} → statement M
 set-figures-spec =
     tie.close
     (tie.spec
-    enum-known-set
-    mass-properties-requires
-    enum-told
-    no-figures-requires
-    same-length
+    (λ c. search needs)
+    (λ c κs. search needs)
+    (λ c. search needs)
+    (λ c κs. search needs)
+    (λ c. search needs)
     returns
     returns-2)

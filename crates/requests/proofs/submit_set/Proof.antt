@@ -6,24 +6,6 @@ use borrow.Author.Needs.{needs}
 use Rattle.requests.proofs.submit_set.Statement.{statement}
 use Rattle.requests.proofs.submit_set.Tie as tie
 
-enum-known-set : tie.Need-enum-known-set
-enum-known-set c = search needs
-
-submit-requires : tie.Need-submit-requires
-submit-requires c κs = search needs
-
-enum-told : tie.Need-enum-told
-enum-told c = search needs
-
-no-call-requires : tie.Need-no-call-requires
-no-call-requires c κs = search needs
-
-same-length : tie.Need-same-length
-same-length c = search needs
-
-same-length-2 : tie.Need-same-length-2
-same-length-2 c = search needs
-
 returns : tie.Need-returns
 unfolding numberedSubmit
 returns c =
@@ -41,11 +23,11 @@ pub submit-set-spec : {M : Type 1} → statement M
 submit-set-spec =
     tie.close
     (tie.spec
-    enum-known-set
-    submit-requires
-    enum-told
-    no-call-requires
-    same-length
-    same-length-2
+    (λ c. search needs)
+    (λ c κs. search needs)
+    (λ c. search needs)
+    (λ c κs. search needs)
+    (λ c. search needs)
+    (λ c. search needs)
     returns
     returns-2)

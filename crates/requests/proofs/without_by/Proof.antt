@@ -8,28 +8,13 @@ use borrow.Author.Needs.{needs}
 use Rattle.requests.proofs.without_by.Statement.{statement}
 use Rattle.requests.proofs.without_by.Tie as tie
 
-refused-requires : tie.Need-refused-requires
-refused-requires c κs = search needs
-
 returns : tie.Need-returns
 unfolding withoutBy
 returns c = simp (ne-eqb _ _ (c .before .if1 .taken)) (c .refused .ensures)
 
-refused-requires-2 : tie.Need-refused-requires-2
-refused-requires-2 c κs = search needs
-
 returns-2 : tie.Need-returns-2
 unfolding withoutBy
 returns-2 c = simp (eq-eqb _ _ (c .before .before .if1 .left), ne-eqb _ _ (c .before .if2 .taken)) (c .refused2 .ensures)
-
-body-of-requires : tie.Need-body-of-requires
-body-of-requires c κs = search needs
-
-body-of-requires-2 : tie.Need-body-of-requires-2
-body-of-requires-2 c κs = search needs
-
-without-part-requires : tie.Need-without-part-requires
-without-part-requires c κs = search needs
 
 returns-3 : tie.Need-returns-3
 unfolding withoutBy
@@ -42,11 +27,11 @@ pub without-by-spec : {M : Type 1} → statement M
 without-by-spec =
     tie.close
     (tie.spec
-    refused-requires
+    (λ c κs. search needs)
     returns
-    refused-requires-2
+    (λ c κs. search needs)
     returns-2
-    body-of-requires
-    body-of-requires-2
-    without-part-requires
+    (λ c κs. search needs)
+    (λ c κs. search needs)
+    (λ c κs. search needs)
     returns-3)

@@ -30,9 +30,6 @@ mul-turn c = omega arith
 array-copy-out-turn : tie.Need-array-copy-out-turn Inv-loop μ-loop
 array-copy-out-turn c = omega arith
 
-turned-requires : tie.Need-turned-requires Inv-loop μ-loop
-turned-requires c κs = search needs
-
 mul-list : tie.Need-mul-list Inv-loop μ-loop
 mul-list c = omega arith
 
@@ -66,7 +63,7 @@ copies-spec =
     loop-holds
     mul-turn
     array-copy-out-turn
-    turned-requires
+    (λ c κs. search needs)
     mul-list
     array-set-from-list
     add-k

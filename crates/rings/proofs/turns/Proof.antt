@@ -24,9 +24,6 @@ loop-holds c = (omega arith, refl, λ i l. absurd (not-suc-le-zero l))
 angle-requires : tie.Need-angle-requires Inv-loop μ-loop
 angle-requires c κs = omega arith
 
-from-rotation-z-requires : tie.Need-from-rotation-z-requires Inv-loop μ-loop
-from-rotation-z-requires c κs = search needs
-
 mul-all : tie.Need-mul-all Inv-loop μ-loop
 mul-all c = omega arith
 
@@ -57,7 +54,7 @@ turns-spec =
     μ-loop
     loop-holds
     angle-requires
-    from-rotation-z-requires
+    (λ c κs. search needs)
     mul-all
     array-set-from-all
     add-k

@@ -25,20 +25,11 @@ sum c =
     let a = c .before .before .before .args in
     (line (a .p .1) (a .u) (omega arith) (omega arith), curve (a .p .2) (a .p .3) (a .u) (omega arith) (omega arith) (omega arith))
 
-cast-result : tie.Need-cast-result
-cast-result c = search needs
-
 mul-result : tie.Need-mul-result
 mul-result c = omega (arith, line (c .before .args .p .1) (c .before .args .u) (omega arith) (omega arith))
 
 mul-result-2 : tie.Need-mul-result-2
 mul-result-2 c = omega (arith, square (c .before .args .u) (omega arith))
-
-cast-result-2 : tie.Need-cast-result-2
-cast-result-2 c = search needs
-
-cast-result-3 : tie.Need-cast-result-3
-cast-result-3 c = search needs
 
 mul-result-3 : tie.Need-mul-result-3
 mul-result-3 c = let a = c .before .before .before .args in omega (arith, line (a .p .3) (a .u) (omega arith) (omega arith))
@@ -59,11 +50,11 @@ pub decrease-spec : {M : Type 1} → statement M
 decrease-spec =
     tie.close
     (tie.spec
-    cast-result
+    (λ c. search needs)
     mul-result
     mul-result-2
-    cast-result-2
-    cast-result-3
+    (λ c. search needs)
+    (λ c. search needs)
     mul-result-3
     add-result
     mul-result-4

@@ -111,29 +111,8 @@ split-at c = split (start c .args .n) (start c .args .h) (start c .pre) (c .befo
 mul-square : tie.Need-mul-square
 mul-square c = let f : c .args .h ≤ 2 ^ 28 = omega arith in omega (arith, mul-le-mul f f)
 
-mul-top : tie.Need-mul-top
-mul-top c = search needs
-
-add-top : tie.Need-add-top
-add-top c = search needs
-
-mul-if2 : tie.Need-mul-if2
-mul-if2 c = search needs
-
 mul-t : tie.Need-mul-t
 mul-t c = omega (arith, leb-true)
-
-div-l : tie.Need-div-l
-div-l c = search needs
-
-rem-c : tie.Need-rem-c
-rem-c c = search needs
-
-sub-q : tie.Need-sub-q
-sub-q c = search needs
-
-mul-q : tie.Need-mul-q
-mul-q c = search needs
 
 add-q : tie.Need-add-q
 add-q c = omega (arith, split-at c)
@@ -153,42 +132,33 @@ add-v c = omega (arith, low-square (split-at c))
 add-result : tie.Need-add-result
 add-result c = omega (arith, split-at c, low-square (split-at c))
 
-cast-result : tie.Need-cast-result
-cast-result c = search needs
-
 add-result-2 : tie.Need-add-result-2
 add-result-2 c = let n = start c .args .n in let h = start c .args .h in fits (split-at c) (test (h - 1) (over n h / h) (over n h % h))
 
 returns : tie.Need-returns
 returns c = decided (split-at c)
 
-digit-root-requires : tie.Need-digit-root-requires
-digit-root-requires c κs = search needs
-
-returns-2 : tie.Need-returns-2
-returns-2 c = search needs
-
 pub nearest-root-spec : {M : Type 1} → statement M
 nearest-root-spec =
     tie.close
     (tie.spec
     mul-square
-    mul-top
-    add-top
-    mul-if2
+    (λ c. search needs)
+    (λ c. search needs)
+    (λ c. search needs)
     mul-t
-    div-l
-    rem-c
-    sub-q
-    mul-q
+    (λ c. search needs)
+    (λ c. search needs)
+    (λ c. search needs)
+    (λ c. search needs)
     add-q
     add-u
     mul-u
     mul-v
     add-v
     add-result
-    cast-result
+    (λ c. search needs)
     add-result-2
     returns
-    digit-root-requires
-    returns-2)
+    (λ c κs. search needs)
+    (λ c. search needs))

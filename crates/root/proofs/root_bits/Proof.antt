@@ -9,20 +9,8 @@ use Rattle.root.proofs.Patterns.{root-written}
 use Rattle.root.proofs.root_bits.Statement.{statement}
 use Rattle.root.proofs.root_bits.Tie as tie
 
-scale-requires : tie.Need-scale-requires
-scale-requires c κs = search needs
-
-mul-result : tie.Need-mul-result
-mul-result c = search needs
-
-add-nearest-root : tie.Need-add-nearest-root
-add-nearest-root c = search needs
-
 mul-nearest-root : tie.Need-mul-nearest-root
 mul-nearest-root c = omega (arith, bounds (c .scale .ensures .0) .1)
-
-guess-requires : tie.Need-guess-requires
-guess-requires c κs = search needs
 
 nearest-root-requires : tie.Need-nearest-root-requires
 nearest-root-requires c κs = let b = bounds (c .before .scale .ensures .0) in (b .0, omega (arith, b .1), c .guess .ensures .0, c .guess .ensures .1)
@@ -39,11 +27,11 @@ pub root-bits-spec : {M : Type 1} → statement M
 root-bits-spec =
     tie.close
     (tie.spec
-    scale-requires
-    mul-result
-    add-nearest-root
+    (λ c κs. search needs)
+    (λ c. search needs)
+    (λ c. search needs)
     mul-nearest-root
-    guess-requires
+    (λ c κs. search needs)
     nearest-root-requires
     add-result
     returns)

@@ -29,27 +29,6 @@ returns-4 c =
     let a = c .before .before .before .before .before .before .before .before .before .before .args in
     line-refused _ _ _ _ (no-answer (lentIn (a .scratch .now) (a .engine-numbers .now) (a .engine-counts .now)) (a .answer .now) (a .written .now) (c .before .before .before .if1 .left) (c .before .before .if2 .left) (few-counts answerBytes (a .answer .now) 1 (a .written .now) (c .before .if3 .left) (c .if4 .taken)))
 
-answer-line-requires : tie.Need-answer-line-requires
-answer-line-requires c κs = search needs
-
-slice-write-written : tie.Need-slice-write-written
-slice-write-written c = search needs
-
-same-length : tie.Need-same-length
-same-length c = search needs
-
-same-length-2 : tie.Need-same-length-2
-same-length-2 c = search needs
-
-same-length-3 : tie.Need-same-length-3
-same-length-3 c = search needs
-
-same-length-4 : tie.Need-same-length-4
-same-length-4 c = search needs
-
-same-length-5 : tie.Need-same-length-5
-same-length-5 c = search needs
-
 returns-5 : tie.Need-returns-5
 returns-5 c =
     let call = c .before .before .before .before .before .before .before .before in
@@ -68,11 +47,11 @@ delvouzh-answer-line-spec =
     returns-2
     returns-3
     returns-4
-    answer-line-requires
-    slice-write-written
-    same-length
-    same-length-2
-    same-length-3
-    same-length-4
-    same-length-5
+    (λ c κs. search needs)
+    (λ c. search needs)
+    (λ c. search needs)
+    (λ c. search needs)
+    (λ c. search needs)
+    (λ c. search needs)
+    (λ c. search needs)
     returns-5)

@@ -27,24 +27,6 @@ returns : tie.Need-returns
 unfolding chordMoments
 returns c = rw (c .if1 .taken)
 
-enum-told : tie.Need-enum-told
-enum-told c = search needs
-
-square-moments-requires : tie.Need-square-moments-requires
-square-moments-requires c κs = search needs
-
-enum-told-2 : tie.Need-enum-told-2
-enum-told-2 c = search needs
-
-rounded-moments-requires : tie.Need-rounded-moments-requires
-rounded-moments-requires c κs = search needs
-
-tail-requires : tie.Need-tail-requires
-tail-requires c κs = search needs
-
-airfoil-moments-requires : tie.Need-airfoil-moments-requires
-airfoil-moments-requires c κs = search needs
-
 returns-2 : tie.Need-returns-2
 unfolding chordMoments
 returns-2 c = rw (c .before .before .before .if1 .left, c .before .enum-told .given .1) (c .square-moments .ensures)
@@ -68,12 +50,12 @@ chord-moments-spec =
     tie.close
     (tie.spec
     returns
-    enum-told
-    square-moments-requires
-    enum-told-2
-    rounded-moments-requires
-    tail-requires
-    airfoil-moments-requires
+    (λ c. search needs)
+    (λ c κs. search needs)
+    (λ c. search needs)
+    (λ c κs. search needs)
+    (λ c κs. search needs)
+    (λ c κs. search needs)
     returns-2
     returns-3
     returns-4)

@@ -4,36 +4,6 @@ use borrow.Author.Needs.{needs}
 use Rattle.segments.proofs.segments_touch.Statement.{statement}
 use Rattle.segments.proofs.segments_touch.Tie as tie
 
-cross-requires : tie.Need-cross-requires
-cross-requires c κs = search needs
-
-cross-requires-2 : tie.Need-cross-requires-2
-cross-requires-2 c κs = search needs
-
-cross-requires-3 : tie.Need-cross-requires-3
-cross-requires-3 c κs = search needs
-
-cross-requires-4 : tie.Need-cross-requires-4
-cross-requires-4 c κs = search needs
-
-are-opposite-requires : tie.Need-are-opposite-requires
-are-opposite-requires c κs = search needs
-
-are-opposite-requires-2 : tie.Need-are-opposite-requires-2
-are-opposite-requires-2 c κs = search needs
-
-lies-on-requires : tie.Need-lies-on-requires
-lies-on-requires c κs = search needs
-
-lies-on-requires-2 : tie.Need-lies-on-requires-2
-lies-on-requires-2 c κs = search needs
-
-lies-on-requires-3 : tie.Need-lies-on-requires-3
-lies-on-requires-3 c κs = search needs
-
-lies-on-requires-4 : tie.Need-lies-on-requires-4
-lies-on-requires-4 c κs = search needs
-
 returns : tie.Need-returns
 unfolding segmentsTouch
 returns c = rw (
@@ -53,14 +23,14 @@ pub segments-touch-spec : {M : Type 1} → statement M
 segments-touch-spec =
     tie.close
     (tie.spec
-    cross-requires
-    cross-requires-2
-    cross-requires-3
-    cross-requires-4
-    are-opposite-requires
-    are-opposite-requires-2
-    lies-on-requires
-    lies-on-requires-2
-    lies-on-requires-3
-    lies-on-requires-4
+    (λ c κs. search needs)
+    (λ c κs. search needs)
+    (λ c κs. search needs)
+    (λ c κs. search needs)
+    (λ c κs. search needs)
+    (λ c κs. search needs)
+    (λ c κs. search needs)
+    (λ c κs. search needs)
+    (λ c κs. search needs)
+    (λ c κs. search needs)
     returns)

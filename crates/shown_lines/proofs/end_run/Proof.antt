@@ -54,12 +54,6 @@ is-at-end c =
     c .is-end .ensures
     ∙ ap atEnd (toZ-ofZ w64 (c .before .before .before .before .args .t .got) (record { sfits = c .before .struct-told .given .1 .1 .0 .1 }))
 
-is-end-requires : tie.Need-is-end-requires
-is-end-requires c κs = search needs
-
-show-last-requires : tie.Need-show-last-requires
-show-last-requires c κs = search needs
-
 tell-requires : tie.Need-tell-requires
 tell-requires c κs =
     let l = c .before .before .before in
@@ -72,21 +66,12 @@ add-t14 c =
     let a = l .show-last .ensures .room in let b = l .show-last .kept .1 .1 .1 .0 in let d = s .pre .1 in let e = s .pre .3 in
     omega (arith, a, b, d, e)
 
-same-length : tie.Need-same-length
-same-length c = search needs
-
 returns : tie.Need-returns
 returns c =
     let t = c .before .before .before .before in let l = t .before .before .before .before in let i = l .before .before .before .before in
     let s = i .before .before .before .before in
     at-end (now (s .args .buffer)) (s .args .t) (l .show-last .result) (sym (is-at-end i) ∙ l .before .before .before .if1 .taken)
     (l .show-last .ensures) (t .tell .ensures)
-
-tell-requires-2 : tie.Need-tell-requires-2
-tell-requires-2 c κs = search needs
-
-same-length-2 : tie.Need-same-length-2
-same-length-2 c = search needs
 
 returns-2 : tie.Need-returns-2
 returns-2 c =
@@ -97,12 +82,12 @@ pub end-run-spec : {M : Type 1} → statement M
 end-run-spec =
     tie.close
     (tie.spec
-    is-end-requires
-    show-last-requires
+    (λ c κs. search needs)
+    (λ c κs. search needs)
     tell-requires
     add-t14
-    same-length
+    (λ c. search needs)
     returns
-    tell-requires-2
-    same-length-2
+    (λ c κs. search needs)
+    (λ c. search needs)
     returns-2)

@@ -199,9 +199,6 @@ turned c = c .before .before .before .before .before .before
 abbrev topped : tie.After-take-turn Inv-loop μ-loop → tie.At-loop Inv-loop μ-loop
 topped t = t .before .before .before .before .before .before .before
 
-no-line-requires : tie.Need-no-line-requires Inv-loop μ-loop
-no-line-requires c κs = search needs
-
 loop-holds : tie.Need-loop-holds Inv-loop μ-loop
 loop-holds c = start (c .no-line .result) (c .no-line .ensures (now (c .before .before .before .before .args .buffer)))
 
@@ -249,7 +246,7 @@ run-spec =
     (tie.spec
     Inv-loop
     μ-loop
-    no-line-requires
+    (λ c κs. search needs)
     loop-holds
     take-turn-requires
     loop-less

@@ -16,15 +16,6 @@ returns c =
     let s = c .before .before .before in
     record { blocks = λ begun k. rw (no-last-line (now (s .args .buffer)) (s .args .s) begun k (c .if1 .taken)) refl; room = omega arith }
 
-add-show-line : tie.Need-add-show-line
-add-show-line c = search needs
-
-show-line-requires : tie.Need-show-line-requires
-show-line-requires c κs = search needs
-
-same-length : tie.Need-same-length
-same-length c = search needs
-
 returns-2 : tie.Need-returns-2
 unfolding blocksFrom
 returns-2 c =
@@ -41,7 +32,7 @@ show-last-spec =
     tie.close
     (tie.spec
     returns
-    add-show-line
-    show-line-requires
-    same-length
+    (λ c. search needs)
+    (λ c κs. search needs)
+    (λ c. search needs)
     returns-2)

@@ -12,9 +12,6 @@ use Rattle.shown_lines.proofs.show_line.Tie as tie
 slice-aggregate-put-made : tie.Need-slice-aggregate-put-made
 slice-aggregate-put-made c = simp length-take (omega arith)
 
-put-made-requires : tie.Need-put-made-requires
-put-made-requires c κs = search needs
-
 slice-reshare-prefix-write-all : tie.Need-slice-reshare-prefix-write-all
 slice-reshare-prefix-write-all c = put-within (c .before .before .put-made .ensures)
 
@@ -22,12 +19,6 @@ slice-aggregate-write-all : tie.Need-slice-aggregate-write-all
 slice-aggregate-write-all c =
     let p = c .before .before .before in
     sym (length-take-le (p .put-made .result) (p .put-made .last .0) (put-within (p .put-made .ensures)))
-
-write-all-requires : tie.Need-write-all-requires
-write-all-requires c κs = search needs
-
-same-length : tie.Need-same-length
-same-length c = search needs
 
 returns : tie.Need-returns
 returns c =
@@ -39,9 +30,9 @@ show-line-spec =
     tie.close
     (tie.spec
     slice-aggregate-put-made
-    put-made-requires
+    (λ c κs. search needs)
     slice-reshare-prefix-write-all
     slice-aggregate-write-all
-    write-all-requires
-    same-length
+    (λ c κs. search needs)
+    (λ c. search needs)
     returns)

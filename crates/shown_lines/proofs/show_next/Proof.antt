@@ -15,40 +15,10 @@ called k = k .before .before .before .before .before .before .before
 abbrev kept : tie.After-show-line → tie.After-keep-line
 kept l = l .before .before .before .before .before .before .before .before .before
 
-sub-keep-line : tie.Need-sub-keep-line
-sub-keep-line c = search needs
-
-part-keep-line-start : tie.Need-part-keep-line-start
-part-keep-line-start c = search needs
-
-part-keep-line-end : tie.Need-part-keep-line-end
-part-keep-line-end c = search needs
-
-keep-line-requires : tie.Need-keep-line-requires
-keep-line-requires c κs = search needs
-
-add-end : tie.Need-add-end
-add-end c = search needs
-
-same-length : tie.Need-same-length
-same-length c = search needs
-
 returns : tie.Need-returns
 returns c =
     let k = c .before .before .before .before .before in
     let s = called k in to-end (now (s .args .chunk)) (s .args .s) (s .pre .2) (k .keep-line .ensures) (now (s .args .out)) (c .if1 .taken)
-
-add-number : tie.Need-add-number
-add-number c = search needs
-
-show-line-requires : tie.Need-show-line-requires
-show-line-requires c κs = search needs
-
-no-line-requires : tie.Need-no-line-requires
-no-line-requires c κs = search needs
-
-add-t17 : tie.Need-add-t17
-add-t17 c = search needs
 
 add-t25 : tie.Need-add-t25
 add-t25 c =
@@ -56,12 +26,6 @@ add-t25 c =
     let a = l .show-line .ensures .room in let b = l .show-line .kept .1 .1 .1 .0 in let d = s .pre .0 .block in let e = s .pre .1 .few in
     let m = s .pre .0 .most in let n = s .pre .2 in
     omega (arith, a, b, d, e, m, n)
-
-same-length-2 : tie.Need-same-length-2
-same-length-2 c = search needs
-
-same-length-3 : tie.Need-same-length-3
-same-length-3 c = search needs
 
 returns-2 : tie.Need-returns-2
 returns-2 c =
@@ -73,18 +37,18 @@ pub show-next-spec : {M : Type 1} → statement M
 show-next-spec =
     tie.close
     (tie.spec
-    sub-keep-line
-    part-keep-line-start
-    part-keep-line-end
-    keep-line-requires
-    add-end
-    same-length
+    (λ c. search needs)
+    (λ c. search needs)
+    (λ c. search needs)
+    (λ c κs. search needs)
+    (λ c. search needs)
+    (λ c. search needs)
     returns
-    add-number
-    show-line-requires
-    no-line-requires
-    add-t17
+    (λ c. search needs)
+    (λ c κs. search needs)
+    (λ c κs. search needs)
+    (λ c. search needs)
     add-t25
-    same-length-2
-    same-length-3
+    (λ c. search needs)
+    (λ c. search needs)
     returns-2)

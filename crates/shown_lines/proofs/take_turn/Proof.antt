@@ -69,27 +69,12 @@ brings k =
     (k .count .ensures .1 ∙ ap (λ (z : ℤ). clamped z (length (r .read .last .1 .0)))
     (toZ-ofZ w64 (r .read .result) (record { sfits = r .read .ok })))
 
-read-requires : tie.Need-read-requires
-read-requires c κs = search needs
-
-count-requires : tie.Need-count-requires
-count-requires c κs = search needs
-
-same-length : tie.Need-same-length
-same-length c = search needs
-
 returns : tie.Need-returns
 returns c =
     let k = c .before .before in let r = k .before .before .before .before in let s = r .before .before .before .before .before in
     rw (toZ-ofZ w64 (r .read .result) (record { sfits = r .read .ok }))
     (nothing-read (now (s .args .buffer)) (s .args .t) (r .read .last .1 .0) (r .read .result) (k .count .result) (brings k) (c .if1 .taken)
     (s .pre .1 .within))
-
-slice-reshare-prefix-show-chunk : tie.Need-slice-reshare-prefix-show-chunk
-slice-reshare-prefix-show-chunk c = search needs
-
-slice-aggregate-show-chunk : tie.Need-slice-aggregate-show-chunk
-slice-aggregate-show-chunk c = search needs
 
 show-chunk-requires : tie.Need-show-chunk-requires
 show-chunk-requires c κs =
@@ -109,15 +94,6 @@ add-t22 c =
     let a = k .count .ensures .0 .0 in let b = r .read .kept .1 .0 in let d = s .pre .0 .most in let e = s .pre .2 in
     omega (arith, a, b, d, e)
 
-same-length-2 : tie.Need-same-length-2
-same-length-2 c = search needs
-
-same-length-3 : tie.Need-same-length-3
-same-length-3 c = search needs
-
-same-length-4 : tie.Need-same-length-4
-same-length-4 c = search needs
-
 returns-2 : tie.Need-returns-2
 returns-2 c =
     let p = c .before .before .before .before .before .before in let k = p .before .before .before .before .before .before in
@@ -131,15 +107,15 @@ pub take-turn-spec : {M : Type 1} → statement M
 take-turn-spec =
     tie.close
     (tie.spec
-    read-requires
-    count-requires
-    same-length
+    (λ c κs. search needs)
+    (λ c κs. search needs)
+    (λ c. search needs)
     returns
-    slice-reshare-prefix-show-chunk
-    slice-aggregate-show-chunk
+    (λ c. search needs)
+    (λ c. search needs)
     show-chunk-requires
     add-t22
-    same-length-2
-    same-length-3
-    same-length-4
+    (λ c. search needs)
+    (λ c. search needs)
+    (λ c. search needs)
     returns-2)

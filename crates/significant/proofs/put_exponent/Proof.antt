@@ -11,18 +11,6 @@ use borrow.Author.Needs.{needs}
 use Rattle.significant.proofs.put_exponent.Statement.{statement}
 use Rattle.significant.proofs.put_exponent.Tie as tie
 
-slice-aggregate-put-bytes : tie.Need-slice-aggregate-put-bytes
-slice-aggregate-put-bytes c = search needs
-
-put-bytes-requires : tie.Need-put-bytes-requires
-put-bytes-requires c κs = search needs
-
-put-count-requires : tie.Need-put-count-requires
-put-count-requires c κs = search needs
-
-same-length : tie.Need-same-length
-same-length c = search needs
-
 returns : tie.Need-returns
 unfolding text codes
 returns c =
@@ -31,21 +19,6 @@ returns c =
     let s = e .before .before .before .before .before in
     rw (le-leb 1075 (s .args .w) (omega arith))
     (then (now (s .args .out)) (e .put-bytes .last .0) (p .put-count .last .0) (s .args .at) (e .put-bytes .result) (p .put-count .result) (101 ∷ []) (countText (s .args .w - 1075)) (e .put-bytes .ensures) (p .put-count .ensures))
-
-slice-aggregate-put-bytes-2 : tie.Need-slice-aggregate-put-bytes-2
-slice-aggregate-put-bytes-2 c = search needs
-
-put-bytes-requires-2 : tie.Need-put-bytes-requires-2
-put-bytes-requires-2 c κs = search needs
-
-sub-put-count : tie.Need-sub-put-count
-sub-put-count c = search needs
-
-put-count-requires-2 : tie.Need-put-count-requires-2
-put-count-requires-2 c κs = search needs
-
-same-length-2 : tie.Need-same-length-2
-same-length-2 c = search needs
 
 returns-2 : tie.Need-returns-2
 unfolding text codes
@@ -60,14 +33,14 @@ pub put-exponent-spec : {M : Type 1} → statement M
 put-exponent-spec =
     tie.close
     (tie.spec
-    slice-aggregate-put-bytes
-    put-bytes-requires
-    put-count-requires
-    same-length
+    (λ c. search needs)
+    (λ c κs. search needs)
+    (λ c κs. search needs)
+    (λ c. search needs)
     returns
-    slice-aggregate-put-bytes-2
-    put-bytes-requires-2
-    sub-put-count
-    put-count-requires-2
-    same-length-2
+    (λ c. search needs)
+    (λ c κs. search needs)
+    (λ c. search needs)
+    (λ c κs. search needs)
+    (λ c. search needs)
     returns-2)

@@ -11,12 +11,6 @@ use borrow.Author.Needs.{needs}
 use Rattle.significant.proofs.put_fraction.Statement.{statement}
 use Rattle.significant.proofs.put_fraction.Tie as tie
 
-slice-aggregate-put-three : tie.Need-slice-aggregate-put-three
-slice-aggregate-put-three c = search needs
-
-array-share-prefix-zeros : tie.Need-array-share-prefix-zeros
-array-share-prefix-zeros c = search needs
-
 slice-aggregate-put-three-2 : tie.Need-slice-aggregate-put-three-2
 slice-aggregate-put-three-2 c = let s = c .before .before .before .before .before in sym (length-take-le (s .args .z) _ (s .pre .0))
 
@@ -26,9 +20,6 @@ put-three-requires c κs =
     let a = length-take-le {A = ℕ} (s .args .z) (48 ∷ 48 ∷ 48 ∷ []) (s .pre .0) in
     omega (arith, a)
 
-same-length : tie.Need-same-length
-same-length c = search needs
-
 returns : tie.Need-returns
 unfolding text codes
 returns c = c .before .before .put-three .ensures
@@ -37,9 +28,9 @@ pub put-fraction-spec : {M : Type 1} → statement M
 put-fraction-spec =
     tie.close
     (tie.spec
-    slice-aggregate-put-three
-    array-share-prefix-zeros
+    (λ c. search needs)
+    (λ c. search needs)
     slice-aggregate-put-three-2
     put-three-requires
-    same-length
+    (λ c. search needs)
     returns)

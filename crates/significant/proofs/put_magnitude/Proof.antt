@@ -48,15 +48,6 @@ made-of out last at r n scale power x ds e p f g h a =
     subst (λ (j : ℕ). Appended out at (written power (countText (digitsOf n (decimalUnitsOf x))) (n + j + scale)) last r) h
     (subst (λ (t : List ℕ). Appended out at (written power t (n + p + scale)) last r) (f ∙ ap countText g) a)
 
-significant-digits-requires : tie.Need-significant-digits-requires
-significant-digits-requires c κs = search needs
-
-slice-aggregate-put-count : tie.Need-slice-aggregate-put-count
-slice-aggregate-put-count c = search needs
-
-put-count-requires : tie.Need-put-count-requires
-put-count-requires c κs = search needs
-
 array-share-prefix-ds : tie.Need-array-share-prefix-ds
 array-share-prefix-ds c = fits (c .before .before)
 
@@ -77,9 +68,6 @@ put-written-requires c κs =
     let o = some (d m) in
     (omega (arith, l, o), omega (arith, l, t))
 
-same-length : tie.Need-same-length
-same-length c = search needs
-
 returns : tie.Need-returns
 returns c =
     let p = c .before .before in
@@ -93,13 +81,13 @@ pub put-magnitude-spec : {M : Type 1} → statement M
 put-magnitude-spec =
     tie.close
     (tie.spec
-    significant-digits-requires
-    slice-aggregate-put-count
-    put-count-requires
+    (λ c κs. search needs)
+    (λ c. search needs)
+    (λ c κs. search needs)
     array-share-prefix-ds
     slice-aggregate-put-written
     add-put-written
     add-put-written-2
     put-written-requires
-    same-length
+    (λ c. search needs)
     returns)

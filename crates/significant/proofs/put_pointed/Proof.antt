@@ -15,18 +15,6 @@ use Rattle.significant.proofs.put_pointed.Tie as tie
 slice-aggregate-put-three : tie.Need-slice-aggregate-put-three
 slice-aggregate-put-three c = let s = c .before .before .before .before in sym (length-take-le (s .args .i) (now (s .args .ds)) (s .pre .0))
 
-slice-aggregate-put-three-2 : tie.Need-slice-aggregate-put-three-2
-slice-aggregate-put-three-2 c = search needs
-
-sub-put-three : tie.Need-sub-put-three
-sub-put-three c = search needs
-
-part-put-three-start : tie.Need-part-put-three-start
-part-put-three-start c = search needs
-
-part-put-three-end : tie.Need-part-put-three-end
-part-put-three-end c = search needs
-
 put-three-requires : tie.Need-put-three-requires
 put-three-requires c κs =
     let s = c .before .before .before .before .before .before in
@@ -36,9 +24,6 @@ put-three-requires c κs =
     let b = length-take (length l - i) (drop i l) in
     let d = length-drop i l in
     omega (arith, a, b, d)
-
-same-length : tie.Need-same-length
-same-length c = search needs
 
 returns : tie.Need-returns
 unfolding text codes
@@ -55,10 +40,10 @@ put-pointed-spec =
     tie.close
     (tie.spec
     slice-aggregate-put-three
-    slice-aggregate-put-three-2
-    sub-put-three
-    part-put-three-start
-    part-put-three-end
+    (λ c. search needs)
+    (λ c. search needs)
+    (λ c. search needs)
+    (λ c. search needs)
     put-three-requires
-    same-length
+    (λ c. search needs)
     returns)

@@ -23,20 +23,11 @@ short x = by (lt x (bits 0))
     by true = omega arith
     by false = omega arith
 
-put-sign-requires : tie.Need-put-sign-requires
-put-sign-requires c κs = search needs
-
-is-finite-requires : tie.Need-is-finite-requires
-is-finite-requires c κs = search needs
-
 put-magnitude-requires : tie.Need-put-magnitude-requires
 put-magnitude-requires c κs =
     let p = c .before .before .before .before .before in
     let s = p .before .before .before in
     (s .pre .0, s .pre .1, s .pre .2, let e = p .put-sign .ensures .ends in let h = short (s .args .x) in let k = p .put-sign .kept .0 in omega (arith, e, h, k, s .pre .3))
-
-same-length : tie.Need-same-length
-same-length c = search needs
 
 returns : tie.Need-returns
 returns c =
@@ -47,9 +38,6 @@ returns c =
     rw (sym (f .is-finite .ensures) ∙ m .before .before .if1 .taken)
     (then (now (s .args .out)) (p .put-sign .last .0) (m .put-magnitude .last .0) (s .args .at) (p .put-sign .result) (m .put-magnitude .result) (signText (s .args .x)) (magnitudeText (s .args .n) (s .args .scale) (s .args .power) (s .args .x)) (p .put-sign .ensures) (m .put-magnitude .ensures))
 
-slice-aggregate-put-bytes : tie.Need-slice-aggregate-put-bytes
-slice-aggregate-put-bytes c = search needs
-
 put-bytes-requires : tie.Need-put-bytes-requires
 put-bytes-requires c κs =
     let p = c .before .before .before .before .before .before in
@@ -58,9 +46,6 @@ put-bytes-requires c κs =
     let h = short (s .args .x) in
     let k = p .put-sign .kept .0 in
     omega (arith, e, h, k, s .pre .3)
-
-same-length-2 : tie.Need-same-length-2
-same-length-2 c = search needs
 
 returns-2 : tie.Need-returns-2
 unfolding text codes
@@ -76,12 +61,12 @@ pub put-signed-spec : {M : Type 1} → statement M
 put-signed-spec =
     tie.close
     (tie.spec
-    put-sign-requires
-    is-finite-requires
+    (λ c κs. search needs)
+    (λ c κs. search needs)
     put-magnitude-requires
-    same-length
+    (λ c. search needs)
     returns
-    slice-aggregate-put-bytes
+    (λ c. search needs)
     put-bytes-requires
-    same-length-2
+    (λ c. search needs)
     returns-2)

@@ -29,9 +29,6 @@ many c =
     let s = c .before .before .before in
     enough-digits (now (s .args .digits)) (c .before .top .result) (s .args .shift) (s .pre .0) (c .before .top .ensures) (omega arith) (s .pre .4)
 
-top-requires : tie.Need-top-requires
-top-requires c κs = search needs
-
 returns : tie.Need-returns
 returns c =
     let s = c .before .before .before in
@@ -40,15 +37,6 @@ returns c =
 
 sub-from : tie.Need-sub-from
 sub-from c = omega (arith, many c .0)
-
-sub-number : tie.Need-sub-number
-sub-number c = search needs
-
-part-number-start : tie.Need-part-number-start
-part-number-start c = search needs
-
-part-number-end : tie.Need-part-number-end
-part-number-end c = search needs
 
 number-requires : tie.Need-number-requires
 number-requires c κs =
@@ -65,12 +53,6 @@ slice-aggregate-top c =
     let s = a .before .before in
     sym (length-take-le (a .top .result - s .args .n - 1) (now (s .args .digits)) (let w = a .top .ensures .within in omega (arith, w)))
 
-top-requires-2 : tie.Need-top-requires-2
-top-requires-2 c κs = search needs
-
-shared-slice-read-to-nearest : tie.Need-shared-slice-read-to-nearest
-shared-slice-read-to-nearest c = search needs
-
 to-nearest-requires : tie.Need-to-nearest-requires
 to-nearest-requires c κs =
     let m = c .before .before .before in
@@ -81,17 +63,11 @@ to-nearest-requires c κs =
     let f = few l (s .args .n) (a .top .result) from (s .pre .0) (s .pre .2) refl (omega (arith, many (m .before .before) .0)) in
     subst (λ (x : ℕ). x < 10 ^ 16) (sym (m .number .ensures)) (below-16 (take (a .top .result - from) (drop from l)) (f .0) (f .1))
 
-add-carried : tie.Need-add-carried
-add-carried c = search needs
-
 sub-carried : tie.Need-sub-carried
 sub-carried c =
     let m = c .before .before .before .before in
     let e = many (m .before .before) in
     omega (arith, e .0, e .1)
-
-carried-requires : tie.Need-carried-requires
-carried-requires c κs = search needs
 
 returns-2 : tie.Need-returns-2
 returns-2 c =
@@ -115,19 +91,19 @@ pub rounded-spec : {M : Type 1} → statement M
 rounded-spec =
     tie.close
     (tie.spec
-    top-requires
+    (λ c κs. search needs)
     returns
     sub-from
-    sub-number
-    part-number-start
-    part-number-end
+    (λ c. search needs)
+    (λ c. search needs)
+    (λ c. search needs)
     number-requires
     sub-last
     slice-aggregate-top
-    top-requires-2
-    shared-slice-read-to-nearest
+    (λ c κs. search needs)
+    (λ c. search needs)
     to-nearest-requires
-    add-carried
+    (λ c. search needs)
     sub-carried
-    carried-requires
+    (λ c κs. search needs)
     returns-2)

@@ -17,12 +17,6 @@ use Rattle.significant.proofs.significant_digits.Tie as tie
 held : (c : tie.Start) (b : ℕ) → b ≡ toBits binary64 (c .args .x) → ofBits binary64 b ≡ c .args .x
 held c b e = ap (ofBits binary64) e ∙ ofBits-toBits binary64 (c .args .x) (subst T (sym (c .good .0 .1)) tt)
 
-is-finite-requires : tie.Need-is-finite-requires
-is-finite-requires c κs = search needs
-
-to-bits-requires : tie.Need-to-bits-requires
-to-bits-requires c κs = search needs
-
 of-bits-requires : tie.Need-of-bits-requires
 of-bits-requires c κs =
     let s = c .before .before .before in
@@ -34,9 +28,6 @@ returns c =
     let s = b .before .before .before in
     same-units (s .args .n) _ _ _ _ (ap decimalUnitsOf (held s (b .to-bits .result) (b .to-bits .ensures))) (c .of-bits .ensures)
 
-worked-requires : tie.Need-worked-requires
-worked-requires c κs = search needs
-
 returns-2 : tie.Need-returns-2
 returns-2 c =
     let s = c .before .before .before in
@@ -47,9 +38,9 @@ pub significant-digits-spec : {M : Type 1} → statement M
 significant-digits-spec =
     tie.close
     (tie.spec
-    is-finite-requires
-    to-bits-requires
+    (λ c κs. search needs)
+    (λ c κs. search needs)
     of-bits-requires
     returns
-    worked-requires
+    (λ c κs. search needs)
     returns-2)

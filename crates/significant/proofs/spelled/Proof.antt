@@ -18,12 +18,6 @@ out c =
     let s = p .before .before .before in
     laid (now (s .args .digits)) (p .times-plus .last .0) (c .times-plus2 .last .0) (s .args .m) (s .args .k) (s .pre .0 .0) (s .pre .1 .0) (p .times-plus .ensures) (c .times-plus2 .ensures)
 
-times-plus-requires : tie.Need-times-plus-requires
-times-plus-requires c κs = search needs
-
-times-plus-requires-2 : tie.Need-times-plus-requires-2
-times-plus-requires-2 c κs = search needs
-
 times-power-requires : tie.Need-times-power-requires
 times-power-requires c κs =
     let q = c .before .before .before in
@@ -43,9 +37,6 @@ rounded-requires c κs =
     let k = o .same in
     (e .digits, s .pre .0 .3, s .pre .0 .4, omega (arith, n, k, s .pre .1 .1), enough (value (w .times-power .last .0)) (s .args .m) (s .args .base) (s .args .k) (s .args .shift) v (s .pre .0 .1) (s .pre .1 .2))
 
-same-length : tie.Need-same-length
-same-length c = search needs
-
 returns : tie.Need-returns
 returns c =
     let w = c .before .before .before .before in
@@ -59,9 +50,9 @@ pub spelled-spec : {M : Type 1} → statement M
 spelled-spec =
     tie.close
     (tie.spec
-    times-plus-requires
-    times-plus-requires-2
+    (λ c κs. search needs)
+    (λ c κs. search needs)
     times-power-requires
     rounded-requires
-    same-length
+    (λ c. search needs)
     returns)

@@ -14,15 +14,6 @@ use Rattle.significant.proofs.worked.Tie as tie
 so-many : (l : List ℕ) (k : ℕ) → length l ≡ 1107 → k ≤ 1074 → length (take (33 + k) l) ≡ 33 + k
 so-many l k e h = length-take-le (33 + k) l (omega (arith, e))
 
-sub-k : tie.Need-sub-k
-sub-k c = search needs
-
-add-digits : tie.Need-add-digits
-add-digits c = search needs
-
-array-borrow-prefix-digits : tie.Need-array-borrow-prefix-digits
-array-borrow-prefix-digits c = search needs
-
 slice-aggregate-spelled : tie.Need-slice-aggregate-spelled
 slice-aggregate-spelled c = sym (so-many _ (1074 - c .before .before .args .j) refl (omega arith))
 
@@ -33,12 +24,6 @@ spelled-requires c κs =
 
 returns : tie.Need-returns
 returns c = let s = c .before .before .before .before in same-units (s .args .n) _ _ _ _ (as-five (s .args .m) (s .args .j) (omega arith)) (c .before .spelled .ensures)
-
-add-digits-2 : tie.Need-add-digits-2
-add-digits-2 c = search needs
-
-array-borrow-prefix-digits-2 : tie.Need-array-borrow-prefix-digits-2
-array-borrow-prefix-digits-2 c = search needs
 
 slice-aggregate-spelled-2 : tie.Need-slice-aggregate-spelled-2
 slice-aggregate-spelled-2 c = sym (so-many _ (c .before .before .args .j - 1074) refl (omega arith))
@@ -55,14 +40,14 @@ pub worked-spec : {M : Type 1} → statement M
 worked-spec =
     tie.close
     (tie.spec
-    sub-k
-    add-digits
-    array-borrow-prefix-digits
+    (λ c. search needs)
+    (λ c. search needs)
+    (λ c. search needs)
     slice-aggregate-spelled
     spelled-requires
     returns
-    add-digits-2
-    array-borrow-prefix-digits-2
+    (λ c. search needs)
+    (λ c. search needs)
     slice-aggregate-spelled-2
     spelled-requires-2
     returns-2)

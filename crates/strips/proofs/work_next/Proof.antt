@@ -4,20 +4,8 @@ use Rattle.strips.proofs.Onwards.{went-on, went-nowhere}
 use Rattle.strips.proofs.work_next.Statement.{statement}
 use Rattle.strips.proofs.work_next.Tie as tie
 
-height-at-requires : tie.Need-height-at-requires
-height-at-requires c κs = search needs
-
 least-above-requires : tie.Need-least-above-requires
 least-above-requires c κs = c .before .before .before .pre .1
-
-slice-aggregate-work-strip : tie.Need-slice-aggregate-work-strip
-slice-aggregate-work-strip c = search needs
-
-work-strip-requires : tie.Need-work-strip-requires
-work-strip-requires c κs = search needs
-
-same-length : tie.Need-same-length
-same-length c = search needs
 
 returns : tie.Need-returns
 returns c =
@@ -43,10 +31,10 @@ pub work-next-spec : {M : Type 1} → statement M
 work-next-spec =
     tie.close
     (tie.spec
-    height-at-requires
+    (λ c κs. search needs)
     least-above-requires
-    slice-aggregate-work-strip
-    work-strip-requires
-    same-length
+    (λ c. search needs)
+    (λ c κs. search needs)
+    (λ c. search needs)
     returns
     returns-2)

@@ -10,30 +10,6 @@ use Rattle.strips.proofs.work_strip.Tie as tie
 added : (totals : Totals) (r strip x : Integral) → x ≡ inWords (withStrip totals r) → r ≡ strip → x ≡ inWords (withStrip totals strip)
 added totals r strip x sum e = sum ∙ ap (λ (y : Integral). inWords (withStrip totals y)) e
 
-mul-lower : tie.Need-mul-lower
-mul-lower c = search needs
-
-shared-slice-read-lower : tie.Need-shared-slice-read-lower
-shared-slice-read-lower c = search needs
-
-add-upper : tie.Need-add-upper
-add-upper c = search needs
-
-mul-upper : tie.Need-mul-upper
-mul-upper c = search needs
-
-shared-slice-read-upper : tie.Need-shared-slice-read-upper
-shared-slice-read-upper c = search needs
-
-integrate-requires : tie.Need-integrate-requires
-integrate-requires c κs = search needs
-
-add-strip-requires : tie.Need-add-strip-requires
-add-strip-requires c κs = search needs
-
-same-length : tie.Need-same-length
-same-length c = search needs
-
 returns : tie.Need-returns
 returns c =
     let i = c .before .before .before in
@@ -46,12 +22,12 @@ pub work-strip-spec : {M : Type 1} → statement M
 work-strip-spec =
     tie.close
     (tie.spec
-    mul-lower
-    shared-slice-read-lower
-    add-upper
-    mul-upper
-    shared-slice-read-upper
-    integrate-requires
-    add-strip-requires
-    same-length
+    (λ c. search needs)
+    (λ c. search needs)
+    (λ c. search needs)
+    (λ c. search needs)
+    (λ c. search needs)
+    (λ c κs. search needs)
+    (λ c κs. search needs)
+    (λ c. search needs)
     returns)

@@ -11,21 +11,6 @@ use borrow.Author.Needs.{needs}
 use Rattle.strips.proofs.work_strips.Statement.{statement}
 use Rattle.strips.proofs.work_strips.Tie as tie
 
-is-one-strip-requires : tie.Need-is-one-strip-requires
-is-one-strip-requires c κs = search needs
-
-span-m-requires : tie.Need-span-m-requires
-span-m-requires c κs = search needs
-
-slice-aggregate-work-upward : tie.Need-slice-aggregate-work-upward
-slice-aggregate-work-upward c = search needs
-
-work-upward-requires : tie.Need-work-upward-requires
-work-upward-requires c κs = search needs
-
-same-length : tie.Need-same-length
-same-length c = search needs
-
 returns : tie.Need-returns
 returns c =
     let i = c .before .before in
@@ -34,9 +19,6 @@ returns c =
     let a = taken .before .before .before .before .args in
     let two = ap (λ (x : Float). bits 0 ∷ x ∷ []) (span .span-m .ensures) ∙ sym (two-heights (a .integrand .planform) (a .points .now) (sym (taken .before .is-one-strip .ensures) ∙ taken .if1 .taken)) in
     same-heights _ _ _ _ _ _ two (i .work-upward .ensures)
-
-break-heights-requires : tie.Need-break-heights-requires
-break-heights-requires c κs = search needs
 
 array-share-prefix-heights : tie.Need-array-share-prefix-heights
 array-share-prefix-heights c =
@@ -60,9 +42,6 @@ work-upward-requires-2 c κs =
     let taken = heights-taken (a .integrand .planform) (a .points .now) (h .break-heights .result) (h .break-heights .ensures) in
     (s .pre, rw taken (omega (arith, few)))
 
-same-length-2 : tie.Need-same-length-2
-same-length-2 c = search needs
-
 returns-2 : tie.Need-returns-2
 returns-2 c =
     let i = c .before .before in
@@ -74,15 +53,15 @@ pub work-strips-spec : {M : Type 1} → statement M
 work-strips-spec =
     tie.close
     (tie.spec
-    is-one-strip-requires
-    span-m-requires
-    slice-aggregate-work-upward
-    work-upward-requires
-    same-length
+    (λ c κs. search needs)
+    (λ c κs. search needs)
+    (λ c. search needs)
+    (λ c κs. search needs)
+    (λ c. search needs)
     returns
-    break-heights-requires
+    (λ c κs. search needs)
     array-share-prefix-heights
     slice-aggregate-work-upward-2
     work-upward-requires-2
-    same-length-2
+    (λ c. search needs)
     returns-2)

@@ -35,9 +35,6 @@ work-strip-requires c κs =
     let pre = Start· l .pre in
     (rw (l .loop .inv .long) (pre .0), c .before .before .loop-test .taken, pre .1)
 
-is-accepted-requires : tie.Need-is-accepted-requires Inv-loop μ-loop
-is-accepted-requires c κs = search needs
-
 same-length : tie.Need-same-length Inv-loop μ-loop
 same-length c =
     let w = c .before .before .before .before in
@@ -86,7 +83,7 @@ work-upward-spec =
     loop-holds
     add-loop
     work-strip-requires
-    is-accepted-requires
+    (λ c κs. search needs)
     same-length
     returns
     add-i

@@ -23,9 +23,6 @@ loop-holds c = (omega arith, refl)
 shared-slice-read-is-word-byte : tie.Need-shared-slice-read-is-word-byte Inv-loop μ-loop
 shared-slice-read-is-word-byte c = omega arith
 
-is-word-byte-requires : tie.Need-is-word-byte-requires Inv-loop μ-loop
-is-word-byte-requires c κs = search needs
-
 returns : tie.Need-returns Inv-loop μ-loop
 returns c =
     let b = c .before in
@@ -55,7 +52,7 @@ is-word-spec =
     μ-loop
     loop-holds
     shared-slice-read-is-word-byte
-    is-word-byte-requires
+    (λ c κs. search needs)
     returns
     add-i
     loop-less

@@ -20,9 +20,6 @@ abbrev μ-loop : tie.MeasureT-loop
 loop-holds : tie.Need-loop-holds Inv-loop μ-loop
 loop-holds c = let s = c .before .before in begins (now (s .args .line)) (takeOne (70 ∷ [])) (now (s .args .values)) (s .args .c) (s .pre)
 
-slice-aggregate-take-one : tie.Need-slice-aggregate-take-one Inv-loop μ-loop
-slice-aggregate-take-one c = search needs
-
 take-one-requires : tie.Need-take-one-requires Inv-loop μ-loop
 take-one-requires c κs = c .before .before .before .loop .inv .room
 
@@ -62,7 +59,7 @@ take-figures-spec =
     Inv-loop
     μ-loop
     loop-holds
-    slice-aggregate-take-one
+    (λ c. search needs)
     take-one-requires
     same-length
     returns

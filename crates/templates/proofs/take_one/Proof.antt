@@ -14,12 +14,6 @@ returns c =
     let s = c .before .before .before .before .before in
     no-form (now (s .args .line)) (now (s .args .values)) (s .args .c) (s .pre) (now (s .args .wanted)) (not-true _ (c .if1 .taken))
 
-next-token-requires : tie.Need-next-token-requires
-next-token-requires c κs = search needs
-
-not-a-form-requires : tie.Need-not-a-form-requires
-not-a-form-requires c κs = search needs
-
 returns-2 : tie.Need-returns-2
 returns-2 c =
     let n = c .before .before .before in
@@ -33,9 +27,6 @@ take-word-requires c κs =
     let s = n .before .before .before .before .before .before in
     (s .pre, word-place (now (s .args .line)) (now (s .args .values)) (s .args .c) (s .pre) (now (s .args .wanted)) (not-false _ (n .before .if1 .left)) (n .next-token .result) (n .next-token .ensures))
 
-same-length : tie.Need-same-length
-same-length c = search needs
-
 returns-3 : tie.Need-returns-3
 returns-3 c =
     let w = c .before .before in
@@ -48,9 +39,9 @@ take-one-spec =
     tie.close
     (tie.spec
     returns
-    next-token-requires
-    not-a-form-requires
+    (λ c κs. search needs)
+    (λ c κs. search needs)
     returns-2
     take-word-requires
-    same-length
+    (λ c. search needs)
     returns-3)

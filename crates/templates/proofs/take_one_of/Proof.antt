@@ -98,17 +98,11 @@ bar-end-requires c κs = c .loop .inv .place
 sub-take-text : tie.Need-sub-take-text Inv-loop μ-loop
 sub-take-text c = c .bar-end .ensures .behind
 
-part-take-text-start : tie.Need-part-take-text-start Inv-loop μ-loop
-part-take-text-start c = search needs
-
 part-take-text-end : tie.Need-part-take-text-end Inv-loop μ-loop
 part-take-text-end c = c .bar-end .ensures .within
 
 take-text-requires : tie.Need-take-text-requires Inv-loop μ-loop
 take-text-requires c κs = c .before .before .before .loop .inv .room
-
-with-number-requires : tie.Need-with-number-requires Inv-loop μ-loop
-with-number-requires c κs = search needs
 
 same-length : tie.Need-same-length Inv-loop μ-loop
 same-length c = let t = c .before .before .before .before in t .take-text .kept .1 .1 .1 .0 ∙ t .before .before .before .before .loop .inv .same
@@ -118,9 +112,6 @@ returns c =
     let t = c .before .before .before .before in
     let b = t .before .before .before in
     as-is _ _ _ _ (c .with-number .ensures) refl (it-fits _ _ _ _ _ _ _ _ (b .before .loop .inv) (b .bar-end .ensures) _ _ (t .take-text .ensures) (c .before .if1 .taken))
-
-not-a-form-requires : tie.Need-not-a-form-requires Inv-loop μ-loop
-not-a-form-requires c κs = search needs
 
 same-length-2 : tie.Need-same-length-2 Inv-loop μ-loop
 same-length-2 c = let t = c .before .before .before .before .before in t .take-text .kept .1 .1 .1 .0 ∙ t .before .before .before .before .loop .inv .same
@@ -160,13 +151,13 @@ take-one-of-spec =
     loop-holds
     bar-end-requires
     sub-take-text
-    part-take-text-start
+    (λ c. search needs)
     part-take-text-end
     take-text-requires
-    with-number-requires
+    (λ c κs. search needs)
     same-length
     returns
-    not-a-form-requires
+    (λ c κs. search needs)
     same-length-2
     returns-2
     add-i

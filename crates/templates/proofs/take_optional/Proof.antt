@@ -7,20 +7,8 @@ use borrow.Author.Needs.{needs}
 use Rattle.templates.proofs.take_optional.Statement.{statement}
 use Rattle.templates.proofs.take_optional.Tie as tie
 
-take-one-of-requires : tie.Need-take-one-of-requires
-take-one-of-requires c κs = search needs
-
-same-length : tie.Need-same-length
-same-length c = search needs
-
 returns : tie.Need-returns
 returns c = first-fits _ _ _ _ _ _ (c .before .before .before .take-one-of .ensures) _ (c .if1 .taken)
-
-with-number-requires : tie.Need-with-number-requires
-with-number-requires c κs = search needs
-
-same-length-2 : tie.Need-same-length-2
-same-length-2 c = search needs
 
 returns-2 : tie.Need-returns-2
 returns-2 c =
@@ -32,9 +20,9 @@ pub take-optional-spec : {M : Type 1} → statement M
 take-optional-spec =
     tie.close
     (tie.spec
-    take-one-of-requires
-    same-length
+    (λ c κs. search needs)
+    (λ c. search needs)
     returns
-    with-number-requires
-    same-length-2
+    (λ c κs. search needs)
+    (λ c. search needs)
     returns-2)

@@ -9,21 +9,6 @@ use Rattle.templates.proofs.Steps.{letter-n}
 use Rattle.templates.proofs.take_plain.Statement.{statement}
 use Rattle.templates.proofs.take_plain.Tie as tie
 
-slice-aggregate-same-bytes : tie.Need-slice-aggregate-same-bytes
-slice-aggregate-same-bytes c = search needs
-
-same-bytes-requires : tie.Need-same-bytes-requires
-same-bytes-requires c κs = search needs
-
-take-count-requires : tie.Need-take-count-requires
-take-count-requires c κs = search needs
-
-same-bytes-requires-2 : tie.Need-same-bytes-requires-2
-same-bytes-requires-2 c κs = search needs
-
-behind-requires : tie.Need-behind-requires
-behind-requires c κs = search needs
-
 returns : tie.Need-returns
 returns c =
     let b = c .before .before in
@@ -42,10 +27,10 @@ pub take-plain-spec : {M : Type 1} → statement M
 take-plain-spec =
     tie.close
     (tie.spec
-    slice-aggregate-same-bytes
-    same-bytes-requires
-    take-count-requires
-    same-bytes-requires-2
-    behind-requires
+    (λ c. search needs)
+    (λ c κs. search needs)
+    (λ c κs. search needs)
+    (λ c κs. search needs)
+    (λ c κs. search needs)
     returns
     returns-2)

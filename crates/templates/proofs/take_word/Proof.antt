@@ -32,47 +32,8 @@ room-at c x n =
     let s = begun-f c in
     figure-room (now (s .args .line)) (now (s .args .values)) (s .args .c) (s .args .found) (now (s .args .wanted)) (s .pre .0) (s .pre .1) x n .1
 
-sub-word : tie.Need-sub-word
-sub-word c = search needs
-
-part-word-start : tie.Need-part-word-start
-part-word-start c = search needs
-
-part-word-end : tie.Need-part-word-end
-part-word-end c = search needs
-
-slice-aggregate-same-bytes : tie.Need-slice-aggregate-same-bytes
-slice-aggregate-same-bytes c = search needs
-
-same-bytes-requires : tie.Need-same-bytes-requires
-same-bytes-requires c κs = search needs
-
-read-figure-requires : tie.Need-read-figure-requires
-read-figure-requires c κs = search needs
-
-enum-known-x : tie.Need-enum-known-x
-enum-known-x c = search needs
-
-mul-values : tie.Need-mul-values
-mul-values c = search needs
-
 slice-write-values : tie.Need-slice-write-values
 slice-write-values c = room-at (c .before .before .before) (c .before .x .given .0 .0) (sym (c .before .before .before .read-figure .ensures) ∙ c .before .x .given .1)
-
-add-more : tie.Need-add-more
-add-more c = search needs
-
-enum-told : tie.Need-enum-told
-enum-told c = search needs
-
-take-no-figure-requires : tie.Need-take-no-figure-requires
-take-no-figure-requires c κs = search needs
-
-take-plain-requires : tie.Need-take-plain-requires
-take-plain-requires c κs = search needs
-
-same-length : tie.Need-same-length
-same-length c = search needs
 
 returns : tie.Need-returns
 returns c =
@@ -96,20 +57,20 @@ pub take-word-spec : {M : Type 1} → statement M
 take-word-spec =
     tie.close
     (tie.spec
-    sub-word
-    part-word-start
-    part-word-end
-    slice-aggregate-same-bytes
-    same-bytes-requires
-    read-figure-requires
-    enum-known-x
-    mul-values
+    (λ c. search needs)
+    (λ c. search needs)
+    (λ c. search needs)
+    (λ c. search needs)
+    (λ c κs. search needs)
+    (λ c κs. search needs)
+    (λ c. search needs)
+    (λ c. search needs)
     slice-write-values
-    add-more
-    enum-told
-    take-no-figure-requires
-    take-plain-requires
-    same-length
+    (λ c. search needs)
+    (λ c. search needs)
+    (λ c κs. search needs)
+    (λ c κs. search needs)
+    (λ c. search needs)
     returns
     returns-2
     returns-3)

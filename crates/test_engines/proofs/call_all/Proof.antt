@@ -14,20 +14,11 @@ Inv-loop numbers₀ counts₀ scratch₀ other₀ tally₀ alone₀ seed₀ k₀
 abbrev μ-loop : tie.MeasureT-loop
 μ-loop numbers₀ counts₀ scratch₀ other₀ tally₀ alone₀ seed₀ k₀ numbers counts scratch other tally alone seed k = 40000 - k
 
-none-requires : tie.Need-none-requires Inv-loop μ-loop
-none-requires c κs = search needs
-
 loop-holds : tie.Need-loop-holds Inv-loop μ-loop
 loop-holds c = (refl, (refl, (refl, refl)))
 
-after-requires : tie.Need-after-requires Inv-loop μ-loop
-after-requires c κs = search needs
-
 call-requires : tie.Need-call-requires Inv-loop μ-loop
 call-requires c κs = ((omega arith, omega arith), omega arith)
-
-counted-requires : tie.Need-counted-requires Inv-loop μ-loop
-counted-requires c κs = search needs
 
 add-k : tie.Need-add-k Inv-loop μ-loop
 add-k c = omega arith
@@ -50,20 +41,17 @@ same-length-3 c = omega arith
 same-length-4 : tie.Need-same-length-4 Inv-loop μ-loop
 same-length-4 c = omega arith
 
-returns : tie.Need-returns Inv-loop μ-loop
-returns c = search needs
-
 pub call-all-spec : {M : Type 1} → statement M
 call-all-spec =
     tie.close
     (tie.spec
     Inv-loop
     μ-loop
-    none-requires
+    (λ c κs. search needs)
     loop-holds
-    after-requires
+    (λ c κs. search needs)
     call-requires
-    counted-requires
+    (λ c κs. search needs)
     add-k
     loop-less
     loop-again
@@ -71,4 +59,4 @@ call-all-spec =
     same-length-2
     same-length-3
     same-length-4
-    returns)
+    (λ c. search needs))

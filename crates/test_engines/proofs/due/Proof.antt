@@ -17,12 +17,6 @@ loop-holds c = omega arith
 add-screen : tie.Need-add-screen Inv-loop μ-loop
 add-screen c = omega arith
 
-runs-requires : tie.Need-runs-requires Inv-loop μ-loop
-runs-requires c κs = search needs
-
-returns : tie.Need-returns Inv-loop μ-loop
-returns c = search needs
-
 add-looked : tie.Need-add-looked Inv-loop μ-loop
 add-looked c = omega arith
 
@@ -32,9 +26,6 @@ loop-less c = omega arith
 loop-again : tie.Need-loop-again Inv-loop μ-loop
 loop-again c = omega arith
 
-returns-2 : tie.Need-returns-2 Inv-loop μ-loop
-returns-2 c = search needs
-
 pub due-spec : {M : Type 1} → statement M
 due-spec =
     tie.close
@@ -43,9 +34,9 @@ due-spec =
     μ-loop
     loop-holds
     add-screen
-    runs-requires
-    returns
+    (λ c κs. search needs)
+    (λ c. search needs)
     add-looked
     loop-less
     loop-again
-    returns-2)
+    (λ c. search needs))

@@ -17,9 +17,6 @@ abbrev μ-loop : tie.MeasureT-loop
 loop-holds : tie.Need-loop-holds Inv-loop μ-loop
 loop-holds c = (refl, (refl, (refl, refl)))
 
-after-requires : tie.Need-after-requires Inv-loop μ-loop
-after-requires c κs = search needs
-
 compare-requires : tie.Need-compare-requires Inv-loop μ-loop
 compare-requires c κs = ((omega arith, omega arith), omega arith)
 
@@ -44,9 +41,6 @@ same-length-3 c = omega arith
 same-length-4 : tie.Need-same-length-4 Inv-loop μ-loop
 same-length-4 c = omega arith
 
-returns : tie.Need-returns Inv-loop μ-loop
-returns c = search needs
-
 pub compare-all-spec : {M : Type 1} → statement M
 compare-all-spec =
     tie.close
@@ -54,7 +48,7 @@ compare-all-spec =
     Inv-loop
     μ-loop
     loop-holds
-    after-requires
+    (λ c κs. search needs)
     compare-requires
     add-k
     loop-less
@@ -63,4 +57,4 @@ compare-all-spec =
     same-length-2
     same-length-3
     same-length-4
-    returns)
+    (λ c. search needs))

@@ -17,14 +17,8 @@ abbrev μ-loop : tie.MeasureT-loop
 loop-holds : tie.Need-loop-holds Inv-loop μ-loop
 loop-holds c = (refl, (refl, refl))
 
-after-requires : tie.Need-after-requires Inv-loop μ-loop
-after-requires c κs = search needs
-
 call-requires : tie.Need-call-requires Inv-loop μ-loop
 call-requires c κs = ((omega arith, omega arith), omega arith)
-
-wood-requires : tie.Need-wood-requires Inv-loop μ-loop
-wood-requires c κs = search needs
 
 add-calls : tie.Need-add-calls Inv-loop μ-loop
 add-calls c = omega arith
@@ -44,9 +38,6 @@ same-length-2 c = omega arith
 same-length-3 : tie.Need-same-length-3 Inv-loop μ-loop
 same-length-3 c = omega arith
 
-returns : tie.Need-returns Inv-loop μ-loop
-returns c = search needs
-
 pub drive-spec : {M : Type 1} → statement M
 drive-spec =
     tie.close
@@ -54,13 +45,13 @@ drive-spec =
     Inv-loop
     μ-loop
     loop-holds
-    after-requires
+    (λ c κs. search needs)
     call-requires
-    wood-requires
+    (λ c κs. search needs)
     add-calls
     loop-less
     loop-again
     same-length
     same-length-2
     same-length-3
-    returns)
+    (λ c. search needs))

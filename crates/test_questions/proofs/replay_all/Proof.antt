@@ -16,9 +16,6 @@ abbrev μ-loop : tie.MeasureT-loop
 loop-holds : tie.Need-loop-holds Inv-loop μ-loop
 loop-holds c = omega arith
 
-read-full-requires : tie.Need-read-full-requires Inv-loop μ-loop
-read-full-requires c κs = search needs
-
 slice-reshare-prefix-take-block : tie.Need-slice-reshare-prefix-take-block Inv-loop μ-loop
 slice-reshare-prefix-take-block c = omega arith
 
@@ -55,9 +52,6 @@ same-length-2 c = omega arith
 same-length-3 : tie.Need-same-length-3 Inv-loop μ-loop
 same-length-3 c = omega arith
 
-returns : tie.Need-returns Inv-loop μ-loop
-returns c = search needs
-
 pub replay-all-spec : {M : Type 1} → statement M
 replay-all-spec =
     tie.close
@@ -65,7 +59,7 @@ replay-all-spec =
     Inv-loop
     μ-loop
     loop-holds
-    read-full-requires
+    (λ c κs. search needs)
     slice-reshare-prefix-take-block
     slice-aggregate-take-block
     take-block-requires
@@ -78,4 +72,4 @@ replay-all-spec =
     same-length
     same-length-2
     same-length-3
-    returns)
+    (λ c. search needs))

@@ -34,14 +34,8 @@ read-requires c κs = omega arith
 agrees-requires : tie.Need-agrees-requires Inv-loop μ-loop
 agrees-requires c κs = omega arith
 
-agrees-or-not-requires : tie.Need-agrees-or-not-requires Inv-loop μ-loop
-agrees-or-not-requires c κs = search needs
-
 same-length : tie.Need-same-length Inv-loop μ-loop
 same-length c = omega arith
-
-returns : tie.Need-returns Inv-loop μ-loop
-returns c = search needs
 
 add-place : tie.Need-add-place Inv-loop μ-loop
 add-place c = omega arith
@@ -58,9 +52,6 @@ loop-again c = omega arith
 same-length-2 : tie.Need-same-length-2 Inv-loop μ-loop
 same-length-2 c = omega arith
 
-returns-2 : tie.Need-returns-2 Inv-loop μ-loop
-returns-2 c = search needs
-
 pub replay-by-spec : {M : Type 1} → statement M
 replay-by-spec =
     tie.close
@@ -74,12 +65,12 @@ replay-by-spec =
     part-read-end
     read-requires
     agrees-requires
-    agrees-or-not-requires
+    (λ c κs. search needs)
     same-length
-    returns
+    (λ c. search needs)
     add-place
     add-from
     loop-less
     loop-again
     same-length-2
-    returns-2)
+    (λ c. search needs))

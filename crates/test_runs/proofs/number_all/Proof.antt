@@ -16,9 +16,6 @@ abbrev μ-loop : tie.MeasureT-loop
 loop-holds : tie.Need-loop-holds Inv-loop μ-loop
 loop-holds c = refl
 
-mul-scratch : tie.Need-mul-scratch Inv-loop μ-loop
-mul-scratch c = search needs
-
 slice-write-scratch : tie.Need-slice-write-scratch Inv-loop μ-loop
 slice-write-scratch c = omega arith
 
@@ -34,9 +31,6 @@ loop-again c = simp length-set (c .before .loop .inv)
 same-length : tie.Need-same-length Inv-loop μ-loop
 same-length c = omega arith
 
-returns : tie.Need-returns Inv-loop μ-loop
-returns c = search needs
-
 pub number-all-spec : {M : Type 1} → statement M
 number-all-spec =
     tie.close
@@ -44,10 +38,10 @@ number-all-spec =
     Inv-loop
     μ-loop
     loop-holds
-    mul-scratch
+    (λ c. search needs)
     slice-write-scratch
     add-i
     loop-less
     loop-again
     same-length
-    returns)
+    (λ c. search needs))

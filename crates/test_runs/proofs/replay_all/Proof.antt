@@ -31,14 +31,8 @@ part-replay-line-end c = omega arith
 replay-line-requires : tie.Need-replay-line-requires Inv-loop μ-loop
 replay-line-requires c κs = (omega arith, omega arith)
 
-slice-reshare-prefix-write-all : tie.Need-slice-reshare-prefix-write-all Inv-loop μ-loop
-slice-reshare-prefix-write-all c = search needs
-
 slice-aggregate-write-all : tie.Need-slice-aggregate-write-all Inv-loop μ-loop
 slice-aggregate-write-all c = simp length-take (omega arith)
-
-write-all-requires : tie.Need-write-all-requires Inv-loop μ-loop
-write-all-requires c κs = search needs
 
 add-at : tie.Need-add-at Inv-loop μ-loop
 add-at c = omega arith
@@ -58,9 +52,6 @@ same-length-2 c = omega arith
 same-length-3 : tie.Need-same-length-3 Inv-loop μ-loop
 same-length-3 c = omega arith
 
-returns : tie.Need-returns Inv-loop μ-loop
-returns c = search needs
-
 pub replay-all-spec : {M : Type 1} → statement M
 replay-all-spec =
     tie.close
@@ -73,13 +64,13 @@ replay-all-spec =
     part-replay-line-start
     part-replay-line-end
     replay-line-requires
-    slice-reshare-prefix-write-all
+    (λ c. search needs)
     slice-aggregate-write-all
-    write-all-requires
+    (λ c κs. search needs)
     add-at
     loop-less
     loop-again
     same-length
     same-length-2
     same-length-3
-    returns)
+    (λ c. search needs))

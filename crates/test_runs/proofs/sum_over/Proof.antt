@@ -15,14 +15,8 @@ abbrev μ-loop : tie.MeasureT-loop
 loop-holds : tie.Need-loop-holds Inv-loop μ-loop
 loop-holds c = omega arith
 
-mul-mixed : tie.Need-mul-mixed Inv-loop μ-loop
-mul-mixed c = search needs
-
 shared-slice-read-mixed : tie.Need-shared-slice-read-mixed Inv-loop μ-loop
 shared-slice-read-mixed c = omega arith
-
-mixed-requires : tie.Need-mixed-requires Inv-loop μ-loop
-mixed-requires c κs = search needs
 
 add-i : tie.Need-add-i Inv-loop μ-loop
 add-i c = omega arith
@@ -33,9 +27,6 @@ loop-less c = omega arith
 loop-again : tie.Need-loop-again Inv-loop μ-loop
 loop-again c = omega arith
 
-returns : tie.Need-returns Inv-loop μ-loop
-returns c = search needs
-
 pub sum-over-spec : {M : Type 1} → statement M
 sum-over-spec =
     tie.close
@@ -43,10 +34,10 @@ sum-over-spec =
     Inv-loop
     μ-loop
     loop-holds
-    mul-mixed
+    (λ c. search needs)
     shared-slice-read-mixed
-    mixed-requires
+    (λ c κs. search needs)
     add-i
     loop-less
     loop-again
-    returns)
+    (λ c. search needs))

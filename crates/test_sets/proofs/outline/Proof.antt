@@ -14,20 +14,11 @@ abbrev μ-loop : tie.MeasureT-loop
 loop-holds : tie.Need-loop-holds Inv-loop μ-loop
 loop-holds c = tt
 
-after-requires : tie.Need-after-requires Inv-loop μ-loop
-after-requires c κs = search needs
-
 mul-numbers : tie.Need-mul-numbers Inv-loop μ-loop
 mul-numbers c = omega arith
 
 array-write-numbers : tie.Need-array-write-numbers Inv-loop μ-loop
 array-write-numbers c = omega arith
-
-whole-requires : tie.Need-whole-requires Inv-loop μ-loop
-whole-requires c κs = search needs
-
-whole-requires-2 : tie.Need-whole-requires-2 Inv-loop μ-loop
-whole-requires-2 c κs = search needs
 
 add-numbers : tie.Need-add-numbers Inv-loop μ-loop
 add-numbers c = omega arith
@@ -50,9 +41,6 @@ loop-again c = tt
 array-write-numbers-3 : tie.Need-array-write-numbers-3 Inv-loop μ-loop
 array-write-numbers-3 c = omega arith
 
-returns : tie.Need-returns Inv-loop μ-loop
-returns c = search needs
-
 pub outline-spec : {M : Type 1} → statement M
 outline-spec =
     tie.close
@@ -60,11 +48,11 @@ outline-spec =
     Inv-loop
     μ-loop
     loop-holds
-    after-requires
+    (λ c κs. search needs)
     mul-numbers
     array-write-numbers
-    whole-requires
-    whole-requires-2
+    (λ c κs. search needs)
+    (λ c κs. search needs)
     add-numbers
     mul-numbers-2
     array-write-numbers-2
@@ -72,4 +60,4 @@ outline-spec =
     loop-less
     loop-again
     array-write-numbers-3
-    returns)
+    (λ c. search needs))

@@ -12,32 +12,14 @@ Inv-loop a b i₀ i = Unit {0}
 abbrev μ-loop : tie.MeasureT-loop
 μ-loop a b i₀ i = length a - i
 
-returns : tie.Need-returns Inv-loop μ-loop
-returns c = search needs
-
 loop-holds : tie.Need-loop-holds Inv-loop μ-loop
 loop-holds c = tt
-
-mul-to-bits : tie.Need-mul-to-bits Inv-loop μ-loop
-mul-to-bits c = search needs
 
 shared-slice-read-to-bits : tie.Need-shared-slice-read-to-bits Inv-loop μ-loop
 shared-slice-read-to-bits c = omega arith
 
-to-bits-requires : tie.Need-to-bits-requires Inv-loop μ-loop
-to-bits-requires c κs = search needs
-
-mul-to-bits-2 : tie.Need-mul-to-bits-2 Inv-loop μ-loop
-mul-to-bits-2 c = search needs
-
 shared-slice-read-to-bits-2 : tie.Need-shared-slice-read-to-bits-2 Inv-loop μ-loop
 shared-slice-read-to-bits-2 c = omega arith
-
-to-bits-requires-2 : tie.Need-to-bits-requires-2 Inv-loop μ-loop
-to-bits-requires-2 c κs = search needs
-
-returns-2 : tie.Need-returns-2 Inv-loop μ-loop
-returns-2 c = search needs
 
 add-i : tie.Need-add-i Inv-loop μ-loop
 add-i c = omega arith
@@ -48,25 +30,22 @@ loop-less c = omega arith
 loop-again : tie.Need-loop-again Inv-loop μ-loop
 loop-again c = tt
 
-returns-3 : tie.Need-returns-3 Inv-loop μ-loop
-returns-3 c = search needs
-
 pub same-numbers-spec : {M : Type 1} → statement M
 same-numbers-spec =
     tie.close
     (tie.spec
     Inv-loop
     μ-loop
-    returns
+    (λ c. search needs)
     loop-holds
-    mul-to-bits
+    (λ c. search needs)
     shared-slice-read-to-bits
-    to-bits-requires
-    mul-to-bits-2
+    (λ c κs. search needs)
+    (λ c. search needs)
     shared-slice-read-to-bits-2
-    to-bits-requires-2
-    returns-2
+    (λ c κs. search needs)
+    (λ c. search needs)
     add-i
     loop-less
     loop-again
-    returns-3)
+    (λ c. search needs))

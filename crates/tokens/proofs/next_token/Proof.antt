@@ -44,32 +44,17 @@ module _ (line : List ℕ) (at from : ℕ) where
 returns : tie.Need-returns
 returns c = let s = c .before .before .args in nothing-left (now (s .line)) (s .at) (s .at) (c .if1 .taken)
 
-past-spaces-requires : tie.Need-past-spaces-requires
-past-spaces-requires c κs = search needs
-
 returns-2 : tie.Need-returns-2
 returns-2 c =
     let p = c .before in
     let s = p .before .before .before .args in
     only-spaces (now (s .line)) (s .at) (p .past-spaces .result) (p .past-spaces .ensures) (c .if2 .taken)
 
-shared-slice-read-ends-word : tie.Need-shared-slice-read-ends-word
-shared-slice-read-ends-word c = search needs
-
-ends-word-requires : tie.Need-ends-word-requires
-ends-word-requires c κs = search needs
-
-add-t10 : tie.Need-add-t10
-add-t10 c = search needs
-
 returns-3 : tie.Need-returns-3
 returns-3 c =
     let p = c .before .before .before .before in
     let s = p .before .before .before .args in
     bracket (now (s .line)) (s .at) (p .past-spaces .result) (p .past-spaces .ensures) (omega arith) (sym (c .before .ends-word .ensures) ∙ c .if3 .taken)
-
-word-end-requires : tie.Need-word-end-requires
-word-end-requires c κs = search needs
 
 returns-4 : tie.Need-returns-4
 returns-4 c =
@@ -83,11 +68,11 @@ next-token-spec =
     tie.close
     (tie.spec
     returns
-    past-spaces-requires
+    (λ c κs. search needs)
     returns-2
-    shared-slice-read-ends-word
-    ends-word-requires
-    add-t10
+    (λ c. search needs)
+    (λ c κs. search needs)
+    (λ c. search needs)
     returns-3
-    word-end-requires
+    (λ c κs. search needs)
     returns-4)

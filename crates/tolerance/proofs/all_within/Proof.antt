@@ -4,48 +4,6 @@ use Rattle.floats.specs.Operations.{every}
 use Rattle.tolerance.proofs.all_within.Statement.{statement}
 use Rattle.tolerance.proofs.all_within.Tie as tie
 
-array-read-result : tie.Need-array-read-result
-array-read-result c = search needs
-
-array-read-result-2 : tie.Need-array-read-result-2
-array-read-result-2 c = search needs
-
-array-read-result-3 : tie.Need-array-read-result-3
-array-read-result-3 c = search needs
-
-array-read-result-4 : tie.Need-array-read-result-4
-array-read-result-4 c = search needs
-
-array-read-result-5 : tie.Need-array-read-result-5
-array-read-result-5 c = search needs
-
-array-read-result-6 : tie.Need-array-read-result-6
-array-read-result-6 c = search needs
-
-array-read-result-7 : tie.Need-array-read-result-7
-array-read-result-7 c = search needs
-
-array-read-result-8 : tie.Need-array-read-result-8
-array-read-result-8 c = search needs
-
-array-read-result-9 : tie.Need-array-read-result-9
-array-read-result-9 c = search needs
-
-array-read-result-10 : tie.Need-array-read-result-10
-array-read-result-10 c = search needs
-
-array-read-result-11 : tie.Need-array-read-result-11
-array-read-result-11 c = search needs
-
-array-read-result-12 : tie.Need-array-read-result-12
-array-read-result-12 c = search needs
-
-array-read-result-13 : tie.Need-array-read-result-13
-array-read-result-13 c = search needs
-
-array-read-result-14 : tie.Need-array-read-result-14
-array-read-result-14 c = search needs
-
 returns : tie.Need-returns
 unfolding every
 returns c = search needs
@@ -54,18 +12,18 @@ pub all-within-spec : {M : Type 1} → statement M
 all-within-spec =
     tie.close
     (tie.spec
-    array-read-result
-    array-read-result-2
-    array-read-result-3
-    array-read-result-4
-    array-read-result-5
-    array-read-result-6
-    array-read-result-7
-    array-read-result-8
-    array-read-result-9
-    array-read-result-10
-    array-read-result-11
-    array-read-result-12
-    array-read-result-13
-    array-read-result-14
+    (λ c. search needs)
+    (λ c. search needs)
+    (λ c. search needs)
+    (λ c. search needs)
+    (λ c. search needs)
+    (λ c. search needs)
+    (λ c. search needs)
+    (λ c. search needs)
+    (λ c. search needs)
+    (λ c. search needs)
+    (λ c. search needs)
+    (λ c. search needs)
+    (λ c. search needs)
+    (λ c. search needs)
     returns)

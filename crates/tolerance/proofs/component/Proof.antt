@@ -9,66 +9,6 @@ use Rattle.tolerance.proofs.Places.{highest-first, highest-next}
 use Rattle.tolerance.proofs.component.Statement.{statement}
 use Rattle.tolerance.proofs.component.Tie as tie
 
-array-read-higher : tie.Need-array-read-higher
-array-read-higher c = search needs
-
-array-read-higher-2 : tie.Need-array-read-higher-2
-array-read-higher-2 c = search needs
-
-array-read-higher-3 : tie.Need-array-read-higher-3
-array-read-higher-3 c = search needs
-
-array-read-higher-4 : tie.Need-array-read-higher-4
-array-read-higher-4 c = search needs
-
-higher-requires : tie.Need-higher-requires
-higher-requires c κs = search needs
-
-array-read-higher-5 : tie.Need-array-read-higher-5
-array-read-higher-5 c = search needs
-
-array-read-higher-6 : tie.Need-array-read-higher-6
-array-read-higher-6 c = search needs
-
-higher-requires-2 : tie.Need-higher-requires-2
-higher-requires-2 c κs = search needs
-
-array-read-higher-7 : tie.Need-array-read-higher-7
-array-read-higher-7 c = search needs
-
-array-read-higher-8 : tie.Need-array-read-higher-8
-array-read-higher-8 c = search needs
-
-higher-requires-3 : tie.Need-higher-requires-3
-higher-requires-3 c κs = search needs
-
-array-read-higher-9 : tie.Need-array-read-higher-9
-array-read-higher-9 c = search needs
-
-array-read-higher-10 : tie.Need-array-read-higher-10
-array-read-higher-10 c = search needs
-
-higher-requires-4 : tie.Need-higher-requires-4
-higher-requires-4 c κs = search needs
-
-array-read-higher-11 : tie.Need-array-read-higher-11
-array-read-higher-11 c = search needs
-
-array-read-higher-12 : tie.Need-array-read-higher-12
-array-read-higher-12 c = search needs
-
-higher-requires-5 : tie.Need-higher-requires-5
-higher-requires-5 c κs = search needs
-
-array-read-higher-13 : tie.Need-array-read-higher-13
-array-read-higher-13 c = search needs
-
-array-read-higher-14 : tie.Need-array-read-higher-14
-array-read-higher-14 c = search needs
-
-higher-requires-6 : tie.Need-higher-requires-6
-higher-requires-6 c κs = search needs
-
 returns : tie.Need-returns
 returns c =
     let g : ℕ → Float = λ k. at (c .before .before .before .before .before .before .args .t1) k ⊘ at (c .before .before .before .before .before .before .args .t2) k in
@@ -84,24 +24,24 @@ pub component-spec : {M : Type 1} → statement M
 component-spec =
     tie.close
     (tie.spec
-    array-read-higher
-    array-read-higher-2
-    array-read-higher-3
-    array-read-higher-4
-    higher-requires
-    array-read-higher-5
-    array-read-higher-6
-    higher-requires-2
-    array-read-higher-7
-    array-read-higher-8
-    higher-requires-3
-    array-read-higher-9
-    array-read-higher-10
-    higher-requires-4
-    array-read-higher-11
-    array-read-higher-12
-    higher-requires-5
-    array-read-higher-13
-    array-read-higher-14
-    higher-requires-6
+    (λ c. search needs)
+    (λ c. search needs)
+    (λ c. search needs)
+    (λ c. search needs)
+    (λ c κs. search needs)
+    (λ c. search needs)
+    (λ c. search needs)
+    (λ c κs. search needs)
+    (λ c. search needs)
+    (λ c. search needs)
+    (λ c κs. search needs)
+    (λ c. search needs)
+    (λ c. search needs)
+    (λ c κs. search needs)
+    (λ c. search needs)
+    (λ c. search needs)
+    (λ c κs. search needs)
+    (λ c. search needs)
+    (λ c. search needs)
+    (λ c κs. search needs)
     returns)

@@ -4,18 +4,9 @@ use Rattle.tolerance.specs.Steps.{seenWith}
 use Rattle.tolerance.proofs.seen_with.Statement.{statement}
 use Rattle.tolerance.proofs.seen_with.Tie as tie
 
-all-within-requires : tie.Need-all-within-requires
-all-within-requires c κs = search needs
-
 returns : tie.Need-returns
 unfolding seenWith
 returns c = rw (← (c .before .all-within .ensures), c .if1 .taken)
-
-larger-errors-requires : tie.Need-larger-errors-requires
-larger-errors-requires c κs = search needs
-
-score-requires : tie.Need-score-requires
-score-requires c κs = search needs
 
 returns-2 : tie.Need-returns-2
 unfolding seenWith
@@ -29,9 +20,9 @@ pub seen-with-spec : {M : Type 1} → statement M
 seen-with-spec =
     tie.close
     (tie.spec
-    all-within-requires
+    (λ c κs. search needs)
     returns
-    larger-errors-requires
-    score-requires
+    (λ c κs. search needs)
+    (λ c κs. search needs)
     returns-2
     returns-3)

@@ -24,9 +24,6 @@ loop-holds c = (rw sub-zero, omega arith)
 read-requires : tie.Need-read-requires Inv-loop μ-loop
 read-requires c κs = omega arith
 
-add-piece-requires : tie.Need-add-piece-requires Inv-loop μ-loop
-add-piece-requires c κs = search needs
-
 add-i : tie.Need-add-i Inv-loop μ-loop
 add-i c = omega arith
 
@@ -51,7 +48,7 @@ total-spec =
     μ-loop
     loop-holds
     read-requires
-    add-piece-requires
+    (λ c κs. search needs)
     add-i
     loop-less
     loop-again

@@ -23,17 +23,11 @@ Inv-loop scratch n b ordered i₀ seen₀ i seen = Sees (readAt scratch) b (n - 
 abbrev μ-loop : tie.MeasureT-loop
 μ-loop scratch n b ordered i₀ seen₀ i seen = i
 
-keep-order-requires : tie.Need-keep-order-requires Inv-loop μ-loop
-keep-order-requires c κs = search needs
-
 sub-i : tie.Need-sub-i Inv-loop μ-loop
 sub-i c = omega arith
 
 read-requires : tie.Need-read-requires Inv-loop μ-loop
 read-requires c κs = omega arith
-
-score-requires : tie.Need-score-requires Inv-loop μ-loop
-score-requires c κs = search needs
 
 loop-holds : tie.Need-loop-holds Inv-loop μ-loop
 loop-holds c = (sees-last _ _ _ _ _ (c .before .before .read .ensures) (c .score .ensures), omega arith)
@@ -43,9 +37,6 @@ sub-i-2 c = omega arith
 
 read-requires-2 : tie.Need-read-requires-2 Inv-loop μ-loop
 read-requires-2 c κs = omega arith
-
-seen-with-requires : tie.Need-seen-with-requires Inv-loop μ-loop
-seen-with-requires c κs = search needs
 
 loop-less : tie.Need-loop-less Inv-loop μ-loop
 loop-less c = omega arith
@@ -73,14 +64,14 @@ worst-spec =
     (tie.spec
     Inv-loop
     μ-loop
-    keep-order-requires
+    (λ c κs. search needs)
     sub-i
     read-requires
-    score-requires
+    (λ c κs. search needs)
     loop-holds
     sub-i-2
     read-requires-2
-    seen-with-requires
+    (λ c κs. search needs)
     loop-less
     loop-again
     returns)

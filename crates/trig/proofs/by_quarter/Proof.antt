@@ -12,21 +12,6 @@ three (suc zero) h a b d = absurd (b refl)
 three (suc (suc zero)) h a b d = absurd (d refl)
 three (suc (suc (suc k))) h a b d = omega arith
 
-mul-of-sine : tie.Need-mul-of-sine
-mul-of-sine c = search needs
-
-array-read-of-sine : tie.Need-array-read-of-sine
-array-read-of-sine c = search needs
-
-sub-of-cosine : tie.Need-sub-of-cosine
-sub-of-cosine c = search needs
-
-mul-of-cosine : tie.Need-mul-of-cosine
-mul-of-cosine c = search needs
-
-array-read-of-cosine : tie.Need-array-read-of-cosine
-array-read-of-cosine c = search needs
-
 returns : tie.Need-returns
 returns c = rw (c .match .keys1)
 
@@ -43,11 +28,11 @@ pub by-quarter-spec : {M : Type 1} → statement M
 by-quarter-spec =
     tie.close
     (tie.spec
-    mul-of-sine
-    array-read-of-sine
-    sub-of-cosine
-    mul-of-cosine
-    array-read-of-cosine
+    (λ c. search needs)
+    (λ c. search needs)
+    (λ c. search needs)
+    (λ c. search needs)
+    (λ c. search needs)
     returns
     returns-2
     returns-3

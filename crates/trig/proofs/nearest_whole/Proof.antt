@@ -16,9 +16,6 @@ use Rattle.trig.proofs.nearest_whole.Tie as tie
 from-bits : (d : tie.After-to-bits) → ofBits binary64 (d .to-bits .result) ≡ d .before .args .q
 from-bits d = ap (ofBits binary64) (d .to-bits .ensures) ∙ ofBits-toBits binary64 (d .before .args .q) (subst T (sym (d .before .good .0 .1)) tt)
 
-to-bits-requires : tie.Need-to-bits-requires
-to-bits-requires c κs = search needs
-
 returns : tie.Need-returns
 returns c = let d = c .before in below-half (d .before .args .q) (d .to-bits .result) (from-bits d) (c .if1 .taken)
 
@@ -35,15 +32,6 @@ returns-3 c =
     let b = d .to-bits .result in
     let k : exponentOf b < 2047 = omega (arith, c .before .if2 .left) in
     (itself q b (from-bits d) (omega arith) k (omega arith), multiple-of-four q b (from-bits d) (omega arith) k (c .if3 .taken))
-
-add-nearest-magnitude : tie.Need-add-nearest-magnitude
-add-nearest-magnitude c = search needs
-
-nearest-magnitude-requires : tie.Need-nearest-magnitude-requires
-nearest-magnitude-requires c κs = search needs
-
-modulo-four-requires : tie.Need-modulo-four-requires
-modulo-four-requires c κs = search needs
 
 returns-4 : tie.Need-returns-4
 returns-4 c =
@@ -71,13 +59,13 @@ pub nearest-whole-spec : {M : Type 1} → statement M
 nearest-whole-spec =
     tie.close
     (tie.spec
-    to-bits-requires
+    (λ c κs. search needs)
     returns
     returns-2
     returns-3
-    add-nearest-magnitude
-    nearest-magnitude-requires
-    modulo-four-requires
+    (λ c. search needs)
+    (λ c κs. search needs)
+    (λ c κs. search needs)
     returns-4
     signed-number-requires
     returns-5)

@@ -6,27 +6,6 @@ use Rattle.tubes.specs.Tubes.{mountCheck}
 use Rattle.tubes.proofs.check_mount.Statement.{statement}
 use Rattle.tubes.proofs.check_mount.Tie as tie
 
-check-count-requires : tie.Need-check-count-requires
-check-count-requires c κs = search needs
-
-check-length-requires : tie.Need-check-length-requires
-check-length-requires c κs = search needs
-
-first-refusal-requires : tie.Need-first-refusal-requires
-first-refusal-requires c κs = search needs
-
-check-angle-requires : tie.Need-check-angle-requires
-check-angle-requires c κs = search needs
-
-first-refusal-requires-2 : tie.Need-first-refusal-requires-2
-first-refusal-requires-2 c κs = search needs
-
-check-density-requires : tie.Need-check-density-requires
-check-density-requires c κs = search needs
-
-first-refusal-requires-3 : tie.Need-first-refusal-requires-3
-first-refusal-requires-3 c κs = search needs
-
 returns : tie.Need-returns
 unfolding mountCheck
 returns c = rw (
@@ -44,11 +23,11 @@ pub check-mount-spec : {M : Type 1} → statement M
 check-mount-spec =
     tie.close
     (tie.spec
-    check-count-requires
-    check-length-requires
-    first-refusal-requires
-    check-angle-requires
-    first-refusal-requires-2
-    check-density-requires
-    first-refusal-requires-3
+    (λ c κs. search needs)
+    (λ c κs. search needs)
+    (λ c κs. search needs)
+    (λ c κs. search needs)
+    (λ c κs. search needs)
+    (λ c κs. search needs)
+    (λ c κs. search needs)
     returns)

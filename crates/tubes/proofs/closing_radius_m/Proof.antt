@@ -8,32 +8,11 @@ use Rattle.tubes.proofs.Answers.{answer}
 use Rattle.tubes.proofs.closing_radius_m.Statement.{statement}
 use Rattle.tubes.proofs.closing_radius_m.Tie as tie
 
-check-count-requires : tie.Need-check-count-requires
-check-count-requires c κs = search needs
-
-check-length-requires : tie.Need-check-length-requires
-check-length-requires c κs = search needs
-
-first-refusal-requires : tie.Need-first-refusal-requires
-first-refusal-requires c κs = search needs
-
-enum-told : tie.Need-enum-told
-enum-told c = search needs
-
 closing-value-requires : tie.Need-closing-value-requires
 closing-value-requires c κs =
     let first = c .before .before .first-refusal .ensures in
     let checked = c .before .before .before .before .check-count .ensures in
     count-within _ (sym checked ∙ both _ _ (sym first ∙ c .enum-told .given .1) .0) .1
-
-closed-requires : tie.Need-closed-requires
-closed-requires c κs = search needs
-
-enum-known-verdict : tie.Need-enum-known-verdict
-enum-known-verdict c = search needs
-
-refused-requires : tie.Need-refused-requires
-refused-requires c κs = search needs
 
 returns : tie.Need-returns
 returns c =
@@ -49,13 +28,13 @@ pub closing-radius-m-spec : {M : Type 1} → statement M
 closing-radius-m-spec =
     tie.close
     (tie.spec
-    check-count-requires
-    check-length-requires
-    first-refusal-requires
-    enum-told
+    (λ c κs. search needs)
+    (λ c κs. search needs)
+    (λ c κs. search needs)
+    (λ c. search needs)
     closing-value-requires
-    closed-requires
-    enum-known-verdict
-    refused-requires
+    (λ c κs. search needs)
+    (λ c. search needs)
+    (λ c κs. search needs)
     returns
     returns-2)

@@ -12,29 +12,11 @@ use Rattle.tubes.specs.Tubes.{tubeCheck}
 use Rattle.tubes.proofs.mass_properties.Statement.{statement}
 use Rattle.tubes.proofs.mass_properties.Tie as tie
 
-check-tubes-requires : tie.Need-check-tubes-requires
-check-tubes-requires c κs = search needs
-
-enum-told : tie.Need-enum-told
-enum-told c = search needs
-
-tube-at-requires : tie.Need-tube-at-requires
-tube-at-requires c κs = search needs
-
 ring-requires : tie.Need-ring-requires
 unfolding tubeCheck
 ring-requires c κs =
     let told = c .before in
     count-within _ (both _ _ (sym (told .before .before .check-tubes .ensures .is) ∙ told .enum-told .given .1) .0) .1
-
-accepted-requires : tie.Need-accepted-requires
-accepted-requires c κs = search needs
-
-enum-known-verdict : tie.Need-enum-known-verdict
-enum-known-verdict c = search needs
-
-refused-requires : tie.Need-refused-requires
-refused-requires c κs = search needs
 
 returns : tie.Need-returns
 returns c =
@@ -54,12 +36,12 @@ pub mass-properties-spec : {M : Type 1} → statement M
 mass-properties-spec =
     tie.close
     (tie.spec
-    check-tubes-requires
-    enum-told
-    tube-at-requires
+    (λ c κs. search needs)
+    (λ c. search needs)
+    (λ c κs. search needs)
     ring-requires
-    accepted-requires
-    enum-known-verdict
-    refused-requires
+    (λ c κs. search needs)
+    (λ c. search needs)
+    (λ c κs. search needs)
     returns
     returns-2)

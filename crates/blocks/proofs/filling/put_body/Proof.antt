@@ -10,9 +10,6 @@ put-mass-requires c κs =
     let s = c .before .before .before .before in
     mass-room _ (s .args .b) _ (s .pre) (c .before .if1 .taken)
 
-same-length : tie.Need-same-length
-same-length c = search needs
-
 returns : tie.Need-returns
 returns c =
     let m = c .before .before in
@@ -23,9 +20,6 @@ put-moments-requires : tie.Need-put-moments-requires
 put-moments-requires c κs =
     let s = c .before .before .before .before .before in
     moments-room _ (s .args .b) _ (s .pre) (c .before .before .if1 .left) (c .before .if2 .taken)
-
-same-length-2 : tie.Need-same-length-2
-same-length-2 c = search needs
 
 returns-2 : tie.Need-returns-2
 returns-2 c =
@@ -39,9 +33,6 @@ put-mixed-requires c κs =
     let s = c .before .before .before .before .before in
     mixed-room _ (s .args .b) _ (s .pre) (c .before .before .if1 .left) (c .before .if2 .left)
 
-same-length-3 : tie.Need-same-length-3
-same-length-3 c = search needs
-
 returns-3 : tie.Need-returns-3
 returns-3 c =
     let m = c .before .before in
@@ -54,11 +45,11 @@ put-body-spec =
     tie.close
     (tie.spec
     put-mass-requires
-    same-length
+    (λ c. search needs)
     returns
     put-moments-requires
-    same-length-2
+    (λ c. search needs)
     returns-2
     put-mixed-requires
-    same-length-3
+    (λ c. search needs)
     returns-3)

@@ -4,23 +4,11 @@ use borrow.Author.Needs.{needs}
 use Rattle.blocks.proofs.filling.put_figure.Statement.{statement}
 use Rattle.blocks.proofs.filling.put_figure.Tie as tie
 
-put-decimal-requires : tie.Need-put-decimal-requires
-put-decimal-requires c κs = search needs
-
-same-length : tie.Need-same-length
-same-length c = search needs
-
 returns : tie.Need-returns
 returns c =
     let d = c .before .before in
     let t = d .before .before in
     marked-thousand _ _ _ _ _ _ (t .if1 .taken) (d .put-decimal .ensures)
-
-put-decimal-requires-2 : tie.Need-put-decimal-requires-2
-put-decimal-requires-2 c κs = search needs
-
-same-length-2 : tie.Need-same-length-2
-same-length-2 c = search needs
 
 returns-2 : tie.Need-returns-2
 returns-2 c =
@@ -32,9 +20,9 @@ pub put-figure-spec : {M : Type 1} → statement M
 put-figure-spec =
     tie.close
     (tie.spec
-    put-decimal-requires
-    same-length
+    (λ c κs. search needs)
+    (λ c. search needs)
     returns
-    put-decimal-requires-2
-    same-length-2
+    (λ c κs. search needs)
+    (λ c. search needs)
     returns-2)

@@ -6,21 +6,6 @@ use borrow.Author.Needs.{needs}
 use Rattle.blocks.proofs.filling.put_mark.Statement.{statement}
 use Rattle.blocks.proofs.filling.put_mark.Tie as tie
 
-is-body-mark-requires : tie.Need-is-body-mark-requires
-is-body-mark-requires c κs = search needs
-
-mul-put-body : tie.Need-mul-put-body
-mul-put-body c = search needs
-
-sub-put-body : tie.Need-sub-put-body
-sub-put-body c = search needs
-
-part-put-body-start : tie.Need-part-put-body-start
-part-put-body-start c = search needs
-
-part-put-body-end : tie.Need-part-put-body-end
-part-put-body-end c = search needs
-
 put-body-requires : tie.Need-put-body-requires
 put-body-requires c κs =
     let s = c .before .before .before .before .before .before .before in
@@ -33,9 +18,6 @@ put-body-requires c κs =
     let j = s .pre .counts-left in
     let t = c .before .before in
     body-room o p b fs ns i j (s .pre) (sym (t .before .is-body-mark .ensures) ∙ t .if1 .taken)
-
-same-length : tie.Need-same-length
-same-length c = search needs
 
 returns : tie.Need-returns
 returns c =
@@ -63,12 +45,6 @@ returns-2 c =
     let j = s .pre .counts-left in
     no-refusal o p b fs ns i j (c .before .if2 .taken) (c .if3 .taken)
 
-mul-put-refusal : tie.Need-mul-put-refusal
-mul-put-refusal c = search needs
-
-shared-slice-read-put-refusal : tie.Need-shared-slice-read-put-refusal
-shared-slice-read-put-refusal c = search needs
-
 put-refusal-requires : tie.Need-put-refusal-requires
 put-refusal-requires c κs =
     let s = c .before .before .before .before .before .before .before .before .before in
@@ -80,12 +56,6 @@ put-refusal-requires c κs =
     let i = s .pre .figures-left in
     let j = s .pre .counts-left in
     refusal-room o p b fs ns i j (s .pre) (c .before .before .before .if2 .taken)
-
-add-next : tie.Need-add-next
-add-next c = search needs
-
-same-length-2 : tie.Need-same-length-2
-same-length-2 c = search needs
 
 returns-3 : tie.Need-returns-3
 returns-3 c =
@@ -114,9 +84,6 @@ put-piece-requires c κs =
     let e = c .before in
     other-room o p b fs ns i j (s .pre) (sym (e .before .before .is-body-mark .ensures) ∙ e .before .if1 .left) (e .if2 .left)
 
-same-length-3 : tie.Need-same-length-3
-same-length-3 c = search needs
-
 returns-4 : tie.Need-returns-4
 returns-4 c =
     let s = c .before .before .before .before .before .before .before .before .before .before in
@@ -135,21 +102,21 @@ pub put-mark-spec : {M : Type 1} → statement M
 put-mark-spec =
     tie.close
     (tie.spec
-    is-body-mark-requires
-    mul-put-body
-    sub-put-body
-    part-put-body-start
-    part-put-body-end
+    (λ c κs. search needs)
+    (λ c. search needs)
+    (λ c. search needs)
+    (λ c. search needs)
+    (λ c. search needs)
     put-body-requires
-    same-length
+    (λ c. search needs)
     returns
     returns-2
-    mul-put-refusal
-    shared-slice-read-put-refusal
+    (λ c. search needs)
+    (λ c. search needs)
     put-refusal-requires
-    add-next
-    same-length-2
+    (λ c. search needs)
+    (λ c. search needs)
     returns-3
     put-piece-requires
-    same-length-3
+    (λ c. search needs)
     returns-4)

@@ -6,25 +6,10 @@ use borrow.Author.Needs.{needs}
 use Rattle.blocks.proofs.filling.put_mass.Statement.{statement}
 use Rattle.blocks.proofs.filling.put_mass.Tie as tie
 
-mass-figures-requires : tie.Need-mass-figures-requires
-mass-figures-requires c κs = search needs
-
-slice-aggregate-put-plain : tie.Need-slice-aggregate-put-plain
-slice-aggregate-put-plain c = search needs
-
-slice-aggregate-put-plain-2 : tie.Need-slice-aggregate-put-plain-2
-slice-aggregate-put-plain-2 c = search needs
-
-slice-aggregate-put-plain-3 : tie.Need-slice-aggregate-put-plain-3
-slice-aggregate-put-plain-3 c = search needs
-
 put-plain-requires : tie.Need-put-plain-requires
 unfolding massLine text codes
 put-plain-requires c κs =
     line-asked massLine 130 mass-line-room _ _ (c .before .before .before .before .before .before .before .pre)
-
-same-length : tie.Need-same-length
-same-length c = search needs
 
 returns : tie.Need-returns
 unfolding massLine text codes
@@ -36,10 +21,10 @@ pub put-mass-spec : {M : Type 1} → statement M
 put-mass-spec =
     tie.close
     (tie.spec
-    mass-figures-requires
-    slice-aggregate-put-plain
-    slice-aggregate-put-plain-2
-    slice-aggregate-put-plain-3
+    (λ c κs. search needs)
+    (λ c. search needs)
+    (λ c. search needs)
+    (λ c. search needs)
     put-plain-requires
-    same-length
+    (λ c. search needs)
     returns)

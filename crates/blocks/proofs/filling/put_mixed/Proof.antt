@@ -7,18 +7,6 @@ use borrow.Author.Needs.{needs}
 use Rattle.blocks.proofs.filling.put_mixed.Statement.{statement}
 use Rattle.blocks.proofs.filling.put_mixed.Tie as tie
 
-beside-from-requires : tie.Need-beside-from-requires
-beside-from-requires c κs = search needs
-
-beside-from-requires-2 : tie.Need-beside-from-requires-2
-beside-from-requires-2 c κs = search needs
-
-beside-from-requires-3 : tie.Need-beside-from-requires-3
-beside-from-requires-3 c κs = search needs
-
-all-zero-requires : tie.Need-all-zero-requires
-all-zero-requires c κs = search needs
-
 returns : tie.Need-returns
 returns c =
     let z = c .before in
@@ -30,23 +18,11 @@ returns c =
     (xy .beside-from .result) (xz .beside-from2 .result) (yz .beside-from3 .result) (z .all-zero .result)
     (xy .beside-from .ensures) (xz .beside-from2 .ensures) (yz .beside-from3 .ensures) (z .all-zero .ensures) (c .if1 .taken)
 
-slice-aggregate-put-plain : tie.Need-slice-aggregate-put-plain
-slice-aggregate-put-plain c = search needs
-
-slice-aggregate-put-plain-2 : tie.Need-slice-aggregate-put-plain-2
-slice-aggregate-put-plain-2 c = search needs
-
-slice-aggregate-put-plain-3 : tie.Need-slice-aggregate-put-plain-3
-slice-aggregate-put-plain-3 c = search needs
-
 put-plain-requires : tie.Need-put-plain-requires
 unfolding mixedLine text codes
 put-plain-requires c κs =
     let s = c .before .before .before .before .before .before .before .before .before .before .before in
     line-asked mixedLine 200 mixed-line-room _ _ (s .pre)
-
-same-length : tie.Need-same-length
-same-length c = search needs
 
 returns-2 : tie.Need-returns-2
 unfolding mixedLine text codes
@@ -67,14 +43,14 @@ pub put-mixed-spec : {M : Type 1} → statement M
 put-mixed-spec =
     tie.close
     (tie.spec
-    beside-from-requires
-    beside-from-requires-2
-    beside-from-requires-3
-    all-zero-requires
+    (λ c κs. search needs)
+    (λ c κs. search needs)
+    (λ c κs. search needs)
+    (λ c κs. search needs)
     returns
-    slice-aggregate-put-plain
-    slice-aggregate-put-plain-2
-    slice-aggregate-put-plain-3
+    (λ c. search needs)
+    (λ c. search needs)
+    (λ c. search needs)
     put-plain-requires
-    same-length
+    (λ c. search needs)
     returns-2)

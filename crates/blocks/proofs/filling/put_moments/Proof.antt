@@ -6,25 +6,10 @@ use borrow.Author.Needs.{needs}
 use Rattle.blocks.proofs.filling.put_moments.Statement.{statement}
 use Rattle.blocks.proofs.filling.put_moments.Tie as tie
 
-moment-figures-requires : tie.Need-moment-figures-requires
-moment-figures-requires c κs = search needs
-
-slice-aggregate-put-plain : tie.Need-slice-aggregate-put-plain
-slice-aggregate-put-plain c = search needs
-
-slice-aggregate-put-plain-2 : tie.Need-slice-aggregate-put-plain-2
-slice-aggregate-put-plain-2 c = search needs
-
-slice-aggregate-put-plain-3 : tie.Need-slice-aggregate-put-plain-3
-slice-aggregate-put-plain-3 c = search needs
-
 put-plain-requires : tie.Need-put-plain-requires
 unfolding momentLine text codes
 put-plain-requires c κs =
     line-asked momentLine 330 moment-line-room _ _ (c .before .before .before .before .before .before .before .pre)
-
-same-length : tie.Need-same-length
-same-length c = search needs
 
 returns : tie.Need-returns
 unfolding momentLine text codes
@@ -36,10 +21,10 @@ pub put-moments-spec : {M : Type 1} → statement M
 put-moments-spec =
     tie.close
     (tie.spec
-    moment-figures-requires
-    slice-aggregate-put-plain
-    slice-aggregate-put-plain-2
-    slice-aggregate-put-plain-3
+    (λ c κs. search needs)
+    (λ c. search needs)
+    (λ c. search needs)
+    (λ c. search needs)
     put-plain-requires
-    same-length
+    (λ c. search needs)
     returns)

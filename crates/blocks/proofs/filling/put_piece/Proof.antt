@@ -6,9 +6,6 @@ use borrow.Author.Needs.{needs}
 use Rattle.blocks.proofs.filling.put_piece.Statement.{statement}
 use Rattle.blocks.proofs.filling.put_piece.Tie as tie
 
-is-figure-mark-requires : tie.Need-is-figure-mark-requires
-is-figure-mark-requires c κs = search needs
-
 returns : tie.Need-returns
 returns c =
     let s = c .before .before .before .before .before .before in
@@ -20,12 +17,6 @@ returns c =
     let m = c .before .before in
     no-figure o p b fs ns (sym (m .is-figure-mark .ensures) ∙ c .before .if1 .taken) (s .pre .counts-left) (s .pre .figures-left) (c .if2 .taken)
 
-mul-put-figure : tie.Need-mul-put-figure
-mul-put-figure c = search needs
-
-shared-slice-read-put-figure : tie.Need-shared-slice-read-put-figure
-shared-slice-read-put-figure c = search needs
-
 put-figure-requires : tie.Need-put-figure-requires
 put-figure-requires c κs =
     let s = c .before .before .before .before .before .before .before .before in
@@ -36,12 +27,6 @@ put-figure-requires c κs =
     let ns = now (s .args .counts) in
     let t = c .before .before .before in
     figure-room o p b fs ns (s .pre) (sym (t .before .is-figure-mark .ensures) ∙ t .if1 .taken)
-
-add-next : tie.Need-add-next
-add-next c = search needs
-
-same-length : tie.Need-same-length
-same-length c = search needs
 
 returns-2 : tie.Need-returns-2
 returns-2 c =
@@ -66,12 +51,6 @@ returns-3 c =
     let ns = now (s .args .counts) in
     no-count o p b fs ns (c .before .if3 .taken) (s .pre .figures-left) (s .pre .counts-left) (c .if4 .taken)
 
-mul-put-count : tie.Need-mul-put-count
-mul-put-count c = search needs
-
-shared-slice-read-put-count : tie.Need-shared-slice-read-put-count
-shared-slice-read-put-count c = search needs
-
 put-count-requires : tie.Need-put-count-requires
 put-count-requires c κs =
     let s = c .before .before .before .before .before .before .before .before .before in
@@ -81,12 +60,6 @@ put-count-requires c κs =
     let fs = now (s .args .figures) in
     let ns = now (s .args .counts) in
     count-room o p b fs ns (s .pre) (c .before .before .before .if3 .taken)
-
-add-next-2 : tie.Need-add-next-2
-add-next-2 c = search needs
-
-same-length-2 : tie.Need-same-length-2
-same-length-2 c = search needs
 
 returns-4 : tie.Need-returns-4
 returns-4 c =
@@ -111,12 +84,6 @@ slice-write-out c =
     let e = c .before in
     one-byte o p b fs ns (s .pre) (sym (e .before .is-figure-mark .ensures) ∙ e .if1 .left) (c .if3 .left)
 
-add-end : tie.Need-add-end
-add-end c = search needs
-
-same-length-3 : tie.Need-same-length-3
-same-length-3 c = search needs
-
 returns-5 : tie.Need-returns-5
 returns-5 c =
     let s = c .before .before .before .before .before .before in
@@ -133,22 +100,22 @@ pub put-piece-spec : {M : Type 1} → statement M
 put-piece-spec =
     tie.close
     (tie.spec
-    is-figure-mark-requires
+    (λ c κs. search needs)
     returns
-    mul-put-figure
-    shared-slice-read-put-figure
+    (λ c. search needs)
+    (λ c. search needs)
     put-figure-requires
-    add-next
-    same-length
+    (λ c. search needs)
+    (λ c. search needs)
     returns-2
     returns-3
-    mul-put-count
-    shared-slice-read-put-count
+    (λ c. search needs)
+    (λ c. search needs)
     put-count-requires
-    add-next-2
-    same-length-2
+    (λ c. search needs)
+    (λ c. search needs)
     returns-4
     slice-write-out
-    add-end
-    same-length-3
+    (λ c. search needs)
+    (λ c. search needs)
     returns-5)

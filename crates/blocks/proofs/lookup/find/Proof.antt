@@ -47,9 +47,6 @@ part-same-bytes-start c = let e = c .before .before .bar-end .ensures in let a =
 part-same-bytes-end : tie.Need-part-same-bytes-end Inv-loop μ-loop
 part-same-bytes-end c = let e = c .before .before .bar-end .ensures in let a = e .behind in let b = e .within in omega (arith, a, b)
 
-same-bytes-requires : tie.Need-same-bytes-requires Inv-loop μ-loop
-same-bytes-requires c κs = search needs
-
 returns-2 : tie.Need-returns-2 Inv-loop μ-loop
 returns-2 c =
     let a = c .before .before .before .before .before .before .before in
@@ -120,7 +117,7 @@ find-spec =
     sub-same-bytes
     part-same-bytes-start
     part-same-bytes-end
-    same-bytes-requires
+    (λ c κs. search needs)
     returns-2
     returns-3
     add-at

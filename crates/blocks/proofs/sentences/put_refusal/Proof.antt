@@ -17,18 +17,6 @@ use borrow.Author.Needs.{needs}
 use Rattle.blocks.proofs.sentences.put_refusal.Statement.{statement}
 use Rattle.blocks.proofs.sentences.put_refusal.Tie as tie
 
-slice-aggregate-put-count : tie.Need-slice-aggregate-put-count
-slice-aggregate-put-count c = search needs
-
-put-count-requires : tie.Need-put-count-requires
-put-count-requires c κs = search needs
-
-put-count-requires-2 : tie.Need-put-count-requires-2
-put-count-requires-2 c κs = search needs
-
-slice-aggregate-put-bytes : tie.Need-slice-aggregate-put-bytes
-slice-aggregate-put-bytes c = search needs
-
 put-bytes-requires : tie.Need-put-bytes-requires
 put-bytes-requires c κs =
     let m = c .before .before .before .before in
@@ -67,9 +55,6 @@ put-sentence-requires c κs =
     let k = b .put-bytes .kept .0 in
     omega (arith, e, f, t, l, k, s .pre)
 
-same-length : tie.Need-same-length
-same-length c = search needs
-
 returns : tie.Need-returns
 unfolding text codes
 returns c =
@@ -86,13 +71,13 @@ pub put-refusal-spec : {M : Type 1} → statement M
 put-refusal-spec =
     tie.close
     (tie.spec
-    slice-aggregate-put-count
-    put-count-requires
-    put-count-requires-2
-    slice-aggregate-put-bytes
+    (λ c. search needs)
+    (λ c κs. search needs)
+    (λ c κs. search needs)
+    (λ c. search needs)
     put-bytes-requires
     array-share-prefix-key
     slice-aggregate-put-sentence
     put-sentence-requires
-    same-length
+    (λ c. search needs)
     returns)

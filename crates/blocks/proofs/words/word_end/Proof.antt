@@ -34,9 +34,6 @@ loop-holds c =
 shared-slice-read-ends-word : tie.Need-shared-slice-read-ends-word Inv-loop μ-loop
 shared-slice-read-ends-word c = omega arith
 
-ends-word-requires : tie.Need-ends-word-requires Inv-loop μ-loop
-ends-word-requires c κs = search needs
-
 returns : tie.Need-returns Inv-loop μ-loop
 returns c =
     let e = c .before in
@@ -76,7 +73,7 @@ word-end-spec =
     μ-loop
     loop-holds
     shared-slice-read-ends-word
-    ends-word-requires
+    (λ c κs. search needs)
     returns
     add-end
     loop-less

@@ -30,12 +30,6 @@ part-same-bytes-start c = omega arith
 part-same-bytes-end : tie.Need-part-same-bytes-end Inv-loop μ-loop
 part-same-bytes-end c = omega arith
 
-same-bytes-requires : tie.Need-same-bytes-requires Inv-loop μ-loop
-same-bytes-requires c κs = search needs
-
-returns : tie.Need-returns Inv-loop μ-loop
-returns c = search needs
-
 add-place : tie.Need-add-place Inv-loop μ-loop
 add-place c = omega arith
 
@@ -60,15 +54,6 @@ part-same-bytes-start-2 c = omega arith
 part-same-bytes-end-2 : tie.Need-part-same-bytes-end-2 Inv-loop μ-loop
 part-same-bytes-end-2 c = omega arith
 
-same-bytes-requires-2 : tie.Need-same-bytes-requires-2 Inv-loop μ-loop
-same-bytes-requires-2 c κs = search needs
-
-returns-2 : tie.Need-returns-2 Inv-loop μ-loop
-returns-2 c = search needs
-
-returns-3 : tie.Need-returns-3 Inv-loop μ-loop
-returns-3 c = search needs
-
 pub place-among-spec : {M : Type 1} → statement M
 place-among-spec =
     tie.close
@@ -81,8 +66,8 @@ place-among-spec =
     sub-same-bytes
     part-same-bytes-start
     part-same-bytes-end
-    same-bytes-requires
-    returns
+    (λ c κs. search needs)
+    (λ c. search needs)
     add-place
     loop-less
     loop-again
@@ -91,6 +76,6 @@ place-among-spec =
     sub-same-bytes-2
     part-same-bytes-start-2
     part-same-bytes-end-2
-    same-bytes-requires-2
-    returns-2
-    returns-3)
+    (λ c κs. search needs)
+    (λ c. search needs)
+    (λ c. search needs))

@@ -17,9 +17,6 @@ abbrev μ-loop : tie.MeasureT-loop
 loop-holds : tie.Need-loop-holds Inv-loop μ-loop
 loop-holds c = let s = c .before .before in (s .pre .0, s .pre .1, refl)
 
-slice-aggregate-take-one : tie.Need-slice-aggregate-take-one Inv-loop μ-loop
-slice-aggregate-take-one c = search needs
-
 take-one-requires : tie.Need-take-one-requires Inv-loop μ-loop
 take-one-requires c κs = let v = c .before .before .before .loop .inv in (v .0, v .1)
 
@@ -56,7 +53,7 @@ take-figures-spec =
     Inv-loop
     μ-loop
     loop-holds
-    slice-aggregate-take-one
+    (λ c. search needs)
     take-one-requires
     same-length
     returns

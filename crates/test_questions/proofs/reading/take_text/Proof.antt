@@ -32,9 +32,6 @@ same-length c = c .before .before .before .loop .inv .same
 returns : tie.Need-returns Inv-loop μ-loop
 returns c = let v = c .before .before .before .loop .inv in v .reached
 
-next-token-requires : tie.Need-next-token-requires Inv-loop μ-loop
-next-token-requires c κs = search needs
-
 same-length-2 : tie.Need-same-length-2 Inv-loop μ-loop
 same-length-2 c = c .before .before .before .before .before .loop .inv .same
 
@@ -44,20 +41,11 @@ returns-2 c = let v = c .before .before .before .before .before .loop .inv in v 
 sub-same-bytes : tie.Need-sub-same-bytes Inv-loop μ-loop
 sub-same-bytes c = omega arith
 
-part-same-bytes-start : tie.Need-part-same-bytes-start Inv-loop μ-loop
-part-same-bytes-start c = search needs
-
 part-same-bytes-end : tie.Need-part-same-bytes-end Inv-loop μ-loop
 part-same-bytes-end c =
     let n = c .before in
     let w = n .next-token .ensures .within (n .before .before .before .before .loop .inv .place) in
     omega arith
-
-slice-aggregate-same-bytes : tie.Need-slice-aggregate-same-bytes Inv-loop μ-loop
-slice-aggregate-same-bytes c = search needs
-
-same-bytes-requires : tie.Need-same-bytes-requires Inv-loop μ-loop
-same-bytes-requires c κs = search needs
 
 take-figures-requires : tie.Need-take-figures-requires Inv-loop μ-loop
 take-figures-requires c κs = let v = c .before .before .before .before .before .before .before .before .before .before .loop .inv in (v .reached, v .room)
@@ -80,9 +68,6 @@ loop-again c =
 
 sub-take-one : tie.Need-sub-take-one Inv-loop μ-loop
 sub-take-one c = omega arith
-
-part-take-one-start : tie.Need-part-take-one-start Inv-loop μ-loop
-part-take-one-start c = search needs
 
 part-take-one-end : tie.Need-part-take-one-end Inv-loop μ-loop
 part-take-one-end c =
@@ -124,19 +109,19 @@ take-text-spec =
     loop-holds
     same-length
     returns
-    next-token-requires
+    (λ c κs. search needs)
     same-length-2
     returns-2
     sub-same-bytes
-    part-same-bytes-start
+    (λ c. search needs)
     part-same-bytes-end
-    slice-aggregate-same-bytes
-    same-bytes-requires
+    (λ c. search needs)
+    (λ c κs. search needs)
     take-figures-requires
     loop-less
     loop-again
     sub-take-one
-    part-take-one-start
+    (λ c. search needs)
     part-take-one-end
     take-one-requires
     loop-less-2
