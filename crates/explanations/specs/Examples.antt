@@ -41,7 +41,8 @@ formWords =
     ++ text "fillet|cant|base|radius|bulk|surface|line|length|outer|wall|at|point|body|mass|centre|inertia|"
     ++ text "offset|place"
 
--- by a number and the first value that goes with it: the field's name and limits of 4 and 9, the case of 17
+-- by a number and the first value that goes with it: the field's name and limits of 4 and 9, the component of 13,
+-- the case of 17
 unfoldable pub details : List ℕ
 details =
     text "4 1|; root chord: 2^-20 m to 64 m|"
@@ -64,6 +65,13 @@ details =
     ++ text "9 12|; cant: -4 to 4 rad|"
     ++ text "9 13|; base angle: -4 to 4 rad|"
     ++ text "9 20|; roll: -4 to 4 rad|"
+    ++ text "13 0|; component 0|"
+    ++ text "13 1|; component 1|"
+    ++ text "13 2|; component 2|"
+    ++ text "13 3|; component 3|"
+    ++ text "13 4|; component 4|"
+    ++ text "13 5|; component 5|"
+    ++ text "13 6|; component 6|"
     ++ text "17 0|; an entry is not finite, or beyond 2^500|"
     ++ text "17 1|; the mass is 0, and an entry is not|"
     ++ text "17 3|; a moment is negative|"

@@ -496,6 +496,13 @@ fn put_detail(out: &mut [u8], n: usize, fault: Fault) -> usize
         9 12|; cant: -4 to 4 rad|\
         9 13|; base angle: -4 to 4 rad|\
         9 20|; roll: -4 to 4 rad|\
+        13 0|; component 0|\
+        13 1|; component 1|\
+        13 2|; component 2|\
+        13 3|; component 3|\
+        13 4|; component 4|\
+        13 5|; component 5|\
+        13 6|; component 6|\
         17 0|; an entry is not finite, or beyond 2^500|\
         17 1|; the mass is 0, and an entry is not|\
         17 3|; a moment is negative|\
