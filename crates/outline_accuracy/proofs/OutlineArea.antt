@@ -30,7 +30,7 @@ use Rattle.refusals.specs.declared.Verdict.{Verdict}
 use Rattle.refusals.specs.declared.Verdict.the-variants.{Accepted}
 use Rattle.breaks.specs.Breaks.{breakHeights}
 use Rattle.breaks.proofs.Bounded.{breaks-rise}
-use Rattle.breaks.proofs.Listed.{at-most-66}
+use Rattle.breaks.proofs.Listed.{most-breaks}
 use Rattle.integrands.specs.Integrands.{scaleOf, areaThree}
 use Rattle.integrands.proofs.Scales.{Scale, scale-sized}
 use Rattle.halving.specs.declared.Ending.{Ending}
@@ -298,7 +298,7 @@ module _ (points : List Float) (L : ℕ) (entry : List Float) (r : Area) (exit :
           (equal-by (A ∷ []) (A-is, tt) (ratio 1 0 mul ratio 1 0 mul given 0) (given 0) tt)))
 
       few-strips : n ≤ 65
-      few-strips = let e = strips-is heights (heights-some Outline points check) in let f = at-most-66 Outline points in omega (arith, e, f)
+      few-strips = let e = strips-is heights (heights-some Outline points check) in let f = most-breaks Outline points in omega (arith, e, f)
 
       some-strips : 1 ≤ n
       some-strips = let e = strips-is heights (heights-some Outline points check) in let f = heights-some Outline points check in omega

@@ -36,17 +36,18 @@ count-below-requires c κs =
     let few = few-breaks _ _ _ (breaks .ensures) in
     omega (arith, length-take-le (breaks .result .count) (breaks .result .heights) (few .0), few .1)
 
-sub-t18 : tie.Need-sub-t18
-sub-t18 c = some-break _ _ _ (c .before .before .before .break-heights .ensures)
+sub-t19 : tie.Need-sub-t19
+sub-t19 c = some-break _ _ _ (c .before .before .before .before .break-heights .ensures)
 
 returns : tie.Need-returns
 returns c =
-    let breaks = c .before .before .before in
+    let below = c .before in
+    let breaks = below .before .before .before in
     let next = breaks .before .before in
     let held = next .before .before in
     let job = held .before .before .before .before .args .job in
-    progress-read job (held .held .result) (held .held .ensures) (next .height-at .result) (breaks .break-heights .result) (c .count-below .result)
-    (next .height-at .ensures) (breaks .break-heights .ensures) (c .count-below .ensures)
+    progress-read job (held .held .result) (held .held .ensures) (next .height-at .result) (breaks .break-heights .result) (below .count-below .result)
+    (next .height-at .ensures) (breaks .break-heights .ensures) (below .count-below .ensures)
 
 pub progress-of-spec : {M : Type 1} → statement M
 progress-of-spec =
@@ -62,5 +63,5 @@ progress-of-spec =
     array-share-prefix-heights
     slice-aggregate-count-below
     count-below-requires
-    sub-t18
+    sub-t19
     returns)
