@@ -26,9 +26,9 @@ use Rattle.reading.specs.declared.Asked.the-variants.{Join as JoinAsked, Moment
 use Rattle.reading.specs.declared.Asked.the-variants.{Tubes as TubesAsked, Closing as ClosingAsked, Drill as DrillAsked}
 use Rattle.reading.specs.declared.Asked.the-variants.{Copied as CopiedAsked, Placed as PlacedAsked, Moved as MovedAsked}
 use Rattle.reading.specs.declared.Asked.the-variants.{Without as WithoutAsked, Submit as SubmitAsked}
-use Rattle.reading.specs.declared.Asked.the-variants.{Density as DensityAsked, Turn as TurnAsked}
+use Rattle.reading.specs.declared.Asked.the-variants.{Density as DensityAsked, Turn as TurnAsked, Progress as ProgressAsked}
 use Rattle.reading.specs.Parts.{takeDensity}
-use Rattle.reading.specs.Lines.{closingRead, densityRead, plainRead, pickForm, formNamed, lineRead}
+use Rattle.reading.specs.Lines.{closingRead, densityRead, progressRead, plainRead, pickForm, formNamed, lineRead}
 use Rattle.answers.specs.Filled.{filled}
 use Rattle.answers.specs.declared.Shape.{Shape}
 use Rattle.answers.specs.declared.Shape.the-variants.{Area, Joined, Moments, Sound, Taken, Idle, More, Done}
@@ -114,6 +114,7 @@ numberOf WithoutAsked = 0
 numberOf (SubmitAsked screen limit set points) = 0
 numberOf (DensityAsked screen density) = 0
 numberOf TurnAsked = 0
+numberOf (ProgressAsked screen) = 0
 
 abbrev read : ℕ → List ℕ → Bool
 read n line = eqb (numberOf (lineRead line .asked)) n
@@ -168,12 +169,12 @@ engine-answers =
 
 -- the screen and the density of its line
 pub density-line : lineRead (text "(density 3 (bulk 5))") .asked ≡ DensityAsked 3 (Bulk (bits 0x4014000000000000))
-unfolding ofBits toBits round isNan eq text codes tokensAfter leadingDigits behindDigits numberFrom unsignedFigure decimalFigure figureWord isWord takeWord takeOne takeToken takeTokens takeText firstOf takeDensity numberedDensity closingRead densityRead plainRead pickForm formNamed lineRead filled textOf hex.figureOf hex.readDigits hex.digits hex.figureText counts.countOf counts.readDigits counts.digits counts.countText
+unfolding ofBits toBits round isNan eq text codes tokensAfter leadingDigits behindDigits numberFrom unsignedFigure decimalFigure figureWord isWord takeWord takeOne takeToken takeTokens takeText firstOf takeDensity numberedDensity closingRead densityRead progressRead plainRead pickForm formNamed lineRead filled textOf hex.figureOf hex.readDigits hex.digits hex.figureText counts.countOf counts.readDigits counts.digits counts.countText
 density-line = refl
 
 pub texts-hold :
     T
     (figure-words && nearest-to-decimals && word-bytes && tokens-cut && no-form-first && engine-lines
     && answers-printed && engine-answers)
-unfolding ofBits toBits round isNan eq text codes tokensAfter leadingDigits behindDigits numberFrom unsignedFigure decimalFigure figureWord isWord takeWord takeOne takeToken takeTokens takeText firstOf takeDensity numberedDensity closingRead densityRead plainRead pickForm formNamed lineRead filled textOf hex.figureOf hex.readDigits hex.digits hex.figureText counts.countOf counts.readDigits counts.digits counts.countText
+unfolding ofBits toBits round isNan eq text codes tokensAfter leadingDigits behindDigits numberFrom unsignedFigure decimalFigure figureWord isWord takeWord takeOne takeToken takeTokens takeText firstOf takeDensity numberedDensity closingRead densityRead progressRead plainRead pickForm formNamed lineRead filled textOf hex.figureOf hex.readDigits hex.digits hex.figureText counts.countOf counts.readDigits counts.digits counts.countText
 texts-hold = tt
