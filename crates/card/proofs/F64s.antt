@@ -35,13 +35,13 @@ use Rattle.fins.specs.Numbered.{tabOf, numberedSet}
 use Rattle.templates.specs.Matching.{Reading, failed, reading, takeText, takeEach}
 use Rattle.templates.proofs.F64s.{Held, text-taken}
 use Rattle.reading.specs.declared.Asked.{Asked}
-use Rattle.reading.specs.declared.Asked.the-variants.{Refused, Set, Area, Join, Moments, Check, Tubes, Closing, Drill, Copied, Placed, Moved, Without, Submit, Density, Turn}
+use Rattle.reading.specs.declared.Asked.the-variants.{Refused, Set, Area, Join, Moments, Check, Tubes, Closing, Drill, Copied, Placed, Moved, Without, Submit, Density, Turn, Progress}
 use Rattle.reading.specs.declared.Form.{Form}
 use Rattle.reading.specs.declared.Form.the-variants.{Set as SetForm, Area as AreaForm, Join as JoinForm, Moments as MomentsForm, Check as CheckForm, Tubes as TubesForm, Closing as ClosingForm, Drill as DrillForm}
-use Rattle.reading.specs.declared.Form.the-variants.{Copied as CopiedForm, Placed as PlacedForm, Moved as MovedForm, Without as WithoutForm, Submit as SubmitForm, Density as DensityForm, Turn as TurnForm, NoForm}
+use Rattle.reading.specs.declared.Form.the-variants.{Copied as CopiedForm, Placed as PlacedForm, Moved as MovedForm, Without as WithoutForm, Submit as SubmitForm, Density as DensityForm, Turn as TurnForm, Progress as ProgressForm, NoForm}
 use Rattle.reading.specs.declared.SetParts.{SetParts}
 use Rattle.reading.specs.Parts.{numberIn, figuresIn, endIn, takePlanform, takeDensity, takeSet, setPartsOf, setOf}
-use Rattle.reading.specs.Lines.{Read, pickRead, refusedRead, start, ended, setAsked, submitAsked, areaAsked, drillAsked, tubesAsked, densityAsked, setRead, submitRead, areaRead, drillRead, tubesRead, closingRead, densityRead, plainRead, listRead, formNamed, formRead, wordOf, lineRead}
+use Rattle.reading.specs.Lines.{Read, pickRead, refusedRead, start, ended, setAsked, submitAsked, areaAsked, drillAsked, tubesAsked, densityAsked, setRead, submitRead, areaRead, drillRead, tubesRead, closingRead, progressRead, densityRead, plainRead, listRead, formNamed, formRead, wordOf, lineRead}
 use Rattle.reading.proofs.F64s.{figures-f64, start-f64, set-f64}
 use Rattle.figures.proofs.Owned.{SetF64}
 use Rattle.card.specs.Cards.{WritesSet}
@@ -109,6 +109,7 @@ AskedF64 Without figures = Unit {0}
 AskedF64 (Submit screen limit set points) figures = SetF64 set (take points figures)
 AskedF64 (Density screen density) figures = Unit {0}
 AskedF64 Turn figures = Unit {0}
+AskedF64 (Progress screen) figures = Unit {0}
 
 abbrev ReadF64 : Read → Type 0
 ReadF64 r = AskedF64 (r .asked) (r .figures)
@@ -217,6 +218,10 @@ closing-read line =
     let all = takeText (text "(closing (count N) (radius F))") (start line) in
     at-end all (Closing (numberIn all) (at (figuresIn all) 0)) tt
 
+progress-read : (line : List ℕ) → ReadF64 (progressRead line)
+unfolding progressRead
+progress-read line = let all = takeText (text "(progress N)") (start line) in at-end all (Progress (numberIn all)) tt
+
 form-f64 : (form : Form) (line : List ℕ) → ReadF64 (formRead form line)
 form-f64 SetForm line = set-read line
 form-f64 AreaForm line = area-read line
@@ -233,6 +238,7 @@ form-f64 WithoutForm line = plain-f64 _ line Without (λ l. tt)
 form-f64 SubmitForm line = submit-read line
 form-f64 DensityForm line = density-read line
 form-f64 TurnForm line = plain-f64 (text "(turn)") line Turn (λ l. tt)
+form-f64 ProgressForm line = progress-read line
 form-f64 NoForm line = tt
 
 line-f64 : (line : List ℕ) → ReadF64 (lineRead line)
