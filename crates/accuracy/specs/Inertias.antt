@@ -126,8 +126,7 @@ finIntegrals section p radius =
     }
 
 -- ---- the tab: its volume times the mean of r, radius − height/2, of r², radius² − radius·height + height²/3, and of
--- x²,
--- offset² + offset·length + length²/3
+-- x², offset² + offset·length + length²/3
 abbrev pub meanRadius : Float → Float → Fraction
 meanRadius height radius = valueOf radius less valueOf height times (pos 1 over 2)
 

@@ -144,8 +144,7 @@ exactMassWith section p m =
     times (valueOf (p .density) times (filled section times finVolume p plus tabVolume (p .tab) (p .thickness)))
 
 -- of sets of one piece, tip at most 2 root chords and sweep at most 8: at most 90·2^-53·count·density·thickness·B·Y
--- from
--- it
+-- from it
 abbrev pub OrdinaryMass : Type 0
 OrdinaryMass =
     (section : Section) (p : Plate) (m : Mount) (points : List Float)

@@ -1,6 +1,5 @@
 // Why lines are refused: `explain < lines`. One explanation a line, which `explanations` makes; the loop over the lines
-// is
-// that of `shown_lines`.
+// is that of `shown_lines`.
 use arguments::Asked;
 use libc::STDERR_FILENO;
 use shown_lines::Maker;

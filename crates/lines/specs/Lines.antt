@@ -134,9 +134,8 @@ abbrev pub progressReply : JobProgress → Reply
 progressReply p = reply ProgressShape [] (p .worked ∷ p .strips ∷ p .intervals ∷ p .samples ∷ [])
 
 -- ---- what a line does: its answer; the memory that it leaves, of which only the strips of a set, an area or a turn
--- write to the scratch ("Refusal
--- numbers") and only the engine's own lines change the engine; and the calls of the engine that it asks for, one or
--- none, without which the engine's two lists stay as they are
+-- write to the scratch ("Refusal numbers") and only the engine's own lines change the engine; and the calls of the
+-- engine that it asks for, one or none, without which the engine's two lists stay as they are
 
 pub record Effect : Type 0 where
   pub reply : Reply

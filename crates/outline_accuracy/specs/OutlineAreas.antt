@@ -1,7 +1,6 @@
 -- How near the area of an outline is to the exact one: strip by strip, between the heights of its corners, for outlines
 -- whose strips are each crossed by two edges that keep their order. An outline that rises to one tip and falls again
--- has
--- no others, as long as no two of its edges cross; the checks ask the latter too, in f64s.
+-- has no others, as long as no two of its edges cross; the checks ask the latter too, in f64s.
 use mathlib.Core.Path.{_≡_}
 use mathlib.Core.Bool.{cond}
 use mathlib.Core.List.{List, [], _∷_}
@@ -54,8 +53,7 @@ abbrev pub edgesCrossed : List Float → Float → List ℕ
 edgesCrossed points h = crossedEdges points (pairCount points) h (pairCount points)
 
 -- ---- a strip between two break heights, h and k, that is at least 1/4096 of the span high and that two edges cross:
--- no
--- corner lies inside it, so that both go from its lower end to its upper, and at both ends one is to the left
+-- no corner lies inside it, so that both go from its lower end to its upper, and at both ends one is to the left
 pub record InOrder (points : List Float) (h k : Float) : Type 0 where
   pub left : ℕ
   pub right : ℕ

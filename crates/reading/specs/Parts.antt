@@ -46,8 +46,7 @@ unfoldable pub takeDensity : Reading → Reading
 takeDensity r = oneOf (text "(bulk F)" ∷ text "(surface F)" ∷ text "(line F)" ∷ []) r
 
 -- ---- a set: "(set (limit N) (count N) PLANFORM (thickness F) (section SECTION) TAB FILLET (cant F) (base F) (radius
--- F)
--- DENSITY)"
+-- F) DENSITY)"
 
 -- where reading stands behind each of its parts
 pub record SetReadings : Type 0 where

@@ -1,7 +1,6 @@
 // The calls on what is given by numbers (docs/FORMS.md; include/delvouzh.h): a set, one submitted to a screen, a
-// density
-// for a screen's job, a planform, a planform's chords, a point beside a planform, a ring of tubes, points to join, a
-// tensor, a body, copies of one, a part moved or taken off.
+// density for a screen's job, a planform, a planform's chords, a point beside a planform, a ring of tubes, points to
+// join, a tensor, a body, copies of one, a part moved or taken off.
 //
 // Any numbers may be handed in: what they do not make up is no form.
 ghost use mathlib.Core.Path.{_≡_};

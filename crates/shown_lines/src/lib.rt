@@ -66,8 +66,7 @@ struct End {
 }
 
 // What is made of the bytes that are kept of a line, and whether it has more, at the start of out; answers how many
-// bytes
-// it has.
+// bytes it has.
 fn put_made(out: &mut [u8], number: u64, line: &[u8], over: bool, maker: Maker) -> usize
     requires { ⌜ length (now out) ≡ numberedBytes ⌝ }
     ensures { λ r. ⌜
@@ -80,8 +79,7 @@ fn put_made(out: &mut [u8], number: u64, line: &[u8], over: bool, maker: Maker) 
 }
 
 // Writes what is made of the line that is kept, which is at its end and has this number. A line of which not all is
-// kept
-// is no answer, as what is kept is too long for one.
+// kept is no answer, as what is kept is too long for one.
 fn show_line(buffer: &[u8], s: State, number: u64, out: &mut [u8], maker: Maker) -> Last
     requires { ⌜ (s .kept ≤ length (now buffer)) × (length (now out) ≡ numberedBytes) ⌝ }
     ensures { λ r. ⌜ ShowsLine maker (now (buffer .entry)) s number (now (out .exit)) r ⌝ }
