@@ -9,9 +9,8 @@ use native.Mathlib.Omega.{arith}
 use lib.ListN.{length, take, drop}
 use Rattle.lines.specs.Lines.{Memory}
 use Rattle.input_lines.specs.Lines.{linesWithin, linesOf}
-use Rattle.input_lines.specs.Kept.{Keeps}
 use Rattle.inputs.specs.Inputs.{replies}
-use Rattle.inputs.specs.States.{Answered}
+use Rattle.inputs.specs.States.{Place, memoryAt, Begun, Answered}
 use Rattle.inputs.proofs.Lengths.{some-replied}
 use Rattle.reads.specs.Reads.{atEnd}
 use Rattle.card.specs.declared.Step.{Step}
@@ -29,10 +28,9 @@ some-handed left out r p e h =
     omega arith
 
 -- two programs that meet it, and take as many bytes from the same place on
-pub same-written : {buffer after other : List ℕ} {s r t : Step} {chunk : List ℕ} {memory left rest : Memory} {out written : List ℕ}
-    (begun : List ℕ) → Keeps buffer (s .state) begun → r .taken ≡ t .taken → Steps buffer after s r chunk memory left out
-    → Steps buffer other s t chunk memory rest written → take (r .written) out ≡ take (t .written) written
-same-written {s = s} {chunk = chunk} {memory = memory} begun k e p q =
-    p .takes .answers begun k .replied
-    ∙ ap (λ (n : ℕ). replies (linesWithin begun (take (n - s .taken) (drop (s .taken) chunk))) memory) e
-    ∙ sym (q .takes .answers begun k .replied)
+pub same-written : {p q r : Place} {s t u : Step} {chunk out written : List ℕ} (begun : List ℕ) → Begun p begun → t .taken ≡ u .taken
+    → Steps p q s t chunk out → Steps p r s u chunk written → take (t .written) out ≡ take (u .written) written
+same-written {p = p} {s = s} {chunk = chunk} begun k e a b =
+    a .takes .answers begun k .replied
+    ∙ ap (λ (n : ℕ). replies (linesWithin begun (take (n - s .taken) (drop (s .taken) chunk))) (memoryAt p)) e
+    ∙ sym (b .takes .answers begun k .replied)

@@ -5,23 +5,19 @@
 use mathlib.Core.List.{List, [], _∷_, _++_}
 use mathlib.Core.Bool.{Bool, true, false, _&&_, cond}
 use mathlib.Core.Path.{_≡_}
-use Prim.Native.Nat.{ℕ, _+_, _-_, _<_, _≤_}
+use Prim.Native.Nat.{ℕ, _+_, _-_, _*_, _<_, _≤_}
 use lib.Dec.{leb}
 use lib.ListN.{length, take, drop, replicate}
-use lib.Ieee.{Float}
 use Rattle.floats.specs.Operations.{bits}
-use Rattle.tokens.specs.Tokens.{lineBytes}
 use Rattle.tokens.specs.Text.{text}
 use Rattle.limits.specs.Limits.{scratchNumbers}
 use Rattle.reads.specs.Reads.{brought, atEnd, mostRead}
 use Rattle.lent_engines.specs.Memory.{engineNumbers, engineCounts}
-use Rattle.lent_engines.specs.Lent.{Room}
 use Rattle.lines.specs.Lines.{Memory, memoryIn}
 use Rattle.input_lines.specs.declared.State.{State}
-use Rattle.input_lines.specs.Lines.{linesWithin, begunAfter, lastLine, linesOf}
-use Rattle.input_lines.specs.Kept.{Keeps}
-use Rattle.inputs.specs.Inputs.{replyBytes, replies, leftByLines}
-use Rattle.inputs.specs.States.{Answered, Takes}
+use Rattle.input_lines.specs.Lines.{linesWithin, lastLine, linesOf}
+use Rattle.inputs.specs.Inputs.{replyBytes}
+use Rattle.inputs.specs.States.{Place, memoryAt, Begun, Lent, Answered, Takes}
 use Rattle.card.specs.declared.Step.{Step}
 use Rattle.card.specs.declared.Turn.{Turn}
 use Rattle.card.specs.declared.Last.{Last}
@@ -32,6 +28,10 @@ use Rattle.card.specs.declared.End.{End}
 unfoldable pub atFirst : Memory
 atFirst = memoryIn (replicate scratchNumbers (bits 0)) (replicate engineNumbers (bits 0)) (replicate engineCounts 0)
 
+-- and no byte of it
+abbrev pub noLine : State
+noLine = record { kept = 0; over = false }
+
 -- what is told on standard error, by whether every line was answered (docs/FORMS.md, "Where a read or a write fails")
 unfoldable pub told : Bool → List ℕ
 told answered =
@@ -40,37 +40,25 @@ told answered =
     (text "card: a read or a write failed; send the lines without an answer again, "
     ++ text "and submit again the jobs that had not ended" ++ (10 ∷ []))
 
--- what is lent to the run
-pub record Lends (buffer chunk : List ℕ) (numbers : List Float) (counts out : List ℕ) : Type 0 where
-  -- room for a line
-  pub line : lineBytes ≤ length buffer
+-- what is lent to the run, and where it stands
+pub record Lends (p : Place) (chunk out : List ℕ) : Type 0 where
+  -- room for a line, and for the engine
+  pub lent : Lent p
   -- bytes to read into: into none, every read would answer as at the input's end
   pub some : 0 < length chunk
   pub most : length chunk ≤ 65536
-  -- room for the engine
-  pub engine : Room numbers counts
   -- room for a reply
   pub reply : replyBytes ≤ length out
 
--- where the program stands
-pub record Stands (most : ℕ) (buffer : List ℕ) (s : State) (memory : Memory) (handed : ℕ) : Type 0 where
-  -- the bytes that it took since it began
-  pub taken : List ℕ
-  -- they can be counted
-  pub few : length taken ≤ most
-  -- the state keeps the line that has begun
-  pub keeps : Keeps buffer s (begunAfter [] taken)
-  -- so many bytes were handed to write: the replies to the lines that ended
-  pub counts : handed ≡ length (replies (linesWithin [] taken) atFirst)
-  -- and scratch and engine are as these left them
-  pub leaves : memory ≡ leftByLines (linesWithin [] taken) atFirst
+-- what was handed to write can be counted, with so many bytes taken at most
+abbrev pub Counted : ℕ → ℕ → Type 0
+Counted taken handed = handed ≤ replyBytes * taken
 
 -- bytes of a chunk taken from where the program stands on
-pub record Steps (buffer after : List ℕ) (s r : Step) (chunk : List ℕ) (memory left : Memory)
-    (out : List ℕ) : Type 0 where
+pub record Steps (before after : Place) (s r : Step) (chunk out : List ℕ) : Type 0 where
   -- the first `written` bytes of `out` are the replies to the lines that ended in them
-  pub takes : Takes buffer after (s .state) (r .state) (take (r .taken - s .taken) (drop (s .taken) chunk))
-      (take (r .written) out) memory left
+  pub takes :
+      Takes before (take (r .taken - s .taken) (drop (s .taken) chunk)) after (take (r .written) out)
   pub room : r .written ≤ length out
   -- they were handed to write
   pub counts : r .handed ≡ s .handed + r .written
@@ -78,31 +66,29 @@ pub record Steps (buffer after : List ℕ) (s r : Step) (chunk : List ℕ) (memo
   pub more : s .taken < r .taken
   pub some : r .taken ≤ length chunk
 
--- some bytes taken after those of a line that has begun
-pub record HandsOn (buffer after : List ℕ) (s r : State) (bytes : List ℕ) (memory left : Memory)
-    (handed total : ℕ) : Type 0 where
+-- some bytes taken
+pub record Hands (before : Place) (bytes : List ℕ) (after : Place) (handed total : ℕ) : Type 0 where
   -- the replies to the lines that ended
   pub text : List ℕ
-  pub takes : Takes buffer after s r bytes text memory left
+  pub takes : Takes before bytes after text
   -- were handed to write
   pub counts : total ≡ handed + length text
 
 -- a chunk
-pub record Replies (buffer after : List ℕ) (s : State) (chunk : List ℕ) (memory left : Memory) (handed : ℕ)
-    (r : Step) : Type 0 where
+pub record Replies (before after : Place) (chunk : List ℕ) (handed : ℕ) (r : Step) : Type 0 where
   -- its first bytes are taken
-  pub hands : HandsOn buffer after s (r .state) (take (r .taken) chunk) memory left handed (r .handed)
+  pub hands : Hands before (take (r .taken) chunk) after handed (r .handed)
   pub some : r .taken ≤ length chunk
   -- all of them, unless a write did not take all that it was handed
   pub all : r .all ≡ true → r .taken ≡ length chunk
 
 -- a read into the chunk, and the bytes that it brought
-pub record Turns (buffer after : List ℕ) (t r : Turn) (chunk : List ℕ) (memory left : Memory) : Type 0 where
+pub record Turns (before after : Place) (t r : Turn) (chunk : List ℕ) : Type 0 where
   pub most : brought (r .got) ≤ length chunk
   pub reads : r .read ≡ t .read + brought (r .got)
   -- the first of these are taken
   pub taken : ℕ
-  pub hands : HandsOn buffer after (t .state) (r .state) (take taken chunk) memory left (t .handed) (r .handed)
+  pub hands : Hands before (take taken chunk) after (t .handed) (r .handed)
   pub some : taken ≤ brought (r .got)
   -- all of them, unless a write did not take all that it was handed
   pub all : r .all ≡ true → taken ≡ brought (r .got)
@@ -110,9 +96,11 @@ pub record Turns (buffer after : List ℕ) (t r : Turn) (chunk : List ℕ) (memo
   pub goes : r .more ≡ leb 1 (brought (r .got)) && r .all
 
 -- the end of the input: the line that has begun is the last, unless it has no byte
-pub record Ends (buffer : List ℕ) (s : State) (memory left : Memory) (out : List ℕ) (r : Last) : Type 0 where
+pub record Ends (before after : Place) (out : List ℕ) (r : Last) : Type 0 where
   -- the first `written` bytes of `out` are the reply to it
-  pub answers : (begun : List ℕ) → Keeps buffer s begun → Answered memory (lastLine begun) (take (r .written) out) left
+  pub answers : (begun : List ℕ) → Begun before begun
+      → Answered (memoryAt before) (lastLine begun) (take (r .written) out) (memoryAt after)
+  pub short : r .written ≤ replyBytes
   pub room : r .written ≤ length out
 
 -- what is told at the end of a run: that every line was answered, where the last read gave the end and every write
@@ -122,12 +110,12 @@ pub record Tells (out : List ℕ) (r : End) : Type 0 where
   pub room : r .told ≤ length out
 
 -- the end of a run, from the turn that ended it
-pub record Closes (buffer : List ℕ) (t : Turn) (memory left : Memory) (out : List ℕ) (r : End) : Type 0 where
+pub record Closes (before after : Place) (t : Turn) (out : List ℕ) (r : End) : Type 0 where
   pub same : r .turn ≡ t
   -- at the input's end the reply to the last line is handed to write; else nothing is
   pub text : List ℕ
-  pub answers : (begun : List ℕ) → Keeps buffer (t .state) begun
-      → Answered memory (cond (atEnd (t .got)) (lastLine begun) []) text left
+  pub answers : (begun : List ℕ) → Begun before begun
+      → Answered (memoryAt before) (cond (atEnd (t .got)) (lastLine begun) []) text (memoryAt after)
   pub counts : r .handed ≡ t .handed + length text
   pub all : atEnd (t .got) ≡ false → r .all ≡ t .all
   pub tells : Tells out r

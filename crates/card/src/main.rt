@@ -13,9 +13,10 @@ ghost use lib.ListN.{length};
 ghost use Rattle.texts.specs.Appended.{Appended};
 ghost use Rattle.lines.specs.Lines.{memoryIn};
 ghost use Rattle.inputs.specs.Inputs.{ReplyFits};
-ghost use Rattle.inputs.specs.States.{Lent};
+ghost use Rattle.inputs.specs.States.{placeNow, atEntry, atExit, Lent};
 ghost use Rattle.reads.specs.Reads.{mostRead};
-ghost use Rattle.card.specs.Program.{atFirst, told, Lends, Stands, Steps, Replies, Turns, Ends, Closes, Runs};
+ghost use Rattle.card.specs.Program.{atFirst, noLine, told, Lends, Counted};
+ghost use Rattle.card.specs.Program.{Steps, Replies, Turns, Ends, Closes, Runs};
 use arguments::Asked;
 use input_lines::State;
 use lent_engines::ENGINE_COUNTS;
@@ -73,14 +74,11 @@ fn reply_next(
     engine_counts: &mut [usize],
     out: &mut [u8],
 ) -> Step
-    requires { ⌜ Lends (now buffer) (now chunk) (now «engine_numbers») (now «engine_counts») (now out)
-        × Stands (mostRead + s .taken) (now buffer) (s .state)
-        (memoryIn (now scratch) (now «engine_numbers») (now «engine_counts»)) (s .handed)
-        × (s .taken < length (now chunk)) ⌝ }
-    ensures { λ r. ⌜ Steps (now (buffer .entry)) (now (buffer .exit)) s r (now (chunk .entry))
-        (memoryIn (now (scratch .entry)) (now («engine_numbers» .entry)) (now («engine_counts» .entry)))
-        (memoryIn (now (scratch .exit)) (now («engine_numbers» .exit)) (now («engine_counts» .exit)))
-        (now (out .exit)) ⌝ }
+    requires { ⌜ Lends (placeNow buffer (s .state) scratch «engine_numbers» «engine_counts») (now chunk) (now out)
+        × Counted (mostRead + s .taken) (s .handed) × (s .taken < length (now chunk)) ⌝ }
+    ensures { λ r. ⌜ Steps (atEntry buffer (s .state) scratch «engine_numbers» «engine_counts»)
+        (atExit buffer (r .state) scratch «engine_numbers» «engine_counts») s r
+        (now (chunk .entry)) (now (out .exit)) ⌝ }
 {
     let at = s.taken;
     let begun = s.state;
@@ -117,12 +115,10 @@ fn reply_to(
     out: &mut [u8],
     handed: usize,
 ) -> Step
-    requires { ⌜ Lends (now buffer) (now chunk) (now «engine_numbers») (now «engine_counts») (now out)
-        × Stands mostRead (now buffer) s
-        (memoryIn (now scratch) (now «engine_numbers») (now «engine_counts»)) handed ⌝ }
-    ensures { λ r. ⌜ Replies (now (buffer .entry)) (now (buffer .exit)) s (now (chunk .entry))
-        (memoryIn (now (scratch .entry)) (now («engine_numbers» .entry)) (now («engine_counts» .entry)))
-        (memoryIn (now (scratch .exit)) (now («engine_numbers» .exit)) (now («engine_counts» .exit))) handed r ⌝ }
+    requires { ⌜ Lends (placeNow buffer s scratch «engine_numbers» «engine_counts») (now chunk) (now out)
+        × Counted mostRead handed ⌝ }
+    ensures { λ r. ⌜ Replies (atEntry buffer s scratch «engine_numbers» «engine_counts»)
+        (atExit buffer (r .state) scratch «engine_numbers» «engine_counts») (now (chunk .entry)) handed r ⌝ }
 {
     let mut step = Step {
         state: s,
@@ -155,13 +151,10 @@ fn take_turn(
     engine_counts: &mut [usize],
     out: &mut [u8],
 ) -> Turn
-    requires { ⌜ Lends (now buffer) (now chunk) (now «engine_numbers») (now «engine_counts») (now out)
-        × Stands mostRead (now buffer) (t .state)
-        (memoryIn (now scratch) (now «engine_numbers») (now «engine_counts»)) (t .handed)
-        × (t .read < mostRead) ⌝ }
-    ensures { λ r. ⌜ Turns (now (buffer .entry)) (now (buffer .exit)) t r (now (chunk .exit))
-        (memoryIn (now (scratch .entry)) (now («engine_numbers» .entry)) (now («engine_counts» .entry)))
-        (memoryIn (now (scratch .exit)) (now («engine_numbers» .exit)) (now («engine_counts» .exit))) ⌝ }
+    requires { ⌜ Lends (placeNow buffer (t .state) scratch «engine_numbers» «engine_counts») (now chunk) (now out)
+        × Counted mostRead (t .handed) × (t .read < mostRead) ⌝ }
+    ensures { λ r. ⌜ Turns (atEntry buffer (t .state) scratch «engine_numbers» «engine_counts»)
+        (atExit buffer (r .state) scratch «engine_numbers» «engine_counts») t r (now (chunk .exit)) ⌝ }
 {
     let got = libc::read(STDIN_FILENO, chunk);
     let n = io::count(got, chunk);
@@ -206,11 +199,9 @@ fn reply_last(
     engine_counts: &mut [usize],
     out: &mut [u8],
 ) -> Last
-    requires { ⌜ Lent (now buffer) s (now «engine_numbers») (now «engine_counts») × ReplyFits (now out) 0 ⌝ }
-    ensures { λ r. ⌜ Ends (now (buffer .entry)) s
-        (memoryIn (now (scratch .entry)) (now («engine_numbers» .entry)) (now («engine_counts» .entry)))
-        (memoryIn (now (scratch .exit)) (now («engine_numbers» .exit)) (now («engine_counts» .exit)))
-        (now (out .exit)) r ⌝ }
+    requires { ⌜ Lent (placeNow buffer s scratch «engine_numbers» «engine_counts») × ReplyFits (now out) 0 ⌝ }
+    ensures { λ r. ⌜ Ends (atEntry buffer s scratch «engine_numbers» «engine_counts»)
+        (atExit buffer s scratch «engine_numbers» «engine_counts») (now (out .exit)) r ⌝ }
 {
     let written = inputs::finish(buffer, s, scratch, engine_numbers, engine_counts, out, 0);
     let all = io::write_all(STDOUT_FILENO, &out[..written]);
@@ -242,13 +233,10 @@ fn end_run(
     engine_counts: &mut [usize],
     out: &mut [u8],
 ) -> End
-    requires { ⌜ Lent (now buffer) (t .state) (now «engine_numbers») (now «engine_counts») × ReplyFits (now out) 0
-        × Stands (mostRead + 65536) (now buffer) (t .state)
-        (memoryIn (now scratch) (now «engine_numbers») (now «engine_counts»)) (t .handed) ⌝ }
-    ensures { λ r. ⌜ Closes (now (buffer .entry)) t
-        (memoryIn (now (scratch .entry)) (now («engine_numbers» .entry)) (now («engine_counts» .entry)))
-        (memoryIn (now (scratch .exit)) (now («engine_numbers» .exit)) (now («engine_counts» .exit)))
-        (now (out .exit)) r ⌝ }
+    requires { ⌜ Lent (placeNow buffer (t .state) scratch «engine_numbers» «engine_counts») × ReplyFits (now out) 0
+        × Counted (mostRead + 65536) (t .handed) ⌝ }
+    ensures { λ r. ⌜ Closes (atEntry buffer (t .state) scratch «engine_numbers» «engine_counts»)
+        (atExit buffer (t .state) scratch «engine_numbers» «engine_counts») t (now (out .exit)) r ⌝ }
 {
     if reads::is_end(t.got) {
         let state = t.state;
@@ -279,7 +267,7 @@ fn run(
     engine_counts: &mut [usize],
     out: &mut [u8],
 ) -> End
-    requires { ⌜ Lends (now buffer) (now chunk) (now «engine_numbers») (now «engine_counts») (now out)
+    requires { ⌜ Lends (placeNow buffer noLine scratch «engine_numbers» «engine_counts») (now chunk) (now out)
         × (memoryIn (now scratch) (now «engine_numbers») (now «engine_counts») ≡ atFirst) ⌝ }
     ensures { λ r. ⌜ Runs (memoryIn (now (scratch .exit)) (now («engine_numbers» .exit)) (now («engine_counts» .exit)))
         (now (out .exit)) r ⌝ }

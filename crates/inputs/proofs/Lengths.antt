@@ -1,66 +1,24 @@
--- How long replies are: no more than 321 bytes for each byte of an input, and one at least where there is a byte. Assumes nothing.
+-- How long replies are: those to more bytes are no shorter, and those to an input with a byte have one. Assumes nothing.
 use mathlib.Core.List.{List, [], _∷_, _++_}
 use mathlib.Core.Bool.{Bool, true, false, cond}
 use mathlib.Core.Path.{_≡_, refl, ap, _∙_}
-use Prim.Native.Nat.{ℕ, _+_, _-_, _*_, _<_, _≤_}
+use Prim.Native.Nat.{ℕ, _+_, _-_, _<_, _≤_}
 use native.Mathlib.Omega.{arith}
 use lib.Dec.{eqb, leb}
 use lib.ListN.{length, take, drop, length-append}
 use lib.Seq.{take-add}
 use Rattle.refusals.specs.declared.Refusal.the-variants.{NoForm}
 use Rattle.tokens.specs.Tokens.{lineBytes}
-use Rattle.answers.specs.Answers.{answerBytes, textOf}
-use Rattle.answers.proofs.Lengths.{text-short}
-use Rattle.lines.specs.Lines.{Memory, refusedReply, lineEffect, answerOf}
+use Rattle.answers.specs.Answers.{textOf}
+use Rattle.lines.specs.Lines.{Memory, refusedReply, answerOf}
 use Rattle.input_lines.specs.Lines.{linesWithin, begunAfter, lastLine, linesOf}
 use Rattle.input_lines.proofs.Cutting.{lines-twice}
-use Rattle.inputs.specs.Inputs.{replyBytes, reply, leftByLine, leftByLines, replies, repliesTo}
+use Rattle.inputs.specs.Inputs.{reply, leftByLine, leftByLines, replies, repliesTo}
 use Rattle.inputs.proofs.Lines.{replies-append}
 
-one-short : (line : List ℕ) (m : Memory) → length (reply line m) ≤ replyBytes
-unfolding reply
-one-short line m =
-    let e = length-append (cond (leb (length line) lineBytes) (answerOf line m) (textOf (refusedReply NoForm))) (10 ∷ []) in
-    let h = by (leb (length line) lineBytes) in
-    omega arith
-  where
-    by : (t : Bool) → length (cond t (answerOf line m) (textOf (refusedReply NoForm))) ≤ answerBytes
-    by true = text-short (lineEffect line m .reply)
-    by false = text-short (refusedReply NoForm)
-
-all-short : (lines : List (List ℕ)) (m : Memory) → length (replies lines m) ≤ replyBytes * length lines
-unfolding replies
-all-short [] m = omega arith
-all-short (line ∷ lines) m =
-    let left = leftByLine line m in
-    let e = length-append (reply line m) (replies lines left) in let h = one-short line m in let i = all-short lines left in
-    omega arith
-
--- a line has a byte at least, its newline
-abbrev Few : List ℕ → List ℕ → Type 0
-Few begun bytes = length (linesWithin begun bytes) ≤ length bytes
-
-few : (begun bytes : List ℕ) → Few begun bytes
-unfolding linesWithin
-few begun [] = omega arith
-few begun (b ∷ bs) = by (eqb b 10) refl (few [] bs) (few (begun ++ (b ∷ [])) bs)
-  where
-    by : (t : Bool) → eqb b 10 ≡ t → Few [] bs → Few (begun ++ (b ∷ [])) bs → Few begun (b ∷ bs)
-    by true e i j = rw e (omega arith)
-    by false e i j = rw e (omega arith)
-
-few-last : (begun : List ℕ) → length (lastLine begun) ≤ 1
-few-last [] = omega arith
-few-last (b ∷ bs) = omega arith
-
-pub within-short : (begun bytes : List ℕ) (m : Memory) → length (replies (linesWithin begun bytes) m) ≤ replyBytes * length bytes
-within-short begun bytes m = let a = all-short (linesWithin begun bytes) m in let f = few begun bytes in omega arith
-
-pub last-short : (begun : List ℕ) (m : Memory) → length (replies (lastLine begun) m) ≤ replyBytes
-last-short begun m = let a = all-short (lastLine begun) m in let f = few-last begun in omega arith
-
 -- the replies to the first bytes are no longer than those to more of them
-pub grow : (begun bytes : List ℕ) (m : Memory) (j i : ℕ) → j ≤ i → length (replies (linesWithin begun (take j bytes)) m) ≤ length (replies (linesWithin begun (take i bytes)) m)
+pub grow : (begun bytes : List ℕ) (m : Memory) (j i : ℕ) → j ≤ i
+    → length (replies (linesWithin begun (take j bytes)) m) ≤ length (replies (linesWithin begun (take i bytes)) m)
 grow begun bytes m j i h =
     let a = take j bytes in let b = take (i - j) (drop j bytes) in
     let sum : i ≡ j + (i - j) = omega arith in
@@ -80,7 +38,8 @@ some-lines [] [] h = absurd (let z : ⊥ = omega arith in z)
 some-lines (c ∷ begun) [] h = omega arith
 some-lines begun (b ∷ bs) h = by (eqb b 10) refl (some-lines (begun ++ (b ∷ [])) bs)
   where
-    by : (t : Bool) → eqb b 10 ≡ t → Some (begun ++ (b ∷ [])) bs → 0 < length (linesWithin begun (b ∷ bs) ++ lastLine (begunAfter begun (b ∷ bs)))
+    by : (t : Bool) → eqb b 10 ≡ t → Some (begun ++ (b ∷ [])) bs
+        → 0 < length (linesWithin begun (b ∷ bs) ++ lastLine (begunAfter begun (b ∷ bs)))
     by true e i = rw e (omega arith)
     by false e i = let l = length-append begun (b ∷ []) in rw e (i (omega arith))
 
@@ -95,7 +54,9 @@ some-reply line m = by (cond (leb (length line) lineBytes) (answerOf line m) (te
 some-replies : (lines : List (List ℕ)) (m : Memory) → 0 < length lines → 0 < length (replies lines m)
 unfolding replies
 some-replies [] m h = absurd (let z : ⊥ = omega arith in z)
-some-replies (line ∷ lines) m h = let e = length-append (reply line m) (replies lines (leftByLine line m)) in let f = some-reply line m in omega arith
+some-replies (line ∷ lines) m h =
+    let e = length-append (reply line m) (replies lines (leftByLine line m)) in let f = some-reply line m in
+    omega arith
 
 pub some-replied : (input : List ℕ) (m : Memory) → 0 < length input → 0 < length (repliesTo input m)
 some-replied input m h = some-replies (linesOf input) m (some-lines [] input (omega arith))

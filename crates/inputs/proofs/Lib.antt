@@ -3,4 +3,3 @@ pub mod Keeping
 pub mod Lengths
 pub mod Lines
 pub mod Taking
-pub mod Lent

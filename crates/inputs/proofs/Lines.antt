@@ -12,9 +12,11 @@ left-append [] k memory = refl
 left-append (line ∷ l) k memory = left-append l k (leftByLine line memory)
 
 -- and the replies to them
-pub replies-append : (l k : List (List ℕ)) (memory : Memory) → replies (l ++ k) memory ≡ replies l memory ++ replies k (leftByLines l memory)
+pub replies-append : (l k : List (List ℕ)) (memory : Memory)
+    → replies (l ++ k) memory ≡ replies l memory ++ replies k (leftByLines l memory)
 unfolding replies leftByLines
 replies-append [] k memory = refl
 replies-append (line ∷ l) k memory =
     let left = leftByLine line memory in
-    ap (λ (t : List ℕ). reply line memory ++ t) (replies-append l k left) ∙ sym (append-assoc (reply line memory) (replies l left) (replies k (leftByLines l left)))
+    ap (λ (t : List ℕ). reply line memory ++ t) (replies-append l k left)
+    ∙ sym (append-assoc (reply line memory) (replies l left) (replies k (leftByLines l left)))

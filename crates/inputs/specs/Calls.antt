@@ -4,29 +4,26 @@
 use mathlib.Core.List.{List, [], _++_}
 use Prim.Native.Nat.{ℕ, _≤_}
 use lib.ListN.{length, take, drop}
-use Rattle.lines.specs.Lines.{Memory}
-use Rattle.input_lines.specs.declared.State.{State}
 use Rattle.input_lines.specs.Kept.{Keeps}
-use Rattle.inputs.specs.States.{Feeds}
+use Rattle.inputs.specs.States.{Place, Feeds}
 use Rattle.inputs.specs.declared.Fed.{Fed}
 
 -- what stands in `out` from place n up to place w: what a call that was handed n, and answered w, appended
 abbrev pub appendedIn : List ℕ → ℕ → ℕ → List ℕ
 appendedIn out n w = drop n (take w out)
 
--- the calls so far, over scratch and engine that were `memory₀`: what is left of the last chunk; buffer, state and
--- memory as they are; all chunks joined; and all that was appended, joined
-pub data Calls (memory₀ : Memory) : List ℕ → List ℕ → State → Memory → List ℕ → List ℕ → Type 0 where
+-- the calls so far, from a place on: what is left of the last chunk; where the input stands; all chunks joined; and all
+-- that was appended, joined
+pub data Calls (first : Place) : List ℕ → Place → List ℕ → List ℕ → Type 0 where
   -- `no_line` gave the state
-  begins : (buffer : List ℕ) (s : State) → ((b : List ℕ) → Keeps b s []) → Calls memory₀ [] buffer s memory₀ [] []
+  begins : ((buffer : List ℕ) → Keeps buffer (first .state) []) → Calls first [] first [] []
   -- another chunk, where nothing is left of the one before
-  reads : (bytes buffer : List ℕ) (s : State) (memory : Memory) (input replied : List ℕ)
-      → Calls memory₀ [] buffer s memory input replied
-      → Calls memory₀ bytes buffer s memory (input ++ bytes) replied
+  reads : (bytes : List ℕ) (p : Place) (input replied : List ℕ)
+      → Calls first [] p input replied
+      → Calls first bytes p (input ++ bytes) replied
   -- a call of `feed` with what is left of the chunk
   feeds :
-      (rest buffer : List ℕ) (s : State) (memory : Memory) (input replied after : List ℕ) (left : Memory)
-      (out written : List ℕ) (n : ℕ) (r : Fed)
-      → Calls memory₀ rest buffer s memory input replied
-      → n ≤ length out → Feeds buffer after s rest memory left out written n r
-      → Calls memory₀ (drop (r .taken) rest) after (r .state) left input (replied ++ appendedIn written n (r .written))
+      (rest : List ℕ) (p after : Place) (input replied out written : List ℕ) (n : ℕ) (r : Fed)
+      → Calls first rest p input replied
+      → n ≤ length out → Feeds p after rest out n written r
+      → Calls first (drop (r .taken) rest) after input (replied ++ appendedIn written n (r .written))

@@ -9,15 +9,22 @@ use Rattle.card.proofs.answer_input.Tie as tie
 
 run-requires : tie.Need-run-requires
 unfolding atFirst
-run-requires c κs =
-    (record { line = omega arith; some = omega arith; most = omega arith; engine = (omega arith, omega arith); reply = omega arith }, refl)
+run-requires c κs = (
+  record {
+    lent = record { bytes = omega arith; within = omega arith; engine = (omega arith, omega arith) };
+    some = omega arith;
+    most = omega arith;
+    reply = omega arith;
+  },
+  refl,
+)
 
 array-share-prefix-out : tie.Need-array-share-prefix-out
-array-share-prefix-out c = c .before .before .before .before .before .before .run .ensures .tells .room
+array-share-prefix-out c = let lists = c .before .before .before in lists .before .before .before .run .ensures .tells .room
 
 slice-aggregate-write-all : tie.Need-slice-aggregate-write-all
 slice-aggregate-write-all c =
-    let r = c .before .before .before .before .before .before .before in
+    let lists = c .before .before .before in let r = lists .before .before .before .before in
     sym (length-take-le (r .run .result .told) (r .run .last .1 .1 .1 .1 .1 .0) (r .run .ensures .tells .room))
 
 pub answer-input-spec : {M : Type 1} → statement M

@@ -1,42 +1,30 @@
 -- `card::end_run` meets its contract: by whether the last read gave the end of the input. Assumes nothing.
 use mathlib.Core.List.{List, []}
-use mathlib.Core.Bool.{Bool, true, false, _&&_, true≢false}
+use mathlib.Core.Bool.{true, false, true≢false}
 use mathlib.Core.Path.{_≡_, refl, sym, ap, _∙_}
-use Prim.Native.Nat.{ℕ, _+_, _^_, _<_}
+use Prim.Native.Nat.{ℕ, _+_}
 use native.Mathlib.Omega.{arith}
-use denote.Ref.{now}
 use mir.Syntax.{w64}
 use mir.ValLaws.{toZ-ofZ}
-use lib.ListN.{length, take}
+use lib.ListN.{take}
 use lib.Seq.{length-take-le}
 use Rattle.texts.specs.Appended.{Appended}
-use Rattle.lines.specs.Lines.{Memory, memoryIn}
-use Rattle.input_lines.specs.Lines.{begunAfter}
 use Rattle.inputs.specs.Inputs.{replies, leftByLines}
-use Rattle.inputs.proofs.Lengths.{last-short}
-use Rattle.reads.specs.Reads.{atEnd, mostRead}
+use Rattle.inputs.specs.States.{Place}
+use Rattle.reads.specs.Reads.{atEnd}
 use Rattle.card.specs.declared.Turn.{Turn}
 use Rattle.card.specs.declared.Last.{Last}
-use Rattle.card.specs.Program.{told, Stands, Ends, Closes}
-use Rattle.card.proofs.Handing.{handed-fits, put-within}
+use Rattle.card.specs.Program.{told, Ends, Closes}
+use Rattle.card.proofs.Handing.{put-within}
 use borrow.Author.Needs.{needs}
 use Rattle.card.proofs.end_run.Statement.{statement}
 use Rattle.card.proofs.end_run.Tie as tie
 
-module _ (buffer : List ℕ) (t : Turn) (memory left : Memory) (out after : List ℕ) (n : ℕ) where
-  last-fits : (last : Last) → Stands (mostRead + 65536) buffer (t .state) memory (t .handed) → Ends buffer (t .state) memory left out last
-      → t .handed + last .written < 2 ^ 64
-  last-fits last p e =
-      let begun = begunAfter [] (p .taken) in
-      let s = last-short begun memory in
-      let f = handed-fits p (omega arith) (e .answers begun (p .keeps)) (omega arith) in
-      let l = length-take-le (last .written) out (e .room) in
-      omega arith
-
+module _ {p : Place} (t : Turn) {out after : List ℕ} {n : ℕ} where
   -- the input is at its end
-  at-end : (last : Last) → atEnd (t .got) ≡ true → Ends buffer (t .state) memory left out last → Appended out 0 (told (last .all)) after n
-      → Closes buffer t memory left after (record { turn = t; all = last .all; handed = t .handed + last .written; told = n })
-  at-end last g e a =
+  at-end : {q : Place} {last : Last} → atEnd (t .got) ≡ true → Ends p q out last → Appended out 0 (told (last .all)) after n
+      → Closes p q t after (record { turn = t; all = last .all; handed = t .handed + last .written; told = n })
+  at-end {last = last} g e a =
       record {
         same = refl;
         text = take (last .written) out;
@@ -48,7 +36,7 @@ module _ (buffer : List ℕ) (t : Turn) (memory left : Memory) (out after : List
 
   -- it is not: nothing more is written
   before-end : atEnd (t .got) ≡ false → Appended out 0 (told false) after n
-      → Closes buffer t memory memory after (record { turn = t; all = t .all; handed = t .handed; told = n })
+      → Closes p p t after (record { turn = t; all = t .all; handed = t .handed; told = n })
   unfolding replies leftByLines
   before-end g a =
       record {
@@ -60,43 +48,39 @@ module _ (buffer : List ℕ) (t : Turn) (memory left : Memory) (out after : List
         tells = record { holds = rw g (a .holds); room = put-within a };
       }
 
+-- ---- the places: the call; the test of what the last read gave, and the reply to the last line
+abbrev called : tie.After-is-end → tie.Start
+called i = let known = i .before .before .before in known .before .before .before .before
+
+abbrev tested : tie.After-reply-last → tie.After-is-end
+tested r = let args = r .before .before .before .before in args .before .before .before
+
+abbrev told-last : tie.After-tell → tie.After-reply-last
+told-last t =
+    let lists = t .before .before .before .before .before in
+    lists .before .before .before .before .before
+
 -- what the last read gave, from the call of `is_end`
-is-at-end : (c : tie.After-is-end) → c .is-end .result ≡ atEnd (c .before .before .before .before .before .before .before .args .t .got)
-is-at-end c =
-    c .is-end .ensures
-    ∙ ap atEnd
-    (toZ-ofZ w64 (c .before .before .before .before .before .before .before .args .t .got)
-    (record { sfits = c .before .struct-told .given .1 .0 .1 }))
+is-at-end : (i : tie.After-is-end) → i .is-end .result ≡ atEnd (called i .args .t .got)
+is-at-end i =
+    i .is-end .ensures ∙ ap atEnd (toZ-ofZ w64 (called i .args .t .got) (record { sfits = i .before .struct-told .given .1 .0 .1 }))
 
 add-t22 : tie.Need-add-t22
 add-t22 c =
-    let r = c .before .before .before .before .before .before .before .before .before .before .before .before .before .before in
-    let s = r .before .before .before .before .before .before .before .before .before .before .before .before .before .before in
-    let e =
-    last-fits (now (s .args .buffer)) (s .args .t)
-    (memoryIn (now (s .args .scratch)) (now (s .args .engine-numbers)) (now (s .args .engine-counts))) _
-    (r .reply-last .last .1 .1 .1 .1 .1 .0) (now (s .args .buffer)) 0
-    (r .reply-last .result) (s .pre .2) (r .reply-last .ensures) in
-    omega (arith, e)
+    let r = told-last (c .before .before .before .before) in let s = called (tested r) in
+    let a = r .reply-last .ensures .short in let b = s .pre .2 in
+    omega (arith, a, b)
 
 returns : tie.Need-returns
 returns c =
-    let t = c .before .before .before .before in
-    let r = t .before .before .before .before .before .before .before .before .before .before in
-    let i = r .before .before .before .before .before .before .before in
-    let s = i .before .before .before .before .before .before .before in
-    at-end (now (s .args .buffer)) (s .args .t)
-    (memoryIn (now (s .args .scratch)) (now (s .args .engine-numbers)) (now (s .args .engine-counts))) _
-    (r .reply-last .last .1 .1 .1 .1 .1 .0) (t .tell .last .0) (t .tell .result)
-    (r .reply-last .result) (sym (is-at-end i) ∙ r .before .before .before .before .before .before .if1 .taken) (r .reply-last .ensures)
-    (t .tell .ensures)
+    let t = c .before .before .before .before in let r = told-last t in let i = tested r in
+    let test = r .before .before .before in
+    at-end (called i .args .t) (sym (is-at-end i) ∙ test .before .before .before .if1 .taken) (r .reply-last .ensures) (t .tell .ensures)
 
 returns-2 : tie.Need-returns-2
 returns-2 c =
-    let t = c .before .before in let i = t .before .before .before in let s = i .before .before .before .before .before .before .before in
-    let memory = memoryIn (now (s .args .scratch)) (now (s .args .engine-numbers)) (now (s .args .engine-counts)) in
-    before-end (now (s .args .buffer)) (s .args .t) memory memory (now (s .args .out)) (t .tell2 .last .0) (t .tell2 .result)
-    (sym (is-at-end i) ∙ t .before .before .if1 .left) (t .tell2 .ensures)
+    let t = c .before .before in let i = t .before .before .before in
+    before-end (called i .args .t) (sym (is-at-end i) ∙ t .before .before .if1 .left) (t .tell2 .ensures)
 
 pub end-run-spec : {M : Type 1} → statement M
 end-run-spec =
