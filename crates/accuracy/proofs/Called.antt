@@ -29,11 +29,11 @@ use Rattle.halving.specs.Scratch.{intervalsOf}
 use Rattle.widths.proofs.Strips.{intervals-same}
 use Rattle.widths.proofs.Totals.{totals-same}
 use Rattle.fins.specs.Fins.{areaCheck}
-use Rattle.figures.specs.Areas.{areaStrips, areaSeven, workedArea, workedPlanform, areaCall, areaFigures, concludedArea, refusedArea, unscaledArea, areaBy}
+use Rattle.figures.specs.Areas.{areaStrips, areaSeven, workedArea, workedPlanform, areaCall, areaFigures, concludedArea, refusedArea}
+use Rattle.figures.specs.Areas.{unscaledArea, areaBy}
 use Rattle.figures.specs.Figures.{conclusionOf}
 use Rattle.figures.specs.declared.Area.{Area}
 use Rattle.figures.proofs.Reports.{no-refusal}
-use Rattle.accuracy.proofs.Trapezoids.{widthAt}
 
 -- ---- the chord at a height in the span
 abbrev pub startBy : Float → Float → Float → Float
@@ -55,12 +55,6 @@ unfolding paired sumsFrom
 chord-there true root tip sweep f scale h e = refl
 chord-there false root tip sweep f scale h e = no (sym e)
 
-chord-missing : (b : Bool) (root tip sweep f scale h : Float) → b ≡ false
-    → areaValues (sumsFrom area scale h (bits 0 ∷ bits 0 ∷ bits 0 ∷ bits 0 ∷ []) (paired (cond b (trapezoidAt root tip sweep f) []))) ≡ bits 0 ∷ bits 0 ∷ bits 0 ∷ []
-unfolding paired sumsFrom
-chord-missing true root tip sweep f scale h e = no e
-chord-missing false root tip sweep f scale h e = refl
-
 module _ (root tip span sweep : Float) (points : List Float) where
   abbrev Shape : Planform
   Shape = Trapezoid root tip span sweep
@@ -71,14 +65,6 @@ module _ (root tip span sweep : Float) (points : List Float) where
   pub values-there : (h : Float) → T (inSpan span (h ⊗ Scale·)) → areaThree Shape points h ≡ threeValues root tip sweep (h ⊗ Scale· ⊘ span) Scale· h
   unfolding areaThree endsAt
   values-there h t = chord-there (inSpan span (h ⊗ Scale·)) root tip sweep (h ⊗ Scale· ⊘ span) Scale· h (is-true _ t)
-
-  pub width-there : (h : Float) → T (inSpan span (h ⊗ Scale·)) → at (areaThree Shape points h) 0 ≡ widthAt root tip span sweep Scale· h
-  width-there h t = ap (λ (l : List Float). at l 0) (values-there h t)
-
-  -- and at one where there is none
-  pub width-missing : (h : Float) → inSpan span (h ⊗ Scale·) ≡ false → at (areaThree Shape points h) 0 ≡ bits 0
-  unfolding areaThree endsAt
-  width-missing h e = ap (λ (l : List Float). at l 0) (chord-missing (inSpan span (h ⊗ Scale·)) root tip sweep (h ⊗ Scale· ⊘ span) Scale· h e)
 
 -- ---- an answer by a verdict that is no refusal is the one that is given
 pub chosen : {A : Type 0} (verdict : Verdict) (given : A) (withheld : Refusal → A) (verdictIn : A → Verdict) → ((refusal : Refusal) → verdictIn (withheld refusal) ≡ Refused refusal) → (r : A)

@@ -20,15 +20,13 @@ use Rattle.error_terms.proofs.Laws.{inverseOf}
 use Rattle.rounding_error.proofs.Polynomials.{Expression, given, ratio, _add_, _take_, _mul_, evaluate}
 use Rattle.error_terms.proofs.Monomials.{AllRanges, place}
 use Rattle.error_terms.proofs.Terms.{shape, Given, entry, Term, var, const, nought, divided, inverseConstant, tight, raised, value}
-use Rattle.error_terms.proofs.Terms.{constant, numbersOf, unitBy}
-use Rattle.error_terms.proofs.Terms.{AllKnown}
-use Rattle.error_terms.proofs.Terms.{_add_ as _addT_, _take_ as _takeT_, _mul_ as _mulT_, _over_ as _overT_}
+use Rattle.error_terms.proofs.Terms.{constant, numbersOf, unitBy, AllKnown, _add_ as _addT_, _take_ as _takeT_, _mul_ as _mulT_}
+use Rattle.error_terms.proofs.Terms.{_over_ as _overT_}
 use Rattle.error_terms.proofs.Judged.{judge, nearer, near-within}
 use Rattle.error_terms.proofs.Stages.{lowTest, target-lowest}
 use Rattle.error_terms.proofs.Entries.{full, many-entry, own-entry}
-use Rattle.error_terms.proofs.Floors.{NotBelow, Signed}
+use Rattle.error_terms.proofs.Floors.{NotBelow, Signed, positive-from}
 use Rattle.one_piece.proofs.Rule.{atHeights, at-heights, insideTest, inside, same-sum, centreT, minusT, plusT}
-use Rattle.one_piece.proofs.AreaPiece.{positive-from}
 use Rattle.one_piece.proofs.PlatePiece.{startT, endT, scaleIn, plate, sevenAt, plate-there, not-at-most}
 
 -- what part of span over scale a height is exactly

@@ -44,7 +44,7 @@ use Rattle.fins.proofs.Sized.{planform-sized}
 use Rattle.figures.specs.Figures.{setStrips}
 use Rattle.figures.specs.declared.Figures.{Figures}
 use Rattle.one_piece.specs.OnePiece.{NotRounded, tipsOf, Proportions}
-use Rattle.one_piece.proofs.AreaPiece.{positive-from}
+use Rattle.error_terms.proofs.Floors.{positive-from, NotBelow}
 use Rattle.one_piece.proofs.PlatePiece.{each-of-seven, plain-sections, positive-above}
 use Rattle.one_piece.proofs.Answers.{plate-strips}
 use Rattle.accuracy.specs.Masses.{Plate, Mount, setWith, SectionGiven, OneStrip}
@@ -54,14 +54,11 @@ use Rattle.accuracy.proofs.WholePieces.{value-is, wider, whole-piece}
 use Rattle.accuracy.proofs.StripEnds.{ends-differ}
 use Rattle.accuracy.proofs.Called.{heights-are, one-strip}
 use Rattle.accuracy.proofs.ChordWidths.{one-sums}
-use Rattle.error_terms.proofs.Floors.{NotBelow}
-use Rattle.rounding_error.proofs.Ranges.{in-range, ranges-for}
-use Rattle.accuracy.proofs.MassNear.{density-checked}
+use Rattle.accuracy.proofs.Checked.{density-checked, tip-checked, not-below as from-zero}
 use Rattle.accuracy.proofs.SetCalled as Called
 use Rattle.accuracy.proofs.SetCalled.{set-given}
-use Rattle.accuracy.proofs.CentroidNear.{tip-checked, not-below as from-zero}
-use Rattle.accuracy.proofs.SevenIntegrals.{Fin, Class, near, far, wide, tipsIn, sweepsIn, spansIn, Sizes, TabKnown, exactly}
-use Rattle.accuracy.proofs.SevenIntegrals.{exactE, numbersIn, tabNumbers, finIn, tabE, totalAt}
+use Rattle.accuracy.proofs.SevenIntegrals.{Fin, Class, near, far, wide, tipsIn, sweepsIn, spansIn, Sizes, TabKnown, exactly, exactE}
+use Rattle.accuracy.proofs.SevenIntegrals.{numbersIn, tabNumbers, finIn, tabE, totalAt}
 use Rattle.accuracy.proofs.ToFractions.{fractionIn, amongFractions, AreFractions, expression-fraction}
 
 -- ---- the exact integrals of specs/Inertias
@@ -232,10 +229,7 @@ module _ (section : Section) (p : Plate) (m : Mount) (points : List Float) (L : 
       (one-strip (p .root) (p .tip) (p .span) (p .sweep) points L span-above 7 f L S (bits 0) (p .span))
 
   apart : eq low high ≡ false
-  apart = ends-differ (p .span) S span-positive (scaled .is-positive)
-      (in-range 48 _ (omega arith) (ranges-for 24 24 (sizeOf (p .span)) S (scaled .is-positive)
-      (ranges-of (p .span) 6 20 (omega arith) (omega arith) (sized .1 .1 .0 .length .below) (sized .1 .1 .0 .above))
-      (ranges-of S 7 20 (omega arith) (omega arith) (scaled .below) (scaled .above))))
+  apart = ends-differ (p .span) S (sized .1 .1 .0) scaled
 
   pieces-counted : r .intervals ≡ length (piecesOf strip)
   pieces-counted = subst (λ (x : Bool). r .intervals ≡ cond x 1 (length (piecesOf strip))) apart

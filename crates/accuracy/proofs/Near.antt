@@ -3,13 +3,11 @@ use mathlib.Core.Path.{_≡_, ap, _∙_}
 use mathlib.Core.Bool.{Bool, true, false, cond}
 use mathlib.Core.List.{List}
 use Prim.Native.Nat.{ℕ, _*_, _≤_}
-use native.Mathlib.Omega.{arith}
 use lib.ListN.{length}
 use lib.Ieee.{Float, eq, lt}
 use Rattle.floats.specs.Operations.{_⊘_, bits}
 use Rattle.rounding.proofs.Sizes.{positive-of}
-use Rattle.rounding_error.proofs.Numbers.{_per_, _for_, sizeOf}
-use Rattle.rounding_error.proofs.Ranges.{ranges-for, in-range}
+use Rattle.rounding_error.proofs.Numbers.{_per_}
 use Rattle.planforms.specs.declared.Planform.{Planform}
 use Rattle.planforms.specs.declared.Planform.the-variants.{Trapezoid}
 use Rattle.planforms.proofs.Sized.{Sized}
@@ -22,7 +20,7 @@ use Rattle.strips.specs.Strips.{piecesOf}
 use Rattle.figures.specs.declared.Area.{Area}
 use Rattle.accuracy.specs.Areas.{AreaGiven, Reach}
 use Rattle.accuracy.proofs.Given.{Lengths}
-use Rattle.accuracy.proofs.Limits.{lengths, ranges-of}
+use Rattle.accuracy.proofs.Limits.{lengths}
 use Rattle.accuracy.proofs.Called.{Given, area-given, Strip, intervals-are}
 use Rattle.accuracy.proofs.StripEnds.{ends-differ}
 use Rattle.one_piece.proofs.PlatePiece.{positive-above}
@@ -47,14 +45,7 @@ module _ (root tip span sweep : Float) (points : List Float) (L : ℕ) (entry : 
 
   -- the strip's ends differ, so that the intervals are its pieces
   pub ends-apart : eq (bits 0 ⊘ S) (span ⊘ S) ≡ false
-  ends-apart =
-      let s = scale-sized Shape points sized in
-      let p = positive-of span 20 (sized .1 .1 .0 .not-minus) (sized .1 .1 .0 .above) in
-      ends-differ span S p (s .is-positive)
-      (in-range 48 (sizeOf span for S) (omega arith)
-      (ranges-for 24 24 (sizeOf span) S (s .is-positive)
-      (ranges-of span 6 20 (omega arith) (omega arith) (sized .1 .1 .0 .length .below) (sized .1 .1 .0 .above))
-      (ranges-of S 7 20 (omega arith) (omega arith) (s .below) (s .above))))
+  ends-apart = ends-differ span S (sized .1 .1 .0) (scale-sized Shape points sized)
 
   abbrev pub stripPieces : List Piece
   stripPieces = piecesOf (Strip root tip span sweep points L span-above)

@@ -2,7 +2,7 @@
 use mathlib.Core.Path.{_≡_, refl, sym, ap, _∙_}
 use mathlib.Core.Bool.{Bool, true, false, _||_, Bool·beq}
 use Prim.Native.Nat.{ℕ, _*_, _<_}
-use native.Mathlib.Nat.{mul-pos, one-mul, mul-one, zero-mul, mul-zero, zero-add, add-zero}
+use native.Mathlib.Nat.{mul-pos}
 use native.Mathlib.Omega.{arith}
 use lib.Dec.{eqb, eqb→eq}
 use lib.Pow.{pow-pos}
@@ -20,10 +20,7 @@ use Rattle.bodies.specs.Matrices.{fromColumns}
 use Rattle.bodies.specs.Bodies.{rotatedOf}
 use Rattle.rotations.specs.Rotations.{aboutZ, matrixOf}
 use Rattle.rings.specs.Rings.{angleOf, rolledCopy}
-use Rattle.rounding_error.proofs.Distances.{sorted}
 use Rattle.rounding_error.proofs.Polynomials.{_add_, _mul_}
-
-ruleset plain = (sorted, one-mul, mul-one, zero-mul, mul-zero, zero-add, add-zero)
 
 -- ---- the angle is 0
 rounded-zero : round binary64 false 0 1 ≡ bits 0

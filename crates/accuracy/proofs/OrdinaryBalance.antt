@@ -5,8 +5,8 @@ use mathlib.Core.Bool.{Bool, true, false}
 use mathlib.Core.List.{List, [], _∷_}
 use mathlib.Core.Logic.{_⊎_, inl, inr}
 use Prim.Native.Nat.{ℕ, suc, _+_, _*_, _^_, _≤_, _<_, zero-le}
-use native.Mathlib.Nat.{le-refl, le-trans, le-of-eq, mul-pos, mul-le-mul-right, le-of-mul-le-mul-right}
-use native.Mathlib.Nat.{one-mul, mul-one, zero-mul, mul-zero, zero-add, add-zero}
+use native.Mathlib.Nat.{le-trans, le-of-eq, mul-pos, mul-le-mul-right, le-of-mul-le-mul-right, one-mul, mul-one, zero-mul, mul-zero}
+use native.Mathlib.Nat.{zero-add, add-zero}
 use native.Mathlib.Omega.{arith}
 use lib.Dec.{T, leb, leb→le, lit≤}
 use lib.ListN.{length}
@@ -14,7 +14,7 @@ use lib.Pow.{pow-add, pow-pos}
 use lib.IntN.{pos}
 use lib.Ieee.{Float, binary64, nan, inf, fin, up, down, neg, eq, fits, round, ofBits}
 use lib.Ieee.Scale.{finite}
-use lib.Ieee.Positive.{num, den, den-pos, positive}
+use lib.Ieee.Positive.{num, den, positive}
 use Rattle.floats.specs.Operations.{_⊕_, _⊖_, _⊗_, _⊘_, bits, at}
 use Rattle.floats.specs.Constants.{one, half}
 use Rattle.floats.specs.Floats.{cube, fourth}
@@ -23,8 +23,8 @@ use Rattle.rounding.specs.Sizes.{AtMost, Below, Above}
 use Rattle.rounding.proofs.Signs.{neg-finite}
 use Rattle.rounding.proofs.Sizes.{weaker, zero-below, half-below, mul-below, add-below, sub-below, div-below}
 use Rattle.rounding_error.specs.Distances.{Within as Apart}
-use Rattle.rounding_error.proofs.Numbers.{Number, number, Size, _per_, _of_, _roundoffs_, _plus_, minus, _times_, IsNumber, Within}
-use Rattle.rounding_error.proofs.Numbers.{Near, Ranges, valueOf, zeroNumber, sizeOf}
+use Rattle.rounding_error.proofs.Numbers.{Number, number, Size, _per_, _of_, _roundoffs_, _plus_, minus, _times_, IsNumber, Within, Near}
+use Rattle.rounding_error.proofs.Numbers.{Ranges, valueOf, zeroNumber, sizeOf}
 use Rattle.rounding_error.proofs.Distances.{sorted, within-minus}
 use Rattle.rounding_error.proofs.Operations.{neg-value}
 use Rattle.rounding_error.proofs.Counts as Counts
@@ -33,15 +33,14 @@ use Rattle.rounding_error.proofs.Polynomials.{_equals_, trans, itself, times-is
 use Rattle.rounding_error.proofs.Polynomials.{Expression, given, ratio, _add_, _mul_}
 use Rattle.rounding_error.proofs.Fractions.{IsFraction, minus-fraction, times-fraction, whole-fraction}
 use Rattle.error_terms.proofs.Laws.{inverseOf, Reaches}
-use Rattle.error_terms.proofs.Monomials.{place, added, mono, top, bottom, AllRanges}
-use Rattle.error_terms.proofs.Monomials.{top-pos, ranges-of as ranges-by-units}
+use Rattle.error_terms.proofs.Monomials.{place, added, mono, top, bottom, AllRanges, top-pos, ranges-of as ranges-by-units}
 use Rattle.error_terms.proofs.Terms.{Shape, shape, Given, entry, Term, var, const, _add_ as _addT_, _mul_ as _mulT_, _over_ as _overT_}
 use Rattle.error_terms.proofs.Terms.{Known, Lowest, AllKnown, unitBy, unit-real, numbers-are}
 use Rattle.error_terms.proofs.Judged.{judge, nearer, near-within}
 use Rattle.error_terms.proofs.Stages.{sizeTest, target-known}
 use Rattle.error_terms.proofs.Entries.{full}
 use Rattle.error_terms.proofs.Orders.{near-above, finer}
-use Rattle.error_terms.proofs.Floors.{NotBelow, not-below as from-low}
+use Rattle.error_terms.proofs.Floors.{NotBelow, not-below as from-low, positive-from, times-not-below as not-below-times}
 use Rattle.sorting.specs.Sorted.{Each}
 use Rattle.refusals.specs.declared.Verdict.the-variants.{Accepted}
 use Rattle.limits.specs.Limits.{baseAngleField, angleCheck}
@@ -67,23 +66,19 @@ use Rattle.plates.specs.Plates.{plateBody}
 use Rattle.figures.specs.Figures.{setStrips}
 use Rattle.figures.specs.declared.Figures.{Figures}
 use Rattle.one_piece.specs.OnePiece.{NotRounded}
-use Rattle.one_piece.proofs.AreaPiece.{positive-from}
-use Rattle.accuracy.specs.Masses.{Plate, Mount, setWith, SectionGiven, OneStrip, finVolume, tabVolume, filled, exactMassWith}
+use Rattle.accuracy.specs.Masses.{Plate, Mount, setWith, SectionGiven, OneStrip, finVolume, tabVolume, filled, exactMass}
 use Rattle.accuracy.specs.Balances.{finMoment, tabMoment, exactMoment, TabGiven, byTab, OrdinaryBalance}
 use Rattle.accuracy.specs.Inertias.{Integrals, tabIntegrals, TabBeside}
 use Rattle.accuracy.proofs.SetCalled as Called
 use Rattle.accuracy.proofs.SetCalled.{set-body}
 use Rattle.accuracy.proofs.Turned.{acrossAt, ring-centre, across-naught}
-use Rattle.accuracy.proofs.Centroids.{not-below-times}
 use Rattle.accuracy.proofs.RingSums.{unit-range, count-reaches, sums-known}
 use Rattle.accuracy.proofs.OrdinaryCentroid.{inverse-pair}
-use Rattle.accuracy.proofs.CentroidNear.{positive-fraction, product-fraction}
-use Rattle.accuracy.proofs.ToFractions.{to-fractions, first-power}
+use Rattle.accuracy.proofs.ToFractions.{by-size, first-power}
 use Rattle.accuracy.proofs.SevenIntegrals.{Fin, Class, near, far, wide, tipsIn, sweepsIn, spansIn, Sizes, isFoil, unitOf, shapeAt}
-use Rattle.accuracy.proofs.SevenIntegrals.{errorIn, lessParts, leastParts, massUnit, massShape}
-use Rattle.accuracy.proofs.SevenIntegrals.{massList, each-class, bases, exactly, is-exactly, integralAt, totalAt, seven-known}
-use Rattle.accuracy.proofs.SevenIntegrals.{volume-lowest}
-use Rattle.accuracy.proofs.SevenIntegrals.{volume-from-zero, density-own, massOf, massNumber, masses, mass-known, mass-lowest}
+use Rattle.accuracy.proofs.SevenIntegrals.{errorIn, lessParts, leastParts, massUnit, massShape, massList, each-class, bases, exactly}
+use Rattle.accuracy.proofs.SevenIntegrals.{is-exactly, integralAt, totalAt, seven-known, volume-lowest, volume-from-zero}
+use Rattle.accuracy.proofs.SevenIntegrals.{density-own, massOf, massNumber, masses, mass-known, mass-lowest}
 use Rattle.accuracy.proofs.FinCalled as Fins
 
 ruleset plain = (sorted, one-mul, mul-one, zero-mul, mul-zero, zero-add, add-zero)
@@ -525,20 +520,6 @@ centre-by v density base count w u hw hu h =
     (plate-centre v density base count (subst (λ (s : Float). T (positive (inOrder (λ x y. x ⊕ y) (bits 0) (λ k. density ⊗ s) count)))
     (sym hw) h)))
 
--- ---- to fractions: K roundoffs of the size of an f64 above 0
-by-size : (x z : Float) → T (positive z) → (W D N : Number) (K : ℕ) (f h : Fraction) → IsNumber W → IsNumber D → IsNumber N → NotBelow D
-    → IsFraction D f → IsFraction N h → Near x W ((K * 2 ^ 30) roundoffs (num z per (den z * 2 ^ 30))) → W times D equals N
-    → Apart (product (product (pos K over 2 ^ 53) (fractionOf z)) f) (product (fractionOf x) f) h
-by-size x z zp W D N K f h iW iD iN from df nh w e =
-    to-fractions x W D N ((K * 2 ^ 30) roundoffs (num z per (den z * 2 ^ 30))) (K * num z) (2 ^ 53 * den z)
-    (product (pos K over 2 ^ 53) (fractionOf z)) f h iW iD iN from (mul-pos (mul-pos (den-pos z) (pow-pos 30)) (pow-pos 53))
-    (mul-pos (pow-pos 53) (den-pos z))
-    (product-fraction K (2 ^ 53) (num z) (den z) (pos K over 2 ^ 53) (fractionOf z) (whole-fraction K (2 ^ 53))
-    (positive-fraction z zp)) df nh w
-    (size (num z) (den z) (2 ^ 30) (2 ^ 53)) e
-  where
-    size : (n d P Q : ℕ) → K * P * n * (Q * d) ≤ K * n * (d * P * Q)
-    size n d P Q = simp plain (le-refl _)
 
 -- ---- an f64 near a number of at least R parts of X / Y is at least one part
 one-part : (X Y P Q R l q m e N D : ℕ) → 0 < e → 0 < Q → l + Q ≤ R * Q → R * X * e + m * (Y * P) ≤ q * (Y * P)
@@ -763,7 +744,7 @@ module _ (c : Class) (section : Section) (p : Plate) (m : Mount) (points : List 
       (times-fraction ρ x (fractionOf (p .density)) y (Fins.density-fraction section p m points L start r exit plain-section g radius-f64
       c q) h)
 
-  mass-fraction : IsFraction (number (m .count) 0 1 times (ρ times exactly F 0)) (exactMassWith section p m)
+  mass-fraction : IsFraction (number (m .count) 0 1 times (ρ times exactly F 0)) (exactMass section p m)
   mass-fraction = all-fins (exactly F 0) (sum (product (filled section) (finVolume p)) (tabVolume (p .tab) (p .thickness)))
       (subst (λ (x : Fraction). IsFraction (exactly F 0) (sum (product (filled section) (finVolume p)) x))
       (tab-volume (p .tab) (p .thickness) (bits 0)) (field-is 0 (lit≤ tt)))
@@ -787,15 +768,15 @@ module _ (c : Class) (section : Section) (p : Plate) (m : Mount) (points : List 
       not-below-times (number (m .count) 0 1) (ρ times exactly F 0) zero-le
       (not-below-times ρ (exactly F 0) (positive-from (p .density) (sizes .density-positive)) (volume-from-zero F c 64 1 sizes))
 
-  pub set-balance : Apart (product (product (pos (balanceError c (p .tab)) over 2 ^ 53) (fractionOf (p .root))) (exactMassWith section p m))
-      (product (fractionOf (r .body .«centre_m» .z)) (exactMassWith section p m)) (negatedFraction (exactMoment section p m))
+  pub set-balance : Apart (product (product (pos (balanceError c (p .tab)) over 2 ^ 53) (fractionOf (p .root))) (exactMass section p m))
+      (product (fractionOf (r .body .«centre_m» .z)) (exactMass section p m)) (negatedFraction (exactMoment section p m))
   set-balance =
       let W = T₀ F c 64 1 sizes (m .count) (counts .0) (counts .1) naught naughts times ιM F c 64 1 sizes (m .count)
       (counts .0) (counts .1) naught naughts in
-      subst (λ (z : Float). Apart (product (product (pos (balanceError c (p .tab)) over 2 ^ 53) (fractionOf (p .root))) (exactMassWith
+      subst (λ (z : Float). Apart (product (product (pos (balanceError c (p .tab)) over 2 ^ 53) (fractionOf (p .root))) (exactMass
       section p m))
-      (product (fractionOf z) (exactMassWith section p m)) (negatedFraction (exactMoment section p m))) (sym centre-is)
-      (by-size balance (p .root) (sizes .root-positive) W D (minus Y) (balanceError c (p .tab)) (exactMassWith section p m)
+      (product (fractionOf z) (exactMass section p m)) (negatedFraction (exactMoment section p m))) (sym centre-is)
+      (by-size balance (p .root) (sizes .root-positive) W D (minus Y) (balanceError c (p .tab)) (exactMass section p m)
       (negatedFraction (exactMoment section p m))
       (W-is F c 64 1 sizes (m .count) (counts .0) (counts .1) naught naughts) (is-all (exactly F 0) (is-exactly F c 64 1 sizes 0))
       (minus-number Y (is-all (exactly F 3) (is-exactly F c 64 1 sizes 3))) D-from-zero mass-fraction

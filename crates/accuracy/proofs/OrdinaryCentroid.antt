@@ -1,11 +1,13 @@
--- The centroid of a trapezoid that one piece is enough for is near the exact one by computed bounds: of the three sums of the strip
--- first, then of
--- their quotients. Assumes nothing.
-use mathlib.Core.Path.{_≡_, refl, sym, ap, _∙_, subst}
+-- The centroid of a trapezoid whose strip is one piece is near the exact one by computed bounds: of the three sums of the strip first,
+-- then of their quotients. Assumes nothing.
+use native.Mathlib.Nat.{add-le-add, mul-le-mul-right, one-mul, mul-one, zero-mul, mul-zero, zero-add, add-zero, pow-zero}
+use Prim.Native.Nat.{zero-le, ℕ, _+_, _-_, _*_, _^_, _≤_, _<_}
+use Rattle.error_terms.proofs.Floors.{times-not-below, NotBelow, Signed, not-below as from-low, positive-from}
+use Rattle.accuracy.specs.Areas.{InOnePiece, AreaGiven}
+use Rattle.accuracy.proofs.AreaNear.{total-at}
+use Rattle.accuracy.proofs.ToFractions.{expression-fraction, fractionIn, amongFractions, by-size, first-power}
+use mathlib.Core.Path.{_≡_, refl, sym, _∙_, subst}
 use mathlib.Core.List.{List, [], _∷_}
-use Prim.Native.Nat.{ℕ, _+_, _-_, _*_, _^_, _≤_, _<_}
-use native.Mathlib.Nat.{le-refl, le-trans, mul-pos, mul-le-mul-right}
-use native.Mathlib.Nat.{one-mul, mul-one, zero-mul, mul-zero, zero-add, add-zero, pow-zero}
 use native.Mathlib.Omega.{arith}
 use lib.Dec.{T, lit≤}
 use lib.ListN.{length}
@@ -14,61 +16,46 @@ use lib.IntN.{pos}
 use lib.Ieee.{Float, round, ofBits}
 use lib.Ieee.Scale.{finite}
 use lib.Ieee.Positive.{num, den, den-pos, positive, positive-finite}
-use Rattle.floats.specs.Operations.{_⊕_, _⊗_, _⊘_, bits, at}
-use Rattle.floats.specs.Fractions.{Fraction, _over_, _plus_ as sum, _times_ as product, valueOf as fractionOf}
+use Rattle.floats.specs.Operations.{_⊕_, _⊗_, _⊘_, bits}
+use Rattle.floats.specs.Fractions.{Fraction, _over_, _times_ as product, valueOf as fractionOf}
 use Rattle.rounding.specs.Sizes.{AtMost}
 use Rattle.rounding.proofs.Sizes.{positive-of}
 use Rattle.rounding_error.specs.Distances.{Within as Apart}
-use Rattle.rounding_error.proofs.Numbers.{Number, number, Size, _per_, _by_, _and_, _of_, _roundoffs_, _plus_, _times_, IsNumber}
-use Rattle.rounding_error.proofs.Numbers.{Within, Under, Near, Ranges, valueOf, zeroNumber, sizeOf}
-use Rattle.rounding_error.proofs.Distances.{sorted, within-upto, within-same, within-plus, within-times, times-comm}
+use Rattle.rounding_error.proofs.Numbers.{Number, number, Size, _per_, _of_, _roundoffs_, _plus_, _times_, Under, Near, Ranges, valueOf}
+use Rattle.rounding_error.proofs.Numbers.{sizeOf}
+use Rattle.rounding_error.proofs.Distances.{sorted}
 use Rattle.rounding_error.proofs.Counts as Counts
-use Rattle.rounding_error.proofs.Polynomials.{_equals_, trans, itself, times-is, plus-is, equal-by, evaluated-is, evaluated-equal}
-use Rattle.rounding_error.proofs.Polynomials.{AllNumbers}
-use Rattle.rounding_error.proofs.Polynomials.{Expression, given, ratio, _add_, _take_, _mul_, evaluate, normal, vanishes, among}
-use Rattle.rounding_error.proofs.Fractions.{IsFraction, plus-fraction, times-fraction, value-fraction, whole-fraction, within-fraction}
-use Rattle.refusals.specs.declared.Verdict.the-variants.{Accepted}
+use Rattle.rounding_error.proofs.Polynomials.{_equals_, trans, itself, equal-by, evaluated-is, evaluated-equal, AllNumbers, Expression}
+use Rattle.rounding_error.proofs.Polynomials.{given, ratio, _add_, _take_, _mul_, evaluate, normal, vanishes, among}
+use Rattle.rounding_error.proofs.Fractions.{IsFraction, value-fraction}
 use Rattle.planforms.specs.declared.Planform.{Planform}
 use Rattle.planforms.specs.declared.Planform.the-variants.{Trapezoid}
 use Rattle.planforms.proofs.Sized.{Sized}
 use Rattle.limits.proofs.Lengths.{PositiveLength}
-use Rattle.integrands.specs.Integrands.{scaleOf, areaThree}
+use Rattle.integrands.specs.Integrands.{scaleOf}
 use Rattle.integrands.proofs.Scales.{Scale, scale-sized}
-use Rattle.quadrature.specs.declared.Piece.{Piece}
-use Rattle.tolerance.specs.Bounds.{sumFrom, totalOf}
 use Rattle.strips.specs.Strips.{valueFrom}
-use Rattle.fins.specs.Fins.{areaCheck}
 use Rattle.fins.proofs.Accepted.{area-planform}
-use Rattle.figures.specs.Answers.{areaReport}
 use Rattle.figures.specs.Areas.{areaSeven}
 use Rattle.figures.specs.declared.Area.{Area}
 use Rattle.gauss_kronrod.specs.Tables.{nodes, kronrodWeights}
-use Rattle.quadrature.specs.Rule.{halfWidth, weightedTo, kronrodWeight, sumOf, pieceOf}
+use Rattle.quadrature.specs.Rule.{halfWidth, weightedTo, kronrodWeight, sumOf}
 use Rattle.error_terms.proofs.Laws.{inverseOf}
 use Rattle.error_terms.proofs.Monomials.{AllRanges, place, mono, top, bottom}
 use Rattle.error_terms.proofs.Terms.{shape, Given, entry, Term, var, nought, _mul_ as _mulT_, _over_ as _overT_, AllKnown, unitBy}
-use Rattle.error_terms.proofs.Terms.{unit-real}
-use Rattle.error_terms.proofs.Terms.{numbersOf, numbers-are, Lowest}
+use Rattle.error_terms.proofs.Terms.{unit-real, numbersOf, numbers-are, Lowest}
 use Rattle.error_terms.proofs.Judged.{judge, nearer, near-within}
 use Rattle.error_terms.proofs.Shared.{Shared, whole, _⊞_, judgeIn, judgeAll, all-within}
 use Rattle.error_terms.proofs.Stages.{sizeTest, lowTest, target-known, target-lowest}
 use Rattle.error_terms.proofs.Entries.{full, many-entry, own-entry}
-use Rattle.error_terms.proofs.Floors.{NotBelow, Signed, not-below as from-low}
-use Rattle.one_piece.specs.OnePiece.{Proportions}
-use Rattle.one_piece.proofs.Answers.{area-one-piece}
 use Rattle.one_piece.proofs.Rule.{ruleParts, totalS}
-use Rattle.one_piece.proofs.AreaPiece.{widthS, alongS, heightS, positive-from}
+use Rattle.one_piece.proofs.AreaPiece.{widthS, alongS, heightS}
 use Rattle.accuracy.specs.Centroids.{thrice, alongRoot, inHeight, OrdinaryCentroid}
-use Rattle.accuracy.specs.Areas.{AreaGiven}
-use Rattle.accuracy.proofs.Given.{Lengths}
-use Rattle.accuracy.proofs.Near.{figures-given, sized, sizes, span-above, ends-apart, stripPieces, pieces-counted}
-use Rattle.accuracy.proofs.WholePieces.{whole-piece, value-is, chords-there, wider}
-use Rattle.accuracy.proofs.AreaNear.{only-piece}
+use Rattle.accuracy.proofs.Near.{figures-given, sized}
+use Rattle.accuracy.proofs.WholePieces.{value-is, wider}
 use Rattle.accuracy.proofs.Limits.{most-under, ranges-of}
-use Rattle.accuracy.proofs.CentroidNear.{positive-fraction, own-fraction, product-fraction, sum-fraction, last-fraction}
-use Rattle.accuracy.proofs.CentroidNear.{along-fraction, not-below, tip-checked}
-use Rattle.accuracy.proofs.Called.{threeValues, total-is, values-there}
-use Rattle.accuracy.proofs.ToFractions.{first-power}
+use Rattle.accuracy.proofs.Checked.{tip-checked, not-below}
+use Rattle.accuracy.proofs.Called.{threeValues}
 
 ruleset plain = (sorted, one-mul, mul-one, zero-mul, mul-zero, zero-add, add-zero)
 
@@ -232,84 +219,15 @@ inverse-pair (number q m e) h = record { same = go (q - m) (split h) }
     go : (w : ℕ) → q ≡ m + w → (q * e + m * 0) * 1 + 0 * (e * w) ≡ 1 * (e * w) + (q * 0 + m * e) * 1
     go w f = subst (λ (q : ℕ). (q * e + m * 0) * 1 + 0 * (e * w) ≡ 1 * (e * w) + (q * 0 + m * e) * 1) (sym f) (simp plain (omega arith))
 
--- |x| is its own size
-own-under : (x : Float) → T (finite x) → Under (1 of sizeOf x) (valueOf x)
-own-under x f = most-under x (num x) (den x) (record { finite = f; size = le-refl _ })
-
--- ---- from a number near W, of which W·D is N, to fractions: K roundoffs of the size of an f64 z above 0
-module _ (root tip z : Float) (rf : T (finite root)) (tf : T (finite tip)) (zp : T (positive z))
-    (root-fraction : IsFraction (number (num root) 0 (den root)) (fractionOf root))
-    (tip-fraction : IsFraction (number (num tip) 0 (den tip)) (fractionOf tip)) where
-  -- 3·(root + tip)
-  abbrev D : Number
-  D = number 3 0 1 times (valueOf root plus valueOf tip)
-
-  abbrev three : ℕ
-  three = 3 * (num root * den tip + num tip * den root)
-
-  abbrev C : ℕ
-  C = 1 * (den root * den tip)
-
-  D-is : IsNumber D
-  D-is = times-is (number 3 0 1) (valueOf root plus valueOf tip) (pow-pos 0)
-      (plus-is (valueOf root) (valueOf tip) (Counts.value-is root) (Counts.value-is tip))
-
-  abbrev D-size : Size
-  D-size = (3 per 1) by ((1 of sizeOf root) and (1 of sizeOf tip))
-
-  D-under : Under D-size D
-  D-under =
-      within-times (3 per 1) ((1 of sizeOf root) and (1 of sizeOf tip)) (number 3 0 1) (valueOf root plus valueOf tip) zeroNumber
-      (record { below = omega arith; above = omega arith })
-      (within-plus (1 of sizeOf root) (1 of sizeOf tip) (valueOf root) zeroNumber (valueOf tip) zeroNumber (own-under root rf)
-      (own-under tip tf))
-
-  thrice-number : IsFraction (number three 0 C) (thrice root tip)
-  thrice-number =
-      product-fraction 3 1 (num root * den tip + num tip * den root) (den root * den tip) (pos 3 over 1)
-      (sum (fractionOf root) (fractionOf tip))
-      (whole-fraction 3 1)
-      (sum-fraction (num root) (den root) (num tip) (den tip) (fractionOf root) (fractionOf tip) root-fraction tip-fraction)
-
-  thrice-fraction : IsFraction D (thrice root tip)
-  thrice-fraction =
-      times-fraction (number 3 0 1) (valueOf root plus valueOf tip) (pos 3 over 1) (sum (fractionOf root) (fractionOf tip))
-      (whole-fraction 3 1)
-      (plus-fraction (valueOf root) (valueOf tip) (fractionOf root) (fractionOf tip) (value-fraction root rf) (value-fraction tip tf))
-
-  pub finish : (x : Float) (W N : Number) (K : ℕ) (f : Fraction) → IsNumber W → IsNumber N
-      → Near x W ((K * 2 ^ 30) roundoffs (num z per (den z * 2 ^ 30))) → W times D equals N → IsFraction N f
-      → Apart (product (product (pos K over 2 ^ 53) (fractionOf z)) (thrice root tip)) (product (fractionOf x) (thrice root tip)) f
-  finish x W N K f iW iN n e h =
-      let E = D-size by ((K * 2 ^ 30) roundoffs (num z per (den z * 2 ^ 30))) in
-      let g = product (product (pos K over 2 ^ 53) (fractionOf z)) (thrice root tip) in
-      let real : 0 < C = mul-pos (pow-pos 0) (mul-pos (den-pos root) (den-pos tip)) in
-      let turned : Within E (valueOf x times D) (W times D) =
-      subst (λ (a : Number). Within E a (W times D)) (times-comm D (valueOf x))
-      (subst (λ (a : Number). Within E (D times valueOf x) a) (times-comm D W)
-      (within-times D-size ((K * 2 ^ 30) roundoffs (num z per (den z * 2 ^ 30))) D (valueOf x) W D-under (n .within))) in
-      within-fraction (K * num z * three) (2 ^ 53 * den z * C) (valueOf x times D) N g (product (fractionOf x) (thrice root tip)) f
-      (mul-pos (mul-pos (pow-pos 53) (den-pos z)) real) (times-is (valueOf x) D (Counts.value-is x) D-is) iN
-      (product-fraction (K * num z) (2 ^ 53 * den z) three C (product (pos K over 2 ^ 53) (fractionOf z)) (thrice root tip)
-      (product-fraction K (2 ^ 53) (num z) (den z) (pos K over 2 ^ 53) (fractionOf z) (whole-fraction K (2 ^ 53))
-      (positive-fraction z zp)) thrice-number)
-      (times-fraction (valueOf x) D (fractionOf x) (thrice root tip) (value-fraction x (n .finite)) thrice-fraction) h
-      (within-upto E ((K * num z * three) per (2 ^ 53 * den z * C)) (valueOf x times D) N
-      (mul-pos real (mul-pos (mul-pos (den-pos z) (pow-pos 30)) (pow-pos 53)))
-      (size K (num root) (den root) (num tip) (den tip) (num z) (den z) (2 ^ 30) (2 ^ 53))
-      (within-same E (valueOf x times D) (W times D) N (times-is W D iW D-is) turned (e .same)))
-    where
-      size : (K nr dr nt dt nz dz P Q : ℕ) → 3 * (1 * nr * dt + 1 * nt * dr) * (K * P * nz) * (Q * dz * (1 * (dr * dt)))
-          ≤ K * nz * (3 * (nr * dt + nt * dr)) * (1 * (dr * dt) * (dz * P * Q))
-      size K nr dr nt dt nz dz P Q = simp plain (omega arith)
-
 -- ---- the quotient's exact value times 3·(root + tip); the numbers are root, tip, sweep, span, scale, 1 / scale and 1 / the area's sum
 abbrev sumX : Expression
 sumX = ratio 1 1 mul ((given 0 add given 1) mul given 3) mul (given 5 mul given 5)
 
+abbrev quotientX : Expression → Expression
+quotientX n = (given 4 mul (ratio 1 5 mul (given 3 mul n) mul (given 5 mul (given 5 mul given 5)))) mul given 6
+
 abbrev timesThrice : Expression → Expression
-timesThrice n = ((given 4 mul (ratio 1 5 mul (given 3 mul n) mul (given 5 mul (given 5 mul given 5)))) mul given 6) mul
-    (ratio 3 0 mul (given 0 add given 1))
+timesThrice n = quotientX n mul (ratio 3 0 mul (given 0 add given 1))
 
 abbrev timesOnes : Expression → Expression
 timesOnes n = n mul ((sumX mul given 6) mul (given 4 mul given 5))
@@ -336,7 +254,7 @@ alongX = given 0 mul given 0 add given 0 mul given 1 add given 1 mul given 1 add
 abbrev heightX : Expression
 heightX = given 3 mul (given 0 add ratio 2 0 mul given 1)
 
--- tip and sweep are from 0 to k root chords
+-- tip and |sweep| are at most k root chords
 pub record Ordinary (k : ℕ) (root tip span sweep scale : Float) : Type 0 where
   pub root-positive : T (positive root)
   pub span-positive : T (positive span)
@@ -344,7 +262,6 @@ pub record Ordinary (k : ℕ) (root tip span sweep scale : Float) : Type 0 where
   pub tip-finite : T (finite tip)
   pub sweep-finite : T (finite sweep)
   pub tip-from-zero : NotBelow (valueOf tip)
-  pub sweep-from-zero : NotBelow (valueOf sweep)
   pub tip-under : Under (k of sizeOf root) (valueOf tip)
   pub sweep-under : Under (k of sizeOf root) (valueOf sweep)
   pub ranges : Ranges 32 (sizeOf root)
@@ -352,7 +269,10 @@ pub record Ordinary (k : ℕ) (root tip span sweep scale : Float) : Type 0 where
   pub scale-ranges : Ranges 32 (sizeOf scale)
 
 module _ (c : Chords) (root tip sweep span scale : Float) (g : Ordinary (c .chords) root tip span sweep scale)
-    (pass : SumsPass c root tip sweep span scale) where
+    (sums : (root tip sweep span scale : Float) → SumsPass c root tip sweep span scale) where
+  pass : SumsPass c root tip sweep span scale
+  pass = sums root tip sweep span scale
+
   abbrev bases : List Size
   bases = sizeOf root ∷ sizeOf span ∷ sizeOf scale ∷ []
 
@@ -362,18 +282,26 @@ module _ (c : Chords) (root tip sweep span scale : Float) (g : Ordinary (c .chor
   abbrev E : List Given
   E = entriesOf root tip sweep span scale (c .chords)
 
-  known : AllKnown bases E
-  known =
+  -- in the area no sweep stands: with a second tip in its place no length is below 0
+  abbrev unswept : List Given
+  unswept = entriesOf root tip tip span scale (c .chords)
+
+  chords-known : (x : Float) → T (finite x) → Under (c .chords of sizeOf root) (valueOf x)
+      → AllKnown bases (entriesOf root tip x span scale (c .chords))
+  chords-known x f u =
       let t = many-entry bases 0 (num root) (den root) refl tip (c .chords) (den-pos root) (g .tip-finite) (g .tip-under) in
-      let s = many-entry bases 0 (num root) (den root) refl sweep (c .chords) (den-pos root) (g .sweep-finite) (g .sweep-under) in (
+      let s = many-entry bases 0 (num root) (den root) refl x (c .chords) (den-pos root) f u in (
         own-entry bases 0 root refl (g .root-positive),
         ((t, tt), ((s, tt), (own-entry bases 1 span refl (g .span-positive), (own-entry bases 2 scale refl (g .scale-positive), tt)))),
       )
 
-  signed : Signed E
+  known : AllKnown bases E
+  known = chords-known sweep (g .sweep-finite) (g .sweep-under)
+
+  signed : Signed unswept
   signed = (
     positive-from root (g .root-positive),
-    (g .tip-from-zero, (g .sweep-from-zero, (positive-from span (g .span-positive), (positive-from scale (g .scale-positive), tt)))),
+    (g .tip-from-zero, (g .tip-from-zero, (positive-from span (g .span-positive), (positive-from scale (g .scale-positive), tt)))),
   )
 
   abbrev low : Float
@@ -413,9 +341,10 @@ module _ (c : Chords) (root tip sweep span scale : Float) (g : Ordinary (c .chor
 
   low-known : Lowest bases (total 0) (evaluate numbers areaE)
       (shape (c .area-error * 2 ^ 30) (c .area-size * 2 ^ 20) (1 ∷ 1 ∷ []) (0 ∷ 0 ∷ 2 ∷ [])) (2 ^ 29 - 2 ^ 10)
-  low-known = target-lowest bases ranges E known signed (total 0) areaE (c .area-error * 2 ^ 30) (c .area-size * 2 ^ 20)
-      (2 ^ 29 - 2 ^ 10 - 1)
-      (1 ∷ 1 ∷ []) (0 ∷ 0 ∷ 2 ∷ []) near0 (pass .area-least)
+  low-known =
+      target-lowest bases ranges unswept (chords-known tip (g .tip-finite) (g .tip-under)) signed (total 0) areaE
+      (c .area-error * 2 ^ 30) (c .area-size * 2 ^ 20) (2 ^ 29 - 2 ^ 10 - 1) (1 ∷ 1 ∷ []) (0 ∷ 0 ∷ 2 ∷ []) near0
+      (sums root tip tip span scale .area-least)
 
   quotients-known : AllKnown bases Q
   quotients-known =
@@ -495,81 +424,78 @@ module _ (c : Chords) (root tip sweep span scale : Float) (g : Ordinary (c .chor
         (mono bottom bases (1 ∷ 1 ∷ []) * mono top bases (0 ∷ 0 ∷ 2 ∷ []) * 2 ^ 30) (evaluate numbers areaE)
         (unit-real bases ranges (1 ∷ 1 ∷ []) (0 ∷ 0 ∷ 2 ∷ [])) (low-known .1)
 
-    abbrev root-own : IsFraction (number (num root) 0 (den root)) (fractionOf root)
-    root-own = positive-fraction root (g .root-positive)
-
-    abbrev tip-own : IsFraction (number (num tip) 0 (den tip)) (fractionOf tip)
-    tip-own = own-fraction tip (g .tip-finite) (g .tip-from-zero)
-
     rf : T (finite root)
     rf = positive-finite root (g .root-positive)
 
+    -- ---- in fractions
+    abbrev thriceX : Expression
+    thriceX = ratio 3 0 mul (given 0 add given 1)
+
+    abbrev lengths : List Number
+    lengths = valueOf root ∷ valueOf tip ∷ valueOf sweep ∷ valueOf span ∷ []
+
+    in-fractions : (e : Expression) → IsFraction (evaluate (among lengths) e)
+        (fractionIn (amongFractions (fractionOf root ∷ fractionOf tip ∷ fractionOf sweep ∷ fractionOf span ∷ [])) e)
+    in-fractions = expression-fraction lengths (fractionOf root ∷ fractionOf tip ∷ fractionOf sweep ∷ fractionOf span ∷ []) (
+      value-fraction root rf,
+      (
+        value-fraction tip (g .tip-finite),
+        (value-fraction sweep (g .sweep-finite), (value-fraction span (positive-finite span (g .span-positive)), tt)),
+      ),
+    )
+
+    thrice-from-zero : NotBelow (evaluate (among l) thriceX)
+    thrice-from-zero = times-not-below (number 3 0 1) (valueOf root plus valueOf tip) zero-le
+        (both (valueOf root) (valueOf tip) (positive-from root (g .root-positive)) (g .tip-from-zero))
+      where
+        both : (x y : Number) → NotBelow x → NotBelow y → NotBelow (x plus y)
+        both (number p n d) (number q m e) h k = add-le-add (mul-le-mul-right e h) (mul-le-mul-right d k)
+
+    -- a quotient near what n over 3·(root + tip) is exactly, within K roundoffs of the size of z
+    finish : (z : Float) → T (positive z) → (x : Float) (n : Expression) (K : ℕ) (f : Fraction)
+        → T (vanishes (normal (timesThrice n take timesOnes n))) → IsFraction (evaluate (among l) n) f
+        → Near x (evaluate (among l) (quotientX n)) ((K * 2 ^ 30) roundoffs (num z per (den z * 2 ^ 30)))
+        → Apart (product (product (pos K over 2 ^ 53) (fractionOf z)) (thrice root tip)) (product (fractionOf x) (thrice root tip)) f
+    finish z zp x n K f t h near =
+        by-size x z zp (evaluate (among l) (quotientX n)) (evaluate (among l) thriceX) (evaluate (among l) n) K (thrice root tip) f
+        (evaluated-is l il (quotientX n)) (evaluated-is l il thriceX) (evaluated-is l il n) thrice-from-zero (in-fractions thriceX) h near
+        (thrice-exact l il n t (inverse-pair (evaluate numbers areaE) unit-low)
+        (inverse-pair (valueOf scale) (positive-from scale (g .scale-positive))))
+
     pub along-near : Apart (product (product (pos (c .along) over 2 ^ 53) (fractionOf root)) (thrice root tip))
         (product (fractionOf (scale ⊗ total 1 ⊘ total 0)) (thrice root tip)) (alongRoot root tip sweep)
-    along-near =
-        finish root tip root rf (g .tip-finite) (g .root-positive) root-own tip-own (scale ⊗ total 1 ⊘ total 0) Mx
-        (evaluate (among l) alongX) (c .along)
-        (alongRoot root tip sweep) (evaluated-is l il
-        ((given 4 mul (ratio 1 5 mul (given 3 mul alongX) mul (given 5 mul (given 5 mul given 5)))) mul given 6))
-        (evaluated-is l il alongX) (in-roots (λ U. Near (scale ⊗ total 1 ⊘ total 0) Mx ((c .along * 2 ^ 30) roundoffs U)) x-near)
-        (thrice-exact l il alongX tt (inverse-pair (evaluate numbers areaE) unit-low)
-        (inverse-pair (valueOf scale) (positive-from scale (g .scale-positive))))
-        (along-fraction root tip sweep rf (g .tip-finite) (g .sweep-finite))
+    along-near = finish root (g .root-positive) (scale ⊗ total 1 ⊘ total 0) alongX (c .along) (alongRoot root tip sweep) tt
+        (in-fractions alongX) (in-roots (λ U. Near (scale ⊗ total 1 ⊘ total 0) Mx ((c .along * 2 ^ 30) roundoffs U)) x-near)
 
     pub height-near : Apart (product (product (pos (c .height) over 2 ^ 53) (fractionOf span)) (thrice root tip))
         (product (fractionOf (scale ⊗ total 2 ⊘ total 0)) (thrice root tip)) (inHeight root tip span)
-    height-near =
-        finish root tip span rf (g .tip-finite) (g .span-positive) root-own tip-own (scale ⊗ total 2 ⊘ total 0) My
-        (evaluate (among l) heightX) (c .height)
-        (inHeight root tip span) (evaluated-is l il
-        ((given 4 mul (ratio 1 5 mul (given 3 mul heightX) mul (given 5 mul (given 5 mul given 5)))) mul given 6))
-        (evaluated-is l il heightX) (in-spans (λ U. Near (scale ⊗ total 2 ⊘ total 0) My ((c .height * 2 ^ 30) roundoffs U)) y-near)
-        (thrice-exact l il heightX tt (inverse-pair (evaluate numbers areaE) unit-low)
-        (inverse-pair (valueOf scale) (positive-from scale (g .scale-positive))))
-        (times-fraction (valueOf span) (valueOf root plus number 2 0 1 times valueOf tip) (fractionOf span)
-        (sum (fractionOf root) (product (pos 2 over 1) (fractionOf tip))) (value-fraction span (positive-finite span (g .span-positive)))
-        (last-fraction root tip rf (g .tip-finite)))
+    height-near = finish span (g .span-positive) (scale ⊗ total 2 ⊘ total 0) heightX (c .height) (inHeight root tip span) tt
+        (in-fractions heightX) (in-spans (λ U. Near (scale ⊗ total 2 ⊘ total 0) My ((c .height * 2 ^ 30) roundoffs U)) y-near)
 
 -- ---- the call
-module _ (c : Chords) (few : c .chords ≤ 4) (sums : (root tip sweep span scale : Float) → SumsPass c root tip sweep span scale)
+module _ (c : Chords) (sums : (root tip sweep span scale : Float) → SumsPass c root tip sweep span scale)
     (quotients : (root tip sweep span scale t0 t1 t2 : Float) (v0 v1 v2 : Number)
     → QuotientsPass c root tip sweep span scale t0 t1 t2 v0 v1 v2) where
-  wider-tip : (root x : Float) → AtMost (c .chords * num root) (den root) x → AtMost (4 * num root) (den root) x
-  wider-tip root x h = record {
-    finite = h .finite;
-    size = le-trans (h .size)
-        (mul-le-mul-right (den x) (mul-le-mul-right (num root) few));
-  }
-
   chords-under : (root x : Float) → AtMost (c .chords * num root) (den root) x → Under (c .chords of sizeOf root) (valueOf x)
   chords-under root x h =
       subst (λ (n : ℕ). Under (n per den root) (valueOf x)) (one-mul (c .chords * num root))
       (most-under x (c .chords * num root) (den root) h)
 
   module _ (root tip span sweep : Float) (points : List Float) (L : ℕ) (start : List Float) (r : Area) (exit : List Float)
-      (g : AreaGiven root tip span sweep points L start r exit) (q : Proportions (c .chords) (c .chords) root tip sweep) where
+      (g : AreaGiven root tip span sweep points L start r exit)
+      (q : AtMost (c .chords * num root) (den root) tip × AtMost (c .chords * num root) (den root) sweep)
+      (one : InOnePiece root tip sweep (r .intervals)) where
     abbrev Shape : Planform
     Shape = Trapezoid root tip span sweep
 
     abbrev S : Float
     S = scaleOf Shape points
 
-    checks : areaCheck Shape points L (length start) ≡ Accepted
-    checks = figures-given root tip span sweep points L start r exit g .accepted
-
     lengths-sized : Sized Shape points
     lengths-sized = sized root tip span sweep points L start r exit g
 
     scaled : Scale S
     scaled = scale-sized Shape points lengths-sized
-
-    four : Proportions 4 4 root tip sweep
-    four = record {
-      tip-most = wider-tip root tip (q .tip-most);
-      sweep-most = wider-tip root sweep
-          (q .sweep-most);
-      backward = q .backward;
-    }
 
     long : (x : Float) → PositiveLength x → T (positive x) × Ranges 32 (sizeOf x)
     long x h = (
@@ -583,60 +509,27 @@ module _ (c : Chords) (few : c .chords ≤ 4) (sums : (root tip sweep span scale
           root-positive = long root (lengths-sized .0) .0;
           span-positive = long span (lengths-sized .1 .1 .0) .0;
           scale-positive = scaled .is-positive;
-          tip-finite = q .tip-most .finite;
-          sweep-finite = q .sweep-most .finite;
-          tip-from-zero = not-below tip (q .tip-most .finite)
-              (tip-checked root tip span sweep points (g .f64s .1 .0) (area-planform Shape points L (length start) checks));
-          sweep-from-zero = not-below sweep (q .sweep-most .finite) (q .backward);
-          tip-under = chords-under root tip (q .tip-most);
-          sweep-under = chords-under root sweep (q .sweep-most);
+          tip-finite = q .0 .finite;
+          sweep-finite = q .1 .finite;
+          tip-from-zero = not-below tip (q .0 .finite)
+              (tip-checked root tip span sweep points (g .f64s .1 .0)
+              (area-planform Shape points L (length start) (figures-given root tip span sweep points L start r exit g .accepted)));
+          tip-under = chords-under root tip (q .0);
+          sweep-under = chords-under root sweep (q .1);
           ranges = long root (lengths-sized .0) .1;
           span-ranges = long span (lengths-sized .1 .1 .0) .1;
           scale-ranges = wider 24 (sizeOf S) (omega arith) (ranges-of S 7 20 (omega arith) (omega arith) (scaled .below) (scaled .above));
         }
 
-    abbrev pieces : List Piece
-    pieces = stripPieces root tip span sweep points L start r exit g
-
-    whole-strip : pieces ≡ pieceOf 3 (areaThree Shape points) (bits 0 ⊘ S) (span ⊘ S) ∷ []
-    whole-strip =
-        whole-piece 3 (areaThree Shape points) (bits 0 ⊘ S) (span ⊘ S) L (ends-apart root tip span sweep points L start r exit g)
-        (sym (pieces-counted root tip span sweep points L start r exit g)
-        ∙ only-piece (areaReport r) (area-one-piece root tip span sweep points L start r exit (g .f64s) (g .answers) checks four)
-        (g .given))
-
-    -- no length is above 64
-    sixty-four : Lengths root tip span sweep S (64 per 1)
-    sixty-four =
-        sizes root tip span sweep points L start r exit g 64 1
-        (record {
-          is-size = pow-pos 0;
-          root-most = lengths-sized .0 .length .below;
-          tip-most = lengths-sized .1 .0 .below;
-          sweep-most =
-              lengths-sized .1 .1 .1 .below;
-        })
-        (omega arith)
-
-    total-at : (k : ℕ) → k < 3 → valueFrom (bits 0) k (areaSeven Shape points L) ≡ total c root tip sweep span S ordinary
-        (sums root tip sweep span S) k
-    unfolding totalOf
-    total-at k l =
-        let low = bits 0 ⊘ S in
-        let high = span ⊘ S in
-        total-is root tip span sweep points L (span-above root tip span sweep points L start r exit g) k l
-        ∙ ap (λ (p : List Piece). bits 0 ⊕ sumFrom (bits 0) (λ q. at (q .value) k) p) whole-strip
-        ∙ ap (λ (z : Float). bits 0 ⊕ (bits 0 ⊕ z))
-        (value-is 3 (areaThree Shape points) low high k l
-        ∙ ap (λ (z : Float). halfWidth low high ⊗ z)
-        (chords-there root tip span sweep S 64 1 sixty-four (areaThree Shape points) (values-there root tip span sweep points) k))
-
     abbrev T· : ℕ → Float
-    T· k = total c root tip sweep span S ordinary (sums root tip sweep span S) k
+    T· k = total c root tip sweep span S ordinary sums k
 
     value-at : (k : ℕ) → k < 3
         → S ⊗ valueFrom (bits 0) k (areaSeven Shape points L) ⊘ valueFrom (bits 0) 0 (areaSeven Shape points L) ≡ S ⊗ T· k ⊘ T· 0
-    value-at k l = rw (total-at k l, total-at 0 (lit≤ tt))
+    value-at k l = rw (
+      total-at root tip span sweep points L start r exit g one k l,
+      total-at root tip span sweep points L start r exit g one 0 (lit≤ tt),
+    )
 
     pub both-near :
         Apart (product (product (pos (c .along) over 2 ^ 53) (fractionOf root)) (thrice root tip))
@@ -648,15 +541,15 @@ module _ (c : Chords) (few : c .chords ≤ 4) (sums : (root tip sweep span scale
           subst (λ (z : Float). Apart (product (product (pos (c .along) over 2 ^ 53) (fractionOf root)) (thrice root tip))
               (product (fractionOf z) (thrice root tip)) (alongRoot root tip sweep))
               (sym (figures-given root tip span sweep points L start r exit g .centroid-x ∙ value-at 1 (lit≤ tt)))
-              (along-near c root tip sweep span S ordinary (sums root tip sweep span S) pass),
+              (along-near c root tip sweep span S ordinary sums pass),
           subst (λ (z : Float). Apart (product (product (pos (c .height) over 2 ^ 53) (fractionOf span)) (thrice root tip))
               (product (fractionOf z) (thrice root tip)) (inHeight root tip span))
               (sym (figures-given root tip span sweep points L start r exit g .centroid-height ∙ value-at 2 (lit≤ tt)))
-              (height-near c root tip sweep span S ordinary (sums root tip sweep span S) pass),
+              (height-near c root tip sweep span S ordinary sums pass),
         )
 
 pub ordinary-centroid : OrdinaryCentroid 1 340 170 × (OrdinaryCentroid 2 1400 350 × OrdinaryCentroid 4 7000 1200)
 ordinary-centroid = (
-  both-near oneChord (omega arith) one-sums one-quotients,
-  (both-near twoChords (omega arith) two-sums two-quotients, both-near fourChords (omega arith) four-sums four-quotients),
+  both-near oneChord one-sums one-quotients,
+  (both-near twoChords two-sums two-quotients, both-near fourChords four-sums four-quotients),
 )

@@ -5,8 +5,8 @@ use mathlib.Core.Path.{_≡_, refl, sym, ap, _∙_, subst}
 use mathlib.Core.Bool.{Bool, true, false, true≢false, _&&_}
 use mathlib.Core.List.{List, [], _∷_}
 use Prim.Native.Nat.{ℕ, zero, suc, _+_, _*_, _^_, _≤_, _<_}
-use native.Mathlib.Nat.{le-refl, mul-pos, le-of-suc-le-suc, not-suc-le-zero}
-use native.Mathlib.Nat.{one-mul, mul-one, zero-mul, mul-zero, zero-add, add-zero, pow-zero, pow-suc}
+use native.Mathlib.Nat.{le-refl, mul-pos, le-of-suc-le-suc, not-suc-le-zero, one-mul, mul-one, zero-mul, mul-zero, zero-add, add-zero}
+use native.Mathlib.Nat.{pow-zero, pow-suc}
 use native.Mathlib.Omega.{arith}
 use lib.Dec.{T, lit≤}
 use lib.ListN.{length, getD}
@@ -23,17 +23,15 @@ use Rattle.rounding.specs.Sizes.{AtMost}
 use Rattle.rounding.proofs.Signs.{neg-finite}
 use Rattle.floats.specs.Fractions.{Fraction, _over_, _times_ as product, valueOf as fractionOf}
 use Rattle.rounding_error.specs.Distances.{Within as Apart}
-use Rattle.rounding_error.proofs.Numbers.{Number, number, Size, _per_, _of_, _roundoffs_, _upto_, minus, _less_, _times_}
-use Rattle.rounding_error.proofs.Numbers.{IsNumber}
-use Rattle.rounding_error.proofs.Numbers.{Within, Near, valueOf, zeroNumber}
+use Rattle.rounding_error.proofs.Numbers.{Number, number, Size, _per_, _of_, _roundoffs_, _upto_, minus, _less_, _times_, IsNumber, Within}
+use Rattle.rounding_error.proofs.Numbers.{Near, valueOf, zeroNumber}
 use Rattle.rounding_error.proofs.Distances.{sorted, within-minus}
 use Rattle.rounding_error.proofs.Counts as Counts
 use Rattle.rounding_error.proofs.Chains.{Valued, equalled}
 use Rattle.rounding_error.proofs.Fractions.{IsFraction, whole-fraction}
 use Rattle.rounding_error.proofs.Polynomials.{_equals_, trans, itself, times-is, less-is, equal-by, AllNumbers, evaluated-is}
-use Rattle.rounding_error.proofs.Polynomials.{evaluated-equal, among}
-use Rattle.rounding_error.proofs.Polynomials.{Expression, given, ratio, _add_, _take_, _mul_, evaluate, evaluate-is, normal, vanishes}
-use Rattle.rounding_error.proofs.Polynomials.{AllEqual}
+use Rattle.rounding_error.proofs.Polynomials.{evaluated-equal, among, Expression, given, ratio, _add_, _take_, _mul_, evaluate, evaluate-is}
+use Rattle.rounding_error.proofs.Polynomials.{normal, vanishes, AllEqual}
 use Rattle.sections.specs.declared.Section.{Section}
 use Rattle.bodies.specs.declared.Body.{Body}
 use Rattle.bodies.specs.declared.Vector.{Vector}
@@ -48,9 +46,8 @@ use Rattle.fins.specs.declared.Tab.{Tab}
 use Rattle.fins.specs.declared.Tab.the-variants.{None, Slab}
 use Rattle.error_terms.proofs.Laws.{inverseOf}
 use Rattle.error_terms.proofs.Monomials.{place, mono, top, bottom}
-use Rattle.error_terms.proofs.Terms.{shape, Given, entry, larger, var, const, nought, value}
-use Rattle.error_terms.proofs.Terms.{AllKnown}
-use Rattle.error_terms.proofs.Terms.{numbersOf, unitBy, unit-real, numbers-are, _take_ as _takeT_, _over_ as _overT_}
+use Rattle.error_terms.proofs.Terms.{shape, Given, entry, larger, var, const, nought, value, AllKnown, numbersOf, unitBy, unit-real}
+use Rattle.error_terms.proofs.Terms.{numbers-are, _take_ as _takeT_, _over_ as _overT_}
 use Rattle.error_terms.proofs.Judged.{Judged, nearer}
 use Rattle.error_terms.proofs.Shared.{Shared, local, whole, _⊞_, _⊟_, _⊠_, _⊡_, tightly, raisedBy, judgeIn, judgeAll, bindAll, expand}
 use Rattle.error_terms.proofs.Shared.{all-within}
@@ -58,22 +55,19 @@ use Rattle.error_terms.proofs.Entries.{full}
 use Rattle.one_piece.specs.OnePiece.{NotRounded}
 use Rattle.figures.specs.declared.Figures.{Figures}
 use Rattle.accuracy.specs.Masses.{Plate, Mount, SectionGiven, OneStrip}
-use Rattle.accuracy.specs.Inertias.{Integrals, exactIntegrals, Alone, TabBeside, TensorNear}
-use Rattle.accuracy.specs.Inertias.{OffAxisNear, FinNear}
-use Rattle.accuracy.specs.Inertias.{tensorError, outwardError, OrdinaryInertia}
+use Rattle.accuracy.specs.Inertias.{Integrals, exactIntegrals, Alone, TabBeside, TensorNear, OffAxisNear, FinNear, tensorError}
+use Rattle.accuracy.specs.Inertias.{outwardError, OrdinaryInertia}
 use Rattle.accuracy.proofs.WholePieces.{value-is}
 use Rattle.accuracy.proofs.SetCalled as Called
 use Rattle.accuracy.proofs.SetCalled.{set-body}
 use Rattle.accuracy.proofs.SevenIntegrals.{Fin, far, Sizes, unitOf, isFoil, shapeAt, massShape, leastParts, bases, seven-known}
-use Rattle.accuracy.proofs.SevenIntegrals.{volume-lowest}
-use Rattle.accuracy.proofs.SevenIntegrals.{integralAt, exactly, is-exactly, density-own, masses-known, massOf, mass-known}
-use Rattle.accuracy.proofs.SevenIntegrals.{mass-lowest}
-use Rattle.accuracy.proofs.SevenIntegrals.{volume-from-zero}
+use Rattle.accuracy.proofs.SevenIntegrals.{volume-lowest, integralAt, exactly, is-exactly, density-own, masses-known, massOf}
+use Rattle.accuracy.proofs.SevenIntegrals.{mass-known, mass-lowest, volume-from-zero}
 use Rattle.accuracy.proofs.FinCalled as Fins
 use Rattle.accuracy.proofs.OrdinaryCentroid.{inverse-pair}
 use Rattle.accuracy.proofs.Turned.{zero-most, none-times, times-none, none-plus, none-less, none-over, heavy-centre}
 use Rattle.accuracy.proofs.NoRoll.{identity, only-copy}
-use Rattle.accuracy.proofs.CentroidNear.{positive-fraction, product-fraction}
+use Rattle.accuracy.proofs.ToFractions.{positive-fraction, product-fraction}
 use Rattle.rounding_error.proofs.Operations.{neg-value}
 use Rattle.accuracy.proofs.ToFractions.{to-fractions, first-power, fractionIn, amongFractions, AreFractions, expression-fraction}
 

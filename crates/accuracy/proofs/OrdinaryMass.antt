@@ -3,8 +3,7 @@ use mathlib.Core.Path.{_≡_, refl, sym, ap, _∙_, subst}
 use mathlib.Core.Bool.{Bool, _&&_}
 use mathlib.Core.List.{List, [], _∷_}
 use Prim.Native.Nat.{ℕ, suc, _+_, _*_, _^_, _≤_}
-use native.Mathlib.Nat.{le-refl, mul-pos, mul-le-mul-right}
-use native.Mathlib.Nat.{one-mul, mul-one, zero-mul, mul-zero, zero-add, add-zero, pow-zero}
+use native.Mathlib.Nat.{le-refl, mul-pos, mul-le-mul-right, one-mul, mul-one, zero-mul, mul-zero, zero-add, add-zero, pow-zero}
 use native.Mathlib.Omega.{arith}
 use lib.Dec.{T, lit≤}
 use lib.ListN.{length}
@@ -25,8 +24,7 @@ use Rattle.rounding_error.proofs.Numbers.{Within, Under, Near, Ranges, valueOf,
 use Rattle.rounding_error.proofs.Distances.{sorted, within-upto, within-trans, within-times}
 use Rattle.rounding_error.proofs.Counts as Counts
 use Rattle.rounding_error.proofs.Chains.{Valued, exactly, counted-by}
-use Rattle.rounding_error.proofs.Polynomials.{times-is, Expression, given, ratio, _add_, _mul_, evaluate}
-use Rattle.rounding_error.proofs.Polynomials.{evaluate-is}
+use Rattle.rounding_error.proofs.Polynomials.{times-is, Expression, given, ratio, _add_, _mul_, evaluate, evaluate-is}
 use Rattle.rounding_error.proofs.Fractions.{IsFraction, plus-fraction, times-fraction, value-fraction, whole-fraction, within-fraction}
 use Rattle.gauss_kronrod.specs.Tables.{nodes, kronrodWeights}
 use Rattle.quadrature.specs.Rule.{halfWidth, weightedTo, kronrodWeight, sumOf}
@@ -48,19 +46,17 @@ use Rattle.error_terms.proofs.Monomials.{AllRanges, place, mono, top, bottom}
 use Rattle.error_terms.proofs.Terms.{shape, Given, entry, larger, var, nought, _mul_ as _mulT_, value, AllKnown, unitBy, unit-real}
 use Rattle.error_terms.proofs.Terms.{numbersOf, numbers-are}
 use Rattle.error_terms.proofs.Judged.{Judged, nearer, reaching}
-use Rattle.error_terms.proofs.Shared.{Shared, whole, _⊞_, _⊠_, tightly, raisedBy, judgeIn, judgeAll, bindAll, expand, all-within}
-use Rattle.error_terms.proofs.Shared.{all-reach}
+use Rattle.error_terms.proofs.Shared.{Shared, whole, _⊞_, _⊠_, tightly, raisedBy, judgeIn, judgeAll, bindAll, expand, all-within, all-reach}
 use Rattle.error_terms.proofs.Entries.{full, sized-entry, own-entry}
 use Rattle.one_piece.specs.OnePiece.{NotRounded}
 use Rattle.one_piece.proofs.Rule.{totalS}
 use Rattle.one_piece.proofs.PlatePiece.{sevenAt, partsOf}
-use Rattle.accuracy.specs.Masses.{Plate, Mount, setWith, SectionGiven, finVolume, tabVolume, filled, exactMassWith, TabWithin}
-use Rattle.accuracy.specs.Masses.{Extents, OneStrip}
-use Rattle.accuracy.specs.Masses.{OrdinaryMass}
+use Rattle.accuracy.specs.Masses.{Plate, Mount, setWith, SectionGiven, finVolume, tabVolume, filled, exactMass, TabWithin, Extents}
+use Rattle.accuracy.specs.Masses.{OneStrip, OrdinaryMass}
 use Rattle.accuracy.proofs.Given.{Lengths}
 use Rattle.accuracy.proofs.Limits.{ranges-of, least-of, lengths, most-under}
 use Rattle.accuracy.proofs.WholePieces.{value-is, wider}
-use Rattle.accuracy.proofs.CentroidNear.{positive-fraction, product-fraction}
+use Rattle.accuracy.proofs.ToFractions.{positive-fraction, product-fraction}
 use Rattle.accuracy.proofs.SetCalled as Called
 use Rattle.accuracy.proofs.RingSums.{unit-range, sums-to}
 use Rattle.accuracy.proofs.SevenIntegrals.{wide}
@@ -469,7 +465,7 @@ module _ (section : Section) (p : Plate) (m : Mount) (points : List Float) (L : 
       (value-fraction (p .root) (N .root-finite)) (value-fraction (p .tip) (N .tip-finite)))
       (whole-fraction 1 2)))
 
-  exact-fraction : IsFraction (number c 0 1 times X) (exactMassWith section p m)
+  exact-fraction : IsFraction (number c 0 1 times X) (exactMass section p m)
   exact-fraction =
       let fill = evaluate (numbersOf entries) (fractionE (filled section)) in
       let fin' = valueOf (p .thickness) times (valueOf (p .span) times width) in
@@ -486,16 +482,16 @@ module _ (section : Section) (p : Plate) (m : Mount) (points : List Float) (L : 
 
   pub mass-near : Apart (product (pos (c * 90 * (b * y)) over (d * e * 2 ^ 53))
       (product (fractionOf (p .density)) (fractionOf (p .thickness))))
-      (fractionOf (r .body .«mass_kg»)) (exactMassWith section p m)
+      (fractionOf (r .body .«mass_kg»)) (exactMass section p m)
   mass-near =
       let k = c * 90 * (b * y) in
       let q = d * e * 2 ^ 53 in
       let dw = product (fractionOf (p .density)) (fractionOf (p .thickness)) in
       let n = num (p .density) * num (p .thickness) in
       let w = den (p .density) * den (p .thickness) in
-      subst (λ (z : Float). Apart (product (pos k over q) dw) (fractionOf z) (exactMassWith section p m)) (sym set-mass-is)
+      subst (λ (z : Float). Apart (product (pos k over q) dw) (fractionOf z) (exactMass section p m)) (sym set-mass-is)
       (within-fraction (k * n) (q * w) (valueOf summed) (number c 0 1 times X) (product (pos k over q) dw) (fractionOf summed)
-      (exactMassWith section p m)
+      (exactMass section p m)
       (mul-pos (mul-pos (mul-pos (x .along .is-size) (x .is-size)) (pow-pos 53))
       (mul-pos (den-pos (p .density)) (den-pos (p .thickness))))
       (Counts.value-is summed) (times-is (number c 0 1) X (pow-pos 0) X-is)

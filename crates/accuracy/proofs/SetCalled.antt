@@ -1,25 +1,17 @@
 -- What the call for a set's figures gives for trapezoids with no fillet: their mass; and the samples of a square section. Assumes nothing.
 use mathlib.Core.Path.{_≡_, refl, sym, ap, _∙_}
 use mathlib.Core.Bool.{Bool, true, false, cond}
-use mathlib.Core.List.{List, []}
+use mathlib.Core.List.{List}
 use Prim.Native.Nat.{ℕ}
-use lib.Dec.{T}
-use lib.Ieee.{Float, le, eq, ofBits}
-use lib.Ieee.Bits.{is-true}
-use Rattle.floats.specs.Operations.{_⊕_, _⊖_, _⊗_, _⊘_, bits, tabulate}
+use lib.Ieee.{Float, eq, ofBits}
+use Rattle.floats.specs.Operations.{_⊕_, _⊗_, bits, tabulate}
 use Rattle.floats.specs.Floats.{cube}
-use Rattle.floats.proofs.Bools.{no}
 use Rattle.refusals.specs.declared.Verdict.{Verdict}
 use Rattle.refusals.specs.declared.Verdict.the-variants.{Accepted}
 use Rattle.refusals.specs.Calls.{CallOf, leavesAlone}
-use Rattle.planforms.specs.declared.Planform.the-variants.{Trapezoid}
 use Rattle.planforms.specs.Planforms.{rootChordOf}
 use Rattle.sections.specs.declared.Section.{Section}
-use Rattle.sections.specs.declared.Section.the-variants.{Square}
-use Rattle.sections.specs.ChordMoments.{squareMoments, chordMoments}
-use Rattle.chords.specs.Chords.{inSpan, trapezoidAt, endsAt, paired}
-use Rattle.integrands.specs.Integrands.{scaleOf, plus, sumsFrom, plateValues, sampleOf, plateOf}
-use Rattle.integrands.specs.declared.Kind.the-variants.{Plate as plateKind}
+use Rattle.integrands.specs.Integrands.{scaleOf}
 use Rattle.strips.specs.Strips.{Worked, valueFrom, summedOf, intervalsIn}
 use Rattle.halving.specs.declared.Integral.{Integral}
 use Rattle.bodies.specs.declared.Body.{Body}
@@ -33,55 +25,13 @@ use Rattle.fins.specs.declared.FinSet.{FinSet}
 use Rattle.fins.specs.Fins.{setCheck}
 use Rattle.plates.specs.Integrals.{volume, unscaledOf, tabIntegralsOf, addIntegrals}
 use Rattle.plates.specs.Plates.{plateBody, withFillets, cantedOf, finOf, integralsOf, pivotOf}
-use Rattle.figures.specs.Figures.{setStrips, workedFigures, workedSet, setCall, setFigures, conclusionOf, figuresBy, finsOf, concludedSet, refusedFigures}
+use Rattle.figures.specs.Figures.{setStrips, workedFigures, workedSet, setCall, setFigures, conclusionOf, figuresBy, finsOf, concludedSet}
+use Rattle.figures.specs.Figures.{refusedFigures}
 use Rattle.figures.specs.declared.Figures.{Figures}
 use Rattle.accuracy.specs.Masses.{Plate, Mount, setWith}
-use Rattle.accuracy.proofs.Called.{startBy, endBy, chosen}
+use Rattle.accuracy.proofs.Called.{chosen}
 
 -- ---- a chord in the span
--- the moments of one wider than 0, added to 0
-moments-there : (x : Bool) (root tip sweep f scale h t q : Float) → x ≡ true → le (endBy root tip sweep f scale ⊖ startBy sweep f scale) (bits 0) ≡ false
-    → sumsFrom (plateKind Square t q) scale h (tabulate 4 (λ i. bits 0)) (paired (cond x (trapezoidAt root tip sweep f) []))
-    ≡ plus (tabulate 4 (λ i. bits 0)) (squareMoments (startBy sweep f scale) (endBy root tip sweep f scale) (endBy root tip sweep f scale ⊖ startBy sweep f scale) t)
-unfolding paired sumsFrom chordMoments
-moments-there true root tip sweep f scale h t q e w = rw w
-moments-there false root tip sweep f scale h t q e w = no (sym e)
-
--- of any other, 0
-moments-none : (x : Bool) (root tip sweep f scale h t q : Float) → x ≡ true → le (endBy root tip sweep f scale ⊖ startBy sweep f scale) (bits 0) ≡ true
-    → sumsFrom (plateKind Square t q) scale h (tabulate 4 (λ i. bits 0)) (paired (cond x (trapezoidAt root tip sweep f) []))
-    ≡ plus (tabulate 4 (λ i. bits 0)) (tabulate 4 (λ i. bits 0))
-unfolding paired sumsFrom chordMoments
-moments-none true root tip sweep f scale h t q e w = rw w
-moments-none false root tip sweep f scale h t q e w = no (sym e)
-
--- and the seven values there; f is the fraction of the span
-abbrev pub sevenBy : Float → Float → Float → Float → Float → Float → Float → Float → List Float
-sevenBy root tip sweep f scale t q h =
-    plateValues (q ⊕ h) (plus (tabulate 4 (λ i. bits 0)) (squareMoments (startBy sweep f scale) (endBy root tip sweep f scale) (endBy root tip sweep f scale ⊖ startBy sweep f scale) t))
-
--- and where the chord is no wider than 0, r from the axis
-abbrev pub sevenNone : Float → List Float
-sevenNone r = plateValues r (plus (tabulate 4 (λ i. bits 0)) (tabulate 4 (λ i. bits 0)))
-
-module _ (root tip span sweep thickness radius : Float) (points : List Float) where
-  abbrev S : Float
-  S = scaleOf (Trapezoid root tip span sweep) points
-
-  pub plate-there : (h : Float) → T (inSpan span (h ⊗ S))
-      → le (endBy root tip sweep (h ⊗ S ⊘ span) S ⊖ startBy sweep (h ⊗ S ⊘ span) S) (bits 0) ≡ false
-      → plateOf (Trapezoid root tip span sweep) points Square thickness radius h ≡ sevenBy root tip sweep (h ⊗ S ⊘ span) S (thickness ⊘ S) (radius ⊘ S) h
-  unfolding plateOf sampleOf endsAt
-  plate-there h t w =
-      ap (plateValues (radius ⊘ S ⊕ h)) (moments-there (inSpan span (h ⊗ S)) root tip sweep (h ⊗ S ⊘ span) S h (thickness ⊘ S) (radius ⊘ S) (is-true _ t) w)
-
-  pub plate-none : (h : Float) → T (inSpan span (h ⊗ S))
-      → le (endBy root tip sweep (h ⊗ S ⊘ span) S ⊖ startBy sweep (h ⊗ S ⊘ span) S) (bits 0) ≡ true
-      → plateOf (Trapezoid root tip span sweep) points Square thickness radius h
-      ≡ sevenNone (radius ⊘ S ⊕ h)
-  unfolding plateOf sampleOf endsAt
-  plate-none h t w =
-      ap (plateValues (radius ⊘ S ⊕ h)) (moments-none (inSpan span (h ⊗ S)) root tip sweep (h ⊗ S ⊘ span) S h (thickness ⊘ S) (radius ⊘ S) (is-true _ t) w)
 
 -- ---- the answer
 pub record Given (section : Section) (p : Plate) (m : Mount) (points : List Float) (L n : ℕ) (r : Figures) : Type 0 where

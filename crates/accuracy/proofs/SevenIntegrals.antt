@@ -12,12 +12,10 @@ use lib.Ieee.Positive.{num, den, den-pos, positive}
 use Rattle.floats.specs.Operations.{_⊕_, _⊗_, _⊘_, bits, at}
 use Rattle.floats.specs.Constants.{half, three, twelve}
 use Rattle.floats.specs.Floats.{cube, fourth, fifth}
-use Rattle.rounding_error.proofs.Numbers.{Number, number, Size, _per_, _of_, _roundoffs_, _times_, IsNumber, Under, Near}
-use Rattle.rounding_error.proofs.Numbers.{valueOf, sizeOf}
+use Rattle.rounding_error.proofs.Numbers.{Number, number, Size, _per_, _of_, _roundoffs_, _times_, IsNumber, Under, Near, valueOf, sizeOf}
 use Rattle.rounding_error.proofs.Counts as Counts
 use Rattle.rounding_error.proofs.Chains.{zero-valued}
-use Rattle.rounding_error.proofs.Polynomials.{AllNumbers, evaluated-is, among}
-use Rattle.rounding_error.proofs.Polynomials.{Expression, given, ratio, _add_, _take_, _mul_, evaluate}
+use Rattle.rounding_error.proofs.Polynomials.{AllNumbers, evaluated-is, among, Expression, given, ratio, _add_, _take_, _mul_, evaluate}
 use Rattle.quadrature.specs.Rule.{halfWidth, weightedTo, kronrodWeight, sumOf}
 use Rattle.gauss_kronrod.specs.Tables.{nodes, kronrodWeights}
 use Rattle.sections.specs.Airfoil.{airfoilConstants}
@@ -27,26 +25,22 @@ use Rattle.fins.specs.declared.Tab.{Tab}
 use Rattle.fins.specs.declared.Tab.the-variants.{None, Slab}
 use Rattle.plates.specs.Integrals.{tabIntegralsOf}
 use Rattle.error_terms.proofs.Monomials.{place, added, mono, top, bottom, AllRanges}
-use Rattle.error_terms.proofs.Terms.{Shape, shape, sumShape, productShape, fine, ok, sumTest, sound, Given, entry, larger, Term, var}
-use Rattle.error_terms.proofs.Terms.{const, nought, value}
-use Rattle.error_terms.proofs.Terms.{Known, Lowest, AllKnown, numbersOf, unitBy, unit-real}
-use Rattle.error_terms.proofs.Terms.{_add_ as _addT_, _take_ as _takeT_, _mul_ as _mulT_, raised as raisedT}
-use Rattle.error_terms.proofs.Terms.{tight as tightT, divided}
+use Rattle.error_terms.proofs.Terms.{Shape, shape, sumShape, productShape, fine, ok, sumTest, sound, Given, entry, larger, Term, var, const}
+use Rattle.error_terms.proofs.Terms.{nought, value, Known, Lowest, AllKnown, numbersOf, unitBy, unit-real, _add_ as _addT_}
+use Rattle.error_terms.proofs.Terms.{_take_ as _takeT_, _mul_ as _mulT_, raised as raisedT, tight as tightT, divided}
 use Rattle.error_terms.proofs.Judged.{judge, nearer, near-within}
 use Rattle.error_terms.proofs.Shared.{Shared, whole, _⊞_, _⊠_, judgeIn, judgeAll, bindAll, expand, all-within}
 use Rattle.error_terms.proofs.Stages.{sizeTest, lowTest, target-known, target-lowest}
 use Rattle.error_terms.proofs.Entries.{full, sized-entry, many-entry, own-entry}
-use Rattle.error_terms.proofs.Floors.{NotBelow, Signed, not-below}
+use Rattle.error_terms.proofs.Floors.{NotBelow, Signed, not-below, positive-from, times-not-below as not-below-times}
 use Rattle.tolerance.proofs.Numbers.{at-tabulate}
 use Rattle.one_piece.specs.OnePiece.{NotRounded}
 use Rattle.one_piece.proofs.Rule.{totalS}
 use Rattle.one_piece.proofs.PlatePiece.{partsOf, sevenAt, entriesOf, topOf, bottomOf, each-of-seven, plain-sections}
-use Rattle.one_piece.proofs.AreaPiece.{positive-from}
 use Rattle.accuracy.specs.Masses.{filled}
 use Rattle.accuracy.specs.Balances.{forward}
 use Rattle.accuracy.specs.Inertias.{forwardSquare, filledCube}
 use Rattle.accuracy.proofs.ToFractions.{fractionE}
-use Rattle.accuracy.proofs.Centroids.{not-below-times}
 
 -- ---- the exact integrals, of root, tip, span, sweep, thickness and radius, in the forms of specs/Inertias
 module _ (s : Section) (r t p w k q : Expression) where

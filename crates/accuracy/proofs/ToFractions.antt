@@ -1,35 +1,51 @@
 -- From numbers of the proofs to fractions: a polynomial of f64s, and an f64 that is near a quotient, both sides times
 -- its divisor. Assumes nothing.
+use lib.Ieee.{nan, inf, fin, up, down, Float, add}
+use lib.Ieee.Positive.{num, den, den-pos, positive, positive-finite}
+use lib.Pow.{pow-pos}
+use mathlib.Core.Bool.{true, false, Bool}
+use Rattle.error_terms.proofs.Floors.{positive-from, NotBelow}
 use mathlib.Core.Path.{_≡_, sym, subst}
 use mathlib.Core.List.{List, [], _∷_}
-use mathlib.Core.Bool.{Bool, false}
 use Prim.Native.Nat.{ℕ, zero, suc, _+_, _-_, _*_, _^_, _≤_, _<_}
-use native.Mathlib.Nat.{mul-pos, mul-le-mul-left}
-use native.Mathlib.Nat.{one-mul, mul-one, zero-mul, mul-zero, zero-add, add-zero, pow-zero, pow-suc}
+use native.Mathlib.Nat.{le-refl, mul-pos, mul-le-mul-left, one-mul, mul-one, zero-mul, mul-zero, zero-add, add-zero, pow-zero, pow-suc}
 use native.Mathlib.Omega.{arith}
 use lib.ListN.{getD}
 use lib.Dec.{T, ltb, ltb→lt}
 use lib.IntN.{pos, negsuc}
-use lib.Ieee.{Float, add}
 use lib.Ieee.Scale.{finite}
 use Rattle.floats.specs.Operations.{at}
 use Rattle.floats.specs.Fractions.{Fraction, _over_, _plus_ as sum, minus as negated, _times_ as product, valueOf as fractionOf}
 use Rattle.rounding_error.specs.Distances.{Within as Apart}
-use Rattle.rounding_error.proofs.Numbers.{Number, number, Size, _per_, _by_, _upto_, minus, _times_}
-use Rattle.rounding_error.proofs.Numbers.{IsNumber, IsSize}
-use Rattle.rounding_error.proofs.Numbers.{Within, Under, Near, valueOf}
+use Rattle.rounding_error.proofs.Numbers.{Number, number, Size, _per_, _by_, _upto_, minus, _times_, IsNumber, IsSize, Within, Under, Near}
+use Rattle.rounding_error.proofs.Numbers.{valueOf, _roundoffs_}
 use Rattle.rounding_error.proofs.Distances.{sorted, within-upto, within-same, within-times, times-comm}
 use Rattle.rounding_error.proofs.Counts as Counts
 use Rattle.rounding_error.proofs.Fractions.{IsFraction, plus-fraction, minus-fraction, times-fraction, value-fraction, whole-fraction}
 use Rattle.rounding_error.proofs.Fractions.{shifted-fraction, within-fraction}
-use Rattle.rounding_error.proofs.Polynomials.{_equals_, times-is}
-use Rattle.rounding_error.proofs.Polynomials.{among}
-use Rattle.rounding_error.proofs.Polynomials.{Expression, given, ratio, _add_, _take_, _mul_, evaluate}
-use Rattle.error_terms.proofs.Floors.{NotBelow}
-use Rattle.rounding_error.proofs.Fractions.{shifted-fraction, within-fraction}
-use Rattle.accuracy.proofs.CentroidNear.{product-fraction}
+use Rattle.rounding_error.proofs.Polynomials.{_equals_, times-is, among, Expression, given, ratio, _add_, _take_, _mul_, evaluate}
 
 ruleset plain = (sorted, one-mul, mul-one, zero-mul, mul-zero, zero-add, add-zero)
+
+-- ---- fractions not below 0
+pub own-fraction : (x : Float) → T (finite x) → NotBelow (valueOf x) → IsFraction (number (num x) 0 (den x)) (fractionOf x)
+own-fraction nan i h = absurd i
+own-fraction (inf s) i h = absurd i
+own-fraction (fin false m e) i h = value-fraction (fin false m e) i
+own-fraction (fin true m e) i h = shifted-fraction (m * up e) 0 0 (m * up e) (down e) (fractionOf (fin true m e)) (omega arith)
+    (value-fraction (fin true m e) i)
+
+pub positive-fraction : (x : Float) → T (positive x) → IsFraction (number (num x) 0 (den x)) (fractionOf x)
+positive-fraction x p = own-fraction x (positive-finite x p) (positive-from x p)
+
+-- a product of fractions not below 0
+pub product-fraction : (a c p e : ℕ) (v w : Fraction) → IsFraction (number a 0 c) v → IsFraction (number p 0 e) w → IsFraction
+    (number (a * p) 0 (c * e)) (product v w)
+product-fraction a c p e v w h k = shifted-fraction (a * p) 0 (a * p + 0 * 0) (a * 0 + 0 * p) (c * e) (product v w) (none a p)
+    (times-fraction (number a 0 c) (number p 0 e) v w h k)
+  where
+    none : (a p : ℕ) → a * p + (a * 0 + 0 * p) ≡ 0 + (a * p + 0 * 0)
+    none a p = omega arith
 
 -- ---- what an expression is of fractions
 abbrev pub fractionIn : (ℕ → Fraction) → Expression → Fraction
@@ -144,3 +160,18 @@ to-fractions x W D N (k per l) a c r f h iW iD iN from ie C rf df nh near small 
   where
     size : (u w : ℕ) → k * c ≤ a * l → u * k * (c * w) ≤ a * u * (w * l)
     size u w h = let y = simp sorted at (mul-le-mul-left (u * w) h) in simp sorted (omega (arith, y))
+
+-- K roundoffs of the size of an f64 z above 0
+pub by-size : (x z : Float) → T (positive z) → (W D N : Number) (K : ℕ) (f h : Fraction) → IsNumber W → IsNumber D → IsNumber N → NotBelow D
+    → IsFraction D f → IsFraction N h → Near x W ((K * 2 ^ 30) roundoffs (num z per (den z * 2 ^ 30))) → W times D equals N
+    → Apart (product (product (pos K over 2 ^ 53) (fractionOf z)) f) (product (fractionOf x) f) h
+by-size x z zp W D N K f h iW iD iN from df nh w e =
+    to-fractions x W D N ((K * 2 ^ 30) roundoffs (num z per (den z * 2 ^ 30))) (K * num z) (2 ^ 53 * den z)
+    (product (pos K over 2 ^ 53) (fractionOf z)) f h iW iD iN from (mul-pos (mul-pos (den-pos z) (pow-pos 30)) (pow-pos 53))
+    (mul-pos (pow-pos 53) (den-pos z))
+    (product-fraction K (2 ^ 53) (num z) (den z) (pos K over 2 ^ 53) (fractionOf z) (whole-fraction K (2 ^ 53))
+    (positive-fraction z zp)) df nh w
+    (size (num z) (den z) (2 ^ 30) (2 ^ 53)) e
+  where
+    size : (n d P Q : ℕ) → K * P * n * (Q * d) ≤ K * n * (d * P * Q)
+    size n d P Q = simp plain (le-refl _)

@@ -30,9 +30,9 @@ use Rattle.error_terms.proofs.Terms.{shape, Given, entry, var, nought, value, A
 use Rattle.error_terms.proofs.Judged.{nearer}
 use Rattle.error_terms.proofs.Shared.{Shared, whole, _⊞_, _⊠_, judgeIn, judgeAll, all-within}
 use Rattle.error_terms.proofs.Entries.{full, sized-entry, own-entry}
-use Rattle.error_terms.proofs.Floors.{Signed}
+use Rattle.error_terms.proofs.Floors.{Signed, positive-from}
 use Rattle.one_piece.proofs.Rule.{ruleParts, totalS, atHeights, insideTest, inside, same-sums}
-use Rattle.one_piece.proofs.AreaPiece.{widthS, positive-from}
+use Rattle.one_piece.proofs.AreaPiece.{widthS}
 use Rattle.accuracy.proofs.Given.{Lengths}
 use Rattle.accuracy.proofs.Called.{threeValues}
 

@@ -21,7 +21,7 @@ use Rattle.fins.specs.declared.Tab.{Tab}
 use Rattle.fins.specs.declared.Tab.the-variants.{None, Slab}
 use Rattle.figures.specs.declared.Figures.{Figures}
 use Rattle.one_piece.specs.OnePiece.{NotRounded}
-use Rattle.accuracy.specs.Masses.{Plate, Mount, SectionGiven, OneStrip, exactMassWith, filled}
+use Rattle.accuracy.specs.Masses.{Plate, Mount, SectionGiven, OneStrip, exactMass, filled}
 
 -- the moment of a section about its leading edge, over thickness × chord²; of a rounded one nothing is said
 abbrev pub forward : Section → Fraction
@@ -77,5 +77,5 @@ OrdinaryBalance tips sweeps spans without with =
     → eq (m .cant) (bits 0) ≡ true
     → OneStrip tips sweeps section p (r .intervals)
     → TabGiven spans (p .tab) p
-    → Within ((pos (byTab without with (p .tab)) over 2 ^ 53) times valueOf (p .root) times exactMassWith section p m)
-    (valueOf (r .body .«centre_m» .z) times exactMassWith section p m) (minus (exactMoment section p m))
+    → Within ((pos (byTab without with (p .tab)) over 2 ^ 53) times valueOf (p .root) times exactMass section p m)
+    (valueOf (r .body .«centre_m» .z) times exactMass section p m) (minus (exactMoment section p m))

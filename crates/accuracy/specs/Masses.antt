@@ -1,5 +1,5 @@
--- How near the mass of a set of trapezoids is to the exact one: square sections, with a tab or none and no fillet,
--- whatever the cant.
+-- How near the mass of a set of trapezoids of one piece is to the exact one: square sections and airfoils, with a tab or
+-- none and no fillet, whatever the cant.
 use mathlib.Core.Path.{_≡_}
 use mathlib.Core.Bool.{true}
 use mathlib.Core.List.{List}
@@ -53,7 +53,7 @@ pub record OneStrip (tips sweeps : ℕ) (section : Section) (p : Plate) (interva
   pub sweep-most : AtMost (sweeps * num (p .root)) (den (p .root)) (p .sweep)
   pub one-piece : Proportions (tipsOf section) 4 (p .root) (p .tip) (p .sweep) ⊎ (intervals ≡ 1)
 
--- with a section; of square section
+-- with a section
 abbrev pub setWith : Section → Plate → Mount → FinSet
 setWith section p m =
     record {
@@ -69,9 +69,6 @@ setWith section p m =
       density = Bulk (p .density);
     }
 
-abbrev pub setOf : Plate → Mount → FinSet
-setOf p m = setWith Square p m
-
 -- the call for its figures (`figures::mass_properties`) answered r, with figures; its numbers are f64s, there is no
 -- fillet, and the density lies above 0
 pub record SectionGiven (section : Section) (p : Plate) (m : Mount) (points : List Float)
@@ -85,9 +82,6 @@ pub record SectionGiven (section : Section) (p : Plate) (m : Mount) (points : Li
   pub no-fillet : isNone (m .fillet .«radius_m») (m .radius) ≡ true
   pub heavy : lt (bits 0) (p .density) ≡ true
 
-abbrev pub SetGiven : Plate → Mount → List Float → ℕ → List Float → Figures → List Float → Type 0
-SetGiven p m points L entry r exit = SectionGiven Square p m points L entry r exit
-
 -- thickness·span·(root + tip)/2, and thickness·length·height of a tab
 abbrev pub finVolume : Plate → Fraction
 finVolume p =
@@ -97,11 +91,6 @@ finVolume p =
 abbrev pub tabVolume : Tab → Float → Fraction
 tabVolume None thickness = pos 0 over 1
 tabVolume (Slab height length offset) thickness = valueOf thickness times valueOf length times valueOf height
-
--- count·density·volume
-abbrev pub exactMass : Plate → Mount → Fraction
-exactMass p m =
-    (pos (m .count) over 1) times (valueOf (p .density) times (finVolume p plus tabVolume (p .tab) (p .thickness)))
 
 -- B = b / d, at most 64: root, tip, |sweep| and the length of a tab do not pass it; Y = y / e, at most 64: nor span and
 -- height of a tab that
@@ -117,19 +106,6 @@ pub record Extents (p : Plate) (b d y e : ℕ) : Type 0 where
   pub outward-most : y ≤ 64 * e
   pub tab-within : TabWithin (p .tab) b d y e
 
--- where the strip has n pieces, at most 40: at most n·2^-41·count·density·thickness·B·Y from it
-abbrev pub TrapezoidMass : Type 0
-TrapezoidMass =
-    (p : Plate) (m : Mount) (points : List Float) (L : ℕ) (entry : List Float) (r : Figures) (exit : List Float)
-    (b d y e : ℕ)
-    → SetGiven p m points L entry r exit
-    → r .intervals ≤ 40
-    → Extents p b d y e
-    → Within
-    ((pos (r .intervals * (m .count * (b * y))) over (d * e * 2 ^ 41)) times
-    (valueOf (p .density) times valueOf (p .thickness)))
-    (valueOf (r .body .«mass_kg»)) (exactMass p m)
-
 -- how much of thickness × chord a section fills: a square one all, an airfoil the integral of its thickness; of a
 -- rounded one nothing is said
 abbrev pub filled : Section → Fraction
@@ -138,8 +114,9 @@ filled Rounded = pos 0 over 1
 filled Airfoil = phiExactly closedTail 0
 filled AirfoilOpen = phiExactly openTail 0
 
-abbrev pub exactMassWith : Section → Plate → Mount → Fraction
-exactMassWith section p m =
+-- count·density·volume
+abbrev pub exactMass : Section → Plate → Mount → Fraction
+exactMass section p m =
     (pos (m .count) over 1)
     times (valueOf (p .density) times (filled section times finVolume p plus tabVolume (p .tab) (p .thickness)))
 
@@ -156,4 +133,4 @@ OrdinaryMass =
     → Extents p b d y e
     → Within
     ((pos (m .count * 90 * (b * y)) over (d * e * 2 ^ 53)) times (valueOf (p .density) times valueOf (p .thickness)))
-    (valueOf (r .body .«mass_kg»)) (exactMassWith section p m)
+    (valueOf (r .body .«mass_kg»)) (exactMass section p m)

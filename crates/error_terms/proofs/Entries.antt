@@ -1,9 +1,12 @@
 -- f64s that are given, as entries of a list: of at most a given size, or above 0 and their own size. Assumes nothing.
+use native.Mathlib.Nat.{mul-pos, le-refl, mul-le-mul-right, one-mul, mul-one, zero-mul, mul-zero, zero-add, add-zero}
+use lib.Pow.{pow-pos}
+use Rattle.rounding_error.proofs.Numbers.{_roundoffs_, IsNumber, Near, Number, number, Size, _per_, _of_, Under, zeroNumber, valueOf}
+use Rattle.rounding_error.proofs.Numbers.{sizeOf}
 use mathlib.Core.Path.{_≡_, refl, sym, ap, _∙_, subst}
 use mathlib.Core.Bool.{Bool, true, false, _&&_}
 use mathlib.Core.List.{List, []}
 use Prim.Native.Nat.{ℕ, suc, _+_, _*_, _^_, _≤_, _<_}
-use native.Mathlib.Nat.{le-refl, mul-le-mul-right, one-mul, mul-one, zero-mul, mul-zero, zero-add, add-zero}
 use native.Mathlib.Omega.{arith}
 use lib.Dec.{T, leb, leb→le}
 use lib.ListN.{getD}
@@ -11,13 +14,12 @@ use lib.Ieee.{Float, nan, inf, fin, up, down}
 use lib.Ieee.Fits.{and-l, and-r}
 use lib.Ieee.Scale.{finite}
 use lib.Ieee.Positive.{num, den, den-pos, positive, positive-finite}
-use Rattle.rounding_error.proofs.Numbers.{Number, number, Size, _per_, _of_, Under, zeroNumber, valueOf, sizeOf}
 use Rattle.rounding_error.proofs.Distances.{sorted, within-upto}
 use Rattle.rounding_error.proofs.Counts as Counts
 use Rattle.rounding_error.proofs.Chains.{Valued}
 use Rattle.error_terms.proofs.Monomials.{top, bottom, mono, mono-none, place, unit, mono-place, AllRanges}
 use Rattle.error_terms.proofs.Laws.{rounded-up, parts, Reaches}
-use Rattle.error_terms.proofs.Terms.{shape, Known, Lowest, unitBy, const-known, const-lowest, const-lowest}
+use Rattle.error_terms.proofs.Terms.{shape, Known, Lowest, unitBy, const-known, const-lowest}
 
 ruleset plain = (sorted, one-mul, mul-one, zero-mul, mul-zero, zero-add, add-zero)
 
@@ -51,6 +53,43 @@ module _ (B : List Size) (i : ℕ) (a c : ℕ) (e : getD B i unit ≡ a per c) w
     where
       go : (P : ℕ) → 1 * a * (c * P) ≤ P * a * c
       go P = simp plain (le-refl _)
+
+  pub unit-is : unitBy B (place i) [] ≡ parts a c
+  unit-is = ap (λ (n : ℕ). parts n (mono bottom B (place i) * mono top B [])) top-is ∙ ap (λ (d : ℕ). parts a d) bottom-is
+
+  pub near-entry : (x : Float) (v : Number) (k : ℕ) → 0 < c → IsNumber v → Near x v (k roundoffs (a per c)) → Under (1 of (a per c)) v
+      → Known B x v (shape (k * 2 ^ 30) full (place i) [])
+  near-entry x v k C I n u =
+      subst (λ (S : Size). Valued x v (k * 2 ^ 30) full S) (sym unit-is)
+      (record {
+        near = record {
+          finite = n .finite;
+          within = within-upto (k roundoffs (a per c)) ((k * 2 ^ 30) roundoffs parts a c) (valueOf x) v (mul-pos C (pow-pos 53))
+              (errors (2 ^ 30) (2 ^ 53)) (n .within);
+        };
+        size = within-upto (1 of (a per c)) (full of parts a c) v zeroNumber C (sizes (2 ^ 30)) u;
+        is = I;
+      })
+    where
+      errors : (P Q : ℕ) → k * a * (c * P * Q) ≤ k * P * a * (c * Q)
+      errors P Q = simp plain (le-refl _)
+
+      sizes : (P : ℕ) → 1 * a * (c * P) ≤ P * a * c
+      sizes P = simp plain (le-refl _)
+
+  -- and back
+  pub near-given : (x : Float) (v : Number) (k : ℕ) → 0 < c → Near x v ((k * 2 ^ 30) roundoffs unitBy B (place i) []) → Near x v
+      (k roundoffs (a per c))
+  near-given x v k C n =
+      let m = subst (λ (S : Size). Near x v ((k * 2 ^ 30) roundoffs S)) unit-is n in
+      record {
+        finite = m .finite;
+        within = within-upto ((k * 2 ^ 30) roundoffs parts a c) (k roundoffs (a per c)) (valueOf x) v
+            (mul-pos (mul-pos C (pow-pos 30)) (pow-pos 53)) (errors (2 ^ 30) (2 ^ 53)) (m .within);
+      }
+    where
+      errors : (P Q : ℕ) → k * P * a * (c * Q) ≤ k * a * (c * P * Q)
+      errors P Q = simp plain (le-refl _)
 
   -- at most k times the size
   pub many-entry : (x : Float) (k : ℕ) → 0 < c → T (finite x) → Under (k of (a per c)) (valueOf x)

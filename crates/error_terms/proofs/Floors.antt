@@ -1,34 +1,94 @@
 -- Lower bounds of exact numbers, computed as the upper ones are: of polynomials whose factors are not below 0, at numbers not below 0.
 -- Assumes nothing.
+use Rattle.rounding_error.proofs.Numbers.{_less_, Number, number, Size, _per_, _plus_, _times_, _of_, IsNumber, Under, zeroNumber, valueOf}
+use Rattle.rounding.proofs.Signs.{finite-no-nan}
+use Rattle.rounding.proofs.Ordered.{le→order}
+use Rattle.floats.proofs.Order.{le-of-not}
+use Rattle.floats.proofs.Bools.{of-true}
+use lib.Ieee.Scale.{finite}
+use lib.Ieee.{up, down, le, lt, Float, nan, inf, fin, ofBits}
 use mathlib.Core.Path.{_≡_, sym, ap, subst}
 use mathlib.Core.Bool.{Bool, true, false, _&&_, cond}
 use mathlib.Core.List.{List, [], _∷_}
 use Prim.Native.Nat.{ℕ, zero, suc, _+_, _-_, _*_, _/_, _^_, _≤_, _<_, zero-le}
-use native.Mathlib.Nat.{le-refl, le-trans, mul-pos, mul-le-mul-left, mul-le-mul-right, le-of-mul-le-mul-right}
-use native.Mathlib.Nat.{mul-comm, one-mul, mul-one, zero-mul, mul-zero, zero-add, add-zero, div-mul-le-self}
+use native.Mathlib.Nat.{le-refl, le-trans, mul-pos, mul-le-mul-left, mul-le-mul-right, le-of-mul-le-mul-right, mul-comm, one-mul, mul-one}
+use native.Mathlib.Nat.{zero-mul, mul-zero, zero-add, add-zero, div-mul-le-self}
 use native.Mathlib.Omega.{arith}
 use lib.Dec.{T, leb, leb→le}
 use lib.Pow.{pow-pos}
-use lib.Ieee.{Float, ofBits}
+use lib.Ieee.Positive.{positive}
 use lib.Ieee.Fits.{and-l, and-r}
 use Rattle.floats.specs.Operations.{bits}
-use Rattle.rounding_error.proofs.Numbers.{Number, number, Size, _per_, _plus_, _times_, _of_, IsNumber}
-use Rattle.rounding_error.proofs.Numbers.{Under, zeroNumber, valueOf}
-use Rattle.rounding_error.proofs.Distances.{sorted}
+use Rattle.rounding_error.proofs.Distances.{sorted, four}
 use Rattle.rounding_error.proofs.Polynomials as Poly
 use Rattle.rounding_error.proofs.Polynomials.{Product, factor, product, sumOf, _equals_}
-use Rattle.error_terms.proofs.Monomials.{top, bottom, mono, added, alike, AllRanges, alike-upto, top-by, bottom-by}
-use Rattle.error_terms.proofs.Monomials.{bottom-pos}
+use Rattle.error_terms.proofs.Monomials.{top, bottom, mono, added, alike, AllRanges, alike-upto, top-by, bottom-by, bottom-pos}
 use Rattle.error_terms.proofs.Laws.{inverseOf, Reaches}
-use Rattle.error_terms.proofs.Terms.{Shape, shape, Given, entry, larger, Extent, extent, Term, inverseBy, numbersOf, exact}
-use Rattle.error_terms.proofs.Terms.{normalOf, plainTerm, cancelled, Known, Lowest, AllKnown, numbers-are, cancelled-sum}
-use Rattle.error_terms.proofs.Terms.{normal-is}
+use Rattle.error_terms.proofs.Terms.{Shape, shape, Given, entry, larger, Extent, extent, Term, inverseBy, numbersOf, exact, normalOf}
+use Rattle.error_terms.proofs.Terms.{plainTerm, cancelled, Known, Lowest, AllKnown, numbers-are, cancelled-sum, normal-is}
 
 ruleset plain = (sorted, one-mul, mul-one, zero-mul, mul-zero, zero-add, add-zero)
 
 -- 0 <= v
 abbrev pub NotBelow : Number → Type 0
 NotBelow (number p n d) = n ≤ p
+
+pub positive-from : (x : Float) → T (positive x) → NotBelow (valueOf x)
+positive-from nan p = absurd p
+positive-from (inf s) p = absurd p
+positive-from (fin true m e) p = absurd p
+positive-from (fin false m e) p = zero-le
+
+pub times-not-below : (x y : Number) → NotBelow x → NotBelow y → NotBelow (x times y)
+times-not-below (number p n d) (number q m e) h k = go (four n p m q h k)
+  where
+    go : n * q + p * m ≤ p * q + n * m → p * m + n * q ≤ p * q + n * m
+    go u = omega (arith, u)
+
+pub plus-not-below : (x y : Number) → NotBelow x → NotBelow y → NotBelow (x plus y)
+plus-not-below (number p n d) (number q m e) h k = go (mul-le-mul-right e h) (mul-le-mul-right d k)
+  where
+    go : n * e ≤ p * e → m * d ≤ q * d → n * e + m * d ≤ p * e + q * d
+    go u v = omega (arith, u, v)
+
+-- of f64s in order
+pub ordered-not-below : (x y : Float) → T (finite x) → T (finite y) → T (le x y) → NotBelow (valueOf y less valueOf x)
+ordered-not-below nan y f g h = absurd f
+ordered-not-below (inf s) y f g h = absurd f
+ordered-not-below (fin s m e) nan f g h = absurd g
+ordered-not-below (fin s m e) (inf t) f g h = absurd g
+ordered-not-below (fin false m e) (fin false n d) f g h = go (m * up e) (down e) (n * up d) (down d)
+    (le→order (fin false m e) (fin false n d) tt tt h)
+  where
+    go : (M E N D : ℕ) → M * D + 0 ≤ N * E + 0 → 0 * E + M * D ≤ N * E + 0 * D
+    go M E N D u = omega (arith, u)
+ordered-not-below (fin false m e) (fin true n d) f g h = go (m * up e) (down e) (n * up d) (down d)
+    (le→order (fin false m e) (fin true n d) tt tt h)
+  where
+    go : (M E N D : ℕ) → M * D + N * E ≤ 0 + 0 → N * E + M * D ≤ 0 * E + 0 * D
+    go M E N D u = omega (arith, u)
+ordered-not-below (fin true m e) (fin false n d) f g h = go (m * up e) (down e) (n * up d) (down d)
+  where
+    go : (M E N D : ℕ) → 0 * E + 0 * D ≤ N * E + M * D
+    go M E N D = omega arith
+ordered-not-below (fin true m e) (fin true n d) f g h = go (m * up e) (down e) (n * up d) (down d)
+    (le→order (fin true m e) (fin true n d) tt tt h)
+  where
+    go : (M E N D : ℕ) → 0 + N * E ≤ 0 + M * D → N * E + 0 * D ≤ 0 * E + M * D
+    go M E N D u = omega (arith, u)
+
+pub unordered-not-below : (x y : Float) → T (finite x) → T (finite y) → lt y x ≡ false → NotBelow (valueOf y less valueOf x)
+unordered-not-below x y f g e = ordered-not-below x y f g (of-true _ (le-of-not x y (finite-no-nan x f) (finite-no-nan y g) e))
+
+-- |v| <= b / d from both sides
+pub under-both : (b d : ℕ) (v : Number) → NotBelow (number b 0 d less v) → NotBelow (number b 0 d plus v) → Under (1 of (b per d)) v
+under-both b d (number p n e) h k = record { below = one h; above = two k }
+  where
+    one : 0 * e + p * d ≤ b * e + n * d → (p * 1 + 0 * e) * d ≤ (0 * e + n * 1) * d + 1 * b * (e * 1)
+    one u = let x = simp plain at u in simp plain (omega (arith, x))
+
+    two : 0 * e + n * d ≤ b * e + p * d → (0 * e + n * 1) * d ≤ (p * 1 + 0 * e) * d + 1 * b * (1 * e)
+    two u = let x = simp plain at u in simp plain (omega (arith, x))
 
 -- no entry is below 0
 abbrev pub Signed : List Given → Type 0
@@ -75,7 +135,7 @@ rising [] = true
 rising (factor a b d l ∷ F) = leb b a && rising F
 
 -- ---- numbers
-reaches-none : (n c : ℕ) (v : Number) → NotBelow v → Reaches 0 n c v
+pub reaches-none : (n c : ℕ) (v : Number) → NotBelow v → Reaches 0 n c v
 reaches-none n c (number p m e) h = go (mul-le-mul-right c h)
   where
     go : m * c ≤ p * c → 0 * n * e + m * c ≤ p * c
@@ -125,7 +185,7 @@ factor-reaches a b D j K n c (number q m e) l u h = go (a - b) (split l) (mul-le
         subst (λ (a : ℕ). K * n * (D * e) + (a * m + b * q) * c ≤ (a * q + b * m) * c) (sym f)
         (let x = simp sorted at s in let y = simp sorted at w in simp sorted (omega (arith, x, y)))
 
-plus-reaches : (K L n c : ℕ) (x y : Number) → Reaches K n c x → Reaches L n c y → Reaches (K + L) n c (x plus y)
+pub plus-reaches : (K L n c : ℕ) (x y : Number) → Reaches K n c x → Reaches L n c y → Reaches (K + L) n c (x plus y)
 plus-reaches K L n c (number q m e) (number r k f) h g = go (mul-le-mul-right f h) (mul-le-mul-right e g)
   where
     go : (K * n * e + m * c) * f ≤ q * c * f → (L * n * f + k * c) * e ≤ r * c * e

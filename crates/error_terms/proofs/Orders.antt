@@ -1,30 +1,29 @@
 -- f64s in order, by tests on the terms whose values they are. Assumes nothing.
+use Rattle.error_terms.proofs.Floors.{unordered-not-below, NotBelow, Signed, ReachesBy, floorOf, rising, exact-reaches}
+use lib.Ieee.{lt, Float, nan, inf, fin, up, down, le}
+use Rattle.rounding_error.proofs.Counts as Counts
 use mathlib.Core.Path.{_≡_, refl, sym, subst}
 use mathlib.Core.Bool.{Bool, true, false, _&&_}
 use mathlib.Core.List.{List}
 use Prim.Native.Nat.{ℕ, zero, suc, _+_, _*_, _^_, _≤_, _<_}
-use native.Mathlib.Nat.{mul-pos, mul-le-mul-right, le-of-mul-le-mul-right}
-use native.Mathlib.Nat.{one-mul, mul-one, zero-mul, mul-zero, zero-add, add-zero, zero-lt-suc}
+use native.Mathlib.Nat.{mul-pos, mul-le-mul-right, le-of-mul-le-mul-right, one-mul, mul-one, zero-mul, mul-zero, zero-add, add-zero}
+use native.Mathlib.Nat.{zero-lt-suc}
 use native.Mathlib.Omega.{arith}
 use lib.Dec.{T, leb, leb→le, lt→ltb}
 use lib.Pow.{pow-pos}
-use lib.Ieee.{Float, nan, inf, fin, up, down, le}
 use lib.Ieee.Scale.{finite}
 use lib.Ieee.Positive.{positive}
 use lib.Ieee.Fits.{and-l, and-r, and-i, down-pos}
 use Rattle.floats.specs.Floats.{absOf}
 use Rattle.rounding.proofs.Signed.{leq→le}
-use Rattle.rounding_error.proofs.Numbers.{Number, number, Size, _per_, _less_, _roundoffs_, IsNumber}
-use Rattle.rounding_error.proofs.Numbers.{Within, Near, valueOf}
+use Rattle.rounding_error.proofs.Numbers.{Number, number, Size, _per_, _less_, _roundoffs_, IsNumber, Within, Near, valueOf}
 use Rattle.rounding_error.proofs.Distances.{sorted, within-upto}
 use Rattle.rounding_error.proofs.Polynomials as Poly
 use Rattle.error_terms.proofs.Monomials.{top, bottom, mono, added, alike, AllRanges, top-pos}
 use Rattle.error_terms.proofs.Laws.{Reaches}
-use Rattle.error_terms.proofs.Terms.{shape, Given, extent, Term, _take_}
-use Rattle.error_terms.proofs.Terms.{value, exact, cancelled, unitBy}
-use Rattle.error_terms.proofs.Terms.{unit-real, in-unit, Known, AllKnown, sound}
+use Rattle.error_terms.proofs.Terms.{shape, Given, extent, Term, _take_, value, exact, cancelled, unitBy, unit-real, in-unit, Known}
+use Rattle.error_terms.proofs.Terms.{AllKnown, sound}
 use Rattle.error_terms.proofs.Judged.{Judged, judged, judge, takeJudged, judgement}
-use Rattle.error_terms.proofs.Floors.{NotBelow, Signed, ReachesBy, floorOf, rising, exact-reaches}
 
 ruleset plain = (sorted, one-mul, mul-one, zero-mul, mul-zero, zero-add, add-zero)
 
@@ -82,6 +81,39 @@ near-le x y (number p n d) (number q m e) k l N c C D E a b h =
     (λ X1 X2 X Y1 Y2 Y ex ey. between X1 X2 X p n d q m e Y1 Y2 Y N (c * 2 ^ 53) k l (mul-pos C (pow-pos 53)) D E
     (subst (λ (z : Number). Within (k roundoffs (N per c)) z (number p n d)) ex (a .within) .below)
     (subst (λ (z : Number). Within (l roundoffs (N per c)) z (number q m e)) ey (b .within) .above) h)
+
+-- x <= v + k, y >= w − l, and w − v > k + l
+pub near-lt : (x y : Float) (v w : Number) (k l N c : ℕ) → 0 < N → 0 < c → IsNumber v → IsNumber w → Near x v (k roundoffs (N per c))
+    → Near y w (l roundoffs (N per c)) → Reaches (suc (k + l)) N (c * 2 ^ 53) (w less v) → lt x y ≡ true
+near-lt x y v w k l N c NN C vv ww n o r = go (lt x y) refl
+  where
+    clash : (X Y v w : Number) → IsNumber X → IsNumber Y → IsNumber v → IsNumber w → NotBelow (X less Y)
+        → Within (k roundoffs (N per c)) X v → Within (l roundoffs (N per c)) Y w → Reaches (suc (k + l)) N (c * 2 ^ 53) (w less v) → ⊥
+    clash (number X1 X2 X) (number Y1 Y2 Y) (number p n d) (number q m e) XX YY vv ww o a b r =
+        less-itself (mul-pos (mul-pos NN (mul-pos vv ww)) (mul-pos XX YY)) (all (c * 2 ^ 53) (mul-le-mul-right (e * Y) (a .below))
+        (mul-le-mul-right (X * d) (b .above)) (mul-le-mul-right (X * Y) r) (mul-le-mul-right (d * e * (c * 2 ^ 53)) o))
+      where
+        all : (C : ℕ) → ((X1 * d + n * X) * C) * (e * Y) ≤ ((p * X + X2 * d) * C + k * N * (X * d)) * (e * Y)
+            → ((q * Y + Y2 * e) * C) * (X * d) ≤ ((Y1 * e + m * Y) * C + l * N * (e * Y)) * (X * d)
+            → (suc (k + l) * N * (e * d) + (m * d + p * e) * C) * (X * Y) ≤ ((q * d + n * e) * C) * (X * Y)
+            → (X2 * Y + Y1 * X) * (d * e * C) ≤ (X1 * Y + Y2 * X) * (d * e * C)
+            → suc (k + l) * (N * (d * e) * (X * Y)) ≤ (k + l) * (N * (d * e) * (X * Y))
+        all C s t u w =
+            let x = simp plain at s in
+            let y = simp plain at t in
+            let z = simp plain at u in
+            let v = simp plain at w in
+            simp plain (omega (arith, x, y, z, v))
+
+        less-itself : {w : ℕ} → 0 < w → suc (k + l) * w ≤ (k + l) * w → ⊥
+        less-itself a b = omega arith
+
+    go : (b : Bool) → lt x y ≡ b → lt x y ≡ true
+    go true e = e
+    go false e =
+        absurd (clash (valueOf x) (valueOf y) v w (Counts.value-is x) (Counts.value-is y) vv ww
+        (unordered-not-below y x (o .finite) (n .finite) e) (n .within)
+        (o .within) r)
 
 -- above 0
 pub near-above : (x : Float) (v : Number) (k N c : ℕ) → 0 < N → 0 < c → IsNumber v → Near x v (k roundoffs (N per c))

@@ -67,7 +67,7 @@ weaker F K n c (number q m e) u h = go (mul-le-mul-right (n * e) u) h
     go : K * (n * e) ≤ F * (n * e) → F * n * e + m * c ≤ q * c → K * n * e + m * c ≤ q * c
     go s t = let y = simp sorted at t in simp sorted (omega (arith, s, y))
 
-positive-value : (y : Float) → T (positive y) → valueOf y ≡ number (num y) 0 (den y)
+pub positive-value : (y : Float) → T (positive y) → valueOf y ≡ number (num y) 0 (den y)
 positive-value nan p = absurd p
 positive-value (inf s) p = absurd p
 positive-value (fin true m e) p = absurd p

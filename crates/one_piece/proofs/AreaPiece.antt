@@ -1,12 +1,13 @@
 -- The first piece of a trapezoid's strip meets the tolerance in the three components of an area: tip and sweep from 0 to 4 root chords.
 -- Assumes nothing.
+use Rattle.error_terms.proofs.Floors.{positive-from, NotBelow, Signed}
 use mathlib.Core.Path.{_≡_, refl, sym}
 use mathlib.Core.Bool.{Bool, true, false, cond}
 use mathlib.Core.List.{List, [], _∷_}
-use Prim.Native.Nat.{ℕ, zero, suc, _*_, _^_, _<_, zero-le}
+use Prim.Native.Nat.{ℕ, zero, suc, _*_, _^_, _<_}
 use native.Mathlib.Omega.{arith}
 use lib.Dec.{T}
-use lib.Ieee.{Float, nan, inf, fin, round, ofBits}
+use lib.Ieee.{Float, round, ofBits}
 use lib.Ieee.Bits.{is-true}
 use lib.Ieee.Scale.{finite}
 use lib.Ieee.Positive.{num, den, den-pos, positive}
@@ -27,7 +28,6 @@ use Rattle.error_terms.proofs.Terms.{shape, Given, entry, var, const, nought, _
 use Rattle.error_terms.proofs.Judged.{judge}
 use Rattle.error_terms.proofs.Shared.{Shared, local, whole, _⊞_, _⊟_, _⊠_, _⊡_, tightly, bind, judgeAll}
 use Rattle.error_terms.proofs.Entries.{full, many-entry, own-entry}
-use Rattle.error_terms.proofs.Floors.{NotBelow, Signed}
 use Rattle.error_terms.proofs.Orders.{above, above-zero}
 use Rattle.one_piece.proofs.Rule.{acceptsIn, accepted-in, within-bound, topT, ruleParts, errorS, totalS, atHeights, Fits}
 use Rattle.one_piece.proofs.Rule.{all-converged, insideTest, inside, fits-same}
@@ -62,12 +62,6 @@ pub record Fin (root tip span sweep scale : Float) : Type 0 where
   pub ranges : Ranges 32 (sizeOf root)
   pub span-ranges : Ranges 32 (sizeOf span)
   pub scale-ranges : Ranges 32 (sizeOf scale)
-
-pub positive-from : (x : Float) → T (positive x) → NotBelow (valueOf x)
-positive-from nan p = absurd p
-positive-from (inf s) p = absurd p
-positive-from (fin true m e) p = absurd p
-positive-from (fin false m e) p = zero-le
 
 module _ (root tip span sweep scale : Float) (g : Fin root tip span sweep scale) where
   abbrev bases : List Size

@@ -26,9 +26,8 @@ use Rattle.error_terms.proofs.Monomials.{AllRanges, top, bottom, mono, place, u
 use Rattle.error_terms.proofs.Laws.{Reaches}
 use Rattle.error_terms.proofs.Terms.{Shape, shape, larger, Lowest, AllKnown}
 use Rattle.error_terms.proofs.Entries.{full, most, sized-entry, many-entry, many-low, own-entry}
-use Rattle.error_terms.proofs.Floors.{NotBelow, Signed}
+use Rattle.error_terms.proofs.Floors.{NotBelow, Signed, positive-from}
 use Rattle.one_piece.proofs.Rule.{Fits, all-converged}
-use Rattle.one_piece.proofs.AreaPiece.{positive-from}
 use Rattle.one_piece.proofs.PlatePiece.{entriesOf, componentTest, sevenAt, fits, scaleIn, plate, room-sums}
 use Rattle.one_piece.proofs.PlateTests.{near, Free, Near, Far, Tests, tests}
 use Rattle.one_piece.specs.OnePiece.{NotRounded, tipsOf}

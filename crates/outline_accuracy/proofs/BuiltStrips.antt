@@ -32,9 +32,8 @@ use Rattle.integrands.proofs.Scales.{Scale}
 use Rattle.quadrature.specs.Rule.{halfSum, halfWidth, weightedTo, kronrodWeight}
 use Rattle.quadrature.specs.declared.Piece.{Piece}
 use Rattle.tolerance.specs.Bounds.{totalOf, sumFrom}
-use Rattle.halving.specs.Halving.{halving}
+use Rattle.halving.specs.Halving.{halving, Halved}
 use Rattle.halving.specs.Scratch.{intervalsOf}
-use Rattle.halving.specs.Halving.{Halved}
 use Rattle.halving.specs.declared.Ending.{Ending}
 use Rattle.halving.specs.declared.Ending.the-variants.{Accepted as ended, NotConverged}
 use Rattle.halving.proofs.Outcomes.{kept}
@@ -91,9 +90,6 @@ module _ (points : List Float) (f64s : (i : ℕ) → T (fits binary64 (at points
 
   corner : (i : ℕ) → i < n → Corner b d span (xAt points i) (heightAt points i)
   corner = Corners.corner points f64s check sized few b d each-x above
-
-  abbrev i2 : Number
-  i2 = inverseOf (valueOf scale) times inverseOf (valueOf scale)
 
   abbrev pub inverseScale : Number
   inverseScale = inverseOf (valueOf scale)

@@ -3,8 +3,7 @@ use mathlib.Core.Path.{_≡_, refl, ap, _∙_}
 use mathlib.Core.Bool.{Bool, true, false, cond, _&&_}
 use mathlib.Core.List.{List, [], _∷_}
 use Prim.Native.Nat.{ℕ, _+_, _*_, _^_, _≤_}
-use native.Mathlib.Nat.{mul-pos, mul-le-mul-right}
-use native.Mathlib.Nat.{one-mul, mul-one, zero-mul, mul-zero, zero-add, add-zero, pow-zero, pow-suc}
+use native.Mathlib.Nat.{mul-pos, mul-le-mul-right, one-mul, mul-one, zero-mul, mul-zero, zero-add, add-zero, pow-zero, pow-suc}
 use native.Mathlib.Omega.{arith}
 use lib.Dec.{T}
 use lib.Pow.{pow-pos}
@@ -16,8 +15,8 @@ use Rattle.floats.proofs.Order.{lt-asym}
 use Rattle.rounding.proofs.Monotone.{positive-num}
 use Rattle.sorting.specs.Sorted as Sorted
 use Rattle.chords.specs.Chords.{crossingAt}
-use Rattle.rounding_error.proofs.Numbers.{Number, Size, _per_, _of_, _upto_, _plus_, _less_, _times_, _roundoffs_, IsNumber, IsSize}
-use Rattle.rounding_error.proofs.Numbers.{Under, Near, Ranges, zeroNumber, valueOf, sizeOf}
+use Rattle.rounding_error.proofs.Numbers.{Number, Size, _per_, _of_, _upto_, _plus_, _less_, _times_, _roundoffs_, IsNumber, IsSize, Under}
+use Rattle.rounding_error.proofs.Numbers.{Near, Ranges, zeroNumber, valueOf, sizeOf}
 use Rattle.rounding_error.proofs.Distances.{sorted, within-upto}
 use Rattle.rounding_error.proofs.Counts as Counts
 use Rattle.rounding_error.proofs.Chains.{equalled}
@@ -29,12 +28,11 @@ use Rattle.error_terms.proofs.Terms.{shape, Given, entry, Term, var, nought, _a
 use Rattle.error_terms.proofs.Terms.{unitBy, unit-real}
 use Rattle.error_terms.proofs.Judged.{near-within}
 use Rattle.error_terms.proofs.Entries.{full, own-entry}
-use Rattle.error_terms.proofs.Floors.{NotBelow}
+use Rattle.error_terms.proofs.Floors.{NotBelow, times-not-below, plus-not-below, unordered-not-below}
 use Rattle.error_terms.proofs.Stages.{target-known}
-use Rattle.outline_accuracy.proofs.Signs.{plus-not-below, times-not-below, equal-not-below, unordered-not-below, extentOf, exchanged}
-use Rattle.outline_accuracy.proofs.Heights.{Sample, centre, IsSample, nodeOf, node-is, betweenE, sampleMetres, exactMetres}
-use Rattle.outline_accuracy.proofs.Heights.{metres-is, lowerShare, upperShare}
-use Rattle.outline_accuracy.proofs.Heights.{shares-not-below}
+use Rattle.outline_accuracy.proofs.Signs.{equal-not-below, extentOf, exchanged}
+use Rattle.outline_accuracy.proofs.Heights.{sampleMetres, exactMetres, metres-is}
+use Rattle.accuracy.proofs.Samples.{shares-not-below, upperShare, lowerShare, betweenE, node-is, nodeOf, IsSample, centre, Sample}
 use Rattle.outline_accuracy.proofs.Samples.{StripSized, Spanning, δ, δ-most, strip-given, ranges, inv, inv-is, lineOf, line-is}
 use Rattle.outline_accuracy.proofs.Samples.{sample-crossing, sample-under}
 
@@ -274,9 +272,9 @@ module _ (h k span scale : Float) (g : StripSized h k span scale) (b d : ℕ) (L
         (at-upper : NotBelow (rightAt (valueOf k) less leftAt (valueOf k))) where
       in-order : (s : Sample) → IsSample s → NotBelow (rightAt (exactly s) less leftAt (exactly s))
       in-order s i =
-          let lower = lowerShare h k span scale (strip-given h k span scale g) s in
-          let upper = upperShare h k span scale (strip-given h k span scale g) s in
-          let n = shares-not-below h k span scale (strip-given h k span scale g) s i in
+          let lower = lowerShare s in
+          let upper = upperShare s in
+          let n = shares-not-below s i in
           let x = (ratio 1 1 mul (ratio 1 0 take given 10)) mul widthE (given 8) add (ratio 1 1 mul (ratio 1 0 add given 10)) mul widthE
           (given 9) in
           equal-not-below (evaluated-is (list s) (list-is s) x) (equal-by (list s) (list-is s) x

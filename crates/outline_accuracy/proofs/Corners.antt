@@ -30,9 +30,8 @@ use Rattle.outlines.specs.Outlines.{pointCheck, outlineCheck, planformCheck}
 use Rattle.breaks.specs.Breaks.{heights, everyY, allHeights, breakHeights}
 use Rattle.breaks.proofs.Strips.{once-each, break-heights-members}
 use Rattle.rounding_error.proofs.Numbers.{Number, number, _less_, valueOf}
-use Rattle.error_terms.proofs.Floors.{NotBelow}
-use Rattle.accuracy.proofs.Whole.{positive-value}
-use Rattle.outline_accuracy.proofs.Signs.{unordered-not-below}
+use Rattle.error_terms.proofs.Floors.{NotBelow, unordered-not-below}
+use Rattle.error_terms.proofs.Shares.{positive-value}
 use Rattle.outline_accuracy.proofs.Edges.{Outside, Corner}
 
 from-zero : (v : Number) → NotBelow (v less valueOf (bits 0)) → NotBelow v

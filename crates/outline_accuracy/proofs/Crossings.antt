@@ -1,89 +1,37 @@
 -- The crossing of an outline's edge at a rounded height is near the exact one at the height that was meant, in units of the longest x times
 -- the span over the edge's height. Assumes nothing.
+use Rattle.error_terms.proofs.Entries.{near-entry, full, sized-entry, many-low}
 use mathlib.Core.Path.{_≡_, refl, sym, ap, _∙_, subst}
 use mathlib.Core.Bool.{Bool, true, false, cond}
 use mathlib.Core.List.{List, [], _∷_}
-use Prim.Native.Nat.{ℕ, zero, suc, _+_, _-_, _*_, _^_, _≤_, _<_}
-use native.Mathlib.Nat.{le-refl, mul-pos, mul-le-mul-right, lt-irrefl}
-use native.Mathlib.Nat.{one-mul, mul-one, zero-mul, mul-zero, zero-add, add-zero, pow-zero, pow-suc}
+use Prim.Native.Nat.{ℕ, zero, suc, _+_, _*_, _^_, _≤_, _<_}
+use native.Mathlib.Nat.{mul-pos, mul-le-mul-right, lt-irrefl, one-mul, mul-one, zero-mul, mul-zero, zero-add, add-zero, pow-zero, pow-suc}
 use native.Mathlib.Omega.{arith}
 use lib.Dec.{T, eqb, eqb→eq, ltb→lt}
 use lib.Pow.{pow-pos, pow-mono}
-use lib.ListN.{getD}
 use lib.Ieee.{Float, nan, inf, fin, binary64, up, down, neg, add, sub, div, unlike, round}
 use lib.Ieee.Scale.{finite}
 use lib.Ieee.Positive.{num, den, den-pos, positive}
 use Rattle.floats.specs.Operations.{_⊕_, _⊖_, _⊗_, _⊘_}
 use Rattle.rounding.proofs.Signs.{sign, round-sign}
 use Rattle.chords.specs.Chords.{crossingAt}
-use Rattle.rounding_error.proofs.Numbers.{Number, number, Size, _per_, _of_, _upto_, _plus_, _less_, _times_, _roundoffs_, IsNumber}
-use Rattle.rounding_error.proofs.Numbers.{Under, Near, Ranges, zeroNumber, valueOf, sizeOf}
+use Rattle.rounding_error.proofs.Numbers.{Number, number, Size, _per_, _of_, _upto_, _plus_, _less_, _times_, _roundoffs_, IsNumber, Under}
+use Rattle.rounding_error.proofs.Numbers.{Near, Ranges, zeroNumber, valueOf, sizeOf}
 use Rattle.rounding_error.proofs.Distances.{sorted, within-upto}
 use Rattle.rounding_error.proofs.Operations.{near-same}
 use Rattle.rounding_error.proofs.Counts as Counts
-use Rattle.rounding_error.proofs.Chains.{Valued}
 use Rattle.rounding_error.proofs.Polynomials.{Expression, given as at-place, ratio, _add_, _take_, _mul_, equal-by, evaluated-is}
 use Rattle.rounding_error.proofs.Polynomials.{AllNumbers}
-use Rattle.error_terms.proofs.Monomials.{top, bottom, mono, mono-none, place, unit, mono-place, AllRanges}
-use Rattle.error_terms.proofs.Laws.{parts, inverseOf, inverse-is, Reaches}
+use Rattle.error_terms.proofs.Monomials.{top, bottom, place, AllRanges}
+use Rattle.error_terms.proofs.Laws.{inverseOf, inverse-is, Reaches}
 use Rattle.error_terms.proofs.Terms.{shape, Given, entry, larger, Term, var, raised, _add_ as _addT_, _take_ as _takeT_, _mul_ as _mulT_}
-use Rattle.error_terms.proofs.Terms.{_over_, Known, AllKnown}
-use Rattle.error_terms.proofs.Terms.{unitBy, unit-real}
+use Rattle.error_terms.proofs.Terms.{_over_, AllKnown, unitBy, unit-real}
 use Rattle.error_terms.proofs.Judged.{near-within}
-use Rattle.error_terms.proofs.Entries.{full, sized-entry, many-low}
-use Rattle.error_terms.proofs.Floors.{NotBelow}
 use Rattle.error_terms.proofs.Orders.{near-above}
-use Rattle.outline_accuracy.proofs.Signs.{extentOf}
 
 ruleset plain = (sorted, one-mul, mul-one, zero-mul, mul-zero, zero-add, add-zero)
 
 -- ---- an f64 near a number as an entry, in the unit of one size
-module _ (B : List Size) (i : ℕ) (a c : ℕ) (e : getD B i unit ≡ a per c) where
-  top-is : mono top B (place i) * mono bottom B [] ≡ a
-  top-is = ap (λ (x : ℕ). mono top B (place i) * x) (mono-none bottom B) ∙ mul-one (mono top B (place i)) ∙ mono-place top refl B i ∙ ap
-      (λ (s : Size). top s) e
-
-  bottom-is : mono bottom B (place i) * mono top B [] ≡ c
-  bottom-is = ap (λ (x : ℕ). mono bottom B (place i) * x) (mono-none top B) ∙ mul-one
-      (mono bottom B (place i)) ∙ mono-place bottom refl B i ∙ ap (λ (s : Size). bottom s) e
-
-  pub unit-is : unitBy B (place i) [] ≡ parts a c
-  unit-is = ap (λ (n : ℕ). parts n (mono bottom B (place i) * mono top B [])) top-is ∙ ap (λ (d : ℕ). parts a d) bottom-is
-
-  pub near-entry : (x : Float) (v : Number) (k : ℕ) → 0 < c → IsNumber v → Near x v (k roundoffs (a per c)) → Under (1 of (a per c)) v
-      → Known B x v (shape (k * 2 ^ 30) full (place i) [])
-  near-entry x v k C I n u =
-      subst (λ (S : Size). Valued x v (k * 2 ^ 30) full S) (sym unit-is)
-      (record {
-        near = record {
-          finite = n .finite;
-          within = within-upto (k roundoffs (a per c)) ((k * 2 ^ 30) roundoffs parts a c) (valueOf x) v (mul-pos C (pow-pos 53))
-              (errors (2 ^ 30) (2 ^ 53)) (n .within);
-        };
-        size = within-upto (1 of (a per c)) (full of parts a c) v zeroNumber C (sizes (2 ^ 30)) u;
-        is = I;
-      })
-    where
-      errors : (P Q : ℕ) → k * a * (c * P * Q) ≤ k * P * a * (c * Q)
-      errors P Q = simp plain (le-refl _)
-
-      sizes : (P : ℕ) → 1 * a * (c * P) ≤ P * a * c
-      sizes P = simp plain (le-refl _)
-
-  -- and back
-  pub near-given : (x : Float) (v : Number) (k : ℕ) → 0 < c → Near x v ((k * 2 ^ 30) roundoffs unitBy B (place i) []) → Near x v
-      (k roundoffs (a per c))
-  near-given x v k C n =
-      let m = subst (λ (S : Size). Near x v ((k * 2 ^ 30) roundoffs S)) unit-is n in
-      record {
-        finite = m .finite;
-        within = within-upto ((k * 2 ^ 30) roundoffs parts a c) (k roundoffs (a per c)) (valueOf x) v
-            (mul-pos (mul-pos C (pow-pos 30)) (pow-pos 53)) (errors (2 ^ 30) (2 ^ 53)) (m .within);
-      }
-    where
-      errors : (P Q : ℕ) → k * P * a * (c * Q) ≤ k * a * (c * P * Q)
-      errors P Q = simp plain (le-refl _)
-
 -- ---- a quotient by an f64 below 0
 back : (x : Float) → neg (neg x) ≡ x
 unfolding neg
@@ -123,15 +71,6 @@ fallen x y z p = ap (λ (w : Float). x ⊕ w) (over-negative y z p)
 pub some : (a c : ℕ) → 0 < c → c ≤ a * 2 ^ 32 → 0 < a
 some zero c C h = absurd (let z = zero-mul (2 ^ 32) in let n : ⊥ = omega (arith, z) in n)
 some (suc a) c C h = omega arith
-
-own-reaches : (v : Number) → NotBelow v → Reaches 1 (top (extentOf v)) (bottom (extentOf v)) v
-own-reaches (number q m e) h = go (q - m) (split h)
-  where
-    split : m ≤ q → q ≡ m + (q - m)
-    split u = omega arith
-
-    go : (x : ℕ) → q ≡ m + x → 1 * x * e + m * e ≤ q * e
-    go x f = subst (λ (q : ℕ). 1 * x * e + m * e ≤ q * e) (sym f) (simp plain (omega arith))
 
 twice-reaches : (a c : ℕ) (v : Number) → Reaches 1 a c v → Reaches 2 a (c * 2 ^ 53) v
 twice-reaches a c (number q m e) h = go (2 ^ 53) (pow-mono {i = 1} {j = 53} (omega arith)) (mul-le-mul-right (2 ^ 53) h)

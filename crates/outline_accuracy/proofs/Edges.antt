@@ -18,10 +18,9 @@ use Rattle.segments.specs.Segments.{next}
 use Rattle.planforms.specs.Planforms.{heightAt}
 use Rattle.chords.specs.Chords.{crossed, edgeCrossed, edgeCrossing, crossings}
 use Rattle.rounding_error.proofs.Numbers.{number, _less_, valueOf}
-use Rattle.error_terms.proofs.Floors.{NotBelow}
+use Rattle.error_terms.proofs.Floors.{NotBelow, ordered-not-below, unordered-not-below}
 use Rattle.accuracy.proofs.Limits.{most-under}
 use Rattle.outline_accuracy.specs.OutlineAreas.{crossedEdges}
-use Rattle.outline_accuracy.proofs.Signs.{ordered-not-below, unordered-not-below}
 use Rattle.outline_accuracy.proofs.Samples.{Spanning, under-span}
 use Rattle.rounding_error.proofs.Counts as Counts
 

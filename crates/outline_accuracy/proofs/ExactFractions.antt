@@ -2,7 +2,7 @@
 use mathlib.Core.Path.{_≡_, refl, sym, _∙_, subst}
 use mathlib.Core.Bool.{Bool, true, false}
 use Prim.Native.Nat.{ℕ, suc, _+_, _-_, _*_, _≤_, _<_}
-use native.Mathlib.Nat.{one-mul, mul-one, zero-mul, mul-zero, zero-add, add-zero}
+use native.Mathlib.Nat.{zero-add}
 use native.Mathlib.Omega.{arith}
 use lib.Dec.{T, leb→le}
 use lib.IntN.{ℤ, pos, negsuc, negℤ, _*ℤ_}
@@ -13,19 +13,16 @@ use lib.Ieee.Positive.{num, den, positive}
 use Rattle.floats.specs.Fractions.{Fraction, _over_, _plus_ as sum, minus as negated, _times_ as product, valueOf as fractionOf}
 use Rattle.rounding_error.specs.Distances.{_atMost_}
 use Rattle.rounding_error.proofs.Numbers.{Number, number, minus, _less_, _times_, zeroNumber, valueOf}
-use Rattle.rounding_error.proofs.Distances.{sorted}
 use Rattle.rounding_error.proofs.Fractions.{IsFraction, plus-fraction, times-fraction, minus-fraction, value-fraction, whole-fraction}
 use Rattle.rounding_error.proofs.Fractions.{shifted-fraction}
 use Rattle.error_terms.proofs.Monomials.{top}
 use Rattle.error_terms.proofs.Laws.{inverseOf, Reaches}
 use Rattle.error_terms.proofs.Floors.{NotBelow}
-use Rattle.accuracy.proofs.Whole.{positive-value}
+use Rattle.error_terms.proofs.Shares.{positive-value}
 use Rattle.outline_accuracy.specs.OutlineAreas.{_less_ as _without_, inverse, onLine}
 use Rattle.outline_accuracy.proofs.Signs.{extentOf}
 use Rattle.outline_accuracy.proofs.Crossings.{riseInverse, lineAt}
 use Rattle.outline_accuracy.proofs.Lines.{heightOf}
-
-ruleset plain = (sorted, one-mul, mul-one, zero-mul, mul-zero, zero-add, add-zero)
 
 -- ---- the order
 whole-order : (P N Q M : ℕ) (z w : ℤ) → IsFraction (number P N 1) (z over 1) → IsFraction (number Q M 1) (w over 1) → z ≤ℤ w → P + M ≤ Q + N
@@ -48,8 +45,6 @@ in-order (number p n d) (number q m e) (z over b) (u over c) h i o =
         (subst (λ (e : ℕ). m * b + p * e ≤ q * b + n * e) (sym g) (omega (arith, r)))
 
 -- ---- 1 over a number
-split : {n p : ℕ} → n ≤ p → p ≡ n + (p - n)
-split h = omega arith
 
 rise-inverse : (v : Number) (w : Fraction) → NotBelow v → IsFraction v w → IsFraction (inverseOf v) (inverse w)
 rise-inverse (number q m e) (pos k over c) l h = (diff (h .1), h .0 ∙ sym (zero-add c))

@@ -3,8 +3,7 @@ use mathlib.Core.Path.{_≡_, sym, subst}
 use mathlib.Core.Bool.{Bool, true, false}
 use mathlib.Core.List.{[], _∷_}
 use Prim.Native.Nat.{ℕ, _+_, _-_, _*_, _^_, _≤_, _<_}
-use native.Mathlib.Nat.{mul-le-mul-left, le-of-mul-le-mul-right}
-use native.Mathlib.Nat.{one-mul, mul-one, zero-mul, mul-zero, zero-add, add-zero}
+use native.Mathlib.Nat.{mul-le-mul-left, le-of-mul-le-mul-right, one-mul, mul-one, zero-mul, mul-zero, zero-add, add-zero}
 use native.Mathlib.Omega.{arith}
 use lib.Dec.{T}
 use lib.Pow.{pow-pos}
@@ -22,8 +21,8 @@ use Rattle.rounding_error.proofs.Polynomials.{given, ratio, _add_, _take_, _mul
 use Rattle.rounding_error.proofs.Polynomials.{trans, AllNumbers}
 use Rattle.error_terms.proofs.Monomials.{top, bottom}
 use Rattle.error_terms.proofs.Laws.{inverseOf}
-use Rattle.error_terms.proofs.Floors.{NotBelow}
-use Rattle.outline_accuracy.proofs.Signs.{plus-not-below, times-not-below, equal-not-below, extentOf, extent-under, under-both}
+use Rattle.error_terms.proofs.Floors.{NotBelow, times-not-below, plus-not-below, under-both}
+use Rattle.outline_accuracy.proofs.Signs.{equal-not-below, extentOf, extent-under}
 use Rattle.outline_accuracy.proofs.Crossings.{Divisor, Slope, riseInverse, lineAt, some}
 
 ruleset plain = (sorted, one-mul, mul-one, zero-mul, mul-zero, zero-add, add-zero)

@@ -58,7 +58,7 @@ use Rattle.error_terms.proofs.Laws.{inverseOf}
 use Rattle.error_terms.proofs.Floors.{NotBelow}
 use Rattle.accuracy.proofs.Called.{Given, area-given}
 use Rattle.accuracy.proofs.Limits.{least-of}
-use Rattle.accuracy.proofs.Whole.{positive-value}
+use Rattle.error_terms.proofs.Shares.{positive-value}
 use Rattle.outline_accuracy.specs.OutlineAreas.{OutlineGiven, Reach, AllInOrder, areaBetween, OutlineArea}
 use Rattle.outline_accuracy.proofs.Lines.{times-inverse}
 use Rattle.outline_accuracy.proofs.StripArea.{unit-ranges}

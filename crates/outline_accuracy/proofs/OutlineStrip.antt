@@ -24,8 +24,8 @@ use Rattle.rounding_error.proofs.Numbers.{Number, _per_, _of_, _plus_, _less_, 
 use Rattle.error_terms.proofs.Terms.{Known}
 use Rattle.error_terms.proofs.Floors.{NotBelow}
 use Rattle.outline_accuracy.specs.OutlineAreas.{crossedEdges, edgesCrossed}
-use Rattle.outline_accuracy.proofs.Heights.{Sample, IsSample, heightOf, nodeOf, sampleMetres, metres-near, sample-above}
-use Rattle.outline_accuracy.proofs.Heights.{sample-below}
+use Rattle.outline_accuracy.proofs.Heights.{sampleMetres, metres-near, sample-above, sample-below}
+use Rattle.accuracy.proofs.Samples.{nodeOf, heightOf, IsSample, Sample}
 use Rattle.outline_accuracy.proofs.Samples.{StripSized, Spanning, strip-given}
 use Rattle.outline_accuracy.proofs.Chord as Chord
 use Rattle.outline_accuracy.proofs.Chord.{Pair, chordWidth}

@@ -5,7 +5,6 @@ use mathlib.Core.Bool.{Bool, true, false}
 use mathlib.Core.List.{List, [], _∷_}
 use Prim.Native.Nat.{ℕ, _+_, _-_, _*_, _^_, _≤_}
 use native.Mathlib.Nat.{le-trans, mul-pos, mul-le-mul-left, le-of-mul-le-mul-right}
-use native.Mathlib.Nat.{one-mul, mul-one, zero-mul, mul-zero, zero-add, add-zero}
 use native.Mathlib.Omega.{arith}
 use lib.Dec.{T}
 use lib.Pow.{pow-mono}
@@ -15,24 +14,20 @@ use lib.Ieee.Positive.{num, den, den-pos, positive}
 use Rattle.floats.specs.Operations.{_⊖_}
 use Rattle.chords.specs.Chords.{crossingAt}
 use Rattle.rounding.proofs.Monotone.{positive-num}
-use Rattle.rounding_error.proofs.Numbers.{Number, number, Size, _per_, _of_, _upto_, _less_, _roundoffs_, IsNumber, IsSize}
-use Rattle.rounding_error.proofs.Numbers.{Under, Near, Ranges, valueOf, sizeOf}
-use Rattle.rounding_error.proofs.Distances.{sorted}
+use Rattle.rounding_error.proofs.Numbers.{Number, number, Size, _per_, _of_, _upto_, _less_, _roundoffs_, IsNumber, IsSize, Under, Near}
+use Rattle.rounding_error.proofs.Numbers.{Ranges, valueOf, sizeOf}
 use Rattle.rounding_error.proofs.Counts as Counts
 use Rattle.rounding_error.proofs.Polynomials.{given, _add_, _take_, _mul_, equal-by, evaluated-is, AllNumbers}
 use Rattle.error_terms.proofs.Monomials.{top, bottom, AllRanges}
 use Rattle.error_terms.proofs.Laws.{Reaches}
 use Rattle.error_terms.proofs.Terms.{unitBy}
-use Rattle.error_terms.proofs.Floors.{NotBelow, not-below}
-use Rattle.outline_accuracy.proofs.Signs.{plus-not-below, equal-not-below, extentOf, extent-upto, under-both}
+use Rattle.error_terms.proofs.Floors.{NotBelow, not-below, plus-not-below, under-both}
+use Rattle.outline_accuracy.proofs.Signs.{equal-not-below, extentOf, extent-upto}
 use Rattle.outline_accuracy.proofs.Crossings.{EdgeGiven, Slope, riseInverse, slope-is, slope-inverse, lineAt, crossing-near}
-use Rattle.outline_accuracy.proofs.Heights.{Sample, IsSample, StripGiven, sampleMetres, exactMetres, metres-near, metres-is}
-use Rattle.outline_accuracy.proofs.Heights.{above-lower}
-use Rattle.outline_accuracy.proofs.Heights.{below-upper}
+use Rattle.outline_accuracy.proofs.Heights.{StripGiven, sampleMetres, exactMetres, metres-near, metres-is, above-lower, below-upper}
+use Rattle.accuracy.proofs.Samples.{IsSample, Sample}
 use Rattle.outline_accuracy.proofs.Lines.{chain-not-below, lowerEnd, upperEnd, heightOf, line-under, slope-of, extent-most}
 use Rattle.outline_accuracy.proofs.Lines.{ranges-between}
-
-ruleset plain = (sorted, one-mul, mul-one, zero-mul, mul-zero, zero-add, add-zero)
 
 -- a strip from h to k, both in the span and at least 1/4096 of it apart
 pub record StripSized (h k span scale : Float) : Type 0 where

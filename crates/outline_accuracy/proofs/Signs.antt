@@ -1,73 +1,24 @@
 -- Numbers that are not below 0: sums, products, and the order of f64s. Assumes nothing.
 use mathlib.Core.Path.{_≡_, sym, subst}
-use mathlib.Core.Bool.{true, false}
 use Prim.Native.Nat.{ℕ, _+_, _-_, _*_, _≤_, _<_}
-use native.Mathlib.Nat.{le-refl, mul-le-mul-right, le-of-mul-le-mul-right}
-use native.Mathlib.Nat.{one-mul, mul-one, zero-mul, mul-zero, zero-add, add-zero}
+use native.Mathlib.Nat.{le-refl, mul-le-mul-right, le-of-mul-le-mul-right, one-mul, mul-one, zero-mul, mul-zero, zero-add, add-zero}
 use native.Mathlib.Omega.{arith}
-use lib.Dec.{T}
-use lib.Ieee.{Float, nan, inf, fin, up, down, le, lt}
+use lib.Ieee.{Float}
 use lib.Ieee.Scale.{finite}
-use Rattle.floats.proofs.Bools.{of-true}
-use Rattle.floats.proofs.Order.{le-of-not}
-use Rattle.rounding.proofs.Ordered.{le→order}
-use Rattle.rounding.proofs.Signs.{finite-no-nan}
-use Rattle.rounding_error.proofs.Numbers.{Number, number, Size, _per_, _of_, _upto_, _plus_, _less_, _times_, _and_, IsNumber, IsSize, Over}
-use Rattle.rounding_error.proofs.Numbers.{Under}
-use Rattle.rounding_error.proofs.Numbers.{Near, valueOf}
-use Rattle.rounding_error.proofs.Distances.{sorted, four, over-trans, over-upto}
+use Rattle.rounding_error.proofs.Numbers.{Number, number, Size, _per_, _of_, _upto_, _less_, _and_, IsNumber, IsSize, Over, Under, Near}
+use Rattle.rounding_error.proofs.Numbers.{valueOf}
+use Rattle.rounding_error.proofs.Distances.{sorted, over-trans, over-upto}
 use Rattle.rounding_error.proofs.Counts as Counts
 use Rattle.rounding_error.proofs.Polynomials.{_equals_}
 use Rattle.error_terms.proofs.Floors.{NotBelow}
 
 ruleset plain = (sorted, one-mul, mul-one, zero-mul, mul-zero, zero-add, add-zero)
 
-pub plus-not-below : (x y : Number) → NotBelow x → NotBelow y → NotBelow (x plus y)
-plus-not-below (number p n d) (number q m e) h k = go (mul-le-mul-right e h) (mul-le-mul-right d k)
-  where
-    go : n * e ≤ p * e → m * d ≤ q * d → n * e + m * d ≤ p * e + q * d
-    go u v = omega (arith, u, v)
-
-pub times-not-below : (x y : Number) → NotBelow x → NotBelow y → NotBelow (x times y)
-times-not-below (number p n d) (number q m e) h k = go (four n p m q h k)
-  where
-    go : n * q + p * m ≤ p * q + n * m → p * m + n * q ≤ p * q + n * m
-    go u = omega (arith, u)
-
 pub equal-not-below : {x y : Number} → IsNumber x → x equals y → NotBelow x → NotBelow y
 equal-not-below {x = number p n d} {y = number q m e} D s h = le-of-mul-le-mul-right (go (s .same) (mul-le-mul-right e h)) D
   where
     go : p * e + m * d ≡ q * d + n * e → n * e ≤ p * e → m * d ≤ q * d
     go u v = omega (arith, u, v)
-
--- of f64s in order
-pub ordered-not-below : (x y : Float) → T (finite x) → T (finite y) → T (le x y) → NotBelow (valueOf y less valueOf x)
-ordered-not-below nan y f g h = absurd f
-ordered-not-below (inf s) y f g h = absurd f
-ordered-not-below (fin s m e) nan f g h = absurd g
-ordered-not-below (fin s m e) (inf t) f g h = absurd g
-ordered-not-below (fin false m e) (fin false n d) f g h = go (m * up e) (down e) (n * up d) (down d)
-    (le→order (fin false m e) (fin false n d) tt tt h)
-  where
-    go : (M E N D : ℕ) → M * D + 0 ≤ N * E + 0 → 0 * E + M * D ≤ N * E + 0 * D
-    go M E N D u = omega (arith, u)
-ordered-not-below (fin false m e) (fin true n d) f g h = go (m * up e) (down e) (n * up d) (down d)
-    (le→order (fin false m e) (fin true n d) tt tt h)
-  where
-    go : (M E N D : ℕ) → M * D + N * E ≤ 0 + 0 → N * E + M * D ≤ 0 * E + 0 * D
-    go M E N D u = omega (arith, u)
-ordered-not-below (fin true m e) (fin false n d) f g h = go (m * up e) (down e) (n * up d) (down d)
-  where
-    go : (M E N D : ℕ) → 0 * E + 0 * D ≤ N * E + M * D
-    go M E N D = omega arith
-ordered-not-below (fin true m e) (fin true n d) f g h = go (m * up e) (down e) (n * up d) (down d)
-    (le→order (fin true m e) (fin true n d) tt tt h)
-  where
-    go : (M E N D : ℕ) → 0 + N * E ≤ 0 + M * D → N * E + 0 * D ≤ 0 * E + M * D
-    go M E N D u = omega (arith, u)
-
-pub unordered-not-below : (x y : Float) → T (finite x) → T (finite y) → lt y x ≡ false → NotBelow (valueOf y less valueOf x)
-unordered-not-below x y f g e = ordered-not-below x y f g (of-true _ (le-of-not x y (finite-no-nan x f) (finite-no-nan y g) e))
 
 -- ---- the size of a number that is not below 0
 abbrev pub extentOf : Number → Size
@@ -104,16 +55,6 @@ extent-upto (number p n d) (number q m e) D h k =
       where
         rest : m * d + x * e ≤ (m + y) * d → x * e ≤ y * d
         rest t = let z = simp sorted at t in simp sorted (omega (arith, z))
-
--- |v| <= b / d from both sides
-pub under-both : (b d : ℕ) (v : Number) → NotBelow (number b 0 d less v) → NotBelow (number b 0 d plus v) → Under (1 of (b per d)) v
-under-both b d (number p n e) h k = record { below = one h; above = two k }
-  where
-    one : 0 * e + p * d ≤ b * e + n * d → (p * 1 + 0 * e) * d ≤ (0 * e + n * 1) * d + 1 * b * (e * 1)
-    one u = let x = simp plain at u in simp plain (omega (arith, x))
-
-    two : 0 * e + n * d ≤ b * e + p * d → (0 * e + n * 1) * d ≤ (p * 1 + 0 * e) * d + 1 * b * (1 * e)
-    two u = let x = simp plain at u in simp plain (omega (arith, x))
 
 -- ---- two f64s near numbers that are in order are as near when they change places, if they are not in order themselves
 no-more : (e : Size) → IsSize e → ((0 per 1) and e) upto e

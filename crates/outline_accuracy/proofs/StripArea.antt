@@ -3,8 +3,7 @@ use mathlib.Core.Path.{_≡_, subst}
 use mathlib.Core.Bool.{Bool, true, false}
 use mathlib.Core.List.{[], _∷_}
 use Prim.Native.Nat.{ℕ, _+_, _-_, _*_, _^_, _≤_, _<_}
-use native.Mathlib.Nat.{le-refl, mul-pos}
-use native.Mathlib.Nat.{one-mul, mul-one, zero-mul, mul-zero, zero-add, add-zero, pow-zero, pow-suc}
+use native.Mathlib.Nat.{le-refl, mul-pos, one-mul, mul-one, zero-mul, mul-zero, zero-add, add-zero, pow-zero, pow-suc}
 use native.Mathlib.Omega.{arith}
 use lib.Dec.{T}
 use lib.Pow.{pow-pos}
@@ -14,8 +13,7 @@ use Rattle.floats.specs.Operations.{_⊗_, _⊘_}
 use Rattle.rounding.proofs.Monotone.{positive-num}
 use Rattle.quadrature.specs.Rule.{halfSum, halfWidth, weightedTo, kronrodWeight}
 use Rattle.rounding_error.proofs.Numbers.{Number, number, Size, _per_, _of_, _by_, _for_, _upto_, _plus_, _less_, _times_, _roundoffs_}
-use Rattle.rounding_error.proofs.Numbers.{IsNumber}
-use Rattle.rounding_error.proofs.Numbers.{Under, Near, Ranges, Normal, zeroNumber, valueOf, sizeOf}
+use Rattle.rounding_error.proofs.Numbers.{IsNumber, Under, Near, Ranges, Normal, zeroNumber, valueOf, sizeOf}
 use Rattle.rounding_error.proofs.Distances.{sorted, within-upto}
 use Rattle.rounding_error.proofs.Counts as Counts
 use Rattle.rounding_error.proofs.Ranges.{ranges-by, ranges-for, in-range}
@@ -27,8 +25,9 @@ use Rattle.error_terms.proofs.Floors.{NotBelow}
 use Rattle.outline_accuracy.proofs.Signs.{extentOf, extent-under}
 use Rattle.outline_accuracy.proofs.Crossings.{some}
 use Rattle.outline_accuracy.proofs.Lines.{equal-under}
-use Rattle.outline_accuracy.proofs.Heights.{Sample, centre, IsSample, heightOf, nodeOf, betweenE, exactReach, reach-near}
-use Rattle.outline_accuracy.proofs.Heights.{exactMetres, scaled-unit}
+use Rattle.outline_accuracy.proofs.Heights.{exactReach, reach-near, exactMetres}
+use Rattle.accuracy.proofs.StripEnds.{scaled-unit}
+use Rattle.accuracy.proofs.Samples.{betweenE, nodeOf, heightOf, IsSample, centre, Sample}
 use Rattle.outline_accuracy.proofs.Samples.{StripSized, Spanning, δ, δ-is, δ-not-below, δ-most, δ-ranges, strip-given, ranges}
 use Rattle.outline_accuracy.proofs.Samples.{sample-under}
 use Rattle.outline_accuracy.proofs.Chord as Chord

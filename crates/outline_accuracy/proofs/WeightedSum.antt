@@ -3,16 +3,15 @@
 use mathlib.Core.Path.{_≡_, refl, subst}
 use mathlib.Core.List.{List, [], _∷_}
 use Prim.Native.Nat.{ℕ, zero, suc, _+_, _*_, _^_, _≤_, _<_}
-use native.Mathlib.Nat.{mul-pos, one-mul, mul-one, zero-mul, mul-zero, zero-add, add-zero}
+use native.Mathlib.Nat.{mul-pos}
 use native.Mathlib.Omega.{arith}
 use lib.Dec.{T}
 use lib.Pow.{pow-pos}
 use lib.Ieee.{Float, ofBits, round}
-use Rattle.floats.specs.Operations.{at}
 use Rattle.gauss_kronrod.specs.Tables.{nodes, kronrodWeights}
 use Rattle.quadrature.specs.Rule.{weightedTo, kronrodWeight}
-use Rattle.rounding_error.proofs.Numbers.{Number, number, Size, _per_, _of_, _plus_, _times_, _by_, _roundoffs_, IsNumber}
-use Rattle.rounding_error.proofs.Numbers.{Within, Under, Near, valueOf}
+use Rattle.rounding_error.proofs.Numbers.{Number, number, Size, _per_, _of_, _plus_, _times_, _by_, _roundoffs_, IsNumber, Within, Under}
+use Rattle.rounding_error.proofs.Numbers.{Near, valueOf}
 use Rattle.rounding_error.proofs.Distances.{sorted, within-upto, within-times, within-trans}
 use Rattle.rounding_error.proofs.Counts as Counts
 use Rattle.rounding_error.proofs.Operations.{near-same}
@@ -20,13 +19,10 @@ use Rattle.rounding_error.proofs.Polynomials.{Expression, given, ratio, _add_, 
 use Rattle.rounding_error.proofs.Polynomials.{evaluate-is}
 use Rattle.error_terms.proofs.Monomials.{top, bottom, mono, AllRanges}
 use Rattle.error_terms.proofs.Terms.{Shape, shape, Given, entry, Term, var, const, nought, tight, _add_ as _addT_, _mul_ as _mulT_, value}
-use Rattle.error_terms.proofs.Terms.{Known, AllKnown, unitBy}
-use Rattle.error_terms.proofs.Terms.{unit-real, constant, numbersOf, numbers-are}
+use Rattle.error_terms.proofs.Terms.{Known, AllKnown, unitBy, unit-real, constant, numbersOf, numbers-are}
 use Rattle.error_terms.proofs.Judged.{near-within, nearer, judge}
 use Rattle.outline_accuracy.proofs.Lines.{equal-under}
-use Rattle.outline_accuracy.proofs.Heights.{Sample, centre, minus-side, plus-side, IsSample, heightOf, nodeE, nodeOf}
-
-ruleset plain = (sorted, one-mul, mul-one, zero-mul, mul-zero, zero-add, add-zero)
+use Rattle.accuracy.proofs.Samples.{nodeOf, nodeE, heightOf, IsSample, plus-side, minus-side, centre, Sample}
 
 -- the variables are the samples in their order
 abbrev sumT : List ℕ → List ℕ → ℕ → Term
@@ -77,18 +73,6 @@ by-weights N C CC x M I u n =
   where
     fits : (2 ^ 31 + 1024) * N * 1 * (C * 2 ^ 53) ≤ 2 ^ 30 * N * (C * 2 ^ 55)
     fits = simp sorted (omega arith)
-
-twice-under : (N C : ℕ) → 0 < C → (M : Number) → IsNumber M → Under ((2 ^ 31 + 1024) of (N per C)) M → Under ((2 ^ 32 + 2048) of (N per C))
-    (M times number 2 0 1)
-twice-under N C CC (number p n d) I u = record { below = one (u .below); above = two (u .above) }
-  where
-    one : (p * 1 + 0 * d) * C ≤ (0 * d + n * 1) * C + (2 ^ 31 + 1024) * N * (d * 1)
-        → ((p * 2 + n * 0) * 1 + 0 * (d * 1)) * C ≤ (0 * (d * 1) + (p * 0 + n * 2) * 1) * C + (2 ^ 32 + 2048) * N * (d * 1 * 1)
-    one h = let x = simp plain at h in simp plain (omega (arith, x))
-
-    two : (0 * d + n * 1) * C ≤ (p * 1 + 0 * d) * C + (2 ^ 31 + 1024) * N * (1 * d)
-        → (0 * (d * 1) + (p * 0 + n * 2) * 1) * C ≤ ((p * 2 + n * 0) * 1 + 0 * (d * 1)) * C + (2 ^ 32 + 2048) * N * (1 * (d * 1))
-    two h = let x = simp plain at h in simp plain (omega (arith, x))
 
 module _ (B : List Size) (r : AllRanges 32 B) (y : Float → Float) (c reach : Float) (M D : Number) (M-is : IsNumber M) (D-is : IsNumber D)
     (known : (s : Sample) → IsSample s → Known B (y (heightOf s c reach)) (M plus nodeOf s times D) sampleShape) where
@@ -180,8 +164,3 @@ module _ (B : List Size) (r : AllRanges 32 B) (y : Float → Float) (c reach : F
       (near-same (weightedTo 7 kronrodWeight y c reach) (evaluate (numbersOf entries) (sumE placeE 7))
       (M times number 72057594037927937 0 (2 ^ 55))
       ((250 * 2 ^ 30) roundoffs unitBy B above below) exact-is sum-near (sum-exact .same))
-
-  pub twice-size : Under ((2 ^ 32 + 2048) of unitBy B above below) (M times number 2 0 1)
-  twice-size =
-      twice-under (mono top B above * mono bottom B below) (mono bottom B above * mono top B below * 2 ^ 30) (unit-real B r above below) M
-      M-is middle-size

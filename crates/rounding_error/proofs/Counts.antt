@@ -1,7 +1,8 @@
 -- Errors counted in units: `k roundoffs B` is k·2^-53·B. Assumes nothing.
 use mathlib.Core.Path.{_≡_, sym, subst}
-use Prim.Native.Nat.{ℕ, suc, _+_, _-_, _*_, _^_, _≤_}
-use native.Mathlib.Nat.{le-refl, le-trans, le-of-eq, mul-pos, mul-le-mul-right, mul-le-mul-left, mul-le-mul, one-mul, mul-one, zero-mul, zero-add}
+use Prim.Native.Nat.{ℕ, suc, _+_, _*_, _^_, _≤_}
+use native.Mathlib.Nat.{le-refl, le-trans, le-of-eq, mul-pos, mul-le-mul-right, mul-le-mul-left, mul-le-mul, one-mul, mul-one, zero-mul}
+use native.Mathlib.Nat.{zero-add}
 use native.Mathlib.Omega.{arith}
 use lib.Dec.{T}
 use lib.Pow.{pow-add, pow-pos}
@@ -9,12 +10,13 @@ use lib.Ieee.{Float, nan, inf, fin, up, down}
 use lib.Ieee.Fits.{down-pos}
 use mathlib.Core.Bool.{true, false}
 use lib.Ieee.Scale.{finite}
-use lib.Ieee.Positive.{num, den, positive}
-use Rattle.floats.specs.Operations.{_⊕_, _⊖_, _⊗_, _⊘_}
-use Rattle.rounding_error.proofs.Numbers.{Number, number, Size, _per_, _plus_, minus, _less_, _times_, _over_, _and_, _by_, _for_, _of_, _roundoffs_, _upto_, IsNumber, IsSize, Within, Same, zeroNumber, Under, valueOf, Near, Normal, InRange, sizeOf}
-use Rattle.rounding_error.proofs.Distances.{sorted, within-refl, within-trans, within-upto, within-same, within-plus, within-minus, within-times, times-comm}
+use lib.Ieee.Positive.{positive}
+use Rattle.rounding_error.proofs.Numbers.{Number, number, Size, _per_, _plus_, minus, _less_, _times_, _over_, _and_, _by_, _of_}
+use Rattle.rounding_error.proofs.Numbers.{_roundoffs_, IsNumber, IsSize, Within, Same, zeroNumber, Under, valueOf, Near, Normal}
+use Rattle.rounding_error.proofs.Numbers.{InRange, sizeOf}
+use Rattle.rounding_error.proofs.Distances.{sorted, within-refl, within-trans, within-upto, within-same, within-plus, within-minus}
+use Rattle.rounding_error.proofs.Distances.{within-times, times-comm}
 use Rattle.rounding.proofs.Monotone.{positive-num}
-use Rattle.rounding_error.proofs.Operations.{mul-exact, add-exact, sub-exact, div-exact}
 
 -- ---- j·B is of a normal-size size
 least : (a c j R : ℕ) → 1 ≤ j → c ≤ a * R → c ≤ j * a * (R * 2 ^ 22)
@@ -76,17 +78,9 @@ pub over-is : (x : Number) (y : Float) → IsNumber x → T (positive y) → IsN
 over-is (number p n d) y h k = mul-pos (positive-num y k) h
 
 -- ---- sizes
-pub by-is : (A B : Size) → IsSize A → IsSize B → IsSize (A by B)
-by-is (a per c) (b per d) h k = mul-pos h k
-
-pub for-is : (A : Size) (y : Float) → IsSize A → T (positive y) → IsSize (A for y)
-for-is (a per c) y h p = mul-pos (positive-num y p) h
 
 pub roundoffs-is : (k : ℕ) (A : Size) → IsSize A → IsSize (k roundoffs A)
 roundoffs-is k (a per c) h = mul-pos h (pow-pos 53)
-
-pub of-is : (k : ℕ) (A : Size) → IsSize A → IsSize (k of A)
-of-is k (a per c) h = h
 
 pub under-plus : (j l : ℕ) (B : Size) (x y : Number) → IsSize B → Under (j of B) x → Under (l of B) y → Under ((j + l) of B) (x plus y)
 under-plus j l B x y C h k = under-of j l B (x plus y) zeroNumber C (within-plus (j of B) (l of B) x zeroNumber y zeroNumber h k)
@@ -115,11 +109,6 @@ near-size k j a c P h = go (mul-le-mul-right (a * c * c) h)
   where
     go : k * (a * c * c) ≤ P * (a * c * c) → (k * a * c + j * a * (c * P)) * c ≤ suc j * a * (c * P * c)
     go u = let x = simp sorted at u in simp sorted (omega (arith, x))
-
-pub within-sized : (k j : ℕ) (B : Size) (x v w : Number) → IsSize B → IsNumber v → k ≤ 2 ^ 53 → Within (k roundoffs B) x v → Within (j of B) v w → Within ((suc j) of B) x w
-within-sized k j (a per c) x v w C I h n u =
-    within-upto ((k roundoffs (a per c)) and (j of (a per c))) ((suc j) of (a per c)) x w (mul-pos (mul-pos C (pow-pos 53)) C) (near-size k j a c (2 ^ 53) h)
-    (within-trans (k roundoffs (a per c)) (j of (a per c)) x v w I n u)
 
 pub sized-number : (k j : ℕ) (B : Size) (x v : Number) → IsSize B → IsNumber v → k ≤ 2 ^ 53 → Within (k roundoffs B) x v → Under (j of B) v → Under ((suc j) of B) x
 sized-number k j (a per c) x v C I h n u =
@@ -153,30 +142,6 @@ pub itself : (x : Float) (B : Size) → T (finite x) → Near x (valueOf x) (0 r
 itself x (a per c) h = record { finite = h; within = itself-within (valueOf x) (a per c) }
 
 -- ---- the sum and the difference
-pub add-roundoffs : (x y : Float) (v w : Number) (j k l : ℕ) (B : Size) → InRange B → 1 ≤ j → j ≤ 2 ^ 22
-    → Near x v (k roundoffs B) → Near y w (l roundoffs B) → Under (j of B) (valueOf x plus valueOf y) → Near (x ⊕ y) (v plus w) ((j + (k + l)) roundoffs B)
-add-roundoffs x y v w j k l (a per c) t o p h i u =
-    let n : Near (x ⊕ y) (valueOf x plus valueOf y) (j roundoffs (a per c)) = add-exact x y (j of (a per c)) (h .finite) (i .finite) (normal-size j (a per c) o p t) u in
-    record {
-      finite = n .finite;
-      within =
-          within-roundoffs j (k + l) (a per c) (valueOf (x ⊕ y)) (v plus w) (t .real)
-          (within-trans (j roundoffs (a per c)) ((k + l) roundoffs (a per c)) (valueOf (x ⊕ y)) (valueOf x plus valueOf y) (v plus w) (plus-is (valueOf x) (valueOf y) (value-is x) (value-is y)) (n .within)
-          (within-roundoffs k l (a per c) (valueOf x plus valueOf y) (v plus w) (t .real) (within-plus (k roundoffs (a per c)) (l roundoffs (a per c)) (valueOf x) v (valueOf y) w (h .within) (i .within))));
-    }
-
-pub sub-roundoffs : (x y : Float) (v w : Number) (j k l : ℕ) (B : Size) → InRange B → 1 ≤ j → j ≤ 2 ^ 22
-    → Near x v (k roundoffs B) → Near y w (l roundoffs B) → Under (j of B) (valueOf x less valueOf y) → Near (x ⊖ y) (v less w) ((j + (k + l)) roundoffs B)
-sub-roundoffs x y v w j k l (a per c) t o p h i u =
-    let n : Near (x ⊖ y) (valueOf x less valueOf y) (j roundoffs (a per c)) = sub-exact x y (j of (a per c)) (h .finite) (i .finite) (normal-size j (a per c) o p t) u in
-    record {
-      finite = n .finite;
-      within =
-          within-roundoffs j (k + l) (a per c) (valueOf (x ⊖ y)) (v less w) (t .real)
-          (within-trans (j roundoffs (a per c)) ((k + l) roundoffs (a per c)) (valueOf (x ⊖ y)) (valueOf x less valueOf y) (v less w) (less-is (valueOf x) (valueOf y) (value-is x) (value-is y)) (n .within)
-          (within-roundoffs k l (a per c) (valueOf x less valueOf y) (v less w) (t .real)
-          (within-plus (k roundoffs (a per c)) (l roundoffs (a per c)) (valueOf x) v (minus (valueOf y)) (minus w) (h .within) (within-minus (l roundoffs (a per c)) (valueOf y) w (i .within)))));
-    }
 
 -- ---- the product
 by-roundoffs : (i l a c b d P : ℕ) → i * a * (l * b) * (c * d * P) ≤ i * l * (a * b) * (c * (d * P))
@@ -202,54 +167,4 @@ within-product x y v w i j k l (a per c) (b per d) C D I J h g u s =
     within-roundoffs (i * l) (j * k) (A by B) (x times y) (v times w) (mul-pos C D)
     (within-trans ((i * l) roundoffs (A by B)) ((j * k) roundoffs (A by B)) (x times y) (x times w) (v times w) (times-is x w I J) e f')
 
-pub mul-roundoffs : (x y : Float) (v w : Number) (i j k l m : ℕ) (A B : Size) → IsSize A → IsSize B → InRange (A by B) → 1 ≤ m → m ≤ 2 ^ 22
-    → Near x v (k roundoffs A) → Near y w (l roundoffs B) → Under (i of A) (valueOf x) → Under (j of B) w → IsNumber w → Under (m of (A by B)) (valueOf x times valueOf y)
-    → Near (x ⊗ y) (v times w) ((m + (i * l + j * k)) roundoffs (A by B))
-mul-roundoffs x y v w i j k l m (a per c) (b per d) C D t o p h g u s I z =
-    let A = a per c in
-    let B = b per d in
-    let n : Near (x ⊗ y) (valueOf x times valueOf y) (m roundoffs (A by B)) = mul-exact x y (m of (A by B)) (h .finite) (g .finite) (normal-size m (A by B) o p t) z in
-    record {
-      finite = n .finite;
-      within =
-          within-roundoffs m (i * l + j * k) (A by B) (valueOf (x ⊗ y)) (v times w) (mul-pos C D)
-          (within-trans (m roundoffs (A by B)) ((i * l + j * k) roundoffs (A by B)) (valueOf (x ⊗ y)) (valueOf x times valueOf y) (v times w) (times-is (valueOf x) (valueOf y) (value-is x) (value-is y)) (n .within)
-          (within-product (valueOf x) (valueOf y) v w i j k l A B C D (value-is x) I (h .within) (g .within) u s));
-    }
-
 -- ---- the quotient by an f64 above 0
-over-all : (p n d q m e a c N D : ℕ) → (p * e + m * d) * c ≤ (q * d + n * e) * c + a * (d * e)
-    → (p * D * (N * e) + m * D * (N * d)) * (N * c) ≤ (q * D * (N * d) + n * D * (N * e)) * (N * c) + a * D * (N * d * (N * e))
-over-all p n d q m e a c N D h = let x = simp sorted at (mul-le-mul-right (D * (N * N)) h) in simp sorted (omega (arith, x))
-
-pub within-over : (e : Size) (x z : Number) (y : Float) → Within e x z → Within (e for y) (x over y) (z over y)
-within-over (a per c) (number p n d) (number q m e) y h =
-    record { below = over-all p n d q m e a c (num y) (den y) (h .below); above = over-all q m e p n d a c (num y) (den y) (h .above) }
-
-for-of : (j a c N D : ℕ) → j * a * D * (N * c) ≤ j * (a * D) * (N * c)
-for-of j a c N D = simp sorted (le-refl _)
-
-for-roundoffs : (j a c N D P : ℕ) → j * a * D * (N * c * P) ≤ j * (a * D) * (N * (c * P))
-for-roundoffs j a c N D P = simp sorted (le-refl _)
-
-zero-over : (y : Float) → Same (zeroNumber over y) zeroNumber
-zero-over y = omega arith
-
-pub under-over : (j : ℕ) (B : Size) (x : Number) (y : Float) → IsSize B → T (positive y) → Under (j of B) x → Under (j of (B for y)) (x over y)
-under-over j (a per c) x y C p h =
-    within-upto ((j of (a per c)) for y) (j of ((a per c) for y)) (x over y) zeroNumber (mul-pos (positive-num y p) C) (for-of j a c (num y) (den y))
-    (within-same ((j of (a per c)) for y) (x over y) (zeroNumber over y) zeroNumber (over-is zeroNumber y (pow-pos 0) p) (within-over (j of (a per c)) x zeroNumber y h) (zero-over y))
-
-pub div-roundoffs : (x y : Float) (v : Number) (k m : ℕ) (B : Size) → IsSize B → InRange (B for y) → 1 ≤ m → m ≤ 2 ^ 22 → T (positive y)
-    → Near x v (k roundoffs B) → Under (m of B) (valueOf x) → Near (x ⊘ y) (v over y) ((m + k) roundoffs (B for y))
-div-roundoffs x y v k m (a per c) C t o q p h u =
-    let B = a per c in
-    let n : Near (x ⊘ y) (valueOf x over y) (m roundoffs (B for y)) = div-exact x y (m of (B for y)) (h .finite) p (normal-size m (B for y) o q t) (under-over m B (valueOf x) y C p u) in
-    record {
-      finite = n .finite;
-      within =
-          within-roundoffs m k (B for y) (valueOf (x ⊘ y)) (v over y) (mul-pos (positive-num y p) C)
-          (within-trans (m roundoffs (B for y)) (k roundoffs (B for y)) (valueOf (x ⊘ y)) (valueOf x over y) (v over y) (over-is (valueOf x) y (value-is x) p) (n .within)
-          (within-upto ((k roundoffs B) for y) (k roundoffs (B for y)) (valueOf x over y) (v over y) (mul-pos (positive-num y p) (mul-pos C (pow-pos 53))) (for-roundoffs k a c (num y) (den y) (2 ^ 53))
-          (within-over (k roundoffs B) (valueOf x) v y (h .within))));
-    }

@@ -7,4 +7,3 @@ pub mod Ranges
 pub mod Fractions
 pub mod Polynomials
 pub mod Chains
-pub mod Quotients
