@@ -159,8 +159,7 @@ module _ (root tip span sweep : Float) (points : List Float) (L : ℕ) (entry : 
       (product-fraction (b * 45) (d * 2 ^ 53) (num span) (den span) (pos (b * 45) over (d * 2 ^ 53)) (fractionOf span)
       (whole-fraction (b * 45) (d * 2 ^ 53)) (positive-fraction span p))
       (value-fraction (r .«area_m2») (n .finite))
-      (expression-fraction l (fractionOf root ∷ fractionOf tip ∷ fractionOf span ∷ [])
-      (
+      (expression-fraction l (fractionOf root ∷ fractionOf tip ∷ fractionOf span ∷ []) (
         value-fraction root (reach .root-most .finite),
         (value-fraction tip (reach .tip-most .finite), (value-fraction span (positive-finite span p), tt)),
       ) areaE)

@@ -520,7 +520,6 @@ centre-by v density base count w u hw hu h =
     (plate-centre v density base count (subst (λ (s : Float). T (positive (inOrder (λ x y. x ⊕ y) (bits 0) (λ k. density ⊗ s) count)))
     (sym hw) h)))
 
-
 -- ---- an f64 near a number of at least R parts of X / Y is at least one part
 one-part : (X Y P Q R l q m e N D : ℕ) → 0 < e → 0 < Q → l + Q ≤ R * Q → R * X * e + m * (Y * P) ≤ q * (Y * P)
     → (q * D + 0 * e) * (Y * P * Q) ≤ (N * e + m * D) * (Y * P * Q) + l * X * (e * D) → X * D ≤ N * (Y * P)

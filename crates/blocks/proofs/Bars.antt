@@ -28,15 +28,18 @@ module _ (table key : List ℕ) where
   unfolding textFor cutAfter
   at-end at h = ap (λ (t : List ℕ). textFor key (cutAtBars t)) (drop-of-length-le table h)
 
-  pub ends-here : (at : ℕ) → textFor key (cutAtBars table) ≡ textFor key (From at) → length table ≤ at → IsTextFor table key (record { from = 0; to = 0 })
+  pub ends-here : (at : ℕ) → textFor key (cutAtBars table) ≡ textFor key (From at) → length table ≤ at
+      → IsTextFor table key (record { from = 0; to = 0 })
   ends-here at e h = nothing-found (textFor key (From at)) e (at-end at h)
 
   module _ (at end : ℕ) (first : IsBarEnd table at end) where
     last-key : length table ≤ end → textFor key (From at) ≡ []
     unfolding textFor
-    last-key h = ap (textFor key) (first .cut ∙ ap (λ (t : Bool). part table at end ∷ cond t (cutAtBars (drop (end + 1) table)) []) (le-ltb end (length table) h))
+    last-key h = ap (textFor key)
+        (first .cut ∙ ap (λ (t : Bool). part table at end ∷ cond t (cutAtBars (drop (end + 1) table)) []) (le-ltb end (length table) h))
 
-    pub key-alone : textFor key (cutAtBars table) ≡ textFor key (From at) → length table ≤ end → IsTextFor table key (record { from = 0; to = 0 })
+    pub key-alone : textFor key (cutAtBars table) ≡ textFor key (From at) → length table ≤ end
+        → IsTextFor table key (record { from = 0; to = 0 })
     key-alone e h = nothing-found (textFor key (From at)) e (last-key h)
 
     module _ (to : ℕ) (h : end < length table) (second : IsBarEnd table (end + 1) to) where
@@ -47,18 +50,25 @@ module _ (table key : List ℕ) where
           ∙ ap (λ (ts : List (List ℕ)). part table at end ∷ ts) (second .cut)
 
       tested : (t : Bool) → sameBytes key (part table at end) ≡ t
-          → textFor key (From at) ≡ cond t (part table (end + 1) to) (textFor key (cond (ltb to (length table)) (cutAtBars (drop (to + 1) table)) []))
+          → textFor key (From at)
+          ≡ cond t (part table (end + 1) to) (textFor key (cond (ltb to (length table)) (cutAtBars (drop (to + 1) table)) []))
       unfolding textFor
       tested t e =
-          ap (textFor key) pair ∙ ap (λ (t : Bool). cond t (part table (end + 1) to) (textFor key (cond (ltb to (length table)) (cutAtBars (drop (to + 1) table)) []))) e
+          ap (textFor key) pair
+          ∙ ap (λ (t : Bool). cond t (part table (end + 1) to)
+          (textFor key (cond (ltb to (length table)) (cutAtBars (drop (to + 1) table)) []))) e
 
-      pub found : textFor key (cutAtBars table) ≡ textFor key (From at) → sameBytes key (part table at end) ≡ true → IsTextFor table key (record { from = end + 1; to = to })
+      pub found : textFor key (cutAtBars table) ≡ textFor key (From at) → sameBytes key (part table at end) ≡ true
+          → IsTextFor table key (record { from = end + 1; to = to })
       found e s = record { is = sym (e ∙ tested true s); ordered = second .behind; within = second .within }
 
-      pub passed : textFor key (cutAtBars table) ≡ textFor key (From at) → sameBytes key (part table at end) ≡ false → to < length table → textFor key (cutAtBars table) ≡ textFor key (From (to + 1))
-      passed e s g = e ∙ tested false s ∙ ap (λ (t : Bool). textFor key (cond t (cutAtBars (drop (to + 1) table)) [])) (lt-ltb to (length table) g)
+      pub passed : textFor key (cutAtBars table) ≡ textFor key (From at) → sameBytes key (part table at end) ≡ false → to < length table
+          → textFor key (cutAtBars table) ≡ textFor key (From (to + 1))
+      passed e s g = e ∙ tested false s
+          ∙ ap (λ (t : Bool). textFor key (cond t (cutAtBars (drop (to + 1) table)) [])) (lt-ltb to (length table) g)
 
-      pub passed-last : textFor key (cutAtBars table) ≡ textFor key (From at) → sameBytes key (part table at end) ≡ false → length table ≤ to → IsTextFor table key (record { from = 0; to = 0 })
+      pub passed-last : textFor key (cutAtBars table) ≡ textFor key (From at) → sameBytes key (part table at end) ≡ false
+          → length table ≤ to → IsTextFor table key (record { from = 0; to = 0 })
       unfolding textFor
       passed-last e s g =
           nothing-found (textFor key (From at)) e
@@ -74,7 +84,9 @@ no-bar-cut s (b ∷ t) rest h =
     ∙ no-bar-cut (s ++ (b ∷ [])) t rest (and-r (not (eqb b 124)) (noBar t) h)
     ∙ ap (λ (w : List ℕ). w ∷ cutAtBars rest) (append-assoc s (b ∷ []) t)
   where
-    by : (c : Bool) → eqb b 124 ≡ c → T (not c) → cond c (s ∷ cutAtBars (t ++ (124 ∷ rest))) (cutAfter (s ++ (b ∷ [])) (t ++ (124 ∷ rest))) ≡ cutAfter (s ++ (b ∷ [])) (t ++ (124 ∷ rest))
+    by : (c : Bool) → eqb b 124 ≡ c → T (not c)
+        → cond c (s ∷ cutAtBars (t ++ (124 ∷ rest))) (cutAfter (s ++ (b ∷ [])) (t ++ (124 ∷ rest)))
+        ≡ cutAfter (s ++ (b ∷ [])) (t ++ (124 ∷ rest))
     by true e g = absurd g
     by false e g = refl
 

@@ -25,7 +25,8 @@ use Rattle.blocks.specs.Steps.{HasRoom, PutsPiece}
 pub plain-fits : (b : ℕ) (figures : List Float) (counts : List ℕ) → length (plainPiece b figures counts) ≤ plainMost b
 plain-fits b figures counts = by (isFigureMark b) (eqb b 78) figures counts
   where
-    by : (t u : Bool) (figures : List Float) (counts : List ℕ) → length (cond t (ofFirst (figureAs b) figures) (cond u (ofFirst countText counts) (b ∷ []))) ≤ cond t 44 (cond u 20 1)
+    by : (t u : Bool) (figures : List Float) (counts : List ℕ)
+        → length (cond t (ofFirst (figureAs b) figures) (cond u (ofFirst countText counts) (b ∷ []))) ≤ cond t 44 (cond u 20 1)
     by true u [] counts = omega arith
     by true u (x ∷ xs) counts = decimal-fits 6 (cond (eqb b 71) 3 0) false x
     by false true figures [] = omega arith
@@ -52,9 +53,16 @@ module _ (before : List ℕ) (p : Place) (b : ℕ) (figures : List Float) (count
     pub no-figure : p .figures ≤ length figures → length figures ≤ p .figures → PutsPiece plain before before p p b figures counts
     no-figure m g =
         let d = drop-of-length-le figures g in
-        record { put = rw (h, d) (nothing before (p .n)); next-figures = rw (h, d); next-counts = sym same-counts; figures-left = m; counts-left = k }
+        record {
+          put = rw (h, d) (nothing before (p .n));
+          next-figures = rw (h, d);
+          next-counts = sym same-counts;
+          figures-left = m;
+          counts-left = k;
+        }
 
-    pub figure-put : (after : List ℕ) (end : ℕ) → p .figures < length figures → Appended before (p .n) (figureAs b (getD figures (p .figures) nan)) after end
+    pub figure-put : (after : List ℕ) (end : ℕ) → p .figures < length figures
+        → Appended before (p .n) (figureAs b (getD figures (p .figures) nan)) after end
         → PutsPiece plain before after p (record { n = end; figures = p .figures + 1; counts = p .counts }) b figures counts
     figure-put after end g a =
         record {
@@ -76,9 +84,16 @@ module _ (before : List ℕ) (p : Place) (b : ℕ) (figures : List Float) (count
     pub no-count : p .counts ≤ length counts → length counts ≤ p .counts → PutsPiece plain before before p p b figures counts
     no-count m g =
         let d = drop-of-length-le counts g in
-        record { put = rw (no-mark, n, d) (nothing before (p .n)); next-figures = rw no-mark; next-counts = rw (n, d); figures-left = k; counts-left = m }
+        record {
+          put = rw (no-mark, n, d) (nothing before (p .n));
+          next-figures = rw no-mark;
+          next-counts = rw (n, d);
+          figures-left = k;
+          counts-left = m;
+        }
 
-    pub count-put : (after : List ℕ) (end : ℕ) → p .counts < length counts → Appended before (p .n) (countText (getD counts (p .counts) 0)) after end
+    pub count-put : (after : List ℕ) (end : ℕ) → p .counts < length counts
+        → Appended before (p .n) (countText (getD counts (p .counts) 0)) after end
         → PutsPiece plain before after p (record { n = end; figures = p .figures; counts = p .counts + 1 }) b figures counts
     count-put after end g a =
         record {
@@ -117,13 +132,16 @@ module _ (before : List ℕ) (p : Place) (b : ℕ) (figures : List Float) (count
 
 -- ---- a block's marks
 
-module _ (before : List ℕ) (p : Place) (b : ℕ) (figures : List Float) (counts : List ℕ) (i : p .figures ≤ length figures) (j : p .counts ≤ length counts) where
+module _ (before : List ℕ) (p : Place) (b : ℕ) (figures : List Float) (counts : List ℕ) (i : p .figures ≤ length figures)
+    (j : p .counts ≤ length counts) where
   -- a body's mark
-  pub body-put : isBodyMark b ≡ true → (after : List ℕ) (end : ℕ) → Appended before (p .n) (bodyPiece b (take (length figures - p .figures) (drop (p .figures) figures))) after end
+  pub body-put : isBodyMark b ≡ true → (after : List ℕ) (end : ℕ)
+      → Appended before (p .n) (bodyPiece b (take (length figures - p .figures) (drop (p .figures) figures))) after end
       → PutsPiece card before after p (record { n = end; figures = p .figures; counts = p .counts }) b figures counts
   body-put h after end d =
       let k = length-drop (p .figures) figures in
-      let a = subst (λ (fs : List Float). Appended before (p .n) (bodyPiece b fs) after end) (take-all (length figures - p .figures) (drop (p .figures) figures) (omega (arith, k))) d in
+      let a = subst (λ (fs : List Float). Appended before (p .n) (bodyPiece b fs) after end)
+      (take-all (length figures - p .figures) (drop (p .figures) figures) (omega (arith, k))) d in
       let u = unlike isBodyMark b in
       let x : isFigureMark b ≡ false = or-none (eqb b 71) (eqb b 70) (u 71 h refl) (u 70 h refl) in
       let y = or-none (eqb b 78) (eqb b 82) (u 78 h refl) (u 82 h refl) in
@@ -132,7 +150,8 @@ module _ (before : List ℕ) (p : Place) (b : ℕ) (figures : List Float) (count
       or-none : (s t : Bool) → s ≡ false → t ≡ false → (s || t) ≡ false
       or-none s t e f = rw (e, f)
 
-      by : (t : Bool) (piece other : List ℕ) → t ≡ true → Appended before (p .n) piece after end → Appended before (p .n) (cond t piece other) after end
+      by : (t : Bool) (piece other : List ℕ) → t ≡ true → Appended before (p .n) piece after end
+          → Appended before (p .n) (cond t piece other) after end
       by t piece other e a = subst (λ (t : Bool). Appended before (p .n) (cond t piece other) after end) (sym e) a
 
   -- `R`
@@ -152,9 +171,16 @@ module _ (before : List ℕ) (p : Place) (b : ℕ) (figures : List Float) (count
     pub no-refusal : length counts ≤ p .counts → PutsPiece card before before p p b figures counts
     no-refusal g =
         let d = drop-of-length-le counts g in
-        record { put = rw (no-b, is-r, d) (nothing before (p .n)); next-figures = rw no-f; next-counts = rw (no-n, is-r, d); figures-left = i; counts-left = j }
+        record {
+          put = rw (no-b, is-r, d) (nothing before (p .n));
+          next-figures = rw no-f;
+          next-counts = rw (no-n, is-r, d);
+          figures-left = i;
+          counts-left = j;
+        }
 
-    pub refusal-put : (after : List ℕ) (end : ℕ) → p .counts < length counts → Appended before (p .n) (refusalText (getD counts (p .counts) 0)) after end
+    pub refusal-put : (after : List ℕ) (end : ℕ) → p .counts < length counts
+        → Appended before (p .n) (refusalText (getD counts (p .counts) 0)) after end
         → PutsPiece card before after p (record { n = end; figures = p .figures; counts = p .counts + 1 }) b figures counts
     refusal-put after end g a =
         record {
@@ -166,7 +192,8 @@ module _ (before : List ℕ) (p : Place) (b : ℕ) (figures : List Float) (count
         }
 
   -- any other
-  pub other-put : isBodyMark b ≡ false → (b ≡ 82 → ⊥) → (after : List ℕ) (r : Place) → PutsPiece plain before after p r b figures counts → PutsPiece card before after p r b figures counts
+  pub other-put : isBodyMark b ≡ false → (b ≡ 82 → ⊥) → (after : List ℕ) (r : Place) → PutsPiece plain before after p r b figures counts
+      → PutsPiece card before after p r b figures counts
   other-put x g after r a =
       let y = ne-eqb b 82 g in
       record {
@@ -177,13 +204,16 @@ module _ (before : List ℕ) (p : Place) (b : ℕ) (figures : List Float) (count
         counts-left = a .counts-left;
       }
     where
-      or-false : (s t : Bool) → t ≡ false → cond (s || t) (drop 1 (drop (p .counts) counts)) (drop (p .counts) counts) ≡ cond s (drop 1 (drop (p .counts) counts)) (drop (p .counts) counts)
+      or-false : (s t : Bool) → t ≡ false → cond (s || t) (drop 1 (drop (p .counts) counts)) (drop (p .counts) counts)
+          ≡ cond s (drop 1 (drop (p .counts) counts)) (drop (p .counts) counts)
       or-false true t e = refl
       or-false false t e = ap (λ (t : Bool). cond t (drop 1 (drop (p .counts) counts)) (drop (p .counts) counts)) e
 
   module _ (m : HasRoom cardMost before p b figures counts) where
     pub body-room : isBodyMark b ≡ true → p .n + bodyMost b ≤ length before
-    body-room h = let q = m .bytes in let e : cardMost b ≡ bodyMost b = ap (λ (t : Bool). cond t (bodyMost b) (cond (eqb b 82) 180 (plainMost b))) h in omega (arith, q, e)
+    body-room h = let q = m .bytes in
+        let e : cardMost b ≡ bodyMost b = ap (λ (t : Bool). cond t (bodyMost b) (cond (eqb b 82) 180 (plainMost b))) h in
+        omega (arith, q, e)
 
     pub refusal-room : b ≡ 82 → p .n + 180 ≤ length before
     refusal-room h =
@@ -212,7 +242,8 @@ module _ (out after : List ℕ) (n r b : ℕ) (f : List Float) where
   pub mass-put : b ≡ 66 → Appended out n (filled plain massLine (massFigures f) []) after r → Appended out n (bodyPiece b f) after r
   mass-put h a = rw (eq-eqb b 66 h) a
 
-  pub moments-put : (b ≡ 66 → ⊥) → b ≡ 67 → Appended out n (filled plain momentLine (momentFigures f) []) after r → Appended out n (bodyPiece b f) after r
+  pub moments-put : (b ≡ 66 → ⊥) → b ≡ 67 → Appended out n (filled plain momentLine (momentFigures f) []) after r
+      → Appended out n (bodyPiece b f) after r
   moments-put g h a = rw (ne-eqb b 66 g, eq-eqb b 67 h) a
 
   pub mixed-put : (b ≡ 66 → ⊥) → (b ≡ 67 → ⊥) → Appended out n (mixedText f) after r → Appended out n (bodyPiece b f) after r

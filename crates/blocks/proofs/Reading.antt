@@ -31,15 +31,19 @@ module _ {A : Type 0} (f : List ℕ → List A) (g : ℕ → List A) (l : List �
   begins i = ap (λ (w : List ℕ). overWords f g w (drop i l)) (sym (part-none l i))
 
   byte : (w : List ℕ) (j : ℕ) (t : Bool) → j < length l → endsWord (getD l j 0) ≡ t
-      → overWords f g w (drop j l) ≡ cond t (f w ++ (g (getD l j 0) ++ overWords f g [] (drop (j + 1) l))) (overWords f g (w ++ (getD l j 0 ∷ [])) (drop (j + 1) l))
+      → overWords f g w (drop j l)
+      ≡ cond t (f w ++ (g (getD l j 0) ++ overWords f g [] (drop (j + 1) l))) (overWords f g (w ++ (getD l j 0 ∷ [])) (drop (j + 1) l))
   unfolding overWords
   byte w j t h e =
       ap (overWords f g w) (cons-at l j h)
-      ∙ ap (λ (t : Bool). cond t (f w ++ (g (getD l j 0) ++ overWords f g [] (drop (j + 1) l))) (overWords f g (w ++ (getD l j 0 ∷ [])) (drop (j + 1) l))) e
+      ∙ ap (λ (t : Bool). cond t (f w ++ (g (getD l j 0) ++ overWords f g [] (drop (j + 1) l)))
+      (overWords f g (w ++ (getD l j 0 ∷ [])) (drop (j + 1) l))) e
 
-  pub grows : (i j : ℕ) → i ≤ j → j < length l → endsWord (getD l j 0) ≡ false → overWords f g [] (drop i l) ≡ overWords f g (part l i j) (drop j l)
+  pub grows : (i j : ℕ) → i ≤ j → j < length l → endsWord (getD l j 0) ≡ false
+      → overWords f g [] (drop i l) ≡ overWords f g (part l i j) (drop j l)
       → overWords f g [] (drop i l) ≡ overWords f g (part l i (j + 1)) (drop (j + 1) l)
-  grows i j a h e t = t ∙ byte (part l i j) j false h e ∙ ap (λ (w : List ℕ). overWords f g w (drop (j + 1) l)) (sym (part-longer l i j a h))
+  grows i j a h e t = t ∙ byte (part l i j) j false h e
+      ∙ ap (λ (w : List ℕ). overWords f g w (drop (j + 1) l)) (sym (part-longer l i j a h))
 
   behind : (w : List ℕ) (j : ℕ) → length l ≤ j → overWords f g w (drop j l) ≡ f w
   unfolding overWords
@@ -50,7 +54,8 @@ module _ {A : Type 0} (f : List ℕ → List A) (g : ℕ → List A) (l : List �
       → overWords f g w (drop to l) ≡ f w ++ (cond (ltb to (length l)) (g (getD l to 0)) [] ++ overWords f g [] (drop (to + 1) l))
   word-ends w to z stops = by (ltb to (length l)) refl
     where
-      by : (t : Bool) → ltb to (length l) ≡ t → overWords f g w (drop to l) ≡ f w ++ (cond t (g (getD l to 0)) [] ++ overWords f g [] (drop (to + 1) l))
+      by : (t : Bool) → ltb to (length l) ≡ t
+          → overWords f g w (drop to l) ≡ f w ++ (cond t (g (getD l to 0)) [] ++ overWords f g [] (drop (to + 1) l))
       by true e = let h = ltb-true to (length l) e in byte w to true h (stops h)
       by false e =
           let h = ltb-false to (length l) e in
@@ -79,7 +84,8 @@ pub shape-short : (w : List ℕ) → length (wordShape w) ≤ length w
 shape-short [] = let e = ap length shape-of-none in omega (arith, e)
 shape-short (b ∷ bs) = by (figureOf (b ∷ bs)) (cappedCount (countOf (b ∷ bs))) (eqb (length (b ∷ bs)) 1)
   where
-    by : (k : Figure) (c : Count) (t : Bool) → length (byKind k c (λ x. 70 ∷ []) (λ n. 78 ∷ []) (cond t (63 ∷ []) (b ∷ bs))) ≤ length (b ∷ bs)
+    by : (k : Figure) (c : Count) (t : Bool)
+        → length (byKind k c (λ x. 70 ∷ []) (λ n. 78 ∷ []) (cond t (63 ∷ []) (b ∷ bs))) ≤ length (b ∷ bs)
     by (Number x) c t = omega arith
     by NotFigure (Whole n) t = omega arith
     by NotFigure NotCount true = omega arith
@@ -106,65 +112,88 @@ counts-short (b ∷ bs) = by (figureOf (b ∷ bs)) (cappedCount (countOf (b ∷ 
 -- ---- what a word gives, by what it is
 
 module _ (w : List ℕ) (p r : Read) (shape shape' : List ℕ) where
-  pub other-count : (n : ℕ) (counts counts' : List ℕ) → Whole n ≡ cappedCount (countOf w) → PutsCount n p r shape shape' counts counts' → PutsOther w p r shape shape' counts counts'
+  pub other-count : (n : ℕ) (counts counts' : List ℕ) → Whole n ≡ cappedCount (countOf w) → PutsCount n p r shape shape' counts counts'
+      → PutsOther w p r shape shape' counts counts'
   other-count n counts counts' e h =
       record {
-        of-shape = subst (λ (k : Count). Appended shape (p .bytes) (byKind NotFigure k (λ x. 70 ∷ []) (λ n. 78 ∷ []) (otherShape w)) shape' (r .bytes)) e (h .of-shape);
-        of-counts = subst (λ (k : Count). Grown counts (p .counts) (byKind NotFigure k (λ x. []) (λ n. n ∷ []) []) counts' (r .counts)) e (h .of-counts);
+        of-shape = subst (λ (k : Count). Appended shape (p .bytes) (byKind NotFigure k (λ x. 70 ∷ []) (λ n. 78 ∷ []) (otherShape w)) shape'
+            (r .bytes)) e (h .of-shape);
+        of-counts = subst (λ (k : Count). Grown counts (p .counts) (byKind NotFigure k (λ x. []) (λ n. n ∷ []) []) counts' (r .counts)) e
+            (h .of-counts);
         same-figures = h .same-figures;
       }
 
-  other-plain : (counts : List ℕ) → NotCount ≡ cappedCount (countOf w) → PutsPlain (otherShape w) p r shape shape' → PutsOther w p r shape shape' counts counts
+  other-plain : (counts : List ℕ) → NotCount ≡ cappedCount (countOf w) → PutsPlain (otherShape w) p r shape shape'
+      → PutsOther w p r shape shape' counts counts
   other-plain counts e h =
       record {
-        of-shape = subst (λ (k : Count). Appended shape (p .bytes) (byKind NotFigure k (λ x. 70 ∷ []) (λ n. 78 ∷ []) (otherShape w)) shape' (r .bytes)) e (h .of-shape);
-        of-counts = subst (λ (k : Count). Grown counts (p .counts) (byKind NotFigure k (λ x. []) (λ n. n ∷ []) []) counts (r .counts)) e (unchanged counts (p .counts) (r .counts) (h .same-counts));
+        of-shape = subst (λ (k : Count). Appended shape (p .bytes) (byKind NotFigure k (λ x. 70 ∷ []) (λ n. 78 ∷ []) (otherShape w)) shape'
+            (r .bytes)) e (h .of-shape);
+        of-counts = subst (λ (k : Count). Grown counts (p .counts) (byKind NotFigure k (λ x. []) (λ n. n ∷ []) []) counts (r .counts)) e
+            (unchanged counts (p .counts) (r .counts) (h .same-counts));
         same-figures = h .same-figures;
       }
 
-  pub other-byte : (counts : List ℕ) → NotCount ≡ cappedCount (countOf w) → length w ≡ 1 → PutsPlain (63 ∷ []) p r shape shape' → PutsOther w p r shape shape' counts counts
+  pub other-byte : (counts : List ℕ) → NotCount ≡ cappedCount (countOf w) → length w ≡ 1 → PutsPlain (63 ∷ []) p r shape shape'
+      → PutsOther w p r shape shape' counts counts
   other-byte counts e one h =
       other-plain counts e (subst (λ (t : Bool). PutsPlain (cond t (63 ∷ []) w) p r shape shape') (sym (eq-eqb (length w) 1 one)) h)
 
-  pub other-bytes : (counts : List ℕ) → NotCount ≡ cappedCount (countOf w) → (length w ≡ 1 → ⊥) → PutsPlain w p r shape shape' → PutsOther w p r shape shape' counts counts
+  pub other-bytes : (counts : List ℕ) → NotCount ≡ cappedCount (countOf w) → (length w ≡ 1 → ⊥) → PutsPlain w p r shape shape'
+      → PutsOther w p r shape shape' counts counts
   other-bytes counts e many h =
       other-plain counts e (subst (λ (t : Bool). PutsPlain (cond t (63 ∷ []) w) p r shape shape') (sym (ne-eqb (length w) 1 many)) h)
 
-  pub word-figure : (x : Float) (figures figures' : List Float) (counts : List ℕ) → Number x ≡ figureOf w → PutsFigure x p r shape shape' figures figures' → PutsWord w p r shape shape' figures figures' counts counts
+  pub word-figure : (x : Float) (figures figures' : List Float) (counts : List ℕ) → Number x ≡ figureOf w
+      → PutsFigure x p r shape shape' figures figures' → PutsWord w p r shape shape' figures figures' counts counts
   word-figure x figures figures' counts e h =
       record {
-        of-shape = subst (λ (k : Figure). Appended shape (p .bytes) (byKind k (cappedCount (countOf w)) (λ x. 70 ∷ []) (λ n. 78 ∷ []) (otherShape w)) shape' (r .bytes)) e (h .of-shape);
-        of-figures = subst (λ (k : Figure). Grown figures (p .figures) (byKind k (cappedCount (countOf w)) (λ x. x ∷ []) (λ n. []) []) figures' (r .figures)) e (h .of-figures);
-        of-counts = subst (λ (k : Figure). Grown counts (p .counts) (byKind k (cappedCount (countOf w)) (λ x. []) (λ n. n ∷ []) []) counts (r .counts)) e (unchanged counts (p .counts) (r .counts) (h .same-counts));
+        of-shape = subst (λ (k : Figure). Appended shape (p .bytes)
+            (byKind k (cappedCount (countOf w)) (λ x. 70 ∷ []) (λ n. 78 ∷ []) (otherShape w)) shape' (r .bytes)) e (h .of-shape);
+        of-figures = subst (λ (k : Figure). Grown figures (p .figures) (byKind k (cappedCount (countOf w)) (λ x. x ∷ []) (λ n. []) [])
+            figures' (r .figures)) e (h .of-figures);
+        of-counts = subst (λ (k : Figure). Grown counts (p .counts) (byKind k (cappedCount (countOf w)) (λ x. []) (λ n. n ∷ []) []) counts
+            (r .counts)) e (unchanged counts (p .counts) (r .counts) (h .same-counts));
       }
 
-  pub word-other : (figures : List Float) (counts counts' : List ℕ) → NotFigure ≡ figureOf w → PutsOther w p r shape shape' counts counts' → PutsWord w p r shape shape' figures figures counts counts'
+  pub word-other : (figures : List Float) (counts counts' : List ℕ) → NotFigure ≡ figureOf w → PutsOther w p r shape shape' counts counts'
+      → PutsWord w p r shape shape' figures figures counts counts'
   word-other figures counts counts' e h =
       record {
-        of-shape = subst (λ (k : Figure). Appended shape (p .bytes) (byKind k (cappedCount (countOf w)) (λ x. 70 ∷ []) (λ n. 78 ∷ []) (otherShape w)) shape' (r .bytes)) e (h .of-shape);
-        of-figures = subst (λ (k : Figure). Grown figures (p .figures) (byKind k (cappedCount (countOf w)) (λ x. x ∷ []) (λ n. []) []) figures (r .figures)) e (none (cappedCount (countOf w)));
-        of-counts = subst (λ (k : Figure). Grown counts (p .counts) (byKind k (cappedCount (countOf w)) (λ x. []) (λ n. n ∷ []) []) counts' (r .counts)) e (h .of-counts);
+        of-shape = subst (λ (k : Figure). Appended shape (p .bytes)
+            (byKind k (cappedCount (countOf w)) (λ x. 70 ∷ []) (λ n. 78 ∷ []) (otherShape w)) shape' (r .bytes)) e (h .of-shape);
+        of-figures = subst (λ (k : Figure). Grown figures (p .figures) (byKind k (cappedCount (countOf w)) (λ x. x ∷ []) (λ n. []) [])
+            figures (r .figures)) e (none (cappedCount (countOf w)));
+        of-counts = subst (λ (k : Figure). Grown counts (p .counts) (byKind k (cappedCount (countOf w)) (λ x. []) (λ n. n ∷ []) []) counts'
+            (r .counts)) e (h .of-counts);
       }
     where
       none : (c : Count) → Grown figures (p .figures) (byKind {A = List Float} NotFigure c (λ x. x ∷ []) (λ n. []) []) figures (r .figures)
       none (Whole n) = unchanged figures (p .figures) (r .figures) (h .same-figures)
       none NotCount = unchanged figures (p .figures) (r .figures) (h .same-figures)
 
-pub word-none : (w : List ℕ) (p : Read) (shape : List ℕ) (figures : List Float) (counts : List ℕ) → length w ≡ 0 → PutsWord w p p shape shape figures figures counts counts
+pub word-none : (w : List ℕ) (p : Read) (shape : List ℕ) (figures : List Float) (counts : List ℕ) → length w ≡ 0
+    → PutsWord w p p shape shape figures figures counts counts
 word-none w p shape figures counts h =
     let e = no-word w h in
     record {
-      of-shape = subst (λ (t : List ℕ). Appended shape (p .bytes) t shape (p .bytes)) (sym (ap wordShape e ∙ shape-of-none)) (nothing shape (p .bytes));
-      of-figures = subst (λ (t : List Float). Grown figures (p .figures) t figures (p .figures)) (sym (ap wordFigures e ∙ figures-of-none)) (unchanged figures (p .figures) (p .figures) refl);
-      of-counts = subst (λ (t : List ℕ). Grown counts (p .counts) t counts (p .counts)) (sym (ap wordCounts e ∙ counts-of-none)) (unchanged counts (p .counts) (p .counts) refl);
+      of-shape = subst (λ (t : List ℕ). Appended shape (p .bytes) t shape (p .bytes)) (sym (ap wordShape e ∙ shape-of-none))
+          (nothing shape (p .bytes));
+      of-figures = subst (λ (t : List Float). Grown figures (p .figures) t figures (p .figures)) (sym (ap wordFigures e ∙ figures-of-none))
+          (unchanged figures (p .figures) (p .figures) refl);
+      of-counts = subst (λ (t : List ℕ). Grown counts (p .counts) t counts (p .counts)) (sym (ap wordCounts e ∙ counts-of-none))
+          (unchanged counts (p .counts) (p .counts) refl);
     }
 
 -- ---- the byte that ends a word
 
-pub end-byte : (line shape : List ℕ) (p : Read) (to : ℕ) → to < length line → p .bytes < length shape → PutsPlain (endBytes line to) p (record { bytes = p .bytes + 1; figures = p .figures; counts = p .counts }) shape (set shape (p .bytes) (getD line to 0))
+pub end-byte : (line shape : List ℕ) (p : Read) (to : ℕ) → to < length line → p .bytes < length shape
+    → PutsPlain (endBytes line to) p (record { bytes = p .bytes + 1; figures = p .figures; counts = p .counts }) shape
+    (set shape (p .bytes) (getD line to 0))
 end-byte line shape p to h g =
     record {
-      of-shape = subst (λ (t : Bool). Appended shape (p .bytes) (cond t (getD line to 0 ∷ []) []) (set shape (p .bytes) (getD line to 0)) (p .bytes + 1)) (sym (lt-ltb to (length line) h)) (byte-put shape (p .bytes) (getD line to 0) g);
+      of-shape = subst (λ (t : Bool). Appended shape (p .bytes) (cond t (getD line to 0 ∷ []) []) (set shape (p .bytes) (getD line to 0))
+          (p .bytes + 1)) (sym (lt-ltb to (length line) h)) (byte-put shape (p .bytes) (getD line to 0) g);
       same-figures = refl;
       same-counts = refl;
     }
@@ -172,7 +201,8 @@ end-byte line shape p to h g =
 pub no-byte : (line shape : List ℕ) (p : Read) (to : ℕ) → length line ≤ to → PutsPlain (endBytes line to) p p shape shape
 no-byte line shape p to h =
     record {
-      of-shape = subst (λ (t : Bool). Appended shape (p .bytes) (cond t (getD line to 0 ∷ []) []) shape (p .bytes)) (sym (le-ltb to (length line) h)) (nothing shape (p .bytes));
+      of-shape = subst (λ (t : Bool). Appended shape (p .bytes) (cond t (getD line to 0 ∷ []) []) shape (p .bytes))
+          (sym (le-ltb to (length line) h)) (nothing shape (p .bytes));
       same-figures = refl;
       same-counts = refl;
     }
@@ -191,7 +221,8 @@ pub record SoFar (line : List ℕ) (r : Read) (i : ℕ) (shape : List ℕ) (figu
   pub counts-fit : r .counts ≤ length line
   pub within : i ≤ length line + 1
 
-pub nothing-read : (line shape : List ℕ) (figures : List Float) (counts : List ℕ) → SoFar line (record { bytes = 0; figures = 0; counts = 0 }) 0 shape figures counts
+pub nothing-read : (line shape : List ℕ) (figures : List Float) (counts : List ℕ)
+    → SoFar line (record { bytes = 0; figures = 0; counts = 0 }) 0 shape figures counts
 nothing-read line shape figures counts =
     record {
       of-shape = refl;
@@ -207,7 +238,8 @@ nothing-read line shape figures counts =
     }
 
 -- one list: what was there, a word's share, and the rest
-joined : {A : Type 0} (whole before more rest after : List A) → whole ≡ before ++ (more ++ rest) → after ≡ before ++ more → whole ≡ after ++ rest
+joined : {A : Type 0} (whole before more rest after : List A) → whole ≡ before ++ (more ++ rest) → after ≡ before ++ more
+    → whole ≡ after ++ rest
 joined whole before more rest after e f = e ∙ sym (append-assoc before more rest) ∙ ap (λ (t : _). t ++ rest) (sym f)
 
 nothing-between : {A : Type 0} (t : Bool) (rest : List A) → cond t [] [] ++ rest ≡ rest
@@ -228,8 +260,10 @@ end-short l to = by (ltb to (length l))
 no-end : (l : List ℕ) (to : ℕ) → length l ≤ to → length (endBytes l to) ≡ 0
 no-end l to h = ap (λ (t : Bool). length (cond t (getD l to 0 ∷ []) [])) (le-ltb to (length l) h)
 
-module _ (line : List ℕ) (r w q : Read) (i to : ℕ) (shape shape₁ shape₂ : List ℕ) (figures figures₁ : List Float) (counts counts₁ : List ℕ) (v : SoFar line r i shape figures counts) (e : IsEnd line i to)
-    (put : PutsWord (part line i to) r w shape shape₁ figures figures₁ counts counts₁) (end : PutsPlain (endBytes line to) w q shape₁ shape₂) where
+module _ (line : List ℕ) (r w q : Read) (i to : ℕ) (shape shape₁ shape₂ : List ℕ) (figures figures₁ : List Float) (counts counts₁ : List ℕ)
+    (v : SoFar line r i shape figures counts) (e : IsEnd line i to)
+    (put : PutsWord (part line i to) r w shape shape₁ figures figures₁ counts counts₁)
+    (end : PutsPlain (endBytes line to) w q shape₁ shape₂) where
   pub one-word : SoFar line q (to + 1) shape₂ figures₁ counts₁
   one-word =
       let l = part-length line i to (e .behind) (e .within) in
@@ -250,18 +284,26 @@ module _ (line : List ℕ) (r w q : Read) (i to : ℕ) (shape shape₁ shape₂ 
       let vc = v .counts-behind in
       record {
         of-shape =
-            joined (shapeIn line) (take (r .bytes) shape) (wordShape (part line i to) ++ endBytes line to) (overWords wordShape (λ b. b ∷ []) [] (drop (to + 1) line)) (take (q .bytes) shape₂)
-            (v .of-shape ∙ ap (λ (t : List ℕ). take (r .bytes) shape ++ t) (e .shape ∙ word-ends wordShape (λ b. b ∷ []) line (part line i to) to shape-of-none (e .stops) ∙ sym (append-assoc (wordShape (part line i to)) (endBytes line to) _)))
-            (end .of-shape .holds ∙ ap (λ (t : List ℕ). t ++ endBytes line to) (put .of-shape .holds) ∙ append-assoc (take (r .bytes) shape) (wordShape (part line i to)) (endBytes line to));
+            joined (shapeIn line) (take (r .bytes) shape) (wordShape (part line i to) ++ endBytes line to)
+            (overWords wordShape (λ b. b ∷ []) [] (drop (to + 1) line)) (take (q .bytes) shape₂)
+            (v .of-shape ∙ ap (λ (t : List ℕ). take (r .bytes) shape ++ t)
+            (e .shape ∙ word-ends wordShape (λ b. b ∷ []) line (part line i to) to shape-of-none (e .stops)
+            ∙ sym (append-assoc (wordShape (part line i to)) (endBytes line to) _)))
+            (end .of-shape .holds ∙ ap (λ (t : List ℕ). t ++ endBytes line to) (put .of-shape .holds)
+            ∙ append-assoc (take (r .bytes) shape) (wordShape (part line i to)) (endBytes line to));
         of-figures =
-            joined (figuresIn line) (take (r .figures) figures) (wordFigures (part line i to)) (overWords wordFigures (λ b. []) [] (drop (to + 1) line)) (take (q .figures) figures₁)
+            joined (figuresIn line) (take (r .figures) figures) (wordFigures (part line i to))
+            (overWords wordFigures (λ b. []) [] (drop (to + 1) line)) (take (q .figures) figures₁)
             (v .of-figures ∙ ap (λ (t : List Float). take (r .figures) figures ++ t)
-            (e .figures ∙ word-ends wordFigures (λ b. []) line (part line i to) to figures-of-none (e .stops) ∙ ap (λ (t : List Float). wordFigures (part line i to) ++ t) (nothing-between (ltb to (length line)) _)))
+            (e .figures ∙ word-ends wordFigures (λ b. []) line (part line i to) to figures-of-none (e .stops)
+            ∙ ap (λ (t : List Float). wordFigures (part line i to) ++ t) (nothing-between (ltb to (length line)) _)))
             (ap (λ (k : ℕ). take k figures₁) sf ∙ put .of-figures .holds);
         of-counts =
-            joined (countsIn line) (take (r .counts) counts) (wordCounts (part line i to)) (overWords wordCounts (λ b. []) [] (drop (to + 1) line)) (take (q .counts) counts₁)
+            joined (countsIn line) (take (r .counts) counts) (wordCounts (part line i to))
+            (overWords wordCounts (λ b. []) [] (drop (to + 1) line)) (take (q .counts) counts₁)
             (v .of-counts ∙ ap (λ (t : List ℕ). take (r .counts) counts ++ t)
-            (e .counts ∙ word-ends wordCounts (λ b. []) line (part line i to) to counts-of-none (e .stops) ∙ ap (λ (t : List ℕ). wordCounts (part line i to) ++ t) (nothing-between (ltb to (length line)) _)))
+            (e .counts ∙ word-ends wordCounts (λ b. []) line (part line i to) to counts-of-none (e .stops)
+            ∙ ap (λ (t : List ℕ). wordCounts (part line i to) ++ t) (nothing-between (ltb to (length line)) _)))
             (ap (λ (k : ℕ). take k counts₁) sc ∙ put .of-counts .holds);
         bytes-behind = omega (arith, l, s, b, se, be, vb, behind);
         bytes-fit = fit (ltb to (length line)) refl;
@@ -295,12 +337,16 @@ module _ (line : List ℕ) (r w q : Read) (i to : ℕ) (shape shape₁ shape₂ 
           let m = e .within in
           omega (arith, h, l, s, b, se, be, vb, k, m)
 
-pub all-read : (line : List ℕ) (r : Read) (i : ℕ) (shape : List ℕ) (figures : List Float) (counts : List ℕ) → SoFar line r i shape figures counts → length line ≤ i → IsRead line r shape figures counts
+pub all-read : (line : List ℕ) (r : Read) (i : ℕ) (shape : List ℕ) (figures : List Float) (counts : List ℕ)
+    → SoFar line r i shape figures counts → length line ≤ i → IsRead line r shape figures counts
 all-read line r i shape figures counts v h =
     record {
-      of-shape = sym (v .of-shape ∙ ap (λ (t : List ℕ). take (r .bytes) shape ++ t) (behind wordShape (λ b. b ∷ []) line [] i h ∙ shape-of-none) ∙ append-nil (take (r .bytes) shape));
-      of-figures = sym (v .of-figures ∙ ap (λ (t : List Float). take (r .figures) figures ++ t) (behind wordFigures (λ b. []) line [] i h ∙ figures-of-none) ∙ append-nil (take (r .figures) figures));
-      of-counts = sym (v .of-counts ∙ ap (λ (t : List ℕ). take (r .counts) counts ++ t) (behind wordCounts (λ b. []) line [] i h ∙ counts-of-none) ∙ append-nil (take (r .counts) counts));
+      of-shape = sym (v .of-shape ∙ ap (λ (t : List ℕ). take (r .bytes) shape ++ t)
+          (behind wordShape (λ b. b ∷ []) line [] i h ∙ shape-of-none) ∙ append-nil (take (r .bytes) shape));
+      of-figures = sym (v .of-figures ∙ ap (λ (t : List Float). take (r .figures) figures ++ t)
+          (behind wordFigures (λ b. []) line [] i h ∙ figures-of-none) ∙ append-nil (take (r .figures) figures));
+      of-counts = sym (v .of-counts ∙ ap (λ (t : List ℕ). take (r .counts) counts ++ t)
+          (behind wordCounts (λ b. []) line [] i h ∙ counts-of-none) ∙ append-nil (take (r .counts) counts));
       bytes-fit = v .bytes-fit;
       figures-fit = v .figures-fit;
       counts-fit = v .counts-fit;

@@ -22,8 +22,10 @@ use Rattle.blocks.specs.Words.{shapeIn, figuresIn, countsIn}
 use Rattle.blocks.specs.Steps.{IsRead}
 use Rattle.blocks.specs.Tables.{textFor, withBars, noBar, noBars}
 use Rattle.blocks.specs.Filled.{ofFirst, plainPiece, plain, filled, room, plainMost}
-use Rattle.blocks.specs.Cards.{all, newline, orElse, sentences, refusalText, cardPiece, cardMost, card, cards, noAnswer, shown, blockOf}
-use Rattle.blocks.specs.Cards.{largestFrom, besideFrom, massFigures, massLine, momentAt, momentFigures, momentLine, allZero, mixedFigures, mixedLine, mixedText, isBodyMark, bodyPiece, bodyMost}
+use Rattle.blocks.specs.Cards.{all, newline, orElse, sentences, refusalText, cardPiece, cardMost, card, cards, noAnswer, shown}
+use Rattle.blocks.specs.Cards.{blockOf}
+use Rattle.blocks.specs.Cards.{largestFrom, besideFrom, massFigures, massLine, momentAt, momentFigures, momentLine, allZero}
+use Rattle.blocks.specs.Cards.{mixedFigures, mixedLine, mixedText, isBodyMark, bodyPiece, bodyMost}
 use Rattle.blocks.proofs.Bars.{cut-into}
 use Rattle.blocks.proofs.Pieces.{plain-fits}
 use Rattle.blocks.proofs.Whole.{filled-fits}
@@ -38,7 +40,8 @@ no-text t other h = ap (λ (c : Bool). cond c t other) (lt-leb 1 (length t) (ome
 
 module _ (out after p t other : List ℕ) (n r : ℕ) (e : p ≡ t) where
   pub text-found : 0 < length p → Appended out n p after r → Appended out n (orElse t other) after r
-  text-found h a = subst (λ (x : List ℕ). Appended out n x after r) (e ∙ sym (some-text t other (subst (λ (x : List ℕ). 0 < length x) e h))) a
+  text-found h a = subst (λ (x : List ℕ). Appended out n x after r) (e ∙ sym (some-text t other (subst (λ (x : List ℕ). 0 < length x) e h)))
+      a
 
   pub text-none : length p ≡ 0 → Appended out n other after r → Appended out n (orElse t other) after r
   text-none h a = subst (λ (x : List ℕ). Appended out n x after r) (sym (no-text t other (ap length (sym e) ∙ h))) a
@@ -49,7 +52,8 @@ abbrev pub each : (List ℕ → Bool) → List (List ℕ) → Bool
 each f [] = true
 each f (t ∷ ts) = f t && each f ts
 
-pub at-most : (m : List ℕ → ℕ) (k : ℕ) (key : List ℕ) (ts : List (List ℕ)) → m [] ≤ k → T (each (λ t. leb (m t) k) ts) → m (textFor key ts) ≤ k
+pub at-most : (m : List ℕ → ℕ) (k : ℕ) (key : List ℕ) (ts : List (List ℕ)) → m [] ≤ k → T (each (λ t. leb (m t) k) ts)
+    → m (textFor key ts) ≤ k
 unfolding textFor
 at-most m k key [] o h = o
 at-most m k key (s ∷ []) o h = o
@@ -79,7 +83,8 @@ module _ (table key : List ℕ) (e : table ≡ withBars sentences) where
   pub short-in-table : length (textFor key (cutAtBars table)) ≤ 150
   short-in-table = subst (λ (ts : List (List ℕ)). length (textFor key ts) ≤ 150) (sym cut) (sentence-short key)
 
-  pub said : (out after other : List ℕ) (n r : ℕ) → Appended out n (orElse (textFor key (cutAtBars table)) other) after r → Appended out n (orElse (textFor key sentences) other) after r
+  pub said : (out after other : List ℕ) (n r : ℕ) → Appended out n (orElse (textFor key (cutAtBars table)) other) after r
+      → Appended out n (orElse (textFor key sentences) other) after r
   said out after other n r a = subst (λ (ts : List (List ℕ)). Appended out n (orElse (textFor key ts) other) after r) cut a
 
 sentence-or-none : (key : List ℕ) → length (orElse (textFor key sentences) (text "no number of the table")) ≤ 150
@@ -111,7 +116,8 @@ module _ (line : List ℕ) (most : ℕ) (h : room plainMost line ≤ most) where
   pub line-asked : (n k : ℕ) → n + most ≤ k → n + room plainMost line ≤ k
   line-asked n k g = omega (arith, g, h)
 
-pub line-said : (out after line : List ℕ) (fs gs : List Float) (n r : ℕ) → gs ≡ fs → Appended out n (filled plain line gs []) after r → Appended out n (filled plain line fs []) after r
+pub line-said : (out after line : List ℕ) (fs gs : List Float) (n r : ℕ) → gs ≡ fs → Appended out n (filled plain line gs []) after r
+    → Appended out n (filled plain line fs []) after r
 line-said out after line fs gs n r e a = subst (λ (x : List Float). Appended out n (filled plain line x []) after r) e a
 
 pub mass-line-room : room plainMost massLine ≤ 130
@@ -130,7 +136,8 @@ body-fits : (b : ℕ) (figures : List Float) → length (bodyPiece b figures) �
 body-fits b figures = by (eqb b 66) (eqb b 67) (allZero (momentAt figures 7) (momentAt figures 8) (momentAt figures 9))
   where
     by : (s t z : Bool)
-        → length (cond s (filled plain massLine (massFigures figures) []) (cond t (filled plain momentLine (momentFigures figures) []) (cond z [] (filled plain mixedLine (mixedFigures figures) []))))
+        → length (cond s (filled plain massLine (massFigures figures) [])
+        (cond t (filled plain momentLine (momentFigures figures) []) (cond z [] (filled plain mixedLine (mixedFigures figures) []))))
         ≤ cond s 130 (cond t 330 200)
     by true t z = line-fits massLine 130 mass-line-room (massFigures figures)
     by false true z = line-fits momentLine 330 moment-line-room (momentFigures figures)
@@ -140,7 +147,9 @@ body-fits b figures = by (eqb b 66) (eqb b 67) (allZero (momentAt figures 7) (mo
 pub card-fits : (b : ℕ) (figures : List Float) (counts : List ℕ) → length (cardPiece b figures counts) ≤ cardMost b
 card-fits b figures counts = by (isBodyMark b) (eqb b 82) counts
   where
-    by : (s t : Bool) (counts : List ℕ) → length (cond s (bodyPiece b figures) (cond t (ofFirst refusalText counts) (plainPiece b figures counts))) ≤ cond s (bodyMost b) (cond t 180 (plainMost b))
+    by : (s t : Bool) (counts : List ℕ) → length
+        (cond s (bodyPiece b figures) (cond t (ofFirst refusalText counts) (plainPiece b figures counts))) ≤ cond s (bodyMost b)
+        (cond t 180 (plainMost b))
     by true t counts = body-fits b figures
     by false true [] = omega arith
     by false true (n ∷ ns) = refusal-fits n
@@ -162,15 +171,18 @@ module _ (table key : List ℕ) (e : table ≡ withBars cards) where
   room-in-table = subst (λ (ts : List (List ℕ)). room cardMost (textFor key ts) ≤ 1000) (sym cards-in) (card-room key)
 
   pub shown-from : (out after : List ℕ) (figures : List Float) (counts : List ℕ) (n r : ℕ)
-      → Appended out n (orElse (filled card (textFor key (cutAtBars table)) figures counts) noAnswer ++ newline) after r → Appended out n (shown key figures counts) after r
-  shown-from out after figures counts n r a = subst (λ (ts : List (List ℕ)). Appended out n (orElse (filled card (textFor key ts) figures counts) noAnswer ++ newline) after r) cards-in a
+      → Appended out n (orElse (filled card (textFor key (cutAtBars table)) figures counts) noAnswer ++ newline) after r
+      → Appended out n (shown key figures counts) after r
+  shown-from out after figures counts n r a = subst (λ (ts : List (List ℕ)). Appended out n
+      (orElse (filled card (textFor key ts) figures counts) noAnswer ++ newline) after r) cards-in a
 
 -- a block that is there, and its empty line; or that there is none
 module _ (out between after t other : List ℕ) (n m r : ℕ) (first : Appended out n t between m) where
   pub block-put : n < m → Appended between m newline after r → Appended out n (orElse t other ++ newline) after r
   block-put h a =
       let e = first .ends in
-      subst (λ (x : List ℕ). Appended out n (x ++ newline) after r) (sym (some-text t other (omega (arith, h, e)))) (then out between after n m r t newline first a)
+      subst (λ (x : List ℕ). Appended out n (x ++ newline) after r) (sym (some-text t other (omega (arith, h, e))))
+      (then out between after n m r t newline first a)
 
   pub none-put : m ≤ n → Appended between n (other ++ newline) after r → Appended out n (orElse t other ++ newline) after r
   none-put h a =
@@ -211,9 +223,11 @@ module _ (out after : List ℕ) (figures : List Float) (n r : ℕ) (xy xz yz : F
 
     pub none-mixed : t ≡ true → Appended out n (mixedText figures) out n
     none-mixed h =
-        subst (λ (u : Bool). Appended out n (cond u [] (filled plain mixedLine (mixedFigures figures) [])) out n) (sym h ∙ tested) (nothing out n)
+        subst (λ (u : Bool). Appended out n (cond u [] (filled plain mixedLine (mixedFigures figures) [])) out n) (sym h ∙ tested)
+        (nothing out n)
 
-    pub some-mixed : t ≡ false → Appended out n (filled plain mixedLine (xy ∷ xz ∷ yz ∷ []) []) after r → Appended out n (mixedText figures) after r
+    pub some-mixed : t ≡ false → Appended out n (filled plain mixedLine (xy ∷ xz ∷ yz ∷ []) []) after r
+        → Appended out n (mixedText figures) after r
     some-mixed h d =
         subst (λ (u : Bool). Appended out n (cond u [] (filled plain mixedLine (mixedFigures figures) [])) after r) (sym h ∙ tested)
         (subst (λ (fs : List Float). Appended out n (filled plain mixedLine fs []) after r) same d)
@@ -223,11 +237,13 @@ module _ (out after : List ℕ) (figures : List Float) (n r : ℕ) (xy xz yz : F
 pub found-room : (p t : List ℕ) (n k : ℕ) → p ≡ t → room cardMost t ≤ 1000 → n + 1024 ≤ k → n + room cardMost p ≤ k
 found-room p t n k e h g = let f = ap (room cardMost) e in omega (arith, f, h, g)
 
-pub found-filled : (out after p t : List ℕ) (figures : List Float) (counts : List ℕ) (n m : ℕ) → p ≡ t → Appended out n (filled card p figures counts) after m → Appended out n (filled card t figures counts) after m
+pub found-filled : (out after p t : List ℕ) (figures : List Float) (counts : List ℕ) (n m : ℕ) → p ≡ t
+    → Appended out n (filled card p figures counts) after m → Appended out n (filled card t figures counts) after m
 found-filled out after p t figures counts n m e a = subst (λ (x : List ℕ). Appended out n (filled card x figures counts) after m) e a
 
 -- a block is no longer than its room
-pub card-short : (out after p t : List ℕ) (figures : List Float) (counts : List ℕ) (n m : ℕ) → p ≡ t → room cardMost t ≤ 1000 → Appended out n (filled card p figures counts) after m → m ≤ n + 1000
+pub card-short : (out after p t : List ℕ) (figures : List Float) (counts : List ℕ) (n m : ℕ) → p ≡ t → room cardMost t ≤ 1000
+    → Appended out n (filled card p figures counts) after m → m ≤ n + 1000
 card-short out after p t figures counts n m e h a =
     let f = filled-fits card cardMost card-fits p figures counts in
     let g = a .ends in
@@ -236,16 +252,21 @@ card-short out after p t figures counts n m e h a =
 
 -- ---- a line
 
-pub long-line : (line out after : List ℕ) (n r : ℕ) → 512 < length line → Appended out n (noAnswer ++ newline) after r → Appended out n (blockOf line) after r
+pub long-line : (line out after : List ℕ) (n r : ℕ) → 512 < length line → Appended out n (noAnswer ++ newline) after r
+    → Appended out n (blockOf line) after r
 unfolding blockOf
 long-line line out after n r h a =
-    subst (λ (c : Bool). Appended out n (cond c (shown (shapeIn line) (figuresIn line) (countsIn line)) (noAnswer ++ newline)) after r) (sym (lt-leb (length line) 512 h)) a
+    subst (λ (c : Bool). Appended out n (cond c (shown (shapeIn line) (figuresIn line) (countsIn line)) (noAnswer ++ newline)) after r)
+    (sym (lt-leb (length line) 512 h)) a
 
-pub answer-line : (line : List ℕ) (p : Read) (shape : List ℕ) (figures : List Float) (counts out after : List ℕ) (n r : ℕ) → length line ≤ 512 → IsRead line p shape figures counts
-    → Appended out n (shown (take (p .bytes) shape) (take (p .figures) figures) (take (p .counts) counts)) after r → Appended out n (blockOf line) after r
+pub answer-line : (line : List ℕ) (p : Read) (shape : List ℕ) (figures : List Float) (counts out after : List ℕ) (n r : ℕ)
+    → length line ≤ 512 → IsRead line p shape figures counts
+    → Appended out n (shown (take (p .bytes) shape) (take (p .figures) figures) (take (p .counts) counts)) after r
+    → Appended out n (blockOf line) after r
 unfolding blockOf
 answer-line line p shape figures counts out after n r h d a =
-    subst (λ (c : Bool). Appended out n (cond c (shown (shapeIn line) (figuresIn line) (countsIn line)) (noAnswer ++ newline)) after r) (sym (le-leb (length line) 512 h))
+    subst (λ (c : Bool). Appended out n (cond c (shown (shapeIn line) (figuresIn line) (countsIn line)) (noAnswer ++ newline)) after r)
+    (sym (le-leb (length line) 512 h))
     (subst (λ (s : List ℕ). Appended out n (shown s (figuresIn line) (countsIn line)) after r) (d .of-shape)
     (subst (λ (f : List Float). Appended out n (shown (take (p .bytes) shape) f (countsIn line)) after r) (d .of-figures)
     (subst (λ (k : List ℕ). Appended out n (shown (take (p .bytes) shape) (take (p .figures) figures) k) after r) (d .of-counts) a)))

@@ -1,4 +1,5 @@
--- Where nothing is turned, nine numbers stay symmetric bit for bit, so that six lose nothing: each operation on the nine of a tensor gives the
+-- Where nothing is turned, nine numbers stay symmetric bit for bit, so that six lose nothing: each operation on the
+-- nine of a tensor gives the
 -- nine of what the operation on its six gives. Assumes nothing.
 use mathlib.Core.Path.{_≡_, refl, ap}
 use lib.Ieee.{Float}
@@ -14,7 +15,8 @@ use Rattle.bodies.specs.Bodies.{inertiaAboutOf}
 use Rattle.bodies.specs.Nine.{zeroNine, addNine, subtractNine, scaleNine, offsetNine, movedNine, sixOf}
 
 -- a matrix whose opposite entries are the same is the one of its six numbers
-pub six-of-symmetric : (a : Matrix) → entry a 1 0 ≡ entry a 0 1 → entry a 2 0 ≡ entry a 0 2 → entry a 2 1 ≡ entry a 1 2 → fromColumns (column a 0) (column a 1) (column a 2) ≡ asMatrix (sixOf a)
+pub six-of-symmetric : (a : Matrix) → entry a 1 0 ≡ entry a 0 1 → entry a 2 0 ≡ entry a 0 2 → entry a 2 1 ≡ entry a 1 2
+    → fromColumns (column a 0) (column a 1) (column a 2) ≡ asMatrix (sixOf a)
 six-of-symmetric a xy xz yz = rw (xy, xz, yz)
 
 pub zero-six : zeroNine ≡ asMatrix zeroTensor
@@ -34,6 +36,8 @@ pub offset-six : (d : Vector) → offsetNine d ≡ asMatrix (offsetTensorOf d)
 offset-six d = rw (times-commuted (d .y) (d .x), times-commuted (d .z) (d .x), times-commuted (d .z) (d .y))
 
 -- a body's tensor about another point
-pub moved-six : (b : Body) (point : Vector) → movedNine (asMatrix (b .«inertia_kg_m2»)) (b .«mass_kg») (subtractVectors (b .«centre_m») point) ≡ asMatrix (inertiaAboutOf b point)
+pub moved-six : (b : Body) (point : Vector)
+    → movedNine (asMatrix (b .«inertia_kg_m2»)) (b .«mass_kg») (subtractVectors (b .«centre_m») point) ≡ asMatrix (inertiaAboutOf b point)
 unfolding movedNine inertiaAboutOf
-moved-six b point = ap (λ (a : Matrix). addNine (asMatrix (b .«inertia_kg_m2»)) (scaleNine a (b .«mass_kg»))) (offset-six (subtractVectors (b .«centre_m») point))
+moved-six b point = ap (λ (a : Matrix). addNine (asMatrix (b .«inertia_kg_m2»)) (scaleNine a (b .«mass_kg»)))
+    (offset-six (subtractVectors (b .«centre_m») point))

@@ -14,7 +14,8 @@ use lib.Ieee.{Float, nan, lt, eq, ne, isNan, ofBits, div}
 use Rattle.floats.specs.Operations.{_⊘_, bits, at}
 use Rattle.floats.specs.Floats.{maxOf}
 use Rattle.floats.proofs.Bools.{no}
-use Rattle.floats.proofs.Order.{lt-asym, equal-sym, equal-not-below, below-of-not, below-through, below-nan, ne-itself, equal-no-nan, not-below-itself}
+use Rattle.floats.proofs.Order.{lt-asym, equal-sym, equal-not-below, below-of-not, below-through, below-nan, ne-itself, equal-no-nan}
+use Rattle.floats.proofs.Order.{not-below-itself}
 use Rattle.planforms.specs.Planforms.{heightAt, pairCount, largestHeight, spanOf}
 use Rattle.planforms.specs.declared.Planform.{Planform}
 use Rattle.planforms.specs.declared.Planform.the-variants.{Trapezoid, Ellipse, Outline}
@@ -42,7 +43,8 @@ unfolding placeAbove
 found-with h x l = go (lt h x && not (lt (at l (placeAbove h l)) x))
   where
     go : (b : Bool)
-        → _≡_ {A = Standing} (cond b (record { place = 0; height = x }) (record { place = placeAbove h l + 1; height = at l (placeAbove h l) }))
+        → _≡_ {A = Standing}
+        (cond b (record { place = 0; height = x }) (record { place = placeAbove h l + 1; height = at l (placeAbove h l) }))
         (record { place = cond b 0 (suc (placeAbove h l)); height = at (x ∷ l) (cond b 0 (suc (placeAbove h l))) })
     go true = refl
     go false = ap (λ (n : ℕ). record { place = n; height = at l (placeAbove h l) }) (add-one (placeAbove h l))
@@ -265,7 +267,8 @@ module _ (planform : Planform) (points : List Float) (numbers : NoNan (allHeight
       → lt (at (breakHeights planform points) k) (at (breakHeights planform points) (suc k)) ≡ false
   unfolding isNan
   none-above k b =
-      below-nan (at (breakHeights planform points) k) (at (breakHeights planform points) (suc k)) (ap isNan (past-end (breakHeights planform points) (suc k) b))
+      below-nan (at (breakHeights planform points) k) (at (breakHeights planform points) (suc k))
+      (ap isNan (past-end (breakHeights planform points) (suc k) b))
 
   -- the break height behind another
   pub next-break : (k : ℕ) → k < length (breakHeights planform points)
@@ -448,7 +451,8 @@ largest-number : (points : List Float) (n : ℕ) → isNan (largestHeight points
 unfolding largestHeight
 largest-number points zero = equal-no-nan (bits 0) (bits 0) zero-itself
 largest-number points (suc n) =
-    go (lt (largestHeight points n) (heightAt points n)) refl (ne-itself (largestHeight points n) ∙ largest-number points n) (largest-number points n)
+    go (lt (largestHeight points n) (heightAt points n)) refl (ne-itself (largestHeight points n) ∙ largest-number points n)
+    (largest-number points n)
   where
     go : (b : Bool) → lt (largestHeight points n) (heightAt points n) ≡ b → ne (largestHeight points n) (largestHeight points n) ≡ false
         → isNan (largestHeight points n) ≡ false → isNan (maxOf (largestHeight points n) (heightAt points n)) ≡ false
@@ -467,20 +471,23 @@ outline-above points (suc n) h a =
     Y· : Float
     Y· = heightAt points n
 
-    go : (b c : Bool) → lt M· Y· ≡ b → lt h Y· ≡ c → ne M· M· ≡ false → isNan M· ≡ false → (anyAbove h (heights points n) ≡ true → lt h M· ≡ true)
+    go : (b c : Bool) → lt M· Y· ≡ b → lt h Y· ≡ c → ne M· M· ≡ false → isNan M· ≡ false
+        → (anyAbove h (heights points n) ≡ true → lt h M· ≡ true)
         → lt h (maxOf M· Y·) ≡ true
     go true true t u e o f = rw (e, t) u
     go true false t u e o f = rw (e, t) (below-through h M· Y· (above-number M· Y· t) (f (rw u at a)) (lt-asym M· Y· t))
     go false true t u e o f = rw (e, t) (below-through h Y· M· o u t)
     go false false t u e o f = rw (e, t) (f (rw u at a))
 
-every-above : (planform : Planform) (points : List Float) (h : Float) → anyAbove h (everyY planform points) ≡ true → lt h (spanOf planform points) ≡ true
+every-above : (planform : Planform) (points : List Float) (h : Float) → anyAbove h (everyY planform points) ≡ true
+    → lt h (spanOf planform points) ≡ true
 unfolding everyY spanOf anyAbove
 every-above (Trapezoid root tip span sweep) points h a = no (sym a)
 every-above (Ellipse root span) points h a = no (sym a)
 every-above Outline points h a = go (leb (pairCount points) mostPoints) a
   where
-    go : (b : Bool) → anyAbove h (cond b (heights points (pairCount points)) []) ≡ true → lt h (largestHeight points (pairCount points)) ≡ true
+    go : (b : Bool) → anyAbove h (cond b (heights points (pairCount points)) []) ≡ true
+        → lt h (largestHeight points (pairCount points)) ≡ true
     go true a = outline-above points (pairCount points) h a
     go false a = no (sym a)
 

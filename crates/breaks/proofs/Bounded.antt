@@ -21,7 +21,8 @@ use Rattle.planforms.proofs.Sized.{Sized, span-sized}
 use Rattle.breaks.specs.Breaks.{heights, everyY, allHeights, breakHeights}
 use Rattle.breaks.proofs.Strips.{once-each, break-heights-rise}
 
-heights-bounded : (points : List Float) (n : ℕ) → ((i : ℕ) → i < n → Length (xAt points i) × Height (heightAt points i)) → Each (Below 6) (heights points n)
+heights-bounded : (points : List Float) (n : ℕ) → ((i : ℕ) → i < n → Length (xAt points i) × Height (heightAt points i))
+    → Each (Below 6) (heights points n)
 unfolding heights
 heights-bounded points zero p = tt
 heights-bounded points (suc n) p = (p n (le-refl (suc n)) .1 .length .below, heights-bounded points n (λ i l. p i (le-trans l (le-suc n))))

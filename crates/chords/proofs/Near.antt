@@ -1,4 +1,5 @@
--- An edge with both ends at most lo, or both above hi, is crossed at no height from lo to hi; so the edges that are left have every crossing
+-- An edge with both ends at most lo, or both above hi, is crossed at no height from lo to hi; so the edges that are
+-- left have every crossing
 -- there. A NaN is below nothing and above nothing, and crosses nothing. Assumes nothing.
 use mathlib.Core.Path.{_≡_, refl, sym, ap, _∙_}
 use mathlib.Core.Bool.{Bool, true, false, _&&_, _||_, cond}
@@ -68,7 +69,8 @@ same-start : (points : List Float) (n : ℕ) (h : Float) (edges other : List ℕ
     → crossingsAmong points n h other k ≡ crossingsAmong points n h edges k
 unfolding crossingsAmong
 same-start points n h edges other zero e = refl
-same-start points n h edges other (suc k) e = rw (e k (le-refl (suc k)), same-start points n h edges other k (λ m l. e m (le-trans l (le-suc k))))
+same-start points n h edges other (suc k) e =
+    rw (e k (le-refl (suc k)), same-start points n h edges other k (λ m l. e m (le-trans l (le-suc k))))
 
 -- the first `count` of an array are those of the first i edges that are not left out
 pub record KeptTo (points : List Float) (n : ℕ) (lo hi : Float) (i : ℕ) (edges : List ℕ) (count : ℕ) : Type 0 where
@@ -80,7 +82,8 @@ pub none-yet : (points : List Float) (n : ℕ) (lo hi : Float) (edges : List ℕ
 unfolding crossingsAmong crossings
 none-yet points n lo hi edges = record { fewer = le-refl 0; each = λ m l. absurd (not-suc-le-zero l); same = λ h u v. refl }
 
-module _ (points : List Float) (n : ℕ) (lo hi : Float) (i : ℕ) (edges after : List ℕ) (count found : ℕ) (w : KeptTo points n lo hi i edges count) where
+module _ (points : List Float) (n : ℕ) (lo hi : Float) (i : ℕ) (edges after : List ℕ) (count found : ℕ)
+    (w : KeptTo points n lo hi i edges count) where
   -- whether both ends of edge i are at most lo, and whether both are above hi
   abbrev Below : Bool
   Below = le (heightAt points i) lo && le (heightAt points (next n i)) lo
@@ -102,7 +105,8 @@ module _ (points : List Float) (n : ℕ) (lo hi : Float) (i : ℕ) (edges after 
   unfolding crossings crossingsAmong
   with-it l room e f =
       let here : getD (set edges count i) count 0 ≡ i = getD-set-same edges count i 0 room in
-      let before : (m : ℕ) → m < count → getD (set edges count i) m 0 ≡ getD edges m 0 = λ m k. getD-set-other edges count m i 0 (λ z. omega arith) in
+      let before : (m : ℕ) → m < count → getD (set edges count i) m 0 ≡ getD edges m 0 = λ m k. getD-set-other edges count m i 0
+      (λ z. omega arith) in
       rw (e, f)
       (record {
         fewer = (let k = w .fewer in omega arith);
@@ -118,7 +122,8 @@ module _ (points : List Float) (n : ℕ) (lo hi : Float) (i : ℕ) (edges after 
       go false t = with-it l room (k .count-is ∙ rw t) (k .list-is ∙ rw t)
 
 -- at point i the edges before it are asked
-pub one-more : (points : List Float) (n : ℕ) (lo hi : Float) (i : ℕ) (edges after : List ℕ) (count found : ℕ) (below above : Bool) → 0 < i → i < n → count < length edges
+pub one-more : (points : List Float) (n : ℕ) (lo hi : Float) (i : ℕ) (edges after : List ℕ) (count found : ℕ) (below above : Bool) → 0 < i
+    → i < n → count < length edges
     → below ≡ le (heightAt points (i - 1)) lo → above ≡ lt hi (heightAt points (i - 1)) → KeptTo points n lo hi (i - 1) edges count
     → Kept edges after count (i - 1) (below && le (heightAt points i) lo) (above && lt hi (heightAt points i)) found
     → KeptTo points n lo hi (i + 1 - 1) after found
@@ -129,7 +134,8 @@ one-more points n lo hi (suc i) edges after count found below above p b room e f
     let s : suc i + 1 - 1 ≡ suc i = omega arith in
     rw s (kept points n lo hi i edges after count found (rw d at w) (omega arith) room (rw m (rw (e, f, d) at k)))
 
-pub closed : (points : List Float) (n : ℕ) (lo hi : Float) (i : ℕ) (edges after : List ℕ) (count found : ℕ) (below above : Bool) → i ≡ n → 0 < n → count < length edges
+pub closed : (points : List Float) (n : ℕ) (lo hi : Float) (i : ℕ) (edges after : List ℕ) (count found : ℕ) (below above : Bool) → i ≡ n
+    → 0 < n → count < length edges
     → below ≡ le (heightAt points (i - 1)) lo → above ≡ lt hi (heightAt points (i - 1)) → KeptTo points n lo hi (i - 1) edges count
     → Kept edges after count (n - 1) (below && le (heightAt points 0) lo) (above && lt hi (heightAt points 0)) found
     → KeptTo points n lo hi n after found
@@ -141,7 +147,8 @@ closed points (suc n) lo hi i edges after count found below above c p room e f w
 
 -- ---- the whole list
 module _ (points : List Float) (lo hi : Float) (edges : List ℕ) where
-  pub all-near : (count : ℕ) → pairCount points ≤ mostPoints → length edges ≡ mostPoints → KeptTo points (pairCount points) lo hi (pairCount points) edges count → Near points lo hi edges count
+  pub all-near : (count : ℕ) → pairCount points ≤ mostPoints → length edges ≡ mostPoints
+      → KeptTo points (pairCount points) lo hi (pairCount points) edges count → Near points lo hi edges count
   unfolding outlineCrossings
   all-near count b s w =
       let f = w .fewer in
@@ -153,13 +160,20 @@ module _ (points : List Float) (lo hi : Float) (edges : List ℕ) where
         holding = λ h u v. record {
           few = rw e (omega arith);
           each = λ k l. let l' : k < count = rw e at l in rw (start k l') (w .each k l');
-          every = rw (e, le-leb (pairCount points) mostPoints b, same-start points (pairCount points) h edges (take count edges) count start, w .same h u v);
+          every = rw (
+            e,
+            le-leb (pairCount points) mostPoints b,
+            same-start points (pairCount points) h edges (take count edges) count
+                start,
+            w .same h u v,
+          );
         };
       }
 
   none-near : ((h : Float) → outlineCrossings points h ≡ []) → Near points lo hi edges 0
   unfolding crossingsAmong sorted
-  none-near e = record { room = zero-le; holding = λ h u v. record { few = zero-le; each = λ k l. absurd (not-suc-le-zero l); every = sym (e h) } }
+  none-near e = record
+      { room = zero-le; holding = λ h u v. record { few = zero-le; each = λ k l. absurd (not-suc-le-zero l); every = sym (e h) } }
 
   pub no-points : pairCount points ≡ 0 → Near points lo hi edges 0
   unfolding outlineCrossings crossings sorted
@@ -170,5 +184,6 @@ module _ (points : List Float) (lo hi : Float) (edges : List ℕ) where
   too-many b = none-near (λ h. rw (lt-leb (pairCount points) mostPoints b))
 
 -- of one height
-pub at-one-height : {points : List Float} {h : Float} {edges : List ℕ} {count : ℕ} → Near points h h edges count → Holding points h (take count edges)
+pub at-one-height : {points : List Float} {h : Float} {edges : List ℕ} {count : ℕ} → Near points h h edges count
+    → Holding points h (take count edges)
 at-one-height {h = h} w = w .holding h (not-below-itself h) (not-below-itself h)

@@ -25,8 +25,14 @@ at-span : (span : Float) → T (positive span) → inSpan span span ≡ true
 unfolding le lt eq ofBits
 at-span = for-positive (λ (x : Float). inSpan x x ≡ true) (λ m e. go (suc m * up e) (down e) (mul-pos (zero-lt-suc m) (up-pos e)))
   where
-    go : (a c : ℕ) → 0 < a → (ltb (0 * 1 * c) (a * 1) || eqb (0 * 1 * c) (a * 1) && (true || eqb (0 * 1 * c) 0)) && (ltb (a * c) (a * c) || eqb (a * c) (a * c) && (true || eqb (a * c) 0)) ≡ true
-    go a c h = rw (lt-ltb (0 * 1 * c) (a * 1) (omega (arith, zero-mul c, mul-one a)), le-ltb (a * c) (a * c) (omega arith), eq-eqb (a * c) (a * c) refl)
+    go : (a c : ℕ) → 0 < a → (ltb (0 * 1 * c) (a * 1) || eqb (0 * 1 * c) (a * 1) && (true || eqb (0 * 1 * c) 0)) &&
+        (ltb (a * c) (a * c) || eqb (a * c) (a * c) && (true || eqb (a * c) 0)) ≡ true
+    go a c h = rw (
+      lt-ltb (0 * 1 * c) (a * 1) (omega (arith, zero-mul c, mul-one a)),
+      le-ltb (a * c) (a * c) (omega arith),
+      eq-eqb (a * c)
+          (a * c) refl,
+    )
 
 -- it begins at the sweep and ends at (sweep + root) + (tip − root); `fits binary64 x`: x is an f64
 pub trapezoid-tip : (root tip span sweep : Float) (points : List Float) → T (positive span) → T (fits binary64 sweep)
@@ -48,4 +54,12 @@ pub ellipse-tip : (root span : Float) (points : List Float) → T (positive span
     → endsAt (Ellipse root span) points span ≡ half ⊗ root ∷ half ⊗ root ∷ []
 unfolding endsAt
 ellipse-tip root span points p r f =
-    rw (at-span span p, over-itself span p, none-left, times-zero root r, minus-zero root f, plus-zero (half ⊗ root) (mul-fits binary64 half root) (product-plus half root half-positive r))
+    rw (
+      at-span span p,
+      over-itself span p,
+      none-left,
+      times-zero root r,
+      minus-zero root f,
+      plus-zero (half ⊗ root)
+          (mul-fits binary64 half root) (product-plus half root half-positive r),
+    )

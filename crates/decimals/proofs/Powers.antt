@@ -11,7 +11,8 @@ five-pos (suc k) = rw (pow-suc 5 k) (mul-pos (five-pos k) (let z : 0 < 5 = omega
 
 pub ten-to : (k : ℕ) → 10 ^ k ≡ 5 ^ k * 2 ^ k
 ten-to zero = refl
-ten-to (suc k) = pow-suc 10 k ∙ ap (λ (x : ℕ). x * 10) (ten-to k) ∙ sym (ap (λ (x : ℕ). x * 2 ^ suc k) (pow-suc 5 k) ∙ ap (λ (x : ℕ). 5 ^ k * 5 * x) (pow-suc 2 k) ∙ mul-mul-mul-comm (5 ^ k) 5 (2 ^ k) 2)
+ten-to (suc k) = pow-suc 10 k ∙ ap (λ (x : ℕ). x * 10) (ten-to k)
+    ∙ sym (ap (λ (x : ℕ). x * 2 ^ suc k) (pow-suc 5 k) ∙ ap (λ (x : ℕ). 5 ^ k * 5 * x) (pow-suc 2 k) ∙ mul-mul-mul-comm (5 ^ k) 5 (2 ^ k) 2)
 
 pub five-most : (k : ℕ) → k ≤ 18 → 5 ^ k ≤ 5 ^ 18
 five-most k h = let z : 0 < 5 = omega arith in pow-le-pow-right z h
@@ -19,4 +20,5 @@ five-most k h = let z : 0 < 5 = omega arith in pow-le-pow-right z h
 -- by its fives and the rest
 pub five-of : (k high low : ℕ) → high ≡ 5 ^ (5 * (k / 5)) → low ≡ 5 ^ (k % 5) → high * low ≡ 5 ^ k
 five-of k high low h l =
-    ap (λ (x : ℕ). x * low) h ∙ ap (λ (x : ℕ). 5 ^ (5 * (k / 5)) * x) l ∙ sym (pow-add 5 (5 * (k / 5)) (k % 5)) ∙ ap (λ (x : ℕ). 5 ^ x) (let z : 5 * (k / 5) + k % 5 ≡ k = omega arith in z)
+    ap (λ (x : ℕ). x * low) h ∙ ap (λ (x : ℕ). 5 ^ (5 * (k / 5)) * x) l ∙ sym (pow-add 5 (5 * (k / 5)) (k % 5))
+    ∙ ap (λ (x : ℕ). 5 ^ x) (let z : 5 * (k / 5) + k % 5 ≡ k = omega arith in z)

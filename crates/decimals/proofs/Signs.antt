@@ -1,4 +1,5 @@
--- A decimal's value meets the statement with either sign, and nothing else does; minus the value is the value of the minus. Assumes nothing.
+-- A decimal's value meets the statement with either sign, and nothing else does; minus the value is the value of the
+-- minus. Assumes nothing.
 use mathlib.Core.Path.{_≡_, refl, sym, ap, subst, _∙_}
 use mathlib.Core.Bool.{Bool, true, false, not}
 use Prim.Native.Nat.{ℕ, _+_, _-_, _*_, _/_, _%_, _^_, _≤_, _<_}
@@ -56,7 +57,8 @@ pub decimal-only : (s : Bool) (n k : ℕ) (x : Float) → n < 2 ^ 64 → IsNeare
 decimal-only s n k x h p = nearest-unique s n (10 ^ k) (ten-pos k) x (decimalOf s n k) p (decimal-nearest s n k h)
 
 minus-decimal : (n k : ℕ) → n < 2 ^ 64 → neg (decimalOf false n k) ≡ decimalOf true n k
-minus-decimal n k h = decimal-only true n k (neg (decimalOf false n k)) h (minus-nearest n (10 ^ k) (decimalOf false n k) (decimal-nearest false n k h))
+minus-decimal n k h = decimal-only true n k (neg (decimalOf false n k)) h
+    (minus-nearest n (10 ^ k) (decimalOf false n k) (decimal-nearest false n k h))
 
 abbrev Value : Bool → ℕ → ℕ → Float → Type 0
 Value s n k x = (x ≡ decimalOf s n k) × IsNearest s n (10 ^ k) x

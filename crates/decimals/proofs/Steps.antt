@@ -1,7 +1,9 @@
 -- The steps of the long division: the divisor widened, digits of the quotient, and its rounding. Assumes nothing.
 use mathlib.Core.Path.{_≡_, refl, sym, ap, _∙_}
 use Prim.Native.Nat.{ℕ, suc, _+_, _-_, _*_, _/_, _%_, _^_, _≤_, _<_, compare, Ordering, Ordering·lt, Ordering·eq, Ordering·gt}
-use native.Mathlib.Nat.{mul-assoc, mul-comm, mul-right-comm, mul-one, mul-pos, mul-le-mul-right, mul-le-mul-left, mul-lt-mul-of-pos-right, lt-of-mul-lt-mul-right, add-mul, le-div-iff-mul-le, div-lt-iff-lt-mul, lt-of-not-le, not-le-of-lt, lt-of-lt-of-le, lt-of-le-of-lt, le-trans, le-of-eq, div-add-mod', div-le-self, mod-lt, mod-eq-of-lt}
+use native.Mathlib.Nat.{mul-assoc, mul-comm, mul-right-comm, mul-one, mul-pos, mul-le-mul-right, mul-le-mul-left, mul-lt-mul-of-pos-right}
+use native.Mathlib.Nat.{lt-of-mul-lt-mul-right, add-mul, le-div-iff-mul-le, div-lt-iff-lt-mul, lt-of-not-le, not-le-of-lt, lt-of-lt-of-le}
+use native.Mathlib.Nat.{lt-of-le-of-lt, le-trans, le-of-eq, div-add-mod', div-le-self, mod-lt, mod-eq-of-lt}
 use native.Mathlib.Omega.{arith}
 use lib.Dec.{leb→le}
 use lib.Count.{leadingZeros, leading-top}
@@ -42,11 +44,13 @@ module _ (n d : ℕ) (small : n < 2 ^ 64) (D : 0 < d) (h : 2 ^ 53 ≤ n / d) whe
       let z = few-zeros in
       let j-is : suc (top .0) ≡ 53 + s = omega arith in
       let in-all : 2 ^ suc (top .0) * d ≡ 2 ^ 53 * (d * 2 ^ s) =
-      ap (λ (x : ℕ). x * d) (ap (λ (x : ℕ). 2 ^ x) j-is ∙ pow-add 2 53 s) ∙ mul-assoc (2 ^ 53) (2 ^ s) d ∙ ap (λ (x : ℕ). 2 ^ 53 * x) (mul-comm (2 ^ s) d) in
+      ap (λ (x : ℕ). x * d) (ap (λ (x : ℕ). 2 ^ x) j-is ∙ pow-add 2 53 s) ∙ mul-assoc (2 ^ 53) (2 ^ s) d
+      ∙ ap (λ (x : ℕ). 2 ^ 53 * x) (mul-comm (2 ^ s) d) in
       record {
         is = refl;
         least = mul-pos D (pow-pos s);
-        most = le-trans (mul-le-mul-right (2 ^ s) narrow) (le-trans (mul-le-mul-left (2 ^ 11) (pow-mono (let y : s ≤ 11 = omega arith in y))) (leb→le (2 ^ 11 * 2 ^ 11) (2 ^ 42) tt));
+        most = le-trans (mul-le-mul-right (2 ^ s) narrow)
+            (le-trans (mul-le-mul-left (2 ^ 11) (pow-mono (let y : s ≤ 11 = omega arith in y))) (leb→le (2 ^ 11 * 2 ^ 11) (2 ^ 42) tt));
         turns = omega arith;
         fits = lt-of-lt-of-le (div-lt-iff-lt-mul D .0 (top .3)) (le-of-eq in-all);
       }
@@ -119,7 +123,8 @@ module _ (n e : ℕ) (E : 0 < e) (large : 2 ^ 53 ≤ n) (most : e ≤ 2 ^ 42) (f
   top-all : (first + 1) * 2 ^ places ≤ 2 ^ 53
   top-all =
       let p = few-places in
-      let e' : 2 ^ 53 ≡ 2 ^ (53 - places) * 2 ^ places = ap (λ (x : ℕ). 2 ^ x) (let z : 53 ≡ 53 - places + places = omega arith in z) ∙ pow-add 2 (53 - places) places in
+      let e' : 2 ^ 53 ≡ 2 ^ (53 - places) * 2 ^ places = ap (λ (x : ℕ). 2 ^ x) (let z : 53 ≡ 53 - places + places = omega arith in z)
+      ∙ pow-add 2 (53 - places) places in
       let l : first < 2 ^ (53 - places) = lt-of-mul-lt-mul-right (2 ^ places) (lt-of-lt-of-le (lift .1 .high) (le-of-eq e')) in
       let m : first + 1 ≤ 2 ^ (53 - places) = omega arith in
       le-trans (mul-le-mul-right (2 ^ places) m) (le-of-eq (sym e'))
@@ -133,24 +138,34 @@ module _ (n e : ℕ) (E : 0 < e) (large : 2 ^ 53 ≤ n) (most : e ≤ 2 ^ 42) (f
 
     pub second-fits : q * 2 ^ (places - half) < 2 ^ 53
     second-fits =
-        let a : n * 2 ^ half < (first + 1) * 2 ^ half * e = lt-of-lt-of-le (mul-lt-mul-of-pos-right under (pow-pos half)) (le-of-eq (mul-right-comm (first + 1) e (2 ^ half))) in
+        let a : n * 2 ^ half < (first + 1) * 2 ^ half * e = lt-of-lt-of-le (mul-lt-mul-of-pos-right under (pow-pos half))
+        (le-of-eq (mul-right-comm (first + 1) e (2 ^ half))) in
         let b : q < (first + 1) * 2 ^ half = below q ((first + 1) * 2 ^ half) e r E (lt-of-le-of-lt (le-of-eq one) a) in
         lt-of-lt-of-le (mul-lt-mul-of-pos-right b (pow-pos (places - half)))
-        (le-trans (le-of-eq (mul-assoc (first + 1) (2 ^ half) (2 ^ (places - half)) ∙ ap (λ (x : ℕ). (first + 1) * x) (sym (pow-add 2 half (places - half)) ∙ ap (λ (x : ℕ). 2 ^ x) (let z : half + (places - half) ≡ places = omega arith in z)))) top-all)
+        (le-trans (le-of-eq
+        (mul-assoc (first + 1) (2 ^ half) (2 ^ (places - half))
+        ∙ ap (λ (x : ℕ). (first + 1) * x)
+        (sym (pow-add 2 half (places - half)) ∙ ap (λ (x : ℕ). 2 ^ x) (let z : half + (places - half) ≡ places = omega arith in z))))
+        top-all)
 
     pub all-digits : (q' r' a' : ℕ) → MoreDigits e (places - half) q r a q' r' a' → DividedTo n e q' r' a'
     all-digits q' r' a' o =
         let p = few-places in
-        let a-is : a' ≡ places = o .turns ∙ ap (λ (x : ℕ). x + (places - half)) (m .turns) ∙ (let z : 0 + half + (places - half) ≡ places = omega arith in z) in
+        let a-is : a' ≡ places = o .turns ∙ ap (λ (x : ℕ). x + (places - half)) (m .turns)
+        ∙ (let z : 0 + half + (places - half) ≡ places = omega arith in z) in
         let is : n * 2 ^ places ≡ q' * e + r' =
-        ap (λ (x : ℕ). n * x) (ap (λ (x : ℕ). 2 ^ x) (let z : places ≡ half + (places - half) = omega arith in z) ∙ pow-add 2 half (places - half))
+        ap (λ (x : ℕ). n * x)
+        (ap (λ (x : ℕ). 2 ^ x) (let z : places ≡ half + (places - half) = omega arith in z) ∙ pow-add 2 half (places - half))
         ∙ sym (mul-assoc n (2 ^ half) (2 ^ (places - half)))
         ∙ ap (λ (x : ℕ). x * 2 ^ (places - half)) (sym one)
         ∙ sym (o .is) in
         let low : 2 ^ 52 * e ≤ n * 2 ^ places =
-        le-trans (mul-le-mul-right e (lift .1 .low)) (le-trans (le-of-eq (mul-right-comm first (2 ^ places) e)) (mul-le-mul-right (2 ^ places) (let z = split in let y : first * e ≤ n = omega arith in y))) in
+        le-trans (mul-le-mul-right e (lift .1 .low))
+        (le-trans (le-of-eq (mul-right-comm first (2 ^ places) e))
+        (mul-le-mul-right (2 ^ places) (let z = split in let y : first * e ≤ n = omega arith in y))) in
         let high : n * 2 ^ places < 2 ^ 53 * e =
-        lt-of-lt-of-le (mul-lt-mul-of-pos-right under (pow-pos places)) (le-trans (le-of-eq (mul-right-comm (first + 1) e (2 ^ places))) (mul-le-mul-right e top-all)) in
+        lt-of-lt-of-le (mul-lt-mul-of-pos-right under (pow-pos places))
+        (le-trans (le-of-eq (mul-right-comm (first + 1) e (2 ^ places))) (mul-le-mul-right e top-all)) in
         let next : q' * e + r' < (q' + 1) * e = let z = o .rest in let y = add-mul q' 1 e in omega arith in
         let over : 2 ^ 52 < q' + 1 = lt-of-mul-lt-mul-right e (lt-of-le-of-lt low (lt-of-le-of-lt (le-of-eq is) next)) in
         record {

@@ -22,7 +22,9 @@ use Rattle.refusals.proofs.Order.{in-order, after-accepted, after-refused}
 use Rattle.planforms.specs.declared.Planform.{Planform}
 use Rattle.planforms.specs.declared.Planform.the-variants.{Trapezoid, Ellipse, Outline}
 use Rattle.planforms.specs.Planforms.{pairCount}
-use Rattle.limits.specs.Limits.{mostPoints, outlineNumbers, zeroAllowed, negativeAllowed, shortest, longest, isWithin, lengthWithin, lengthCheck, drillXField, drillHeightField, rootChordField, tipChordField, spanField, sweepField, pointXField, pointYField}
+use Rattle.limits.specs.Limits.{mostPoints, outlineNumbers, zeroAllowed, negativeAllowed, shortest, longest, isWithin, lengthWithin}
+use Rattle.limits.specs.Limits.{lengthCheck, drillXField, drillHeightField, rootChordField, tipChordField, spanField, sweepField}
+use Rattle.limits.specs.Limits.{pointXField, pointYField}
 use Rattle.outlines.specs.Outlines.{arePairs, pointCheck, pointsCheck, outlineCheck}
 use Rattle.outlines.proofs.Accepted.{points-within}
 use Rattle.outlines.specs.Outlines.{planformCheck}
@@ -46,7 +48,8 @@ module _ (planform : Planform) (points : List Float) (x height : Float) where
   answer : Answer
   answer = placeOf (map stepsOf (cornersOf planform points)) (stepsOf (exactOf x)) (stepsOf (exactOf height))
 
-  split : drillOf planform points x height ≡ unlessRefused (firstRefusal (firstRefusal before (refuseUnless (hasCorners planform) NoCorners)) (refuseUnless whole NotWholeSteps)) answer
+  split : drillOf planform points x height ≡ unlessRefused
+      (firstRefusal (firstRefusal before (refuseUnless (hasCorners planform) NoCorners)) (refuseUnless whole NotWholeSteps)) answer
   unfolding drillOf drillCheck whole answer
   split = ap (λ (v : Verdict). unlessRefused v answer) (sym (in-order (planformCheck planform points) (_ ∷ _ ∷ _ ∷ _ ∷ [])))
 
@@ -61,7 +64,8 @@ module _ (planform : Planform) (points : List Float) (x height : Float) where
     either true a = refl
     either false a = refl
 
-    pub in-steps : hasCorners planform ≡ true → inSteps (cornersOf planform points) (exactOf x) (exactOf height) ≡ drillOf planform points x height
+    pub in-steps : hasCorners planform ≡ true
+        → inSteps (cornersOf planform points) (exactOf x) (exactOf height) ≡ drillOf planform points x height
     unfolding inSteps whole answer
     in-steps h = sym (split ∙ rw (accepted, after-accepted, h, after-accepted) (either whole answer))
 
@@ -88,7 +92,8 @@ module _ (planform : Planform) (points : List Float) (x height : Float) (accepte
   pub height-length : IsLength height
   height-length = is-length drillHeightField height (both _ _ accepted .1)
 
-pub trapezoid-lengths : (root tip span sweep : Float) (points more : List Float) → planformCheck (Trapezoid root tip span sweep) points ≡ Accepted → AreLengths more → AreLengths (root ∷ tip ∷ span ∷ sweep ∷ more)
+pub trapezoid-lengths : (root tip span sweep : Float) (points more : List Float)
+    → planformCheck (Trapezoid root tip span sweep) points ≡ Accepted → AreLengths more → AreLengths (root ∷ tip ∷ span ∷ sweep ∷ more)
 unfolding planformCheck
 trapezoid-lengths root tip span sweep points more h rest =
     let a = both _ _ h in
@@ -107,21 +112,25 @@ unfolding firstFrom
 each-accepts i zero check h k l = absurd (not-suc-le-zero l)
 each-accepts i (suc n) check h zero l = subst (λ (j : ℕ). check j ≡ Accepted) (let e : i ≡ i + 0 = omega arith in e) (both _ _ h .0)
 each-accepts i (suc n) check h (suc k) l =
-    subst (λ (j : ℕ). check j ≡ Accepted) (let e : suc i + k ≡ i + suc k = omega arith in e) (each-accepts (suc i) n check (both _ _ h .1) k (omega arith))
+    subst (λ (j : ℕ). check j ≡ Accepted) (let e : suc i + k ≡ i + suc k = omega arith in e)
+    (each-accepts (suc i) n check (both _ _ h .1) k (omega arith))
 
 module _ (points : List Float) (accepted : outlineCheck points ≡ Accepted) where
   whole-pairs : length points % 2 ≡ 0
   unfolding outlineCheck
   whole-pairs =
       let p = holds (arePairs points) _ (both _ _ accepted .0) in
-      eqb-true (length points % 2) 0 (both-true (eqb (length points % 2) 0) (leb 3 (pairCount points)) (both-true (eqb (length points % 2) 0 && leb 3 (pairCount points)) (leb (pairCount points) mostPoints) p .0) .0)
+      eqb-true (length points % 2) 0
+      (both-true (eqb (length points % 2) 0) (leb 3 (pairCount points))
+      (both-true (eqb (length points % 2) 0 && leb 3 (pairCount points)) (leb (pairCount points) mostPoints) p .0) .0)
 
   point : (i : ℕ) → i < pairCount points → pointCheck points i ≡ Accepted
   unfolding outlineCheck
   point i h =
       let n = pairCount points in
       let e : 0 + i ≡ i = omega arith in
-      subst (λ (j : ℕ). pointCheck points j ≡ Accepted) e (each-accepts 0 (n - 0) (pointCheck points) (both _ _ (both _ _ accepted .1) .0) i (omega arith))
+      subst (λ (j : ℕ). pointCheck points j ≡ Accepted) e
+      (each-accepts 0 (n - 0) (pointCheck points) (both _ _ (both _ _ accepted .1) .0) i (omega arith))
 
   pub outline-lengths : AreLengths points
   outline-lengths k h = by (k % 2) refl (let e : k % 2 ≤ 1 = omega arith in e)
@@ -130,8 +139,10 @@ module _ (points : List Float) (accepted : outlineCheck points ≡ Accepted) whe
       checked = point (k / 2) (omega (arith, whole-pairs))
 
       by : (r : ℕ) → k % 2 ≡ r → r ≤ 1 → IsLength (at points k)
-      by zero e l = subst (λ (j : ℕ). IsLength (at points j)) (let z : 2 * (k / 2) ≡ k = omega arith in z) (is-length pointXField (at points (2 * (k / 2))) (both _ _ checked .0))
-      by (suc r) e l = subst (λ (j : ℕ). IsLength (at points j)) (let z : 2 * (k / 2) + 1 ≡ k = omega arith in z) (is-length pointYField (at points (2 * (k / 2) + 1)) (both _ _ (both _ _ checked .1) .0))
+      by zero e l = subst (λ (j : ℕ). IsLength (at points j)) (let z : 2 * (k / 2) ≡ k = omega arith in z)
+          (is-length pointXField (at points (2 * (k / 2))) (both _ _ checked .0))
+      by (suc r) e l = subst (λ (j : ℕ). IsLength (at points j)) (let z : 2 * (k / 2) + 1 ≡ k = omega arith in z)
+          (is-length pointYField (at points (2 * (k / 2) + 1)) (both _ _ (both _ _ checked .1) .0))
 
   pub outline-fits : (length points ≤ outlineNumbers) × (0 < pairCount points)
   outline-fits = let w = points-within points accepted in (omega (arith, whole-pairs), omega arith)

@@ -1,4 +1,5 @@
--- How far a length reaches in steps, and so that the coordinates of an accepted planform and point are small enough for `polygons`. Assumes nothing.
+-- How far a length reaches in steps, and so that the coordinates of an accepted planform and point are small enough for
+-- `polygons`. Assumes nothing.
 use mathlib.Core.Bool.{true}
 use mathlib.Core.Path.{_≡_, refl, ap, _∙_}
 use mathlib.Core.List.{List, [], _∷_, map}
@@ -34,7 +35,8 @@ one-more x l h more (suc i) k = more i (le-of-suc-le-suc k)
 -- the first four of six
 pub four : (a b c d e f : Float) → AreLengths (a ∷ b ∷ c ∷ d ∷ e ∷ f ∷ []) → AreLengths (a ∷ b ∷ c ∷ d ∷ [])
 four a b c d e f h =
-    one-more a (b ∷ c ∷ d ∷ []) (h 0 (omega arith)) (one-more b (c ∷ d ∷ []) (h 1 (omega arith)) (one-more c (d ∷ []) (h 2 (omega arith)) (one-more d [] (h 3 (omega arith)) none)))
+    one-more a (b ∷ c ∷ d ∷ []) (h 0 (omega arith))
+    (one-more b (c ∷ d ∷ []) (h 1 (omega arith)) (one-more c (d ∷ []) (h 2 (omega arith)) (one-more d [] (h 3 (omega arith)) none)))
 
 -- ---- lists of coordinates
 
@@ -81,10 +83,18 @@ all-reach points h = each (map stepsOf (map exactOf points)) (in-list points h)
 -- ---- a trapezoid
 
 module _ (root tip span sweep : Float) (more : List Float) (lengths : AreLengths (root ∷ tip ∷ span ∷ sweep ∷ more)) where
-  pub trapezoid-reach : isWhole (exactOf sweep) ≡ true → isWhole (exactOf tip) ≡ true → (k : ℕ) → IsCoordinate (getD (map stepsOf (cornersOf (Trapezoid root tip span sweep) [])) k (pos 0))
+  pub trapezoid-reach : isWhole (exactOf sweep) ≡ true → isWhole (exactOf tip) ≡ true → (k : ℕ)
+      → IsCoordinate (getD (map stepsOf (cornersOf (Trapezoid root tip span sweep) [])) k (pos 0))
   trapezoid-reach h g =
       let origin : IsCoordinate (stepsOf (pos 0)) = rw steps-of-zero zero-le in
-      let end : IsCoordinate (stepsOf (exactOf sweep +ℤ exactOf tip)) = rw (steps-of-sum (exactOf sweep) (exactOf tip) h g) (sum-reaches (stepsOf (exactOf sweep)) (stepsOf (exactOf tip)) (few-steps sweep (lengths 3 (omega arith))) (few-steps tip (lengths 1 (omega arith)))) in
+      let end : IsCoordinate (stepsOf (exactOf sweep +ℤ exactOf tip)) = rw (steps-of-sum (exactOf sweep) (exactOf tip) h g)
+      (sum-reaches (stepsOf (exactOf sweep)) (stepsOf (exactOf tip)) (few-steps sweep (lengths 3 (omega arith)))
+      (few-steps tip (lengths 1 (omega arith)))) in
       let top = reaches span (lengths 2 (omega arith)) in
-      each (map stepsOf (cornersOf (Trapezoid root tip span sweep) []))
-      (origin, (origin, (reaches sweep (lengths 3 (omega arith)), (top, (end, (top, (reaches root (lengths 0 (omega arith)), (origin, tt))))))))
+      each (map stepsOf (cornersOf (Trapezoid root tip span sweep) [])) (
+        origin,
+        (
+          origin,
+          (reaches sweep (lengths 3 (omega arith)), (top, (end, (top, (reaches root (lengths 0 (omega arith)), (origin, tt)))))),
+        ),
+      )

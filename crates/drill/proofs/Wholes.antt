@@ -1,4 +1,5 @@
--- Which coordinates are whole numbers of steps: of a trapezoid its own four, since the tip's end is whole where sweep and tip are; of a list its first
+-- Which coordinates are whole numbers of steps: of a trapezoid its own four, since the tip's end is whole where sweep
+-- and tip are; of a list its first
 -- and those behind it. Assumes nothing.
 use mathlib.Core.Path.{_≡_, refl, sym, ap, _∙_}
 use mathlib.Core.Bool.{Bool, true, false, not, _&&_}
@@ -16,7 +17,8 @@ use Rattle.drill.specs.InSteps.{inSteps}
 
 -- ---- a trapezoid
 
-by-cases : (x h w s u t r : Bool) → (w ≡ true → u ≡ t) → (x && h && true && true && w && s && u && s && r && true) ≡ (x && h && (w && s && t) && r)
+by-cases : (x h w s u t r : Bool) → (w ≡ true → u ≡ t)
+    → (x && h && true && true && w && s && u && s && r && true) ≡ (x && h && (w && s && t) && r)
 by-cases false h w s u t r e = refl
 by-cases true false w s u t r e = refl
 by-cases true true false s u t r e = refl
@@ -28,7 +30,8 @@ by-cases true true true true u t r e = rw (e refl) (last t r)
     last true false = refl
     last true true = refl
 
-pub trapezoid : (x h w s t r : ℤ) → areWhole (x ∷ h ∷ pos 0 ∷ pos 0 ∷ w ∷ s ∷ (w +ℤ t) ∷ s ∷ r ∷ pos 0 ∷ []) ≡ (isWhole x && isWhole h && (isWhole w && isWhole s && isWhole t) && isWhole r)
+pub trapezoid : (x h w s t r : ℤ) → areWhole (x ∷ h ∷ pos 0 ∷ pos 0 ∷ w ∷ s ∷ (w +ℤ t) ∷ s ∷ r ∷ pos 0 ∷ [])
+    ≡ (isWhole x && isWhole h && (isWhole w && isWhole s && isWhole t) && isWhole r)
 unfolding areWhole every isWhole
 trapezoid x h w s t r = by-cases (isWhole x) (isWhole h) (isWhole w) (isWhole s) (isWhole (w +ℤ t)) (isWhole t) (isWhole r) (whole-part w t)
 
@@ -52,7 +55,8 @@ unfolding areWhole
 one-in-front u l = first (length l) (λ k. isWhole (getD (u ∷ l) k (pos 0)))
 
 pub two-in-front : (x h : ℤ) (l : List ℤ) → areWhole (x ∷ h ∷ l) ≡ (isWhole x && isWhole h && areWhole l)
-two-in-front x h l = one-in-front x (h ∷ l) ∙ ap (λ (b : Bool). isWhole x && b) (one-in-front h l) ∙ sym (and-assoc (isWhole x) (isWhole h) (areWhole l))
+two-in-front x h l = one-in-front x (h ∷ l) ∙ ap (λ (b : Bool). isWhole x && b) (one-in-front h l)
+    ∙ sym (and-assoc (isWhole x) (isWhole h) (areWhole l))
 
 -- ---- a test and its opposite
 
@@ -71,6 +75,7 @@ module _ (x h : ℤ) (corners : List ℤ) {t : Bool} (tested : t ≡ areWhole (x
   unfolding inSteps
   refused o = sym (rw (sym tested ∙ not-true t o))
 
-  pub placed : not t ≡ false → {l : List ℤ} {z y : ℤ} → l ≡ map stepsOf corners → z ≡ stepsOf x → y ≡ stepsOf h → placeOf l z y ≡ inSteps corners x h
+  pub placed : not t ≡ false → {l : List ℤ} {z y : ℤ} → l ≡ map stepsOf corners → z ≡ stepsOf x → y ≡ stepsOf h
+      → placeOf l z y ≡ inSteps corners x h
   unfolding inSteps
   placed o e f g = rw (e, f, g, sym tested ∙ not-false t o)

@@ -24,9 +24,18 @@ ten-most k h = let z : 0 < 10 = omega arith in pow-le-pow-right z h
 pub start : (w : List ℕ) (at n before : ℕ) → at ≤ length w → before ≤ 19 → n < 10 ^ before → Runs w at n before n at
 start w at n before h g l =
     let z : before ≡ before + (at - at) = omega arith in
-    record { from = omega arith; to = h; count = omega arith; small = subst (λ (x : ℕ). n < 10 ^ x) z l; number = refl; digits = omega arith; behind = refl }
+    record {
+      from = omega arith;
+      to = h;
+      count = omega arith;
+      small = subst (λ (x : ℕ). n < 10 ^ x) z l;
+      number = refl;
+      digits = omega arith;
+      behind = refl;
+    }
 
-module _ (w : List ℕ) (at n before m i d : ℕ) (r : Runs w at n before m i) (h : i < length w) (o : before + (i - at) < 19) (e : d ≡ digitValue (getD w i 0)) (g : d < 10) where
+module _ (w : List ℕ) (at n before m i d : ℕ) (r : Runs w at n before m i) (h : i < length w) (o : before + (i - at) < 19)
+    (e : d ≡ digitValue (getD w i 0)) (g : d < 10) where
   is-digit : digitValue (getD w i 0) < 10
   is-digit = rw e at g
 
@@ -38,7 +47,8 @@ module _ (w : List ℕ) (at n before m i d : ℕ) (r : Runs w at n before m i) (
 
   small-next : m * 10 + d < 10 ^ (before + (i + 1 - at))
   small-next =
-      let a : 10 ^ (before + (i + 1 - at)) ≡ 10 ^ (before + (i - at)) * 10 = ap (λ (x : ℕ). 10 ^ x) (sym (further before i at (r .from))) ∙ ten (before + (i - at)) in
+      let a : 10 ^ (before + (i + 1 - at)) ≡ 10 ^ (before + (i - at)) * 10 = ap (λ (x : ℕ). 10 ^ x) (sym (further before i at (r .from)))
+      ∙ ten (before + (i - at)) in
       let b = r .small in
       let c : m * 10 + d < 10 ^ (before + (i - at)) * 10 = omega arith in
       subst (λ (x : ℕ). m * 10 + d < x) (sym a) c
@@ -66,7 +76,8 @@ module _ (w : List ℕ) (at n before m i d : ℕ) (r : Runs w at n before m i) (
   number-fits = let z = ten-most (before + (i + 1 - at)) (let y = r .from in omega arith) in let y = small-next in omega arith
 
 -- where the run ends at the latest
-pub ends : (l at before e : ℕ) → at ≤ l → before ≤ 19 → Least (l - at) (19 - before) e → (e + at ≤ l) × (before + (e + at - at) ≤ 19) × ((e + at ≡ l) ⊎ (before + (e + at - at) ≡ 19))
+pub ends : (l at before e : ℕ) → at ≤ l → before ≤ 19 → Least (l - at) (19 - before) e
+    → (e + at ≤ l) × (before + (e + at - at) ≤ 19) × ((e + at ≡ l) ⊎ (before + (e + at - at) ≡ 19))
 ends l at before e h g m =
     let a = m .first in
     let b = m .second in
@@ -76,6 +87,7 @@ ends l at before e h g m =
     side (inl z) = inl (omega arith)
     side (inr z) = inr (omega arith)
 
-pub stops : (w : List ℕ) (at before i e : ℕ) → i ≡ e → (e ≡ length w) ⊎ (before + (e - at) ≡ 19) → (i ≡ length w) ⊎ ((before + (i - at) ≡ 19) ⊎ (10 ≤ digitValue (getD w i 0)))
+pub stops : (w : List ℕ) (at before i e : ℕ) → i ≡ e → (e ≡ length w) ⊎ (before + (e - at) ≡ 19)
+    → (i ≡ length w) ⊎ ((before + (i - at) ≡ 19) ⊎ (10 ≤ digitValue (getD w i 0)))
 stops w at before i e h (inl z) = inl (h ∙ z)
 stops w at before i e h (inr z) = inr (inl (ap (λ (x : ℕ). before + (x - at)) h ∙ z))

@@ -29,7 +29,8 @@ last-fails false = refl
 pub sixteen-bare : (bare minus : Bool) (n c : ℕ) → bare ≡ true → c ≡ 16 → NotFigure ≡ wholeFigure bare minus n c
 sixteen-bare bare minus n c e f = rw (e, f)
 
-pub whole-is : (bare minus : Bool) (n c : ℕ) → 0 < c → c ≤ 19 → (bare && eqb c 16) ≡ false → wholeFigure bare minus n c ≡ Number (decimalOf minus n 0)
+pub whole-is : (bare minus : Bool) (n c : ℕ) → 0 < c → c ≤ 19 → (bare && eqb c 16) ≡ false
+    → wholeFigure bare minus n c ≡ Number (decimalOf minus n 0)
 whole-is bare minus n c o l e = rw (le-leb 1 c o, le-leb c 19 l, e)
 
 pub not-bare : (bare : Bool) (c : ℕ) → bare ≡ false → (bare && eqb c 16) ≡ false

@@ -16,10 +16,12 @@ use Rattle.hex.specs.declared.Figure.the-variants.{Number, NotFigure}
 use Rattle.hex.specs.Hex.{figureOf}
 use Rattle.counts.specs.Counts.{digitValue}
 use Rattle.decimals.specs.Decimals.{decimalOf}
-use Rattle.figure_words.specs.FigureWords.{leadingDigits, behindDigits, numberFrom, wholeFigure, pointFigure, digitsFigure, unsignedFigure, decimalFigure, figureWord}
+use Rattle.figure_words.specs.FigureWords.{leadingDigits, behindDigits, numberFrom, wholeFigure, pointFigure, digitsFigure}
+use Rattle.figure_words.specs.FigureWords.{unsignedFigure, decimalFigure, figureWord}
 use Rattle.figure_words.specs.Runs.{RunTo}
 use Rattle.figure_words.proofs.Digits.{at-place, digit-leads, other-leads, other-stays, number-ends}
-use Rattle.figure_words.proofs.Shapes.{no-digits, not-point, none-before, none-behind, too-many-in-all, more-behind, point-is, too-many}
+use Rattle.figure_words.proofs.Shapes.{no-digits, not-point, none-before, none-behind, too-many-in-all, more-behind, point-is}
+use Rattle.figure_words.proofs.Shapes.{too-many}
 
 -- ---- what is left from a place on
 
@@ -107,7 +109,8 @@ module _ (bare minus : Bool) (w : List ℕ) (at m e : ℕ) (r : RunTo w at 0 0 m
     where
       no-digit : e < length w → 10 ≤ digitValue (getD w e 0)
       no-digit y = ⊎-elim (λ (x : e ≡ length w). absurd (let n : ⊥ = omega arith in n))
-          (λ (x : (0 + (e - at) ≡ 19) ⊎ (10 ≤ digitValue (getD w e 0))). ⊎-elim (λ (v : 0 + (e - at) ≡ 19). absurd (let n : ⊥ = omega arith in n)) (λ (v : 10 ≤ digitValue (getD w e 0)). v) x) (r .stop)
+          (λ (x : (0 + (e - at) ≡ 19) ⊎ (10 ≤ digitValue (getD w e 0))). ⊎-elim
+          (λ (v : 0 + (e - at) ≡ 19). absurd (let n : ⊥ = omega arith in n)) (λ (v : 10 ≤ digitValue (getD w e 0)). v) x) (r .stop)
 
   pub other-byte : (e ≡ length w → ⊥) → (getD w e 0 ≡ 46 → ⊥) → NotFigure ≡ all
   other-byte h g =
@@ -115,7 +118,9 @@ module _ (bare minus : Bool) (w : List ℕ) (at m e : ℕ) (r : RunTo w at 0 0 m
       let other : 10 ≤ digitValue (getD w e 0) → all ≡ NotFigure = λ v. at-byte y v ∙ not-point minus m c (getD w e 0) (drop (e + 1) w) g in
       sym (⊎-elim (λ (x : e ≡ length w). absurd (h x))
       (λ (x : (0 + (e - at) ≡ 19) ⊎ (10 ≤ digitValue (getD w e 0))). ⊎-elim
-      (λ (v : 0 + (e - at) ≡ 19). by-digit (getD w e 0) (λ d. goes-on ∙ too-many bare minus (numberFrom m (leadingDigits (drop e w))) (c + left) (behindDigits (drop e w)) (let k = one-more w e y d in omega arith)) other)
+      (λ (v : 0 + (e - at) ≡ 19). by-digit (getD w e 0)
+      (λ d. goes-on ∙ too-many bare minus (numberFrom m (leadingDigits (drop e w))) (c + left) (behindDigits (drop e w))
+      (let k = one-more w e y d in omega arith)) other)
       other
       x)
       (r .stop))
@@ -142,7 +147,8 @@ module _ (bare minus : Bool) (w : List ℕ) (at m e : ℕ) (r : RunTo w at 0 0 m
     into = at-byte (inner h) is-point
 
     some-before : 0 < c
-    some-before = let z = r .runs .from in ⊎-elim (λ (y : at ≡ e). absurd (o (sym y))) (λ (y : at < e). let x : 0 < c = omega arith in x) (eq-or-lt-of-le z)
+    some-before = let z = r .runs .from in
+        ⊎-elim (λ (y : at ≡ e). absurd (o (sym y))) (λ (y : at < e). let x : 0 < c = omega arith in x) (eq-or-lt-of-le z)
 
     -- a byte that is no digit is left
     left-over : e' < length w → 10 ≤ digitValue (getD w e' 0) → all ≡ NotFigure
@@ -155,7 +161,9 @@ module _ (bare minus : Bool) (w : List ℕ) (at m e : ℕ) (r : RunTo w at 0 0 m
         let y = inside w e' (q .runs .to) z in
         sym (⊎-elim (λ (x : e' ≡ length w). absurd (z x))
         (λ (x : (e - at + (e' - (e + 1)) ≡ 19) ⊎ (10 ≤ digitValue (getD w e' 0))). ⊎-elim
-        (λ (v : e - at + (e' - (e + 1)) ≡ 19). by-digit (getD w e' 0) (λ d. into ∙ too-many-in-all minus m c (getD w e 0) l (let n = one-more w e' y d in let u = q .runs .digits in omega arith)) (left-over y))
+        (λ (v : e - at + (e' - (e + 1)) ≡ 19). by-digit (getD w e' 0)
+        (λ d. into ∙ too-many-in-all minus m c (getD w e 0) l (let n = one-more w e' y d in let u = q .runs .digits in omega arith))
+        (left-over y))
         (left-over y)
         x)
         (q .stop))
@@ -171,7 +179,8 @@ module _ (bare minus : Bool) (w : List ℕ) (at m e : ℕ) (r : RunTo w at 0 0 m
         (eq-or-lt-of-le (q .runs .to))
 
     some-behind : (e' ≡ e + 1 → ⊥) → 0 < k
-    some-behind y = let z = q .runs .from in ⊎-elim (λ (v : e + 1 ≡ e'). absurd (y (sym v))) (λ (v : e + 1 < e'). let u : 0 < k = omega arith in u) (eq-or-lt-of-le z)
+    some-behind y = let z = q .runs .from in
+        ⊎-elim (λ (v : e + 1 ≡ e'). absurd (y (sym v))) (λ (v : e + 1 < e'). let u : 0 < k = omega arith in u) (eq-or-lt-of-le z)
 
     pub few-behind : e' - e - 1 ≤ 18
     few-behind = let a = q .runs .count in let b = some-before in omega arith
@@ -209,10 +218,12 @@ module _ (w : List ℕ) (o : length w ≡ 0 → ⊥) where
   unfolding decimalFigure
   minus-word e g = g ∙ sym (ap decimalFigure opened ∙ ap (λ (b : ℕ). decimalFigure (b ∷ drop 1 w)) e)
 
-  pub bare-word : (getD w 0 0 ≡ 43 → ⊥) → (getD w 0 0 ≡ 45 → ⊥) → {f : Figure} → f ≡ unsignedFigure true false (drop 0 w) → f ≡ decimalFigure w
+  pub bare-word : (getD w 0 0 ≡ 43 → ⊥) → (getD w 0 0 ≡ 45 → ⊥) → {f : Figure} → f ≡ unsignedFigure true false (drop 0 w)
+      → f ≡ decimalFigure w
   unfolding decimalFigure
   bare-word h i g =
-      g ∙ sym (ap decimalFigure opened ∙ rw (ne-eqb (getD w 0 0) 43 h, ne-eqb (getD w 0 0) 45 i) (ap (unsignedFigure true false) (sym opened)))
+      g ∙ sym (ap decimalFigure opened
+      ∙ rw (ne-eqb (getD w 0 0) 43 h, ne-eqb (getD w 0 0) 45 i) (ap (unsignedFigure true false) (sym opened)))
 
 -- ---- the mark
 
@@ -221,10 +232,12 @@ unfolding figureWord
 no-figure [] h = refl
 no-figure (b ∷ l) h = absurd (let y : ⊥ = omega arith in y)
 
-pub marked : (w : List ℕ) → (length w ≡ 0 → ⊥) → getD w 0 0 ≡ 35 → {f : Figure} → f ≡ figureOf (take (length w - 1) (drop 1 w)) → f ≡ figureWord w
+pub marked : (w : List ℕ) → (length w ≡ 0 → ⊥) → getD w 0 0 ≡ 35 → {f : Figure} → f ≡ figureOf (take (length w - 1) (drop 1 w))
+    → f ≡ figureWord w
 unfolding figureWord
 marked [] o e g = absurd (o refl)
-marked (b ∷ l) o e g = g ∙ ap figureOf (take-all (suc (length l) - 1) l (let z : length l ≤ suc (length l) - 1 = omega arith in z)) ∙ sym (rw (eq-eqb b 35 e))
+marked (b ∷ l) o e g = g ∙ ap figureOf (take-all (suc (length l) - 1) l (let z : length l ≤ suc (length l) - 1 = omega arith in z))
+    ∙ sym (rw (eq-eqb b 35 e))
 
 pub unmarked : (w : List ℕ) → (length w ≡ 0 → ⊥) → (getD w 0 0 ≡ 35 → ⊥) → {f : Figure} → f ≡ decimalFigure w → f ≡ figureWord w
 unfolding figureWord

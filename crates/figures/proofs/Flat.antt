@@ -50,7 +50,8 @@ unfolding eq ofBits
 zero-is nan h = absurd h
 zero-is (inf s) h = absurd h
 zero-is (fin s m e) h =
-    ap (λ (k : ℕ). level s (k * up e * 1) false (0 * 1 * down e)) h ∙ ap (λ (k : ℕ). level s (k * 1) false (0 * 1 * down e)) (zero-mul (up e))
+    ap (λ (k : ℕ). level s (k * up e * 1) false (0 * 1 * down e)) h
+    ∙ ap (λ (k : ℕ). level s (k * 1) false (0 * 1 * down e)) (zero-mul (up e))
     ∙ ap (λ (k : ℕ). level s 0 false k) (zero-mul (down e)) ∙ both s
   where
     both : (s : Bool) → level s 0 false 0 ≡ true
@@ -70,7 +71,8 @@ zero-round : (s : Bool) (num den : ℕ) → 0 < den → num ≡ 0 → Zero (roun
 zero-round s num den p h =
     subst (λ (n : ℕ). Zero (round binary64 s n den)) (sym h)
     (zero-value (round binary64 s 0 den) s den p
-    (round-exact binary64 s 0 den 0 0 p (pow-pos (prec binary64)) (pow-pos (low binary64 + suc (emax binary64))) (zero-mul (2 ^ low binary64) ∙ sym (zero-mul den))))
+    (round-exact binary64 s 0 den 0 0 p (pow-pos (prec binary64)) (pow-pos (low binary64 + suc (emax binary64)))
+    (zero-mul (2 ^ low binary64) ∙ sym (zero-mul den))))
 
 zero-product : (x y : Float) → Finite x → Zero y → Zero (x ⊗ y)
 unfolding mul
@@ -89,7 +91,8 @@ zero-sum (inf s) y p q = absurd p
 zero-sum (fin s m e) nan p q = absurd q
 zero-sum (fin s m e) (inf t) p q = absurd q
 zero-sum (fin s m e) (fin t n d) p q =
-    go (m * up e * down d) (n * up d * down e) (down e * down d) (none m (up e) (down d) p) (none n (up d) (down e) q) (mul-pos (down-pos e) (down-pos d)) (Bool·beq s t) (ltb (m * up e * down d) (n * up d * down e))
+    go (m * up e * down d) (n * up d * down e) (down e * down d) (none m (up e) (down d) p) (none n (up d) (down e) q)
+    (mul-pos (down-pos e) (down-pos d)) (Bool·beq s t) (ltb (m * up e * down d) (n * up d * down e))
   where
     none : (k a b : ℕ) → k ≡ 0 → k * a * b ≡ 0
     none k a b h = ap (λ (i : ℕ). i * a * b) h ∙ ap (λ (i : ℕ). i * b) (zero-mul a) ∙ zero-mul b
@@ -119,13 +122,15 @@ within-finite nan h = no (sym h)
 within-finite (inf s) h = no (sym h)
 within-finite (fin s m e) h = tt
 
-module _ (points : List Float) (x : (k : ℕ) → k < pairCount points → Finite (xAt points k)) (y : (k : ℕ) → k < pairCount points → Zero (heightAt points k)) where
+module _ (points : List Float) (x : (k : ℕ) → k < pairCount points → Finite (xAt points k))
+    (y : (k : ℕ) → k < pairCount points → Zero (heightAt points k)) where
   term-zero : (i : ℕ) → i < pairCount points → Zero (edgeTerm (edgeAt points i))
   term-zero i l =
       let n = pairCount points in
       let j = next n i in
       let m : j < n = mod-lt (i + 1) (let z : 0 < n = omega arith in z) in
-      zero-difference (xAt points i ⊗ heightAt points j) (xAt points j ⊗ heightAt points i) (zero-product (xAt points i) (heightAt points j) (x i l) (y j m))
+      zero-difference (xAt points i ⊗ heightAt points j) (xAt points j ⊗ heightAt points i)
+      (zero-product (xAt points i) (heightAt points j) (x i l) (y j m))
       (zero-product (xAt points j) (heightAt points i) (x j m) (y i l))
 
   sum-zero : (i : ℕ) → i ≤ pairCount points → Zero (sumOfTerms points i)

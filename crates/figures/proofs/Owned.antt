@@ -20,10 +20,16 @@ use Rattle.fins.specs.declared.FinSet.{FinSet}
 use Rattle.fins.proofs.FinSet as set-type
 use Rattle.fins.proofs.FinSet.Laws as set-laws
 
-pub planform-f64 : (planform : Planform) (values : List Val) (points : List Float) → Is (row the-type) planform values → ((i : ℕ) → T (fits binary64 (at points i))) → PlanformF64 planform points
+pub planform-f64 : (planform : Planform) (values : List Val) (points : List Float) → Is (row the-type) planform values
+    → ((i : ℕ) → T (fits binary64 (at points i))) → PlanformF64 planform points
 planform-f64 (Trapezoid root tip span sweep) values points p q =
-    let h = owed the-type the-laws (Trapezoid root tip span sweep) values p in
-    (of-true (fits binary64 root) (h .0 .1), (of-true (fits binary64 tip) (h .1 .0 .1), (of-true (fits binary64 span) (h .1 .1 .0 .1), of-true (fits binary64 sweep) (h .1 .1 .1 .0 .1))))
+    let h = owed the-type the-laws (Trapezoid root tip span sweep) values p in (
+      of-true (fits binary64 root) (h .0 .1),
+      (
+        of-true (fits binary64 tip) (h .1 .0 .1),
+        (of-true (fits binary64 span) (h .1 .1 .0 .1), of-true (fits binary64 sweep) (h .1 .1 .1 .0 .1)),
+      ),
+    )
 planform-f64 (Ellipse root span) values points p q =
     let h = owed the-type the-laws (Ellipse root span) values p in
     (of-true (fits binary64 root) (h .0 .1), of-true (fits binary64 span) (h .1 .0 .1))
@@ -35,7 +41,8 @@ pub record SetF64 (set : FinSet) (points : List Float) : Type 0 where
   pub thickness : T (fits binary64 (set .«thickness_m»))
   pub radius : T (fits binary64 (set .«body_radius_m»))
 
-pub set-f64 : (set : FinSet) (values : List Val) (points : List Float) → Is (struct.row set-type.the-type) set values → ((i : ℕ) → T (fits binary64 (at points i))) → SetF64 set points
+pub set-f64 : (set : FinSet) (values : List Val) (points : List Float) → Is (struct.row set-type.the-type) set values
+    → ((i : ℕ) → T (fits binary64 (at points i))) → SetF64 set points
 set-f64 set values points p q =
     let h = structs.owed set-type.the-type set-laws.the-laws set values p in
     record {

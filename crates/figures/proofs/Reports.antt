@@ -59,7 +59,8 @@ module _ (body : Body) (totals : Totals) where
   figures-samples Accepted = refl
   figures-samples (Refused refusal) = refl
 
-  figures-intervals : (verdict : Verdict) → figuresBy verdict body totals .verdict ≡ Accepted → figuresBy verdict body totals .intervals ≡ totals .intervals
+  figures-intervals : (verdict : Verdict) → figuresBy verdict body totals .verdict ≡ Accepted
+      → figuresBy verdict body totals .intervals ≡ totals .intervals
   figures-intervals Accepted h = refl
   figures-intervals (Refused refusal) h = no-refusal refusal h
 
@@ -69,7 +70,8 @@ module _ (body : Body) (totals : Totals) where
 
 -- by what the integrals and the verdict are known to be
 pub set-concluded : (set : FinSet) (root scale : Float) (total : Integral) {v : List Float} {known : Verdict} {r : Figures}
-    → v ≡ integralsOf set scale (total .totals .value) → conclusionOf (total .ending) (volume v) ≡ known → r ≡ figuresBy known (finsOf set root v) (total .totals)
+    → v ≡ integralsOf set scale (total .totals .value) → conclusionOf (total .ending) (volume v) ≡ known
+    → r ≡ figuresBy known (finsOf set root v) (total .totals)
     → r ≡ concludedSet set root scale total
 unfolding concludedSet
 set-concluded set root scale total {v} e k a =
@@ -77,7 +79,8 @@ set-concluded set root scale total {v} e k a =
     ∙ ap (λ (w : List Float). figuresBy (conclusionOf (total .ending) (volume w)) (finsOf set root w) (total .totals)) e
 
 -- of the strips worked
-module _ (set : FinSet) (root scale : Float) (strips : List Worked) (r : Figures) (answer : r ≡ concludedSet set root scale (summedOf strips)) where
+module _ (set : FinSet) (root scale : Float) (strips : List Worked) (r : Figures)
+    (answer : r ≡ concludedSet set root scale (summedOf strips)) where
   abbrev Integrals· : List Float
   Integrals· = integralsOf set scale (summedOf strips .totals .value)
 
@@ -100,7 +103,8 @@ module _ (set : FinSet) (root scale : Float) (strips : List Worked) (r : Figures
   pub concluded-verdict : Reported (endingOf strips) (r .verdict)
   unfolding concludedSet
   concluded-verdict =
-      subst (Reported (endingOf strips)) (sym (ap (λ (x : Figures). x .verdict) answer ∙ figures-verdict Body· (summedOf strips .totals) Verdict·))
+      subst (Reported (endingOf strips))
+      (sym (ap (λ (x : Figures). x .verdict) answer ∙ figures-verdict Body· (summedOf strips .totals) Verdict·))
       (reported (endingOf strips) (volume Integrals·))
 
   pub concluded-zeros : ZeroFigures r
@@ -122,7 +126,8 @@ module _ (scale : Float) (totals : Totals) where
   area-samples Accepted = refl
   area-samples (Refused refusal) = refl
 
-  area-intervals : (verdict : Verdict) → areaBy verdict scale totals .verdict ≡ Accepted → areaBy verdict scale totals .intervals ≡ totals .intervals
+  area-intervals : (verdict : Verdict) → areaBy verdict scale totals .verdict ≡ Accepted
+      → areaBy verdict scale totals .intervals ≡ totals .intervals
   area-intervals Accepted h = refl
   area-intervals (Refused refusal) h = no-refusal refusal h
 
@@ -147,7 +152,8 @@ module _ (scale : Float) (strips : List Worked) (r : Area) (answer : r ≡ concl
   pub concluded-area-verdict : Reported (endingOf strips) (r .verdict)
   unfolding concludedArea
   concluded-area-verdict =
-      subst (Reported (endingOf strips)) (sym (ap (λ (x : Area). x .verdict) answer ∙ area-verdict scale (summedOf strips .totals) AreaVerdict·))
+      subst (Reported (endingOf strips))
+      (sym (ap (λ (x : Area). x .verdict) answer ∙ area-verdict scale (summedOf strips .totals) AreaVerdict·))
       (reported (endingOf strips) (unscaledArea scale (summedOf strips .totals .value)))
 
   pub concluded-area-zeros : ZeroArea r

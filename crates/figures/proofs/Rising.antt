@@ -1,4 +1,5 @@
--- The runs of every set and every planform that passed the checks are bounded: so their pieces rise, and their samples and the numbers worked from
+-- The runs of every set and every planform that passed the checks are bounded: so their pieces rise, and their samples
+-- and the numbers worked from
 -- these are finite. Assumes nothing.
 use mathlib.Core.Path.{_≡_}
 use mathlib.Core.List.{List}
@@ -44,21 +45,25 @@ module _ (planform : Planform) (points : List Float) (s : Sized planform points)
   over-scale : (x : Float) → Length x → Below 26 (x ⊘ scaleOf planform points)
   over-scale x l = div-below x (scaleOf planform points) 6 20 (lit≤ tt) (l .below) (scale-sized planform points s .above)
 
-  plate-below : (section : Section) (thickness radius : Float) → Length thickness → Length radius → (h : Float) → Below 28 h → Each (Below 700) (plateOf planform points section thickness radius h)
+  plate-below : (section : Section) (thickness radius : Float) → Length thickness → Length radius → (h : Float) → Below 28 h
+      → Each (Below 700) (plateOf planform points section thickness radius h)
   unfolding plateOf
   plate-below section thickness radius t r h b =
-      sample-below (plateIntegrand planform points section thickness radius) points h s (scale-sized planform points s) (over-scale thickness t, over-scale radius r) b
+      sample-below (plateIntegrand planform points section thickness radius) points h s (scale-sized planform points s)
+      (over-scale thickness t, over-scale radius r) b
 
 area-wide : (planform : Planform) (points : List Float) (h : Float) → 3 ≤ length (areaThree planform points h)
 unfolding areaThree
 area-wide planform points h = lit≤ tt
 
-plate-wide : (planform : Planform) (points : List Float) (section : Section) (thickness radius h : Float) → 7 ≤ length (plateOf planform points section thickness radius h)
+plate-wide : (planform : Planform) (points : List Float) (section : Section) (thickness radius h : Float)
+    → 7 ≤ length (plateOf planform points section thickness radius h)
 unfolding plateOf sampleOf
 plate-wide planform points section thickness radius h = lit≤ tt
 
 -- ---- the runs
-module _ (planform : Planform) (points : List Float) (L n : ℕ) (f64s : PlanformF64 planform points) (accepted : areaCheck planform points L n ≡ Accepted) where
+module _ (planform : Planform) (points : List Float) (L n : ℕ) (f64s : PlanformF64 planform points)
+    (accepted : areaCheck planform points L n ≡ Accepted) where
   area-sized : SizedRun (areaRun planform points L)
   area-sized =
       let s = planform-sized planform points f64s (area-planform planform points L n accepted) in

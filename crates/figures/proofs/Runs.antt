@@ -47,7 +47,9 @@ pub area-run : (planform : Planform) (points : List Float) (L n : ℕ) → areaC
 unfolding areaCheck
 area-run planform points L n h = run-within L n (first-two _ _ _ h)
 
-pub run-of : (integrand : Integrand) (points : List Float) (L : ℕ) (entry : List Float) (r : Integral) (exit : List Float) {strips : List Worked}
+pub run-of : (integrand : Integrand) (points : List Float) (L : ℕ) (entry : List Float) (r : Integral) (exit : List Float)
+    {strips : List Worked}
     → stripsOf integrand points L ≡ strips → Runs (runOf integrand points L) entry r exit
     → (r ≡ summedOf strips) × (exit ≡ scratchAfter strips entry)
-run-of integrand points L entry r exit same z = (z .answer ∙ ap summedOf same, z .scratch ∙ ap (λ (l : List Worked). scratchAfter l entry) same)
+run-of integrand points L entry r exit same z =
+    (z .answer ∙ ap summedOf same, z .scratch ∙ ap (λ (l : List Worked). scratchAfter l entry) same)

@@ -38,11 +38,13 @@ use Rattle.figures.specs.Areas.{areaStrips}
 use Rattle.figures.proofs.Flat.{zero-of, zero-is, zero-zero, within-finite, no-area}
 
 -- ---- fewer strips than break heights
-pub worked-few : (w : ℕ) (f : Float → List Float) (limit : ℕ) (scale : Float) (l : List Float) → length (workedOf w f limit scale l) ≤ length l - 1
+pub worked-few : (w : ℕ) (f : Float → List Float) (limit : ℕ) (scale : Float) (l : List Float)
+    → length (workedOf w f limit scale l) ≤ length l - 1
 unfolding workedOf
 worked-few w f limit scale [] = omega arith
 worked-few w f limit scale (h ∷ []) = omega arith
-worked-few w f limit scale (h ∷ k ∷ l) = go (isAccepted (halving w f (h ⊘ scale) (k ⊘ scale) limit .ending)) (workedOf w f limit scale (k ∷ l)) (worked-few w f limit scale (k ∷ l))
+worked-few w f limit scale (h ∷ k ∷ l) = go (isAccepted (halving w f (h ⊘ scale) (k ⊘ scale) limit .ending))
+    (workedOf w f limit scale (k ∷ l)) (worked-few w f limit scale (k ∷ l))
   where
     go : (b : Bool) (rest : List Worked) → length rest ≤ length (k ∷ l) - 1 → suc (length (cond b rest [])) ≤ length (h ∷ k ∷ l) - 1
     go true rest few = omega (arith, few)
@@ -93,10 +95,12 @@ largest-fit : (points : List Float) (n : ℕ) → ((k : ℕ) → k < n → point
 unfolding largestHeight
 largest-fit points zero f = zero-fit
 largest-fit points (suc n) f =
-    go (ne (largestHeight points n) (largestHeight points n)) (lt (largestHeight points n) (heightAt points n)) (largest-fit points n (λ k b. f k (omega (arith, b))))
+    go (ne (largestHeight points n) (largestHeight points n)) (lt (largestHeight points n) (heightAt points n))
+    (largest-fit points n (λ k b. f k (omega (arith, b))))
     (point-fit points n (f n (omega arith)))
   where
-    go : (p q : Bool) → Fit (largestHeight points n) → Fit (heightAt points n) → Fit (cond p (heightAt points n) (cond q (heightAt points n) (largestHeight points n)))
+    go : (p q : Bool) → Fit (largestHeight points n) → Fit (heightAt points n)
+        → Fit (cond p (heightAt points n) (cond q (heightAt points n) (largestHeight points n)))
     go true q m y = y
     go false true m y = y
     go false false m y = m
@@ -122,9 +126,11 @@ outline-few points h =
     let ends : (p && q && c && d) ≡ true = holds (p && q && c && d) Ends (both _ _ (both _ _ after-pairs .1) .0) in
     let first-three = both-true (p && q && c) d ends in
     let first-two = both-true (p && q) c (first-three .0) in
-    most-outline-breaks points (omega (arith, b)) (b .1) (each-number (heights points n) (heights-fit points n (outline-points points h))) (both-true p q (first-two .0) .1) (first-three .1)
+    most-outline-breaks points (omega (arith, b)) (b .1) (each-number (heights points n) (heights-fit points n (outline-points points h)))
+    (both-true p q (first-two .0) .1) (first-three .1)
 
-heights-few : (planform : Planform) (points : List Float) → planformCheck planform points ≡ Accepted → length (breakHeights planform points) ≤ mostStrips + 1
+heights-few : (planform : Planform) (points : List Float) → planformCheck planform points ≡ Accepted
+    → length (breakHeights planform points) ≤ mostStrips + 1
 unfolding planformCheck everyY
 heights-few (Trapezoid root tip span sweep) points h = omega (arith, at-most-two-more (Trapezoid root tip span sweep) points)
 heights-few (Ellipse root span) points h = omega (arith, at-most-two-more (Ellipse root span) points)
@@ -135,21 +141,31 @@ heights-few Outline points h = outline-few points h
 span-above-zero : (span : Float) → lengthCheck spanField span ≡ Accepted → lt (bits 0) span ≡ true
 unfolding lengthCheck lengthWithin
 span-above-zero span h =
-    both-true (lt (bits 0) span) (isWithin shortest longest (absOf span)) (holds (lt (bits 0) span && isWithin shortest longest (absOf span)) (Length spanField) h) .0
+    both-true (lt (bits 0) span) (isWithin shortest longest (absOf span))
+    (holds (lt (bits 0) span && isWithin shortest longest (absOf span)) (Length spanField) h) .0
 
 -- ---- all heights of an accepted planform are numbers, and none lies below 0
 all-fit : (planform : Planform) (points : List Float) → planformCheck planform points ≡ Accepted → Each Fit (allHeights planform points)
 unfolding planformCheck everyY spanOf
-all-fit (Trapezoid root tip span sweep) points h = (zero-fit, (above-fit span (span-above-zero span (both _ _ (both _ _ (both _ _ h .1) .1) .0)), tt))
+all-fit (Trapezoid root tip span sweep) points h =
+    (zero-fit, (above-fit span (span-above-zero span (both _ _ (both _ _ (both _ _ h .1) .1) .0)), tt))
 all-fit (Ellipse root span) points h = (zero-fit, (above-fit span (span-above-zero span (both _ _ (both _ _ h .1) .0)), tt))
 all-fit Outline points h =
-    let n = pairCount points in
-    (zero-fit, (largest-fit points n (outline-points points h), rw (le-leb n mostPoints (points-within points h .1)) (heights-fit points n (outline-points points h))))
+    let n = pairCount points in (
+      zero-fit,
+      (
+        largest-fit points n (outline-points points h),
+        rw (le-leb n mostPoints (points-within points h .1))
+            (heights-fit points n (outline-points points h)),
+      ),
+    )
 
-pub all-numbers : (planform : Planform) (points : List Float) → planformCheck planform points ≡ Accepted → NoNan (allHeights planform points)
+pub all-numbers : (planform : Planform) (points : List Float) → planformCheck planform points ≡ Accepted
+    → NoNan (allHeights planform points)
 all-numbers planform points h = each-number (allHeights planform points) (all-fit planform points h)
 
-pub none-under-zero : (planform : Planform) (points : List Float) → planformCheck planform points ≡ Accepted → Each (NotUnder (bits 0)) (allHeights planform points)
+pub none-under-zero : (planform : Planform) (points : List Float) → planformCheck planform points ≡ Accepted
+    → Each (NotUnder (bits 0)) (allHeights planform points)
 none-under-zero planform points h = each-not-under (allHeights planform points) (all-fit planform points h)
 
 two-listed : (planform : Planform) (points : List Float) → oneStrip planform ≡ true → 2 ≤ length (breakHeights planform points)
@@ -169,7 +185,8 @@ lone [] h x y p q = absurd (false≢true p)
 lone (a ∷ []) h x y p q = equal-trans x a y (or-none (eq x a) p) (equal-sym y a (or-none (eq y a) q))
 lone (a ∷ b ∷ l) h x y p q = absurd (let z : ⊥ = omega arith in z)
 
-height-among : (points : List Float) (n k : ℕ) → isNan (heightAt points k) ≡ false → k < n → among (heightAt points k) (heights points n) ≡ true
+height-among : (points : List Float) (n k : ℕ) → isNan (heightAt points k) ≡ false → k < n
+    → among (heightAt points k) (heights points n) ≡ true
 unfolding heights among
 height-among points zero k o l = absurd (let z : ⊥ = omega arith in z)
 height-among points (suc n) k o l = go (eqb k n) refl (height-among points n k o)
@@ -179,7 +196,8 @@ height-among points (suc n) k o l = go (eqb k n) refl (height-among points n k o
     go true e f =
         or-left (eq (heightAt points k) (heightAt points n)) (among (heightAt points k) (heights points n))
         (subst (λ (j : ℕ). eq (heightAt points k) (heightAt points j) ≡ true) (eqb-true k n e) (equal-itself (heightAt points k) o))
-    go false e f = or-true (eq (heightAt points k) (heightAt points n)) (among (heightAt points k) (heights points n)) (f (omega (arith, eqb-false k n e)))
+    go false e f = or-true (eq (heightAt points k) (heightAt points n)) (among (heightAt points k) (heights points n))
+        (f (omega (arith, eqb-false k n e)))
 
 outline-some : (points : List Float) → outlineCheck points ≡ Accepted → 2 ≤ length (breakHeights Outline points)
 unfolding outlineCheck everyY among lengthCheck
@@ -199,8 +217,10 @@ outline-some points h = go (leb 2 (length (breakHeights Outline points))) refl
     all-heights k l =
         let y = heightAt points k in
         let found : among y (everyY Outline points) ≡ true =
-        rw (le-leb n mostPoints (points-within points h .1)) (height-among points n k (point-fit points k (outline-points points h k l) .0) l) in
-        or-true (eq y (bits 0)) (eq y (spanOf Outline points) || among y (everyY Outline points)) (or-true (eq y (spanOf Outline points)) (among y (everyY Outline points)) found)
+        rw (le-leb n mostPoints (points-within points h .1))
+        (height-among points n k (point-fit points k (outline-points points h k l) .0) l) in
+        or-true (eq y (bits 0)) (eq y (spanOf Outline points) || among y (everyY Outline points))
+        (or-true (eq y (spanOf Outline points)) (among y (everyY Outline points)) found)
 
     go : (b : Bool) → leb 2 (length (breakHeights Outline points)) ≡ b → 2 ≤ length (breakHeights Outline points)
     go true e = leb-true 2 (length (breakHeights Outline points)) e
@@ -211,18 +231,21 @@ outline-some points h = go (leb 2 (length (breakHeights Outline points))) refl
         ∙ no-area points (λ k l. within-finite (xAt points k) (holds _ _ (both _ _ (outline-points points h k l) .0)))
         (λ k l.
         zero-of (heightAt points k)
-        (lone (breakHeights Outline points) (let f = leb-false 2 (length (breakHeights Outline points)) e in omega (arith, f)) (heightAt points k) (bits 0)
+        (lone (breakHeights Outline points) (let f = leb-false 2 (length (breakHeights Outline points)) e in omega (arith, f))
+        (heightAt points k) (bits 0)
         (break-heights-members Outline points (heightAt points k) ∙ all-heights k l)
         (break-heights-members Outline points (bits 0) ∙ or-left _ _ (zero-is (bits 0) zero-zero))))))
 
-pub heights-some : (planform : Planform) (points : List Float) → planformCheck planform points ≡ Accepted → 2 ≤ length (breakHeights planform points)
+pub heights-some : (planform : Planform) (points : List Float) → planformCheck planform points ≡ Accepted
+    → 2 ≤ length (breakHeights planform points)
 unfolding planformCheck oneStrip
 heights-some (Trapezoid root tip span sweep) points h =
     two-listed (Trapezoid root tip span sweep) points (span-above-zero span (both _ _ (both _ _ (both _ _ h .1) .1) .0))
 heights-some (Ellipse root span) points h = two-listed (Ellipse root span) points (span-above-zero span (both _ _ (both _ _ h .1) .0))
 heights-some Outline points h = outline-some points h
 
-worked-some : (w : ℕ) (f : Float → List Float) (limit : ℕ) (scale : Float) (l : List Float) → 2 ≤ length l → 1 ≤ length (workedOf w f limit scale l)
+worked-some : (w : ℕ) (f : Float → List Float) (limit : ℕ) (scale : Float) (l : List Float) → 2 ≤ length l
+    → 1 ≤ length (workedOf w f limit scale l)
 unfolding workedOf
 worked-some w f limit scale [] h = absurd (let z : ⊥ = omega arith in z)
 worked-some w f limit scale (a ∷ []) h = absurd (let z : ⊥ = omega arith in z)
@@ -230,10 +253,14 @@ worked-some w f limit scale (a ∷ b ∷ l) h = omega arith
 
 -- ---- the strips of an accepted set, and of an accepted planform
 
-counted : (w : ℕ) (f : Float → List Float) (limit : ℕ) (scale : Float) (planform : Planform) (points : List Float) → planformCheck planform points ≡ Accepted
-    → (1 ≤ length (workedOf w f limit scale (breakHeights planform points))) × (length (workedOf w f limit scale (breakHeights planform points)) ≤ mostStrips)
-counted w f limit scale planform points accepted =
-    (worked-some w f limit scale (breakHeights planform points) (heights-some planform points accepted), omega (arith, worked-few w f limit scale (breakHeights planform points), heights-few planform points accepted))
+counted : (w : ℕ) (f : Float → List Float) (limit : ℕ) (scale : Float) (planform : Planform) (points : List Float)
+    → planformCheck planform points ≡ Accepted
+    → (1 ≤ length (workedOf w f limit scale (breakHeights planform points)))
+    × (length (workedOf w f limit scale (breakHeights planform points)) ≤ mostStrips)
+counted w f limit scale planform points accepted = (
+  worked-some w f limit scale (breakHeights planform points) (heights-some planform points accepted),
+  omega (arith, worked-few w f limit scale (breakHeights planform points), heights-few planform points accepted),
+)
 
 pub set-strips-counted : (set : FinSet) (points : List Float) (L n : ℕ) → setCheck set points L n ≡ Accepted
     → (1 ≤ length (setStrips set points L)) × (length (setStrips set points L) ≤ mostStrips)

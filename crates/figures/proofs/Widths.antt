@@ -48,7 +48,8 @@ area-zeros planform points = record { no-wider = lit≤ tt; first = first; other
     others h (suc (suc (suc (suc (suc (suc zero)))))) a b = refl
     others h (suc (suc (suc (suc (suc (suc (suc k))))))) a b = absurd (let z : ⊥ = omega arith in z)
 
-wider-ends : (strips : List Worked) → Each (λ s. InOrder 26 (s .lower) (s .upper)) strips → Each (λ s. InOrder 1000 (s .lower) (s .upper)) strips
+wider-ends : (strips : List Worked) → Each (λ s. InOrder 26 (s .lower) (s .upper)) strips
+    → Each (λ s. InOrder 1000 (s .lower) (s .upper)) strips
 wider-ends [] e = tt
 wider-ends (s ∷ strips) e = (wider (s .lower) (s .upper) 26 1000 (lit≤ tt) (e .0), wider-ends strips (e .1))
 
@@ -59,9 +60,11 @@ module _ (planform : Planform) (points : List Float) (L : ℕ) where
   sized-at-three : Sized planform points → Seven ≡ areaSeven planform points L
   sized-at-three s =
       let scale = scale-sized planform points s in
-      strips-change-nothing 3 7 (areaThree planform points) (areaOf planform points) (area-zeros planform points) L (scaleOf planform points) (breakHeights planform points)
+      strips-change-nothing 3 7 (areaThree planform points) (areaOf planform points) (area-zeros planform points) L
+      (scaleOf planform points) (breakHeights planform points)
       (wider-ends Seven
-      (ends-in-order 7 (areaOf planform points) L (scaleOf planform points) 6 20 (lit≤ tt) (scale .above) (scale .is-positive) (breakHeights planform points)
+      (ends-in-order 7 (areaOf planform points) L (scaleOf planform points) 6 20 (lit≤ tt) (scale .above) (scale .is-positive)
+      (breakHeights planform points)
       (breaks-bounded planform points s) (breaks-rise planform points s)))
 
   -- "an area run uses three of the seven, the rest zero"

@@ -1,4 +1,5 @@
--- The area and the moments of a fillet's section are finite, of every radius and body radius within their limits and above 0. Assumes nothing.
+-- The area and the moments of a fillet's section are finite, of every radius and body radius within their limits and
+-- above 0. Assumes nothing.
 use mathlib.Core.Path.{_≡_, refl, ap₂, _∙_}
 use mathlib.Core.Bool.{Bool, true, false, _&&_, cond}
 use mathlib.Core.List.{[], _∷_}
@@ -18,7 +19,8 @@ use Rattle.root.proofs.Nearest.{root-positive}
 use Rattle.trig.specs.Trig.{sinOf, cosOf}
 use Rattle.rounding.specs.Sizes.{Below, Above}
 use Rattle.rounding.proofs.Signs.{minus, positive-plus}
-use Rattle.rounding.proofs.Sizes.{weaker, zero-below, half-below, mul-below, div-below, neg-below, add-below, sub-below, add-above, add-plus, above-num, positive-of, mul-above}
+use Rattle.rounding.proofs.Sizes.{weaker, zero-below, half-below, mul-below, div-below, neg-below, add-below, sub-below, add-above}
+use Rattle.rounding.proofs.Sizes.{add-plus, above-num, positive-of, mul-above}
 use Rattle.rounding.proofs.Roots.{root-below}
 use Rattle.rounding.proofs.Terms.{Term, given, _plus_, _less_, _times_, _over_, AllAbove, within}
 use Rattle.refusals.specs.declared.Verdict.the-variants.{Accepted}
@@ -26,7 +28,9 @@ use Rattle.limits.specs.Limits.{bodyRadiusField, filletRadiusField, lengthCheck
 use Rattle.limits.proofs.Lengths.{PositiveLength, above-checked}
 use Rattle.fillets.specs.declared.AreaMoments.{AreaMoments}
 use Rattle.fillets.specs.Angles.{eight, angleOf}
-use Rattle.fillets.specs.FilletSections.{quarter, six, areaMoments, lessMoments, termDivisors, spanLessSineSeries, spanLessSineOf, sectorArea, chordMoment, secondMoment, movedFirst, movedSecond, sectorWith, sectorOf, touchingAt, triangleOf, sectionWith, filletSectionOf}
+use Rattle.fillets.specs.FilletSections.{quarter, six, areaMoments, lessMoments, termDivisors, spanLessSineSeries, spanLessSineOf}
+use Rattle.fillets.specs.FilletSections.{sectorArea, chordMoment, secondMoment, movedFirst, movedSecond, sectorWith, sectorOf, touchingAt}
+use Rattle.fillets.specs.FilletSections.{triangleOf, sectionWith, filletSectionOf}
 use Rattle.fillets.specs.Fillets.{isSound}
 use Rattle.fillet_sizes.proofs.Sums.{not-negative, mul-minus, div-minus}
 use Rattle.rounding.proofs.LeastRoots.{root-least}
@@ -65,7 +69,16 @@ two-minus = refl
 -- ---- x − sin x
 term-divisors : AllAbove (0 ∷ 0 ∷ 0 ∷ 0 ∷ 0 ∷ 0 ∷ 0 ∷ 0 ∷ []) (six ∷ termDivisors)
 unfolding ofBits ofInt round
-term-divisors = (above _ tt (lit≤ tt), (above _ tt (lit≤ tt), (above _ tt (lit≤ tt), (above _ tt (lit≤ tt), (above _ tt (lit≤ tt), (above _ tt (lit≤ tt), (above _ tt (lit≤ tt), (above _ tt (lit≤ tt), tt))))))))
+term-divisors = (
+  above _ tt (lit≤ tt),
+  (
+    above _ tt (lit≤ tt),
+    (
+      above _ tt (lit≤ tt),
+      (above _ tt (lit≤ tt), (above _ tt (lit≤ tt), (above _ tt (lit≤ tt), (above _ tt (lit≤ tt), (above _ tt (lit≤ tt), tt))))),
+    ),
+  ),
+)
   where
     above : (n : Float) → T (finite n) → 1 * den n ≤ num n * 2 ^ 0 → Above 0 n
     above n i l = record { finite = i; size = l }
@@ -100,7 +113,8 @@ term7 = term 6 term6
 
 span-series : (x : Float) → Below 15 x → Below 340 (spanLessSineSeries x)
 span-series x h =
-    within (15 ∷ 15 ∷ 0 ∷ []) (0 ∷ 0 ∷ 0 ∷ 0 ∷ 0 ∷ 0 ∷ 0 ∷ 0 ∷ []) (x ∷ neg x ∷ bits 0 ∷ []) (six ∷ termDivisors) (h, (neg-below x 15 h, (zero-below, tt))) term-divisors
+    within (15 ∷ 15 ∷ 0 ∷ []) (0 ∷ 0 ∷ 0 ∷ 0 ∷ 0 ∷ 0 ∷ 0 ∷ 0 ∷ []) (x ∷ neg x ∷ bits 0 ∷ []) (six ∷ termDivisors)
+    (h, (neg-below x 15 h, (zero-below, tt))) term-divisors
     (sum1 plus term2 plus term3 plus term4 plus term5 plus term6 plus term7) 340 tt
 
 span-below : (x : Float) → Below 15 x → Below 340 (spanLessSineOf x)
@@ -119,52 +133,59 @@ pub record FourBelow (p : ℕ) (s : AreaMoments) : Type 0 where
   pub sxx : Below p (s .«sxx_m4»)
   pub syy : Below p (s .«syy_m4»)
 
-module _ (x0 y0 rho span middle : Float) (hx : Below 7 x0) (hy : Below 7 y0) (hr : Below 6 rho) (hs : Below 15 span) (hm : Below 15 middle) where
-  half-span : Below 15 (half ⊗ span)
-  half-span = mul-below half span 0 15 (lit≤ tt) half-below hs
+module _ (x0 y0 rho span middle : Float) (hx : Below 7 x0) (hy : Below 7 y0) (hr : Below 6 rho) (hs : Below 15 span) (hm : Below 15 middle)
+  where
+    half-span : Below 15 (half ⊗ span)
+    half-span = mul-below half span 0 15 (lit≤ tt) half-below hs
 
-  area-below : Below 27 (sectorArea rho span)
-  area-below = within (0 ∷ 6 ∷ 15 ∷ []) [] (half ∷ rho ∷ span ∷ []) [] (half-below, (hr, (hs, tt))) tt (given 0 times given 1 times given 1 times given 2) 27 tt
+    area-below : Below 27 (sectorArea rho span)
+    area-below = within (0 ∷ 6 ∷ 15 ∷ []) [] (half ∷ rho ∷ span ∷ []) [] (half-below, (hr, (hs, tt))) tt
+        (given 0 times given 1 times given 1 times given 2) 27 tt
 
-  chord-below : Below 350 (chordMoment rho span)
-  chord-below =
-      within (1 ∷ 331 ∷ 6 ∷ []) (0 ∷ []) (two ∷ sinOf (half ⊗ span) ∷ rho ∷ []) (three ∷ []) (two-below, (turn-below (half ⊗ span) half-span .0, (hr, tt))) (three-above, tt)
-      (given 0 times given 1 times (given 2 times (given 2 times given 2)) over 0) 350 tt
+    chord-below : Below 350 (chordMoment rho span)
+    chord-below =
+        within (1 ∷ 331 ∷ 6 ∷ []) (0 ∷ []) (two ∷ sinOf (half ⊗ span) ∷ rho ∷ []) (three ∷ [])
+        (two-below, (turn-below (half ⊗ span) half-span .0, (hr, tt))) (three-above, tt)
+        (given 0 times given 1 times (given 2 times (given 2 times given 2)) over 0) 350 tt
 
-  second-below : (k : Float) → Below 331 k → Below 1019 (secondMoment rho span k)
-  second-below k h =
-      within (6 ∷ 340 ∷ 331 ∷ 1 ∷ 331 ∷ []) (0 ∷ []) (rho ∷ spanLessSineOf span ∷ sinOf span ∷ two ∷ k ∷ []) (eight ∷ [])
-      (hr, (span-below span hs, (turn-below span hs .0, (two-below, (h, tt))))) (eight-above, tt)
-      ((given 0 times given 0) times (given 0 times given 0) over 0 times (given 1 plus given 2 times given 3 times (given 4 times given 4))) 1019 tt
+    second-below : (k : Float) → Below 331 k → Below 1019 (secondMoment rho span k)
+    second-below k h =
+        within (6 ∷ 340 ∷ 331 ∷ 1 ∷ 331 ∷ []) (0 ∷ []) (rho ∷ spanLessSineOf span ∷ sinOf span ∷ two ∷ k ∷ []) (eight ∷ [])
+        (hr, (span-below span hs, (turn-below span hs .0, (two-below, (h, tt))))) (eight-above, tt)
+        ((given 0 times given 0) times (given 0 times given 0) over 0 times
+        (given 1 plus given 2 times given 3 times (given 4 times given 4))) 1019 tt
 
-  first-below : (k : Float) → Below 331 k → Below 681 (chordMoment rho span ⊗ k)
-  first-below k h = mul-below (chordMoment rho span) k 350 331 (lit≤ tt) chord-below h
+    first-below : (k : Float) → Below 331 k → Below 681 (chordMoment rho span ⊗ k)
+    first-below k h = mul-below (chordMoment rho span) k 350 331 (lit≤ tt) chord-below h
 
-  moved-first : (x k : Float) → Below 7 x → Below 331 k → Below 1021 (movedFirst x (sectorArea rho span) (chordMoment rho span ⊗ k))
-  moved-first x k hx hk =
-      within (681 ∷ 7 ∷ 27 ∷ []) [] (chordMoment rho span ⊗ k ∷ x ∷ sectorArea rho span ∷ []) [] (first-below k hk, (hx, (area-below, tt))) tt
-      (given 0 plus given 1 times given 2) 1021 tt
+    moved-first : (x k : Float) → Below 7 x → Below 331 k → Below 1021 (movedFirst x (sectorArea rho span) (chordMoment rho span ⊗ k))
+    moved-first x k hx hk =
+        within (681 ∷ 7 ∷ 27 ∷ []) [] (chordMoment rho span ⊗ k ∷ x ∷ sectorArea rho span ∷ []) [] (first-below k hk, (hx, (area-below, tt)))
+        tt
+        (given 0 plus given 1 times given 2) 1021 tt
 
-  moved-second : (x k : Float) → Below 7 x → Below 331 k → Below 1021 (movedSecond x (sectorArea rho span) (chordMoment rho span ⊗ k) (secondMoment rho span k))
-  moved-second x k hx hk =
-      within (1019 ∷ 1 ∷ 7 ∷ 681 ∷ 27 ∷ []) [] (secondMoment rho span k ∷ two ∷ x ∷ chordMoment rho span ⊗ k ∷ sectorArea rho span ∷ []) []
-      (second-below k hk, (two-below, (hx, (first-below k hk, (area-below, tt))))) tt
-      (given 0 plus given 1 times given 2 times given 3 plus given 2 times given 2 times given 4) 1021 tt
+    moved-second : (x k : Float) → Below 7 x → Below 331 k
+        → Below 1021 (movedSecond x (sectorArea rho span) (chordMoment rho span ⊗ k) (secondMoment rho span k))
+    moved-second x k hx hk =
+        within (1019 ∷ 1 ∷ 7 ∷ 681 ∷ 27 ∷ []) [] (secondMoment rho span k ∷ two ∷ x ∷ chordMoment rho span ⊗ k ∷ sectorArea rho span ∷ []) []
+        (second-below k hk, (two-below, (hx, (first-below k hk, (area-below, tt))))) tt
+        (given 0 plus given 1 times given 2 times given 3 plus given 2 times given 2 times given 4) 1021 tt
 
-  sector-below : FourBelow 1021 (sectorWith x0 y0 rho span middle)
-  sector-below =
-      let turn = turn-below middle hm in
-      record {
-        area = weaker (sectorArea rho span) 27 1021 (lit≤ tt) area-below;
-        sx = moved-first x0 (cosOf middle) hx (turn .1);
-        sxx = moved-second x0 (cosOf middle) hx (turn .1);
-        syy = moved-second y0 (sinOf middle) hy (turn .0);
-      }
+    sector-below : FourBelow 1021 (sectorWith x0 y0 rho span middle)
+    sector-below =
+        let turn = turn-below middle hm in
+        record {
+          area = weaker (sectorArea rho span) 27 1021 (lit≤ tt) area-below;
+          sx = moved-first x0 (cosOf middle) hx (turn .1);
+          sxx = moved-second x0 (cosOf middle) hx (turn .1);
+          syy = moved-second y0 (sinOf middle) hy (turn .0);
+        }
 
 -- ---- the triangle, and the section
 triangle-below : (c r : Float) → Below 7 c → Below 6 r → FourBelow 1021 (triangleOf c r)
 triangle-below c r hc hr =
-    let up-to = within (0 ∷ 7 ∷ 6 ∷ 1 ∷ []) (0 ∷ 0 ∷ 0 ∷ []) (half ∷ c ∷ r ∷ two ∷ []) (three ∷ two ∷ six ∷ []) (half-below, (hc, (hr, (two-below, tt)))) (three-above, (two-above, (six-above, tt))) in
+    let up-to = within (0 ∷ 7 ∷ 6 ∷ 1 ∷ []) (0 ∷ 0 ∷ 0 ∷ []) (half ∷ c ∷ r ∷ two ∷ []) (three ∷ two ∷ six ∷ [])
+    (half-below, (hc, (hr, (two-below, tt)))) (three-above, (two-above, (six-above, tt))) in
     record {
       area = up-to (given 0 times given 1 times given 2) 1021 tt;
       sx = up-to (given 0 times given 1 times given 2 times given 3 times given 1 over 0) 1021 tt;
@@ -193,14 +214,17 @@ wider a h =
 section-with : (rb r c theta : Float) → Below 6 rb → Below 6 r → Below 7 c → Below 13 theta → FourBelow 1023 (sectionWith rb r c theta)
 unfolding sectorOf
 section-with rb r c theta hb hr hc ht =
-    let turn = within (13 ∷ 0 ∷ 2 ∷ 0 ∷ 0 ∷ []) [] (theta ∷ bits 0 ∷ pi ∷ half ∷ neg half ∷ []) [] (ht, (zero-below, (pi-below, (half-below, (neg-below half 0 half-below, tt))))) tt in
+    let turn = within (13 ∷ 0 ∷ 2 ∷ 0 ∷ 0 ∷ []) [] (theta ∷ bits 0 ∷ pi ∷ half ∷ neg half ∷ []) []
+    (ht, (zero-below, (pi-below, (half-below, (neg-below half 0 half-below, tt))))) tt in
     let from = given 0 less given 2 in
     let to = given 4 times given 2 in
     let zero = weaker (bits 0) 0 7 (lit≤ tt) zero-below in
     let body =
-    sector-below (bits 0) (bits 0) rb (theta ⊖ bits 0) (half ⊗ (theta ⊕ bits 0)) zero zero hb (turn (given 0 less given 1) 15 tt) (turn (given 3 times (given 0 plus given 1)) 15 tt) in
+    sector-below (bits 0) (bits 0) rb (theta ⊖ bits 0) (half ⊗ (theta ⊕ bits 0)) zero zero hb (turn (given 0 less given 1) 15 tt)
+    (turn (given 3 times (given 0 plus given 1)) 15 tt) in
     let joint =
-    sector-below c r r (neg half ⊗ pi ⊖ (theta ⊖ pi)) (half ⊗ (neg half ⊗ pi ⊕ (theta ⊖ pi))) hc (weaker r 6 7 (lit≤ tt) hr) hr (turn (to less from) 15 tt) (turn (given 3 times (to plus from)) 15 tt) in
+    sector-below c r r (neg half ⊗ pi ⊖ (theta ⊖ pi)) (half ⊗ (neg half ⊗ pi ⊕ (theta ⊖ pi))) hc (weaker r 6 7 (lit≤ tt) hr) hr
+    (turn (to less from) 15 tt) (turn (given 3 times (to plus from)) 15 tt) in
     less-below 1022 (lit≤ tt) _ _ (less-below 1021 (lit≤ tt) _ _ (triangle-below c r hc hr) body) (wider _ joint)
 
 -- ---- of checked radii
@@ -229,7 +253,8 @@ module _ (rb r : Float) (hb : PositiveLength rb) (hr : PositiveLength r) where
   mixed-not-below : lt Mixed (bits 0) ≡ false
   mixed-not-below =
       not-negative Mixed (mixed-below .finite)
-      (mul-minus (two ⊗ rb) r (twice-below .finite) (hr .length .below .finite) (mul-minus two rb (two-below .finite) (hb .length .below .finite) two-minus (hb .not-minus)) (hr .not-minus))
+      (mul-minus (two ⊗ rb) r (twice-below .finite) (hr .length .below .finite)
+      (mul-minus two rb (two-below .finite) (hb .length .below .finite) two-minus (hb .not-minus)) (hr .not-minus))
 
   inside-below : Below 14 (Square ⊕ Mixed)
   inside-below = add-below Square Mixed 13 (lit≤ tt) (weaker Square 12 13 (lit≤ tt) square-below) mixed-below
@@ -244,11 +269,13 @@ module _ (rb r : Float) (hb : PositiveLength rb) (hr : PositiveLength r) where
   inside-positive = positive-of (Square ⊕ Mixed) 40 inside-minus inside-above
 
   touching-below : Below 7 (touchingAt rb r)
-  touching-below = root-below (Square ⊕ Mixed) 7 (lit≤ tt) (add-fits binary64 Square Mixed) (not-negative (Square ⊕ Mixed) (inside-below .finite) inside-minus) inside-below
+  touching-below = root-below (Square ⊕ Mixed) 7 (lit≤ tt) (add-fits binary64 Square Mixed)
+      (not-negative (Square ⊕ Mixed) (inside-below .finite) inside-minus) inside-below
 
   touching-above : Above 20 (touchingAt rb r)
   unfolding fits
-  touching-above = root-least (Square ⊕ Mixed) (fin false 1 (negsuc 19)) inside-positive (add-fits binary64 Square Mixed) tt tt (inside-above .size)
+  touching-above = root-least (Square ⊕ Mixed) (fin false 1 (negsuc 19)) inside-positive (add-fits binary64 Square Mixed) tt tt
+      (inside-above .size)
 
   touching-minus : minus (touchingAt rb r) ≡ false
   touching-minus = positive-plus (touchingAt rb r) (root-positive (Square ⊕ Mixed) inside-positive (add-fits binary64 Square Mixed))
@@ -260,11 +287,13 @@ module _ (rb r : Float) (hb : PositiveLength rb) (hr : PositiveLength r) where
   theta-below : Below 13 (angleOf r (touchingAt rb r))
   theta-below =
       angle-below r (touchingAt rb r) (weaker (r ⊘ touchingAt rb r) 26 500 (lit≤ tt) quotient-below)
-      (div-minus r (touchingAt rb r) (hr .length .below .finite) (touching-below .finite) (above-num (touchingAt rb r) 20 touching-above) (hr .not-minus) touching-minus)
+      (div-minus r (touchingAt rb r) (hr .length .below .finite) (touching-below .finite) (above-num (touchingAt rb r) 20 touching-above)
+      (hr .not-minus) touching-minus)
 
   pub section-below : FourBelow 1023 (filletSectionOf rb r)
   unfolding filletSectionOf
-  section-below = section-with rb r (touchingAt rb r) (angleOf r (touchingAt rb r)) (hb .length .below) (hr .length .below) touching-below theta-below
+  section-below = section-with rb r (touchingAt rb r) (angleOf r (touchingAt rb r)) (hb .length .below) (hr .length .below) touching-below
+      theta-below
 
   -- so of the section 22 could be given for its area alone, where that is not above 0
   pub section-finite : isSound (filletSectionOf rb r) ≡ lt (bits 0) (filletSectionOf rb r .«area_m2»)
@@ -272,7 +301,14 @@ module _ (rb r : Float) (hb : PositiveLength rb) (hr : PositiveLength r) where
   section-finite =
       let s = filletSectionOf rb r in
       let b = section-below in
-      rw (is-finite (s .«sx_m3») (b .sx .finite), is-finite (s .«sxx_m4») (b .sxx .finite), is-finite (s .«syy_m4») (b .syy .finite), and-true (lt (bits 0) (s .«area_m2»)), and-true (lt (bits 0) (s .«area_m2»)), and-true (lt (bits 0) (s .«area_m2»)))
+      rw (
+        is-finite (s .«sx_m3») (b .sx .finite),
+        is-finite (s .«sxx_m4») (b .sxx .finite),
+        is-finite (s .«syy_m4») (b .syy .finite),
+        and-true (lt (bits 0) (s .«area_m2»)),
+        and-true (lt (bits 0) (s .«area_m2»)),
+        and-true (lt (bits 0) (s .«area_m2»)),
+      )
     where
       is-finite : (x : Float) → T (finite x) → isFinite x ≡ true
       is-finite nan i = absurd i
@@ -280,6 +316,8 @@ module _ (rb r : Float) (hb : PositiveLength rb) (hr : PositiveLength r) where
       is-finite (fin t m e) i = refl
 
 -- the same of radii whose checks accept
-pub checked-finite : (rb r : Float) → T (fits binary64 rb) → T (fits binary64 r) → lengthCheck bodyRadiusField rb ≡ Accepted → lengthCheck filletRadiusField r ≡ Accepted → lt (bits 0) rb ≡ true → lt (bits 0) r ≡ true
+pub checked-finite : (rb r : Float) → T (fits binary64 rb) → T (fits binary64 r) → lengthCheck bodyRadiusField rb ≡ Accepted
+    → lengthCheck filletRadiusField r ≡ Accepted → lt (bits 0) rb ≡ true → lt (bits 0) r ≡ true
     → isSound (filletSectionOf rb r) ≡ lt (bits 0) (filletSectionOf rb r .«area_m2»)
-checked-finite rb r fb fr cb cr pb pr = section-finite rb r (above-checked bodyRadiusField rb fb cb pb) (above-checked filletRadiusField r fr cr pr)
+checked-finite rb r fb fr cb cr pb pr = section-finite rb r (above-checked bodyRadiusField rb fb cb pb)
+    (above-checked filletRadiusField r fr cr pr)

@@ -57,23 +57,28 @@ all-of : (a b : ℕ) (u : Bool) (c : ℕ) → Adds false a false b u c → a + b
 all-of a b false c h = omega arith
 all-of a b true c h = omega arith
 
-sum-least : (x y : Float) (b d : ℕ) → 0 < d → Exact binary64 b d → T (finite x) → T (finite y) → minus x ≡ false → minus y ≡ false → T (finite (x ⊕ y))
+sum-least : (x y : Float) (b d : ℕ) → 0 < d → Exact binary64 b d → T (finite x) → T (finite y) → minus x ≡ false → minus y ≡ false
+    → T (finite (x ⊕ y))
     → b * (den x * den y) ≤ (num x * den y + num y * den x) * d → AtLeast b d (x ⊕ y)
 sum-least x y b d D v i j m n k h =
     let w = add-is binary64 x y i j in
     let l = all-of (num x * den y) (num y * den x) (w .sign) (w .size)
-    (subst (λ (t : Bool). Adds false (num x * den y) t (num y * den x) (w .sign) (w .size)) n (subst (λ (s : Bool). Adds s (num x * den y) (minus y) (num y * den x) (w .sign) (w .size)) m (w .adds))) in
+    (subst (λ (t : Bool). Adds false (num x * den y) t (num y * den x) (w .sign) (w .size)) n
+    (subst (λ (s : Bool). Adds s (num x * den y) (minus y) (num y * den x) (w .sign) (w .size)) m (w .adds))) in
     subst (AtLeast b d) (sym (w .is))
-    (round-least binary64 (w .sign) (w .size) (den x * den y) b d (mul-pos (den-pos x) (den-pos y)) D v (subst (λ (z : Float). T (finite z)) (w .is) k)
+    (round-least binary64 (w .sign) (w .size) (den x * den y) b d (mul-pos (den-pos x) (den-pos y)) D v
+    (subst (λ (z : Float). T (finite z)) (w .is) k)
     (le-trans h (mul-le-mul-right d l)))
 
 -- 1 and something of at least b are at least b; and at least 2, where it is at least 1
 behind-one : (b n d : ℕ) → b * d ≤ n * 1 → b * (1 * d) ≤ (1 * d + n * 1) * 1
 behind-one b n d h = rw (one-mul d, mul-one n, mul-one (d + n)) (let k : b * d ≤ n = rw (mul-one n) at h in omega arith)
 
-pub one-plus-least : (y : Float) (b : ℕ) → Exact binary64 b 1 → minus y ≡ false → AtLeast b 1 y → T (finite (one ⊕ y)) → AtLeast b 1 (one ⊕ y)
+pub one-plus-least : (y : Float) (b : ℕ) → Exact binary64 b 1 → minus y ≡ false → AtLeast b 1 y → T (finite (one ⊕ y))
+    → AtLeast b 1 (one ⊕ y)
 one-plus-least y b v n h k =
-    sum-least one y b 1 (lit≤ tt) v (one-below .finite) (h .finite) one-minus n k (rw (one-num, one-den) (behind-one b (num y) (den y) (h .size)))
+    sum-least one y b 1 (lit≤ tt) v (one-below .finite) (h .finite) one-minus n k
+    (rw (one-num, one-den) (behind-one b (num y) (den y) (h .size)))
 
 pub one-plus-one : (y : Float) → Exact binary64 2 1 → minus y ≡ false → AtLeast 1 1 y → T (finite (one ⊕ y)) → AtLeast 2 1 (one ⊕ y)
 one-plus-one y v n h k =

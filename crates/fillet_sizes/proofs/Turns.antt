@@ -12,7 +12,8 @@ use lib.Ieee.Scale.{finite}
 use lib.Ieee.Fits.{down-pos}
 use lib.Ieee.Positive.{num, den}
 use Rattle.floats.specs.Operations.{_⊗_, bits, whole}
-use Rattle.trig.specs.Trig.{quarterTurns, nearestWhole, signed, wholeOf, mOf, reduced, steps, sineDivisors, cosineDivisors, sineSeries, cosineSeries, quarterOf, byQuarter, sinCosOf, sinOf, cosOf}
+use Rattle.trig.specs.Trig.{quarterTurns, nearestWhole, signed, wholeOf, mOf, reduced, steps, sineDivisors, cosineDivisors, sineSeries}
+use Rattle.trig.specs.Trig.{cosineSeries, quarterOf, byQuarter, sinCosOf, sinOf, cosOf}
 use Rattle.trig.proofs.Nearest.{nearest-most}
 use Rattle.rounding.specs.Sizes.{AtMost, Below, Above}
 use Rattle.rounding.proofs.Exact.{pow-exact}
@@ -23,15 +24,18 @@ use Rattle.rounding.proofs.Terms.{Term, given, _less_, _times_, _over_, AllAbov
 -- ---- m
 whole-below : (s : Bool) (n p : ℕ) → p ≤ 1023 → n ≤ 2 ^ p → Below p (ofInt binary64 (signed s n))
 unfolding ofInt
-whole-below false n p l h = round-most binary64 false n 1 (2 ^ p) 1 (lit≤ tt) (lit≤ tt) (pow-exact binary64 p l) (rw (mul-one n, mul-one (2 ^ p)) h)
+whole-below false n p l h = round-most binary64 false n 1 (2 ^ p) 1 (lit≤ tt) (lit≤ tt) (pow-exact binary64 p l)
+    (rw (mul-one n, mul-one (2 ^ p)) h)
 whole-below true zero p l h = round-most binary64 false 0 1 (2 ^ p) 1 (lit≤ tt) (lit≤ tt) (pow-exact binary64 p l) (rw (mul-one (2 ^ p)) h)
-whole-below true (suc n) p l h = round-most binary64 true (suc n) 1 (2 ^ p) 1 (lit≤ tt) (lit≤ tt) (pow-exact binary64 p l) (rw (mul-one (suc n), mul-one (2 ^ p)) h)
+whole-below true (suc n) p l h = round-most binary64 true (suc n) 1 (2 ^ p) 1 (lit≤ tt) (lit≤ tt) (pow-exact binary64 p l)
+    (rw (mul-one (suc n), mul-one (2 ^ p)) h)
 
 m-below : (q : Float) → Below 15 q → Below 16 (mOf q)
 unfolding mOf
 m-below nan h = absurd (h .finite)
 m-below (inf s) h = absurd (h .finite)
-m-below (fin s k e) h = whole-below s (nearestWhole (k * up e) (down e)) 16 (lit≤ tt) (le-trans (nearest-most (k * up e) (down e) (down-pos e) (2 ^ 15 + 1) (more (k * up e) (down e) (down-pos e) (h .size))) (lit≤ tt))
+m-below (fin s k e) h = whole-below s (nearestWhole (k * up e) (down e)) 16 (lit≤ tt)
+    (le-trans (nearest-most (k * up e) (down e) (down-pos e) (2 ^ 15 + 1) (more (k * up e) (down e) (down-pos e) (h .size))) (lit≤ tt))
   where
     more : (n d : ℕ) → 0 < d → n * 1 ≤ 2 ^ 15 * d → n < (2 ^ 15 + 1) * d
     more n d D h = omega arith
@@ -51,7 +55,8 @@ constant-b = record { finite = tt; size = lit≤ tt }
 
 reduced-below : (f m : Float) → Below 15 f → Below 16 m → Below 19 (reduced f m)
 reduced-below f m h k =
-    within (15 ∷ 16 ∷ 1 ∷ 0 ∷ []) [] (f ∷ m ∷ bits 0x3ff9_21fb_5440_0000 ∷ bits 0x3dd0_b461_1a62_6331 ∷ []) [] (h, (k, (constant-a, (constant-b, tt)))) tt
+    within (15 ∷ 16 ∷ 1 ∷ 0 ∷ []) [] (f ∷ m ∷ bits 0x3ff9_21fb_5440_0000 ∷ bits 0x3dd0_b461_1a62_6331 ∷ []) []
+    (h, (k, (constant-a, (constant-b, tt)))) tt
     ((given 0 less given 1 times given 2) less given 1 times given 3) 19 tt
 
 one-below : Below 0 (whole 1)
@@ -63,11 +68,29 @@ above n i l = record { finite = i; size = l }
 
 sine-divisors : AllAbove (0 ∷ 0 ∷ 0 ∷ 0 ∷ 0 ∷ 0 ∷ 0 ∷ 0 ∷ []) sineDivisors
 unfolding ofInt round
-sine-divisors = (above _ tt (lit≤ tt), (above _ tt (lit≤ tt), (above _ tt (lit≤ tt), (above _ tt (lit≤ tt), (above _ tt (lit≤ tt), (above _ tt (lit≤ tt), (above _ tt (lit≤ tt), (above _ tt (lit≤ tt), tt))))))))
+sine-divisors = (
+  above _ tt (lit≤ tt),
+  (
+    above _ tt (lit≤ tt),
+    (
+      above _ tt (lit≤ tt),
+      (above _ tt (lit≤ tt), (above _ tt (lit≤ tt), (above _ tt (lit≤ tt), (above _ tt (lit≤ tt), (above _ tt (lit≤ tt), tt))))),
+    ),
+  ),
+)
 
 cosine-divisors : AllAbove (0 ∷ 0 ∷ 0 ∷ 0 ∷ 0 ∷ 0 ∷ 0 ∷ 0 ∷ []) cosineDivisors
 unfolding ofInt round
-cosine-divisors = (above _ tt (lit≤ tt), (above _ tt (lit≤ tt), (above _ tt (lit≤ tt), (above _ tt (lit≤ tt), (above _ tt (lit≤ tt), (above _ tt (lit≤ tt), (above _ tt (lit≤ tt), (above _ tt (lit≤ tt), tt))))))))
+cosine-divisors = (
+  above _ tt (lit≤ tt),
+  (
+    above _ tt (lit≤ tt),
+    (
+      above _ tt (lit≤ tt),
+      (above _ tt (lit≤ tt), (above _ tt (lit≤ tt), (above _ tt (lit≤ tt), (above _ tt (lit≤ tt), (above _ tt (lit≤ tt), tt))))),
+    ),
+  ),
+)
 
 -- one step from v, with divisor i; and the eight of them
 abbrev step : ℕ → Term → Term
@@ -78,11 +101,13 @@ eightSteps = step 7 (step 6 (step 5 (step 4 (step 3 (step 2 (step 1 (step 0 (giv
 
 sine-steps : (z : Float) → Below 38 z → Below 312 (steps z sineDivisors (whole 1))
 unfolding steps
-sine-steps z h = within (0 ∷ 38 ∷ []) (0 ∷ 0 ∷ 0 ∷ 0 ∷ 0 ∷ 0 ∷ 0 ∷ 0 ∷ []) (whole 1 ∷ z ∷ []) sineDivisors (one-below, (h, tt)) sine-divisors eightSteps 312 tt
+sine-steps z h = within (0 ∷ 38 ∷ []) (0 ∷ 0 ∷ 0 ∷ 0 ∷ 0 ∷ 0 ∷ 0 ∷ 0 ∷ []) (whole 1 ∷ z ∷ []) sineDivisors (one-below, (h, tt))
+    sine-divisors eightSteps 312 tt
 
 cosine-steps : (z : Float) → Below 38 z → Below 312 (steps z cosineDivisors (whole 1))
 unfolding steps
-cosine-steps z h = within (0 ∷ 38 ∷ []) (0 ∷ 0 ∷ 0 ∷ 0 ∷ 0 ∷ 0 ∷ 0 ∷ 0 ∷ []) (whole 1 ∷ z ∷ []) cosineDivisors (one-below, (h, tt)) cosine-divisors eightSteps 312 tt
+cosine-steps z h = within (0 ∷ 38 ∷ []) (0 ∷ 0 ∷ 0 ∷ 0 ∷ 0 ∷ 0 ∷ 0 ∷ 0 ∷ []) (whole 1 ∷ z ∷ []) cosineDivisors (one-below, (h, tt))
+    cosine-divisors eightSteps 312 tt
 
 -- ---- sine and cosine
 either-below : (k : ℕ) (s c : Float) → Below 331 s → Below 331 c → Below 331 (byQuarter k s c .sin) × Below 331 (byQuarter k s c .cos)

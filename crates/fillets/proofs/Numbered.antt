@@ -11,7 +11,8 @@ use Rattle.fillets.specs.Numbered.{filletFigures, filletOf}
 abbrev Of : Float → Density → Fillet
 Of radius density = record { «radius_m» = radius; density = density }
 
-by-density : (radius : Float) (density : Density) → filletOf (densityNumber density) (filletFigures (Of radius density)) ≡ Known (Of radius density)
+by-density : (radius : Float) (density : Density)
+    → filletOf (densityNumber density) (filletFigures (Of radius density)) ≡ Known (Of radius density)
 unfolding filletOf numberedDensity
 by-density radius (Bulk density) = refl
 by-density radius (Surface density) = refl

@@ -12,7 +12,8 @@ use Rattle.planforms.proofs.Sized.{PlanformF64, Sized}
 use Rattle.outlines.proofs.Sized.{outline-sized}
 use Rattle.outlines.specs.Outlines.{planformCheck}
 
-pub planform-sized : (planform : Planform) (points : List Float) → PlanformF64 planform points → planformCheck planform points ≡ Accepted → Sized planform points
+pub planform-sized : (planform : Planform) (points : List Float) → PlanformF64 planform points → planformCheck planform points ≡ Accepted
+    → Sized planform points
 unfolding planformCheck
 planform-sized (Trapezoid root tip span sweep) points f h =
     let a = both (lengthCheck rootChordField root) _ h in
@@ -20,7 +21,10 @@ planform-sized (Trapezoid root tip span sweep) points f h =
     let c = both (lengthCheck spanField span) _ (b .1) in
     let d = both (lengthCheck sweepField sweep) _ (c .1) in (
       field-above rootChordField root (f .0) (a .0) refl refl,
-      (length-checked tipChordField tip (f .1 .0) (b .0), (field-above spanField span (f .1 .1 .0) (c .0) refl refl, length-checked sweepField sweep (f .1 .1 .1) (d .0))),
+      (
+        length-checked tipChordField tip (f .1 .0) (b .0),
+        (field-above spanField span (f .1 .1 .0) (c .0) refl refl, length-checked sweepField sweep (f .1 .1 .1) (d .0)),
+      ),
     )
 planform-sized (Ellipse root span) points f h =
     let a = both (lengthCheck rootChordField root) _ h in

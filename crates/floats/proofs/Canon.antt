@@ -32,7 +32,9 @@ whole n g =
     let m = g .m in
     let j = g .j in
     let l : size n ≤ 53 + j = size-le n (53 + j) (subst (λ (x : ℕ). x < 2 ^ (53 + j)) (sym (g .is)) (shl-lt 53 j (g .few))) in
-    let e : n ≡ m * 2 ^ (j - k) * 2 ^ k = g .is ∙ ap (λ (x : ℕ). m * x) (ap (λ (x : ℕ). 2 ^ x) (let z : j ≡ j - k + k = omega arith in z) ∙ pow-add 2 (j - k) k) ∙ sym (mul-assoc m (2 ^ (j - k)) (2 ^ k)) in
+    let e : n ≡ m * 2 ^ (j - k) * 2 ^ k = g .is
+    ∙ ap (λ (x : ℕ). m * x) (ap (λ (x : ℕ). 2 ^ x) (let z : j ≡ j - k + k = omega arith in z) ∙ pow-add 2 (j - k) k)
+    ∙ sym (mul-assoc m (2 ^ (j - k)) (2 ^ k)) in
     ap (λ (x : ℕ). x / 2 ^ k * 2 ^ k) e ∙ ap (λ (x : ℕ). x * 2 ^ k) (mul-div-cancel (m * 2 ^ (j - k)) (pow-pos k)) ∙ sym e
 
 full-of : (n : ℕ) → 0 < places n → 2 ^ 52 ≤ n / 2 ^ places n

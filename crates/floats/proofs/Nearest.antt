@@ -3,7 +3,9 @@ use mathlib.Core.Path.{_≡_, refl, sym, ap, subst, _∙_}
 use mathlib.Core.Logic.{⊎-elim}
 use mathlib.Core.Bool.{Bool, not}
 use Prim.Native.Nat.{ℕ, zero, suc, _+_, _-_, _*_, _/_, _%_, _^_, _≤_, _<_, compare, Ordering, Ordering·lt, Ordering·eq, Ordering·gt}
-use native.Mathlib.Nat.{le-trans, le-of-eq, lt-of-lt-of-le, lt-of-le-of-lt, lt-of-not-le, add-mul, mul-assoc, mul-comm, mul-pos, mul-le-mul-left, mul-le-mul-right, mul-lt-mul-of-pos-right, mod-lt, div-add-mod', eq-or-lt-of-le, eq-of-mul-eq-mul-right, le-div-iff-mul-le, div-le-self, div-div-eq-div-mul}
+use native.Mathlib.Nat.{le-trans, le-of-eq, lt-of-lt-of-le, lt-of-le-of-lt, lt-of-not-le, add-mul, mul-assoc, mul-comm, mul-pos}
+use native.Mathlib.Nat.{mul-le-mul-left, mul-le-mul-right, mul-lt-mul-of-pos-right, mod-lt, div-add-mod', eq-or-lt-of-le}
+use native.Mathlib.Nat.{eq-of-mul-eq-mul-right, le-div-iff-mul-le, div-le-self, div-div-eq-div-mul}
 use native.Mathlib.Decide.{decLe}
 use native.Mathlib.Omega.{arith}
 use lib.Dec.{T, eqb, isLe, isEq, leb→le, nleb→lt, eqb→eq, eqb-refl}
@@ -42,10 +44,23 @@ cmp a b = go (compare a b) (leb→le a b) (nleb→lt a b) (eqb→eq a b) (λ (e 
 
 -- with a = w * u + r
 half-of : (a u w r : ℕ) → w * u + r ≡ a → r < u → (o : Ordering) → Cmp o (r * 2) u → Half a u (nearest w o)
-half-of a u w r e h Ordering·lt c = record { low = omega arith; high = omega arith; tie-low = λ z. absurd (let y : ⊥ = omega arith in y); tie-high = λ z. absurd (let y : ⊥ = omega arith in y) }
+half-of a u w r e h Ordering·lt c = record {
+  low = omega arith;
+  high = omega arith;
+  tie-low = λ z. absurd (let y : ⊥ = omega arith in y);
+  tie-high = λ z. absurd
+      (let y : ⊥ = omega arith in y);
+}
 half-of a u w r e h Ordering·gt c =
-    let s : suc w * u ≡ w * u + u = ap (λ (x : ℕ). x * u) (let z : suc w ≡ w + 1 = omega arith in z) ∙ add-mul w 1 u ∙ (let y : w * u + 1 * u ≡ w * u + u = omega arith in y) in
-    record { low = omega arith; high = omega arith; tie-low = λ z. absurd (let y : ⊥ = omega arith in y); tie-high = λ z. absurd (let y : ⊥ = omega arith in y) }
+    let s : suc w * u ≡ w * u + u = ap (λ (x : ℕ). x * u) (let z : suc w ≡ w + 1 = omega arith in z) ∙ add-mul w 1 u
+    ∙ (let y : w * u + 1 * u ≡ w * u + u = omega arith in y) in
+    record {
+      low = omega arith;
+      high = omega arith;
+      tie-low = λ z. absurd (let y : ⊥ = omega arith in y);
+      tie-high = λ z. absurd
+          (let y : ⊥ = omega arith in y);
+    }
 half-of a u w r e h Ordering·eq c = by (w % 2) refl (let z : w % 2 < 2 = mod-lt w (let y : 0 < 2 = omega arith in y) in z)
   where
     by : (p : ℕ) → w % 2 ≡ p → p < 2 → Half a u (w + p)
@@ -115,15 +130,19 @@ module _ (N d q k : ℕ) (D : 0 < d) (r : Rounded N d q k) where
   -- below 2 ^ 52 * 2 ^ k units, where f64s lie closer
   beneath : (B : ℕ) → 0 < k → B < 2 ^ 52 * u → Beats N (q * u) B Even
   beneath B o h = ⊎-elim
-      (λ (e : 2 ^ 52 ≡ q). let f : 2 ^ 52 * u ≡ q * u = ap (λ (x : ℕ). x * u) e in let g = r .reach o in beats-strict N (q * u) B u Even u-pos (omega arith) (omega arith))
-      (λ (e : 2 ^ 52 < q). let f = a-place (2 ^ 52) q u e in beats-under N (q * u) B u Even u-pos (omega arith) (r .half .low) (r .half .tie-low))
+      (λ (e : 2 ^ 52 ≡ q). let f : 2 ^ 52 * u
+      ≡ q * u = ap (λ (x : ℕ). x * u) e in let g = r .reach o in beats-strict N (q * u) B u Even u-pos (omega arith) (omega arith))
+      (λ (e : 2 ^ 52 < q). let f = a-place (2 ^ 52) q u e in beats-under N (q * u) B u Even u-pos (omega arith) (r .half .low)
+      (r .half .tie-low))
       (eq-or-lt-of-le (r .full o))
 
   against : (m j : ℕ) → m < 2 ^ 53 → Dec (k ≤ j) → Beats N (q * u) (m * 2 ^ j * d) Even
   against m j f (yes h) =
       let e : m * 2 ^ (j - k) * u ≡ m * 2 ^ j * d =
       ap (λ (x : ℕ). m * 2 ^ (j - k) * x) (mul-comm d (2 ^ k)) ∙ sym (mul-assoc (m * 2 ^ (j - k)) (2 ^ k) d)
-      ∙ ap (λ (x : ℕ). x * d) (mul-assoc m (2 ^ (j - k)) (2 ^ k) ∙ ap (λ (x : ℕ). m * x) (sym (pow-add 2 (j - k) k) ∙ ap (λ (x : ℕ). 2 ^ x) (let z : j - k + k ≡ j = omega arith in z))) in
+      ∙ ap (λ (x : ℕ). x * d)
+      (mul-assoc m (2 ^ (j - k)) (2 ^ k)
+      ∙ ap (λ (x : ℕ). m * x) (sym (pow-add 2 (j - k) k) ∙ ap (λ (x : ℕ). 2 ^ x) (let z : j - k + k ≡ j = omega arith in z))) in
       subst (λ (x : ℕ). Beats N (q * u) x Even) e (on (m * 2 ^ (j - k)))
   against m j f (no h) =
       let l = lt-of-not-le h in
@@ -133,7 +152,8 @@ module _ (N d q k : ℕ) (D : 0 < d) (r : Rounded N d q k) where
       beneath (m * 2 ^ j * d) (omega arith) (lt-of-lt-of-le (mul-lt-mul-of-pos-right a D) (le-of-eq e))
 
   all : (y : Float) → T (fits binary64 y) → Beats N (q * u) (unitsOf y * d) Even
-  all y f = let g = grid y f in subst (λ (x : ℕ). Beats N (q * u) (x * d) Even) (sym (g .is)) (against (g .m) (g .j) (g .few) (decLe k (g .j)))
+  all y f = let g = grid y f in subst (λ (x : ℕ). Beats N (q * u) (x * d) Even) (sym (g .is))
+      (against (g .m) (g .j) (g .few) (decLe k (g .j)))
 
 -- ---- the last bit
 
@@ -145,7 +165,8 @@ even-mul q p h =
 cancel : (q q' k k' : ℕ) → k ≤ k' → q' * 2 ^ k' ≡ q * 2 ^ k → q' * 2 ^ (k' - k) ≡ q
 cancel q q' k k' l e =
     eq-of-mul-eq-mul-right (2 ^ k) (pow-pos k) (q' * 2 ^ (k' - k)) q
-    (mul-assoc q' (2 ^ (k' - k)) (2 ^ k) ∙ ap (λ (x : ℕ). q' * x) (sym (pow-add 2 (k' - k) k) ∙ ap (λ (x : ℕ). 2 ^ x) (let z : k' - k + k ≡ k' = omega arith in z)) ∙ e)
+    (mul-assoc q' (2 ^ (k' - k)) (2 ^ k)
+    ∙ ap (λ (x : ℕ). q' * x) (sym (pow-add 2 (k' - k) k) ∙ ap (λ (x : ℕ). 2 ^ x) (let z : k' - k + k ≡ k' = omega arith in z)) ∙ e)
 
 even-same : (q q' k k' : ℕ) → q' * 2 ^ k' ≡ q * 2 ^ k → q ≤ 2 ^ 53 → (0 < k' → 2 ^ 52 ≤ q') → q % 2 ≡ 0 → Dec (k' ≤ k) → q' % 2 ≡ 0
 even-same q q' k k' e l f h (yes g) = subst (λ (x : ℕ). x % 2 ≡ 0) (cancel q' q k' k g (sym e)) (even-mul q (2 ^ (k - k')) h)
@@ -178,7 +199,8 @@ module _ (s : Bool) (n d : ℕ) (small : n < 2 ^ 64) (D : 0 < d) where
   q = closest N (d * 2 ^ k)
 
   q-most : q ≤ 2 ^ 53
-  q-most = le-trans (nearest-le (N / (d * 2 ^ k)) (compare (N % (d * 2 ^ k) * 2) (d * 2 ^ k))) (subst (λ (x : ℕ). x < 2 ^ 53) (div-div-eq-div-mul N d (2 ^ k)) (kept-lt 53 (N / d)))
+  q-most = le-trans (nearest-le (N / (d * 2 ^ k)) (compare (N % (d * 2 ^ k) * 2) (d * 2 ^ k)))
+      (subst (λ (x : ℕ). x < 2 ^ 53) (div-div-eq-div-mul N d (2 ^ k)) (kept-lt 53 (N / d)))
 
   reaches : 0 < k → 2 ^ 52 * (d * 2 ^ k) ≤ N
   reaches h =
@@ -188,15 +210,18 @@ module _ (s : Bool) (n d : ℕ) (small : n < 2 ^ 64) (D : 0 < d) where
   rounded : Rounded N d q k
   rounded = record {
     half = closest-half N (d * 2 ^ k) (mul-pos D (pow-pos k));
-    full = λ h. le-trans (le-div-iff-mul-le (mul-pos D (pow-pos k)) .1 (reaches h)) (nearest-ge (N / (d * 2 ^ k)) (compare (N % (d * 2 ^ k) * 2) (d * 2 ^ k)));
+    full = λ h. le-trans (le-div-iff-mul-le (mul-pos D (pow-pos k)) .1 (reaches h))
+        (nearest-ge (N / (d * 2 ^ k)) (compare (N % (d * 2 ^ k) * 2) (d * 2 ^ k)));
     reach = reaches;
   }
 
   k-most : k ≤ 1085
-  k-most = let h : size (N / d) ≤ 64 + 1074 = size-le (N / d) (64 + 1074) (lt-of-le-of-lt (div-le-self N d) (shl-lt 64 1074 small)) in omega arith
+  k-most = let h : size (N / d) ≤ 64 + 1074 = size-le (N / d) (64 + 1074) (lt-of-le-of-lt (div-le-self N d) (shl-lt 64 1074 small)) in
+      omega arith
 
   in-range : q * 2 ^ k < 2 ^ (1074 + 1024)
-  in-range = lt-of-le-of-lt (mul-le-mul-right (2 ^ k) q-most) (lt-of-le-of-lt (le-of-eq (sym (pow-add 2 53 k))) (pow-lt (let z : 53 + k < 1074 + 1024 = omega (arith, k-most) in z)))
+  in-range = lt-of-le-of-lt (mul-le-mul-right (2 ^ k) q-most)
+      (lt-of-le-of-lt (le-of-eq (sym (pow-add 2 53 k))) (pow-lt (let z : 53 + k < 1074 + 1024 = omega (arith, k-most) in z)))
 
   value : HasValue (round binary64 s n d) s (q * 2 ^ k) (2 ^ 1074)
   value = subst (λ (z : Float). HasValue z s (q * 2 ^ k) (2 ^ 1074)) (sym (round-is binary64 s n d)) (units-val binary64 s q k in-range)
@@ -205,11 +230,14 @@ module _ (s : Bool) (n d : ℕ) (small : n < 2 ^ 64) (D : 0 < d) where
   round-nearest =
       let r = round binary64 s n d in
       let v = has-units r s (q * 2 ^ k) value in
-      let e : unitsOf r * d ≡ q * (d * 2 ^ k) = ap (λ (x : ℕ). x * d) (v .0) ∙ mul-assoc q (2 ^ k) d ∙ ap (λ (x : ℕ). q * x) (mul-comm (2 ^ k) d) in
-      let b : (y : Float) → T (fits binary64 y) → Beats N (unitsOf r * d) (unitsOf y * d) (q % 2 ≡ 0) = λ y f. subst (λ (x : ℕ). Beats N x (unitsOf y * d) (q % 2 ≡ 0)) (sym e) (all N d q k D rounded y f) in
+      let e : unitsOf r * d ≡ q * (d * 2 ^ k) = ap (λ (x : ℕ). x * d) (v .0) ∙ mul-assoc q (2 ^ k) d
+      ∙ ap (λ (x : ℕ). q * x) (mul-comm (2 ^ k) d) in
+      let b : (y : Float) → T (fits binary64 y) → Beats N (unitsOf r * d) (unitsOf y * d) (q % 2 ≡ 0) = λ y f.
+      subst (λ (x : ℕ). Beats N x (unitsOf y * d) (q % 2 ≡ 0)) (sym e) (all N d q k D rounded y f) in
       record {
         held = round-fits binary64 s n d;
         sign = v .1;
         least = λ y f g. b y f .near;
-        even = λ y f g t h. even-bits r (canon r (round-fits binary64 s n d) (v .2)) q k (v .0) q-most (b y f .tie t (λ i. h (eq-of-mul-eq-mul-right d D (unitsOf r) (unitsOf y) i)));
+        even = λ y f g t h. even-bits r (canon r (round-fits binary64 s n d) (v .2)) q k (v .0) q-most
+            (b y f .tie t (λ i. h (eq-of-mul-eq-mul-right d D (unitsOf r) (unitsOf y) i)));
       }

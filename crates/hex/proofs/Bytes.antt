@@ -55,7 +55,8 @@ pub same-letter : (b : ℕ) → b < 256 → eqb (digitLetter (taken b)) b ≡ lt
 same-letter b h = same (eqb (digitLetter (taken b)) b) (ltb (digitValue b) 16) (every-holds 256 sameLetter all-same-letter b h)
 
 pub taken-value : (b : ℕ) → b < 256 → ltb (digitValue b) 16 ≡ true → taken b ≡ digitValue b
-taken-value b h d = eqb-true (taken b) (digitValue b) (implied (ltb (digitValue b) 16) (eqb (taken b) (digitValue b)) (every-holds 256 sameValue all-same-value b h) d)
+taken-value b h d = eqb-true (taken b) (digitValue b)
+    (implied (ltb (digitValue b) 16) (eqb (taken b) (digitValue b)) (every-holds 256 sameValue all-same-value b h) d)
 
 pub letter-small : (v : ℕ) → v < 16 → digitLetter v < 256
 letter-small v h = let e = letter-is v h in omega arith

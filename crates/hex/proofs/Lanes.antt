@@ -49,14 +49,16 @@ unfolding lanes
 add-lanes k n m f g [] = refl
 add-lanes k n m f g (b ∷ l) =
     add-lanes k (n * 2 ^ k + f b) (m * 2 ^ k + g b) f g l
-    ∙ ap (λ (x : ℕ). lanes k x (λ (b : ℕ). f b + g b) l) (let z : n * 2 ^ k + f b + (m * 2 ^ k + g b) ≡ (n + m) * 2 ^ k + (f b + g b) = omega (arith, add-mul n m (2 ^ k)) in z)
+    ∙ ap (λ (x : ℕ). lanes k x (λ (b : ℕ). f b + g b) l)
+    (let z : n * 2 ^ k + f b + (m * 2 ^ k + g b) ≡ (n + m) * 2 ^ k + (f b + g b) = omega (arith, add-mul n m (2 ^ k)) in z)
 
 pub mul-lanes : (k n c : ℕ) (f : ℕ → ℕ) (l : List ℕ) → c * lanes k n f l ≡ lanes k (c * n) (λ b. c * f b) l
 unfolding lanes
 mul-lanes k n c f [] = refl
 mul-lanes k n c f (b ∷ l) =
     mul-lanes k (n * 2 ^ k + f b) c f l
-    ∙ ap (λ (x : ℕ). lanes k x (λ (b : ℕ). c * f b) l) (mul-add c (n * 2 ^ k) (f b) ∙ ap (λ (x : ℕ). x + c * f b) (sym (mul-assoc c n (2 ^ k))))
+    ∙ ap (λ (x : ℕ). lanes k x (λ (b : ℕ). c * f b) l)
+    (mul-add c (n * 2 ^ k) (f b) ∙ ap (λ (x : ℕ). x + c * f b) (sym (mul-assoc c n (2 ^ k))))
 
 pub div-lanes : (k c : ℕ) (f : ℕ → ℕ) (l : List ℕ) → 0 < c → lanes k 0 (λ b. c * f b) l / c ≡ lanes k 0 f l
 div-lanes k c f l h =
@@ -67,13 +69,16 @@ div-lanes k c f l h =
 pub lanes-le : (k n m : ℕ) (f g : ℕ → ℕ) (l : List ℕ) → n ≤ m → Each (λ b. f b ≤ g b) l → lanes k n f l ≤ lanes k m g l
 unfolding lanes
 lanes-le k n m f g [] h p = h
-lanes-le k n m f g (b ∷ l) h p = lanes-le k (n * 2 ^ k + f b) (m * 2 ^ k + g b) f g l (let z = p .0 in omega (arith, mul-le-mul-right (2 ^ k) h)) (p .1)
+lanes-le k n m f g (b ∷ l) h p = lanes-le k (n * 2 ^ k + f b) (m * 2 ^ k + g b) f g l
+    (let z = p .0 in omega (arith, mul-le-mul-right (2 ^ k) h)) (p .1)
 
 -- the lanes of a number are its own
 same-lane : (p n m a b : ℕ) → a < p → b < p → n * p + a ≡ m * p + b → (n ≡ m) × (a ≡ b)
-same-lane p n m a b h g e = (sym (digits-div n h) ∙ ap (λ (x : ℕ). x / p) e ∙ digits-div m g, sym (digits-mod n h) ∙ ap (λ (x : ℕ). x % p) e ∙ digits-mod m g)
+same-lane p n m a b h g e =
+    (sym (digits-div n h) ∙ ap (λ (x : ℕ). x / p) e ∙ digits-div m g, sym (digits-mod n h) ∙ ap (λ (x : ℕ). x % p) e ∙ digits-mod m g)
 
-pub lanes-inj : (k n m : ℕ) (f g : ℕ → ℕ) (l : List ℕ) → Each (λ b. (f b < 2 ^ k) × (g b < 2 ^ k)) l → lanes k n f l ≡ lanes k m g l → (n ≡ m) × Each (λ b. f b ≡ g b) l
+pub lanes-inj : (k n m : ℕ) (f g : ℕ → ℕ) (l : List ℕ) → Each (λ b. (f b < 2 ^ k) × (g b < 2 ^ k)) l → lanes k n f l ≡ lanes k m g l
+    → (n ≡ m) × Each (λ b. f b ≡ g b) l
 unfolding lanes
 lanes-inj k n m f g [] p e = (e, tt)
 lanes-inj k n m f g (b ∷ l) p e =
@@ -97,7 +102,8 @@ bytes-make-up (suc k) w l h =
     ∙ ap (λ (x : ℕ). lanes 8 x (λ b. b) l) (let z : w / 256 * 2 ^ 8 + w % 256 ≡ w = omega arith in z)
 
 -- what makes a number up are its bytes
-pub lanes-bytes : (f : ℕ → ℕ) (l r : List ℕ) (k n w : ℕ) → k ≡ length l + n → Each (λ b. f b < 256) l → bytesBefore k (lanes 8 w f l) r ≡ bytesBefore n w (map f l ++ r)
+pub lanes-bytes : (f : ℕ → ℕ) (l r : List ℕ) (k n w : ℕ) → k ≡ length l + n → Each (λ b. f b < 256) l
+    → bytesBefore k (lanes 8 w f l) r ≡ bytesBefore n w (map f l ++ r)
 unfolding bytesBefore lanes
 lanes-bytes f [] r k n w e p = ap (λ (j : ℕ). bytesBefore j w r) (let z : k ≡ n = omega arith in z)
 lanes-bytes f (b ∷ l) r k n w e p =

@@ -11,7 +11,8 @@ use Rattle.hex.specs.Hex.{digits, digitLetter}
 abbrev pub behind : List ℕ → ℕ → ℕ → List ℕ
 behind out n k = take (16 - k) (drop (n + k) out)
 
-stored : (out : List ℕ) (n k letter : ℕ) → k < 16 → n + 16 ≤ length out → behind (set out (n + k) letter) n k ≡ letter ∷ behind out n (suc k)
+stored : (out : List ℕ) (n k letter : ℕ) → k < 16 → n + 16 ≤ length out
+    → behind (set out (n + k) letter) n k ≡ letter ∷ behind out n (suc k)
 stored out n k letter h g =
     let e : 16 - k ≡ suc (16 - suc k) = omega arith in
     let a : n + suc k ≡ suc (n + k) = omega arith in
@@ -20,7 +21,8 @@ stored out n k letter h g =
     ap (λ (j : ℕ). take j (drop (n + k) (set out (n + k) letter))) e
     ∙ ap (take (suc (16 - suc k))) (drop-cons (set out (n + k) letter) (n + k) 0 m)
     ∙ ap (λ (d : ℕ). d ∷ take (16 - suc k) (drop (suc (n + k)) (set out (n + k) letter))) (getD-set-same out (n + k) letter 0 l)
-    ∙ ap (λ (t : List ℕ). letter ∷ take (16 - suc k) t) (drop-set-lt (suc (n + k)) out (n + k) letter (omega arith) ∙ ap (λ (j : ℕ). drop j out) (sym a))
+    ∙ ap (λ (t : List ℕ). letter ∷ take (16 - suc k) t)
+    (drop-set-lt (suc (n + k)) out (n + k) letter (omega arith) ∙ ap (λ (j : ℕ). drop j out) (sym a))
 
 one-digit : (out : List ℕ) (n k rest letter : ℕ) → k < 16 → n + 16 ≤ length out → letter ≡ digitLetter (rest % 16)
     → digits (suc k) rest ++ behind out n (suc k) ≡ digits k (rest / 16) ++ behind (set out (n + k) letter) n k
@@ -47,7 +49,8 @@ none-behind b out n = sym (append-nil (digits 16 b))
     append-nil [] = refl
     append-nil (x ∷ xs) = ap (λ (t : List ℕ). x ∷ t) (append-nil xs)
 
-pub all-printed : (text out₀ out : List ℕ) (n k rest : ℕ) → k ≡ 0 → take n out ≡ take n out₀ → text ≡ digits k rest ++ behind out n k → take (n + 16) out ≡ take n out₀ ++ text
+pub all-printed : (text out₀ out : List ℕ) (n k rest : ℕ) → k ≡ 0 → take n out ≡ take n out₀ → text ≡ digits k rest ++ behind out n k
+    → take (n + 16) out ≡ take n out₀ ++ text
 unfolding digits
 all-printed text out₀ out n k rest z e t =
     let f : text ≡ behind out n 0 = t ∙ ap (λ (j : ℕ). digits j rest ++ behind out n j) z in

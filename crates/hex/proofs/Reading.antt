@@ -29,17 +29,22 @@ unfolding readDigits lanes allDigits
 part-read [] rest n = refl
 part-read (b ∷ l) rest n = go (ltb (digitValue b) 16) (part-read l rest (n * 16 + digitValue b))
   where
-    go : (t : Bool) → readDigits (l ++ rest) (n * 16 + digitValue b) ≡ pick (allDigits l) (readDigits rest (lanes 4 (n * 16 + digitValue b) digitValue l)) NotFigure
-        → pick t (readDigits (l ++ rest) (n * 16 + digitValue b)) NotFigure ≡ pick (t && allDigits l) (readDigits rest (lanes 4 (n * 16 + digitValue b) digitValue l)) NotFigure
+    go : (t : Bool) → readDigits (l ++ rest) (n * 16 + digitValue b)
+        ≡ pick (allDigits l) (readDigits rest (lanes 4 (n * 16 + digitValue b) digitValue l)) NotFigure
+        → pick t (readDigits (l ++ rest) (n * 16 + digitValue b)) NotFigure
+        ≡ pick (t && allDigits l) (readDigits rest (lanes 4 (n * 16 + digitValue b) digitValue l)) NotFigure
     go true e = e
     go false e = refl
 
-module _ (w : List ℕ) (len : length w ≡ 16) (first second : ℕ) (A : bytesOf first ≡ take 8 (drop 0 w)) (B : bytesOf second ≡ take 8 (drop 8 w)) where
+module _ (w : List ℕ) (len : length w ≡ 16) (first second : ℕ) (A : bytesOf first ≡ take 8 (drop 0 w))
+    (B : bytesOf second ≡ take 8 (drop 8 w)) where
   -- sixteen bytes are the two words'
   two-words : w ≡ bytesOf first ++ (bytesOf second ++ [])
   two-words =
-      let e : drop 8 (drop 8 w) ≡ [] = drop-of-length-le (drop 8 w) (let z = length-drop 8 w in let y : length (drop 8 w) ≤ 8 = omega arith in y) in
-      sym (ap₂ (λ (x y : List ℕ). x ++ y) A (ap₂ (λ (x y : List ℕ). x ++ y) B (sym e) ∙ take-append-drop 8 (drop 8 w)) ∙ take-append-drop 8 w)
+      let e : drop 8 (drop 8 w) ≡ [] = drop-of-length-le (drop 8 w)
+      (let z = length-drop 8 w in let y : length (drop 8 w) ≤ 8 = omega arith in y) in
+      sym (ap₂ (λ (x y : List ℕ). x ++ y) A (ap₂ (λ (x y : List ℕ). x ++ y) B (sym e) ∙ take-append-drop 8 (drop 8 w))
+      ∙ take-append-drop 8 w)
 
   abbrev number : ℕ
   number = lanes 4 0 digitValue (bytesOf first) * 0x1_0000_0000 + lanes 4 0 digitValue (bytesOf second)
@@ -52,7 +57,8 @@ module _ (w : List ℕ) (len : length w ≡ 16) (first second : ℕ) (A : bytesO
       ∙ part-read (bytesOf first) (bytesOf second ++ []) 0
       ∙ ap (λ (f : Figure). pick (allDigits (bytesOf first)) f NotFigure)
       (part-read (bytesOf second) [] (lanes 4 0 digitValue (bytesOf first))
-      ∙ ap (λ (n : ℕ). pick (allDigits (bytesOf second)) (Number (bits n)) NotFigure) (lanes-behind (lanes 4 0 digitValue (bytesOf first)) second digitValue))
+      ∙ ap (λ (n : ℕ). pick (allDigits (bytesOf second)) (Number (bits n)) NotFigure)
+      (lanes-behind (lanes 4 0 digitValue (bytesOf first)) second digitValue))
 
   pub first-bad : allDigits (bytesOf first) ≡ false → NotFigure ≡ figureOf w
   first-bad a = sym (by-words ∙ rw a)
@@ -60,7 +66,8 @@ module _ (w : List ℕ) (len : length w ≡ 16) (first second : ℕ) (A : bytesO
   pub second-bad : allDigits (bytesOf first) ≡ true → allDigits (bytesOf second) ≡ false → NotFigure ≡ figureOf w
   second-bad a b = sym (by-words ∙ rw (a, b))
 
-  pub both-good : allDigits (bytesOf first) ≡ true → allDigits (bytesOf second) ≡ true → {m n : ℕ} → m ≡ lanes 4 0 digitValue (bytesOf first) → n ≡ lanes 4 0 digitValue (bytesOf second)
+  pub both-good : allDigits (bytesOf first) ≡ true → allDigits (bytesOf second) ≡ true → {m n : ℕ}
+      → m ≡ lanes 4 0 digitValue (bytesOf first) → n ≡ lanes 4 0 digitValue (bytesOf second)
       → Number (bits (m * 0x1_0000_0000 + n)) ≡ figureOf w
   both-good a b p q = ap₂ (λ (m n : ℕ). Number (bits (m * 0x1_0000_0000 + n))) p q ∙ sym (by-words ∙ rw (a, b))
 

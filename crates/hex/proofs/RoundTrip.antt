@@ -57,12 +57,14 @@ digits-read (suc k) n m t =
     ap (λ (l : List ℕ). readDigits l m) (append-assoc (digits k (n / 16)) (digitLetter (n % 16) ∷ []) t)
     ∙ digits-read k (n / 16) m (digitLetter (n % 16) ∷ t)
     ∙ letter-read (n % 16) (m * 16 ^ k + n / 16 % 16 ^ k) t (omega arith)
-    ∙ ap (readDigits t) (rw p (let e : (m * 16 ^ k + n / 16 % 16 ^ k) * 16 + n % 16 ≡ m * (16 ^ k * 16) + n % (16 ^ k * 16) = omega arith in e))
+    ∙ ap (readDigits t)
+    (rw p (let e : (m * 16 ^ k + n / 16 % 16 ^ k) * 16 + n % 16 ≡ m * (16 ^ k * 16) + n % (16 ^ k * 16) = omega arith in e))
 
 pub digits-length : (k n : ℕ) → length (digits k n) ≡ k
 unfolding digits
 digits-length zero n = refl
-digits-length (suc k) n = length-append (digits k (n / 16)) (digitLetter (n % 16) ∷ []) ∙ (let h = digits-length k (n / 16) in let e : length (digits k (n / 16)) + 1 ≡ suc k = omega arith in e)
+digits-length (suc k) n = length-append (digits k (n / 16)) (digitLetter (n % 16) ∷ [])
+    ∙ (let h = digits-length k (n / 16) in let e : length (digits k (n / 16)) + 1 ≡ suc k = omega arith in e)
 
 pub figure-length : (x : Float) → length (figureText x) ≡ 16
 unfolding figureText
@@ -80,7 +82,8 @@ sixteen-read n h =
     ∙ digits-read 16 n 0 []
     ∙ ap (λ (k : ℕ). Number (bits k)) (let g : n % 2 ^ 64 ≡ n = mod-eq-of-lt h in let e : 0 * 16 ^ 16 + n % 16 ^ 16 ≡ n = omega arith in e))
 
-bits-of : (x : Float) (z : Bool) → T (fits binary64 x) → (cond z 0 (toBits binary64 x) < 2 ^ 64) × (bits (cond z 0 (toBits binary64 x)) ≡ cond z (bits 0) x)
+bits-of : (x : Float) (z : Bool) → T (fits binary64 x)
+    → (cond z 0 (toBits binary64 x) < 2 ^ 64) × (bits (cond z 0 (toBits binary64 x)) ≡ cond z (bits 0) x)
 bits-of x true f = (omega arith, refl)
 bits-of x false f = (toBits-lt binary64 x f, ofBits-toBits binary64 x f)
 

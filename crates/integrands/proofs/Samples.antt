@@ -59,7 +59,8 @@ plus-below x y p l r h k = (
     one : (u v : Float) → Below p u → Below 556 v → Below (suc p) (u ⊕ v)
     one u v a b = add-below u v p r a (weaker v 556 p l b)
 
-sums-below : (kind : Kind) (scale h : Float) → KindSized kind → Scale scale → Below 28 h → (l : List (Float × Float)) (sums : List Float) (p : ℕ)
+sums-below : (kind : Kind) (scale h : Float) → KindSized kind → Scale scale → Below 28 h
+    → (l : List (Float × Float)) (sums : List Float) (p : ℕ)
     → 556 ≤ p → p + length l ≤ 1000 → Pairs 116 l → FourBelow p sums → FourBelow (p + length l) (sumsFrom kind scale h sums l)
 unfolding sumsFrom
 sums-below kind scale h k s b [] sums p lo hi c f = subst (λ (z : ℕ). FourBelow z sums) (same p) f
@@ -72,22 +73,28 @@ sums-below kind scale h k s b (chord ∷ rest) sums p lo hi c f =
     let term = term-below kind h (chord .0 ⊘ scale) (chord .1 ⊘ scale) k b start end in
     let next = (plus) sums (termOf kind h (chord .0 ⊘ scale) (chord .1 ⊘ scale)) in
     subst (λ (z : ℕ). FourBelow z (sumsFrom kind scale h next rest)) (moved p (length rest))
-    (sums-below kind scale h k s b rest next (suc p) (le-trans lo (le-suc p)) (omega arith) (c .1) (plus-below sums (termOf kind h (chord .0 ⊘ scale) (chord .1 ⊘ scale)) p lo (omega arith) f term))
+    (sums-below kind scale h k s b rest next (suc p) (le-trans lo (le-suc p)) (omega arith) (c .1)
+    (plus-below sums (termOf kind h (chord .0 ⊘ scale) (chord .1 ⊘ scale)) p lo (omega arith) f term))
   where
     moved : (p n : ℕ) → suc p + n ≡ p + suc n
     moved p n = omega arith
 
 four-weaker : (m : List Float) (p q : ℕ) → p ≤ q → FourBelow p m → FourBelow q m
-four-weaker m p q l h = (weaker (at m 0) p q l (h .0), (weaker (at m 1) p q l (h .1 .0), (weaker (at m 2) p q l (h .1 .1 .0), weaker (at m 3) p q l (h .1 .1 .1))))
+four-weaker m p q l h = (
+  weaker (at m 0) p q l (h .0),
+  (weaker (at m 1) p q l (h .1 .0), (weaker (at m 2) p q l (h .1 .1 .0), weaker (at m 3) p q l (h .1 .1 .1))),
+)
 
 -- ---- the seven values
-values-below : (kind : Kind) (h : Float) (m : List Float) → KindSized kind → Below 28 h → FourBelow 620 m → Each (Below 700) (sampleValues kind h m)
+values-below : (kind : Kind) (h : Float) (m : List Float) → KindSized kind → Below 28 h → FourBelow 620 m
+    → Each (Below 700) (sampleValues kind h m)
 values-below Area h m s b f =
     let z = weaker (bits 0) 0 700 (lit≤ tt) zero-below in
     let g = four-weaker m 620 700 (lit≤ tt) f in
     (g .0, (g .1 .0, (g .1 .1 .0, (z, (z, (z, (z, tt)))))))
 values-below (Plate section thickness radius) h m s b f =
-    let up-to = within (620 ∷ 620 ∷ 620 ∷ 620 ∷ 26 ∷ 28 ∷ []) [] (at m 0 ∷ at m 1 ∷ at m 2 ∷ at m 3 ∷ radius ∷ h ∷ []) [] (f .0, (f .1 .0, (f .1 .1 .0, (f .1 .1 .1, (s .1, (b, tt)))))) tt in (
+    let up-to = within (620 ∷ 620 ∷ 620 ∷ 620 ∷ 26 ∷ 28 ∷ []) [] (at m 0 ∷ at m 1 ∷ at m 2 ∷ at m 3 ∷ radius ∷ h ∷ []) []
+    (f .0, (f .1 .0, (f .1 .1 .0, (f .1 .1 .1, (s .1, (b, tt)))))) tt in (
       up-to (given 0) 700 tt,
       (
         up-to ((given 4 plus given 5) times given 0) 700 tt,
@@ -113,13 +120,16 @@ values-below (Plate section thickness radius) h m s b f =
 zeros : FourBelow 556 (tabulate 4 (λ i. bits 0))
 zeros = let z = weaker (bits 0) 0 556 (lit≤ tt) zero-below in (z, (z, (z, z)))
 
-pub sample-below : (f : Integrand) (points : List Float) (h : Float) → Sized (f .planform) points → Scale (f .scale) → KindSized (f .kind) → Below 28 h
+pub sample-below : (f : Integrand) (points : List Float) (h : Float) → Sized (f .planform) points → Scale (f .scale) → KindSized (f .kind)
+    → Below 28 h
     → Each (Below 700) (sampleOf f points h)
 unfolding sampleOf
 sample-below f points h s c k b =
     let metres = mul-below h (f .scale) 28 7 (lit≤ tt) b (c .below) in
-    let few = paired-few 116 mostPoints (endsAt (f .planform) points (h ⊗ f .scale)) (ends-at (f .planform) points (h ⊗ f .scale) s metres) in
+    let few = paired-few 116 mostPoints (endsAt (f .planform) points (h ⊗ f .scale)) (ends-at (f .planform) points (h ⊗ f .scale) s metres)
+    in
     let l = chordsAt (f .planform) points (h ⊗ f .scale) in
     let n = few .few in
     let sums = sums-below (f .kind) (f .scale) h k c b l (tabulate 4 (λ i. bits 0)) 556 (lit≤ tt) (omega arith) (few .bounded) zeros in
-    values-below (f .kind) h (sumsOver (f .kind) (f .scale) h l) k b (four-weaker (sumsOver (f .kind) (f .scale) h l) (556 + length l) 620 (omega arith) sums)
+    values-below (f .kind) h (sumsOver (f .kind) (f .scale) h l) k b
+    (four-weaker (sumsOver (f .kind) (f .scale) h l) (556 + length l) 620 (omega arith) sums)

@@ -28,5 +28,6 @@ scale-sized planform points s =
     record {
       below = b;
       above = a;
-      is-positive = positive-of (root ⊕ span) 20 (add-plus root span 20 (r .not-minus) (r .above) (h .below .finite) (h .not-under) (b .finite)) a;
+      is-positive = positive-of (root ⊕ span) 20
+          (add-plus root span 20 (r .not-minus) (r .above) (h .below .finite) (h .not-under) (b .finite)) a;
     }

@@ -11,7 +11,8 @@ use prog.Wp.{Heap, WpFn, Tables}
 use ghost.Atoms.{Atoms, sem}
 use contract.Monad.{Fun, fact}
 use sound.WpLaws.{fmOf, WpFn-mono}
-use types.Kit.{Given, ‵, raw, _⊛_, ⋆, mean, some, given, later, _$_, _∵_, !, qed, move, keep, use1, split, join, pick, fjoin, suffices, frame, await, updating, show, check, now as at-once, done}
+use types.Kit.{Given, ‵, raw, _⊛_, ⋆, mean, some, given, later, _$_, _∵_, !, qed, move, keep, use1, split, join, pick, fjoin, suffices}
+use types.Kit.{frame, await, updating, show, check, now as at-once, done}
 use denote.Exit.{Exit, yes, Last, left}
 use denote.Laws.{Is, shows}
 use denote.RattleType.{RattleType}
@@ -46,7 +47,8 @@ module _ (T : Declared) where
 
   abbrev of-all : Ended
   of-all = record {
-    signature = record { lifetimes = 1; outlives = []; params = plain (λ _. R) ∷ shrSlice 0 tt (λ _. body.the-row) ∷ []; result = plain (λ _. R) };
+    signature = record
+        { lifetimes = 1; outlives = []; params = plain (λ _. R) ∷ shrSlice 0 tt (λ _. body.the-row) ∷ []; result = plain (λ _. R) };
     kept = (yes, (yes, tt));
   }
 
@@ -104,7 +106,8 @@ module _ (T : Declared) (L : struct.Laws T) (P : Plains (fields T)) (K : struct.
       use1 W (later (some (λ (r : T .D). (‵ ftrue ⊛ ‵ (R T .own r (v ∷ []))) ⊛ raw (Ensured s b r)))) (id⊢ 𝓤 _) $ await ! tt $ pick ! (λ r.
       split ! $ move ! (1 ∷ []) $ use1 W (raw (fact 𝓤 (r ≡ add s b))) (said s b r) $ heard ! (r ≡ add s b) (λ e. split ! $ move ! (1 ∷ []) $
       peeks ! (R T) (Is (R T)) (shows 𝓤 H A (R T)) r (v ∷ []) (λ is.
-      at-once ! $ show ! (λ (r : T .D). mean 𝓤 H A (given ((r ≡ add s b) × Is (R T) r (v ∷ [])) (‵ ftrue))) r $ check ! (e, is) $ keep ! [] $ done !)))
+      at-once ! $ show ! (λ (r : T .D). mean 𝓤 H A (given ((r ≡ add s b) × Is (R T) r (v ∷ [])) (‵ ftrue))) r $ check ! (e, is) $
+      keep ! [] $ done !)))
 
   -- ---- the loop
 

@@ -60,10 +60,12 @@ module _ (f : ℕ → Body) where
   inertia-added n zero = none-joined n refl refl
   inertia-added n (suc k) = rw (inertia-added n k, inertia-suc (centreOf (sumsOf f n)) k)
 
-  pub all-added : (n : ℕ) {none s : Sums} {t r : Body} → none ≡ noSums → s ≡ inOrder addBody none f n → t ≡ atCentre s → r ≡ inOrder addInertia t f n → r ≡ joinOf f n
+  pub all-added : (n : ℕ) {none s : Sums} {t r : Body} → none ≡ noSums → s ≡ inOrder addBody none f n → t ≡ atCentre s
+      → r ≡ inOrder addInertia t f n → r ≡ joinOf f n
   all-added n p e q h = rw (h, q, e, p, sums-added n) (inertia-added n n ∙ all-joined n)
 
 -- the steps over two bodies
-pub two-added : (a b : Body) {none s s' : Sums} {t u r : Body} → none ≡ noSums → s ≡ addBody none a → s' ≡ addBody s b → t ≡ atCentre s' → u ≡ addInertia t a → r ≡ addInertia u b → r ≡ joinOf (twoBodies a b) 2
+pub two-added : (a b : Body) {none s s' : Sums} {t u r : Body} → none ≡ noSums → s ≡ addBody none a → s' ≡ addBody s b → t ≡ atCentre s'
+    → u ≡ addInertia t a → r ≡ addInertia u b → r ≡ joinOf (twoBodies a b) 2
 unfolding inOrder
 two-added a b p e e' q h h' = all-added (twoBodies a b) 2 p (rw (e', e)) q (rw (h', h))

@@ -27,7 +27,8 @@ use Rattle.joins.proofs.Listed.{readBack, length-listed, read-back}
 
 -- bodies that a join takes alike: it reads no more of a body than this
 abbrev Alike : Body → Body → Type 0
-Alike a b = (a .«mass_kg» ≡ b .«mass_kg») × (a .«centre_m» ≡ b .«centre_m») × ((point : Vector) → inertiaAboutOf a point ≡ inertiaAboutOf b point)
+Alike a b = (a .«mass_kg» ≡ b .«mass_kg») × (a .«centre_m» ≡ b .«centre_m»)
+    × ((point : Vector) → inertiaAboutOf a point ≡ inertiaAboutOf b point)
 
 the-same : {a b : Body} → a ≡ b → Alike a b
 the-same e = (ap (λ (x : Body). x .«mass_kg») e, ap (λ (x : Body). x .«centre_m») e, λ point. ap (λ (x : Body). inertiaAboutOf x point) e)
@@ -50,7 +51,8 @@ module _ (f g : ℕ → Body) where
   unfolding inOrder inertiaOf
   inertia-alike centre zero alike = refl
   inertia-alike centre (suc n) alike =
-      inertia-suc f centre n ∙ rw (inertia-alike centre n (λ k l. alike k (lt-suc l)), alike n (lt-suc-self n) .2 centre) (sym (inertia-suc g centre n))
+      inertia-suc f centre n
+      ∙ rw (inertia-alike centre n (λ k l. alike k (lt-suc l)), alike n (lt-suc-self n) .2 centre) (sym (inertia-suc g centre n))
 
   join-alike : (n : ℕ) → ((k : ℕ) → k < n → Alike (f k) (g k)) → joinOf f n ≡ joinOf g n
   unfolding joinOf
@@ -63,7 +65,8 @@ module _ (f g : ℕ → Body) where
   join-read-back n back = join-alike n (λ k l. as-read-back (g k) (back k l))
 
 -- `got` is what a check gave, which is `known`: the answer for that is the check's
-pub by-verdict : (body : Body) {check got known : Verdict} {r : Joined} → got ≡ check → got ≡ known → r ≡ unlessRefused known body → r ≡ unlessRefused check body
+pub by-verdict : (body : Body) {check got known : Verdict} {r : Joined} → got ≡ check → got ≡ known → r ≡ unlessRefused known body
+    → r ≡ unlessRefused check body
 by-verdict body p t a = a ∙ ap (λ (v : Verdict). unlessRefused v body) (sym t ∙ p)
 
 -- the list of n bodies is joined as they are
@@ -119,10 +122,12 @@ module _ (f : ℕ → Body) where
   unfolding joinOf
   centre-nan n h = rw (h, nan-differs)
 
-  pub centre-mean : (n : ℕ) → 1 ≤ n → n ≤ 32 → ne (joinOf f n .«mass_kg») (joinOf f n .«mass_kg») ≡ false → lt (bits 0) (joinOf f n .«mass_kg») ≡ false → joinOf f n .«centre_m» ≡ divideVector (sumsOf f n .positions) (sumsOf f n .count)
+  pub centre-mean : (n : ℕ) → 1 ≤ n → n ≤ 32 → ne (joinOf f n .«mass_kg») (joinOf f n .«mass_kg») ≡ false
+      → lt (bits 0) (joinOf f n .«mass_kg») ≡ false → joinOf f n .«centre_m» ≡ divideVector (sumsOf f n .positions) (sumsOf f n .count)
   unfolding joinOf sumsOf
   centre-mean n l h p q = rw (p, q, counted n l h)
 
-  pub centre-above : (n : ℕ) → lt (bits 0) (joinOf f n .«mass_kg») ≡ true → joinOf f n .«centre_m» ≡ divideVector (sumsOf f n .moment) (joinOf f n .«mass_kg»)
+  pub centre-above : (n : ℕ) → lt (bits 0) (joinOf f n .«mass_kg») ≡ true
+      → joinOf f n .«centre_m» ≡ divideVector (sumsOf f n .moment) (joinOf f n .«mass_kg»)
   unfolding joinOf
   centre-above n h = rw (above-differs (sumsOf f n .«mass_kg») h, h)

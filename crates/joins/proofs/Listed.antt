@@ -48,11 +48,13 @@ module _ (f : ℕ → Body) where
     unfolding listed
     none-written = refl
 
-    pub one-written : (k : ℕ) {c r : List Float} {b : Body} → c ≡ withBodies f k l → b ≡ f k → r ≡ withBody c k b → r ≡ withBodies f (k + 1) l
+    pub one-written : (k : ℕ) {c r : List Float} {b : Body} → c ≡ withBodies f k l → b ≡ f k → r ≡ withBody c k b
+        → r ≡ withBodies f (k + 1) l
     unfolding listed
     one-written k p q e =
         let next : bodyNumbers * k + bodyNumbers ≡ bodyNumbers * (k + 1) = omega arith in
-        let front : take (bodyNumbers * k) (withBodies f k l) ≡ listed f k = take-at (listed f k) (drop (bodyNumbers * k) l) (bodyNumbers * k) (length-listed k) in
+        let front : take (bodyNumbers * k) (withBodies f k l) ≡ listed f k = take-at (listed f k) (drop (bodyNumbers * k) l)
+        (bodyNumbers * k) (length-listed k) in
         let back : drop (bodyNumbers * k + bodyNumbers) (withBodies f k l) ≡ drop (bodyNumbers * (k + 1)) l =
         sym (drop-drop bodyNumbers (bodyNumbers * k) (withBodies f k l))
         ∙ ap (drop bodyNumbers) (drop-at (listed f k) (drop (bodyNumbers * k) l) (bodyNumbers * k) (length-listed k))

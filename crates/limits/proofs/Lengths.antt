@@ -45,7 +45,8 @@ zero-length : (x : Float) → T (fits binary64 x) → T (eq x plusZero) → Leng
 unfolding eq fits
 zero-length nan t h = absurd h
 zero-length (inf s) t h = absurd h
-zero-length (fin s zero (pos k)) t h = record { below = record { finite = tt; size = (let z = zero-mul (2 ^ k) in omega arith) }; grid = (tt, lit≤ tt) }
+zero-length (fin s zero (pos k)) t h = record
+    { below = record { finite = tt; size = (let z = zero-mul (2 ^ k) in omega arith) }; grid = (tt, lit≤ tt) }
 zero-length (fin s zero (negsuc k)) t h =
     record {
       below = record { finite = tt; size = zero-le };
@@ -72,7 +73,8 @@ module _ (x : Float) (h : T (isWithin shortest longest (absOf x))) where
   most = most-of-le x (fin false 1 (pos 6)) tt refl (rw longest-is at (and-r (le shortest (absOf x)) (le (absOf x) longest) h))
 
   least : Above 20 x
-  least = least-of-le x (fin false 1 (negsuc 19)) tt refl (most .finite) (rw shortest-is at (and-l (le shortest (absOf x)) (le (absOf x) longest) h))
+  least = least-of-le x (fin false 1 (negsuc 19)) tt refl (most .finite)
+      (rw shortest-is at (and-l (le shortest (absOf x)) (le (absOf x) longest) h))
 
 -- ---- the limits of a length
 length-within : (z n : Bool) (x : Float) → T (fits binary64 x) → T (lengthWithin z n x) → Length x
@@ -130,7 +132,8 @@ module _ (field : ℕ) (x : Float) (f : T (fits binary64 x)) (h : lengthCheck fi
   above-checked p = above-within (zeroAllowed field) (negativeAllowed field) x f (of-true _ (within field x h)) p
 
   by-tests : (z n : Bool) → zeroAllowed field ≡ z → negativeAllowed field ≡ n → lengthWithin z n x ≡ true
-  by-tests z n p q = subst (λ (b : Bool). lengthWithin b n x ≡ true) p (subst (λ (b : Bool). lengthWithin (zeroAllowed field) b x ≡ true) q (within field x h))
+  by-tests z n p q = subst (λ (b : Bool). lengthWithin b n x ≡ true) p
+      (subst (λ (b : Bool). lengthWithin (zeroAllowed field) b x ≡ true) q (within field x h))
 
   pub field-above : zeroAllowed field ≡ false → negativeAllowed field ≡ false → PositiveLength x
   field-above p q = above-checked (is-above x (by-tests false false p q))

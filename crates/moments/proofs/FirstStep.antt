@@ -1,4 +1,5 @@
--- The Rust's first step takes the means of opposite entries. Of six numbers that 17a lets pass it changes nothing: half the sum of a number and
+-- The Rust's first step takes the means of opposite entries. Of six numbers that 17a lets pass it changes nothing: half
+-- the sum of a number and
 -- itself is that number, bit for bit. Assumes nothing.
 use mathlib.Core.Path.{_≡_, refl, sym, ap, _∙_}
 use mathlib.Core.Bool.{Bool, true, false, not}
@@ -33,14 +34,18 @@ entry-below nan h = no (sym h)
 entry-below (inf s) h = no (sym h)
 entry-below (fin s m e) h =
     most-of-le (fin s m e) (fin false 1 (pos 500)) tt refl
-    (of-true _ (le-of-not (fin false m e) (fin false 1 (pos 500)) refl refl (not-so (lt (fin false 1 (pos 500)) (fin false m e)) (rw largest-is at h))))
+    (of-true _ (le-of-not (fin false m e) (fin false 1 (pos 500)) refl refl
+    (not-so (lt (fin false 1 (pos 500)) (fin false m e)) (rw largest-is at h))))
   where
     not-so : (b : Bool) → not b ≡ true → b ≡ false
     not-so true h = sym h
     not-so false h = refl
 
-pub first-step : (t : Tensor) → ((i : ℕ) → i < tensorNumbers → T (fits binary64 (numberAt t i))) → entriesFit t ≡ true → asMatrix (averaged (asMatrix t)) ≡ asMatrix t
+pub first-step : (t : Tensor) → ((i : ℕ) → i < tensorNumbers → T (fits binary64 (numberAt t i))) → entriesFit t ≡ true
+    → asMatrix (averaged (asMatrix t)) ≡ asMatrix t
 first-step t f h =
     let mean : (i : ℕ) → i < tensorNumbers → half ⊗ (numberAt t i ⊕ numberAt t i) ≡ numberAt t i =
-    λ i l. half-of-double (numberAt t i) (f i l) (weaker (numberAt t i) 500 1000 (lit≤ tt) (entry-below (numberAt t i) (every-holds tensorNumbers (λ k. entryFits (numberAt t k)) h i l))) in
+    λ i l. half-of-double (numberAt t i) (f i l)
+    (weaker (numberAt t i) 500 1000 (lit≤ tt)
+    (entry-below (numberAt t i) (every-holds tensorNumbers (λ k. entryFits (numberAt t k)) h i l))) in
     rw (mean 3 (omega arith), mean 4 (omega arith), mean 5 (omega arith))

@@ -13,12 +13,14 @@ unfolding sweeps
 sweeps-none zero t h e = e
 sweeps-none (suc n) t h e = absurd (let z : ⊥ = omega arith in z)
 
-pub sweeps-end : (n : ℕ) (t : Matrix) {off : Float} {all : Matrix} → 0 < n → off ≡ offDiagonal t → eq off (bits 0) ≡ true → sweeps n t ≡ all → t ≡ all
+pub sweeps-end : (n : ℕ) (t : Matrix) {off : Float} {all : Matrix} → 0 < n → off ≡ offDiagonal t → eq off (bits 0) ≡ true → sweeps n t ≡ all
+    → t ≡ all
 unfolding sweeps
 sweeps-end zero t l o h e = absurd (let z : ⊥ = omega arith in z)
 sweeps-end (suc n) t l o h e = rw (← o, h) at e
 
-pub sweeps-more : (n : ℕ) (t : Matrix) {off : Float} {u all : Matrix} → 0 < n → off ≡ offDiagonal t → eq off (bits 0) ≡ false → u ≡ sweep t → sweeps n t ≡ all → sweeps (n - 1) u ≡ all
+pub sweeps-more : (n : ℕ) (t : Matrix) {off : Float} {u all : Matrix} → 0 < n → off ≡ offDiagonal t → eq off (bits 0) ≡ false → u ≡ sweep t
+    → sweeps n t ≡ all → sweeps (n - 1) u ≡ all
 unfolding sweeps
 sweeps-more zero t l o h s e = absurd (let z : ⊥ = omega arith in z)
 sweeps-more (suc n) t l o h s e = let q : suc n - 1 ≡ n = omega arith in rw (s, q) (rw (← o, h) at e)

@@ -31,11 +31,16 @@ unfolding endsIn
 one-listed a b s h = record { count = refl; list = written-put b (written-put a (written-nothing s) (omega arith)) (omega arith) .array }
 
 -- the whole pairs of the n that stand over the start of an array
-pub several-listed : (l xs₀ xs s t : List Float) (n : ℕ) → Written l xs₀ xs n → t ≡ over (take (2 * (n / 2)) xs) s → Listed (paired l) s t (n / 2)
+pub several-listed : (l xs₀ xs s t : List Float) (n : ℕ) → Written l xs₀ xs n → t ≡ over (take (2 * (n / 2)) xs) s
+    → Listed (paired l) s t (n / 2)
 several-listed l xs₀ xs s t n w e =
     let all : take n xs ≡ l = written-take w in
     let first : take (2 * (length l / 2)) l ≡ take (2 * (n / 2)) xs = rw (← w .count, ← all) (take-take (2 * (n / 2)) n xs (omega arith)) in
-    record { count = ap (λ (k : ℕ). k / 2) (w .count) ∙ sym (pairs-count l); list = e ∙ ap (λ (k : List Float). over k s) (sym (pairs-ends l ∙ first)) }
+    record {
+      count = ap (λ (k : ℕ). k / 2) (w .count) ∙ sym (pairs-count l);
+      list = e
+          ∙ ap (λ (k : List Float). over k s) (sym (pairs-ends l ∙ first));
+    }
 
 -- ---- the answer
 
@@ -43,13 +48,21 @@ module _ (planform : Planform) (points : List Float) (h : Float) (ends ends' : L
   abbrev pub Answered : Type 0
   Answered = IsChordList r (chordsCall planform points h .answer) × (ends' ≡ chordsCall planform points h .leaves ends)
 
-  pub answered-so : (verdict : Verdict) → planformCheck planform points ≡ verdict → Does (chordsBy verdict planform points h) r ends ends' → Answered
+  pub answered-so : (verdict : Verdict) → planformCheck planform points ≡ verdict → Does (chordsBy verdict planform points h) r ends ends'
+      → Answered
   unfolding chordsCall
-  answered-so verdict v d =
-      (is-answer (d .0 ∙ ap (λ (v : Verdict). chordsBy v planform points h .answer) (sym v)), d .1 ∙ ap (λ (v : Verdict). chordsBy v planform points h .leaves ends) (sym v))
+  answered-so verdict v d = (
+    is-answer (d .0 ∙ ap (λ (v : Verdict). chordsBy v planform points h .answer) (sym v)),
+    d .1
+        ∙ ap (λ (v : Verdict). chordsBy v planform points h .leaves ends) (sym v),
+  )
 
-  pub listed-so : planformCheck planform points ≡ Accepted → (found : Chords) (count : ℕ) → paired (endsOf found points h) ≡ chordsAt planform points h
+  pub listed-so : planformCheck planform points ≡ Accepted → (found : Chords) (count : ℕ)
+      → paired (endsOf found points h) ≡ chordsAt planform points h
       → Listed (paired (endsOf found points h)) ends ends' count → r ≡ record { verdict = Accepted; count = count } → Answered
   listed-so v found count all w f =
-      answered-so Accepted v
-      (f ∙ ap (λ (n : ℕ). record { verdict = Accepted; count = n }) (w .count ∙ ap length all), w .list ∙ ap (λ (l : List (Float × Float)). over (endsIn l) ends) all)
+      answered-so Accepted v (
+        f ∙ ap (λ (n : ℕ). record { verdict = Accepted; count = n }) (w .count ∙ ap length all),
+        w .list
+            ∙ ap (λ (l : List (Float × Float)). over (endsIn l) ends) all,
+      )

@@ -17,7 +17,8 @@ use Rattle.chords.proofs.Tip.{trapezoid-tip, ellipse-tip}
 
 -- the tip chord: from the sweep to (sweep + root) + (tip − root), as the formulas round
 pub trapezoid-tip-chord : (root tip span sweep : Float) (points : List Float) → T (fits binary64 sweep)
-    → planformCheck (Trapezoid root tip span sweep) points ≡ Accepted → chordsAt (Trapezoid root tip span sweep) points span ≡ (sweep, sweep ⊕ root ⊕ (tip ⊖ root)) ∷ []
+    → planformCheck (Trapezoid root tip span sweep) points ≡ Accepted
+    → chordsAt (Trapezoid root tip span sweep) points span ≡ (sweep, sweep ⊕ root ⊕ (tip ⊖ root)) ∷ []
 unfolding planformCheck paired
 trapezoid-tip-chord root tip span sweep points f h =
     let of-span = both _ _ (both _ _ (both _ _ h .1) .1) .0 in
@@ -29,4 +30,5 @@ pub ellipse-tip-chord : (root span : Float) (points : List Float) → T (fits bi
 unfolding planformCheck paired
 ellipse-tip-chord root span points f h =
     let of-span = both _ _ (both _ _ h .1) .0 in
-    ap paired (ellipse-tip root span points (length-positive spanField span refl refl of-span) (length-positive rootChordField root refl refl (both _ _ h .0)) f)
+    ap paired (ellipse-tip root span points (length-positive spanField span refl refl of-span)
+    (length-positive rootChordField root refl refl (both _ _ h .0)) f)

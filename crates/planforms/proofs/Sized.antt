@@ -18,7 +18,8 @@ use Rattle.planforms.specs.declared.Planform.the-variants.{Trapezoid, El
 
 -- the numbers are f64s, as every number is that the program holds
 abbrev pub PlanformF64 : Planform → List Float → Type 0
-PlanformF64 (Trapezoid root tip span sweep) points = T (fits binary64 root) × (T (fits binary64 tip) × (T (fits binary64 span) × T (fits binary64 sweep)))
+PlanformF64 (Trapezoid root tip span sweep) points = T (fits binary64 root)
+    × (T (fits binary64 tip) × (T (fits binary64 span) × T (fits binary64 sweep)))
 PlanformF64 (Ellipse root span) points = T (fits binary64 root) × T (fits binary64 span)
 PlanformF64 Outline points = (i : ℕ) → T (fits binary64 (at points i))
 
@@ -26,7 +27,8 @@ PlanformF64 Outline points = (i : ℕ) → T (fits binary64 (at points i))
 abbrev pub Sized : Planform → List Float → Type 0
 Sized (Trapezoid root tip span sweep) points = PositiveLength root × (Length tip × (PositiveLength span × Length sweep))
 Sized (Ellipse root span) points = PositiveLength root × PositiveLength span
-Sized Outline points = ((i : ℕ) → i < pairCount points → Length (xAt points i) × Height (heightAt points i)) × PositiveLength (lastX points (pairCount points))
+Sized Outline points = ((i : ℕ) → i < pairCount points → Length (xAt points i) × Height (heightAt points i))
+    × PositiveLength (lastX points (pairCount points))
 
 pub root-sized : (planform : Planform) (points : List Float) → Sized planform points → PositiveLength (rootChordOf planform points)
 unfolding rootChordOf
@@ -51,7 +53,8 @@ max-span x y h k = record { below = max-below x y 6 (h .below) (k .below); not-u
     go false true = k .not-under
     go false false = h .not-under
 
-largest : (points : List Float) (n : ℕ) → ((i : ℕ) → i < n → Length (xAt points i) × Height (heightAt points i)) → Span (largestHeight points n)
+largest : (points : List Float) (n : ℕ) → ((i : ℕ) → i < n → Length (xAt points i) × Height (heightAt points i))
+    → Span (largestHeight points n)
 unfolding largestHeight
 largest points zero p = zero-span
 largest points (suc n) p =

@@ -5,7 +5,10 @@ use Prim.Native.Nat.{ℕ}
 use native.Mathlib.Omega.{arith}
 use borrow.Author.Tests.{ne-eqb}
 use Rattle.refusals.specs.declared.Refusal.{Refusal}
-use Rattle.refusals.specs.declared.Refusal.the-variants.{Limit, Scratch, Count, Length, Points, Ends, Touches, NoArea, Angle, TabOffRoot, TabTooDeep, Density, NotConverged, Mass, Centre, Tensor, NoForm, NoFigure, WallOverRadius, ThicknessOverRoot, FilletRatio, Screen, NoCorners, NotWholeSteps, NotHeavier}
+use Rattle.refusals.specs.declared.Refusal.the-variants.{Limit, Scratch, Count, Length, Points, Ends, Touches, NoArea, Angle}
+use Rattle.refusals.specs.declared.Refusal.the-variants.{TabOffRoot, TabTooDeep, Density, NotConverged, Mass, Centre, Tensor, NoForm}
+use Rattle.refusals.specs.declared.Refusal.the-variants.{NoFigure, WallOverRadius, ThicknessOverRoot, FilletRatio, Screen, NoCorners}
+use Rattle.refusals.specs.declared.Refusal.the-variants.{NotWholeSteps, NotHeavier}
 use Rattle.refusals.specs.declared.Verdict.{Verdict}
 use Rattle.refusals.specs.declared.Verdict.the-variants.{Accepted, Refused}
 use Rattle.refusals.specs.declared.TensorFault.the-variants.{Entry, Massless, Negative, Triangle}
@@ -13,7 +16,8 @@ use lib.ListN.{getD}
 use Rattle.refusals.specs.Refusals.{numberOf, valuesOf, inTwoPlaces}
 use Rattle.refusals.specs.Numbered.{faultFrom, refusalFrom, numberIn, firstIn, secondIn, verdictFrom}
 
-pub read-back : (refusal : Refusal) → refusalFrom (numberOf refusal) (getD (inTwoPlaces (valuesOf refusal)) 0 0) (getD (inTwoPlaces (valuesOf refusal)) 1 0) ≡ refusal
+pub read-back : (refusal : Refusal)
+    → refusalFrom (numberOf refusal) (getD (inTwoPlaces (valuesOf refusal)) 0 0) (getD (inTwoPlaces (valuesOf refusal)) 1 0) ≡ refusal
 unfolding faultFrom refusalFrom
 read-back Limit = refl
 read-back Scratch = refl

@@ -1,8 +1,10 @@
--- Which fractions are values of a format: m·2^j / 2^k, where m has few enough digits, and so every f64 times a power of two. Assumes nothing.
+-- Which fractions are values of a format: m·2^j / 2^k, where m has few enough digits, and so every f64 times a power of
+-- two. Assumes nothing.
 use mathlib.Core.Path.{_≡_, sym, ap, _∙_, subst}
 use mathlib.Core.Bool.{Bool, true, false, not, _&&_}
 use Prim.Native.Nat.{ℕ, zero, suc, _+_, _-_, _*_, _%_, _^_, _≤_, _<_, zero-le}
-use native.Mathlib.Nat.{le-trans, le-of-eq, lt-of-lt-of-le, not-le-of-lt, mul-one, one-mul, mul-comm, mul-assoc, mul-left-comm, zero-lt-suc, mul-lt-mul-of-pos-right, lt-of-mul-lt-mul-right}
+use native.Mathlib.Nat.{le-trans, le-of-eq, lt-of-lt-of-le, not-le-of-lt, mul-one, one-mul, mul-comm, mul-assoc, mul-left-comm, zero-lt-suc}
+use native.Mathlib.Nat.{mul-lt-mul-of-pos-right, lt-of-mul-lt-mul-right}
 use native.Mathlib.Omega.{arith}
 use lib.Dec.{T, leb, ltb, eqb, ltb→lt, leb→le, nleb→lt, eqb→eq}
 use lib.IntN.{ℤ, pos, negsuc}
@@ -33,14 +35,18 @@ exact-value f s b d v = rw (round-sign f s b d) (signed-value s (round f false b
 arrange : (m a j k : ℕ) → m * (a * j) * k ≡ m * j * (a * k)
 arrange m a j k = simp (mul-assoc, mul-comm, mul-left-comm)
 
-pub dyadic-exact : (f : Format) (m j k : ℕ) → m < 2 ^ prec f → k ≤ low f → m * 2 ^ j < 2 ^ suc (emax f) * 2 ^ k → Exact f (m * 2 ^ j) (2 ^ k)
+pub dyadic-exact : (f : Format) (m j k : ℕ) → m < 2 ^ prec f → k ≤ low f → m * 2 ^ j < 2 ^ suc (emax f) * 2 ^ k
+    → Exact f (m * 2 ^ j) (2 ^ k)
 dyadic-exact f m j k a g b =
     let l = low f in
     let e : m * 2 ^ (l - k + j) * 2 ^ k ≡ m * 2 ^ j * 2 ^ l =
-    rw (pow-add 2 (l - k) j) (arrange m (2 ^ (l - k)) (2 ^ j) (2 ^ k) ∙ ap (λ (z : ℕ). m * 2 ^ j * z) (sym (pow-add 2 (l - k) k) ∙ ap (λ (z : ℕ). 2 ^ z) (back l k g))) in
+    rw (pow-add 2 (l - k) j)
+    (arrange m (2 ^ (l - k)) (2 ^ j) (2 ^ k)
+    ∙ ap (λ (z : ℕ). m * 2 ^ j * z) (sym (pow-add 2 (l - k) k) ∙ ap (λ (z : ℕ). 2 ^ z) (back l k g))) in
     round-exact f false (m * 2 ^ j) (2 ^ k) m (l - k + j) (pow-pos k) a
     (lt-of-mul-lt-mul-right (2 ^ k)
-    (rw (e, pow-add 2 l (suc (emax f)), mul-assoc (2 ^ l) (2 ^ suc (emax f)) (2 ^ k), mul-comm (2 ^ l) (2 ^ suc (emax f) * 2 ^ k)) (mul-lt-mul-of-pos-right b (pow-pos l))))
+    (rw (e, pow-add 2 l (suc (emax f)), mul-assoc (2 ^ l) (2 ^ suc (emax f)) (2 ^ k), mul-comm (2 ^ l) (2 ^ suc (emax f) * 2 ^ k))
+    (mul-lt-mul-of-pos-right b (pow-pos l))))
     (sym e)
 
 whole-exact : (f : Format) (m j : ℕ) → m < 2 ^ prec f → m * 2 ^ j < 2 ^ suc (emax f) → Exact f (m * 2 ^ j) 1
@@ -70,7 +76,8 @@ small-exact f s h = dyadic-exact f 1 0 s (one-small f) h (rw (← (pow-add 2 (su
 -- n·2^p, of f64
 pub count-exact : (n p : ℕ) → n < 2 ^ 53 → p ≤ 970 → Exact binary64 (n * 2 ^ p) 1
 count-exact n p h l =
-    whole-exact binary64 n p h (lt-of-lt-of-le (mul-lt-mul-of-pos-right h (pow-pos p)) (le-trans (le-of-eq (sym (pow-add 2 53 p))) (pow-mono (far p l))))
+    whole-exact binary64 n p h
+    (lt-of-lt-of-le (mul-lt-mul-of-pos-right h (pow-pos p)) (le-trans (le-of-eq (sym (pow-add 2 53 p))) (pow-mono (far p l))))
   where
     far : (p : ℕ) → p ≤ 970 → 53 + p ≤ 1024
     far p h = omega arith
@@ -90,22 +97,28 @@ pow-lt-back a b h = go (leb b a) (leb→le b a) (nleb→lt b a)
     go true p q = absurd (not-le-of-lt h (pow-mono (p tt)))
     go false p q = q tt
 
-shifted-exact : (f : Format) (m : ℕ) (e : ℤ) (j : ℕ) → m < 2 ^ prec f → down e ≤ 2 ^ low f → m * up e * 2 ^ j < 2 ^ suc (emax f) * down e → Exact f (m * up e * 2 ^ j) (down e)
+shifted-exact : (f : Format) (m : ℕ) (e : ℤ) (j : ℕ) → m < 2 ^ prec f → down e ≤ 2 ^ low f → m * up e * 2 ^ j < 2 ^ suc (emax f) * down e
+    → Exact f (m * up e * 2 ^ j) (down e)
 shifted-exact f m (pos k) j a b h =
     let q : m * 2 ^ k * 2 ^ j ≡ m * 2 ^ (k + j) = mul-assoc m (2 ^ k) (2 ^ j) ∙ ap (λ (z : ℕ). m * z) (sym (pow-add 2 k j)) in
     subst (λ (z : ℕ). Exact f z 1) (sym q) (whole-exact f m (k + j) a (rw (← q) (rw (mul-one (2 ^ suc (emax f))) at h)))
 shifted-exact f m (negsuc k) j a b h =
-    subst (λ (z : ℕ). Exact f (z * 2 ^ j) (2 ^ suc k)) (sym (mul-one m)) (dyadic-exact f m j (suc k) a (pow-le-back (suc k) (low f) b) (rw (mul-one m) at h))
+    subst (λ (z : ℕ). Exact f (z * 2 ^ j) (2 ^ suc k)) (sym (mul-one m))
+    (dyadic-exact f m j (suc k) a (pow-le-back (suc k) (low f) b) (rw (mul-one m) at h))
 
-pub fits-exact : (f : Format) (x : Float) (j : ℕ) → T (fits f x) → T (finite x) → num x * 2 ^ j < 2 ^ suc (emax f) * den x → Exact f (num x * 2 ^ j) (den x)
+pub fits-exact : (f : Format) (x : Float) (j : ℕ) → T (fits f x) → T (finite x) → num x * 2 ^ j < 2 ^ suc (emax f) * den x
+    → Exact f (num x * 2 ^ j) (den x)
 unfolding fits
 fits-exact f nan j t i h = absurd i
 fits-exact f (inf s) j t i h = absurd i
 fits-exact f (fin s zero (pos k)) j t i h = shifted-exact f 0 (pos k) j (pow-pos (prec f)) (pow-pos (low f)) h
-fits-exact f (fin s zero (negsuc k)) j t i h = absurd (let z = zero-lt-suc k in let a = pow-lt z in let b = eqb→eq (1 * 2 ^ suc k) 1 t in let c = one-mul (2 ^ suc k) in let n : ⊥ = omega arith in n)
+fits-exact f (fin s zero (negsuc k)) j t i h = absurd
+    (let z = zero-lt-suc k in let a = pow-lt z in let b = eqb→eq (1 * 2 ^ suc k) 1 t in let c = one-mul (2 ^ suc k) in let n :
+    ⊥ = omega arith in n)
 fits-exact f (fin s (suc m) e) j t i h =
     let a : Bool = eqb (suc m % 2) 1 in
     let b : Bool = ltb (suc m) (2 ^ prec f) in
     let c : Bool = leb (down e) (2 ^ low f) in
     let d : Bool = ltb (suc m * up e) (2 ^ suc (emax f) * down e) in
-    shifted-exact f (suc m) e j (ltb→lt (suc m) (2 ^ prec f) (and-r a b (and-l (a && b) c (and-l (a && b && c) d t)))) (leb→le (down e) (2 ^ low f) (and-r (a && b) c (and-l (a && b && c) d t))) h
+    shifted-exact f (suc m) e j (ltb→lt (suc m) (2 ^ prec f) (and-r a b (and-l (a && b) c (and-l (a && b && c) d t))))
+    (leb→le (down e) (2 ^ low f) (and-r (a && b) c (and-l (a && b && c) d t))) h

@@ -4,7 +4,8 @@ use mathlib.Core.Path.{_≡_, refl, sym, ap, _∙_, subst}
 use mathlib.Core.Logic.{_⊎_, inl, inr}
 use mathlib.Core.Bool.{Bool, true, false, not, _&&_, true≢false}
 use Prim.Native.Nat.{ℕ, zero, suc, _+_, _-_, _*_, _%_, _^_, _≤_, _<_}
-use native.Mathlib.Nat.{le-trans, le-of-eq, le-of-lt, lt-of-le-of-lt, mul-one, one-mul, zero-mul, mul-comm, mul-assoc, add-mul, mul-le-mul, mul-le-mul-right, mul-pos, mul-lt-mul-of-pos-right, zero-lt-suc}
+use native.Mathlib.Nat.{le-trans, le-of-eq, le-of-lt, lt-of-le-of-lt, mul-one, one-mul, zero-mul, mul-comm, mul-assoc, add-mul, mul-le-mul}
+use native.Mathlib.Nat.{mul-le-mul-right, mul-pos, mul-lt-mul-of-pos-right, zero-lt-suc}
 use native.Mathlib.Omega.{arith}
 use lib.Dec.{T, leb, ltb, eqb, leb→le, nleb→lt, ltb→lt}
 use lib.IntN.{pos, negsuc}
@@ -25,7 +26,8 @@ use Rattle.rounding.proofs.Operations.{add-is}
 -- ---- a sum of multiples of g is 0, or g at least
 multiple : (k g c : ℕ) → c ≡ k * g → (c ≡ 0) ⊎ (g ≤ c)
 multiple zero g c e = inl (e ∙ zero-mul g)
-multiple (suc k) g c e = inr (le-trans (le-of-eq (sym (one-mul g))) (le-trans (mul-le-mul-right g (lit (suc k) (zero-lt-suc k))) (le-of-eq (sym e))))
+multiple (suc k) g c e = inr
+    (le-trans (le-of-eq (sym (one-mul g))) (le-trans (mul-le-mul-right g (lit (suc k) (zero-lt-suc k))) (le-of-eq (sym e))))
   where
     lit : (n : ℕ) → 0 < n → 1 ≤ n
     lit n h = h
@@ -44,7 +46,8 @@ sub-mul a b g c e = go (leb b a) (leb→le b a) (nleb→lt b a)
 
     go : (t : Bool) → (T t → b ≤ a) → (T (not t) → a < b) → c ≡ (a - b) * g
     go true p q = plain (b * g) (a * g) ((a - b) * g) c e (sym (add-mul (a - b) b g) ∙ ap (λ (z : ℕ). z * g) (back a b (p tt)))
-    go false p q = less (b * g) (a * g) c e (mul-le-mul-right g (le-of-lt (q tt))) ∙ sym (zero-mul g) ∙ ap (λ (z : ℕ). z * g) (sym (none a b (q tt)))
+    go false p q = less (b * g) (a * g) c e (mul-le-mul-right g (le-of-lt (q tt))) ∙ sym (zero-mul g)
+        ∙ ap (λ (z : ℕ). z * g) (sym (none a b (q tt)))
 
 gap : (a b g c : ℕ) → b * g + c ≡ a * g → (c ≡ 0) ⊎ (g ≤ c)
 gap a b g c e = multiple (a - b) g c (sub-mul a b g c e)
@@ -86,13 +89,15 @@ wide : (s : Bool) (nx : ℕ) (t : Bool) (ny : ℕ) (u : Bool) (c dx dy i j k : �
 wide s nx t ny u c dx dy i j k p q x y h = elim (either i j) [
   | inl l ↦
       (let e : dy ≡ 2 ^ (j - i) * dx = q ∙ steps i j l ∙ ap (λ (z : ℕ). 2 ^ (j - i) * z) (sym p) in
-      elim (adds-gap s (nx * 2 ^ (j - i)) t ny u c dx (subst (λ (z : ℕ). Adds s z t (ny * dx) u c) (ap (λ (z : ℕ). nx * z) e ∙ sym (mul-assoc nx (2 ^ (j - i)) dx)) h)) [
+      elim (adds-gap s (nx * 2 ^ (j - i)) t ny u c dx
+      (subst (λ (z : ℕ). Adds s z t (ny * dx) u c) (ap (λ (z : ℕ). nx * z) e ∙ sym (mul-assoc nx (2 ^ (j - i)) dx)) h)) [
         | inl z ↦ inl z
         | inr g ↦ inr (mul-le-mul g y)
       ])
   | inr l ↦
       (let e : dx ≡ 2 ^ (i - j) * dy = p ∙ steps j i l ∙ ap (λ (z : ℕ). 2 ^ (i - j) * z) (sym q) in
-      elim (adds-gap s nx t (ny * 2 ^ (i - j)) u c dy (subst (λ (z : ℕ). Adds s (nx * dy) t z u c) (ap (λ (z : ℕ). ny * z) e ∙ sym (mul-assoc ny (2 ^ (i - j)) dy)) h)) [
+      elim (adds-gap s nx t (ny * 2 ^ (i - j)) u c dy
+      (subst (λ (z : ℕ). Adds s (nx * dy) t z u c) (ap (λ (z : ℕ). ny * z) e ∙ sym (mul-assoc ny (2 ^ (i - j)) dy)) h)) [
         | inl z ↦ inl z
         | inr g ↦ inr (le-trans (le-of-eq (mul-comm dx dy)) (mul-le-mul g x))
       ])
@@ -104,10 +109,14 @@ level-of false a false b false h = and-i (eqb a b) true (let e : a ≡ b = omega
 level-of false a false b true h = and-i (eqb a b) true (let e : a ≡ b = omega arith in eq→eqb e) tt
 level-of true a true b false h = and-i (eqb a b) true (let e : a ≡ b = omega arith in eq→eqb e) tt
 level-of true a true b true h = and-i (eqb a b) true (let e : a ≡ b = omega arith in eq→eqb e) tt
-level-of false a true b false h = and-i (eqb a b) (eqb a 0) (let e : a ≡ b = omega arith in eq→eqb e) (let e : a ≡ 0 = omega arith in eq→eqb e)
-level-of false a true b true h = and-i (eqb a b) (eqb a 0) (let e : a ≡ b = omega arith in eq→eqb e) (let e : a ≡ 0 = omega arith in eq→eqb e)
-level-of true a false b false h = and-i (eqb a b) (eqb a 0) (let e : a ≡ b = omega arith in eq→eqb e) (let e : a ≡ 0 = omega arith in eq→eqb e)
-level-of true a false b true h = and-i (eqb a b) (eqb a 0) (let e : a ≡ b = omega arith in eq→eqb e) (let e : a ≡ 0 = omega arith in eq→eqb e)
+level-of false a true b false h = and-i (eqb a b) (eqb a 0) (let e : a ≡ b = omega arith in eq→eqb e)
+    (let e : a ≡ 0 = omega arith in eq→eqb e)
+level-of false a true b true h = and-i (eqb a b) (eqb a 0) (let e : a ≡ b = omega arith in eq→eqb e)
+    (let e : a ≡ 0 = omega arith in eq→eqb e)
+level-of true a false b false h = and-i (eqb a b) (eqb a 0) (let e : a ≡ b = omega arith in eq→eqb e)
+    (let e : a ≡ 0 = omega arith in eq→eqb e)
+level-of true a false b true h = and-i (eqb a b) (eqb a 0) (let e : a ≡ b = omega arith in eq→eqb e)
+    (let e : a ≡ 0 = omega arith in eq→eqb e)
 
 -- ---- the rounded difference
 pub sub-above : (x y : Float) (k : ℕ) → k ≤ 1074 → OnGrid k x → OnGrid k y → eq x y ≡ false → T (finite (x ⊖ y)) → Above k (x ⊖ y)
@@ -120,11 +129,16 @@ sub-above (fin s m e) (fin t n g) k r p q d i =
     let w = add-is binary64 (fin s m e) (fin (not t) n g) tt tt in
     let de = den-pow (fin s m e) in
     let dg = den-pow (fin t n g) in
-    elim (wide s (m * up e) (not t) (n * up g) (w .sign) (w .size) (down e) (down g) (de .0) (dg .0) k (de .1) (dg .1) (p .1) (q .1) (w .adds)) [
-      | inl z ↦ absurd (true≢false (sym (is-true (level s (m * up e * down g) t (n * up g * down e)) (level-of s (m * up e * down g) t (n * up g * down e) (w .sign) (subst (λ (c : ℕ). Adds s (m * up e * down g) (not t) (n * up g * down e) (w .sign) c) z (w .adds)))) ∙ d))
+    elim (wide s (m * up e) (not t) (n * up g) (w .sign) (w .size) (down e) (down g) (de .0) (dg .0) k (de .1) (dg .1) (p .1) (q .1)
+    (w .adds)) [
+      | inl z ↦ absurd
+          (true≢false (sym (is-true (level s (m * up e * down g) t (n * up g * down e))
+          (level-of s (m * up e * down g) t (n * up g * down e) (w .sign)
+          (subst (λ (c : ℕ). Adds s (m * up e * down g) (not t) (n * up g * down e) (w .sign) c) z (w .adds)))) ∙ d))
       | inr l ↦
           subst (λ (z : Float). AtLeast 1 (2 ^ k) z) (sym (w .is))
-          (round-least binary64 (w .sign) (w .size) (down e * down g) 1 (2 ^ k) (mul-pos (down-pos e) (down-pos g)) (pow-pos k) (small-exact binary64 k r)
+          (round-least binary64 (w .sign) (w .size) (down e * down g) 1 (2 ^ k) (mul-pos (down-pos e) (down-pos g)) (pow-pos k)
+          (small-exact binary64 k r)
           (subst (λ (z : Float). T (finite z)) (w .is) i) (rw (one-mul (down e * down g)) l))
     ]
 
@@ -137,12 +151,16 @@ unfolding fits
 grid-of-above nan s t h = absurd (h .finite)
 grid-of-above (inf u) s t h = absurd (h .finite)
 grid-of-above (fin u m (pos k)) s t h = (tt, pow-pos (52 + s))
-grid-of-above (fin u zero (negsuc k)) s t h = absurd (let a = pow-pos (suc k) in let b = h .size in let c = zero-mul (2 ^ s) in let n : ⊥ = omega arith in n)
+grid-of-above (fin u zero (negsuc k)) s t h = absurd
+    (let a = pow-pos (suc k) in let b = h .size in let c = zero-mul (2 ^ s) in let n : ⊥ = omega arith in n)
 grid-of-above (fin u (suc m) (negsuc k)) s t h =
     let a : Bool = eqb (suc m % 2) 1 in
     let b : Bool = ltb (suc m) (2 ^ 53) in
     let c : Bool = leb (2 ^ suc k) (2 ^ 1074) in
     let d : Bool = ltb (suc m * 1) (2 ^ 1024 * 2 ^ suc k) in
     let small : suc m < 2 ^ 53 = ltb→lt (suc m) (2 ^ 53) (and-r a b (and-l (a && b) c (and-l (a && b && c) d t))) in
-    let size : 2 ^ suc k ≤ suc m * 2 ^ s = rw (one-mul (2 ^ suc k)) at (rw (mul-one (suc m)) at (h .size)) in
-    (tt, pow-mono (last (suc k) s (pow-lt-back (suc k) (53 + s) (lt-of-le-of-lt size (rw (pow-add 2 53 s) (mul-lt-mul-of-pos-right small (pow-pos s)))))))
+    let size : 2 ^ suc k ≤ suc m * 2 ^ s = rw (one-mul (2 ^ suc k)) at (rw (mul-one (suc m)) at (h .size)) in (
+      tt,
+      pow-mono (last (suc k) s
+          (pow-lt-back (suc k) (53 + s) (lt-of-le-of-lt size (rw (pow-add 2 53 s) (mul-lt-mul-of-pos-right small (pow-pos s)))))),
+    )

@@ -2,7 +2,8 @@
 use mathlib.Core.Path.{_≡_, sym, ap, ap₂, _∙_}
 use mathlib.Core.Bool.{Bool, true, false, not}
 use Prim.Native.Nat.{ℕ, suc, _+_, _*_, _^_, _≤_, _<_, zero-le}
-use native.Mathlib.Nat.{le-trans, le-of-eq, mul-comm, mul-assoc, mul-left-comm, mul-right-comm, mul-le-mul, mul-le-mul-right, le-of-mul-le-mul-right, mul-pos, zero-lt-suc, div-mul-le-self}
+use native.Mathlib.Nat.{le-trans, le-of-eq, mul-comm, mul-assoc, mul-left-comm, mul-right-comm, mul-le-mul, mul-le-mul-right}
+use native.Mathlib.Nat.{le-of-mul-le-mul-right, mul-pos, zero-lt-suc, div-mul-le-self}
 use native.Mathlib.Omega.{arith}
 use lib.Dec.{T, leb, leb→le, nleb→lt, lt→ltb}
 use lib.IntN.{ℤ}
@@ -61,8 +62,10 @@ module _ (nx dx ux ny dy uy u : ℕ) (is-x : nx * u ≡ ux * dx) (is-y : ny * u 
 
 least-in-units : (ny dy uy nr dr ur u : ℕ) → 0 < u → ny * u ≡ uy * dy → ur * dr ≤ nr * u → uy ≤ ur → ny * dr ≤ nr * dy
 least-in-units ny dy uy nr dr ur u U e f h =
-    let left : ny * dr * u ≤ ur * dy * dr = le-trans (le-of-eq (mul-right-comm ny dr u ∙ ap (λ (z : ℕ). z * dr) e)) (mul-le-mul-right dr (mul-le-mul-right dy h)) in
-    let right : ur * dy * dr ≤ nr * dy * u = le-trans (le-of-eq (mul-right-comm ur dy dr)) (le-trans (mul-le-mul-right dy f) (le-of-eq (mul-right-comm nr u dy))) in
+    let left : ny * dr * u ≤ ur * dy * dr = le-trans (le-of-eq (mul-right-comm ny dr u ∙ ap (λ (z : ℕ). z * dr) e))
+    (mul-le-mul-right dr (mul-le-mul-right dy h)) in
+    let right : ur * dy * dr ≤ nr * dy * u = le-trans (le-of-eq (mul-right-comm ur dy dr))
+    (le-trans (mul-le-mul-right dy f) (le-of-eq (mul-right-comm nr u dy))) in
     le-of-mul-le-mul-right (le-trans left right) U
 
 -- every f64 is a whole number of units, and nothing is more than its own units
@@ -77,29 +80,35 @@ no-more (inf s) = zero-le
 no-more (fin s m e) = div-mul-le-self (m * up e * 2 ^ 1074) (down e)
 
 least-root : (m : ℕ) (e : ℤ) (n : ℕ) (d : ℤ) → T (fits binary64 (fin false (suc m) e)) → T (fits binary64 (fin false (suc n) d))
-    → suc n * up d * (suc n * up d) * down e ≤ suc m * up e * (down d * down d) → unitsOf (fin false (suc n) d) ≤ unitsOf (rootOf (fin false (suc m) e))
+    → suc n * up d * (suc n * up d) * down e ≤ suc m * up e * (down d * down d)
+    → unitsOf (fin false (suc n) d) ≤ unitsOf (rootOf (fin false (suc m) e))
 least-root m e n d f g h =
     let x = fin false (suc m) e in
     let y = fin false (suc n) d in
     not-below (unitsOf (rootOf x)) (unitsOf y) (radicand x)
-    (square-under (suc m * up e) (down e) (unitsOf x) (suc n * up d) (down d) (unitsOf y) (2 ^ 1074) (units-exact m e f) (units-exact n d g) (down-pos e) (down-pos d) h)
+    (square-under (suc m * up e) (down e) (unitsOf x) (suc n * up d) (down d) (unitsOf y) (2 ^ 1074) (units-exact m e f) (units-exact n d g)
+    (down-pos e) (down-pos d) h)
     (is-root x f .nearest y g .below)
 
 at-least : (m : ℕ) (e : ℤ) (n : ℕ) (d : ℤ) → T (fits binary64 (fin false (suc m) e)) → T (fits binary64 (fin false (suc n) d))
-    → suc n * up d * (suc n * up d) * down e ≤ suc m * up e * (down d * down d) → AtLeast (suc n * up d) (down d) (rootOf (fin false (suc m) e))
+    → suc n * up d * (suc n * up d) * down e ≤ suc m * up e * (down d * down d)
+    → AtLeast (suc n * up d) (down d) (rootOf (fin false (suc m) e))
 at-least m e n d f g h =
     let r = rootOf (fin false (suc m) e) in
     record {
       finite = positive-finite r (root-positive (fin false (suc m) e) (lt→ltb 0 (suc m) (zero-lt-suc m)) f);
       size =
-          least-in-units (suc n * up d) (down d) (unitsOf (fin false (suc n) d)) (num r) (den r) (unitsOf r) (2 ^ 1074) (pow-pos 1074) (units-exact n d g)
+          least-in-units (suc n * up d) (down d) (unitsOf (fin false (suc n) d)) (num r) (den r) (unitsOf r) (2 ^ 1074) (pow-pos 1074)
+          (units-exact n d g)
           (no-more r) (least-root m e n d f g h);
     }
 
-pub root-least : (x y : Float) → T (positive x) → T (fits binary64 x) → T (positive y) → T (fits binary64 y) → num y * num y * den x ≤ num x * (den y * den y) → AtLeast (num y) (den y) (rootOf x)
+pub root-least : (x y : Float) → T (positive x) → T (fits binary64 x) → T (positive y) → T (fits binary64 y)
+    → num y * num y * den x ≤ num x * (den y * den y) → AtLeast (num y) (den y) (rootOf x)
 root-least x y p f q g h =
     for-positive (λ (x : Float). T (fits binary64 x) → num y * num y * den x ≤ num x * (den y * den y) → AtLeast (num y) (den y) (rootOf x))
     (λ m e f h.
-    for-positive (λ (y : Float). T (fits binary64 y) → num y * num y * down e ≤ suc m * up e * (den y * den y) → AtLeast (num y) (den y) (rootOf (fin false (suc m) e)))
+    for-positive (λ (y : Float). T (fits binary64 y) → num y * num y * down e ≤ suc m * up e * (den y * den y)
+    → AtLeast (num y) (den y) (rootOf (fin false (suc m) e)))
     (λ n d g h. at-least m e n d f g h) y q g h)
     x p f h

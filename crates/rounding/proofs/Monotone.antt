@@ -43,21 +43,27 @@ add-mono f a b c i j k h =
     (adds-scale (minus b) (num b * dc) (minus c) (num c * db) (y .sign) (y .size) (da * dc) (y .adds)) in
     subst (λ (z : Float). T (le z (add f b c))) (sym (x .is))
     (subst (λ (z : Float). T (le (round f (x .sign) (x .size) (da * dc)) z)) (sym (y .is))
-    (round-order f (x .sign) (x .size) (da * dc) (y .sign) (y .size) (db * dc) (mul-pos (den-pos a) (den-pos c)) (mul-pos (den-pos b) (den-pos c))
-    (adds-mono (minus a) (num a * dc * (db * dc)) (minus b) (num b * dc * (da * dc)) (minus c) (num c * da * (db * dc)) (x .sign) (x .size * (db * dc)) (y .sign) (y .size * (da * dc)) o p q)))
+    (round-order f (x .sign) (x .size) (da * dc) (y .sign) (y .size) (db * dc) (mul-pos (den-pos a) (den-pos c))
+    (mul-pos (den-pos b) (den-pos c))
+    (adds-mono (minus a) (num a * dc * (db * dc)) (minus b) (num b * dc * (da * dc)) (minus c) (num c * da * (db * dc)) (x .sign)
+    (x .size * (db * dc)) (y .sign) (y .size * (da * dc)) o p q)))
 
 -- ---- the product with a factor of sign plus
-mul-plus : (f : Format) (a c : Float) → T (finite a) → T (finite c) → minus c ≡ false → mul f a c ≡ round f (minus a) (num a * num c) (den a * den c)
-mul-plus f a c i k s = mul-is f a c i k ∙ ap (λ (t : Bool). round f (unlike (minus a) t) (num a * num c) (den a * den c)) s ∙ ap (λ (t : Bool). round f t (num a * num c) (den a * den c)) (unlike-plus (minus a))
+mul-plus : (f : Format) (a c : Float) → T (finite a) → T (finite c) → minus c ≡ false
+    → mul f a c ≡ round f (minus a) (num a * num c) (den a * den c)
+mul-plus f a c i k s = mul-is f a c i k ∙ ap (λ (t : Bool). round f (unlike (minus a) t) (num a * num c) (den a * den c)) s
+    ∙ ap (λ (t : Bool). round f t (num a * num c) (den a * den c)) (unlike-plus (minus a))
 
 cross : (n d m e : ℕ) → n * d * (m * e) ≡ n * m * (d * e)
 cross n d m e = simp (mul-assoc, mul-comm, mul-left-comm)
 
-pub mul-mono : (f : Format) (a b c : Float) → T (finite a) → T (finite b) → T (finite c) → minus c ≡ false → T (le a b) → T (le (mul f a c) (mul f b c))
+pub mul-mono : (f : Format) (a b c : Float) → T (finite a) → T (finite b) → T (finite c) → minus c ≡ false → T (le a b)
+    → T (le (mul f a c) (mul f b c))
 mul-mono f a b c i j k s h =
     subst (λ (z : Float). T (le z (mul f b c))) (sym (mul-plus f a c i k s))
     (subst (λ (z : Float). T (le (round f (minus a) (num a * num c) (den a * den c)) z)) (sym (mul-plus f b c j k s))
-    (round-order f (minus a) (num a * num c) (den a * den c) (minus b) (num b * num c) (den b * den c) (mul-pos (den-pos a) (den-pos c)) (mul-pos (den-pos b) (den-pos c))
+    (round-order f (minus a) (num a * num c) (den a * den c) (minus b) (num b * num c) (den b * den c) (mul-pos (den-pos a) (den-pos c))
+    (mul-pos (den-pos b) (den-pos c))
     (subst (λ (z : ℕ). Leq (minus a) z (minus b) (num b * num c * (den a * den c))) (cross (num a) (den b) (num c) (den c))
     (subst (λ (z : ℕ). Leq (minus a) (num a * den b * (num c * den c)) (minus b) z) (cross (num b) (den a) (num c) (den c))
     (scale (minus a) (num a * den b) (minus b) (num b * den a) (num c * den c) (le→order a b i j h))))))
@@ -79,7 +85,8 @@ pub div-mono : (f : Format) (a b c : Float) → T (finite a) → T (finite b) �
 div-mono f a b c i j k h =
     subst (λ (z : Float). T (le z (div f b c))) (sym (div-plus f a c i k))
     (subst (λ (z : Float). T (le (round f (minus a) (num a * den c) (num c * den a)) z)) (sym (div-plus f b c j k))
-    (round-order f (minus a) (num a * den c) (num c * den a) (minus b) (num b * den c) (num c * den b) (mul-pos (positive-num c k) (den-pos a)) (mul-pos (positive-num c k) (den-pos b))
+    (round-order f (minus a) (num a * den c) (num c * den a) (minus b) (num b * den c) (num c * den b)
+    (mul-pos (positive-num c k) (den-pos a)) (mul-pos (positive-num c k) (den-pos b))
     (subst (λ (z : ℕ). Leq (minus a) z (minus b) (num b * den c * (num c * den a))) (turned (num a) (den b) (den c) (num c))
     (subst (λ (z : ℕ). Leq (minus a) (num a * den b * (den c * num c)) (minus b) z) (turned (num b) (den a) (den c) (num c))
     (scale (minus a) (num a * den b) (minus b) (num b * den a) (den c * num c) (le→order a b i j h))))))
@@ -90,12 +97,14 @@ div-mono f a b c i j k h =
 -- ---- 0 <= x <= y: x / y is at most 1
 no-more : (x y : Float) → T (finite x) → T (positive y) → T (le (bits 0) x) → T (le x y) → num x * den y ≤ num y * den x
 no-more x y i k z h =
-    go (minus x) (minus y) (positive-plus y k) (le→order (fin false 0 (pos 0)) x tt i (subst (λ (v : Float). T (le v x)) zero-is z)) (le→order x y i (positive-finite y k) h)
+    go (minus x) (minus y) (positive-plus y k) (le→order (fin false 0 (pos 0)) x tt i (subst (λ (v : Float). T (le v x)) zero-is z))
+    (le→order x y i (positive-finite y k) h)
   where
     gone : (n c d : ℕ) → n * 1 ≤ 0 → n * c ≤ d
     gone n c d h = let e : n ≡ 0 = omega arith in le-trans (le-of-eq (ap (λ (w : ℕ). w * c) e ∙ zero-mul c)) (omega arith)
 
-    go : (s t : Bool) → t ≡ false → Leq false (0 * den x) s (num x * 1) → Leq s (num x * den y) t (num y * den x) → num x * den y ≤ num y * den x
+    go : (s t : Bool) → t ≡ false → Leq false (0 * den x) s (num x * 1) → Leq s (num x * den y) t (num y * den x)
+        → num x * den y ≤ num y * den x
     go s true e p q = absurd (true≢false e)
     go false false e p q = (omega arith)
     go true false e p q = gone (num x) (den y) (num y * den x) (omega arith)
@@ -117,7 +126,8 @@ at-least-one x y i p h =
     (round-order binary64 false 1 1 (minus x) (num x * den y) (num y * den x) (zero-lt-suc 0) (mul-pos (positive-num y p) (den-pos x))
     (go (minus x) (minus y) (positive-plus y p) (mul-pos (positive-num y p) (den-pos x)) (le→order y x (positive-finite y p) i h))))
   where
-    go : (s t : Bool) → t ≡ false → 0 < num y * den x → Leq t (num y * den x) s (num x * den y) → Leq false (1 * (num y * den x)) s (num x * den y * 1)
+    go : (s t : Bool) → t ≡ false → 0 < num y * den x → Leq t (num y * den x) s (num x * den y)
+        → Leq false (1 * (num y * den x)) s (num x * den y * 1)
     go s true e z l = absurd (true≢false e)
     go true false e z l = absurd (plain (num y * den x) (num x * den y) z l)
       where
@@ -138,6 +148,7 @@ between-most a m b c d i h k ha hb =
     left false x y h = omega arith
     left true x y h = omega arith
 
-    go : (s : Bool) → Leq (minus a) (num a * den m) s (num m * den a) → Leq s (num m * den b) (minus b) (num b * den m) → num m * d ≤ c * den m
+    go : (s : Bool) → Leq (minus a) (num a * den m) s (num m * den a) → Leq s (num m * den b) (minus b) (num b * den m)
+        → num m * d ≤ c * den m
     go false p q = through (num m) (num b) c (den m) (den b) d (den-pos b) (right (minus b) (num m * den b) (num b * den m) q) (hb .size)
     go true p q = through (num m) (num a) c (den m) (den a) d (den-pos a) (left (minus a) (num a * den m) (num m * den a) p) (ha .size)

@@ -23,7 +23,8 @@ pub neg-least : (x : Float) (b d : ℕ) → AtLeast b d x → AtLeast b d (neg x
 neg-least x b d h = record { finite = rw (neg-finite x) (h .finite); size = rw (neg-num x, neg-den x) (h .size) }
 
 -- ---- the product
-pub mul-is : (f : Format) (x y : Float) → T (finite x) → T (finite y) → mul f x y ≡ round f (unlike (minus x) (minus y)) (num x * num y) (den x * den y)
+pub mul-is : (f : Format) (x y : Float) → T (finite x) → T (finite y)
+    → mul f x y ≡ round f (unlike (minus x) (minus y)) (num x * num y) (den x * den y)
 unfolding mul
 mul-is f nan y i j = absurd i
 mul-is f (inf s) y i j = absurd i
@@ -42,7 +43,8 @@ pub mul-least : (f : Format) (x y : Float) (b d : ℕ) → 0 < d → Exact f b d
 mul-least f x y b d D v i j k h =
     let e = mul-is f x y i j in
     subst (AtLeast b d) (sym e)
-    (round-least f (unlike (minus x) (minus y)) (num x * num y) (den x * den y) b d (mul-pos (den-pos x) (den-pos y)) D v (subst (λ (z : Float). T (finite z)) e k) h)
+    (round-least f (unlike (minus x) (minus y)) (num x * num y) (den x * den y) b d (mul-pos (den-pos x) (den-pos y)) D v
+    (subst (λ (z : Float). T (finite z)) e k) h)
 
 -- ---- the sum: ±size over c
 pub record Total (f : Format) (s : Bool) (a : ℕ) (t : Bool) (b c : ℕ) (x : Float) : Type 0 where
@@ -57,17 +59,20 @@ sum-is f false a false b c = record { sign = false; size = a + b; is = refl; add
 sum-is f true a true b c = record { sign = true; size = a + b; is = refl; adds = omega arith }
 sum-is f false a true b c = go (ltb a b) (ltb→lt a b) (nltb→le a b)
   where
-    go : (x : Bool) → (T x → a < b) → (T (not x) → b ≤ a) → Total f false a true b c (cond x (round f true (b - a) c) (round f false (a - b) c))
+    go : (x : Bool) → (T x → a < b) → (T (not x) → b ≤ a)
+        → Total f false a true b c (cond x (round f true (b - a) c) (round f false (a - b) c))
     go true p q = let h = p tt in record { sign = true; size = b - a; is = refl; adds = omega arith }
     go false p q = let h = q tt in record { sign = false; size = a - b; is = refl; adds = omega arith }
 sum-is f true a false b c = go (ltb a b) (ltb b a) (ltb→lt a b) (nltb→le a b) (nltb→le b a)
   where
-    go : (x y : Bool) → (T x → a < b) → (T (not x) → b ≤ a) → (T (not y) → a ≤ b) → Total f true a false b c (cond x (round f false (b - a) c) (round f y (a - b) c))
+    go : (x y : Bool) → (T x → a < b) → (T (not x) → b ≤ a) → (T (not y) → a ≤ b)
+        → Total f true a false b c (cond x (round f false (b - a) c) (round f y (a - b) c))
     go true y p q r = let h = p tt in record { sign = false; size = b - a; is = refl; adds = omega arith }
     go false true p q r = let h = q tt in record { sign = true; size = a - b; is = refl; adds = omega arith }
     go false false p q r = let h = q tt in let k = r tt in record { sign = false; size = a - b; is = refl; adds = omega arith }
 
-pub add-is : (f : Format) (x y : Float) → T (finite x) → T (finite y) → Total f (minus x) (num x * den y) (minus y) (num y * den x) (den x * den y) (add f x y)
+pub add-is : (f : Format) (x y : Float) → T (finite x) → T (finite y)
+    → Total f (minus x) (num x * den y) (minus y) (num y * den x) (den x * den y) (add f x y)
 unfolding add
 add-is f nan y i j = absurd i
 add-is f (inf s) y i j = absurd i
@@ -84,7 +89,8 @@ add-most f x y b d D v i j h =
     (le-trans (mul-le-mul-right d (adds-most (minus x) (num x * den y) (minus y) (num y * den x) (w .sign) (w .size) (w .adds))) h))
 
 -- ---- the quotient by what is not 0
-pub div-is : (f : Format) (x y : Float) → T (finite x) → T (finite y) → 0 < num y → div f x y ≡ round f (unlike (minus x) (minus y)) (num x * den y) (num y * den x)
+pub div-is : (f : Format) (x y : Float) → T (finite x) → T (finite y) → 0 < num y
+    → div f x y ≡ round f (unlike (minus x) (minus y)) (num x * den y) (num y * den x)
 unfolding div
 div-is f nan y i j k = absurd i
 div-is f (inf s) y i j k = absurd i
@@ -93,7 +99,8 @@ div-is f (fin s m e) (inf t) i j k = absurd j
 div-is f (fin s m e) (fin t n d) i j k = go (eqb n 0) (eqb→eq n 0)
   where
     go : (x : Bool) → (T x → n ≡ 0)
-        → cond x (cond (eqb m 0) nan (inf (unlike s t))) (round f (unlike s t) (m * up e * down d) (n * up d * down e)) ≡ round f (unlike s t) (m * up e * down d) (n * up d * down e)
+        → cond x (cond (eqb m 0) nan (inf (unlike s t))) (round f (unlike s t) (m * up e * down d) (n * up d * down e))
+        ≡ round f (unlike s t) (m * up e * down d) (n * up d * down e)
     go true z = absurd (lt-irrefl 0 (rw (z tt) at (first-pos n (up d) k)))
     go false z = refl
 

@@ -2,7 +2,8 @@
 use mathlib.Core.Path.{_≡_, sym, ap, _∙_, subst}
 use mathlib.Core.Bool.{Bool, true, false, not, _&&_, true≢false}
 use Prim.Native.Nat.{ℕ, zero, suc, _+_, _*_, _/_, _%_, _^_, _≤_, _<_, zero-le}
-use native.Mathlib.Nat.{le-trans, le-of-eq, lt-of-lt-of-le, mul-one, one-mul, zero-mul, mul-assoc, mul-right-comm, mul-le-mul, mul-le-mul-right, le-of-mul-le-mul-right, mul-mul-mul-comm, div-one, zero-lt-suc, mul-pos}
+use native.Mathlib.Nat.{le-trans, le-of-eq, lt-of-lt-of-le, mul-one, one-mul, zero-mul, mul-assoc, mul-right-comm, mul-le-mul}
+use native.Mathlib.Nat.{mul-le-mul-right, le-of-mul-le-mul-right, mul-mul-mul-comm, div-one, zero-lt-suc, mul-pos}
 use native.Mathlib.Omega.{arith}
 use lib.Dec.{T, leb, ltb, eqb, leb→le, nleb→lt, nltb→le, lt→ltb}
 use lib.IntN.{ℤ, pos}
@@ -44,7 +45,8 @@ not-above a b n h k = go (leb a b) (leb→le a b) (nleb→lt a b)
 -- a power of two is an f64
 pub power-fits : (k : ℕ) → k ≤ 1023 → T (fits binary64 (fin false 1 (pos k)))
 unfolding fits
-power-fits k h = and-i (eqb (1 % 2) 1 && ltb 1 (2 ^ 53) && leb 1 (2 ^ 1074)) (ltb (1 * 2 ^ k) (2 ^ 1024 * 1)) tt (lt→ltb (1 * 2 ^ k) (2 ^ 1024 * 1) (rw (one-mul (2 ^ k)) (lt-of-lt-of-le (pow-lt (room k h)) (le-of-eq (sym (mul-one (2 ^ 1024)))))))
+power-fits k h = and-i (eqb (1 % 2) 1 && ltb 1 (2 ^ 53) && leb 1 (2 ^ 1074)) (ltb (1 * 2 ^ k) (2 ^ 1024 * 1)) tt
+    (lt→ltb (1 * 2 ^ k) (2 ^ 1024 * 1) (rw (one-mul (2 ^ k)) (lt-of-lt-of-le (pow-lt (room k h)) (le-of-eq (sym (mul-one (2 ^ 1024)))))))
   where
     room : (k : ℕ) → k ≤ 1023 → k < 1024
     room k h = omega arith
@@ -52,9 +54,12 @@ power-fits k h = and-i (eqb (1 % 2) 1 && ltb 1 (2 ^ 53) && leb 1 (2 ^ 1074)) (lt
 -- in units of 1 / u
 units-most : (n d k u : ℕ) → 0 < d → n * 1 ≤ 2 ^ (k + k) * d → n * u / d * u ≤ 2 ^ k * u * (2 ^ k * u)
 units-most n d k u D h =
-    let a : n * u * 1 ≤ 2 ^ (k + k) * u * d = rw (mul-one (n * u), mul-right-comm (2 ^ (k + k)) u d) (mul-le-mul-right u (rw (mul-one n) at h)) in
-    let b : n * u / d ≤ 2 ^ (k + k) * u = le-trans (div-mono (n * u) d (2 ^ (k + k) * u) 1 D (zero-lt-suc 0) a) (le-of-eq (div-one (2 ^ (k + k) * u))) in
-    le-trans (mul-le-mul-right u b) (le-of-eq (ap (λ (z : ℕ). z * u * u) (pow-add 2 k k) ∙ mul-assoc (2 ^ k * 2 ^ k) u u ∙ mul-mul-mul-comm (2 ^ k) (2 ^ k) u u))
+    let a : n * u * 1 ≤ 2 ^ (k + k) * u * d = rw (mul-one (n * u), mul-right-comm (2 ^ (k + k)) u d)
+    (mul-le-mul-right u (rw (mul-one n) at h)) in
+    let b : n * u / d ≤ 2 ^ (k + k) * u = le-trans (div-mono (n * u) d (2 ^ (k + k) * u) 1 D (zero-lt-suc 0) a)
+    (le-of-eq (div-one (2 ^ (k + k) * u))) in
+    le-trans (mul-le-mul-right u b)
+    (le-of-eq (ap (λ (z : ℕ). z * u * u) (pow-add 2 k k) ∙ mul-assoc (2 ^ k * 2 ^ k) u u ∙ mul-mul-mul-comm (2 ^ k) (2 ^ k) u u))
 
 power-units : (k : ℕ) → unitsOf (fin false 1 (pos k)) ≡ 2 ^ k * 2 ^ 1074
 power-units k = div-one (1 * 2 ^ k * 2 ^ 1074) ∙ ap (λ (z : ℕ). z * 2 ^ 1074) (one-mul (2 ^ k))
@@ -64,7 +69,8 @@ unfolding rootOf
 root-value m e =
     let n = radicand (fin false (suc m) e) in
     let v = odd-val 53 false (kept n) (dropped n) 1074 in
-    subst (λ (z : ℕ). Equals (odd 53 false (kept n) (dropped n) 1074) z (2 ^ 1074)) (sym (units-are (odd 53 false (kept n) (dropped n) 1074) (kept n * 2 ^ dropped n) v)) v
+    subst (λ (z : ℕ). Equals (odd 53 false (kept n) (dropped n) 1074) z (2 ^ 1074))
+    (sym (units-are (odd 53 false (kept n) (dropped n) 1074) (kept n * 2 ^ dropped n) v)) v
 
 of-units : (r : Float) (a k : ℕ) → Equals r a (2 ^ 1074) → a ≤ 2 ^ k * 2 ^ 1074 → Below k r
 of-units nan a k v h = absurd v
@@ -76,21 +82,25 @@ of-units (fin s m e) a k v h =
     }
   where
     plain : (n d p u a : ℕ) → 0 < u → n * u ≡ a * d → a ≤ p * u → n * 1 ≤ p * d
-    plain n d p u a U e h = rw (mul-one n) (le-of-mul-le-mul-right (le-trans (le-of-eq e) (le-trans (mul-le-mul-right d h) (le-of-eq (mul-right-comm p u d)))) U)
+    plain n d p u a U e h = rw (mul-one n)
+        (le-of-mul-le-mul-right (le-trans (le-of-eq e) (le-trans (mul-le-mul-right d h) (le-of-eq (mul-right-comm p u d)))) U)
 
-root-of-plus : (m : ℕ) (e : ℤ) (k : ℕ) → k ≤ 1023 → T (fits binary64 (fin false (suc m) e)) → Below (k + k) (fin false (suc m) e) → Below k (rootOf (fin false (suc m) e))
+root-of-plus : (m : ℕ) (e : ℤ) (k : ℕ) → k ≤ 1023 → T (fits binary64 (fin false (suc m) e)) → Below (k + k) (fin false (suc m) e)
+    → Below k (rootOf (fin false (suc m) e))
 root-of-plus m e k l f h =
     let x = fin false (suc m) e in
     let r = rootOf x in
     let near = is-root x f in
     of-units r (unitsOf r) k (root-value m e)
     (not-above (unitsOf r) (2 ^ k * 2 ^ 1074) (radicand x) (units-most (suc m * up e) (down e) k (2 ^ 1074) (down-pos e) (h .size))
-    (subst (λ (z : ℕ). z < unitsOf r → (unitsOf r + z) * (unitsOf r + z) < 4 * radicand x) (power-units k) (near .nearest (fin false 1 (pos k)) (power-fits k l) .above)))
+    (subst (λ (z : ℕ). z < unitsOf r → (unitsOf r + z) * (unitsOf r + z) < 4 * radicand x) (power-units k)
+    (near .nearest (fin false 1 (pos k)) (power-fits k l) .above)))
 
 negative : (m : ℕ) (e : ℤ) → lt (fin true (suc m) e) (bits 0) ≡ false → ⊥
 unfolding lt
 negative m e h =
-    let k = nltb→le 0 (suc m * up e * 1 + 0 * 1 * down e) (is-not (ltb 0 (suc m * up e * 1 + 0 * 1 * down e)) (sym (ap (lt (fin true (suc m) e)) zero-is) ∙ h)) in
+    let k = nltb→le 0 (suc m * up e * 1 + 0 * 1 * down e)
+    (is-not (ltb 0 (suc m * up e * 1 + 0 * 1 * down e)) (sym (ap (lt (fin true (suc m) e)) zero-is) ∙ h)) in
     let p = mul-pos (zero-lt-suc m) (up-pos e) in
     let z : ⊥ = omega arith in z
   where

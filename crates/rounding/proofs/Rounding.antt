@@ -21,7 +21,8 @@ use Rattle.rounding.proofs.Exact.{Exact, exact-value, zero-exact}
 
 -- ---- sizes: x <= y or y <= x, where x has the sign plus and y is b / d
 lt-or-eq : (a b : ℕ) → T (ltb a b || (eqb a b && true)) → a ≤ b
-lt-or-eq a b t = elim (or-yes (ltb a b) (eqb a b && true) t) [ inl u ↦ le-of-lt (ltb→lt a b u) | inr u ↦ le-of-eq (eqb→eq a b (and-l (eqb a b) true u)) ]
+lt-or-eq a b t = elim (or-yes (ltb a b) (eqb a b && true) t)
+    [ inl u ↦ le-of-lt (ltb→lt a b u) | inr u ↦ le-of-eq (eqb→eq a b (and-l (eqb a b) true u)) ]
 
 most-of-value : (x y : Float) (b d : ℕ) → T (plus x) → HasValue y false b d → T (le x y) → AtMost b d x
 unfolding le
@@ -37,7 +38,8 @@ most-of-value (fin false m e) (fin true n g) b d p v h = absurd (true≢false (v
 most-of-value (fin false m e) (fin false n g) b d p v h =
     record {
       finite = tt;
-      size = through (m * up e) (n * up g) b (down e) (down g) d (down-pos g) (lt-or-eq (m * up e * down g) (n * up g * down e) h) (le-of-eq (v .1));
+      size = through (m * up e) (n * up g) b (down e) (down g) d (down-pos g) (lt-or-eq (m * up e * down g) (n * up g * down e) h)
+          (le-of-eq (v .1));
     }
 
 least-of-value : (x y : Float) (b d : ℕ) → T (plus x) → T (finite x) → HasValue y false b d → T (le y x) → AtLeast b d x
@@ -51,7 +53,8 @@ least-of-value (fin false m e) (fin true n g) b d p i v h = absurd (true≢false
 least-of-value (fin false m e) (fin false n g) b d p i v h =
     record {
       finite = tt;
-      size = through b (n * up g) (m * up e) d (down g) (down e) (down-pos g) (le-of-eq (sym (v .1))) (lt-or-eq (n * up g * down e) (m * up e * down g) h);
+      size = through b (n * up g) (m * up e) d (down g) (down e) (down-pos g) (le-of-eq (sym (v .1)))
+          (lt-or-eq (n * up g * down e) (m * up e * down g) h);
     }
 
 sign-most : (s : Bool) (x : Float) (b d : ℕ) → AtMost b d x → AtMost b d (sign s x)
@@ -72,14 +75,18 @@ sign-finite true x = neg-finite x
 -- a / c <= b / d
 pub round-most : (f : Format) (s : Bool) (a c b d : ℕ) → 0 < c → 0 < d → Exact f b d → a * d ≤ b * c → AtMost b d (round f s a c)
 round-most f s a c b d C D v h =
-    rw (round-sign f s a c) (sign-most s (round f false a c) b d (most-of-value (round f false a c) (round f false b d) b d (round-plus f a c) v (round-mono f a c b d C D h)))
+    rw (round-sign f s a c)
+    (sign-most s (round f false a c) b d
+    (most-of-value (round f false a c) (round f false b d) b d (round-plus f a c) v (round-mono f a c b d C D h)))
 
 -- a / c >= b / d
-pub round-least : (f : Format) (s : Bool) (a c b d : ℕ) → 0 < c → 0 < d → Exact f b d → T (finite (round f s a c)) → b * c ≤ a * d → AtLeast b d (round f s a c)
+pub round-least : (f : Format) (s : Bool) (a c b d : ℕ) → 0 < c → 0 < d → Exact f b d → T (finite (round f s a c)) → b * c ≤ a * d
+    → AtLeast b d (round f s a c)
 round-least f s a c b d C D v i h =
     rw (round-sign f s a c)
     (sign-least s (round f false a c) b d
-    (least-of-value (round f false a c) (round f false b d) b d (round-plus f a c) (rw (sign-finite s (round f false a c)) at (rw (round-sign f s a c) at i)) v (round-mono f b d a c D C h)))
+    (least-of-value (round f false a c) (round f false b d) b d (round-plus f a c)
+    (rw (sign-finite s (round f false a c)) at (rw (round-sign f s a c) at i)) v (round-mono f b d a c D C h)))
 
 -- ---- order, whatever the signs
 zero-factor : (a d k : ℕ) → 0 < d → a * d + k ≤ 0 → a ≡ 0
@@ -88,13 +95,15 @@ zero-factor a d k D h = elim (eq-zero-or-pos a) [ inl z ↦ z | inr p ↦ absurd
 zero-most : (f : Format) (a c : ℕ) → 0 < c → a ≡ 0 → AtMost 0 1 (round f false a c)
 zero-most f a c C e = round-most f false a c 0 1 C (zero-lt-suc 0) (zero-exact f) (rw e (le-of-eq (sym (zero-mul c))))
 
-pub round-order : (f : Format) (s : Bool) (a c : ℕ) (t : Bool) (b d : ℕ) → 0 < c → 0 < d → Leq s (a * d) t (b * c) → T (le (round f s a c) (round f t b d))
+pub round-order : (f : Format) (s : Bool) (a c : ℕ) (t : Bool) (b d : ℕ) → 0 < c → 0 < d → Leq s (a * d) t (b * c)
+    → T (le (round f s a c) (round f t b d))
 round-order f false a c false b d C D h = round-mono f a c b d C D (omega arith)
 round-order f true a c false b d C D h =
     rw (round-sign f true a c) (unfold sign in neg-le-plus (round f false a c) (round f false b d) (round-plus f a c) (round-plus f b d))
 round-order f true a c true b d C D h =
     rw (round-sign f true a c, round-sign f true b d)
-    (unfold sign in neg-le (round f false a c) (round f false b d) (round-plus f a c) (round-plus f b d) (round-mono f b d a c D C (omega arith)))
+    (unfold sign in neg-le (round f false a c) (round f false b d) (round-plus f a c) (round-plus f b d)
+    (round-mono f b d a c D C (omega arith)))
 round-order f false a c true b d C D h =
     rw (round-sign f true b d)
     (unfold sign in zeros (round f false a c) (round f false b d) (round-plus f a c) (round-plus f b d)
@@ -102,7 +111,8 @@ round-order f false a c true b d C D h =
     (zero-most f b d D (zero-factor b c (a * d) C (omega arith))))
 
 -- ---- an exact bound ±b / d stays one, from below and from above
-from-value : (x y : Float) (s : Bool) (b d : ℕ) → T (finite y) → HasValue x s b d → T (le x y) → 0 < d → Leq s (b * den y) (minus y) (num y * d)
+from-value : (x y : Float) (s : Bool) (b d : ℕ) → T (finite y) → HasValue x s b d → T (le x y) → 0 < d
+    → Leq s (b * den y) (minus y) (num y * d)
 from-value nan y s b d i v h D = absurd v
 from-value (inf t) y s b d i v h D = absurd v
 from-value (fin t m e) y s b d i v h D =
@@ -111,7 +121,8 @@ from-value (fin t m e) y s b d i v h D =
     (leq-same t (b * down e) (m * up e * d) (sym (v .1)))
     (le→order (fin t m e) y tt i h))
 
-to-value : (x y : Float) (s : Bool) (b d : ℕ) → T (finite y) → HasValue x s b d → T (le y x) → 0 < d → Leq (minus y) (num y * d) s (b * den y)
+to-value : (x y : Float) (s : Bool) (b d : ℕ) → T (finite y) → HasValue x s b d → T (le y x) → 0 < d
+    → Leq (minus y) (num y * d) s (b * den y)
 to-value nan y s b d i v h D = absurd v
 to-value (inf t) y s b d i v h D = absurd v
 to-value (fin t m e) y s b d i v h D =
@@ -120,12 +131,16 @@ to-value (fin t m e) y s b d i v h D =
     (le→order y (fin t m e) i tt h)
     (leq-same t (m * up e * d) (b * down e) (v .1)))
 
-pub round-over : (f : Format) (s : Bool) (b d : ℕ) (t : Bool) (a c : ℕ) (r : Float) → r ≡ round f t a c → T (finite r) → 0 < c → 0 < d → Exact f b d
+pub round-over : (f : Format) (s : Bool) (b d : ℕ) (t : Bool) (a c : ℕ) (r : Float) → r ≡ round f t a c → T (finite r) → 0 < c → 0 < d
+    → Exact f b d
     → Leq s (b * c) t (a * d) → Leq s (b * den r) (minus r) (num r * d)
 round-over f s b d t a c r e i C D v h =
-    from-value (round f s b d) r s b d i (exact-value f s b d v) (subst (λ (z : Float). T (le (round f s b d) z)) (sym e) (round-order f s b d t a c D C h)) D
+    from-value (round f s b d) r s b d i (exact-value f s b d v)
+    (subst (λ (z : Float). T (le (round f s b d) z)) (sym e) (round-order f s b d t a c D C h)) D
 
-pub round-under : (f : Format) (s : Bool) (b d : ℕ) (t : Bool) (a c : ℕ) (r : Float) → r ≡ round f t a c → T (finite r) → 0 < c → 0 < d → Exact f b d
+pub round-under : (f : Format) (s : Bool) (b d : ℕ) (t : Bool) (a c : ℕ) (r : Float) → r ≡ round f t a c → T (finite r) → 0 < c → 0 < d
+    → Exact f b d
     → Leq t (a * d) s (b * c) → Leq (minus r) (num r * d) s (b * den r)
 round-under f s b d t a c r e i C D v h =
-    to-value (round f s b d) r s b d i (exact-value f s b d v) (subst (λ (z : Float). T (le z (round f s b d))) (sym e) (round-order f t a c s b d C D h)) D
+    to-value (round f s b d) r s b d i (exact-value f s b d v)
+    (subst (λ (z : Float). T (le z (round f s b d))) (sym e) (round-order f t a c s b d C D h)) D

@@ -33,14 +33,25 @@ under-mul true a k = refl
 
 pub scale : (s : Bool) (a : ℕ) (t : Bool) (b k : ℕ) → Leq s a t b → Leq s (a * k) t (b * k)
 scale s a t b k h =
-    rw (over-mul s a k, under-mul t b k, over-mul t b k, under-mul s a k, ← (add-mul (over s a) (under t b) k), ← (add-mul (over t b) (under s a) k)) (mul-le-mul-right k h)
+    rw (
+      over-mul s a k,
+      under-mul t b k,
+      over-mul t b k,
+      under-mul s a k,
+      ← (add-mul (over s a) (under t b) k),
+      ←
+          (add-mul (over t b) (under s a) k),
+    ) (mul-le-mul-right k h)
 
 pub unscale : (s : Bool) (a : ℕ) (t : Bool) (b k : ℕ) → 0 < k → Leq s (a * k) t (b * k) → Leq s a t b
 unscale s a t b k K h =
     le-of-mul-le-mul-right
-    (le-trans (le-of-eq (add-mul (over s a) (under t b) k ∙ ap (λ (z : ℕ). z + under t b * k) (sym (over-mul s a k)) ∙ ap (λ (z : ℕ). over s (a * k) + z) (sym (under-mul t b k))))
+    (le-trans (le-of-eq
+    (add-mul (over s a) (under t b) k ∙ ap (λ (z : ℕ). z + under t b * k) (sym (over-mul s a k))
+    ∙ ap (λ (z : ℕ). over s (a * k) + z) (sym (under-mul t b k))))
     (le-trans h
-    (le-of-eq (sym (add-mul (over t b) (under s a) k ∙ ap (λ (z : ℕ). z + under s a * k) (sym (over-mul t b k)) ∙ ap (λ (z : ℕ). over t (b * k) + z) (sym (under-mul s a k)))))))
+    (le-of-eq (sym (add-mul (over t b) (under s a) k ∙ ap (λ (z : ℕ). z + under s a * k) (sym (over-mul t b k))
+    ∙ ap (λ (z : ℕ). over t (b * k) + z) (sym (under-mul s a k)))))))
     K
 
 pub leq-trans : (s : Bool) (a : ℕ) (t : Bool) (b : ℕ) (u : Bool) (c : ℕ) → Leq s a t b → Leq t b u c → Leq s a u c
@@ -53,13 +64,16 @@ pub leq-same : (s : Bool) (a b : ℕ) → a ≡ b → Leq s a s b
 leq-same s a b e = rw e (omega arith)
 
 -- x/dx <= y/dy <= z/dz
-pub leq-through : (sx sy sz : Bool) (x y z dx dy dz : ℕ) → 0 < dy → Leq sx (x * dy) sy (y * dx) → Leq sy (y * dz) sz (z * dy) → Leq sx (x * dz) sz (z * dx)
+pub leq-through : (sx sy sz : Bool) (x y z dx dy dz : ℕ) → 0 < dy → Leq sx (x * dy) sy (y * dx) → Leq sy (y * dz) sz (z * dy)
+    → Leq sx (x * dz) sz (z * dx)
 leq-through sx sy sz x y z dx dy dz Y h k =
     unscale sx (x * dz) sz (z * dx) dy Y
     (leq-trans sx (x * dz * dy) sy (y * dx * dz) sz (z * dx * dy)
-    (leq-trans sx (x * dz * dy) sx (x * dy * dz) sy (y * dx * dz) (leq-same sx (x * dz * dy) (x * dy * dz) (mul-right-comm x dz dy)) (scale sx (x * dy) sy (y * dx) dz h))
+    (leq-trans sx (x * dz * dy) sx (x * dy * dz) sy (y * dx * dz) (leq-same sx (x * dz * dy) (x * dy * dz) (mul-right-comm x dz dy))
+    (scale sx (x * dy) sy (y * dx) dz h))
     (leq-trans sy (y * dx * dz) sy (y * dz * dx) sz (z * dx * dy) (leq-same sy (y * dx * dz) (y * dz * dx) (mul-right-comm y dx dz))
-    (leq-trans sy (y * dz * dx) sz (z * dy * dx) sz (z * dx * dy) (scale sy (y * dz) sz (z * dy) dx k) (leq-same sz (z * dy * dx) (z * dx * dy) (mul-right-comm z dy dx)))))
+    (leq-trans sy (y * dz * dx) sz (z * dy * dx) sz (z * dx * dy) (scale sy (y * dz) sz (z * dy) dx k)
+    (leq-same sz (z * dy * dx) (z * dx * dy) (mul-right-comm z dy dx)))))
 
 -- ---- sums: ±a ± b is ±c
 abbrev pub Adds : Bool → ℕ → Bool → ℕ → Bool → ℕ → Type 0
@@ -74,8 +88,10 @@ adds-scale s a t b u c k h =
     three x y z k = sym (add-mul (x + y) z k ∙ ap (λ (w : ℕ). w + z * k) (add-mul x y k))
 
 -- a sum grows with its first part
-pub adds-mono : (s : Bool) (a : ℕ) (t : Bool) (b : ℕ) (u : Bool) (c : ℕ) (v : Bool) (x : ℕ) (w : Bool) (y : ℕ) → Leq s a t b → Adds s a u c v x → Adds t b u c w y → Leq v x w y
-adds-mono s a t b u c v x w y h p q = plain (over s a) (under s a) (over t b) (under t b) (over u c) (under u c) (over v x) (under v x) (over w y) (under w y) h p q
+pub adds-mono : (s : Bool) (a : ℕ) (t : Bool) (b : ℕ) (u : Bool) (c : ℕ) (v : Bool) (x : ℕ) (w : Bool) (y : ℕ) → Leq s a t b
+    → Adds s a u c v x → Adds t b u c w y → Leq v x w y
+adds-mono s a t b u c v x w y h p q = plain (over s a) (under s a) (over t b) (under t b) (over u c) (under u c) (over v x) (under v x)
+    (over w y) (under w y) h p q
   where
     plain : (a a' b b' c c' x x' y y' : ℕ) → a + b' ≤ b + a' → a + c + x' ≡ a' + c' + x → b + c + y' ≡ b' + c' + y → x + y' ≤ y + x'
     plain a a' b b' c c' x x' y y' h p q = omega arith
@@ -127,7 +143,8 @@ le→leq false a false b h = elim (or-yes (ltb a b) (level false a false b) h) [
   | inl l ↦ (let k = ltb→lt a b l in omega arith)
   | inr l ↦ (let k = eqb→eq a b (and-l (eqb a b) true l) in omega arith)
 ]
-le→leq false a true b h = let k = eqb→eq a b (and-l (eqb a b) (eqb a 0) h) in let l = eqb→eq a 0 (and-r (eqb a b) (eqb a 0) h) in omega arith
+le→leq false a true b h = let k = eqb→eq a b (and-l (eqb a b) (eqb a 0) h) in let l = eqb→eq a 0 (and-r (eqb a b) (eqb a 0) h) in
+    omega arith
 le→leq true a false b h = omega arith
 le→leq true a true b h = elim (or-yes (ltb b a) (level true a true b) h) [
   | inl l ↦ (let k = ltb→lt b a l in omega arith)

@@ -102,7 +102,8 @@ units-sign : (f : Format) (s : Bool) (q k : ℕ) → units f s q k ≡ sign s (u
 unfolding units
 units-sign f s q k = go (ltb (q * 2 ^ k) (2 ^ (low f + suc (emax f)))) s
   where
-    go : (b : Bool) (s : Bool) → cond b (odd (suc (prec f)) s q k (low f)) (inf s) ≡ sign s (cond b (odd (suc (prec f)) false q k (low f)) (inf false))
+    go : (b : Bool) (s : Bool)
+        → cond b (odd (suc (prec f)) s q k (low f)) (inf s) ≡ sign s (cond b (odd (suc (prec f)) false q k (low f)) (inf false))
     go true s = odd-sign (suc (prec f)) s q k (low f)
     go false true = unfold sign neg in refl
     go false false = unfold sign in refl

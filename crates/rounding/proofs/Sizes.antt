@@ -3,7 +3,9 @@ use mathlib.Core.Path.{_≡_, refl, sym, ap, _∙_, subst}
 use mathlib.Core.Logic.{_⊎_, inl, inr}
 use mathlib.Core.Bool.{Bool, true, false, not, cond, true≢false}
 use Prim.Native.Nat.{ℕ, suc, _+_, _*_, _^_, _≤_, _<_, max}
-use native.Mathlib.Nat.{le-trans, le-of-eq, lt-of-lt-of-le, mul-one, one-mul, zero-mul, mul-comm, mul-assoc, mul-left-comm, mul-right-comm, add-mul, mul-le-mul, mul-le-mul-right, mul-mul-mul-comm, mul-pos, zero-lt-suc, two-pow-succ, add-le-add, suc-mul, le-max-left, le-max-right}
+use native.Mathlib.Nat.{le-trans, le-of-eq, lt-of-lt-of-le, mul-one, one-mul, zero-mul, mul-comm, mul-assoc, mul-left-comm, mul-right-comm}
+use native.Mathlib.Nat.{add-mul, mul-le-mul, mul-le-mul-right, mul-mul-mul-comm, mul-pos, zero-lt-suc, two-pow-succ, add-le-add, suc-mul}
+use native.Mathlib.Nat.{le-max-left, le-max-right}
 use native.Mathlib.Omega.{arith}
 use lib.Dec.{T, ltb, nltb→le, lt→ltb, lit≤}
 use lib.Pow.{pow-add, pow-pos, pow-mono}
@@ -58,7 +60,8 @@ mul-below x y p q r h k =
 total : (nx ny dx dy a b : ℕ) → nx * 1 ≤ a * dx → ny * 1 ≤ b * dy → (nx * dy + ny * dx) * 1 ≤ (a + b) * (dx * dy)
 total nx ny dx dy a b h k =
     let u : nx * dy ≤ a * (dx * dy) = le-trans (mul-le-mul-right dy (rw (mul-one nx) at h)) (le-of-eq (mul-assoc a dx dy)) in
-    let w : ny * dx ≤ b * (dx * dy) = le-trans (mul-le-mul-right dx (rw (mul-one ny) at k)) (le-of-eq (mul-assoc b dy dx ∙ ap (λ (z : ℕ). b * z) (mul-comm dy dx))) in
+    let w : ny * dx ≤ b * (dx * dy) = le-trans (mul-le-mul-right dx (rw (mul-one ny) at k))
+    (le-of-eq (mul-assoc b dy dx ∙ ap (λ (z : ℕ). b * z) (mul-comm dy dx))) in
     rw (mul-one (nx * dy + ny * dx), add-mul a b (dx * dy)) (add-le-add u w)
 
 pub add-below : (x y : Float) (p : ℕ) → p < 1023 → Below p x → Below p y → Below (suc p) (x ⊕ y)
@@ -119,7 +122,8 @@ sum-step x y n p r l h k =
 
 -- ---- the product of two that are not small
 grown : (nx ny dx dy a c : ℕ) → 1 * dx ≤ nx * a → 1 * dy ≤ ny * c → 1 * (dx * dy) ≤ nx * ny * (a * c)
-grown nx ny dx dy a c h k = rw (one-mul (dx * dy)) (le-trans (mul-le-mul (rw (one-mul dx) at h) (rw (one-mul dy) at k)) (le-of-eq (mul-mul-mul-comm nx a ny c)))
+grown nx ny dx dy a c h k = rw (one-mul (dx * dy))
+    (le-trans (mul-le-mul (rw (one-mul dx) at h) (rw (one-mul dy) at k)) (le-of-eq (mul-mul-mul-comm nx a ny c)))
 
 pub mul-above : (x y : Float) (s t : ℕ) → s + t ≤ 1074 → Above s x → Above t y → T (finite (x ⊗ y)) → Above (s + t) (x ⊗ y)
 mul-above x y s t r h k i =
@@ -133,7 +137,8 @@ not-negative nan i h = absurd i
 not-negative (inf s) i h = absurd i
 not-negative (fin false m e) i h = inl refl
 not-negative (fin true m e) i h =
-    let k = nltb→le 0 (m * up e * 1 + 0 * 1 * down e) (is-not (ltb 0 (m * up e * 1 + 0 * 1 * down e)) (sym (ap (lt (fin true m e)) zero-is) ∙ h)) in
+    let k = nltb→le 0 (m * up e * 1 + 0 * 1 * down e)
+    (is-not (ltb 0 (m * up e * 1 + 0 * 1 * down e)) (sym (ap (lt (fin true m e)) zero-is) ∙ h)) in
     inr (omega arith)
   where
     is-not : (b : Bool) → b ≡ false → T (not b)
@@ -149,15 +154,20 @@ no-less true a b true c (inl e) h = absurd (true≢false e)
 no-less true a b false c (inr e) h = omega arith
 no-less true a b true c (inr e) h = omega arith
 
-pub add-above : (x y : Float) (s : ℕ) → s ≤ 1074 → minus x ≡ false → Above s x → T (finite y) → lt y (bits 0) ≡ false → T (finite (x ⊕ y)) → Above s (x ⊕ y)
+pub add-above : (x y : Float) (s : ℕ) → s ≤ 1074 → minus x ≡ false → Above s x → T (finite y) → lt y (bits 0) ≡ false → T (finite (x ⊕ y))
+    → Above s (x ⊕ y)
 add-above x y s r p h j n i =
     let w = add-is binary64 x y (h .finite) j in
-    let z : (minus y ≡ false) ⊎ (num y * den x ≡ 0) = elim (not-negative y j n) [ inl e ↦ inl e | inr e ↦ inr (ap (λ (k : ℕ). k * den x) e ∙ zero-mul (den x)) ] in
-    let l : num x * den y ≤ w .size = no-less (minus y) (num x * den y) (num y * den x) (w .sign) (w .size) z (subst (λ (b : Bool). Adds b (num x * den y) (minus y) (num y * den x) (w .sign) (w .size)) p (w .adds)) in
+    let z : (minus y ≡ false) ⊎ (num y * den x ≡ 0) = elim (not-negative y j n)
+    [ inl e ↦ inl e | inr e ↦ inr (ap (λ (k : ℕ). k * den x) e ∙ zero-mul (den x)) ] in
+    let l : num x * den y ≤ w .size = no-less (minus y) (num x * den y) (num y * den x) (w .sign) (w .size) z
+    (subst (λ (b : Bool). Adds b (num x * den y) (minus y) (num y * den x) (w .sign) (w .size)) p (w .adds)) in
     subst (λ (v : Float). AtLeast 1 (2 ^ s) v) (sym (w .is))
-    (round-least binary64 (w .sign) (w .size) (den x * den y) 1 (2 ^ s) (mul-pos (den-pos x) (den-pos y)) (pow-pos s) (small-exact binary64 s r) (subst (λ (v : Float). T (finite v)) (w .is) i)
+    (round-least binary64 (w .sign) (w .size) (den x * den y) 1 (2 ^ s) (mul-pos (den-pos x) (den-pos y)) (pow-pos s)
+    (small-exact binary64 s r) (subst (λ (v : Float). T (finite v)) (w .is) i)
     (rw (one-mul (den x * den y))
-    (le-trans (mul-le-mul-right (den y) (rw (one-mul (den x)) at (h .size))) (le-trans (le-of-eq (mul-right-comm (num x) (2 ^ s) (den y))) (mul-le-mul-right (2 ^ s) l)))))
+    (le-trans (mul-le-mul-right (den y) (rw (one-mul (den x)) at (h .size)))
+    (le-trans (le-of-eq (mul-right-comm (num x) (2 ^ s) (den y))) (mul-le-mul-right (2 ^ s) l)))))
 
 -- and of sign plus
 same-sign : (t : Bool) (a b : ℕ) (u : Bool) (c : ℕ) → 0 < a → (t ≡ false) ⊎ (b ≡ 0) → Adds false a t b u c → u ≡ false
@@ -166,11 +176,15 @@ same-sign false a b true c A z h = absurd (let v : ⊥ = omega arith in v)
 same-sign true a b true c A (inl e) h = absurd (true≢false e)
 same-sign true a b true c A (inr e) h = absurd (let v : ⊥ = omega arith in v)
 
-pub add-plus : (x y : Float) (s : ℕ) → minus x ≡ false → Above s x → T (finite y) → lt y (bits 0) ≡ false → T (finite (x ⊕ y)) → minus (x ⊕ y) ≡ false
+pub add-plus : (x y : Float) (s : ℕ) → minus x ≡ false → Above s x → T (finite y) → lt y (bits 0) ≡ false → T (finite (x ⊕ y))
+    → minus (x ⊕ y) ≡ false
 add-plus x y s p h j n i =
     let w = add-is binary64 x y (h .finite) j in
-    let z : (minus y ≡ false) ⊎ (num y * den x ≡ 0) = elim (not-negative y j n) [ inl e ↦ inl e | inr e ↦ inr (ap (λ (k : ℕ). k * den x) e ∙ zero-mul (den x)) ] in
-    let u : w .sign ≡ false = same-sign (minus y) (num x * den y) (num y * den x) (w .sign) (w .size) (mul-pos (above-num x s h) (den-pos y)) z (subst (λ (b : Bool). Adds b (num x * den y) (minus y) (num y * den x) (w .sign) (w .size)) p (w .adds)) in
+    let z : (minus y ≡ false) ⊎ (num y * den x ≡ 0) = elim (not-negative y j n)
+    [ inl e ↦ inl e | inr e ↦ inr (ap (λ (k : ℕ). k * den x) e ∙ zero-mul (den x)) ] in
+    let u : w .sign ≡ false = same-sign (minus y) (num x * den y) (num y * den x) (w .sign) (w .size)
+    (mul-pos (above-num x s h) (den-pos y)) z
+    (subst (λ (b : Bool). Adds b (num x * den y) (minus y) (num y * den x) (w .sign) (w .size)) p (w .adds)) in
     ap minus (w .is ∙ ap (λ (b : Bool). round binary64 b (w .size) (den x * den y)) u) ∙ round-minus binary64 (w .size) (den x * den y)
 
 pub positive-of : (x : Float) (s : ℕ) → minus x ≡ false → Above s x → T (positive x)

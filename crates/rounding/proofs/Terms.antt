@@ -98,8 +98,10 @@ module _ (ps qs : List ℕ) (xs ys : List Float) (h : AllBelow ps xs) (k : AllAb
       let b = getD qs i 0 in
       let g = and-l (fine ps qs t && ltb i (length qs)) (leb (a + b) 1023) f in
       div-below (value xs ys t) (at ys i) a b (leb→le (a + b) 1023 (and-r (fine ps qs t && ltb i (length qs)) (leb (a + b) 1023) f))
-      (bounded t (and-l (fine ps qs t) (ltb i (length qs)) g)) (above-at qs ys i k (ltb→lt i (length qs) (and-r (fine ps qs t) (ltb i (length qs)) g)))
+      (bounded t (and-l (fine ps qs t) (ltb i (length qs)) g))
+      (above-at qs ys i k (ltb→lt i (length qs) (and-r (fine ps qs t) (ltb i (length qs)) g)))
 
   -- for concrete lists and a concrete term the test is `tt`
   pub within : (t : Term) (p : ℕ) → T (fine ps qs t && leb (bound ps qs t) p) → Below p (value xs ys t)
-  within t p f = weaker (value xs ys t) (bound ps qs t) p (leb→le (bound ps qs t) p (and-r (fine ps qs t) (leb (bound ps qs t) p) f)) (bounded t (and-l (fine ps qs t) (leb (bound ps qs t) p) f))
+  within t p f = weaker (value xs ys t) (bound ps qs t) p (leb→le (bound ps qs t) p (and-r (fine ps qs t) (leb (bound ps qs t) p) f))
+      (bounded t (and-l (fine ps qs t) (leb (bound ps qs t) p) f))

@@ -19,7 +19,8 @@ most-of-le x (inf t) i s h = absurd i
 most-of-le x (fin true n d) i s h = absurd (true≢false s)
 most-of-le nan (fin false n d) i s h = absurd h
 most-of-le (inf t) (fin false n d) i s h = absurd h
-most-of-le (fin t m e) (fin false n d) i s h = record { finite = tt; size = (let k = le→leq false (m * up e * down d) false (n * up d * down e) h in omega arith) }
+most-of-le (fin t m e) (fin false n d) i s h = record
+    { finite = tt; size = (let k = le→leq false (m * up e * down d) false (n * up d * down e) h in omega arith) }
 
 pub least-of-le : (x c : Float) → T (finite c) → minus c ≡ false → T (finite x) → T (le c (absOf x)) → AtLeast (num c) (den c) x
 unfolding le absOf
@@ -28,4 +29,5 @@ least-of-le x (inf t) i s j h = absurd i
 least-of-le x (fin true n d) i s j h = absurd (true≢false s)
 least-of-le nan (fin false n d) i s j h = absurd j
 least-of-le (inf t) (fin false n d) i s j h = absurd j
-least-of-le (fin t m e) (fin false n d) i s j h = record { finite = tt; size = (let k = le→leq false (n * up d * down e) false (m * up e * down d) h in omega arith) }
+least-of-le (fin t m e) (fin false n d) i s j h = record
+    { finite = tt; size = (let k = le→leq false (n * up d * down e) false (m * up e * down d) h in omega arith) }

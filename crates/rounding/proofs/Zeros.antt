@@ -58,7 +58,8 @@ pub times-zero : (x : Float) → T (finite x) → minus x ≡ false → x ⊗ bi
 times-zero x i s =
     let z : T (finite (bits 0)) = subst (λ (z : Float). T (finite z)) (sym zero-is) tt in
     let n : num (bits 0) ≡ 0 = ap num zero-is in
-    let m = mul-most binary64 x (bits 0) 0 1 (zero-lt-suc 0) (zero-exact binary64) i z (rw (n, mul-zero (num x)) (plain (0 * (den x * den (bits 0))))) in
+    let m = mul-most binary64 x (bits 0) 0 1 (zero-lt-suc 0) (zero-exact binary64) i z
+    (rw (n, mul-zero (num x)) (plain (0 * (den x * den (bits 0))))) in
     only-zero (x ⊗ bits 0) (m .finite)
     (ap minus (mul-is binary64 x (bits 0) i z) ∙ rw (s, zero-is) (round-minus binary64 (num x * 0) (den x * 1)))
     (mul-fits binary64 x (bits 0))
@@ -68,7 +69,8 @@ times-zero x i s =
     plain a = omega arith
 
 pub half-minus : (x : Float) → T (finite x) → minus x ≡ false → minus (half ⊗ x) ≡ false
-half-minus x i s = ap minus (mul-is binary64 half x (half-below .finite) i) ∙ rw (s, half-sign) (round-minus binary64 (num half * num x) (den half * den x))
+half-minus x i s = ap minus (mul-is binary64 half x (half-below .finite) i)
+    ∙ rw (s, half-sign) (round-minus binary64 (num half * num x) (den half * den x))
   where
     half-sign : minus half ≡ false
     half-sign = unfold ofBits in refl
@@ -80,14 +82,17 @@ less-minus nan b i j h = absurd i
 less-minus (inf s) b i j h = absurd i
 less-minus (fin s m e) nan i j h = absurd j
 less-minus (fin s m e) (inf t) i j h = absurd j
-less-minus (fin false m e) (fin false n d) i j h = go (m * up e * down d) (n * up d * down e) (down d * down e) h (ltb (n * up d * down e) (m * up e * down d)) refl
+less-minus (fin false m e) (fin false n d) i j h = go (m * up e * down d) (n * up d * down e) (down d * down e) h
+    (ltb (n * up d * down e) (m * up e * down d)) refl
   where
-    go : (a b c : ℕ) → ltb a b ≡ true → (x : Bool) → ltb b a ≡ x → minus (cond x (round binary64 true (a - b) c) (round binary64 false (b - a) c)) ≡ false
+    go : (a b c : ℕ) → ltb a b ≡ true → (x : Bool) → ltb b a ≡ x
+        → minus (cond x (round binary64 true (a - b) c) (round binary64 false (b - a) c)) ≡ false
     go a b c h true q = absurd (let l = ltb-true a b h in let k = ltb-true b a q in let z : ⊥ = omega arith in z)
     go a b c h false q = round-minus binary64 (b - a) c
 less-minus (fin false m e) (fin true n d) i j h = no (sym h)
 less-minus (fin true m e) (fin false n d) i j h = round-minus binary64 (n * up d * down e + m * up e * down d) (down d * down e)
-less-minus (fin true m e) (fin true n d) i j h = go (m * up e * down d) (n * up d * down e) (down d * down e) (ltb (n * up d * down e) (m * up e * down d)) h
+less-minus (fin true m e) (fin true n d) i j h = go (m * up e * down d) (n * up d * down e) (down d * down e)
+    (ltb (n * up d * down e) (m * up e * down d)) h
   where
     go : (a b c : ℕ) (x : Bool) → x ≡ true → minus (cond x (round binary64 false (a - b) c) (round binary64 (ltb a b) (b - a) c)) ≡ false
     go a b c true h = round-minus binary64 (a - b) c

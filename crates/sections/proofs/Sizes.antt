@@ -1,4 +1,5 @@
--- The moments of a chord are at most 2^556, with the ends at most 2^136 and the thickness at most 2^26 (all over the scale). Assumes nothing.
+-- The moments of a chord are at most 2^556, with the ends at most 2^136 and the thickness at most 2^26 (all over the
+-- scale). Assumes nothing.
 use mathlib.Core.List.{List, [], _∷_}
 use mathlib.Core.Bool.{Bool, true, false, cond}
 use Prim.Native.Nat.{ℕ}
@@ -56,7 +57,8 @@ FourBelow p m = Below p (at m 0) × (Below p (at m 1) × (Below p (at m 2) × Be
 -- ---- the square section: operands a, b, c, t, half
 square-below : (a b c t : Float) → Below 136 a → Below 136 b → Below 137 c → Below 26 t → FourBelow 556 (squareMoments a b c t)
 square-below a b c t ha hb hc ht =
-    let up-to = within (136 ∷ 136 ∷ 137 ∷ 26 ∷ 0 ∷ []) (0 ∷ 0 ∷ []) (a ∷ b ∷ c ∷ t ∷ half ∷ []) (three ∷ twelve ∷ []) (ha, (hb, (hc, (ht, (half-below, tt))))) (three-above, (twelve-above, tt)) in (
+    let up-to = within (136 ∷ 136 ∷ 137 ∷ 26 ∷ 0 ∷ []) (0 ∷ 0 ∷ []) (a ∷ b ∷ c ∷ t ∷ half ∷ []) (three ∷ twelve ∷ [])
+    (ha, (hb, (hc, (ht, (half-below, tt))))) (three-above, (twelve-above, tt)) in (
       up-to (given 3 times given 2) 556 tt,
       (
         up-to (given 4 times given 3 times (given 1 times given 1 less given 0 times given 0)) 556 tt,
@@ -86,10 +88,12 @@ eZero = given 8 times rFourth less given 9 times given 7 times rFourth
 abbrev mZero : Term
 mZero = given 3 times given 2 less given 6 times dZero
 
-slab-below : (a b c mid r : Float) → Below 136 a → Below 136 b → Below 137 c → Below 137 mid → Below 137 r → FourBelow 556 (slabMoments a b c mid r)
+slab-below : (a b c mid r : Float) → Below 136 a → Below 136 b → Below 137 c → Below 137 mid → Below 137 r
+    → FourBelow 556 (slabMoments a b c mid r)
 slab-below a b c mid r ha hb hc hm hr =
     let up-to = within (136 ∷ 136 ∷ 137 ∷ 137 ∷ 137 ∷ 0 ∷ 1 ∷ 2 ∷ 3 ∷ 1 ∷ []) (0 ∷ 0 ∷ 0 ∷ 0 ∷ [])
-    (a ∷ b ∷ c ∷ mid ∷ r ∷ half ∷ two ∷ pi ∷ bits 0x4020000000000000 ∷ bits 0x3ff8000000000000 ∷ []) (two ∷ three ∷ twelve ∷ bits 0x4020000000000000 ∷ [])
+    (a ∷ b ∷ c ∷ mid ∷ r ∷ half ∷ two ∷ pi ∷ bits 0x4020000000000000 ∷ bits 0x3ff8000000000000 ∷ [])
+    (two ∷ three ∷ twelve ∷ bits 0x4020000000000000 ∷ [])
     (ha, (hb, (hc, (hm, (hr, (half-below, (two-below, (pi-below, (eight-below, (threeHalves-below, tt))))))))))
     (two-above, (three-above, (twelve-above, (eight-above, tt)))) in (
       up-to mZero 556 tt,
@@ -110,14 +114,18 @@ rounded-below a b c t ha hb hc ht =
     slab-below a b c (minOf t c) (half ⊗ minOf t c) ha hb hc m (mul-below half (minOf t c) 0 137 (lit≤ tt) half-below m)
 
 -- ---- the airfoils, of any four constants k at most 1: operands a, c, t, PHI, PSI, two
-naca-below : (k : List Float) (a c t : Float) → FourBelow 0 k → Below 136 a → Below 137 c → Below 26 t → FourBelow 556 (naca4Moments k a c t)
+naca-below : (k : List Float) (a c t : Float) → FourBelow 0 k → Below 136 a → Below 137 c → Below 26 t
+    → FourBelow 556 (naca4Moments k a c t)
 naca-below k a c t (h0, (h1, (h2, hs))) ha hc ht =
-    let up-to = within (136 ∷ 137 ∷ 26 ∷ 0 ∷ 0 ∷ 0 ∷ 0 ∷ 1 ∷ []) (0 ∷ []) (a ∷ c ∷ t ∷ at k 0 ∷ at k 1 ∷ at k 2 ∷ at k 3 ∷ two ∷ []) (twelve ∷ []) (ha, (hc, (ht, (h0, (h1, (h2, (hs, (two-below, tt)))))))) (twelve-above, tt) in (
+    let up-to = within (136 ∷ 137 ∷ 26 ∷ 0 ∷ 0 ∷ 0 ∷ 0 ∷ 1 ∷ []) (0 ∷ []) (a ∷ c ∷ t ∷ at k 0 ∷ at k 1 ∷ at k 2 ∷ at k 3 ∷ two ∷ [])
+    (twelve ∷ []) (ha, (hc, (ht, (h0, (h1, (h2, (hs, (two-below, tt)))))))) (twelve-above, tt) in (
       up-to (given 2 times given 1 times given 3) 556 tt,
       (
         up-to (given 2 times (given 0 times given 1 times given 3 plus given 1 times given 1 times given 4)) 556 tt,
         (
-          up-to (given 2 times (given 0 times given 0 times given 1 times given 3 plus given 7 times given 0 times given 1 times given 1 times given 4 plus given 1 times (given 1 times given 1) times given 5)) 556 tt,
+          up-to (given 2 times
+              (given 0 times given 0 times given 1 times given 3 plus given 7 times given 0 times given 1 times given 1 times given 4 plus
+              given 1 times (given 1 times given 1) times given 5)) 556 tt,
           up-to (given 2 times (given 2 times given 2) times given 1 times given 6 over 0) 556 tt,
         ),
       ),
@@ -126,14 +134,21 @@ naca-below k a c t (h0, (h1, (h2, hs))) ha hc ht =
 -- ---- the constants of either tail
 closed-below : FourBelow 0 (airfoilConstants closedTail)
 unfolding airfoilConstants round size units odd trailingZeros span climb
-closed-below = (record { finite = tt; size = lit≤ tt }, (record { finite = tt; size = lit≤ tt }, (record { finite = tt; size = lit≤ tt }, record { finite = tt; size = lit≤ tt })))
+closed-below = (
+  record { finite = tt; size = lit≤ tt },
+  (record { finite = tt; size = lit≤ tt }, (record { finite = tt; size = lit≤ tt }, record { finite = tt; size = lit≤ tt })),
+)
 
 open-below : FourBelow 0 (airfoilConstants openTail)
 unfolding airfoilConstants round size units odd trailingZeros span climb
-open-below = (record { finite = tt; size = lit≤ tt }, (record { finite = tt; size = lit≤ tt }, (record { finite = tt; size = lit≤ tt }, record { finite = tt; size = lit≤ tt })))
+open-below = (
+  record { finite = tt; size = lit≤ tt },
+  (record { finite = tt; size = lit≤ tt }, (record { finite = tt; size = lit≤ tt }, record { finite = tt; size = lit≤ tt })),
+)
 
 -- ---- any section
-pub chord-moments-below : (section : Section) (a b t : Float) → Below 136 a → Below 136 b → Below 26 t → FourBelow 556 (chordMoments section a b t)
+pub chord-moments-below : (section : Section) (a b t : Float) → Below 136 a → Below 136 b → Below 26 t
+    → FourBelow 556 (chordMoments section a b t)
 unfolding chordMoments
 chord-moments-below section a b t ha hb ht = either (le (b ⊖ a) (bits 0)) (sectionMoments section a b (b ⊖ a) t) (of section)
   where

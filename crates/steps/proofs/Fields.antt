@@ -1,9 +1,11 @@
--- What a bit pattern's fields say of a length's magnitude: from 2^-20 to 64 m it is 2^1054 to 2^1080 units, so the exponent field is 1003 to 1029, and a
+-- What a bit pattern's fields say of a length's magnitude: from 2^-20 to 64 m it is 2^1054 to 2^1080 units, so the
+-- exponent field is 1003 to 1029, and a
 -- step is 2^(1055 - field) units of the last of its 53 binary digits. Assumes nothing.
 use mathlib.Core.Path.{_≡_, refl, sym, ap, subst, _∙_}
 use mathlib.Core.Bool.{Bool, true, false, _&&_}
 use Prim.Native.Nat.{ℕ, zero, suc, _+_, _-_, _*_, _/_, _%_, _^_, _≤_, _<_}
-use native.Mathlib.Nat.{le-trans, le-of-eq, lt-of-le-of-lt, lt-of-lt-of-le, lt-of-not-le, not-le-of-lt, mul-assoc, mul-le-mul-left, mul-le-mul-right, le-of-mul-le-mul-right, le-div-iff-mul-le, div-le-of-le-mul, mod-eq-of-lt, mod-lt}
+use native.Mathlib.Nat.{le-trans, le-of-eq, lt-of-le-of-lt, lt-of-lt-of-le, lt-of-not-le, not-le-of-lt, mul-assoc, mul-le-mul-left}
+use native.Mathlib.Nat.{mul-le-mul-right, le-of-mul-le-mul-right, le-div-iff-mul-le, div-le-of-le-mul, mod-eq-of-lt, mod-lt}
 use native.Mathlib.Omega.{arith}
 use lib.Dec.{T}
 use lib.Pow.{pow-add, pow-pos, pow-mono, pow-lt, shl-lt}
@@ -61,7 +63,8 @@ module _ (b : ℕ) (h : T (isWithin shortest longest (bits b))) where
 
   not-subnormal : field b ≡ 0 → ⊥
   not-subnormal z =
-      let g = exponent-lt 1054 52 (unitsOf (bits b)) (at-least (bits b) h) (lt-of-le-of-lt (le-of-eq (subnormal-units b z)) (let y : fraction b * 2 ^ 0 < 2 ^ 52 = omega (arith, few) in y)) in
+      let g = exponent-lt 1054 52 (unitsOf (bits b)) (at-least (bits b) h)
+      (lt-of-le-of-lt (le-of-eq (subnormal-units b z)) (let y : fraction b * 2 ^ 0 < 2 ^ 52 = omega (arith, few) in y)) in
       omega arith
 
   units : unitsOf (bits b) ≡ (2 ^ 52 + fraction b) * 2 ^ (field b - 1)
@@ -70,14 +73,16 @@ module _ (b : ℕ) (h : T (isWithin shortest longest (bits b))) where
   pub field-low : 1003 ≤ field b
   field-low =
       let f = field b - 1 in
-      let g = exponent-lt 1054 (53 + f) (unitsOf (bits b)) (at-least (bits b) h) (lt-of-le-of-lt (le-of-eq units) (shl-lt 53 f (let y : 2 ^ 52 + fraction b < 2 ^ 53 = omega (arith, few) in y))) in
+      let g = exponent-lt 1054 (53 + f) (unitsOf (bits b)) (at-least (bits b) h)
+      (lt-of-le-of-lt (le-of-eq units) (shl-lt 53 f (let y : 2 ^ 52 + fraction b < 2 ^ 53 = omega (arith, few) in y))) in
       omega arith
 
   pub field-high : field b ≤ 1029
   field-high =
       let f = field b - 1 in
       let g = exponent-lt (52 + f) 1081 (unitsOf (bits b))
-      (le-trans (le-of-eq (pow-add 2 52 f)) (le-trans (mul-le-mul-right (2 ^ f) (let y : 2 ^ 52 ≤ 2 ^ 52 + fraction b = omega arith in y)) (le-of-eq (sym units))))
+      (le-trans (le-of-eq (pow-add 2 52 f))
+      (le-trans (mul-le-mul-right (2 ^ f) (let y : 2 ^ 52 ≤ 2 ^ 52 + fraction b = omega arith in y)) (le-of-eq (sym units))))
       (lt-of-le-of-lt (at-most (bits b) h) (pow-lt (let y : 1080 < 1081 = omega arith in y))) in
       omega arith
 
@@ -92,8 +97,15 @@ module _ (b : ℕ) (h : T (isWithin shortest longest (bits b))) where
       let f = field b - 1 in
       let k = 1055 - field b in
       let e : f + k ≡ 1054 = omega (arith, field-low, field-high) in
-      let is : unitsOf (bits b) * 2 ^ k ≡ (2 ^ 52 + fraction b) * 2 ^ 1054 = ap (λ (n : ℕ). n * 2 ^ k) units ∙ mul-assoc (2 ^ 52 + fraction b) (2 ^ f) (2 ^ k) ∙ ap (λ (n : ℕ). (2 ^ 52 + fraction b) * n) (sym (pow-add 2 f k) ∙ ap (λ (n : ℕ). 2 ^ n) e) in
-      record { some = pow-pos k; is = is; most = most (2 ^ 1054) (unitsOf (bits b)) (2 ^ 52 + fraction b) (2 ^ k) (pow-pos 1054) is (at-most (bits b) h) }
+      let is : unitsOf (bits b) * 2 ^ k ≡ (2 ^ 52 + fraction b) * 2 ^ 1054 = ap (λ (n : ℕ). n * 2 ^ k) units
+      ∙ mul-assoc (2 ^ 52 + fraction b) (2 ^ f) (2 ^ k)
+      ∙ ap (λ (n : ℕ). (2 ^ 52 + fraction b) * n) (sym (pow-add 2 f k) ∙ ap (λ (n : ℕ). 2 ^ n) e) in
+      record {
+        some = pow-pos k;
+        is = is;
+        most = most (2 ^ 1054) (unitsOf (bits b)) (2 ^ 52 + fraction b) (2 ^ k) (pow-pos 1054) is
+            (at-most (bits b) h);
+      }
     where
       most : (u n d s : ℕ) → 0 < u → n * s ≡ d * u → n ≤ 2 ^ 26 * u → d ≤ 2 ^ 26 * s
       most u n d s p e h = le-of-mul-le-mul-right {k = u} (omega (arith, e, mul-le-mul-right s h)) p

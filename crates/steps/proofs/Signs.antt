@@ -33,7 +33,8 @@ remainders a b c d q r r′ e f g =
 whole-same : (a b c d : ℕ) → 0 < b → 0 < d → a * d ≡ c * b → eqb (a % b) 0 ≡ eqb (c % d) 0
 whole-same a b c d p q e =
     zero-same (a % b) d (c % d) b q p
-    (remainders a b c d (a / b) (a % b) (c % d) (div-add-mod' a b) (ap (λ (n : ℕ). n * d + c % d) (div-same a b c d p q e) ∙ div-add-mod' c d) e)
+    (remainders a b c d (a / b) (a % b) (c % d) (div-add-mod' a b)
+    (ap (λ (n : ℕ). n * d + c % d) (div-same a b c d p q e) ∙ div-add-mod' c d) e)
 
 pub abs-neg : (n : ℕ) → natAbs (negℤ (pos n)) ≡ n
 abs-neg zero = refl
@@ -102,7 +103,8 @@ unfolding stepsOf lt ofBits
 from-zero nan h = refl
 from-zero (inf s) h = refl
 from-zero (fin true m e) h =
-    let z : m * up e ≡ 0 = let a = m * up e * 1 in let k = ltb-false 0 (a + 0 * down e) h in no-units (m * up e) (down e) (omega (arith, k)) in
+    let z : m * up e ≡ 0 = let a = m * up e * 1 in let k = ltb-false 0 (a + 0 * down e) h in
+    no-units (m * up e) (down e) (omega (arith, k)) in
     let u : unitsOf (fin true m e) ≡ 0 = ap (λ (n : ℕ). n * 2 ^ 1074 / down e) z ∙ zero-div (down e) in
     subst (λ (n : ℕ). stepsOf (negℤ (pos n)) ≡ pos (n / 2 ^ 1054)) (sym u) refl
 from-zero (fin false m e) h = refl

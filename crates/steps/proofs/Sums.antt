@@ -1,4 +1,5 @@
--- Whole numbers of steps: a sum of two is one, with the sum of their counts; and where a sum and one part of it are, so is the other part. Each is its
+-- Whole numbers of steps: a sum of two is one, with the sum of their counts; and where a sum and one part of it are, so
+-- is the other part. Each is its
 -- count times the units of a step. Assumes nothing.
 use mathlib.Core.Path.{_≡_, refl, sym, ap, subst, _∙_}
 use mathlib.Core.Bool.{Bool, true, false}
@@ -7,7 +8,8 @@ use native.Mathlib.Nat.{mul-mod-left, mul-div-cancel, div-add-mod', zero-mul, ze
 use native.Mathlib.Omega.{arith}
 use borrow.Author.Tests.{eqb-true, eq-eqb}
 use lib.Dec.{eqb}
-use lib.IntN.{ℤ, pos, negsuc, negℤ, natAbs, sucℤ, predℤ, _+ℤ_, _-ℤ_, _*ℤ_, +ℤ-assoc, +ℤ-comm, +ℤ-idl, +ℤ-invr, zero-*ℤ, sucℤ-+ℤ, predℤ-+ℤ, sucℤ-*ℤ, predℤ-*ℤ, negℤ-negℤ}
+use lib.IntN.{ℤ, pos, negsuc, negℤ, natAbs, sucℤ, predℤ, _+ℤ_, _-ℤ_, _*ℤ_, +ℤ-assoc, +ℤ-comm, +ℤ-idl, +ℤ-invr, zero-*ℤ, sucℤ-+ℤ, predℤ-+ℤ}
+use lib.IntN.{sucℤ-*ℤ, predℤ-*ℤ, negℤ-negℤ}
 use lib.Pow.{pow-pos}
 use lib.Signed.{quotZ}
 use Rattle.steps.specs.Steps.{isWhole, stepsOf}
@@ -81,7 +83,8 @@ step = 2 ^ 1054
 
 is-whole : (q : ℤ) → isWhole (q *ℤ pos step) ≡ true
 unfolding isWhole
-is-whole q = eq-eqb (natAbs (q *ℤ pos step) % step) 0 (ap (λ (n : ℕ). n % step) (abs-times step (pow-pos 1054) q) ∙ mul-mod-left (natAbs q) step)
+is-whole q = eq-eqb (natAbs (q *ℤ pos step) % step) 0
+    (ap (λ (n : ℕ). n % step) (abs-times step (pow-pos 1054) q) ∙ mul-mod-left (natAbs q) step)
 
 count-is : (q : ℤ) → stepsOf (q *ℤ pos step) ≡ q
 unfolding stepsOf
@@ -93,7 +96,8 @@ by-steps u h = back step (pow-pos 1054) u (eqb-true (natAbs u % step) 0 h)
 
 module _ (u v : ℤ) (whole-u : isWhole u ≡ true) (whole-v : isWhole v ≡ true) where
   sum : u +ℤ v ≡ (stepsOf u +ℤ stepsOf v) *ℤ pos step
-  sum = ap (λ (z : ℤ). z +ℤ v) (by-steps u whole-u) ∙ ap (λ (z : ℤ). stepsOf u *ℤ pos step +ℤ z) (by-steps v whole-v) ∙ sym (distributes (stepsOf v) (pos step) (stepsOf u))
+  sum = ap (λ (z : ℤ). z +ℤ v) (by-steps u whole-u) ∙ ap (λ (z : ℤ). stepsOf u *ℤ pos step +ℤ z) (by-steps v whole-v)
+      ∙ sym (distributes (stepsOf v) (pos step) (stepsOf u))
 
   whole-sum : isWhole (u +ℤ v) ≡ true
   whole-sum = ap isWhole sum ∙ is-whole (stepsOf u +ℤ stepsOf v)
@@ -102,7 +106,8 @@ module _ (u v : ℤ) (whole-u : isWhole u ≡ true) (whole-v : isWhole v ≡ tru
   steps-of-sum = ap stepsOf sum ∙ count-is (stepsOf u +ℤ stepsOf v)
 
 whole-negative : (u : ℤ) → isWhole u ≡ true → isWhole (negℤ u) ≡ true
-whole-negative u h = ap (λ (z : ℤ). isWhole (negℤ z)) (by-steps u h) ∙ ap isWhole (sym (negative (stepsOf u) step)) ∙ is-whole (negℤ (stepsOf u))
+whole-negative u h = ap (λ (z : ℤ). isWhole (negℤ z)) (by-steps u h) ∙ ap isWhole (sym (negative (stepsOf u) step))
+    ∙ is-whole (negℤ (stepsOf u))
 
 -- "25 is asked of the exact sum": where one part is whole, the sum is whole exactly where the other part is
 pub whole-part : (u v : ℤ) → isWhole u ≡ true → isWhole (u +ℤ v) ≡ isWhole v

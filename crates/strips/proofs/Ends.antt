@@ -29,7 +29,8 @@ rest : (x : Float) (l : List Float) → Rising (x ∷ l) → Rising l
 unfolding Rising
 rest x l r = r .1
 
-module _ (w : ℕ) (f : Float → List Float) (limit : ℕ) (scale : Float) (p s : ℕ) (room : p + s ≤ 1023) (a : Above s scale) (c : T (positive scale)) where
+module _ (w : ℕ) (f : Float → List Float) (limit : ℕ) (scale : Float) (p s : ℕ) (room : p + s ≤ 1023) (a : Above s scale)
+    (c : T (positive scale)) where
   strip-ends : (h k : Float) → Below p h → Below p k → T (le h k) → InOrder (p + s) (h ⊘ scale) (k ⊘ scale)
   strip-ends h k x y l =
       record {
@@ -41,19 +42,22 @@ module _ (w : ℕ) (f : Float → List Float) (limit : ℕ) (scale : Float) (p s
       }
 
   -- what holds of a strip whose ends are so holds of every strip worked
-  pub each-in-order : (P : Worked → Type 0) → ((lower upper : Float) → InOrder (p + s) lower upper → P (stripOf w f limit lower upper)) → (heights : List Float)
+  pub each-in-order : (P : Worked → Type 0) → ((lower upper : Float) → InOrder (p + s) lower upper → P (stripOf w f limit lower upper))
+      → (heights : List Float)
       → EachHeight (Below p) heights → Rising heights → Each P (workedOf w f limit scale heights)
   unfolding workedOf
   each-in-order P holds [] b r = tt
   each-in-order P holds (h ∷ []) b r = tt
   each-in-order P holds (h ∷ k ∷ heights) b r = (
     holds (h ⊘ scale) (k ⊘ scale) (strip-ends h k (b .0) (b .1 .0) (next-le h k heights r)),
-    go (isAccepted (halving w f (h ⊘ scale) (k ⊘ scale) limit .ending)) (each-in-order P holds (k ∷ heights) (b .1) (rest h (k ∷ heights) r)),
+    go (isAccepted (halving w f (h ⊘ scale) (k ⊘ scale) limit .ending))
+        (each-in-order P holds (k ∷ heights) (b .1) (rest h (k ∷ heights) r)),
   )
     where
       go : (t : Bool) → Each P (workedOf w f limit scale (k ∷ heights)) → Each P (cond t (workedOf w f limit scale (k ∷ heights)) [])
       go true e = e
       go false e = tt
 
-  pub ends-in-order : (heights : List Float) → EachHeight (Below p) heights → Rising heights → Each (λ s'. InOrder (p + s) (s' .lower) (s' .upper)) (workedOf w f limit scale heights)
+  pub ends-in-order : (heights : List Float) → EachHeight (Below p) heights → Rising heights
+      → Each (λ s'. InOrder (p + s) (s' .lower) (s' .upper)) (workedOf w f limit scale heights)
   ends-in-order heights b r = each-in-order (λ s'. InOrder (p + s) (s' .lower) (s' .upper)) (λ lower upper i. i) heights b r

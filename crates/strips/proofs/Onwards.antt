@@ -15,7 +15,8 @@ use Rattle.breaks.specs.declared.Standing.{Standing}
 use Rattle.breaks.specs.Breaks.{allHeights, placeAbove, leastAbove}
 use Rattle.breaks.proofs.Above.{span-above}
 use Rattle.strips.specs.declared.Onward.{Onward}
-use Rattle.strips.specs.Strips.{Run, Worked, stripOf, inWords, withStrip, integralIn, nextPlace, hasStrip, stripFrom, workedOn, noStrip, onwardOf, stripBetween, stepRunOf, WorksStrip}
+use Rattle.strips.specs.Strips.{Run, Worked, stripOf, inWords, withStrip, integralIn, nextPlace, hasStrip, stripFrom, workedOn}
+use Rattle.strips.specs.Strips.{noStrip, onwardOf, stripBetween, stepRunOf, WorksStrip}
 
 module _ (run : Run) (i : ℕ) (totals : Totals) where
   onward-by : {b : Bool} → hasStrip run i ≡ b → onwardOf run i totals ≡ cond b (workedOn run i totals) (noStrip i totals)

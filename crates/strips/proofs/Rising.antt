@@ -1,5 +1,7 @@
--- The pieces of every strip rise, its samples are finite, and so are the values, errors and integrals worked from them: of a run between break
--- heights of at most 2^6 that rise, over a scale of at least 2^-20, whose samples at heights of at most 2^28 are at most 2^700. Assumes nothing.
+-- The pieces of every strip rise, its samples are finite, and so are the values, errors and integrals worked from them:
+-- of a run between break
+-- heights of at most 2^6 that rise, over a scale of at least 2^-20, whose samples at heights of at most 2^28 are at
+-- most 2^700. Assumes nothing.
 use mathlib.Core.Path.{_≡_, subst}
 use mathlib.Core.List.{List, [], _∷_}
 use Prim.Native.Nat.{ℕ, suc, _+_, _*_, _^_, _≤_, _<_}
@@ -42,11 +44,15 @@ pub record SizedRun (run : Run) : Type 0 where
 -- ---- the numbers of a strip's pieces
 finite-pieces : (w : ℕ) (pieces : List Piece) → All (PieceBelow w) pieces → FinitePieces w pieces
 finite-pieces w [] a = tt
-finite-pieces w (p ∷ pieces) a =
-    ((λ k l. (is-finite (at (p .value) k) (a .0 k l .0 .finite), is-finite (at (p .error) k) (a .0 k l .1 .finite))), finite-pieces w pieces (a .1))
+finite-pieces w (p ∷ pieces) a = (
+  (λ k l. (is-finite (at (p .value) k) (a .0 k l .0 .finite), is-finite (at (p .error) k) (a .0 k l .1 .finite))),
+  finite-pieces w pieces
+      (a .1),
+)
 
 -- ---- a component's values, strip by strip
-value-most : (k : ℕ) (strips : List Worked) (sum : Float) (n : ℕ) → n + length strips < 2 ^ 53 → AtMost (n * 2 ^ 755) 1 sum → Each (λ s. Below 755 (totalOf (piecesOf s) k)) strips
+value-most : (k : ℕ) (strips : List Worked) (sum : Float) (n : ℕ) → n + length strips < 2 ^ 53 → AtMost (n * 2 ^ 755) 1 sum
+    → Each (λ s. Below 755 (totalOf (piecesOf s) k)) strips
     → AtMost ((n + length strips) * 2 ^ 755) 1 (valueFrom sum k strips)
 value-most k [] sum n r h e = subst (λ (m : ℕ). AtMost (m * 2 ^ 755) 1 sum) (same n) h
   where
@@ -54,7 +60,8 @@ value-most k [] sum n r h e = subst (λ (m : ℕ). AtMost (m * 2 ^ 755) 1 sum) (
     same n = omega arith
 value-most k (s ∷ strips) sum n r h e =
     subst (λ (m : ℕ). AtMost (m * 2 ^ 755) 1 (valueFrom (sum ⊕ totalOf (piecesOf s) k) k strips)) (moved n (length strips))
-    (value-most k strips (sum ⊕ totalOf (piecesOf s) k) (suc n) (omega arith) (sum-step sum (totalOf (piecesOf s) k) n 755 (omega arith) (lit≤ tt) h (e .0)) (e .1))
+    (value-most k strips (sum ⊕ totalOf (piecesOf s) k) (suc n) (omega arith)
+    (sum-step sum (totalOf (piecesOf s) k) n 755 (omega arith) (lit≤ tt) h (e .0)) (e .1))
   where
     moved : (n m : ℕ) → suc n + m ≡ n + suc m
     moved n m = omega arith
@@ -65,18 +72,21 @@ module _ (run : Run) (z : SizedRun run) where
 
   each : (P : Worked → Type 0) → ((lower upper : Float) → InOrder 26 lower upper → P (strip lower upper)) → Each P (stripsIn run)
   each P h =
-      each-in-order (run .width) (run .integrand) (run .limit) (run .scale) 6 20 (lit≤ tt) (z .scale-above) (z .scale-positive) P h (run .heights) (z .heights-below) (z .heights-rise)
+      each-in-order (run .width) (run .integrand) (run .limit) (run .scale) 6 20 (lit≤ tt) (z .scale-above) (z .scale-positive) P h
+      (run .heights) (z .heights-below) (z .heights-rise)
 
   ways : (lower upper : Float) → Ends (run .width) (run .integrand) lower upper (run .limit) (strip lower upper .halved)
   ways lower upper = ends-so (run .width) (run .integrand) lower upper (run .limit) (z .some)
 
   pub pieces-rise : PiecesRise (stripsIn run)
   pieces-rise =
-      each _ (λ a b i other. cover-rises 26 (lit≤ tt) a b (piecesOf (strip a b)) i (ended-reached (run .width) (run .integrand) a b (run .limit) (ways a b) other .covered))
+      each _ (λ a b i other. cover-rises 26 (lit≤ tt) a b (piecesOf (strip a b)) i
+      (ended-reached (run .width) (run .integrand) a b (run .limit) (ways a b) other .covered))
 
   pub all-finite : SamplesFinite run (stripsIn run)
   all-finite =
-      each _ (λ a b i. samples-finite (run .width) (run .integrand) (finite-at (run .width) (run .integrand) 28 700 (z .samples-below) (z .samples-wide)) a b (run .limit) i)
+      each _ (λ a b i. samples-finite (run .width) (run .integrand)
+      (finite-at (run .width) (run .integrand) 28 700 (z .samples-below) (z .samples-wide)) a b (run .limit) i)
 
   strip-below : (lower upper : Float) → InOrder 26 lower upper → All (PieceBelow (run .width)) (piecesOf (strip lower upper))
   strip-below lower upper i = pieces-below (run .width) (run .integrand) (z .samples-below) (z .samples-wide) lower upper (run .limit) i
@@ -84,14 +94,16 @@ module _ (run : Run) (z : SizedRun run) where
   totals-below : (k : ℕ) → k < run .width → Each (λ s. Below 755 (totalOf (piecesOf s) k)) (stripsIn run)
   totals-below k l =
       each _
-      (λ a b i. total-below (run .width) k l (piecesOf (strip a b)) (le-trans (few-pieces (run .width) (run .integrand) a b (run .limit) (ways a b)) (z .most)) (strip-below a b i))
+      (λ a b i. total-below (run .width) k l (piecesOf (strip a b))
+      (le-trans (few-pieces (run .width) (run .integrand) a b (run .limit) (ways a b)) (z .most)) (strip-below a b i))
 
   pub numbers-finite : NumbersFinite run (stripsIn run)
   numbers-finite =
       record {
         pieces = each _ (λ a b i. finite-pieces (run .width) (piecesOf (strip a b)) (strip-below a b i));
         integrals = λ k l. is-finite (valueFrom (bits 0) k (stripsIn run))
-            (value-most k (stripsIn run) (bits 0) 0 (le-trans (enough (length (stripsIn run)) (z .few-strips)) (lit≤ tt)) (none-most 755) (totals-below k l) .finite);
+            (value-most k (stripsIn run) (bits 0) 0 (le-trans (enough (length (stripsIn run)) (z .few-strips)) (lit≤ tt)) (none-most 755)
+            (totals-below k l) .finite);
       }
     where
       enough : (n : ℕ) → n ≤ mostStrips → suc (0 + n) ≤ mostStrips + 1

@@ -12,20 +12,29 @@ use Rattle.strips.specs.Strips.{Run, Worked, samplesOf, samplesIn}
 use Rattle.strips.specs.Claim.{Each, EqualEnds, OtherEnds, TakesNone, Report, Demand3}
 
 module _ (limit : ℕ) (few : limit ≤ mostPieces) where
-  strip-at-most : (s : Worked) → (EqualEnds s → TakesNone s) → (OtherEnds s → samplesOf s ≤ samplesFor limit) → samplesOf s ≤ samplesFor mostPieces
+  strip-at-most : (s : Worked) → (EqualEnds s → TakesNone s) → (OtherEnds s → samplesOf s ≤ samplesFor limit)
+      → samplesOf s ≤ samplesFor mostPieces
   strip-at-most s none most = look (eq (s .lower) (s .upper)) refl
     where
       look : (b : Bool) → eq (s .lower) (s .upper) ≡ b → samplesOf s ≤ samplesFor mostPieces
       look true e = rw (none e .no-sample) (omega arith)
       look false e = omega (arith, few, most e)
 
-  strips-at-most : (strips : List Worked) → Each (λ s. EqualEnds s → TakesNone s) strips → Each (λ s. OtherEnds s → samplesOf s ≤ samplesFor limit) strips →
+  strips-at-most : (strips : List Worked) → Each (λ s. EqualEnds s → TakesNone s) strips
+      → Each (λ s. OtherEnds s → samplesOf s ≤ samplesFor limit) strips →
       samplesIn strips ≤ samplesFor mostPieces * length strips
   strips-at-most [] none most = omega arith
   strips-at-most (s ∷ strips) none most = omega (arith, strip-at-most s (none .0) (most .0), strips-at-most strips (none .1) (most .1))
 
 -- what is reported of at most n strips
-pub samples-at-most : (run : Run) (strips : List Worked) (report : Report) (entry exit : List Float) (n : ℕ) → run .limit ≤ mostPieces → length strips ≤ n →
+pub samples-at-most : (run : Run) (strips : List Worked) (report : Report) (entry exit : List Float) (n : ℕ) → run .limit ≤ mostPieces
+    → length strips ≤ n →
     Demand3 run strips report entry exit → report .samples ≤ samplesFor mostPieces * n
 samples-at-most run strips report entry exit n few counted claim =
-    rw (claim .reported .samples-reported) (omega (arith, counted, strips-at-most (run .limit) few strips (claim .worked .equal-ends-take-none) (claim .worked .others-take-at-most)))
+    rw (claim .reported .samples-reported)
+    (omega (
+      arith,
+      counted,
+      strips-at-most (run .limit) few strips (claim .worked .equal-ends-take-none)
+          (claim .worked .others-take-at-most),
+    ))

@@ -19,12 +19,17 @@ module _ (l : List ℕ) (i : ℕ) (h : i < length l) where
   -- a byte that ends a word
   ends-at : (w : List ℕ) → endsWord (getD l i 0) ≡ true → tokensAfter w (drop i l) ≡ done w (mark (getD l i 0) (tokens (drop (i + 1) l)))
   unfolding tokensAfter
-  ends-at w e = ap (tokensAfter w) cons-at ∙ ap (λ (t : Bool). cond t (done w (mark (getD l i 0) (tokens (drop (i + 1) l)))) (tokensAfter (w ++ (getD l i 0 ∷ [])) (drop (i + 1) l))) e
+  ends-at w e = ap (tokensAfter w) cons-at
+      ∙ ap (λ (t : Bool). cond t (done w (mark (getD l i 0) (tokens (drop (i + 1) l))))
+      (tokensAfter (w ++ (getD l i 0 ∷ [])) (drop (i + 1) l))) e
 
   -- and one that does not
-  pub longer-at : (w : List ℕ) → endsWord (getD l i 0) ≡ false → tokensAfter w (drop i l) ≡ tokensAfter (w ++ (getD l i 0 ∷ [])) (drop (i + 1) l)
+  pub longer-at : (w : List ℕ) → endsWord (getD l i 0) ≡ false
+      → tokensAfter w (drop i l) ≡ tokensAfter (w ++ (getD l i 0 ∷ [])) (drop (i + 1) l)
   unfolding tokensAfter
-  longer-at w e = ap (tokensAfter w) cons-at ∙ ap (λ (t : Bool). cond t (done w (mark (getD l i 0) (tokens (drop (i + 1) l)))) (tokensAfter (w ++ (getD l i 0 ∷ [])) (drop (i + 1) l))) e
+  longer-at w e = ap (tokensAfter w) cons-at
+      ∙ ap (λ (t : Bool). cond t (done w (mark (getD l i 0) (tokens (drop (i + 1) l))))
+      (tokensAfter (w ++ (getD l i 0 ∷ [])) (drop (i + 1) l))) e
 
   pub space-at : getD l i 0 ≡ 32 → tokens (drop i l) ≡ tokens (drop (i + 1) l)
   space-at e = ends-at [] (ap endsWord e) ∙ ap (λ (b : ℕ). mark b (tokens (drop (i + 1) l))) e
@@ -50,7 +55,8 @@ part-longer l at i a h =
     let e : i + 1 - at ≡ suc (i - at) = omega arith in
     let g : at + (i - at) ≡ i = omega arith in
     let m : i - at < length (drop at l) = simp length-drop (omega arith) in
-    ap (λ (k : ℕ). take k (drop at l)) e ∙ take-suc (drop at l) (i - at) 0 m ∙ ap (λ (x : ℕ). take (i - at) (drop at l) ++ (x ∷ [])) (getD-drop at l (i - at) 0 ∙ ap (λ (k : ℕ). getD l k 0) g)
+    ap (λ (k : ℕ). take k (drop at l)) e ∙ take-suc (drop at l) (i - at) 0 m
+    ∙ ap (λ (x : ℕ). take (i - at) (drop at l) ++ (x ∷ [])) (getD-drop at l (i - at) 0 ∙ ap (λ (k : ℕ). getD l k 0) g)
 
 pub part-none : (l : List ℕ) (at : ℕ) → part l at at ≡ []
 part-none l at = ap (λ (k : ℕ). take k (drop at l)) (sub-self at)

@@ -50,16 +50,19 @@ module _ (x d : ℕ) where
   pub at-most : x < 1075 → d < 2 ^ 53 → nearestWhole (d * 2 ^ (x - 1)) (2 ^ 1074) ≤ 2 ^ 53
   at-most h k =
       nearest-most (d * 2 ^ (x - 1)) (2 ^ 1074) (pow-pos 1074) (2 ^ 53)
-      (lt-of-lt-of-le (shl-lt 53 (x - 1) k) (le-trans (pow-mono {i = 53 + (x - 1)} {j = 53 + 1074} (omega arith)) (le-of-eq (pow-add 2 53 1074))))
+      (lt-of-lt-of-le (shl-lt 53 (x - 1) k)
+      (le-trans (pow-mono {i = 53 + (x - 1)} {j = 53 + 1074} (omega arith)) (le-of-eq (pow-add 2 53 1074))))
 
 -- ---- m of a float from its sign and its magnitude n / d
 
-m-is : (y : Float) (s : Bool) (n d : ℕ) → 0 < d → HasValue y s n d → (ofInt binary64 (signed s (nearestWhole n d)) ≡ mOf y) × (modFour (signed s (nearestWhole n d)) ≡ quarterOf y)
+m-is : (y : Float) (s : Bool) (n d : ℕ) → 0 < d → HasValue y s n d
+    → (ofInt binary64 (signed s (nearestWhole n d)) ≡ mOf y) × (modFour (signed s (nearestWhole n d)) ≡ quarterOf y)
 unfolding mOf quarterOf
 m-is nan s n d p v = absurd v
 m-is (inf t) s n d p v = absurd v
 m-is (fin t k e) s n d p v =
-    let w : signed s (nearestWhole n d) ≡ wholeOf t k e = ap (λ (u : Bool). signed u (nearestWhole n d)) (sym (v .0)) ∙ ap (signed t) (sym (nearest-same (k * up e) (down e) n d (down-pos e) p (v .1))) in
+    let w : signed s (nearestWhole n d) ≡ wholeOf t k e = ap (λ (u : Bool). signed u (nearestWhole n d)) (sym (v .0))
+    ∙ ap (signed t) (sym (nearest-same (k * up e) (down e) n d (down-pos e) p (v .1))) in
     (ap (ofInt binary64) w, ap modFour w)
 
 zero-float : bits 0 ≡ ofInt binary64 (pos 0)
@@ -111,26 +114,31 @@ module _ (y : Float) (b : ℕ) (e : ofBits binary64 b ≡ y) where
   pub not-finite : exponentOf b ≡ 2047 → (nan ≡ mOf y) × (0 ≡ quarterOf y)
   unfolding ofBits
   not-finite h =
-      subst (λ (x : Float). (nan ≡ mOf x) × (0 ≡ quarterOf x)) (ap (λ (x : ℕ). ofFields binary64 (leb (2 ^ 63) b) x (b % 2 ^ 52)) (sym h) ∙ e) (top (leb (2 ^ 63) b) (b % 2 ^ 52))
+      subst (λ (x : Float). (nan ≡ mOf x) × (0 ≡ quarterOf x))
+      (ap (λ (x : ℕ). ofFields binary64 (leb (2 ^ 63) b) x (b % 2 ^ 52)) (sym h) ∙ e) (top (leb (2 ^ 63) b) (b % 2 ^ 52))
 
   value : exponentOf b < 2047 → HasValue y (leb (2 ^ 63) b) (unitsOf (exponentOf b) (b % 2 ^ 52)) (2 ^ 1074)
   unfolding ofBits
   value h =
-      subst (λ (x : Float). HasValue x (leb (2 ^ 63) b) (unitsOf (exponentOf b) (b % 2 ^ 52)) (2 ^ 1074)) e (units-value (leb (2 ^ 63) b) (exponentOf b) (b % 2 ^ 52) h)
+      subst (λ (x : Float). HasValue x (leb (2 ^ 63) b) (unitsOf (exponentOf b) (b % 2 ^ 52)) (2 ^ 1074)) e
+      (units-value (leb (2 ^ 63) b) (exponentOf b) (b % 2 ^ 52) h)
 
   pub below-half : exponentOf b < 1022 → (bits 0 ≡ mOf y) × (0 ≡ quarterOf y)
   below-half h =
       let s = leb (2 ^ 63) b in
       let n = unitsOf (exponentOf b) (b % 2 ^ 52) in
-      let z = zero-is s ∙ ap (signed s) (sym (nearest-none n (2 ^ 1074) (pow-pos 1074) (tiny (exponentOf b) (b % 2 ^ 52) h (omega arith)))) in
+      let z = zero-is s
+      ∙ ap (signed s) (sym (nearest-none n (2 ^ 1074) (pow-pos 1074) (tiny (exponentOf b) (b % 2 ^ 52) h (omega arith)))) in
       let m = m-is y s n (2 ^ 1074) (pow-pos 1074) (value (omega arith)) in
       (zero-float ∙ ap (ofInt binary64) z ∙ m .0, ap modFour z ∙ m .1)
 
   module _ (h : 1022 ≤ exponentOf b) (k : exponentOf b < 2047) where
     digits-value : HasValue y (leb (2 ^ 63) b) (digitsOf b * 2 ^ (exponentOf b - 1)) (2 ^ 1074)
-    digits-value = subst (λ (n : ℕ). HasValue y (leb (2 ^ 63) b) n (2 ^ 1074)) (units-is (exponentOf b) (b % 2 ^ 52) (omega arith)) (value k)
+    digits-value = subst (λ (n : ℕ). HasValue y (leb (2 ^ 63) b) n (2 ^ 1074)) (units-is (exponentOf b) (b % 2 ^ 52) (omega arith))
+        (value k)
 
-    pub from-half : (n : ℕ) → n ≡ nearestWhole (digitsOf b * 2 ^ (exponentOf b - 1)) (2 ^ 1074) → (ofInt binary64 (signed (leb (2 ^ 63) b) n) ≡ mOf y) × (modFour (signed (leb (2 ^ 63) b) n) ≡ quarterOf y)
+    pub from-half : (n : ℕ) → n ≡ nearestWhole (digitsOf b * 2 ^ (exponentOf b - 1)) (2 ^ 1074)
+        → (ofInt binary64 (signed (leb (2 ^ 63) b) n) ≡ mOf y) × (modFour (signed (leb (2 ^ 63) b) n) ≡ quarterOf y)
     from-half n w =
         let s = leb (2 ^ 63) b in
         let m = m-is y s (digitsOf b * 2 ^ (exponentOf b - 1)) (2 ^ 1074) (pow-pos 1074) digits-value in
@@ -144,7 +152,8 @@ module _ (y : Float) (b : ℕ) (e : ofBits binary64 b ≡ y) where
         let n = d * 2 ^ (x - 1075) in
         let u : d * 2 ^ (x - 1) ≡ n * 2 ^ 1074 = ap (λ (i : ℕ). d * i) (over x d l) ∙ sym (mul-assoc d (2 ^ (x - 1075)) (2 ^ 1074)) in
         let p : 0 < d = omega arith in
-        whole-is y s n (mul-pos p (pow-pos (x - 1075))) (subst (λ (v : Float). T (fits binary64 v)) e (ofBits-fits binary64 b)) (whole-value y s n (2 ^ 1074) (pow-pos 1074) (subst (λ (v : ℕ). HasValue y s v (2 ^ 1074)) u digits-value))
+        whole-is y s n (mul-pos p (pow-pos (x - 1075))) (subst (λ (v : Float). T (fits binary64 v)) e (ofBits-fits binary64 b))
+        (whole-value y s n (2 ^ 1074) (pow-pos 1074) (subst (λ (v : ℕ). HasValue y s v (2 ^ 1074)) u digits-value))
         ∙ from-half n (sym (shifted x d l)) .0
 
     pub multiple-of-four : 1077 ≤ exponentOf b → 0 ≡ quarterOf y
@@ -152,5 +161,6 @@ module _ (y : Float) (b : ℕ) (e : ofBits binary64 b ≡ y) where
         let x = exponentOf b in
         let d = digitsOf b in
         let i : x - 1075 ≡ (x - 1077) + 2 = omega arith in
-        let u : d * 2 ^ (x - 1075) ≡ d * 2 ^ (x - 1077) * 4 = ap (λ (j : ℕ). d * 2 ^ j) i ∙ ap (λ (j : ℕ). d * j) (pow-add 2 (x - 1077) 2) ∙ sym (mul-assoc d (2 ^ (x - 1077)) 4) in
+        let u : d * 2 ^ (x - 1075) ≡ d * 2 ^ (x - 1077) * 4 = ap (λ (j : ℕ). d * 2 ^ j) i ∙ ap (λ (j : ℕ). d * j) (pow-add 2 (x - 1077) 2)
+        ∙ sym (mul-assoc d (2 ^ (x - 1077)) 4) in
         of-multiple (leb (2 ^ 63) b) (d * 2 ^ (x - 1077)) ∙ from-half (d * 2 ^ (x - 1077) * 4) (sym (shifted x d (omega arith) ∙ u)) .1

@@ -25,7 +25,8 @@ held-by k (pos j) f g t =
     let u : k * 2 ^ j * 2 ^ 1074 ≡ k * 2 ^ (j + 1074) = mul-assoc k (2 ^ j) (2 ^ 1074) ∙ ap (λ (x : ℕ). k * x) (sym (pow-add 2 j 1074)) in
     let l = lt-of-le-of-lt (le-of-eq (sym u)) (shl-lt 1024 1074 (lt-of-lt-of-le g (le-of-eq (mul-one (2 ^ 1024))))) in
     rw n (round-exact binary64 t (k * 2 ^ j) 1 k (j + 1074) (zero-lt-suc 0) f l (u ∙ sym (mul-one (k * 2 ^ (j + 1074)))))
-held-by k (negsuc j) f g t = let p = pow-pos (suc j) in round-whole binary64 t (nearestWhole (k * 1) (2 ^ suc j)) (nearest-most (k * 1) (2 ^ suc j) p (2 ^ 53) (omega arith))
+held-by k (negsuc j) f g t = let p = pow-pos (suc j) in
+    round-whole binary64 t (nearestWhole (k * 1) (2 ^ suc j)) (nearest-most (k * 1) (2 ^ suc j) p (2 ^ 53) (omega arith))
 
 -- what an f64 k·2^e is below
 pub bounds : (s : Bool) (k : ℕ) (e : ℤ) → T (fits binary64 (fin s k e)) → (k < 2 ^ 53) × (k * up e < 2 ^ 1024 * down e)
@@ -35,8 +36,11 @@ bounds s (suc k) e f =
     let a = eqb (suc k % 2) 1 in
     let b = ltb (suc k) (2 ^ 53) in
     let c = leb (down e) (2 ^ 1074) in
-    let d = ltb (suc k * up e) (2 ^ 1024 * down e) in
-    (ltb→lt (suc k) (2 ^ 53) (and-r a b (and-l (a && b) c (and-l (a && b && c) d f))), ltb→lt (suc k * up e) (2 ^ 1024 * down e) (and-r (a && b && c) d f))
+    let d = ltb (suc k * up e) (2 ^ 1024 * down e) in (
+      ltb→lt (suc k) (2 ^ 53) (and-r a b (and-l (a && b) c (and-l (a && b && c) d f))),
+      ltb→lt (suc k * up e) (2 ^ 1024 * down e)
+          (and-r (a && b && c) d f),
+    )
 
 held : (s : Bool) (k : ℕ) (e : ℤ) → T (fits binary64 (fin s k e)) → Held (nearestWhole (k * up e) (down e))
 held s k e f = held-by k e (bounds s k e f .0) (bounds s k e f .1)
@@ -68,5 +72,7 @@ pub whole-is : (y : Float) (s : Bool) (n : ℕ) → 0 < n → T (fits binary64 y
 whole-is nan s n h f v = absurd v
 whole-is (inf t) s n h f v = absurd v
 whole-is (fin t k e) s n h f v =
-    let m : nearestWhole (k * up e) (down e) ≡ n = nearest-same (k * up e) (down e) n 1 (down-pos e) (zero-lt-suc 0) (v .1) ∙ (let z : (2 * n + 1) / 2 ≡ n = omega arith in z) in
-    whole-unique binary64 (fin t k e) (round binary64 s n 1) s n f (round-fits binary64 s n 1) v (subst Held m (held t k e f) s) ∙ signed-is s n h
+    let m : nearestWhole (k * up e) (down e) ≡ n = nearest-same (k * up e) (down e) n 1 (down-pos e) (zero-lt-suc 0) (v .1)
+    ∙ (let z : (2 * n + 1) / 2 ≡ n = omega arith in z) in
+    whole-unique binary64 (fin t k e) (round binary64 s n 1) s n f (round-fits binary64 s n 1) v (subst Held m (held t k e f) s)
+    ∙ signed-is s n h

@@ -2,7 +2,8 @@
 -- And what it is of the fractions that the code meets. Assumes nothing.
 use mathlib.Core.Path.{_≡_, sym, ap, subst⁻¹, _∙_}
 use Prim.Native.Nat.{ℕ, zero, suc, _+_, _-_, _*_, _/_, _≤_, _<_}
-use native.Mathlib.Nat.{le-trans, lt-of-lt-of-le, lt-irrefl, mul-pos, zero-lt-suc, mul-le-mul-right, div-mul-le-self, lt-div-mul-add, div-div-eq-div-mul, add-div-right, le-div-iff-mul-le, div-lt-iff-lt-mul}
+use native.Mathlib.Nat.{le-trans, lt-of-lt-of-le, lt-irrefl, mul-pos, zero-lt-suc, mul-le-mul-right, div-mul-le-self, lt-div-mul-add}
+use native.Mathlib.Nat.{div-div-eq-div-mul, add-div-right, le-div-iff-mul-le, div-lt-iff-lt-mul}
 use native.Mathlib.Omega.{arith}
 use lib.Ieee.Nearest.{div-same}
 use Rattle.trig.specs.Trig.{nearestWhole}
@@ -32,7 +33,8 @@ nearest-only num den M N m n = omega (arith, no-less num den M N m n, no-less nu
 
 -- equal fractions have the same nearest whole number
 pub nearest-same : (a d n c : ℕ) → 0 < d → 0 < c → a * c ≡ n * d → nearestWhole a d ≡ nearestWhole n c
-nearest-same a d n c p r e = div-same (2 * a + d) (2 * d) (2 * n + c) (2 * c) (mul-pos (zero-lt-suc 1) p) (mul-pos (zero-lt-suc 1) r) (omega arith)
+nearest-same a d n c p r e = div-same (2 * a + d) (2 * d) (2 * n + c) (2 * c) (mul-pos (zero-lt-suc 1) p) (mul-pos (zero-lt-suc 1) r)
+    (omega arith)
 
 -- where den is 2·p·u, twice the fraction is a / p: that cut, and half of one more
 pub nearest-halved : (a u p den : ℕ) → 0 < u → 0 < p → den ≡ 2 * p * u → nearestWhole (a * u) den ≡ (a / p + 1) / 2

@@ -39,7 +39,8 @@ module _ (s : Bool) (y : Float) (f : isFinite y ≡ true) where
   round-finite : (a b : ℕ) → T (le (round binary64 false a b) y) → isFinite (round binary64 s a b) ≡ true
   round-finite a b h =
       ap isFinite (round-is binary64 s a b)
-      ∙ units-finite (kept 53 (a * 2 ^ 1074) b) (drop 53 (a * 2 ^ 1074) b) (subst (λ (z : Float). T (le z y)) (round-is binary64 false a b) h)
+      ∙ units-finite (kept 53 (a * 2 ^ 1074) b) (drop 53 (a * 2 ^ 1074) b)
+      (subst (λ (z : Float). T (le z y)) (round-is binary64 false a b) h)
 
 -- ---- the largest f64, (2^53 − 1)·2^971, is above 2^1024 times the constant
 
@@ -58,4 +59,5 @@ product-finite (fin s k e) f h =
     let n : ℕ = 0x14_5f30_6dc9_c883 in
     let m : ℕ = (2 ^ 53 - 1) * 2 ^ 971 in
     round-finite (unlike s false) (round binary64 false m 1) largest-finite (k * up e * n) (down e * 2 ^ 53)
-    (round-mono binary64 (k * up e * n) (down e * 2 ^ 53) m 1 (mul-pos (down-pos e) (pow-pos 53)) (zero-lt-suc 0) (scaled (k * up e) (down e) (2 ^ 1024) n m (2 ^ 53) (bounds s k e f .1) (lit≤ tt)))
+    (round-mono binary64 (k * up e * n) (down e * 2 ^ 53) m 1 (mul-pos (down-pos e) (pow-pos 53)) (zero-lt-suc 0)
+    (scaled (k * up e) (down e) (2 ^ 1024) n m (2 ^ 53) (bounds s k e f .1) (lit≤ tt)))

@@ -1,4 +1,5 @@
--- The bound of a component whose value is 0, and a summed error that is over its bound: their quotient is above 0, or a NaN. Assumes nothing.
+-- The bound of a component whose value is 0, and a summed error that is over its bound: their quotient is above 0, or a
+-- NaN. Assumes nothing.
 use mathlib.Core.Path.{_≡_, refl, sym, _∙_, subst}
 use mathlib.Core.Bool.{Bool, true, false, cond}
 use Prim.Native.Nat.{ℕ, zero, suc, _*_}
@@ -50,7 +51,8 @@ over-up x y h o = by-bool (le y (bits 0)) (λ t. no (sym (le-through x y (bits 0
 pub over-beyond : (x y : Float) → le x y ≡ false → ne y y ≡ false → Over0 y → Over0 x
 over-beyond x y h n o =
     by-bool (le x (bits 0))
-    (λ t. no (sym (le-of-not x y (le-no-nan x (bits 0) t) (sym (ne-itself y) ∙ n) (not-lt-through (bits 0) x y zero-no-nan (le-not-below x (bits 0) t) (le-false y (bits 0) o .0))) ∙ h))
+    (λ t. no (sym (le-of-not x y (le-no-nan x (bits 0) t) (sym (ne-itself y) ∙ n)
+    (not-lt-through (bits 0) x y zero-no-nan (le-not-below x (bits 0) t) (le-false y (bits 0) o .0))) ∙ h))
     (λ t. t)
 
 pub nan-over : (x : Float) → ne x x ≡ true → Over0 x
@@ -85,7 +87,9 @@ strong-up (fin false m e) nan s h = no (sym h)
 strong-up (fin false m e) (inf true) s h = no (sym h)
 strong-up (fin false m e) (inf false) s h = refl
 strong-up (fin false m e) (fin true n d) s h = no (sym h)
-strong-up (fin false m e) (fin false zero d) s h = absurd (nothing-below (m * up e * down d) (0 * up d * down e) (subst (λ (z : ℕ). z * down e ≡ 0) (sym (zero-mul (up d))) (zero-mul (down e))) h)
+strong-up (fin false m e) (fin false zero d) s h = absurd
+    (nothing-below (m * up e * down d) (0 * up d * down e) (subst (λ (z : ℕ). z * down e ≡ 0) (sym (zero-mul (up d))) (zero-mul (down e)))
+    h)
   where
     nothing-below : (a b : ℕ) → b ≡ 0 → ltb a b ≡ true → ⊥
     nothing-below a b z h = let l = ltb-true a b h in omega arith
@@ -118,7 +122,10 @@ ratio-over (fin t m e) (inf false) s h = no (unfold le in h)
 ratio-over (fin t m e) (fin u n d) s h =
     let x = fin t m e in
     let y = fin u n d in
-    over-up one (x ⊘ y) (is-true (le one (x ⊘ y)) (at-least-one x y tt s (of-true (le y x) (le-of-not y x (unfold isNan in refl) (unfold isNan in refl) (le-false x y h .0))))) one-over
+    over-up one (x ⊘ y)
+    (is-true (le one (x ⊘ y))
+    (at-least-one x y tt s (of-true (le y x) (le-of-not y x (unfold isNan in refl) (unfold isNan in refl) (le-false x y h .0)))))
+    one-over
 
 pub error-over : (error total : Float) → le error (boundFor total) ≡ false → Over0 (error ⊘ boundFor total)
 error-over error total h = ratio-over error (boundFor total) (bound-strong total) h

@@ -41,12 +41,14 @@ map-append f (p ∷ l) r = ap (λ (t : List Piece). f p ∷ t) (map-append f l r
 abbrev Apart : Float → Float → Type 0
 Apart a b = InOrder 1000 a b × (eq a b ≡ false)
 
-apart-halves : (a b : Float) → Apart a b → (eq (halfSum a b) a || eq (halfSum a b) b) ≡ false → Apart a (halfSum a b) × Apart (halfSum a b) b
+apart-halves : (a b : Float) → Apart a b → (eq (halfSum a b) a || eq (halfSum a b) b) ≡ false
+    → Apart a (halfSum a b) × Apart (halfSum a b) b
 apart-halves a b w m =
     let e = neither (eq (halfSum a b) a) (eq (halfSum a b) b) m in
     ((left-half 1000 (lit≤ tt) a b (w .0), not-equal-sym (halfSum a b) a (e .0)), (right-half 1000 (lit≤ tt) a b (w .0), e .1))
 
-by-cond : (b : Bool) (x y : Halved) (x' y' : Halved) (d : ℕ) → (b ≡ true → x ≡ widenedHalved d x') → (b ≡ false → y ≡ widenedHalved d y') → cond b x y ≡ widenedHalved d (cond b x' y')
+by-cond : (b : Bool) (x y : Halved) (x' y' : Halved) (d : ℕ) → (b ≡ true → x ≡ widenedHalved d x') → (b ≡ false → y ≡ widenedHalved d y')
+    → cond b x y ≡ widenedHalved d (cond b x' y')
 by-cond true x y x' y' d h k = h refl
 by-cond false x y x' y' d h k = k refl
 
@@ -69,7 +71,8 @@ module _ (v w : ℕ) (g f : Float → List Float) (z : ZerosBehind v w g f) wher
       → ((p : Piece) (taken : List Float) → Good p → next (widened (w - v) p) taken ≡ widenedHalved (w - v) (next' p taken))
       → measure w f a b heights next ≡ widenedHalved (w - v) (measure v g a b heights next')
   measure-same a b e heights next next' h =
-      ap (λ (p : Piece). next p (heights ++ heightsOf a b)) (piece-same v w g f z a b (half-width-zero a b (e .0) (e .1))) ∙ h (pieceOf v g a b) (heights ++ heightsOf a b) (good-piece a b e)
+      ap (λ (p : Piece). next p (heights ++ heightsOf a b)) (piece-same v w g f z a b (half-width-zero a b (e .0) (e .1)))
+      ∙ h (pieceOf v g a b) (heights ++ heightsOf a b) (good-piece a b e)
 
   -- one turn: the two halves of the piece p at a place, and on; what comes after both, and after the left one
   abbrev goOn : ℕ → (Float → List Float) → ℕ → ℕ → List Piece → Piece → Piece → List Float → Halved
@@ -81,13 +84,17 @@ module _ (v w : ℕ) (g f : Float → List Float) (z : ZerosBehind v w g f) wher
   abbrev turn : ℕ → (Float → List Float) → ℕ → ℕ → Piece → List Piece → List Float → Halved
   turn n y more place p pieces heights = measure n y (p .start) (middleOf p) heights (rightHalf n y more place p pieces)
 
-  stored-same : (pieces : List Piece) (i : ℕ) (left right : Piece) → set (Wider pieces) i (widened (w - v) left) ++ (widened (w - v) right ∷ []) ≡ Wider (set pieces i left ++ (right ∷ []))
+  stored-same : (pieces : List Piece) (i : ℕ) (left right : Piece)
+      → set (Wider pieces) i (widened (w - v) left) ++ (widened (w - v) right ∷ []) ≡ Wider (set pieces i left ++ (right ∷ []))
   stored-same pieces i left right =
-      ap (λ (t : List Piece). t ++ (widened (w - v) right ∷ [])) (sym (map-set (widened (w - v)) pieces i left)) ∙ sym (map-append (widened (w - v)) (set pieces i left) (right ∷ []))
+      ap (λ (t : List Piece). t ++ (widened (w - v) right ∷ [])) (sym (map-set (widened (w - v)) pieces i left))
+      ∙ sym (map-append (widened (w - v)) (set pieces i left) (right ∷ []))
 
-  worst-is : (pieces : List Piece) → All Good pieces → 1 ≤ length pieces → worstPiece w (Wider pieces) ≡ widened (w - v) (worstPiece v pieces)
+  worst-is : (pieces : List Piece) → All Good pieces → 1 ≤ length pieces
+      → worstPiece w (Wider pieces) ≡ widened (w - v) (worstPiece v pieces)
   worst-is pieces a n =
-      ap (pieceAt (Wider pieces)) (worst-same v w (z .no-wider) pieces (wide-of pieces a) n) ∙ wider-at v w (z .no-wider) pieces (worstPlace v pieces) (worst-below v pieces n)
+      ap (pieceAt (Wider pieces)) (worst-same v w (z .no-wider) pieces (wide-of pieces a) n)
+      ∙ wider-at v w (z .no-wider) pieces (worstPlace v pieces) (worst-below v pieces n)
 
   repeat-same : (more : ℕ) (pieces : List Piece) (heights : List Float) → All Good pieces → 1 ≤ length pieces
       → repeat w f more (Wider pieces) heights ≡ widenedHalved (w - v) (repeat v g more pieces heights)
@@ -103,13 +110,17 @@ module _ (v w : ℕ) (g f : Float → List Float) (z : ZerosBehind v w g f) wher
       let good : Good p = all-at Good pieces (worstPlace v pieces) (worst-below v pieces n) a in
       rw (converged-same v w (z .no-wider) pieces c)
       (by-cond (converged v pieces) _ _ _ _ (w - v) (λ t. refl)
-      (λ t. ap (λ (q : Piece). cond (middleIsEnd q) (ended (NotConverged (componentOf w (Wider pieces))) (Wider pieces) heights) (turn w f more (worstPlace w (Wider pieces)) q (Wider pieces) heights))
+      (λ t. ap (λ (q : Piece). cond (middleIsEnd q) (ended (NotConverged (componentOf w (Wider pieces))) (Wider pieces) heights)
+      (turn w f more (worstPlace w (Wider pieces)) q (Wider pieces) heights))
       (worst-is pieces a n)
-      ∙ ap (λ (i : ℕ). cond (middleIsEnd p) (ended (NotConverged (componentOf w (Wider pieces))) (Wider pieces) heights) (turn w f more i (widened (w - v) p) (Wider pieces) heights))
+      ∙ ap (λ (i : ℕ). cond (middleIsEnd p) (ended (NotConverged (componentOf w (Wider pieces))) (Wider pieces) heights)
+      (turn w f more i (widened (w - v) p) (Wider pieces) heights))
       (worst-same v w (z .no-wider) pieces c n)
-      ∙ by-cond (middleIsEnd p) _ _ _ _ (w - v) (λ m. ap (λ (k : ℕ). ended (NotConverged k) (Wider pieces) heights) (component-same v w (z .no-wider) pieces c t))
+      ∙ by-cond (middleIsEnd p) _ _ _ _ (w - v)
+      (λ m. ap (λ (k : ℕ). ended (NotConverged k) (Wider pieces) heights) (component-same v w (z .no-wider) pieces c t))
       (λ m. let halves = apart-halves (p .start) (p .end) (good .1) m in
-      measure-same (p .start) (middleOf p) (halves .0) heights (rightHalf w f more (worstPlace v pieces) p (Wider pieces)) (rightHalf v g more (worstPlace v pieces) p pieces)
+      measure-same (p .start) (middleOf p) (halves .0) heights (rightHalf w f more (worstPlace v pieces) p (Wider pieces))
+      (rightHalf v g more (worstPlace v pieces) p pieces)
       (λ left taken gl. measure-same (middleOf p) (p .end) (halves .1) taken
       (goOn w f more (worstPlace v pieces) (Wider pieces) (widened (w - v) left)) (goOn v g more (worstPlace v pieces) pieces left)
       (λ right more-taken gr. ap (λ (l : List Piece). repeat w f more l more-taken) (stored-same pieces (worstPlace v pieces) left right)
@@ -118,9 +129,11 @@ module _ (v w : ℕ) (g f : Float → List Float) (z : ZerosBehind v w g f) wher
       (rw (length-append, length-set) (omega arith)))))))
 
   -- "Three and seven components share their integrator facts over the width"
-  pub zeros-change-nothing : (lower upper : Float) (limit : ℕ) → InOrder 1000 lower upper → halving w f lower upper limit ≡ widenedHalved (w - v) (halving v g lower upper limit)
+  pub zeros-change-nothing : (lower upper : Float) (limit : ℕ) → InOrder 1000 lower upper
+      → halving w f lower upper limit ≡ widenedHalved (w - v) (halving v g lower upper limit)
   unfolding halving
   zeros-change-nothing lower upper limit b =
       by-cond (eq lower upper) _ _ _ _ (w - v) (λ t. refl)
       (λ t. measure-same lower upper (b, t) []
-      (λ whole taken. repeat w f (limit - 1) (whole ∷ []) taken) (λ whole taken. repeat v g (limit - 1) (whole ∷ []) taken) (λ p taken q. repeat-same (limit - 1) (p ∷ []) taken (q, tt) (lit≤ tt)))
+      (λ whole taken. repeat w f (limit - 1) (whole ∷ []) taken) (λ whole taken. repeat v g (limit - 1) (whole ∷ []) taken)
+      (λ p taken q. repeat-same (limit - 1) (p ∷ []) taken (q, tt) (lit≤ tt)))

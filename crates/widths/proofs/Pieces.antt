@@ -19,9 +19,11 @@ use Rattle.widths.proofs.Sums.{Wide}
 tabulate-zeros : (i n : ℕ) (f : ℕ → Float) → ((k : ℕ) → i ≤ k → k < i + n → f k ≡ bits 0) → tabulateFrom i n f ≡ replicate n (bits 0)
 tabulate-zeros i zero f e = refl
 tabulate-zeros i (suc n) f e =
-    ap (λ (x : Float). x ∷ tabulateFrom (suc i) n f) (e i (le-refl i) (omega arith)) ∙ ap (λ (l : List Float). bits 0 ∷ l) (tabulate-zeros (suc i) n f (λ k a b. e k (omega arith) (omega arith)))
+    ap (λ (x : Float). x ∷ tabulateFrom (suc i) n f) (e i (le-refl i) (omega arith))
+    ∙ ap (λ (l : List Float). bits 0 ∷ l) (tabulate-zeros (suc i) n f (λ k a b. e k (omega arith) (omega arith)))
 
-tabulate-behind : (i v w : ℕ) → v ≤ w → (f g : ℕ → Float) → ((k : ℕ) → i ≤ k → k < i + v → f k ≡ g k) → ((k : ℕ) → i + v ≤ k → k < i + w → f k ≡ bits 0)
+tabulate-behind : (i v w : ℕ) → v ≤ w → (f g : ℕ → Float) → ((k : ℕ) → i ≤ k → k < i + v → f k ≡ g k)
+    → ((k : ℕ) → i + v ≤ k → k < i + w → f k ≡ bits 0)
     → tabulateFrom i w f ≡ tabulateFrom i v g ++ replicate (w - v) (bits 0)
 tabulate-behind i zero w l f g e z = let d : w - 0 ≡ w = omega arith in rw d (tabulate-zeros i w f (λ k a b. z k (omega arith) b))
 tabulate-behind i (suc v) zero l f g e z = absurd (let t : ⊥ = omega arith in t)
@@ -29,7 +31,9 @@ tabulate-behind i (suc v) (suc w) l f g e z =
     let d : suc w - suc v ≡ w - v = omega arith in
     rw d
     (ap (λ (x : Float). x ∷ tabulateFrom (suc i) w f) (e i (le-refl i) (omega arith))
-    ∙ ap (λ (t : List Float). g i ∷ t) (tabulate-behind (suc i) v w (omega arith) f g (λ k a b. e k (omega arith) (omega arith)) (λ k a b. z k (omega arith) (omega arith))))
+    ∙ ap (λ (t : List Float). g i ∷ t)
+    (tabulate-behind (suc i) v w (omega arith) f g (λ k a b. e k (omega arith) (omega arith))
+    (λ k a b. z k (omega arith) (omega arith))))
 
 length-tabulate : (i n : ℕ) (f : ℕ → Float) → length (tabulateFrom i n f) ≡ n
 length-tabulate i zero f = refl
@@ -59,7 +63,8 @@ module _ (v w : ℕ) (g f : Float → List Float) (z : ZerosBehind v w g f) wher
 
     values-are : tabulate w (valueAt f) ≡ tabulate v (valueAt g) ++ replicate (w - v) (bits 0)
     values-are =
-        tabulate-behind 0 v w (z .no-wider) (valueAt f) (valueAt g) (λ k l m. ap (λ (x : Float). halfWidth a b ⊗ x) (sum-same kronrodWeight a b k (omega arith)))
+        tabulate-behind 0 v w (z .no-wider) (valueAt f) (valueAt g)
+        (λ k l m. ap (λ (x : Float). halfWidth a b ⊗ x) (sum-same kronrodWeight a b k (omega arith)))
         (λ k l m. ap (λ (x : Float). halfWidth a b ⊗ x) (kronrod-none k (omega arith) (omega arith)) ∙ width)
 
     errors-are : tabulate w (errorAt f) ≡ tabulate v (errorAt g) ++ replicate (w - v) (bits 0)

@@ -47,17 +47,27 @@ gauss-zeros : every 8 (λ i. isPlusZero (gaussWeight i ⊗ bits 0)) ≡ true
 unfolding ofBits mul every gaussWeights
 gauss-zeros = refl
 
-sum-zeros : (weight : ℕ → Float) → ((i : ℕ) → i < 8 → weight i ⊗ bits 0 ≡ bits 0) → (y : Float → Float) → ((h : Float) → y h ≡ bits 0) → (centre reach : Float) (n : ℕ) → n ≤ 7
+sum-zeros : (weight : ℕ → Float) → ((i : ℕ) → i < 8 → weight i ⊗ bits 0 ≡ bits 0) → (y : Float → Float) → ((h : Float) → y h ≡ bits 0)
+    → (centre reach : Float) (n : ℕ) → n ≤ 7
     → weightedTo n weight y centre reach ≡ bits 0
 unfolding weightedTo
 sum-zeros weight z y e centre reach zero l = rw (e centre, z 7 (lit≤ tt)) zero-plus-zero
 sum-zeros weight z y e centre reach (suc n) l =
-    rw (sum-zeros weight z y e centre reach n (omega arith), e (minusSide centre reach n), e (plusSide centre reach n), z n (omega arith), zero-plus-zero) zero-plus-zero
+    rw (
+      sum-zeros weight z y e centre reach n (omega arith),
+      e (minusSide centre reach n),
+      e (plusSide centre reach n),
+      z n (omega arith),
+      zero-plus-zero,
+    ) zero-plus-zero
 
-pub kronrod-zero : (y : Float → Float) → ((h : Float) → y h ≡ bits 0) → (centre reach : Float) → weightedTo 7 kronrodWeight y centre reach ≡ bits 0
-kronrod-zero y e centre reach = sum-zeros kronrodWeight (λ i l. is-zero _ (every-holds 8 _ kronrod-zeros i l)) y e centre reach 7 (le-refl 7)
+pub kronrod-zero : (y : Float → Float) → ((h : Float) → y h ≡ bits 0) → (centre reach : Float)
+    → weightedTo 7 kronrodWeight y centre reach ≡ bits 0
+kronrod-zero y e centre reach = sum-zeros kronrodWeight (λ i l. is-zero _ (every-holds 8 _ kronrod-zeros i l)) y e centre reach 7
+    (le-refl 7)
 
-pub gauss-zero : (y : Float → Float) → ((h : Float) → y h ≡ bits 0) → (centre reach : Float) → weightedTo 7 gaussWeight y centre reach ≡ bits 0
+pub gauss-zero : (y : Float → Float) → ((h : Float) → y h ≡ bits 0) → (centre reach : Float)
+    → weightedTo 7 gaussWeight y centre reach ≡ bits 0
 gauss-zero y e centre reach = sum-zeros gaussWeight (λ i l. is-zero _ (every-holds 8 _ gauss-zeros i l)) y e centre reach 7 (le-refl 7)
 
 -- ---- half the width of a piece whose ends are in order and not equal
@@ -66,7 +76,8 @@ half-width-zero a b w e =
     let d = sub-below b a 1000 (lit≤ tt) (w .upper-below) (w .lower-below) in
     let h = mul-below half (b ⊖ a) 0 1001 (lit≤ tt) half-below d in
     times-zero (halfWidth a b) (h .finite)
-    (half-minus (b ⊖ a) (d .finite) (less-minus a b (w .lower-below .finite) (w .upper-below .finite) (below-of-le a b (is-true (le a b) (w .ordered)) e)))
+    (half-minus (b ⊖ a) (d .finite)
+    (less-minus a b (w .lower-below .finite) (w .upper-below .finite) (below-of-le a b (is-true (le a b) (w .ordered)) e)))
 
 -- why the ends are bounded and in order: between −2^1023 and 2^1023 a zero component would have the value NaN, between 1 and 0 the value −0
 pub too-far-apart : halfWidth (bits 0xffe0_0000_0000_0000) (bits 0x7fe0_0000_0000_0000) ⊗ bits 0 ≡ nan

@@ -18,7 +18,8 @@ use Rattle.widths.specs.Widths.{ZerosBehind}
 use Rattle.widths.proofs.Halvings.{zeros-change-nothing}
 
 module _ (v w : ℕ) (g f : Float → List Float) (z : ZerosBehind v w g f) where
-  pub strips-change-nothing : (limit : ℕ) (scale : Float) (heights : List Float) → Each (λ s. InOrder 1000 (s .lower) (s .upper)) (workedOf w f limit scale heights)
+  pub strips-change-nothing : (limit : ℕ) (scale : Float) (heights : List Float)
+      → Each (λ s. InOrder 1000 (s .lower) (s .upper)) (workedOf w f limit scale heights)
       → workedOf w f limit scale heights ≡ map (widenedStrip (w - v)) (workedOf v g limit scale heights)
   unfolding workedOf
   strips-change-nothing limit scale [] e = refl
@@ -27,14 +28,19 @@ module _ (v w : ℕ) (g f : Float → List Float) (z : ZerosBehind v w g f) wher
       let a = h ⊘ scale in
       let b = k ⊘ scale in
       let q = zeros-change-nothing v w g f z a b limit (e .0) in
-      ap (λ (x : Halved). record { lower = a; upper = b; halved = x } ∷ cond (isAccepted (x .ending)) (workedOf w f limit scale (k ∷ heights)) []) q
+      ap (λ (x : Halved). record { lower = a; upper = b; halved = x } ∷ cond (isAccepted (x .ending))
+      (workedOf w f limit scale (k ∷ heights)) []) q
       ∙ ap (λ (l : List Worked). record { lower = a; upper = b; halved = widenedHalved (w - v) (halving v g a b limit) } ∷ l)
-      (go (strips-change-nothing limit scale (k ∷ heights)) (isAccepted (halving v g a b limit .ending)) (ap (λ (x : Halved). isAccepted (x .ending)) q) (e .1))
+      (go (strips-change-nothing limit scale (k ∷ heights)) (isAccepted (halving v g a b limit .ending))
+      (ap (λ (x : Halved). isAccepted (x .ending)) q) (e .1))
     where
-      go : (Each (λ s. InOrder 1000 (s .lower) (s .upper)) (workedOf w f limit scale (k ∷ heights)) → workedOf w f limit scale (k ∷ heights) ≡ map (widenedStrip (w - v)) (workedOf v g limit scale (k ∷ heights)))
+      go : (Each (λ s. InOrder 1000 (s .lower) (s .upper)) (workedOf w f limit scale (k ∷ heights))
+          → workedOf w f limit scale (k ∷ heights) ≡ map (widenedStrip (w - v)) (workedOf v g limit scale (k ∷ heights)))
           → (t : Bool) → isAccepted (halving w f (h ⊘ scale) (k ⊘ scale) limit .ending) ≡ t
-          → Each (λ s. InOrder 1000 (s .lower) (s .upper)) (cond (isAccepted (halving w f (h ⊘ scale) (k ⊘ scale) limit .ending)) (workedOf w f limit scale (k ∷ heights)) [])
-          → cond t (workedOf w f limit scale (k ∷ heights)) [] ≡ map (widenedStrip (w - v)) (cond t (workedOf v g limit scale (k ∷ heights)) [])
+          → Each (λ s. InOrder 1000 (s .lower) (s .upper))
+          (cond (isAccepted (halving w f (h ⊘ scale) (k ⊘ scale) limit .ending)) (workedOf w f limit scale (k ∷ heights)) [])
+          → cond t (workedOf w f limit scale (k ∷ heights)) []
+          ≡ map (widenedStrip (w - v)) (cond t (workedOf v g limit scale (k ∷ heights)) [])
       go next true p r =
           next
           (subst (λ (t : Bool). Each (λ s. InOrder 1000 (s .lower) (s .upper)) (cond t (workedOf w f limit scale (k ∷ heights)) [])) p r)

@@ -15,7 +15,8 @@ use Rattle.floats.specs.Operations.{_⊕_, _⊘_, bits, at, every}
 use Rattle.floats.proofs.Bools.{and-true}
 use Rattle.floats.proofs.Every.{every-fails}
 use Rattle.quadrature.specs.declared.Piece.{Piece}
-use Rattle.tolerance.specs.Bounds.{sumFrom, totalOf, errorOf, absolute, boundFor, boundOf, errorWithin, converged, scoreOf, lastHighest, pieceAt, worstPlace, componentOf}
+use Rattle.tolerance.specs.Bounds.{sumFrom, totalOf, errorOf, absolute, boundFor, boundOf, errorWithin, converged, scoreOf, lastHighest}
+use Rattle.tolerance.specs.Bounds.{pieceAt, worstPlace, componentOf}
 use Rattle.tolerance.proofs.Places.{highest-same, highest-below}
 use Rattle.tolerance.proofs.AllPieces.{All, all-at}
 use Rattle.rounding.proofs.Signs.{plus, max-plus, max-zero, zero-plus}
@@ -28,14 +29,16 @@ use Rattle.widths.proofs.Bounds.{bound-zero, zero-within, zero-over-abs
 pub upward : (v : ℕ) (P : ℕ → Type 0) → P v → ((n : ℕ) → v ≤ n → P n → P (suc n)) → (w : ℕ) → v ≤ w → P w
 upward v P p step zero l = subst P (let e : v ≡ 0 = omega arith in e) p
 upward v P p step (suc w) l =
-    ⊎-elim (λ (e : v ≡ suc w). subst P e p) (λ (m : v < suc w). step w (le-of-suc-le-suc m) (upward v P p step w (le-of-suc-le-suc m))) (eq-or-lt-of-le l)
+    ⊎-elim (λ (e : v ≡ suc w). subst P e p) (λ (m : v < suc w). step w (le-of-suc-le-suc m) (upward v P p step w (le-of-suc-le-suc m)))
+    (eq-or-lt-of-le l)
 
 pub every-same : (n : ℕ) (p q : ℕ → Bool) → ((k : ℕ) → k < n → p k ≡ q k) → every n p ≡ every n q
 unfolding every
 every-same zero p q e = refl
 every-same (suc n) p q e = rw (every-same n p q (λ k l. e k (omega arith)), e n (le-refl (suc n)))
 
-pub every-up : (v w : ℕ) → v ≤ w → (p q : ℕ → Bool) → ((k : ℕ) → k < v → p k ≡ q k) → ((k : ℕ) → v ≤ k → k < w → p k ≡ true) → every w p ≡ every v q
+pub every-up : (v w : ℕ) → v ≤ w → (p q : ℕ → Bool) → ((k : ℕ) → k < v → p k ≡ q k) → ((k : ℕ) → v ≤ k → k < w → p k ≡ true)
+    → every w p ≡ every v q
 unfolding every
 every-up v w l p q e t =
     upward v (λ n. n ≤ w → every n p ≡ every v q) (λ z. every-same v p q e)
@@ -43,7 +46,8 @@ every-up v w l p q e t =
     w l (le-refl w)
 
 -- ---- scores
-score-same : (n : ℕ) (bound other : ℕ → Float) (p q : Piece) → ((k : ℕ) → k < n → at (p .error) k ⊘ bound k ≡ at (q .error) k ⊘ other k) → scoreOf n bound p ≡ scoreOf n other q
+score-same : (n : ℕ) (bound other : ℕ → Float) (p q : Piece) → ((k : ℕ) → k < n → at (p .error) k ⊘ bound k ≡ at (q .error) k ⊘ other k)
+    → scoreOf n bound p ≡ scoreOf n other q
 unfolding scoreOf
 score-same zero bound other p q e = refl
 score-same (suc n) bound other p q e = rw (score-same n bound other p q (λ k l. e k (omega arith)), e n (le-refl (suc n)))
@@ -53,7 +57,8 @@ unfolding scoreOf
 score-plus zero bound p = zero-plus
 score-plus (suc n) bound p = max-plus (scoreOf n bound p) (at (p .error) n ⊘ bound n) (score-plus n bound p)
 
-score-up : (v w : ℕ) → v ≤ w → (bound other : ℕ → Float) (p q : Piece) → ((k : ℕ) → k < v → at (p .error) k ⊘ bound k ≡ at (q .error) k ⊘ other k)
+score-up : (v w : ℕ) → v ≤ w → (bound other : ℕ → Float) (p q : Piece)
+    → ((k : ℕ) → k < v → at (p .error) k ⊘ bound k ≡ at (q .error) k ⊘ other k)
     → ((k : ℕ) → v ≤ k → k < w → at (p .error) k ⊘ bound k ≡ bits 0) → scoreOf w bound p ≡ scoreOf v other q
 unfolding scoreOf
 score-up v w l bound other p q e z =
@@ -66,16 +71,20 @@ pub highest-over : (g : ℕ → Float) (n k : ℕ) → k ≤ n → Over0 (g k) �
 unfolding lastHighest
 highest-over g zero k l o = subst (λ (i : ℕ). Over0 (g i)) (let e : k ≡ 0 = omega arith in e) o
 highest-over g (suc n) k l o =
-    ⊎-elim (λ (e : k ≡ suc n). last (subst (λ (i : ℕ). Over0 (g i)) e o) (lastHighest g n) (ne (g (suc n)) (g (suc n))) refl (le (g (lastHighest g n)) (g (suc n))) refl)
-    (λ (m : k < suc n). before (lastHighest g n) (highest-over g n k (le-of-suc-le-suc m) o) (ne (g (suc n)) (g (suc n))) refl (le (g (lastHighest g n)) (g (suc n))) refl)
+    ⊎-elim (λ (e : k ≡ suc n). last (subst (λ (i : ℕ). Over0 (g i)) e o) (lastHighest g n) (ne (g (suc n)) (g (suc n))) refl
+    (le (g (lastHighest g n)) (g (suc n))) refl)
+    (λ (m : k < suc n). before (lastHighest g n) (highest-over g n k (le-of-suc-le-suc m) o) (ne (g (suc n)) (g (suc n))) refl
+    (le (g (lastHighest g n)) (g (suc n))) refl)
     (eq-or-lt-of-le l)
   where
-    last : Over0 (g (suc n)) → (i : ℕ) (a : Bool) → ne (g (suc n)) (g (suc n)) ≡ a → (b : Bool) → le (g i) (g (suc n)) ≡ b → Over0 (g (cond (a || b) (suc n) i))
+    last : Over0 (g (suc n)) → (i : ℕ) (a : Bool) → ne (g (suc n)) (g (suc n)) ≡ a → (b : Bool) → le (g i) (g (suc n)) ≡ b
+        → Over0 (g (cond (a || b) (suc n) i))
     last o i true p b q = o
     last o i false p true q = o
     last o i false p false q = over-beyond (g i) (g (suc n)) q p o
 
-    before : (i : ℕ) → Over0 (g i) → (a : Bool) → ne (g (suc n)) (g (suc n)) ≡ a → (b : Bool) → le (g i) (g (suc n)) ≡ b → Over0 (g (cond (a || b) (suc n) i))
+    before : (i : ℕ) → Over0 (g i) → (a : Bool) → ne (g (suc n)) (g (suc n)) ≡ a → (b : Bool) → le (g i) (g (suc n)) ≡ b
+        → Over0 (g (cond (a || b) (suc n) i))
     before i o true p b q = nan-over (g (suc n)) p
     before i o false p true q = over-up (g i) (g (suc n)) q o
     before i o false p false q = o
@@ -83,11 +92,13 @@ highest-over g (suc n) k l o =
 zero-equals-itself : ne (bits 0) (bits 0) ≡ false
 zero-equals-itself = unfold ne lib.Ieee.ofBits in refl
 
-highest-up : (v w : ℕ) → v ≤ w → (g h : ℕ → Float) → ((k : ℕ) → k < v → g k ≡ h k) → ((k : ℕ) → v ≤ k → k < w → g k ≡ bits 0) → (k : ℕ) → k < v → Over0 (h k)
+highest-up : (v w : ℕ) → v ≤ w → (g h : ℕ → Float) → ((k : ℕ) → k < v → g k ≡ h k) → ((k : ℕ) → v ≤ k → k < w → g k ≡ bits 0) → (k : ℕ)
+    → k < v → Over0 (h k)
     → lastHighest g (w - 1) ≡ lastHighest h (v - 1)
 unfolding lastHighest
 highest-up v w l g h e z k b o =
-    upward v (λ n. n ≤ w → lastHighest g (n - 1) ≡ lastHighest h (v - 1)) (λ t. highest-same g h (v - 1) (λ i j. e i (omega arith))) step w l (le-refl w)
+    upward v (λ n. n ≤ w → lastHighest g (n - 1) ≡ lastHighest h (v - 1)) (λ t. highest-same g h (v - 1) (λ i j. e i (omega arith))) step w
+    l (le-refl w)
   where
     top : Over0 (g (lastHighest h (v - 1)))
     top = rw (e (lastHighest h (v - 1)) (omega (arith, highest-below h (v - 1)))) (highest-over h (v - 1) k (omega arith) o)
@@ -98,7 +109,8 @@ highest-up v w l g h e z k b o =
     again : (n : ℕ) → v ≤ suc n → suc n < w → lastHighest g n ≡ lastHighest h (v - 1) → lastHighest g (suc n) ≡ lastHighest h (v - 1)
     again n a c q = rw q (pick n (lastHighest h (v - 1)) (z (suc n) a c) top)
 
-    step : (n : ℕ) → v ≤ n → (n ≤ w → lastHighest g (n - 1) ≡ lastHighest h (v - 1)) → suc n ≤ w → lastHighest g (suc n - 1) ≡ lastHighest h (v - 1)
+    step : (n : ℕ) → v ≤ n → (n ≤ w → lastHighest g (n - 1) ≡ lastHighest h (v - 1)) → suc n ≤ w
+        → lastHighest g (suc n - 1) ≡ lastHighest h (v - 1)
     step zero a q c = absurd (let t : ⊥ = omega arith in t)
     step (suc n) a q c =
         let x : suc (suc n) - 1 ≡ suc n = omega arith in
@@ -127,18 +139,23 @@ module _ (v w : ℕ) (l : v ≤ w) where
   Wider pieces = map (widened (w - v)) pieces
 
   -- ---- sums
-  sum-first : (part : Piece → List Float) → ((p : Piece) → part (widened (w - v) p) ≡ part p ++ replicate (w - v) (bits 0)) → (k : ℕ) → k < v → (sum : Float) (pieces : List Piece)
-      → ((p : Piece) → Wide v p → length (part p) ≡ v) → AllWide v pieces → sumFrom sum (λ p. at (part p) k) (Wider pieces) ≡ sumFrom sum (λ p. at (part p) k) pieces
+  sum-first : (part : Piece → List Float) → ((p : Piece) → part (widened (w - v) p) ≡ part p ++ replicate (w - v) (bits 0)) → (k : ℕ)
+      → k < v → (sum : Float) (pieces : List Piece)
+      → ((p : Piece) → Wide v p → length (part p) ≡ v) → AllWide v pieces
+      → sumFrom sum (λ p. at (part p) k) (Wider pieces) ≡ sumFrom sum (λ p. at (part p) k) pieces
   sum-first part e k b sum [] n a = refl
   sum-first part e k b sum (p ∷ pieces) n a =
       sum-first part e k b (sum ⊕ at (part (widened (w - v) p)) k) pieces n (a .1)
-      ∙ ap (λ (x : Float). sumFrom (sum ⊕ x) (λ p. at (part p) k) pieces) (ap (λ (t : List Float). at t k) (e p) ∙ behind-first v (w - v) (part p) (n p (a .0)) k b)
+      ∙ ap (λ (x : Float). sumFrom (sum ⊕ x) (λ p. at (part p) k) pieces)
+      (ap (λ (t : List Float). at t k) (e p) ∙ behind-first v (w - v) (part p) (n p (a .0)) k b)
 
-  sum-others : (part : Piece → List Float) → ((p : Piece) → part (widened (w - v) p) ≡ part p ++ replicate (w - v) (bits 0)) → (k : ℕ) → v ≤ k → k < w → (pieces : List Piece)
+  sum-others : (part : Piece → List Float) → ((p : Piece) → part (widened (w - v) p) ≡ part p ++ replicate (w - v) (bits 0)) → (k : ℕ)
+      → v ≤ k → k < w → (pieces : List Piece)
       → ((p : Piece) → Wide v p → length (part p) ≡ v) → AllWide v pieces → sumFrom (bits 0) (λ p. at (part p) k) (Wider pieces) ≡ bits 0
   sum-others part e k a b [] n z = refl
   sum-others part e k a b (p ∷ pieces) n z =
-      ap (λ (x : Float). sumFrom (bits 0 ⊕ x) (λ p. at (part p) k) (Wider pieces)) (ap (λ (t : List Float). at t k) (e p) ∙ behind-others v w (part p) (n p (z .0)) k a b)
+      ap (λ (x : Float). sumFrom (bits 0 ⊕ x) (λ p. at (part p) k) (Wider pieces))
+      (ap (λ (t : List Float). at t k) (e p) ∙ behind-others v w (part p) (n p (z .0)) k a b)
       ∙ ap (λ (x : Float). sumFrom x (λ p. at (part p) k) (Wider pieces)) zero-plus-zero
       ∙ sum-others part e k a b pieces n (z .1)
 
@@ -169,15 +186,19 @@ module _ (v w : ℕ) (l : v ≤ w) where
     pub converged-same : converged w (Wider pieces) ≡ converged v pieces
     unfolding converged
     converged-same =
-        every-up v w l (errorWithin (Wider pieces)) (errorWithin pieces) (λ k b. ap (λ (x : Float). le x (boundOf (Wider pieces) k)) (error-first k b) ∙ ap (le (errorOf pieces k)) (bound-first k b))
-        (λ k a b. ap (λ (x : Float). le x (boundOf (Wider pieces) k)) (error-others k a b) ∙ ap (le (bits 0)) (bound-others k a b) ∙ zero-within)
+        every-up v w l (errorWithin (Wider pieces)) (errorWithin pieces)
+        (λ k b. ap (λ (x : Float). le x (boundOf (Wider pieces) k)) (error-first k b) ∙ ap (le (errorOf pieces k)) (bound-first k b))
+        (λ k a b. ap (λ (x : Float). le x (boundOf (Wider pieces) k)) (error-others k a b) ∙ ap (le (bits 0)) (bound-others k a b)
+        ∙ zero-within)
 
     -- ---- the worst piece
     pub piece-score : (p : Piece) → Wide v p → scoreOf w (boundOf (Wider pieces)) (widened (w - v) p) ≡ scoreOf v (boundOf pieces) p
     piece-score p n =
         score-up v w l (boundOf (Wider pieces)) (boundOf pieces) (widened (w - v) p) p
-        (λ k b. ap (λ (x : Float). x ⊘ boundOf (Wider pieces) k) (behind-first v (w - v) (p .error) (n .1) k b) ∙ ap (λ (x : Float). at (p .error) k ⊘ x) (bound-first k b))
-        (λ k a b. ap (λ (x : Float). x ⊘ boundOf (Wider pieces) k) (behind-others v w (p .error) (n .1) k a b) ∙ ap (λ (x : Float). bits 0 ⊘ x) (bound-others k a b) ∙ zero-over-absolute)
+        (λ k b. ap (λ (x : Float). x ⊘ boundOf (Wider pieces) k) (behind-first v (w - v) (p .error) (n .1) k b)
+        ∙ ap (λ (x : Float). at (p .error) k ⊘ x) (bound-first k b))
+        (λ k a b. ap (λ (x : Float). x ⊘ boundOf (Wider pieces) k) (behind-others v w (p .error) (n .1) k a b)
+        ∙ ap (λ (x : Float). bits 0 ⊘ x) (bound-others k a b) ∙ zero-over-absolute)
 
     -- ---- 13's component
     pub component-same : converged v pieces ≡ false → componentOf w (Wider pieces) ≡ componentOf v pieces
@@ -185,8 +206,10 @@ module _ (v w : ℕ) (l : v ≤ w) where
     component-same c =
         let f = every-fails v (errorWithin pieces) c in
         highest-up v w l (λ k. errorOf (Wider pieces) k ⊘ boundOf (Wider pieces) k) (λ k. errorOf pieces k ⊘ boundOf pieces k)
-        (λ k b. ap (λ (x : Float). x ⊘ boundOf (Wider pieces) k) (error-first k b) ∙ ap (λ (x : Float). errorOf pieces k ⊘ x) (bound-first k b))
-        (λ k a b. ap (λ (x : Float). x ⊘ boundOf (Wider pieces) k) (error-others k a b) ∙ ap (λ (x : Float). bits 0 ⊘ x) (bound-others k a b) ∙ zero-over-absolute)
+        (λ k b. ap (λ (x : Float). x ⊘ boundOf (Wider pieces) k) (error-first k b)
+        ∙ ap (λ (x : Float). errorOf pieces k ⊘ x) (bound-first k b))
+        (λ k a b. ap (λ (x : Float). x ⊘ boundOf (Wider pieces) k) (error-others k a b)
+        ∙ ap (λ (x : Float). bits 0 ⊘ x) (bound-others k a b) ∙ zero-over-absolute)
         (f .0) (f .1 .0) (error-over (errorOf pieces (f .0)) (totalOf pieces (f .0)) (f .1 .1))
 
   pub wider-at : (pieces : List Piece) (i : ℕ) → i < length pieces → pieceAt (Wider pieces) i ≡ widened (w - v) (pieceAt pieces i)
@@ -199,5 +222,7 @@ module _ (v w : ℕ) (l : v ≤ w) where
   worst-same pieces z n =
       let e : length (Wider pieces) ≡ length pieces = length-map pieces (widened (w - v)) in
       ap (λ (m : ℕ). lastHighest (λ i. scoreOf w (boundOf (Wider pieces)) (pieceAt (Wider pieces) i)) (m - 1)) e
-      ∙ highest-same (λ i. scoreOf w (boundOf (Wider pieces)) (pieceAt (Wider pieces) i)) (λ i. scoreOf v (boundOf pieces) (pieceAt pieces i)) (length pieces - 1)
-      (λ i b. let c : i < length pieces = omega arith in ap (scoreOf w (boundOf (Wider pieces))) (wider-at pieces i c) ∙ piece-score pieces z (pieceAt pieces i) (all-at (Wide v) pieces i c z))
+      ∙ highest-same (λ i. scoreOf w (boundOf (Wider pieces)) (pieceAt (Wider pieces) i))
+      (λ i. scoreOf v (boundOf pieces) (pieceAt pieces i)) (length pieces - 1)
+      (λ i b. let c : i < length pieces = omega arith in ap (scoreOf w (boundOf (Wider pieces))) (wider-at pieces i c)
+      ∙ piece-score pieces z (pieceAt pieces i) (all-at (Wide v) pieces i c z))

@@ -24,28 +24,36 @@ by-pieces w true x y h k = h
 by-pieces w false x y h k = k
 
 module _ (w : ℕ) (f : Float → List Float) where
-  repeat-wide : (more : ℕ) (pieces : List Piece) (heights : List Float) → All (Wide w) pieces → All (Wide w) (repeat w f more pieces heights .pieces)
+  repeat-wide : (more : ℕ) (pieces : List Piece) (heights : List Float) → All (Wide w) pieces
+      → All (Wide w) (repeat w f more pieces heights .pieces)
   repeat-wide more pieces heights z =
       kept w f
       (outcome w f (length pieces + more) (λ ps hs. All (Wide w) ps) (λ ps hs k l m.
       let p = worstPiece w ps in
       let left = pieceOf w f (p .start) (middleOf p) in
       let right = pieceOf w f (middleOf p) (p .end) in
-      all-append (Wide w) (set ps (worstPlace w ps) left) (right ∷ []) (all-set (Wide w) ps (worstPlace w ps) left k (piece-wide w f (p .start) (middleOf p))) (piece-wide w f (middleOf p) (p .end), tt))
+      all-append (Wide w) (set ps (worstPlace w ps) left) (right ∷ [])
+      (all-set (Wide w) ps (worstPlace w ps) left k (piece-wide w f (p .start) (middleOf p)))
+      (piece-wide w f (middleOf p) (p .end), tt))
       more pieces heights z refl)
 
   halving-wide : (lower upper : Float) (limit : ℕ) → All (Wide w) (halving w f lower upper limit .pieces)
   unfolding halving
   halving-wide lower upper limit =
-      by-pieces w (eq lower upper) _ _ tt (repeat-wide (limit - 1) (pieceOf w f lower upper ∷ []) (heightsOf lower upper) (piece-wide w f lower upper, tt))
+      by-pieces w (eq lower upper) _ _ tt
+      (repeat-wide (limit - 1) (pieceOf w f lower upper ∷ []) (heightsOf lower upper) (piece-wide w f lower upper, tt))
 
 -- ---- the totals of a run: the first v are those of width v, the others +0
-worked-wide : (w : ℕ) (f : Float → List Float) (limit : ℕ) (scale : Float) (heights : List Float) → Each (λ s. All (Wide w) (piecesOf s)) (workedOf w f limit scale heights)
+worked-wide : (w : ℕ) (f : Float → List Float) (limit : ℕ) (scale : Float) (heights : List Float)
+    → Each (λ s. All (Wide w) (piecesOf s)) (workedOf w f limit scale heights)
 unfolding workedOf
 worked-wide w f limit scale [] = tt
 worked-wide w f limit scale (h ∷ []) = tt
-worked-wide w f limit scale (h ∷ k ∷ heights) =
-    (halving-wide w f (h ⊘ scale) (k ⊘ scale) limit, look (worked-wide w f limit scale (k ∷ heights)) (isAccepted (halving w f (h ⊘ scale) (k ⊘ scale) limit .ending)))
+worked-wide w f limit scale (h ∷ k ∷ heights) = (
+  halving-wide w f (h ⊘ scale) (k ⊘ scale) limit,
+  look (worked-wide w f limit scale (k ∷ heights))
+      (isAccepted (halving w f (h ⊘ scale) (k ⊘ scale) limit .ending)),
+)
   where
     look : Each (λ s. All (Wide w) (piecesOf s)) (workedOf w f limit scale (k ∷ heights)) → (b : Bool)
         → Each (λ s. All (Wide w) (piecesOf s)) (cond b (workedOf w f limit scale (k ∷ heights)) [])
@@ -68,7 +76,8 @@ value-others v w l k a b (s ∷ strips) e =
     ∙ value-others v w l k a b strips (e .1)
 
 module _ (v w : ℕ) (l : v ≤ w) (g : Float → List Float) (limit : ℕ) (scale : Float) (heights : List Float) where
-  pub totals-same : (k : ℕ) → k < v → valueFrom (bits 0) k (map (widenedStrip (w - v)) (workedOf v g limit scale heights)) ≡ valueFrom (bits 0) k (workedOf v g limit scale heights)
+  pub totals-same : (k : ℕ) → k < v → valueFrom (bits 0) k (map (widenedStrip (w - v)) (workedOf v g limit scale heights))
+      ≡ valueFrom (bits 0) k (workedOf v g limit scale heights)
   totals-same k b = value-first v w l k b (bits 0) (workedOf v g limit scale heights) (worked-wide v g limit scale heights)
 
   pub other-totals : (k : ℕ) → v ≤ k → k < w → valueFrom (bits 0) k (map (widenedStrip (w - v)) (workedOf v g limit scale heights)) ≡ bits 0

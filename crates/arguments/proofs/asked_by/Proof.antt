@@ -17,17 +17,21 @@ returns-2 c =
     let n = c .before .before .before .args .count in
     rw (le-leb 2 n (omega arith), lt-leb n 2 (c .if2 .taken))
 
+-- places that the needs go back to
+abbrev the-start : tie.After-same-bytes → tie.Start
+the-start c = c .before .before .before .before .before
+
 returns-3 : tie.Need-returns-3
 unfolding text codes
 returns-3 c =
-    let n = c .before .before .before .before .before .before .args .count in
+    let n = (the-start (c .before)) .args .count in
     let help = c .before .same-bytes in
     rw (le-leb 2 n (omega arith), le-leb n 2 (omega arith), sym (help .ensures) ∙ c .if3 .taken)
 
 returns-4 : tie.Need-returns-4
 unfolding text codes
 returns-4 c =
-    let n = c .before .before .before .before .before .before .before .before .before .args .count in
+    let n = (the-start (c .before .before .before .before)) .args .count in
     let asked = c .before .before .before in
     let help = asked .before .same-bytes in
     let version = c .before .same-bytes2 in
@@ -36,7 +40,7 @@ returns-4 c =
 returns-5 : tie.Need-returns-5
 unfolding text codes
 returns-5 c =
-    let n = c .before .before .before .before .before .before .before .before .before .args .count in
+    let n = (the-start (c .before .before .before .before)) .args .count in
     let asked = c .before .before .before in
     let help = asked .before .same-bytes in
     let version = c .before .same-bytes2 in

@@ -25,9 +25,13 @@ slice-aggregate-put-shown c =
     let l = a .read-answer .kept .1 .0 in
     sym (length-take-le (a .read-answer .result .bytes) (a .read-answer .last .1 .0) (omega (arith, h, b, l)))
 
+-- places that the needs go back to
+abbrev at-read-answer : tie.After-figures3 → tie.After-read-answer
+at-read-answer c = c .before .before .before .before .before .before
+
 slice-aggregate-put-shown-2 : tie.Need-slice-aggregate-put-shown-2
 slice-aggregate-put-shown-2 c =
-    let a = c .before .before .before .before .before .before in
+    let a = at-read-answer c in
     let e = a .before .before .before .before in
     let h = e .if1 .left in
     let b = a .read-answer .ensures .figures-fit in
@@ -36,7 +40,7 @@ slice-aggregate-put-shown-2 c =
 
 slice-aggregate-put-shown-3 : tie.Need-slice-aggregate-put-shown-3
 slice-aggregate-put-shown-3 c =
-    let a = c .before .before .before .before .before .before .before in
+    let a = at-read-answer (c .before) in
     let e = a .before .before .before .before in
     let h = e .if1 .left in
     let b = a .read-answer .ensures .counts-fit in
@@ -48,7 +52,8 @@ returns-2 c =
     let m = c .before .before in
     let a = m .before .before .before .before .before .before .before .before in
     let e = a .before .before .before .before in
-    answer-line (now (e .before .before .before .args .line)) (a .read-answer .result) _ _ _ _ _ _ _ (e .if1 .left) (a .read-answer .ensures) (m .put-shown .ensures)
+    answer-line (now (e .before .before .before .args .line)) (a .read-answer .result) _ _ _ _ _ _ _ (e .if1 .left)
+    (a .read-answer .ensures) (m .put-shown .ensures)
 
 pub put-block-spec : {M : Type 1} → statement M
 put-block-spec =

@@ -28,7 +28,8 @@ returns c =
     let t = b .before .before .before in
     let m = t .before .before .before in
     let f = m .before .before .before in
-    block-put _ _ _ _ noAnswer _ _ _ (found-filled _ _ _ _ _ _ _ _ (f .find .ensures .is) (m .put-card .ensures)) (t .if1 .taken) (b .put-bytes .ensures)
+    block-put _ _ _ _ noAnswer _ _ _ (found-filled _ _ _ _ _ _ _ _ (f .find .ensures .is) (m .put-card .ensures)) (t .if1 .taken)
+    (b .put-bytes .ensures)
 
 returns-2 : tie.Need-returns-2
 unfolding text codes
@@ -37,7 +38,8 @@ returns-2 c =
     let t = b .before .before .before in
     let m = t .before .before .before in
     let f = m .before .before .before in
-    none-put _ _ _ _ noAnswer _ _ _ (found-filled _ _ _ _ _ _ _ _ (f .find .ensures .is) (m .put-card .ensures)) (t .if1 .left) (b .put-bytes2 .ensures)
+    none-put _ _ _ _ noAnswer _ _ _ (found-filled _ _ _ _ _ _ _ _ (f .find .ensures .is) (m .put-card .ensures)) (t .if1 .left)
+    (b .put-bytes2 .ensures)
 
 pub put-from-spec : {M : Type 1} → statement M
 put-from-spec =

@@ -15,7 +15,8 @@ use Rattle.blocks.proofs.put_numbered.Statement.{statement}
 use Rattle.blocks.proofs.put_numbered.Tie as tie
 
 -- four texts behind one another
-numbered : {out a b c d : List ℕ} {i j k r : ℕ} (number : ℕ) (line : List ℕ) → Appended out 0 (text "line ") a i → Appended a i (countText number) b j
+numbered : {out a b c d : List ℕ} {i j k r : ℕ} (number : ℕ) (line : List ℕ) → Appended out 0 (text "line ") a i
+    → Appended a i (countText number) b j
     → Appended b j newline c k → Appended c k (blockOf line) d r → Appended out 0 (numberedBlock number line) d r
 unfolding numberedBlock
 numbered {out} {a} {b} {c} {d} {i} {j} {k} {r} number line p q s t =

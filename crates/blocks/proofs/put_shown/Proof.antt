@@ -13,10 +13,14 @@ use Rattle.blocks.proofs.put_shown.Tie as tie
 slice-aggregate-put-from : tie.Need-slice-aggregate-put-from
 slice-aggregate-put-from c = search needs
 
+-- places that the needs go back to
+abbrev the-start : tie.After-put-from-arg2 → tie.Start
+the-start c = c .before .before .before .before .before .before
+
 put-from-requires : tie.Need-put-from-requires
 unfolding withBars cards text codes
 put-from-requires c κs =
-    let s = c .before .before .before .before .before .before in
+    let s = the-start c in
     (s .pre, lit≤ tt, room-in-table _ (now (s .args .shape)) refl)
 
 same-length : tie.Need-same-length

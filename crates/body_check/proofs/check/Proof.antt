@@ -19,7 +19,12 @@ returns-3 : tie.Need-returns-3
 returns-3 c =
     let positive = c .before .before .before in
     let finite = positive .before in
-    is-answer (rw (sym (finite .before .is-finite .ensures) ∙ not-false _ (finite .if1 .left), positive .if2 .left, sym (c .before .is-finite2 .ensures) ∙ not-true _ (c .if3 .taken)))
+    is-answer (rw (
+      sym (finite .before .is-finite .ensures)
+          ∙ not-false _ (finite .if1 .left),
+      positive .if2 .left,
+      sym (c .before .is-finite2 .ensures) ∙ not-true _ (c .if3 .taken),
+    ))
 
 returns-4 : tie.Need-returns-4
 returns-4 c =
@@ -27,7 +32,12 @@ returns-4 c =
     let positive = placed .before .before .before in
     let finite = positive .before in
     is-answer
-    (rw (sym (finite .before .is-finite .ensures) ∙ not-false _ (finite .if1 .left), positive .if2 .left, sym (placed .before .is-finite2 .ensures) ∙ not-false _ (placed .if3 .left))
+    (rw (
+      sym (finite .before .is-finite .ensures)
+          ∙ not-false _ (finite .if1 .left),
+      positive .if2 .left,
+      sym (placed .before .is-finite2 .ensures) ∙ not-false _ (placed .if3 .left),
+    )
     (c .check-tensor .ensures))
 
 pub check-spec : {M : Type 1} → statement M

@@ -15,7 +15,12 @@ unfolding checkTensor
 returns-2 c =
     let massless = c .before in
     let fit = massless .before .before .before in
-    rw (sym (fit .before .entries-fit .ensures) ∙ not-false _ (fit .if1 .left), ← massless .before .before .largest-magnitude .ensures, sym (massless .before .is-massless-inertia .ensures) ∙ massless .if2 .taken)
+    rw (
+      sym (fit .before .entries-fit .ensures)
+          ∙ not-false _ (fit .if1 .left),
+      ← massless .before .before .largest-magnitude .ensures,
+      sym (massless .before .is-massless-inertia .ensures) ∙ massless .if2 .taken,
+    )
     (c .refused2 .ensures)
 
 returns-3 : tie.Need-returns-3
@@ -23,7 +28,13 @@ unfolding checkTensor
 returns-3 c =
     let massive = c .before .before in
     let fit = massive .before .before .before in
-    rw (sym (fit .before .entries-fit .ensures) ∙ not-false _ (fit .if1 .left), ← massive .before .before .largest-magnitude .ensures, sym (massive .before .is-massless-inertia .ensures) ∙ massive .if2 .left, ← c .before .eigenvalues .ensures)
+    rw (
+      sym (fit .before .entries-fit .ensures)
+          ∙ not-false _ (fit .if1 .left),
+      ← massive .before .before .largest-magnitude .ensures,
+      sym (massive .before .is-massless-inertia .ensures) ∙ massive .if2 .left,
+      ← c .before .eigenvalues .ensures,
+    )
     (c .check-moments .ensures)
 
 pub check-tensor-spec : {M : Type 1} → statement M

@@ -9,10 +9,19 @@ returns : tie.Need-returns
 returns c = rw (sym (c .before .is-finite .ensures) ∙ not-true _ (c .if1 .taken))
 
 returns-2 : tie.Need-returns-2
-returns-2 c = rw (sym (c .before .before .before .is-finite .ensures) ∙ not-false _ (c .before .before .if1 .left), sym (c .before .is-finite2 .ensures) ∙ not-true _ (c .if2 .taken))
+returns-2 c = rw (
+  sym (c .before .before .before .is-finite .ensures)
+      ∙ not-false _ (c .before .before .if1 .left),
+  sym (c .before .is-finite2 .ensures) ∙ not-true _ (c .if2 .taken),
+)
 
 returns-3 : tie.Need-returns-3
-returns-3 c = rw (sym (c .before .before .before .before .is-finite .ensures) ∙ not-false _ (c .before .before .before .if1 .left), sym (c .before .before .is-finite2 .ensures) ∙ not-false _ (c .before .if2 .left)) (c .is-finite3 .ensures)
+returns-3 c = rw (
+  sym (c .before .before .before .before .is-finite .ensures)
+      ∙ not-false _ (c .before .before .before .if1 .left),
+  sym (c .before .before .is-finite2 .ensures) ∙ not-false _ (c .before .if2 .left),
+)
+    (c .is-finite3 .ensures)
 
 pub is-finite-spec : {M : Type 1} → statement M
 is-finite-spec =

@@ -25,7 +25,8 @@ none : (t : Tensor) → bits 0 ≡ largestMagnitude t 0
 unfolding largestMagnitude
 none t = refl
 
-one-more : (t : Tensor) (n : ℕ) {a b r : Float} → a ≡ largestMagnitude t n → b ≡ absOf (numberAt t n) → r ≡ maxOf a b → r ≡ largestMagnitude t (n + 1)
+one-more : (t : Tensor) (n : ℕ) {a b r : Float} → a ≡ largestMagnitude t n → b ≡ absOf (numberAt t n) → r ≡ maxOf a b
+    → r ≡ largestMagnitude t (n + 1)
 unfolding largestMagnitude
 one-more t n p q e = rw (e, p, q, add-one)
 

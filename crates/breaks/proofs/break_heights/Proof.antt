@@ -1,4 +1,5 @@
--- `breaks::break_heights` meets its contract: the heights stand sorted, the span and 0 go in, and equal ones are kept once. Assumes nothing.
+-- `breaks::break_heights` meets its contract: the heights stand sorted, the span and 0 go in, and equal ones are kept
+-- once. Assumes nothing.
 use mathlib.Core.Path.{refl, sym, _∙_}
 use native.Mathlib.Omega.{arith}
 use Rattle.breaks.proofs.Kept.{within, both}
@@ -7,7 +8,8 @@ use Rattle.breaks.proofs.break_heights.Statement.{statement}
 use Rattle.breaks.proofs.break_heights.Tie as tie
 
 slice-aggregate-insert : tie.Need-slice-aggregate-insert
-slice-aggregate-insert c = let a = c .before .before .before .before .before .args in sym (within (a .planform) (a .points .now) _ _ (c .before .put-heights .ensures) .1)
+slice-aggregate-insert c = let a = c .before .before .before .before .before .args in
+    sym (within (a .planform) (a .points .now) _ _ (c .before .put-heights .ensures) .1)
 
 insert-requires : tie.Need-insert-requires
 insert-requires c κs =
@@ -29,16 +31,20 @@ insert-requires-2 c κs =
     let b = within (a .planform) (a .points .now) _ _ (put .put-heights .ensures) in
     omega arith
 
+-- places that the needs go back to
+abbrev at-put-heights : tie.After-all6 → tie.After-put-heights
+at-put-heights c = c .before .before .before .before .before .before .before
+
 add-distinct : tie.Need-add-distinct
 add-distinct c =
-    let put = c .before .before .before .before .before .before .before in
+    let put = at-put-heights c in
     let a = put .before .before .before .before .args in
     let b = within (a .planform) (a .points .now) _ _ (put .put-heights .ensures) in
     omega arith
 
 distinct-requires : tie.Need-distinct-requires
 distinct-requires c κs =
-    let put = c .before .before .before .before .before .before .before in
+    let put = at-put-heights c in
     let a = put .before .before .before .before .args in
     let b = within (a .planform) (a .points .now) _ _ (put .put-heights .ensures) in
     (omega arith, omega arith, omega arith)
@@ -51,7 +57,8 @@ returns c =
     let spanned = put .before .before in
     let a = spanned .before .before .args in
     c .distinct .ensures
-    ∙ both (a .planform) (a .points .now) _ _ _ _ _ (spanned .span-m .result) (spanned .span-m .ensures) refl (put .put-heights .ensures) (in-span .insert .ensures) (in-0 .insert2 .ensures)
+    ∙ both (a .planform) (a .points .now) _ _ _ _ _ (spanned .span-m .result) (spanned .span-m .ensures) refl (put .put-heights .ensures)
+    (in-span .insert .ensures) (in-0 .insert2 .ensures)
 
 pub break-heights-spec : {M : Type 1} → statement M
 break-heights-spec =

@@ -11,7 +11,8 @@ use Rattle.breaks.proofs.distinct.Statement.{statement}
 use Rattle.breaks.proofs.distinct.Tie as tie
 
 abbrev Inv-loop : tie.InvT-loop
-Inv-loop xs n heights₀ count₀ i₀ heights count i = (1 ≤ i) × (i ≤ n) × (count < i) × Written (take count heights) zeros heights count × Kept xs n i (take count heights)
+Inv-loop xs n heights₀ count₀ i₀ heights count i = (1 ≤ i) × (i ≤ n) × (count < i) × Written (take count heights) zeros heights count
+    × Kept xs n i (take count heights)
 
 abbrev μ-loop : tie.MeasureT-loop
 μ-loop xs n heights₀ count₀ i₀ heights count i = n - i
@@ -91,7 +92,8 @@ returns c =
     let w = head .loop .inv .3 in
     let e : head .loop .i ≡ a .n = omega arith in
     answer (written-put _ w (omega (arith, w .count)))
-    (last-kept (a .xs .now) (a .n) (take (head .loop .count) (head .loop .heights)) (omega arith) (omega arith) (rw e at (head .loop .inv .4)))
+    (last-kept (a .xs .now) (a .n) (take (head .loop .count) (head .loop .heights)) (omega arith) (omega arith)
+    (rw e at (head .loop .inv .4)))
 
 pub distinct-spec : {M : Type 1} → statement M
 distinct-spec =

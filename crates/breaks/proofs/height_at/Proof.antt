@@ -10,9 +10,13 @@ use Rattle.breaks.proofs.height_at.Tie as tie
 returns-2 : tie.Need-returns-2
 returns-2 c = c .span-m .ensures ∙ rw (c .before .if2 .taken)
 
+-- places that the needs go back to
+abbrev the-start : tie.After-outline-height-at → tie.Start
+the-start c = c .before .before .before .before .before .before
+
 returns-3 : tie.Need-returns-3
 returns-3 c =
-    let a = c .before .before .before .before .before .before .args in
+    let a = (the-start c) .args in
     of-outline (a .planform) (a .points .now) (a .place) _ (c .before .enum-told .given .1) (omega arith) (c .outline-height-at .ensures)
 
 returns-4 : tie.Need-returns-4

@@ -24,7 +24,9 @@ same-length c = search needs
 returns-2 : tie.Need-returns-2
 returns-2 c =
     let a = c .before .args in
-    rw (c .if1 .left) (written-put (a .a) (written-itself (a .count) (a .xs .now) (omega arith)) (rw (length-take-le (a .count) (a .xs .now) (omega arith)) (omega arith)))
+    rw (c .if1 .left)
+    (written-put (a .a) (written-itself (a .count) (a .xs .now) (omega arith))
+    (rw (length-take-le (a .count) (a .xs .now) (omega arith)) (omega arith)))
 
 pub keep-unless-equal-spec : {M : Type 1} → statement M
 keep-unless-equal-spec =

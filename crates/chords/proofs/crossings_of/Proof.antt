@@ -15,7 +15,8 @@ abbrev μ-loop : tie.MeasureT-loop
 μ-loop points edges h xs₀ n count₀ k₀ xs count k = length edges - k
 
 loop-holds : tie.Need-loop-holds Inv-loop μ-loop
-loop-holds c = let a = c .before .before .args in (omega arith, none-yet (a .points .now) (pairCount (a .points .now)) (a .h) (a .edges .now) (a .xs .now))
+loop-holds c = let a = c .before .before .args in
+    (omega arith, none-yet (a .points .now) (pairCount (a .points .now)) (a .h) (a .edges .now) (a .xs .now))
 
 shared-slice-read-cross-edge : tie.Need-shared-slice-read-cross-edge Inv-loop μ-loop
 shared-slice-read-cross-edge c = omega arith
@@ -41,8 +42,11 @@ loop-less c = omega arith
 loop-again : tie.Need-loop-again Inv-loop μ-loop
 loop-again c =
     let head = c .before .before .before .before in
-    let a = head .before .before .before .args in
-    (omega arith, one-more (a .points .now) (pairCount (a .points .now)) (a .h) (a .edges .now) (head .loop .k) _ (head .loop .xs) _ _ _ (head .loop .inv .1) (c .cross-edge .ensures))
+    let a = head .before .before .before .args in (
+      omega arith,
+      one-more (a .points .now) (pairCount (a .points .now)) (a .h) (a .edges .now) (head .loop .k) _ (head .loop .xs) _ _ _
+          (head .loop .inv .1) (c .cross-edge .ensures),
+    )
 
 returns : tie.Need-returns Inv-loop μ-loop
 returns c =

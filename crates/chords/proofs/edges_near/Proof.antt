@@ -10,7 +10,9 @@ use Rattle.chords.proofs.edges_near.Statement.{statement}
 use Rattle.chords.proofs.edges_near.Tie as tie
 
 abbrev Inv-loop : tie.InvT-loop
-Inv-loop points lo hi edges₀ n first-below first-above below₀ above₀ count₀ i₀ edges below above count i = (1 ≤ i) × (i ≤ pairCount points) × (below ≡ le (heightAt points (i - 1)) lo) × (above ≡ lt hi (heightAt points (i - 1))) × KeptTo points (pairCount points) lo hi (i - 1) edges count
+Inv-loop points lo hi edges₀ n first-below first-above below₀ above₀ count₀ i₀ edges below above count i = (1 ≤ i) × (i ≤ pairCount points)
+    × (below ≡ le (heightAt points (i - 1)) lo) × (above ≡ lt hi (heightAt points (i - 1)))
+    × KeptTo points (pairCount points) lo hi (i - 1) edges count
 
 abbrev μ-loop : tie.MeasureT-loop
 μ-loop points lo hi edges₀ n first-below first-above below₀ above₀ count₀ i₀ edges below above count i = pairCount points - i
@@ -28,7 +30,8 @@ shared-slice-read-first-above : tie.Need-shared-slice-read-first-above Inv-loop 
 shared-slice-read-first-above c = omega arith
 
 loop-holds : tie.Need-loop-holds Inv-loop μ-loop
-loop-holds c = let a = c .before .before .before .before .before .args in (omega arith, omega arith, refl, refl, none-yet (a .points .now) (pairCount (a .points .now)) (a .lo) (a .hi) (a .edges .now))
+loop-holds c = let a = c .before .before .before .before .before .args in
+    (omega arith, omega arith, refl, refl, none-yet (a .points .now) (pairCount (a .points .now)) (a .lo) (a .hi) (a .edges .now))
 
 mul-y : tie.Need-mul-y Inv-loop μ-loop
 mul-y c = omega arith
@@ -66,7 +69,8 @@ loop-again c =
       omega arith,
       rw e,
       rw e,
-      one-more (a .points .now) (pairCount (a .points .now)) (a .lo) (a .hi) i (head .loop .edges) _ (head .loop .count) _ (head .loop .below) (head .loop .above) (omega arith) (omega arith) (omega arith) (v .2) (v .3) (v .4) (c .keep-edge .ensures),
+      one-more (a .points .now) (pairCount (a .points .now)) (a .lo) (a .hi) i (head .loop .edges) _ (head .loop .count) _
+          (head .loop .below) (head .loop .above) (omega arith) (omega arith) (omega arith) (v .2) (v .3) (v .4) (c .keep-edge .ensures),
     )
 
 sub-keep-edge-2 : tie.Need-sub-keep-edge-2 Inv-loop μ-loop
@@ -83,7 +87,8 @@ returns-3 c =
     let v = head .loop .inv in
     let fewer = v .4 .fewer in
     all-near (a .points .now) (a .lo) (a .hi) _ _ (omega arith) (omega arith)
-    (closed (a .points .now) n (a .lo) (a .hi) (head .loop .i) (head .loop .edges) _ (head .loop .count) _ (head .loop .below) (head .loop .above) (omega arith) (omega arith) (omega arith) (v .2) (v .3) (v .4) (c .keep-edge2 .ensures))
+    (closed (a .points .now) n (a .lo) (a .hi) (head .loop .i) (head .loop .edges) _ (head .loop .count) _ (head .loop .below)
+    (head .loop .above) (omega arith) (omega arith) (omega arith) (v .2) (v .3) (v .4) (c .keep-edge2 .ensures))
 
 pub edges-near-spec : {M : Type 1} → statement M
 edges-near-spec =

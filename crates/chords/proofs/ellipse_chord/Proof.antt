@@ -18,7 +18,12 @@ sqrt-requires : tie.Need-sqrt-requires
 sqrt-requires c κs = search needs
 
 returns-2 : tie.Need-returns-2
-returns-2 c = rw (sym (c .before .before .before .in-span .ensures) ∙ not-false _ (c .before .before .if1 .left), c .sqrt .ensures .0, c .before .max .ensures)
+returns-2 c = rw (
+  sym (c .before .before .before .in-span .ensures)
+      ∙ not-false _ (c .before .before .if1 .left),
+  c .sqrt .ensures .0,
+  c .before .max .ensures,
+)
 
 pub ellipse-chord-spec : {M : Type 1} → statement M
 ellipse-chord-spec =

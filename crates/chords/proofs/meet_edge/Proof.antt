@@ -21,7 +21,12 @@ returns-3 c =
     let made = c .before in
     let left = made .before .before in
     let asked = left .before in
-    rw (← asked .before .next-point .ensures .0, sym (asked .edge-crossed .ensures) ∙ not-false _ (left .if1 .left), ← made .edge-crossing .ensures) (c .add-few .ensures)
+    rw (
+      ← asked .before .next-point .ensures .0,
+      sym (asked .edge-crossed .ensures)
+          ∙ not-false _ (left .if1 .left),
+      ← made .edge-crossing .ensures,
+    ) (c .add-few .ensures)
 
 pub meet-edge-spec : {M : Type 1} → statement M
 meet-edge-spec =

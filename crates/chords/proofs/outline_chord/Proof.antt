@@ -16,7 +16,8 @@ abbrev μ-loop : tie.MeasureT-loop
 μ-loop points edges h n few₀ k₀ few k = length edges - k
 
 loop-holds : tie.Need-loop-holds Inv-loop μ-loop
-loop-holds c = let a = c .before .before .args in (omega arith, none-yet (a .points .now) (pairCount (a .points .now)) (a .h) (a .edges .now))
+loop-holds c = let a = c .before .before .args in
+    (omega arith, none-yet (a .points .now) (pairCount (a .points .now)) (a .h) (a .edges .now))
 
 shared-slice-read-meet-edge : tie.Need-shared-slice-read-meet-edge Inv-loop μ-loop
 shared-slice-read-meet-edge c = omega arith
@@ -34,7 +35,8 @@ returns c =
     let start = head .before .before .before in
     let a = start .args in
     a-third (a .points .now) (a .h) (a .edges .now) (head .loop .k + 1) (met .meet-edge .result) (start .pre) (omega arith)
-    (one-more (a .points .now) (pairCount (a .points .now)) (a .h) (a .edges .now) (head .loop .k) (head .loop .few) _ (head .loop .inv .1) (met .meet-edge .ensures))
+    (one-more (a .points .now) (pairCount (a .points .now)) (a .h) (a .edges .now) (head .loop .k) (head .loop .few) _ (head .loop .inv .1)
+    (met .meet-edge .ensures))
     (c .enum-told .given .1)
 
 add-k : tie.Need-add-k Inv-loop μ-loop
@@ -47,15 +49,19 @@ loop-again : tie.Need-loop-again Inv-loop μ-loop
 loop-again c =
     let met = c .before in
     let head = met .before .before .before in
-    let a = head .before .before .before .args in
-    (omega arith, one-more (a .points .now) (pairCount (a .points .now)) (a .h) (a .edges .now) (head .loop .k) (head .loop .few) _ (head .loop .inv .1) (met .meet-edge .ensures))
+    let a = head .before .before .before .args in (
+      omega arith,
+      one-more (a .points .now) (pairCount (a .points .now)) (a .h) (a .edges .now) (head .loop .k) (head .loop .few) _
+          (head .loop .inv .1) (met .meet-edge .ensures),
+    )
 
 returns-2 : tie.Need-returns-2 Inv-loop μ-loop
 returns-2 c =
     let head = c .before .before in
     let start = head .before .before .before in
     let a = start .args in
-    the-chord (a .points .now) (a .h) (a .edges .now) (head .loop .k) (head .loop .few) _ (start .pre) (omega arith) (head .loop .inv .1) (c .few-chords .ensures)
+    the-chord (a .points .now) (a .h) (a .edges .now) (head .loop .k) (head .loop .few) _ (start .pre) (omega arith) (head .loop .inv .1)
+    (c .few-chords .ensures)
 
 pub outline-chord-spec : {M : Type 1} → statement M
 outline-chord-spec =

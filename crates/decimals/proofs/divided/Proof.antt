@@ -1,4 +1,5 @@
--- `decimals::divided` meets its contract: the first quotient has 12 digits or more, and what is missing to 53 comes in two steps. Assumes nothing.
+-- `decimals::divided` meets its contract: the first quotient has 12 digits or more, and what is missing to 53 comes in
+-- two steps. Assumes nothing.
 use native.Mathlib.Nat.{mod-lt}
 use native.Mathlib.Omega.{arith}
 use Rattle.decimals.proofs.Steps.{lift, few-places, first-fits, second-fits, all-digits}

@@ -20,7 +20,8 @@ product c = five-of (c .before .before .args .k) _ _ (c .before .high-power .ens
 
 mul-result : tie.Need-mul-result
 mul-result c =
-    let few : 5 ^ c .before .before .args .k ≤ 2 ^ 53 = le-trans (five-most (c .before .before .args .k) (omega arith)) (leb→le (5 ^ 18) (2 ^ 53) tt) in
+    let few : 5 ^ c .before .before .args .k ≤ 2 ^ 53 = le-trans (five-most (c .before .before .args .k) (omega arith))
+    (leb→le (5 ^ 18) (2 ^ 53) tt) in
     omega (arith, product c)
 
 returns : tie.Need-returns

@@ -21,7 +21,8 @@ returns c =
     let divided = to .before in
     let widened = divided .before in
     c .from-bits .ensures
-    ∙ long-is (widened .before .before .pre .1) (widened .before .five-to .ensures) (widened .widened .ensures) (divided .divided .ensures) (to .to-nearest .ensures .0)
+    ∙ long-is (widened .before .before .pre .1) (widened .before .five-to .ensures) (widened .widened .ensures) (divided .divided .ensures)
+    (to .to-nearest .ensures .0)
 
 pub long-quotient-spec : {M : Type 1} → statement M
 long-quotient-spec =

@@ -45,8 +45,12 @@ loop-less c = omega arith
 
 loop-again : tie.Need-loop-again Inv-loop μ-loop
 loop-again c =
-    let i = c .before .before .before .loop .i in
-    (omega arith, one-more _ i _ _ (c .before .before .before .loop .inv .1) (c .is-whole .ensures ∙ ap isWhole (sym (List·getD-map exactOf (now (c .before .before .before .before .before .args .points)) i nan))))
+    let i = c .before .before .before .loop .i in (
+      omega arith,
+      one-more _ i _ _ (c .before .before .before .loop .inv .1)
+          (c .is-whole .ensures
+          ∙ ap isWhole (sym (List·getD-map exactOf (now (c .before .before .before .before .before .args .points)) i nan))),
+    )
 
 returns : tie.Need-returns Inv-loop μ-loop
 unfolding areWhole

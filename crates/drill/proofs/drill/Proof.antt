@@ -11,12 +11,14 @@ use Rattle.steps.specs.Steps.{exactOf}
 use Rattle.drill.specs.Drill.{cornersOf, hasCorners}
 use Rattle.drill.specs.InSteps.{inSteps}
 use Rattle.drill.proofs.Reach.{none, one-more}
-use Rattle.drill.proofs.Checks.{before, refused, no-corners, in-steps, planform-accepted, x-length, height-length, trapezoid-lengths, outline-lengths, outline-fits}
+use Rattle.drill.proofs.Checks.{before, refused, no-corners, in-steps, planform-accepted, x-length, height-length, trapezoid-lengths}
+use Rattle.drill.proofs.Checks.{outline-lengths, outline-fits}
 use Rattle.drill.proofs.drill.Statement.{statement}
 use Rattle.drill.proofs.drill.Tie as tie
 
 -- the verdict of the planform and the point's limits
-told : (c : tie.After-first-refusal2) → let a = c .before .before .before .before .before .before .args in c .first-refusal2 .result ≡ before (a .planform) (now (a .points)) (a .x-m) (a .height-m)
+told : (c : tie.After-first-refusal2) → let a = c .before .before .before .before .before .before .args in
+    c .first-refusal2 .result ≡ before (a .planform) (now (a .points)) (a .x-m) (a .height-m)
 told c = rw (
   c .first-refusal2 .ensures,
   c .before .check-length2 .ensures,
@@ -25,40 +27,52 @@ told c = rw (
   c .before .before .before .before .check-planform .ensures .is,
 )
 
-accepted : (c : tie.After-enum-told) → let a = c .before .before .before .before .before .before .before .before .args in before (a .planform) (now (a .points)) (a .x-m) (a .height-m) ≡ Accepted
+accepted : (c : tie.After-enum-told) → let a = c .before .before .before .before .before .before .before .before .args in
+    before (a .planform) (now (a .points)) (a .x-m) (a .height-m) ≡ Accepted
 accepted c = sym (told (c .before .before)) ∙ c .enum-told .given .1
+
+-- places that the needs go back to
+abbrev start-from-first-refusal2 : tie.After-first-refusal2 → tie.Start
+start-from-first-refusal2 c = c .before .before .before .before .before .before
+
+abbrev start-from-drill-trapezoid : tie.After-drill-trapezoid → tie.Start
+start-from-drill-trapezoid c = c .before .before .before .before .before .before .before .before .before .before .before .before
 
 returns : tie.Need-returns
 returns c =
-    let a = c .before .before .before .before .before .before .before .before .before .args in
-    is-answer (refused (a .planform) (now (a .points)) (a .x-m) (a .height-m) _ (sym (told (c .before .before .before)) ∙ c .before .v .given .1))
+    let a = (start-from-first-refusal2 (c .before .before .before)) .args in
+    is-answer (refused (a .planform) (now (a .points)) (a .x-m) (a .height-m) _
+    (sym (told (c .before .before .before)) ∙ c .before .v .given .1))
 
 drill-trapezoid-requires : tie.Need-drill-trapezoid-requires
 drill-trapezoid-requires c κs =
-    let a = c .before .before .before .before .before .before .before .before .before .before .before .args in
+    let a = (start-from-first-refusal2 (c .before .before .before .before .before)) .args in
     let ok = accepted (c .before .before .before) in
     let points = now (a .points) in
     let taken = planform-accepted (a .planform) points (a .x-m) (a .height-m) ok in
     trapezoid-lengths _ _ _ _ points (a .x-m ∷ a .height-m ∷ [])
     (subst (λ (p : Planform). planformCheck p points ≡ Accepted) (c .before .planform .given .1) taken)
-    (one-more (a .x-m) (a .height-m ∷ []) (x-length (a .planform) points (a .x-m) (a .height-m) ok) (one-more (a .height-m) [] (height-length (a .planform) points (a .x-m) (a .height-m) ok) none))
+    (one-more (a .x-m) (a .height-m ∷ []) (x-length (a .planform) points (a .x-m) (a .height-m) ok)
+    (one-more (a .height-m) [] (height-length (a .planform) points (a .x-m) (a .height-m) ok) none))
 
 drill-outline-requires : tie.Need-drill-outline-requires
 unfolding planformCheck
 drill-outline-requires c κs =
-    let a = c .before .before .before .before .before .before .before .before .before .before .args in
+    let a = (start-from-first-refusal2 (c .before .before .before .before)) .args in
     let ok = accepted (c .before .before) in
     let points = now (a .points) in
-    let taken = subst (λ (p : Planform). planformCheck p points ≡ Accepted) (c .enum-told3 .given .1) (planform-accepted (a .planform) points (a .x-m) (a .height-m) ok) in
+    let taken = subst (λ (p : Planform). planformCheck p points ≡ Accepted) (c .enum-told3 .given .1)
+    (planform-accepted (a .planform) points (a .x-m) (a .height-m) ok) in
     let fit = outline-fits points taken in (
-      one-more (a .x-m) (a .height-m ∷ points) (x-length (a .planform) points (a .x-m) (a .height-m) ok) (one-more (a .height-m) points (height-length (a .planform) points (a .x-m) (a .height-m) ok) (outline-lengths points taken)),
+      one-more (a .x-m) (a .height-m ∷ points) (x-length (a .planform) points (a .x-m) (a .height-m) ok)
+          (one-more (a .height-m) points (height-length (a .planform) points (a .x-m) (a .height-m) ok) (outline-lengths points taken)),
       fit .0,
       fit .1,
     )
 
 returns-2 : tie.Need-returns-2
 returns-2 c =
-    let a = c .before .before .before .before .before .before .before .before .before .before .before .before .args in
+    let a = (start-from-drill-trapezoid c) .args in
     let points = now (a .points) in
     let e = c .before .before .planform .given .1 in
     is-answer
@@ -68,12 +82,13 @@ returns-2 c =
 
 returns-3 : tie.Need-returns-3
 returns-3 c =
-    let a = c .before .before .before .before .before .before .before .before .before .before .args in
-    is-answer (no-corners (a .planform) (now (a .points)) (a .x-m) (a .height-m) (accepted (c .before .before)) (ap hasCorners (c .enum-told2 .given .1)))
+    let a = (start-from-first-refusal2 (c .before .before .before .before)) .args in
+    is-answer (no-corners (a .planform) (now (a .points)) (a .x-m) (a .height-m) (accepted (c .before .before))
+    (ap hasCorners (c .enum-told2 .given .1)))
 
 returns-4 : tie.Need-returns-4
 returns-4 c =
-    let a = c .before .before .before .before .before .before .before .before .before .before .before .args in
+    let a = (start-from-first-refusal2 (c .before .before .before .before .before)) .args in
     let points = now (a .points) in
     let e = c .before .enum-told3 .given .1 in
     is-answer

@@ -28,10 +28,13 @@ are-whole-requires : tie.Need-are-whole-requires
 are-whole-requires c κs = drawn (c .before .before .before)
 
 -- the test, whichever way it goes
-tested : (c : tie.After-are-whole) → let a = c .before .before .before .before .args in (c .before .before .is-whole .result && c .before .is-whole2 .result && c .are-whole .result) ≡ areWhole (exactOf (a .x-m) ∷ exactOf (a .height-m) ∷ map exactOf (now (a .points)))
+tested : (c : tie.After-are-whole) → let a = c .before .before .before .before .args in
+    (c .before .before .is-whole .result && c .before .is-whole2 .result && c .are-whole .result)
+    ≡ areWhole (exactOf (a .x-m) ∷ exactOf (a .height-m) ∷ map exactOf (now (a .points)))
 tested c =
     let a = c .before .before .before .before .args in
-    rw (c .before .before .is-whole .ensures, c .before .is-whole2 .ensures, c .are-whole .ensures) (sym (two-in-front (exactOf (a .x-m)) (exactOf (a .height-m)) (map exactOf (now (a .points)))))
+    rw (c .before .before .is-whole .ensures, c .before .is-whole2 .ensures, c .are-whole .ensures)
+    (sym (two-in-front (exactOf (a .x-m)) (exactOf (a .height-m)) (map exactOf (now (a .points)))))
 
 returns : tie.Need-returns
 returns c = refused _ _ _ (tested (c .before)) (c .if1 .taken)
@@ -39,20 +42,24 @@ returns c = refused _ _ _ (tested (c .before)) (c .if1 .taken)
 steps-of-requires : tie.Need-steps-of-requires
 steps-of-requires c κs = (drawn (c .before .before .before .before .before), c .before .before .before .before .before .pre .1)
 
+-- places that the needs go back to
+abbrev the-start : tie.After-corners → tie.Start
+the-start c = c .before .before .before .before .before .before .before
+
 slice-aggregate-place : tie.Need-slice-aggregate-place
 slice-aggregate-place c =
-    let points = now (c .before .before .before .before .before .before .before .args .points) in
+    let points = now ((the-start c) .args .points) in
     sym (ap length (c .before .steps-of .ensures) ∙ length-map (map exactOf points) stepsOf ∙ length-map points exactOf)
 
 steps-requires : tie.Need-steps-requires
-steps-requires c κs = c .before .before .before .before .before .before .before .pre .0 0 (omega arith)
+steps-requires c κs = (the-start c) .pre .0 0 (omega arith)
 
 steps-requires-2 : tie.Need-steps-requires-2
-steps-requires-2 c κs = c .before .before .before .before .before .before .before .before .pre .0 1 (omega arith)
+steps-requires-2 c κs = (the-start (c .before)) .pre .0 1 (omega arith)
 
 place-requires : tie.Need-place-requires
 place-requires c κs =
-    let at = c .before .before .before .before .before .before .before .before .before in
+    let at = the-start (c .before .before) in
     let points = now (at .args .points) in
     let corners = c .before .before .before .steps-of .ensures in
     let x = c .before .steps in
@@ -71,7 +78,8 @@ returns-2 c =
     let height = c .before .steps2 in
     let past = c .before .before .before .before .before in
     let corners = c .before .before .before .before .steps-of .ensures in
-    c .place .ensures ∙ placed _ _ _ (tested (past .before)) (past .if1 .left) corners (steps-back (x .ok) (x .ensures)) (steps-back (height .ok) (height .ensures))
+    c .place .ensures ∙ placed _ _ _ (tested (past .before)) (past .if1 .left) corners (steps-back (x .ok) (x .ensures))
+    (steps-back (height .ok) (height .ensures))
 
 pub drill-outline-spec : {M : Type 1} → statement M
 drill-outline-spec =

@@ -32,7 +32,11 @@ is-whole-requires-6 : tie.Need-is-whole-requires-6
 is-whole-requires-6 c κs = c .before .before .before .before .before .pre 0 (omega arith)
 
 -- the test, whichever way it goes
-tested : (c : tie.After-is-whole6) → let a = c .before .before .before .before .before .before .args in (c .before .before .before .before .before .is-whole .result && c .before .before .before .before .is-whole2 .result && (c .before .before .before .is-whole3 .result && c .before .before .is-whole4 .result && c .before .is-whole5 .result) && c .is-whole6 .result) ≡ areWhole (exactOf (a .x-m) ∷ exactOf (a .height-m) ∷ cornersOf (Trapezoid (a .root-chord-m) (a .tip-chord-m) (a .span-m) (a .sweep-m)) [])
+tested : (c : tie.After-is-whole6) → let a = c .before .before .before .before .before .before .args in
+    (c .before .before .before .before .before .is-whole .result && c .before .before .before .before .is-whole2 .result &&
+    (c .before .before .before .is-whole3 .result && c .before .before .is-whole4 .result && c .before .is-whole5 .result) &&
+    c .is-whole6 .result) ≡ areWhole
+    (exactOf (a .x-m) ∷ exactOf (a .height-m) ∷ cornersOf (Trapezoid (a .root-chord-m) (a .tip-chord-m) (a .span-m) (a .sweep-m)) [])
 tested c =
     let a = c .before .before .before .before .before .before .args in
     rw (
@@ -43,38 +47,50 @@ tested c =
       c .before .is-whole5 .ensures,
       c .is-whole6 .ensures,
     )
-    (sym (trapezoid (exactOf (a .x-m)) (exactOf (a .height-m)) (exactOf (a .sweep-m)) (exactOf (a .span-m)) (exactOf (a .tip-chord-m)) (exactOf (a .root-chord-m))))
+    (sym (trapezoid (exactOf (a .x-m)) (exactOf (a .height-m)) (exactOf (a .sweep-m)) (exactOf (a .span-m)) (exactOf (a .tip-chord-m))
+    (exactOf (a .root-chord-m))))
 
 returns : tie.Need-returns
 returns c = refused _ _ _ (tested (c .before)) (c .if1 .taken)
 
 -- past the test sweep and tip are whole
-tip-whole : (c : tie.Else1) → let a = c .before .before .before .before .before .before .before .args in (isWhole (exactOf (a .sweep-m)) ≡ true) × (isWhole (exactOf (a .tip-chord-m)) ≡ true)
+tip-whole : (c : tie.Else1) → let a = c .before .before .before .before .before .before .before .args in
+    (isWhole (exactOf (a .sweep-m)) ≡ true) × (isWhole (exactOf (a .tip-chord-m)) ≡ true)
 tip-whole c =
     let t = c .before in
     let point = t .before .before .before .before .before .is-whole .result && t .before .before .before .before .is-whole2 .result in
     let top = t .before .before .before .is-whole3 .result && t .before .before .is-whole4 .result in
     let tip = t .before .is-whole5 .result in
-    let all = both-true (point && (top && tip)) (t .is-whole6 .result) (not-false (point && (top && tip) && t .is-whole6 .result) (c .if1 .left)) in
+    let all = both-true (point && (top && tip)) (t .is-whole6 .result)
+    (not-false (point && (top && tip) && t .is-whole6 .result) (c .if1 .left)) in
     let both = both-true top tip (both-true point (top && tip) (all .0) .1) in (
-      sym (t .before .before .before .is-whole3 .ensures) ∙ both-true (t .before .before .before .is-whole3 .result) (t .before .before .is-whole4 .result) (both .0) .0,
+      sym (t .before .before .before .is-whole3 .ensures)
+          ∙ both-true (t .before .before .before .is-whole3 .result) (t .before .before .is-whole4 .result) (both .0) .0,
       sym (t .before .is-whole5 .ensures) ∙ both .1,
     )
 
+-- places that the needs go back to
+abbrev the-start : tie.Else1 → tie.Start
+the-start c = c .before .before .before .before .before .before .before
+
 trapezoid-corners-requires : tie.Need-trapezoid-corners-requires
 trapezoid-corners-requires c κs =
-    let a = c .before .before .before .before .before .before .before .args in
-    (four (a .root-chord-m) (a .tip-chord-m) (a .span-m) (a .sweep-m) (a .x-m) (a .height-m) (c .before .before .before .before .before .before .before .pre), tip-whole c .0, tip-whole c .1)
+    let a = (the-start c) .args in (
+      four (a .root-chord-m) (a .tip-chord-m) (a .span-m) (a .sweep-m) (a .x-m) (a .height-m) ((the-start c) .pre),
+      tip-whole c .0,
+      tip-whole
+          c .1,
+    )
 
 steps-requires : tie.Need-steps-requires
-steps-requires c κs = c .before .before .before .before .before .before .before .before .before .pre 4 (omega arith)
+steps-requires c κs = (the-start (c .before .before)) .pre 4 (omega arith)
 
 steps-requires-2 : tie.Need-steps-requires-2
-steps-requires-2 c κs = c .before .before .before .before .before .before .before .before .before .before .pre 5 (omega arith)
+steps-requires-2 c κs = (the-start (c .before .before .before)) .pre 5 (omega arith)
 
 place-requires : tie.Need-place-requires
 place-requires c κs =
-    let at = c .before .before .before .before .before .before .before .before .before .before .before in
+    let at = the-start (c .before .before .before .before) in
     let a = at .args in
     let corners = c .before .before .before .trapezoid-corners in
     let x = c .before .steps in
@@ -82,7 +98,9 @@ place-requires c κs =
     let w = tip-whole (c .before .before .before .before) in (
       rw (corners .ensures) (omega arith),
       record {
-        all = rw (corners .ensures) (trapezoid-reach (a .root-chord-m) (a .tip-chord-m) (a .span-m) (a .sweep-m) (a .x-m ∷ a .height-m ∷ []) (at .pre) (w .0) (w .1));
+        all = rw (corners .ensures)
+            (trapezoid-reach (a .root-chord-m) (a .tip-chord-m) (a .span-m) (a .sweep-m) (a .x-m ∷ a .height-m ∷ []) (at .pre) (w .0)
+            (w .1));
         across = steps-reach _ (x .ok) (x .ensures) (at .pre 4 (omega arith));
         up = steps-reach _ (height .ok) (height .ensures) (at .pre 5 (omega arith));
       },
@@ -94,7 +112,8 @@ returns-2 c =
     let height = c .before .steps2 in
     let past = c .before .before .before .before .before in
     let corners = c .before .before .before .before .trapezoid-corners .ensures in
-    c .place .ensures ∙ placed _ _ _ (tested (past .before)) (past .if1 .left) corners (steps-back (x .ok) (x .ensures)) (steps-back (height .ok) (height .ensures))
+    c .place .ensures ∙ placed _ _ _ (tested (past .before)) (past .if1 .left) corners (steps-back (x .ok) (x .ensures))
+    (steps-back (height .ok) (height .ensures))
 
 pub drill-trapezoid-spec : {M : Type 1} → statement M
 drill-trapezoid-spec =

@@ -15,14 +15,20 @@ use Rattle.drill.proofs.place.Tie as tie
 
 -- ---- what the calls say, of the corners and the point as they came
 
-nearest : (c : tie.After-nearest-corner) → c .nearest-corner .result ≡ nearestCorner (now (c .before .args .corners)) (c .before .args .x) (c .before .args .height)
+nearest : (c : tie.After-nearest-corner)
+    → c .nearest-corner .result ≡ nearestCorner (now (c .before .args .corners)) (c .before .args .x) (c .before .args .height)
 nearest c = c .nearest-corner .ensures ∙ rw (toZ-ofZ (c .before .fits .x), toZ-ofZ (c .before .fits .height))
 
-on-edge : (c : tie.After-is-on-edge) → c .is-on-edge .result ≡ isOnEdge (now (c .before .before .args .corners)) (c .before .before .args .x) (c .before .before .args .height)
+on-edge : (c : tie.After-is-on-edge)
+    → c .is-on-edge .result
+    ≡ isOnEdge (now (c .before .before .args .corners)) (c .before .before .args .x) (c .before .before .args .height)
 on-edge c = c .is-on-edge .ensures ∙ rw (toZ-ofZ (c .before .before .fits .x), toZ-ofZ (c .before .before .fits .height))
 
-inside : (c : tie.After-is-inside) → c .is-inside .result ≡ isInside (now (c .before .before .before .before .args .corners)) (c .before .before .before .before .args .x) (c .before .before .before .before .args .height)
-inside c = c .is-inside .ensures ∙ rw (toZ-ofZ (c .before .before .before .before .fits .x), toZ-ofZ (c .before .before .before .before .fits .height))
+inside : (c : tie.After-is-inside) → c .is-inside .result
+    ≡ isInside (now (c .before .before .before .before .args .corners)) (c .before .before .before .before .args .x)
+    (c .before .before .before .before .args .height)
+inside c = c .is-inside .ensures
+    ∙ rw (toZ-ofZ (c .before .before .before .before .fits .x), toZ-ofZ (c .before .before .before .before .fits .height))
 
 nearest-corner-requires : tie.Need-nearest-corner-requires
 nearest-corner-requires c κs = (c .pre .0, rw (toZ-ofZ (c .fits .x), toZ-ofZ (c .fits .height)) (c .pre .1))
@@ -35,15 +41,26 @@ unfolding placeOf
 returns c = sym (rw (sym (on-edge (c .before)) ∙ c .if1 .taken, ← nearest (c .before .before)))
 
 is-inside-requires : tie.Need-is-inside-requires
-is-inside-requires c κs = rw (toZ-ofZ (c .before .before .before .fits .x), toZ-ofZ (c .before .before .before .fits .height)) (c .before .before .before .pre .1)
+is-inside-requires c κs = rw (toZ-ofZ (c .before .before .before .fits .x), toZ-ofZ (c .before .before .before .fits .height))
+    (c .before .before .before .pre .1)
 
 returns-2 : tie.Need-returns-2
 unfolding placeOf
-returns-2 c = sym (rw (sym (on-edge (c .before .before .before)) ∙ c .before .before .if1 .left, sym (inside (c .before)) ∙ c .if2 .taken, ← nearest (c .before .before .before .before)))
+returns-2 c = sym (rw (
+  sym (on-edge (c .before .before .before)) ∙ c .before .before .if1 .left,
+  sym (inside (c .before))
+      ∙ c .if2 .taken,
+  ← nearest (c .before .before .before .before),
+))
 
 returns-3 : tie.Need-returns-3
 unfolding placeOf
-returns-3 c = sym (rw (sym (on-edge (c .before .before .before)) ∙ c .before .before .if1 .left, sym (inside (c .before)) ∙ c .if2 .left, ← nearest (c .before .before .before .before)))
+returns-3 c = sym (rw (
+  sym (on-edge (c .before .before .before)) ∙ c .before .before .if1 .left,
+  sym (inside (c .before))
+      ∙ c .if2 .left,
+  ← nearest (c .before .before .before .before),
+))
 
 pub place-spec : {M : Type 1} → statement M
 place-spec = tie.close (tie.spec nearest-corner-requires is-on-edge-requires returns is-inside-requires returns-2 returns-3)

@@ -55,7 +55,8 @@ loop-again c =
     let room : i < length (c .before .before .before .loop .corners) = omega (arith, c .before .before .before .before .before .pre .1) in (
       omega arith,
       simp length-set (inv .1),
-      one-filled (pos 0) (λ k. getD (in-steps points) k (pos 0)) (c .before .before .before .loop .corners) i _ room (inv .2) (result-back (c .steps .result) (c .steps .ok) ∙ c .steps .ensures ∙ sym (steps-at points i)),
+      one-filled (pos 0) (λ k. getD (in-steps points) k (pos 0)) (c .before .before .before .loop .corners) i _ room (inv .2)
+          (result-back (c .steps .result) (c .steps .ok) ∙ c .steps .ensures ∙ sym (steps-at points i)),
     )
 
 returns : tie.Need-returns Inv-loop μ-loop

@@ -18,14 +18,18 @@ returns c =
     let s = c .before .before .before .before .before .args in
     sym (ap (λ (t : Bool). t && saved (s .fault) (take (s .f .to) (now (s .line))) (now (s .endings))) (le-ltb (s .f .from) (s .f .to) (c .if1 .taken)))
 
+-- places that the needs go back to
+abbrev the-start : tie.After-put-bytes-arg2 → tie.Start
+the-start c = c .before .before .before .before .before .before .before
+
 slice-aggregate-put-bytes : tie.Need-slice-aggregate-put-bytes
 slice-aggregate-put-bytes c =
-    let s = c .before .before .before .before .before .before .before in
+    let s = the-start c in
     sym (length-take-le (s .args .f .to) (now (s .args .line)) (s .pre .1))
 
 put-bytes-requires : tie.Need-put-bytes-requires
 put-bytes-requires c κs =
-    let s = c .before .before .before .before .before .before .before in
+    let s = the-start c in
     let l = length-take (s .args .f .to) (now (s .args .line)) in let h = s .pre .0 in
     omega (arith, l, h)
 

@@ -8,19 +8,26 @@ use borrow.Author.Needs.{needs}
 use Rattle.explanations.proofs.put_byte.Statement.{statement}
 use Rattle.explanations.proofs.put_byte.Tie as tie
 
+-- places that the needs go back to
+abbrev the-start : tie.After-put-count-arg → tie.Start
+the-start c = c .before .before .before .before .before .before .before
+
+abbrev at-put-bytes : tie.After-slice-known3 → tie.After-put-bytes
+at-put-bytes c = c .before .before .before .before .before .before
+
 add-put-count : tie.Need-add-put-count
 add-put-count c =
-    let h = c .before .before .before .before .before .before .before .pre .1 in omega (arith, h)
+    let h = (the-start c) .pre .1 in omega (arith, h)
 
 put-count-requires : tie.Need-put-count-requires
 put-count-requires c κs =
-    let s = c .before .before .before .before .before .before .before in let p = c .before .before .before in let h = s .pre .0 in let e = p .put-bytes .ensures .ends in let k = p .put-bytes .kept .0 in
+    let s = the-start c in let p = c .before .before .before in let h = s .pre .0 in let e = p .put-bytes .ensures .ends in let k = p .put-bytes .kept .0 in
     omega (arith, h, e, k)
 
 returns : tie.Need-returns
 unfolding text codes
 returns c =
-    let s = c .before .before .before .before .before .before .before .before .before .before in let p = c .before .before .before .before .before .before in let q = c .before .before in
+    let s = the-start (c .before .before .before) in let p = at-put-bytes c in let q = c .before .before in
     let e = p .put-bytes .ensures .ends in let f = q .put-count .ensures .ends in let t = twenty (s .args .from + 1) in
     (also (p .put-bytes .ensures) (q .put-count .ensures), omega (arith, e, f, t))
 

@@ -22,9 +22,16 @@ put-edges-requires : tie.Need-put-edges-requires
 put-edges-requires c κs =
     let h = c .before .before .before .before .pre in omega (arith, h)
 
+-- places that the needs go back to
+abbrev start-from-struct-known : tie.After-struct-known → tie.Start
+start-from-struct-known c = c .before .before
+
+abbrev start-from-slice-known3 : tie.After-slice-known3 → tie.Start
+start-from-slice-known3 c = c .before .before .before .before .before .before .before .before
+
 returns : tie.Need-returns
 returns c =
-    let s = c .before .before .before .before .before .before .before in let p = c .before .before in let e = p .put-edges .ensures .ends in let f = edges-few (s .args .fault) in
+    let s = start-from-struct-known (c .before .before .before .before .before) in let p = c .before .before in let e = p .put-edges .ensures .ends in let f = edges-few (s .args .fault) in
     (by-true (textFor (detailKey (s .args .fault)) (cutAtBars details)) (eq-eqb _ _ (c .before .before .before .before .if1 .taken)) (p .put-edges .ensures), omega (arith, e, f))
 
 put-found-requires : tie.Need-put-found-requires
@@ -35,7 +42,7 @@ put-found-requires c κs =
 returns-2 : tie.Need-returns-2
 unfolding details text codes
 returns-2 c =
-    let s = c .before .before .before .before .before .before .before .before in let p = c .before .before in let e = p .put-found .ensures .ends in let f = detail-few (detailKey (s .args .fault)) in
+    let s = start-from-slice-known3 c in let p = c .before .before in let e = p .put-found .ensures .ends in let f = detail-few (detailKey (s .args .fault)) in
     (by-false (edgesText (s .args .fault)) (ne-eqb _ _ (c .before .before .before .before .before .if1 .left)) (p .put-found .ensures), omega (arith, e, f))
 
 pub put-detail-spec : {M : Type 1} → statement M

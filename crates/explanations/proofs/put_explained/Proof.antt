@@ -11,17 +11,30 @@ use borrow.Author.Needs.{needs}
 use Rattle.explanations.proofs.put_explained.Statement.{statement}
 use Rattle.explanations.proofs.put_explained.Tie as tie
 
+-- places that the needs go back to
+abbrev fault-of-from-struct-known : tie.After-struct-known → tie.After-fault-of
+fault-of-from-struct-known c = c .before
+
+abbrev start-from-struct-known : tie.After-struct-known → tie.Start
+start-from-struct-known c = c .before .before .before .before
+
+abbrev fault-of-from-slice-known2 : tie.After-slice-known2 → tie.After-fault-of
+fault-of-from-slice-known2 c = c .before .before .before .before .before .before .before
+
+abbrev start-from-slice-known2 : tie.After-slice-known2 → tie.Start
+start-from-slice-known2 c = c .before .before .before .before .before .before .before .before .before .before
+
 returns : tie.Need-returns
 unfolding text codes
 returns c =
-    let s = c .before .before .before .before .before .before .before .before .before .before .args in
-    same-put (ap (explained (now (s .line))) (c .before .before .before .before .before .before .before .fault-of .ensures)) (by-true (faultText (now (s .line)) (c .before .before .before .before .before .before .before .fault-of .result)) (eq-eqb _ _ (c .before .before .before .before .before .if1 .taken)) (c .before .before .put-bytes .ensures))
+    let s = (start-from-slice-known2 c) .args in
+    same-put (ap (explained (now (s .line))) ((fault-of-from-slice-known2 c) .fault-of .ensures)) (by-true (faultText (now (s .line)) ((fault-of-from-slice-known2 c) .fault-of .result)) (eq-eqb _ _ (c .before .before .before .before .before .if1 .taken)) (c .before .before .put-bytes .ensures))
 
 returns-2 : tie.Need-returns-2
 unfolding text codes
 returns-2 c =
-    let s = c .before .before .before .before .before .before .before .before .before .args in
-    same-put (ap (explained (now (s .line))) (c .before .before .before .before .before .before .fault-of .ensures)) (by-false (text "accepted") (ne-eqb _ _ (c .before .before .before .before .if1 .left)) (c .before .before .put-fault .ensures))
+    let s = (start-from-struct-known (c .before .before .before .before .before)) .args in
+    same-put (ap (explained (now (s .line))) ((fault-of-from-struct-known (c .before .before .before .before .before)) .fault-of .ensures)) (by-false (text "accepted") (ne-eqb _ _ (c .before .before .before .before .if1 .left)) (c .before .before .put-fault .ensures))
 
 pub put-explained-spec : {M : Type 1} → statement M
 put-explained-spec =

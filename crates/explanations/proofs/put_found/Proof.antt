@@ -43,14 +43,27 @@ found : (f : tie.After-find) → part (now (call (f .before .before .before) .ar
     ≡ textFor (detailKey (call (f .before .before .before) .args .fault)) (cutAtBars (now (call (f .before .before .before) .args .table)))
 found f = f .find .ensures .is ∙ ap (λ (k : List ℕ). textFor k (cutAtBars (now (call (f .before .before .before) .args .table)))) (key (f .before .before .before))
 
+-- places that the needs go back to
+abbrev start-from-put-bytes-arg : tie.After-put-bytes-arg → tie.Start
+start-from-put-bytes-arg c = c .before .before .before .before .before .before .before
+
+abbrev at-put-count : tie.After-key5 → tie.After-put-count
+at-put-count c = c .before .before .before .before .before .before
+
+abbrev start-from-key5 : tie.After-key5 → tie.Start
+start-from-key5 c = c .before .before .before .before .before .before .before .before .before .before
+
+abbrev start-from-key7 : tie.After-key7 → tie.Start
+start-from-key7 c = start-from-key5 (c .before .before .before)
+
 put-bytes-requires : tie.Need-put-bytes-requires
 put-bytes-requires c κs =
-    let s = c .before .before .before .before .before .before .before in let p = c .before .before .before in let e = p .put-count .ensures .ends in let k = p .put-count .kept .0 in let t = twenty (s .args .fault .number) in
+    let s = start-from-put-bytes-arg c in let p = c .before .before .before in let e = p .put-count .ensures .ends in let k = p .put-count .kept .0 in let t = twenty (s .args .fault .number) in
     omega (arith, e, k, t)
 
 put-count-requires-2 : tie.Need-put-count-requires-2
 put-count-requires-2 c κs =
-    let s = c .before .before .before .before .before .before .before .before .before .before in let p = c .before .before .before .before .before .before in let e = p .put-count .ensures .ends in let k = p .put-count .kept .0 in let t = twenty (s .args .fault .number) in
+    let s = start-from-put-bytes-arg (c .before .before .before) in let p = at-put-count c in let e = p .put-count .ensures .ends in let k = p .put-count .kept .0 in let t = twenty (s .args .fault .number) in
     let q = c .before .before in let f = q .put-bytes .ensures .ends in let l = q .put-bytes .kept .0 in
     omega (arith, e, k, t, f, l)
 
@@ -64,7 +77,7 @@ slice-aggregate-find c =
 
 find-requires : tie.Need-find-requires
 find-requires c κs =
-    c .before .before .before .before .before .before .before .before .before .before .before .before .before .pre .1
+    (start-from-key7 c) .pre .1
 
 sub-put-bytes : tie.Need-sub-put-bytes
 sub-put-bytes c =
@@ -77,7 +90,7 @@ part-put-bytes-end c =
 put-bytes-requires-2 : tie.Need-put-bytes-requires-2
 unfolding text codes
 put-bytes-requires-2 c κs =
-    let s = c .before .before .before .before .before .before .before .before .before .before .before .before .before .before .before .before in let f = c .before .before .find in
+    let s = start-from-key7 (c .before .before .before) in let f = c .before .before .find in
     let l = part-length (now (s .args .table)) (f .result .from) (f .result .to) (f .ensures .ordered) (f .ensures .within) in
     let e = ap length (found (c .before .before)) in let h = s .pre .0 in let g = s .pre .2 in
     omega (arith, l, e, h, g)

@@ -16,25 +16,35 @@ short-end-requires : tie.Need-short-end-requires
 short-end-requires c κs =
     c .before .before .pre .1
 
+-- places that the needs go back to
+abbrev at-short-end : tie.After-put-bytes-arg3 → tie.After-short-end
+at-short-end c = c .before .before .before .before .before .before
+
+abbrev the-start : tie.After-put-bytes-arg3 → tie.Start
+the-start c = c .before .before .before .before .before .before .before .before .before
+
+abbrev at-put-bytes : tie.After-slice-known3 → tie.After-put-bytes
+at-put-bytes c = c .before .before .before .before .before .before .before
+
 sub-put-bytes : tie.Need-sub-put-bytes
 sub-put-bytes c =
-    let s = c .before .before .before .before .before .before .before .before .before in let e = c .before .before .before .before .before .before .short-end .ensures in let o = short-order (s .args .f .from) (s .args .f .to) (s .pre .1) in
+    let s = the-start c in let e = (at-short-end c) .short-end .ensures in let o = short-order (s .args .f .from) (s .args .f .to) (s .pre .1) in
     omega (arith, e, o)
 
 part-put-bytes-start : tie.Need-part-put-bytes-start
 part-put-bytes-start c =
-    let s = c .before .before .before .before .before .before .before .before .before in let e = c .before .before .before .before .before .before .short-end .ensures in let a = short-order (s .args .f .from) (s .args .f .to) (s .pre .1) in
+    let s = the-start c in let e = (at-short-end c) .short-end .ensures in let a = short-order (s .args .f .from) (s .args .f .to) (s .pre .1) in
     let o = s .pre .1 in let h = s .pre .2 in
     omega (arith, e, a, o, h)
 
 part-put-bytes-end : tie.Need-part-put-bytes-end
 part-put-bytes-end c =
-    let s = c .before .before .before .before .before .before .before .before .before in let e = c .before .before .before .before .before .before .short-end .ensures in let o = short-within (s .args .f .from) (s .args .f .to) (s .pre .1) in let h = s .pre .2 in
+    let s = the-start c in let e = (at-short-end c) .short-end .ensures in let o = short-within (s .args .f .from) (s .args .f .to) (s .pre .1) in let h = s .pre .2 in
     omega (arith, e, o, h)
 
 put-bytes-requires-2 : tie.Need-put-bytes-requires-2
 put-bytes-requires-2 c κs =
-    let s = c .before .before .before .before .before .before .before .before .before .before in let x = c .before .before .before .before .before .before .before in let e = x .short-end .ensures in let p = c .before .before .before .before in
+    let s = the-start (c .before) in let x = at-short-end (c .before) in let e = x .short-end .ensures in let p = c .before .before .before .before in
     let a = short-order (s .args .f .from) (s .args .f .to) (s .pre .1) in let o = short-within (s .args .f .from) (s .args .f .to) (s .pre .1) in
     let w = short-few (s .args .f .from) (s .args .f .to) in let h = s .pre .2 in let g = s .pre .0 in
     let l = part-length (now (s .args .line)) (s .args .f .from) (x .short-end .result) (omega (arith, e, a)) (omega (arith, e, o, h)) in
@@ -44,8 +54,8 @@ put-bytes-requires-2 c κs =
 returns : tie.Need-returns
 unfolding text codes
 returns c =
-    let s = c .before .before .before .before .before .before .before .before .before .before .before .before .before .args in
-    also (c .before .before .before .before .before .before .before .put-bytes .ensures) (same-put (ap (part (now (s .line)) (s .f .from)) (c .before .before .before .before .before .before .before .before .before .before .short-end .ensures)) (c .before .before .put-bytes2 .ensures))
+    let s = (the-start (c .before .before .before .before)) .args in
+    also ((at-put-bytes c) .put-bytes .ensures) (same-put (ap (part (now (s .line)) (s .f .from)) ((at-short-end (c .before .before .before .before)) .short-end .ensures)) (c .before .before .put-bytes2 .ensures))
 
 pub put-shown-spec : {M : Type 1} → statement M
 put-shown-spec =

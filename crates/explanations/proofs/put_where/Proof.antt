@@ -20,15 +20,25 @@ returns : tie.Need-returns
 returns c =
     let i = c .before in let s = c .before .before .before .before .before .args in by-false (atPlace examples formWords (now (s .line)) (s .fault) (faultPlace (s .fault) examples (now (s .line)))) (sym (i .is-placed .ensures) ∙ not-true _ (c .if1 .taken)) (nothing _ _)
 
+-- places that the needs go back to
+abbrev the-start : tie.After-put-place-arg4 → tie.Start
+the-start c = c .before .before .before .before .before .before .before .before .before
+
+abbrev at-else1 : tie.After-slice-known4 → tie.Else1
+at-else1 c = c .before .before .before .before .before .before .before .before .before
+
+abbrev at-is-placed : tie.After-slice-known4 → tie.After-is-placed
+at-is-placed c = c .before .before .before .before .before .before .before .before .before .before
+
 put-place-requires : tie.Need-put-place-requires
 put-place-requires c κs =
-    let s = c .before .before .before .before .before .before .before .before .before in let h = s .pre .0 in let l = s .pre .1 in let g = s .pre .2 in
+    let s = the-start c in let h = s .pre .0 in let l = s .pre .1 in let g = s .pre .2 in
     (omega (arith, h), l, omega (arith, g, l))
 
 returns-2 : tie.Need-returns-2
 unfolding examples formWords text codes
 returns-2 c =
-    let i = c .before .before .before .before .before .before .before .before .before .before in by-true [] (sym (i .is-placed .ensures) ∙ not-false _ (c .before .before .before .before .before .before .before .before .before .if1 .left)) (c .before .before .before .before .put-place .ensures)
+    let i = at-is-placed c in by-true [] (sym (i .is-placed .ensures) ∙ not-false _ ((at-else1 c) .if1 .left)) (c .before .before .before .before .put-place .ensures)
 
 pub put-where-spec : {M : Type 1} → statement M
 put-where-spec =

@@ -1,4 +1,5 @@
--- `figure_words::digits_from` meets its contract: after the place i the run so far, and it stops at a byte that is no digit, or where it must. Assumes nothing.
+-- `figure_words::digits_from` meets its contract: after the place i the run so far, and it stops at a byte that is no
+-- digit, or where it must. Assumes nothing.
 use mathlib.Core.Path.{_≡_}
 use mathlib.Core.Logic.{_⊎_, inr}
 use Prim.Native.Nat.{ℕ, _+_, _*_, _-_, _^_, _<_, _≤_}
@@ -13,7 +14,8 @@ use Rattle.figure_words.proofs.digits_from.Statement.{statement}
 use Rattle.figure_words.proofs.digits_from.Tie as tie
 
 abbrev Inv-loop : tie.InvT-loop
-Inv-loop word at n before end number₀ i₀ number i = Runs word at n before number i × (i ≤ end) × (end ≤ length word) × (before + (end - at) ≤ 19) × ((end ≡ length word) ⊎ (before + (end - at) ≡ 19))
+Inv-loop word at n before end number₀ i₀ number i = Runs word at n before number i × (i ≤ end) × (end ≤ length word)
+    × (before + (end - at) ≤ 19) × ((end ≡ length word) ⊎ (before + (end - at) ≡ 19))
 
 abbrev μ-loop : tie.MeasureT-loop
 μ-loop word at n before end number₀ i₀ number i = end - i
@@ -86,7 +88,12 @@ returns-2 : tie.Need-returns-2 Inv-loop μ-loop
 returns-2 c =
     let v = c .before .loop .inv in
     let e : c .before .loop .i ≡ c .before .before .least .result + c .before .before .before .before .args .at = omega arith in
-    record { runs = v .0; stop = stops (now (c .before .before .before .before .args .word)) (c .before .before .before .before .args .at) (c .before .before .before .before .args .before) (c .before .loop .i) (c .before .before .least .result + c .before .before .before .before .args .at) e (v .4) }
+    record {
+      runs = v .0;
+      stop = stops (now (c .before .before .before .before .args .word)) (c .before .before .before .before .args .at)
+          (c .before .before .before .before .args .before) (c .before .loop .i)
+          (c .before .before .least .result + c .before .before .before .before .args .at) e (v .4);
+    }
 
 pub digits-from-spec : {M : Type 1} → statement M
 digits-from-spec =

@@ -1,4 +1,5 @@
--- `figure_words::read_unsigned` meets its contract: by where the digits stop, and behind a point by where the next ones do. Assumes nothing.
+-- `figure_words::read_unsigned` meets its contract: by where the digits stop, and behind a point by where the next ones
+-- do. Assumes nothing.
 use mathlib.Core.Path.{_≡_}
 use mathlib.Core.Bool.{Bool}
 use mathlib.Core.List.{List}
@@ -14,13 +15,15 @@ use Rattle.figure_words.proofs.read_unsigned.Statement.{statement}
 use Rattle.figure_words.proofs.read_unsigned.Tie as tie
 
 returns : tie.Need-returns
-returns c = let run = c .before in let a = run .before .before .args in none (a .bare) (a .minus) (a .word .now) (a .at) _ _ (run .digits-from .ensures) (c .if1 .taken)
+returns c = let run = c .before in let a = run .before .before .args in
+    none (a .bare) (a .minus) (a .word .now) (a .at) _ _ (run .digits-from .ensures) (c .if1 .taken)
 
 returns-2 : tie.Need-returns-2
 returns-2 c =
     let run = c .before .before .before in
     let a = run .before .before .args in
-    whole-read (a .bare) (a .minus) (a .word .now) (a .at) _ _ (run .digits-from .ensures) (c .before .if2 .taken) (c .whole-figure .ensures)
+    whole-read (a .bare) (a .minus) (a .word .now) (a .at) _ _ (run .digits-from .ensures) (c .before .if2 .taken)
+    (c .whole-figure .ensures)
 
 returns-3 : tie.Need-returns-3
 returns-3 c =
@@ -41,12 +44,14 @@ record Behind (bare minus : Bool) (w : List ℕ) (at e m' e' : ℕ) : Type 0 whe
   none-there : e' ≡ e + 1 → NotFigure ≡ unsignedFigure bare minus (drop at w)
   more-there : (e' ≡ length w → ⊥) → NotFigure ≡ unsignedFigure bare minus (drop at w)
   few : e' - e - 1 ≤ 18
-  read : e' ≡ length w → (e' ≡ e + 1 → ⊥) → {x : Float} → x ≡ decimalOf minus m' (e' - e - 1) → Number x ≡ unsignedFigure bare minus (drop at w)
+  read : e' ≡ length w → (e' ≡ e + 1 → ⊥) → {x : Float} → x ≡ decimalOf minus m' (e' - e - 1)
+      → Number x ≡ unsignedFigure bare minus (drop at w)
 
 behind : (c : tie.After-digits-from2) →
     let run = c .before .before .before .before .before in
     let a = run .before .before .args in
-    Behind (a .bare) (a .minus) (a .word .now) (a .at) (run .digits-from .result .end) (c .digits-from2 .result .number) (c .digits-from2 .result .end)
+    Behind (a .bare) (a .minus) (a .word .now) (a .at) (run .digits-from .result .end) (c .digits-from2 .result .number)
+    (c .digits-from2 .result .end)
 behind c =
     let past = c .before .before .before in
     let run = past .before .before in
@@ -73,7 +78,8 @@ nearest-decimal-requires : tie.Need-nearest-decimal-requires
 nearest-decimal-requires c κs = behind (c .before .before) .few
 
 returns-6 : tie.Need-returns-6
-returns-6 c = behind (c .before .before .before) .read (c .before .if5 .left) (c .before .before .if4 .left) (c .nearest-decimal .ensures .0)
+returns-6 c = behind (c .before .before .before) .read (c .before .if5 .left) (c .before .before .if4 .left)
+    (c .nearest-decimal .ensures .0)
 
 pub read-unsigned-spec : {M : Type 1} → statement M
 read-unsigned-spec =

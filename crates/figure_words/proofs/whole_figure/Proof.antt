@@ -16,7 +16,9 @@ nearest-decimal-requires c κs = search needs
 returns-2 : tie.Need-returns-2
 returns-2 c =
     let a = c .before .before .before .args in
-    ap Number (c .nearest-decimal .ensures .0) ∙ sym (whole-is (a .bare) (a .minus) (a .n) (a .count) (omega arith) (omega arith) (not-sixteen (a .bare) (a .count) (c .before .if2 .left)))
+    ap Number (c .nearest-decimal .ensures .0)
+    ∙ sym (whole-is (a .bare) (a .minus) (a .n) (a .count) (omega arith) (omega arith)
+    (not-sixteen (a .bare) (a .count) (c .before .if2 .left)))
 
 nearest-decimal-requires-2 : tie.Need-nearest-decimal-requires-2
 nearest-decimal-requires-2 c κs = search needs
@@ -24,7 +26,9 @@ nearest-decimal-requires-2 c κs = search needs
 returns-3 : tie.Need-returns-3
 returns-3 c =
     let a = c .before .before .args in
-    ap Number (c .nearest-decimal2 .ensures .0) ∙ sym (whole-is (a .bare) (a .minus) (a .n) (a .count) (omega arith) (omega arith) (not-bare (a .bare) (a .count) (c .before .if1 .left)))
+    ap Number (c .nearest-decimal2 .ensures .0)
+    ∙ sym (whole-is (a .bare) (a .minus) (a .n) (a .count) (omega arith) (omega arith)
+    (not-bare (a .bare) (a .count) (c .before .if1 .left)))
 
 pub whole-figure-spec : {M : Type 1} → statement M
 whole-figure-spec =

@@ -17,14 +17,16 @@ returns c =
     let known = checked .before .before in
     let a = known .before .args in
     let f64s = planform-f64 (a .planform) _ _ (known .before .good .0) (known .shared-slice-known .given) in
-    area-worked (a .planform) (a .points .now) (a .limit) (a .scratch .now) _ _ f64s (sym (checked .check-area .ensures .is) ∙ told .enum-told .given .1) (w .work-area .ensures)
+    area-worked (a .planform) (a .points .now) (a .limit) (a .scratch .now) _ _ f64s
+    (sym (checked .check-area .ensures .is) ∙ told .enum-told .given .1) (w .work-area .ensures)
 
 returns-2 : tie.Need-returns-2
 returns-2 c =
     let v = c .before .before in
     let checked = v .before .before in
     let a = checked .before .before .before .args in
-    area-refused (a .planform) (a .points .now) (a .limit) (a .scratch .now) _ _ _ (sym (checked .check-area .ensures .is) ∙ v .verdict .given .1) (c .refused-area .ensures) refl
+    area-refused (a .planform) (a .points .now) (a .limit) (a .scratch .now) _ _ _
+    (sym (checked .check-area .ensures .is) ∙ v .verdict .given .1) (c .refused-area .ensures) refl
 
 pub geometry-spec : {M : Type 1} → statement M
 geometry-spec =

@@ -17,14 +17,16 @@ returns c =
     let known = checked .before .before in
     let a = known .before .args in
     let f64s = set-f64 (a .set) _ _ (known .before .good .0) (known .shared-slice-known .given) in
-    set-worked (a .set) (a .points .now) (a .limit) (a .scratch .now) _ _ f64s (sym (checked .check-set .ensures .is) ∙ told .enum-told .given .1) (w .work-set .ensures)
+    set-worked (a .set) (a .points .now) (a .limit) (a .scratch .now) _ _ f64s
+    (sym (checked .check-set .ensures .is) ∙ told .enum-told .given .1) (w .work-set .ensures)
 
 returns-2 : tie.Need-returns-2
 returns-2 c =
     let v = c .before .before in
     let checked = v .before .before in
     let a = checked .before .before .before .args in
-    set-refused (a .set) (a .points .now) (a .limit) (a .scratch .now) _ _ _ (sym (checked .check-set .ensures .is) ∙ v .verdict .given .1) (c .bare-figures .ensures) refl
+    set-refused (a .set) (a .points .now) (a .limit) (a .scratch .now) _ _ _ (sym (checked .check-set .ensures .is) ∙ v .verdict .given .1)
+    (c .bare-figures .ensures) refl
 
 pub mass-properties-spec : {M : Type 1} → statement M
 mass-properties-spec =

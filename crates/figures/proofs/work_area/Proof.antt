@@ -21,7 +21,8 @@ returns c =
     let a = s .args in
     let f64s = planform-f64 (a .planform) _ _ (s .good .0) (known .shared-slice-known .given) in
     let run = run-of _ (a .points .now) (a .limit) (a .scratch .now) _ _
-    (area-strips (a .planform) (a .points .now) (a .limit) _ (area .area-integrand .ensures) ∙ area-at-three (a .planform) (a .points .now) (a .limit) _ f64s (s .pre))
+    (area-strips (a .planform) (a .points .now) (a .limit) _ (area .area-integrand .ensures)
+    ∙ area-at-three (a .planform) (a .points .now) (a .limit) _ f64s (s .pre))
     (i .work-strips .ensures) in
     (c .concluded-area .ensures ∙ rw (area .area-integrand .ensures, run .0), run .1)
 

@@ -10,14 +10,18 @@ use Rattle.figures.proofs.work_set.Tie as tie
 plate-integrand-requires : tie.Need-plate-integrand-requires
 plate-integrand-requires c κs = c .span-m .ensures
 
+-- places that the needs go back to
+abbrev the-start : tie.After-work-strips-arg → tie.Start
+the-start c = c .before .before .before .before .before .before
+
 work-strips-requires : tie.Need-work-strips-requires
 work-strips-requires c κs =
-    let s = c .before .before .before .before .before .before in
+    let s = the-start c in
     set-run (s .args .set) (s .args .points .now) (s .args .limit) _ (s .pre)
 
 concluded-requires : tie.Need-concluded-requires
 concluded-requires c κs =
-    let s = c .before .before .before .before .before .before .before .before .before in
+    let s = the-start (c .before .before .before) in
     count-within _ (set-accepted (s .args .set) (s .args .points .now) (s .args .limit) _ (s .pre) .count) .1
 
 returns : tie.Need-returns

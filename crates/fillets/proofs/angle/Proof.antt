@@ -18,7 +18,8 @@ angle-series-requires c κs = search needs
 
 returns : tie.Need-returns
 unfolding angleOf
-returns c = let third = c .before in let second = third .before in rw (c .angle-series .ensures, third .halved3 .ensures, second .halved2 .ensures, second .before .halved .ensures)
+returns c = let third = c .before in let second = third .before in
+    rw (c .angle-series .ensures, third .halved3 .ensures, second .halved2 .ensures, second .before .halved .ensures)
 
 pub angle-spec : {M : Type 1} → statement M
 angle-spec = tie.close (tie.spec halved-requires halved-requires-2 halved-requires-3 angle-series-requires returns)

@@ -25,7 +25,13 @@ returns-2 : tie.Need-returns-2
 unfolding ratioCheck
 returns-2 c =
     let some = c .before .before .before in
-    rw (sym (some .before .is-none .ensures) ∙ some .if1 .left, c .refuse-when .ensures, c .before .is-sound .ensures, c .before .before .fillet-section .ensures)
+    rw (
+      sym (some .before .is-none .ensures)
+          ∙ some .if1 .left,
+      c .refuse-when .ensures,
+      c .before .is-sound .ensures,
+      c .before .before .fillet-section .ensures,
+    )
 
 pub check-ratio-spec : {M : Type 1} → statement M
 check-ratio-spec = tie.close (tie.spec is-none-requires returns fillet-section-requires is-sound-requires refuse-when-requires returns-2)

@@ -39,4 +39,5 @@ returns-3 c =
     rw (ne-eqb _ _ (density .before .if1 .left), sym (density .numbered-density .ensures) ∙ known .density .given .1)
 
 pub fillet-of-spec : {M : Type 1} → statement M
-fillet-of-spec = tie.close (tie.spec returns array-read-numbered-density numbered-density-requires enum-known-density enum-told returns-2 array-read-t11 returns-3)
+fillet-of-spec = tie.close
+    (tie.spec returns array-read-numbered-density numbered-density-requires enum-known-density enum-told returns-2 array-read-t11 returns-3)

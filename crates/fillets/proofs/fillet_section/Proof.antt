@@ -32,7 +32,16 @@ returns c =
     let joint = triangle .before in
     let body = joint .before in
     let theta = body .before in
-    rw (c .less2 .ensures, c .before .less .ensures, triangle .triangle .ensures, joint .sector2 .ensures, body .sector .ensures, theta .angle .ensures, theta .before .sqrt .ensures .0)
+    rw (
+      c .less2 .ensures,
+      c .before .less .ensures,
+      triangle .triangle .ensures,
+      joint .sector2 .ensures,
+      body .sector .ensures,
+      theta .angle .ensures,
+      theta .before .sqrt .ensures .0,
+    )
 
 pub fillet-section-spec : {M : Type 1} → statement M
-fillet-section-spec = tie.close (tie.spec sqrt-requires angle-requires sector-requires sector-requires-2 triangle-requires less-requires less-requires-2 returns)
+fillet-section-spec = tie.close
+    (tie.spec sqrt-requires angle-requires sector-requires sector-requires-2 triangle-requires less-requires less-requires-2 returns)

@@ -32,7 +32,13 @@ unfolding filletsOf
 returns-2 c =
     let known = c .before .before .before in
     let some = known .before .before in
-    rw (sym (some .before .is-none .ensures) ∙ some .if1 .left, known .density .given .1, c .pair .ensures, c .before .fillet-section .ensures)
+    rw (
+      sym (some .before .is-none .ensures)
+          ∙ some .if1 .left,
+      known .density .given .1,
+      c .pair .ensures,
+      c .before .fillet-section .ensures,
+    )
 
 returns-3 : tie.Need-returns-3
 unfolding filletsOf
@@ -43,4 +49,6 @@ unfolding filletsOf
 returns-4 c = let some = c .before .before in rw (sym (some .before .is-none .ensures) ∙ some .if1 .left, c .enum-told2 .given .1)
 
 pub fillets-spec : {M : Type 1} → statement M
-fillets-spec = tie.close (tie.spec is-none-requires returns enum-known-density fillet-section-requires pair-requires enum-told enum-told-2 returns-2 returns-3 returns-4)
+fillets-spec = tie.close
+    (tie.spec is-none-requires returns enum-known-density fillet-section-requires pair-requires enum-told enum-told-2 returns-2 returns-3
+    returns-4)

@@ -26,7 +26,16 @@ returns c =
     let lean = c .before .before .before in
     let whole = lean .before in
     let middle = whole .before in
-    rw (c .powi4 .ensures, c .before .powi3 .ensures, lean .span-less-sine .ensures, whole .sin-cos3 .ensures .0, middle .sin-cos2 .ensures .0, middle .sin-cos2 .ensures .1, middle .before .sin-cos .ensures .0)
+    rw (
+      c .powi4 .ensures,
+      c .before .powi3 .ensures,
+      lean .span-less-sine .ensures,
+      whole .sin-cos3 .ensures .0,
+      middle .sin-cos2 .ensures .0,
+      middle .sin-cos2 .ensures .1,
+      middle .before .sin-cos .ensures .0,
+    )
 
 pub sector-with-spec : {M : Type 1} → statement M
-sector-with-spec = tie.close (tie.spec sin-cos-requires sin-cos-requires-2 sin-cos-requires-3 span-less-sine-requires powi3-requires powi4-requires returns)
+sector-with-spec = tie.close
+    (tie.spec sin-cos-requires sin-cos-requires-2 sin-cos-requires-3 span-less-sine-requires powi3-requires powi4-requires returns)

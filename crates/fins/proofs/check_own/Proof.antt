@@ -39,7 +39,9 @@ by-group set points root e =
     e)
 
 returns : tie.Need-returns
-returns c = is-answer (refused-here _ _ (c .before .before .check-count .ensures) (sym (c .before .is-refused .ensures) ∙ c .if1 .taken) ∙ by-group _ _ _ refl)
+returns c = is-answer
+    (refused-here _ _ (c .before .before .check-count .ensures) (sym (c .before .is-refused .ensures) ∙ c .if1 .taken)
+    ∙ by-group _ _ _ refl)
 
 returns-2 : tie.Need-returns-2
 returns-2 c =

@@ -11,7 +11,8 @@ use Rattle.fins.proofs.check_set.Statement.{statement}
 use Rattle.fins.proofs.check_set.Tie as tie
 
 -- two checks in one, then the later ones
-in-a-row : (limit scratch later : Verdict) → firstRefusal (firstRefusal limit scratch) later ≡ firstRefusal limit (firstRefusal scratch later)
+in-a-row : (limit scratch later : Verdict)
+    → firstRefusal (firstRefusal limit scratch) later ≡ firstRefusal limit (firstRefusal scratch later)
 unfolding firstRefusal
 in-a-row Accepted scratch later = refl
 in-a-row (Refused refusal) scratch later = refl
@@ -21,7 +22,9 @@ unfolding setCheck ownCheck
 returns c =
     let v = c .before .before in
     is-answer
-    (refused-here _ _ (v .first-refusal .ensures ∙ ap₂ firstRefusal (v .before .before .check-limit .ensures) (v .before .check-scratch .ensures)) (sym (c .before .is-refused .ensures) ∙ c .if1 .taken)
+    (refused-here _ _
+    (v .first-refusal .ensures ∙ ap₂ firstRefusal (v .before .before .check-limit .ensures) (v .before .check-scratch .ensures))
+    (sym (c .before .is-refused .ensures) ∙ c .if1 .taken)
     ∙ in-a-row _ _ _)
 
 returns-2 : tie.Need-returns-2
@@ -31,7 +34,9 @@ returns-2 c =
     let v = k .before .before in
     is-answer
     (c .check-own .ensures .is
-    ∙ sym (passed _ _ (v .first-refusal .ensures ∙ ap₂ firstRefusal (v .before .before .check-limit .ensures) (v .before .check-scratch .ensures)) (sym (k .before .is-refused .ensures) ∙ k .if1 .left))
+    ∙ sym (passed _ _
+    (v .first-refusal .ensures ∙ ap₂ firstRefusal (v .before .before .check-limit .ensures) (v .before .check-scratch .ensures))
+    (sym (k .before .is-refused .ensures) ∙ k .if1 .left))
     ∙ in-a-row _ _ _)
 
 pub check-set-spec : {M : Type 1} → statement M

@@ -10,7 +10,8 @@ returns-2 : tie.Need-returns-2
 returns-2 c = rw (c .before .before .before .planform .given .1, c .enum-told2 .given .1)
 
 returns-3 : tie.Need-returns-3
-returns-3 c = let s = c .before .before .before in rw (s .before .before .before .planform .given .1, s .section .given .1, c .enum-told3 .given .1)
+returns-3 c = let s = c .before .before .before in
+    rw (s .before .before .before .planform .given .1, s .section .given .1, c .enum-told3 .given .1)
 
 returns-4 : tie.Need-returns-4
 returns-4 c =

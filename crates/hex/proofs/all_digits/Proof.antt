@@ -12,7 +12,8 @@ letters-requires : tie.Need-letters-requires
 letters-requires c κs = values-small (c .before .args .w) (c .values .result) (c .values .ensures)
 
 returns : tie.Need-returns
-returns c = letters-again (c .before .before .args .w) (c .before .values .result) (c .letters .result) (omega arith) (c .before .values .ensures) (c .letters .ensures)
+returns c = letters-again (c .before .before .args .w) (c .before .values .result) (c .letters .result) (omega arith)
+    (c .before .values .ensures) (c .letters .ensures)
 
 pub all-digits-spec : {M : Type 1} → statement M
 all-digits-spec = tie.close (tie.spec values-requires letters-requires returns)

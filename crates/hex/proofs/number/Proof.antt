@@ -11,7 +11,8 @@ gathered-requires : tie.Need-gathered-requires
 gathered-requires c κs = values-small (c .before .args .w) (c .values .result) (c .values .ensures)
 
 returns : tie.Need-returns
-returns c = digits-gathered (c .before .before .args .w) (c .before .values .result) (c .gathered .result) (c .before .before .pre) (c .before .values .ensures) (c .gathered .ensures)
+returns c = digits-gathered (c .before .before .args .w) (c .before .values .result) (c .gathered .result) (c .before .before .pre)
+    (c .before .values .ensures) (c .gathered .ensures)
 
 pub number-spec : {M : Type 1} → statement M
 number-spec = tie.close (tie.spec values-requires gathered-requires returns)

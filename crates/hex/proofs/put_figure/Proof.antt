@@ -15,7 +15,8 @@ use Rattle.hex.proofs.put_figure.Statement.{statement}
 use Rattle.hex.proofs.put_figure.Tie as tie
 
 abbrev Inv-loop : tie.InvT-loop
-Inv-loop out₀ n x rest₀ k₀ out rest k = (k ≤ 16) × (length out ≡ length out₀) × (take n out ≡ take n out₀) × (digits 16 (printedBits x) ≡ digits k rest ++ behind out n k) × (drop (n + 16) out ≡ drop (n + 16) out₀)
+Inv-loop out₀ n x rest₀ k₀ out rest k = (k ≤ 16) × (length out ≡ length out₀) × (take n out ≡ take n out₀)
+    × (digits 16 (printedBits x) ≡ digits k rest ++ behind out n k) × (drop (n + 16) out ≡ drop (n + 16) out₀)
 
 abbrev μ-loop : tie.MeasureT-loop
 μ-loop out₀ n x rest₀ k₀ out rest k = k
@@ -23,12 +24,20 @@ abbrev μ-loop : tie.MeasureT-loop
 start : (x : Float) (out : List ℕ) (n rest : ℕ) → rest ≡ printedBits x → digits 16 (printedBits x) ≡ digits 16 rest ++ behind out n 16
 start x out n rest e = none-behind (printedBits x) out n ∙ ap (λ (b : ℕ). digits 16 b ++ behind out n 16) (sym e)
 
-printed : (x : Float) (out₀ out : List ℕ) (n k rest : ℕ) → k ≡ 0 → take n out ≡ take n out₀ → digits 16 (printedBits x) ≡ digits k rest ++ behind out n k → take (n + 16) out ≡ take n out₀ ++ figureText x
+printed : (x : Float) (out₀ out : List ℕ) (n k rest : ℕ) → k ≡ 0 → take n out ≡ take n out₀
+    → digits 16 (printedBits x) ≡ digits k rest ++ behind out n k → take (n + 16) out ≡ take n out₀ ++ figureText x
 unfolding figureText
 printed x out₀ out n k rest z e t = all-printed (digits 16 (printedBits x)) out₀ out n k rest z e t
 
 loop-holds : tie.Need-loop-holds Inv-loop μ-loop
-loop-holds c = (omega arith, refl, refl, start (c .before .before .args .x) (now (c .before .before .args .out)) (c .before .before .args .n) (c .printed-bits .result) (c .printed-bits .ensures), refl)
+loop-holds c = (
+  omega arith,
+  refl,
+  refl,
+  start (c .before .before .args .x) (now (c .before .before .args .out))
+      (c .before .before .args .n) (c .printed-bits .result) (c .printed-bits .ensures),
+  refl,
+)
 
 sub-k : tie.Need-sub-k Inv-loop μ-loop
 sub-k c = omega arith
@@ -43,7 +52,16 @@ loop-less : tie.Need-loop-less Inv-loop μ-loop
 loop-less c = omega arith
 
 loop-again : tie.Need-loop-again Inv-loop μ-loop
-loop-again c = let a = c .before .before in let s = a .before .before .before .args in (omega arith, simp length-set (omega arith), before-kept (now (s .out)) (a .loop .out) (s .n) (a .loop .k - 1) (c .digit-letter .result) (a .loop .inv .2), next-digit (digits 16 (printedBits (s .x))) (a .loop .out) (s .n) (a .loop .k) (a .loop .rest) (c .digit-letter .result) (omega arith) (omega arith) (omega arith) (c .digit-letter .ensures) (a .loop .inv .3), drop-set-lt (s .n + 16) (a .loop .out) (s .n + (a .loop .k - 1)) (c .digit-letter .result) (omega arith) ∙ a .loop .inv .4)
+loop-again c = let a = c .before .before in let s = a .before .before .before .args in (
+  omega arith,
+  simp length-set (omega arith),
+  before-kept (now (s .out)) (a .loop .out) (s .n) (a .loop .k - 1) (c .digit-letter .result)
+      (a .loop .inv .2),
+  next-digit (digits 16 (printedBits (s .x))) (a .loop .out) (s .n) (a .loop .k) (a .loop .rest)
+      (c .digit-letter .result) (omega arith) (omega arith) (omega arith) (c .digit-letter .ensures) (a .loop .inv .3),
+  drop-set-lt
+      (s .n + 16) (a .loop .out) (s .n + (a .loop .k - 1)) (c .digit-letter .result) (omega arith) ∙ a .loop .inv .4,
+)
 
 add-result : tie.Need-add-result Inv-loop μ-loop
 add-result c = omega arith
@@ -55,7 +73,8 @@ returns : tie.Need-returns Inv-loop μ-loop
 returns c = let a = c .before in let s = a .before .before .before .args in let l = figure-length (s .x) in
     record {
       ends = omega arith;
-      holds = printed (s .x) (now (s .out)) (a .loop .out) (s .n) (a .loop .k) (a .loop .rest) (omega arith) (a .loop .inv .2) (a .loop .inv .3);
+      holds = printed (s .x) (now (s .out)) (a .loop .out) (s .n) (a .loop .k) (a .loop .rest) (omega arith) (a .loop .inv .2)
+          (a .loop .inv .3);
       rest = a .loop .inv .4;
     }
 

@@ -1,4 +1,5 @@
--- `hex::read_figure` meets its contract: the two words hold the sixteen bytes, and eight digits read at once are read digit by digit. Assumes nothing.
+-- `hex::read_figure` meets its contract: the two words hold the sixteen bytes, and eight digits read at once are read
+-- digit by digit. Assumes nothing.
 use mathlib.Core.Bool.{true}
 use mathlib.Core.Path.{_≡_, sym, ap, _∙_}
 use borrow.Author.Needs.{needs}
@@ -38,7 +39,8 @@ number-requires-2 c κs = second-good (c .before)
 
 returns-4 : tie.Need-returns-4
 returns-4 c =
-    let both = c .before .before .before in let good = both .before .before in let second = good .before .before in let first = second .before in
+    let both = c .before .before .before in let good = both .before .before in let second = good .before .before in
+    let first = second .before in
     ap Number (c .from-bits .ensures)
     ∙ both-good _ (first .before .if1 .left) (first .load .result) (second .load2 .result) (first .load .ensures) (second .load2 .ensures)
     (first-good good) (second-good both) (c .before .before .number .ensures .0) (c .before .number2 .ensures .0)

@@ -47,8 +47,11 @@ loop-less c = omega arith
 loop-again : tie.Need-loop-again Inv-loop μ-loop
 loop-again c =
     let head = c .before .before .before .before in
-    let a = head .before .before .args in
-    (omega arith, one-more (a .kind) (a .scale) (a .h) (a .ends .now) (head .loop .sums) _ (head .loop .k) (omega arith) (head .loop .inv .1) (c .add-chord .ensures))
+    let a = head .before .before .args in (
+      omega arith,
+      one-more (a .kind) (a .scale) (a .h) (a .ends .now) (head .loop .sums) _ (head .loop .k) (omega arith)
+          (head .loop .inv .1) (c .add-chord .ensures),
+    )
 
 returns : tie.Need-returns Inv-loop μ-loop
 returns c =

@@ -13,7 +13,11 @@ add-requires-2 : tie.Need-add-requires-2
 add-requires-2 c κs = search needs
 
 returns : tie.Need-returns
-returns c = rw (c .before .before .before .add2 .ensures, c .before .before .before .before .add .ensures, c .before .before .before .before .before .scale .ensures)
+returns c = rw (
+  c .before .before .before .add2 .ensures,
+  c .before .before .before .before .add .ensures,
+  c .before .before .before .before .before .scale .ensures,
+)
 
 pub add-body-spec : {M : Type 1} → statement M
 add-body-spec = tie.close (tie.spec scale-requires add-requires add-requires-2 returns)

@@ -17,7 +17,8 @@ divide-requires-2 : tie.Need-divide-requires-2
 divide-requires-2 c κs = search needs
 
 returns-3 : tie.Need-returns-3
-returns-3 c = rw (c .before .before .before .before .if1 .left, c .before .before .before .if2 .left, c .before .if3 .taken) (c .divide2 .ensures)
+returns-3 c = rw (c .before .before .before .before .if1 .left, c .before .before .before .if2 .left, c .before .if3 .taken)
+    (c .divide2 .ensures)
 
 returns-4 : tie.Need-returns-4
 returns-4 c = rw (c .before .before .before .before .if1 .left, c .before .before .before .if2 .left, c .before .if3 .left)

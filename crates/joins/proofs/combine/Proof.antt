@@ -14,12 +14,16 @@ returns c = is-answer (simp (ne-eqb _ _ (c .before .if1 .taken)) (c .refused .en
 returns-2 : tie.Need-returns-2
 returns-2 c =
     is-answer
-    (rw (eq-eqb _ _ (c .before .before .before .before .before .if1 .left)) (by-verdict _ (c .before .before .before .before .check-count .ensures) (c .before .before .enum-told .given .1) (c .accepted .ensures ∙ ap acceptedBody (c .before .join-numbers .ensures))))
+    (rw (eq-eqb _ _ (c .before .before .before .before .before .if1 .left))
+    (by-verdict _ (c .before .before .before .before .check-count .ensures) (c .before .before .enum-told .given .1)
+    (c .accepted .ensures ∙ ap acceptedBody (c .before .join-numbers .ensures))))
 
 returns-3 : tie.Need-returns-3
 returns-3 c =
     is-answer
-    (rw (eq-eqb _ _ (c .before .before .before .before .before .if1 .left)) (by-verdict _ (c .before .before .before .before .check-count .ensures) (c .before .before .verdict .given .1) (c .refused2 .ensures)))
+    (rw (eq-eqb _ _ (c .before .before .before .before .before .if1 .left))
+    (by-verdict _ (c .before .before .before .before .check-count .ensures) (c .before .before .verdict .given .1)
+    (c .refused2 .ensures)))
 
 pub combine-spec : {M : Type 1} → statement M
 combine-spec =

@@ -28,7 +28,8 @@ loop-less : tie.Need-loop-less Inv-loop μ-loop
 loop-less c = omega arith
 
 loop-again : tie.Need-loop-again Inv-loop μ-loop
-loop-again c = (omega arith, join-next _ _ _ (c .before .before .before .loop .inv .1) (c .before .body-at .ensures) (c .add-inertia .ensures))
+loop-again c =
+    (omega arith, join-next _ _ _ (c .before .before .before .loop .inv .1) (c .before .body-at .ensures) (c .add-inertia .ensures))
 
 returns : tie.Need-returns Inv-loop μ-loop
 returns c = c .before .loop .inv .1 ∙ ap (joinedTo _ _) (le-antisymm (c .before .loop .inv .0) (c .loop-test .left)) ∙ all-joined _ _

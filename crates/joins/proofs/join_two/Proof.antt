@@ -26,7 +26,9 @@ returns : tie.Need-returns
 returns c =
     let joined = c .before .before in
     let sums = joined .before in
-    two-added _ _ (sums .before .before .no-sums .ensures) (sums .before .add-body .ensures) (sums .add-body2 .ensures) (joined .at-centre .ensures) (c .before .add-inertia .ensures) (c .add-inertia2 .ensures)
+    two-added _ _ (sums .before .before .no-sums .ensures) (sums .before .add-body .ensures) (sums .add-body2 .ensures)
+    (joined .at-centre .ensures) (c .before .add-inertia .ensures) (c .add-inertia2 .ensures)
 
 pub join-two-spec : {M : Type 1} → statement M
-join-two-spec = tie.close (tie.spec no-sums-requires add-body-requires add-body-requires-2 at-centre-requires add-inertia-requires add-inertia-requires-2 returns)
+join-two-spec = tie.close
+    (tie.spec no-sums-requires add-body-requires add-body-requires-2 at-centre-requires add-inertia-requires add-inertia-requires-2 returns)

@@ -7,7 +7,12 @@ use Rattle.limits.proofs.check_length.Tie as tie
 returns : tie.Need-returns
 unfolding lengthCheck
 returns c =
-    rw (c .refuse-unless .ensures, c .before .length-within .ensures, c .before .before .negative-allowed .ensures, c .before .before .before .zero-allowed .ensures)
+    rw (
+      c .refuse-unless .ensures,
+      c .before .length-within .ensures,
+      c .before .before .negative-allowed .ensures,
+      c .before .before .before .zero-allowed .ensures,
+    )
 
 pub check-length-spec : {M : Type 1} → statement M
 check-length-spec =

@@ -1,4 +1,5 @@
--- `limits::check_scratch` meets its contract: the numbers of L pieces are at most n where L is at most n over those of one. Assumes nothing.
+-- `limits::check_scratch` meets its contract: the numbers of L pieces are at most n where L is at most n over those of
+-- one. Assumes nothing.
 use mathlib.Core.Path.{_≡_, refl, sym}
 use mathlib.Core.Bool.{Bool, true, false}
 use Prim.Native.Nat.{ℕ, _*_, _/_}

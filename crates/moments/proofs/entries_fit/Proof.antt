@@ -35,7 +35,8 @@ array-read-entry-fits c = omega arith
 returns : tie.Need-returns Inv-loop μ-loop
 returns c =
     sym
-    (every-not tensorNumbers _ (c .before .before .before .loop .k) (omega arith) (c .before .entry-fits .ensures) (not-true _ (c .if1 .taken)))
+    (every-not tensorNumbers _ (c .before .before .before .loop .k) (omega arith) (c .before .entry-fits .ensures)
+    (not-true _ (c .if1 .taken)))
 
 add-k : tie.Need-add-k Inv-loop μ-loop
 add-k c = omega arith
@@ -48,7 +49,9 @@ loop-again c =
     (every-more _ _ (c .before .before .before .loop .inv .0) (c .before .entry-fits .ensures) (not-false _ (c .if1 .left)), omega arith)
 
 returns-2 : tie.Need-returns-2 Inv-loop μ-loop
-returns-2 c = sym (c .before .loop .inv .0) ∙ ap (λ (n : ℕ). every n (Fits (c .before .before .before .args .tensor .0))) (let e : c .before .loop .k ≡ tensorNumbers = omega arith in e)
+returns-2 c = sym (c .before .loop .inv .0)
+    ∙ ap (λ (n : ℕ). every n (Fits (c .before .before .before .args .tensor .0)))
+    (let e : c .before .loop .k ≡ tensorNumbers = omega arith in e)
 
 pub entries-fit-spec : {M : Type 1} → statement M
 entries-fit-spec =

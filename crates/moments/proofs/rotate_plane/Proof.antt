@@ -10,7 +10,12 @@ returns c = rw (c .if1 .taken)
 
 returns-2 : tie.Need-returns-2
 unfolding rotate
-returns-2 c = rw (c .before .before .before .if1 .left, c .turn-rows .ensures, c .before .turn-columns .ensures, c .before .before .symmetric-schur .ensures)
+returns-2 c = rw (
+  c .before .before .before .if1 .left,
+  c .turn-rows .ensures,
+  c .before .turn-columns .ensures,
+  c .before .before .symmetric-schur .ensures,
+)
 
 pub rotate-plane-spec : {M : Type 1} → statement M
 rotate-plane-spec =

@@ -27,7 +27,11 @@ loop-less : tie.Need-loop-less Inv-loop μ-loop
 loop-less c = omega arith
 
 loop-again : tie.Need-loop-again Inv-loop μ-loop
-loop-again c = (sweeps-more _ _ (omega arith) (c .before .before .off-diagonal .ensures) (c .before .if1 .left) (c .sweep-once .ensures) (c .before .before .before .before .loop .inv .0), omega arith)
+loop-again c = (
+  sweeps-more _ _ (omega arith) (c .before .before .off-diagonal .ensures) (c .before .if1 .left) (c .sweep-once .ensures)
+      (c .before .before .before .before .loop .inv .0),
+  omega arith,
+)
 
 returns-2 : tie.Need-returns-2 Inv-loop μ-loop
 returns-2 c = sweeps-none _ _ (omega arith) (c .before .loop .inv .0)

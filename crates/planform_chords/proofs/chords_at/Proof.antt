@@ -12,7 +12,8 @@ returns c =
     let told = found .before in
     let checked = told .before .before in
     let a = checked .before .before .before .args in
-    listed-so (a .planform) (a .points .now) (a .h) (a .ends .now) _ _ (sym (checked .check-planform .ensures .is) ∙ told .enum-told .given .1)
+    listed-so (a .planform) (a .points .now) (a .h) (a .ends .now) _ _
+    (sym (checked .check-planform .ensures .is) ∙ told .enum-told .given .1)
     (found .chords-found .result) _ (found .chords-found .ensures) (wrote .write-chords .ensures) (c .listed .ensures)
 
 returns-2 : tie.Need-returns-2
@@ -20,7 +21,8 @@ returns-2 c =
     let known = c .before .before in
     let checked = known .before .before in
     let a = checked .before .before .before .args in
-    answered-so (a .planform) (a .points .now) (a .h) (a .ends .now) _ _ _ (sym (checked .check-planform .ensures .is) ∙ known .verdict .given .1) (c .refused .ensures, refl)
+    answered-so (a .planform) (a .points .now) (a .h) (a .ends .now) _ _ _
+    (sym (checked .check-planform .ensures .is) ∙ known .verdict .given .1) (c .refused .ensures, refl)
 
 pub chords-at-spec : {M : Type 1} → statement M
 chords-at-spec =

@@ -23,7 +23,8 @@ none : (points : List Float) → bits 0 ≡ largestHeight points 0
 unfolding largestHeight
 none points = refl
 
-one-more : (points : List Float) (i : ℕ) (a r : Float) → a ≡ largestHeight points i → r ≡ maxOf a (heightAt points i) → r ≡ largestHeight points (i + 1)
+one-more : (points : List Float) (i : ℕ) (a r : Float) → a ≡ largestHeight points i → r ≡ maxOf a (heightAt points i)
+    → r ≡ largestHeight points (i + 1)
 unfolding largestHeight
 one-more points i a r e f = f ∙ ap (λ (x : Float). maxOf x (heightAt points i)) e ∙ sym (ap (largestHeight points) (add-one i))
 

@@ -16,4 +16,5 @@ returns-2 c = simp (ne-eqb _ _ (c .if1 .left))
 
 pub listed-planform-spec : {M : Type 1} → statement M
 listed-planform-spec =
-    tie.close (tie.spec (λ c. search needs) (λ c. search needs) (λ c. search needs) (λ c. search needs) (λ c κs. search needs) returns returns-2)
+    tie.close (tie.spec (λ c. search needs) (λ c. search needs) (λ c. search needs) (λ c. search needs) (λ c κs. search needs) returns
+    returns-2)

@@ -107,8 +107,52 @@ returns-24 c = rw (c .match .keys24)
 returns-25 : tie.Need-returns-25
 unfolding refusalFrom
 returns-25 c =
-    let ((((((((((((((((((((((((u, n1), n2), n3), n4), n5), n6), n7), n8), n9), n10), n11), n12), n13), n14), n15), n16), n17), n18), n19), n20), n21), n22), n23), n24) = c .match .rest in
-    simp (ne-eqb _ _ n1, ne-eqb _ _ n2, ne-eqb _ _ n3, ne-eqb _ _ n4, ne-eqb _ _ n5, ne-eqb _ _ n6, ne-eqb _ _ n7, ne-eqb _ _ n8, ne-eqb _ _ n9, ne-eqb _ _ n10, ne-eqb _ _ n11, ne-eqb _ _ n12, ne-eqb _ _ n13, ne-eqb _ _ n14, ne-eqb _ _ n15, ne-eqb _ _ n16, ne-eqb _ _ n17, ne-eqb _ _ n18, ne-eqb _ _ n19, ne-eqb _ _ n20, ne-eqb _ _ n21, ne-eqb _ _ n22, ne-eqb _ _ n23, ne-eqb _ _ n24)
+    let (
+      (
+        (
+          (
+            (
+              (((((((((((((((((((u, n1), n2), n3), n4), n5), n6), n7), n8), n9), n10), n11), n12), n13), n14), n15), n16), n17), n18), n19),
+              n20,
+            ),
+            n21,
+          ),
+          n22,
+        ),
+        n23,
+      ),
+      n24,
+    ) = c .match .rest in
+    simp (
+      ne-eqb _ _ n1,
+      ne-eqb _ _ n2,
+      ne-eqb _ _ n3,
+      ne-eqb _ _ n4,
+      ne-eqb _ _ n5,
+      ne-eqb _ _ n6,
+      ne-eqb _ _ n7,
+      ne-eqb _ _ n8,
+      ne-eqb _ _
+          n9,
+      ne-eqb _ _ n10,
+      ne-eqb _ _ n11,
+      ne-eqb _ _ n12,
+      ne-eqb _ _ n13,
+      ne-eqb _ _ n14,
+      ne-eqb _ _ n15,
+      ne-eqb _ _ n16,
+      ne-eqb _ _ n17,
+      ne-eqb _ _ n18,
+      ne-eqb _ _ n19,
+      ne-eqb _ _ n20,
+      ne-eqb _ _ n21,
+      ne-eqb _ _ n22,
+      ne-eqb _ _ n23,
+      ne-eqb _ _ n24,
+    )
 
 pub refusal-of-spec : {M : Type 1} → statement M
-refusal-of-spec = tie.close (tie.spec fault-of-requires returns returns-2 returns-3 returns-4 returns-5 returns-6 returns-7 returns-8 returns-9 returns-10 returns-11 returns-12 returns-13 returns-14 returns-15 returns-16 returns-17 returns-18 returns-19 returns-20 returns-21 returns-22 returns-23 returns-24 returns-25)
+refusal-of-spec = tie.close
+    (tie.spec fault-of-requires returns returns-2 returns-3 returns-4 returns-5 returns-6 returns-7 returns-8 returns-9 returns-10
+    returns-11 returns-12 returns-13 returns-14 returns-15 returns-16 returns-17 returns-18 returns-19 returns-20 returns-21 returns-22
+    returns-23 returns-24 returns-25)

@@ -47,8 +47,13 @@ loop-again c =
     let head = c .before .before .before in
     let made = head .before in
     let a = made .before .args in
-    let turned = c .turned .ensures ∙ ap (λ (turn : Quaternion). turnedOf (a .body) turn) (made .turns .ensures (head .loop .k) (omega arith)) in
-    (omega arith, simp length-set (head .loop .inv .1), one-filled _ _ (head .loop .list) (head .loop .k) _ (omega arith) (head .loop .inv .2) turned)
+    let turned = c .turned .ensures
+    ∙ ap (λ (turn : Quaternion). turnedOf (a .body) turn) (made .turns .ensures (head .loop .k) (omega arith)) in (
+      omega arith,
+      simp length-set (head .loop .inv .1),
+      one-filled _ _ (head .loop .list) (head .loop .k) _ (omega arith)
+          (head .loop .inv .2) turned,
+    )
 
 returns : tie.Need-returns Inv-loop μ-loop
 returns c k l = c .before .loop .inv .2 k (omega arith)

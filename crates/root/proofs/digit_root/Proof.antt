@@ -1,4 +1,5 @@
--- `root::digit_root` meets its contract: after i turns s is the root of the 2 * i digits that have come in, with `rest` left over. Assumes nothing.
+-- `root::digit_root` meets its contract: after i turns s is the root of the 2 * i digits that have come in, with `rest`
+-- left over. Assumes nothing.
 use Prim.Native.Nat.{ℕ, _+_, _-_, _*_, _/_, _%_, _^_, _≤_, _<_}
 use mathlib.Core.Path.{_≡_, sym, ap, _∙_}
 use mathlib.Core.Logic.{⊎-elim}
@@ -26,7 +27,14 @@ abbrev μ-loop : tie.MeasureT-loop
 μ-loop n left₀ s₀ rest₀ i₀ left s rest i = 53 - i
 
 loop-holds : tie.Need-loop-holds Inv-loop μ-loop
-loop-holds c = record { turns = omega arith; few = omega arith; over = omega arith; digits = omega arith; fits = omega arith; whole = omega (arith, mul-one (c .args .n)) }
+loop-holds c = record {
+  turns = omega arith;
+  few = omega arith;
+  over = omega arith;
+  digits = omega arith;
+  fits = omega arith;
+  whole = omega (arith, mul-one (c .args .n));
+}
 
 mul-more : tie.Need-mul-more Inv-loop μ-loop
 mul-more c = omega arith
@@ -108,12 +116,14 @@ module _ (n i left s rest : ℕ) (z : State n i left s rest) (h : 53 ≤ i) (o :
 returns : tie.Need-returns Inv-loop μ-loop
 returns c =
     let l = c .before .before .loop in
-    down (c .before .before .before .args .n) (l .i) (l .left) (l .s) (l .rest) (l .inv) (omega arith) (omega arith) (omega arith) (omega arith)
+    down (c .before .before .before .args .n) (l .i) (l .left) (l .s) (l .rest) (l .inv) (omega arith) (omega arith) (omega arith)
+    (omega arith)
 
 returns-2 : tie.Need-returns-2 Inv-loop μ-loop
 returns-2 c =
     let l = c .before .before .loop in
-    up (c .before .before .before .args .n) (l .i) (l .left) (l .s) (l .rest) (l .inv) (omega arith) (omega arith) (omega arith) (omega arith)
+    up (c .before .before .before .args .n) (l .i) (l .left) (l .s) (l .rest) (l .inv) (omega arith) (omega arith) (omega arith)
+    (omega arith)
 
 pub digit-root-spec : {M : Type 1} → statement M
 digit-root-spec =

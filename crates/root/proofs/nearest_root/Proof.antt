@@ -1,9 +1,11 @@
--- `root::nearest_root` meets its contract: n * 2 ^ 52 - q * q is u - v exactly, above -q and at most 3 * q + 2, so the last test says which of q and q + 1 is nearest.
+-- `root::nearest_root` meets its contract: n * 2 ^ 52 - q * q is u - v exactly, above -q and at most 3 * q + 2, so the
+-- last test says which of q and q + 1 is nearest.
 -- Assumes nothing.
 use Prim.Native.Nat.{ℕ, zero, suc, _+_, _-_, _*_, _/_, _%_, _^_, _≤_, _<_}
 use mathlib.Core.Path.{_≡_, ap, _∙_}
 use mathlib.Core.Bool.{Bool, true, false, not}
-use native.Mathlib.Nat.{mul-comm, mul-right-comm, mul-mul-mul-comm, mul-le-mul, mul-le-mul-left, mul-le-mul-right, add-mul, mul-add, div-add-mod, div-le-of-le-mul, mod-lt}
+use native.Mathlib.Nat.{mul-comm, mul-right-comm, mul-mul-mul-comm, mul-le-mul, mul-le-mul-left, mul-le-mul-right, add-mul, mul-add}
+use native.Mathlib.Nat.{div-add-mod, div-le-of-le-mul, mod-lt}
 use native.Mathlib.Decide.{decLe}
 use native.Mathlib.Omega.{arith}
 use borrow.Author.Needs.{needs}
@@ -32,7 +34,8 @@ record Split (n p l c : ℕ) : Type 0 where
 abbrev over : ℕ → ℕ → ℕ
 over n h = (n + 2 * h - h * h) * 2 ^ 25
 
-split : (n h : ℕ) → (2 ^ 52 ≤ n) × (n < 2 ^ 54) × (2 ^ 26 ≤ h) × (h < 2 ^ 28) → h * h ≤ n + 2 * h → n + 2 * h - h * h ≤ 4 * h → Split n (h - 1) (over n h / h) (over n h % h)
+split : (n h : ℕ) → (2 ^ 52 ≤ n) × (n < 2 ^ 54) × (2 ^ 26 ≤ h) × (h < 2 ^ 28) → h * h ≤ n + 2 * h → n + 2 * h - h * h ≤ 4 * h
+    → Split n (h - 1) (over n h / h) (over n h % h)
 split n h b f g =
     let p = h - 1 in
     let t = over n h in
@@ -56,7 +59,16 @@ split n h b f g =
 square-of : (p l : ℕ) → (p * 2 ^ 26 + l) * (p * 2 ^ 26 + l) ≡ p * p * 2 ^ 52 + p * l * 2 ^ 27 + l * l
 square-of p l =
     let x = p * 2 ^ 26 in
-    omega (arith, add-mul x l (x + l), mul-add x x l, mul-add l x l, mul-comm l x, mul-right-comm p (2 ^ 26) l, mul-mul-mul-comm p (2 ^ 26) p (2 ^ 26))
+    omega (
+      arith,
+      add-mul x l (x + l),
+      mul-add x x l,
+      mul-add l x l,
+      mul-comm l x,
+      mul-right-comm p (2 ^ 26) l,
+      mul-mul-mul-comm p (2 ^ 26)
+          p (2 ^ 26),
+    )
 
 -- (l - 1) * (2 ^ 27 - l) is not negative
 between : (l : ℕ) → 1 ≤ l → l ≤ 2 ^ 27 → l * l + 2 ^ 27 ≤ 2 ^ 27 * l + l
@@ -81,17 +93,21 @@ module _ {n p l c : ℕ} (s : Split n p l c) where
   below (no i) = omega (arith, s)
 
   -- q where the test fails, and else q + 1
-  nearest : (q u v : ℕ) → n * 2 ^ 52 + v ≡ q * q + u → v < u + q → u ≤ v + 3 * q + 2 → (b : Bool) → (T b → v + q < u) → (T (not b) → u ≤ v + q) → q + boolByte b ≡ nearRoot (n * 2 ^ 52)
-  nearest q u v d f g true t e = near-of (q + 1) (n * 2 ^ 52) (omega (arith, s)) (omega (arith, s)) (record { low = omega (arith, next-square q, t tt); high = omega (arith, next-square q) })
+  nearest : (q u v : ℕ) → n * 2 ^ 52 + v ≡ q * q + u → v < u + q → u ≤ v + 3 * q + 2 → (b : Bool) → (T b → v + q < u)
+      → (T (not b) → u ≤ v + q) → q + boolByte b ≡ nearRoot (n * 2 ^ 52)
+  nearest q u v d f g true t e = near-of (q + 1) (n * 2 ^ 52) (omega (arith, s)) (omega (arith, s))
+      (record { low = omega (arith, next-square q, t tt); high = omega (arith, next-square q) })
   nearest q u v d f g false t e =
-      (let z : q + 0 ≡ q = omega arith in z) ∙ near-of q (n * 2 ^ 52) (omega (arith, s)) (omega (arith, s)) (record { low = omega arith; high = omega (arith, e tt) })
+      (let z : q + 0 ≡ q = omega arith in z)
+      ∙ near-of q (n * 2 ^ 52) (omega (arith, s)) (omega (arith, s)) (record { low = omega arith; high = omega (arith, e tt) })
 
   decided : p * 2 ^ 26 + l + boolByte (test p l c) ≡ nearRoot (n * 2 ^ 52)
   decided =
       let q = p * 2 ^ 26 + l in
       let u = (l + c) * 2 ^ 27 in
       let v = l * l + 2 ^ 52 in
-      nearest q u v difference (above (decLe 1 l) (decLe p (2 ^ 26))) (below (decLe (2 ^ 26) l)) (test p l c) (ltb→lt (v + q) u) (nltb→le (v + q) u)
+      nearest q u v difference (above (decLe 1 l) (decLe p (2 ^ 26))) (below (decLe (2 ^ 26) l)) (test p l c) (ltb→lt (v + q) u)
+      (nltb→le (v + q) u)
 
   low-square : l * l ≤ 2 ^ 54
   low-square = omega (arith, mul-le-mul (s .few) (s .few))

@@ -13,7 +13,8 @@ mul-nearest-root : tie.Need-mul-nearest-root
 mul-nearest-root c = omega (arith, bounds (c .scale .ensures .0) .1)
 
 nearest-root-requires : tie.Need-nearest-root-requires
-nearest-root-requires c κs = let b = bounds (c .before .scale .ensures .0) in (b .0, omega (arith, b .1), c .guess .ensures .0, c .guess .ensures .1)
+nearest-root-requires c κs = let b = bounds (c .before .scale .ensures .0) in
+    (b .0, omega (arith, b .1), c .guess .ensures .0, c .guess .ensures .1)
 
 add-result : tie.Need-add-result
 add-result c = let s = c .before .before .scale .ensures in omega (arith, digits (s .0) .most, c .nearest-root .ensures, s .1)
@@ -21,7 +22,8 @@ add-result c = let s = c .before .before .scale .ensures in omega (arith, digits
 returns : tie.Need-returns
 returns c =
     let a = c .before .before in
-    ap (λ (q : ℕ). bits (a .scale .result .power / 2 * 2 ^ 52 + q)) (c .nearest-root .ensures) ∙ root-written (bits (a .before .args .b)) (a .before .pre) (a .scale .ensures .0) (a .scale .ensures .1)
+    ap (λ (q : ℕ). bits (a .scale .result .power / 2 * 2 ^ 52 + q)) (c .nearest-root .ensures)
+    ∙ root-written (bits (a .before .args .b)) (a .before .pre) (a .scale .ensures .0) (a .scale .ensures .1)
 
 pub root-bits-spec : {M : Type 1} → statement M
 root-bits-spec =

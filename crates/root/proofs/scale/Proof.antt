@@ -18,10 +18,12 @@ use Rattle.root.proofs.Patterns.{field, subnormal-units, normal-units, 
 use Rattle.root.proofs.scale.Statement.{statement}
 use Rattle.root.proofs.scale.Tie as tie
 
-lift : (c : tie.Then1) → (11 ≤ leadingZeros 64 (c .before .args .b % 2 ^ 52)) × Lifted (c .before .args .b % 2 ^ 52) (leadingZeros 64 (c .before .args .b % 2 ^ 52) - 11)
+lift : (c : tie.Then1) → (11 ≤ leadingZeros 64 (c .before .args .b % 2 ^ 52))
+    × Lifted (c .before .args .b % 2 ^ 52) (leadingZeros 64 (c .before .args .b % 2 ^ 52) - 11)
 lift c =
     let b = c .before .args .b in
-    lifted (b % 2 ^ 52) (omega (arith, units-pos (bits b) (c .before .pre) (ofBits-fits binary64 b), subnormal-units b (c .if1 .taken))) (omega arith)
+    lifted (b % 2 ^ 52) (omega (arith, units-pos (bits b) (c .before .pre) (ofBits-fits binary64 b), subnormal-units b (c .if1 .taken)))
+    (omega arith)
 
 sub-z : tie.Need-sub-z
 sub-z c = lift c .0
@@ -41,8 +43,10 @@ returns c =
     let t = b % 2 ^ 52 in
     let z = leadingZeros 64 t - 11 in
     let l = lift c .1 in
-    let e : t * 2 ^ z ≡ t * 2 ^ z % 2 ^ 64 = omega (arith, l .high) in
-    (subst (λ (w : ℕ). ScaledTo (radicand (bits b)) w (1022 - z)) e (scaled (unitsOf (bits b)) t 0 z (subnormal-units b (c .if1 .taken)) l), omega arith)
+    let e : t * 2 ^ z ≡ t * 2 ^ z % 2 ^ 64 = omega (arith, l .high) in (
+      subst (λ (w : ℕ). ScaledTo (radicand (bits b)) w (1022 - z)) e (scaled (unitsOf (bits b)) t 0 z (subnormal-units b (c .if1 .taken)) l),
+      omega arith,
+    )
 
 add-t5 : tie.Need-add-t5
 add-t5 c = search needs
@@ -57,11 +61,13 @@ returns-2 c =
     let f = field b in
     let n : f ≡ 0 → ⊥ = c .if1 .left in
     let o = not-all-ones b (c .before .pre) in
-    let s = scaled (unitsOf (bits b)) w (f - 1) 0 (normal-units b n o) (record { most = omega arith; low = omega (arith, mul-one w); high = omega (arith, mul-one w) }) in (
+    let s = scaled (unitsOf (bits b)) w (f - 1) 0 (normal-units b n o)
+    (record { most = omega arith; low = omega (arith, mul-one w); high = omega (arith, mul-one w) }) in (
       record {
         least = omega arith;
         most = omega arith;
-        is = s .is ∙ ap (λ (x : ℕ). x * 2 ^ (1022 + (f - 1) - 0 + 52)) (mul-one w) ∙ ap (λ (i : ℕ). w * 2 ^ i) (let z : 1022 + (f - 1) - 0 + 52 ≡ f + 1021 + 52 = omega arith in z);
+        is = s .is ∙ ap (λ (x : ℕ). x * 2 ^ (1022 + (f - 1) - 0 + 52)) (mul-one w)
+            ∙ ap (λ (i : ℕ). w * 2 ^ i) (let z : 1022 + (f - 1) - 0 + 52 ≡ f + 1021 + 52 = omega arith in z);
       },
       omega arith,
     )

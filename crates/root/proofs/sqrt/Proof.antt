@@ -1,4 +1,5 @@
--- `root::sqrt` meets its contract: by the tests x is positive and finite, +infinity, negative, or else a zero or a NaN; the first has its root from its bits. Assumes nothing.
+-- `root::sqrt` meets its contract: by the tests x is positive and finite, +infinity, negative, or else a zero or a NaN;
+-- the first has its root from its bits. Assumes nothing.
 use mathlib.Core.Path.{_≡_, sym, ap, subst, _∙_}
 use mathlib.Core.Bool.{not}
 use lib.Dec.{T}
@@ -47,7 +48,9 @@ float-from-bits-result : tie.Need-float-from-bits-result
 float-from-bits-result c =
     let s = c .before .before .before in
     let r = c .root-bits .result in
-    rw (nanBits-is binary64 r) (no-nan (bits r) (subst (λ (y : Float). T (positive y)) (sym (root-at c)) (root-positive (s .args .x) (positive-at (c .before)) (fit s))))
+    rw (nanBits-is binary64 r)
+    (no-nan (bits r)
+    (subst (λ (y : Float). T (positive y)) (sym (root-at c)) (root-positive (s .args .x) (positive-at (c .before)) (fit s))))
 
 returns : tie.Need-returns
 returns c = both (c .before .before .before) _ (root-at c)

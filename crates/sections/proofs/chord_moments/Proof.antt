@@ -15,7 +15,8 @@ use Rattle.sections.proofs.chord_moments.Statement.{statement}
 use Rattle.sections.proofs.chord_moments.Tie as tie
 
 -- the last two sections of four
-airfoil : (s : Section) → (tagOf the-type s ≡ 2) ⊎ (tagOf the-type s ≡ 3) → (a b c t : Float) → airfoilMoments (tailOf s) a c t ≡ sectionMoments s a b c t
+airfoil : (s : Section) → (tagOf the-type s ≡ 2) ⊎ (tagOf the-type s ≡ 3) → (a b c t : Float)
+    → airfoilMoments (tailOf s) a c t ≡ sectionMoments s a b c t
 airfoil Square (inl e) a b c t = absurd (let z : ⊥ = omega arith in z)
 airfoil Square (inr e) a b c t = absurd (let z : ⊥ = omega arith in z)
 airfoil Rounded (inl e) a b c t = absurd (let z : ⊥ = omega arith in z)

@@ -42,8 +42,12 @@ loop-less c = omega arith
 
 loop-again : tie.Need-loop-again Inv-loop μ-loop
 loop-again c =
-    let head = c .before .before .before .loop in
-    (omega arith, simp length-set (omega arith), moved _ (head .xs) (head .k) (omega arith) (omega arith) (not-false _ (c .if1 .left)) ∙ head .inv .2)
+    let head = c .before .before .before .loop in (
+      omega arith,
+      simp length-set (omega arith),
+      moved _ (head .xs) (head .k) (omega arith) (omega arith) (not-false _ (c .if1 .left))
+          ∙ head .inv .2,
+    )
 
 mul-xs-2 : tie.Need-mul-xs-2 Inv-loop μ-loop
 mul-xs-2 c = omega arith

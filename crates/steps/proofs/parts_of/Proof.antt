@@ -15,13 +15,15 @@ use Rattle.steps.proofs.parts_of.Statement.{statement}
 use Rattle.steps.proofs.parts_of.Tie as tie
 
 returns : tie.Need-returns
-returns c = record { some = omega arith; is = ap (λ (n : ℕ). n * 1) (zero-units (c .before .args .length-m) (c .if1 .taken)); most = omega arith }
+returns c = record
+    { some = omega arith; is = ap (λ (n : ℕ). n * 1) (zero-units (c .before .args .length-m) (c .if1 .taken)); most = omega arith }
 
 abs-requires : tie.Need-abs-requires
 abs-requires c κs = search needs
 
 parts-of-magnitude-requires : tie.Need-parts-of-magnitude-requires
-parts-of-magnitude-requires c κs = rw (c .abs .ensures) (magnitude-within (c .before .before .args .length-m) (c .before .if1 .left) (c .before .before .pre))
+parts-of-magnitude-requires c κs = rw (c .abs .ensures)
+    (magnitude-within (c .before .before .args .length-m) (c .before .if1 .left) (c .before .before .pre))
 
 returns-2 : tie.Need-returns-2
 returns-2 c =

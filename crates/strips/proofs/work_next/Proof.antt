@@ -15,7 +15,8 @@ returns c =
     let from = found .before in
     let start = from .before .before .before in
     let a = start .args in
-    went-on (a .integrand) (a .points .now) (a .limit) (a .i) (from .height-at .result) (from .height-at .ensures) (found .least-above .result)
+    went-on (a .integrand) (a .points .now) (a .limit) (a .i) (from .height-at .result) (from .height-at .ensures)
+    (found .least-above .result)
     (found .least-above .ensures) (a .totals) (a .scratch .now) (some .if1 .taken) (a .span) (start .pre .1) _ _
     (worked .work-strip .ensures)
 
@@ -24,7 +25,8 @@ returns-2 c =
     let found = c .before in
     let from = found .before in
     let a = from .before .before .before .args in
-    went-nowhere (a .integrand) (a .points .now) (a .limit) (a .i) (from .height-at .result) (from .height-at .ensures) (found .least-above .result)
+    went-nowhere (a .integrand) (a .points .now) (a .limit) (a .i) (from .height-at .result) (from .height-at .ensures)
+    (found .least-above .result)
     (found .least-above .ensures) (a .totals) (a .scratch .now) (c .if1 .left)
 
 pub work-next-spec : {M : Type 1} → statement M

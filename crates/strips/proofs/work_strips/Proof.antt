@@ -17,21 +17,29 @@ returns c =
     let span = i .before .before .before in
     let taken = span .before in
     let a = taken .before .before .before .before .args in
-    let two = ap (λ (x : Float). bits 0 ∷ x ∷ []) (span .span-m .ensures) ∙ sym (two-heights (a .integrand .planform) (a .points .now) (sym (taken .before .is-one-strip .ensures) ∙ taken .if1 .taken)) in
+    let two = ap (λ (x : Float). bits 0 ∷ x ∷ []) (span .span-m .ensures)
+    ∙ sym (two-heights (a .integrand .planform) (a .points .now) (sym (taken .before .is-one-strip .ensures) ∙ taken .if1 .taken)) in
     same-heights _ _ _ _ _ _ two (i .work-upward .ensures)
 
 array-share-prefix-heights : tie.Need-array-share-prefix-heights
 array-share-prefix-heights c =
     let h = c .before .before in
     let a = h .before .before .before .before .before .args in
-    omega (arith, heights-count (a .integrand .planform) (a .points .now) (h .break-heights .result) (h .break-heights .ensures), heights-room (a .integrand .planform) (a .points .now) (h .break-heights .result) (h .break-heights .ensures), most-breaks (a .integrand .planform) (a .points .now))
+    omega (
+      arith,
+      heights-count (a .integrand .planform) (a .points .now) (h .break-heights .result) (h .break-heights .ensures),
+      heights-room (a .integrand .planform) (a .points .now) (h .break-heights .result) (h .break-heights .ensures),
+      most-breaks
+          (a .integrand .planform) (a .points .now),
+    )
 
 slice-aggregate-work-upward-2 : tie.Need-slice-aggregate-work-upward-2
 slice-aggregate-work-upward-2 c =
     let h = c .before .before .before in
     let a = h .before .before .before .before .before .args in
     heights-count (a .integrand .planform) (a .points .now) (h .break-heights .result) (h .break-heights .ensures)
-    ∙ sym (ap (λ (l : List Float). length l) (heights-taken (a .integrand .planform) (a .points .now) (h .break-heights .result) (h .break-heights .ensures)))
+    ∙ sym (ap (λ (l : List Float). length l)
+    (heights-taken (a .integrand .planform) (a .points .now) (h .break-heights .result) (h .break-heights .ensures)))
 
 work-upward-requires-2 : tie.Need-work-upward-requires-2
 work-upward-requires-2 c κs =
@@ -47,7 +55,9 @@ returns-2 c =
     let i = c .before .before in
     let h = i .before .before .before .before in
     let a = h .before .before .before .before .before .args in
-    same-heights _ _ _ _ _ _ (heights-taken (a .integrand .planform) (a .points .now) (h .break-heights .result) (h .break-heights .ensures)) (i .work-upward2 .ensures)
+    same-heights _ _ _ _ _ _
+    (heights-taken (a .integrand .planform) (a .points .now) (h .break-heights .result) (h .break-heights .ensures))
+    (i .work-upward2 .ensures)
 
 pub work-strips-spec : {M : Type 1} → statement M
 work-strips-spec =

@@ -11,7 +11,8 @@ use Rattle.strips.proofs.work_upward.Statement.{statement}
 use Rattle.strips.proofs.work_upward.Tie as tie
 
 abbrev Inv-loop : tie.InvT-loop
-Inv-loop scratch₀ integrand points heights limit total₀ i₀ scratch total i = State (sampleOf integrand points) limit (integrand .scale) heights scratch₀ scratch total i
+Inv-loop scratch₀ integrand points heights limit total₀ i₀ scratch total i = State (sampleOf integrand points) limit (integrand .scale)
+    heights scratch₀ scratch total i
 
 abbrev μ-loop : tie.MeasureT-loop
 μ-loop scratch₀ integrand points heights limit total₀ i₀ scratch total i = length heights - i
@@ -46,7 +47,8 @@ returns c =
     let w = a .before .before .before in
     let l = Loop· w in
     let pre = Start· l .pre in
-    ends-here _ _ _ _ _ _ _ _ _ (l .loop .inv) (pre .0 .0) (pre .0 .1) (w .before .before .before .loop-test .taken) (pre .1) (w .work-strip .kept .0) _ (w .work-strip .ensures)
+    ends-here _ _ _ _ _ _ _ _ _ (l .loop .inv) (pre .0 .0) (pre .0 .1) (w .before .before .before .loop-test .taken) (pre .1)
+    (w .work-strip .kept .0) _ (w .work-strip .ensures)
     (sym (a .is-accepted .ensures) ∙ not-true _ (c .if1 .taken))
 
 add-i : tie.Need-add-i Inv-loop μ-loop
@@ -65,7 +67,8 @@ loop-again c =
     let w = a .before .before .before in
     let l = Loop· w in
     let pre = Start· l .pre in
-    goes-on _ _ _ _ _ _ _ _ _ (l .loop .inv) (pre .0 .0) (pre .0 .1) (w .before .before .before .loop-test .taken) (pre .1) (w .work-strip .kept .0) _ (w .work-strip .ensures)
+    goes-on _ _ _ _ _ _ _ _ _ (l .loop .inv) (pre .0 .0) (pre .0 .1) (w .before .before .before .loop-test .taken) (pre .1)
+    (w .work-strip .kept .0) _ (w .work-strip .ensures)
     (sym (a .is-accepted .ensures) ∙ not-false _ (c .if1 .left))
 
 same-length-2 : tie.Need-same-length-2 Inv-loop μ-loop

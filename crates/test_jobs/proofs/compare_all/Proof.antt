@@ -9,7 +9,8 @@ use Rattle.test_jobs.proofs.compare_all.Tie as tie
 
 abbrev Inv-loop : tie.InvT-loop
 Inv-loop numbers₀ counts₀ scratch₀ other₀ tally₀ seed₀ k₀ numbers counts scratch other tally seed k =
-    (length numbers ≡ length numbers₀) × ((length counts ≡ length counts₀) × ((length scratch ≡ length scratch₀) × (length other ≡ length other₀)))
+    (length numbers ≡ length numbers₀)
+    × ((length counts ≡ length counts₀) × ((length scratch ≡ length scratch₀) × (length other ≡ length other₀)))
 
 abbrev μ-loop : tie.MeasureT-loop
 μ-loop numbers₀ counts₀ scratch₀ other₀ tally₀ seed₀ k₀ numbers counts scratch other tally seed k = 4000 - k

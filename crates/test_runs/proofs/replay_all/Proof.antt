@@ -8,7 +8,8 @@ use Rattle.test_runs.proofs.replay_all.Statement.{statement}
 use Rattle.test_runs.proofs.replay_all.Tie as tie
 
 abbrev Inv-loop : tie.InvT-loop
-Inv-loop text values₀ scratch₀ out₀ at₀ values scratch out at = (length values ≡ length values₀) × (length scratch ≡ length scratch₀) × (length out ≡ length out₀)
+Inv-loop text values₀ scratch₀ out₀ at₀ values scratch out at = (length values ≡ length values₀) × (length scratch ≡ length scratch₀)
+    × (length out ≡ length out₀)
 
 abbrev μ-loop : tie.MeasureT-loop
 μ-loop text values₀ scratch₀ out₀ at₀ values scratch out at = length text - at

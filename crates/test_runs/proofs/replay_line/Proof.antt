@@ -10,7 +10,8 @@ use Rattle.test_runs.proofs.replay_line.Tie as tie
 slice-aggregate-print-run : tie.Need-slice-aggregate-print-run
 slice-aggregate-print-run c =
     let taken = c .before .before .before .before .before .before .before in
-    sym (length-take-le (taken .take-one .result .number) (now (taken .before .before .before .before .before .before .before .before .args .scratch)) (omega arith))
+    sym (length-take-le (taken .take-one .result .number)
+    (now (taken .before .before .before .before .before .before .before .before .args .scratch)) (omega arith))
 
 pub replay-line-spec : {M : Type 1} → statement M
 replay-line-spec =

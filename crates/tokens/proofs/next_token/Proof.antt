@@ -18,28 +18,50 @@ one-byte line i h = part-longer line i i (omega arith) h ∙ rw (part-none line 
 
 module _ (line : List ℕ) (at from : ℕ) where
   nothing-left : length line ≤ at → IsFound line at (record { from = at; to = at })
-  nothing-left h = record { first = λ g. absurd (let z : ⊥ = omega arith in z); none = λ _. at-end line at h; behind = omega arith; ordered = omega arith; within = λ g. g }
+  nothing-left h = record {
+    first = λ g. absurd (let z : ⊥ = omega arith in z);
+    none = λ _. at-end line at h;
+    behind = omega arith;
+    ordered = omega arith;
+    within = λ g. g;
+  }
 
   module _ (p : IsPastSpaces line at from) where
     only-spaces : length line ≤ from → IsFound line at (record { from = from; to = from })
-    only-spaces h = record { first = λ g. absurd (let z : ⊥ = omega arith in z); none = λ _. p .same ∙ at-end line from h; behind = p .behind; ordered = omega arith; within = λ _. p .within }
+    only-spaces h = record {
+      first = λ g. absurd (let z : ⊥ = omega arith in z);
+      none = λ _. p .same
+          ∙ at-end line from h;
+      behind = p .behind;
+      ordered = omega arith;
+      within = λ _. p .within;
+    }
 
     bracket : from < length line → endsWord (getD line from 0) ≡ true → IsFound line at (record { from = from; to = from + 1 })
     bracket h e =
         let b = p .behind in
         record {
-          first = λ _. p .same ∙ bracket-at line from h e (p .stops h) ∙ ap (λ (w : List ℕ). w ∷ tokens (drop (from + 1) line)) (sym (one-byte line from h));
+          first = λ _. p .same ∙ bracket-at line from h e (p .stops h)
+              ∙ ap (λ (w : List ℕ). w ∷ tokens (drop (from + 1) line)) (sym (one-byte line from h));
           none = λ g. absurd (let z : ⊥ = omega arith in z);
           behind = b;
           ordered = omega arith;
           within = λ _. omega arith;
         }
 
-    in-word : (to : ℕ) → from < length line → endsWord (getD line from 0) ≡ false → IsWordEnd line from to → IsFound line at (record { from = from; to = to })
+    in-word : (to : ℕ) → from < length line → endsWord (getD line from 0) ≡ false → IsWordEnd line from to
+        → IsFound line at (record { from = from; to = to })
     in-word to h n w =
         let e = w .ends h n in
         let l = e .0 in
-        record { first = λ _. p .same ∙ e .1; none = λ g. absurd (let z : ⊥ = omega arith in z); behind = p .behind; ordered = w .behind; within = λ _. w .within }
+        record {
+          first = λ _. p .same
+              ∙ e .1;
+          none = λ g. absurd (let z : ⊥ = omega arith in z);
+          behind = p .behind;
+          ordered = w .behind;
+          within = λ _. w .within;
+        }
 
 returns : tie.Need-returns
 returns c = let s = c .before .before .args in nothing-left (now (s .line)) (s .at) (s .at) (c .if1 .taken)
@@ -54,14 +76,16 @@ returns-3 : tie.Need-returns-3
 returns-3 c =
     let p = c .before .before .before .before in
     let s = p .before .before .before .args in
-    bracket (now (s .line)) (s .at) (p .past-spaces .result) (p .past-spaces .ensures) (omega arith) (sym (c .before .ends-word .ensures) ∙ c .if3 .taken)
+    bracket (now (s .line)) (s .at) (p .past-spaces .result) (p .past-spaces .ensures) (omega arith)
+    (sym (c .before .ends-word .ensures) ∙ c .if3 .taken)
 
 returns-4 : tie.Need-returns-4
 returns-4 c =
     let i = c .before in
     let p = i .before .before .before .before in
     let s = p .before .before .before .args in
-    in-word (now (s .line)) (s .at) (p .past-spaces .result) (p .past-spaces .ensures) (c .word-end .result) (omega arith) (sym (i .before .ends-word .ensures) ∙ i .if3 .left) (c .word-end .ensures)
+    in-word (now (s .line)) (s .at) (p .past-spaces .result) (p .past-spaces .ensures) (c .word-end .result) (omega arith)
+    (sym (i .before .ends-word .ensures) ∙ i .if3 .left) (c .word-end .ensures)
 
 pub next-token-spec : {M : Type 1} → statement M
 next-token-spec =

@@ -23,7 +23,8 @@ module _ (line : List ℕ) (at i : ℕ) where
   start : tokens (drop at line) ≡ tokensAfter (part line at at) (drop at line)
   start = ap (λ (w : List ℕ). tokensAfter w (drop at line)) (sym (part-none line at))
 
-  one-more : at ≤ i → i < length line → endsWord (getD line i 0) ≡ false → tokens (drop at line) ≡ tokensAfter (part line at i) (drop i line)
+  one-more : at ≤ i → i < length line → endsWord (getD line i 0) ≡ false
+      → tokens (drop at line) ≡ tokensAfter (part line at i) (drop i line)
       → tokens (drop at line) ≡ tokensAfter (part line at (i + 1)) (drop (i + 1) line)
   one-more a h e t =
       t ∙ longer-at line i h (part line at i) e ∙ ap (λ (w : List ℕ). tokensAfter w (drop (i + 1) line)) (sym (part-longer line at i a h))
@@ -36,7 +37,8 @@ module _ (line : List ℕ) (at i : ℕ) where
       ap (λ (w : List ℕ). tokensAfter w (drop i line)) p ∙ f _ _ ∙ ap (λ (w : List ℕ). w ∷ tokens (drop i line)) (sym p)
 
   -- a byte that ends a word stands at i
-  stopped : at ≤ i → i < length line → endsWord (getD line i 0) ≡ true → tokens (drop at line) ≡ tokensAfter (part line at i) (drop i line) → IsWordEnd line at i
+  stopped : at ≤ i → i < length line → endsWord (getD line i 0) ≡ true → tokens (drop at line) ≡ tokensAfter (part line at i) (drop i line)
+      → IsWordEnd line at i
   stopped a h e t =
       record {
         behind = a;
@@ -51,7 +53,8 @@ module _ (line : List ℕ) (at i : ℕ) where
           below f = omega arith
 
   -- the line ends at i
-  ended : at ≤ i → i ≤ length line → length line ≤ i → tokens (drop at line) ≡ tokensAfter (part line at i) (drop i line) → IsWordEnd line at i
+  ended : at ≤ i → i ≤ length line → length line ≤ i → tokens (drop at line) ≡ tokensAfter (part line at i) (drop i line)
+      → IsWordEnd line at i
   ended a h g t =
       record {
         behind = a;
@@ -82,8 +85,12 @@ loop-again : tie.Need-loop-again Inv-loop μ-loop
 loop-again c =
     let a = c .before .before .before .before in
     let s = a .before .before .args in
-    let v = a .loop .inv in
-    (omega arith, omega arith, one-more (now (s .line)) (s .at) (a .loop .i) (v .0) (omega arith) (sym (c .before .ends-word .ensures) ∙ c .if1 .left) (v .2))
+    let v = a .loop .inv in (
+      omega arith,
+      omega arith,
+      one-more (now (s .line)) (s .at) (a .loop .i) (v .0) (omega arith)
+          (sym (c .before .ends-word .ensures) ∙ c .if1 .left) (v .2),
+    )
 
 returns-2 : tie.Need-returns-2 Inv-loop μ-loop
 returns-2 c =

@@ -14,7 +14,8 @@ use Rattle.trig.proofs.nearest_whole.Tie as tie
 
 -- the bits are q's
 from-bits : (d : tie.After-to-bits) → ofBits binary64 (d .to-bits .result) ≡ d .before .args .q
-from-bits d = ap (ofBits binary64) (d .to-bits .ensures) ∙ ofBits-toBits binary64 (d .before .args .q) (subst T (sym (d .before .good .0 .1)) tt)
+from-bits d = ap (ofBits binary64) (d .to-bits .ensures)
+    ∙ ofBits-toBits binary64 (d .before .args .q) (subst T (sym (d .before .good .0 .1)) tt)
 
 returns : tie.Need-returns
 returns c = let d = c .before in below-half (d .before .args .q) (d .to-bits .result) (from-bits d) (c .if1 .taken)
@@ -38,21 +39,28 @@ returns-4 c =
     let n = c .before .before in
     let d = n .before .before .before .before in
     let q = d .before .args .q in
-    let b = d .to-bits .result in
-    (itself q b (from-bits d) (omega arith) (omega arith) (c .if4 .taken), c .before .modulo-four .ensures ∙ from-half q b (from-bits d) (omega arith) (omega arith) (n .nearest-magnitude .result) (n .nearest-magnitude .ensures) .1)
+    let b = d .to-bits .result in (
+      itself q b (from-bits d) (omega arith) (omega arith) (c .if4 .taken),
+      c .before .modulo-four .ensures
+          ∙ from-half q b (from-bits d) (omega arith) (omega arith) (n .nearest-magnitude .result) (n .nearest-magnitude .ensures) .1,
+    )
 
 signed-number-requires : tie.Need-signed-number-requires
 signed-number-requires c κs =
     let n = c .before .before in
     let b = n .before .before .before .before .to-bits .result in
-    let e = n .nearest-magnitude .ensures in
-    (lt-of-lt-of-le (not-zero (exponentOf b) (digitsOf b) (omega arith) (omega arith)) (le-of-eq (sym e)), le-trans (le-of-eq e) (at-most (exponentOf b) (digitsOf b) (c .if4 .left) (omega arith)))
+    let e = n .nearest-magnitude .ensures in (
+      lt-of-lt-of-le (not-zero (exponentOf b) (digitsOf b) (omega arith) (omega arith)) (le-of-eq (sym e)),
+      le-trans (le-of-eq e)
+          (at-most (exponentOf b) (digitsOf b) (c .if4 .left) (omega arith)),
+    )
 
 returns-5 : tie.Need-returns-5
 returns-5 c =
     let n = c .before .before .before in
     let d = n .before .before .before .before in
-    let m = from-half (d .before .args .q) (d .to-bits .result) (from-bits d) (omega arith) (omega arith) (n .nearest-magnitude .result) (n .nearest-magnitude .ensures) in
+    let m = from-half (d .before .args .q) (d .to-bits .result) (from-bits d) (omega arith) (omega arith) (n .nearest-magnitude .result)
+    (n .nearest-magnitude .ensures) in
     (c .signed-number .ensures ∙ m .0, c .before .before .modulo-four .ensures ∙ m .1)
 
 pub nearest-whole-spec : {M : Type 1} → statement M

@@ -26,7 +26,8 @@ Left z ds v i = steps z (drop i ds) v ≡ steps z ds (whole 1)
 none-taken : (z : Float) (ds : List Float) → Left z ds (bits 0x3ff0_0000_0000_0000) 0
 none-taken z ds = ap (steps z ds) one
 
-one-more : (z : Float) (ds : List Float) (v : Float) (i : ℕ) → i < length ds → Left z ds v i → Left z ds (bits 0x3ff0_0000_0000_0000 ⊖ (z ⊘ at ds i) ⊗ v) (i + 1)
+one-more : (z : Float) (ds : List Float) (v : Float) (i : ℕ) → i < length ds → Left z ds v i
+    → Left z ds (bits 0x3ff0_0000_0000_0000 ⊖ (z ⊘ at ds i) ⊗ v) (i + 1)
 unfolding steps
 one-more z ds v i h e = step h ∙ e
   where
@@ -77,8 +78,13 @@ loop-again : tie.Need-loop-again Inv-loop μ-loop
 unfolding ofBits ofInt round
 loop-again c =
     let head = c .before .loop in
-    let z = c .before .before .args .z in
-    (omega arith, refl, one-more z sineDivisors (at (head .v) 0) (head .i) (c .loop-test .taken) (head .inv .2), one-more z cosineDivisors (at (head .v) 1) (head .i) (c .loop-test .taken) (head .inv .3))
+    let z = c .before .before .args .z in (
+      omega arith,
+      refl,
+      one-more z sineDivisors (at (head .v) 0) (head .i) (c .loop-test .taken) (head .inv .2),
+      one-more z cosineDivisors
+          (at (head .v) 1) (head .i) (c .loop-test .taken) (head .inv .3),
+    )
 
 returns : tie.Need-returns Inv-loop μ-loop
 returns c =

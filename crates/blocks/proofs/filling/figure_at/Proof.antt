@@ -1,4 +1,5 @@
--- `blocks::filling::figure_at` meets its contract: past the end of a list its element is a NaN, which the code writes as 0 / 0. Assumes nothing.
+-- `blocks::filling::figure_at` meets its contract: past the end of a list its element is a NaN, which the code writes
+-- as 0 / 0. Assumes nothing.
 use mathlib.Core.Path.{sym, _∙_}
 use lib.ListN.{List·getD-eq-default}
 use lib.Ieee.{nan}

@@ -3,6 +3,13 @@ use borrow.Author.Needs.{needs}
 use Rattle.blocks.proofs.filling.largest_from.Statement.{statement}
 use Rattle.blocks.proofs.filling.largest_from.Tie as tie
 
+-- places that the needs go back to
+abbrev at-abs : tie.After-max2 → tie.After-abs
+at-abs c = c .before .before .before .before .before .before
+
+abbrev at-figure-at : tie.After-max2 → tie.After-figure-at
+at-figure-at c = c .before .before .before .before .before .before .before
+
 returns : tie.Need-returns
 returns c =
     rw (
@@ -12,8 +19,8 @@ returns c =
       c .before .before .before .figure-at3 .ensures,
       c .before .before .before .before .abs2 .ensures,
       c .before .before .before .before .before .figure-at2 .ensures,
-      c .before .before .before .before .before .before .abs .ensures,
-      c .before .before .before .before .before .before .before .figure-at .ensures,
+      (at-abs c) .abs .ensures,
+      (at-figure-at c) .figure-at .ensures,
     )
 
 pub largest-from-spec : {M : Type 1} → statement M

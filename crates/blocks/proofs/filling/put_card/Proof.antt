@@ -32,7 +32,8 @@ loop-less c = omega arith
 loop-again : tie.Need-loop-again Inv-loop μ-loop
 loop-again c =
     let f = c .before .before in
-    next card cardMost card-fits (f .before .before .before .before .loop .inv) (f .before .before .before .loop-test .taken) (f .put-mark .ensures) (f .put-mark .kept .0)
+    next card cardMost card-fits (f .before .before .before .before .loop .inv) (f .before .before .before .loop-test .taken)
+    (f .put-mark .ensures) (f .put-mark .kept .0)
 
 same-length : tie.Need-same-length Inv-loop μ-loop
 same-length c = c .before .loop .inv .same

@@ -6,9 +6,22 @@ use borrow.Author.Needs.{needs}
 use Rattle.blocks.proofs.filling.put_mark.Statement.{statement}
 use Rattle.blocks.proofs.filling.put_mark.Tie as tie
 
+-- places that the needs go back to
+abbrev start-from-is-body-mark : tie.After-is-body-mark → tie.Start
+start-from-is-body-mark c = c .before .before .before .before
+
+abbrev start-from-then1 : tie.Then1 → tie.Start
+start-from-then1 c = c .before .before .before .before .before
+
+abbrev start-from-else1 : tie.Else1 → tie.Start
+start-from-else1 c = c .before .before .before .before .before
+
+abbrev start-from-slice-known3 : tie.After-slice-known3 → tie.Start
+start-from-slice-known3 c = c .before .before .before .before .before .before .before .before .before .before .before .before
+
 put-body-requires : tie.Need-put-body-requires
 put-body-requires c κs =
-    let s = c .before .before .before .before .before .before .before in
+    let s = start-from-is-body-mark (c .before .before .before) in
     let o = now (s .args .out) in
     let p = s .args .p in
     let b = s .args .b in
@@ -21,7 +34,7 @@ put-body-requires c κs =
 
 returns : tie.Need-returns
 returns c =
-    let s = c .before .before .before .before .before .before .before .before .before .before in
+    let s = start-from-then1 (c .before .before .before .before .before) in
     let o = now (s .args .out) in
     let p = s .args .p in
     let b = s .args .b in
@@ -31,11 +44,12 @@ returns c =
     let j = s .pre .counts-left in
     let m = c .before .before in
     let t = m .before .before .before in
-    body-put o p b fs ns i j (sym (t .before .is-body-mark .ensures) ∙ t .if1 .taken) (m .put-body .last .0) (m .put-body .result) (m .put-body .ensures)
+    body-put o p b fs ns i j (sym (t .before .is-body-mark .ensures) ∙ t .if1 .taken) (m .put-body .last .0) (m .put-body .result)
+    (m .put-body .ensures)
 
 returns-2 : tie.Need-returns-2
 returns-2 c =
-    let s = c .before .before .before .before .before .before .before in
+    let s = start-from-is-body-mark (c .before .before .before) in
     let o = now (s .args .out) in
     let p = s .args .p in
     let b = s .args .b in
@@ -47,7 +61,7 @@ returns-2 c =
 
 put-refusal-requires : tie.Need-put-refusal-requires
 put-refusal-requires c κs =
-    let s = c .before .before .before .before .before .before .before .before .before in
+    let s = start-from-is-body-mark (c .before .before .before .before .before) in
     let o = now (s .args .out) in
     let p = s .args .p in
     let b = s .args .b in
@@ -59,7 +73,7 @@ put-refusal-requires c κs =
 
 returns-3 : tie.Need-returns-3
 returns-3 c =
-    let s = c .before .before .before .before .before .before .before .before .before .before .before .before in
+    let s = start-from-slice-known3 c in
     let o = now (s .args .out) in
     let p = s .args .p in
     let b = s .args .b in
@@ -69,11 +83,12 @@ returns-3 c =
     let j = s .pre .counts-left in
     let m = c .before .before in
     let e = m .before .before .before in
-    refusal-put o p b fs ns i j (e .before .if2 .taken) (m .put-refusal .last .0) (m .put-refusal .result) (e .if3 .left) (m .put-refusal .ensures)
+    refusal-put o p b fs ns i j (e .before .if2 .taken) (m .put-refusal .last .0) (m .put-refusal .result) (e .if3 .left)
+    (m .put-refusal .ensures)
 
 put-piece-requires : tie.Need-put-piece-requires
 put-piece-requires c κs =
-    let s = c .before .before .before .before .before .before .before in
+    let s = start-from-is-body-mark (c .before .before .before) in
     let o = now (s .args .out) in
     let p = s .args .p in
     let b = s .args .b in
@@ -86,7 +101,7 @@ put-piece-requires c κs =
 
 returns-4 : tie.Need-returns-4
 returns-4 c =
-    let s = c .before .before .before .before .before .before .before .before .before .before in
+    let s = start-from-else1 (c .before .before .before .before .before) in
     let o = now (s .args .out) in
     let p = s .args .p in
     let b = s .args .b in
@@ -96,7 +111,8 @@ returns-4 c =
     let j = s .pre .counts-left in
     let m = c .before .before in
     let e = m .before .before in
-    other-put o p b fs ns i j (sym (e .before .before .is-body-mark .ensures) ∙ e .before .if1 .left) (e .if2 .left) (m .put-piece .last .0) (m .put-piece .result) (m .put-piece .ensures)
+    other-put o p b fs ns i j (sym (e .before .before .is-body-mark .ensures) ∙ e .before .if1 .left) (e .if2 .left) (m .put-piece .last .0)
+    (m .put-piece .result) (m .put-piece .ensures)
 
 pub put-mark-spec : {M : Type 1} → statement M
 put-mark-spec =

@@ -18,10 +18,14 @@ returns c =
     (xy .beside-from .result) (xz .beside-from2 .result) (yz .beside-from3 .result) (z .all-zero .result)
     (xy .beside-from .ensures) (xz .beside-from2 .ensures) (yz .beside-from3 .ensures) (z .all-zero .ensures) (c .if1 .taken)
 
+-- places that the needs go back to
+abbrev the-start : tie.After-counts → tie.Start
+the-start c = c .before .before .before .before .before .before .before .before .before .before .before
+
 put-plain-requires : tie.Need-put-plain-requires
 unfolding mixedLine text codes
 put-plain-requires c κs =
-    let s = c .before .before .before .before .before .before .before .before .before .before .before in
+    let s = the-start c in
     line-asked mixedLine 200 mixed-line-room _ _ (s .pre)
 
 returns-2 : tie.Need-returns-2

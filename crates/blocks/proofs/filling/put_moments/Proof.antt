@@ -6,10 +6,14 @@ use borrow.Author.Needs.{needs}
 use Rattle.blocks.proofs.filling.put_moments.Statement.{statement}
 use Rattle.blocks.proofs.filling.put_moments.Tie as tie
 
+-- places that the needs go back to
+abbrev the-start : tie.After-counts → tie.Start
+the-start c = c .before .before .before .before .before .before .before
+
 put-plain-requires : tie.Need-put-plain-requires
 unfolding momentLine text codes
 put-plain-requires c κs =
-    line-asked momentLine 330 moment-line-room _ _ (c .before .before .before .before .before .before .before .pre)
+    line-asked momentLine 330 moment-line-room _ _ ((the-start c) .pre)
 
 returns : tie.Need-returns
 unfolding momentLine text codes

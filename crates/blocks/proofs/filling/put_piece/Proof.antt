@@ -6,20 +6,31 @@ use borrow.Author.Needs.{needs}
 use Rattle.blocks.proofs.filling.put_piece.Statement.{statement}
 use Rattle.blocks.proofs.filling.put_piece.Tie as tie
 
+-- places that the needs go back to
+abbrev start-from-is-figure-mark : tie.After-is-figure-mark → tie.Start
+start-from-is-figure-mark c = c .before .before .before .before
+
+abbrev start-from-else2 : tie.Else2 → tie.Start
+start-from-else2 c = c .before .before .before .before .before .before
+
+abbrev start-from-slice-known3 : tie.After-slice-known3 → tie.Start
+start-from-slice-known3 c = c .before .before .before .before .before .before .before .before .before .before .before .before
+
 returns : tie.Need-returns
 returns c =
-    let s = c .before .before .before .before .before .before in
+    let s = start-from-is-figure-mark (c .before .before) in
     let o = now (s .args .out) in
     let p = s .args .p in
     let b = s .args .b in
     let fs = now (s .args .figures) in
     let ns = now (s .args .counts) in
     let m = c .before .before in
-    no-figure o p b fs ns (sym (m .is-figure-mark .ensures) ∙ c .before .if1 .taken) (s .pre .counts-left) (s .pre .figures-left) (c .if2 .taken)
+    no-figure o p b fs ns (sym (m .is-figure-mark .ensures) ∙ c .before .if1 .taken) (s .pre .counts-left) (s .pre .figures-left)
+    (c .if2 .taken)
 
 put-figure-requires : tie.Need-put-figure-requires
 put-figure-requires c κs =
-    let s = c .before .before .before .before .before .before .before .before in
+    let s = start-from-is-figure-mark (c .before .before .before .before) in
     let o = now (s .args .out) in
     let p = s .args .p in
     let b = s .args .b in
@@ -30,7 +41,7 @@ put-figure-requires c κs =
 
 returns-2 : tie.Need-returns-2
 returns-2 c =
-    let s = c .before .before .before .before .before .before .before .before .before .before .before in
+    let s = start-from-else2 (c .before .before .before .before .before) in
     let o = now (s .args .out) in
     let p = s .args .p in
     let b = s .args .b in
@@ -39,11 +50,12 @@ returns-2 c =
     let f = c .before .before in
     let e = f .before .before .before in
     let t = e .before in
-    figure-put o p b fs ns (sym (t .before .is-figure-mark .ensures) ∙ t .if1 .taken) (s .pre .counts-left) (f .put-figure .last .0) (f .put-figure .result) (e .if2 .left) (f .put-figure .ensures)
+    figure-put o p b fs ns (sym (t .before .is-figure-mark .ensures) ∙ t .if1 .taken) (s .pre .counts-left) (f .put-figure .last .0)
+    (f .put-figure .result) (e .if2 .left) (f .put-figure .ensures)
 
 returns-3 : tie.Need-returns-3
 returns-3 c =
-    let s = c .before .before .before .before .before .before .before in
+    let s = start-from-is-figure-mark (c .before .before .before) in
     let o = now (s .args .out) in
     let p = s .args .p in
     let b = s .args .b in
@@ -53,7 +65,7 @@ returns-3 c =
 
 put-count-requires : tie.Need-put-count-requires
 put-count-requires c κs =
-    let s = c .before .before .before .before .before .before .before .before .before in
+    let s = start-from-is-figure-mark (c .before .before .before .before .before) in
     let o = now (s .args .out) in
     let p = s .args .p in
     let b = s .args .b in
@@ -63,7 +75,7 @@ put-count-requires c κs =
 
 returns-4 : tie.Need-returns-4
 returns-4 c =
-    let s = c .before .before .before .before .before .before .before .before .before .before .before .before in
+    let s = start-from-slice-known3 c in
     let o = now (s .args .out) in
     let p = s .args .p in
     let b = s .args .b in
@@ -71,11 +83,12 @@ returns-4 c =
     let ns = now (s .args .counts) in
     let f = c .before .before in
     let e = f .before .before .before in
-    count-put o p b fs ns (e .before .if3 .taken) (s .pre .figures-left) (f .put-count .last .0) (f .put-count .result) (e .if4 .left) (f .put-count .ensures)
+    count-put o p b fs ns (e .before .if3 .taken) (s .pre .figures-left) (f .put-count .last .0) (f .put-count .result) (e .if4 .left)
+    (f .put-count .ensures)
 
 slice-write-out : tie.Need-slice-write-out
 slice-write-out c =
-    let s = c .before .before .before .before .before .before in
+    let s = start-from-is-figure-mark (c .before .before) in
     let o = now (s .args .out) in
     let p = s .args .p in
     let b = s .args .b in
@@ -86,7 +99,7 @@ slice-write-out c =
 
 returns-5 : tie.Need-returns-5
 returns-5 c =
-    let s = c .before .before .before .before .before .before in
+    let s = start-from-is-figure-mark (c .before .before) in
     let o = now (s .args .out) in
     let p = s .args .p in
     let b = s .args .b in

@@ -21,7 +21,8 @@ shared-slice-read-put-piece : tie.Need-shared-slice-read-put-piece Inv-loop μ-l
 shared-slice-read-put-piece c = omega arith
 
 put-piece-requires : tie.Need-put-piece-requires Inv-loop μ-loop
-put-piece-requires c κs = has-room-at plain plainMost plain-fits (c .before .before .before .loop .inv) (c .before .before .loop-test .taken)
+put-piece-requires c κs = has-room-at plain plainMost plain-fits (c .before .before .before .loop .inv)
+    (c .before .before .loop-test .taken)
 
 add-i : tie.Need-add-i Inv-loop μ-loop
 add-i c = omega arith
@@ -32,7 +33,8 @@ loop-less c = omega arith
 loop-again : tie.Need-loop-again Inv-loop μ-loop
 loop-again c =
     let f = c .before .before in
-    next plain plainMost plain-fits (f .before .before .before .before .loop .inv) (f .before .before .before .loop-test .taken) (f .put-piece .ensures) (f .put-piece .kept .0)
+    next plain plainMost plain-fits (f .before .before .before .before .loop .inv) (f .before .before .before .loop-test .taken)
+    (f .put-piece .ensures) (f .put-piece .kept .0)
 
 same-length : tie.Need-same-length Inv-loop μ-loop
 same-length c = c .before .loop .inv .same

@@ -33,7 +33,8 @@ returns c =
     key-alone t k (a .loop .at) (c .before .bar-end .result) (c .before .bar-end .ensures) (v .1) (c .if1 .taken)
 
 add-from : tie.Need-add-from Inv-loop μ-loop
-add-from c = let w = c .before .bar-end .ensures .within in let p = c .before .before .before .before .before .before .pre in omega (arith, w, p)
+add-from c = let w = c .before .bar-end .ensures .within in let p = c .before .before .before .before .before .before .pre in
+    omega (arith, w, p)
 
 bar-end-requires-2 : tie.Need-bar-end-requires-2 Inv-loop μ-loop
 bar-end-requires-2 c κs = let l = c .if1 .left in omega (arith, l)
@@ -56,7 +57,8 @@ returns-2 c =
     let v = a .loop .inv in
     let q = c .before .before .before in
     let p = q .before .before in
-    found t k (a .loop .at) (p .bar-end .result) (p .bar-end .ensures) (q .bar-end2 .result) (q .before .if1 .left) (q .bar-end2 .ensures) (v .1) (sym (c .before .same-bytes .ensures) ∙ c .if2 .taken)
+    found t k (a .loop .at) (p .bar-end .result) (p .bar-end .ensures) (q .bar-end2 .result) (q .before .if1 .left) (q .bar-end2 .ensures)
+    (v .1) (sym (c .before .same-bytes .ensures) ∙ c .if2 .taken)
 
 returns-3 : tie.Need-returns-3 Inv-loop μ-loop
 returns-3 c =
@@ -68,10 +70,12 @@ returns-3 c =
     let m = c .before .before in
     let q = m .before .before in
     let p = q .before .before in
-    passed-last t k (a .loop .at) (p .bar-end .result) (p .bar-end .ensures) (q .bar-end2 .result) (q .before .if1 .left) (q .bar-end2 .ensures) (v .1) (sym (m .same-bytes .ensures) ∙ c .before .if2 .left) (c .if3 .taken)
+    passed-last t k (a .loop .at) (p .bar-end .result) (p .bar-end .ensures) (q .bar-end2 .result) (q .before .if1 .left)
+    (q .bar-end2 .ensures) (v .1) (sym (m .same-bytes .ensures) ∙ c .before .if2 .left) (c .if3 .taken)
 
 add-at : tie.Need-add-at Inv-loop μ-loop
-add-at c = let w = c .before .before .before .before .bar-end2 .ensures .within in let p = c .before .before .before .before .before .before .before .before .before .before .before .pre in omega (arith, w, p)
+add-at c = let w = c .before .before .before .before .bar-end2 .ensures .within in
+    let p = c .before .before .before .before .before .before .before .before .before .before .before .pre in omega (arith, w, p)
 
 loop-less : tie.Need-loop-less Inv-loop μ-loop
 loop-less c =
@@ -91,8 +95,11 @@ loop-again c =
     let v = a .loop .inv in
     let m = c .before .before in
     let q = m .before .before in
-    let p = q .before .before in
-    (omega arith, passed t k (a .loop .at) (p .bar-end .result) (p .bar-end .ensures) (q .bar-end2 .result) (q .before .if1 .left) (q .bar-end2 .ensures) (v .1) (sym (m .same-bytes .ensures) ∙ c .before .if2 .left) (c .if3 .left))
+    let p = q .before .before in (
+      omega arith,
+      passed t k (a .loop .at) (p .bar-end .result) (p .bar-end .ensures) (q .bar-end2 .result) (q .before .if1 .left)
+          (q .bar-end2 .ensures) (v .1) (sym (m .same-bytes .ensures) ∙ c .before .if2 .left) (c .if3 .left),
+    )
 
 returns-4 : tie.Need-returns-4 Inv-loop μ-loop
 returns-4 c =

@@ -25,9 +25,13 @@ put-bytes-requires c κs =
     let t = twenty (s .args .number) in
     omega (arith, e, t, s .pre)
 
+-- places that the needs go back to
+abbrev at-put-count : tie.After-put-sentence-arg → tie.After-put-count
+at-put-count c = c .before .before .before .before .before .before .before .before .before .before .before
+
 array-share-prefix-key : tie.Need-array-share-prefix-key
 array-share-prefix-key c =
-    let k = c .before .before .before .before .before .before .before .before .before .before .before in
+    let k = at-put-count c in
     let s = k .before .before .before in
     let e = k .put-count .ensures .ends in
     let t = twenty (s .args .number) in
@@ -36,7 +40,7 @@ array-share-prefix-key c =
 
 slice-aggregate-put-sentence : tie.Need-slice-aggregate-put-sentence
 slice-aggregate-put-sentence c =
-    let k = c .before .before .before .before .before .before .before .before .before .before .before .before in
+    let k = at-put-count (c .before) in
     let s = k .before .before .before in
     let e = k .put-count .ensures .ends in
     let t = twenty (s .args .number) in
@@ -65,7 +69,9 @@ returns c =
     let s = k .before .before .before in
     then _ _ _ _ _ _ (countText (s .args .number)) _ (m .put-count2 .ensures)
     (then _ _ _ _ _ _ (text ": ") _ (b .put-bytes .ensures)
-    (subst (λ (key : List ℕ). Appended (b .put-bytes .last .0) (b .put-bytes .result) (orElse (textFor key sentences) (text "no number of the table")) (q .put-sentence .last .0) (q .put-sentence .result)) (k .put-count .ensures .holds) (q .put-sentence .ensures)))
+    (subst (λ (key : List ℕ). Appended (b .put-bytes .last .0) (b .put-bytes .result)
+    (orElse (textFor key sentences) (text "no number of the table")) (q .put-sentence .last .0) (q .put-sentence .result))
+    (k .put-count .ensures .holds) (q .put-sentence .ensures)))
 
 pub put-refusal-spec : {M : Type 1} → statement M
 put-refusal-spec =

@@ -24,7 +24,8 @@ returns c =
     let t = m .before .before .before in
     let f = t .before in
     let s = f .before .before .before .before in
-    let l = part-length (now (s .args .table)) (f .find .result .from) (f .find .result .to) (f .find .ensures .ordered) (f .find .ensures .within) in
+    let l = part-length (now (s .args .table)) (f .find .result .from) (f .find .result .to) (f .find .ensures .ordered)
+    (f .find .ensures .within) in
     let g = t .if1 .taken in
     text-found _ _ _ _ _ _ _ (f .find .ensures .is) (omega (arith, l, g)) (m .put-bytes .ensures)
 
@@ -35,7 +36,8 @@ returns-2 c =
     let t = m .before .before .before in
     let f = t .before in
     let s = f .before .before .before .before in
-    let l = part-length (now (s .args .table)) (f .find .result .from) (f .find .result .to) (f .find .ensures .ordered) (f .find .ensures .within) in
+    let l = part-length (now (s .args .table)) (f .find .result .from) (f .find .result .to) (f .find .ensures .ordered)
+    (f .find .ensures .within) in
     let g = t .if1 .left in
     text-none _ _ _ _ _ _ _ (f .find .ensures .is) (omega (arith, l, g)) (m .put-bytes2 .ensures)
 

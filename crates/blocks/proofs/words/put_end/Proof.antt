@@ -21,7 +21,8 @@ same-length c = search needs
 returns : tie.Need-returns
 returns c =
     let s = c .before .before in
-    end-byte (now (s .args .line)) (now (s .args .shape)) (s .args .p) (s .args .to) (c .before .if1 .taken) (s .pre (c .before .if1 .taken))
+    end-byte (now (s .args .line)) (now (s .args .shape)) (s .args .p) (s .args .to) (c .before .if1 .taken)
+    (s .pre (c .before .if1 .taken))
 
 returns-2 : tie.Need-returns-2
 returns-2 c =

@@ -16,14 +16,17 @@ returns-2 c =
     let m = c .before .before .before .before in
     let r = m .before .before .before .before .before .before in
     let s = r .before .before .before .before .before .before .args in
-    word-figure (now (s .word)) (s .p) (m .put-figure .result) (now (s .shape)) (m .put-figure .last .0) _ (now (s .figures)) (m .put-figure .last .1 .0) (now (s .counts)) (sym (m .before .before .before .before .x .given .1) ∙ r .read-figure .ensures) (m .put-figure .ensures)
+    word-figure (now (s .word)) (s .p) (m .put-figure .result) (now (s .shape)) (m .put-figure .last .0) _ (now (s .figures))
+    (m .put-figure .last .1 .0) (now (s .counts)) (sym (m .before .before .before .before .x .given .1) ∙ r .read-figure .ensures)
+    (m .put-figure .ensures)
 
 returns-3 : tie.Need-returns-3
 returns-3 c =
     let m = c .before .before .before .before in
     let r = m .before .before .before .before .before in
     let s = r .before .before .before .before .before .before .args in
-    word-other (now (s .word)) (s .p) (m .put-other .result) (now (s .shape)) (m .put-other .last .0) (now (s .figures)) (now (s .counts)) (m .put-other .last .1 .0) (sym (m .before .before .before .enum-told .given .1) ∙ r .read-figure .ensures) (m .put-other .ensures)
+    word-other (now (s .word)) (s .p) (m .put-other .result) (now (s .shape)) (m .put-other .last .0) (now (s .figures)) (now (s .counts))
+    (m .put-other .last .1 .0) (sym (m .before .before .before .enum-told .given .1) ∙ r .read-figure .ensures) (m .put-other .ensures)
 
 pub put-word-spec : {M : Type 1} → statement M
 put-word-spec =

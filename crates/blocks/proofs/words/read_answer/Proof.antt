@@ -11,7 +11,8 @@ use Rattle.blocks.proofs.words.read_answer.Tie as tie
 
 abbrev Inv-loop : tie.InvT-loop
 Inv-loop line shape₀ figures₀ counts₀ r₀ i₀ shape figures counts r i =
-    SoFar line r i shape figures counts × (length shape ≡ length shape₀) × (length figures ≡ length figures₀) × (length counts ≡ length counts₀)
+    SoFar line r i shape figures counts × (length shape ≡ length shape₀) × (length figures ≡ length figures₀)
+    × (length counts ≡ length counts₀)
 
 abbrev μ-loop : tie.MeasureT-loop
 μ-loop line shape₀ figures₀ counts₀ r₀ i₀ shape figures counts r i = length line + 1 - i
@@ -28,7 +29,8 @@ sub-put-word : tie.Need-sub-put-word Inv-loop μ-loop
 sub-put-word c = let e = c .before .before .before .word-end .ensures .behind in omega (arith, e)
 
 part-put-word-start : tie.Need-part-put-word-start Inv-loop μ-loop
-part-put-word-start c = let e = c .before .before .before .word-end .ensures in let a = e .behind in let b = e .within in omega (arith, a, b)
+part-put-word-start c = let e = c .before .before .before .word-end .ensures in let a = e .behind in let b = e .within in
+    omega (arith, a, b)
 
 part-put-word-end : tie.Need-part-put-word-end Inv-loop μ-loop
 part-put-word-end c = let e = c .before .before .before .word-end .ensures in let a = e .behind in let b = e .within in omega (arith, a, b)
@@ -47,8 +49,10 @@ put-word-requires c κs =
     let l = part-length (now (s .args .line)) (a .loop .i) (e .word-end .result) behind within in
     let ps = s .pre .0 .0 in
     let pf = s .pre .0 .1 in
-    let pc = s .pre .1 .0 in
-    ((omega (arith, l, vb, behind, within, ps, v .1), omega (arith, l, vf, behind, within, pf, v .2)), omega (arith, l, vc, behind, within, pc, v .3))
+    let pc = s .pre .1 .0 in (
+      (omega (arith, l, vb, behind, within, ps, v .1), omega (arith, l, vf, behind, within, pf, v .2)),
+      omega (arith, l, vc, behind, within, pc, v .3),
+    )
 
 put-end-requires : tie.Need-put-end-requires Inv-loop μ-loop
 put-end-requires c κs =
@@ -91,8 +95,15 @@ loop-again c =
     let e = w .before .before .before .before .before in
     let a = e .before .before in
     let s = a .before .before .before .before .before in
-    let v = a .loop .inv in
-    (one-word (now (s .args .line)) (a .loop .r) (w .put-word .result) (q .put-end .result) (a .loop .i) (e .word-end .result) (a .loop .shape) (w .put-word .last .0) (q .put-end .last .0) (a .loop .figures) (w .put-word .last .1 .0) (a .loop .counts) (w .put-word .last .1 .1 .0) (v .0) (e .word-end .ensures) (w .put-word .ensures) (q .put-end .ensures), q .put-end .kept .0 ∙ w .put-word .kept .0 ∙ v .1, w .put-word .kept .1 .0 ∙ v .2, w .put-word .kept .1 .1 .0 ∙ v .3)
+    let v = a .loop .inv in (
+      one-word (now (s .args .line)) (a .loop .r) (w .put-word .result) (q .put-end .result) (a .loop .i) (e .word-end .result)
+          (a .loop .shape) (w .put-word .last .0) (q .put-end .last .0) (a .loop .figures) (w .put-word .last .1 .0) (a .loop .counts)
+          (w .put-word .last .1 .1 .0) (v .0) (e .word-end .ensures) (w .put-word .ensures) (q .put-end .ensures),
+      q .put-end .kept .0
+          ∙ w .put-word .kept .0 ∙ v .1,
+      w .put-word .kept .1 .0 ∙ v .2,
+      w .put-word .kept .1 .1 .0 ∙ v .3,
+    )
 
 same-length : tie.Need-same-length Inv-loop μ-loop
 same-length c = c .before .loop .inv .1
@@ -107,7 +118,8 @@ returns : tie.Need-returns Inv-loop μ-loop
 returns c =
     let a = c .before in
     let s = a .before .before .before .before .before in
-    all-read (now (s .args .line)) (a .loop .r) (a .loop .i) (a .loop .shape) (a .loop .figures) (a .loop .counts) (a .loop .inv .0) (c .loop-test .left)
+    all-read (now (s .args .line)) (a .loop .r) (a .loop .i) (a .loop .shape) (a .loop .figures) (a .loop .counts) (a .loop .inv .0)
+    (c .loop-test .left)
 
 pub read-answer-spec : {M : Type 1} → statement M
 read-answer-spec =

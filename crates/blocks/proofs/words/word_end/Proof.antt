@@ -39,7 +39,15 @@ returns c =
     let e = c .before in
     let a = e .before .before .before in
     let v = a .loop .inv in
-    record { behind = v .0; within = v .1; shape = v .2; figures = v .3; counts = v .4; stops = λ h. sym (e .ends-word .ensures) ∙ c .if1 .taken }
+    record {
+      behind = v .0;
+      within = v .1;
+      shape = v .2;
+      figures = v .3;
+      counts = v .4;
+      stops = λ h. sym (e .ends-word .ensures)
+          ∙ c .if1 .taken;
+    }
 
 add-end : tie.Need-add-end Inv-loop μ-loop
 add-end c = omega arith
@@ -56,8 +64,13 @@ loop-again c =
     let i = a .before .before .args .at in
     let j = a .loop .end in
     let h = e .before .before .loop-test .taken in
-    let n = sym (e .ends-word .ensures) ∙ c .if1 .left in
-    (omega arith, omega arith, grows wordShape (λ b. b ∷ []) l i j (v .0) h n (v .2), grows wordFigures (λ b. []) l i j (v .0) h n (v .3), grows wordCounts (λ b. []) l i j (v .0) h n (v .4))
+    let n = sym (e .ends-word .ensures) ∙ c .if1 .left in (
+      omega arith,
+      omega arith,
+      grows wordShape (λ b. b ∷ []) l i j (v .0) h n (v .2),
+      grows wordFigures (λ b. []) l i j (v .0) h n (v .3),
+      grows wordCounts (λ b. []) l i j (v .0) h n (v .4),
+    )
 
 returns-2 : tie.Need-returns-2 Inv-loop μ-loop
 returns-2 c =

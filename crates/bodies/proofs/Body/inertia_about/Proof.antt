@@ -18,7 +18,12 @@ add-requires c κs = search needs
 
 returns : tie.Need-returns
 unfolding inertiaAboutOf
-returns c = rw (c .add .ensures, c .before .scale .ensures, c .before .before .offset-tensor .ensures, c .before .before .before .before .subtract .ensures)
+returns c = rw (
+  c .add .ensures,
+  c .before .scale .ensures,
+  c .before .before .offset-tensor .ensures,
+  c .before .before .before .before .subtract .ensures,
+)
 
 pub inertia-about-spec : {M : Type 1} → statement M
 inertia-about-spec =

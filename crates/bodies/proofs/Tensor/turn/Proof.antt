@@ -24,7 +24,13 @@ unfolding turnTensor
 returns c =
     let product = c .before in
     let first = product .before .before in
-    rw (c .averaged .ensures, product .times2 .ensures, product .before .transpose .ensures, first .times .ensures, first .before .as-matrix .ensures)
+    rw (
+      c .averaged .ensures,
+      product .times2 .ensures,
+      product .before .transpose .ensures,
+      first .times .ensures,
+      first .before .as-matrix .ensures,
+    )
 
 pub turn-spec : {M : Type 1} → statement M
 turn-spec = tie.close (tie.spec as-matrix-requires times-requires transpose-requires times-requires-2 averaged-requires returns)
