@@ -18,10 +18,8 @@
  *
  * It writes its figures and counts over the start of the lent arrays. With a refusal the figures are zeros; only a
  * planform's chords are left as they were. Two counts are the values of a refusal: the field of 4 and 9, the two edges
- * of 7, the component of 13, the case of 17 (a to e as 0 to 4, without c); else both are 0.
- * Fields: 1 root chord, 2 tip chord, 3 span, 4 sweep, 5 x, 6 y, 7 thickness, 8 tab height, 9 tab length, 10 tab offset,
- * 11 body radius, 12 cant, 13 base angle, 14 tube length, 15 outer radius, 16 fillet radius,
- * 17 drill x, 18 drill height, 19 offset, 20 roll. Edges and components are counted from 0.
+ * of 7, the component of 13, the case of 17 (a to e as 0 to 4, without c); else both are 0. Fields have the numbers of
+ * enum delvouzh_field below; edges and components are counted from 0.
  *
  * 18 is an unknown number of a planform, section, tab, fillet or density, or an array of another length than the call
  * asks for, with two exceptions: an outline's points that are not 3 to 64 whole pairs are 5; bodies to be joined, offsets
@@ -269,6 +267,7 @@ size_t delvouzh_answer_line(const unsigned char *line, size_t line_len, double *
 
 /* The refusals by name. */
 enum delvouzh_refusal {
+    /* copied by tests/copies: the refusals by name */
     DELVOUZH_REFUSED_LIMIT = 1,
     DELVOUZH_REFUSED_SCRATCH = 2,
     DELVOUZH_REFUSED_COUNT = 3,
@@ -294,10 +293,12 @@ enum delvouzh_refusal {
     DELVOUZH_REFUSED_NO_CORNERS = 24,
     DELVOUZH_REFUSED_NOT_WHOLE_STEPS = 25,
     DELVOUZH_REFUSED_NOT_HEAVIER = 26
+    /* end of the copy */
 };
 
 /* The fields that 4 and 9 carry as their first value. */
 enum delvouzh_field {
+    /* copied by tests/copies: the fields by name */
     DELVOUZH_FIELD_ROOT_CHORD = 1,
     DELVOUZH_FIELD_TIP_CHORD = 2,
     DELVOUZH_FIELD_SPAN = 3,
@@ -318,11 +319,13 @@ enum delvouzh_field {
     DELVOUZH_FIELD_DRILL_HEIGHT = 18,
     DELVOUZH_FIELD_OFFSET = 19,
     DELVOUZH_FIELD_ROLL = 20
+    /* end of the copy */
 };
 
 /* A refusal's sentence, which is the one that `readable` prints; of a number that is none's, that it is not in the table. */
 static inline const char *delvouzh_sentence(size_t number) {
     switch (number) {
+    /* copied by tests/copies: the refusals' sentences */
     case DELVOUZH_REFUSED_LIMIT:
         return "the limit is not 1 to 64";
     case DELVOUZH_REFUSED_SCRATCH:
@@ -375,6 +378,7 @@ static inline const char *delvouzh_sentence(size_t number) {
         return "a coordinate of the point or of a corner is no whole number of steps of 2^-20 m";
     case DELVOUZH_REFUSED_NOT_HEAVIER:
         return "the whole is not heavier than the part taken off, or a part is moved in a body of mass 0";
+    /* end of the copy */
     default:
         return "the number is not in the table of refusals";
     }
@@ -382,10 +386,11 @@ static inline const char *delvouzh_sentence(size_t number) {
 
 /* A field's name. */
 static inline const char *delvouzh_field_name(size_t field) {
-    static const char *const names[] = {"root chord", "tip chord", "span", "sweep", "x", "y",
-                                        "thickness", "tab height", "tab length", "tab offset", "body radius",
-                                        "cant", "base angle", "tube length", "outer radius", "fillet radius",
-                                        "drill x", "drill height", "offset", "roll"};
+    /* copied by tests/copies: the fields' names */
+    static const char *const names[] = {"root chord", "tip chord", "span", "sweep", "x", "y", "thickness", "tab height",
+                                        "tab length", "tab offset", "body radius", "cant", "base angle", "tube length",
+                                        "outer radius", "fillet radius", "drill x", "drill height", "offset", "roll"};
+    /* end of the copy */
     return 1 <= field && field <= sizeof names / sizeof *names ? names[field - 1] : "no field";
 }
 

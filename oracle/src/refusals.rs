@@ -6,6 +6,7 @@ use crate::forms::{Body, Density, Planform, Set, Tubes};
 
 #[derive(Debug, Clone, Copy, PartialEq)]
 pub enum Refusal {
+    // copied by tests/copies: the refusals
     Limit,
     Scratch,
     Count,
@@ -31,11 +32,13 @@ pub enum Refusal {
     NoCorners,
     NotWholeSteps,
     NotHeavier,
+    // end of the copy
 }
 
 impl Refusal {
     pub fn number(self) -> u8 {
         match self {
+            // copied by tests/copies: the refusals' numbers
             Self::Limit => 1,
             Self::Scratch => 2,
             Self::Count => 3,
@@ -61,6 +64,7 @@ impl Refusal {
             Self::NoCorners => 24,
             Self::NotWholeSteps => 25,
             Self::NotHeavier => 26,
+            // end of the copy
         }
     }
 
@@ -89,6 +93,7 @@ impl Refusal {
 
 type Checked = Result<(), Refusal>;
 
+// copied by tests/copies: the fields
 const ROOT_CHORD: u8 = 1;
 const TIP_CHORD: u8 = 2;
 const SPAN: u8 = 3;
@@ -109,6 +114,7 @@ const DRILL_X: u8 = 17;
 const DRILL_HEIGHT: u8 = 18;
 const OFFSET: u8 = 19;
 const ROLL: u8 = 20;
+// end of the copy
 
 const SHORTEST: f64 = 1.0 / 1048576.0;
 const LONGEST: f64 = 64.0;
@@ -127,8 +133,10 @@ fn refuse(refused: bool, refusal: Refusal) -> Checked {
 
 /// Number 4: a length is zero or has magnitude 2^-20 to 64; which fields may be zero or negative.
 fn length(field: u8, value: f64) -> Checked {
+    // copied by tests/copies: the fields that may be zero or negative
     let zero_allowed = [TIP_CHORD, SWEEP, X, Y, TAB_OFFSET, BODY_RADIUS, FILLET_RADIUS, DRILL_X, DRILL_HEIGHT, OFFSET].contains(&field);
     let negative_allowed = [SWEEP, X, TAB_OFFSET, DRILL_X, DRILL_HEIGHT, OFFSET].contains(&field);
+    // end of the copy
     let magnitude = if negative_allowed { value.abs() } else { value };
     let passes = (zero_allowed && value == 0.0) || (SHORTEST <= magnitude && magnitude <= LONGEST);
     refuse(!passes, Refusal::Length { field })

@@ -1,5 +1,6 @@
 //! The functions and numbers as include/delvouzh.h declares them.
 
+// copied by tests/copies: the header's numbers
 pub const TRAPEZOID: usize = 1;
 pub const ELLIPSE: usize = 2;
 pub const OUTLINE: usize = 3;
@@ -35,16 +36,22 @@ pub const MOMENTS: usize = 3;
 pub const COUNTS: usize = 4;
 pub const VALUES: usize = 2;
 pub const WRITTEN: usize = 1;
+
 pub const JOB_NUMBERS: usize = 159;
 pub const JOB_COUNTS: usize = 17;
+
 pub const ENGINE_NUMBERS: usize = 1272;
 pub const ENGINE_COUNTS: usize = 145;
 pub const TURN_COUNTS: usize = 5;
+
 pub const MORE: usize = 1000;
 pub const IDLE: usize = 1001;
+
 pub const ANSWER: usize = 320;
+// end of the copy
 
 extern "C" {
+    // copied by tests/copies: the calls
     pub fn delvouzh_mass_properties(
         limit: usize,
         set_numbers: *const f64,
@@ -57,109 +64,6 @@ extern "C" {
         scratch_len: usize,
         body: *mut f64,
         body_len: usize,
-        counts: *mut usize,
-        counts_len: usize,
-    ) -> usize;
-
-    pub fn delvouzh_job_make(
-        limit: usize,
-        set_numbers: *const f64,
-        set_numbers_len: usize,
-        set_counts: *const usize,
-        set_counts_len: usize,
-        points: *const f64,
-        points_len: usize,
-        job_numbers: *mut f64,
-        job_numbers_len: usize,
-        job_counts: *mut usize,
-        job_counts_len: usize,
-        values: *mut usize,
-        values_len: usize,
-    ) -> usize;
-
-    pub fn delvouzh_job_step(
-        job_numbers: *mut f64,
-        job_numbers_len: usize,
-        job_counts: *mut usize,
-        job_counts_len: usize,
-        scratch: *mut f64,
-        scratch_len: usize,
-        body: *mut f64,
-        body_len: usize,
-        counts: *mut usize,
-        counts_len: usize,
-    ) -> usize;
-
-    pub fn delvouzh_job_change_density(
-        job_numbers: *mut f64,
-        job_numbers_len: usize,
-        job_counts: *mut usize,
-        job_counts_len: usize,
-        density: usize,
-        figure: f64,
-        counts: *mut usize,
-        counts_len: usize,
-    ) -> usize;
-
-    pub fn delvouzh_job_progress(
-        job_numbers: *const f64,
-        job_numbers_len: usize,
-        job_counts: *const usize,
-        job_counts_len: usize,
-        counts: *mut usize,
-        counts_len: usize,
-    ) -> usize;
-
-    pub fn delvouzh_engine_clear(engine_counts: *mut usize, engine_counts_len: usize) -> usize;
-
-    pub fn delvouzh_engine_submit(
-        screen: usize,
-        limit: usize,
-        set_numbers: *const f64,
-        set_numbers_len: usize,
-        set_counts: *const usize,
-        set_counts_len: usize,
-        points: *const f64,
-        points_len: usize,
-        engine_numbers: *mut f64,
-        engine_numbers_len: usize,
-        engine_counts: *mut usize,
-        engine_counts_len: usize,
-        values: *mut usize,
-        values_len: usize,
-    ) -> usize;
-
-    pub fn delvouzh_engine_turn(
-        engine_numbers: *mut f64,
-        engine_numbers_len: usize,
-        engine_counts: *mut usize,
-        engine_counts_len: usize,
-        scratch: *mut f64,
-        scratch_len: usize,
-        body: *mut f64,
-        body_len: usize,
-        counts: *mut usize,
-        counts_len: usize,
-    ) -> usize;
-
-    pub fn delvouzh_engine_change_density(
-        engine_numbers: *mut f64,
-        engine_numbers_len: usize,
-        engine_counts: *mut usize,
-        engine_counts_len: usize,
-        screen: usize,
-        density: usize,
-        figure: f64,
-        counts: *mut usize,
-        counts_len: usize,
-    ) -> usize;
-
-    pub fn delvouzh_engine_progress(
-        engine_numbers: *const f64,
-        engine_numbers_len: usize,
-        engine_counts: *const usize,
-        engine_counts_len: usize,
-        screen: usize,
         counts: *mut usize,
         counts_len: usize,
     ) -> usize;
@@ -178,6 +82,8 @@ extern "C" {
         counts: *mut usize,
         counts_len: usize,
     ) -> usize;
+
+    pub fn delvouzh_most_samples() -> usize;
 
     pub fn delvouzh_chords_at(
         planform: usize,
@@ -283,6 +189,111 @@ extern "C" {
 
     pub fn delvouzh_check(body: *const f64, body_len: usize, values: *mut usize, values_len: usize) -> usize;
 
+    pub fn delvouzh_sqrt(x: f64) -> f64;
+
+    pub fn delvouzh_job_make(
+        limit: usize,
+        set_numbers: *const f64,
+        set_numbers_len: usize,
+        set_counts: *const usize,
+        set_counts_len: usize,
+        points: *const f64,
+        points_len: usize,
+        job_numbers: *mut f64,
+        job_numbers_len: usize,
+        job_counts: *mut usize,
+        job_counts_len: usize,
+        values: *mut usize,
+        values_len: usize,
+    ) -> usize;
+
+    pub fn delvouzh_job_step(
+        job_numbers: *mut f64,
+        job_numbers_len: usize,
+        job_counts: *mut usize,
+        job_counts_len: usize,
+        scratch: *mut f64,
+        scratch_len: usize,
+        body: *mut f64,
+        body_len: usize,
+        counts: *mut usize,
+        counts_len: usize,
+    ) -> usize;
+
+    pub fn delvouzh_job_change_density(
+        job_numbers: *mut f64,
+        job_numbers_len: usize,
+        job_counts: *mut usize,
+        job_counts_len: usize,
+        density: usize,
+        figure: f64,
+        counts: *mut usize,
+        counts_len: usize,
+    ) -> usize;
+
+    pub fn delvouzh_job_progress(
+        job_numbers: *const f64,
+        job_numbers_len: usize,
+        job_counts: *const usize,
+        job_counts_len: usize,
+        counts: *mut usize,
+        counts_len: usize,
+    ) -> usize;
+
+    pub fn delvouzh_engine_clear(engine_counts: *mut usize, engine_counts_len: usize) -> usize;
+
+    pub fn delvouzh_engine_submit(
+        screen: usize,
+        limit: usize,
+        set_numbers: *const f64,
+        set_numbers_len: usize,
+        set_counts: *const usize,
+        set_counts_len: usize,
+        points: *const f64,
+        points_len: usize,
+        engine_numbers: *mut f64,
+        engine_numbers_len: usize,
+        engine_counts: *mut usize,
+        engine_counts_len: usize,
+        values: *mut usize,
+        values_len: usize,
+    ) -> usize;
+
+    pub fn delvouzh_engine_turn(
+        engine_numbers: *mut f64,
+        engine_numbers_len: usize,
+        engine_counts: *mut usize,
+        engine_counts_len: usize,
+        scratch: *mut f64,
+        scratch_len: usize,
+        body: *mut f64,
+        body_len: usize,
+        counts: *mut usize,
+        counts_len: usize,
+    ) -> usize;
+
+    pub fn delvouzh_engine_change_density(
+        engine_numbers: *mut f64,
+        engine_numbers_len: usize,
+        engine_counts: *mut usize,
+        engine_counts_len: usize,
+        screen: usize,
+        density: usize,
+        figure: f64,
+        counts: *mut usize,
+        counts_len: usize,
+    ) -> usize;
+
+    pub fn delvouzh_engine_progress(
+        engine_numbers: *const f64,
+        engine_numbers_len: usize,
+        engine_counts: *const usize,
+        engine_counts_len: usize,
+        screen: usize,
+        counts: *mut usize,
+        counts_len: usize,
+    ) -> usize;
+
     pub fn delvouzh_answer_line(
         line: *const u8,
         line_len: usize,
@@ -297,8 +308,5 @@ extern "C" {
         written: *mut usize,
         written_len: usize,
     ) -> usize;
-
-    pub fn delvouzh_most_samples() -> usize;
-
-    pub fn delvouzh_sqrt(x: f64) -> f64;
+    // end of the copy
 }

@@ -20,10 +20,12 @@ impl TensorFault {
     /// The case as the library counts it.
     fn from_case(case: usize) -> Option<Self> {
         Some(match case {
+            // copied by tests/copies: the cases of 17
             0 => Self::Entry,
             1 => Self::Massless,
             3 => Self::Negative,
             4 => Self::Triangle,
+            // end of the copy
             _ => return None,
         })
     }
@@ -31,6 +33,7 @@ impl TensorFault {
 
 /// The name of a field that a refusal of a length or an angle carries, by its number in include/delvouzh.h.
 pub fn field_name(field: usize) -> Option<&'static str> {
+    // copied by tests/copies: the fields' names
     const NAMES: [&str; 20] = [
         "root chord",
         "tip chord",
@@ -53,6 +56,7 @@ pub fn field_name(field: usize) -> Option<&'static str> {
         "offset",
         "roll",
     ];
+    // end of the copy
     NAMES.get(field.wrapping_sub(1)).copied()
 }
 
@@ -62,6 +66,7 @@ pub fn field_name(field: usize) -> Option<&'static str> {
 #[non_exhaustive]
 #[allow(missing_docs)] // its sentence is what `Display` writes
 pub enum Refusal {
+    // copied by tests/copies: the refusals
     Limit,
     Scratch,
     Count,
@@ -87,12 +92,14 @@ pub enum Refusal {
     NoCorners,
     NotWholeSteps,
     NotHeavier,
+    // end of the copy
 }
 
 impl Refusal {
     /// The number that the card prints.
     pub fn number(self) -> usize {
         match self {
+            // copied by tests/copies: the refusals' numbers
             Self::Limit => 1,
             Self::Scratch => 2,
             Self::Count => 3,
@@ -118,12 +125,14 @@ impl Refusal {
             Self::NoCorners => 24,
             Self::NotWholeSteps => 25,
             Self::NotHeavier => 26,
+            // end of the copy
         }
     }
 
     /// The refusal with a number and its two values, if there is one.
     fn from_number(number: usize, [first, second]: [usize; 2]) -> Option<Self> {
         Some(match number {
+            // copied by tests/copies: the refusals by number
             1 => Self::Limit,
             2 => Self::Scratch,
             3 => Self::Count,
@@ -149,6 +158,7 @@ impl Refusal {
             24 => Self::NoCorners,
             25 => Self::NotWholeSteps,
             26 => Self::NotHeavier,
+            // end of the copy
             _ => return None,
         })
     }
@@ -171,13 +181,7 @@ impl fmt::Display for Refusal {
         write!(f, "refused {}: ", self.number())?;
         let named = |field| field_name(field).unwrap_or("a field of another library");
         f.write_str(match *self {
-            Self::Length { field } => return write!(f, "the {} is out of its limits", named(field)),
-            Self::Angle { field } => return write!(f, "the {} is not a number, or is beyond 4 rad", named(field)),
-            Self::Touches { edges: [i, j] } => return write!(f, "edges {i} and {j} of the outline touch"),
-            Self::NotConverged { component } => {
-                return write!(f, "sum {component} did not settle within the limit's pieces, or cannot")
-            }
-            Self::Tensor(fault) => return fault.fmt(f),
+            // copied by tests/copies: the refusals' sentences
             Self::Limit => "the limit is not 1 to 64",
             Self::Scratch => "the lent scratch is too short for the limit",
             Self::Count => "the count of fins, of tubes, of joined points, of offsets or of places is not 1 to 32",
@@ -208,6 +212,14 @@ impl fmt::Display for Refusal {
             Self::NotHeavier => {
                 "the whole is not heavier than the part taken off, or a part is moved in a body of mass 0"
             }
+            // end of the copy
+            Self::Length { field } => return write!(f, "the {} is out of its limits", named(field)),
+            Self::Angle { field } => return write!(f, "the {} is not a number, or is beyond 4 rad", named(field)),
+            Self::Touches { edges: [i, j] } => return write!(f, "edges {i} and {j} of the outline touch"),
+            Self::NotConverged { component } => {
+                return write!(f, "sum {component} did not settle within the limit's pieces, or cannot")
+            }
+            Self::Tensor(fault) => return fault.fmt(f),
         })
     }
 }
@@ -299,7 +311,7 @@ impl std::error::Error for RunError {
 mod tests {
     use super::*;
 
-    /// Which numbers there are, tests/copies compares.
+    /// Which numbers there are, tests/copies writes.
     #[test]
     fn every_number_of_the_table_is_known() {
         let known = |number| Refusal::from_number(number, [0, 0]).map(|refusal| (number, refusal));
