@@ -2,7 +2,7 @@
 use mathlib.Core.Path.{_≡_, sym, ap, _∙_, subst}
 use mathlib.Core.Bool.{Bool, true, false, not}
 use mathlib.Core.List.{List, [], _∷_}
-use mathlib.Core.Logic.{_⊎_, inl, inr}
+use mathlib.Core.Logic.{inl, inr}
 use Prim.Native.Nat.{ℕ, _*_, _^_, _≤_, _<_}
 use native.Mathlib.Nat.{mul-pos, mul-le-mul-right, one-mul, mul-one, zero-mul, mul-zero, zero-add, add-zero}
 use native.Mathlib.Omega.{arith}
@@ -11,11 +11,10 @@ use lib.Pow.{pow-pos}
 use lib.IntN.{pos}
 use lib.Ieee.{Float}
 use lib.Ieee.Scale.{finite}
-use lib.Ieee.Positive.{num, den, den-pos, positive, positive-finite}
+use lib.Ieee.Positive.{num, den, den-pos, positive-finite}
 use Rattle.floats.specs.Operations.{_⊕_, _⊗_, _⊘_, bits, at}
 use Rattle.floats.specs.Fractions.{_over_, _times_ as product, valueOf as fractionOf}
 use Rattle.rounding.proofs.Sizes.{positive-of}
-use Rattle.rounding_error.specs.Distances.{Within as Apart}
 use Rattle.rounding_error.proofs.Numbers.{Number, number, _per_, _plus_, _times_, Near, valueOf}
 use Rattle.rounding_error.proofs.Distances.{sorted, within-upto}
 use Rattle.rounding_error.proofs.Counts as Counts
@@ -36,11 +35,9 @@ use Rattle.figures.specs.declared.Area.{Area}
 use Rattle.figures.specs.Answers.{areaReport}
 use Rattle.figures.specs.Areas.{areaSeven}
 use Rattle.figures.proofs.Reports.{no-refusal}
-use Rattle.one_piece.specs.OnePiece.{OnePiece, Proportions}
+use Rattle.one_piece.specs.OnePiece.{OnePiece}
 use Rattle.one_piece.proofs.Answers.{area-one-piece}
-use Rattle.accuracy.specs.Areas.{AreaGiven, Reach, InOnePiece, AreaNear, TrapezoidArea}
-use Rattle.accuracy.specs.Areas.{exactArea as exactFraction}
-use Rattle.accuracy.proofs.Given.{Lengths}
+use Rattle.accuracy.specs.Areas.{AreaGiven, Reach, InOnePiece, AreaNear, TrapezoidArea, exactArea as exactFraction}
 use Rattle.accuracy.proofs.Called.{total-is, threeValues, values-there}
 use Rattle.accuracy.proofs.WholePieces.{whole-piece, value-is, chords-there, area-sum}
 use Rattle.accuracy.proofs.Near.{figures-given, sized, sizes, span-above, ends-apart, stripPieces, pieces-counted}

@@ -215,57 +215,20 @@ module _ (v x : Float) (V₀ X₀ : Number) (density naught m t : Float) (M₀ T
     pub quotient : T (nearer (ringList c foil tab m t M₀ T₀) (given 2 mul given 1) (balanceError c tab * 2 ^ 30) (1 ∷ []) []
         (judge (ringList c foil tab m t M₀ T₀) (var 1 overT 0)))
 
-  near-square : RingPass near false None
-  unfolding round ofBits
-  near-square = record { mass-most = tt; mass-few = tt; term = tt; term-most = tt; quotient = tt }
-
-  near-square-tab : (height length offset : Float) → RingPass near false (Slab height length offset)
-  unfolding round ofBits
-  near-square-tab height length offset = record { mass-most = tt; mass-few = tt; term = tt; term-most = tt; quotient = tt }
-
-  near-foil : RingPass near true None
-  unfolding round ofBits
-  near-foil = record { mass-most = tt; mass-few = tt; term = tt; term-most = tt; quotient = tt }
-
-  near-foil-tab : (height length offset : Float) → RingPass near true (Slab height length offset)
-  unfolding round ofBits
-  near-foil-tab height length offset = record { mass-most = tt; mass-few = tt; term = tt; term-most = tt; quotient = tt }
-
-  far-square : RingPass far false None
-  unfolding round ofBits
-  far-square = record { mass-most = tt; mass-few = tt; term = tt; term-most = tt; quotient = tt }
-
-  far-square-tab : (height length offset : Float) → RingPass far false (Slab height length offset)
-  unfolding round ofBits
-  far-square-tab height length offset = record { mass-most = tt; mass-few = tt; term = tt; term-most = tt; quotient = tt }
-
-  far-foil : RingPass far true None
-  unfolding round ofBits
-  far-foil = record { mass-most = tt; mass-few = tt; term = tt; term-most = tt; quotient = tt }
-
-  far-foil-tab : (height length offset : Float) → RingPass far true (Slab height length offset)
-  unfolding round ofBits
-  far-foil-tab height length offset = record { mass-most = tt; mass-few = tt; term = tt; term-most = tt; quotient = tt }
-
-  wide-square : RingPass wide false None
-  unfolding round ofBits
-  wide-square = record { mass-most = tt; mass-few = tt; term = tt; term-most = tt; quotient = tt }
-
-  wide-square-tab : (height length offset : Float) → RingPass wide false (Slab height length offset)
-  unfolding round ofBits
-  wide-square-tab height length offset = record { mass-most = tt; mass-few = tt; term = tt; term-most = tt; quotient = tt }
-
-  wide-foil : RingPass wide true None
-  unfolding round ofBits
-  wide-foil = record { mass-most = tt; mass-few = tt; term = tt; term-most = tt; quotient = tt }
-
-  wide-foil-tab : (height length offset : Float) → RingPass wide true (Slab height length offset)
-  unfolding round ofBits
-  wide-foil-tab height length offset = record { mass-most = tt; mass-few = tt; term = tt; term-most = tt; quotient = tt }
-
   ring-pass : (c : Class) (foil : Bool) (tab : Tab) → RingPass c foil tab
-  ring-pass = each-class RingPass near-square near-foil far-square far-foil wide-square wide-foil near-square-tab near-foil-tab
-      far-square-tab far-foil-tab wide-square-tab wide-foil-tab
+  unfolding round ofBits
+  ring-pass near false None = record { mass-most = tt; mass-few = tt; term = tt; term-most = tt; quotient = tt }
+  ring-pass near false (Slab height length offset) = record { mass-most = tt; mass-few = tt; term = tt; term-most = tt; quotient = tt }
+  ring-pass near true None = record { mass-most = tt; mass-few = tt; term = tt; term-most = tt; quotient = tt }
+  ring-pass near true (Slab height length offset) = record { mass-most = tt; mass-few = tt; term = tt; term-most = tt; quotient = tt }
+  ring-pass far false None = record { mass-most = tt; mass-few = tt; term = tt; term-most = tt; quotient = tt }
+  ring-pass far false (Slab height length offset) = record { mass-most = tt; mass-few = tt; term = tt; term-most = tt; quotient = tt }
+  ring-pass far true None = record { mass-most = tt; mass-few = tt; term = tt; term-most = tt; quotient = tt }
+  ring-pass far true (Slab height length offset) = record { mass-most = tt; mass-few = tt; term = tt; term-most = tt; quotient = tt }
+  ring-pass wide false None = record { mass-most = tt; mass-few = tt; term = tt; term-most = tt; quotient = tt }
+  ring-pass wide false (Slab height length offset) = record { mass-most = tt; mass-few = tt; term = tt; term-most = tt; quotient = tt }
+  ring-pass wide true None = record { mass-most = tt; mass-few = tt; term = tt; term-most = tt; quotient = tt }
+  ring-pass wide true (Slab height length offset) = record { mass-most = tt; mass-few = tt; term = tt; term-most = tt; quotient = tt }
 
 terms-few : (c : Class) (tab : Tab) → (termError c tab * 2 ^ 30 ≤ 2 ^ 47) × (termSize c tab * 2 ^ 19 ≤ 2 ^ 34)
 terms-few c tab = each-class (λ c foil tab. (termError c tab * 2 ^ 30 ≤ 2 ^ 47) × (termSize c tab * 2 ^ 19 ≤ 2 ^ 34))

@@ -67,9 +67,9 @@ use Rattle.accuracy.proofs.FinCalled as Fins
 use Rattle.accuracy.proofs.OrdinaryCentroid.{inverse-pair}
 use Rattle.accuracy.proofs.Turned.{zero-most, none-times, times-none, none-plus, none-less, none-over, heavy-centre}
 use Rattle.accuracy.proofs.NoRoll.{identity, only-copy}
-use Rattle.accuracy.proofs.ToFractions.{positive-fraction, product-fraction}
+use Rattle.accuracy.proofs.ToFractions.{positive-fraction, product-fraction, to-fractions, first-power, fractionIn, amongFractions}
+use Rattle.accuracy.proofs.ToFractions.{AreFractions, expression-fraction}
 use Rattle.rounding_error.proofs.Operations.{neg-value}
-use Rattle.accuracy.proofs.ToFractions.{to-fractions, first-power, fractionIn, amongFractions, AreFractions, expression-fraction}
 
 ruleset plain = (sorted, one-mul, mul-one, zero-mul, mul-zero, zero-add, add-zero)
 

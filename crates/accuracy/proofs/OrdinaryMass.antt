@@ -56,12 +56,11 @@ use Rattle.accuracy.specs.Masses.{OneStrip, OrdinaryMass}
 use Rattle.accuracy.proofs.Given.{Lengths}
 use Rattle.accuracy.proofs.Limits.{ranges-of, least-of, lengths, most-under}
 use Rattle.accuracy.proofs.WholePieces.{value-is, wider}
-use Rattle.accuracy.proofs.ToFractions.{positive-fraction, product-fraction}
+use Rattle.accuracy.proofs.ToFractions.{positive-fraction, product-fraction, fractionE, fraction-number, first-power}
 use Rattle.accuracy.proofs.SetCalled as Called
 use Rattle.accuracy.proofs.RingSums.{unit-range, sums-to}
 use Rattle.accuracy.proofs.SevenIntegrals.{wide}
 use Rattle.accuracy.proofs.FinCalled as Fins
-use Rattle.accuracy.proofs.ToFractions.{fractionE, fraction-number, first-power}
 
 ruleset plain = (sorted, one-mul, mul-one, zero-mul, mul-zero, zero-add, add-zero)
 

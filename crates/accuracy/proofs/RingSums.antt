@@ -2,16 +2,16 @@
 use mathlib.Core.Path.{_≡_, refl, sym, ap, _∙_, subst}
 use mathlib.Core.List.{List, [], _∷_}
 use Prim.Native.Nat.{ℕ, zero, suc, _+_, _*_, _^_, _≤_, _<_}
-use native.Mathlib.Nat.{le-refl, le-trans, le-of-eq, mul-pos, mul-le-mul, mul-le-mul-left, mul-le-mul-right}
-use native.Mathlib.Nat.{one-mul, mul-one, zero-mul, mul-zero, zero-add, add-zero}
+use native.Mathlib.Nat.{le-refl, le-trans, le-of-eq, mul-pos, mul-le-mul, mul-le-mul-left, mul-le-mul-right, one-mul, mul-one, zero-mul}
+use native.Mathlib.Nat.{mul-zero, zero-add, add-zero}
 use native.Mathlib.Omega.{arith}
 use lib.Dec.{T, leb}
 use lib.ListN.{getD}
 use lib.Pow.{pow-pos, pow-mono}
 use lib.Ieee.{Float, ofBits}
 use Rattle.floats.specs.Operations.{_⊕_, bits}
-use Rattle.rounding_error.proofs.Numbers.{Number, number, Size, _per_, _of_, _roundoffs_, _plus_, _times_, IsNumber}
-use Rattle.rounding_error.proofs.Numbers.{Ranges, valueOf, zeroNumber}
+use Rattle.rounding_error.proofs.Numbers.{Number, number, Size, _per_, _of_, _roundoffs_, _plus_, _times_, IsNumber, Ranges, valueOf}
+use Rattle.rounding_error.proofs.Numbers.{zeroNumber}
 use Rattle.rounding_error.proofs.Distances.{sorted, within-upto}
 use Rattle.rounding_error.proofs.Chains.{Valued, zero-valued, equalled, counted-by}
 use Rattle.rounding_error.proofs.Polynomials.{_equals_, times-is, equal-by, given, ratio, _mul_}

@@ -1,5 +1,6 @@
 -- The seven volume integrals of a fin that one piece is enough for and of its tab, of square or airfoil section, and its mass: near
 -- the exact ones by computed bounds. Assumes nothing.
+use lib.ListN.{getD}
 use mathlib.Core.Path.{_≡_, refl, sym, ap, subst}
 use mathlib.Core.Bool.{Bool, true, false, _&&_}
 use mathlib.Core.List.{List, [], _∷_}
@@ -172,23 +173,17 @@ finList c f =
 abbrev finTarget : Section → ℕ → Expression
 finTarget s i = finE s (given 0) (given 2) (given 6) (given 4) (given 10) (given 12) i
 
+abbrev squareT : Term
+squareT = var 4 mulT var 4
+
+abbrev fifthT : Term
+fifthT = var 4 mulT (squareT mulT squareT)
+
 abbrev powerT : ℕ → Term
-powerT zero = var 4 mulT (var 4 mulT var 4)
-powerT (suc zero) = (var 4 mulT var 4) mulT (var 4 mulT var 4)
-powerT (suc (suc zero)) = var 4 mulT ((var 4 mulT var 4) mulT (var 4 mulT var 4))
-powerT (suc (suc (suc zero))) = (var 4 mulT var 4) mulT (var 4 mulT var 4)
-powerT (suc (suc (suc (suc zero)))) = var 4 mulT ((var 4 mulT var 4) mulT (var 4 mulT var 4))
-powerT (suc (suc (suc (suc (suc zero))))) = var 4 mulT ((var 4 mulT var 4) mulT (var 4 mulT var 4))
-powerT (suc (suc (suc (suc (suc (suc i)))))) = var 4 mulT ((var 4 mulT var 4) mulT (var 4 mulT var 4))
+powerT i = getD ((var 4 mulT squareT) ∷ (squareT mulT squareT) ∷ fifthT ∷ (squareT mulT squareT) ∷ []) i fifthT
 
 abbrev powerOf : Float → ℕ → Float
-powerOf scale zero = cube scale
-powerOf scale (suc zero) = fourth scale
-powerOf scale (suc (suc zero)) = fifth scale
-powerOf scale (suc (suc (suc zero))) = fourth scale
-powerOf scale (suc (suc (suc (suc zero)))) = fifth scale
-powerOf scale (suc (suc (suc (suc (suc zero))))) = fifth scale
-powerOf scale (suc (suc (suc (suc (suc (suc i)))))) = fifth scale
+powerOf scale i = getD (cube scale ∷ fourth scale ∷ fifth scale ∷ fourth scale ∷ []) i (fifth scale)
 
 -- in units of the root chord, the span, the scale, the thickness, that size and the density
 abbrev pub unitOf : ℕ → List ℕ
@@ -205,13 +200,7 @@ finError near zero = 53
 finError near (suc i) = 74
 finError wide zero = 160
 finError wide (suc i) = 900
-finError far zero = 90
-finError far (suc zero) = 165
-finError far (suc (suc zero)) = 370
-finError far (suc (suc (suc zero))) = 250
-finError far (suc (suc (suc (suc zero)))) = 900
-finError far (suc (suc (suc (suc (suc zero))))) = 550
-finError far (suc (suc (suc (suc (suc (suc i)))))) = 16
+finError far i = getD (90 ∷ 165 ∷ 370 ∷ 250 ∷ 900 ∷ 550 ∷ []) i 16
 
 abbrev pub isFoil : Section → Bool
 isFoil Square = false
@@ -227,20 +216,8 @@ finSize wide false zero = 1537
 finSize wide false (suc i) = 8024
 finSize wide true zero = 1060
 finSize wide true (suc i) = 5400
-finSize far false zero = 1025
-finSize far false (suc zero) = 1740
-finSize far false (suc (suc zero)) = 3100
-finSize far false (suc (suc (suc zero))) = 2561
-finSize far false (suc (suc (suc (suc zero)))) = 7900
-finSize far false (suc (suc (suc (suc (suc zero))))) = 5300
-finSize far false (suc (suc (suc (suc (suc (suc i)))))) = 90
-finSize far true zero = 703
-finSize far true (suc zero) = 1195
-finSize far true (suc (suc zero)) = 2140
-finSize far true (suc (suc (suc zero))) = 1720
-finSize far true (suc (suc (suc (suc zero)))) = 5120
-finSize far true (suc (suc (suc (suc (suc zero))))) = 3050
-finSize far true (suc (suc (suc (suc (suc (suc i)))))) = 48
+finSize far false i = getD (1025 ∷ 1740 ∷ 3100 ∷ 2561 ∷ 7900 ∷ 5300 ∷ []) i 90
+finSize far true i = getD (703 ∷ 1195 ∷ 2140 ∷ 1720 ∷ 5120 ∷ 3050 ∷ []) i 48
 
 module _ (f : Fin) where
   abbrev FinPasses : Class → Section → ℕ → Type 0
@@ -249,137 +226,41 @@ module _ (f : Fin) where
       (judgeIn (finList c f) (judgeAll (finList c f) [] (partsOf s i)) (finS i))
       && sizeTest (finList c f) (finTarget s i) (finSize c (isFoil s) i * 2 ^ 20) (unitOf i) [])
 
-  square0 : FinPasses far Square 0
+  far-square : (i : ℕ) → i < 7 → FinPasses far Square i
   unfolding round ofBits nodes kronrodWeights airfoilConstants
-  square0 = tt
+  far-square = each-of-seven (FinPasses far Square) tt tt tt tt tt tt tt
 
-  square1 : FinPasses far Square 1
+  far-foil : (i : ℕ) → i < 7 → FinPasses far Airfoil i
   unfolding round ofBits nodes kronrodWeights airfoilConstants
-  square1 = tt
+  far-foil = each-of-seven (FinPasses far Airfoil) tt tt tt tt tt tt tt
 
-  square2 : FinPasses far Square 2
+  far-open : (i : ℕ) → i < 7 → FinPasses far AirfoilOpen i
   unfolding round ofBits nodes kronrodWeights airfoilConstants
-  square2 = tt
+  far-open = each-of-seven (FinPasses far AirfoilOpen) tt tt tt tt tt tt tt
 
-  square3 : FinPasses far Square 3
+  near-square : FinPasses near Square 0 × FinPasses near Square 3
   unfolding round ofBits nodes kronrodWeights airfoilConstants
-  square3 = tt
+  near-square = (tt, tt)
 
-  square4 : FinPasses far Square 4
+  near-foil : FinPasses near Airfoil 0 × FinPasses near Airfoil 3
   unfolding round ofBits nodes kronrodWeights airfoilConstants
-  square4 = tt
+  near-foil = (tt, tt)
 
-  square5 : FinPasses far Square 5
+  near-open : FinPasses near AirfoilOpen 0 × FinPasses near AirfoilOpen 3
   unfolding round ofBits nodes kronrodWeights airfoilConstants
-  square5 = tt
+  near-open = (tt, tt)
 
-  square6 : FinPasses far Square 6
+  wide-square : FinPasses wide Square 0 × FinPasses wide Square 3
   unfolding round ofBits nodes kronrodWeights airfoilConstants
-  square6 = tt
+  wide-square = (tt, tt)
 
-  foil0 : FinPasses far Airfoil 0
+  wide-foil : FinPasses wide Airfoil 0 × FinPasses wide Airfoil 3
   unfolding round ofBits nodes kronrodWeights airfoilConstants
-  foil0 = tt
+  wide-foil = (tt, tt)
 
-  foil1 : FinPasses far Airfoil 1
+  wide-open : FinPasses wide AirfoilOpen 0 × FinPasses wide AirfoilOpen 3
   unfolding round ofBits nodes kronrodWeights airfoilConstants
-  foil1 = tt
-
-  foil2 : FinPasses far Airfoil 2
-  unfolding round ofBits nodes kronrodWeights airfoilConstants
-  foil2 = tt
-
-  foil3 : FinPasses far Airfoil 3
-  unfolding round ofBits nodes kronrodWeights airfoilConstants
-  foil3 = tt
-
-  foil4 : FinPasses far Airfoil 4
-  unfolding round ofBits nodes kronrodWeights airfoilConstants
-  foil4 = tt
-
-  foil5 : FinPasses far Airfoil 5
-  unfolding round ofBits nodes kronrodWeights airfoilConstants
-  foil5 = tt
-
-  foil6 : FinPasses far Airfoil 6
-  unfolding round ofBits nodes kronrodWeights airfoilConstants
-  foil6 = tt
-
-  open0 : FinPasses far AirfoilOpen 0
-  unfolding round ofBits nodes kronrodWeights airfoilConstants
-  open0 = tt
-
-  open1 : FinPasses far AirfoilOpen 1
-  unfolding round ofBits nodes kronrodWeights airfoilConstants
-  open1 = tt
-
-  open2 : FinPasses far AirfoilOpen 2
-  unfolding round ofBits nodes kronrodWeights airfoilConstants
-  open2 = tt
-
-  open3 : FinPasses far AirfoilOpen 3
-  unfolding round ofBits nodes kronrodWeights airfoilConstants
-  open3 = tt
-
-  open4 : FinPasses far AirfoilOpen 4
-  unfolding round ofBits nodes kronrodWeights airfoilConstants
-  open4 = tt
-
-  open5 : FinPasses far AirfoilOpen 5
-  unfolding round ofBits nodes kronrodWeights airfoilConstants
-  open5 = tt
-
-  open6 : FinPasses far AirfoilOpen 6
-  unfolding round ofBits nodes kronrodWeights airfoilConstants
-  open6 = tt
-
-  near-square0 : FinPasses near Square 0
-  unfolding round ofBits nodes kronrodWeights airfoilConstants
-  near-square0 = tt
-
-  near-square3 : FinPasses near Square 3
-  unfolding round ofBits nodes kronrodWeights airfoilConstants
-  near-square3 = tt
-
-  near-foil0 : FinPasses near Airfoil 0
-  unfolding round ofBits nodes kronrodWeights airfoilConstants
-  near-foil0 = tt
-
-  near-foil3 : FinPasses near Airfoil 3
-  unfolding round ofBits nodes kronrodWeights airfoilConstants
-  near-foil3 = tt
-
-  near-open0 : FinPasses near AirfoilOpen 0
-  unfolding round ofBits nodes kronrodWeights airfoilConstants
-  near-open0 = tt
-
-  near-open3 : FinPasses near AirfoilOpen 3
-  unfolding round ofBits nodes kronrodWeights airfoilConstants
-  near-open3 = tt
-
-  wide-square0 : FinPasses wide Square 0
-  unfolding round ofBits nodes kronrodWeights airfoilConstants
-  wide-square0 = tt
-
-  wide-square3 : FinPasses wide Square 3
-  unfolding round ofBits nodes kronrodWeights airfoilConstants
-  wide-square3 = tt
-
-  wide-foil0 : FinPasses wide Airfoil 0
-  unfolding round ofBits nodes kronrodWeights airfoilConstants
-  wide-foil0 = tt
-
-  wide-foil3 : FinPasses wide Airfoil 3
-  unfolding round ofBits nodes kronrodWeights airfoilConstants
-  wide-foil3 = tt
-
-  wide-open0 : FinPasses wide AirfoilOpen 0
-  unfolding round ofBits nodes kronrodWeights airfoilConstants
-  wide-open0 = tt
-
-  wide-open3 : FinPasses wide AirfoilOpen 3
-  unfolding round ofBits nodes kronrodWeights airfoilConstants
-  wide-open3 = tt
+  wide-open = (tt, tt)
 
 -- ---- the tab as terms: the variables height, length, offset, thickness, radius
 abbrev tabList : Class → (height length offset thickness radius : Float) → List Given
@@ -417,22 +298,10 @@ abbrev slabTarget : ℕ → Expression
 slabTarget i = slabsE (given 0) (given 2) (given 4) (given 6) (given 8) i
 
 abbrev slabError : ℕ → ℕ
-slabError zero = 8
-slabError (suc zero) = 20
-slabError (suc (suc zero)) = 60
-slabError (suc (suc (suc zero))) = 20
-slabError (suc (suc (suc (suc zero)))) = 40
-slabError (suc (suc (suc (suc (suc zero))))) = 50
-slabError (suc (suc (suc (suc (suc (suc i)))))) = 8
+slabError i = getD (8 ∷ 20 ∷ 60 ∷ 20 ∷ 40 ∷ 50 ∷ []) i 8
 
 abbrev slabSize : ℕ → ℕ
-slabSize zero = 1025
-slabSize (suc zero) = 1537
-slabSize (suc (suc zero)) = 2390
-slabSize (suc (suc (suc zero))) = 1537
-slabSize (suc (suc (suc (suc zero)))) = 2390
-slabSize (suc (suc (suc (suc (suc zero))))) = 2310
-slabSize (suc (suc (suc (suc (suc (suc i)))))) = 90
+slabSize i = getD (1025 ∷ 1537 ∷ 2390 ∷ 1537 ∷ 2390 ∷ 2310 ∷ []) i 90
 
 module _ (f : Fin) (height length offset : Float) where
   abbrev S : Class → List Given
@@ -443,41 +312,13 @@ module _ (f : Fin) (height length offset : Float) where
       T (nearer (S c) (slabTarget i) (spansIn c * slabError i * 2 ^ 30) (unitOf i) [] (judge (S c) (slabT i))
       && sizeTest (S c) (slabTarget i) (spansIn c * slabSize i * 2 ^ 20) (unitOf i) [])
 
-  slab0 : SlabPasses far 0
+  far-slab : (i : ℕ) → i < 7 → SlabPasses far i
   unfolding round ofBits
-  slab0 = tt
+  far-slab = each-of-seven (SlabPasses far) tt tt tt tt tt tt tt
 
-  slab1 : SlabPasses far 1
+  wide-slab : SlabPasses wide 0 × SlabPasses wide 3
   unfolding round ofBits
-  slab1 = tt
-
-  slab2 : SlabPasses far 2
-  unfolding round ofBits
-  slab2 = tt
-
-  slab3 : SlabPasses far 3
-  unfolding round ofBits
-  slab3 = tt
-
-  slab4 : SlabPasses far 4
-  unfolding round ofBits
-  slab4 = tt
-
-  slab5 : SlabPasses far 5
-  unfolding round ofBits
-  slab5 = tt
-
-  slab6 : SlabPasses far 6
-  unfolding round ofBits
-  slab6 = tt
-
-  wide-slab0 : SlabPasses wide 0
-  unfolding round ofBits
-  wide-slab0 = tt
-
-  wide-slab3 : SlabPasses wide 3
-  unfolding round ofBits
-  wide-slab3 = tt
+  wide-slab = (tt, tt)
 
 -- ---- what is known of their lengths
 -- length and offset of a tab do not pass the root chord, the radius not the span
@@ -685,44 +526,25 @@ Tested c (suc (suc zero)) = IsFar c
 Tested c (suc (suc (suc zero))) = Unit {0}
 Tested c (suc (suc (suc (suc i)))) = IsFar c
 
+two-tested : (c : Class) → (IsFar c → ⊥) → (P : ℕ → Type 0) → P 0 × P 3 → (i : ℕ) → Tested c i → P i
+two-tested c n P h zero t = h .0
+two-tested c n P h (suc zero) t = absurd (n t)
+two-tested c n P h (suc (suc zero)) t = absurd (n t)
+two-tested c n P h (suc (suc (suc zero))) t = h .1
+two-tested c n P h (suc (suc (suc (suc i)))) t = absurd (n t)
+
 -- the tests by class, section and component
 fin-passes : (f : Fin) (c : Class) (s : Section) → NotRounded s → (i : ℕ) → i < 7 → Tested c i → FinPasses f c s i
-fin-passes f near = plain-sections (λ s. (i : ℕ) → i < 7 → Tested near i → FinPasses f near s i)
-    (each-of-seven (λ i. Tested near i → FinPasses f near Square i) (λ t. near-square0 f) (λ t. absurd t) (λ t. absurd t) (λ t.
-    near-square3 f)
-    (λ t. absurd t) (λ t. absurd t) (λ t. absurd t))
-    (each-of-seven (λ i. Tested near i → FinPasses f near Airfoil i) (λ t. near-foil0 f) (λ t. absurd t) (λ t. absurd t) (λ t. near-foil3 f)
-    (λ t. absurd t) (λ t. absurd t) (λ t. absurd t))
-    (each-of-seven (λ i. Tested near i → FinPasses f near AirfoilOpen i) (λ t. near-open0 f) (λ t. absurd t) (λ t. absurd t) (λ t.
-    near-open3 f)
-    (λ t. absurd t) (λ t. absurd t) (λ t. absurd t))
-fin-passes f far = plain-sections (λ s. (i : ℕ) → i < 7 → Tested far i → FinPasses f far s i)
-    (each-of-seven (λ i. Tested far i → FinPasses f far Square i) (λ t. square0 f) (λ t. square1 f) (λ t. square2 f) (λ t. square3 f)
-    (λ t. square4 f) (λ t. square5 f) (λ t. square6 f))
-    (each-of-seven (λ i. Tested far i → FinPasses f far Airfoil i) (λ t. foil0 f) (λ t. foil1 f) (λ t. foil2 f) (λ t. foil3 f)
-    (λ t. foil4 f) (λ t. foil5 f) (λ t. foil6 f))
-    (each-of-seven (λ i. Tested far i → FinPasses f far AirfoilOpen i) (λ t. open0 f) (λ t. open1 f) (λ t. open2 f) (λ t. open3 f)
-    (λ t. open4 f) (λ t. open5 f) (λ t. open6 f))
-fin-passes f wide = plain-sections (λ s. (i : ℕ) → i < 7 → Tested wide i → FinPasses f wide s i)
-    (each-of-seven (λ i. Tested wide i → FinPasses f wide Square i) (λ t. wide-square0 f) (λ t. absurd t) (λ t. absurd t) (λ t.
-    wide-square3 f)
-    (λ t. absurd t) (λ t. absurd t) (λ t. absurd t))
-    (each-of-seven (λ i. Tested wide i → FinPasses f wide Airfoil i) (λ t. wide-foil0 f) (λ t. absurd t) (λ t. absurd t) (λ t. wide-foil3 f)
-    (λ t. absurd t) (λ t. absurd t) (λ t. absurd t))
-    (each-of-seven (λ i. Tested wide i → FinPasses f wide AirfoilOpen i) (λ t. wide-open0 f) (λ t. absurd t) (λ t. absurd t) (λ t.
-    wide-open3 f)
-    (λ t. absurd t) (λ t. absurd t) (λ t. absurd t))
+fin-passes f near s e i l t = two-tested near (λ x. x) (FinPasses f near s)
+    (plain-sections (λ s. FinPasses f near s 0 × FinPasses f near s 3) (near-square f) (near-foil f) (near-open f) s e) i t
+fin-passes f far s e i l t = plain-sections (λ s. FinPasses f far s i) (far-square f i l) (far-foil f i l) (far-open f i l) s e
+fin-passes f wide s e i l t = two-tested wide (λ x. x) (FinPasses f wide s)
+    (plain-sections (λ s. FinPasses f wide s 0 × FinPasses f wide s 3) (wide-square f) (wide-foil f) (wide-open f) s e) i t
 
 slab-passes : (f : Fin) (height length offset : Float) (c : Class) (i : ℕ) → i < 7 → Tested c i → SlabPasses f height length offset c i
-slab-passes f h l o near = each-of-seven (λ i. Tested near i → SlabPasses f h l o near i) (λ t. slab0 f h l o) (λ t. slab1 f h l o) (λ t.
-    slab2 f h l o)
-    (λ t. slab3 f h l o) (λ t. slab4 f h l o) (λ t. slab5 f h l o) (λ t. slab6 f h l o)
-slab-passes f h l o far = each-of-seven (λ i. Tested far i → SlabPasses f h l o far i) (λ t. slab0 f h l o) (λ t. slab1 f h l o) (λ t.
-    slab2 f h l o)
-    (λ t. slab3 f h l o) (λ t. slab4 f h l o) (λ t. slab5 f h l o) (λ t. slab6 f h l o)
-slab-passes f h l o wide = each-of-seven (λ i. Tested wide i → SlabPasses f h l o wide i) (λ t. wide-slab0 f h l o) (λ t. absurd t) (λ t.
-    absurd t)
-    (λ t. wide-slab3 f h l o) (λ t. absurd t) (λ t. absurd t) (λ t. absurd t)
+slab-passes f h l o near i m t = far-slab f h l o i m
+slab-passes f h l o far i m t = far-slab f h l o i m
+slab-passes f h l o wide i m t = two-tested wide (λ x. x) (SlabPasses f h l o wide) (wide-slab f h l o) i t
 
 module _ (f : Fin) (c : Class) (b d : ℕ) (g : Sizes f c b d) where
   abbrev pub bases : List Size
@@ -770,20 +592,15 @@ module _ (f : Fin) (c : Class) (b d : ℕ) (g : Sizes f c b d) where
   unfolding weightedTo
   fin-known =
       plain-sections (λ s. (i : ℕ) → i < 7 → Tested c i → FinKnown s i)
-      (each-of-seven (λ i. Tested c i → FinKnown Square i) (λ t. tested Square tt 0 (lit≤ tt) t) (λ t. tested Square tt 1 (lit≤ tt) t)
-      (λ t. tested Square tt 2 (lit≤ tt) t) (λ t. tested Square tt 3 (lit≤ tt) t)
-      (λ t. tested Square tt 4 (lit≤ tt) t)
-      (λ t. tested Square tt 5 (lit≤ tt) t) (λ t. tested Square tt 6 (lit≤ tt) t))
-      (each-of-seven (λ i. Tested c i → FinKnown Airfoil i) (λ t. tested Airfoil tt 0 (lit≤ tt) t) (λ t. tested Airfoil tt 1 (lit≤ tt) t)
-      (λ t. tested Airfoil tt 2 (lit≤ tt) t) (λ t. tested Airfoil tt 3 (lit≤ tt) t)
-      (λ t. tested Airfoil tt 4 (lit≤ tt) t)
-      (λ t. tested Airfoil tt 5 (lit≤ tt) t) (λ t. tested Airfoil tt 6 (lit≤ tt) t))
-      (each-of-seven (λ i. Tested c i → FinKnown AirfoilOpen i) (λ t. tested AirfoilOpen tt 0 (lit≤ tt) t) (λ t. tested AirfoilOpen tt 1
-      (lit≤ tt) t)
-      (λ t. tested AirfoilOpen tt 2 (lit≤ tt) t) (λ t. tested AirfoilOpen tt 3 (lit≤ tt) t)
-      (λ t. tested AirfoilOpen tt 4 (lit≤ tt) t)
-      (λ t. tested AirfoilOpen tt 5 (lit≤ tt) t) (λ t. tested AirfoilOpen tt 6 (lit≤ tt)
-      t))
+      (each-of-seven (λ i. Tested c i → FinKnown Square i) (tested Square tt 0 (lit≤ tt)) (tested Square tt 1 (lit≤ tt))
+      (tested Square tt 2 (lit≤ tt)) (tested Square tt 3 (lit≤ tt)) (tested Square tt 4 (lit≤ tt)) (tested Square tt 5 (lit≤ tt))
+      (tested Square tt 6 (lit≤ tt)))
+      (each-of-seven (λ i. Tested c i → FinKnown Airfoil i) (tested Airfoil tt 0 (lit≤ tt)) (tested Airfoil tt 1 (lit≤ tt))
+      (tested Airfoil tt 2 (lit≤ tt)) (tested Airfoil tt 3 (lit≤ tt)) (tested Airfoil tt 4 (lit≤ tt)) (tested Airfoil tt 5 (lit≤ tt))
+      (tested Airfoil tt 6 (lit≤ tt)))
+      (each-of-seven (λ i. Tested c i → FinKnown AirfoilOpen i) (tested AirfoilOpen tt 0 (lit≤ tt)) (tested AirfoilOpen tt 1 (lit≤ tt))
+      (tested AirfoilOpen tt 2 (lit≤ tt)) (tested AirfoilOpen tt 3 (lit≤ tt)) (tested AirfoilOpen tt 4 (lit≤ tt))
+      (tested AirfoilOpen tt 5 (lit≤ tt)) (tested AirfoilOpen tt 6 (lit≤ tt)))
 
   -- ---- the tab
   module _ (height length offset : Float) (t : TabSizes f c height length offset) where

@@ -19,12 +19,11 @@ use Rattle.rounding_error.proofs.Chains.{reach}
 use Rattle.rounding_error.proofs.Polynomials as Poly
 use Rattle.rounding_error.proofs.Polynomials.{Expression, given as at-place, Product, normal, evaluate}
 use Rattle.error_terms.proofs.Monomials.{top, bottom, mono, AllRanges, added, alike}
-use Rattle.error_terms.proofs.Terms.{Shape, shape, Given, none, shapeOf, lowOf, Term, var, const, nought, divided, tight}
-use Rattle.error_terms.proofs.Terms.{constShape, constLeast, dividedTest, inverseConstant}
-use Rattle.error_terms.proofs.Terms.{raised, raisedBy, _add_, _take_, _mul_, _over_, value, exact, bound, ok, fine, sumTest}
-use Rattle.error_terms.proofs.Terms.{sumShape, productShape, quotientShape, quotientTest, double, constant, normalOf}
-use Rattle.error_terms.proofs.Terms.{plainTerm, numbersOf, cancelled, tightSize, tightTest, resizedShape, unitsTest, reachOf}
-use Rattle.error_terms.proofs.Terms.{unitBy, unit-real, in-unit, Known, AllKnown, sound, exact-near}
+use Rattle.error_terms.proofs.Terms.{Shape, shape, Given, none, shapeOf, lowOf, Term, var, const, nought, divided, tight, constShape}
+use Rattle.error_terms.proofs.Terms.{constLeast, dividedTest, inverseConstant, raised, raisedBy, _add_, _take_, _mul_, _over_, value}
+use Rattle.error_terms.proofs.Terms.{exact, bound, ok, fine, sumTest, sumShape, productShape, quotientShape, quotientTest, double}
+use Rattle.error_terms.proofs.Terms.{constant, normalOf, plainTerm, numbersOf, cancelled, tightSize, tightTest, resizedShape}
+use Rattle.error_terms.proofs.Terms.{unitsTest, reachOf, unitBy, unit-real, in-unit, Known, AllKnown, sound, exact-near}
 
 pub data Judged : Type 0 where
   judged : (okay plain : Bool) → Shape → List Product → Judged

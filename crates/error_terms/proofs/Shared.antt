@@ -8,11 +8,10 @@ use lib.ListN.{getD}
 use Rattle.rounding_error.proofs.Numbers.{Size, _of_, _roundoffs_, valueOf, Under, Near}
 use Rattle.rounding_error.proofs.Polynomials.{Expression, evaluate}
 use Rattle.error_terms.proofs.Monomials.{AllRanges}
-use Rattle.error_terms.proofs.Terms.{Given, none, shapeOf, lowOf, Term, var, divided, tight, raised, _add_, _take_, _mul_}
-use Rattle.error_terms.proofs.Terms.{_over_, value, double, AllKnown, unitBy, numbersOf}
+use Rattle.error_terms.proofs.Terms.{Given, none, shapeOf, lowOf, Term, var, divided, tight, raised, _add_, _take_, _mul_, _over_}
+use Rattle.error_terms.proofs.Terms.{value, double, AllKnown, unitBy, numbersOf}
 use Rattle.error_terms.proofs.Judged.{Judged, judge, addJudged, takeJudged, mulJudged, overJudged, dividedJudged, tightJudged}
-use Rattle.error_terms.proofs.Judged.{raisedJudged}
-use Rattle.error_terms.proofs.Judged.{nearer, near-within, reaching, reach-within}
+use Rattle.error_terms.proofs.Judged.{raisedJudged, nearer, near-within, reaching, reach-within}
 
 infixl 65 _⊞_
 infixl 65 _⊟_

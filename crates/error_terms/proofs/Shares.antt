@@ -3,8 +3,8 @@ use mathlib.Core.Path.{_≡_, refl, sym, subst}
 use mathlib.Core.Bool.{Bool, true, false, _&&_}
 use mathlib.Core.List.{List, [], _∷_}
 use Prim.Native.Nat.{ℕ, suc, _+_, _-_, _*_, _/_, _^_, _≤_, zero-le}
-use native.Mathlib.Nat.{le-refl, le-trans, le-of-eq, mul-le-mul-right}
-use native.Mathlib.Nat.{one-mul, mul-one, zero-mul, mul-zero, zero-add, add-zero, div-mul-le-self}
+use native.Mathlib.Nat.{le-refl, le-trans, le-of-eq, mul-le-mul-right, one-mul, mul-one, zero-mul, mul-zero, zero-add, add-zero}
+use native.Mathlib.Nat.{div-mul-le-self}
 use native.Mathlib.Omega.{arith}
 use lib.Dec.{T, leb, leb→le}
 use lib.Pow.{pow-pos}
@@ -13,20 +13,16 @@ use lib.Ieee.Positive.{num, den, positive}
 use lib.Ieee.Fits.{and-l, and-r}
 use Rattle.floats.specs.Operations.{_⊕_, _⊗_, bits}
 use Rattle.floats.specs.Floats.{absOf}
-use Rattle.rounding_error.proofs.Numbers.{Number, number, Size, _plus_, _less_, _times_, _roundoffs_}
-use Rattle.rounding_error.proofs.Numbers.{Near, zeroNumber, valueOf}
+use Rattle.rounding_error.proofs.Numbers.{Number, number, Size, _plus_, _less_, _times_, _roundoffs_, Near, zeroNumber, valueOf}
 use Rattle.rounding_error.proofs.Distances.{sorted}
 use Rattle.rounding_error.proofs.Chains.{Valued}
 use Rattle.rounding_error.proofs.Polynomials.{Expression, ratio, _equals_}
 use Rattle.error_terms.proofs.Monomials.{top, bottom, mono, added, alike, AllRanges}
 use Rattle.error_terms.proofs.Laws.{Reaches}
-use Rattle.error_terms.proofs.Terms.{Shape, shape, Given, entry, extent, Term, var, const, nought, _add_, _mul_}
-use Rattle.error_terms.proofs.Terms.{value, exact, bound, ok, cancelled, unitBy, unitsTest, reachOf}
-use Rattle.error_terms.proofs.Terms.{unit-real, AllKnown, sound}
-use Rattle.error_terms.proofs.Judged.{Judged, judged, judge, passes, errorOf, unitOf, differenceBy}
-use Rattle.error_terms.proofs.Judged.{near-target}
-use Rattle.error_terms.proofs.Floors.{Signed, ReachesBy, floorOf, rising, equal-reaches, factor-reaches}
-use Rattle.error_terms.proofs.Floors.{not-below}
+use Rattle.error_terms.proofs.Terms.{Shape, shape, Given, entry, extent, Term, var, const, nought, _add_, _mul_, value, exact, bound}
+use Rattle.error_terms.proofs.Terms.{ok, cancelled, unitBy, unitsTest, reachOf, unit-real, AllKnown, sound}
+use Rattle.error_terms.proofs.Judged.{Judged, judged, judge, passes, errorOf, unitOf, differenceBy, near-target}
+use Rattle.error_terms.proofs.Floors.{Signed, ReachesBy, floorOf, rising, equal-reaches, factor-reaches, not-below}
 use Rattle.error_terms.proofs.Orders.{near-le, near-abs, finer, moved, Facts, facts}
 
 ruleset plain = (sorted, one-mul, mul-one, zero-mul, mul-zero, zero-add, add-zero)

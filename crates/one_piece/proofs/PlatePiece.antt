@@ -32,13 +32,12 @@ use Rattle.error_terms.proofs.Monomials.{AllRanges, place, added}
 use Rattle.error_terms.proofs.Terms.{Shape, shape, Given, entry, Term, var, const, nought, tight, _add_, _take_, _mul_, _over_, value}
 use Rattle.error_terms.proofs.Terms.{AllKnown}
 use Rattle.error_terms.proofs.Judged.{judge}
-use Rattle.error_terms.proofs.Shared.{Shared, local, whole, _⊞_, _⊟_, _⊠_, dividedBy, tightly, raisedBy, bind, expand}
-use Rattle.error_terms.proofs.Shared.{judgeAll, bindAll}
+use Rattle.error_terms.proofs.Shared.{Shared, local, whole, _⊞_, _⊟_, _⊠_, dividedBy, tightly, raisedBy, bind, expand, judgeAll, bindAll}
 use Rattle.error_terms.proofs.Entries.{full}
 use Rattle.error_terms.proofs.Floors.{Signed}
 use Rattle.error_terms.proofs.Orders.{above, above-zero}
-use Rattle.one_piece.proofs.Rule.{acceptsIn, accepted-in, within-bound, ruleParts, errorS, totalS, atHeights}
-use Rattle.one_piece.proofs.Rule.{Fits, insideTest, inside, same-sums}
+use Rattle.one_piece.proofs.Rule.{acceptsIn, accepted-in, within-bound, ruleParts, errorS, totalS, atHeights, Fits, insideTest}
+use Rattle.one_piece.proofs.Rule.{inside, same-sums}
 use Rattle.one_piece.proofs.AreaPiece.{chordS}
 use Rattle.one_piece.specs.OnePiece.{NotRounded}
 

@@ -26,8 +26,8 @@ use Rattle.rounding_error.proofs.Numbers.{Size}
 use Rattle.error_terms.proofs.Monomials.{AllRanges}
 use Rattle.error_terms.proofs.Terms.{Given, Term, var, const, nought, tight, _add_, _take_, _mul_, _over_, value, AllKnown}
 use Rattle.error_terms.proofs.Judged.{Judged, judge}
-use Rattle.error_terms.proofs.Shared.{Shared, local, whole, _⊞_, _⊟_, _⊠_, tightly, expand, judgeIn, shared-is}
-use Rattle.error_terms.proofs.Shared.{judgeAll, bindAll, judge-all}
+use Rattle.error_terms.proofs.Shared.{Shared, local, whole, _⊞_, _⊟_, _⊠_, tightly, expand, judgeIn, shared-is, judgeAll, bindAll}
+use Rattle.error_terms.proofs.Shared.{judge-all}
 use Rattle.error_terms.proofs.Floors.{Signed}
 use Rattle.error_terms.proofs.Orders.{ordered, ordered-le}
 use Rattle.error_terms.proofs.Shares.{accepts, accepted}

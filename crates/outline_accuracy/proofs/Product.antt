@@ -8,8 +8,8 @@ use lib.Dec.{leb→le}
 use lib.Pow.{pow-pos}
 use lib.Ieee.{Float}
 use Rattle.floats.specs.Operations.{_⊗_}
-use Rattle.rounding_error.proofs.Numbers.{Number, Size, _per_, _of_, _by_, _and_, _times_, _roundoffs_, IsNumber, IsSize}
-use Rattle.rounding_error.proofs.Numbers.{Within, Under, Near, Normal, zeroNumber, valueOf}
+use Rattle.rounding_error.proofs.Numbers.{Number, Size, _per_, _of_, _by_, _and_, _times_, _roundoffs_, IsNumber, IsSize, Within, Under}
+use Rattle.rounding_error.proofs.Numbers.{Near, Normal, zeroNumber, valueOf}
 use Rattle.rounding_error.proofs.Distances.{sorted, within-upto, within-times, within-trans, times-comm}
 use Rattle.rounding_error.proofs.Operations.{mul-exact}
 use Rattle.rounding_error.proofs.Counts as Counts

@@ -1,9 +1,11 @@
 -- Sums, differences and products of numbers, each near another. Assumes nothing.
 use mathlib.Core.Path.{_≡_, ap, subst}
 use Prim.Native.Nat.{ℕ, _+_, _-_, _*_, _≤_}
-use native.Mathlib.Nat.{mul-le-mul-right, mul-le-mul-left, le-of-mul-le-mul-right, add-sub-of-le, mul-add, add-mul, mul-comm, mul-assoc, mul-left-comm}
+use native.Mathlib.Nat.{mul-le-mul-right, mul-le-mul-left, le-of-mul-le-mul-right, add-sub-of-le, mul-add, add-mul, mul-comm, mul-assoc}
+use native.Mathlib.Nat.{mul-left-comm}
 use native.Mathlib.Omega.{arith}
-use Rattle.rounding_error.proofs.Numbers.{Number, number, Size, _per_, _plus_, minus, _times_, _and_, _by_, _upto_, IsNumber, IsSize, Over, Within, Same, Under}
+use Rattle.rounding_error.proofs.Numbers.{Number, number, Size, _per_, _plus_, minus, _times_, _and_, _by_, _upto_, IsNumber, IsSize}
+use Rattle.rounding_error.proofs.Numbers.{Over, Within, Same, Under}
 
 -- a sum of products, each sorted
 pub ruleset sorted = (mul-add, add-mul, mul-assoc, mul-comm, mul-left-comm)

@@ -5,14 +5,14 @@ use mathlib.Core.Bool.{Bool, true, false, not, cond}
 use Prim.Native.Nat.{ℕ, zero, suc, _+_, _-_, _*_, _≤_, _<_}
 use native.Mathlib.Nat.{mul-pos}
 use native.Mathlib.Omega.{arith}
-use lib.Dec.{T, ltb, leb, ltb→lt, nltb→le, le→leb}
+use lib.Dec.{T, ltb, ltb→lt, nltb→le, le→leb}
 use lib.IntN.{ℤ, pos, negsuc, negℤ, subℕ, _+ℤ_, _*ℤ_}
 use lib.Signed.{_≤ℤ_}
 use lib.Ieee.{Float, nan, inf, fin, up}
 use lib.Ieee.Scale.{finite}
 use Rattle.floats.specs.Fractions.{Fraction, _over_, _plus_ as sum, minus as negated, _times_ as product, valueOf as fractionOf}
 use Rattle.rounding_error.specs.Distances.{_atMost_, Within as Near}
-use Rattle.rounding_error.proofs.Numbers.{Number, number, _per_, _plus_, minus, _times_, _by_, IsNumber, Over, Within, valueOf}
+use Rattle.rounding_error.proofs.Numbers.{Number, number, _per_, _plus_, minus, _times_, IsNumber, Over, Within, valueOf}
 
 -- ---- z is p − n
 abbrev Stands : ℤ → ℕ → ℕ → Type 0

@@ -10,7 +10,8 @@ use lib.Ieee.Fits.{down-pos}
 use lib.Ieee.Scale.{finite}
 use lib.Ieee.Positive.{positive}
 use Rattle.floats.specs.Operations.{_⊕_, _⊖_, _⊗_, _⊘_}
-use Rattle.rounding_error.proofs.Numbers.{Number, number, Size, _per_, _plus_, minus, _less_, _times_, _over_, roundoff, IsNumber, Same, Under, valueOf, Near, Normal}
+use Rattle.rounding_error.proofs.Numbers.{Number, number, Size, _per_, _plus_, minus, _less_, _times_, _over_, roundoff, IsNumber}
+use Rattle.rounding_error.proofs.Numbers.{Same, Under, valueOf, Near, Normal}
 use Rattle.rounding.proofs.Monotone.{positive-num}
 use Rattle.rounding_error.proofs.Roundoff.{round-near, signed, AtMost}
 use Rattle.rounding_error.proofs.Distances.{within-same}

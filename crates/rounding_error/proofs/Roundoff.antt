@@ -3,17 +3,17 @@ use mathlib.Core.Path.{_≡_, refl, sym, ap, _∙_, subst}
 use mathlib.Core.Logic.{_⊎_, inl, inr}
 use mathlib.Core.Bool.{Bool, true, false, not, true≢false}
 use Prim.Native.Nat.{ℕ, zero, suc, _+_, _-_, _*_, _/_, _%_, _^_, _≤_, _<_, compare, Ordering, Ordering·lt, Ordering·eq, Ordering·gt}
-use native.Mathlib.Nat.{le-trans, le-of-eq, mul-pos, mul-le-mul-right, le-of-mul-le-mul-right, div-add-mod', le-div-iff-mul-le, mod-lt, one-mul}
+use native.Mathlib.Nat.{le-trans, le-of-eq, mul-pos, mul-le-mul-right, le-of-mul-le-mul-right, div-add-mod', le-div-iff-mul-le, mod-lt}
+use native.Mathlib.Nat.{one-mul}
 use native.Mathlib.Omega.{arith}
-use lib.Dec.{T, isLe, isEq, leb, eqb, leb→le, nleb→lt, eqb→eq}
+use lib.Dec.{T, isLe, isEq, leb, leb→le, nleb→lt, eqb→eq}
 use lib.Pow.{pow-add, pow-pos, pow-mono}
 use lib.Ieee.{Float, nan, inf, fin, binary64, up, down, size, nearest, round}
 use lib.Ieee.Digits.{size-reaches}
-use lib.Ieee.Exact.{HasValue}
+use lib.Ieee.Exact.{HasValue, units-val}
 use lib.Ieee.Nearest.{closest}
 use lib.Ieee.Order.{drop, kept}
 use lib.Ieee.Fits.{round-is}
-use lib.Ieee.Exact.{units-val}
 use lib.Ieee.Scale.{grid, overflow}
 use Rattle.rounding_error.proofs.Numbers.{Number, number, Size, _per_, Near, roundoff, Normal}
 
