@@ -1,28 +1,20 @@
--- Bytes taken, and replies handed to write: none, more after others, and a call of `feed` with its replies written. Assumes nothing.
-use mathlib.Core.List.{List, [], _++_}
+-- Bytes taken, and replies handed to write: what stays, and a call of `feed` with its replies written. Assumes nothing.
+use mathlib.Core.List.{List}
 use mathlib.Core.Bool.{Bool}
-use mathlib.Core.Path.{_≡_, refl, sym, ap, _∙_}
+use mathlib.Core.Path.{_≡_, refl, ap}
 use Prim.Native.Nat.{ℕ, _+_, _-_, _^_, _<_, _≤_}
 use native.Mathlib.Omega.{arith}
-use lib.ListN.{length, take, drop, length-append, length-take, length-drop}
-use lib.Seq.{take-all, take-add, length-take-le}
+use lib.ListN.{length, take, drop, length-take, length-drop}
+use lib.Seq.{take-all, length-take-le}
 use Rattle.texts.specs.Appended.{Appended}
+use Rattle.input_lines.proofs.Taking.{next-handed}
 use Rattle.inputs.specs.Inputs.{replyBytes}
 use Rattle.inputs.specs.declared.Fed.{Fed}
 use Rattle.inputs.specs.States.{Place, Takes, Feeds}
-use Rattle.inputs.proofs.Taking.{still-lent}
-use Rattle.inputs.proofs.Taking as taking
+use Rattle.inputs.proofs.Taking.{laws, still-lent}
 use Rattle.reads.specs.Reads.{mostRead}
 use Rattle.card.specs.declared.Step.{Step}
 use Rattle.card.specs.Program.{Lends, Counted, Steps, Hands}
-
-pub none : {p : Place} {handed : ℕ} → Hands p [] p handed handed
-none = record { text = []; takes = taking.none; counts = omega arith }
-
-pub also : {p q r : Place} {a b : List ℕ} {n m w : ℕ} → Hands p a q n m → Hands q b r m w → Hands p (a ++ b) r n w
-also s t =
-    let e = s .counts in let f = t .counts in let l = length-append (s .text) (t .text) in
-    record { text = s .text ++ t .text; takes = taking.also (s .takes) (t .takes); counts = omega arith }
 
 -- what was handed to write can still be counted, and what is lent is still enough
 pub still-counted : {p q : Place} {bytes : List ℕ} {n m : ℕ} (most : ℕ) → Hands p bytes q n m → Counted most n
@@ -75,10 +67,8 @@ pub next-step : {p q r : Place} {s t : Step} (chunk : List ℕ) {out : List ℕ}
     → Hands p (take (s .taken) chunk) q handed (s .handed) → Steps q r s t chunk out → Hands p (take (t .taken) chunk) r handed (t .handed)
 next-step {s = s} {t = t} chunk {out} h n =
     let m = n .more in let c = n .counts in let l = length-take-le (t .written) out (n .room) in
-    let e : s .taken + (t .taken - s .taken) ≡ t .taken = omega arith in
-    let whole : take (t .taken) chunk ≡ take (s .taken) chunk ++ take (t .taken - s .taken) (drop (s .taken) chunk) = ap
-    (λ (n : ℕ). take n chunk) (sym e) ∙ take-add (s .taken) (t .taken - s .taken) chunk in
-    rw whole (also h (record { text = take (t .written) out; takes = n .takes; counts = omega arith }))
+    next-handed laws chunk (s .taken) (t .taken) (omega arith) h
+    (record { text = take (t .written) out; takes = n .takes; counts = omega arith })
 
 -- what was put at the start of a buffer lies in it
 pub put-within : {before text after : List ℕ} {r : ℕ} → Appended before 0 text after r → r ≤ length after

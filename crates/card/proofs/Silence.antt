@@ -9,8 +9,9 @@ use native.Mathlib.Omega.{arith}
 use lib.ListN.{length, take, drop}
 use Rattle.lines.specs.Lines.{Memory}
 use Rattle.input_lines.specs.Lines.{linesWithin, linesOf}
+use Rattle.input_lines.specs.Taking.{Begun}
 use Rattle.inputs.specs.Inputs.{replies}
-use Rattle.inputs.specs.States.{Place, memoryAt, Begun, Answered}
+use Rattle.inputs.specs.States.{Place, memoryAt, Answered}
 use Rattle.inputs.proofs.Lengths.{some-replied}
 use Rattle.reads.specs.Reads.{atEnd}
 use Rattle.card.specs.declared.Step.{Step}

@@ -16,8 +16,10 @@ use Rattle.lent_engines.specs.Memory.{engineNumbers, engineCounts}
 use Rattle.lines.specs.Lines.{Memory, memoryIn}
 use Rattle.input_lines.specs.declared.State.{State}
 use Rattle.input_lines.specs.Lines.{linesWithin, lastLine, linesOf}
+use Rattle.input_lines.specs.Taking.{Begun}
+use Rattle.input_lines.specs.Taking.{Hands as HandsOver}
 use Rattle.inputs.specs.Inputs.{replyBytes}
-use Rattle.inputs.specs.States.{Place, memoryAt, Begun, Lent, Answered, Takes}
+use Rattle.inputs.specs.States.{Place, memoryAt, Lent, Answered, AnsweredLent, SameLengths, Takes}
 use Rattle.card.specs.declared.Step.{Step}
 use Rattle.card.specs.declared.Turn.{Turn}
 use Rattle.card.specs.declared.Last.{Last}
@@ -28,7 +30,7 @@ use Rattle.card.specs.declared.End.{End}
 unfoldable pub atFirst : Memory
 atFirst = memoryIn (replicate scratchNumbers (bits 0)) (replicate engineNumbers (bits 0)) (replicate engineCounts 0)
 
--- and no byte of it
+-- the state before the first byte
 abbrev pub noLine : State
 noLine = record { kept = 0; over = false }
 
@@ -66,13 +68,10 @@ pub record Steps (before after : Place) (s r : Step) (chunk out : List ℕ) : Ty
   pub more : s .taken < r .taken
   pub some : r .taken ≤ length chunk
 
--- some bytes taken
-pub record Hands (before : Place) (bytes : List ℕ) (after : Place) (handed total : ℕ) : Type 0 where
-  -- the replies to the lines that ended
-  pub text : List ℕ
-  pub takes : Takes before bytes after text
-  -- were handed to write
-  pub counts : total ≡ handed + length text
+-- some bytes taken: the replies to the lines that ended were handed to write
+abbrev pub Hands : Place → List ℕ → Place → ℕ → ℕ → Type 0
+Hands before bytes after handed total =
+    HandsOver AnsweredLent SameLengths replyBytes before bytes after handed total
 
 -- a chunk
 pub record Replies (before after : Place) (chunk : List ℕ) (handed : ℕ) (r : Step) : Type 0 where

@@ -7,9 +7,11 @@ use lib.ListN.{length, take, drop, take-append-drop}
 use lib.Seq.{drop-at, length-take-le}
 use Rattle.texts.specs.Appended.{Appended}
 use Rattle.input_lines.specs.Lines.{begunAfter, linesOf}
-use Rattle.inputs.specs.States.{Place, memoryAt, Begun, Answered, Takes, Finishes}
+use Rattle.input_lines.specs.Taking.{Begun}
+use Rattle.input_lines.proofs.Taking.{none, also}
+use Rattle.inputs.specs.States.{Place, memoryAt, Answered, Takes, Finishes}
 use Rattle.inputs.specs.Calls.{appendedIn, Calls, begins, reads, feeds}
-use Rattle.inputs.proofs.Taking.{none, then-answered, also}
+use Rattle.inputs.proofs.Taking.{laws, then-answered}
 
 -- what was appended stands after the n bytes
 appended-in : (before text after : List ℕ) (n w : ℕ) → n ≤ length before → Appended before n text after w → appendedIn after n w ≡ text
@@ -24,7 +26,7 @@ record SoFar (first : Place) (rest : List ℕ) (p : Place) (input replied : List
 
 so-far : {first : Place} {rest : List ℕ} {p : Place} {input replied : List ℕ} → Calls first rest p input replied
     → SoFar first rest p input replied
-so-far {first = first} (begins k) = record { begins = k (first .buffer); bytes = []; whole = refl; takes = none }
+so-far {first = first} (begins k) = record { begins = k (first .buffer); bytes = []; whole = refl; takes = none laws }
 so-far (reads bytes p input replied c) =
     let v = so-far c in
     let whole = ap (λ (l : List ℕ). l ++ bytes) (v .whole ∙ append-nil (v .bytes)) in
@@ -37,7 +39,7 @@ so-far (feeds rest p after input replied out written n r c h f) =
       bytes = v .bytes ++ now;
       whole = v .whole ∙ ap (λ (l : List ℕ). v .bytes ++ l) (sym (take-append-drop (r .taken) rest))
           ∙ sym (append-assoc (v .bytes) now (drop (r .taken) rest));
-      takes = rw (appended-in out (f .into .text) written n (r .written) h (f .into .appended)) (also (v .takes) (f .into .takes));
+      takes = rw (appended-in out (f .into .text) written n (r .written) h (f .into .appended)) (also laws (v .takes) (f .into .takes));
     }
 
 pub however-called : {first p after : Place} {input replied out written : List ℕ} {n w : ℕ}

@@ -1,22 +1,20 @@
--- The blocks of lines; bytes taken and their blocks handed to write: none, up to a chunk's end, with a newline, and more after others.
--- Assumes nothing.
+-- The blocks of lines; bytes taken and their blocks handed to write: up to a chunk's end, and past a newline. Assumes nothing.
 use mathlib.Core.List.{List, [], _∷_, _++_, append-nil, append-assoc}
 use mathlib.Core.Bool.{Bool, true, false, cond}
 use mathlib.Core.Path.{_≡_, refl, sym, ap, _∙_}
 use Prim.Native.Nat.{ℕ, _+_, _-_, _*_, _<_, _≤_}
 use native.Mathlib.Omega.{arith}
-use borrow.Author.Tests.{lt-leb, eq-eqb, ltb-true, ltb-false}
+use borrow.Author.Tests.{lt-leb, ltb-true, ltb-false}
 use lib.Dec.{ltb}
 use lib.ListN.{length, take, drop, getD, length-append, length-take, length-drop}
-use lib.Seq.{length-take-le, take-all, take-add}
+use lib.Seq.{length-take-le, take-all}
 use Rattle.texts.specs.Appended.{Appended}
 use Rattle.tokens.specs.Tokens.{lineBytes}
 use Rattle.input_lines.specs.declared.State.{State}
 use Rattle.input_lines.specs.declared.KeptLine.{KeptLine}
-use Rattle.input_lines.specs.Lines.{linesWithin, begunAfter}
 use Rattle.input_lines.specs.Kept.{Keeps, KeepsLine}
-use Rattle.input_lines.proofs.Cutting.{begun-twice, lines-twice}
 use Rattle.input_lines.proofs.Keeping.{next-taken}
+use Rattle.input_lines.proofs.Taking.{Laws, also, line-taken, newline-taken, next-handed}
 use Rattle.blocks.specs.Words.{shapeIn, figuresIn, countsIn}
 use Rattle.tokens.specs.Text.{text}
 use Rattle.counts.specs.Counts.{countText}
@@ -27,7 +25,8 @@ use Rattle.shown_lines.specs.declared.Maker.{Maker}
 use Rattle.shown_lines.specs.declared.Maker.the-variants.{Blocks, Explanations}
 use Rattle.shown_lines.specs.declared.Last.{Last}
 use Rattle.shown_lines.specs.declared.Step.{Step}
-use Rattle.shown_lines.specs.Program.{madeBy, keptBy, blocksFrom, Shows, ShowsLine, Steps, HandsOn}
+use Rattle.shown_lines.specs.Program.{Place, placeIn, EndedWithin, Lends, Counted, madeBy, keptBy, blocksFrom}
+use Rattle.shown_lines.specs.Program.{Shown, ShowsLine, Steps, Hands}
 
 -- a line of which not all is kept has the block of what is kept: both are too long for an answer
 long-block : (line : List ℕ) → 512 < length line → blockOf line ≡ noAnswer ++ newline
@@ -56,7 +55,8 @@ kept-explanation : {buffer : List ℕ} {s : State} {begun : List ℕ} → Keeps 
 unfolding explanationOf
 kept-explanation {buffer} {s} {begun} k = by (ltb lineBytes (length begun)) refl
   where
-    over : (t : Bool) → ltb lineBytes (length begun) ≡ t → keptExplanation (take (s .kept) buffer) (s .over) ≡ cond t tooLong (explanationOf (take (s .kept) buffer))
+    over : (t : Bool) → ltb lineBytes (length begun) ≡ t
+        → keptExplanation (take (s .kept) buffer) (s .over) ≡ cond t tooLong (explanationOf (take (s .kept) buffer))
     over t e = ap (λ (t : Bool). cond t tooLong (explanationOf (take (s .kept) buffer))) (k .over ∙ e)
 
     by : (t : Bool) → ltb lineBytes (length begun) ≡ t → keptExplanation (take (s .kept) buffer) (s .over) ≡ explanationOf begun
@@ -77,7 +77,8 @@ rest-all chunk at = take-all (length chunk - at) (drop at chunk) (simp length-dr
 pub put-within : {before text after : List ℕ} {r : ℕ} → Appended before 0 text after r → r ≤ length after
 put-within {after = after} {r = r} a = let e = a .ends in let f = ap length (a .holds) in let l = length-take r after in omega arith
 
-pub blocks-append : (maker : Maker) (n : ℕ) (l k : List (List ℕ)) → blocksFrom maker n (l ++ k) ≡ blocksFrom maker n l ++ blocksFrom maker (n + length l) k
+pub blocks-append : (maker : Maker) (n : ℕ) (l k : List (List ℕ))
+    → blocksFrom maker n (l ++ k) ≡ blocksFrom maker n l ++ blocksFrom maker (n + length l) k
 unfolding blocksFrom
 blocks-append maker n [] k = let e : n ≡ n + 0 = omega arith in ap (λ (i : ℕ). blocksFrom maker i k) e
 blocks-append maker n (line ∷ l) k =
@@ -92,66 +93,48 @@ module _ {buffer after : List ℕ} (chunk : List ℕ) (s : Step) {line : KeptLin
   end-fits = let e = p .some in let l = ap length (rest-all chunk (s .taken)) in let m = length-drop (s .taken) chunk in omega arith
 
 module _ {maker : Maker} where
-  none : {buffer : List ℕ} {s : State} {n : ℕ} → Shows maker buffer buffer s s n n [] []
-  unfolding begunAfter linesWithin blocksFrom
-  none = record { blocks = λ begun k. refl; ends = λ begun k. omega arith; keeps = λ begun k. k }
-
-  also : {buffer between after : List ℕ} {s t r : State} {m n o : ℕ} {a b x y : List ℕ} → Shows maker buffer between s t m n a x
-      → Shows maker between after t r n o b y → Shows maker buffer after s r m o (a ++ b) (x ++ y)
-  also {m = m} {n = n} {a = a} {b = b} {x = x} {y = y} p q =
-      record {
-        blocks = λ begun k.
-            (let first = linesWithin begun a in let second = linesWithin (begunAfter begun a) b in
-            let e = p .ends begun k in let i : n + 1 ≡ m + 1 + length first = omega (arith, e) in
-            ap (λ (t : List ℕ). t ++ y) (p .blocks begun k)
-            ∙ ap (λ (t : List ℕ). blocksFrom maker (m + 1) first ++ t)
-            (q .blocks (begunAfter begun a) (p .keeps begun k) ∙ ap (λ (j : ℕ). blocksFrom maker j second) i)
-            ∙ sym (blocks-append maker (m + 1) first second)
-            ∙ ap (blocksFrom maker (m + 1)) (sym (lines-twice begun a b)));
-        ends = λ begun k.
-            (let e = p .ends begun k in let f = q .ends (begunAfter begun a) (p .keeps begun k) in
-            let l = ap length (lines-twice begun a b) in
-            let g = length-append (linesWithin begun a) (linesWithin (begunAfter begun a) b) in
-            omega (arith, e, f, l, g));
-        keeps = λ begun k. rw (begun-twice begun a b) (q .keeps (begunAfter begun a) (p .keeps begun k));
-      }
-
-  -- bytes of a line: no line ends in them
-  line-kept : {buffer after : List ℕ} {s : State} {n : ℕ} {bytes : List ℕ} {r : KeptLine} → KeepsLine buffer after s bytes r
-      → Shows maker buffer after s (r .state) n n (take (r .taken) bytes) []
+  pub laws : Laws (Shown maker) EndedWithin
   unfolding blocksFrom
-  line-kept p =
+  laws =
       record {
-        blocks = λ begun k. rw (p .none-ends begun) refl;
-        ends = λ begun k. rw (p .none-ends begun) (omega arith);
-        keeps = p .keeps;
+        no-lines = λ m. record { blocks = refl; ends = omega arith };
+        then-lines = λ m n o l k x y p q. both m n o l k x y p q;
+        still = λ m i. omega arith;
+        then-stays = λ m n o i j p q. omega arith;
       }
-
-  -- its newline
-  line-ended : {buffer : List ℕ} {s r : State} {n : ℕ} {out : List ℕ} {last : Last} (b : ℕ) → b ≡ 10 → Keeps buffer r []
-      → ShowsLine maker buffer s (n + 1) out last → Shows maker buffer buffer s r n (n + 1) (b ∷ []) (take (last .written) out)
-  unfolding begunAfter linesWithin blocksFrom
-  line-ended {n = n} b h e p =
-      let q = eq-eqb b 10 h in
-      record {
-        blocks = λ begun k. rw q (p .block begun k ∙ sym (append-nil (madeBy maker (n + 1) begun)));
-        ends = λ begun k. rw q refl;
-        keeps = λ begun k. rw q e;
-      }
+    where
+      both : (m n o : ℕ) (l k : List (List ℕ)) (x y : List ℕ) → Shown maker m l x n → Shown maker n k y o
+          → Shown maker m (l ++ k) (x ++ y) o
+      both m n o l k x y p q =
+          let e = p .ends in let f = q .ends in let g = length-append l k in
+          let i : n + 1 ≡ m + 1 + length l = omega arith in
+          record {
+            blocks = ap (λ (t : List ℕ). t ++ y) (p .blocks)
+                ∙ ap (λ (t : List ℕ). blocksFrom maker (m + 1) l ++ t) (q .blocks ∙ ap (λ (j : ℕ). blocksFrom maker j k) i)
+                ∙ sym (blocks-append maker (m + 1) l k);
+            ends = omega arith;
+          }
 
   module _ {buffer after : List ℕ} (chunk : List ℕ) (s : Step) {line : KeptLine} (h : s .taken < length chunk)
-      (p : KeepsLine buffer after (s .state) (take (length chunk - s .taken) (drop (s .taken) chunk)) line) where
+      (p : KeepsLine buffer after (s .state) (take (length chunk - s .taken) (drop (s .taken) chunk)) line)
+      (b : length after ≡ length buffer) where
     -- its end
     pub to-end : (out : List ℕ) → s .taken + line .taken ≡ length chunk
         → Steps maker buffer after s
-        (record { state = line .state; ended = s .ended; taken = s .taken + line .taken; handed = s .handed; written = 0; all = true }) chunk out
+        (record {
+          state = line .state;
+          ended = s .ended;
+          taken = s .taken + line .taken;
+          handed = s .handed;
+          written = 0;
+          all = true;
+        }) chunk out
     to-end out g =
         let e : s .taken + line .taken - s .taken ≡ line .taken = omega arith in
         let k = rw (rest-all chunk (s .taken)) at p in
         record {
-          shows = rw e (line-kept k);
+          shows = rw e (line-taken laws {p = placeIn buffer (s .state) (s .ended)} k b);
           lines = omega arith;
-          within = p .within;
           room = omega arith;
           counts = omega arith;
           more = omega arith;
@@ -160,7 +143,7 @@ module _ {maker : Maker} where
 
     -- a newline
     pub past-newline : {next : State} {out : List ℕ} {last : Last} → (s .taken + line .taken ≡ length chunk → ⊥)
-        → ((b : List ℕ) → Keeps b next []) → ShowsLine maker after (line .state) (s .ended + 1) out last
+        → ((b : List ℕ) → Keeps b next []) → length out ≡ numberedBytes → ShowsLine maker after (line .state) (s .ended + 1) out last
         → Steps maker buffer after s
         (record {
           state = next;
@@ -170,65 +153,45 @@ module _ {maker : Maker} where
           written = last .written;
           all = last .all;
         }) chunk out
-    past-newline {next} {out} {last} g e q =
+    unfolding blocksFrom
+    past-newline {next} {out} {last} g e o q =
         let f = end-fits chunk s h p in let m = length-drop (s .taken) chunk in
         let k = rw (rest-all chunk (s .taken)) at p in
         let less : line .taken < length (drop (s .taken) chunk) = omega arith in
         let n : s .taken + line .taken + 1 - s .taken ≡ line .taken + 1 = omega arith in
-        let c = e [] .count in
+        let w = q .room in let l = length-take-le (last .written) out w in
         record {
           shows =
               rw (n, next-taken (drop (s .taken) chunk) (line .taken) less)
-              (also (line-kept k) (line-ended (getD (drop (s .taken) chunk) (line .taken) 0) (k .ends less) (e after) q));
+              (also laws (line-taken laws {p = placeIn buffer (s .state) (s .ended)} k b)
+              (newline-taken laws {q = placeIn after next (s .ended + 1)} (getD (drop (s .taken) chunk) (line .taken) 0) (k .ends less) e
+              (λ begun g. record { blocks = q .block begun g ∙ sym (append-nil (madeBy maker (s .ended + 1) begun)); ends = refl })
+              (omega arith) refl (omega arith)));
           lines = omega arith;
-          within = omega arith;
           room = q .room;
           counts = refl;
           more = omega arith;
           some = omega arith;
         }
 
-  pub none-handed : {buffer : List ℕ} {s : State} {n handed : ℕ} → s .kept ≤ lineBytes → HandsOn maker buffer buffer s s n n [] handed handed
-  none-handed h = record { text = []; shows = none; within = h; lines = omega arith; counts = omega arith; few = omega arith }
+  -- a step more of a chunk: what the first bytes of `out` are, was handed to write
+  pub next-step : {p : Place} {between after : List ℕ} {s r : Step} (chunk : List ℕ) {out : List ℕ} {handed : ℕ}
+      → Hands maker p (take (s .taken) chunk) (placeIn between (s .state) (s .ended)) handed (s .handed)
+      → Steps maker between after s r chunk out
+      → Hands maker p (take (r .taken) chunk) (placeIn after (r .state) (r .ended)) handed (r .handed)
+  next-step {s = s} {r = r} chunk {out} h n =
+      let m = n .more in let c = n .counts in let l = length-take-le (r .written) out (n .room) in
+      next-handed laws chunk (s .taken) (r .taken) (omega arith) h
+      (record { text = take (r .written) out; takes = n .shows; counts = omega arith })
 
-  pub also-handed : {buffer between after : List ℕ} {s t r : State} {a b : List ℕ} {i j k n m w : ℕ} → HandsOn maker buffer between s t i j a n m
-      → HandsOn maker between after t r j k b m w → HandsOn maker buffer after s r i k (a ++ b) n w
-  also-handed {a = a} {b = b} p q =
-      let e = p .counts in let f = q .counts in let l = length-append (p .text) (q .text) in let m = length-append a b in
-      let g = p .few in let h = q .few in let c = p .lines in let d = q .lines in
-      record {
-        text = p .text ++ q .text;
-        shows = also (p .shows) (q .shows);
-        within = q .within;
-        lines = omega arith;
-        counts = omega arith;
-        few = omega arith;
-      }
+  -- the lines that ended, and what was handed to write, can still be counted, and what is lent is still enough
+  pub still-counted : {p q : Place} {bytes : List ℕ} {n m : ℕ} (most : ℕ) → Hands maker p bytes q n m
+      → Counted most (p .state) (p .memory) n → Counted (most + length bytes) (q .state) (q .memory) m
+  still-counted most h c =
+      let e = h .counts in let s = h .takes .short in let f = c .few in let l = c .lines in let t = h .takes .stays in
+      record { within = h .takes .within (c .within); lines = omega arith; few = omega arith }
 
-  -- what the first bytes of `out` are, was handed to write
-  step-hands : {buffer after : List ℕ} {s r : Step} {chunk out : List ℕ} → length out ≡ numberedBytes → Steps maker buffer after s r chunk out
-      → HandsOn maker buffer after (s .state) (r .state) (s .ended) (r .ended) (take (r .taken - s .taken) (drop (s .taken) chunk)) (s .handed) (r .handed)
-  step-hands {s = s} {r = r} {chunk = chunk} {out = out} o p =
-      let c = p .counts in let l = length-take-le (r .written) out (p .room) in let w = p .room in
-      let m = p .more in let n = p .some in let d = length-take (r .taken - s .taken) (drop (s .taken) chunk) in
-      let e = length-drop (s .taken) chunk in let i = p .lines in
-      record {
-        text = take (r .written) out;
-        shows = p .shows;
-        within = p .within;
-        lines = omega arith;
-        counts = omega arith;
-        few = omega arith;
-      }
-
-  -- a step more of a chunk
-  pub next-step : {buffer between after : List ℕ} {b : State} {n : ℕ} {s r : Step} (chunk : List ℕ) {out : List ℕ} {handed : ℕ}
-      → length out ≡ numberedBytes
-      → HandsOn maker buffer between b (s .state) n (s .ended) (take (s .taken) chunk) handed (s .handed) → Steps maker between after s r chunk out
-      → HandsOn maker buffer after b (r .state) n (r .ended) (take (r .taken) chunk) handed (r .handed)
-  next-step {s = s} {r = r} chunk o h p =
-      let m = p .more in
-      let e : s .taken + (r .taken - s .taken) ≡ r .taken = omega arith in
-      let t : take (r .taken) chunk ≡ take (s .taken) chunk ++ take (r .taken - s .taken) (drop (s .taken) chunk) = ap
-      (λ (n : ℕ). take n chunk) (sym e) ∙ take-add (s .taken) (r .taken - s .taken) chunk in
-      rw t (also-handed h (step-hands o p))
+pub still-lends : {buffer after chunk part out written : List ℕ} → length after ≡ length buffer → Lends buffer chunk out
+    → 0 < length part → length part ≤ length chunk → length written ≡ length out → Lends after part written
+still-lends b l some most outs =
+    let m = l .most in let a = l .line in record { line = omega arith; some = some; most = omega arith; block = outs ∙ l .block }

@@ -12,8 +12,10 @@ use Rattle.tokens.specs.Tokens.{lineBytes}
 use Rattle.tokens.specs.Text.{text}
 use Rattle.reads.specs.Reads.{brought, atEnd, mostRead}
 use Rattle.input_lines.specs.declared.State.{State}
-use Rattle.input_lines.specs.Lines.{linesWithin, begunAfter, lastLine, linesOf}
+use Rattle.input_lines.specs.Lines.{linesWithin, lastLine, linesOf}
 use Rattle.input_lines.specs.Kept.{Keeps}
+use Rattle.input_lines.specs.Taking.{Takes}
+use Rattle.input_lines.specs.Taking.{Place as PlaceOver, Hands as HandsOver}
 use Rattle.blocks.specs.Cards.{numberedBytes, numberedBlock}
 use Rattle.explanations.specs.Explanations.{numberedKept, numberedExplanation}
 use Rattle.shown_lines.specs.declared.Maker.{Maker}
@@ -38,6 +40,16 @@ pub record Counted (taken : ℕ) (s : State) (ended handed : ℕ) : Type 0 where
   pub within : s .kept ≤ lineBytes
   pub lines : ended ≤ taken
   pub few : handed ≤ numberedBytes * taken
+
+-- where an input stands, with the number of lines that ended, and what holds of this number after some bytes
+abbrev pub Place : Type 0
+Place = PlaceOver ℕ
+
+abbrev pub placeIn : List ℕ → State → ℕ → Place
+placeIn buffer s ended = record { buffer = buffer; state = s; memory = ended }
+
+abbrev pub EndedWithin : ℕ → ℕ → ℕ → Type 0
+EndedWithin before taken after = after ≤ before + taken
 
 -- what is made of a line: of an answer its block, of a line its explanation
 abbrev pub madeBy : Maker → ℕ → List ℕ → List ℕ
@@ -66,12 +78,18 @@ module _ (maker : Maker) where
   told shown =
       cond shown [] (toldBy maker)
 
-  -- some bytes taken after those of a line that has begun, whichever the state keeps, and after m lines that ended: the
-  -- text is the blocks of the lines that ended in them, n have ended then, and the line that has begun then is kept
-  pub record Shows (buffer after : List ℕ) (s r : State) (m n : ℕ) (bytes text : List ℕ) : Type 0 where
-    pub blocks : (begun : List ℕ) → Keeps buffer s begun → text ≡ blocksFrom (m + 1) (linesWithin begun bytes)
-    pub ends : (begun : List ℕ) → Keeps buffer s begun → n ≡ m + length (linesWithin begun bytes)
-    pub keeps : (begun : List ℕ) → Keeps buffer s begun → Keeps after r (begunAfter begun bytes)
+  -- lines shown after m lines that ended: the text is their blocks, and n have ended then
+  pub record Shown (m : ℕ) (lines : List (List ℕ)) (text : List ℕ) (n : ℕ) : Type 0 where
+    pub blocks : text ≡ blocksFrom (m + 1) lines
+    pub ends : n ≡ m + length lines
+
+  -- some bytes taken (input_lines/specs/Taking): the text is the blocks of the lines that ended in them
+  abbrev pub Shows : Place → List ℕ → Place → List ℕ → Type 0
+  Shows before bytes after text = Takes Shown EndedWithin numberedBytes before bytes after text
+
+  -- and they were handed to write
+  abbrev pub Hands : Place → List ℕ → Place → ℕ → ℕ → Type 0
+  Hands before bytes after handed total = HandsOver Shown EndedWithin numberedBytes before bytes after handed total
 
   -- the line that has begun is at its end: the first `written` bytes of `out` are its block
   pub record ShowsLine (buffer : List ℕ) (s : State) (number : ℕ) (out : List ℕ) (r : Last) : Type 0 where
@@ -81,10 +99,9 @@ module _ (maker : Maker) where
   -- bytes of a chunk taken from where the program stands on
   pub record Steps (buffer after : List ℕ) (s r : Step) (chunk out : List ℕ) : Type 0 where
     -- the first `written` bytes of `out` are the blocks of the lines that ended in them
-    pub shows : Shows buffer after (s .state) (r .state) (s .ended) (r .ended)
-        (take (r .taken - s .taken) (drop (s .taken) chunk)) (take (r .written) out)
+    pub shows : Shows (placeIn buffer (s .state) (s .ended)) (take (r .taken - s .taken) (drop (s .taken) chunk))
+        (placeIn after (r .state) (r .ended)) (take (r .written) out)
     pub lines : r .ended ≤ s .ended + 1
-    pub within : r .state .kept ≤ lineBytes
     pub room : r .written ≤ length out
     -- they were handed to write
     pub counts : r .handed ≡ s .handed + r .written
@@ -92,22 +109,12 @@ module _ (maker : Maker) where
     pub more : s .taken < r .taken
     pub some : r .taken ≤ length chunk
 
-  -- some bytes taken after those of a line that has begun
-  pub record HandsOn (buffer after : List ℕ) (s r : State) (m n : ℕ) (bytes : List ℕ) (handed total : ℕ) : Type 0 where
-    -- the blocks of the lines that ended
-    pub text : List ℕ
-    pub shows : Shows buffer after s r m n bytes text
-    pub within : r .kept ≤ lineBytes
-    pub lines : n ≤ m + length bytes
-    -- were handed to write
-    pub counts : total ≡ handed + length text
-    pub few : length text ≤ numberedBytes * length bytes
-
   -- a chunk
   pub record ShowsChunk (buffer after : List ℕ) (s : State) (ended : ℕ) (chunk : List ℕ) (handed : ℕ)
       (r : Step) : Type 0 where
     -- its first bytes are taken
-    pub hands : HandsOn buffer after s (r .state) ended (r .ended) (take (r .taken) chunk) handed (r .handed)
+    pub hands :
+        Hands (placeIn buffer s ended) (take (r .taken) chunk) (placeIn after (r .state) (r .ended)) handed (r .handed)
     pub some : r .taken ≤ length chunk
     -- all of them, unless a write did not take all that it was handed
     pub all : r .all ≡ true → r .taken ≡ length chunk
@@ -118,8 +125,8 @@ module _ (maker : Maker) where
     pub reads : r .read ≡ t .read + brought (r .got)
     -- the first of these are taken
     pub taken : ℕ
-    pub hands : HandsOn buffer after (t .state) (r .state) (t .ended) (r .ended) (take taken chunk) (t .handed)
-        (r .handed)
+    pub hands : Hands (placeIn buffer (t .state) (t .ended)) (take taken chunk)
+        (placeIn after (r .state) (r .ended)) (t .handed) (r .handed)
     pub some : taken ≤ brought (r .got)
     -- all of them, unless a write did not take all that it was handed
     pub all : r .all ≡ true → taken ≡ brought (r .got)

@@ -7,11 +7,13 @@ use native.Mathlib.Omega.{arith}
 use borrow.Author.Tests.{ltb-true, ltb-false}
 use denote.Ref.{now}
 use lib.ListN.{length, take, length-take}
+use Rattle.input_lines.proofs.Taking.{none-handed}
+use Rattle.inputs.proofs.Taking.{laws}
 use Rattle.inputs.specs.States.{Place, placeIn}
 use Rattle.reads.specs.Reads.{mostRead}
 use Rattle.card.specs.declared.Step.{Step}
 use Rattle.card.specs.Program.{Hands, Replies}
-use Rattle.card.proofs.Handing.{none, still-counted, still-lends, next-step}
+use Rattle.card.proofs.Handing.{still-counted, still-lends, next-step}
 use Rattle.card.proofs.reply_to.Statement.{statement}
 use Rattle.card.proofs.reply_to.Tie as tie
 
@@ -70,19 +72,19 @@ reply-to-spec =
     (tie.spec
     Inv-loop
     μ-loop
-    (λ c. record { hands = none; some = omega arith; outs = refl })
+    (λ c. record { hands = none-handed laws; some = omega arith; outs = refl })
     reply-next-requires
     loop-less
     loop-again
-    (λ c. c .before .before .before .loop .inv .hands .takes .lengths .buffers)
-    (λ c. c .before .before .before .loop .inv .hands .takes .lengths .scratches)
-    (λ c. c .before .before .before .loop .inv .hands .takes .lengths .numbers)
-    (λ c. c .before .before .before .loop .inv .hands .takes .lengths .counts)
+    (λ c. c .before .before .before .loop .inv .hands .takes .buffers)
+    (λ c. c .before .before .before .loop .inv .hands .takes .stays .scratches)
+    (λ c. c .before .before .before .loop .inv .hands .takes .stays .numbers)
+    (λ c. c .before .before .before .loop .inv .hands .takes .stays .counts)
     (λ c. c .before .before .before .loop .inv .outs)
     (λ c. let a = c .before .before .before in ends (a .loop .inv) (λ _. ltb-false (a .loop .step .taken) _ (c .if1 .left)))
-    (λ c. c .before .loop .inv .hands .takes .lengths .buffers)
-    (λ c. c .before .loop .inv .hands .takes .lengths .scratches)
-    (λ c. c .before .loop .inv .hands .takes .lengths .numbers)
-    (λ c. c .before .loop .inv .hands .takes .lengths .counts)
+    (λ c. c .before .loop .inv .hands .takes .buffers)
+    (λ c. c .before .loop .inv .hands .takes .stays .scratches)
+    (λ c. c .before .loop .inv .hands .takes .stays .numbers)
+    (λ c. c .before .loop .inv .hands .takes .stays .counts)
     (λ c. c .before .loop .inv .outs)
     (λ c. ends (c .before .loop .inv) (λ e. absurd (true≢false (sym e ∙ c .loop-test .left)))))

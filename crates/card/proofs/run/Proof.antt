@@ -9,14 +9,16 @@ use borrow.Author.Tests.{ltb-true, ltb-false}
 use denote.Ref.{now}
 use lib.ListN.{length, take, drop, length-append, length-drop, length-take}
 use Rattle.input_lines.specs.Lines.{linesWithin, begunAfter, lastLine, linesOf}
-use Rattle.inputs.specs.States.{Place, memoryAt, Begun, placeIn, placeNow, Lent, Answered}
-use Rattle.inputs.proofs.Taking.{then-answered}
+use Rattle.input_lines.specs.Taking.{Begun}
+use Rattle.input_lines.proofs.Taking.{none-handed, also-handed}
+use Rattle.inputs.specs.States.{Place, memoryAt, placeIn, placeNow, Lent, Answered}
+use Rattle.inputs.proofs.Taking.{laws, then-answered}
 use Rattle.reads.specs.Reads.{brought, atEnd, mostRead}
 use Rattle.reads.proofs.Turning.{some-brought, all-taken, not-all-taken, none-at-end, some-not-end, fewer-left}
 use Rattle.card.specs.declared.Turn.{Turn}
 use Rattle.card.specs.declared.End.{End}
 use Rattle.card.specs.Program.{atFirst, Lends, Counted, Hands, Turns, Closes, Runs}
-use Rattle.card.proofs.Handing.{none, also, still-lends}
+use Rattle.card.proofs.Handing.{still-lends}
 use borrow.Author.Needs.{needs}
 use Rattle.card.proofs.run.Statement.{statement}
 use Rattle.card.proofs.run.Tie as tie
@@ -68,7 +70,7 @@ module _ {p : Place} {chunk₀ out₀ : List ℕ} {q : Place} {chunk out : List 
         record {
           taken = v .taken ++ take (t .taken) chunk₁;
           rest = Rest;
-          hands = also (v .hands) (t .hands);
+          hands = also-handed laws (v .hands) (t .hands);
           reads = omega arith;
           most = omega arith;
           goes = λ g. no-rest (t .all (all-taken (brought (r .got)) (r .all) (sym (t .goes) ∙ g)));
@@ -156,7 +158,7 @@ loop-holds c =
     record {
       taken = [];
       rest = [];
-      hands = none;
+      hands = none-handed laws;
       reads = refl;
       most = omega arith;
       goes = λ _. refl;
@@ -214,11 +216,11 @@ run-spec =
     loop-less
     loop-again
     end-run-requires
-    (λ c. left-at (ended c) .before .loop .inv .hands .takes .lengths .buffers)
+    (λ c. left-at (ended c) .before .loop .inv .hands .takes .buffers)
     (λ c. left-at (ended c) .before .loop .inv .chunks)
-    (λ c. ended c .end-run .kept .1 .1 .0 ∙ left-at (ended c) .before .loop .inv .hands .takes .lengths .scratches)
-    (λ c. ended c .end-run .kept .1 .1 .1 .0 ∙ left-at (ended c) .before .loop .inv .hands .takes .lengths .numbers)
-    (λ c. ended c .end-run .kept .1 .1 .1 .1 .0 ∙ left-at (ended c) .before .loop .inv .hands .takes .lengths .counts)
+    (λ c. ended c .end-run .kept .1 .1 .0 ∙ left-at (ended c) .before .loop .inv .hands .takes .stays .scratches)
+    (λ c. ended c .end-run .kept .1 .1 .1 .0 ∙ left-at (ended c) .before .loop .inv .hands .takes .stays .numbers)
+    (λ c. ended c .end-run .kept .1 .1 .1 .1 .0 ∙ left-at (ended c) .before .loop .inv .hands .takes .stays .counts)
     (λ c. ended c .end-run .kept .1 .1 .1 .1 .1 .0 ∙ left-at (ended c) .before .loop .inv .outs)
     (λ c.
     let l = left-at (ended c) in let a = l .before in

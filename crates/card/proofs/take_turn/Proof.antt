@@ -11,13 +11,14 @@ use lib.IntN.{ℤ}
 use lib.ListN.{length, take}
 use lib.Seq.{take-take}
 use Rattle.io.specs.Counts.{clamped}
+use Rattle.input_lines.proofs.Taking.{none-handed}
+use Rattle.inputs.proofs.Taking.{laws}
 use Rattle.inputs.specs.States.{Place}
 use Rattle.reads.specs.Reads.{brought}
 use Rattle.reads.proofs.Turning.{counted}
 use Rattle.card.specs.declared.Step.{Step}
 use Rattle.card.specs.declared.Turn.{Turn}
 use Rattle.card.specs.Program.{Replies, Turns}
-use Rattle.card.proofs.Handing.{none}
 use borrow.Author.Needs.{needs}
 use Rattle.card.proofs.take_turn.Statement.{statement}
 use Rattle.card.proofs.take_turn.Tie as tie
@@ -31,7 +32,7 @@ module _ {p : Place} (t : Turn) {chunk : List ℕ} {got : ℤ} {n : ℕ} (b : n 
         most = omega arith;
         reads = omega arith;
         taken = 0;
-        hands = none;
+        hands = none-handed laws;
         some = omega arith;
         all = λ _. omega arith;
         goes = rw e refl;

@@ -22,7 +22,8 @@ use Rattle.shown_lines.proofs.end_run.Tie as tie
 
 module _ {maker : Maker} (buffer : List ℕ) (t : Turn) {out after : List ℕ} {n : ℕ} where
   -- the input is at its end
-  at-end : (last : Last) → atEnd (t .got) ≡ true → ShowsLast maker buffer (t .state) (t .ended) out last → Appended out 0 (told maker (last .all)) after n
+  at-end : (last : Last) → atEnd (t .got) ≡ true → ShowsLast maker buffer (t .state) (t .ended) out last
+      → Appended out 0 (told maker (last .all)) after n
       → Closes maker buffer t after (record { turn = t; all = last .all; handed = t .handed + last .written; told = n })
   at-end last g e a =
       record {
@@ -48,34 +49,38 @@ module _ {maker : Maker} (buffer : List ℕ) (t : Turn) {out after : List ℕ} {
         tells = record { holds = rw g (a .holds); room = put-within a };
       }
 
+-- ---- the places: the call; and the test of what the last read gave, from the last line's block
+abbrev called : tie.After-is-end → tie.Start
+called i = i .before .before .before .before
+
+abbrev tested : tie.After-show-last → tie.After-is-end
+tested l = l .before .before .before .before
+
 -- what the last read gave, from the call of `is_end`
-is-at-end : (c : tie.After-is-end) → c .is-end .result ≡ atEnd (c .before .before .before .before .args .t .got)
-is-at-end c =
-    c .is-end .ensures
-    ∙ ap atEnd (toZ-ofZ w64 (c .before .before .before .before .args .t .got) (record { sfits = c .before .struct-told .given .1 .1 .0 .1 }))
+is-at-end : (i : tie.After-is-end) → i .is-end .result ≡ atEnd (called i .args .t .got)
+is-at-end i =
+    i .is-end .ensures ∙ ap atEnd (toZ-ofZ w64 (called i .args .t .got) (record { sfits = i .before .struct-told .given .1 .1 .0 .1 }))
 
 tell-requires : tie.Need-tell-requires
 tell-requires c κs =
     let l = c .before .before .before in
-    l .show-last .kept .1 .1 .1 .0 ∙ l .before .before .before .before .before .before .before .before .pre .1
+    l .show-last .kept .1 .1 .1 .0 ∙ called (tested l) .pre .1
 
 add-t14 : tie.Need-add-t14
 add-t14 c =
-    let l = c .before .before .before .before .before .before .before .before in
-    let s = l .before .before .before .before .before .before .before .before in
+    let told = c .before .before .before .before in let l = told .before .before .before .before in let s = called (tested l) in
     let a = l .show-last .ensures .room in let b = l .show-last .kept .1 .1 .1 .0 in let d = s .pre .1 in let e = s .pre .3 in
     omega (arith, a, b, d, e)
 
 returns : tie.Need-returns
 returns c =
-    let t = c .before .before .before .before in let l = t .before .before .before .before in let i = l .before .before .before .before in
-    let s = i .before .before .before .before in
+    let t = c .before .before .before .before in let l = t .before .before .before .before in let i = tested l in let s = called i in
     at-end (now (s .args .buffer)) (s .args .t) (l .show-last .result) (sym (is-at-end i) ∙ l .before .before .before .if1 .taken)
     (l .show-last .ensures) (t .tell .ensures)
 
 returns-2 : tie.Need-returns-2
 returns-2 c =
-    let t = c .before .before in let i = t .before .before .before in let s = i .before .before .before .before in
+    let t = c .before .before in let i = t .before .before .before in let s = called i in
     before-end (now (s .args .buffer)) (s .args .t) (sym (is-at-end i) ∙ t .before .before .if1 .left) (t .tell2 .ensures)
 
 pub end-run-spec : {M : Type 1} → statement M
