@@ -12,6 +12,23 @@ ghost use Rattle.answers.specs.Places.{HasRoom, PutPiece};
 // How many bytes an answer may have.
 pub const ANSWER_BYTES: usize = 320;
 
+// The longer answers, as docs/FORMS.md writes them.
+const FIGURES: [u8; 81] =
+    *b"(figures (mass F) (centre F F F) (inertia F F F F F F) (intervals N) (samples N))";
+
+const AREA: [u8; 56] = *b"(area (area F) (centroid F F) (intervals N) (samples N))";
+
+const JOINED: [u8; 54] = *b"(joined (mass F) (centre F F F) (inertia F F F F F F))";
+
+const RING: [u8; 52] = *b"(ring (mass F) (centre F F F) (inertia F F F F F F))";
+
+const BODY: [u8; 52] = *b"(body (mass F) (centre F F F) (inertia F F F F F F))";
+
+const DONE: [u8; 90] =
+    *b"(done N (figures (mass F) (centre F F F) (inertia F F F F F F) (intervals N) (samples N)))";
+
+const PROGRESS: [u8; 58] = *b"(progress (worked N) (strips N) (intervals N) (samples N))";
+
 // The answers that docs/FORMS.md lists, by what they tell.
 pub enum Shape {
     Figures,
@@ -125,41 +142,11 @@ pub fn put_reply(out: &mut [u8], n: usize, reply: Reply) -> usize
     let figures = reply.figures;
     let counts = reply.counts;
     match shape {
-        Shape::Figures => put_filled(
-            out,
-            n,
-            b"(figures (mass F) (centre F F F) (inertia F F F F F F) (intervals N) (samples N))",
-            &figures,
-            &counts,
-        ),
-        Shape::Area => put_filled(
-            out,
-            n,
-            b"(area (area F) (centroid F F) (intervals N) (samples N))",
-            &figures,
-            &counts,
-        ),
-        Shape::Joined => put_filled(
-            out,
-            n,
-            b"(joined (mass F) (centre F F F) (inertia F F F F F F))",
-            &figures,
-            &counts,
-        ),
-        Shape::Ring => put_filled(
-            out,
-            n,
-            b"(ring (mass F) (centre F F F) (inertia F F F F F F))",
-            &figures,
-            &counts,
-        ),
-        Shape::Body => put_filled(
-            out,
-            n,
-            b"(body (mass F) (centre F F F) (inertia F F F F F F))",
-            &figures,
-            &counts,
-        ),
+        Shape::Figures => put_filled(out, n, &FIGURES, &figures, &counts),
+        Shape::Area => put_filled(out, n, &AREA, &figures, &counts),
+        Shape::Joined => put_filled(out, n, &JOINED, &figures, &counts),
+        Shape::Ring => put_filled(out, n, &RING, &figures, &counts),
+        Shape::Body => put_filled(out, n, &BODY, &figures, &counts),
         Shape::Closing => put_filled(out, n, b"(closing F)", &figures, &counts),
         Shape::Inside => put_filled(out, n, b"(inside N)", &figures, &counts),
         Shape::Edge => put_filled(out, n, b"(edge N)", &figures, &counts),
@@ -169,21 +156,9 @@ pub fn put_reply(out: &mut [u8], n: usize, reply: Reply) -> usize
         Shape::Taken => put_filled(out, n, b"(taken)", &figures, &counts),
         Shape::Idle => put_filled(out, n, b"(idle)", &figures, &counts),
         Shape::More => put_filled(out, n, b"(more N)", &figures, &counts),
-        Shape::Done => put_filled(
-            out,
-            n,
-            b"(done N (figures (mass F) (centre F F F) (inertia F F F F F F) (intervals N) (samples N)))",
-            &figures,
-            &counts,
-        ),
+        Shape::Done => put_filled(out, n, &DONE, &figures, &counts),
         Shape::DoneRefused => put_filled(out, n, b"(done N (refused N))", &figures, &counts),
-        Shape::Progress => put_filled(
-            out,
-            n,
-            b"(progress (worked N) (strips N) (intervals N) (samples N))",
-            &figures,
-            &counts,
-        ),
+        Shape::Progress => put_filled(out, n, &PROGRESS, &figures, &counts),
         Shape::Refused => put_filled(out, n, b"(refused N)", &figures, &counts),
     }
 }
