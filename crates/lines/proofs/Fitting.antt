@@ -15,21 +15,31 @@ use Rattle.lines.specs.Lines.{LentMemory, Fits, Answers, memoryOf, Leave
 abbrev engineTest : LentMemory → Bool
 engineTest lent = leb engineNumbers (length (lent .numbers)) && leb engineCounts (length (lent .counts))
 
-module _ (lent : LentMemory) (out : List ℕ) (n : ℕ) (room engine : Bool) (e : room ≡ leb (n + answerBytes) (length out)) (f : engine ≡ engineTest lent) where
+module _ (lent : LentMemory) (out : List ℕ) (n : ℕ) (room engine : Bool) (e : room ≡ leb (n + answerBytes) (length out))
+    (f : engine ≡ engineTest lent) where
   pub fitting : room && engine ≡ true → Fits lent out n
   fitting h =
       let both = sym f ∙ and-right room engine h in
       record {
         answer = leb-true (n + answerBytes) (length out) (sym e ∙ and-left room engine h);
         engine = (
-          leb-true engineNumbers (length (lent .numbers)) (and-left (leb engineNumbers (length (lent .numbers))) (leb engineCounts (length (lent .counts))) both),
-          leb-true engineCounts (length (lent .counts)) (and-right (leb engineNumbers (length (lent .numbers))) (leb engineCounts (length (lent .counts))) both),
+          leb-true engineNumbers (length (lent .numbers))
+              (and-left (leb engineNumbers (length (lent .numbers))) (leb engineCounts (length (lent .counts))) both),
+          leb-true engineCounts (length (lent .counts))
+              (and-right (leb engineNumbers (length (lent .numbers))) (leb engineCounts (length (lent .counts))) both),
         );
       }
 
   pub not-fitting : room && engine ≡ false → Fits lent out n → ⊥
   not-fitting h g =
-      let all : room && engine ≡ true = rw (e, f, le-leb (n + answerBytes) (length out) (g .answer), le-leb engineNumbers (length (lent .numbers)) (g .engine .0), le-leb engineCounts (length (lent .counts)) (g .engine .1)) in
+      let all : room && engine ≡ true =
+      rw (
+        e,
+        f,
+        le-leb (n + answerBytes) (length out) (g .answer),
+        le-leb engineNumbers (length (lent .numbers)) (g .engine .0),
+        le-leb engineCounts (length (lent .counts)) (g .engine .1),
+      ) in
       true≢false (sym all ∙ h)
 
 -- where they do, the line is answered

@@ -146,11 +146,17 @@ pub record Effect : Type 0 where
 abbrev pub answers : Reply → Memory → Effect
 answers r m = record { reply = r; memory = m; calls = [] }
 
--- an answer worked in the scratch
-abbrev pub works : {A : Type 0} → CallOf A → (A → Reply) → Memory → Effect
-works call replyTo m =
-    record
-    { reply = replyTo (call .answer); memory = record { scratch = call .leaves (m .scratch); engine = m .engine }; calls = [] }
+-- a call whose answer makes a reply, worked in the scratch
+abbrev pub repliedBy : {A : Type 0} → (A → Reply) → CallOf A → CallOf Reply
+repliedBy replyTo call = record { answer = replyTo (call .answer); leaves = call .leaves }
+
+abbrev pub works : CallOf Reply → Memory → Effect
+works call m =
+    record {
+      reply = call .answer;
+      memory = record { scratch = call .leaves (m .scratch); engine = m .engine };
+      calls = [];
+    }
 
 -- a submission or a change of density
 abbrev pub engages : Called → List Call → Memory → Effect
@@ -162,10 +168,11 @@ engages c calls m =
     }
 
 unfoldable pub setEffect : FinSet → List Float → ℕ → Memory → Effect
-setEffect set points limit m = works (setCall set points limit (length (m .scratch))) setReply m
+setEffect set points limit m = works (repliedBy setReply (setCall set points limit (length (m .scratch)))) m
 
 unfoldable pub areaEffect : Planform → List Float → ℕ → Memory → Effect
-areaEffect planform points limit m = works (areaCall planform points limit (length (m .scratch))) areaReply m
+areaEffect planform points limit m =
+    works (repliedBy areaReply (areaCall planform points limit (length (m .scratch)))) m
 
 unfoldable pub submitEffect : ℕ → FinSet → List Float → ℕ → Memory → Effect
 submitEffect screen set points limit m =

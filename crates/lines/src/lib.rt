@@ -8,16 +8,20 @@ ghost use mathlib.Core.List.{[], _∷_};
 ghost use mathlib.Core.Path.{_≡_};
 ghost use Prim.Native.Nat.{_+_, _≤_};
 ghost use lib.Dec.{leb};
-ghost use lib.ListN.{length};
+ghost use lib.ListN.{length, take};
+ghost use Rattle.refusals.specs.Calls.{Does};
 ghost use Rattle.texts.specs.Appended.{Appended};
 ghost use Rattle.tokens.specs.Tokens.{lineBytes};
 ghost use Rattle.answers.specs.declared.Shape.the-variants.{Taken};
 ghost use Rattle.answers.specs.Answers.{answerBytes, AnswerFits, textOf, reply};
+ghost use Rattle.drill.specs.Drill.{drillOf};
+ghost use Rattle.figures.specs.Figures.{setCall};
+ghost use Rattle.figures.specs.Areas.{areaCall};
 ghost use Rattle.lent_engines.specs.Memory.{engineNumbers, engineCounts};
 ghost use Rattle.lent_engines.specs.Lent.{Room};
 ghost use Rattle.lines.specs.Lines.{refusedReply, unlessRefused, plainReply, setReply, areaReply, bodyReply};
-ghost use Rattle.lines.specs.Lines.{closingReply, momentsReply};
-ghost use Rattle.lines.specs.Lines.{drillReply, doneReply, turnReply, progressReply, effectOf, lineEffect};
+ghost use Rattle.lines.specs.Lines.{closingReply, momentsReply, drillReply, doneReply, progressReply, repliedBy};
+ghost use Rattle.lines.specs.Lines.{turnEffect, effectOf, lineEffect};
 ghost use Rattle.lines.specs.Lines.{memoryIn, lentIn, Serves, LeavesLent, Answers};
 use answers::ANSWER_BYTES;
 use answers::Reply;
@@ -25,14 +29,14 @@ use answers::Shape;
 use bodies::BODY_NUMBERS;
 use drill::Answer;
 use engines::Turn;
-use figures::Area;
 use figures::Figures;
+use fins::FinSet;
 use jobs::JobProgress;
-use jobs::Row;
 use joins::Joined;
 use lent_engines::ENGINE_COUNTS;
 use lent_engines::ENGINE_NUMBERS;
 use moments::Moments;
+use planforms::Planform;
 use reading::Asked;
 use refusals::Refusal;
 use refusals::Verdict;
@@ -84,9 +88,14 @@ fn plain_reply(verdict: Verdict, shape: Shape) -> Reply
     unless_refused(verdict, shape, figures, [0; 4])
 }
 
-fn set_reply(f: Figures) -> Reply
-    ensures { λ r. ⌜ r ≡ setReply f ⌝ }
+// A set's figures, worked in the scratch.
+fn set_reply(limit: usize, set: FinSet, points: usize, values: &[f64], scratch: &mut [f64]) -> Reply
+    ensures { λ r. ⌜ Does
+        (repliedBy setReply (setCall set (take points (now (values .entry))) limit (length (now (scratch .entry)))))
+        r (now (scratch .entry)) (now (scratch .exit)) ⌝ }
 {
+    let outline = reading::first(values, points);
+    let f = figures::mass_properties(set, outline, limit, scratch);
     let verdict = f.verdict;
     let body = f.body;
     let shape = Shape::Figures;
@@ -99,9 +108,21 @@ fn set_reply(f: Figures) -> Reply
     )
 }
 
-fn area_reply(a: Area) -> Reply
-    ensures { λ r. ⌜ r ≡ areaReply a ⌝ }
+// A planform's area, worked in the scratch.
+fn area_reply(
+    limit: usize,
+    planform: Planform,
+    points: usize,
+    values: &[f64],
+    scratch: &mut [f64],
+) -> Reply
+    ensures { λ r. ⌜ Does
+        (repliedBy areaReply
+        (areaCall planform (take points (now (values .entry))) limit (length (now (scratch .entry)))))
+        r (now (scratch .entry)) (now (scratch .exit)) ⌝ }
 {
+    let outline = reading::first(values, points);
+    let a = figures::geometry(planform, outline, limit, scratch);
     let verdict = a.verdict;
     let shape = Shape::Area;
     let mut figures = [0.0; 10];
@@ -162,9 +183,11 @@ fn count_reply(shape: Shape, count: usize) -> Reply
 }
 
 // Where a point lies.
-fn drill_reply(found: Answer) -> Reply
-    ensures { λ r. ⌜ r ≡ drillReply found ⌝ }
+fn drill_reply(planform: Planform, points: usize, x: f64, height: f64, values: &[f64]) -> Reply
+    ensures { λ r. ⌜ r ≡ drillReply (drillOf planform (take points (now (values .entry))) x height) ⌝ }
 {
+    let outline = reading::first(values, points);
+    let found = drill::drill(planform, outline, x, height);
     match found {
         Answer::Inside(nearest) => count_reply(Shape::Inside, nearest),
         Answer::Edge(nearest) => count_reply(Shape::Edge, nearest),
@@ -210,10 +233,15 @@ fn done_reply(screen: usize, f: Figures) -> Reply
     }
 }
 
-// A turn.
-fn turn_reply(turn: Turn, row: Row) -> Reply
-    ensures { λ r. ⌜ r ≡ turnReply turn (row .figures) ⌝ }
+// A turn of the engine.
+fn turn_reply(scratch: &mut [f64], numbers: &mut [f64], counts: &mut [usize]) -> Reply
+    requires { ⌜ Room (now numbers) (now counts) ⌝ }
+    ensures { λ r. ⌜ Serves (turnEffect (memoryIn (now (scratch .entry)) (now (numbers .entry)) (now (counts .entry))))
+        (lentIn (now (scratch .entry)) (now (numbers .entry)) (now (counts .entry)))
+        (lentIn (now (scratch .exit)) (now (numbers .exit)) (now (counts .exit))) r ⌝ }
 {
+    let turn = lent_engines::turn(numbers, counts, scratch);
+    let row = lent_engines::turn_row(numbers, counts, turn);
     let f = row.figures;
     match turn {
         Turn::Short => refused_reply(Refusal::Scratch),
@@ -241,105 +269,53 @@ fn progress_reply(p: JobProgress) -> Reply
     }
 }
 
-// The answer to what a line asks, of its figures.
+// The answer to what a line asks, of its figures, of which a body's are the first.
 fn request_reply(
     asked: Asked,
     values: &[f64],
     scratch: &mut [f64],
-    engine_numbers: &mut [f64],
-    engine_counts: &mut [usize],
+    numbers: &mut [f64],
+    counts: &mut [usize],
 ) -> Reply
-    requires { ⌜ Room (now «engine_numbers») (now «engine_counts») ⌝ }
+    requires { ⌜ Room (now numbers) (now counts) ⌝ }
     ensures { λ r. ⌜ Serves
         (effectOf asked (now (values .entry))
-        (memoryIn (now (scratch .entry)) (now («engine_numbers» .entry)) (now («engine_counts» .entry))))
-        (lentIn (now (scratch .entry)) (now («engine_numbers» .entry)) (now («engine_counts» .entry)))
-        (lentIn (now (scratch .exit)) (now («engine_numbers» .exit)) (now («engine_counts» .exit))) r ⌝ }
+        (memoryIn (now (scratch .entry)) (now (numbers .entry)) (now (counts .entry))))
+        (lentIn (now (scratch .entry)) (now (numbers .entry)) (now (counts .entry)))
+        (lentIn (now (scratch .exit)) (now (numbers .exit)) (now (counts .exit))) r ⌝ }
 {
+    let body = reading::first(values, BODY_NUMBERS);
+    let rest = reading::behind(values, BODY_NUMBERS);
     match asked {
         Asked::Refused(refusal) => refused_reply(refusal),
-        Asked::Set { limit, set, points } => {
-            let outline = reading::first(values, points);
-            set_reply(figures::mass_properties(set, outline, limit, scratch))
-        }
-        Asked::Area {
-            limit,
-            planform,
-            points,
-        } => {
-            let outline = reading::first(values, points);
-            area_reply(figures::geometry(planform, outline, limit, scratch))
-        }
+        Asked::Set(limit, set, points) => set_reply(limit, set, points, values, scratch),
+        Asked::Area(limit, fin, points) => area_reply(limit, fin, points, values, scratch),
         Asked::Join => body_reply(Shape::Joined, requests::join_points(values)),
         Asked::Moments => moments_reply(requests::tensor_moments(values)),
         Asked::Check => plain_reply(requests::body_verdict(values), Shape::Sound),
-        Asked::Tubes { set, body_radius_m } => {
-            body_reply(Shape::Ring, tubes::mass_properties(set, body_radius_m))
-        }
-        Asked::Closing {
-            count,
-            body_radius_m,
-        } => closing_reply(tubes::closing_radius_m(body_radius_m, count)),
-        Asked::Drill {
-            planform,
-            points,
-            x_m,
-            height_m,
-        } => {
-            let outline = reading::first(values, points);
-            drill_reply(drill::drill(planform, outline, x_m, height_m))
-        }
-        Asked::Copied => {
-            let body = reading::first(values, BODY_NUMBERS);
-            let offsets = reading::behind(values, BODY_NUMBERS);
-            body_reply(Shape::Body, requests::copied_by(body, offsets))
-        }
-        Asked::Placed => {
-            let body = reading::first(values, BODY_NUMBERS);
-            let places = reading::behind(values, BODY_NUMBERS);
-            body_reply(Shape::Body, requests::placed_by(body, places))
-        }
+        Asked::Tubes(set, radius) => body_reply(Shape::Ring, tubes::mass_properties(set, radius)),
+        Asked::Closing(count, radius) => closing_reply(tubes::closing_radius_m(radius, count)),
+        Asked::Drill(fin, points, x, height) => drill_reply(fin, points, x, height, values),
+        Asked::Copied => body_reply(Shape::Body, requests::copied_by(body, rest)),
+        Asked::Placed => body_reply(Shape::Body, requests::placed_by(body, rest)),
         Asked::Moved => {
-            let whole = reading::first(values, BODY_NUMBERS);
-            let rest = reading::behind(values, BODY_NUMBERS);
             let part = reading::first(rest, BODY_NUMBERS);
             let offset = reading::behind(rest, BODY_NUMBERS);
-            body_reply(Shape::Body, requests::moved_by(whole, part, offset))
+            body_reply(Shape::Body, requests::moved_by(body, part, offset))
         }
-        Asked::Without => {
-            let whole = reading::first(values, BODY_NUMBERS);
-            let part = reading::behind(values, BODY_NUMBERS);
-            body_reply(Shape::Body, requests::without_by(whole, part))
-        }
-        Asked::Submit {
-            screen,
-            limit,
-            set,
-            points,
-        } => {
+        Asked::Without => body_reply(Shape::Body, requests::without_by(body, rest)),
+        Asked::Submit(screen, limit, set, points) => {
             let outline = reading::first(values, points);
-            taken_reply(lent_engines::submit(
-                engine_numbers,
-                engine_counts,
-                screen,
-                set,
-                outline,
-                limit,
-            ))
+            let reply = lent_engines::submit(numbers, counts, screen, set, outline, limit);
+            taken_reply(reply)
         }
-        Asked::Density { screen, density } => taken_reply(lent_engines::change_density(
-            engine_numbers,
-            engine_counts,
-            screen,
-            density,
-        )),
-        Asked::Turn => {
-            let turn = lent_engines::turn(engine_numbers, engine_counts, scratch);
-            let row = lent_engines::turn_row(engine_numbers, engine_counts, turn);
-            turn_reply(turn, row)
+        Asked::Density(screen, density) => {
+            let reply = lent_engines::change_density(numbers, counts, screen, density);
+            taken_reply(reply)
         }
-        Asked::Progress { screen } => {
-            progress_reply(lent_engines::progress_at(engine_numbers, engine_counts, screen))
+        Asked::Turn => turn_reply(scratch, numbers, counts),
+        Asked::Progress(screen) => {
+            progress_reply(lent_engines::progress_at(numbers, counts, screen))
         }
     }
 }
@@ -363,27 +339,21 @@ pub fn reply_line(
     line: &[u8],
     values: &mut [f64],
     scratch: &mut [f64],
-    engine_numbers: &mut [f64],
-    engine_counts: &mut [usize],
+    numbers: &mut [f64],
+    counts: &mut [usize],
 ) -> Reply
-    requires { ⌜ Room (now «engine_numbers») (now «engine_counts»)
+    requires { ⌜ Room (now numbers) (now counts)
         × (length (now line) ≤ lineBytes → length (now line) ≤ length (now values)) ⌝ }
     ensures { λ r. ⌜ Serves
         (lineEffect (now (line .entry))
-        (memoryIn (now (scratch .entry)) (now («engine_numbers» .entry)) (now («engine_counts» .entry))))
-        (lentIn (now (scratch .entry)) (now («engine_numbers» .entry)) (now («engine_counts» .entry)))
-        (lentIn (now (scratch .exit)) (now («engine_numbers» .exit)) (now («engine_counts» .exit))) r ⌝ }
+        (memoryIn (now (scratch .entry)) (now (numbers .entry)) (now (counts .entry))))
+        (lentIn (now (scratch .entry)) (now (numbers .entry)) (now (counts .entry)))
+        (lentIn (now (scratch .exit)) (now (numbers .exit)) (now (counts .exit))) r ⌝ }
 {
     let read = reading::read_line(line, values);
     let end = read.figures;
     let asked = read.asked;
-    request_reply(
-        asked,
-        &values[..end],
-        scratch,
-        engine_numbers,
-        engine_counts,
-    )
+    request_reply(asked, &values[..end], scratch, numbers, counts)
 }
 
 // The answer to a line, printed.
@@ -391,26 +361,26 @@ fn answer_read(
     line: &[u8],
     values: &mut [f64],
     scratch: &mut [f64],
-    engine_numbers: &mut [f64],
-    engine_counts: &mut [usize],
+    numbers: &mut [f64],
+    counts: &mut [usize],
     out: &mut [u8],
     n: usize,
 ) -> usize
-    requires { ⌜ AnswerFits (now out) n × Room (now «engine_numbers») (now «engine_counts»)
+    requires { ⌜ AnswerFits (now out) n × Room (now numbers) (now counts)
         × (length (now line) ≤ lineBytes → length (now line) ≤ length (now values)) ⌝ }
     ensures { λ r. ⌜ Appended (now (out .entry)) n
         (textOf
         (lineEffect (now (line .entry))
-        (memoryIn (now (scratch .entry)) (now («engine_numbers» .entry))
-        (now («engine_counts» .entry))) .reply))
+        (memoryIn (now (scratch .entry)) (now (numbers .entry))
+        (now (counts .entry))) .reply))
         (now (out .exit)) r ⌝ }
     ensures { λ _. ⌜ LeavesLent
         (lineEffect (now (line .entry))
-        (memoryIn (now (scratch .entry)) (now («engine_numbers» .entry)) (now («engine_counts» .entry))))
-        (lentIn (now (scratch .entry)) (now («engine_numbers» .entry)) (now («engine_counts» .entry)))
-        (lentIn (now (scratch .exit)) (now («engine_numbers» .exit)) (now («engine_counts» .exit))) ⌝ }
+        (memoryIn (now (scratch .entry)) (now (numbers .entry)) (now (counts .entry))))
+        (lentIn (now (scratch .entry)) (now (numbers .entry)) (now (counts .entry)))
+        (lentIn (now (scratch .exit)) (now (numbers .exit)) (now (counts .exit))) ⌝ }
 {
-    let reply = reply_line(line, values, scratch, engine_numbers, engine_counts);
+    let reply = reply_line(line, values, scratch, numbers, counts);
     answers::put_reply(out, n, reply)
 }
 
@@ -418,65 +388,33 @@ fn answer_read(
 pub fn answer_line(
     line: &[u8],
     scratch: &mut [f64],
-    engine_numbers: &mut [f64],
-    engine_counts: &mut [usize],
+    numbers: &mut [f64],
+    counts: &mut [usize],
     out: &mut [u8],
     n: usize,
 ) -> usize
     ensures { λ r. ⌜ Answers (now (line .entry))
-        (lentIn (now (scratch .entry)) (now («engine_numbers» .entry)) (now («engine_counts» .entry)))
-        (lentIn (now (scratch .exit)) (now («engine_numbers» .exit)) (now («engine_counts» .exit)))
+        (lentIn (now (scratch .entry)) (now (numbers .entry)) (now (counts .entry)))
+        (lentIn (now (scratch .exit)) (now (numbers .exit)) (now (counts .exit)))
         (now (out .entry)) n (now (out .exit)) r ⌝ }
 {
     let room = has_room(out.len(), n);
-    let engine = has_engine(engine_numbers.len(), engine_counts.len());
+    let engine = has_engine(numbers.len(), counts.len());
     if !(room & engine) {
         return n;
     }
     if line.len() <= SHORT_LINE {
         let mut values = [0.0; SHORT_LINE];
-        return answer_read(
-            line,
-            &mut values,
-            scratch,
-            engine_numbers,
-            engine_counts,
-            out,
-            n,
-        );
+        return answer_read(line, &mut values, scratch, numbers, counts, out, n);
     }
     if line.len() <= SET_LINE {
         let mut values = [0.0; SET_LINE];
-        return answer_read(
-            line,
-            &mut values,
-            scratch,
-            engine_numbers,
-            engine_counts,
-            out,
-            n,
-        );
+        return answer_read(line, &mut values, scratch, numbers, counts, out, n);
     }
     if line.len() <= MIDDLE_LINE {
         let mut values = [0.0; MIDDLE_LINE];
-        return answer_read(
-            line,
-            &mut values,
-            scratch,
-            engine_numbers,
-            engine_counts,
-            out,
-            n,
-        );
+        return answer_read(line, &mut values, scratch, numbers, counts, out, n);
     }
     let mut values = [0.0; LINE_FIGURES];
-    answer_read(
-        line,
-        &mut values,
-        scratch,
-        engine_numbers,
-        engine_counts,
-        out,
-        n,
-    )
+    answer_read(line, &mut values, scratch, numbers, counts, out, n)
 }

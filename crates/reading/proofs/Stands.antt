@@ -19,7 +19,7 @@ use Rattle.templates.proofs.Repeats.{tokens-failed}
 use Rattle.reading.specs.declared.Asked.{Asked}
 use Rattle.reading.specs.declared.Line.{Line}
 use Rattle.reading.specs.Parts.{numberIn, figuresIn, endIn, takePlanform, takeSection, takeTab, takeFillet, takeDensity}
-use Rattle.reading.specs.Lines.{Read, start, ended}
+use Rattle.reading.specs.Lines.{Read, refusedRead, start, ended}
 use Rattle.reading.specs.Reads.{refusedLine, Reads, either, atEnd, endOf}
 
 -- ---- a reading that failed stays so
@@ -124,6 +124,10 @@ module _ (line : List ℕ) (v : List Float) (c : Cursor) (m : Room line v c) (as
   ends q {r} e s =
       subst (λ (x : Line). Reads v x (ended r meant)) (sym e)
       (subst (λ (x : Reading). Reads v (endOf line c asked) (ended x meant)) (s .is) (told (c .ok) refl (tokens (drop (c .at) line)) (c .spoiled)))
+
+-- what is no form is refused
+pub no-form : (v : List Float) {q : Line} → q ≡ refusedLine noForm → Reads v q (refusedRead noForm)
+no-form v e = subst (λ (x : Line). Reads v x (refusedRead noForm)) (sym e) (record { asked = refl; count = refl; figures = refl })
 
 pub start-room : (line : List ℕ) (v : List Float) (c : Cursor) → c ≡ lineStart → length line ≤ lineBytes → length line ≤ length v → Room line v c
 start-room line v c e a b = subst (Room line v) (sym e) (record { short = a; room = b; within = omega arith; few = omega arith })

@@ -16,7 +16,7 @@ ghost use Rattle.reading.specs.Parts.{takePlanform, takeDensity, takeSet
 ghost use Rattle.reading.specs.Lines.{pickForm, formNamed, setAsked, submitAsked, areaAsked, drillAsked};
 ghost use Rattle.reading.specs.Lines.{tubesAsked, densityAsked, setRead, submitRead, areaRead, drillRead};
 ghost use Rattle.reading.specs.Lines.{tubesRead, closingRead, densityRead, progressRead, plainRead, listRead};
-ghost use Rattle.reading.specs.Lines.{lineRead, wordOf};
+ghost use Rattle.reading.specs.Lines.{formRead, lineRead, wordOf};
 ghost use Rattle.reading.specs.Reads.{refusedLine, endOf, Reads, IsWordOf};
 use fins::FinSet;
 use fins::NumberedSet;
@@ -31,55 +31,47 @@ use tokens::Found;
 use tokens::LINE_BYTES;
 use tubes::TubeFinSet;
 
+// The longer forms of figures alone, as docs/FORMS.md writes them; of copies and places, what stands before them.
+const CHECK: [u8; 53] = *b"(check (mass F) (centre F F F) (inertia F F F F F F))";
+
+const COPIED: [u8; 60] = *b"(copied (body (mass F) (centre F F F) (inertia F F F F F F))";
+
+const PLACED: [u8; 60] = *b"(placed (body (mass F) (centre F F F) (inertia F F F F F F))";
+
+const MOVED: [u8; 128] =
+    *b"(moved (body (mass F) (centre F F F) (inertia F F F F F F)) (body (mass F) (centre F F F) (inertia F F F F F F)) (offset F F F))";
+
+const WITHOUT: [u8; 115] =
+    *b"(without (body (mass F) (centre F F F) (inertia F F F F F F)) (body (mass F) (centre F F F) (inertia F F F F F F)))";
+
 // What a line asks, or why it is refused. `points` says how many of the line's first figures are its planform's; points
 // to join, a tensor, bodies and places are all of its figures.
 pub enum Asked {
     Refused(Refusal),
-    Set {
-        limit: usize,
-        set: FinSet,
-        points: usize,
-    },
-    Area {
-        limit: usize,
-        planform: Planform,
-        points: usize,
-    },
+    // limit, set, points
+    Set(usize, FinSet, usize),
+    // limit, planform, points
+    Area(usize, Planform, usize),
     Join,
     Moments,
     Check,
-    Tubes {
-        set: TubeFinSet,
-        body_radius_m: f64,
-    },
-    Closing {
-        count: usize,
-        body_radius_m: f64,
-    },
-    Drill {
-        planform: Planform,
-        points: usize,
-        x_m: f64,
-        height_m: f64,
-    },
+    // the ring, and the body's radius in metres
+    Tubes(TubeFinSet, f64),
+    // how many tubes, and the body's radius in metres
+    Closing(usize, f64),
+    // planform, points, and the point's x and height in metres
+    Drill(Planform, usize, f64, f64),
     Copied,
     Placed,
     Moved,
     Without,
-    Submit {
-        screen: usize,
-        limit: usize,
-        set: FinSet,
-        points: usize,
-    },
-    Density {
-        screen: usize,
-        density: Density,
-    },
+    // screen, limit, set, points
+    Submit(usize, usize, FinSet, usize),
+    // screen, density
+    Density(usize, Density),
     Turn,
-    Progress {
-        screen: usize,
-    },
+    // screen
+    Progress(usize),
 }
 
 // A line that was read: what it asks, and how many figures it has, which stand at the start of a lent slice.
@@ -272,11 +264,7 @@ fn set_asked(p: SetParts, figures: &[f64]) -> Asked
     ensures { λ r. ⌜ r ≡ setAsked (p .limit) (p .points) (setOf p (now (figures .entry))) ⌝ }
 {
     match set_in(p, figures) {
-        NumberedSet::Known(set) => Asked::Set {
-            limit: p.limit,
-            set,
-            points: p.points,
-        },
+        NumberedSet::Known(set) => Asked::Set(p.limit, set, p.points),
         NumberedSet::Unknown => Asked::Refused(Refusal::NoForm),
     }
 }
@@ -285,12 +273,7 @@ fn submit_asked(screen: usize, p: SetParts, figures: &[f64]) -> Asked
     ensures { λ r. ⌜ r ≡ submitAsked screen (p .limit) (p .points) (setOf p (now (figures .entry))) ⌝ }
 {
     match set_in(p, figures) {
-        NumberedSet::Known(set) => Asked::Submit {
-            screen,
-            limit: p.limit,
-            set,
-            points: p.points,
-        },
+        NumberedSet::Known(set) => Asked::Submit(screen, p.limit, set, p.points),
         NumberedSet::Unknown => Asked::Refused(Refusal::NoForm),
     }
 }
@@ -299,11 +282,7 @@ fn area_asked(limit: usize, planform: usize, points: usize, figures: &[f64]) -> 
     ensures { λ r. ⌜ r ≡ areaAsked limit points (planformOf planform (now (figures .entry))) ⌝ }
 {
     match planform_in(planform, figures) {
-        NumberedPlanform::Known(planform) => Asked::Area {
-            limit,
-            planform,
-            points,
-        },
+        NumberedPlanform::Known(planform) => Asked::Area(limit, planform, points),
         NumberedPlanform::Unknown => Asked::Refused(Refusal::NoForm),
     }
 }
@@ -314,12 +293,9 @@ fn drill_asked(planform: usize, points: usize, figures: &[f64]) -> Asked
 {
     let point = behind(figures, points);
     match planform_in(planform, figures) {
-        NumberedPlanform::Known(planform) => Asked::Drill {
-            planform,
-            points,
-            x_m: figure(point, 0),
-            height_m: figure(point, 1),
-        },
+        NumberedPlanform::Known(planform) => {
+            Asked::Drill(planform, points, figure(point, 0), figure(point, 1))
+        }
         NumberedPlanform::Unknown => Asked::Refused(Refusal::NoForm),
     }
 }
@@ -330,8 +306,8 @@ fn tubes_asked(count: usize, density: usize, figures: &[f64]) -> Asked
         r ≡ tubesAsked count (numberedDensity density (at (now (figures .entry)) 5)) (now (figures .entry)) ⌝ }
 {
     match materials::numbered_density(density, figure(figures, 5)) {
-        NumberedDensity::Known(density) => Asked::Tubes {
-            set: TubeFinSet {
+        NumberedDensity::Known(density) => Asked::Tubes(
+            TubeFinSet {
                 count,
                 length_m: figure(figures, 0),
                 outer_radius_m: figure(figures, 1),
@@ -339,8 +315,8 @@ fn tubes_asked(count: usize, density: usize, figures: &[f64]) -> Asked
                 base_angle_rad: figure(figures, 3),
                 density,
             },
-            body_radius_m: figure(figures, 4),
-        },
+            figure(figures, 4),
+        ),
         NumberedDensity::Unknown => Asked::Refused(Refusal::NoForm),
     }
 }
@@ -349,7 +325,7 @@ fn density_asked(screen: usize, density: usize, figures: &[f64]) -> Asked
     ensures { λ r. ⌜ r ≡ densityAsked screen (numberedDensity density (at (now (figures .entry)) 0)) ⌝ }
 {
     match materials::numbered_density(density, figure(figures, 0)) {
-        NumberedDensity::Known(density) => Asked::Density { screen, density },
+        NumberedDensity::Known(density) => Asked::Density(screen, density),
         NumberedDensity::Unknown => Asked::Refused(Refusal::NoForm),
     }
 }
@@ -486,7 +462,7 @@ fn read_progress(line: &[u8], values: &mut [f64]) -> Line
     ensures { λ r. ⌜ Reads (now (values .exit)) r (progressRead (now (line .entry))) ⌝ }
 {
     let all = templates::take_text(line, templates::line_start(), b"(progress N)", values);
-    end_form(line, all, Asked::Progress { screen: all.number })
+    end_form(line, all, Asked::Progress(all.number))
 }
 
 fn read_closing(line: &[u8], values: &mut [f64]) -> Line
@@ -501,14 +477,7 @@ fn read_closing(line: &[u8], values: &mut [f64]) -> Line
     );
     let n = all.figures;
     let body_radius_m = figure(&values[..n], 0);
-    end_form(
-        line,
-        all,
-        Asked::Closing {
-            count: all.number,
-            body_radius_m,
-        },
-    )
+    end_form(line, all, Asked::Closing(all.number, body_radius_m))
 }
 
 // A form that has figures alone, in one text.
@@ -574,6 +543,32 @@ fn form_named(word: &[u8]) -> Form
     form_or(word, b"set", Form::Set, area)
 }
 
+// The line of a form.
+fn read_form(form: Form, line: &[u8], values: &mut [f64]) -> Line
+    requires { ⌜ (length (now line) ≤ lineBytes) × (length (now line) ≤ length (now values)) ⌝ }
+    ensures { λ r. ⌜ Reads (now (values .exit)) r (formRead form (now (line .entry))) ⌝ }
+{
+    match form {
+        Form::Set => read_set(line, values),
+        Form::Area => read_area(line, values),
+        Form::Join => read_list(line, b"(join", b"(point F F F F)", Asked::Join, values),
+        Form::Moments => read_plain(line, b"(moments F F F F F F)", Asked::Moments, values),
+        Form::Check => read_plain(line, &CHECK, Asked::Check, values),
+        Form::Tubes => read_tubes(line, values),
+        Form::Closing => read_closing(line, values),
+        Form::Drill => read_drill(line, values),
+        Form::Copied => read_list(line, &COPIED, b"(offset F F)", Asked::Copied, values),
+        Form::Placed => read_list(line, &PLACED, b"(place F F F)", Asked::Placed, values),
+        Form::Moved => read_plain(line, &MOVED, Asked::Moved, values),
+        Form::Without => read_plain(line, &WITHOUT, Asked::Without, values),
+        Form::Submit => read_submit(line, values),
+        Form::Density => read_density(line, values),
+        Form::Turn => read_plain(line, b"(turn)", Asked::Turn, values),
+        Form::Progress => read_progress(line, values),
+        Form::NoForm => refused(Refusal::NoForm),
+    }
+}
+
 // What a line asks; its figures go to the start of values, which has room for one of each byte of a line that is not
 // too long.
 pub fn read_line(line: &[u8], values: &mut [f64]) -> Line
@@ -587,50 +582,5 @@ pub fn read_line(line: &[u8], values: &mut [f64]) -> Line
     let from = found.from;
     let to = found.to;
     let form = form_named(&line[from..to]);
-    match form {
-        Form::Set => read_set(line, values),
-        Form::Area => read_area(line, values),
-        Form::Join => read_list(line, b"(join", b"(point F F F F)", Asked::Join, values),
-        Form::Moments => read_plain(line, b"(moments F F F F F F)", Asked::Moments, values),
-        Form::Check => read_plain(
-            line,
-            b"(check (mass F) (centre F F F) (inertia F F F F F F))",
-            Asked::Check,
-            values,
-        ),
-        Form::Tubes => read_tubes(line, values),
-        Form::Closing => read_closing(line, values),
-        Form::Drill => read_drill(line, values),
-        Form::Copied => read_list(
-            line,
-            b"(copied (body (mass F) (centre F F F) (inertia F F F F F F))",
-            b"(offset F F)",
-            Asked::Copied,
-            values,
-        ),
-        Form::Placed => read_list(
-            line,
-            b"(placed (body (mass F) (centre F F F) (inertia F F F F F F))",
-            b"(place F F F)",
-            Asked::Placed,
-            values,
-        ),
-        Form::Moved => read_plain(
-            line,
-            b"(moved (body (mass F) (centre F F F) (inertia F F F F F F)) (body (mass F) (centre F F F) (inertia F F F F F F)) (offset F F F))",
-            Asked::Moved,
-            values,
-        ),
-        Form::Without => read_plain(
-            line,
-            b"(without (body (mass F) (centre F F F) (inertia F F F F F F)) (body (mass F) (centre F F F) (inertia F F F F F F)))",
-            Asked::Without,
-            values,
-        ),
-        Form::Submit => read_submit(line, values),
-        Form::Density => read_density(line, values),
-        Form::Turn => read_plain(line, b"(turn)", Asked::Turn, values),
-        Form::Progress => read_progress(line, values),
-        Form::NoForm => refused(Refusal::NoForm),
-    }
+    read_form(form, line, values)
 }

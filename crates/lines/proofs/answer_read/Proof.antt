@@ -9,7 +9,7 @@ use Rattle.lines.proofs.answer_read.Tie as tie
 returns : tie.Need-returns
 returns c =
     let p = c .before .before in
-    let a = p .before .before .before .before .before .before .before .before .before .before in
+    let after-a = p .before .before .before .before .before in let a = after-a .before .before .before .before .before in
     (same-text (ap textOf (a .reply-line .ensures .replies)) (p .put-reply .ensures), a .reply-line .ensures .left)
 
 pub answer-read-spec : {M : Type 1} → statement M

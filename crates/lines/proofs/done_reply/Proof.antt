@@ -13,12 +13,14 @@ returns : tie.Need-returns
 returns c =
     let s = c .before .before .before .before .args in
     rw (c .before .enum-told .given .1)
-    (ap (λ (l : List Float). record { shape = DoneShape; figures = l; counts = s .screen ∷ s .f .intervals ∷ s .f .samples ∷ 0 ∷ [] }) (c .numbers .ensures))
+    (ap (λ (l : List Float). record { shape = DoneShape; figures = l; counts = s .screen ∷ s .f .intervals ∷ s .f .samples ∷ 0 ∷ [] })
+    (c .numbers .ensures))
 
 returns-2 : tie.Need-returns-2
 returns-2 c =
     let s = c .before .before .before .before .before .args in
-    rw (c .before .before .verdict .given .1) (ap (λ (number : ℕ). reply DoneRefusedShape [] (s .screen ∷ number ∷ [])) (c .number .ensures))
+    rw (c .before .before .verdict .given .1)
+    (ap (λ (number : ℕ). reply DoneRefusedShape [] (s .screen ∷ number ∷ [])) (c .number .ensures))
 
 pub done-reply-spec : {M : Type 1} → statement M
 done-reply-spec =

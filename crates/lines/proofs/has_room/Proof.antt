@@ -22,7 +22,8 @@ returns c = fits (c .before .args .len) (c .before .args .n) (c .if1 .taken)
 returns-2 : tie.Need-returns-2
 returns-2 c =
     let h = c .if1 .left in
-    lt-leb answerBytes (c .before .args .len) (omega arith) ∙ sym (lt-leb (c .before .args .n + answerBytes) (c .before .args .len) (omega arith))
+    lt-leb answerBytes (c .before .args .len) (omega arith)
+    ∙ sym (lt-leb (c .before .args .n + answerBytes) (c .before .args .len) (omega arith))
 
 pub has-room-spec : {M : Type 1} → statement M
 has-room-spec = tie.close (tie.spec returns returns-2)

@@ -11,7 +11,8 @@ use Rattle.lines.proofs.refused_reply.Tie as tie
 
 returns : tie.Need-returns
 returns c =
-    ap₂ (λ (number : ℕ) (values : List ℕ). reply RefusedShape [] (number ∷ getD values 0 0 ∷ getD values 1 0 ∷ [])) (c .before .number .ensures) (c .values .ensures)
+    ap₂ (λ (number : ℕ) (values : List ℕ). reply RefusedShape [] (number ∷ getD values 0 0 ∷ getD values 1 0 ∷ []))
+    (c .before .number .ensures) (c .values .ensures)
 
 pub refused-reply-spec : {M : Type 1} → statement M
 refused-reply-spec =

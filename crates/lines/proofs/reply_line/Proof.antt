@@ -12,7 +12,7 @@ use Rattle.lines.proofs.reply_line.Tie as tie
 slice-reshare-prefix-request-reply : tie.Need-slice-reshare-prefix-request-reply
 slice-reshare-prefix-request-reply c =
     let r = c .before .before in
-    let s = r .before .before .before .before .before .before .before in
+    let after-s = r .before .before .before .before .before in let s = after-s .before .before in
     let e = all-there (now (s .args .line)) (r .read-line .last .1 .0) (r .read-line .result) (r .read-line .ensures) in
     let l = length-take (r .read-line .result .figures) (r .read-line .last .1 .0) in
     omega arith
@@ -20,17 +20,21 @@ slice-reshare-prefix-request-reply c =
 slice-aggregate-request-reply : tie.Need-slice-aggregate-request-reply
 slice-aggregate-request-reply c =
     let r = c .before .before .before in
-    let s = r .before .before .before .before .before .before .before in
+    let after-s = r .before .before .before .before .before in let s = after-s .before .before in
     sym (all-there (now (s .args .line)) (r .read-line .last .1 .0) (r .read-line .result) (r .read-line .ensures))
 
 returns : tie.Need-returns
 returns c =
-    let a = c .before .before .before .before .before .before in
-    let r = a .before .before .before .before .before .before .before in
-    let s = r .before .before .before .before .before .before .before in
-    let lent = lentIn (now (s .args .scratch)) (now (s .args .engine-numbers)) (now (s .args .engine-counts)) in
+    let after-a = c .before .before .before .before .before in let a = after-a .before in
+    let after-r = a .before .before .before .before .before in let r = after-r .before .before in
+    let after-s = r .before .before .before .before .before in let s = after-s .before .before in
+    let lent = lentIn (now (s .args .scratch)) (now (s .args .numbers)) (now (s .args .counts)) in
     let e = effect-is (now (s .args .line)) (r .read-line .last .1 .0) (r .read-line .result) (r .read-line .ensures) (memoryOf lent) in
-    record { replies = a .request-reply .ensures .replies ∙ ap (λ (x : Effect). x .reply) e; left = same-left e (a .request-reply .ensures .left) }
+    record {
+      replies = a .request-reply .ensures .replies ∙ ap (λ (x : Effect). x .reply) e;
+      left =
+          same-left e (a .request-reply .ensures .left);
+    }
 
 pub reply-line-spec : {M : Type 1} → statement M
 reply-line-spec =

@@ -15,22 +15,37 @@ or word name form e f = e ∙ ap (pickForm word name form) f
 returns : tie.Need-returns
 unfolding formNamed text codes
 returns c =
+    let area = c .before .before in
+    let join = area .before .before in
+    let moments = join .before .before in
+    let check = moments .before .before in
+    let tubes = check .before .before in
+    let closing = tubes .before .before in
+    let drill = closing .before .before in
+    let copied = drill .before .before in
+    let placed = copied .before .before in
+    let moved = placed .before .before in
+    let without = moved .before .before in
+    let submit = without .before .before in
+    let density = submit .before .before in
+    let turn = density .before .before in
+    let progress = turn .before .before in
     or _ _ _ (c .form-or16 .ensures)
-    (or _ _ _ (c .before .before .form-or15 .ensures)
-    (or _ _ _ (c .before .before .before .before .form-or14 .ensures)
-    (or _ _ _ (c .before .before .before .before .before .before .form-or13 .ensures)
-    (or _ _ _ (c .before .before .before .before .before .before .before .before .form-or12 .ensures)
-    (or _ _ _ (c .before .before .before .before .before .before .before .before .before .before .form-or11 .ensures)
-    (or _ _ _ (c .before .before .before .before .before .before .before .before .before .before .before .before .form-or10 .ensures)
-    (or _ _ _ (c .before .before .before .before .before .before .before .before .before .before .before .before .before .before .form-or9 .ensures)
-    (or _ _ _ (c .before .before .before .before .before .before .before .before .before .before .before .before .before .before .before .before .form-or8 .ensures)
-    (or _ _ _ (c .before .before .before .before .before .before .before .before .before .before .before .before .before .before .before .before .before .before .form-or7 .ensures)
-    (or _ _ _ (c .before .before .before .before .before .before .before .before .before .before .before .before .before .before .before .before .before .before .before .before .form-or6 .ensures)
-    (or _ _ _ (c .before .before .before .before .before .before .before .before .before .before .before .before .before .before .before .before .before .before .before .before .before .before .form-or5 .ensures)
-    (or _ _ _ (c .before .before .before .before .before .before .before .before .before .before .before .before .before .before .before .before .before .before .before .before .before .before .before .before .form-or4 .ensures)
-    (or _ _ _ (c .before .before .before .before .before .before .before .before .before .before .before .before .before .before .before .before .before .before .before .before .before .before .before .before .before .before .form-or3 .ensures)
-    (or _ _ _ (c .before .before .before .before .before .before .before .before .before .before .before .before .before .before .before .before .before .before .before .before .before .before .before .before .before .before .before .before .form-or2 .ensures)
-    ((c .before .before .before .before .before .before .before .before .before .before .before .before .before .before .before .before .before .before .before .before .before .before .before .before .before .before .before .before .before .before .form-or .ensures))))))))))))))))
+    (or _ _ _ (area .form-or15 .ensures)
+    (or _ _ _ (join .form-or14 .ensures)
+    (or _ _ _ (moments .form-or13 .ensures)
+    (or _ _ _ (check .form-or12 .ensures)
+    (or _ _ _ (tubes .form-or11 .ensures)
+    (or _ _ _ (closing .form-or10 .ensures)
+    (or _ _ _ (drill .form-or9 .ensures)
+    (or _ _ _ (copied .form-or8 .ensures)
+    (or _ _ _ (placed .form-or7 .ensures)
+    (or _ _ _ (moved .form-or6 .ensures)
+    (or _ _ _ (without .form-or5 .ensures)
+    (or _ _ _ (submit .form-or4 .ensures)
+    (or _ _ _ (density .form-or3 .ensures)
+    (or _ _ _ (turn .form-or2 .ensures)
+    (progress .form-or .ensures)))))))))))))))
 
 pub form-named-spec : {M : Type 1} → statement M
 form-named-spec =

@@ -10,35 +10,50 @@ use Rattle.reading.proofs.take_set.Tie as tie
 
 same-length : tie.Need-same-length
 same-length c =
-    c .before .before .take-text6 .kept .1 .1 .1 .0
-    ∙ c .before .before .before .before .before .before .before .take-density .kept .1 .1 .0
-    ∙ c .before .before .before .before .before .before .before .before .before .before .before .take-text5 .kept .1 .1 .1 .0
-    ∙ c .before .before .before .before .before .before .before .before .before .before .before .before .before .before .before .before .take-optional2 .kept .1 .1 .1 .0
-    ∙ c .before .before .before .before .before .before .before .before .before .before .before .before .before .before .before .before .before .before .before .before .before .take-optional .kept .1 .1 .1 .0
-    ∙ c .before .before .before .before .before .before .before .before .before .before .before .before .before .before .before .before .before .before .before .before .before .before .before .before .before .before .take-text4 .kept .1 .1 .1 .0
-    ∙ c .before .before .before .before .before .before .before .before .before .before .before .before .before .before .before .before .before .before .before .before .before .before .before .before .before .before .before .before .before .before .before .take-one-of .kept .1 .1 .1 .0
-    ∙ c .before .before .before .before .before .before .before .before .before .before .before .before .before .before .before .before .before .before .before .before .before .before .before .before .before .before .before .before .before .before .before .before .before .before .before .before .take-text3 .kept .1 .1 .1 .0
-    ∙ c .before .before .before .before .before .before .before .before .before .before .before .before .before .before .before .before .before .before .before .before .before .before .before .before .before .before .before .before .before .before .before .before .before .before .before .before .before .before .before .before .before .take-planform .kept .1 .1 .0
-    ∙ c .before .before .before .before .before .before .before .before .before .before .before .before .before .before .before .before .before .before .before .before .before .before .before .before .before .before .before .before .before .before .before .before .before .before .before .before .before .before .before .before .before .before .before .before .before .take-text2 .kept .1 .1 .1 .0
-    ∙ c .before .before .before .before .before .before .before .before .before .before .before .before .before .before .before .before .before .before .before .before .before .before .before .before .before .before .before .before .before .before .before .before .before .before .before .before .before .before .before .before .before .before .before .before .before .before .before .before .before .before .take-text .kept .1 .1 .1 .0
+    let end = c .before .before in
+    let density = end .before .before .before .before .before in
+    let radius = density .before .before .before .before in
+    let fillet = radius .before .before .before .before .before in
+    let tab = fillet .before .before .before .before .before in
+    let between = tab .before .before .before .before .before in
+    let section = between .before .before .before .before .before in
+    let thickness = section .before .before .before .before .before in
+    let planform = thickness .before .before .before .before .before in
+    let count = planform .before .before .before .before in
+    let limit = count .before .before .before .before .before in
+    end .take-text6 .kept .1 .1 .1 .0
+    ∙ density .take-density .kept .1 .1 .0
+    ∙ radius .take-text5 .kept .1 .1 .1 .0
+    ∙ fillet .take-optional2 .kept .1 .1 .1 .0
+    ∙ tab .take-optional .kept .1 .1 .1 .0
+    ∙ between .take-text4 .kept .1 .1 .1 .0
+    ∙ section .take-one-of .kept .1 .1 .1 .0
+    ∙ thickness .take-text3 .kept .1 .1 .1 .0
+    ∙ planform .take-planform .kept .1 .1 .0
+    ∙ count .take-text2 .kept .1 .1 .1 .0
+    ∙ limit .take-text .kept .1 .1 .1 .0
 
 returns : tie.Need-returns
 unfolding takeSection takeTab takeFillet text codes cutAfter
 returns c =
-    let e = c .before .before .take-text6 .ensures in
-    let density = c .before .before .before .before .before .before .before .take-density .ensures in
-    let radius = c .before .before .before .before .before .before .before .before .before .before .before .take-text5 .ensures in
-    let fillet = c .before .before .before .before .before .before .before .before .before .before .before .before .before .before .before .before .take-optional2 .ensures in
-    let tab = c .before .before .before .before .before .before .before .before .before .before .before .before .before .before .before .before .before .before .before .before .before .take-optional .ensures in
-    let between = c .before .before .before .before .before .before .before .before .before .before .before .before .before .before .before .before .before .before .before .before .before .before .before .before .before .before .take-text4 .ensures in
-    let section = c .before .before .before .before .before .before .before .before .before .before .before .before .before .before .before .before .before .before .before .before .before .before .before .before .before .before .before .before .before .before .before .take-one-of .ensures in
-    let thickness = c .before .before .before .before .before .before .before .before .before .before .before .before .before .before .before .before .before .before .before .before .before .before .before .before .before .before .before .before .before .before .before .before .before .before .before .before .take-text3 .ensures in
-    let planform = c .before .before .before .before .before .before .before .before .before .before .before .before .before .before .before .before .before .before .before .before .before .before .before .before .before .before .before .before .before .before .before .before .before .before .before .before .before .before .before .before .before .take-planform .ensures in
-    let count = c .before .before .before .before .before .before .before .before .before .before .before .before .before .before .before .before .before .before .before .before .before .before .before .before .before .before .before .before .before .before .before .before .before .before .before .before .before .before .before .before .before .before .before .before .before .take-text2 .ensures in
-    let limit = c .before .before .before .before .before .before .before .before .before .before .before .before .before .before .before .before .before .before .before .before .before .before .before .before .before .before .before .before .before .before .before .before .before .before .before .before .before .before .before .before .before .before .before .before .before .before .before .before .before .before .take-text .ensures in
-    let m = c .before .before .before .before .before .before .before .before .before .before .before .before .before .before .before .before .before .before .before .before .before .before .before .before .before .before .before .before .before .before .before .before .before .before .before .before .before .before .before .before .before .before .before .before .before .before .before .before .before .before .before .before .before .before .before .pre in (
-      set-taken _ m limit count planform thickness section between tab fillet radius density e,
-      set-parts _ m limit count planform thickness section between tab fillet radius density e,
+    let end = c .before .before in
+    let density = end .before .before .before .before .before in
+    let radius = density .before .before .before .before in
+    let fillet = radius .before .before .before .before .before in
+    let tab = fillet .before .before .before .before .before in
+    let between = tab .before .before .before .before .before in
+    let section = between .before .before .before .before .before in
+    let thickness = section .before .before .before .before .before in
+    let planform = thickness .before .before .before .before .before in
+    let count = planform .before .before .before .before in
+    let limit = count .before .before .before .before .before in
+    let m = limit .before .before .before .before .before .pre in (
+      set-taken _ m (limit .take-text .ensures) (count .take-text2 .ensures) (planform .take-planform .ensures) (thickness .take-text3 .ensures)
+          (section .take-one-of .ensures) (between .take-text4 .ensures) (tab .take-optional .ensures) (fillet .take-optional2 .ensures)
+          (radius .take-text5 .ensures) (density .take-density .ensures) (end .take-text6 .ensures),
+      set-parts _ m (limit .take-text .ensures) (count .take-text2 .ensures) (planform .take-planform .ensures) (thickness .take-text3 .ensures)
+          (section .take-one-of .ensures) (between .take-text4 .ensures) (tab .take-optional .ensures) (fillet .take-optional2 .ensures)
+          (radius .take-text5 .ensures) (density .take-density .ensures) (end .take-text6 .ensures),
     )
 
 pub take-set-spec : {M : Type 1} → statement M
