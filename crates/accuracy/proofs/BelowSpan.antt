@@ -227,7 +227,8 @@ module _ (span scale : Float) (s : PositiveLength span) (q : Scale scale) where
           (sym (positive-value scale (q .is-positive))) (scaled-reaches 31 N D (num scale) (den scale) (upper less e) under-top) in
           of-true _ (near-lt (heightOf t (halfSum a b) (halfWidth a b) ⊗ scale) span (e times S) (upper times S) 11 3 (N * num scale)
           (D * den scale) (mul-pos (positive-num Top top-positive) (positive-num scale (q .is-positive)))
-          (mul-pos (den-pos Top) (den-pos scale)) (times-is e S ie iS) (times-is upper S iV iS) (sample-near t m) (upper-near span scale s q)
+          (mul-pos (den-pos Top) (den-pos scale)) (times-is e S ie iS) (times-is upper S iV iS) (sample-near t m)
+          (upper-near span scale s q)
           (weaker 31 15 (N * num scale) (D * den scale * 2 ^ 53) ((upper times S) less (e times S)) (lit≤ tt)
           (equal-reaches 31 (N * num scale) (D * den scale * 2 ^ 53) (evaluated-is l il ((given 3 take given 2) mul given 4))
           (equal-by l il ((given 3 take given 2) mul given 4) (given 3 mul given 4 take given 2 mul given 4) tt) times-scale)))

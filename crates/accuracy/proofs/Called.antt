@@ -50,7 +50,8 @@ threeValues root tip sweep f scale h =
     ∷ []
 
 chord-there : (b : Bool) (root tip sweep f scale h : Float) → b ≡ true
-    → areaValues (sumsFrom area scale h (bits 0 ∷ bits 0 ∷ bits 0 ∷ bits 0 ∷ []) (paired (cond b (trapezoidAt root tip sweep f) []))) ≡ threeValues root tip sweep f scale h
+    → areaValues (sumsFrom area scale h (bits 0 ∷ bits 0 ∷ bits 0 ∷ bits 0 ∷ []) (paired (cond b (trapezoidAt root tip sweep f) []))) ≡
+    threeValues root tip sweep f scale h
 unfolding paired sumsFrom
 chord-there true root tip sweep f scale h e = refl
 chord-there false root tip sweep f scale h e = no (sym e)
@@ -62,12 +63,14 @@ module _ (root tip span sweep : Float) (points : List Float) where
   abbrev Scale· : Float
   Scale· = scaleOf Shape points
 
-  pub values-there : (h : Float) → T (inSpan span (h ⊗ Scale·)) → areaThree Shape points h ≡ threeValues root tip sweep (h ⊗ Scale· ⊘ span) Scale· h
+  pub values-there : (h : Float) → T (inSpan span (h ⊗ Scale·))
+      → areaThree Shape points h ≡ threeValues root tip sweep (h ⊗ Scale· ⊘ span) Scale· h
   unfolding areaThree endsAt
   values-there h t = chord-there (inSpan span (h ⊗ Scale·)) root tip sweep (h ⊗ Scale· ⊘ span) Scale· h (is-true _ t)
 
 -- ---- an answer by a verdict that is no refusal is the one that is given
-pub chosen : {A : Type 0} (verdict : Verdict) (given : A) (withheld : Refusal → A) (verdictIn : A → Verdict) → ((refusal : Refusal) → verdictIn (withheld refusal) ≡ Refused refusal) → (r : A)
+pub chosen : {A : Type 0} (verdict : Verdict) (given : A) (withheld : Refusal → A) (verdictIn : A → Verdict)
+    → ((refusal : Refusal) → verdictIn (withheld refusal) ≡ Refused refusal) → (r : A)
     → r ≡ byVerdict verdict given withheld → verdictIn r ≡ Accepted → (verdict ≡ Accepted) × (r ≡ given)
 chosen Accepted given withheld verdictIn refuses r e a = (refl, e)
 chosen (Refused refusal) given withheld verdictIn refuses r e a = no-refusal refusal (sym (refuses refusal) ∙ ap verdictIn (sym e) ∙ a)
@@ -76,11 +79,14 @@ chosen (Refused refusal) given withheld verdictIn refuses r e a = no-refusal ref
 pub record Given (planform : Planform) (points : List Float) (L n : ℕ) (r : Area) : Type 0 where
   pub accepted : areaCheck planform points L n ≡ Accepted
   pub area : r .«area_m2» ≡ unscaledArea (scaleOf planform points) (summedOf (areaSeven planform points L) .totals .value)
-  pub centroid-x : r .«centroid_x_m» ≡ scaleOf planform points ⊗ at (summedOf (areaSeven planform points L) .totals .value) 1 ⊘ at (summedOf (areaSeven planform points L) .totals .value) 0
-  pub centroid-height : r .«centroid_span_m» ≡ scaleOf planform points ⊗ at (summedOf (areaSeven planform points L) .totals .value) 2 ⊘ at (summedOf (areaSeven planform points L) .totals .value) 0
+  pub centroid-x : r .«centroid_x_m» ≡ scaleOf planform points ⊗ at (summedOf (areaSeven planform points L) .totals .value) 1 ⊘ at
+      (summedOf (areaSeven planform points L) .totals .value) 0
+  pub centroid-height : r .«centroid_span_m» ≡ scaleOf planform points ⊗ at (summedOf (areaSeven planform points L) .totals .value) 2 ⊘ at
+      (summedOf (areaSeven planform points L) .totals .value) 0
   pub intervals : r .intervals ≡ intervalsIn (areaSeven planform points L)
 
-module _ (planform : Planform) (points : List Float) (L n : ℕ) (r : Area) (answer : r ≡ areaFigures planform points L n) (given : r .verdict ≡ Accepted) where
+module _ (planform : Planform) (points : List Float) (L n : ℕ) (r : Area) (answer : r ≡ areaFigures planform points L n)
+    (given : r .verdict ≡ Accepted) where
   abbrev verdictIn : Area → Verdict
   verdictIn a = a .verdict
 
@@ -90,10 +96,12 @@ module _ (planform : Planform) (points : List Float) (L n : ℕ) (r : Area) (ans
       let strips = areaSeven planform points L in
       let total = summedOf strips in
       let scale = scaleOf planform points in
-      let called = chosen (areaCheck planform points L n) (workedPlanform planform points L) (λ refusal. leavesAlone (refusedArea refusal 0)) (λ (c : CallOf Area). c .answer .verdict) (λ refusal. refl)
+      let called = chosen (areaCheck planform points L n) (workedPlanform planform points L)
+      (λ refusal. leavesAlone (refusedArea refusal 0)) (λ (c : CallOf Area). c .answer .verdict) (λ refusal. refl)
       (areaCall planform points L n) refl (sym (ap verdictIn answer) ∙ given) in
       let worked : r ≡ workedArea planform points L = answer ∙ ap (λ (c : CallOf Area). c .answer) (called .1) in
-      let concluded = chosen (conclusionOf (total .ending) (unscaledArea scale (total .totals .value))) (areaBy Accepted scale (total .totals)) (λ refusal. refusedArea refusal (total .totals .samples)) verdictIn
+      let concluded = chosen (conclusionOf (total .ending) (unscaledArea scale (total .totals .value)))
+      (areaBy Accepted scale (total .totals)) (λ refusal. refusedArea refusal (total .totals .samples)) verdictIn
       (λ refusal. refl) r worked given .1 in
       record {
         accepted = called .0;
@@ -106,9 +114,11 @@ module _ (planform : Planform) (points : List Float) (L n : ℕ) (r : Area) (ans
 -- ---- of a trapezoid there is one strip, from 0 to the span
 module _ (root tip span sweep : Float) (points : List Float) (L : ℕ) (above : lt (bits 0) span ≡ true) where
   abbrev pub Strip : Worked
-  Strip = stripOf 3 (areaThree (Trapezoid root tip span sweep) points) L (bits 0 ⊘ scaleOf (Trapezoid root tip span sweep) points) (span ⊘ scaleOf (Trapezoid root tip span sweep) points)
+  Strip = stripOf 3 (areaThree (Trapezoid root tip span sweep) points) L (bits 0 ⊘ scaleOf (Trapezoid root tip span sweep) points)
+      (span ⊘ scaleOf (Trapezoid root tip span sweep) points)
 
-  pub one-strip : (w : ℕ) (f : Float → List Float) (limit : ℕ) (scale h k : Float) → workedOf w f limit scale (h ∷ k ∷ []) ≡ stripOf w f limit (h ⊘ scale) (k ⊘ scale) ∷ []
+  pub one-strip : (w : ℕ) (f : Float → List Float) (limit : ℕ) (scale h k : Float)
+      → workedOf w f limit scale (h ∷ k ∷ []) ≡ stripOf w f limit (h ⊘ scale) (k ⊘ scale) ∷ []
   unfolding workedOf
   one-strip w f limit scale h k = go (isAccepted (halving w f (h ⊘ scale) (k ⊘ scale) limit .ending))
     where
@@ -121,12 +131,16 @@ module _ (root tip span sweep : Float) (points : List Float) (L : ℕ) (above : 
   heights-are = two-heights (Trapezoid root tip span sweep) points above
 
   strips-are : areaStrips (Trapezoid root tip span sweep) points L ≡ Strip ∷ []
-  strips-are = rw heights-are (one-strip 3 (areaThree (Trapezoid root tip span sweep) points) L (scaleOf (Trapezoid root tip span sweep) points) (bits 0) span)
+  strips-are = rw heights-are (one-strip 3 (areaThree (Trapezoid root tip span sweep) points) L
+      (scaleOf (Trapezoid root tip span sweep) points) (bits 0) span)
 
-  pub total-is : (k : ℕ) → k < 3 → valueFrom (bits 0) k (areaSeven (Trapezoid root tip span sweep) points L) ≡ bits 0 ⊕ totalOf (piecesOf Strip) k
+  pub total-is : (k : ℕ) → k < 3
+      → valueFrom (bits 0) k (areaSeven (Trapezoid root tip span sweep) points L) ≡ bits 0 ⊕ totalOf (piecesOf Strip) k
   total-is k l =
-      totals-same 3 7 (lit≤ tt) (areaThree (Trapezoid root tip span sweep) points) L (scaleOf (Trapezoid root tip span sweep) points) (breakHeights (Trapezoid root tip span sweep) points) k l
+      totals-same 3 7 (lit≤ tt) (areaThree (Trapezoid root tip span sweep) points) L (scaleOf (Trapezoid root tip span sweep) points)
+      (breakHeights (Trapezoid root tip span sweep) points) k l
       ∙ ap (valueFrom (bits 0) k) strips-are
 
-  pub intervals-are : intervalsIn (areaSeven (Trapezoid root tip span sweep) points L) ≡ intervalsOf (Strip .lower) (Strip .upper) (Strip .halved)
+  pub intervals-are : intervalsIn (areaSeven (Trapezoid root tip span sweep) points L) ≡ intervalsOf (Strip .lower) (Strip .upper)
+      (Strip .halved)
   intervals-are = intervals-same 4 (areaStrips (Trapezoid root tip span sweep) points L) ∙ ap intervalsIn strips-are ∙ add-zero _

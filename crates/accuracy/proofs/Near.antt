@@ -52,7 +52,8 @@ module _ (root tip span sweep : Float) (points : List Float) (L : ℕ) (entry : 
 
   pub pieces-counted : r .intervals ≡ length stripPieces
   pieces-counted =
-      figures-given .intervals ∙ intervals-are root tip span sweep points L span-above ∙ ap (λ (b : Bool). cond b 1 (length stripPieces)) ends-apart
+      figures-given .intervals ∙ intervals-are root tip span sweep points L span-above ∙ ap
+      (λ (b : Bool). cond b 1 (length stripPieces)) ends-apart
 
   module _ (b d : ℕ) (reach : Reach b d root tip sweep) where
     -- B at most 64, which every length is

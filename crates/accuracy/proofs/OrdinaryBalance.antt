@@ -1,5 +1,9 @@
 -- The balance point along the axis of a set that one piece is enough for, of square or airfoil section, with a tab or none and no cant:
 -- near the exact one by computed bounds, from the volume and the moment of proofs/SevenIntegrals. Assumes nothing.
+use Rattle.rounding_error.proofs.Polynomials.{_equals_, trans, itself, times-is, equal-by, evaluated-is, evaluated-equal, AllNumbers}
+use Rattle.rounding_error.proofs.Polynomials.{Expression, given, ratio, _add_, _mul_}
+use Rattle.rounding_error.proofs.Distances.{within-upto, sorted, within-minus}
+use Rattle.accuracy.proofs.Limits.{most-under}
 use mathlib.Core.Path.{_≡_, refl, sym, ap, _∙_, subst}
 use mathlib.Core.Bool.{Bool, true, false}
 use mathlib.Core.List.{List, [], _∷_}
@@ -25,12 +29,9 @@ use Rattle.rounding.proofs.Sizes.{weaker, zero-below, half-below, mul-below, ad
 use Rattle.rounding_error.specs.Distances.{Within as Apart}
 use Rattle.rounding_error.proofs.Numbers.{Number, number, Size, _per_, _of_, _roundoffs_, _plus_, minus, _times_, IsNumber, Within, Near}
 use Rattle.rounding_error.proofs.Numbers.{Ranges, valueOf, zeroNumber, sizeOf}
-use Rattle.rounding_error.proofs.Distances.{sorted, within-minus}
 use Rattle.rounding_error.proofs.Operations.{neg-value}
 use Rattle.rounding_error.proofs.Counts as Counts
 use Rattle.rounding_error.proofs.Chains.{Valued}
-use Rattle.rounding_error.proofs.Polynomials.{_equals_, trans, itself, times-is, equal-by, evaluated-is, evaluated-equal, AllNumbers}
-use Rattle.rounding_error.proofs.Polynomials.{Expression, given, ratio, _add_, _mul_}
 use Rattle.rounding_error.proofs.Fractions.{IsFraction, minus-fraction, times-fraction, whole-fraction}
 use Rattle.error_terms.proofs.Laws.{inverseOf, Reaches}
 use Rattle.error_terms.proofs.Monomials.{place, added, mono, top, bottom, AllRanges, top-pos, ranges-of as ranges-by-units}
@@ -88,57 +89,24 @@ times-minus (number p n d) (number q m e) = refl
 
 -- ---- a zero, and a negative
 naught-known : (B : List Size) → AllRanges 32 B → (x : Float) → AtMost 0 1 x → (p : List ℕ) → Known B x zeroNumber (shape 0 0 p [])
-naught-known B r nan h p = absurd (h .finite)
-naught-known B r (inf s) h p = absurd (h .finite)
-naught-known B r (fin true m e) h p =
+naught-known B r x h p =
     record {
       near = record {
-        finite = tt;
-        within = record {
-          below = low (m * up e) (down e) (mono top B p * mono bottom B []) (mono bottom B p * mono top B [] * 2 ^ 30 * 2 ^ 53);
-          above = high (m * up e) (down e) (mono top B p * mono bottom B []) (mono bottom B p * mono top B [] * 2 ^ 30 * 2 ^ 53)
-              (none (m * up e) (down e) (h .size));
-        };
+        finite = h .finite;
+        within = within-upto (1 of (0 per 1)) (0 roundoffs unitBy B p []) (valueOf x) zeroNumber (pow-pos 0)
+            (none (mono top B p * mono bottom B []) (mono bottom B p * mono top B [] * 2 ^ 30 * 2 ^ 53)) (most-under x 0 1 h);
       };
       size = record { below = omega arith; above = omega arith };
       is = pow-pos 0;
     }
   where
-    none : (N D : ℕ) → N * 1 ≤ 0 * D → N ≡ 0
-    none N D h = omega arith
+    none : (X C : ℕ) → 1 * 0 * C ≤ 0 * X * 1
+    none X C = omega arith
 
-    low : (N D X C : ℕ) → (0 * 1 + 0 * D) * C ≤ (0 * D + N * 1) * C + 0 * X * (D * 1)
-    low N D X C = omega arith
+pub minus-is : (v : Number) → IsNumber v → IsNumber (minus v)
+minus-is (number p n d) h = h
 
-    high : (N D X C : ℕ) → N ≡ 0 → (0 * D + N * 1) * C ≤ (0 * 1 + 0 * D) * C + 0 * X * (1 * D)
-    high N D X C e = rw e (omega arith)
-naught-known B r (fin false m e) h p =
-    record {
-      near = record {
-        finite = tt;
-        within = record {
-          below = high (m * up e) (down e) (mono top B p * mono bottom B []) (mono bottom B p * mono top B [] * 2 ^ 30 * 2 ^ 53)
-              (none (m * up e) (down e) (h .size));
-          above = low (m * up e) (down e) (mono top B p * mono bottom B []) (mono bottom B p * mono top B [] * 2 ^ 30 * 2 ^ 53);
-        };
-      };
-      size = record { below = omega arith; above = omega arith };
-      is = pow-pos 0;
-    }
-  where
-    none : (N D : ℕ) → N * 1 ≤ 0 * D → N ≡ 0
-    none N D h = omega arith
-
-    high : (N D X C : ℕ) → N ≡ 0 → (N * 1 + 0 * D) * C ≤ (0 * D + 0 * 1) * C + 0 * X * (D * 1)
-    high N D X C e = rw e (omega arith)
-
-    low : (N D X C : ℕ) → (0 * D + 0 * 1) * C ≤ (N * 1 + 0 * D) * C + 0 * X * (1 * D)
-    low N D X C = omega arith
-
-minus-number : (v : Number) → IsNumber v → IsNumber (minus v)
-minus-number (number p n d) h = h
-
-neg-known : {x : Float} {v : Number} {k j : ℕ} (U : Size) → Valued x v k j U → Valued (neg x) (minus v) k j U
+pub neg-known : {x : Float} {v : Number} {k j : ℕ} (U : Size) → Valued x v k j U → Valued (neg x) (minus v) k j U
 neg-known {x = x} {v = v} {k = k} {j = j} U h =
     record {
       near = record {
@@ -147,7 +115,7 @@ neg-known {x = x} {v = v} {k = k} {j = j} U h =
             (within-minus (k roundoffs U) (valueOf x) v (h .near .within));
       };
       size = within-minus (j of U) v zeroNumber (h .size);
-      is = minus-number v (h .is);
+      is = minus-is v (h .is);
     }
 
 -- ---- the ring: the terms of its sums, the sums and their quotient, in the units of proofs/SevenIntegrals and of how many fins there are
@@ -741,7 +709,7 @@ module _ (c : Class) (section : Section) (p : Plate) (m : Mount) (points : List 
       (by-size balance (p .root) (sizes .root-positive) W D (minus Y) (balanceError c (p .tab)) (exactMass section p m)
       (negatedFraction (exactMoment section p m))
       (W-is F c 64 1 sizes (m .count) (counts .0) (counts .1) naught naughts) (is-all (exactly F 0) (is-exactly F c 64 1 sizes 0))
-      (minus-number Y (is-all (exactly F 3) (is-exactly F c 64 1 sizes 3))) D-from-zero mass-fraction
+      (minus-is Y (is-all (exactly F 3) (is-exactly F c 64 1 sizes 3))) D-from-zero mass-fraction
       (minus-fraction Y (exactMoment section p m) moment-fraction)
       (balance-near F c 64 1 sizes (m .count) (counts .0) (counts .1) naught naughts)
       (subst (λ (z : Number). W times D equals z)

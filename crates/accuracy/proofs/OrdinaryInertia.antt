@@ -1,6 +1,7 @@
 -- The inertia and the balance point of a single fin at base angle 0 that one piece is enough for, of square or airfoil
 -- section, with a tab or none: near
 -- the exact ones by computed bounds, from the seven integrals of proofs/SevenIntegrals. Assumes nothing.
+use Rattle.accuracy.proofs.OrdinaryBalance.{neg-known}
 use mathlib.Core.Path.{_≡_, refl, sym, ap, _∙_, subst}
 use mathlib.Core.Bool.{Bool, true, false, true≢false, _&&_}
 use mathlib.Core.List.{List, [], _∷_}
@@ -20,18 +21,17 @@ use Rattle.floats.specs.Operations.{_⊕_, _⊗_, _⊘_, bits}
 use Rattle.floats.specs.Constants.{one, half}
 use Rattle.floats.proofs.Exact.{Plus, product-plus, round-value}
 use Rattle.rounding.specs.Sizes.{AtMost}
-use Rattle.rounding.proofs.Signs.{neg-finite}
 use Rattle.floats.specs.Fractions.{Fraction, _over_, _times_ as product, valueOf as fractionOf}
 use Rattle.rounding_error.specs.Distances.{Within as Apart}
-use Rattle.rounding_error.proofs.Numbers.{Number, number, Size, _per_, _of_, _roundoffs_, _upto_, minus, _less_, _times_, IsNumber, Within}
-use Rattle.rounding_error.proofs.Numbers.{Near, valueOf, zeroNumber}
-use Rattle.rounding_error.proofs.Distances.{sorted, within-minus}
+use Rattle.rounding_error.proofs.Numbers.{Number, number, Size, _per_, _roundoffs_, _upto_, minus, _less_, _times_, IsNumber, Near, valueOf}
+use Rattle.rounding_error.proofs.Numbers.{zeroNumber}
+use Rattle.rounding_error.proofs.Distances.{sorted}
 use Rattle.rounding_error.proofs.Counts as Counts
-use Rattle.rounding_error.proofs.Chains.{Valued, equalled}
 use Rattle.rounding_error.proofs.Fractions.{IsFraction, whole-fraction}
-use Rattle.rounding_error.proofs.Polynomials.{_equals_, trans, itself, times-is, less-is, equal-by, AllNumbers, evaluated-is}
-use Rattle.rounding_error.proofs.Polynomials.{evaluated-equal, among, Expression, given, ratio, _add_, _take_, _mul_, evaluate, evaluate-is}
-use Rattle.rounding_error.proofs.Polynomials.{normal, vanishes, AllEqual}
+use Rattle.rounding_error.proofs.Chains.{Valued, equalled}
+use Rattle.rounding_error.proofs.Polynomials.{_equals_, trans, itself, times-is, equal-by, AllNumbers, evaluated-is, evaluated-equal, among}
+use Rattle.rounding_error.proofs.Polynomials.{Expression, given, ratio, _add_, _take_, _mul_, evaluate, evaluate-is, normal, vanishes}
+use Rattle.rounding_error.proofs.Polynomials.{AllEqual, less-is}
 use Rattle.sections.specs.declared.Section.{Section}
 use Rattle.bodies.specs.declared.Body.{Body}
 use Rattle.bodies.specs.declared.Vector.{Vector}
@@ -69,7 +69,6 @@ use Rattle.accuracy.proofs.Turned.{zero-most, none-times, times-none, n
 use Rattle.accuracy.proofs.NoRoll.{identity, only-copy}
 use Rattle.accuracy.proofs.ToFractions.{positive-fraction, product-fraction, to-fractions, first-power, fractionIn, amongFractions}
 use Rattle.accuracy.proofs.ToFractions.{AreFractions, expression-fraction}
-use Rattle.rounding_error.proofs.Operations.{neg-value}
 
 ruleset plain = (sorted, one-mul, mul-one, zero-mul, mul-zero, zero-add, add-zero)
 
@@ -246,48 +245,19 @@ module _ (v : ℕ → Float) (n : ℕ → Number) (density : Float) where
   Passes foil tab =
       T (passes (bodyList foil tab v n density) (judgeAll (bodyList foil tab v n density) [] parts) (tests tab))
 
-  square : Passes false None
-  unfolding round ofBits
-  square = tt
-
-  square-tab : (height length offset : Float) → Passes false (Slab height length offset)
-  unfolding round ofBits
-  square-tab height length offset = tt
-
-  foil-alone : Passes true None
-  unfolding round ofBits
-  foil-alone = tt
-
-  foil-tab : (height length offset : Float) → Passes true (Slab height length offset)
-  unfolding round ofBits
-  foil-tab height length offset = tt
-
   all-pass : (foil : Bool) (tab : Tab) → Passes foil tab
-  all-pass false None = square
-  all-pass false (Slab height length offset) = square-tab height length offset
-  all-pass true None = foil-alone
-  all-pass true (Slab height length offset) = foil-tab height length offset
+  unfolding round ofBits
+  all-pass false None = tt
+  all-pass false (Slab height length offset) = tt
+  all-pass true None = tt
+  all-pass true (Slab height length offset) = tt
 
 -- ---- what is known
 zero-less : (v : Number) → minus v equals zeroNumber less v
 zero-less (number p n d) = record { same = simp plain (omega arith) }
 
-is-minus : (v : Number) → IsNumber v → IsNumber (minus v)
-is-minus (number p n d) h = h
-
-neg-known : {x : Float} {v : Number} {k j : ℕ} (U : Size) → Valued x v k j U → Valued (neg x) (zeroNumber less v) k j U
-neg-known {x = x} {v = v} {k = k} {j = j} U h =
-    equalled
-    (record {
-      near = record {
-        finite = subst (λ (b : Bool). T b) (sym (neg-finite x)) (h .near .finite);
-        within = subst (λ (a : Number). Within (k roundoffs U) a (minus v)) (sym (neg-value x))
-            (within-minus (k roundoffs U) (valueOf x) v (h .near .within));
-      };
-      size = within-minus (j of U) v zeroNumber (h .size);
-      is = is-minus v (h .is);
-    })
-    (zeroNumber less v) (less-is zeroNumber v (pow-pos 0) (h .is)) (zero-less v)
+less-known : {x : Float} {v : Number} {k j : ℕ} (U : Size) → Valued x v k j U → Valued (neg x) (zeroNumber less v) k j U
+less-known {v = v} U h = equalled (neg-known U h) (zeroNumber less v) (less-is zeroNumber v (pow-pos 0) (h .is)) (zero-less v)
 
 -- ---- an f64 with the sign plus, added to 0
 zero-plus : (x : Float) → T (fits binary64 x) → Plus x → bits 0 ⊕ x ≡ x
@@ -440,7 +410,7 @@ module _ (f : Fin) (b d : ℕ) (g : Sizes f far b d) where
           (
             (k 2 (lit≤ tt) tt, tt),
             (
-              (neg-known (unitBy B (unitOf 3) []) (k 3 (lit≤ tt) tt), tt),
+              (less-known (unitBy B (unitOf 3) []) (k 3 (lit≤ tt) tt), tt),
               (
                 (k 4 (lit≤ tt) tt, tt),
                 (

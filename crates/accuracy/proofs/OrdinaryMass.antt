@@ -128,38 +128,15 @@ module _ (root tip sweep span scale thickness density length height : Float) whe
   abbrev Passes : Section → Tab → Type 0
   Passes section tab = T (massTest G (massE section tab) (judgeIn G (judgeAll G [] (partsOf section 0)) (massS tab)))
 
-  square-none : Passes Square None
-  unfolding round ofBits nodes kronrodWeights
-  square-none = tt
-
-  square-slab : (h l o : Float) → Passes Square (Slab h l o)
-  unfolding round ofBits nodes kronrodWeights
-  square-slab h l o = tt
-
-  foil-none : Passes Airfoil None
-  unfolding round ofBits nodes kronrodWeights airfoilConstants
-  foil-none = tt
-
-  foil-slab : (h l o : Float) → Passes Airfoil (Slab h l o)
-  unfolding round ofBits nodes kronrodWeights airfoilConstants
-  foil-slab h l o = tt
-
-  open-none : Passes AirfoilOpen None
-  unfolding round ofBits nodes kronrodWeights airfoilConstants
-  open-none = tt
-
-  open-slab : (h l o : Float) → Passes AirfoilOpen (Slab h l o)
-  unfolding round ofBits nodes kronrodWeights airfoilConstants
-  open-slab h l o = tt
-
   passes : (section : Section) → NotRounded section → (tab : Tab) → Passes section tab
+  unfolding round ofBits nodes kronrodWeights airfoilConstants
   passes Rounded e tab = absurd e
-  passes Square e None = square-none
-  passes Square e (Slab h l o) = square-slab h l o
-  passes Airfoil e None = foil-none
-  passes Airfoil e (Slab h l o) = foil-slab h l o
-  passes AirfoilOpen e None = open-none
-  passes AirfoilOpen e (Slab h l o) = open-slab h l o
+  passes Square e None = tt
+  passes Square e (Slab h l o) = tt
+  passes Airfoil e None = tt
+  passes Airfoil e (Slab h l o) = tt
+  passes AirfoilOpen e None = tt
+  passes AirfoilOpen e (Slab h l o) = tt
 
   -- ---- the values of the terms are the program's sums
   abbrev low : Float

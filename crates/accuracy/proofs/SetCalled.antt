@@ -38,7 +38,8 @@ pub record Given (section : Section) (p : Plate) (m : Mount) (points : List Floa
   pub accepted : setCheck (setWith section p m) points L n ≡ Accepted
   pub intervals : r .intervals ≡ intervalsIn (setStrips (setWith section p m) points L)
   pub mass : r .body .«mass_kg» ≡ inOrder (λ x y. x ⊕ y) (bits 0)
-      (λ k. p .density ⊗ (valueFrom (bits 0) 0 (setStrips (setWith section p m) points L) ⊗ cube (scaleOf (setWith section p m .planform) points) ⊕ volume (tabIntegralsOf (p .tab) (p .thickness) (m .radius)))) (m .count)
+      (λ k. p .density ⊗ (valueFrom (bits 0) 0 (setStrips (setWith section p m) points L) ⊗ cube
+      (scaleOf (setWith section p m .planform) points) ⊕ volume (tabIntegralsOf (p .tab) (p .thickness) (m .radius)))) (m .count)
 
 turned-mass : (x : Bool) (a b : Body) → a .«mass_kg» ≡ b .«mass_kg» → cond x a b .«mass_kg» ≡ a .«mass_kg»
 turned-mass true a b e = refl
@@ -49,7 +50,8 @@ unfolding eq ofBits
 zero-equal = refl
 
 -- one fin's mass: with no fillets, and however it is canted
-fin-mass : (v : List Float) (fillets : Body) (kgPerM3 cant : Float) (pivot : Vector) → fillets .«mass_kg» ≡ bits 0 → cantedOf (withFillets (plateBody v kgPerM3) fillets) cant pivot .«mass_kg» ≡ kgPerM3 ⊗ volume v
+fin-mass : (v : List Float) (fillets : Body) (kgPerM3 cant : Float) (pivot : Vector) → fillets .«mass_kg» ≡ bits 0
+    → cantedOf (withFillets (plateBody v kgPerM3) fillets) cant pivot .«mass_kg» ≡ kgPerM3 ⊗ volume v
 unfolding cantedOf withFillets plateBody ofOriginTensor rotatedOf
 fin-mass v fillets kgPerM3 cant pivot e =
     turned-mass (eq cant (bits 0)) (withFillets (plateBody v kgPerM3) fillets) _ refl
@@ -63,7 +65,8 @@ unfolding cantedOf withFillets
 fin-body v fillets kgPerM3 cant pivot e c = rw (c, e, zero-equal)
 
 -- copies of it, turned and joined
-ring-mass : (body : Body) (base : Float) (count : ℕ) → joinedCopies body base count .«mass_kg» ≡ inOrder (λ x y. x ⊕ y) (bits 0) (λ k. body .«mass_kg») count
+ring-mass : (body : Body) (base : Float) (count : ℕ)
+    → joinedCopies body base count .«mass_kg» ≡ inOrder (λ x y. x ⊕ y) (bits 0) (λ k. body .«mass_kg») count
 unfolding joinOf sumsOf rotatedOf
 ring-mass body base count = refl
 
@@ -71,7 +74,8 @@ no-fillets : (f : Fillet) (radius l : Float) → isNone (f .«radius_m») radius
 unfolding filletsOf
 no-fillets f radius l e = rw e
 
-module _ (section : Section) (p : Plate) (m : Mount) (points : List Float) (L n : ℕ) (r : Figures) (answer : r ≡ setFigures (setWith section p m) points L n) (given : r .verdict ≡ Accepted)
+module _ (section : Section) (p : Plate) (m : Mount) (points : List Float) (L n : ℕ) (r : Figures)
+    (answer : r ≡ setFigures (setWith section p m) points L n) (given : r .verdict ≡ Accepted)
     (none : isNone (m .fillet .«radius_m») (m .radius) ≡ true) where
   abbrev set : FinSet
   set = setWith section p m
@@ -91,7 +95,8 @@ module _ (section : Section) (p : Plate) (m : Mount) (points : List Float) (L n 
   set-chosen : (setCheck set points L n ≡ Accepted) × (r ≡ workedFigures set points L)
   unfolding setCall
   set-chosen =
-      let c = chosen (setCheck set points L n) (workedSet set points L) (λ refusal. leavesAlone (refusedFigures refusal 0)) (λ (c : CallOf Figures). c .answer .verdict) (λ refusal. refl)
+      let c = chosen (setCheck set points L n) (workedSet set points L) (λ refusal. leavesAlone (refusedFigures refusal 0))
+      (λ (c : CallOf Figures). c .answer .verdict) (λ refusal. refl)
       (setCall set points L n) refl (sym (ap verdictIn answer) ∙ given) in
       (c .0, answer ∙ ap (λ (c : CallOf Figures). c .answer) (c .1))
 
@@ -104,12 +109,14 @@ module _ (section : Section) (p : Plate) (m : Mount) (points : List Float) (L n 
   concluded : r ≡ figuresBy Accepted (finsOf set root v) (total .totals)
   unfolding concludedSet
   concluded =
-      chosen (conclusionOf (total .ending) (volume v)) (figuresBy Accepted (finsOf set root v) (total .totals)) (λ refusal. refusedFigures refusal (total .totals .samples)) verdictIn (λ refusal. refl) r
+      chosen (conclusionOf (total .ending) (volume v)) (figuresBy Accepted (finsOf set root v) (total .totals))
+      (λ refusal. refusedFigures refusal (total .totals .samples)) verdictIn (λ refusal. refl) r
       (set-chosen .1) given .1
 
   one-mass : finOf set root v .«mass_kg» ≡ p .density ⊗ volume v
   unfolding finOf
-  one-mass = fin-mass v (filletsOf (m .fillet) (m .radius) root) (p .density) (m .cant) (pivotOf (m .radius) root) (no-fillets (m .fillet) (m .radius) root none)
+  one-mass = fin-mass v (filletsOf (m .fillet) (m .radius) root) (p .density) (m .cant) (pivotOf (m .radius) root)
+      (no-fillets (m .fillet) (m .radius) root none)
 
   pub set-given : Given section p m points L n r
   set-given =
@@ -123,11 +130,13 @@ module _ (section : Section) (p : Plate) (m : Mount) (points : List Float) (L n 
 
   -- ---- and with no cant its centre: that of copies of the plate, turned and joined
   abbrev pub integrals : List Float
-  integrals = addIntegrals (unscaledOf (tabulate 7 (λ k. valueFrom (bits 0) k strips)) scale) (tabIntegralsOf (p .tab) (p .thickness) (m .radius))
+  integrals = addIntegrals (unscaledOf (tabulate 7 (λ k. valueFrom (bits 0) k strips)) scale)
+      (tabIntegralsOf (p .tab) (p .thickness) (m .radius))
 
   pub set-body : eq (m .cant) (bits 0) ≡ true → r .body ≡ joinedCopies (plateBody integrals (p .density)) (m .base) (m .count)
   unfolding finOf
   set-body c =
       ap (λ (a : Figures). a .body) concluded
       ∙ ap (λ (x : Body). joinedCopies x (m .base) (m .count))
-      (fin-body v (filletsOf (m .fillet) (m .radius) root) (p .density) (m .cant) (pivotOf (m .radius) root) (no-fillets (m .fillet) (m .radius) root none) c)
+      (fin-body v (filletsOf (m .fillet) (m .radius) root) (p .density) (m .cant) (pivotOf (m .radius) root)
+      (no-fillets (m .fillet) (m .radius) root none) c)

@@ -186,13 +186,15 @@ module _ (span scale : Float) (s : PositiveLength span) (q : Scale scale) where
           le-of-mul-le-mul-right (last (mul-le-mul-right (D * E) h) (mul-le-mul-right (T * F) k)
           (le-of-mul-le-mul-right (one (2 ^ 53) u) (mul-pos DD EE))) (mul-pos EE FF)
         where
-          one : (Q : ℕ) → (P * (D * E) + (T * 0 + 0 * S) * F) * (D * E * Q) ≤ ((T * S + 0 * 0) * F + 0 * (D * E)) * (D * E * Q) + 3 * (T * S)
+          one : (Q : ℕ) → (P * (D * E) + (T * 0 + 0 * S) * F) * (D * E * Q) ≤ ((T * S + 0 * 0) * F + 0 * (D * E)) * (D * E * Q) + 3 *
+              (T * S)
               * (F * (D * E)) → P * D * E * Q * (D * E) ≤ (T * S * F * Q + 3 * (T * S * F)) * (D * E)
           one Q v = let x = simp plain at v in simp plain (omega (arith, x))
 
           last : 1 * F * (D * E) ≤ P * 2 ^ 20 * (D * E) → S * 1 * (T * F) ≤ 2 ^ 7 * E * (T * F)
               → P * D * E * 2 ^ 53 ≤ T * S * F * 2 ^ 53 + 3 * (T * S * F) → D * (E * F) ≤ T * 2 ^ 32 * (E * F)
-          last a b c = back (go (F * (D * E)) (P * (D * E)) (T * S * F) (T * (E * F)) (let x = simp plain at a in simp plain (omega (arith, x)))
+          last a b c = back (go (F * (D * E)) (P * (D * E)) (T * S * F) (T * (E * F))
+              (let x = simp plain at a in simp plain (omega (arith, x)))
               (let x = simp plain at b in simp plain (omega (arith, x))) (let x = simp plain at c in simp plain (omega (arith, x))))
             where
               go : (f p x y : ℕ) → f ≤ p * 2 ^ 20 → x ≤ y * 2 ^ 7 → p * 2 ^ 53 ≤ x * 2 ^ 53 + 3 * x → f ≤ y * 2 ^ 32
@@ -212,7 +214,8 @@ module _ (span scale : Float) (s : PositiveLength span) (q : Scale scale) where
 
   low-from-zero : T (le (bits 0) low)
   unfolding ofBits
-  low-from-zero = order→le (bits 0) low tt low-finite (none-above (isMinus low) (0 * den low) (num low * 1) (omega arith) (rw low-none (omega arith)))
+  low-from-zero = order→le (bits 0) low tt low-finite (none-above (isMinus low) (0 * den low) (num low * 1) (omega arith)
+      (rw low-none (omega arith)))
 
   pub in-strip : InStrip high low high
   in-strip =

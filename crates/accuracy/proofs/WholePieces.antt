@@ -1,13 +1,13 @@
 -- A strip of one piece: a halving that ends with one piece made no cut, each of its samples has a chord, and the area that is summed is
 -- near the
 -- exact one by a computed bound. Assumes nothing.
+use Rattle.accuracy.proofs.ToFractions.{first-power}
 use mathlib.Core.Path.{_≡_, refl, ap}
 use mathlib.Core.Bool.{false}
 use mathlib.Core.List.{List, [], _∷_}
 use mathlib.Core.Logic.{_⊎_, inl, inr}
 use Prim.Native.Nat.{ℕ, _+_, _-_, _*_, _^_, _≤_, _<_}
-use native.Mathlib.Nat.{le-refl, le-trans, mul-pos, mul-le-mul-left, one-mul, mul-one, zero-mul, mul-zero, zero-add, add-zero, pow-zero}
-use native.Mathlib.Nat.{pow-suc}
+use native.Mathlib.Nat.{le-refl, le-trans, mul-pos, mul-le-mul-left, one-mul, mul-one, zero-mul, mul-zero, zero-add, add-zero}
 use native.Mathlib.Omega.{arith}
 use lib.Dec.{T}
 use lib.ListN.{length}
@@ -179,11 +179,8 @@ module _ (root tip span sweep scale : Float) (b d : ℕ) (g : Lengths root tip s
   -- 45·2^-53 of B and the span
   fewer : 45 * 2 ^ 30 * (b ^ 1 * (num span ^ 1 * 1) * 1) * (d * 2 ^ 53 * den span) ≤ b * 45 * num span *
       (d ^ 1 * (den span ^ 1 * 1) * 1 * 2 ^ 30 * 2 ^ 53)
-  fewer = rw (first b, first (num span), first d, first (den span)) (go (num span) (den span) (2 ^ 30) (2 ^ 53))
+  fewer = rw (first-power b, first-power (num span), first-power d, first-power (den span)) (go (num span) (den span) (2 ^ 30) (2 ^ 53))
     where
-      first : (x : ℕ) → x ^ 1 ≡ x
-      first x = rw (pow-suc x 0, pow-zero x) (one-mul x)
-
       go : (N D P Q : ℕ) → 45 * P * (b * (N * 1) * 1) * (d * Q * D) ≤ b * 45 * N * (d * (D * 1) * 1 * P * Q)
       go N D P Q = simp plain (le-refl _)
 

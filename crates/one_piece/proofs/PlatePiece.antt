@@ -1,4 +1,5 @@
--- The seven components of a plate of square or airfoil section on a trapezoid, as terms: each meets the tolerance where a test on sizes holds.
+-- The seven components of a plate of square or airfoil section on a trapezoid, as terms: each meets the tolerance where a test on sizes
+-- holds.
 -- Assumes nothing.
 use mathlib.Core.Path.{_≡_, refl, sym, ap, _∙_}
 use mathlib.Core.Bool.{Bool, true, false, _&&_, cond}
@@ -60,7 +61,8 @@ m1S = tightly (whole (nought (2 ∷ 0 ∷ 0 ∷ 1 ∷ []) (0 ∷ 0 ∷ 3 ∷ [])
     (local 0 ⊠ local 0 ⊟ local 1 ⊠ local 1))
 
 abbrev m2S : Shared
-m2S = tightly (whole (nought (3 ∷ 0 ∷ 0 ∷ 1 ∷ []) (0 ∷ 0 ∷ 4 ∷ [])) ⊞ dividedBy three (whole thickT ⊠ tightly (cubeS (local 0) ⊟ cubeS (local 1))))
+m2S = tightly (whole (nought (3 ∷ 0 ∷ 0 ∷ 1 ∷ []) (0 ∷ 0 ∷ 4 ∷ [])) ⊞ dividedBy three
+    (whole thickT ⊠ tightly (cubeS (local 0) ⊟ cubeS (local 1))))
 
 abbrev m3S : Shared
 m3S = tightly (whole (nought (1 ∷ 0 ∷ 0 ∷ 3 ∷ []) (0 ∷ 0 ∷ 4 ∷ [])) ⊞ dividedBy twelve (whole (thickT mul (thickT mul thickT)) ⊠ widthS))

@@ -1,9 +1,10 @@
 -- The chord between two edges that span a strip, at a sample: the two crossings in order, and its width over the scale. Assumes nothing.
+use Rattle.accuracy.proofs.ToFractions.{first-power}
 use mathlib.Core.Path.{_≡_, refl, ap, _∙_}
 use mathlib.Core.Bool.{Bool, true, false, cond, _&&_}
 use mathlib.Core.List.{List, [], _∷_}
 use Prim.Native.Nat.{ℕ, _+_, _*_, _^_, _≤_}
-use native.Mathlib.Nat.{mul-pos, mul-le-mul-right, one-mul, mul-one, zero-mul, mul-zero, zero-add, add-zero, pow-zero, pow-suc}
+use native.Mathlib.Nat.{mul-pos, mul-le-mul-right, one-mul, mul-one, zero-mul, mul-zero, zero-add, add-zero, pow-zero}
 use native.Mathlib.Omega.{arith}
 use lib.Dec.{T}
 use lib.Pow.{pow-pos}
@@ -110,13 +111,23 @@ middleE = widthE (ratio 1 1 mul (given 8 add given 9)) mul given 11
 abbrev pub slantE : Expression
 slantE = ratio 1 1 mul (widthE (given 9) take widthE (given 8)) mul given 11
 
-first : (x : ℕ) → x ^ 1 ≡ x
-first x = rw (pow-suc x 0, pow-zero x) (one-mul x)
-
 steep-upto : (b d n m s t e f : ℕ) → e * m ≤ n * f
     → 1 of (b per d) upto full of unitBy ((b per d) ∷ (n per m) ∷ (s per t) ∷ (e per f) ∷ []) (1 ∷ 1 ∷ []) (0 ∷ 0 ∷ 0 ∷ 1 ∷ [])
 steep-upto b d n m s t e f h =
-    rw (first b, first n, first d, first m, first e, first f, pow-zero b, pow-zero n, pow-zero d, pow-zero m, pow-zero s, pow-zero t)
+    rw (
+      first-power b,
+      first-power n,
+      first-power d,
+      first-power m,
+      first-power e,
+      first-power f,
+      pow-zero b,
+      pow-zero n,
+      pow-zero d,
+      pow-zero m,
+      pow-zero s,
+      pow-zero t,
+    )
     (go (2 ^ 30) (mul-le-mul-right (b * d * 2 ^ 30) h))
   where
     go : (P : ℕ) → e * m * (b * d * P) ≤ n * f * (b * d * P)

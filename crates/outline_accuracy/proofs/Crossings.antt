@@ -1,11 +1,12 @@
 -- The crossing of an outline's edge at a rounded height is near the exact one at the height that was meant, in units of the longest x times
 -- the span over the edge's height. Assumes nothing.
+use Rattle.accuracy.proofs.ToFractions.{first-power}
 use Rattle.error_terms.proofs.Entries.{near-entry, full, sized-entry, many-low}
 use mathlib.Core.Path.{_≡_, refl, sym, ap, _∙_, subst}
 use mathlib.Core.Bool.{Bool, true, false, cond}
 use mathlib.Core.List.{List, [], _∷_}
 use Prim.Native.Nat.{ℕ, zero, suc, _+_, _*_, _^_, _≤_, _<_}
-use native.Mathlib.Nat.{mul-pos, mul-le-mul-right, lt-irrefl, one-mul, mul-one, zero-mul, mul-zero, zero-add, add-zero, pow-zero, pow-suc}
+use native.Mathlib.Nat.{mul-pos, mul-le-mul-right, lt-irrefl, one-mul, mul-one, zero-mul, mul-zero, zero-add, add-zero, pow-zero}
 use native.Mathlib.Omega.{arith}
 use lib.Dec.{T, eqb, eqb→eq, ltb→lt}
 use lib.Pow.{pow-pos, pow-mono}
@@ -172,22 +173,20 @@ module _ (H xp yp xq span D : Float) (η v : Number) (b d a c : ℕ) (g : EdgeGi
   fall-near = near-within bases ranges entries all fallT fallE (48 * 2 ^ 30) (1 ∷ 1 ∷ []) (0 ∷ 0 ∷ 1 ∷ []) tt
 
 -- ---- an edge that rises or falls, in units of the longest x times the span over a height that the edge's is at least
-first : (x : ℕ) → x ^ 1 ≡ x
-first x = rw (pow-suc x 0, pow-zero x) (one-mul x)
 
 flatter : (b d a c n m e f s t k : ℕ) → e * c ≤ a * f
     → k roundoffs unitBy ((b per d) ∷ (n per m) ∷ (a per c) ∷ []) (1 ∷ 1 ∷ []) (0 ∷ 0 ∷ 1 ∷ [])
     upto k roundoffs unitBy ((b per d) ∷ (n per m) ∷ (s per t) ∷ (e per f) ∷ []) (1 ∷ 1 ∷ []) (0 ∷ 0 ∷ 0 ∷ 1 ∷ [])
 flatter b d a c n m e f s t k h =
     rw (
-      first b,
-      first n,
-      first d,
-      first m,
-      first a,
-      first c,
-      first e,
-      first f,
+      first-power b,
+      first-power n,
+      first-power d,
+      first-power m,
+      first-power a,
+      first-power c,
+      first-power e,
+      first-power f,
       pow-zero b,
       pow-zero n,
       pow-zero d,

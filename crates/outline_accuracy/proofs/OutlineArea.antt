@@ -298,7 +298,8 @@ module _ (points : List Float) (L : ℕ) (entry : List Float) (r : Area) (exit :
           (equal-by (A ∷ []) (A-is, tt) (ratio 1 0 mul ratio 1 0 mul given 0) (given 0) tt)))
 
       few-strips : n ≤ 65
-      few-strips = let e = strips-is heights (heights-some Outline points check) in let f = most-breaks Outline points in omega (arith, e, f)
+      few-strips = let e = strips-is heights (heights-some Outline points check) in let f = most-breaks Outline points in omega
+          (arith, e, f)
 
       some-strips : 1 ≤ n
       some-strips = let e = strips-is heights (heights-some Outline points check) in let f = heights-some Outline points check in omega

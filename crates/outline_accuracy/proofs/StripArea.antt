@@ -1,9 +1,10 @@
 -- The value of a strip of one piece that two edges span is near the exact one. Assumes nothing.
+use Rattle.accuracy.proofs.ToFractions.{first-power}
 use mathlib.Core.Path.{_≡_, subst}
 use mathlib.Core.Bool.{Bool, true, false}
 use mathlib.Core.List.{[], _∷_}
 use Prim.Native.Nat.{ℕ, _+_, _-_, _*_, _^_, _≤_, _<_}
-use native.Mathlib.Nat.{le-refl, mul-pos, one-mul, mul-one, zero-mul, mul-zero, zero-add, add-zero, pow-zero, pow-suc}
+use native.Mathlib.Nat.{le-refl, mul-pos, one-mul, mul-one, zero-mul, mul-zero, zero-add, add-zero, pow-zero}
 use native.Mathlib.Omega.{arith}
 use lib.Dec.{T}
 use lib.Pow.{pow-pos}
@@ -36,9 +37,6 @@ use Rattle.outline_accuracy.proofs.Product as Product
 
 ruleset plain = (sorted, one-mul, mul-one, zero-mul, mul-zero, zero-add, add-zero)
 
-first : (x : ℕ) → x ^ 1 ≡ x
-first x = rw (pow-suc x 0, pow-zero x) (one-mul x)
-
 inverse-under : (y : Float) → T (positive y) → Under (1 of (den y per num y)) (inverseOf (valueOf y))
 inverse-under nan p = absurd p
 inverse-under (inf s) p = absurd p
@@ -62,7 +60,20 @@ width-unit : (b d N D A C e f : ℕ)
     → (251 * 2 ^ 30) roundoffs unitBy ((b per d) ∷ (N per D) ∷ (A per C) ∷ (e per f) ∷ []) above below upto 251 roundoffs
     ((b * N * C * f) per (d * D * A * e))
 width-unit b d N D A C e f =
-    rw (first b, first d, first N, first D, first A, first C, first e, first f, pow-zero b, pow-zero d, pow-zero N, pow-zero D)
+    rw (
+      first-power b,
+      first-power d,
+      first-power N,
+      first-power D,
+      first-power A,
+      first-power C,
+      first-power e,
+      first-power f,
+      pow-zero b,
+      pow-zero d,
+      pow-zero N,
+      pow-zero D,
+    )
     (go (2 ^ 30) (2 ^ 53))
   where
     go : (P Q : ℕ) → 251 * P * (b * (N * 1) * (1 * (1 * (C * (f * 1))))) * (d * D * A * e * Q)

@@ -1,4 +1,5 @@
--- Chains of operations: an f64 with the exact number that it stands for, how many unit roundoffs of a size it is from it, and how many sizes that
+-- Chains of operations: an f64 with the exact number that it stands for, how many unit roundoffs of a size it is from it, and how many
+-- sizes that
 -- number is at most. With literal counts the conditions are `tt`. Assumes nothing.
 use mathlib.Core.Path.{_≡_}
 use Prim.Native.Nat.{ℕ, suc, _+_, _*_, _^_, _≤_}
@@ -33,13 +34,19 @@ module _ {x : Float} {v : Number} {k j : ℕ} {B : Size} (h : Valued x v k j B) 
   reach b l = Counts.sized k j B x v b (h .is) l (h .near) (h .size)
 
   pub counted-by : (k' j' : ℕ) → IsSize B → k ≤ k' → j ≤ j' → Valued x v k' j' B
-  counted-by k' j' b m n = record { near = Counts.more-roundoffs k k' B x v b m (h .near); size = Counts.more-of j j' B v b n (h .size); is = h .is }
+  counted-by k' j' b m n = record {
+    near = Counts.more-roundoffs k k' B x v b m (h .near);
+    size = Counts.more-of j j' B v b n
+        (h .size);
+    is = h .is;
+  }
 
   pub equalled : (w : Number) → IsNumber w → v equals w → Valued x w k j B
   equalled w i e =
       record {
         near = near-same x v w (k roundoffs B) (h .is) (h .near) (e .same);
-        size = within-sym (j of B) zeroNumber w (within-same (j of B) zeroNumber v w (h .is) (within-sym (j of B) v zeroNumber (h .size)) (e .same));
+        size = within-sym (j of B) zeroNumber w (within-same (j of B) zeroNumber v w (h .is) (within-sym (j of B) v zeroNumber (h .size))
+            (e .same));
         is = i;
       }
 
@@ -52,7 +59,8 @@ resized {x = x} {v = v} {k = k} {j = j} (a per c) (b per d) C l h =
     record {
       near = record {
         finite = h .near .finite;
-        within = within-upto (k roundoffs (a per c)) (k roundoffs (b per d)) (valueOf x) v (mul-pos C (pow-pos 53)) (go (2 ^ 53) (scaled-up a c b d k l)) (h .near .within);
+        within = within-upto (k roundoffs (a per c)) (k roundoffs (b per d)) (valueOf x) v (mul-pos C (pow-pos 53))
+            (go (2 ^ 53) (scaled-up a c b d k l)) (h .near .within);
       };
       size = within-upto (j of (a per c)) (j of (b per d)) v zeroNumber C (scaled-up a c b d j l) (h .size);
       is = h .is;
@@ -66,7 +74,14 @@ exactly x j B f u = record { near = Counts.itself x B f; size = u; is = Counts.v
 
 pub zero-valued : (A : Size) → Valued (bits 0) (valueOf (bits 0)) 0 0 A
 unfolding ofBits
-zero-valued (a per c) = record { near = Counts.itself (bits 0) (a per c) tt; size = record { below = go a c; above = go a c }; is = pow-pos 0 }
+zero-valued (a per c) = record {
+  near = Counts.itself (bits 0) (a per c) tt;
+  size = record {
+    below = go a c;
+    above = go a c;
+  };
+  is = pow-pos 0;
+}
   where
     go : (a c : ℕ) → 0 * c ≤ 0 * c + 0 * a * 1
     go a c = omega arith

@@ -20,7 +20,8 @@ use Rattle.rounding.proofs.Monotone.{positive-num}
 
 -- ---- j·B is of a normal-size size
 least : (a c j R : ℕ) → 1 ≤ j → c ≤ a * R → c ≤ j * a * (R * 2 ^ 22)
-least a c j R h k = le-trans k (le-trans (mul-le-mul (le-trans (le-of-eq (sym (one-mul a))) (mul-le-mul-right a h)) (le-trans (le-of-eq (sym (mul-one R))) (mul-le-mul-left R (pow-pos 22)))) (le-refl (j * a * (R * 2 ^ 22))))
+least a c j R h k = le-trans k (le-trans (mul-le-mul (le-trans (le-of-eq (sym (one-mul a))) (mul-le-mul-right a h))
+    (le-trans (le-of-eq (sym (mul-one R))) (mul-le-mul-left R (pow-pos 22)))) (le-refl (j * a * (R * 2 ^ 22))))
 
 most : (a c j R : ℕ) → j ≤ 2 ^ 22 → a ≤ c * R → j * a ≤ c * (R * 2 ^ 22)
 most a c j R h k = le-trans (mul-le-mul h k) (le-of-eq (turn (2 ^ 22) c R))
@@ -40,9 +41,11 @@ normal-size j (a per c) l h t =
 both : (k l a c : ℕ) → (k * a * c + l * a * c) * c ≤ (k + l) * a * (c * c)
 both k l a c = simp sorted (le-refl _)
 
-pub within-roundoffs : (k l : ℕ) (B : Size) (x y : Number) → IsSize B → Within ((k roundoffs B) and (l roundoffs B)) x y → Within ((k + l) roundoffs B) x y
+pub within-roundoffs : (k l : ℕ) (B : Size) (x y : Number) → IsSize B → Within ((k roundoffs B) and (l roundoffs B)) x y
+    → Within ((k + l) roundoffs B) x y
 within-roundoffs k l (a per c) x y C h =
-    within-upto (((k * a) per (c * 2 ^ 53)) and ((l * a) per (c * 2 ^ 53))) (((k + l) * a) per (c * 2 ^ 53)) x y (mul-pos (mul-pos C (pow-pos 53)) (mul-pos C (pow-pos 53)))
+    within-upto (((k * a) per (c * 2 ^ 53)) and ((l * a) per (c * 2 ^ 53))) (((k + l) * a) per (c * 2 ^ 53)) x y
+    (mul-pos (mul-pos C (pow-pos 53)) (mul-pos C (pow-pos 53)))
     (both k l a (c * 2 ^ 53)) h
 
 pub under-of : (k l : ℕ) (B : Size) (x y : Number) → IsSize B → Within ((k of B) and (l of B)) x y → Within ((k + l) of B) x y
@@ -53,7 +56,11 @@ more k l a c h = mul-le-mul-right c (mul-le-mul-right a h)
 
 pub more-roundoffs : (k l : ℕ) (B : Size) (x : Float) (v : Number) → IsSize B → k ≤ l → Near x v (k roundoffs B) → Near x v (l roundoffs B)
 more-roundoffs k l (a per c) x v C h n =
-    record { finite = n .finite; within = within-upto (k roundoffs (a per c)) (l roundoffs (a per c)) (valueOf x) v (mul-pos C (pow-pos 53)) (more k l a (c * 2 ^ 53) h) (n .within) }
+    record {
+      finite = n .finite;
+      within = within-upto (k roundoffs (a per c)) (l roundoffs (a per c)) (valueOf x) v (mul-pos C (pow-pos 53))
+          (more k l a (c * 2 ^ 53) h) (n .within);
+    }
 
 pub more-of : (k l : ℕ) (B : Size) (x : Number) → IsSize B → k ≤ l → Under (k of B) x → Under (l of B) x
 more-of k l (a per c) x C h n = within-upto (k of (a per c)) (l of (a per c)) x zeroNumber C (more k l a c h) n
@@ -97,9 +104,11 @@ times-zero (number p n d) = omega arith
 by-of : (i j a c b d : ℕ) → i * a * (j * b) * (c * d) ≤ i * j * (a * b) * (c * d)
 by-of i j a c b d = simp sorted (le-refl _)
 
-pub under-times : (i j : ℕ) (A B : Size) (x y : Number) → IsSize A → IsSize B → IsNumber x → Under (i of A) x → Under (j of B) y → Under ((i * j) of (A by B)) (x times y)
+pub under-times : (i j : ℕ) (A B : Size) (x y : Number) → IsSize A → IsSize B → IsNumber x → Under (i of A) x → Under (j of B) y
+    → Under ((i * j) of (A by B)) (x times y)
 under-times i j (a per c) (b per d) x y C D I h k =
-    within-upto (((i * a) per c) by ((j * b) per d)) ((i * j) of ((a per c) by (b per d))) (x times y) zeroNumber (mul-pos C D) (by-of i j a c b d)
+    within-upto (((i * a) per c) by ((j * b) per d)) ((i * j) of ((a per c) by (b per d))) (x times y) zeroNumber (mul-pos C D)
+    (by-of i j a c b d)
     (within-same (((i * a) per c) by ((j * b) per d)) (x times y) (x times zeroNumber) zeroNumber (times-is x zeroNumber I (pow-pos 0))
     (within-times ((i * a) per c) ((j * b) per d) x y zeroNumber h k) (times-zero x))
 
@@ -110,12 +119,15 @@ near-size k j a c P h = go (mul-le-mul-right (a * c * c) h)
     go : k * (a * c * c) ≤ P * (a * c * c) → (k * a * c + j * a * (c * P)) * c ≤ suc j * a * (c * P * c)
     go u = let x = simp sorted at u in simp sorted (omega (arith, x))
 
-pub sized-number : (k j : ℕ) (B : Size) (x v : Number) → IsSize B → IsNumber v → k ≤ 2 ^ 53 → Within (k roundoffs B) x v → Under (j of B) v → Under ((suc j) of B) x
+pub sized-number : (k j : ℕ) (B : Size) (x v : Number) → IsSize B → IsNumber v → k ≤ 2 ^ 53 → Within (k roundoffs B) x v → Under (j of B) v
+    → Under ((suc j) of B) x
 sized-number k j (a per c) x v C I h n u =
-    within-upto ((k roundoffs (a per c)) and (j of (a per c))) ((suc j) of (a per c)) x zeroNumber (mul-pos (mul-pos C (pow-pos 53)) C) (near-size k j a c (2 ^ 53) h)
+    within-upto ((k roundoffs (a per c)) and (j of (a per c))) ((suc j) of (a per c)) x zeroNumber (mul-pos (mul-pos C (pow-pos 53)) C)
+    (near-size k j a c (2 ^ 53) h)
     (within-trans (k roundoffs (a per c)) (j of (a per c)) x v zeroNumber I n u)
 
-pub sized : (k j : ℕ) (B : Size) (x : Float) (v : Number) → IsSize B → IsNumber v → k ≤ 2 ^ 53 → Near x v (k roundoffs B) → Under (j of B) v → Under ((suc j) of B) (valueOf x)
+pub sized : (k j : ℕ) (B : Size) (x : Float) (v : Number) → IsSize B → IsNumber v → k ≤ 2 ^ 53 → Near x v (k roundoffs B) → Under (j of B) v
+    → Under ((suc j) of B) (valueOf x)
 sized k j B x v C I h n u = sized-number k j B (valueOf x) v C I h (n .within) u
 
 -- ---- an f64 above 0 is its own size
@@ -151,15 +163,18 @@ by-roundoffs' : (j k a c b d P : ℕ) → j * b * (k * a) * (c * d * P) ≤ j * 
 by-roundoffs' j k a c b d P = simp sorted (le-refl _)
 
 pub within-product : (x y v w : Number) (i j k l : ℕ) (A B : Size) → IsSize A → IsSize B → IsNumber x → IsNumber w
-    → Within (k roundoffs A) x v → Within (l roundoffs B) y w → Under (i of A) x → Under (j of B) w → Within ((i * l + j * k) roundoffs (A by B)) (x times y) (v times w)
+    → Within (k roundoffs A) x v → Within (l roundoffs B) y w → Under (i of A) x → Under (j of B) w
+    → Within ((i * l + j * k) roundoffs (A by B)) (x times y) (v times w)
 within-product x y v w i j k l (a per c) (b per d) C D I J h g u s =
     let A = a per c in
     let B = b per d in
     let e : Within ((i * l) roundoffs (A by B)) (x times y) (x times w) =
-    within-upto (((i * a) per c) by ((l * b) per (d * 2 ^ 53))) ((i * l) roundoffs (A by B)) (x times y) (x times w) (mul-pos C (mul-pos D (pow-pos 53))) (by-roundoffs i l a c b d (2 ^ 53))
+    within-upto (((i * a) per c) by ((l * b) per (d * 2 ^ 53))) ((i * l) roundoffs (A by B)) (x times y) (x times w)
+    (mul-pos C (mul-pos D (pow-pos 53))) (by-roundoffs i l a c b d (2 ^ 53))
     (within-times (i of A) (l roundoffs B) x y w u g) in
     let f : Within ((j * k) roundoffs (A by B)) (w times x) (w times v) =
-    within-upto (((j * b) per d) by ((k * a) per (c * 2 ^ 53))) ((j * k) roundoffs (A by B)) (w times x) (w times v) (mul-pos D (mul-pos C (pow-pos 53))) (by-roundoffs' j k a c b d (2 ^ 53))
+    within-upto (((j * b) per d) by ((k * a) per (c * 2 ^ 53))) ((j * k) roundoffs (A by B)) (w times x) (w times v)
+    (mul-pos D (mul-pos C (pow-pos 53))) (by-roundoffs' j k a c b d (2 ^ 53))
     (within-times (j of B) (k roundoffs A) w x v s h) in
     let f' : Within ((j * k) roundoffs (A by B)) (x times w) (v times w) =
     subst (λ (r : Number). Within ((j * k) roundoffs (A by B)) r (v times w)) (times-comm w x)

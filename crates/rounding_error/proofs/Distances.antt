@@ -28,7 +28,8 @@ within-trans (a per c) (b per g) (number p n d) (number q m e) (number r k f) E 
       above = turn a b c g (over-trans (b per g) (a per c) (number r k f) (number q m e) (number p n d) E (i .above) (h .above));
     }
   where
-    turn : (a b c g : ℕ) → (r * d + n * f) * (g * c) ≤ (p * f + k * d) * (g * c) + (b * c + a * g) * (f * d) → (r * d + n * f) * (c * g) ≤ (p * f + k * d) * (c * g) + (a * g + b * c) * (f * d)
+    turn : (a b c g : ℕ) → (r * d + n * f) * (g * c) ≤ (p * f + k * d) * (g * c) + (b * c + a * g) * (f * d)
+        → (r * d + n * f) * (c * g) ≤ (p * f + k * d) * (c * g) + (a * g + b * c) * (f * d)
     turn a b c g h = omega arith
 
 pub within-sym : (e : Size) (x y : Number) → Within e x y → Within e y x
@@ -75,7 +76,8 @@ within-same e x y z E h s = record { below = over-same e x y z E (h .below) s; a
 plus-all : (p n d q m e r k f s j i a c b g : ℕ)
     → ((p * e + m * d) * c) * (g * (f * i)) ≤ ((q * d + n * e) * c + a * (d * e)) * (g * (f * i))
     → ((r * i + j * f) * g) * (c * (d * e)) ≤ ((s * f + k * i) * g + b * (f * i)) * (c * (d * e))
-    → ((p * f + r * d) * (e * i) + (m * i + j * e) * (d * f)) * (c * g) ≤ ((q * i + s * e) * (d * f) + (n * f + k * d) * (e * i)) * (c * g) + (a * g + b * c) * ((d * f) * (e * i))
+    → ((p * f + r * d) * (e * i) + (m * i + j * e) * (d * f)) * (c * g) ≤ ((q * i + s * e) * (d * f) + (n * f + k * d) * (e * i)) *
+    (c * g) + (a * g + b * c) * ((d * f) * (e * i))
 plus-all p n d q m e r k f s j i a c b g u v = let x = simp sorted at u in let y = simp sorted at v in simp sorted (omega (arith, x, y))
 
 over-plus : (e f : Size) (x y z w : Number) → Over e x y → Over f z w → Over (e and f) (x plus z) (y plus w)
@@ -83,12 +85,17 @@ over-plus (a per c) (b per g) (number p n d) (number q m e) (number r k f) (numb
     plus-all p n d q m e r k f s j i a c b g (mul-le-mul-right (g * (f * i)) h) (mul-le-mul-right (c * (d * e)) l)
 
 pub within-plus : (e f : Size) (x y z w : Number) → Within e x y → Within f z w → Within (e and f) (x plus z) (y plus w)
-within-plus e f x y z w h l = record { below = over-plus e f x y z w (h .below) (l .below); above = over-plus e f y x w z (h .above) (l .above) }
+within-plus e f x y z w h l = record {
+  below = over-plus e f x y z w (h .below) (l .below);
+  above = over-plus e f y x w z (h .above)
+      (l .above);
+}
 
 pub within-minus : (e : Size) (x y : Number) → Within e x y → Within e (minus x) (minus y)
 within-minus (a per c) (number p n d) (number q m e) h = record { below = go p n d q m e (h .above); above = go q m e p n d (h .below) }
   where
-    go : (p n d q m e : ℕ) → (q * d + n * e) * c ≤ (p * e + m * d) * c + a * (e * d) → (n * e + q * d) * c ≤ (m * d + p * e) * c + a * (d * e)
+    go : (p n d q m e : ℕ) → (q * d + n * e) * c ≤ (p * e + m * d) * c + a * (e * d)
+        → (n * e + q * d) * c ≤ (m * d + p * e) * c + a * (d * e)
     go p n d q m e h = omega arith
 
 -- ---- products
@@ -105,17 +112,21 @@ four a b c d h k =
 bounded : (α β γ μ ν ρ : ℕ) → α ≤ β + γ → β ≤ α + γ → μ ≤ ν + ρ → ν ≤ μ + ρ → α * μ + β * ν ≤ α * ν + β * μ + γ * ρ
 bounded α β γ μ ν ρ h i j k = go (four α (β + γ) ν (μ + ρ) h k) (four β (α + γ) μ (ν + ρ) i j)
   where
-    go : α * (μ + ρ) + (β + γ) * ν ≤ (β + γ) * (μ + ρ) + α * ν → β * (ν + ρ) + (α + γ) * μ ≤ (α + γ) * (ν + ρ) + β * μ → α * μ + β * ν ≤ α * ν + β * μ + γ * ρ
+    go : α * (μ + ρ) + (β + γ) * ν ≤ (β + γ) * (μ + ρ) + α * ν → β * (ν + ρ) + (α + γ) * μ ≤ (α + γ) * (ν + ρ) + β * μ
+        → α * μ + β * ν ≤ α * ν + β * μ + γ * ρ
     go u v = omega arith
 
 times-all : (p n d r k f s j i a c b g : ℕ)
-    → d * (p * c * ((r * i + j * f) * g) + n * c * ((s * f + k * i) * g)) ≤ d * (p * c * ((s * f + k * i) * g) + n * c * ((r * i + j * f) * g) + a * d * (b * (f * i)))
-    → ((p * r + n * k) * (d * i) + (p * j + n * s) * (d * f)) * (c * g) ≤ ((p * s + n * j) * (d * f) + (p * k + n * r) * (d * i)) * (c * g) + a * b * ((d * f) * (d * i))
+    → d * (p * c * ((r * i + j * f) * g) + n * c * ((s * f + k * i) * g)) ≤ d *
+    (p * c * ((s * f + k * i) * g) + n * c * ((r * i + j * f) * g) + a * d * (b * (f * i)))
+    → ((p * r + n * k) * (d * i) + (p * j + n * s) * (d * f)) * (c * g) ≤ ((p * s + n * j) * (d * f) + (p * k + n * r) * (d * i)) *
+    (c * g) + a * b * ((d * f) * (d * i))
 times-all p n d r k f s j i a c b g u = let x = simp sorted at u in simp sorted (omega (arith, x))
 
 over-times : (e f : Size) (x z w : Number) → Under e x → Within f z w → Over (e by f) (x times z) (x times w)
 over-times (a per c) (b per g) (number p n d) (number r k f) (number s j i) h l =
-    times-all p n d r k f s j i a c b g (mul-le-mul-left d (bounded (p * c) (n * c) (a * d) ((r * i + j * f) * g) ((s * f + k * i) * g) (b * (f * i)) (one p n d (h .below)) (other p n d (h .above)) (l .below) (flip (l .above))))
+    times-all p n d r k f s j i a c b g (mul-le-mul-left d (bounded (p * c) (n * c) (a * d) ((r * i + j * f) * g) ((s * f + k * i) * g)
+    (b * (f * i)) (one p n d (h .below)) (other p n d (h .above)) (l .below) (flip (l .above))))
   where
     one : (p n d : ℕ) → (p * 1 + 0 * d) * c ≤ (0 * d + n * 1) * c + a * (d * 1) → p * c ≤ n * c + a * d
     one p n d h = omega arith

@@ -1,4 +1,5 @@
--- The numbers of proofs/Numbers are the fractions of floats/specs/Fractions: sums, products and values of f64s, and how far they are apart. Assumes
+-- The numbers of proofs/Numbers are the fractions of floats/specs/Fractions: sums, products and values of f64s, and how far they are apart.
+-- Assumes
 -- nothing.
 use mathlib.Core.Path.{_≡_, refl, sym, ap, _∙_, subst}
 use mathlib.Core.Bool.{Bool, true, false, not, cond}
@@ -47,24 +48,28 @@ sum-stands (negsuc k) (pos l) p n q m h i = shifted (subℕ l (suc k)) l (suc k)
 sum-stands (negsuc k) (negsuc l) p n q m h i = omega arith
 
 product-stands : (z w : ℤ) (p n q m : ℕ) → Stands z p n → Stands w q m → Stands (z *ℤ w) (p * q + n * m) (p * m + n * q)
-product-stands (pos k) (pos l) p n q m h i = subst (λ (p : ℕ). p * q + n * m ≡ p * m + n * q + k * l) (sym h) (subst (λ (q : ℕ). (n + k) * q + n * m ≡ (n + k) * m + n * q + k * l) (sym i) (go n k m l))
+product-stands (pos k) (pos l) p n q m h i = subst (λ (p : ℕ). p * q + n * m ≡ p * m + n * q + k * l) (sym h)
+    (subst (λ (q : ℕ). (n + k) * q + n * m ≡ (n + k) * m + n * q + k * l) (sym i) (go n k m l))
   where
     go : (n k m l : ℕ) → (n + k) * (m + l) + n * m ≡ (n + k) * m + n * (m + l) + k * l
     go n k m l = omega arith
 product-stands (pos k) (negsuc l) p n q m h i =
     negative (k * suc l) (p * q + n * m) (p * m + n * q)
-    (subst (λ (p : ℕ). p * m + n * q ≡ p * q + n * m + k * suc l) (sym h) (subst (λ (m : ℕ). (n + k) * m + n * q ≡ (n + k) * q + n * m + k * suc l) (sym i) (go n k q (suc l))))
+    (subst (λ (p : ℕ). p * m + n * q ≡ p * q + n * m + k * suc l) (sym h)
+    (subst (λ (m : ℕ). (n + k) * m + n * q ≡ (n + k) * q + n * m + k * suc l) (sym i) (go n k q (suc l))))
   where
     go : (n k q l : ℕ) → (n + k) * (q + l) + n * q ≡ (n + k) * q + n * (q + l) + k * l
     go n k q l = omega arith
 product-stands (negsuc k) (pos l) p n q m h i =
     negative (suc k * l) (p * q + n * m) (p * m + n * q)
-    (subst (λ (n : ℕ). p * m + n * q ≡ p * q + n * m + suc k * l) (sym h) (subst (λ (q : ℕ). p * m + (p + suc k) * q ≡ p * q + (p + suc k) * m + suc k * l) (sym i) (go p (suc k) m l)))
+    (subst (λ (n : ℕ). p * m + n * q ≡ p * q + n * m + suc k * l) (sym h)
+    (subst (λ (q : ℕ). p * m + (p + suc k) * q ≡ p * q + (p + suc k) * m + suc k * l) (sym i) (go p (suc k) m l)))
   where
     go : (p k m l : ℕ) → p * m + (p + k) * (m + l) ≡ p * (m + l) + (p + k) * m + k * l
     go p k m l = omega arith
 product-stands (negsuc k) (negsuc l) p n q m h i =
-    subst (λ (n : ℕ). p * q + n * m ≡ p * m + n * q + suc k * suc l) (sym h) (subst (λ (m : ℕ). p * q + (p + suc k) * m ≡ p * m + (p + suc k) * q + suc k * suc l) (sym i) (go p (suc k) q (suc l)))
+    subst (λ (n : ℕ). p * q + n * m ≡ p * m + n * q + suc k * suc l) (sym h)
+    (subst (λ (m : ℕ). p * q + (p + suc k) * m ≡ p * m + (p + suc k) * q + suc k * suc l) (sym i) (go p (suc k) q (suc l)))
   where
     go : (p k q l : ℕ) → p * q + (p + k) * (q + l) ≡ p * (q + l) + (p + k) * q + k * l
     go p k q l = omega arith
@@ -83,7 +88,8 @@ abbrev pub IsFraction : Number → Fraction → Type 0
 IsFraction (number p n d) (z over c) = (d ≡ c) × Stands z p n
 
 by-whole : (z : ℤ) (p n c : ℕ) → Stands z p n → Stands (z *ℤ pos c) (p * c) (n * c)
-by-whole z p n c s = shifted (z *ℤ pos c) (p * c + n * 0) (p * 0 + n * c) (p * c) (n * c) (omega arith) (product-stands z (pos c) p n c 0 s (omega arith))
+by-whole z p n c s = shifted (z *ℤ pos c) (p * c + n * 0) (p * 0 + n * c) (p * c) (n * c) (omega arith)
+    (product-stands z (pos c) p n c 0 s (omega arith))
 
 pub plus-fraction : (x y : Number) (v w : Fraction) → IsFraction x v → IsFraction y w → IsFraction (x plus y) (sum v w)
 plus-fraction (number p n d) (number q m e) (z over b) (w over c) h i = (
@@ -115,18 +121,22 @@ pub shifted-fraction : (p n a b d : ℕ) (v : Fraction) → p + b ≡ n + a → 
 shifted-fraction p n a b d (z over c) e h = (h .0, shifted z a b p n e (h .1))
 
 -- ---- the distance
-at-most : (a c p n d q m e : ℕ) (g z w : ℤ) → 0 < d → 0 < e → 0 < c → Stands g a 0 → Stands z p n → Stands w q m → Over (a per c) (number p n d) (number q m e)
+at-most : (a c p n d q m e : ℕ) (g z w : ℤ) → 0 < d → 0 < e → 0 < c → Stands g a 0 → Stands z p n → Stands w q m
+    → Over (a per c) (number p n d) (number q m e)
     → (z over d) atMost sum (w over e) (g over c)
 at-most a c p n d q m e g z w D E C i h l o = (
   mul-pos D (mul-pos E C),
   ordered (z *ℤ pos (e * c)) ((w *ℤ pos c +ℤ g *ℤ pos e) *ℤ pos d) (p * (e * c)) (n * (e * c)) ((q * c + a * e) * d) (m * c * d)
       (by-whole z p n (e * c) h)
-      (shifted ((w *ℤ pos c +ℤ g *ℤ pos e) *ℤ pos d) ((q * c + a * e) * d) ((m * c + 0 * e) * d) ((q * c + a * e) * d) (m * c * d) (omega arith)
-      (by-whole (w *ℤ pos c +ℤ g *ℤ pos e) (q * c + a * e) (m * c + 0 * e) d (sum-stands (w *ℤ pos c) (g *ℤ pos e) (q * c) (m * c) (a * e) (0 * e) (by-whole w q m c l) (by-whole g a 0 e i))))
+      (shifted ((w *ℤ pos c +ℤ g *ℤ pos e) *ℤ pos d) ((q * c + a * e) * d) ((m * c + 0 * e) * d) ((q * c + a * e) * d) (m * c * d)
+      (omega arith)
+      (by-whole (w *ℤ pos c +ℤ g *ℤ pos e) (q * c + a * e) (m * c + 0 * e) d
+      (sum-stands (w *ℤ pos c) (g *ℤ pos e) (q * c) (m * c) (a * e) (0 * e) (by-whole w q m c l) (by-whole g a 0 e i))))
       (omega arith),
 )
 
-pub within-fraction : (a c : ℕ) (x y : Number) (g v w : Fraction) → 0 < c → IsNumber x → IsNumber y → IsFraction (number a 0 c) g → IsFraction x v → IsFraction y w
+pub within-fraction : (a c : ℕ) (x y : Number) (g v w : Fraction) → 0 < c → IsNumber x → IsNumber y → IsFraction (number a 0 c) g
+    → IsFraction x v → IsFraction y w
     → Within (a per c) x y → Near g v w
 within-fraction a c (number p n d) (number q m e) (g over c') (z over b) (w over f) C D E i h l o =
     subst (λ (k : ℕ). Near (g over k) (z over b) (w over f)) (i .0)

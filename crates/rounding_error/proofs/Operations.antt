@@ -48,9 +48,11 @@ signed-is : (s : Bool) (A D : ℕ) → 0 < D → IsNumber (signed s A D)
 signed-is false A D h = h
 signed-is true A D h = h
 
-rounded : (s : Bool) (A P N D : ℕ) (M : Size) → 0 < D → Normal M → Under M (number P N D) → Signed s A P N → Near (round binary64 s A D) (number P N D) (roundoff M)
+rounded : (s : Bool) (A P N D : ℕ) (M : Size) → 0 < D → Normal M → Under M (number P N D) → Signed s A P N
+    → Near (round binary64 s A D) (number P N D) (roundoff M)
 rounded s A P N D M i U h e =
-    near-same (round binary64 s A D) (signed s A D) (number P N D) (roundoff M) (signed-is s A D i) (round-near s A D M i U (at-most s A P N D M e h)) (signed-same s A P N D e)
+    near-same (round binary64 s A D) (signed s A D) (number P N D) (roundoff M) (signed-is s A D i)
+    (round-near s A D M i U (at-most s A P N D M e h)) (signed-same s A P N D e)
 
 -- ---- the product
 product : (X Y : ℕ) → X * Y + 0 * 0 ≡ X * Y + (X * 0 + 0 * Y)
@@ -59,7 +61,8 @@ product X Y = omega arith
 product' : (X Y : ℕ) → 0 * 0 + X * Y ≡ X * Y + (0 * Y + X * 0)
 product' X Y = omega arith
 
-pub mul-exact : (x y : Float) (M : Size) → T (finite x) → T (finite y) → Normal M → Under M (valueOf x times valueOf y) → Near (x ⊗ y) (valueOf x times valueOf y) (roundoff M)
+pub mul-exact : (x y : Float) (M : Size) → T (finite x) → T (finite y) → Normal M → Under M (valueOf x times valueOf y)
+    → Near (x ⊗ y) (valueOf x times valueOf y) (roundoff M)
 unfolding mul
 mul-exact nan y M i j U h = absurd i
 mul-exact (inf s) y M i j U h = absurd i
@@ -68,24 +71,30 @@ mul-exact (fin false m e) nan M i j U h = absurd j
 mul-exact (fin true m e) (inf t) M i j U h = absurd j
 mul-exact (fin false m e) (inf t) M i j U h = absurd j
 mul-exact (fin false m e) (fin false n g) M i j U h =
-    rounded false (m * up e * (n * up g)) (m * up e * (n * up g) + 0 * 0) (m * up e * 0 + 0 * (n * up g)) (down e * down g) M (mul-pos (down-pos e) (down-pos g)) U h (product (m * up e) (n * up g))
+    rounded false (m * up e * (n * up g)) (m * up e * (n * up g) + 0 * 0) (m * up e * 0 + 0 * (n * up g)) (down e * down g) M
+    (mul-pos (down-pos e) (down-pos g)) U h (product (m * up e) (n * up g))
 mul-exact (fin false m e) (fin true n g) M i j U h =
-    rounded true (m * up e * (n * up g)) (m * up e * 0 + 0 * (n * up g)) (m * up e * (n * up g) + 0 * 0) (down e * down g) M (mul-pos (down-pos e) (down-pos g)) U h (product (m * up e) (n * up g))
+    rounded true (m * up e * (n * up g)) (m * up e * 0 + 0 * (n * up g)) (m * up e * (n * up g) + 0 * 0) (down e * down g) M
+    (mul-pos (down-pos e) (down-pos g)) U h (product (m * up e) (n * up g))
 mul-exact (fin true m e) (fin false n g) M i j U h =
-    rounded true (m * up e * (n * up g)) (0 * (n * up g) + m * up e * 0) (0 * 0 + m * up e * (n * up g)) (down e * down g) M (mul-pos (down-pos e) (down-pos g)) U h (product' (m * up e) (n * up g))
+    rounded true (m * up e * (n * up g)) (0 * (n * up g) + m * up e * 0) (0 * 0 + m * up e * (n * up g)) (down e * down g) M
+    (mul-pos (down-pos e) (down-pos g)) U h (product' (m * up e) (n * up g))
 mul-exact (fin true m e) (fin true n g) M i j U h =
-    rounded false (m * up e * (n * up g)) (0 * 0 + m * up e * (n * up g)) (0 * (n * up g) + m * up e * 0) (down e * down g) M (mul-pos (down-pos e) (down-pos g)) U h (product' (m * up e) (n * up g))
+    rounded false (m * up e * (n * up g)) (0 * 0 + m * up e * (n * up g)) (0 * (n * up g) + m * up e * 0) (down e * down g) M
+    (mul-pos (down-pos e) (down-pos g)) U h (product' (m * up e) (n * up g))
 
 -- ---- the sum
 alike : (a b u v : ℕ) → a + b ≡ a + b + (0 * u + 0 * v)
 alike a b u v = omega arith
 
 -- a − b over c, as a sum of one above and one below 0
-pick : (a b c P N : ℕ) (M : Size) → 0 < c → Normal M → P ≡ a → N ≡ b → Under M (number P N c) → Near (sum binary64 false a true b c) (number P N c) (roundoff M)
+pick : (a b c P N : ℕ) (M : Size) → 0 < c → Normal M → P ≡ a → N ≡ b → Under M (number P N c)
+    → Near (sum binary64 false a true b c) (number P N c) (roundoff M)
 unfolding sum
 pick a b c P N M i U p n h = go (ltb a b) (ltb→lt a b) (nltb→le a b)
   where
-    go : (x : Bool) → (T x → a < b) → (T (not x) → b ≤ a) → Near (cond x (round binary64 true (b - a) c) (round binary64 false (a - b) c)) (number P N c) (roundoff M)
+    go : (x : Bool) → (T x → a < b) → (T (not x) → b ≤ a)
+        → Near (cond x (round binary64 true (b - a) c) (round binary64 false (a - b) c)) (number P N c) (roundoff M)
     go true k l = rounded true (b - a) P N c M i U h (rest (k tt))
       where
         rest : a < b → N ≡ b - a + P
@@ -95,7 +104,8 @@ pick a b c P N M i U p n h = go (ltb a b) (ltb→lt a b) (nltb→le a b)
         rest : b ≤ a → P ≡ a - b + N
         rest k = omega arith
 
-pick' : (a b c P N : ℕ) (M : Size) → 0 < c → Normal M → P ≡ b → N ≡ a → Under M (number P N c) → Near (sum binary64 true a false b c) (number P N c) (roundoff M)
+pick' : (a b c P N : ℕ) (M : Size) → 0 < c → Normal M → P ≡ b → N ≡ a → Under M (number P N c)
+    → Near (sum binary64 true a false b c) (number P N c) (roundoff M)
 unfolding sum
 pick' a b c P N M i U p n h = go (ltb a b) (ltb→lt a b) (nltb→le a b) (ltb b a) (ltb→lt b a) (nltb→le b a)
   where
@@ -120,7 +130,8 @@ first a u = omega arith
 second : (a u : ℕ) → 0 * u + a ≡ a
 second a u = omega arith
 
-pub add-exact : (x y : Float) (M : Size) → T (finite x) → T (finite y) → Normal M → Under M (valueOf x plus valueOf y) → Near (x ⊕ y) (valueOf x plus valueOf y) (roundoff M)
+pub add-exact : (x y : Float) (M : Size) → T (finite x) → T (finite y) → Normal M → Under M (valueOf x plus valueOf y)
+    → Near (x ⊕ y) (valueOf x plus valueOf y) (roundoff M)
 unfolding add sum
 add-exact nan y M i j U h = absurd i
 add-exact (inf s) y M i j U h = absurd i
@@ -129,16 +140,20 @@ add-exact (fin false m e) nan M i j U h = absurd j
 add-exact (fin true m e) (inf t) M i j U h = absurd j
 add-exact (fin false m e) (inf t) M i j U h = absurd j
 add-exact (fin false m e) (fin false n g) M i j U h =
-    rounded false (m * up e * down g + n * up g * down e) (m * up e * down g + n * up g * down e) (0 * down g + 0 * down e) (down e * down g) M (mul-pos (down-pos e) (down-pos g)) U h
+    rounded false (m * up e * down g + n * up g * down e) (m * up e * down g + n * up g * down e) (0 * down g + 0 * down e)
+    (down e * down g) M (mul-pos (down-pos e) (down-pos g)) U h
     (alike (m * up e * down g) (n * up g * down e) (down g) (down e))
 add-exact (fin true m e) (fin true n g) M i j U h =
-    rounded true (m * up e * down g + n * up g * down e) (0 * down g + 0 * down e) (m * up e * down g + n * up g * down e) (down e * down g) M (mul-pos (down-pos e) (down-pos g)) U h
+    rounded true (m * up e * down g + n * up g * down e) (0 * down g + 0 * down e) (m * up e * down g + n * up g * down e)
+    (down e * down g) M (mul-pos (down-pos e) (down-pos g)) U h
     (alike (m * up e * down g) (n * up g * down e) (down g) (down e))
 add-exact (fin false m e) (fin true n g) M i j U h =
-    pick (m * up e * down g) (n * up g * down e) (down e * down g) (m * up e * down g + 0 * down e) (0 * down g + n * up g * down e) M (mul-pos (down-pos e) (down-pos g)) U
+    pick (m * up e * down g) (n * up g * down e) (down e * down g) (m * up e * down g + 0 * down e) (0 * down g + n * up g * down e) M
+    (mul-pos (down-pos e) (down-pos g)) U
     (first (m * up e * down g) (down e)) (second (n * up g * down e) (down g)) h
 add-exact (fin true m e) (fin false n g) M i j U h =
-    pick' (m * up e * down g) (n * up g * down e) (down e * down g) (0 * down g + n * up g * down e) (m * up e * down g + 0 * down e) M (mul-pos (down-pos e) (down-pos g)) U
+    pick' (m * up e * down g) (n * up g * down e) (down e * down g) (0 * down g + n * up g * down e) (m * up e * down g + 0 * down e) M
+    (mul-pos (down-pos e) (down-pos g)) U
     (second (n * up g * down e) (down g)) (first (m * up e * down g) (down e)) h
 
 -- ---- the difference
@@ -155,7 +170,8 @@ neg-finite nan i = absurd i
 neg-finite (inf s) i = absurd i
 neg-finite (fin s m e) i = tt
 
-pub sub-exact : (x y : Float) (M : Size) → T (finite x) → T (finite y) → Normal M → Under M (valueOf x less valueOf y) → Near (x ⊖ y) (valueOf x less valueOf y) (roundoff M)
+pub sub-exact : (x y : Float) (M : Size) → T (finite x) → T (finite y) → Normal M → Under M (valueOf x less valueOf y)
+    → Near (x ⊖ y) (valueOf x less valueOf y) (roundoff M)
 unfolding sub
 sub-exact x y M i j U h =
     subst (λ (v : Number). Near (add binary64 x (neg y)) (valueOf x plus v) (roundoff M)) (neg-value y)
@@ -165,7 +181,8 @@ sub-exact x y M i j U h =
 quotient : (a u : ℕ) → a ≡ a + 0 * u
 quotient a u = omega arith
 
-pub div-exact : (x y : Float) (M : Size) → T (finite x) → T (positive y) → Normal M → Under M (valueOf x over y) → Near (x ⊘ y) (valueOf x over y) (roundoff M)
+pub div-exact : (x y : Float) (M : Size) → T (finite x) → T (positive y) → Normal M → Under M (valueOf x over y)
+    → Near (x ⊘ y) (valueOf x over y) (roundoff M)
 unfolding div
 div-exact nan y M i j U h = absurd i
 div-exact (inf s) y M i j U h = absurd i
@@ -177,11 +194,17 @@ div-exact (fin true m e) (fin true n g) M i j U h = absurd j
 div-exact (fin false m e) (fin true n g) M i j U h = absurd j
 div-exact (fin true m e) (fin false n g) M i j U h = go (eqb n 0) (eqb→eq n 0)
   where
-    go : (x : Bool) → (T x → n ≡ 0) → Near (cond x (cond (eqb m 0) nan (inf true)) (round binary64 true (m * up e * down g) (n * up g * down e))) (number (0 * down g) (m * up e * down g) (n * up g * down e)) (roundoff M)
+    go : (x : Bool) → (T x → n ≡ 0)
+        → Near (cond x (cond (eqb m 0) nan (inf true)) (round binary64 true (m * up e * down g) (n * up g * down e)))
+        (number (0 * down g) (m * up e * down g) (n * up g * down e)) (roundoff M)
     go true z = absurd (lt-irrefl 0 (rw (z tt) at (ltb→lt 0 n j)))
-    go false z = rounded true (m * up e * down g) (0 * down g) (m * up e * down g) (n * up g * down e) M (mul-pos (positive-num (fin false n g) j) (down-pos e)) U h (quotient (m * up e * down g) (down g))
+    go false z = rounded true (m * up e * down g) (0 * down g) (m * up e * down g) (n * up g * down e) M
+        (mul-pos (positive-num (fin false n g) j) (down-pos e)) U h (quotient (m * up e * down g) (down g))
 div-exact (fin false m e) (fin false n g) M i j U h = go (eqb n 0) (eqb→eq n 0)
   where
-    go : (x : Bool) → (T x → n ≡ 0) → Near (cond x (cond (eqb m 0) nan (inf false)) (round binary64 false (m * up e * down g) (n * up g * down e))) (number (m * up e * down g) (0 * down g) (n * up g * down e)) (roundoff M)
+    go : (x : Bool) → (T x → n ≡ 0)
+        → Near (cond x (cond (eqb m 0) nan (inf false)) (round binary64 false (m * up e * down g) (n * up g * down e)))
+        (number (m * up e * down g) (0 * down g) (n * up g * down e)) (roundoff M)
     go true z = absurd (lt-irrefl 0 (rw (z tt) at (ltb→lt 0 n j)))
-    go false z = rounded false (m * up e * down g) (m * up e * down g) (0 * down g) (n * up g * down e) M (mul-pos (positive-num (fin false n g) j) (down-pos e)) U h (quotient (m * up e * down g) (down g))
+    go false z = rounded false (m * up e * down g) (m * up e * down g) (0 * down g) (n * up g * down e) M
+        (mul-pos (positive-num (fin false n g) j) (down-pos e)) U h (quotient (m * up e * down g) (down g))

@@ -102,10 +102,12 @@ room a c b d C h l = go (le-or-lt (size (a * 2 ^ 1074 / c)) 53)
     go (inl k) = rw (few z k) (small b d (2 ^ 52) (2 ^ 1022) (2 ^ 1074) l (sym (pow-add 2 1022 52)))
     go (inr k) =
         normal (2 ^ (z - 53)) a c b d (2 ^ 1074) (a * 2 ^ 1074) C h refl
-        (le-div-iff-mul-le C .0 (le-trans (le-of-eq (sym (pow-add 2 52 (z - 53)))) (size-reaches (a * 2 ^ 1074 / c) (52 + (z - 53)) (last z k))))
+        (le-div-iff-mul-le C .0 (le-trans (le-of-eq (sym (pow-add 2 52 (z - 53))))
+        (size-reaches (a * 2 ^ 1074 / c) (52 + (z - 53)) (last z k))))
 
 -- the kept number is not too large
-no-overflow : (q K a c b d L R O : ℕ) → 0 < c → 0 < d → 0 < L * R → q * (c * K) * 2 ≤ a * L * 2 + c * K → 2 ^ 52 * K * d ≤ b * L → a * d ≤ b * c
+no-overflow : (q K a c b d L R O : ℕ) → 0 < c → 0 < d → 0 < L * R → q * (c * K) * 2 ≤ a * L * 2 + c * K → 2 ^ 52 * K * d ≤ b * L
+    → a * d ≤ b * c
     → b ≤ d * R → L * R * 2 ≤ O → q * K < O
 no-overflow q K a c b d L R O C D P h r s m o =
     let u : q * K * 2 * (c * d) ≤ L * R * 3 * (c * d) =
@@ -132,7 +134,8 @@ error-below N D q K a c b d L P e h r =
     (cross (2 ^ 52) (ap (λ (x : ℕ). x * (c * 2 * 2 ^ 52 * d)) e) (mul-le-mul-right (D * 2 ^ 52 * d) h) (mul-le-mul-right (c * D) r))
     P
   where
-    cross : (H : ℕ) → N * L * (c * 2 * H * d) ≡ q * K * D * (c * 2 * H * d) → q * (c * K) * 2 * (D * H * d) ≤ (a * L * 2 + c * K) * (D * H * d)
+    cross : (H : ℕ) → N * L * (c * 2 * H * d) ≡ q * K * D * (c * 2 * H * d)
+        → q * (c * K) * 2 * (D * H * d) ≤ (a * L * 2 + c * K) * (D * H * d)
         → H * K * d * (c * D) ≤ b * L * (c * D) → N * c * (d * (2 * H)) * L ≤ (a * D * (d * (2 * H)) + b * (D * c)) * L
     cross H x y z = omega arith
 
@@ -143,7 +146,8 @@ error-above N D q K a c b d L P e h r =
     (cross (2 ^ 52) (ap (λ (x : ℕ). x * (c * 2 * 2 ^ 52 * d)) e) (mul-le-mul-right (D * 2 ^ 52 * d) h) (mul-le-mul-right (c * D) r))
     P
   where
-    cross : (H : ℕ) → N * L * (c * 2 * H * d) ≡ q * K * D * (c * 2 * H * d) → a * L * 2 * (D * H * d) ≤ (q * (c * K) * 2 + c * K) * (D * H * d)
+    cross : (H : ℕ) → N * L * (c * 2 * H * d) ≡ q * K * D * (c * 2 * H * d)
+        → a * L * 2 * (D * H * d) ≤ (q * (c * K) * 2 + c * K) * (D * H * d)
         → H * K * d * (c * D) ≤ b * L * (c * D) → a * D * (d * (2 * H)) * L ≤ (N * c * (d * (2 * H)) + b * (c * D)) * L
     cross H x y z = omega arith
 
@@ -157,13 +161,15 @@ signed false a c = number a 0 c
 abbrev pub AtMost : ℕ → ℕ → Size → Type 0
 AtMost a c (b per d) = a * d ≤ b * c
 
-round-value : (s : Bool) (a c : ℕ) → grid binary64 a c < overflow binary64 → HasValue (round binary64 s a c) s (grid binary64 a c) (2 ^ 1074)
+round-value : (s : Bool) (a c : ℕ) → grid binary64 a c < overflow binary64
+    → HasValue (round binary64 s a c) s (grid binary64 a c) (2 ^ 1074)
 round-value s a c h =
     subst (λ (z : Float). HasValue z s (grid binary64 a c) (2 ^ 1074)) (sym (round-is binary64 s a c))
     (units-val binary64 s (kept 53 (a * 2 ^ 1074) c) (drop 53 (a * 2 ^ 1074) c) h)
 
 near-of : (x : Float) (s : Bool) (q K a c b d L : ℕ) → 0 < L → HasValue x s (q * K) L
-    → q * (c * K) * 2 ≤ a * L * 2 + c * K → a * L * 2 ≤ q * (c * K) * 2 + c * K → 2 ^ 52 * K * d ≤ b * L → Near x (signed s a c) (roundoff (b per d))
+    → q * (c * K) * 2 ≤ a * L * 2 + c * K → a * L * 2 ≤ q * (c * K) * 2 + c * K → 2 ^ 52 * K * d ≤ b * L
+    → Near x (signed s a c) (roundoff (b per d))
 near-of nan s q K a c b d L P v h k r = absurd v
 near-of (inf t) s q K a c b d L P v h k r = absurd v
 near-of (fin true m e) true q K a c b d L P v h k r =
@@ -200,7 +206,8 @@ near-of (fin false m e) false q K a c b d L P v h k r =
 pub round-near : (s : Bool) (a c : ℕ) (M : Size) → 0 < c → Normal M → AtMost a c M → Near (round binary64 s a c) (signed s a c) (roundoff M)
 round-near s a c (b per d) C U h =
     near-of (round binary64 s a c) s q K a c b d (2 ^ 1074) (pow-pos 1074)
-    (round-value s a c (no-overflow q K a c b d (2 ^ 1074) (2 ^ 1022) (2 ^ 2098) C (U .real) (mul-pos (pow-pos 1074) (pow-pos 1022)) (w .0) r h (U .most) big))
+    (round-value s a c (no-overflow q K a c b d (2 ^ 1074) (2 ^ 1022) (2 ^ 2098) C (U .real) (mul-pos (pow-pos 1074) (pow-pos 1022))
+    (w .0) r h (U .most) big))
     (w .0) (w .1) r
   where
     q : ℕ
