@@ -1,5 +1,7 @@
--- What holds of every piece and every height of a halving whose ends are at most 2^26 and in order: each cut lies between its parent's ends, so
--- no piece reaches further than the strip, and no height is over 2^28. So the samples are finite where those at such heights are. Assumes nothing.
+-- What holds of every piece and every height of a halving whose ends are at most 2^26 and in order: each cut lies
+-- between its parent's ends, so
+-- no piece reaches further than the strip, and no height is over 2^28. So the samples are finite where those at such
+-- heights are. Assumes nothing.
 use mathlib.Core.Path.{_≡_, refl}
 use mathlib.Core.Bool.{Bool, true, false, cond}
 use mathlib.Core.List.{List, [], _∷_, _++_}
@@ -43,7 +45,8 @@ module _ (w : ℕ) (f : Float → List Float) (P : Piece → Type 0) (measured :
   piece-heights : (a b : Float) → InOrder 26 a b → Bounded (heightsOf a b)
   piece-heights a b i = heights-below a b (i .lower-below) (i .upper-below)
 
-  halves-within : (pieces : List Piece) (heights : List Float) → Within pieces heights → Within (halvesOfWorst w f pieces) ((heights ++ leftHeights w f pieces) ++ rightHeights w f pieces)
+  halves-within : (pieces : List Piece) (heights : List Float) → Within pieces heights
+      → Within (halvesOfWorst w f pieces) ((heights ++ leftHeights w f pieces) ++ rightHeights w f pieces)
   halves-within pieces heights z =
       let p = worstPiece w pieces in
       let place = worstPlace w pieces in
@@ -54,30 +57,45 @@ module _ (w : ℕ) (f : Float → List Float) (P : Piece → Type 0) (measured :
       let right = pieceOf w f (middleOf p) (p .end) in
       record {
         some = omega (arith, one-more w f pieces);
-        inside = all-append Inside (set pieces place left) (right ∷ []) (all-set Inside pieces place left (z .inside) (piece-inside (p .start) (middleOf p) l)) (piece-inside (middleOf p) (p .end) r, tt);
-        each = all-append P (set pieces place left) (right ∷ []) (all-set P pieces place left (z .each) (measured (p .start) (middleOf p) l)) (measured (middleOf p) (p .end) r, tt);
+        inside = all-append Inside (set pieces place left) (right ∷ [])
+            (all-set Inside pieces place left (z .inside) (piece-inside (p .start) (middleOf p) l))
+            (piece-inside (middleOf p) (p .end) r, tt);
+        each = all-append P (set pieces place left) (right ∷ [])
+            (all-set P pieces place left (z .each) (measured (p .start) (middleOf p) l)) (measured (middleOf p) (p .end) r, tt);
         bounded = each-append (Below 28) (heights ++ leftHeights w f pieces) (rightHeights w f pieces)
-            (each-append (Below 28) heights (leftHeights w f pieces) (z .bounded) (piece-heights (p .start) (middleOf p) l)) (piece-heights (middleOf p) (p .end) r);
+            (each-append (Below 28) heights (leftHeights w f pieces) (z .bounded) (piece-heights (p .start) (middleOf p) l))
+            (piece-heights (middleOf p) (p .end) r);
       }
 
   abbrev Good : Halved → Type 0
   Good h = All P (h .pieces) × Bounded (h .heights)
 
-  repeat-good : (lower upper : Float) (more : ℕ) → InOrder 26 lower upper → Good (repeat w f more (pieceOf w f lower upper ∷ []) (heightsOf lower upper))
+  repeat-good : (lower upper : Float) (more : ℕ) → InOrder 26 lower upper
+      → Good (repeat w f more (pieceOf w f lower upper ∷ []) (heightsOf lower upper))
   repeat-good lower upper more i =
       let z = kept w f
-      (outcome w f (1 + more) Within (λ pieces heights z l m. halves-within pieces heights z) more (pieceOf w f lower upper ∷ []) (heightsOf lower upper)
-      (record { some = le-refl 1; inside = (piece-inside lower upper i, tt); each = (measured lower upper i, tt); bounded = piece-heights lower upper i }) refl) in
+      (outcome w f (1 + more) Within (λ pieces heights z l m. halves-within pieces heights z) more (pieceOf w f lower upper ∷ [])
+      (heightsOf lower upper)
+      (record {
+        some = le-refl 1;
+        inside = (piece-inside lower upper i, tt);
+        each = (measured lower upper i, tt);
+        bounded = piece-heights
+            lower upper i;
+      }) refl) in
       (z .each, z .bounded)
 
   by-cond : (b : Bool) (x y : Halved) → Good x → Good y → Good (cond b x y)
   by-cond true x y h k = h
   by-cond false x y h k = k
 
-  pub each-piece : (lower upper : Float) (limit : ℕ) → InOrder 26 lower upper → All P (halving w f lower upper limit .pieces) × Each (Below 28) (halving w f lower upper limit .heights)
+  pub each-piece : (lower upper : Float) (limit : ℕ) → InOrder 26 lower upper
+      → All P (halving w f lower upper limit .pieces) × Each (Below 28) (halving w f lower upper limit .heights)
   unfolding halving
   each-piece lower upper limit i = by-cond (eq lower upper) _ _ (tt, tt) (repeat-good lower upper (limit - 1) i)
 
-pub samples-finite : (w : ℕ) (f : Float → List Float) → ((l : List Float) → Each (Below 28) l → finiteAt w f l ≡ true) → (lower upper : Float) (limit : ℕ) → InOrder 26 lower upper
+pub samples-finite : (w : ℕ) (f : Float → List Float) → ((l : List Float) → Each (Below 28) l → finiteAt w f l ≡ true)
+    → (lower upper : Float) (limit : ℕ) → InOrder 26 lower upper
     → finiteAt w f (halving w f lower upper limit .heights) ≡ true
-samples-finite w f finite lower upper limit i = finite (halving w f lower upper limit .heights) (each-piece w f (λ p. Unit {0}) (λ a b j. tt) lower upper limit i .1)
+samples-finite w f finite lower upper limit i = finite (halving w f lower upper limit .heights)
+    (each-piece w f (λ p. Unit {0}) (λ a b j. tt) lower upper limit i .1)

@@ -21,12 +21,14 @@ use Rattle.halving.proofs.Covers.{Covered}
 use Rattle.halving.proofs.ByStart.{by-start}
 
 -- a place past the pieces has a NaN for a start
-empty-at : (pieces : List Piece) (i : ℕ) → NoneEmpty pieces → T (finite (pieceAt pieces i .start)) → eq (pieceAt pieces i .start) (pieceAt pieces i .end) ≡ false
+empty-at : (pieces : List Piece) (i : ℕ) → NoneEmpty pieces → T (finite (pieceAt pieces i .start))
+    → eq (pieceAt pieces i .start) (pieceAt pieces i .end) ≡ false
 empty-at [] i n f = absurd f
 empty-at (p ∷ pieces) zero n f = n .0
 empty-at (p ∷ pieces) (suc i) n f = empty-at pieces i (n .1) f
 
-each-append : (pieces : List Piece) (l r : List ℕ) → EachRises (map (pieceAt pieces) l) → EachRises (map (pieceAt pieces) r) → EachRises (map (pieceAt pieces) (l ++ r))
+each-append : (pieces : List Piece) (l r : List ℕ) → EachRises (map (pieceAt pieces) l) → EachRises (map (pieceAt pieces) r)
+    → EachRises (map (pieceAt pieces) (l ++ r))
 each-append pieces [] r p q = q
 each-append pieces (i ∷ l) r p q = (p .0, each-append pieces l r (p .1) q)
 
@@ -41,7 +43,8 @@ module _ (p : ℕ) (room : p ≤ 1000) (pieces : List Piece) (none : NoneEmpty p
   tree-rises (piece i) a b w c =
       let start = pieceAt pieces i .start in
       let end = pieceAt pieces i .end in
-      let apart : eq start end ≡ false = empty-at pieces i none (subst (λ (z : Float). T (finite z)) (sym (c .0)) (w .lower-below .finite)) in
+      let apart : eq start end ≡ false = empty-at pieces i none (subst (λ (z : Float). T (finite z)) (sym (c .0)) (w .lower-below .finite))
+      in
       let e : eq a b ≡ false = sym (ap (λ (z : Float). eq z b) (c .0)) ∙ sym (ap (λ (z : Float). eq start z) (c .1)) ∙ apart in
       let l : lt a b ≡ true = below-of-le a b (is-true (le a b) (w .ordered)) e in
       record { ends = l; cuts = tt; each = (ap (λ (z : Float). lt z end) (c .0) ∙ ap (λ (z : Float). lt a z) (c .1) ∙ l, tt) }
@@ -57,9 +60,11 @@ module _ (p : ℕ) (room : p ≤ 1000) (pieces : List Piece) (none : NoneEmpty p
 starts-rise : (a b : Float) (pieces : List Piece) → EndToEnd a b pieces → EachRises pieces → StartsRise pieces
 starts-rise a b [] e h = tt
 starts-rise a b (p ∷ []) e h = tt
-starts-rise a b (p ∷ q ∷ pieces) e h = (ap (λ (z : Float). lt (p .start) z) (e .1 .0) ∙ h .0, starts-rise (p .end) b (q ∷ pieces) (e .1) (h .1))
+starts-rise a b (p ∷ q ∷ pieces) e h =
+    (ap (λ (z : Float). lt (p .start) z) (e .1 .0) ∙ h .0, starts-rise (p .end) b (q ∷ pieces) (e .1) (h .1))
 
-pub cover-rises : (p : ℕ) → p ≤ 1000 → (lower upper : Float) (pieces : List Piece) → InOrder p lower upper → Covered lower upper pieces → Rises lower upper pieces
+pub cover-rises : (p : ℕ) → p ≤ 1000 → (lower upper : Float) (pieces : List Piece) → InOrder p lower upper → Covered lower upper pieces
+    → Rises lower upper pieces
 cover-rises p room lower upper pieces w c =
     let upward = map (pieceAt pieces) (placesOf (c .cover .tree)) in
     let tree : (cover : Cover lower upper pieces) → TreeRises pieces lower upper (cover .tree) =

@@ -1,4 +1,5 @@
--- The values and errors of a halving's pieces are at most 2^743, and a component's sum over at most 2^12 pieces at most 2^755, where the samples at
+-- The values and errors of a halving's pieces are at most 2^743, and a component's sum over at most 2^12 pieces at most
+-- 2^755, where the samples at
 -- heights of at most 2^28 are at most 2^700 and the strip's ends are at most 2^26 and in order. Assumes nothing.
 use mathlib.Core.Path.{_≡_, sym, subst}
 use mathlib.Core.List.{List, [], _∷_}
@@ -34,25 +35,33 @@ none-most p = record { finite = tt; size = le-of-eq (sym none) }
 
 pub few-below : (x : Float) (n p q : ℕ) → n ≤ 2 ^ q → AtMost (n * 2 ^ p) 1 x → Below (q + p) x
 few-below x n p q l h =
-    record { finite = h .finite; size = le-trans (h .size) (mul-le-mul-right (den x) (le-trans (mul-le-mul-right (2 ^ p) l) (le-of-eq (sym (pow-add 2 q p))))) }
+    record {
+      finite = h .finite;
+      size = le-trans (h .size)
+          (mul-le-mul-right (den x) (le-trans (mul-le-mul-right (2 ^ p) l) (le-of-eq (sym (pow-add 2 q p)))));
+    }
 
 -- ---- the numbers of a piece
 abbrev pub PieceBelow : ℕ → Piece → Type 0
 PieceBelow w p = (k : ℕ) → k < w → Below 743 (at (p .value) k) × Below 743 (at (p .error) k)
 
-module _ (w : ℕ) (f : Float → List Float) (bounded : (h : Float) → Below 28 h → Each (Below 700) (f h)) (wide : (h : Float) → w ≤ length (f h)) where
+module _ (w : ℕ) (f : Float → List Float) (bounded : (h : Float) → Below 28 h → Each (Below 700) (f h))
+    (wide : (h : Float) → w ≤ length (f h)) where
   piece-below : (a b : Float) → InOrder 26 a b → PieceBelow w (pieceOf w f a b)
   unfolding pieceOf
   piece-below a b i k l = (
-    subst (Below 743) (sym (at-tabulate w (λ j. halfWidth a b ⊗ sumOf kronrodWeight f a b j) k l)) (value-below w f bounded wide a b (i .lower-below) (i .upper-below) k l),
-    subst (Below 743) (sym (at-tabulate w (λ j. absOf (halfWidth a b ⊗ (sumOf kronrodWeight f a b j ⊖ sumOf gaussWeight f a b j))) k l)) (error-below w f bounded wide a b (i .lower-below) (i .upper-below) k l),
+    subst (Below 743) (sym (at-tabulate w (λ j. halfWidth a b ⊗ sumOf kronrodWeight f a b j) k l))
+        (value-below w f bounded wide a b (i .lower-below) (i .upper-below) k l),
+    subst (Below 743) (sym (at-tabulate w (λ j. absOf (halfWidth a b ⊗ (sumOf kronrodWeight f a b j ⊖ sumOf gaussWeight f a b j))) k l))
+        (error-below w f bounded wide a b (i .lower-below) (i .upper-below) k l),
   )
 
   pub pieces-below : (lower upper : Float) (limit : ℕ) → InOrder 26 lower upper → All (PieceBelow w) (halving w f lower upper limit .pieces)
   pieces-below lower upper limit i = each-piece w f (PieceBelow w) piece-below lower upper limit i .0
 
 -- ---- their sum
-sum-most : (w k : ℕ) → k < w → (pieces : List Piece) (sum : Float) (n : ℕ) → n + length pieces < 2 ^ 53 → AtMost (n * 2 ^ 743) 1 sum → All (PieceBelow w) pieces
+sum-most : (w k : ℕ) → k < w → (pieces : List Piece) (sum : Float) (n : ℕ) → n + length pieces < 2 ^ 53 → AtMost (n * 2 ^ 743) 1 sum
+    → All (PieceBelow w) pieces
     → AtMost ((n + length pieces) * 2 ^ 743) 1 (sumFrom sum (λ p. at (p .value) k) pieces)
 sum-most w k l [] sum n r h a = subst (λ (m : ℕ). AtMost (m * 2 ^ 743) 1 sum) (same n) h
   where
@@ -60,12 +69,14 @@ sum-most w k l [] sum n r h a = subst (λ (m : ℕ). AtMost (m * 2 ^ 743) 1 sum)
     same n = omega arith
 sum-most w k l (p ∷ pieces) sum n r h a =
     subst (λ (m : ℕ). AtMost (m * 2 ^ 743) 1 (sumFrom (sum ⊕ at (p .value) k) (λ p. at (p .value) k) pieces)) (moved n (length pieces))
-    (sum-most w k l pieces (sum ⊕ at (p .value) k) (suc n) (omega arith) (sum-step sum (at (p .value) k) n 743 (omega arith) (lit≤ tt) h (a .0 k l .0)) (a .1))
+    (sum-most w k l pieces (sum ⊕ at (p .value) k) (suc n) (omega arith)
+    (sum-step sum (at (p .value) k) n 743 (omega arith) (lit≤ tt) h (a .0 k l .0)) (a .1))
   where
     moved : (n m : ℕ) → suc n + m ≡ n + suc m
     moved n m = omega arith
 
-pub total-below : (w k : ℕ) → k < w → (pieces : List Piece) → length pieces ≤ 2 ^ 12 → All (PieceBelow w) pieces → Below 755 (totalOf pieces k)
+pub total-below : (w k : ℕ) → k < w → (pieces : List Piece) → length pieces ≤ 2 ^ 12 → All (PieceBelow w) pieces
+    → Below 755 (totalOf pieces k)
 unfolding totalOf
 total-below w k l pieces few a =
     few-below (sumFrom (bits 0) (λ p. at (p .value) k) pieces) (length pieces) 743 12 few

@@ -29,7 +29,8 @@ module _ (points : List Float) (i : ℕ) where
   pub apart-accepted : (j : ℕ) → segmentsTouch (edgeAt points i) (edgeAt points j) ≡ false → pairCheck points i j ≡ Accepted
   apart-accepted j h = rw (h, and-false (not (areNeighbours (pairCount points) i j)))
 
-  pub touch-refused : (j : ℕ) → i + 2 ≤ j → j + 1 < pairCount points → segmentsTouch (edgeAt points i) (edgeAt points j) ≡ true → pairCheck points i j ≡ Refused (Touches i j)
+  pub touch-refused : (j : ℕ) → i + 2 ≤ j → j + 1 < pairCount points → segmentsTouch (edgeAt points i) (edgeAt points j) ≡ true
+      → pairCheck points i j ≡ Refused (Touches i j)
   touch-refused j h k t =
       rw (t, ne-eqb j (i + 1) (λ e. omega arith), ne-eqb (j + 1) (pairCount points) (λ e. omega arith), and-false (eqb i 0))
 
@@ -37,14 +38,18 @@ module _ (points : List Float) (i : ℕ) where
   pub from-second : firstBetween (i + 2) (pairCount points) (pairCheck points i) ≡ edgeCheck points i
   from-second = go (ltb (i + 1) (pairCount points)) refl
     where
-      go : (b : Bool) → ltb (i + 1) (pairCount points) ≡ b → firstBetween (i + 2) (pairCount points) (pairCheck points i) ≡ edgeCheck points i
-      go true t = rw (let e : i + 1 + 1 ≡ i + 2 = omega arith in e) at (goes-on (pairCheck points i) (pairCount points) _ (i + 1) refl (ltb-true _ _ t) neighbour-accepted)
+      go : (b : Bool) → ltb (i + 1) (pairCount points) ≡ b
+          → firstBetween (i + 2) (pairCount points) (pairCheck points i) ≡ edgeCheck points i
+      go true t = rw (let e : i + 1 + 1 ≡ i + 2 = omega arith in e) at
+          (goes-on (pairCheck points i) (pairCount points) _ (i + 1) refl (ltb-true _ _ t) neighbour-accepted)
       go false t =
           let l = ltb-false (i + 1) (pairCount points) t in
-          sym (ends (pairCheck points i) (pairCount points) _ (i + 2) refl (omega arith)) ∙ ends (pairCheck points i) (pairCount points) (edgeCheck points i) (i + 1) refl l
+          sym (ends (pairCheck points i) (pairCount points) _ (i + 2) refl (omega arith))
+          ∙ ends (pairCheck points i) (pairCount points) (edgeCheck points i) (i + 1) refl l
 
 -- the last check of a scan gives its answer
-pub last-check : (check : ℕ → Verdict) (n : ℕ) (whole : Verdict) (i : ℕ) → firstBetween i n check ≡ whole → i < n → n ≤ i + 1 → check i ≡ whole
+pub last-check : (check : ℕ → Verdict) (n : ℕ) (whole : Verdict) (i : ℕ) → firstBetween i n check ≡ whole → i < n → n ≤ i + 1
+    → check i ≡ whole
 last-check check n whole i left h k = go (check i) refl
   where
     go : (v : Verdict) → check i ≡ v → check i ≡ whole

@@ -23,14 +23,19 @@ module _ (points : List Float) (f : (i : ℕ) → T (fits binary64 (at points i)
   point-sized : (i : ℕ) → pointCheck points i ≡ Accepted → Length (xAt points i) × Height (heightAt points i)
   point-sized i h =
       let xs = both (lengthCheck pointXField (xAt points i)) _ h in
-      let ys = both (lengthCheck pointYField (heightAt points i)) Accepted (xs .1) in
-      (length-checked pointXField (xAt points i) (f (2 * i)) (xs .0), height-checked pointYField (heightAt points i) (f (2 * i + 1)) (ys .0) refl refl)
+      let ys = both (lengthCheck pointYField (heightAt points i)) Accepted (xs .1) in (
+        length-checked pointXField (xAt points i) (f (2 * i)) (xs .0),
+        height-checked pointYField (heightAt points i) (f (2 * i + 1)) (ys .0)
+            refl refl,
+      )
 
-  last-sized : (n : ℕ) → 3 ≤ n → pointCheck points (n - 1) ≡ Accepted → lt (bits 0) (xAt points (n - 1)) ≡ true → PositiveLength (lastX points n)
+  last-sized : (n : ℕ) → 3 ≤ n → pointCheck points (n - 1) ≡ Accepted → lt (bits 0) (xAt points (n - 1)) ≡ true
+      → PositiveLength (lastX points n)
   last-sized zero l h p = absurd (let z : ⊥ = omega arith in z)
   last-sized (suc n) l h p =
       let e : suc n - 1 ≡ n = omega arith in
-      above-checked pointXField (xAt points n) (f (2 * n)) (both _ _ (subst (λ (k : ℕ). pointCheck points k ≡ Accepted) e h) .0) (subst (λ (k : ℕ). lt (bits 0) (xAt points k) ≡ true) e p)
+      above-checked pointXField (xAt points n) (f (2 * n)) (both _ _ (subst (λ (k : ℕ). pointCheck points k ≡ Accepted) e h) .0)
+      (subst (λ (k : ℕ). lt (bits 0) (xAt points k) ≡ true) e p)
 
   pub outline-sized : outlineCheck points ≡ Accepted → Sized Outline points
   unfolding outlineCheck
@@ -39,7 +44,8 @@ module _ (points : List Float) (f : (i : ℕ) → T (fits binary64 (at points i)
       let three = points-within points h .0 in
       let after-pairs = both _ _ h .1 in
       let all : n - 0 ≡ n = sub-zero n in
-      let each : (k : ℕ) → k < n → pointCheck points k ≡ Accepted = λ k l. rw (let e : 0 + k ≡ k = omega arith in e) at (each-accepted (pointCheck points) 0 n (rw all at (both _ _ after-pairs .0)) k l) in
+      let each : (k : ℕ) → k < n → pointCheck points k ≡ Accepted = λ k l. rw (let e : 0 + k ≡ k = omega arith in e) at
+      (each-accepted (pointCheck points) 0 n (rw all at (both _ _ after-pairs .0)) k l) in
       let p : Bool = eq (xAt points 0) (bits 0) && eq (heightAt points 0) (bits 0) in
       let c : Bool = lt (bits 0) (xAt points (n - 1)) in
       let d : Bool = eq (heightAt points (n - 1)) (bits 0) in

@@ -20,7 +20,8 @@ all-stored s l e =
     sets-eq l s 0 (omega arith) ∙ ap (λ (r : List Float). l ++ r) (drop-of-length-le s h) ∙ append-nil l
 
 -- two numbers, seven and seven over sixteen
-pub sevens-stored : (s v e : List Float) (p : Piece) → length s ≡ pieceNumbers → v ≡ tabulate 7 (at (p .value)) → e ≡ tabulate 7 (at (p .error)) → putMid 9 7 (putMid 2 7 (set (set s 0 (p .start)) 1 (p .end)) v) e ≡ numbersOf p
+pub sevens-stored : (s v e : List Float) (p : Piece) → length s ≡ pieceNumbers → v ≡ tabulate 7 (at (p .value))
+    → e ≡ tabulate 7 (at (p .error)) → putMid 9 7 (putMid 2 7 (set (set s 0 (p .start)) 1 (p .end)) v) e ≡ numbersOf p
 sevens-stored [] v e p n f g = absurd (omega arith)
 sevens-stored (x ∷ []) v e p n f g = absurd (omega arith)
 sevens-stored (x ∷ y ∷ rest) v e p n f g =
@@ -28,7 +29,8 @@ sevens-stored (x ∷ y ∷ rest) v e p n f g =
     rw (f, g, drop-of-length-le (drop 7 rest) h, append-nil (tabulate 7 (at (p .error))))
 
 -- the sixteen are still sixteen after the first seven
-pub seven-stored-length : (s v : List Float) (a b : Float) (f : ℕ → Float) → length s ≡ pieceNumbers → v ≡ tabulate 7 f → length (putMid 2 7 (set (set s 0 a) 1 b) v) ≡ pieceNumbers
+pub seven-stored-length : (s v : List Float) (a b : Float) (f : ℕ → Float) → length s ≡ pieceNumbers → v ≡ tabulate 7 f
+    → length (putMid 2 7 (set (set s 0 a) 1 b) v) ≡ pieceNumbers
 seven-stored-length [] v a b f n e = absurd (omega arith)
 seven-stored-length (x ∷ []) v a b f n e = absurd (omega arith)
 seven-stored-length (x ∷ y ∷ rest) v a b f n e = rw e (simp length-drop (omega arith))
@@ -37,13 +39,15 @@ pub part-size : (i : ℕ) → i * pieceNumbers + pieceNumbers - i * pieceNumbers
 part-size i = omega arith
 
 -- a part that comes back as a piece's numbers
-pub put-back : (s l : List Float) (i : ℕ) (p : Piece) → l ≡ numbersOf p → putMid (i * pieceNumbers) (i * pieceNumbers + pieceNumbers - i * pieceNumbers) s l ≡ putAt s i p
+pub put-back : (s l : List Float) (i : ℕ) (p : Piece) → l ≡ numbersOf p
+    → putMid (i * pieceNumbers) (i * pieceNumbers + pieceNumbers - i * pieceNumbers) s l ≡ putAt s i p
 put-back s l i p e =
     let h : i * pieceNumbers ≤ i * pieceNumbers + pieceNumbers = omega arith in
     ap₂ (λ (x y : List Float). take (i * pieceNumbers) s ++ (x ++ y)) e (post-is (i * pieceNumbers) (i * pieceNumbers + pieceNumbers) s h)
 
 -- the pieces from place i on
-pub pieces-step : (n i : ℕ) (s : List Float) → i < n → piecesIn (n - i) (drop (i * pieceNumbers) s) ≡ readAt s i ∷ piecesIn (n - (i + 1)) (drop ((i + 1) * pieceNumbers) s)
+pub pieces-step : (n i : ℕ) (s : List Float) → i < n
+    → piecesIn (n - i) (drop (i * pieceNumbers) s) ≡ readAt s i ∷ piecesIn (n - (i + 1)) (drop ((i + 1) * pieceNumbers) s)
 pieces-step n i s h =
     let e : n - i ≡ suc (n - (i + 1)) = omega arith in
     let f : (i + 1) * pieceNumbers ≡ i * pieceNumbers + pieceNumbers = omega arith in
@@ -59,7 +63,9 @@ piece-at zero i s d h = absurd (not-suc-le-zero h)
 piece-at (suc n) zero s d h = refl
 piece-at (suc n) (suc i) s d h =
     let e : suc i * pieceNumbers ≡ pieceNumbers + i * pieceNumbers = omega arith in
-    piece-at n i (drop pieceNumbers s) d (le-of-suc-le-suc h) ∙ ap (λ (l : List Float). pieceIn (take pieceNumbers l)) (drop-drop (i * pieceNumbers) pieceNumbers s ∙ ap (λ (j : ℕ). drop j s) (sym e))
+    piece-at n i (drop pieceNumbers s) d (le-of-suc-le-suc h)
+    ∙ ap (λ (l : List Float). pieceIn (take pieceNumbers l))
+    (drop-drop (i * pieceNumbers) pieceNumbers s ∙ ap (λ (j : ℕ). drop j s) (sym e))
 
 -- ---- the scratch is its pieces and what is behind them
 
@@ -81,28 +87,37 @@ written-same (suc n) s h =
     let e : suc n * pieceNumbers ≡ pieceNumbers + n * pieceNumbers = omega arith in
     let k : n * pieceNumbers ≤ length (drop pieceNumbers s) = simp length-drop (omega arith) in
     let m : pieceNumbers ≤ length s = omega arith in
-    ap (λ (r : List Float). numbersOf (pieceIn (take pieceNumbers s)) ++ (stored (piecesIn n (drop pieceNumbers s)) ++ r)) (ap (λ (j : ℕ). drop j s) e ∙ sym (drop-drop (n * pieceNumbers) pieceNumbers s))
+    ap (λ (r : List Float). numbersOf (pieceIn (take pieceNumbers s)) ++ (stored (piecesIn n (drop pieceNumbers s)) ++ r))
+    (ap (λ (j : ℕ). drop j s) e ∙ sym (drop-drop (n * pieceNumbers) pieceNumbers s))
     ∙ ap (λ (r : List Float). numbersOf (pieceIn (take pieceNumbers s)) ++ r) (written-same n (drop pieceNumbers s) k)
     ∙ ap (λ (l : List Float). l ++ drop pieceNumbers s) (sixteen (take pieceNumbers s) (length-take-le pieceNumbers s m))
     ∙ take-append-drop pieceNumbers s
 
 put-later : (p q : Piece) (l : List Float) (i : ℕ) → putAt (numbersOf p ++ l) (suc i) q ≡ numbersOf p ++ putAt l i q
 put-later p q l i =
-    let e : suc i * pieceNumbers ≡ suc (suc (suc (suc (suc (suc (suc (suc (suc (suc (suc (suc (suc (suc (suc (suc (i * pieceNumbers)))))))))))))))) = omega arith in
-    let f : suc i * pieceNumbers + pieceNumbers ≡ suc (suc (suc (suc (suc (suc (suc (suc (suc (suc (suc (suc (suc (suc (suc (suc (i * pieceNumbers + pieceNumbers)))))))))))))))) = omega arith in
+    let e : suc i * pieceNumbers
+    ≡ suc (suc (suc (suc (suc (suc (suc (suc (suc (suc (suc (suc (suc (suc (suc (suc (i * pieceNumbers)))))))))))))))) = omega arith in
+    let f : suc i * pieceNumbers + pieceNumbers
+    ≡ suc (suc (suc (suc (suc (suc (suc (suc (suc (suc (suc (suc (suc (suc (suc (suc (i * pieceNumbers + pieceNumbers)))))))))))))))) =
+    omega arith in
     ap₂ (λ (x y : ℕ). take x (numbersOf p ++ l) ++ (numbersOf q ++ drop y (numbersOf p ++ l))) e f
 
-put-in-place : (pieces : List Piece) (i : ℕ) (q : Piece) (r : List Float) → i < length pieces → putAt (stored pieces ++ r) i q ≡ stored (set pieces i q) ++ r
+put-in-place : (pieces : List Piece) (i : ℕ) (q : Piece) (r : List Float) → i < length pieces
+    → putAt (stored pieces ++ r) i q ≡ stored (set pieces i q) ++ r
 put-in-place [] i q r h = absurd (not-suc-le-zero h)
 put-in-place (p ∷ pieces) zero q r h = refl
-put-in-place (p ∷ pieces) (suc i) q r h = put-later p q (stored pieces ++ r) i ∙ ap (λ (l : List Float). numbersOf p ++ l) (put-in-place pieces i q r (le-of-suc-le-suc h))
+put-in-place (p ∷ pieces) (suc i) q r h = put-later p q (stored pieces ++ r) i
+    ∙ ap (λ (l : List Float). numbersOf p ++ l) (put-in-place pieces i q r (le-of-suc-le-suc h))
 
-put-behind : (pieces : List Piece) (q : Piece) (r : List Float) → putAt (stored pieces ++ r) (length pieces) q ≡ stored (pieces ++ (q ∷ [])) ++ drop pieceNumbers r
+put-behind : (pieces : List Piece) (q : Piece) (r : List Float)
+    → putAt (stored pieces ++ r) (length pieces) q ≡ stored (pieces ++ (q ∷ [])) ++ drop pieceNumbers r
 put-behind [] q r = refl
-put-behind (p ∷ pieces) q r = put-later p q (stored pieces ++ r) (length pieces) ∙ ap (λ (l : List Float). numbersOf p ++ l) (put-behind pieces q r)
+put-behind (p ∷ pieces) q r = put-later p q (stored pieces ++ r) (length pieces)
+    ∙ ap (λ (l : List Float). numbersOf p ++ l) (put-behind pieces q r)
 
 -- "The left half replaces it, the right half is appended."
-pub halves-stored : (n i : ℕ) (s : List Float) (l r : Piece) → i < n → n * pieceNumbers ≤ length s → putAt (putAt s i l) n r ≡ written (set (piecesIn n s) i l ++ (r ∷ [])) s
+pub halves-stored : (n i : ℕ) (s : List Float) (l r : Piece) → i < n → n * pieceNumbers ≤ length s
+    → putAt (putAt s i l) n r ≡ written (set (piecesIn n s) i l ++ (r ∷ [])) s
 halves-stored n i s l r h k =
     let ps = piecesIn n s in
     let z = drop (n * pieceNumbers) s in
@@ -113,4 +128,5 @@ halves-stored n i s l r h k =
     ∙ ap (λ (x : List Float). putAt x n r) (put-in-place ps i l z (omega arith))
     ∙ ap (λ (j : ℕ). putAt (stored (set ps i l) ++ z) j r) (sym b)
     ∙ put-behind (set ps i l) r z
-    ∙ ap (λ (x : List Float). stored (set ps i l ++ (r ∷ [])) ++ x) (drop-drop pieceNumbers (n * pieceNumbers) s ∙ ap (λ (j : ℕ). drop j s) (sym d))
+    ∙ ap (λ (x : List Float). stored (set ps i l ++ (r ∷ [])) ++ x)
+    (drop-drop pieceNumbers (n * pieceNumbers) s ∙ ap (λ (j : ℕ). drop j s) (sym d))

@@ -12,7 +12,8 @@ use Rattle.placements.specs.Places.{listCheck, placesCheck}
 use Rattle.placements.specs.Copies.{copiesCheck}
 
 -- `v` is the first refusal of the body's check and the list's
-module _ (rolled : Bool) (b : Body) (l : List Float) {checked listed v : Verdict} (p : checked ≡ checkOf b) (q : listed ≡ listCheck rolled l) (e : v ≡ firstRefusal checked listed) where
+module _ (rolled : Bool) (b : Body) (l : List Float) {checked listed v : Verdict} (p : checked ≡ checkOf b)
+    (q : listed ≡ listCheck rolled l) (e : v ≡ firstRefusal checked listed) where
   both : v ≡ firstRefusal (checkOf b) (listCheck rolled l)
   both = e ∙ ap₂ firstRefusal p q
 

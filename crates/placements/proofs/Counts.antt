@@ -27,7 +27,8 @@ listed true n h = count-within n h
 listed false n h = absurd (false≢true (holds false Count h))
 
 -- an accepted list holds 1 to 32 places
-pub counted : (rolled : Bool) (b : Body) (l : List Float) → copiesCheck rolled b l ≡ Accepted → (1 ≤ placeCount rolled l) × (placeCount rolled l ≤ 32)
+pub counted : (rolled : Bool) (b : Body) (l : List Float) → copiesCheck rolled b l ≡ Accepted
+    → (1 ≤ placeCount rolled l) × (placeCount rolled l ≤ 32)
 unfolding copiesCheck
 counted rolled b l h =
     listed (isWholeList rolled l) (placeCount rolled l) (each-accepts (checkOf b ∷ listCheck rolled l ∷ placesCheck rolled l ∷ []) h .1 .0)

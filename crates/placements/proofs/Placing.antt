@@ -15,7 +15,8 @@ use Rattle.placements.specs.declared.Placement.{Placement}
 use Rattle.placements.specs.Places.{isHere}
 use Rattle.placements.specs.Copies.{turnedCopy, copyAt, placedOf}
 
-module _ (b : Body) (places : ℕ → Placement) (n : ℕ) {count : ℕ} {same : Bool} {first : Placement} (p : count ≡ n) (q : first ≡ places 0) (e : same ≡ isHere first) where
+module _ (b : Body) (places : ℕ → Placement) (n : ℕ) {count : ℕ} {same : Bool} {first : Placement} (p : count ≡ n) (q : first ≡ places 0)
+    (e : same ≡ isHere first) where
   test : (eqb count 1 && same) ≡ (eqb n 1 && isHere (places 0))
   test = rw (p, e, q)
 
@@ -23,7 +24,8 @@ module _ (b : Body) (places : ℕ → Placement) (n : ℕ) {count : ℕ} {same :
   unfolding placedOf
   at-here t k = k ∙ rw (sym test ∙ t)
 
-  pub elsewhere : {r : Joined} → (eqb count 1 && same) ≡ false → 1 ≤ n → n ≤ 32 → r ≡ joinedOf (λ k. copyAt b (places k)) count → r ≡ acceptedBody (placedOf b places n)
+  pub elsewhere : {r : Joined} → (eqb count 1 && same) ≡ false → 1 ≤ n → n ≤ 32 → r ≡ joinedOf (λ k. copyAt b (places k)) count
+      → r ≡ acceptedBody (placedOf b places n)
   unfolding placedOf
   elsewhere t l h k = k ∙ rw (p, sym test ∙ t, le-leb 1 n l, le-leb n 32 h)
 

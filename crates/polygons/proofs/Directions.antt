@@ -1,4 +1,5 @@
--- Where a point lies does not hang on the direction in which the corners are given: each edge is an edge of the other polygon with its ends exchanged,
+-- Where a point lies does not hang on the direction in which the corners are given: each edge is an edge of the other
+-- polygon with its ends exchanged,
 -- a point lies on one where it does on the other, and one is cut where the other is. The nearest corner is as far. Assumes nothing.
 use mathlib.Core.Bool.{Bool, true, false, cond, _&&_, _||_}
 use mathlib.Core.List.{List}
@@ -12,7 +13,8 @@ use lib.ListN.{length, getD}
 use lib.Signed.{leZ, _≤ℤ_}
 use Rattle.segments.specs.Segments.{next}
 use Rattle.polygons.specs.declared.Offset.{Offset}
-use Rattle.polygons.specs.Polygons.{isSame, isZeroBetween, liesOn, isCutRising, isCut, squaredDistance, cornerCount, offsetOf, isOn, cuts, some, count, isOnEdge, isInside, nearestCorner}
+use Rattle.polygons.specs.Polygons.{isSame, isZeroBetween, liesOn, isCutRising, isCut, squaredDistance, cornerCount, offsetOf, isOn}
+use Rattle.polygons.specs.Polygons.{cuts, some, count, isOnEdge, isInside, nearestCorner}
 use Rattle.polygons.proofs.Corners.{nearest-among, none-nearer}
 
 -- ---- an edge with its ends exchanged
@@ -37,7 +39,11 @@ between-either-way a b = or-comm (leZ a (pos 0) && leZ (pos 0) b) (leZ b (pos 0)
 
 lies-either-way : (a b : Offset) → liesOn a b ≡ liesOn b a
 unfolding liesOn
-lies-either-way a b = rw (same-either-way (a .across *ℤ b .up) (b .across *ℤ a .up), between-either-way (a .across) (b .across), between-either-way (a .up) (b .up))
+lies-either-way a b = rw (
+  same-either-way (a .across *ℤ b .up) (b .across *ℤ a .up),
+  between-either-way (a .across) (b .across),
+  between-either-way (a .up) (b .up),
+)
 
 cut-either-way : (a b : Offset) → isCut a b ≡ isCut b a
 unfolding isCut
@@ -66,7 +72,8 @@ module _ {A : Type 0} (op : A → A → A) (unit : A) where
     backwards zero f = refl
     backwards (suc n) f =
         let e : suc n - suc n ≡ 0 = omega arith in
-        let later = same-joined n (λ i. f (suc n - suc i)) (λ i. f (suc (n - suc i))) (λ i h. ap f (let z : suc n - suc i ≡ suc (n - suc i) = omega arith in z)) in
+        let later = same-joined n (λ i. f (suc n - suc i)) (λ i. f (suc (n - suc i)))
+        (λ i h. ap f (let z : suc n - suc i ≡ suc (n - suc i) = omega arith in z)) in
         rw (e, later, backwards n (λ i. f (suc i))) (comm (joined n (λ i. f (suc i))) (f 0) ∙ sym (first-apart n f))
 
 or-assoc : (a b c : Bool) → (a || b || c) ≡ (a || (b || c))
@@ -86,10 +93,12 @@ count-joined (suc n) p = ap (λ (k : ℕ). k + cond (p n) 1 0) (count-joined n p
 -- ---- the edges of the other polygon
 
 -- of n + 1 edges, q's are p's backwards, but for the closing one
-module _ {A : Type 0} (op : A → A → A) (unit : A) (comm : (a b : A) → op a b ≡ op b a) (assoc : (a b c : A) → op (op a b) c ≡ op a (op b c)) where
-  same-edges : (n : ℕ) (p q : ℕ → A) → ((i : ℕ) → i < n → q i ≡ p (n - suc i)) → q n ≡ p n → joined op unit (suc n) q ≡ joined op unit (suc n) p
-  unfolding joined
-  same-edges n p q e last = rw (same-joined op unit n q (λ i. p (n - suc i)) e, backwards op unit comm assoc n p, last)
+module _ {A : Type 0} (op : A → A → A) (unit : A) (comm : (a b : A) → op a b ≡ op b a) (assoc : (a b c : A) → op (op a b) c ≡ op a (op b c))
+  where
+    same-edges : (n : ℕ) (p q : ℕ → A) → ((i : ℕ) → i < n → q i ≡ p (n - suc i)) → q n ≡ p n
+        → joined op unit (suc n) q ≡ joined op unit (suc n) p
+    unfolding joined
+    same-edges n p q e last = rw (same-joined op unit n q (λ i. p (n - suc i)) e, backwards op unit comm assoc n p, last)
 
 next-inner : (n j : ℕ) → j < n → next (suc n) j ≡ j + 1
 next-inner n j h = mod-eq-of-lt (let z : j + 1 < suc n = omega arith in z)
@@ -120,25 +129,36 @@ module _ (corners other : List ℤ) (r : Reversed corners other) (x height : ℤ
     inner n i e h =
         let f = offsetOf corners x height in
         let last = offsetOf other x height (next (cornerCount other) i) in
-        let from : offsetOf other x height i ≡ f (n - i) = turned i (omega arith) ∙ ap f (let z : cornerCount corners - suc i ≡ n - i = omega arith in z) in
-        let to : last ≡ f (n - suc i) = ap (offsetOf other x height) (ap (λ (k : ℕ). next k i) (counted ∙ e) ∙ next-inner n i h) ∙ turned (i + 1) (omega arith) ∙ ap f (let z : cornerCount corners - suc (i + 1) ≡ n - suc i = omega arith in z) in
-        let back : f (next (cornerCount corners) (n - suc i)) ≡ f (n - i) = ap f (ap (λ (k : ℕ). next k (n - suc i)) e ∙ next-inner n (n - suc i) (omega arith) ∙ (let z : n - suc i + 1 ≡ n - i = omega arith in z)) in
-        ap (λ (a : Offset). test a last) from ∙ ap (λ (b : Offset). test (f (n - i)) b) to ∙ either-way (f (n - i)) (f (n - suc i)) ∙ ap (λ (b : Offset). test (f (n - suc i)) b) (sym back)
+        let from : offsetOf other x height i ≡ f (n - i) = turned i (omega arith)
+        ∙ ap f (let z : cornerCount corners - suc i ≡ n - i = omega arith in z) in
+        let to : last ≡ f (n - suc i) = ap (offsetOf other x height) (ap (λ (k : ℕ). next k i) (counted ∙ e) ∙ next-inner n i h)
+        ∙ turned (i + 1) (omega arith) ∙ ap f (let z : cornerCount corners - suc (i + 1) ≡ n - suc i = omega arith in z) in
+        let back : f (next (cornerCount corners) (n - suc i)) ≡ f (n - i) = ap f
+        (ap (λ (k : ℕ). next k (n - suc i)) e ∙ next-inner n (n - suc i) (omega arith)
+        ∙ (let z : n - suc i + 1 ≡ n - i = omega arith in z)) in
+        ap (λ (a : Offset). test a last) from ∙ ap (λ (b : Offset). test (f (n - i)) b) to ∙ either-way (f (n - i)) (f (n - suc i))
+        ∙ ap (λ (b : Offset). test (f (n - suc i)) b) (sym back)
 
     closing : (n : ℕ) → cornerCount corners ≡ suc n → edge other n ≡ edge corners n
     closing n e =
         let f = offsetOf corners x height in
         let last = offsetOf other x height (next (cornerCount other) n) in
-        let from : offsetOf other x height n ≡ f 0 = turned n (omega arith) ∙ ap f (let z : cornerCount corners - suc n ≡ 0 = omega arith in z) in
-        let to : last ≡ f n = ap (offsetOf other x height) (ap (λ (k : ℕ). next k n) (counted ∙ e) ∙ next-last n) ∙ turned 0 (omega arith) ∙ ap f (let z : cornerCount corners - 1 ≡ n = omega arith in z) in
+        let from : offsetOf other x height n ≡ f 0 = turned n (omega arith)
+        ∙ ap f (let z : cornerCount corners - suc n ≡ 0 = omega arith in z) in
+        let to : last ≡ f n = ap (offsetOf other x height) (ap (λ (k : ℕ). next k n) (counted ∙ e) ∙ next-last n) ∙ turned 0 (omega arith)
+        ∙ ap f (let z : cornerCount corners - 1 ≡ n = omega arith in z) in
         let back : f (next (cornerCount corners) n) ≡ f 0 = ap f (ap (λ (k : ℕ). next k n) e ∙ next-last n) in
-        ap (λ (a : Offset). test a last) from ∙ ap (λ (b : Offset). test (f 0) b) to ∙ either-way (f 0) (f n) ∙ ap (λ (b : Offset). test (f n) b) (sym back)
+        ap (λ (a : Offset). test a last) from ∙ ap (λ (b : Offset). test (f 0) b) to ∙ either-way (f 0) (f n)
+        ∙ ap (λ (b : Offset). test (f n) b) (sym back)
 
-    module _ {A : Type 0} (op : A → A → A) (unit : A) (comm : (a b : A) → op a b ≡ op b a) (assoc : (a b c : A) → op (op a b) c ≡ op a (op b c)) (value : Bool → A) where
-      all-edges : (n : ℕ) → cornerCount corners ≡ n → joined op unit n (λ i. value (edge other i)) ≡ joined op unit n (λ i. value (edge corners i))
+    module _ {A : Type 0} (op : A → A → A) (unit : A) (comm : (a b : A) → op a b ≡ op b a)
+        (assoc : (a b c : A) → op (op a b) c ≡ op a (op b c)) (value : Bool → A) where
+      all-edges : (n : ℕ) → cornerCount corners ≡ n
+          → joined op unit n (λ i. value (edge other i)) ≡ joined op unit n (λ i. value (edge corners i))
       unfolding joined
       all-edges zero e = refl
-      all-edges (suc n) e = same-edges op unit comm assoc n (λ i. value (edge corners i)) (λ i. value (edge other i)) (λ i h. ap value (inner n i e h)) (ap value (closing n e))
+      all-edges (suc n) e = same-edges op unit comm assoc n (λ i. value (edge corners i)) (λ i. value (edge other i))
+          (λ i h. ap value (inner n i e h)) (ap value (closing n e))
 
   pub on-edge-either-way : isOnEdge other x height ≡ isOnEdge corners x height
   unfolding isOnEdge isOn
@@ -205,9 +225,11 @@ module _ (corners other : List ℤ) (r : Reversed corners other) (x height : ℤ
       let i = n - suc first in
       let less : i < n = omega arith in
       let back : n - suc i ≡ first = omega arith in
-      subst (λ (a : Offset). far other second ≤ℤ squaredDistance a) (turned corners other r x height i less ∙ ap (offsetOf corners x height) back)
+      subst (λ (a : Offset). far other second ≤ℤ squaredDistance a)
+      (turned corners other r x height i less ∙ ap (offsetOf corners x height) back)
       (none-nearer other x height i (subst (λ (k : ℕ). i < k) (sym as-many) less))
 
-  pub nearest-either-way : squaredDistance (offsetOf other x height (nearestCorner other x height)) ≡ squaredDistance (offsetOf corners x height (nearestCorner corners x height))
+  pub nearest-either-way : squaredDistance (offsetOf other x height (nearestCorner other x height))
+      ≡ squaredDistance (offsetOf corners x height (nearestCorner corners x height))
   unfolding first second far
   nearest-either-way = neither-less (far other second) (far corners first) (second-least .le) (first-least .le)

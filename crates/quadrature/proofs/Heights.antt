@@ -1,4 +1,5 @@
--- The heights of a piece: there are fifteen, and they are at most 2^28, with its ends at most 2^26. Where each component of a sample is bounded,
+-- The heights of a piece: there are fifteen, and they are at most 2^28, with its ends at most 2^26. Where each
+-- component of a sample is bounded,
 -- it is finite. Assumes nothing.
 use mathlib.Core.Path.{_≡_, refl}
 use mathlib.Core.Bool.{true}
@@ -75,7 +76,8 @@ eight-nodes : length nodes ≡ 8
 unfolding nodes
 eight-nodes = refl
 
-pub sides-below : (i : ℕ) (centre reach : Float) → i < 7 → Below 27 centre → Below 27 reach → Below 28 (minusSide centre reach i) × Below 28 (plusSide centre reach i)
+pub sides-below : (i : ℕ) (centre reach : Float) → i < 7 → Below 27 centre → Below 27 reach
+    → Below 28 (minusSide centre reach i) × Below 28 (plusSide centre reach i)
 sides-below i centre reach l c r =
     let node = each-at (Below 0) nodes i nodes-below (rw eight-nodes (le-trans l (lit≤ tt))) in
     let up-to = within (27 ∷ 27 ∷ 0 ∷ []) [] (centre ∷ reach ∷ at nodes i ∷ []) [] (c, (r, (node, tt))) tt in
@@ -86,15 +88,18 @@ unfolding heightsTo
 heights-to zero centre reach l c r = (weaker centre 27 28 (lit≤ tt) c, tt)
 heights-to (suc i) centre reach l c r =
     let sides = sides-below i centre reach l c r in
-    each-append (Below 28) (heightsTo i centre reach) (minusSide centre reach i ∷ plusSide centre reach i ∷ []) (heights-to i centre reach (le-trans (le-suc i) l) c r)
+    each-append (Below 28) (heightsTo i centre reach) (minusSide centre reach i ∷ plusSide centre reach i ∷ [])
+    (heights-to i centre reach (le-trans (le-suc i) l) c r)
     (sides .0, (sides .1, tt))
 
 module _ (a b : Float) (ha : Below 26 a) (hb : Below 26 b) where
   pub centre-below : Below 27 (halfSum a b)
-  centre-below = within (26 ∷ 26 ∷ 0 ∷ []) [] (a ∷ b ∷ half ∷ []) [] (ha, (hb, (half-below, tt))) tt (given 2 times (given 0 plus given 1)) 27 tt
+  centre-below = within (26 ∷ 26 ∷ 0 ∷ []) [] (a ∷ b ∷ half ∷ []) [] (ha, (hb, (half-below, tt))) tt (given 2 times (given 0 plus given 1))
+      27 tt
 
   pub reach-below : Below 27 (halfWidth a b)
-  reach-below = within (26 ∷ 26 ∷ 0 ∷ []) [] (a ∷ b ∷ half ∷ []) [] (ha, (hb, (half-below, tt))) tt (given 2 times (given 1 less given 0)) 27 tt
+  reach-below = within (26 ∷ 26 ∷ 0 ∷ []) [] (a ∷ b ∷ half ∷ []) [] (ha, (hb, (half-below, tt))) tt (given 2 times (given 1 less given 0))
+      27 tt
 
   pub heights-below : Each (Below 28) (heightsOf a b)
   heights-below = heights-to 7 (halfSum a b) (halfWidth a b) (lit≤ tt) centre-below reach-below
@@ -105,10 +110,12 @@ is-finite nan i = absurd i
 is-finite (inf s) i = absurd i
 is-finite (fin s m e) i = refl
 
-module _ (w : ℕ) (f : Float → List Float) (p q : ℕ) (bounded : (h : Float) → Below p h → Each (Below q) (f h)) (wide : (h : Float) → w ≤ length (f h)) where
+module _ (w : ℕ) (f : Float → List Float) (p q : ℕ) (bounded : (h : Float) → Below p h → Each (Below q) (f h))
+    (wide : (h : Float) → w ≤ length (f h)) where
   sample-finite : (h : Float) → Below p h → finiteSample w (f h) ≡ true
   sample-finite h b =
-      every-of-each w (λ k. isFinite (at (f h) k)) (λ k l. is-finite (at (f h) k) (each-at (Below q) (f h) k (bounded h b) (le-trans l (wide h)) .finite))
+      every-of-each w (λ k. isFinite (at (f h) k))
+      (λ k l. is-finite (at (f h) k) (each-at (Below q) (f h) k (bounded h b) (le-trans l (wide h)) .finite))
 
   pub finite-at : (l : List Float) → Each (Below p) l → finiteAt w f l ≡ true
   unfolding finiteAt

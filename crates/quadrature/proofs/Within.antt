@@ -1,4 +1,5 @@
--- The least and the largest of a piece's heights, height by height: of those asked none is below the one, or above the other. The order of f64s
+-- The least and the largest of a piece's heights, height by height: of those asked none is below the one, or above the
+-- other. The order of f64s
 -- alone says so, NaNs too, which are below nothing. Assumes nothing.
 use mathlib.Core.Path.{_≡_, refl, sym, _∙_}
 use mathlib.Core.Bool.{Bool, true, false, cond}
@@ -46,14 +47,21 @@ itself-above h y false t = t
 pub first-within : (scale : Float) (heights : List Float) → WithinTo 1 scale heights (at heights 0 ⊗ scale) (at heights 0 ⊗ scale)
 first-within scale heights =
     let h = at heights 0 ⊗ scale in
-    below-more (λ (j : ℕ). (lt (at heights j ⊗ scale) h ≡ false) × (lt h (at heights j ⊗ scale) ≡ false)) 0 (λ j l. absurd (not-suc-le-zero l)) (not-below-itself h, not-below-itself h)
+    below-more (λ (j : ℕ). (lt (at heights j ⊗ scale) h ≡ false) × (lt h (at heights j ⊗ scale) ≡ false)) 0
+    (λ j l. absurd (not-suc-le-zero l)) (not-below-itself h, not-below-itself h)
 
 pub one-within : (scale : Float) (heights : List Float) (i : ℕ) (lo hi lo' hi' : Float) → WithinTo i scale heights lo hi
-    → lo' ≡ cond (lt (at heights i ⊗ scale) lo) (at heights i ⊗ scale) lo → hi' ≡ cond (lt hi (at heights i ⊗ scale)) (at heights i ⊗ scale) hi
+    → lo' ≡ cond (lt (at heights i ⊗ scale) lo) (at heights i ⊗ scale) lo
+    → hi' ≡ cond (lt hi (at heights i ⊗ scale)) (at heights i ⊗ scale) hi
     → WithinTo (i + 1) scale heights lo' hi'
 one-within scale heights i lo hi lo' hi' w e f =
     let h = at heights i ⊗ scale in
     rw (e, f)
-    (below-more (λ (j : ℕ). (lt (at heights j ⊗ scale) (cond (lt h lo) h lo) ≡ false) × (lt (cond (lt hi h) h hi) (at heights j ⊗ scale) ≡ false)) i
-    (λ j l. (not-below-less (at heights j ⊗ scale) h lo (lt h lo) refl (w j l .0), not-above-more (at heights j ⊗ scale) h hi (lt hi h) refl (w j l .1)))
+    (below-more (λ (j : ℕ). (lt (at heights j ⊗ scale) (cond (lt h lo) h lo) ≡ false)
+    × (lt (cond (lt hi h) h hi) (at heights j ⊗ scale) ≡ false)) i
+    (λ j l. (
+      not-below-less (at heights j ⊗ scale) h lo (lt h lo) refl (w j l .0),
+      not-above-more (at heights j ⊗ scale) h hi (lt hi h) refl
+          (w j l .1),
+    ))
     (itself-below h lo (lt h lo) refl, itself-above h hi (lt hi h) refl))

@@ -5,7 +5,8 @@ use lib.Ieee.{Float, isNan, lt, le, eq, ne}
 use Rattle.floats.specs.Operations.{bits}
 use Rattle.floats.specs.Floats.{minOf, maxOf}
 use Rattle.floats.proofs.Bools.{no, and-left, and-right, and-false}
-use Rattle.floats.proofs.Order.{lt-asym, equal-sym, equal-not-below, equal-no-nan, le-not-below, le-no-nan, below-nan, ne-itself, not-below-itself, below-through}
+use Rattle.floats.proofs.Order.{lt-asym, equal-sym, equal-not-below, equal-no-nan, le-not-below, le-no-nan, below-nan, ne-itself}
+use Rattle.floats.proofs.Order.{not-below-itself, below-through}
 use Rattle.limits.specs.Limits.{isWithin}
 use Rattle.segments.specs.declared.Place.{Place}
 use Rattle.segments.specs.declared.Segment.{Segment}
@@ -67,7 +68,8 @@ under p m x h k = not-true (le p x) (λ e. no (sym (below-through x m p (le-no-n
 
 le-nan : (x p : Float) → le x p ≡ true → isNan p ≡ false
 unfolding le
-le-nan x p h = not-true (isNan p) (λ n. or-cases (lt x p) (eq x p) h (λ l. no (sym l ∙ below-nan x p n)) (λ e. no (sym n ∙ equal-no-nan p x (equal-sym x p e))))
+le-nan x p h = not-true (isNan p)
+    (λ n. or-cases (lt x p) (eq x p) h (λ l. no (sym l ∙ below-nan x p n)) (λ e. no (sym n ∙ equal-no-nan p x (equal-sym x p e))))
 
 -- x is above m, which p is not
 over : (p m x : Float) → lt m x ≡ true → (isNan p ≡ false → lt m p ≡ false) → le x p ≡ false
@@ -75,7 +77,8 @@ over p m x h k = not-true (le x p) (λ e. no (sym (below-through m x p (le-nan x
 
 module _ (p q r s : Float) where
   all-under : (x : Float) → le x r ≡ false → le x s ≡ false → isWithin (minOf r s) (maxOf r s) x ≡ false
-  all-under x h k = ap (λ (b : Bool). le (minOf r s) x && b) (chosen (λ y. le x y ≡ false) (ne r r) (lt r s) r s h k) ∙ and-false (le (minOf r s) x)
+  all-under x h k = ap (λ (b : Bool). le (minOf r s) x && b) (chosen (λ y. le x y ≡ false) (ne r r) (lt r s) r s h k)
+      ∙ and-false (le (minOf r s) x)
 
   all-over : (x : Float) → le r x ≡ false → le s x ≡ false → isWithin (minOf r s) (maxOf r s) x ≡ false
   all-over x h k = ap (λ (b : Bool). b && le x (maxOf r s)) (chosen (λ y. le y x ≡ false) (ne r r) (lt s r) r s h k)
@@ -122,17 +125,20 @@ one-side d e h =
     record { together = rw (u .0, v .0) (rw (and-false (lt d (bits 0)))); first-off = u .1; second-off = v .1 })
 
 -- ---- together
-nowhere : (o o' a b c d e f g h : Bool) → o' ≡ false → b ≡ false → d ≡ false → e ≡ false → g ≡ false → (o && o' || a && b || c && d || e && f || g && h) ≡ false
+nowhere : (o o' a b c d e f g h : Bool) → o' ≡ false → b ≡ false → d ≡ false → e ≡ false → g ≡ false
+    → (o && o' || a && b || c && d || e && f || g && h) ≡ false
 nowhere o o' a b c d e f g h p q r s t = rw (p, q, r, s, t) (rw (and-false o, and-false a, and-false c))
 
 module _ (pq rs : Segment) where
-  beside-in-x : areBeyond (pq .from .x) (pq .to .x) (rs .from .x) (rs .to .x) ≡ true → (isInBox rs (pq .from) ≡ false) × (isInBox rs (pq .to) ≡ false)
+  beside-in-x : areBeyond (pq .from .x) (pq .to .x) (rs .from .x) (rs .to .x) ≡ true
+      → (isInBox rs (pq .from) ≡ false) × (isInBox rs (pq .to) ≡ false)
   unfolding isInBox
   beside-in-x h =
       let w = beyond (pq .from .x) (pq .to .x) (rs .from .x) (rs .to .x) h in
       (rw (w .0), rw (w .1))
 
-  beside-in-y : areBeyond (pq .from .y) (pq .to .y) (rs .from .y) (rs .to .y) ≡ true → (isInBox rs (pq .from) ≡ false) × (isInBox rs (pq .to) ≡ false)
+  beside-in-y : areBeyond (pq .from .y) (pq .to .y) (rs .from .y) (rs .to .y) ≡ true
+      → (isInBox rs (pq .from) ≡ false) × (isInBox rs (pq .to) ≡ false)
   unfolding isInBox
   beside-in-y h =
       let w = beyond (pq .from .y) (pq .to .y) (rs .from .y) (rs .to .y) h in
@@ -162,5 +168,7 @@ module _ (pq rs : Segment) where
       (isInBox pq (rs .to))
       (s .together) (w .0) (w .1) (s .first-off) (s .second-off)
 
-pub apart-no-touch : (pq rs : Segment) (a b : Place) → a ≡ placeOf pq (rs .from) → b ≡ placeOf pq (rs .to) → areApart pq a b ≡ true → segmentsTouch pq rs ≡ false
-apart-no-touch pq rs a b e f h = apart-places pq rs (ap (λ (p : Place). areApart pq p (placeOf pq (rs .to))) (sym e) ∙ ap (λ (q : Place). areApart pq a q) (sym f) ∙ h)
+pub apart-no-touch : (pq rs : Segment) (a b : Place) → a ≡ placeOf pq (rs .from) → b ≡ placeOf pq (rs .to) → areApart pq a b ≡ true
+    → segmentsTouch pq rs ≡ false
+apart-no-touch pq rs a b e f h = apart-places pq rs
+    (ap (λ (p : Place). areApart pq p (placeOf pq (rs .to))) (sym e) ∙ ap (λ (q : Place). areApart pq a q) (sym f) ∙ h)

@@ -3,7 +3,9 @@ use mathlib.Core.List.{List, [], _∷_, _++_}
 use mathlib.Core.Path.{_≡_, refl, sym, ap, subst, _∙_}
 use mathlib.Core.Bool.{Bool, true, false, cond}
 use Prim.Native.Nat.{ℕ, zero, suc, _+_, _-_, _*_, _/_, _%_, _^_, _≤_, _<_}
-use native.Mathlib.Nat.{le-trans, lt-of-lt-of-le, lt-of-le-of-lt, le-of-eq, mul-one, mul-comm, mul-assoc, mul-le-mul-left, mul-le-mul-right, mul-lt-mul-of-pos-right, le-div-iff-mul-le, div-lt-iff-lt-mul, pow-suc, pow-le-pow-left, pow-le-pow-right, one-le-pow, mod-lt}
+use native.Mathlib.Nat.{le-trans, lt-of-lt-of-le, lt-of-le-of-lt, le-of-eq, mul-one, mul-comm, mul-assoc, mul-le-mul-left, mul-le-mul-right}
+use native.Mathlib.Nat.{mul-lt-mul-of-pos-right, le-div-iff-mul-le, div-lt-iff-lt-mul, pow-suc, pow-le-pow-left, pow-le-pow-right}
+use native.Mathlib.Nat.{one-le-pow, mod-lt}
 use native.Mathlib.Omega.{arith}
 use borrow.Author.Tests.{lt-ltb, le-ltb, leb-true, leb-false, eq-eqb, ne-eqb, lt-leb, le-leb}
 use lib.Dec.{T, ltb, leb, eqb, eqb→eq, leb→le}
@@ -15,7 +17,8 @@ use Rattle.floats.specs.Units.{unitsOf}
 use Rattle.counts.specs.Counts.{digits, countText}
 use Rattle.decimals.proofs.Powers.{ten-to}
 use Rattle.root.proofs.Patterns.{field, subnormal-units, normal-units}
-use Rattle.significant.specs.Significant.{decimalUnitsOf, digitsUpTo, digitCount, nearestWhole, firstPlace, firstDigits, digitsOf, HasDigits}
+use Rattle.significant.specs.Significant.{decimalUnitsOf, digitsUpTo, digitCount, nearestWhole, firstPlace, firstDigits, digitsOf}
+use Rattle.significant.specs.Significant.{HasDigits}
 use Rattle.significant.proofs.Values.{ten-pos, ten-mono}
 use Rattle.significant.proofs.Exact.{not-all-ones}
 
@@ -37,7 +40,8 @@ cut-or-more : (a b : ℕ) → (a / b ≤ nearestWhole a b) × (nearestWhole a b 
 unfolding nearestWhole
 cut-or-more a b = by (ltb (a % b * 2) b) (ltb b (a % b * 2))
   where
-    by : (s t : Bool) → (a / b ≤ cond s (a / b) (cond t (suc (a / b)) (a / b + a / b % 2))) × (cond s (a / b) (cond t (suc (a / b)) (a / b + a / b % 2)) ≤ suc (a / b))
+    by : (s t : Bool) → (a / b ≤ cond s (a / b) (cond t (suc (a / b)) (a / b + a / b % 2)))
+        × (cond s (a / b) (cond t (suc (a / b)) (a / b + a / b % 2)) ≤ suc (a / b))
     by true t = (omega arith, omega arith)
     by false true = (omega arith, omega arith)
     by false false = (omega arith, omega arith)
@@ -64,8 +68,10 @@ module _ (n u : ℕ) (o : 1 ≤ n) (least : 10 ^ (n - 1) ≤ u) (most : u < 10 ^
   first-cut =
       let m = many in
       let p = firstPlace n u in
-      let low : 10 ^ (n - 1) * 10 ^ p ≤ u = subst (λ (x : ℕ). x ≤ u) (ap (λ (j : ℕ). 10 ^ j) (let z : digitCount u - 1 ≡ n - 1 + p = omega (arith, m, o) in z) ∙ pow-add 10 (n - 1) p) (count .1 .0) in
-      let high : u < 10 ^ n * 10 ^ p = subst (λ (x : ℕ). u < x) (ap (λ (j : ℕ). 10 ^ j) (let z : digitCount u ≡ n + p = omega (arith, m) in z) ∙ pow-add 10 n p) (count .1 .1) in
+      let low : 10 ^ (n - 1) * 10 ^ p ≤ u = subst (λ (x : ℕ). x ≤ u)
+      (ap (λ (j : ℕ). 10 ^ j) (let z : digitCount u - 1 ≡ n - 1 + p = omega (arith, m, o) in z) ∙ pow-add 10 (n - 1) p) (count .1 .0) in
+      let high : u < 10 ^ n * 10 ^ p = subst (λ (x : ℕ). u < x)
+      (ap (λ (j : ℕ). 10 ^ j) (let z : digitCount u ≡ n + p = omega (arith, m) in z) ∙ pow-add 10 n p) (count .1 .1) in
       (le-div-iff-mul-le (ten-pos p) .1 low, div-lt-iff-lt-mul (ten-pos p) .1 high)
 
   -- rounded up to 10 ^ n, they are 10 .. 0
@@ -75,7 +81,8 @@ module _ (n u : ℕ) (o : 1 ≤ n) (least : 10 ^ (n - 1) ≤ u) (most : u < 10 ^
     where
       by : (t : Bool) → eqb (firstDigits n u) (10 ^ n) ≡ t → HasDigits n (cond t (10 ^ (n - 1)) (firstDigits n u))
       by true e =
-          let p : 10 ^ n ≡ 10 ^ (n - 1) * 10 = ap (λ (j : ℕ). 10 ^ j) (let z : n ≡ suc (n - 1) = omega (arith, o) in z) ∙ pow-suc 10 (n - 1) in
+          let p : 10 ^ n ≡ 10 ^ (n - 1) * 10 = ap (λ (j : ℕ). 10 ^ j) (let z : n ≡ suc (n - 1) = omega (arith, o) in z)
+          ∙ pow-suc 10 (n - 1) in
           let q = ten-pos (n - 1) in
           (omega arith, omega (arith, p, q))
       by false e =
@@ -103,26 +110,33 @@ units-between m j o b h = (least, most)
     most : m * 2 ^ j * 5 ^ 1074 < 10 ^ 2100
     most =
         let s : m * 2 ^ j * 5 ^ 1074 < 2 ^ 1024 * 2 ^ 1074 * 5 ^ 1074 = mul-lt-mul-of-pos-right small (one-le-pow 1074 5 (omega arith)) in
-        let t : 2 ^ 1024 * 2 ^ 1074 * 5 ^ 1074 ≡ 2 ^ 1024 * 10 ^ 1074 = mul-assoc (2 ^ 1024) (2 ^ 1074) (5 ^ 1074) ∙ ap (λ (x : ℕ). 2 ^ 1024 * x) (mul-comm (2 ^ 1074) (5 ^ 1074) ∙ sym (ten-to 1074)) in
-        let w : 2 ^ 1024 * 10 ^ 1074 ≤ 10 ^ 1024 * 10 ^ 1074 = mul-le-mul-right (10 ^ 1074) (pow-le-pow-left (let z : 2 ≤ 10 = omega arith in z) 1024) in
-        let v : 10 ^ 1024 * 10 ^ 1074 ≤ 10 ^ 2100 = subst (λ (x : ℕ). x ≤ 10 ^ 2100) (pow-add 10 1024 1074) (ten-mono 2098 2100 (omega arith)) in
+        let t : 2 ^ 1024 * 2 ^ 1074 * 5 ^ 1074 ≡ 2 ^ 1024 * 10 ^ 1074 = mul-assoc (2 ^ 1024) (2 ^ 1074) (5 ^ 1074)
+        ∙ ap (λ (x : ℕ). 2 ^ 1024 * x) (mul-comm (2 ^ 1074) (5 ^ 1074) ∙ sym (ten-to 1074)) in
+        let w : 2 ^ 1024 * 10 ^ 1074 ≤ 10 ^ 1024 * 10 ^ 1074 = mul-le-mul-right (10 ^ 1074)
+        (pow-le-pow-left (let z : 2 ≤ 10 = omega arith in z) 1024) in
+        let v : 10 ^ 1024 * 10 ^ 1074 ≤ 10 ^ 2100 = subst (λ (x : ℕ). x ≤ 10 ^ 2100) (pow-add 10 1024 1074)
+        (ten-mono 2098 2100 (omega arith)) in
         lt-of-lt-of-le s (le-trans (le-of-eq t) (le-trans w v))
 
 -- a finite f64 other than zero, to 1 to 16 digits
-pub exactly-n-digits : (b n : ℕ) → T (isFinite (ofBits binary64 b)) → 0 < unitsOf (ofBits binary64 b) → 1 ≤ n → n ≤ 16 → HasDigits n (digitsOf n (decimalUnitsOf (ofBits binary64 b)))
+pub exactly-n-digits : (b n : ℕ) → T (isFinite (ofBits binary64 b)) → 0 < unitsOf (ofBits binary64 b) → 1 ≤ n → n ≤ 16
+    → HasDigits n (digitsOf n (decimalUnitsOf (ofBits binary64 b)))
 exactly-n-digits b n f o g h = by (eqb (field b) 0) refl
   where
-    of : (m j : ℕ) → unitsOf (ofBits binary64 b) ≡ m * 2 ^ j → m < 2 ^ 53 → j ≤ 2045 → HasDigits n (digitsOf n (decimalUnitsOf (ofBits binary64 b)))
+    of : (m j : ℕ) → unitsOf (ofBits binary64 b) ≡ m * 2 ^ j → m < 2 ^ 53 → j ≤ 2045
+        → HasDigits n (digitsOf n (decimalUnitsOf (ofBits binary64 b)))
     of m j e s t =
         let between = units-between m j (subst (λ (x : ℕ). 0 < x) e o) s t in
         let w : 10 ^ (n - 1) ≤ 10 ^ 15 = ten-mono (n - 1) 15 (omega (arith, h)) in
-        subst (λ (x : ℕ). HasDigits n (digitsOf n (x * 5 ^ 1074))) (sym e) (exactly n (m * 2 ^ j * 5 ^ 1074) g (le-trans w (between .0)) (between .1))
+        subst (λ (x : ℕ). HasDigits n (digitsOf n (x * 5 ^ 1074))) (sym e)
+        (exactly n (m * 2 ^ j * 5 ^ 1074) g (le-trans w (between .0)) (between .1))
 
     fraction : b % 2 ^ 52 < 2 ^ 52
     fraction = mod-lt b (omega arith)
 
     by : (t : Bool) → eqb (field b) 0 ≡ t → HasDigits n (digitsOf n (decimalUnitsOf (ofBits binary64 b)))
-    by true e = let r = fraction in of (b % 2 ^ 52) 0 (subnormal-units b (eqb→eq (field b) 0 (subst T (sym e) tt))) (omega (arith, r)) (omega arith)
+    by true e = let r = fraction in
+        of (b % 2 ^ 52) 0 (subnormal-units b (eqb→eq (field b) 0 (subst T (sym e) tt))) (omega (arith, r)) (omega arith)
     by false e =
         let r = fraction in
         let some : field b ≡ 0 → ⊥ = λ z. subst T (sym (eq-eqb (field b) 0 z) ∙ e) tt in
@@ -142,7 +156,8 @@ length-is (suc m) (suc k) d h g =
     let o = ten-pos k in
     let low : 10 ^ suc k ≤ d = subst (λ (j : ℕ). 10 ^ j ≤ d) (let z : suc (suc k) - 1 ≡ suc k = omega arith in z) (g .0) in
     let high = g .1 in
-    let less : 10 ^ (suc k - 1) ≤ d / 10 = subst (λ (j : ℕ). 10 ^ j ≤ d / 10) (let z : k ≡ suc k - 1 = omega arith in z) (let y : 10 ^ k ≤ d / 10 = omega (arith, p, low) in y) in
+    let less : 10 ^ (suc k - 1) ≤ d / 10 = subst (λ (j : ℕ). 10 ^ j ≤ d / 10) (let z : k ≡ suc k - 1 = omega arith in z)
+    (let y : 10 ^ k ≤ d / 10 = omega (arith, p, low) in y) in
     let i = length-is m k (d / 10) (omega arith) (less, omega (arith, q, high)) in
     rw (le-ltb d 10 (omega (arith, p, o, low))) (let e = length-append (digits m (d / 10)) ((48 + d % 10) ∷ []) in omega (arith, e, i))
 
@@ -152,5 +167,7 @@ written-digits zero d o h g = absurd (let z : ⊥ = omega arith in z)
 written-digits (suc k) d o h g = length-is 20 k d h g
 
 -- the digits of a finite f64 other than zero, as they are written
-pub digits-written : (b n : ℕ) → T (isFinite (ofBits binary64 b)) → 0 < unitsOf (ofBits binary64 b) → 1 ≤ n → n ≤ 16 → length (countText (digitsOf n (decimalUnitsOf (ofBits binary64 b)))) ≡ n
-digits-written b n f o g h = written-digits n (digitsOf n (decimalUnitsOf (ofBits binary64 b))) g (omega (arith, h)) (exactly-n-digits b n f o g h)
+pub digits-written : (b n : ℕ) → T (isFinite (ofBits binary64 b)) → 0 < unitsOf (ofBits binary64 b) → 1 ≤ n → n ≤ 16
+    → length (countText (digitsOf n (decimalUnitsOf (ofBits binary64 b)))) ≡ n
+digits-written b n f o g h = written-digits n (digitsOf n (decimalUnitsOf (ofBits binary64 b))) g (omega (arith, h))
+    (exactly-n-digits b n f o g h)

@@ -4,7 +4,9 @@ use mathlib.Core.Path.{_≡_, refl, sym, ap, subst, _∙_}
 use mathlib.Core.Bool.{Bool, true, false, cond}
 use mathlib.Core.Logic.{_⊎_, inl, inr}
 use Prim.Native.Nat.{ℕ, zero, suc, _+_, _-_, _*_, _/_, _%_, _^_, _≤_, _<_}
-use native.Mathlib.Nat.{le-trans, lt-of-le-of-lt, lt-of-lt-of-le, one-le-pow, one-mul, zero-mul, mul-zero, mul-one, mul-comm, mul-assoc, mul-right-comm, mul-le-mul, mul-le-mul-left, mul-le-mul-right, mul-lt-mul-of-pos-right, pow-le-pow-left, pow-le-pow-right, le-mul-of-pos-right}
+use native.Mathlib.Nat.{le-trans, lt-of-le-of-lt, lt-of-lt-of-le, one-le-pow, one-mul, zero-mul, mul-zero, mul-one, mul-comm, mul-assoc}
+use native.Mathlib.Nat.{mul-right-comm, mul-le-mul, mul-le-mul-left, mul-le-mul-right, mul-lt-mul-of-pos-right, pow-le-pow-left}
+use native.Mathlib.Nat.{pow-le-pow-right, le-mul-of-pos-right}
 use native.Mathlib.Omega.{arith}
 use lib.Dec.{T, eqb, leb, leb→le}
 use lib.ListN.{length}
@@ -25,14 +27,16 @@ pub record Laid (l : List ℕ) (m k : ℕ) : Type 0 where
   pub each : Digits l
   pub is : value l ≡ 10 ^ 16 * m
 
-pub laid : (l l₁ l₂ : List ℕ) (m k : ℕ) → m < 2 ^ 53 → length l ≡ 33 + k → l₁ ≡ timesPlus 0 m l → l₂ ≡ timesPlus (10 ^ 16) 0 l₁ → Laid l₂ m k
+pub laid : (l l₁ l₂ : List ℕ) (m k : ℕ) → m < 2 ^ 53 → length l ≡ 33 + k → l₁ ≡ timesPlus 0 m l → l₂ ≡ timesPlus (10 ^ 16) 0 l₁
+    → Laid l₂ m k
 laid l l₁ l₂ m k few e f g =
     let n₁ : length l₁ ≡ 33 + k = ap length f ∙ same-length 0 m l ∙ e in
     let room : 10 ^ 33 ≤ 10 ^ (33 + k) = ten-mono 33 (33 + k) (omega arith) in
     let z = zero-mul (value l) in
     let room₁ : 0 * value l + m < 10 ^ length l = subst (λ (j : ℕ). 0 * value l + m < 10 ^ j) (sym e) (omega (arith, room, z)) in
     let v₁ : value l₁ ≡ m = ap value f ∙ multiplied 0 m l room₁ ∙ (let y : 0 * value l + m ≡ m = omega (arith, z) in y) in
-    let room₂ : 10 ^ 16 * value l₁ + 0 < 10 ^ length l₁ = subst (λ (j : ℕ). 10 ^ 16 * value l₁ + 0 < 10 ^ j) (sym n₁) (omega (arith, room, v₁)) in
+    let room₂ : 10 ^ 16 * value l₁ + 0 < 10 ^ length l₁ = subst (λ (j : ℕ). 10 ^ 16 * value l₁ + 0 < 10 ^ j) (sym n₁)
+    (omega (arith, room, v₁)) in
     record {
       same = ap length g ∙ same-length (10 ^ 16) 0 l₁ ∙ n₁;
       each = subst Digits (sym g) (are-digits (10 ^ 16) 0 l₁);
@@ -48,7 +52,8 @@ room l m base k few h laid =
     let a : value l * base ^ k ≤ value l * 10 ^ k = mul-le-mul-left (value l) p in
     let b : value l * 10 ^ k < 10 ^ 32 * 10 ^ k = mul-lt-mul-of-pos-right small (ten-pos k) in
     let c : 10 ^ (32 + k) ≤ 10 ^ (33 + k) = ten-mono (32 + k) (33 + k) (omega arith) in
-    subst (λ (j : ℕ). value l * base ^ k < 10 ^ j) (sym (laid .same)) (lt-of-lt-of-le (lt-of-le-of-lt a b) (subst (λ (x : ℕ). x ≤ 10 ^ (33 + k)) (pow-add 10 32 k) c))
+    subst (λ (j : ℕ). value l * base ^ k < 10 ^ j) (sym (laid .same))
+    (lt-of-lt-of-le (lt-of-le-of-lt a b) (subst (λ (x : ℕ). x ≤ 10 ^ (33 + k)) (pow-add 10 32 k) c))
 
 -- ---- m * base ^ k * 10 ^ shift units
 
@@ -64,7 +69,8 @@ enough v (suc m) base k shift e b h =
     let many : 10 ^ 16 * 1 ≤ 10 ^ 16 * suc m = let z : 1 ≤ suc m = omega arith in mul-le-mul-left (10 ^ 16) z in
     let a : 10 ^ 16 * 1 * 1 ≤ 10 ^ 16 * suc m * base ^ k = mul-le-mul many one in
     let c : 10 ^ 16 * 1 * 10 ^ 16 ≤ 10 ^ 16 * suc m * (base ^ k * 10 ^ shift) = mul-le-mul many h in
-    let d : v * 10 ^ shift ≡ 10 ^ 16 * suc m * (base ^ k * 10 ^ shift) = ap (λ (x : ℕ). x * 10 ^ shift) e ∙ mul-assoc (10 ^ 16 * suc m) (base ^ k) (10 ^ shift) in
+    let d : v * 10 ^ shift ≡ 10 ^ 16 * suc m * (base ^ k * 10 ^ shift) = ap (λ (x : ℕ). x * 10 ^ shift) e
+    ∙ mul-assoc (10 ^ 16 * suc m) (base ^ k) (10 ^ shift) in
     inr (omega (arith, a, e), omega (arith, c, d))
 
 -- ---- m * 2 ^ j * 5 ^ 1074 units, as powers of five and ten, or of two and ten
@@ -73,26 +79,32 @@ pub as-five : (m j : ℕ) → j < 1074 → m * 5 ^ (1074 - j) * 10 ^ j ≡ m * 2
 as-five m j h =
     ap (λ (x : ℕ). m * 5 ^ (1074 - j) * x) (ten-to j)
     ∙ sym (mul-assoc (m * 5 ^ (1074 - j)) (5 ^ j) (2 ^ j))
-    ∙ ap (λ (x : ℕ). x * 2 ^ j) (mul-assoc m (5 ^ (1074 - j)) (5 ^ j) ∙ ap (λ (x : ℕ). m * x) (sym (pow-add 5 (1074 - j) j) ∙ ap (λ (i : ℕ). 5 ^ i) (let z : 1074 - j + j ≡ 1074 = omega arith in z)))
+    ∙ ap (λ (x : ℕ). x * 2 ^ j)
+    (mul-assoc m (5 ^ (1074 - j)) (5 ^ j)
+    ∙ ap (λ (x : ℕ). m * x) (sym (pow-add 5 (1074 - j) j) ∙ ap (λ (i : ℕ). 5 ^ i) (let z : 1074 - j + j ≡ 1074 = omega arith in z)))
     ∙ mul-right-comm m (5 ^ 1074) (2 ^ j)
 
 pub as-two : (m j : ℕ) → 1074 ≤ j → m * 2 ^ (j - 1074) * 10 ^ 1074 ≡ m * 2 ^ j * 5 ^ 1074
 as-two m j h =
     ap (λ (x : ℕ). m * 2 ^ (j - 1074) * x) (ten-to 1074 ∙ mul-comm (5 ^ 1074) (2 ^ 1074))
     ∙ sym (mul-assoc (m * 2 ^ (j - 1074)) (2 ^ 1074) (5 ^ 1074))
-    ∙ ap (λ (x : ℕ). x * 5 ^ 1074) (mul-assoc m (2 ^ (j - 1074)) (2 ^ 1074) ∙ ap (λ (x : ℕ). m * x) (sym (pow-add 2 (j - 1074) 1074) ∙ ap (λ (i : ℕ). 2 ^ i) (let z : j - 1074 + 1074 ≡ j = omega arith in z)))
+    ∙ ap (λ (x : ℕ). x * 5 ^ 1074)
+    (mul-assoc m (2 ^ (j - 1074)) (2 ^ 1074)
+    ∙ ap (λ (x : ℕ). m * x) (sym (pow-add 2 (j - 1074) 1074) ∙ ap (λ (i : ℕ). 2 ^ i) (let z : j - 1074 + 1074 ≡ j = omega arith in z)))
 
 pub many-fives : (j : ℕ) → j < 1074 → 10 ^ 16 ≤ 5 ^ (1074 - j) * 10 ^ j
 many-fives j h =
     let a : 5 ^ j ≤ 10 ^ j = pow-le-pow-left (omega arith) j in
     let b : 5 ^ (1074 - j) * 5 ^ j ≤ 5 ^ (1074 - j) * 10 ^ j = mul-le-mul-left (5 ^ (1074 - j)) a in
-    let c : 5 ^ (1074 - j) * 5 ^ j ≡ 5 ^ 1074 = sym (pow-add 5 (1074 - j) j) ∙ ap (λ (i : ℕ). 5 ^ i) (let z : 1074 - j + j ≡ 1074 = omega arith in z) in
+    let c : 5 ^ (1074 - j) * 5 ^ j ≡ 5 ^ 1074 = sym (pow-add 5 (1074 - j) j)
+    ∙ ap (λ (i : ℕ). 5 ^ i) (let z : 1074 - j + j ≡ 1074 = omega arith in z) in
     le-trans (leb→le (10 ^ 16) (5 ^ 1074) tt) (subst (λ (x : ℕ). x ≤ 5 ^ (1074 - j) * 10 ^ j) c b)
 
 pub many-tens : (k : ℕ) → 10 ^ 16 ≤ 2 ^ k * 10 ^ 1074
 many-tens k =
     let o : 1 ≤ 2 ^ k = one-le-pow k 2 (omega arith) in
-    le-trans (ten-mono 16 1074 (omega arith)) (subst (λ (x : ℕ). x ≤ 2 ^ k * 10 ^ 1074) (one-mul (10 ^ 1074)) (mul-le-mul-right (10 ^ 1074) o))
+    le-trans (ten-mono 16 1074 (omega arith))
+    (subst (λ (x : ℕ). x ≤ 2 ^ k * 10 ^ 1074) (one-mul (10 ^ 1074)) (mul-le-mul-right (10 ^ 1074) o))
 
 -- the digits of as many units
 pub same-units : (n u v d p : ℕ) → u ≡ v → (d ≡ digitsOf n u) × (p ≡ placeOf n u) → (d ≡ digitsOf n v) × (p ≡ placeOf n v)
@@ -115,4 +127,5 @@ all-ones s t = go (eqb t 0)
 
 pub not-all-ones : (b : ℕ) → T (isFinite (ofBits binary64 b)) → field b ≡ 2047 → ⊥
 unfolding ofBits
-not-all-ones b p h = all-ones (leb (2 ^ 63) b) (b % 2 ^ 52) (subst (λ (x : ℕ). T (isFinite (ofFields binary64 (leb (2 ^ 63) b) x (b % 2 ^ 52)))) h p)
+not-all-ones b p h = all-ones (leb (2 ^ 63) b) (b % 2 ^ 52)
+    (subst (λ (x : ℕ). T (isFinite (ofFields binary64 (leb (2 ^ 63) b) x (b % 2 ^ 52)))) h p)

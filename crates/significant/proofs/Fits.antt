@@ -12,7 +12,8 @@ use Rattle.tokens.specs.Text.{text, codes}
 use Rattle.counts.specs.Counts.{countText}
 use Rattle.counts.proofs.Printing.{twenty}
 use Rattle.significant.specs.Significant.{decimalUnitsOf, digitsOf, placeOf}
-use Rattle.significant.specs.Printed.{pointed, fraction, exponentText, scientific, placed, written, magnitudeText, signText, signedText, decimalText}
+use Rattle.significant.specs.Printed.{pointed, fraction, exponentText, scientific, placed, written, magnitudeText, signText}
+use Rattle.significant.specs.Printed.{signedText, decimalText}
 
 pointed-fits : (ds : List ℕ) (i : ℕ) → length ds ≤ 20 → length (pointed ds i) ≤ 21
 unfolding text codes
@@ -47,7 +48,8 @@ scientific-fits ds w h =
 placed-fits : (ds : List ℕ) (w : ℕ) → length ds ≤ 20 → length (placed ds w) ≤ 43
 placed-fits ds w h = by (leb w 1074) (leb 1072 w) (ltb (w - 1074) (length ds))
   where
-    by : (a b c : Bool) → length (cond a (cond b (fraction ds (1074 - w)) (scientific ds w)) (cond c (pointed ds (w - 1074)) (scientific ds w))) ≤ 43
+    by : (a b c : Bool)
+        → length (cond a (cond b (fraction ds (1074 - w)) (scientific ds w)) (cond c (pointed ds (w - 1074)) (scientific ds w))) ≤ 43
     by true true c = let k = fraction-fits ds (1074 - w) h in omega (arith, k)
     by true false c = scientific-fits ds w h
     by false b true = let k = pointed-fits ds (w - 1074) h in omega (arith, k)
@@ -62,7 +64,8 @@ unfolding text codes
 signed-fits n scale power x = by (lt x (bits 0)) (isFinite x)
   where
     number : length (magnitudeText n scale power x) ≤ 43
-    number = written-fits power (countText (digitsOf n (decimalUnitsOf x))) (n + placeOf n (decimalUnitsOf x) + scale) (twenty (digitsOf n (decimalUnitsOf x)))
+    number = written-fits power (countText (digitsOf n (decimalUnitsOf x))) (n + placeOf n (decimalUnitsOf x) + scale)
+        (twenty (digitsOf n (decimalUnitsOf x)))
 
     by : (a b : Bool) → length (cond a (text "-") [] ++ cond b (magnitudeText n scale power x) (text "infinite")) ≤ 44
     by true true = let k = number in omega (arith, k)

@@ -51,13 +51,17 @@ within-half n u o = by (eqb (firstDigits n u) (10 ^ n)) refl
     near : apart u (firstDigits n u * 10 ^ firstPlace n u) * 2 ≤ 10 ^ firstPlace n u
     near = nearest-within u (10 ^ firstPlace n u) (ten-pos (firstPlace n u))
 
-    by : (t : Bool) → eqb (firstDigits n u) (10 ^ n) ≡ t → apart u (cond t (10 ^ (n - 1)) (firstDigits n u) * 10 ^ cond t (suc (firstPlace n u)) (firstPlace n u)) * 2 ≤ 10 ^ cond t (suc (firstPlace n u)) (firstPlace n u)
+    by : (t : Bool) → eqb (firstDigits n u) (10 ^ n) ≡ t
+        → apart u (cond t (10 ^ (n - 1)) (firstDigits n u) * 10 ^ cond t (suc (firstPlace n u)) (firstPlace n u)) * 2 ≤ 10 ^ cond t
+        (suc (firstPlace n u)) (firstPlace n u)
     by true e =
         let p = firstPlace n u in
         let f : firstDigits n u ≡ 10 ^ n = eqb→eq (firstDigits n u) (10 ^ n) (subst T (sym e) tt) in
         let g : 10 ^ (n - 1) * 10 ^ suc p ≡ 10 ^ n * 10 ^ p =
-        ap (λ (x : ℕ). 10 ^ (n - 1) * x) (pow-succ' 10 p) ∙ sym (mul-assoc (10 ^ (n - 1)) 10 (10 ^ p)) ∙ ap (λ (x : ℕ). x * 10 ^ p) (sym (pow-suc 10 (n - 1)) ∙ ap (λ (j : ℕ). 10 ^ j) (let z : suc (n - 1) ≡ n = omega arith in z)) in
-        let h : apart u (10 ^ (n - 1) * 10 ^ suc p) * 2 ≤ 10 ^ p = subst (λ (x : ℕ). apart u x * 2 ≤ 10 ^ p) (ap (λ (x : ℕ). x * 10 ^ p) f ∙ sym g) near in
+        ap (λ (x : ℕ). 10 ^ (n - 1) * x) (pow-succ' 10 p) ∙ sym (mul-assoc (10 ^ (n - 1)) 10 (10 ^ p))
+        ∙ ap (λ (x : ℕ). x * 10 ^ p) (sym (pow-suc 10 (n - 1)) ∙ ap (λ (j : ℕ). 10 ^ j) (let z : suc (n - 1) ≡ n = omega arith in z)) in
+        let h : apart u (10 ^ (n - 1) * 10 ^ suc p) * 2 ≤ 10 ^ p = subst (λ (x : ℕ). apart u x * 2 ≤ 10 ^ p)
+        (ap (λ (x : ℕ). x * 10 ^ p) f ∙ sym g) near in
         let k = pow-succ' 10 p in
         omega (arith, h, k)
     by false e = near

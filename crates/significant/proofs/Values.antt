@@ -2,7 +2,8 @@
 use mathlib.Core.List.{List, [], _∷_, _++_}
 use mathlib.Core.Path.{_≡_, refl, sym, ap, subst, _∙_}
 use Prim.Native.Nat.{ℕ, zero, suc, _+_, _-_, _*_, _/_, _%_, _^_, _≤_, _<_}
-use native.Mathlib.Nat.{pow-succ', mul-assoc, mul-comm, mul-add, mul-left-comm, mul-zero, mul-suc, one-mul, le-of-suc-le-suc, one-le-pow, pow-le-pow-right}
+use native.Mathlib.Nat.{pow-succ', mul-assoc, mul-comm, mul-add, mul-left-comm, mul-zero, mul-suc, one-mul, le-of-suc-le-suc, one-le-pow}
+use native.Mathlib.Nat.{pow-le-pow-right}
 use native.Mathlib.Omega.{arith}
 use lib.ListN.{length, take, drop, getD}
 use lib.Seq.{drop-cons}
@@ -25,7 +26,8 @@ split zero l h = let e = one-mul (value l) in omega (arith, e)
 split (suc i) [] h = absurd (let z : ⊥ = omega arith in z)
 split (suc i) (d ∷ ds) h =
     let e = split i ds (le-of-suc-le-suc h) in
-    let p : 10 ^ suc i * value (drop i ds) ≡ 10 * (10 ^ i * value (drop i ds)) = ap (λ (x : ℕ). x * value (drop i ds)) (pow-succ' 10 i) ∙ mul-assoc 10 (10 ^ i) (value (drop i ds)) in
+    let p : 10 ^ suc i * value (drop i ds) ≡ 10 * (10 ^ i * value (drop i ds)) = ap (λ (x : ℕ). x * value (drop i ds)) (pow-succ' 10 i)
+    ∙ mul-assoc 10 (10 ^ i) (value (drop i ds)) in
     omega (arith, e, p)
 
 pub digits-take : (i : ℕ) (l : List ℕ) → Digits l → Digits (take i l)
@@ -77,8 +79,10 @@ with-carry by c (d ∷ ds) =
     let t = d * by + c in
     let e = with-carry by (t / 10) ds in
     let co = carryOut by (t / 10) ds in
-    let p : 10 ^ suc (length ds) * co ≡ 10 * (10 ^ length ds * co) = ap (λ (x : ℕ). x * co) (pow-succ' 10 (length ds)) ∙ mul-assoc 10 (10 ^ length ds) co in
-    let q : by * (d + 10 * value ds) ≡ d * by + 10 * (by * value ds) = mul-add by d (10 * value ds) ∙ ap (λ (x : ℕ). x + by * (10 * value ds)) (mul-comm by d) ∙ ap (λ (x : ℕ). d * by + x) (mul-left-comm by 10 (value ds)) in
+    let p : 10 ^ suc (length ds) * co ≡ 10 * (10 ^ length ds * co) = ap (λ (x : ℕ). x * co) (pow-succ' 10 (length ds))
+    ∙ mul-assoc 10 (10 ^ length ds) co in
+    let q : by * (d + 10 * value ds) ≡ d * by + 10 * (by * value ds) = mul-add by d (10 * value ds)
+    ∙ ap (λ (x : ℕ). x + by * (10 * value ds)) (mul-comm by d) ∙ ap (λ (x : ℕ). d * by + x) (mul-left-comm by 10 (value ds)) in
     omega (arith, e, p, q)
 
 -- where the product has room, nothing is left over

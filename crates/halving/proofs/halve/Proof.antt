@@ -53,7 +53,8 @@ returns c =
     w2 .write2 .ensures ∙ ap (λ (x : List Float). putAt x n (r2 .rule2 .result .piece)) (w1 .write .ensures) in (
       stored ∙ halves-stored n place s _ _ (z .pre .0) (omega (arith, z .pre))
           ∙ ap (λ (l : List Piece). written l s)
-          (halves-are _ _ _ (read .read .ensures) _ (r1 .before .middle .ensures) _ _ (r1 .rule .ensures) (r2 .rule2 .ensures) (piecesIn n s) place),
+          (halves-are _ _ _ (read .read .ensures) _ (r1 .before .middle .ensures) _ _ (r1 .rule .ensures) (r2 .rule2 .ensures)
+          (piecesIn n s) place),
       halves-counted _ _ _ (read .read .ensures) _ (r1 .before .middle .ensures) _ _ (r1 .rule .ensures) (r2 .rule2 .ensures),
     )
 

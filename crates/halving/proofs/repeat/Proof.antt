@@ -41,7 +41,8 @@ returns c =
 abbrev Loop· : tie.After-next2 Inv-loop μ-loop → tie.At-loop Inv-loop μ-loop
 Loop· x = x .before .before .before .before .before
 
-halving-room : (x : tie.After-next2 Inv-loop μ-loop) → (Loop· x .loop .n < Loop· x .before .before .before .args .limit) × (x .next2 .given .0 .0 < Loop· x .loop .n)
+halving-room : (x : tie.After-next2 Inv-loop μ-loop)
+    → (Loop· x .loop .n < Loop· x .before .before .before .args .limit) × (x .next2 .given .0 .0 < Loop· x .loop .n)
 halving-room x =
     let j = x .before .before .before in
     let l = Loop· x in

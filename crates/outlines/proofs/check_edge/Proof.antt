@@ -1,4 +1,5 @@
--- `outlines::check_edge` meets its contract: what is left to check from edge j on gives the answer, and `from` is the place of edge j's start.
+-- `outlines::check_edge` meets its contract: what is left to check from edge j on gives the answer, and `from` is the
+-- place of edge j's start.
 -- Assumes nothing.
 use Prim.Native.Nat.{ℕ, _+_, _-_, _≤_, _<_}
 use mathlib.Core.Path.{_≡_, sym, ap, _∙_}
@@ -30,7 +31,8 @@ abbrev μ-loop : tie.MeasureT-loop
 μ-loop points i n j₀ edge from₀ j from = pairCount points - j
 
 -- what `edge_touches` found of edges i and j
-found : (points : List Float) (i j : ℕ) {edge : Segment} {r b : Bool} → edge ≡ edgeAt points i → r ≡ segmentsTouch edge (edgeAt points j) → r ≡ b →
+found : (points : List Float) (i j : ℕ) {edge : Segment} {r b : Bool} → edge ≡ edgeAt points i → r ≡ segmentsTouch edge (edgeAt points j)
+    → r ≡ b →
     segmentsTouch (edgeAt points i) (edgeAt points j) ≡ b
 found points i j e f h = ap (λ (s : Segment). segmentsTouch s (edgeAt points j)) (sym e) ∙ sym f ∙ h
 
@@ -42,8 +44,14 @@ returns c = ends _ _ _ _ (from-second (c .before .before .args .points .now) (c 
 
 loop-holds : tie.Need-loop-holds Inv-loop μ-loop
 loop-holds c =
-    let start = c .before .before .before .before .before in
-    (omega arith, omega arith, c .before .before .edge-at .ensures, rw (c .place-beside .ensures, c .before .point-at .ensures), from-second (start .args .points .now) (start .args .i))
+    let start = c .before .before .before .before .before in (
+      omega arith,
+      omega arith,
+      c .before .before .edge-at .ensures,
+      rw (c .place-beside .ensures, c .before .point-at .ensures),
+      from-second
+          (start .args .points .now) (start .args .i),
+    )
 
 add-loop : tie.Need-add-loop Inv-loop μ-loop
 add-loop c = omega arith
@@ -64,7 +72,8 @@ returns-2 c =
     let head = c .before .before .before .before .before .loop in
     let points = start .args .points .now in
     let touch = found points (start .args .i) (head .j) (head .inv .2) (c .before .edge-touches .ensures) (c .if2 .taken) in
-    stops _ _ _ _ (head .inv .4) _ (head .inv .1) (touch-refused points (start .args .i) (head .j) (head .inv .0) (c .before .before .before .before .loop-test .taken) touch)
+    stops _ _ _ _ (head .inv .4) _ (head .inv .1)
+    (touch-refused points (start .args .i) (head .j) (head .inv .0) (c .before .before .before .before .loop-test .taken) touch)
 
 add-j-2 : tie.Need-add-j-2 Inv-loop μ-loop
 add-j-2 c = omega arith

@@ -15,8 +15,13 @@ point-at-requires-2 c κs = search needs
 refuse-unless-requires : tie.Need-refuse-unless-requires
 refuse-unless-requires c κs = search needs
 
+-- places that the needs go back to
+abbrev at-point-at : tie.After-refuse-unless → tie.After-point-at
+at-point-at c = c .before .before .before .before .before .before
+
 returns : tie.Need-returns
-returns c = rw (c .refuse-unless .ensures, c .before .before .before .before .before .point-at2 .ensures, c .before .before .before .before .before .before .point-at .ensures)
+returns c =
+    rw (c .refuse-unless .ensures, c .before .before .before .before .before .point-at2 .ensures, (at-point-at c) .point-at .ensures)
 
 pub check-ends-spec : {M : Type 1} → statement M
 check-ends-spec =

@@ -18,10 +18,17 @@ check-ends-requires c κs =
     let points = c .before .before .before .args .points .now in
     omega (arith, pairs-within points (not-false (arePairs points) (c .before .if1 .left)) .0)
 
+-- places that the needs go back to
+abbrev at-check-points : tie.After-first-refusal3 → tie.After-check-points
+at-check-points c = c .before .before .before .before .before .before
+
+abbrev at-else1 : tie.After-first-refusal3 → tie.Else1
+at-else1 c = c .before .before .before .before .before .before .before
+
 returns-2 : tie.Need-returns-2
 unfolding outlineCheck
 returns-2 c =
-    let tested = c .before .before .before .before .before .before .before in
+    let tested = at-else1 c in
     rw (
       not-false (arePairs (tested .before .before .args .points .now)) (tested .if1 .left),
       after-accepted,
@@ -31,7 +38,7 @@ returns-2 c =
       c .before .before .before .check-edges .ensures,
       c .before .before .before .before .first-refusal .ensures,
       c .before .before .before .before .before .check-ends .ensures,
-      c .before .before .before .before .before .before .check-points .ensures,
+      (at-check-points c) .check-points .ensures,
     )
     (in-order _ (_ ∷ _ ∷ _ ∷ []))
 

@@ -7,7 +7,13 @@ returns : tie.Need-returns
 returns c = rw (c .if1 .taken)
 
 returns-2 : tie.Need-returns-2
-returns-2 c = rw (c .refuse-when .ensures, c .before .segments-touch .ensures, c .before .before .edge-at2 .ensures, c .before .before .before .edge-at .ensures, c .before .before .before .before .if1 .left)
+returns-2 c = rw (
+  c .refuse-when .ensures,
+  c .before .segments-touch .ensures,
+  c .before .before .edge-at2 .ensures,
+  c .before .before .before .edge-at .ensures,
+  c .before .before .before .before .if1 .left,
+)
 
 pub check-pair-spec : {M : Type 1} → statement M
 check-pair-spec =

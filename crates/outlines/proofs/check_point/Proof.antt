@@ -6,7 +6,8 @@ use Rattle.outlines.proofs.check_point.Statement.{statement}
 use Rattle.outlines.proofs.check_point.Tie as tie
 
 returns : tie.Need-returns
-returns c = rw (c .first-refusal .ensures, c .before .check-length2 .ensures, c .before .before .before .check-length .ensures) (in-order _ (_ ∷ []))
+returns c = rw (c .first-refusal .ensures, c .before .check-length2 .ensures, c .before .before .before .check-length .ensures)
+    (in-order _ (_ ∷ []))
 
 pub check-point-spec : {M : Type 1} → statement M
 check-point-spec =

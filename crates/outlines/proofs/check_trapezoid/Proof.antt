@@ -5,6 +5,10 @@ use borrow.Author.Needs.{needs}
 use Rattle.outlines.proofs.check_trapezoid.Statement.{statement}
 use Rattle.outlines.proofs.check_trapezoid.Tie as tie
 
+-- places that the needs go back to
+abbrev at-check-length : tie.After-first-refusal3 → tie.After-check-length
+at-check-length c = c .before .before .before .before .before .before
+
 returns : tie.Need-returns
 returns c = rw (
   c .first-refusal3 .ensures,
@@ -13,7 +17,7 @@ returns c = rw (
   c .before .before .before .check-length3 .ensures,
   c .before .before .before .before .first-refusal .ensures,
   c .before .before .before .before .before .check-length2 .ensures,
-  c .before .before .before .before .before .before .check-length .ensures,
+  (at-check-length c) .check-length .ensures,
 )
     (in-order _ (_ ∷ _ ∷ _ ∷ []))
 

@@ -16,7 +16,8 @@ returns c =
     let start = c .before .before .before in
     let points = start .args .points .now in
     let j = start .args .j in
-    sym (apart-no-touch (start .args .edge) (edgeAt points j) (start .args .from) (start .args .to) (start .pre .1 .0) (rw (next-inside (pairCount points) j (start .pre .0)) (start .pre .1 .1)) (sym (c .before .are-apart .ensures) ∙ c .if1 .taken))
+    sym (apart-no-touch (start .args .edge) (edgeAt points j) (start .args .from) (start .args .to) (start .pre .1 .0)
+    (rw (next-inside (pairCount points) j (start .pre .0)) (start .pre .1 .1)) (sym (c .before .are-apart .ensures) ∙ c .if1 .taken))
 
 edge-at-requires : tie.Need-edge-at-requires
 edge-at-requires c κs = search needs

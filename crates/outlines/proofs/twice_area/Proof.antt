@@ -23,7 +23,8 @@ none : (points : List Float) → bits 0 ≡ sumOfTerms points 0
 unfolding sumOfTerms
 none points = refl
 
-one-more : (points : List Float) (i : ℕ) (a t : Float) → a ≡ sumOfTerms points i → t ≡ edgeTerm (edgeAt points i) → a ⊕ t ≡ sumOfTerms points (i + 1)
+one-more : (points : List Float) (i : ℕ) (a t : Float) → a ≡ sumOfTerms points i → t ≡ edgeTerm (edgeAt points i)
+    → a ⊕ t ≡ sumOfTerms points (i + 1)
 unfolding sumOfTerms
 one-more points i a t e f = rw (e, f) (sym (ap (sumOfTerms points) (add-one i)))
 
@@ -40,7 +41,11 @@ loop-less : tie.Need-loop-less Inv-loop μ-loop
 loop-less c = omega arith
 
 loop-again : tie.Need-loop-again Inv-loop μ-loop
-loop-again c = (omega arith, one-more _ _ _ _ (c .before .before .before .loop .inv .1) (c .edge-term .ensures ∙ ap edgeTerm (c .before .edge-at .ensures)))
+loop-again c = (
+  omega arith,
+  one-more _ _ _ _ (c .before .before .before .loop .inv .1)
+      (c .edge-term .ensures ∙ ap edgeTerm (c .before .edge-at .ensures)),
+)
 
 returns : tie.Need-returns Inv-loop μ-loop
 returns c = c .before .loop .inv .1 ∙ ap (sumOfTerms _) (le-antisymm (c .before .loop .inv .0) (c .loop-test .left))

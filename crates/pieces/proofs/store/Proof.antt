@@ -12,22 +12,32 @@ use Rattle.pieces.proofs.store.Tie as tie
 part-store-seven-end : tie.Need-part-store-seven-end
 part-store-seven-end c = simp length-set (omega arith)
 
+-- places that the needs go back to
+abbrev the-start : tie.After-slice-known2 → tie.Start
+the-start c = c .before .before .before .before .before .before .before
+
+abbrev at-store-seven : tie.After-slice-known3 → tie.After-store-seven
+at-store-seven c = c .before .before .before .before .before .before
+
 part-store-seven-end-2 : tie.Need-part-store-seven-end-2
 part-store-seven-end-2 c =
-    let a = c .before .before .before .before .before .before .before in
-    let h = seven-stored-length (now (a .args .s)) _ (a .args .p .start) (a .args .p .end) (at (a .args .p .value)) (a .pre) (c .before .before .store-seven .ensures) in
+    let a = the-start c in
+    let h = seven-stored-length (now (a .args .s)) _ (a .args .p .start) (a .args .p .end) (at (a .args .p .value)) (a .pre)
+    (c .before .before .store-seven .ensures) in
     omega (arith, h)
 
 same-length : tie.Need-same-length
 same-length c =
-    let a = c .before .before .before .before .before .before .before .before .before .before .before in
-    let h = sevens-stored (now (a .args .s)) _ _ (a .args .p) (a .pre) (c .before .before .before .before .before .before .store-seven .ensures) (c .before .before .store-seven2 .ensures) in
+    let a = the-start (c .before .before .before .before) in
+    let h = sevens-stored (now (a .args .s)) _ _ (a .args .p) (a .pre) ((at-store-seven c) .store-seven .ensures)
+    (c .before .before .store-seven2 .ensures) in
     omega (arith, ap length h)
 
 returns : tie.Need-returns
 returns c =
-    let a = c .before .before .before .before .before .before .before .before .before .before .before in
-    sevens-stored (now (a .args .s)) _ _ (a .args .p) (a .pre) (c .before .before .before .before .before .before .store-seven .ensures) (c .before .before .store-seven2 .ensures)
+    let a = the-start (c .before .before .before .before) in
+    sevens-stored (now (a .args .s)) _ _ (a .args .p) (a .pre) ((at-store-seven c) .store-seven .ensures)
+    (c .before .before .store-seven2 .ensures)
 
 pub store-spec : {M : Type 1} → statement M
 store-spec =

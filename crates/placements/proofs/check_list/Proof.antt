@@ -18,7 +18,11 @@ check-count-requires : tie.Need-check-count-requires
 check-count-requires c κs = search needs
 
 returns-2 : tie.Need-returns-2
-returns-2 c = rw (sym (c .before .before .before .is-whole-list .ensures) ∙ not-false _ (c .before .before .if1 .left), ← c .before .count-places .ensures) (c .check-count .ensures)
+returns-2 c = rw (
+  sym (c .before .before .before .is-whole-list .ensures)
+      ∙ not-false _ (c .before .before .if1 .left),
+  ← c .before .count-places .ensures,
+) (c .check-count .ensures)
 
 pub check-list-spec : {M : Type 1} → statement M
 check-list-spec =

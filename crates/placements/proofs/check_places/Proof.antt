@@ -10,7 +10,8 @@ use Rattle.placements.proofs.check_places.Statement.{statement}
 use Rattle.placements.proofs.check_places.Tie as tie
 
 abbrev Inv-loop : tie.InvT-loop
-Inv-loop places rolled n k₀ k = (n ≡ placeCount rolled places) × (firstBetween k n (λ i. placeCheck (placeAt rolled places i)) ≡ placesCheck rolled places)
+Inv-loop places rolled n k₀ k = (n ≡ placeCount rolled places)
+    × (firstBetween k n (λ i. placeCheck (placeAt rolled places i)) ≡ placesCheck rolled places)
 
 abbrev μ-loop : tie.MeasureT-loop
 μ-loop places rolled n k₀ k = n - k
@@ -26,7 +27,8 @@ returns : tie.Need-returns Inv-loop μ-loop
 returns c =
     let turn = c .before .before .before in
     let at-loop = turn .before .before .before .loop in
-    stops _ _ _ _ (at-loop .inv .1) _ (turn .before .before .loop-test .taken) (sym (turn .check .ensures ∙ ap placeCheck (turn .before .place-at .ensures)) ∙ c .before .refusal .given .1)
+    stops _ _ _ _ (at-loop .inv .1) _ (turn .before .before .loop-test .taken)
+    (sym (turn .check .ensures ∙ ap placeCheck (turn .before .place-at .ensures)) ∙ c .before .refusal .given .1)
 
 add-k : tie.Need-add-k Inv-loop μ-loop
 add-k c = omega arith
@@ -37,8 +39,11 @@ loop-less c = omega arith
 loop-again : tie.Need-loop-again Inv-loop μ-loop
 loop-again c =
     let turn = c .before .before in
-    let at-loop = turn .before .before .before .loop in
-    (at-loop .inv .0, goes-on _ _ _ _ (at-loop .inv .1) (turn .before .before .loop-test .taken) (sym (turn .check .ensures ∙ ap placeCheck (turn .before .place-at .ensures)) ∙ c .enum-told .given .1))
+    let at-loop = turn .before .before .before .loop in (
+      at-loop .inv .0,
+      goes-on _ _ _ _ (at-loop .inv .1) (turn .before .before .loop-test .taken)
+          (sym (turn .check .ensures ∙ ap placeCheck (turn .before .place-at .ensures)) ∙ c .enum-told .given .1),
+    )
 
 returns-2 : tie.Need-returns-2 Inv-loop μ-loop
 returns-2 c = ends _ _ _ _ (c .before .loop .inv .1) (c .loop-test .left)

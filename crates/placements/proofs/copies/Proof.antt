@@ -13,11 +13,13 @@ placed-copies-requires c κs = counted _ _ _ (sym (c .before .before .check-copi
 
 returns : tie.Need-returns
 unfolding copiesOf
-returns c = is-answer (by-verdict _ (c .before .before .before .check-copies .ensures) (c .before .enum-told .given .1) (c .placed-copies .ensures))
+returns c = is-answer
+    (by-verdict _ (c .before .before .before .check-copies .ensures) (c .before .enum-told .given .1) (c .placed-copies .ensures))
 
 returns-2 : tie.Need-returns-2
 unfolding copiesOf
-returns-2 c = is-answer (by-verdict _ (c .before .before .before .before .check-copies .ensures) (c .before .before .verdict .given .1) (c .refused .ensures))
+returns-2 c = is-answer
+    (by-verdict _ (c .before .before .before .before .check-copies .ensures) (c .before .before .verdict .given .1) (c .refused .ensures))
 
 pub copies-spec : {M : Type 1} → statement M
 copies-spec =

@@ -12,7 +12,8 @@ slice-aggregate-combine : tie.Need-slice-aggregate-combine
 slice-aggregate-combine c = sym (ap length (first-bodies _ _ _ (c .before .before .write-copies .ensures)) ∙ length-listed _ _)
 
 returns : tie.Need-returns
-returns c = c .combine .ensures .is ∙ ap combineOf (first-bodies _ _ _ (c .before .before .before .write-copies .ensures)) ∙ combine-listed _ _
+returns c = c .combine .ensures .is ∙ ap combineOf (first-bodies _ _ _ (c .before .before .before .write-copies .ensures))
+    ∙ combine-listed _ _
 
 pub joined-copies-spec : {M : Type 1} → statement M
 joined-copies-spec =

@@ -10,11 +10,14 @@ use Rattle.placements.proofs.with_part_moved.Tie as tie
 
 returns : tie.Need-returns
 unfolding movedOf
-returns c = is-answer (by-verdict _ (c .before .before .before .before .check-moved .ensures) (c .before .before .enum-told .given .1) (c .accepted .ensures ∙ ap acceptedBody (c .before .part-moved .ensures)))
+returns c = is-answer
+    (by-verdict _ (c .before .before .before .before .check-moved .ensures) (c .before .before .enum-told .given .1)
+    (c .accepted .ensures ∙ ap acceptedBody (c .before .part-moved .ensures)))
 
 returns-2 : tie.Need-returns-2
 unfolding movedOf
-returns-2 c = is-answer (by-verdict _ (c .before .before .before .before .check-moved .ensures) (c .before .before .verdict .given .1) (c .refused .ensures))
+returns-2 c = is-answer
+    (by-verdict _ (c .before .before .before .before .check-moved .ensures) (c .before .before .verdict .given .1) (c .refused .ensures))
 
 pub with-part-moved-spec : {M : Type 1} → statement M
 with-part-moved-spec =

@@ -10,11 +10,14 @@ use Rattle.placements.proofs.without_part.Tie as tie
 
 returns : tie.Need-returns
 unfolding withoutOf
-returns c = is-answer (by-verdict _ (c .before .before .before .before .check-without .ensures) (c .before .before .enum-told .given .1) (c .accepted .ensures ∙ ap acceptedBody (c .before .part-off .ensures)))
+returns c = is-answer
+    (by-verdict _ (c .before .before .before .before .check-without .ensures) (c .before .before .enum-told .given .1)
+    (c .accepted .ensures ∙ ap acceptedBody (c .before .part-off .ensures)))
 
 returns-2 : tie.Need-returns-2
 unfolding withoutOf
-returns-2 c = is-answer (by-verdict _ (c .before .before .before .before .check-without .ensures) (c .before .before .verdict .given .1) (c .refused .ensures))
+returns-2 c = is-answer
+    (by-verdict _ (c .before .before .before .before .check-without .ensures) (c .before .before .verdict .given .1) (c .refused .ensures))
 
 pub without-part-spec : {M : Type 1} → statement M
 without-part-spec =

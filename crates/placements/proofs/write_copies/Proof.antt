@@ -12,7 +12,8 @@ use Rattle.placements.proofs.write_copies.Statement.{statement}
 use Rattle.placements.proofs.write_copies.Tie as tie
 
 abbrev Inv-loop : tie.InvT-loop
-Inv-loop bodies₀ body places rolled count k₀ bodies k = (k ≤ count) × (bodies ≡ withBodies (λ i. copyAt body (placeAt rolled places i)) k bodies₀)
+Inv-loop bodies₀ body places rolled count k₀ bodies k = (k ≤ count)
+    × (bodies ≡ withBodies (λ i. copyAt body (placeAt rolled places i)) k bodies₀)
 
 abbrev μ-loop : tie.MeasureT-loop
 μ-loop bodies₀ body places rolled count k₀ bodies k = count - k
@@ -39,8 +40,11 @@ loop-less c = omega arith
 loop-again : tie.Need-loop-again Inv-loop μ-loop
 loop-again c =
     let at-loop = c .before .before .before .before .before .before .before .loop in
-    let copy = c .before .before .before .before in
-    (omega arith, one-written _ _ (at-loop .k) (at-loop .inv .1) (copy .copy-at .ensures ∙ ap (copyAt _) (copy .before .place-at .ensures)) (c .before .before .write-body .ensures))
+    let copy = c .before .before .before .before in (
+      omega arith,
+      one-written _ _ (at-loop .k) (at-loop .inv .1) (copy .copy-at .ensures ∙ ap (copyAt _) (copy .before .place-at .ensures))
+          (c .before .before .write-body .ensures),
+    )
 
 same-length : tie.Need-same-length Inv-loop μ-loop
 same-length c =

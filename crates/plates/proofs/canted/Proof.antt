@@ -17,9 +17,13 @@ rotated-x-requires c κs = search needs
 translated-requires-2 : tie.Need-translated-requires-2
 translated-requires-2 c κs = search needs
 
+-- places that the needs go back to
+abbrev at-else1 : tie.After-translated2 → tie.Else1
+at-else1 c = c .before .before .before .before .before .before
+
 returns-2 : tie.Need-returns-2
 unfolding cantedOf
-returns-2 c = rw (c .before .before .before .before .before .before .if1 .left, c .translated2 .ensures, c .before .rotated-x .ensures, c .before .before .translated .ensures)
+returns-2 c = rw ((at-else1 c) .if1 .left, c .translated2 .ensures, c .before .rotated-x .ensures, c .before .before .translated .ensures)
 
 pub canted-spec : {M : Type 1} → statement M
 canted-spec =

@@ -24,7 +24,13 @@ unfolding finOf
 returns c =
     let glued = c .before in
     let plate = glued .before in
-    rw (c .canted .ensures, glued .with-fillets .ensures, plate .plate .ensures, plate .before .figure-of .ensures, plate .before .before .fillets .ensures)
+    rw (
+      c .canted .ensures,
+      glued .with-fillets .ensures,
+      plate .plate .ensures,
+      plate .before .figure-of .ensures,
+      plate .before .before .fillets .ensures,
+    )
 
 pub fin-spec : {M : Type 1} → statement M
 fin-spec = tie.close (tie.spec fillets-requires figure-of-requires plate-requires with-fillets-requires canted-requires returns)

@@ -14,7 +14,8 @@ use Rattle.polygons.proofs.is_inside.Statement.{statement}
 use Rattle.polygons.proofs.is_inside.Tie as tie
 
 abbrev Inv-loop : tie.InvT-loop
-Inv-loop corners x height n cut₀ i₀ cut i = (i ≤ cornerCount corners) × (cut ≤ i) × (cut ≡ count i (cuts corners (toZ w64 x) (toZ w64 height)))
+Inv-loop corners x height n cut₀ i₀ cut i = (i ≤ cornerCount corners) × (cut ≤ i)
+    × (cut ≡ count i (cuts corners (toZ w64 x) (toZ w64 height)))
 
 abbrev μ-loop : tie.MeasureT-loop
 μ-loop corners x height n cut₀ i₀ cut i = cornerCount corners - i

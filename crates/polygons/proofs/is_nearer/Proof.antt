@@ -19,7 +19,13 @@ unfolding isNearer
 returns c =
     let second = c .before .squared-distance2 in
     let first = c .before .before .squared-distance in
-    rw (c .is-less .ensures, result-back (first .result) (first .ok), result-back (second .result) (second .ok), first .ensures, second .ensures)
+    rw (
+      c .is-less .ensures,
+      result-back (first .result) (first .ok),
+      result-back (second .result) (second .ok),
+      first .ensures,
+      second .ensures,
+    )
 
 pub is-nearer-spec : {M : Type 1} → statement M
 is-nearer-spec =

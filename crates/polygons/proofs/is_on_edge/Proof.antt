@@ -14,7 +14,8 @@ use Rattle.polygons.proofs.is_on_edge.Statement.{statement}
 use Rattle.polygons.proofs.is_on_edge.Tie as tie
 
 abbrev Inv-loop : tie.InvT-loop
-Inv-loop corners x height n on-edge₀ i₀ on-edge i = (i ≤ cornerCount corners) × (on-edge ≡ some i (isOn corners (toZ w64 x) (toZ w64 height)))
+Inv-loop corners x height n on-edge₀ i₀ on-edge i = (i ≤ cornerCount corners)
+    × (on-edge ≡ some i (isOn corners (toZ w64 x) (toZ w64 height)))
 
 abbrev μ-loop : tie.MeasureT-loop
 μ-loop corners x height n on-edge₀ i₀ on-edge i = cornerCount corners - i

@@ -18,7 +18,9 @@ offset-of-requires-2 c κs = search needs
 is-nearer-requires : tie.Need-is-nearer-requires
 is-nearer-requires c κs = search needs
 
-tested : (c : tie.After-is-nearer) → let at = c .before .before .before in let corner = offsetOf (now (at .args .corners)) (at .args .x) (at .args .height) in c .is-nearer .result ≡ isNearer (corner (at .args .i)) (corner (at .args .best))
+tested : (c : tie.After-is-nearer) → let at = c .before .before .before in
+    let corner = offsetOf (now (at .args .corners)) (at .args .x) (at .args .height) in
+    c .is-nearer .result ≡ isNearer (corner (at .args .i)) (corner (at .args .best))
 tested c =
     let at = c .before .before .before in
     rw (

@@ -20,7 +20,8 @@ Inv-loop corners x height n nearest₀ i₀ nearest i =
 abbrev μ-loop : tie.MeasureT-loop
 μ-loop corners x height n nearest₀ i₀ nearest i = cornerCount corners - i
 
-one-more : (corners : List ℤ) (x height : ℤ) (i a r : ℕ) → a ≡ nearestTo corners x height i → r ≡ nearerOf corners x height a (i + 1) → r ≡ nearestTo corners x height (i + 1)
+one-more : (corners : List ℤ) (x height : ℤ) (i a r : ℕ) → a ≡ nearestTo corners x height i → r ≡ nearerOf corners x height a (i + 1)
+    → r ≡ nearestTo corners x height (i + 1)
 unfolding nearestTo
 one-more corners x height i a r e f = f ∙ rw (e, add-one i)
 

@@ -13,14 +13,18 @@ use Rattle.polygons.proofs.offset_of.Tie as tie
 difference-requires : tie.Need-difference-requires
 difference-requires c κs =
     let at = c .before in
-    let reach = at .pre .1 in
-    (rw (coordinate-back (getD (now (at .args .corners)) (2 * at .args .i) (pos 0)) (reach .all (2 * at .args .i))) (reach .all _), rw (toZ-ofZ (at .fits .x)) (reach .across))
+    let reach = at .pre .1 in (
+      rw (coordinate-back (getD (now (at .args .corners)) (2 * at .args .i) (pos 0)) (reach .all (2 * at .args .i))) (reach .all _),
+      rw (toZ-ofZ (at .fits .x)) (reach .across),
+    )
 
 difference-requires-2 : tie.Need-difference-requires-2
 difference-requires-2 c κs =
     let at = c .before .before .before in
-    let reach = at .pre .1 in
-    (rw (coordinate-back (getD (now (at .args .corners)) (2 * at .args .i + 1) (pos 0)) (reach .all (2 * at .args .i + 1))) (reach .all _), rw (toZ-ofZ (at .fits .height)) (reach .up))
+    let reach = at .pre .1 in (
+      rw (coordinate-back (getD (now (at .args .corners)) (2 * at .args .i + 1) (pos 0)) (reach .all (2 * at .args .i + 1))) (reach .all _),
+      rw (toZ-ofZ (at .fits .height)) (reach .up),
+    )
 
 returns : tie.Need-returns
 unfolding offsetOf

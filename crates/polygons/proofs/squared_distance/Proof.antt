@@ -14,12 +14,16 @@ product-requires-2 c κs = search needs
 sum-requires : tie.Need-sum-requires
 sum-requires c κs = search needs
 
+-- places that the needs go back to
+abbrev the-start : tie.After-sum → tie.Start
+the-start c = c .before .before .before .before .before .before .before
+
 returns : tie.Need-returns
 unfolding squaredDistance
 returns c =
     let second = c .before .product2 in
     let first = c .before .before .before .before .product in
-    let at = c .before .before .before .before .before .before .before in
+    let at = the-start c in
     let a = at .args .a in
     rw (
       result-back (c .sum .result) (c .sum .ok),

@@ -30,7 +30,8 @@ loop-again c =
     let h = at (a .t2) (head .loop .i) ⊗ a .scale in
     let lo = head .loop .lo in
     let hi = head .loop .hi in
-    let lower : c .before .if1 .lo ≡ cond (lt h lo) h lo = ⊎-elim (λ w. w .1 ∙ rw (w .0 .taken)) (λ w. w .1 ∙ rw (w .0 .left)) (c .before .if1 .came) in
+    let lower : c .before .if1 .lo ≡ cond (lt h lo) h lo = ⊎-elim (λ w. w .1 ∙ rw (w .0 .taken)) (λ w. w .1 ∙ rw (w .0 .left))
+    (c .before .if1 .came) in
     let upper : c .if2 .hi ≡ cond (lt hi h) h hi = ⊎-elim (λ w. w .1 ∙ rw (w .0 .taken)) (λ w. w .1 ∙ rw (w .0 .left)) (c .if2 .came) in
     (omega arith, omega arith, one-within (a .scale) (a .t2) (head .loop .i) lo hi _ _ (head .loop .inv .2) lower upper)
 

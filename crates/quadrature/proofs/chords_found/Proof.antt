@@ -32,8 +32,12 @@ loop-less c = omega arith
 
 loop-again : tie.Need-loop-again Inv-loop μ-loop
 loop-again c =
-    let head = c .before .before .loop in
-    (omega arith, simp length-set (head .inv .1), one-filled _ _ (head .found) (head .i) _ (omega arith) (head .inv .2) (c .chords-at .ensures))
+    let head = c .before .before .loop in (
+      omega arith,
+      simp length-set (head .inv .1),
+      one-filled _ _ (head .found) (head .i) _ (omega arith) (head .inv .2)
+          (c .chords-at .ensures),
+    )
 
 returns : tie.Need-returns Inv-loop μ-loop
 returns c j l = c .before .loop .inv .2 j (omega arith)

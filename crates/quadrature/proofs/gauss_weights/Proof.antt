@@ -6,7 +6,12 @@ use Rattle.quadrature.proofs.gauss_weights.Tie as tie
 
 returns : tie.Need-returns
 unfolding weightsTo
-returns c = rw (c .gauss-weight4 .ensures, c .before .gauss-weight3 .ensures, c .before .before .gauss-weight2 .ensures, c .before .before .before .gauss-weight .ensures)
+returns c = rw (
+  c .gauss-weight4 .ensures,
+  c .before .gauss-weight3 .ensures,
+  c .before .before .gauss-weight2 .ensures,
+  c .before .before .before .gauss-weight .ensures,
+)
 
 pub gauss-weights-spec : {M : Type 1} → statement M
 gauss-weights-spec =

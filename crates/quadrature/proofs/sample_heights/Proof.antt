@@ -4,9 +4,21 @@ use Rattle.quadrature.specs.Rule.{heightsTo}
 use Rattle.quadrature.proofs.sample_heights.Statement.{statement}
 use Rattle.quadrature.proofs.sample_heights.Tie as tie
 
+-- places that the needs go back to
+abbrev at-node : tie.After-node7 → tie.After-node
+at-node c = c .before .before .before .before .before .before
+
 returns : tie.Need-returns
 unfolding heightsTo
-returns c = rw (c .node7 .ensures, c .before .node6 .ensures, c .before .before .node5 .ensures, c .before .before .before .node4 .ensures, c .before .before .before .before .node3 .ensures, c .before .before .before .before .before .node2 .ensures, c .before .before .before .before .before .before .node .ensures)
+returns c = rw (
+  c .node7 .ensures,
+  c .before .node6 .ensures,
+  c .before .before .node5 .ensures,
+  c .before .before .before .node4 .ensures,
+  c .before .before .before .before .node3 .ensures,
+  c .before .before .before .before .before .node2 .ensures,
+  (at-node c) .node .ensures,
+)
 
 pub sample-heights-spec : {M : Type 1} → statement M
 sample-heights-spec =

@@ -65,14 +65,17 @@ values-over-requires c κs =
     let head = c .before .before .before in
     let a = listed head .before .before .before .before .args in
     let found = made head .chords-found .ensures (head .loop .j) (omega arith) in
-    λ e. listed head .edges-near .ensures .holding (head .loop .j) (omega arith) (several-outline (a .integrand .planform) (a .points .now) (height head ⊗ a .integrand .scale) (sym found ∙ e))
+    λ e. listed head .edges-near .ensures .holding (head .loop .j) (omega arith)
+    (several-outline (a .integrand .planform) (a .points .now) (height head ⊗ a .integrand .scale) (sym found ∙ e))
 
 -- over the chords found there lie the sample's values
-the-sample : (c : tie.After-values-over Inv-loop μ-loop) → let head = c .before .before .before .before in c .values-over .result ≡ sampleAt head (height head)
+the-sample : (c : tie.After-values-over Inv-loop μ-loop) → let head = c .before .before .before .before in
+    c .values-over .result ≡ sampleAt head (height head)
 the-sample c =
     let head = c .before .before .before .before in
     let a = listed head .before .before .before .before .args in
-    sampled (a .integrand) (a .points .now) (height head) (getD (made head .chords-found .result) (head .loop .j) Nothing) _ (made head .chords-found .ensures (head .loop .j) (omega arith)) (c .values-over .ensures)
+    sampled (a .integrand) (a .points .now) (height head) (getD (made head .chords-found .result) (head .loop .j) Nothing) _
+    (made head .chords-found .ensures (head .loop .j) (omega arith)) (c .values-over .ensures)
 
 mul-plus-weighted : tie.Need-mul-plus-weighted Inv-loop μ-loop
 mul-plus-weighted c = omega arith
@@ -95,14 +98,18 @@ loop-less c = omega arith
 loop-again : tie.Need-loop-again Inv-loop μ-loop
 loop-again c =
     let valued = c .before .before in
-    let head = valued .before .before .before .before in
-    (omega arith, one-more (sampleAt head) _ _ _ (head .loop .j) _ _ _ _ _ (head .loop .inv .1) (the-sample valued) (c .before .plus-weighted .ensures) (c .plus-weighted2 .ensures))
+    let head = valued .before .before .before .before in (
+      omega arith,
+      one-more (sampleAt head) _ _ _ (head .loop .j) _ _ _ _ _ (head .loop .inv .1) (the-sample valued)
+          (c .before .plus-weighted .ensures) (c .plus-weighted2 .ensures),
+    )
 
 returns : tie.Need-returns Inv-loop μ-loop
 returns c =
     let head = c .before in
     let e : head .loop .j ≡ pieceSamples = omega arith in
-    all-summed (sampleAt head) _ _ _ _ _ _ _ (listed head .before .before .sample-heights .ensures) (head .before .before .kronrod-weights .ensures) (head .before .gauss-weights .ensures) _ e (head .loop .inv .1)
+    all-summed (sampleAt head) _ _ _ _ _ _ _ (listed head .before .before .sample-heights .ensures)
+    (head .before .before .kronrod-weights .ensures) (head .before .gauss-weights .ensures) _ e (head .loop .inv .1)
 
 pub sums-spec : {M : Type 1} → statement M
 sums-spec =

@@ -31,9 +31,16 @@ returns c =
     let args = c .before .before .before .before .before .args in
     no-side (areOnOneSide (args .a) (args .b)) (arePast (args .a) (args .b) || inY (args .segment) (args .a) (args .b)) (c .if1 .taken)
 
+-- places that the needs go back to
+abbrev the-start : tie.After-struct-known8 → tie.Start
+the-start c = c .before .before .before .before .before .before .before .before .before
+
+abbrev at-else1 : tie.After-are-beyond → tie.Else1
+at-else1 c = c .before .before .before .before .before .before
+
 returns-2 : tie.Need-returns-2
 returns-2 c =
-    let args = c .before .before .before .before .before .before .before .before .before .before .args in
+    let args = (the-start (c .before)) .args in
     in-x (areOnOneSide (args .a) (args .b)) (arePast (args .a) (args .b)) (inY (args .segment) (args .a) (args .b))
     (c .before .before .before .before .before .if1 .left) (c .if2 .taken)
 
@@ -42,9 +49,9 @@ are-beyond-requires c κs = search needs
 
 returns-3 : tie.Need-returns-3
 returns-3 c =
-    let args = c .before .before .before .before .before .before .before .before .before .before .before .args in
+    let args = (the-start (c .before .before)) .args in
     in-y (areOnOneSide (args .a) (args .b)) (arePast (args .a) (args .b)) (inY (args .segment) (args .a) (args .b)) (c .are-beyond .result)
-    (c .before .before .before .before .before .before .if1 .left) (c .before .if2 .left) (c .are-beyond .ensures)
+    ((at-else1 c) .if1 .left) (c .before .if2 .left) (c .are-beyond .ensures)
 
 pub are-apart-spec : {M : Type 1} → statement M
 are-apart-spec = tie.close (tie.spec returns returns-2 are-beyond-requires returns-3)

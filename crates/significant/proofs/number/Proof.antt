@@ -34,7 +34,8 @@ sub-i : tie.Need-sub-i Inv-loop μ-loop
 sub-i c = omega arith
 
 mul-d : tie.Need-mul-d Inv-loop μ-loop
-mul-d c = let s = c .before .before .before in let v = c .before .loop in omega (arith, v .inv .1, few (now (s .args .digits)) (v .i) (s .pre .0) (s .pre .1))
+mul-d c = let s = c .before .before .before in let v = c .before .loop in
+    omega (arith, v .inv .1, few (now (s .args .digits)) (v .i) (s .pre .0) (s .pre .1))
 
 shared-slice-read-wide : tie.Need-shared-slice-read-wide Inv-loop μ-loop
 shared-slice-read-wide c = omega arith

@@ -14,7 +14,8 @@ worked-requires c κs = search needs
 returns : tie.Need-returns
 returns c =
     let s = c .before .before in
-    same-units (s .args .n) _ _ _ _ (ap (λ (u : ℕ). u * 5 ^ 1074) (sym (subnormal-units (s .args .b) (c .before .if1 .taken)))) (c .worked .ensures)
+    same-units (s .args .n) _ _ _ _ (ap (λ (u : ℕ). u * 5 ^ 1074) (sym (subnormal-units (s .args .b) (c .before .if1 .taken))))
+    (c .worked .ensures)
 
 add-worked : tie.Need-add-worked
 add-worked c = search needs
@@ -31,7 +32,9 @@ worked-requires-2 c κs =
 returns-2 : tie.Need-returns-2
 returns-2 c =
     let s = c .before .before in
-    same-units (s .args .n) _ _ _ _ (ap (λ (u : ℕ). u * 5 ^ 1074) (sym (normal-units (s .args .b) (c .before .if1 .left) (not-all-ones (s .args .b) (s .pre .0))))) (c .worked2 .ensures)
+    same-units (s .args .n) _ _ _ _
+    (ap (λ (u : ℕ). u * 5 ^ 1074) (sym (normal-units (s .args .b) (c .before .if1 .left) (not-all-ones (s .args .b) (s .pre .0)))))
+    (c .worked2 .ensures)
 
 pub of-bits-spec : {M : Type 1} → statement M
 of-bits-spec =

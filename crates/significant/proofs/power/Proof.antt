@@ -17,7 +17,8 @@ once-more : (base i p : ℕ) → p ≡ base ^ i → p * base ≡ base ^ (i + 1)
 once-more base i p e = ap (λ (x : ℕ). x * base) e ∙ sym (pow-suc base i) ∙ ap (λ (j : ℕ). base ^ j) (sym (add-one i))
 
 at-most : (base i k p : ℕ) → 0 < base → i < k → p ≡ base ^ i → p * base ≤ base ^ k
-at-most base i k p h g e = subst (λ (x : ℕ). x ≤ base ^ k) (sym (once-more base i p e)) (let y : i + 1 ≤ k = omega arith in pow-le-pow-right h y)
+at-most base i k p h g e = subst (λ (x : ℕ). x ≤ base ^ k) (sym (once-more base i p e))
+    (let y : i + 1 ≤ k = omega arith in pow-le-pow-right h y)
 
 loop-holds : tie.Need-loop-holds Inv-loop μ-loop
 loop-holds c = (omega arith, sym (pow-zero (c .args .base)))
@@ -38,7 +39,8 @@ loop-again : tie.Need-loop-again Inv-loop μ-loop
 loop-again c = let v = c .before .loop in (omega arith, once-more (c .before .before .args .base) (v .i) (v .p) (v .inv .1))
 
 returns : tie.Need-returns Inv-loop μ-loop
-returns c = let v = c .before .loop in v .inv .1 ∙ ap (λ (j : ℕ). c .before .before .args .base ^ j) (let z : v .i ≡ c .before .before .args .k = omega arith in z)
+returns c = let v = c .before .loop in
+    v .inv .1 ∙ ap (λ (j : ℕ). c .before .before .args .base ^ j) (let z : v .i ≡ c .before .before .args .k = omega arith in z)
 
 pub power-spec : {M : Type 1} → statement M
 power-spec =

@@ -18,7 +18,8 @@ returns c =
     let e = p .before .before .before .before in
     let s = e .before .before .before .before .before in
     rw (le-leb 1075 (s .args .w) (omega arith))
-    (then (now (s .args .out)) (e .put-bytes .last .0) (p .put-count .last .0) (s .args .at) (e .put-bytes .result) (p .put-count .result) (101 ∷ []) (countText (s .args .w - 1075)) (e .put-bytes .ensures) (p .put-count .ensures))
+    (then (now (s .args .out)) (e .put-bytes .last .0) (p .put-count .last .0) (s .args .at) (e .put-bytes .result) (p .put-count .result)
+    (101 ∷ []) (countText (s .args .w - 1075)) (e .put-bytes .ensures) (p .put-count .ensures))
 
 returns-2 : tie.Need-returns-2
 unfolding text codes
@@ -27,7 +28,8 @@ returns-2 c =
     let e = p .before .before .before .before in
     let s = e .before .before .before .before .before in
     rw (lt-leb 1075 (s .args .w) (omega arith))
-    (then (now (s .args .out)) (e .put-bytes2 .last .0) (p .put-count2 .last .0) (s .args .at) (e .put-bytes2 .result) (p .put-count2 .result) (101 ∷ 45 ∷ []) (countText (1075 - s .args .w)) (e .put-bytes2 .ensures) (p .put-count2 .ensures))
+    (then (now (s .args .out)) (e .put-bytes2 .last .0) (p .put-count2 .last .0) (s .args .at) (e .put-bytes2 .result)
+    (p .put-count2 .result) (101 ∷ 45 ∷ []) (countText (1075 - s .args .w)) (e .put-bytes2 .ensures) (p .put-count2 .ensures))
 
 pub put-exponent-spec : {M : Type 1} → statement M
 put-exponent-spec =

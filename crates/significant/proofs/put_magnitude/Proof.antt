@@ -42,7 +42,8 @@ module _ (c : tie.After-put-count) where
   long : length (take (c .put-count .result) (c .put-count .last .0)) ≡ length (countText d)
   long = ap length text-is
 
-made-of : (out last : List ℕ) (at r n scale : ℕ) (power : Bool) (x : Float) (ds : List ℕ) (e p : ℕ) → ds ≡ countText e → e ≡ digitsOf n (decimalUnitsOf x) → p ≡ placeOf n (decimalUnitsOf x)
+made-of : (out last : List ℕ) (at r n scale : ℕ) (power : Bool) (x : Float) (ds : List ℕ) (e p : ℕ) → ds ≡ countText e
+    → e ≡ digitsOf n (decimalUnitsOf x) → p ≡ placeOf n (decimalUnitsOf x)
     → Appended out at (written power ds (n + p + scale)) last r → Appended out at (magnitudeText n scale power x) last r
 made-of out last at r n scale power x ds e p f g h a =
     subst (λ (j : ℕ). Appended out at (written power (countText (digitsOf n (decimalUnitsOf x))) (n + j + scale)) last r) h
@@ -52,13 +53,30 @@ array-share-prefix-ds : tie.Need-array-share-prefix-ds
 array-share-prefix-ds c = fits (c .before .before)
 
 slice-aggregate-put-written : tie.Need-slice-aggregate-put-written
-slice-aggregate-put-written c = let m = c .before .before .before in sym (length-take-le (m .put-count .result) (m .put-count .last .0) (fits m))
+slice-aggregate-put-written c = let m = c .before .before .before in
+    sym (length-take-le (m .put-count .result) (m .put-count .last .0) (fits m))
+
+-- places that the needs go back to
+abbrev at-significant-digits : tie.After-struct-known → tie.After-significant-digits
+at-significant-digits c = c .before .before .before .before .before .before
 
 add-put-written : tie.Need-add-put-written
-add-put-written c = let sd = c .before .before .before .before .before .before in omega (arith, sd .significant-digits .ensures .1, place-most (sd .before .before .args .n) (decimalUnitsOf (sd .before .before .args .x)))
+add-put-written c = let sd = at-significant-digits c in
+    omega (
+      arith,
+      sd .significant-digits .ensures .1,
+      place-most (sd .before .before .args .n)
+          (decimalUnitsOf (sd .before .before .args .x)),
+    )
 
 add-put-written-2 : tie.Need-add-put-written-2
-add-put-written-2 c = let sd = c .before .before .before .before .before .before in omega (arith, sd .significant-digits .ensures .1, place-most (sd .before .before .args .n) (decimalUnitsOf (sd .before .before .args .x)))
+add-put-written-2 c = let sd = at-significant-digits c in
+    omega (
+      arith,
+      sd .significant-digits .ensures .1,
+      place-most (sd .before .before .args .n)
+          (decimalUnitsOf (sd .before .before .args .x)),
+    )
 
 put-written-requires : tie.Need-put-written-requires
 put-written-requires c κs =
@@ -74,7 +92,8 @@ returns c =
     let m = p .before .before .before .before .before in
     let sd = m .before .before in
     let s = sd .before .before in
-    made-of (now (s .args .out)) (p .put-written .last .0) (s .args .at) (p .put-written .result) (s .args .n) (s .args .scale) (s .args .power) (s .args .x) (take (m .put-count .result) (m .put-count .last .0)) (d m) (sd .significant-digits .result .place)
+    made-of (now (s .args .out)) (p .put-written .last .0) (s .args .at) (p .put-written .result) (s .args .n) (s .args .scale)
+    (s .args .power) (s .args .x) (take (m .put-count .result) (m .put-count .last .0)) (d m) (sd .significant-digits .result .place)
     (text-is m) (sd .significant-digits .ensures .0) (sd .significant-digits .ensures .1) (p .put-written .ensures)
 
 pub put-magnitude-spec : {M : Type 1} → statement M

@@ -15,9 +15,13 @@ use Rattle.significant.proofs.put_pointed.Tie as tie
 slice-aggregate-put-three : tie.Need-slice-aggregate-put-three
 slice-aggregate-put-three c = let s = c .before .before .before .before in sym (length-take-le (s .args .i) (now (s .args .ds)) (s .pre .0))
 
+-- places that the needs go back to
+abbrev the-start : tie.After-put-three-arg4 → tie.Start
+the-start c = c .before .before .before .before .before .before
+
 put-three-requires : tie.Need-put-three-requires
 put-three-requires c κs =
-    let s = c .before .before .before .before .before .before in
+    let s = the-start c in
     let l = now (s .args .ds) in
     let i = s .args .i in
     let a = length-take-le i l (s .pre .0) in
@@ -33,7 +37,8 @@ returns c =
     let l = now (s .args .ds) in
     let i = s .args .i in
     let e = length-drop i l in
-    subst (λ (x : List ℕ). Appended (now (s .args .out)) (s .args .at) (take i l ++ (46 ∷ x)) (p .put-three .last .0) (p .put-three .result)) (take-all (length l - i) (drop i l) (omega (arith, e))) (p .put-three .ensures)
+    subst (λ (x : List ℕ). Appended (now (s .args .out)) (s .args .at) (take i l ++ (46 ∷ x)) (p .put-three .last .0)
+    (p .put-three .result)) (take-all (length l - i) (drop i l) (omega (arith, e))) (p .put-three .ensures)
 
 pub put-pointed-spec : {M : Type 1} → statement M
 put-pointed-spec =

@@ -41,7 +41,9 @@ returns c =
     let p = c .before .before in
     let m = p .before .before .before .before in
     let s = m .before .before .before .before in
-    then (now (s .args .out)) (m .put-pointed .last .0) (p .put-exponent .last .0) (s .args .at) (m .put-pointed .result) (p .put-exponent .result) (pointed (now (s .args .ds)) 1) (exponentText (s .args .w)) (m .put-pointed .ensures) (p .put-exponent .ensures)
+    then (now (s .args .out)) (m .put-pointed .last .0) (p .put-exponent .last .0) (s .args .at) (m .put-pointed .result)
+    (p .put-exponent .result) (pointed (now (s .args .ds)) 1) (exponentText (s .args .w)) (m .put-pointed .ensures)
+    (p .put-exponent .ensures)
 
 pub put-scientific-spec : {M : Type 1} → statement M
 put-scientific-spec =

@@ -26,8 +26,13 @@ short x = by (lt x (bits 0))
 put-magnitude-requires : tie.Need-put-magnitude-requires
 put-magnitude-requires c κs =
     let p = c .before .before .before .before .before in
-    let s = p .before .before .before in
-    (s .pre .0, s .pre .1, s .pre .2, let e = p .put-sign .ensures .ends in let h = short (s .args .x) in let k = p .put-sign .kept .0 in omega (arith, e, h, k, s .pre .3))
+    let s = p .before .before .before in (
+      s .pre .0,
+      s .pre .1,
+      s .pre .2,
+      let e = p .put-sign .ensures .ends in let h = short (s .args .x) in let k = p .put-sign .kept .0 in
+          omega (arith, e, h, k, s .pre .3),
+    )
 
 returns : tie.Need-returns
 returns c =
@@ -36,11 +41,17 @@ returns c =
     let p = f .before .before .before in
     let s = p .before .before .before in
     rw (sym (f .is-finite .ensures) ∙ m .before .before .if1 .taken)
-    (then (now (s .args .out)) (p .put-sign .last .0) (m .put-magnitude .last .0) (s .args .at) (p .put-sign .result) (m .put-magnitude .result) (signText (s .args .x)) (magnitudeText (s .args .n) (s .args .scale) (s .args .power) (s .args .x)) (p .put-sign .ensures) (m .put-magnitude .ensures))
+    (then (now (s .args .out)) (p .put-sign .last .0) (m .put-magnitude .last .0) (s .args .at) (p .put-sign .result)
+    (m .put-magnitude .result) (signText (s .args .x)) (magnitudeText (s .args .n) (s .args .scale) (s .args .power) (s .args .x))
+    (p .put-sign .ensures) (m .put-magnitude .ensures))
+
+-- places that the needs go back to
+abbrev at-put-sign : tie.After-put-bytes-arg2 → tie.After-put-sign
+at-put-sign c = c .before .before .before .before .before .before
 
 put-bytes-requires : tie.Need-put-bytes-requires
 put-bytes-requires c κs =
-    let p = c .before .before .before .before .before .before in
+    let p = at-put-sign c in
     let s = p .before .before .before in
     let e = p .put-sign .ensures .ends in
     let h = short (s .args .x) in
@@ -55,7 +66,8 @@ returns-2 c =
     let p = f .before .before .before in
     let s = p .before .before .before in
     rw (sym (f .is-finite .ensures) ∙ m .before .before .before .if1 .left)
-    (then (now (s .args .out)) (p .put-sign .last .0) (m .put-bytes .last .0) (s .args .at) (p .put-sign .result) (m .put-bytes .result) (signText (s .args .x)) (105 ∷ 110 ∷ 102 ∷ 105 ∷ 110 ∷ 105 ∷ 116 ∷ 101 ∷ []) (p .put-sign .ensures) (m .put-bytes .ensures))
+    (then (now (s .args .out)) (p .put-sign .last .0) (m .put-bytes .last .0) (s .args .at) (p .put-sign .result) (m .put-bytes .result)
+    (signText (s .args .x)) (105 ∷ 110 ∷ 102 ∷ 105 ∷ 110 ∷ 105 ∷ 116 ∷ 101 ∷ []) (p .put-sign .ensures) (m .put-bytes .ensures))
 
 pub put-signed-spec : {M : Type 1} → statement M
 put-signed-spec =

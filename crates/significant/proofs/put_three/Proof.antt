@@ -24,8 +24,10 @@ returns c =
     let p2 = p3 .before .before .before .before in
     let p1 = p2 .before .before .before .before in
     let s = p1 .before .before .before .before .before .before in
-    then (now (s .args .out)) (p1 .put-bytes .last .0) (p3 .put-bytes3 .last .0) (s .args .at) (p1 .put-bytes .result) (p3 .put-bytes3 .result) (now (s .args .a)) (now (s .args .b) ++ now (s .args .c)) (p1 .put-bytes .ensures)
-    (then (p1 .put-bytes .last .0) (p2 .put-bytes2 .last .0) (p3 .put-bytes3 .last .0) (p1 .put-bytes .result) (p2 .put-bytes2 .result) (p3 .put-bytes3 .result) (now (s .args .b)) (now (s .args .c)) (p2 .put-bytes2 .ensures) (p3 .put-bytes3 .ensures))
+    then (now (s .args .out)) (p1 .put-bytes .last .0) (p3 .put-bytes3 .last .0) (s .args .at) (p1 .put-bytes .result)
+    (p3 .put-bytes3 .result) (now (s .args .a)) (now (s .args .b) ++ now (s .args .c)) (p1 .put-bytes .ensures)
+    (then (p1 .put-bytes .last .0) (p2 .put-bytes2 .last .0) (p3 .put-bytes3 .last .0) (p1 .put-bytes .result) (p2 .put-bytes2 .result)
+    (p3 .put-bytes3 .result) (now (s .args .b)) (now (s .args .c)) (p2 .put-bytes2 .ensures) (p3 .put-bytes3 .ensures))
 
 pub put-three-spec : {M : Type 1} → statement M
 put-three-spec =

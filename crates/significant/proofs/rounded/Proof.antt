@@ -1,4 +1,5 @@
--- `significant::rounded` meets its contract: there are more than n digits, or none, and those behind the first n round them. Assumes nothing.
+-- `significant::rounded` meets its contract: there are more than n digits, or none, and those behind the first n round
+-- them. Assumes nothing.
 use mathlib.Core.List.{List}
 use mathlib.Core.Path.{_≡_, refl, sym, ap, subst, _∙_}
 use mathlib.Core.Bool.{Bool, cond}
@@ -17,8 +18,10 @@ use Rattle.significant.proofs.rounded.Statement.{statement}
 use Rattle.significant.proofs.rounded.Tie as tie
 
 -- at most n digits of l
-few : (l : List ℕ) (n c from : ℕ) → Digits l → n ≤ 16 → from ≡ c - n → n ≤ c → Digits (take (c - from) (drop from l)) × (length (take (c - from) (drop from l)) ≤ 16)
-few l n c from h b e g = (digits-take (c - from) (drop from l) (digits-drop from l h), let k = length-take (c - from) (drop from l) in omega (arith, k, e))
+few : (l : List ℕ) (n c from : ℕ) → Digits l → n ≤ 16 → from ≡ c - n → n ≤ c
+    → Digits (take (c - from) (drop from l)) × (length (take (c - from) (drop from l)) ≤ 16)
+few l n c from h b e g =
+    (digits-take (c - from) (drop from l) (digits-drop from l h), let k = length-take (c - from) (drop from l) in omega (arith, k, e))
 
 below-16 : (l : List ℕ) → Digits l → length l ≤ 16 → value l < 10 ^ 16
 below-16 l h g = lt-of-lt-of-le (below l h) (let z : 0 < 10 = omega arith in pow-le-pow-right z g)
@@ -27,7 +30,8 @@ below-16 l h g = lt-of-lt-of-le (below l h) (let z : 0 < 10 = omega arith in pow
 many : (c : tie.Else1) → (17 ≤ c .before .top .result) × (33 ≤ c .before .top .result + c .before .before .before .args .shift)
 many c =
     let s = c .before .before .before in
-    enough-digits (now (s .args .digits)) (c .before .top .result) (s .args .shift) (s .pre .0) (c .before .top .ensures) (omega arith) (s .pre .4)
+    enough-digits (now (s .args .digits)) (c .before .top .result) (s .args .shift) (s .pre .0) (c .before .top .ensures) (omega arith)
+    (s .pre .4)
 
 returns : tie.Need-returns
 returns c =
@@ -42,7 +46,8 @@ number-requires : tie.Need-number-requires
 number-requires c κs =
     let a = c .before .before in
     let s = a .before .before in
-    few (now (s .args .digits)) (s .args .n) (a .top .result) (a .top .result - s .args .n) (s .pre .0) (s .pre .2) refl (omega (arith, many (c .before) .0))
+    few (now (s .args .digits)) (s .args .n) (a .top .result) (a .top .result - s .args .n) (s .pre .0) (s .pre .2) refl
+    (omega (arith, many (c .before) .0))
 
 sub-last : tie.Need-sub-last
 sub-last c = omega (arith, many (c .before .before) .0)
@@ -77,7 +82,8 @@ returns-2 c =
     let a = m .before .before .before in
     let s = a .before .before in
     let l = now (s .args .digits) in
-    let law = rounds-to l (s .args .n) (s .args .shift) (a .top .result) (t .top2 .result) (s .pre .0) (s .pre .1) (s .pre .2) (s .pre .3) (a .top .ensures) (omega arith) (s .pre .4) (t .top2 .ensures) in
+    let law = rounds-to l (s .args .n) (s .args .shift) (a .top .result) (t .top2 .result) (s .pre .0) (s .pre .1) (s .pre .2) (s .pre .3)
+    (a .top .ensures) (omega arith) (s .pre .4) (t .top2 .ensures) in
     let n = s .args .n in
     let from = a .top .result - n in
     let place = from + s .args .shift - 16 in

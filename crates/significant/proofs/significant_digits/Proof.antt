@@ -19,8 +19,12 @@ held c b e = ap (ofBits binary64) e ∙ ofBits-toBits binary64 (c .args .x) (sub
 
 of-bits-requires : tie.Need-of-bits-requires
 of-bits-requires c κs =
-    let s = c .before .before .before in
-    (subst T (sym (ap isFinite (held s (c .to-bits .result) (c .to-bits .ensures)) ∙ sym (c .before .before .is-finite .ensures) ∙ c .before .if1 .taken)) tt, s .pre .0, s .pre .1)
+    let s = c .before .before .before in (
+      subst T (sym (ap isFinite (held s (c .to-bits .result) (c .to-bits .ensures)) ∙ sym (c .before .before .is-finite .ensures)
+          ∙ c .before .if1 .taken)) tt,
+      s .pre .0,
+      s .pre .1,
+    )
 
 returns : tie.Need-returns
 returns c =

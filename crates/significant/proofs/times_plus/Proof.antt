@@ -1,4 +1,5 @@
--- `significant::times_plus` meets its contract: the digits before place i are done, and those from there on are as they were. Assumes nothing.
+-- `significant::times_plus` meets its contract: the digits before place i are done, and those from there on are as they
+-- were. Assumes nothing.
 use mathlib.Core.List.{List, [], _∷_, _++_, append-assoc}
 use mathlib.Core.Path.{_≡_, refl, sym, ap, subst, _∙_}
 use Prim.Native.Nat.{ℕ, suc, _+_, _-_, _*_, _/_, _%_, _^_, _≤_, _<_}
@@ -31,7 +32,8 @@ start by plus l h = record { same = refl; within = omega arith; done = refl; few
 product : (d by : ℕ) → d ≤ 255 → by ≤ 2 ^ 54 → d * by ≤ 255 * 2 ^ 54
 product d by h g = mul-le-mul h g
 
-next : (by plus : ℕ) (before digits : List ℕ) (carry i d t r q : ℕ) → SoFar by plus before digits carry i → by ≤ 2 ^ 54 → i < length digits → d ≤ 255 → d ≡ getD digits i 0 → t ≡ d * by + carry → r ≡ t % 10 → q ≡ t / 10
+next : (by plus : ℕ) (before digits : List ℕ) (carry i d t r q : ℕ) → SoFar by plus before digits carry i → by ≤ 2 ^ 54 → i < length digits
+    → d ≤ 255 → d ≡ getD digits i 0 → t ≡ d * by + carry → r ≡ t % 10 → q ≡ t / 10
     → SoFar by plus before (set digits i r) q (i + 1)
 unfolding timesPlus
 next by plus before digits carry i d t r q v b h o e f g k =
@@ -51,12 +53,14 @@ next by plus before digits carry i d t r q v b h o e f g k =
           ∙ ap (λ (x : ℕ). take i digits ++ (r ∷ timesPlus by x (drop (suc i) digits))) (sym k)
           ∙ sym (append-assoc (take i digits) (r ∷ []) (timesPlus by q (drop (suc i) digits)))
           ∙ ap (λ (x : List ℕ). x ++ timesPlus by q (drop (suc i) digits)) (sym (take-suc-set digits i r h))
-          ∙ ap (λ (x : List ℕ). take (suc i) (set digits i r) ++ timesPlus by q x) (sym (drop-set-lt (suc i) digits i r (let z : i < suc i = omega arith in z)))
+          ∙ ap (λ (x : List ℕ). take (suc i) (set digits i r) ++ timesPlus by q x)
+          (sym (drop-set-lt (suc i) digits i r (let z : i < suc i = omega arith in z)))
           ∙ ap (λ (j : ℕ). take j (set digits i r) ++ timesPlus by q (drop j (set digits i r))) (sym (add-one i));
       few = omega (arith, p, w, f, k);
     }
 
-ends : (by plus : ℕ) (before digits : List ℕ) (carry i : ℕ) → SoFar by plus before digits carry i → length digits ≤ i → digits ≡ timesPlus by plus before
+ends : (by plus : ℕ) (before digits : List ℕ) (carry i : ℕ) → SoFar by plus before digits carry i → length digits ≤ i
+    → digits ≡ timesPlus by plus before
 unfolding timesPlus
 ends by plus before digits carry i v h =
     sym (v .done
@@ -74,7 +78,8 @@ wide-requires : tie.Need-wide-requires Inv-loop μ-loop
 wide-requires c κs = tt
 
 mul-t : tie.Need-mul-t Inv-loop μ-loop
-mul-t c = let s = c .before .before .before .before .before in omega (arith, product (c .wide .result) (s .args .by) (c .wide .ensures .1) (s .pre .0))
+mul-t c = let s = c .before .before .before .before .before in
+    omega (arith, product (c .wide .result) (s .args .by) (c .wide .ensures .1) (s .pre .0))
 
 add-t : tie.Need-add-t Inv-loop μ-loop
 add-t c =
@@ -100,7 +105,8 @@ loop-again c =
     let a = w .before .before .before in
     let s = a .before .before in
     let v = a .loop in
-    next (s .args .by) (s .args .plus) (now (s .args .digits)) (v .digits) (v .carry) (v .i) (w .wide .result) (w .wide .result * s .args .by + v .carry) (c .narrow .result) ((w .wide .result * s .args .by + v .carry) / 10)
+    next (s .args .by) (s .args .plus) (now (s .args .digits)) (v .digits) (v .carry) (v .i) (w .wide .result)
+    (w .wide .result * s .args .by + v .carry) (c .narrow .result) ((w .wide .result * s .args .by + v .carry) / 10)
     (v .inv) (s .pre .0) (omega arith) (w .wide .ensures .1) (w .wide .ensures .0) refl (c .narrow .ensures) refl
 
 same-length : tie.Need-same-length Inv-loop μ-loop

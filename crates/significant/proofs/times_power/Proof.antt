@@ -2,7 +2,8 @@
 use mathlib.Core.List.{List}
 use mathlib.Core.Path.{_≡_, refl, sym, ap, subst, _∙_}
 use Prim.Native.Nat.{ℕ, suc, _+_, _-_, _*_, _^_, _≤_, _<_}
-use native.Mathlib.Nat.{le-trans, lt-of-le-of-lt, mul-assoc, mul-comm, mul-one, mul-le-mul-left, pow-le-pow-left, pow-le-pow-right, pow-zero, add-zero}
+use native.Mathlib.Nat.{le-trans, lt-of-le-of-lt, mul-assoc, mul-comm, mul-one, mul-le-mul-left, pow-le-pow-left, pow-le-pow-right}
+use native.Mathlib.Nat.{pow-zero, add-zero}
 use native.Mathlib.Omega.{arith}
 use denote.Ref.{now}
 use lib.ListN.{length}
@@ -30,13 +31,17 @@ few base step h g = let z : 0 < 5 = omega arith in le-trans (pow-le-pow-left h s
 -- a step of the power and what is left behind it are the power
 parts : (v base left step : ℕ) → step ≤ left → v * base ^ step * base ^ (left - step) ≡ v * base ^ left
 parts v base left step h =
-    mul-assoc v (base ^ step) (base ^ (left - step)) ∙ ap (λ (x : ℕ). v * x) (sym (pow-add base step (left - step)) ∙ ap (λ (j : ℕ). base ^ j) (let z : step + (left - step) ≡ left = omega arith in z))
+    mul-assoc v (base ^ step) (base ^ (left - step))
+    ∙ ap (λ (x : ℕ). v * x)
+    (sym (pow-add base step (left - step)) ∙ ap (λ (j : ℕ). base ^ j) (let z : step + (left - step) ≡ left = omega arith in z))
 
-next : (before digits : List ℕ) (base k left step p : ℕ) → SoFar before digits base k left → 0 < base → value before * base ^ k < 10 ^ length before → step ≤ left → p ≡ base ^ step
+next : (before digits : List ℕ) (base k left step p : ℕ) → SoFar before digits base k left → 0 < base
+    → value before * base ^ k < 10 ^ length before → step ≤ left → p ≡ base ^ step
     → SoFar before (timesPlus p 0 digits) base k (left - step)
 next before digits base k left step p v b room h e =
     let l = timesPlus-length p 0 digits in
-    let c : p * value digits + 0 ≡ value digits * base ^ step = add-zero (p * value digits) ∙ mul-comm p (value digits) ∙ ap (λ (x : ℕ). value digits * x) e in
+    let c : p * value digits + 0 ≡ value digits * base ^ step = add-zero (p * value digits) ∙ mul-comm p (value digits)
+    ∙ ap (λ (x : ℕ). value digits * x) e in
     let m : value digits * base ^ step ≤ value digits * base ^ left = mul-le-mul-left (value digits) (pow-le-pow-right b h) in
     let w : 10 ^ length before ≡ 10 ^ length digits = ap (λ (j : ℕ). 10 ^ j) (sym (v .same)) in
     let i = v .is in
@@ -82,8 +87,10 @@ loop-again c =
     let a = st .before .before in
     let s = a .before .before in
     let v = a .loop in
-    subst (λ (d : List ℕ). SoFar (now (s .args .digits)) d (s .args .base) (s .args .k) (v .left - st .step-of .result)) (sym (t .times-plus .ensures))
-    (next (now (s .args .digits)) (v .digits) (s .args .base) (s .args .k) (v .left) (st .step-of .result) (w .power .result) (v .inv) (s .pre .1) (s .pre .3) (st .step-of .ensures .0) (w .power .ensures))
+    subst (λ (d : List ℕ). SoFar (now (s .args .digits)) d (s .args .base) (s .args .k) (v .left - st .step-of .result))
+    (sym (t .times-plus .ensures))
+    (next (now (s .args .digits)) (v .digits) (s .args .base) (s .args .k) (v .left) (st .step-of .result) (w .power .result) (v .inv)
+    (s .pre .1) (s .pre .3) (st .step-of .ensures .0) (w .power .ensures))
 
 same-length : tie.Need-same-length Inv-loop μ-loop
 same-length c = c .before .loop .inv .same
@@ -96,7 +103,8 @@ returns c =
     record {
       same = v .inv .same;
       digits = v .inv .each;
-      is = sym (mul-one (value (v .digits))) ∙ ap (λ (x : ℕ). value (v .digits) * x) (sym (ap (λ (j : ℕ). s .args .base ^ j) e ∙ pow-zero (s .args .base))) ∙ v .inv .is;
+      is = sym (mul-one (value (v .digits)))
+          ∙ ap (λ (x : ℕ). value (v .digits) * x) (sym (ap (λ (j : ℕ). s .args .base ^ j) e ∙ pow-zero (s .args .base))) ∙ v .inv .is;
     }
 
 pub times-power-spec : {M : Type 1} → statement M

@@ -51,7 +51,11 @@ returns-2 : tie.Need-returns-2 Inv-loop μ-loop
 returns-2 c =
     let v = c .before .loop in
     let e : v .i ≡ 0 = omega arith in
-    record { within = omega arith; above = subst (λ (i : ℕ). value (drop i (now (c .before .before .args .digits))) ≡ 0) e (v .inv .1); digit = λ h. absurd (let z : ⊥ = omega arith in z) }
+    record {
+      within = omega arith;
+      above = subst (λ (i : ℕ). value (drop i (now (c .before .before .args .digits))) ≡ 0) e (v .inv .1);
+      digit = λ h. absurd (let z : ⊥ = omega arith in z);
+    }
 
 pub top-spec : {M : Type 1} → statement M
 top-spec =

@@ -19,22 +19,28 @@ slice-aggregate-spelled c = sym (so-many _ (1074 - c .before .before .args .j) r
 
 spelled-requires : tie.Need-spelled-requires
 spelled-requires c κs =
-    let s = c .before .before in
-    ((s .pre .0, omega arith, omega arith, s .pre .2, s .pre .3), (so-many _ (1074 - s .args .j) refl (omega arith), omega arith, many-fives (s .args .j) (omega arith)))
+    let s = c .before .before in (
+      (s .pre .0, omega arith, omega arith, s .pre .2, s .pre .3),
+      (so-many _ (1074 - s .args .j) refl (omega arith), omega arith, many-fives (s .args .j) (omega arith)),
+    )
 
 returns : tie.Need-returns
-returns c = let s = c .before .before .before .before in same-units (s .args .n) _ _ _ _ (as-five (s .args .m) (s .args .j) (omega arith)) (c .before .spelled .ensures)
+returns c = let s = c .before .before .before .before in
+    same-units (s .args .n) _ _ _ _ (as-five (s .args .m) (s .args .j) (omega arith)) (c .before .spelled .ensures)
 
 slice-aggregate-spelled-2 : tie.Need-slice-aggregate-spelled-2
 slice-aggregate-spelled-2 c = sym (so-many _ (c .before .before .args .j - 1074) refl (omega arith))
 
 spelled-requires-2 : tie.Need-spelled-requires-2
 spelled-requires-2 c κs =
-    let s = c .before .before in
-    ((s .pre .0, omega arith, omega arith, s .pre .2, s .pre .3), (so-many _ (s .args .j - 1074) refl (omega arith), omega arith, many-tens (s .args .j - 1074)))
+    let s = c .before .before in (
+      (s .pre .0, omega arith, omega arith, s .pre .2, s .pre .3),
+      (so-many _ (s .args .j - 1074) refl (omega arith), omega arith, many-tens (s .args .j - 1074)),
+    )
 
 returns-2 : tie.Need-returns-2
-returns-2 c = let s = c .before .before .before .before in same-units (s .args .n) _ _ _ _ (as-two (s .args .m) (s .args .j) (omega arith)) (c .before .spelled2 .ensures)
+returns-2 c = let s = c .before .before .before .before in
+    same-units (s .args .n) _ _ _ _ (as-two (s .args .m) (s .args .j) (omega arith)) (c .before .spelled2 .ensures)
 
 pub worked-spec : {M : Type 1} → statement M
 worked-spec =
