@@ -75,7 +75,8 @@ unfoldable pub mixedLine : List ℕ
 mixedLine = all (text "mixed entries of the tensor: xy F, xz F, yz F " ∷ kilogramSquareMetre ∷ newline ∷ [])
 
 abbrev pub mixedText : List Float → List ℕ
-mixedText f = cond (allZero (momentAt f 7) (momentAt f 8) (momentAt f 9)) [] (filled plain mixedLine (mixedFigures f) [])
+mixedText f =
+    cond (allZero (momentAt f 7) (momentAt f 8) (momentAt f 9)) [] (filled plain mixedLine (mixedFigures f) [])
 
 -- marks of a body: B (66), its mass and its balance point up to the name of the origin; C (67), the rest of that line
 -- and the moments; D (68), the mixed entries
@@ -181,7 +182,9 @@ abbrev pub shown : List ℕ → List Float → List ℕ → List ℕ
 shown shape figures counts = orElse (filled card (textFor shape cards) figures counts) noAnswer ++ newline
 
 unfoldable pub blockOf : List ℕ → List ℕ
-blockOf line = cond (leb (length line) longestAnswer) (shown (shapeIn line) (figuresIn line) (countsIn line)) (noAnswer ++ newline)
+blockOf line =
+    cond (leb (length line) longestAnswer)
+    (shown (shapeIn line) (figuresIn line) (countsIn line)) (noAnswer ++ newline)
 
 -- no block has more bytes
 abbrev pub blockBytes : ℕ

@@ -52,9 +52,11 @@ numberedSet count noPlanform thickness section tab fillet cant base radius densi
 numberedSet count (planformKnown planform) thickness noSection tab fillet cant base radius density = noSet
 numberedSet count (planformKnown planform) thickness (sectionKnown section) noTab fillet cant base radius density =
     noSet
-numberedSet count (planformKnown planform) thickness (sectionKnown section) (tabKnown tab) unknownFillet cant base radius density =
+numberedSet count (planformKnown planform) thickness (sectionKnown section) (tabKnown tab)
+    unknownFillet cant base radius density =
     noSet
-numberedSet count (planformKnown planform) thickness (sectionKnown section) (tabKnown tab) (filletKnown fillet) cant base radius noDensity =
+numberedSet count (planformKnown planform) thickness (sectionKnown section) (tabKnown tab)
+    (filletKnown fillet) cant base radius noDensity =
     noSet
 numberedSet count (planformKnown planform) thickness (sectionKnown section) (tabKnown tab)
     (filletKnown fillet) cant base radius (densityKnown density) =

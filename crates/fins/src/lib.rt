@@ -123,8 +123,8 @@ pub fn numbered_set(
     body_radius_m: f64,
     density: NumberedDensity,
 ) -> NumberedSet
-    ensures { λ r. ⌜ r
-        ≡ numberedSet count planform «thickness_m» section tab fillet «cant_rad» «base_angle_rad» «body_radius_m» density ⌝ }
+    ensures { λ r. ⌜ r ≡ numberedSet count planform «thickness_m» section tab fillet
+        «cant_rad» «base_angle_rad» «body_radius_m» density ⌝ }
 {
     let NumberedPlanform::Known(planform) = planform else {
         return NumberedSet::Unknown;

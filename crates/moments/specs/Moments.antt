@@ -47,8 +47,11 @@ rotationOf app apq aqq = rotationBy (tangentOf ((aqq ⊖ app) ⊘ (two ⊗ apq))
 -- the numbers x at i and y at j become c·x − s·y and s·x + c·y
 unfoldable pub turnPair : Rotation → ℕ → ℕ → Matrix → Matrix
 turnPair r i j a =
-    record
-    { 0 = set (set (a .0) i (r .cosine ⊗ placeAt a i ⊖ r .sine ⊗ placeAt a j)) j (r .sine ⊗ placeAt a i ⊕ r .cosine ⊗ placeAt a j) }
+    record {
+      0 = set
+          (set (a .0) i (r .cosine ⊗ placeAt a i ⊖ r .sine ⊗ placeAt a j))
+          j (r .sine ⊗ placeAt a i ⊕ r .cosine ⊗ placeAt a j);
+    }
 
 -- A·J: in each row, the numbers in columns p and q
 unfoldable pub turnColumns : Rotation → ℕ → ℕ → Matrix → Matrix

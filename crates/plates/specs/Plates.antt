@@ -26,7 +26,8 @@ aboutOrigin v kgPerM3 =
 -- the plate: its tensor moved from the origin to the centre
 unfoldable pub plateBody : List Float → Float → Body
 plateBody v kgPerM3 =
-    ofOriginTensor (kgPerM3 ⊗ volume v) (vector (r1 v ⊘ volume v) (bits 0) (neg (x1 v) ⊘ volume v)) (aboutOrigin v kgPerM3)
+    ofOriginTensor
+    (kgPerM3 ⊗ volume v) (vector (r1 v ⊘ volume v) (bits 0) (neg (x1 v) ⊘ volume v)) (aboutOrigin v kgPerM3)
 
 -- plate and fillets of one fin are joined first; "None is added for zero mass" (document 02, Paper 6), and then nothing
 -- is joined
@@ -42,14 +43,17 @@ pivotOf radius root = vector radius (bits 0) (neg half ⊗ root)
 
 -- turned by the cant about the span axis through the pivot; a cant of either zero moves and turns nothing
 unfoldable pub cantedOf : Body → Float → Vector → Body
-cantedOf fin cant pivot = cond (eq cant (bits 0)) fin (translatedOf (rotatedXOf (translatedOf fin (negateVector pivot)) cant) pivot)
+cantedOf fin cant pivot =
+    cond (eq cant (bits 0)) fin (translatedOf (rotatedXOf (translatedOf fin (negateVector pivot)) cant) pivot)
 
 -- fin and tab together
 abbrev pub integralsOf : FinSet → Float → List Float → List Float
-integralsOf set scale total = addIntegrals (unscaledOf total scale) (tabIntegralsOf (set .tab) (set .«thickness_m») (set .«body_radius_m»))
+integralsOf set scale total =
+    addIntegrals (unscaledOf total scale) (tabIntegralsOf (set .tab) (set .«thickness_m») (set .«body_radius_m»))
 
 -- one fin with its tab and fillets, at roll 0, from its integrals and the root chord; a density that is taken is bulk
 unfoldable pub finOf : FinSet → Float → List Float → Body
 finOf set root v =
-    cantedOf (withFillets (plateBody v (densityFigure (set .density))) (filletsOf (set .fillet) (set .«body_radius_m») root)) (set .«cant_rad»)
-    (pivotOf (set .«body_radius_m») root)
+    cantedOf
+    (withFillets (plateBody v (densityFigure (set .density))) (filletsOf (set .fillet) (set .«body_radius_m») root))
+    (set .«cant_rad») (pivotOf (set .«body_radius_m») root)
