@@ -350,34 +350,18 @@ module _ (section : Section) (p : Plate) (m : Mount) (points : List Float) (L : 
     -- ---- in fractions
     tab-fractions : (t : Tab) → TabKnown (finAt x) c t → AreFractions (tabNumbers t) (tabFractions t)
     tab-fractions None h = tt
-    tab-fractions (Slab height length offset) h = (
-      value-fraction height (h .height-finite),
-      (
-        value-fraction length (h .length-finite),
-        (
-          value-fraction offset (h .offset-finite),
-          tt,
-        ),
-      ),
-    )
+    tab-fractions (Slab height length offset) h =
+        let l = value-fraction length (h .length-finite) in
+        (value-fraction height (h .height-finite), (l, (value-fraction offset (h .offset-finite), tt)))
 
     lengths-are : AreFractions (numbersIn (finAt x)) (fractionsOf p x)
-    lengths-are = (
-      value-fraction (p .root) (positive-finite (p .root) root-positive),
-      (
-        value-fraction (p .tip) (q .tip-most .finite),
-        (
-          value-fraction (p .span) (positive-finite (p .span) (sizes .span-positive)),
-          (
-            value-fraction (p .sweep) (q .sweep-most .finite),
-            (
-              value-fraction (p .thickness) (positive-finite (p .thickness) (sizes .thickness-positive)),
-              (value-fraction x (reached .radius-most .finite), tab-fractions (p .tab) (sizes .tab)),
-            ),
-          ),
-        ),
-      ),
-    )
+    lengths-are =
+        let root = value-fraction (p .root) (positive-finite (p .root) root-positive) in
+        let tip = value-fraction (p .tip) (q .tip-most .finite) in
+        let span = value-fraction (p .span) (positive-finite (p .span) (sizes .span-positive)) in
+        let sweep = value-fraction (p .sweep) (q .sweep-most .finite) in
+        let thickness = value-fraction (p .thickness) (positive-finite (p .thickness) (sizes .thickness-positive)) in
+        (root, (tip, (span, (sweep, (thickness, (value-fraction x (reached .radius-most .finite), tab-fractions (p .tab) (sizes .tab)))))))
 
     pub field-is : (i : ℕ) → i < 7 → IsFraction (exactly (finAt x) i) (fieldOf (exactAt section p x) i)
     field-is i l = subst (λ (y : Fraction). IsFraction (exactly (finAt x) i) y) (exact-field section plain-section p x i l)

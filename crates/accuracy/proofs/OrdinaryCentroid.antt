@@ -402,22 +402,11 @@ module _ (c : Chords) (root tip sweep span scale : Float) (g : Ordinary (c .chor
     l = valueOf root ∷ valueOf tip ∷ valueOf sweep ∷ valueOf span ∷ valueOf scale ∷ σ ∷ v ∷ []
 
     il : AllNumbers l
-    il = (
-      Counts.value-is root,
-      (
-        Counts.value-is tip,
-        (
-          Counts.value-is sweep,
-          (
-            Counts.value-is span,
-            (
-              Counts.value-is scale,
-              (numbers-are bases ranges E known 9, (numbers-are bases ranges Q quotients-known 1, tt)),
-            ),
-          ),
-        ),
-      ),
-    )
+    il =
+        let v = Counts.value-is in
+        let σ-is = numbers-are bases ranges E known 9 in
+        let v-is = numbers-are bases ranges Q quotients-known 1 in
+        (v root, (v tip, (v sweep, (v span, (v scale, (σ-is, (v-is, tt)))))))
 
     unit-low : NotBelow (evaluate numbers areaE)
     unit-low = from-low (2 ^ 29 - 2 ^ 10) (mono top bases (1 ∷ 1 ∷ []) * mono bottom bases (0 ∷ 0 ∷ 2 ∷ []))

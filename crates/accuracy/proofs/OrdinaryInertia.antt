@@ -403,31 +403,18 @@ module _ (f : Fin) (b d : ℕ) (g : Sizes f far b d) where
 
   known : AllKnown B body
   known =
-      let k = seven-known f far b d g in (
-        masses-known f far b d g .0,
-        (
-          (k 1 (lit≤ tt) tt, tt),
-          (
-            (k 2 (lit≤ tt) tt, tt),
-            (
-              (less-known (unitBy B (unitOf 3) []) (k 3 (lit≤ tt) tt), tt),
-              (
-                (k 4 (lit≤ tt) tt, tt),
-                (
-                  (k 5 (lit≤ tt) tt, tt),
-                  (
-                    (k 6 (lit≤ tt) tt, tt),
-                    (
-                      density-own f far b d g,
-                      ((mass-known f far b d g, mass-lowest f far b d g), (g .root-most, (g .thickness-most, tt))),
-                    ),
-                  ),
-                ),
-              ),
-            ),
-          ),
-        ),
-      )
+      let k = seven-known f far b d g in
+      let k1 = k 1 (lit≤ tt) tt in
+      let k2 = k 2 (lit≤ tt) tt in
+      let k3 = less-known (unitBy B (unitOf 3) []) (k 3 (lit≤ tt) tt) in
+      let k4 = k 4 (lit≤ tt) tt in
+      let k5 = k 5 (lit≤ tt) tt in
+      let k6 = k 6 (lit≤ tt) tt in
+      let v = masses-known f far b d g .0 in
+      let ρ = density-own f far b d g in
+      let m = mass-known f far b d g in
+      let w = mass-lowest f far b d g in
+      (v, ((k1, tt), ((k2, tt), ((k3, tt), ((k4, tt), ((k5, tt), ((k6, tt), (ρ, ((m, w), (g .root-most, (g .thickness-most, tt)))))))))))
 
   abbrev termOf : Shared → Float
   termOf s = value body (expand [] (bindAll parts s))
@@ -750,38 +737,11 @@ module _ (section : Section) (p : Plate) (m : Mount) (points : List Float) (L : 
       fractionOf (p .density) ∷ []
 
   book-are : AreFractions bookNumbers bookFractions
-  book-are = (
-    whole-fraction 1 1,
-    (
-      field-is 0 (lit≤ tt),
-      (
-        whole-fraction 1 1,
-        (
-          field-is 1 (lit≤ tt),
-          (
-            field-is 2 (lit≤ tt),
-            (
-              field-is 3 (lit≤ tt),
-              (
-                field-is 4 (lit≤ tt),
-                (
-                  field-is 5 (lit≤ tt),
-                  (
-                    field-is 6 (lit≤ tt),
-                    (
-                      Fins.density-fraction section p m points L start r
-                          exit plain-section g radius-f64 far q,
-                      tt,
-                    ),
-                  ),
-                ),
-              ),
-            ),
-          ),
-        ),
-      ),
-    ),
-  )
+  book-are =
+      let o = whole-fraction 1 1 in
+      let f = field-is in
+      let ρ = Fins.density-fraction section p m points L start r exit plain-section g radius-f64 far q in
+      (o, (f 0 (lit≤ tt), (o, (f 1 (lit≤ tt), (f 2 (lit≤ tt), (f 3 (lit≤ tt), (f 4 (lit≤ tt), (f 5 (lit≤ tt), (f 6 (lit≤ tt), (ρ, tt))))))))))
 
   book-fraction : (i : ℕ) → IsFraction (book fin′ b d sizes i) (fractionIn (amongFractions bookFractions) (bookE i))
   book-fraction zero = expression-fraction bookNumbers bookFractions book-are (bookE 0)

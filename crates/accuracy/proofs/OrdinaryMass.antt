@@ -1,4 +1,5 @@
 -- The mass of a set of one piece, of square or airfoil section: near the exact one by a computed bound. Assumes nothing.
+use Rattle.accuracy.proofs.Limits.{ranges-to, least-of, lengths, most-under}
 use mathlib.Core.Path.{_≡_, refl, sym, ap, _∙_, subst}
 use mathlib.Core.Bool.{Bool, _&&_}
 use mathlib.Core.List.{List, [], _∷_}
@@ -54,7 +55,6 @@ use Rattle.one_piece.proofs.PlatePiece.{sevenAt, partsOf}
 use Rattle.accuracy.specs.Masses.{Plate, Mount, setWith, SectionGiven, finVolume, tabVolume, filled, exactMass, TabWithin, Extents}
 use Rattle.accuracy.specs.Masses.{OneStrip, OrdinaryMass}
 use Rattle.accuracy.proofs.Given.{Lengths}
-use Rattle.accuracy.proofs.Limits.{ranges-of, least-of, lengths, most-under}
 use Rattle.accuracy.proofs.WholePieces.{value-is, wider}
 use Rattle.accuracy.proofs.ToFractions.{positive-fraction, product-fraction, fractionE, fraction-number, first-power}
 use Rattle.accuracy.proofs.SetCalled as Called
@@ -225,32 +225,15 @@ module _ (section : Section) (p : Plate) (m : Mount) (points : List Float) (L : 
   bases = (b per d) ∷ sizeOf (p .span) ∷ sizeOf S ∷ sizeOf (p .thickness) ∷ sizeOf (p .density) ∷ (y per e) ∷ []
 
   ranges : AllRanges 32 bases
-  ranges = (
-    wider 24 (b per d) (omega arith) (N .ranges),
-    (
-      wider 24 (sizeOf (p .span)) (omega arith) (N .span-ranges),
-      (
-        wider 24 (sizeOf S) (omega arith) (N .scale-ranges),
-        (
-          wider 24 (sizeOf (p .thickness)) (omega arith)
-              (ranges-of (p .thickness) 6 20 (omega arith) (omega arith) (thick .length .below) (thick .above)),
-          (
-            wider 24 (sizeOf (p .density)) (omega arith) (heavy .1),
-            (
-              wider 24 (y per e) (omega arith)
-                  (record {
-                    real = x .is-size;
-                    least = least-of (p .span) y e (N .span-positive) (sized .1 .1 .0 .above)
-                        (x .span-most);
-                    most = below y e (x .outward-most);
-                  }),
-              tt,
-            ),
-          ),
-        ),
-      ),
-    ),
-  )
+  ranges =
+      let B = wider 24 (b per d) (lit≤ tt) (N .ranges) in
+      let span = wider 24 (sizeOf (p .span)) (lit≤ tt) (N .span-ranges) in
+      let scale = wider 24 (sizeOf S) (lit≤ tt) (N .scale-ranges) in
+      let thickness = ranges-to 32 (p .thickness) 6 20 (lit≤ tt) (lit≤ tt) (thick .length .below) (thick .above) in
+      let density = wider 24 (sizeOf (p .density)) (lit≤ tt) (heavy .1) in
+      let least' = least-of (p .span) y e (N .span-positive) (sized .1 .1 .0 .above) (x .span-most) in
+      let Y = wider 24 (y per e) (lit≤ tt) (record { real = x .is-size; least = least'; most = below y e (x .outward-most) }) in
+      (B, (span, (scale, (thickness, (density, (Y, tt))))))
     where
       below : (y e : ℕ) → y ≤ 64 * e → y ≤ e * 2 ^ 24
       below y e h = omega arith
@@ -279,19 +262,9 @@ module _ (section : Section) (p : Plate) (m : Mount) (points : List Float) (L : 
       let thickness = own-entry bases 3 (p .thickness) refl thick-positive in
       let density = own-entry bases 4 (p .density) refl (heavy .0) in
       let long = sized-entry bases 0 b d refl (lengthOf (p .tab)) real (l .finite) (most-under (lengthOf (p .tab)) b d l) in
-      let high = sized-entry bases 5 y e refl (heightOf (p .tab)) (x .is-size) (h .finite) (most-under (heightOf (p .tab)) y e h) in (
-        (root, tt),
-        (
-          (tip, tt),
-          (
-            (sweep, tt),
-            (
-              span,
-              (scale, (thickness, (density, ((long, tt), ((high, tt), (x .span-most .size, tt)))))),
-            ),
-          ),
-        ),
-      )
+      let high = sized-entry bases 5 y e refl (heightOf (p .tab)) (x .is-size) (h .finite) (most-under (heightOf (p .tab)) y e h) in
+      let rest = x .span-most .size in
+      ((root, tt), ((tip, tt), ((sweep, tt), (span, (scale, (thickness, (density, ((long, tt), ((high, tt), (rest, tt))))))))))
 
   abbrev one : Float
   one = massBy (p .root) (p .tip) (p .sweep) (p .span) S (p .thickness) (p .density) (lengthOf (p .tab)) (heightOf (p .tab))

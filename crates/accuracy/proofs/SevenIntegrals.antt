@@ -380,19 +380,9 @@ abbrev pub exactly : Fin → ℕ → Number
 exactly f i = evaluate (among (numbersIn f)) (exactE f i)
 
 pub numbers-all : (f : Fin) → AllNumbers (numbersIn f)
-numbers-all f = (
-  Counts.value-is (f .root),
-  (
-    Counts.value-is (f .tip),
-    (
-      Counts.value-is (f .span),
-      (
-        Counts.value-is (f .sweep),
-        (Counts.value-is (f .thickness), (Counts.value-is (f .radius), rest (f .tab))),
-      ),
-    ),
-  ),
-)
+numbers-all f =
+    let v = Counts.value-is in
+    (v (f .root), (v (f .tip), (v (f .span), (v (f .sweep), (v (f .thickness), (v (f .radius), rest (f .tab)))))))
   where
     rest : (t : Tab) → AllNumbers (tabNumbers t)
     rest None = tt
@@ -700,16 +690,10 @@ module _ (f : Fin) (c : Class) (b d : ℕ) (g : Sizes f c b d) where
       (root, ((tip, tt), (span, (own-entry bases 3 (f .thickness) refl (g .thickness-positive), ((tab-known 0 (lit≤ tt) tt, tt), tt)))))
 
   volumes-signed : Signed volumes
-  volumes-signed = (
-    positive-from (f .root) (g .root-positive),
-    (
-      g .tip-from-zero,
-      (
-        positive-from (f .span) (g .span-positive),
-        (positive-from (f .thickness) (g .thickness-positive), (tab-from-zero, tt)),
-      ),
-    ),
-  )
+  volumes-signed =
+      let span = positive-from (f .span) (g .span-positive) in
+      let thickness = positive-from (f .thickness) (g .thickness-positive) in
+      (positive-from (f .root) (g .root-positive), (g .tip-from-zero, (span, (thickness, (tab-from-zero, tt)))))
 
   abbrev pub volumeShape : Shape
   volumeShape = shapeAt c foil (f .tab) 0

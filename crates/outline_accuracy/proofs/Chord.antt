@@ -241,31 +241,11 @@ module _ (h k span scale : Float) (g : StripSized h k span scale) (b d : ℕ) (L
         ∷ inverseOf (valueOf scale) ∷ []
 
     pub list-is : (s : Sample) → AllNumbers (list s)
-    list-is s = (
-      Counts.value-is lxp,
-      (
-        Counts.value-is lyp,
-        (
-          Counts.value-is lxq,
-          (
-            inv-is h k span scale g b d L-ranges lr lxp lyp lxq lyq l,
-            (
-              Counts.value-is rxp,
-              (
-                Counts.value-is ryp,
-                (
-                  Counts.value-is rxq,
-                  (
-                    inv-is h k span scale g b d L-ranges rr rxp ryp rxq ryq r,
-                    (Counts.value-is h, (Counts.value-is k, (node-is s, (scale-is, tt)))),
-                  ),
-                ),
-              ),
-            ),
-          ),
-        ),
-      ),
-    )
+    list-is s =
+        let v = Counts.value-is in
+        let i = inv-is h k span scale g b d L-ranges lr lxp lyp lxq lyq l in
+        let j = inv-is h k span scale g b d L-ranges rr rxp ryp rxq ryq r in
+        (v lxp, (v lyp, (v lxq, (i, (v rxp, (v ryp, (v rxq, (j, (v h, (v k, (node-is s, (scale-is, tt))))))))))))
 
     -- the width in the middle, and half of what it changes by from the lower end to the upper, over the scale
     abbrev pub middle : Number

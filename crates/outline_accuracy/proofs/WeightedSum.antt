@@ -1,9 +1,9 @@
 -- The weighted sum of fifteen samples, each near a number that is linear in the sample's place: it is near twice the one in the middle.
 -- Assumes nothing.
+use native.Mathlib.Nat.{le-refl, mul-pos}
+use Prim.Native.Nat.{zero, suc, ℕ, _+_, _*_, _^_, _≤_, _<_}
 use mathlib.Core.Path.{_≡_, refl, subst}
 use mathlib.Core.List.{List, [], _∷_}
-use Prim.Native.Nat.{ℕ, zero, suc, _+_, _*_, _^_, _≤_, _<_}
-use native.Mathlib.Nat.{mul-pos}
 use native.Mathlib.Omega.{arith}
 use lib.Dec.{T}
 use lib.Pow.{pow-pos}
@@ -79,54 +79,26 @@ module _ (B : List Size) (r : AllRanges 32 B) (y : Float → Float) (c reach : F
   abbrev entryOf : Sample → Given
   entryOf s = entry (y (heightOf s c reach)) (M plus nodeOf s times D) sampleShape 0
 
-  abbrev entries : List Given
-  entries =
-      entryOf centre ∷ entryOf (minus-side 0) ∷ entryOf (plus-side 0) ∷ entryOf (minus-side 1) ∷ entryOf (plus-side 1) ∷ entryOf
-      (minus-side 2)
-      ∷ entryOf (plus-side 2) ∷ entryOf (minus-side 3) ∷ entryOf (plus-side 3) ∷ entryOf (minus-side 4) ∷ entryOf (plus-side 4) ∷ entryOf
-      (minus-side 5)
-      ∷ entryOf (plus-side 5) ∷ entryOf (minus-side 6) ∷ entryOf (plus-side 6) ∷ []
+  abbrev nodesFrom : ℕ → ℕ → List Given
+  nodesFrom i zero = []
+  nodesFrom i (suc k) = entryOf (minus-side i) ∷ entryOf (plus-side i) ∷ nodesFrom (suc i) k
 
-  node : (i : ℕ) → i < 7 → Known B (y (heightOf (minus-side i) c reach)) (M plus nodeOf (minus-side i) times D) sampleShape
-      × Known B (y (heightOf (plus-side i) c reach)) (M plus nodeOf (plus-side i) times D) sampleShape
-  node i l = (known (minus-side i) l, known (plus-side i) l)
+  abbrev entries : List Given
+  entries = entryOf centre ∷ nodesFrom 0 7
+
+  nodes-known : (i k : ℕ) → i + k ≤ 7 → AllKnown B (nodesFrom i k)
+  nodes-known i zero l = tt
+  nodes-known i (suc k) l =
+      ((known (minus-side i) (here l), tt), ((known (plus-side i) (here l), tt), nodes-known (suc i) k (next l)))
+    where
+      here : i + suc k ≤ 7 → i < 7
+      here h = omega arith
+
+      next : i + suc k ≤ 7 → suc i + k ≤ 7
+      next h = omega arith
 
   all : AllKnown B entries
-  all =
-      let n0 = node 0 (omega arith) in
-      let n1 = node 1 (omega arith) in
-      let n2 = node 2 (omega arith) in
-      let n3 = node 3 (omega arith) in
-      let n4 = node 4 (omega arith) in
-      let n5 = node 5 (omega arith) in
-      let n6 = node 6 (omega arith) in (
-        (known centre tt, tt),
-        (
-          (n0 .0, tt),
-          (
-            (n0 .1, tt),
-            (
-              (n1 .0, tt),
-              (
-                (n1 .1, tt),
-                (
-                  (n2 .0, tt),
-                  (
-                    (n2 .1, tt),
-                    (
-                      (n3 .0, tt),
-                      (
-                        (n3 .1, tt),
-                        ((n4 .0, tt), ((n4 .1, tt), ((n5 .0, tt), ((n5 .1, tt), ((n6 .0, tt), ((n6 .1, tt), tt)))))),
-                      ),
-                    ),
-                  ),
-                ),
-              ),
-            ),
-          ),
-        ),
-      )
+  all = ((known centre tt, tt), nodes-known 0 7 (le-refl 7))
 
   sum-is : value entries (sumT above below 7) ≡ weightedTo 7 kronrodWeight y c reach
   unfolding weightedTo
