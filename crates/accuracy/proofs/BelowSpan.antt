@@ -1,6 +1,5 @@
--- Every sample of a strip that ends with at most 40 pieces lies below the span: a cut leaves half the width but for rounding, so that
--- each piece is at least 8,186 roundoffs of the strip wide, and no sample is nearer to a piece's end than a 256th of that. Assumes
--- nothing.
+-- Every sample of a strip that ends with at most 40 pieces lies below the span: a cut leaves half the width but for rounding, so that each
+-- piece is at least 8,186 roundoffs of the strip wide, and no sample is nearer to a piece's end than a 256th of that. Assumes nothing.
 use mathlib.Core.Path.{_≡_, refl, sym, subst}
 use mathlib.Core.List.{List, [], _∷_, _++_}
 use Prim.Native.Nat.{ℕ, zero, suc, _+_, _-_, _*_, _^_, _≤_}

@@ -1,5 +1,5 @@
--- From the call for a set's figures to the fin of proofs/SevenIntegrals: its lengths, its integrals, and the exact ones of
--- specs/Inertias in fractions. Assumes nothing.
+-- From the call for a set's figures to the fin of proofs/SevenIntegrals: its lengths, its integrals, and the exact ones of specs/Inertias
+-- in fractions. Assumes nothing.
 use mathlib.Core.Path.{_≡_, refl, sym, ap, _∙_, subst}
 use mathlib.Core.Bool.{Bool, true, false, cond}
 use mathlib.Core.List.{List, [], _∷_}

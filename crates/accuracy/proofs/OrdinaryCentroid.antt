@@ -1,5 +1,5 @@
--- The centroid of a trapezoid whose strip is one piece is near the exact one by computed bounds: of the three sums of the strip first,
--- then of their quotients. Assumes nothing.
+-- The centroid of a trapezoid whose strip is one piece is near the exact one by computed bounds: of the three sums of the strip first, then
+-- of their quotients. Assumes nothing.
 use native.Mathlib.Nat.{add-le-add, mul-le-mul-right, one-mul, mul-one, zero-mul, mul-zero, zero-add, add-zero, pow-zero}
 use Prim.Native.Nat.{zero-le, ℕ, _+_, _-_, _*_, _^_, _≤_, _<_}
 use Rattle.error_terms.proofs.Floors.{times-not-below, NotBelow, Signed, not-below as from-low, positive-from}

@@ -1,6 +1,5 @@
--- The inertia and the balance point of a single fin at base angle 0 that one piece is enough for, of square or airfoil
--- section, with a tab or none: near
--- the exact ones by computed bounds, from the seven integrals of proofs/SevenIntegrals. Assumes nothing.
+-- The inertia and the balance point of a single fin at base angle 0 that one piece is enough for, of square or airfoil section, with a tab
+-- or none: near the exact ones by computed bounds, from the seven integrals of proofs/SevenIntegrals. Assumes nothing.
 use Rattle.accuracy.proofs.OrdinaryBalance.{neg-known}
 use mathlib.Core.Path.{_≡_, refl, sym, ap, _∙_, subst}
 use mathlib.Core.Bool.{Bool, true, false, true≢false, _&&_}
@@ -741,7 +740,8 @@ module _ (section : Section) (p : Plate) (m : Mount) (points : List Float) (L : 
       let o = whole-fraction 1 1 in
       let f = field-is in
       let ρ = Fins.density-fraction section p m points L start r exit plain-section g radius-f64 far q in
-      (o, (f 0 (lit≤ tt), (o, (f 1 (lit≤ tt), (f 2 (lit≤ tt), (f 3 (lit≤ tt), (f 4 (lit≤ tt), (f 5 (lit≤ tt), (f 6 (lit≤ tt), (ρ, tt))))))))))
+      let f6 = f 6 (lit≤ tt) in
+      (o, (f 0 (lit≤ tt), (o, (f 1 (lit≤ tt), (f 2 (lit≤ tt), (f 3 (lit≤ tt), (f 4 (lit≤ tt), (f 5 (lit≤ tt), (f6, (ρ, tt))))))))))
 
   book-fraction : (i : ℕ) → IsFraction (book fin′ b d sizes i) (fractionIn (amongFractions bookFractions) (bookE i))
   book-fraction zero = expression-fraction bookNumbers bookFractions book-are (bookE 0)

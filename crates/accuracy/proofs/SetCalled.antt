@@ -31,8 +31,6 @@ use Rattle.figures.specs.declared.Figures.{Figures}
 use Rattle.accuracy.specs.Masses.{Plate, Mount, setWith}
 use Rattle.accuracy.proofs.Called.{chosen}
 
--- ---- a chord in the span
-
 -- ---- the answer
 pub record Given (section : Section) (p : Plate) (m : Mount) (points : List Float) (L n : ℕ) (r : Figures) : Type 0 where
   pub accepted : setCheck (setWith section p m) points L n ≡ Accepted

@@ -1,5 +1,5 @@
--- The seven volume integrals of a fin that one piece is enough for and of its tab, of square or airfoil section, and its mass: near
--- the exact ones by computed bounds. Assumes nothing.
+-- The seven volume integrals of a fin that one piece is enough for and of its tab, of square or airfoil section, and its mass: near the
+-- exact ones by computed bounds. Assumes nothing.
 use lib.ListN.{getD}
 use mathlib.Core.Path.{_≡_, refl, sym, ap, subst}
 use mathlib.Core.Bool.{Bool, true, false, _&&_}

@@ -1,5 +1,5 @@
--- From numbers of the proofs to fractions: a polynomial of f64s, and an f64 that is near a quotient, both sides times
--- its divisor. Assumes nothing.
+-- From numbers of the proofs to fractions: a polynomial of f64s, and an f64 that is near a quotient, both sides times its divisor. Assumes
+-- nothing.
 use lib.Ieee.{nan, inf, fin, up, down, Float, add}
 use lib.Ieee.Positive.{num, den, den-pos, positive, positive-finite}
 use lib.Pow.{pow-pos}

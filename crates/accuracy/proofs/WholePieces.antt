@@ -1,6 +1,5 @@
 -- A strip of one piece: a halving that ends with one piece made no cut, each of its samples has a chord, and the area that is summed is
--- near the
--- exact one by a computed bound. Assumes nothing.
+-- near the exact one by a computed bound. Assumes nothing.
 use Rattle.accuracy.proofs.ToFractions.{first-power}
 use mathlib.Core.Path.{_≡_, refl, ap}
 use mathlib.Core.Bool.{false}

@@ -1,6 +1,5 @@
 -- How near the centroid of a trapezoid whose strip is one piece is to the exact one. Its coordinates are the quotients
--- of
--- these numbers by 3·(root + tip): both sides are multiplied by that, as a fraction is divided by nothing here.
+-- of these numbers by 3·(root + tip): both sides are multiplied by that, as a fraction is divided by nothing here.
 use mathlib.Core.List.{List}
 use Prim.Native.Nat.{ℕ, _*_, _^_}
 use lib.IntN.{pos}

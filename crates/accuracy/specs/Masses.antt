@@ -1,6 +1,5 @@
 -- How near the mass of a set of trapezoids of one piece is to the exact one: square sections and airfoils, with a tab
--- or
--- none and no fillet, whatever the cant.
+-- or none and no fillet, whatever the cant.
 use mathlib.Core.Path.{_≡_}
 use mathlib.Core.Bool.{true}
 use mathlib.Core.List.{List}

@@ -1,6 +1,5 @@
 -- The first piece of a trapezoid's strip meets the tolerance in the seven components of a plate: square section with a tip up to 2 root
--- chords,
--- airfoils with a tip up to 1, sweep from 0 to 4, any radius of the body, any thickness. Assumes nothing.
+-- chords, airfoils with a tip up to 1, sweep from 0 to 4, any radius of the body, any thickness. Assumes nothing.
 use mathlib.Core.Path.{_≡_, refl}
 use mathlib.Core.Bool.{true, false}
 use mathlib.Core.Logic.{_⊎_, inl, inr}

@@ -1,6 +1,5 @@
 -- The seven components of a plate of square or airfoil section on a trapezoid, as terms: each meets the tolerance where a test on sizes
--- holds.
--- Assumes nothing.
+-- holds. Assumes nothing.
 use mathlib.Core.Path.{_≡_, refl, sym, ap, _∙_}
 use mathlib.Core.Bool.{Bool, true, false, _&&_, cond}
 use mathlib.Core.List.{List, [], _∷_}

@@ -1,6 +1,5 @@
 -- The rule over the whole strip of a trapezoid, as a term in 15 shared samples; and one piece meets the tolerance where each component
--- does.
--- Assumes nothing.
+-- does. Assumes nothing.
 use mathlib.Core.Path.{_≡_, refl, sym, ap, _∙_, subst}
 use mathlib.Core.Bool.{Bool, true, false, _&&_, cond}
 use mathlib.Core.List.{List, [], _∷_}

@@ -32,7 +32,6 @@ use Rattle.error_terms.proofs.Orders.{near-above}
 
 ruleset plain = (sorted, one-mul, mul-one, zero-mul, mul-zero, zero-add, add-zero)
 
--- ---- an f64 near a number as an entry, in the unit of one size
 -- ---- a quotient by an f64 below 0
 back : (x : Float) → neg (neg x) ≡ x
 unfolding neg

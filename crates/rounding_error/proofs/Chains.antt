@@ -1,6 +1,5 @@
 -- Chains of operations: an f64 with the exact number that it stands for, how many unit roundoffs of a size it is from it, and how many
--- sizes that
--- number is at most. With literal counts the conditions are `tt`. Assumes nothing.
+-- sizes that number is at most. With literal counts the conditions are `tt`. Assumes nothing.
 use mathlib.Core.Path.{_≡_}
 use Prim.Native.Nat.{ℕ, suc, _+_, _*_, _^_, _≤_}
 use native.Mathlib.Nat.{mul-pos, mul-le-mul-right, mul-le-mul-left}

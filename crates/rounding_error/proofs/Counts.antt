@@ -153,8 +153,6 @@ itself-within x (a per c) = within-upto (0 per 1) (0 roundoffs (a per c)) x x (p
 pub itself : (x : Float) (B : Size) → T (finite x) → Near x (valueOf x) (0 roundoffs B)
 itself x (a per c) h = record { finite = h; within = itself-within (valueOf x) (a per c) }
 
--- ---- the sum and the difference
-
 -- ---- the product
 by-roundoffs : (i l a c b d P : ℕ) → i * a * (l * b) * (c * d * P) ≤ i * l * (a * b) * (c * (d * P))
 by-roundoffs i l a c b d P = simp sorted (le-refl _)
@@ -181,5 +179,3 @@ within-product x y v w i j k l (a per c) (b per d) C D I J h g u s =
     (subst (λ (r : Number). Within ((j * k) roundoffs (A by B)) (w times x) r) (times-comm w v) f) in
     within-roundoffs (i * l) (j * k) (A by B) (x times y) (v times w) (mul-pos C D)
     (within-trans ((i * l) roundoffs (A by B)) ((j * k) roundoffs (A by B)) (x times y) (x times w) (v times w) (times-is x w I J) e f')
-
--- ---- the quotient by an f64 above 0

@@ -1,6 +1,5 @@
 -- The numbers of proofs/Numbers are the fractions of floats/specs/Fractions: sums, products and values of f64s, and how far they are apart.
--- Assumes
--- nothing.
+-- Assumes nothing.
 use mathlib.Core.Path.{_≡_, refl, sym, ap, _∙_, subst}
 use mathlib.Core.Bool.{Bool, true, false, not, cond}
 use Prim.Native.Nat.{ℕ, zero, suc, _+_, _-_, _*_, _≤_, _<_}
