@@ -96,8 +96,7 @@ turnAfter screen over = cond over (Ended screen) (More screen)
 abbrev pub stepped : Screens → ℕ → Job → Served
 stepped screens screen job =
     record {
-      screens =
-          withHeld screens screen (not (job .ended)) screen;
+      screens = withHeld screens screen (not (job .ended)) screen;
       job = job;
       turn = turnAfter screen (job .ended);
     }
@@ -109,8 +108,10 @@ steppedAt screens screen call = record { answer = stepped screens screen (call .
 -- a short turn "does nothing", and so does an idle one
 unfoldable pub servedOf : Screens → Job → ℕ → CallOf Served
 servedOf screens job scratchLength =
-    cond (ltb scratchLength scratchNumbers) (leavesAlone (record { screens = screens; job = job; turn = Short }))
-    (cond (ltb 0 (nextScreen screens)) (steppedAt screens (nextScreen screens) (steppedOn job))
+    cond (ltb scratchLength scratchNumbers)
+    (leavesAlone (record { screens = screens; job = job; turn = Short }))
+    (cond (ltb 0 (nextScreen screens))
+    (steppedAt screens (nextScreen screens) (steppedOn job))
     (leavesAlone (record { screens = screens; job = job; turn = Idle })))
 
 -- a turn does this, and gives the number and values of its answer

@@ -21,8 +21,13 @@ use Rattle.figures.specs.Figures.{conclusionOf}
 -- by root chord plus span" ("Set and planform"; "Const generics become two widths"); and every strip worked
 abbrev pub areaRun : Planform → List Float → ℕ → Run
 areaRun planform points L =
-    record
-    { width = 3; integrand = areaThree planform points; limit = L; scale = scaleOf planform points; heights = breakHeights planform points }
+    record {
+      width = 3;
+      integrand = areaThree planform points;
+      limit = L;
+      scale = scaleOf planform points;
+      heights = breakHeights planform points;
+    }
 
 abbrev pub areaStrips : Planform → List Float → ℕ → List Worked
 areaStrips planform points L = stripsIn (areaRun planform points L)
@@ -31,16 +36,23 @@ areaStrips planform points L = stripsIn (areaRun planform points L)
 abbrev pub areaSeven : Planform → List Float → ℕ → List Worked
 areaSeven planform points L = sevenWide 3 (areaStrips planform points L)
 
+-- a refusal: "Figures zero; intervals 0; samples taken so far"
 abbrev pub refusedArea : Refusal → ℕ → Area
 refusedArea refusal samples =
-    record
-    { verdict = Refused refusal; «area_m2» = bits 0; «centroid_x_m» = bits 0; «centroid_span_m» = bits 0; intervals = 0; samples = samples }
+    record {
+      verdict = Refused refusal;
+      «area_m2» = bits 0;
+      «centroid_x_m» = bits 0;
+      «centroid_span_m» = bits 0;
+      intervals = 0;
+      samples = samples;
+    }
 
--- the strips' area, x and height summed over it, as they were before they were divided by the scale; "Figures zero;
--- intervals 0; samples taken so far"
+-- the strips' area as it was before lengths were divided by the scale
 abbrev pub unscaledArea : Float → List Float → Float
 unscaledArea scale v = at v 0 ⊗ scale ⊗ scale
 
+-- area and centroid of the totals over the strips, x and height being summed over the area; or what refused them
 abbrev pub areaBy : Verdict → Float → Totals → Area
 areaBy verdict scale totals =
     byVerdict verdict

@@ -34,8 +34,13 @@ setIntegrand set points =
 -- what the strips are worked from, between the break heights, "divided by root chord plus span"; and every strip worked
 abbrev pub setRun : FinSet → List Float → ℕ → Run
 setRun set points L =
-    record
-    { width = 7; integrand = setIntegrand set points; limit = L; scale = scaleOf (set .planform) points; heights = breakHeights (set .planform) points }
+    record {
+      width = 7;
+      integrand = setIntegrand set points;
+      limit = L;
+      scale = scaleOf (set .planform) points;
+      heights = breakHeights (set .planform) points;
+    }
 
 abbrev pub setStrips : FinSet → List Float → ℕ → List Worked
 setStrips set points L = stripsIn (setRun set points L)
@@ -58,12 +63,8 @@ conclusionOf ending size = firstRefusal (verdictOf ending) (sizeCheck size)
 -- a body with its totals, or the refusal with the samples
 abbrev pub figuresBy : Verdict → Body → Totals → Figures
 figuresBy verdict body totals =
-    byVerdict verdict (record {
-      verdict = Accepted;
-      body = body;
-      intervals = totals .intervals;
-      samples = totals .samples;
-    })
+    byVerdict verdict
+    (record { verdict = Accepted; body = body; intervals = totals .intervals; samples = totals .samples })
     (λ refusal. refusedFigures refusal (totals .samples))
 
 -- a set's body from the integrals of one fin and the root chord

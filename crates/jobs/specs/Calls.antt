@@ -115,8 +115,7 @@ runningJob set points L strips =
 abbrev pub progressOver : Run → List Worked → JobProgress
 progressOver run strips =
     record {
-      worked =
-          length strips;
+      worked = length strips;
       strips = stripsFrom run 0;
       intervals = intervalsIn strips;
       samples = samplesIn strips;

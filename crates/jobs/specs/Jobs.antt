@@ -45,8 +45,13 @@ use Rattle.jobs.specs.declared.Replied.{Replied}
 -- the run of a set whose strips are worked one a step: over all heights, not sorted
 abbrev pub stepRun : FinSet → List Float → ℕ → Run
 stepRun set points L =
-    record
-    { width = 7; integrand = setIntegrand set points; limit = L; scale = scaleOf (set .planform) points; heights = allHeights (set .planform) points }
+    record {
+      width = 7;
+      integrand = setIntegrand set points;
+      limit = L;
+      scale = scaleOf (set .planform) points;
+      heights = allHeights (set .planform) points;
+    }
 
 -- ---- the record
 
@@ -164,11 +169,9 @@ isShort over L scratchLength = not over && (not (isRefused (limitCheck L)) && is
 -- a step that is short "changes nothing"; a step on an ended job "repeats its answer, with any scratch"
 unfoldable pub stepOf : Job → ℕ → CallOf Stepped
 stepOf job scratchLength =
-    cond (isShort (job .ended) (job .limit) scratchLength) (leavesAlone (record {
-      job =
-          job;
-      progress = Short;
-    })) (steppedBy (steppedOn job))
+    cond (isShort (job .ended) (job .limit) scratchLength)
+    (leavesAlone (record { job = job; progress = Short }))
+    (steppedBy (steppedOn job))
 
 -- a step does this, and gives the number and values of its answer
 abbrev pub verdictOf : Stepped → Verdict
