@@ -1,7 +1,7 @@
 -- What the calls on a job in lent memory promise: the answer, the job at exit and what the lists hold, and the scratch
 -- at exit.
 use mathlib.Core.Path.{_≡_}
-use mathlib.Core.Bool.{Bool, cond, not, _&&_}
+use mathlib.Core.Bool.{Bool, true, cond, not, _&&_}
 use mathlib.Core.List.{List, _++_}
 use Prim.Native.Nat.{ℕ, _≤_}
 use lib.ListN.{length, drop}
@@ -21,12 +21,16 @@ use Rattle.lent_jobs.specs.Memory.{jobNumbers, jobCounts, numbersOf, cou
 abbrev pub Room : List Float → List ℕ → Type 0
 Room numbers counts = (jobNumbers ≤ length numbers) × (jobCounts ≤ length counts)
 
--- the job is written over their start, and is the one that they then hold
-pub record Holds (job : Job) (numbers : List Float) (counts : List ℕ) (numbers' : List Float)
+-- the lists at exit, by what they were: a job that is written stands over their start; and the job that they then hold
+pub record Leaves (written : Bool) (job : Job) (numbers : List Float) (counts : List ℕ) (numbers' : List Float)
     (counts' : List ℕ) : Type 0 where
-  pub numbers-are : numbers' ≡ numbersOf job ++ drop jobNumbers numbers
-  pub counts-are : counts' ≡ countsOf job ++ drop jobCounts counts
+  pub numbers-are : numbers' ≡ cond written (numbersOf job ++ drop jobNumbers numbers) numbers
+  pub counts-are : counts' ≡ cond written (countsOf job ++ drop jobCounts counts) counts
   pub held : jobIn numbers' counts' ≡ job
+
+-- the job is written
+abbrev pub Holds : Job → List Float → List ℕ → List Float → List ℕ → Type 0
+Holds job = Leaves true job
 
 pub record Makes (set : FinSet) (points : List Float) (L : ℕ) (numbers : List Float) (counts : List ℕ) (r : Reply)
     (numbers' : List Float) (counts' : List ℕ) : Type 0 where
@@ -43,13 +47,6 @@ stepWrites job scratchLength = not (job .ended) && not (isShort (job .ended) (jo
 -- a density is taken where the job has not ended and it passes its check
 abbrev pub densityTaken : Bool → Density → Bool
 densityTaken ended density = not ended && not (isRefused (densityCheck density))
-
--- the lists at exit, by what they were, and the job that they then hold
-pub record Leaves (written : Bool) (job : Job) (numbers : List Float) (counts : List ℕ) (numbers' : List Float)
-    (counts' : List ℕ) : Type 0 where
-  pub numbers-are : numbers' ≡ cond written (numbersOf job ++ drop jobNumbers numbers) numbers
-  pub counts-are : counts' ≡ cond written (countsOf job ++ drop jobCounts counts) counts
-  pub held : jobIn numbers' counts' ≡ job
 
 pub record Steps (numbers : List Float) (counts : List ℕ) (scratch : List Float) (r : Progress) (numbers' : List Float)
     (counts' : List ℕ) (scratch' : List Float) : Type 0 where

@@ -14,7 +14,9 @@ returns c = c .go-on .ensures ∙ sym (after-more _ _ (both-told _ _ _ (c .befor
 
 array-share-prefix-numbers : tie.Need-array-share-prefix-numbers
 array-share-prefix-numbers c =
-    let s = c .before .before .before .before .before .before .before .before .before in
+    let other = c .before .before .before .before in
+    let told = other .before .before in
+    let s = told .before .before .before in
     let job = s .args .job in
     omega (arith, c .held .ensures, outline-length job _ (s .good .0), held-most (job .points .count))
 

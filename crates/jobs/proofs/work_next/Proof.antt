@@ -11,7 +11,8 @@ use Rattle.jobs.proofs.work_next.Tie as tie
 
 array-share-prefix-numbers : tie.Need-array-share-prefix-numbers
 array-share-prefix-numbers c =
-    let s = c .before .before .before .before .before .before in
+    let held = c .before in
+    let s = held .before .before .before .before .before in
     let job = s .args .job in
     omega (arith, c .before .held .ensures, outline-length job _ (s .good .0), held-most (job .points .count))
 

@@ -16,7 +16,10 @@ returns c = let refused = c .before in
     (ap not (sym (refused .is-refused .ensures) ∙ c .if1 .taken))
 
 write-at-requires : tie.Need-write-at-requires
-write-at-requires c κs = let place = c .before .before .before .before .before .before .before .before .before .before .before in
+write-at-requires c κs =
+    let goes = c .before .before .before .before in
+    let change = goes .before .before .before in
+    let place = change .before .before .before .before in
     let s = place .before .before .before .before .before in
     (s .pre, place .place-of .ensures .1)
 

@@ -17,8 +17,12 @@ returns c = let refused = c .before in
     (ap not (sym (refused .is-refused .ensures) ∙ c .if1 .taken))
 
 write-at-requires : tie.Need-write-at-requires
-write-at-requires c κs = let place = c .before .before .before .before .before .before .before .before .before .before .before .before in
-    let s = place .before .before .before .before .before .before in
+write-at-requires c κs =
+    let goes = c .before .before .before .before in
+    let submit = goes .before .before .before in
+    let place = submit .before .before .before .before .before in
+    let screens = place .before in
+    let s = screens .before .before .before .before .before in
     (s .pre, place .place-of .ensures .1)
 
 returns-2 : tie.Need-returns-2

@@ -14,9 +14,12 @@ returns c = let told = c .before in
     turns-idle _ _ _ (screens .read-screens .ensures) _ _ (read .read-at .ensures) (pick .pick .ensures .0) _ _ _ (serve .serve .ensures) (sym (told .served-screen .ensures) ∙ c .if1 .taken)
 
 write-at-requires : tie.Need-write-at-requires
-write-at-requires c κs = let serve = c .before .before .before .before .before .before .before .before in
+write-at-requires c κs =
+    let served = c .before .before .before .before in
+    let serve = served .before .before .before .before in
     let pick = serve .before .before .before .before .before in
-    let s = pick .before .before .before .before .before .before in
+    let screens = pick .before in
+    let s = screens .before .before .before .before .before in
     (s .pre, pick .pick .ensures .1)
 
 returns-2 : tie.Need-returns-2

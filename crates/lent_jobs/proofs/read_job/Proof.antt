@@ -7,7 +7,9 @@ use Rattle.lent_jobs.proofs.read_job.Tie as tie
 returns : tie.Need-returns
 unfolding jobIn
 returns c =
-    let o = c .before .before .before .before .before .before .before .before .before .before .before .before .before in
+    let seventh-sum = c .before .before .before .before .before in
+    let third-sum = seventh-sum .before .before .before .before in
+    let o = third-sum .before .before .before .before in
     let l = o .before .before in
     rw (o .read-outcome .ensures, l .read-outline .ensures, l .before .before .read-set .ensures)
 

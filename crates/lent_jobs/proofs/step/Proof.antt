@@ -16,7 +16,9 @@ returns-2 c = let short = c .before in
     steps-short (s .numbers .now) (s .counts .now) _ (sym (short .is-short .ensures) ∙ c .if2 .taken)
 
 returns-3 : tie.Need-returns-3
-returns-3 c = let there = c .before .before .before .before .before .before in
+returns-3 c =
+    let counts = c .before .before .before in
+    let there = counts .before .before .before in
     let long = there .before .before .before .before in
     let short = long .before in
     let running = short .before .before in

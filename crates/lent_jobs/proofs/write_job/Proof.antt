@@ -14,13 +14,18 @@ use Rattle.lent_jobs.proofs.write_job.Tie as tie
 
 slice-aggregate-write-numbers-3 : tie.Need-slice-aggregate-write-numbers-3
 slice-aggregate-write-numbers-3 c =
-    let set-known = c .before .before .before .before .before .before .before .before .before .before .before .before .before .before .before .before in
-    let start = set-known .before .before .before in
+    let points = c .before .before .before in
+    let two = points .before .before .before in
+    let w = two .before .before .before in
+    let one = w .before .before .before in
+    let s = one .before .before .before in
+    let start = s .before .before .before .before in
     sym (sized (start .args .job) _ (start .good .1 .1 .0) .outline)
 
 write-numbers-requires-3 : tie.Need-write-numbers-requires-3
 write-numbers-requires-3 c κs =
-    let two = c .before .before .before .before .before .before in
+    let points = c .before .before .before in
+    let two = points .before .before .before in
     let w = two .before .before .before in
     let one = w .before .before .before in
     let s = one .before .before .before in
@@ -39,7 +44,8 @@ returns c =
     let k = c .before .before in
     let r = k .before .before .before in
     let three = r .before .before .before in
-    let two = three .before .before .before .before .before .before .before in
+    let points = three .before .before .before .before in
+    let two = points .before .before .before in
     let w = two .before .before .before in
     let one = w .before .before .before in
     let s = one .before .before .before in
