@@ -8,11 +8,7 @@ use lib.Dec.{ltb}
 use lib.ListN.{length, drop, replicate}
 use lib.Ieee.{Float}
 use Rattle.materials.specs.declared.Density.{Density}
-use Rattle.materials.specs.declared.NumberedDensity.{NumberedDensity}
-use Rattle.materials.specs.declared.NumberedDensity.the-variants.{Known as densityKnown, Unknown as noDensity}
 use Rattle.fins.specs.declared.FinSet.{FinSet}
-use Rattle.fins.specs.declared.NumberedSet.{NumberedSet}
-use Rattle.fins.specs.declared.NumberedSet.the-variants.{Known as setKnown, Unknown as noSet}
 use Rattle.jobs.specs.declared.Reply.{Reply}
 use Rattle.jobs.specs.Calls.{isTaken}
 use Rattle.lent_jobs.specs.Memory.{jobNumbers, jobCounts, numbersOf, countsOf}
@@ -73,15 +69,6 @@ pub record Leaves (calls : List Call) (before after : Lists) : Type 0 where
   pub held : engineOf after ≡ afterCalls (engineOf before) calls
   pub numbers-beyond : drop engineNumbers (after .numbers) ≡ drop engineNumbers (before .numbers)
   pub counts-beyond : drop engineCounts (after .counts) ≡ drop engineCounts (before .counts)
-
--- what numbers ask of the engine: one call, or none where a number stands for nothing
-abbrev pub submitCalls : ℕ → NumberedSet → List Float → ℕ → List Call
-submitCalls screen (setKnown set) points L = submit screen set points L ∷ []
-submitCalls screen noSet points L = []
-
-abbrev pub changeCalls : ℕ → NumberedDensity → List Call
-changeCalls screen (densityKnown density) = change screen density ∷ []
-changeCalls screen noDensity = []
 
 -- ---- the calls
 

@@ -2,7 +2,6 @@
 -- numbers, is no form.
 use mathlib.Core.Bool.{cond}
 use mathlib.Core.List.{List, [], _∷_}
-use mathlib.Core.Path.{_≡_}
 use Prim.Native.Nat.{ℕ, _+_, _*_, _/_}
 use lib.Dec.{eqb}
 use lib.ListN.{length}
@@ -40,39 +39,12 @@ use Rattle.figures.specs.declared.Area.{Area}
 use Rattle.figures.specs.declared.Figures.{Figures}
 use Rattle.figures.specs.Figures.{refusedFigures, setCall}
 use Rattle.figures.specs.Areas.{refusedArea, areaCall}
-use Rattle.jobs.specs.declared.Reply.{Reply}
-use Rattle.engines.specs.declared.Engine.{Engine}
-use Rattle.engines.specs.declared.Called.{Called}
-use Rattle.engines.specs.Engines.{submitOf, changeAt}
-use Rattle.engines.specs.Calls.{Call}
-use Rattle.lent_engines.specs.Lent.{Lists, engineOf, Leaves}
 
 -- ---- a set's figures, and what is left in the scratch
 
 unfoldable pub numberedCall : NumberedSet → List Float → ℕ → ℕ → CallOf Figures
 numberedCall (setKnown set) points L scratchLength = setCall set points L scratchLength
 numberedCall noSet points L scratchLength = leavesAlone (refusedFigures NoForm 0)
-
--- ---- the engine (document 02, Paper 10): a set submitted to a screen, with its points and L; another density for a
--- screen's job
-
--- what a call of an engine answers, which engine the lent lists hold then, and what it leaves of the lists
-pub record CallsEngine (called : Called) (calls : List Call) (r : Reply) (before after : Lists) : Type 0 where
-  pub answer : r ≡ called .reply
-  pub engine : engineOf after ≡ called .engine
-  pub leaves : Leaves calls before after
-
--- no form changes nothing
-abbrev pub noCall : Engine → Called
-noCall engine = record { engine = engine; reply = record { verdict = Refused NoForm; samples = 0 } }
-
-unfoldable pub numberedSubmit : Engine → ℕ → NumberedSet → List Float → ℕ → Called
-numberedSubmit engine screen (setKnown set) points L = submitOf engine screen set points L
-numberedSubmit engine screen noSet points L = noCall engine
-
-unfoldable pub numberedChange : Engine → ℕ → NumberedDensity → Called
-numberedChange engine screen (densityKnown density) = changeAt engine screen density
-numberedChange engine screen noDensity = noCall engine
 
 -- ---- a planform's area, and what is left in the scratch
 

@@ -1,6 +1,6 @@
-// The calls on what is given by numbers (docs/FORMS.md; include/delvouzh.h): a set, one submitted to a screen, a
-// density for a screen's job, a planform, a planform's chords, a point beside a planform, a ring of tubes, points to
-// join, a tensor, a body, copies of one, a part moved or taken off.
+// The calls on what is given by numbers (docs/FORMS.md; include/delvouzh.h): a set, a
+// planform, a planform's chords, a point beside a planform, a ring of tubes, points to join, a tensor, a body, copies of
+// one, a part moved or taken off.
 //
 // Any numbers may be handed in: what they do not make up is no form.
 ghost use mathlib.Core.Path.{_≡_};
@@ -11,9 +11,7 @@ ghost use Rattle.bodies.specs.Layout.{bodyNumbers};
 ghost use Rattle.joins.specs.Flat.{withBodies};
 ghost use Rattle.figures.specs.Figures.{refusedFigures};
 ghost use Rattle.figures.specs.Areas.{refusedArea};
-ghost use Rattle.lent_engines.specs.Memory.{engineIn};
-ghost use Rattle.lent_engines.specs.Lent.{Room, lists, submitCalls, changeCalls};
-ghost use Rattle.requests.specs.Calls.{CallsEngine, numberedCall, numberedSubmit, numberedChange, numberedArea};
+ghost use Rattle.requests.specs.Calls.{numberedCall, numberedArea};
 ghost use Rattle.requests.specs.Calls.{numberedChords, numberedDrill, ringBy, copiedBy, placedBy, movedBy};
 ghost use Rattle.requests.specs.Calls.{withoutBy, pointBodyAt, joinedPointsOf, tensorMoments, bodyVerdict};
 use bodies::BODY_NUMBERS;
@@ -24,7 +22,6 @@ use drill::Answer;
 use figures::Area;
 use figures::Figures;
 use fins::NumberedSet;
-use jobs::Reply;
 use joins::Joined;
 use materials::NumberedDensity;
 use moments::Moments;
@@ -58,68 +55,6 @@ pub fn set_figures(set: NumberedSet, points: &[f64], limit: usize, scratch: &mut
     match set {
         NumberedSet::Known(set) => figures::mass_properties(set, points, limit, scratch),
         NumberedSet::Unknown => no_figures(),
-    }
-}
-
-fn no_call() -> Reply
-    ensures { λ r. ⌜ r ≡ record { verdict = Verdict.Refused Refusal.NoForm; samples = 0 } ⌝ }
-{
-    let verdict = Verdict::Refused(Refusal::NoForm);
-    Reply {
-        verdict,
-        samples: 0,
-    }
-}
-
-// Submits a set to a screen of a lent engine.
-pub fn submit_set(
-    numbers: &mut [f64],
-    counts: &mut [usize],
-    screen: usize,
-    set: NumberedSet,
-    points: &[f64],
-    limit: usize,
-) -> Reply
-    requires { ⌜ Room (now numbers) (now counts) ⌝ }
-    ensures { λ r. ⌜ CallsEngine
-        (numberedSubmit (engineIn (now (numbers .entry)) (now (counts .entry))) screen set
-        (now (points .entry)) limit)
-        (submitCalls screen set (now (points .entry)) limit) r
-        (lists (now (numbers .entry)) (now (counts .entry))) (lists (now (numbers .exit)) (now (counts .exit))) ⌝ }
-{
-    match set {
-        NumberedSet::Known(set) => lent_engines::submit(
-            numbers,
-            counts,
-            screen,
-            set,
-            points,
-            limit,
-        ),
-        NumberedSet::Unknown => no_call(),
-    }
-}
-
-// Changes the density of a screen's job.
-pub fn change_density(
-    numbers: &mut [f64],
-    counts: &mut [usize],
-    screen: usize,
-    density: NumberedDensity,
-) -> Reply
-    requires { ⌜ Room (now numbers) (now counts) ⌝ }
-    ensures { λ r. ⌜ CallsEngine (numberedChange (engineIn (now (numbers .entry)) (now (counts .entry))) screen density)
-        (changeCalls screen density) r
-        (lists (now (numbers .entry)) (now (counts .entry))) (lists (now (numbers .exit)) (now (counts .exit))) ⌝ }
-{
-    match density {
-        NumberedDensity::Known(density) => lent_engines::change_density(
-            numbers,
-            counts,
-            screen,
-            density,
-        ),
-        NumberedDensity::Unknown => no_call(),
     }
 }
 

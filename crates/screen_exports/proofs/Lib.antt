@@ -1,3 +1,2 @@
-pub mod JobLaws
-pub mod EngineLaws
+pub mod Laws
 pub mod LineLaws

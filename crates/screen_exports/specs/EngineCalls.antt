@@ -1,8 +1,7 @@
--- What the calls on an engine in lent memory return and leave in the lent lists (include/delvouzh.h; document 02, Paper
--- 10). An unknown number of a set's part or of a density is 18, before 23, and the memory stays as it was, as where a
--- list has no room.
+-- The calls on an engine in lent memory (include/delvouzh.h; document 02, Paper 10): what each is replied or answers,
+-- and what it changes. specs/Calls says what it returns and leaves in the lent lists then.
 use mathlib.Core.Path.{_≡_}
-use mathlib.Core.Bool.{Bool, true, false, cond, _&&_}
+use mathlib.Core.Bool.{Bool, true, cond}
 use mathlib.Core.List.{List, [], _∷_, _++_}
 use Prim.Native.Nat.{ℕ}
 use lib.Dec.{leb}
@@ -10,41 +9,24 @@ use lib.ListN.{length, drop, set, replicate}
 use lib.Ieee.{Float}
 use Rattle.refusals.specs.declared.Refusal.the-variants.{NoForm}
 use Rattle.refusals.specs.Refusals.{numberOf}
-use Rattle.materials.specs.declared.NumberedDensity.{NumberedDensity}
-use Rattle.fins.specs.declared.NumberedSet.{NumberedSet}
-use Rattle.bodies.specs.Layout.{bodyNumbers}
-use Rattle.joins.specs.Flat.{withBody}
-use Rattle.jobs.specs.declared.Row.{Row}
 use Rattle.refusals.specs.Calls.{CallOf}
+use Rattle.materials.specs.declared.Density.{Density}
+use Rattle.materials.specs.declared.NumberedDensity.{NumberedDensity}
+use Rattle.fins.specs.declared.FinSet.{FinSet}
+use Rattle.fins.specs.declared.NumberedSet.{NumberedSet}
+use Rattle.jobs.specs.declared.Row.{Row}
+use Rattle.engines.specs.declared.Engine.{Engine}
 use Rattle.engines.specs.declared.Turned.{Turned}
-use Rattle.engines.specs.declared.Called.{Called}
-use Rattle.engines.specs.Engines.{servedScreen, turnOf, turnedRow}
-use Rattle.engines.specs.Calls.{Call, turn}
-use Rattle.lent_engines.specs.Memory.{engineNumbers, engineCounts, screensIn, noScreens, engineIn}
-use Rattle.lent_engines.specs.Lent.{lists, Leaves, submitCalls, changeCalls}
-use Rattle.refusals.specs.Numbered.{numberIn}
-use Rattle.refusals.specs.Lent.{withValues, withCounts, room}
-use Rattle.figures.specs.Numbered.{figureCounts}
-use Rattle.requests.specs.Calls.{numberedSubmit, numberedChange}
+use Rattle.engines.specs.Engines.{servedScreen, turnOf, turnedRow, submitOf, changeAt, progressAt}
+use Rattle.engines.specs.Calls.{Call, turn, submit, change}
+use Rattle.lent_engines.specs.Memory.{engineNumbers, engineCounts, screensIn, noScreens}
+use Rattle.lent_engines.specs.Lent.{Lists, engineOf, Leaves}
+use Rattle.screen_exports.specs.Calls.{MemoryKind, Effect, askedOfSet, askedOfDensity, replyValues, replyCounts}
+use Rattle.screen_exports.specs.Calls.{ReplyCall, RowCall, ProgressCall}
 
--- the counts of a turn's answer, and the screen served after them, 0 for none
-abbrev pub turnCounts : Turned → List ℕ → List ℕ
-turnCounts t list = set (figureCounts (turnedRow t .figures) list) 4 (servedScreen (t .turn))
-
--- ---- the memory
-
--- room for an engine
-abbrev pub engineRoom : List Float → List ℕ → Bool
-engineRoom numbers counts = room engineNumbers numbers engineCounts counts
-
--- ---- the calls
-
--- what a call returns of its answer, and what it leaves of the two lists: as these calls of the engine do, and with no
--- room as none does
-pub record EngineCall (fits : Bool) (calls : List Call) (number : ℕ) (numbers : List Float) (counts : List ℕ) (r : ℕ)
-    (numbers' : List Float) (counts' : List ℕ) : Type 0 where
-  pub returned : r ≡ cond fits number (numberOf NoForm)
-  pub leaves : Leaves (cond fits calls []) (lists numbers counts) (lists numbers' counts')
+-- what changes is what calls of the engine do, one or none
+abbrev pub engineMemory : MemoryKind (List Call)
+engineMemory = record { numbers = engineNumbers; counts = engineCounts; unchanged = λ l. []; Leaves = Leaves }
 
 -- an engine with no job, none served, whatever the counts were
 abbrev pub clearRoom : List ℕ → Bool
@@ -55,51 +37,42 @@ pub record ClearCall (counts : List ℕ) (r : ℕ) (counts' : List ℕ) : Type 0
   pub cleared : counts' ≡ cond (clearRoom counts) (replicate engineCounts 0 ++ drop engineCounts counts) counts
   pub held : clearRoom counts ≡ true → screensIn counts' ≡ noScreens
 
-module _ (numbers : List Float) (counts : List ℕ) where
-  -- a submission
-  abbrev pub submitRoom : List ℕ → Bool
-  submitRoom values = engineRoom numbers counts && leb 2 (length values)
+-- a submission to a screen
+abbrev pub submitting : Engine → ℕ → List Float → ℕ → FinSet → Effect (List Call)
+submitting engine screen points L set =
+    record { reply = submitOf engine screen set points L .reply; change = submit screen set points L ∷ [] }
 
-  module _ (screen : ℕ) (set : NumberedSet) (points : List Float) (L : ℕ) where
-    abbrev pub submitting : Called
-    submitting = numberedSubmit (engineIn numbers counts) screen set points L
+-- a change of the density of a screen's job
+abbrev pub changing : Engine → ℕ → Density → Effect (List Call)
+changing engine screen density =
+    record { reply = changeAt engine screen density .reply; change = change screen density ∷ [] }
 
-    pub record SubmitCall (values : List ℕ) (r : ℕ) (numbers' : List Float) (counts' values' : List ℕ) : Type 0 where
-      pub call :
-          EngineCall (submitRoom values) (submitCalls screen set points L)
-          (numberIn (submitting .reply .verdict)) numbers counts r numbers' counts'
-      pub counted : values' ≡ cond (submitRoom values) (withValues values (submitting .reply .verdict)) values
+-- the screen served, 0 for none, after the counts of a turn's answer
+abbrev pub withScreen : Turned → List ℕ → List ℕ
+withScreen t counts = set counts 4 (servedScreen (t .turn))
 
-  -- a turn
-  abbrev pub turnRoom : List Float → List ℕ → Bool
-  turnRoom body told = engineRoom numbers counts && room bodyNumbers body 5 told
+module _ (before : Lists) where
+  abbrev pub SubmitCall : ℕ → NumberedSet → List Float → ℕ → List ℕ → ℕ → Lists → List ℕ → Type 0
+  SubmitCall screen set points L values =
+      ReplyCall engineMemory before
+      (askedOfSet engineMemory before set (submitting (engineOf before) screen points L)) 2 replyValues values
 
-  abbrev pub turning : List Float → CallOf Turned
-  turning scratch = turnOf (engineIn numbers counts) (length scratch)
+  abbrev pub DensityCall : ℕ → NumberedDensity → List ℕ → ℕ → Lists → List ℕ → Type 0
+  DensityCall screen density told =
+      ReplyCall engineMemory before
+      (askedOfDensity engineMemory before density (changing (engineOf before) screen)) 4 replyCounts told
 
-  pub record TurnCall (scratch body : List Float) (told : List ℕ) (r : ℕ) (numbers' : List Float) (counts' : List ℕ)
-      (scratch' body' : List Float) (told' : List ℕ) : Type 0 where
-    pub call :
-        EngineCall (turnRoom body told) (turn scratch ∷ [])
-        (turnedRow (turning scratch .answer) .number) numbers counts r numbers' counts'
-    pub figures :
-        body' ≡ cond (turnRoom body told) (withBody body 0 (turnedRow (turning scratch .answer) .figures .body)) body
-    pub counted : told' ≡ cond (turnRoom body told) (turnCounts (turning scratch .answer) told) told
-    pub lent : scratch' ≡ cond (turnRoom body told) (turning scratch .leaves scratch) scratch
+  abbrev pub turnTold : List Float → CallOf Row
+  turnTold scratch =
+      record {
+        answer = turnedRow (turnOf (engineOf before) (length scratch) .answer);
+        leaves = turnOf (engineOf before) (length scratch) .leaves;
+      }
 
-  -- a change of the density of a screen's job, and how far that is, tell four counts
-  abbrev pub toldRoom : List ℕ → Bool
-  toldRoom told = engineRoom numbers counts && leb 4 (length told)
+  abbrev pub TurnCall : List Float → List Float → List ℕ → ℕ → Lists → List Float → List Float → List ℕ → Type 0
+  TurnCall scratch body told =
+      RowCall engineMemory before (turn scratch ∷ []) (turnTold scratch) 5
+      (withScreen (turnOf (engineOf before) (length scratch) .answer)) scratch body told
 
-  abbrev pub densityChange : NumberedDensity → ℕ → Called
-  densityChange density screen = numberedChange (engineIn numbers counts) screen density
-
-  pub record DensityCall (density : NumberedDensity) (screen : ℕ) (told : List ℕ) (r : ℕ) (numbers' : List Float)
-      (counts' told' : List ℕ) : Type 0 where
-    pub call :
-        EngineCall (toldRoom told) (changeCalls screen density)
-        (numberIn (densityChange density screen .reply .verdict)) numbers counts r numbers' counts'
-    pub counted :
-        told' ≡ cond (toldRoom told)
-        (withCounts told (densityChange density screen .reply .verdict) 0
-        (densityChange density screen .reply .samples)) told
+  abbrev pub ScreenProgressCall : ℕ → List ℕ → ℕ → List ℕ → Type 0
+  ScreenProgressCall screen told = ProgressCall engineMemory before (progressAt (engineOf before) screen) told

@@ -1,131 +1,86 @@
--- What the calls on a job in lent memory return and leave in the lent lists (include/delvouzh.h; document 02, Paper 9).
--- An unknown number of a set's part or of a density is 18, and the memory stays as it was, as where a list has no room.
-use mathlib.Core.Path.{_≡_}
-use mathlib.Core.Bool.{Bool, true, false, cond, _&&_}
-use mathlib.Core.List.{List, [], _∷_}
+-- The calls on a job in lent memory (include/delvouzh.h; document 02, Paper 9): what each is replied or answers, and
+-- what it changes. specs/Calls says what it returns and leaves in the lent lists then.
+use mathlib.Core.Bool.{Bool, true, false}
+use mathlib.Core.List.{List}
 use Prim.Native.Nat.{ℕ}
-use lib.Dec.{leb}
 use lib.ListN.{length}
 use lib.Ieee.{Float}
-use Rattle.refusals.specs.declared.Refusal.the-variants.{NoForm}
-use Rattle.refusals.specs.declared.Verdict.the-variants.{Refused}
-use Rattle.refusals.specs.Refusals.{numberOf}
-use Rattle.materials.specs.declared.NumberedDensity.{NumberedDensity}
-use Rattle.materials.specs.declared.NumberedDensity.the-variants.{Known as densityKnown, Unknown as noDensity}
-use Rattle.fins.specs.declared.NumberedSet.{NumberedSet}
-use Rattle.fins.specs.declared.NumberedSet.the-variants.{Known as setKnown, Unknown as noSet}
-use Rattle.bodies.specs.Layout.{bodyNumbers}
-use Rattle.joins.specs.Flat.{withBody}
-use Rattle.jobs.specs.declared.Job.{Job}
-use Rattle.jobs.specs.declared.JobProgress.{JobProgress}
-use Rattle.jobs.specs.declared.Stepped.{Stepped}
-use Rattle.jobs.specs.declared.Replied.{Replied}
-use Rattle.jobs.specs.declared.Row.{Row}
 use Rattle.refusals.specs.Calls.{CallOf}
-use Rattle.jobs.specs.Jobs.{stepOf, changeOf, madeOf}
+use Rattle.materials.specs.declared.Density.{Density}
+use Rattle.materials.specs.declared.NumberedDensity.{NumberedDensity}
+use Rattle.fins.specs.declared.FinSet.{FinSet}
+use Rattle.fins.specs.declared.NumberedSet.{NumberedSet}
+use Rattle.jobs.specs.declared.Job.{Job}
+use Rattle.jobs.specs.declared.Row.{Row}
+use Rattle.jobs.specs.Jobs.{stepOf, changeOf, madeOf, progressOf}
 use Rattle.jobs.specs.Calls.{step, answerBy, isTaken}
 use Rattle.lent_jobs.specs.Memory.{jobNumbers, jobCounts, jobIn}
 use Rattle.lent_jobs.specs.Lent.{stepWrites, Leaves}
-use Rattle.refusals.specs.Numbered.{numberIn}
-use Rattle.refusals.specs.Lent.{over, withValues, withCounts, room}
-use Rattle.figures.specs.Numbered.{figureCounts}
+use Rattle.lent_engines.specs.Lent.{Lists}
+use Rattle.screen_exports.specs.Calls.{MemoryKind, Effect, askedOfSet, askedOfDensity, replyValues, replyCounts}
+use Rattle.screen_exports.specs.Calls.{ReplyCall, RowCall, ProgressCall}
 
--- what a call writes of its answer into the lent lists, and the number that it returns: `stepRow` and `turnRow` have
--- them
-pub record Tells (row : Row) (body : List Float) (told : List ℕ) (r : ℕ) (body' : List Float)
-    (told' : List ℕ) : Type 0 where
-  pub returned : r ≡ row .number
-  pub figures : body' ≡ withBody body 0 (row .figures .body)
-  pub counted : told' ≡ figureCounts (row .figures) told
+abbrev pub jobOf : Lists → Job
+jobOf l = jobIn (l .numbers) (l .counts)
 
--- how far a job is, as four counts over the start of a list
-unfoldable pub withProgress : List ℕ → JobProgress → List ℕ
-withProgress told p = over (p .worked ∷ p .strips ∷ p .intervals ∷ p .samples ∷ []) told
+-- whether a call writes the job over the start of the lists, and the job that they then hold
+pub record JobChange : Type 0 where
+  pub written : Bool
+  pub job : Job
 
--- what a call does that tells this: 0, or 18 with no room, and then nothing is written
-pub record ProgressCall (fits : Bool) (progress : JobProgress) (told : List ℕ) (r : ℕ) (told' : List ℕ) : Type 0 where
-  pub returned : r ≡ cond fits 0 (numberOf NoForm)
-  pub counted : told' ≡ cond fits (withProgress told progress) told
+abbrev pub jobLeaves : JobChange → Lists → Lists → Type 0
+jobLeaves change before after =
+    Leaves (change .written) (change .job) (before .numbers) (before .counts) (after .numbers) (after .counts)
 
--- ---- what is asked by numbers
+abbrev pub jobMemory : MemoryKind JobChange
+jobMemory =
+    record {
+      numbers = jobNumbers;
+      counts = jobCounts;
+      unchanged = λ l. record { written = false; job = jobOf l };
+      Leaves = jobLeaves;
+    }
 
-abbrev pub noForm : Job → Replied
-noForm job = record { job = job; reply = record { verdict = Refused NoForm; samples = 0 } }
+-- a job is made, also one that is refused, which has ended with that
+abbrev pub making : List Float → ℕ → FinSet → Effect JobChange
+making points L set =
+    record { reply = madeOf set points L .reply; change = record { written = true; job = madeOf set points L .job } }
 
-unfoldable pub madeBy : NumberedSet → List Float → ℕ → Job → Replied
-madeBy (setKnown set) points L before = madeOf set points L
-madeBy noSet points L before = noForm before
+-- a change of density: where it is refused, nothing is written
+abbrev pub changing : Job → Density → Effect JobChange
+changing job density =
+    record {
+      reply = changeOf job density .reply;
+      change = record { written = isTaken (changeOf job density .reply); job = changeOf job density .job };
+    }
 
-abbrev pub isSet : NumberedSet → Bool
-isSet (setKnown set) = true
-isSet noSet = false
+module _ (before : Lists) where
+  abbrev pub MakeCall : NumberedSet → List Float → ℕ → List ℕ → ℕ → Lists → List ℕ → Type 0
+  MakeCall set points L values =
+      ReplyCall jobMemory before (askedOfSet jobMemory before set (making points L)) 2 replyValues values
 
-unfoldable pub changedBy : NumberedDensity → Job → Replied
-changedBy (densityKnown density) before = changeOf before density
-changedBy noDensity before = noForm before
-
--- ---- the memory
-
--- room for a job
-abbrev pub jobRoom : List Float → List ℕ → Bool
-jobRoom numbers counts = room jobNumbers numbers jobCounts counts
-
--- ---- the calls
-
--- what a call returns of its answer, and what it leaves in the memory: the job is written over its start, where it
--- changes, and is the one that it then holds; with no room nothing is written
-pub record JobCall (fits written : Bool) (job : Job) (number : ℕ) (numbers : List Float) (counts : List ℕ) (r : ℕ)
-    (numbers' : List Float) (counts' : List ℕ) : Type 0 where
-  pub returned : r ≡ cond fits number (numberOf NoForm)
-  pub leaves : Leaves (fits && written) (cond fits job (jobIn numbers counts)) numbers counts numbers' counts'
-
-module _ (numbers : List Float) (counts : List ℕ) where
-  -- a job is made, also one that is refused, which has ended with that
-  abbrev pub makeRoom : List ℕ → Bool
-  makeRoom values = jobRoom numbers counts && leb 2 (length values)
-
-  module _ (set : NumberedSet) (points : List Float) (L : ℕ) where
-    abbrev pub making : Replied
-    making = madeBy set points L (jobIn numbers counts)
-
-    pub record MakeCall (values : List ℕ) (r : ℕ) (numbers' : List Float) (counts' values' : List ℕ) : Type 0 where
-      pub call :
-          JobCall (makeRoom values) (isSet set) (making .job)
-          (numberIn (making .reply .verdict)) numbers counts r numbers' counts'
-      pub counted : values' ≡ cond (makeRoom values) (withValues values (making .reply .verdict)) values
+  abbrev pub ChangeCall : NumberedDensity → List ℕ → ℕ → Lists → List ℕ → Type 0
+  ChangeCall density told =
+      ReplyCall jobMemory before (askedOfDensity jobMemory before density (changing (jobOf before))) 4 replyCounts told
 
   -- a step, with the figures and counts of its answer: zeros where it has none
-  abbrev pub stepRoom : List Float → List ℕ → Bool
-  stepRoom body told = jobRoom numbers counts && room bodyNumbers body 4 told
+  abbrev pub stepChange : List Float → JobChange
+  stepChange scratch =
+      record {
+        written = stepWrites (jobOf before) (length scratch);
+        job = stepOf (jobOf before) (length scratch) .answer .job;
+      }
 
-  abbrev pub stepping : List Float → CallOf Stepped
-  stepping scratch = stepOf (jobIn numbers counts) (length scratch)
+  abbrev pub stepTold : List Float → CallOf Row
+  stepTold scratch =
+      record {
+        answer = answerBy (jobOf before) (step scratch);
+        leaves = stepOf (jobOf before) (length scratch) .leaves;
+      }
 
-  abbrev pub stepTold : List Float → Row
-  stepTold scratch = answerBy (jobIn numbers counts) (step scratch)
+  abbrev pub StepCall : List Float → List Float → List ℕ → ℕ → Lists → List Float → List Float → List ℕ → Type 0
+  StepCall scratch body told =
+      RowCall jobMemory before (stepChange scratch) (stepTold scratch) 4 (λ counts. counts) scratch body told
 
-  pub record StepCall (scratch body : List Float) (told : List ℕ) (r : ℕ) (numbers' : List Float) (counts' : List ℕ)
-      (scratch' body' : List Float) (told' : List ℕ) : Type 0 where
-    pub call :
-        JobCall (stepRoom body told) (stepWrites (jobIn numbers counts) (length scratch))
-        (stepping scratch .answer .job) (stepTold scratch .number)
-        numbers counts r numbers' counts'
-    pub figures : body' ≡ cond (stepRoom body told) (withBody body 0 (stepTold scratch .figures .body)) body
-    pub counted : told' ≡ cond (stepRoom body told) (figureCounts (stepTold scratch .figures) told) told
-    pub lent : scratch' ≡ cond (stepRoom body told) (stepping scratch .leaves scratch) scratch
-
-  -- a change of density, and how far the job is, tell four counts
-  abbrev pub toldRoom : List ℕ → Bool
-  toldRoom told = jobRoom numbers counts && leb 4 (length told)
-
-  abbrev pub changing : NumberedDensity → Replied
-  changing density = changedBy density (jobIn numbers counts)
-
-  pub record ChangeCall (density : NumberedDensity) (told : List ℕ) (r : ℕ) (numbers' : List Float)
-      (counts' told' : List ℕ) : Type 0 where
-    pub call :
-        JobCall (toldRoom told) (isTaken (changing density .reply)) (changing density .job)
-        (numberIn (changing density .reply .verdict)) numbers counts r numbers' counts'
-    pub counted :
-        told' ≡ cond (toldRoom told)
-        (withCounts told (changing density .reply .verdict) 0 (changing density .reply .samples)) told
+  abbrev pub JobProgressCall : List ℕ → ℕ → List ℕ → Type 0
+  JobProgressCall told = ProgressCall jobMemory before (progressOf (jobOf before)) told

@@ -1,3 +1,4 @@
+pub mod Calls
 pub mod JobCalls
 pub mod EngineCalls
 pub mod LineCalls

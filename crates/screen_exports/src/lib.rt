@@ -6,25 +6,27 @@
 // set's part or of a density is 18, and leaves the memory as it was; a lent slice that is too short is 18 too, and then
 // nothing is written.
 ghost use mathlib.Core.Path.{_≡_};
+ghost use mathlib.Core.Bool.{_&&_};
 ghost use Prim.Native.Nat.{_≤_};
+ghost use lib.Dec.{leb};
 ghost use lib.ListN.{length};
 ghost use Rattle.bodies.specs.Layout.{bodyNumbers};
 ghost use Rattle.materials.specs.Numbered.{numberedDensity};
 ghost use Rattle.lines.specs.Lines.{lentIn};
 ghost use Rattle.fins.specs.Numbered.{listedSet};
-ghost use Rattle.screen_exports.specs.LineCalls.{LineCall};
-ghost use Rattle.jobs.specs.Jobs.{progressOf};
-ghost use Rattle.lent_jobs.specs.Memory.{jobIn};
-ghost use Rattle.engines.specs.Engines.{progressAt};
-ghost use Rattle.lent_engines.specs.Memory.{engineIn};
-ghost use Rattle.screen_exports.specs.JobCalls.{Tells, withProgress, ProgressCall, MakeCall, StepCall, toldRoom};
-ghost use Rattle.screen_exports.specs.JobCalls.{ChangeCall};
+ghost use Rattle.lent_jobs.specs.Memory.{jobNumbers, jobCounts};
+ghost use Rattle.lent_engines.specs.Memory.{engineNumbers, engineCounts};
+ghost use Rattle.lent_engines.specs.Lent.{lists};
+ghost use Rattle.screen_exports.specs.Calls.{TellsReply, TellsRow, replyValues, replyCounts, withProgress};
+ghost use Rattle.screen_exports.specs.JobCalls.{MakeCall, StepCall, ChangeCall, JobProgressCall};
 ghost use Rattle.screen_exports.specs.EngineCalls.{ClearCall, SubmitCall, TurnCall, DensityCall};
-ghost use Rattle.screen_exports.specs.EngineCalls.{toldRoom as engineToldRoom};
+ghost use Rattle.screen_exports.specs.EngineCalls.{ScreenProgressCall};
+ghost use Rattle.screen_exports.specs.LineCalls.{LineCall};
 use answers::ANSWER_BYTES;
 use bodies::BODY_NUMBERS;
 use fins::NumberedSet;
 use jobs::JobProgress;
+use jobs::Reply;
 use jobs::Row;
 use lent_engines::ENGINE_COUNTS;
 use lent_engines::ENGINE_NUMBERS;
@@ -35,10 +37,63 @@ use refusals::NO_FORM;
 use refusals::Refusal;
 use refusals::Verdict;
 
-// Writes an answer's body and counts, and returns its number.
-fn tell(body: &mut [f64], counts: &mut [usize], row: Row) -> usize
+// Whether there are at least m numbers and n counts.
+fn has_room(numbers: usize, m: usize, counts: usize, n: usize) -> bool
+    ensures { λ r. ⌜ r ≡ (leb m numbers && leb n counts) ⌝ }
+{
+    (m <= numbers) & (n <= counts)
+}
+
+// Whether a job's memory has room in lists of these lengths.
+fn job_fits(numbers: usize, counts: usize) -> bool
+    ensures { λ r. ⌜ r ≡ (leb jobNumbers numbers && leb jobCounts counts) ⌝ }
+{
+    has_room(numbers, JOB_NUMBERS, counts, JOB_COUNTS)
+}
+
+// Whether an engine's has.
+fn engine_fits(numbers: usize, counts: usize) -> bool
+    ensures { λ r. ⌜ r ≡ (leb engineNumbers numbers && leb engineCounts counts) ⌝ }
+{
+    has_room(numbers, ENGINE_NUMBERS, counts, ENGINE_COUNTS)
+}
+
+// The reply to numbers that stand for nothing.
+fn no_form() -> Reply
+    ensures { λ r. ⌜ r ≡ record { verdict = Verdict.Refused Refusal.NoForm; samples = 0 } ⌝ }
+{
+    let verdict = Verdict::Refused(Refusal::NoForm);
+    Reply {
+        verdict,
+        samples: 0,
+    }
+}
+
+// Writes two values of a reply's refusal, and returns its number.
+fn tell_values(values: &mut [usize], reply: Reply) -> usize
+    requires { ⌜ 2 ≤ length (now values) ⌝ }
+    ensures { λ r. ⌜ TellsReply replyValues reply (now (values .entry)) r (now (values .exit)) ⌝ }
+{
+    let verdict = reply.verdict;
+    refusals::write_values(values, verdict);
+    refusals::verdict_number(verdict)
+}
+
+// Writes a reply's counts, and returns its number.
+fn tell_counts(counts: &mut [usize], reply: Reply) -> usize
+    requires { ⌜ 4 ≤ length (now counts) ⌝ }
+    ensures { λ r. ⌜ TellsReply replyCounts reply (now (counts .entry)) r (now (counts .exit)) ⌝ }
+{
+    let verdict = reply.verdict;
+    refusals::write_counts(counts, verdict, 0, reply.samples);
+    refusals::verdict_number(verdict)
+}
+
+// Writes the body and the counts of what a step or a turn answers, and returns its number.
+fn tell_row(body: &mut [f64], counts: &mut [usize], row: Row) -> usize
     requires { ⌜ (bodyNumbers ≤ length (now body)) × (4 ≤ length (now counts)) ⌝ }
-    ensures { λ r. ⌜ Tells row (now (body .entry)) (now (counts .entry)) r (now (body .exit)) (now (counts .exit)) ⌝ }
+    ensures { λ r. ⌜
+        TellsRow row (now (body .entry)) (now (counts .entry)) r (now (body .exit)) (now (counts .exit)) ⌝ }
 {
     let found = row.figures;
     let verdict = found.verdict;
@@ -71,28 +126,20 @@ pub extern "C" fn delvouzh_job_make(
     job_counts: &mut [usize],
     values: &mut [usize],
 ) -> usize
-    ensures { λ r. ⌜ MakeCall (now («job_numbers» .entry)) (now («job_counts» .entry))
+    ensures { λ r. ⌜ MakeCall (lists (now («job_numbers» .entry)) (now («job_counts» .entry)))
         (listedSet (now («set_numbers» .entry)) (now («set_counts» .entry))) (now (points .entry)) limit
-        (now (values .entry)) r (now («job_numbers» .exit)) (now («job_counts» .exit)) (now (values .exit)) ⌝ }
+        (now (values .entry)) r (lists (now («job_numbers» .exit)) (now («job_counts» .exit))) (now (values .exit)) ⌝ }
 {
-    if job_numbers.len() < JOB_NUMBERS {
-        return NO_FORM;
-    }
-    if job_counts.len() < JOB_COUNTS {
-        return NO_FORM;
-    }
-    if values.len() < 2 {
+    let fits = job_fits(job_numbers.len(), job_counts.len()) & (2 <= values.len());
+    if !fits {
         return NO_FORM;
     }
     let asked = fins::listed_set(set_numbers, set_counts);
     let NumberedSet::Known(set) = asked else {
-        refusals::write_values(values, Verdict::Refused(Refusal::NoForm));
-        return NO_FORM;
+        return tell_values(values, no_form());
     };
     let reply = lent_jobs::make(job_numbers, job_counts, set, points, limit);
-    let verdict = reply.verdict;
-    refusals::write_values(values, verdict);
-    refusals::verdict_number(verdict)
+    tell_values(values, reply)
 }
 
 // One step of the job there, over a lent scratch with room for limit pieces: 1000 where more strips remain, else the
@@ -105,26 +152,19 @@ pub extern "C" fn delvouzh_job_step(
     body: &mut [f64],
     counts: &mut [usize],
 ) -> usize
-    ensures { λ r. ⌜ StepCall (now («job_numbers» .entry)) (now («job_counts» .entry))
+    ensures { λ r. ⌜ StepCall (lists (now («job_numbers» .entry)) (now («job_counts» .entry)))
         (now (scratch .entry)) (now (body .entry)) (now (counts .entry))
-        r (now («job_numbers» .exit)) (now («job_counts» .exit)) (now (scratch .exit)) (now (body .exit))
-        (now (counts .exit)) ⌝ }
+        r (lists (now («job_numbers» .exit)) (now («job_counts» .exit)))
+        (now (scratch .exit)) (now (body .exit)) (now (counts .exit)) ⌝ }
 {
-    if job_numbers.len() < JOB_NUMBERS {
-        return NO_FORM;
-    }
-    if job_counts.len() < JOB_COUNTS {
-        return NO_FORM;
-    }
-    if body.len() < BODY_NUMBERS {
-        return NO_FORM;
-    }
-    if counts.len() < 4 {
+    let fits = job_fits(job_numbers.len(), job_counts.len())
+        & has_room(body.len(), BODY_NUMBERS, counts.len(), 4);
+    if !fits {
         return NO_FORM;
     }
     let progress = lent_jobs::step(job_numbers, job_counts, scratch);
     let row = lent_jobs::step_row(job_numbers, job_counts, progress);
-    tell(body, counts, row)
+    tell_row(body, counts, row)
 }
 
 // Another density for the job there: returns 0 where it is taken, or 12. Writes the counts; with 12 they have the
@@ -137,29 +177,20 @@ pub extern "C" fn delvouzh_job_change_density(
     figure: f64,
     counts: &mut [usize],
 ) -> usize
-    ensures { λ r. ⌜
-        ChangeCall (now («job_numbers» .entry)) (now («job_counts» .entry)) (numberedDensity density figure)
-        (now (counts .entry))
-        r (now («job_numbers» .exit)) (now («job_counts» .exit)) (now (counts .exit)) ⌝ }
+    ensures { λ r. ⌜ ChangeCall (lists (now («job_numbers» .entry)) (now («job_counts» .entry)))
+        (numberedDensity density figure) (now (counts .entry))
+        r (lists (now («job_numbers» .exit)) (now («job_counts» .exit))) (now (counts .exit)) ⌝ }
 {
-    if job_numbers.len() < JOB_NUMBERS {
-        return NO_FORM;
-    }
-    if job_counts.len() < JOB_COUNTS {
-        return NO_FORM;
-    }
-    if counts.len() < 4 {
+    let fits = job_fits(job_numbers.len(), job_counts.len()) & (4 <= counts.len());
+    if !fits {
         return NO_FORM;
     }
     let asked = materials::numbered_density(density, figure);
     let NumberedDensity::Known(density) = asked else {
-        refusals::write_counts(counts, Verdict::Refused(Refusal::NoForm), 0, 0);
-        return NO_FORM;
+        return tell_counts(counts, no_form());
     };
     let reply = lent_jobs::change_density(job_numbers, job_counts, density);
-    let verdict = reply.verdict;
-    refusals::write_counts(counts, verdict, 0, reply.samples);
-    refusals::verdict_number(verdict)
+    tell_counts(counts, reply)
 }
 
 // How far the job there is: writes the strips worked, the strips in all, the intervals and the samples so far.
@@ -169,18 +200,11 @@ pub extern "C" fn delvouzh_job_progress(
     job_counts: &[usize],
     counts: &mut [usize],
 ) -> usize
-    ensures { λ r. ⌜ ProgressCall
-        (toldRoom (now («job_numbers» .entry)) (now («job_counts» .entry)) (now (counts .entry)))
-        (progressOf (jobIn (now («job_numbers» .entry)) (now («job_counts» .entry))))
+    ensures { λ r. ⌜ JobProgressCall (lists (now («job_numbers» .entry)) (now («job_counts» .entry)))
         (now (counts .entry)) r (now (counts .exit)) ⌝ }
 {
-    if job_numbers.len() < JOB_NUMBERS {
-        return NO_FORM;
-    }
-    if job_counts.len() < JOB_COUNTS {
-        return NO_FORM;
-    }
-    if counts.len() < 4 {
+    let fits = job_fits(job_numbers.len(), job_counts.len()) & (4 <= counts.len());
+    if !fits {
         return NO_FORM;
     }
     let p = lent_jobs::progress_of(job_numbers, job_counts);
@@ -213,24 +237,21 @@ pub extern "C" fn delvouzh_engine_submit(
     engine_counts: &mut [usize],
     values: &mut [usize],
 ) -> usize
-    ensures { λ r. ⌜ SubmitCall (now («engine_numbers» .entry)) (now («engine_counts» .entry)) screen
+    ensures { λ r. ⌜ SubmitCall (lists (now («engine_numbers» .entry)) (now («engine_counts» .entry))) screen
         (listedSet (now («set_numbers» .entry)) (now («set_counts» .entry))) (now (points .entry)) limit
-        (now (values .entry)) r (now («engine_numbers» .exit)) (now («engine_counts» .exit)) (now (values .exit)) ⌝ }
+        (now (values .entry)) r (lists (now («engine_numbers» .exit)) (now («engine_counts» .exit)))
+        (now (values .exit)) ⌝ }
 {
-    if engine_numbers.len() < ENGINE_NUMBERS {
-        return NO_FORM;
-    }
-    if engine_counts.len() < ENGINE_COUNTS {
-        return NO_FORM;
-    }
-    if values.len() < 2 {
+    let fits = engine_fits(engine_numbers.len(), engine_counts.len()) & (2 <= values.len());
+    if !fits {
         return NO_FORM;
     }
     let asked = fins::listed_set(set_numbers, set_counts);
-    let reply = requests::submit_set(engine_numbers, engine_counts, screen, asked, points, limit);
-    let verdict = reply.verdict;
-    refusals::write_values(values, verdict);
-    refusals::verdict_number(verdict)
+    let NumberedSet::Known(set) = asked else {
+        return tell_values(values, no_form());
+    };
+    let reply = lent_engines::submit(engine_numbers, engine_counts, screen, set, points, limit);
+    tell_values(values, reply)
 }
 
 // One turn of the engine there, over a lent scratch of at least 1,024 numbers: 1001 where no screen holds a job, 1000
@@ -244,26 +265,19 @@ pub extern "C" fn delvouzh_engine_turn(
     body: &mut [f64],
     counts: &mut [usize],
 ) -> usize
-    ensures { λ r. ⌜ TurnCall (now («engine_numbers» .entry)) (now («engine_counts» .entry))
+    ensures { λ r. ⌜ TurnCall (lists (now («engine_numbers» .entry)) (now («engine_counts» .entry)))
         (now (scratch .entry)) (now (body .entry)) (now (counts .entry))
-        r (now («engine_numbers» .exit)) (now («engine_counts» .exit)) (now (scratch .exit)) (now (body .exit))
-        (now (counts .exit)) ⌝ }
+        r (lists (now («engine_numbers» .exit)) (now («engine_counts» .exit)))
+        (now (scratch .exit)) (now (body .exit)) (now (counts .exit)) ⌝ }
 {
-    if engine_numbers.len() < ENGINE_NUMBERS {
-        return NO_FORM;
-    }
-    if engine_counts.len() < ENGINE_COUNTS {
-        return NO_FORM;
-    }
-    if body.len() < BODY_NUMBERS {
-        return NO_FORM;
-    }
-    if counts.len() < 5 {
+    let fits = engine_fits(engine_numbers.len(), engine_counts.len())
+        & has_room(body.len(), BODY_NUMBERS, counts.len(), 5);
+    if !fits {
         return NO_FORM;
     }
     let turn = lent_engines::turn(engine_numbers, engine_counts, scratch);
     let row = lent_engines::turn_row(engine_numbers, engine_counts, turn);
-    let number = tell(body, counts, row);
+    let number = tell_row(body, counts, row);
     counts[4] = engines::served_screen(turn);
     number
 }
@@ -279,24 +293,20 @@ pub extern "C" fn delvouzh_engine_change_density(
     figure: f64,
     counts: &mut [usize],
 ) -> usize
-    ensures { λ r. ⌜ DensityCall (now («engine_numbers» .entry)) (now («engine_counts» .entry))
-        (numberedDensity density figure) screen (now (counts .entry))
-        r (now («engine_numbers» .exit)) (now («engine_counts» .exit)) (now (counts .exit)) ⌝ }
+    ensures { λ r. ⌜ DensityCall (lists (now («engine_numbers» .entry)) (now («engine_counts» .entry)))
+        screen (numberedDensity density figure) (now (counts .entry))
+        r (lists (now («engine_numbers» .exit)) (now («engine_counts» .exit))) (now (counts .exit)) ⌝ }
 {
-    if engine_numbers.len() < ENGINE_NUMBERS {
-        return NO_FORM;
-    }
-    if engine_counts.len() < ENGINE_COUNTS {
-        return NO_FORM;
-    }
-    if counts.len() < 4 {
+    let fits = engine_fits(engine_numbers.len(), engine_counts.len()) & (4 <= counts.len());
+    if !fits {
         return NO_FORM;
     }
     let asked = materials::numbered_density(density, figure);
-    let reply = requests::change_density(engine_numbers, engine_counts, screen, asked);
-    let verdict = reply.verdict;
-    refusals::write_counts(counts, verdict, 0, reply.samples);
-    refusals::verdict_number(verdict)
+    let NumberedDensity::Known(density) = asked else {
+        return tell_counts(counts, no_form());
+    };
+    let reply = lent_engines::change_density(engine_numbers, engine_counts, screen, density);
+    tell_counts(counts, reply)
 }
 
 // How far the job of a screen is, likewise; all 0 with no job there, or no such screen.
@@ -307,18 +317,11 @@ pub extern "C" fn delvouzh_engine_progress(
     screen: usize,
     counts: &mut [usize],
 ) -> usize
-    ensures { λ r. ⌜ ProgressCall
-        (engineToldRoom (now («engine_numbers» .entry)) (now («engine_counts» .entry)) (now (counts .entry)))
-        (progressAt (engineIn (now («engine_numbers» .entry)) (now («engine_counts» .entry))) screen)
-        (now (counts .entry)) r (now (counts .exit)) ⌝ }
+    ensures { λ r. ⌜ ScreenProgressCall (lists (now («engine_numbers» .entry)) (now («engine_counts» .entry)))
+        screen (now (counts .entry)) r (now (counts .exit)) ⌝ }
 {
-    if engine_numbers.len() < ENGINE_NUMBERS {
-        return NO_FORM;
-    }
-    if engine_counts.len() < ENGINE_COUNTS {
-        return NO_FORM;
-    }
-    if counts.len() < 4 {
+    let fits = engine_fits(engine_numbers.len(), engine_counts.len()) & (4 <= counts.len());
+    if !fits {
         return NO_FORM;
     }
     let p = lent_engines::progress_at(engine_numbers, engine_counts, screen);
@@ -343,16 +346,9 @@ pub extern "C" fn delvouzh_answer_line(
         r (lentIn (now (scratch .exit)) (now («engine_numbers» .exit)) (now («engine_counts» .exit)))
         (now (answer .exit)) (now (written .exit)) ⌝ }
 {
-    if engine_numbers.len() < ENGINE_NUMBERS {
-        return NO_FORM;
-    }
-    if engine_counts.len() < ENGINE_COUNTS {
-        return NO_FORM;
-    }
-    if answer.len() < ANSWER_BYTES {
-        return NO_FORM;
-    }
-    if written.len() < 1 {
+    let fits = engine_fits(engine_numbers.len(), engine_counts.len())
+        & has_room(answer.len(), ANSWER_BYTES, written.len(), 1);
+    if !fits {
         return NO_FORM;
     }
     written[0] = lines::answer_line(line, scratch, engine_numbers, engine_counts, answer, 0);

@@ -1,5 +1,5 @@
 -- `screen_exports::delvouzh_engine_clear` meets its contract: there is no room, or the counts are cleared. Assumes nothing.
-use Rattle.screen_exports.proofs.EngineLaws.{clear-refused, clear-written}
+use Rattle.screen_exports.proofs.Laws.{clear-refused, clear-written}
 use borrow.Author.Needs.{needs}
 use Rattle.screen_exports.proofs.delvouzh_engine_clear.Statement.{statement}
 use Rattle.screen_exports.proofs.delvouzh_engine_clear.Tie as tie

@@ -1,51 +1,73 @@
--- `screen_exports::delvouzh_engine_submit` meets its contract: there is no room, or the engine answers. Assumes nothing.
-use borrow.Author.Tests.{le-leb, lt-leb}
-use lib.ListN.{length}
-use Rattle.screen_exports.proofs.JobLaws.{first-not, second-not, both}
-use Rattle.screen_exports.proofs.EngineLaws.{engine-room, few-engine-numbers, few-engine-counts, submit-refused, submit-written}
+-- `screen_exports::delvouzh_engine_submit` meets its contract: there is no room, or no such set, or the engine answers. Assumes nothing.
+use mathlib.Core.Path.{refl}
+use borrow.Author.Tests.{leb-true}
+use Rattle.screen_exports.specs.EngineCalls.{engineMemory}
+use Rattle.screen_exports.proofs.Laws.{enough, fits-not, fits, memory-fits, told-fits}
+use Rattle.screen_exports.proofs.Laws.{engine-stays, reply-refused, set-told, no-set-told}
 use borrow.Author.Needs.{needs}
 use Rattle.screen_exports.proofs.delvouzh_engine_submit.Statement.{statement}
 use Rattle.screen_exports.proofs.delvouzh_engine_submit.Tie as tie
 
 returns : tie.Need-returns
 returns c =
-    let a = c .before .before .before .before .before .before .before .args in
-    submit-refused _ _ _ _ _ _ _ (first-not _ (few-engine-numbers (a .engine-numbers .now) (a .engine-counts .now) (c .if1 .taken)))
+    reply-refused engineMemory engine-stays _ (fits-not (c .before .engine-fits .ensures) refl (c .if1 .taken))
+
+tell-values-requires : tie.Need-tell-values-requires
+tell-values-requires c κs =
+    let unknown = c .before .before .before in
+    let room = unknown .before .before in
+    leb-true _ _ (told-fits (room .before .engine-fits .ensures) refl (room .if1 .left))
 
 returns-2 : tie.Need-returns-2
 returns-2 c =
-    let a = c .before .before .before .before .before .before .before .before .args in
-    submit-refused _ _ _ _ _ _ _ (first-not _ (few-engine-counts (a .engine-numbers .now) (a .engine-counts .now) (c .before .if1 .left) (c .if2 .taken)))
+    let t = c .before .before in
+    let unknown = t .before .before .before in
+    let asked = unknown .before .before in
+    let room = asked .before in
+    no-set-told engineMemory engine-stays _ _ (fits (room .before .engine-fits .ensures) refl (room .if1 .left))
+    (asked .listed-set .ensures) (unknown .enum-told .given .1) (t .before .no-form .ensures) (t .tell-values .ensures)
+
+submit-requires : tie.Need-submit-requires
+submit-requires c κs =
+    let known = c .before .before .before in
+    let room = known .before .before .before in
+    enough (memory-fits (room .before .engine-fits .ensures) refl (room .if1 .left))
+
+tell-values-requires-2 : tie.Need-tell-values-requires-2
+tell-values-requires-2 c κs =
+    let done = c .before .before .before .before .before in
+    let known = done .before .before .before .before in
+    let room = known .before .before .before in
+    leb-true _ _ (told-fits (room .before .engine-fits .ensures) refl (room .if1 .left))
 
 returns-3 : tie.Need-returns-3
 returns-3 c =
-    let a = c .before .before .before .before .before .before .before .before .before .args in
-    let roomy = engine-room (a .engine-numbers .now) (a .engine-counts .now) (c .before .before .if1 .left) (c .before .if2 .left) in
-    submit-refused _ _ _ _ _ _ _ (second-not roomy (lt-leb 2 (length (a .values .now)) (c .if3 .taken)))
-
-returns-4 : tie.Need-returns-4
-returns-4 c =
-    let w = c .before .before .before in
-    let m = w .before .before .before .before .before .before in
-    let s = m .before .before .before in
-    let e = s .before in
-    let a = e .before .before .before .before .before .before .before .before .before .args in
-    let roomy = both (engine-room (a .engine-numbers .now) (a .engine-counts .now) (e .before .before .if1 .left) (e .before .if2 .left)) (le-leb 2 (length (a .values .now)) (e .if3 .left)) in
-    submit-written _ _ _ _ (m .submit-set .result) _ (c .verdict-number .ensures) _ _ _ _ _ _ (s .listed-set .result) (s .listed-set .ensures) roomy
-    (m .submit-set .ensures) (w .write-values .ensures)
+    let t = c .before .before in
+    let counts = t .before .before .before in
+    let done = counts .before .before .before in
+    let known = done .before .before .before .before in
+    let asked = known .before .before in
+    let room = asked .before in
+    set-told engineMemory engine-stays _ _ _ (fits (room .before .engine-fits .ensures) refl (room .if1 .left))
+    (asked .listed-set .ensures) (known .asked .given .1)
+    (done .submit .ensures .answered) (done .submit .ensures .leaves) (t .tell-values2 .ensures)
 
 pub delvouzh-engine-submit-spec : {M : Type 1} → statement M
 delvouzh-engine-submit-spec =
     tie.close
     (tie.spec
+    (λ c κs. search needs)
     returns
+    (λ c κs. search needs)
+    (λ c. search needs)
+    (λ c. search needs)
+    (λ c κs. search needs)
+    tell-values-requires
+    (λ c. search needs)
     returns-2
-    returns-3
-    (λ c κs. search needs)
-    (λ c κs. search needs)
-    (λ c κs. search needs)
-    (λ c κs. search needs)
+    submit-requires
+    tell-values-requires-2
     (λ c. search needs)
     (λ c. search needs)
     (λ c. search needs)
-    returns-4)
+    returns-3)

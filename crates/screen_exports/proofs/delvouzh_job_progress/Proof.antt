@@ -1,44 +1,40 @@
 -- `screen_exports::delvouzh_job_progress` meets its contract: there is no room, or it is told how far the job is. Assumes nothing.
-use borrow.Author.Tests.{le-leb, lt-leb}
-use lib.ListN.{length}
-use Rattle.screen_exports.proofs.JobLaws.{first-not, second-not, both, job-room, few-numbers, few-totals, progress-refused, progress-told}
+use mathlib.Core.Path.{refl}
+use borrow.Author.Tests.{leb-true}
+use Rattle.screen_exports.specs.JobCalls.{jobMemory}
+use Rattle.screen_exports.proofs.Laws.{enough, fits-not, fits, memory-fits, told-fits, job-stays, progress-refused, progress-told}
 use borrow.Author.Needs.{needs}
 use Rattle.screen_exports.proofs.delvouzh_job_progress.Statement.{statement}
 use Rattle.screen_exports.proofs.delvouzh_job_progress.Tie as tie
 
 returns : tie.Need-returns
 returns c =
-    let a = c .before .before .before .before .args in
-    progress-refused _ _ (first-not _ (few-numbers (a .job-numbers .now) (a .job-counts .now) (c .if1 .taken)))
+    progress-refused jobMemory job-stays _ (fits-not (c .before .job-fits .ensures) refl (c .if1 .taken))
+
+progress-of-requires : tie.Need-progress-of-requires
+progress-of-requires c κs =
+    enough (memory-fits (c .before .job-fits .ensures) refl (c .if1 .left))
+
+tell-progress-requires : tie.Need-tell-progress-requires
+tell-progress-requires c κs =
+    let room = c .before .before in
+    leb-true _ _ (told-fits (room .before .job-fits .ensures) refl (room .if1 .left))
 
 returns-2 : tie.Need-returns-2
 returns-2 c =
-    let a = c .before .before .before .before .before .args in
-    progress-refused _ _ (first-not _ (few-totals (a .job-numbers .now) (a .job-counts .now) (c .before .if1 .left) (c .if2 .taken)))
-
-returns-3 : tie.Need-returns-3
-returns-3 c =
-    let a = c .before .before .before .before .before .before .args in
-    let roomy = job-room (a .job-numbers .now) (a .job-counts .now) (c .before .before .if1 .left) (c .before .if2 .left) in
-    progress-refused _ _ (second-not roomy (lt-leb 4 (length (a .counts .now)) (c .if3 .taken)))
-
-returns-4 : tie.Need-returns-4
-returns-4 c =
-    let w = c .before .before in
-    let p = w .before .before in
-    let e = p .before in
-    let a = e .before .before .before .before .before .before .args in
-    let roomy = both (job-room (a .job-numbers .now) (a .job-counts .now) (e .before .before .if1 .left) (e .before .if2 .left)) (le-leb 4 (length (a .counts .now)) (e .if3 .left)) in
-    progress-told roomy (p .progress-of .ensures) (w .tell-progress .ensures)
+    let t = c .before .before in
+    let asked = t .before .before in
+    let room = asked .before in
+    progress-told jobMemory job-stays _ (fits (room .before .job-fits .ensures) refl (room .if1 .left))
+    (asked .progress-of .ensures) (t .tell-progress .ensures)
 
 pub delvouzh-job-progress-spec : {M : Type 1} → statement M
 delvouzh-job-progress-spec =
     tie.close
     (tie.spec
+    (λ c κs. search needs)
     returns
-    returns-2
-    returns-3
-    (λ c κs. search needs)
-    (λ c κs. search needs)
+    progress-of-requires
+    tell-progress-requires
     (λ c. search needs)
-    returns-4)
+    returns-2)

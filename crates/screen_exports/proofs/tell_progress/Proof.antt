@@ -3,7 +3,7 @@ use borrow.Author.Needs.{needs}
 use native.Mathlib.Omega.{arith}
 use lib.ListN.{length-set}
 use Rattle.refusals.proofs.Lists.{four-written}
-use Rattle.screen_exports.specs.JobCalls.{withProgress}
+use Rattle.screen_exports.specs.Calls.{withProgress}
 use Rattle.screen_exports.proofs.tell_progress.Statement.{statement}
 use Rattle.screen_exports.proofs.tell_progress.Tie as tie
 
