@@ -9,9 +9,13 @@ use Rattle.tolerance.proofs.Places.{highest-first, highest-next}
 use Rattle.tolerance.proofs.component.Statement.{statement}
 use Rattle.tolerance.proofs.component.Tie as tie
 
+-- places that the needs go back to
+abbrev the-start : tie.After-higher6 → tie.Start
+the-start c = c .before .before .before .before .before .before
+
 returns : tie.Need-returns
 returns c =
-    let g : ℕ → Float = λ k. at (c .before .before .before .before .before .before .args .t1) k ⊘ at (c .before .before .before .before .before .before .args .t2) k in
+    let g : ℕ → Float = λ k. at ((the-start c) .args .t1) k ⊘ at ((the-start c) .args .t2) k in
     let e1 = highest-next g 0 _ _ (highest-first g) (c .before .before .before .before .before .higher .ensures) in
     let e2 = highest-next g 1 _ _ (e1) (c .before .before .before .before .higher2 .ensures) in
     let e3 = highest-next g 2 _ _ (e2) (c .before .before .before .higher3 .ensures) in

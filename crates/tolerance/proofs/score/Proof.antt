@@ -8,11 +8,18 @@ use Rattle.tolerance.proofs.score.Tie as tie
 larger-requires : tie.Need-larger-requires
 larger-requires c κs = zero-is-number
 
+-- places that the needs go back to
+abbrev at-larger : tie.After-larger7 → tie.After-larger
+at-larger c = c .before .before .before .before .before .before
+
+abbrev the-start : tie.After-larger7 → tie.Start
+the-start c = c .before .before .before .before .before .before .before .before
+
 returns : tie.Need-returns
 returns c =
-    let p = c .before .before .before .before .before .before .before .before .args .p in
-    let b = at (c .before .before .before .before .before .before .before .before .args .t2) in
-    let e1 = score-next 0 b p _ _ (score-first b p) (c .before .before .before .before .before .before .larger .ensures .0) in
+    let p = (the-start c) .args .p in
+    let b = at ((the-start c) .args .t2) in
+    let e1 = score-next 0 b p _ _ (score-first b p) ((at-larger c) .larger .ensures .0) in
     let e2 = score-next 1 b p _ _ (e1) (c .before .before .before .before .before .larger2 .ensures .0) in
     let e3 = score-next 2 b p _ _ (e2) (c .before .before .before .before .larger3 .ensures .0) in
     let e4 = score-next 3 b p _ _ (e3) (c .before .before .before .larger4 .ensures .0) in

@@ -6,6 +6,10 @@ use Rattle.tubes.specs.Tubes.{mountCheck}
 use Rattle.tubes.proofs.check_mount.Statement.{statement}
 use Rattle.tubes.proofs.check_mount.Tie as tie
 
+-- places that the needs go back to
+abbrev at-check-count : tie.After-first-refusal3 → tie.After-check-count
+at-check-count c = c .before .before .before .before .before .before
+
 returns : tie.Need-returns
 unfolding mountCheck
 returns c = rw (
@@ -15,7 +19,7 @@ returns c = rw (
   c .before .before .before .check-angle .ensures,
   c .before .before .before .before .first-refusal .ensures,
   c .before .before .before .before .before .check-length .ensures,
-  c .before .before .before .before .before .before .check-count .ensures,
+  (at-check-count c) .check-count .ensures,
 )
     (in-order _ (_ ∷ _ ∷ _ ∷ []))
 

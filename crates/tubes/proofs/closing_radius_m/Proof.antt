@@ -14,14 +14,18 @@ closing-value-requires c κs =
     let checked = c .before .before .before .before .check-count .ensures in
     count-within _ (sym checked ∙ both _ _ (sym first ∙ c .enum-told .given .1) .0) .1
 
+-- places that the needs go back to
+abbrev at-check-count : tie.After-first-refusal → tie.After-check-count
+at-check-count c = c .before .before
+
 returns : tie.Need-returns
 returns c =
-    answer _ _ (c .before .before .before .before .before .before .check-count .ensures) (c .before .before .before .before .before .check-length .ensures) (c .before .before .before .before .first-refusal .ensures) (c .before .before .enum-told .given .1)
+    answer _ _ ((at-check-count (c .before .before .before .before)) .check-count .ensures) (c .before .before .before .before .before .check-length .ensures) (c .before .before .before .before .first-refusal .ensures) (c .before .before .enum-told .given .1)
     (c .closed .ensures ∙ ap closedAt (c .before .closing-value .ensures))
 
 returns-2 : tie.Need-returns-2
 returns-2 c =
-    answer _ _ (c .before .before .before .before .before .before .check-count .ensures) (c .before .before .before .before .before .check-length .ensures) (c .before .before .before .before .first-refusal .ensures) (c .before .before .verdict .given .1)
+    answer _ _ ((at-check-count (c .before .before .before .before)) .check-count .ensures) (c .before .before .before .before .before .check-length .ensures) (c .before .before .before .before .first-refusal .ensures) (c .before .before .verdict .given .1)
     (c .refused .ensures)
 
 pub closing-radius-m-spec : {M : Type 1} → statement M

@@ -10,21 +10,28 @@ part-word-end c =
     let w = n .next-token .ensures .within (n .before .before .before .before .pre .0 .within) in
     omega arith
 
+-- places that the needs go back to
+abbrev next-token-from-same-bytes : tie.After-same-bytes → tie.After-next-token
+next-token-from-same-bytes c = c .before .before .before .before
+
+abbrev next-token-from-known-told : tie.After-known-told → tie.After-next-token
+next-token-from-known-told c = c .before .before .before .before .before .before .before .before .before .before
+
 returns-2 : tie.Need-returns-2
 returns-2 c =
-    let n = c .before .before .before .before .before .before .before in
+    let n = next-token-from-same-bytes (c .before .before .before) in
     let s = n .before .before .before .before .pre .0 in
     record { within = n .next-token .ensures .within (s .within); order = omega arith; few = s .few }
 
 returns-3 : tie.Need-returns-3
 returns-3 c =
-    let n = c .before .before .before .before .before .before .before .before in
+    let n = next-token-from-same-bytes (c .before .before .before .before) in
     let s = n .before .before .before .before .pre .0 in
     record { within = n .next-token .ensures .within (s .within); order = s .order; few = s .few }
 
 returns-6 : tie.Need-returns-6
 returns-6 c =
-    let n = c .before .before .before .before .before .before .before .before .before .before in
+    let n = next-token-from-known-told c in
     let s = n .before .before .before .before .pre .0 in
     record { within = n .next-token .ensures .within (s .within); order = omega arith; few = omega arith }
 
