@@ -31,11 +31,13 @@ module _ (l : List ℕ) (i : ℕ) (h : i < length l) where
   unfolding room
   room-at = ap room cons-at
 
-  filled-at : (figures : List Float) (counts : List ℕ) → filled (drop i l) figures counts ≡ piece (getD l i 0) figures counts ++ filled (drop (i + 1) l) (figuresAfter (getD l i 0) figures) (countsAfter (getD l i 0) counts)
+  filled-at : (figures : List Float) (counts : List ℕ) → filled (drop i l) figures counts
+      ≡ piece (getD l i 0) figures counts ++ filled (drop (i + 1) l) (figuresAfter (getD l i 0) figures) (countsAfter (getD l i 0) counts)
   unfolding filled
   filled-at figures counts = ap (λ (t : List ℕ). filled t figures counts) cons-at
 
-pub record SoFar (before : List ℕ) (n : ℕ) (template : List ℕ) (figures : List Float) (counts : List ℕ) (out : List ℕ) (p : Place) (i : ℕ) : Type 0 where
+pub record SoFar (before : List ℕ) (n : ℕ) (template : List ℕ) (figures : List Float) (counts : List ℕ) (out : List ℕ) (p : Place)
+    (i : ℕ) : Type 0 where
   pub done : List ℕ
   pub put : Appended before n done out (p .n)
   pub whole : filled template figures counts ≡ done ++ filled (drop i template) (drop (p .figures) figures) (drop (p .counts) counts)
@@ -46,8 +48,18 @@ pub record SoFar (before : List ℕ) (n : ℕ) (template : List ℕ) (figures : 
   pub same : length out ≡ length before
 
 module _ {before : List ℕ} {n : ℕ} {template : List ℕ} {figures : List Float} {counts : List ℕ} where
-  pub start : n + room template ≤ length before → SoFar before n template figures counts before (record { n = n; figures = 0; counts = 0 }) 0
-  start h = record { done = []; put = nothing before n; whole = refl; has-room = h; within = omega arith; figures-left = omega arith; counts-left = omega arith; same = refl }
+  pub start : n + room template ≤ length before
+      → SoFar before n template figures counts before (record { n = n; figures = 0; counts = 0 }) 0
+  start h = record {
+    done = [];
+    put = nothing before n;
+    whole = refl;
+    has-room = h;
+    within = omega arith;
+    figures-left = omega arith;
+    counts-left = omega arith;
+    same = refl;
+  }
 
   module _ {out : List ℕ} {p : Place} {i : ℕ} (v : SoFar before n template figures counts out p i) where
     pub has-room-at : i < length template → HasRoom out p (getD template i 0) figures counts
@@ -55,18 +67,21 @@ module _ {before : List ℕ} {n : ℕ} {template : List ℕ} {figures : List Flo
         let r = room-at template i h in let q = v .has-room in
         record { figures-left = v .figures-left; counts-left = v .counts-left; bytes = omega arith }
 
-    pub next : {after : List ℕ} {r : Place} → i < length template → PutPiece out after p r (getD template i 0) figures counts → length after ≡ length out → SoFar before n template figures counts after r (i + 1)
+    pub next : {after : List ℕ} {r : Place} → i < length template → PutPiece out after p r (getD template i 0) figures counts
+        → length after ≡ length out → SoFar before n template figures counts after r (i + 1)
     next {after} {r} h u l =
         let m = room-at template i h in let q = v .has-room in let s = v .same in let e = u .put .ends in
         let k = piece-fits (getD template i 0) (drop (p .figures) figures) (drop (p .counts) counts) in
         record {
           done = v .done ++ piece (getD template i 0) (drop (p .figures) figures) (drop (p .counts) counts);
-          put = then before out after n (p .n) (r .n) (v .done) (piece (getD template i 0) (drop (p .figures) figures) (drop (p .counts) counts)) (v .put) (u .put);
+          put = then before out after n (p .n) (r .n) (v .done)
+              (piece (getD template i 0) (drop (p .figures) figures) (drop (p .counts) counts)) (v .put) (u .put);
           whole =
               v .whole ∙ ap (λ (t : List ℕ). v .done ++ t) (filled-at template i h (drop (p .figures) figures) (drop (p .counts) counts))
               ∙ sym (append-assoc (v .done) (piece (getD template i 0) (drop (p .figures) figures) (drop (p .counts) counts)) _)
               ∙ ap (λ (t : List ℕ). (v .done ++ piece (getD template i 0) (drop (p .figures) figures) (drop (p .counts) counts)) ++ t)
-              (ap (λ (fs : List Float). filled (drop (i + 1) template) fs (countsAfter (getD template i 0) (drop (p .counts) counts))) (sym (u .next-figures))
+              (ap (λ (fs : List Float). filled (drop (i + 1) template) fs (countsAfter (getD template i 0) (drop (p .counts) counts)))
+              (sym (u .next-figures))
               ∙ ap (filled (drop (i + 1) template) (drop (r .figures) figures)) (sym (u .next-counts)));
           has-room = omega arith;
           within = omega arith;
@@ -79,5 +94,6 @@ module _ {before : List ℕ} {n : ℕ} {template : List ℕ} {figures : List Flo
     unfolding filled
     ends h =
         let d = drop-of-length-le template h in
-        let e : filled template figures counts ≡ v .done = v .whole ∙ ap (λ (t : List ℕ). v .done ++ filled t (drop (p .figures) figures) (drop (p .counts) counts)) d ∙ append-nil (v .done) in
+        let e : filled template figures counts ≡ v .done = v .whole
+        ∙ ap (λ (t : List ℕ). v .done ++ filled t (drop (p .figures) figures) (drop (p .counts) counts)) d ∙ append-nil (v .done) in
         rw e (v .put)

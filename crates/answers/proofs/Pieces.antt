@@ -23,7 +23,8 @@ use Rattle.answers.specs.Places.{HasRoom, PutPiece}
 pub piece-fits : (b : ℕ) (figures : List Float) (counts : List ℕ) → length (piece b figures counts) ≤ roomFor b
 piece-fits b figures counts = by (eqb b 70) (eqb b 78) figures counts
   where
-    by : (t u : Bool) (figures : List Float) (counts : List ℕ) → length (cond t (firstFigure figures) (cond u (firstCount counts) (b ∷ []))) ≤ cond t 16 (cond u 20 1)
+    by : (t u : Bool) (figures : List Float) (counts : List ℕ)
+        → length (cond t (firstFigure figures) (cond u (firstCount counts) (b ∷ []))) ≤ cond t 16 (cond u 20 1)
     by true u [] counts = omega arith
     by true u (x ∷ xs) counts = let h = figure-length x in omega arith
     by false true figures [] = omega arith
@@ -49,9 +50,16 @@ module _ (before : List ℕ) (p : Place) (b : ℕ) (figures : List Float) (count
     pub no-figure : p .figures ≤ length figures → length figures ≤ p .figures → PutPiece before before p p b figures counts
     no-figure m g =
         let d = drop-of-length-le figures g in
-        record { put = rw (f, d) (nothing before (p .n)); next-figures = rw (f, d); next-counts = rw not-n; figures-left = m; counts-left = k }
+        record {
+          put = rw (f, d) (nothing before (p .n));
+          next-figures = rw (f, d);
+          next-counts = rw not-n;
+          figures-left = m;
+          counts-left = k;
+        }
 
-    pub figure-put : (after : List ℕ) (end : ℕ) → p .figures < length figures → Appended before (p .n) (figureText (getD figures (p .figures) nan)) after end
+    pub figure-put : (after : List ℕ) (end : ℕ) → p .figures < length figures
+        → Appended before (p .n) (figureText (getD figures (p .figures) nan)) after end
         → PutPiece before after p (record { n = end; figures = p .figures + 1; counts = p .counts }) b figures counts
     figure-put after end g a =
         record {
@@ -73,9 +81,16 @@ module _ (before : List ℕ) (p : Place) (b : ℕ) (figures : List Float) (count
     pub no-count : p .counts ≤ length counts → length counts ≤ p .counts → PutPiece before before p p b figures counts
     no-count m g =
         let d = drop-of-length-le counts g in
-        record { put = rw (not-f, n, d) (nothing before (p .n)); next-figures = rw not-f; next-counts = rw (n, d); figures-left = k; counts-left = m }
+        record {
+          put = rw (not-f, n, d) (nothing before (p .n));
+          next-figures = rw not-f;
+          next-counts = rw (n, d);
+          figures-left = k;
+          counts-left = m;
+        }
 
-    pub count-put : (after : List ℕ) (end : ℕ) → p .counts < length counts → Appended before (p .n) (countText (getD counts (p .counts) 0)) after end
+    pub count-put : (after : List ℕ) (end : ℕ) → p .counts < length counts
+        → Appended before (p .n) (countText (getD counts (p .counts) 0)) after end
         → PutPiece before after p (record { n = end; figures = p .figures; counts = p .counts + 1 }) b figures counts
     count-put after end g a =
         record {

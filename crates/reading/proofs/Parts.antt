@@ -29,8 +29,10 @@ module _ (k : ℕ) (l : List Float) where
     where
       by : (t : Bool) → leb k (length l) ≡ t → drop (min k (length l)) l ≡ drop k l
       by true h = let g = leb-true k (length l) h in let e : min k (length l) ≡ k = omega arith in ap (λ (n : ℕ). drop n l) e
-      by false h = let g = leb-false k (length l) h in drop-of-length-le l {i = min k (length l)} (omega arith) ∙ sym (drop-of-length-le l {i = k} (omega arith))
+      by false h = let g = leb-false k (length l) h in drop-of-length-le l {i = min k (length l)} (omega arith)
+          ∙ sym (drop-of-length-le l {i = k} (omega arith))
 
   -- as a slice of what is left of the length
   pub rest-part : take (length l - min k (length l)) (drop (min k (length l)) l) ≡ drop k l
-  rest-part = let d = length-drop (min k (length l)) l in take-all (length l - min k (length l)) (drop (min k (length l)) l) (omega arith) ∙ rest-from
+  rest-part = let d = length-drop (min k (length l)) l in take-all (length l - min k (length l)) (drop (min k (length l)) l) (omega arith)
+      ∙ rest-from

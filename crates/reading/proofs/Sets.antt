@@ -27,7 +27,8 @@ use Rattle.reading.specs.declared.SetParts.{SetParts}
 use Rattle.reading.specs.Parts.{takePlanform, takeSection, takeTab, takeFillet, takeDensity, setReadings, takeSet, setPartsOf, setOf}
 use Rattle.reading.proofs.Stands.{Strict, Stands, on, was, number-is, end-is, text-strict, planform-strict, section-strict, tab-strict, fillet-strict, density-strict}
 
-module _ (line : List ℕ) {v v₁ v₂ v₃ v₄ v₅ v₆ v₇ v₈ v₉ v₁₀ v₁₁ : List Float} {c c₁ c₂ c₃ c₄ c₅ c₆ c₇ c₈ c₉ c₁₀ c₁₁ : Cursor} (m : Room line v c)
+module _ (line : List ℕ) {v v₁ v₂ v₃ v₄ v₅ v₆ v₇ v₈ v₉ v₁₀ v₁₁ : List Float} {c c₁ c₂ c₃ c₄ c₅ c₆ c₇ c₈ c₉ c₁₀ c₁₁ : Cursor}
+    (m : Room line v c)
     (limit : Takes (takeText (text "(set (limit N)")) line v v₁ c c₁)
     (count : Takes (takeText (text "(count N)")) line v₁ v₂ c₁ c₂)
     (planform : Takes takePlanform line v₂ v₃ c₂ c₃)
@@ -157,7 +158,9 @@ module _ (line : List ℕ) {v v₁ v₂ v₃ v₄ v₅ v₆ v₇ v₈ v₉ v₁�
         )
 
 -- each part of the set, by the call that made it
-pub together : (p : SetParts) (fs : List Float) {slab glue angles : List Float} {planform : NumberedPlanform} {section : NumberedSection} {tab : NumberedTab} {fillet : NumberedFillet} {density : NumberedDensity}
+pub together : (p : SetParts) (fs : List Float) {slab glue angles : List Float}
+    {planform : NumberedPlanform} {section : NumberedSection} {tab : NumberedTab}
+    {fillet : NumberedFillet} {density : NumberedDensity}
     {weight thickness cant base radius : Float} {set : NumberedSet}
     → planform ≡ planformOf (p .planform) fs
     → section ≡ numberedSection (p .section)
@@ -172,11 +175,13 @@ together p fs e-planform e-section e-slab e-tab e-glue e-fillet e-angles e-weigh
     rw (e-set, e-planform, e-section, e-tab, e-slab, e-fillet, e-glue, e-density, e-weight, e-thickness, e-cant, e-base, e-radius, e-angles)
 
 -- three figures of a tab and two of a fillet
-pub tab-is : (number : ℕ) (slab : List Float) {a b d : Float} {tab : NumberedTab} → tab ≡ tabOf number (a ∷ b ∷ d ∷ []) → a ≡ at slab 0 → b ≡ at slab 1 → d ≡ at slab 2 → tab ≡ tabOf number slab
+pub tab-is : (number : ℕ) (slab : List Float) {a b d : Float} {tab : NumberedTab} → tab ≡ tabOf number (a ∷ b ∷ d ∷ [])
+    → a ≡ at slab 0 → b ≡ at slab 1 → d ≡ at slab 2 → tab ≡ tabOf number slab
 unfolding tabOf
 tab-is number slab e-tab e-a e-b e-d = rw (e-tab, e-a, e-b, e-d)
 
-pub fillet-is : (number : ℕ) (glue : List Float) {a b : Float} {fillet : NumberedFillet} → fillet ≡ filletOf number (a ∷ b ∷ []) → a ≡ at glue 0 → b ≡ at glue 1 → fillet ≡ filletOf number glue
+pub fillet-is : (number : ℕ) (glue : List Float) {a b : Float} {fillet : NumberedFillet} → fillet ≡ filletOf number (a ∷ b ∷ [])
+    → a ≡ at glue 0 → b ≡ at glue 1 → fillet ≡ filletOf number glue
 unfolding filletOf
 fillet-is number glue e-fillet e-a e-b = rw (e-fillet, e-a, e-b)
 

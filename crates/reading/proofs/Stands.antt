@@ -1,5 +1,5 @@
--- Where reading stands behind a part, in the code and in the definition: a part that was read had a beginning that was read, and at the end of a form
--- the numbers and figures of its parts are those of the readings behind them. Assumes nothing.
+-- Where reading stands behind a part, in the code and in the definition: a part that was read had a beginning that was read, and at the
+-- end of a form the numbers and figures of its parts are those of the readings behind them. Assumes nothing.
 use mathlib.Core.Bool.{Bool, true, false}
 use mathlib.Core.List.{List, [], _∷_}
 use mathlib.Core.Path.{_≡_, refl, sym, ap, ap₂, subst, _∙_}
@@ -93,7 +93,8 @@ module _ (line : List ℕ) {v w : List Float} {c d : Cursor} (step : Reading →
       by : (t : Bool) → c .ok ≡ t → c .ok ≡ true
       by true h = h
       by false h =
-          let f : readingAt line v c ≡ failed = ap (λ (b : Bool). pick b (reading (tokens (drop (c .at) line)) (takenBefore v c)) failed) h in
+          let f : readingAt line v c ≡ failed =
+          ap (λ (b : Bool). pick b (reading (tokens (drop (c .at) line)) (takenBefore v c)) failed) h in
           let g : true ≡ false = sym e ∙ sym (fits-at line w d) ∙ ap fits (o .is ∙ ap step f ∙ strict) in
           absurd (let z : _≡_ {A = ℕ} 0 1 = cc in let y : ⊥ = omega arith in y)
 
@@ -113,7 +114,8 @@ module _ (line : List ℕ) {v : List Float} {c : Cursor} {r : Reading} (s : Stan
 -- ---- the end of a form
 module _ (line : List ℕ) (v : List Float) (c : Cursor) (m : Room line v c) (asked meant : Asked) (same : c .ok ≡ true → asked ≡ meant) where
   told : (ok : Bool) → c .ok ≡ ok → (ts : List (List ℕ)) (spoiled : Bool)
-      → Reads v (either ok (atEnd ts (either spoiled (refusedLine noFigure) (record { asked = asked; figures = c .figures }))) (refusedLine noForm))
+      → Reads v (either ok (atEnd ts (either spoiled (refusedLine noFigure) (record { asked = asked; figures = c .figures })))
+      (refusedLine noForm))
       (ended (pick ok (reading ts (record { figures = take (c .figures) v; number = c .number; spoiled = spoiled })) failed) meant)
   told false e ts spoiled = record { asked = refl; count = refl; figures = refl }
   told true e [] true = record { asked = refl; count = refl; figures = refl }
@@ -123,13 +125,15 @@ module _ (line : List ℕ) (v : List Float) (c : Cursor) (m : Room line v c) (as
   pub ends : (q : Line) {r : Reading} → q ≡ endOf line c asked → Stands line v c r → Reads v q (ended r meant)
   ends q {r} e s =
       subst (λ (x : Line). Reads v x (ended r meant)) (sym e)
-      (subst (λ (x : Reading). Reads v (endOf line c asked) (ended x meant)) (s .is) (told (c .ok) refl (tokens (drop (c .at) line)) (c .spoiled)))
+      (subst (λ (x : Reading). Reads v (endOf line c asked) (ended x meant)) (s .is)
+      (told (c .ok) refl (tokens (drop (c .at) line)) (c .spoiled)))
 
 -- what is no form is refused
 pub no-form : (v : List Float) {q : Line} → q ≡ refusedLine noForm → Reads v q (refusedRead noForm)
 no-form v e = subst (λ (x : Line). Reads v x (refusedRead noForm)) (sym e) (record { asked = refl; count = refl; figures = refl })
 
-pub start-room : (line : List ℕ) (v : List Float) (c : Cursor) → c ≡ lineStart → length line ≤ lineBytes → length line ≤ length v → Room line v c
+pub start-room : (line : List ℕ) (v : List Float) (c : Cursor) → c ≡ lineStart → length line ≤ lineBytes → length line ≤ length v
+    → Room line v c
 start-room line v c e a b = subst (Room line v) (sym e) (record { short = a; room = b; within = omega arith; few = omega arith })
 
 -- ---- the forms
@@ -143,7 +147,8 @@ module _ (line template : List ℕ) {v w : List Float} {c e : Cursor} (s : c ≡
   stood : Stands line w e Whole·
   stood = on line (takeText template) o (at-start line v c s m)
 
-  pub whole-ends : (F : ℕ → List Float → Asked) {asked : Asked} {q : Line} → asked ≡ F (e .number) (take (e .figures) w) → q ≡ endOf line e asked
+  pub whole-ends : (F : ℕ → List Float → Asked) {asked : Asked} {q : Line} → asked ≡ F (e .number) (take (e .figures) w)
+      → q ≡ endOf line e asked
       → Reads w q (ended Whole· (F (numberIn Whole·) (figuresIn Whole·)))
   whole-ends F a f =
       ends line w e (o .room) _ _ (λ ok. a ∙ ap₂ F (number-is line stood ok) (figures-are line stood ok)) _ f stood
@@ -177,11 +182,13 @@ module _ (line head tail : List ℕ) {v₀ v₁ v₂ v₃ : List Float} {c h p e
     head-ok : h .ok ≡ true
     head-ok = was line part o₂ strict part-ok
 
-  pub parted-ends : (F : ℕ → ℕ → ℕ → List Float → Asked) {asked : Asked} {q : Line} → asked ≡ F (h .number) (p .number) (p .figures) (take (e .figures) v₃)
+  pub parted-ends : (F : ℕ → ℕ → ℕ → List Float → Asked) {asked : Asked} {q : Line}
+      → asked ≡ F (h .number) (p .number) (p .figures) (take (e .figures) v₃)
       → q ≡ endOf line e asked → Reads v₃ q (ended All· (F (numberIn Head·) (numberIn Part·) (endIn Part·) (figuresIn All·)))
   parted-ends F a f = ends line v₃ e (o₃ .room) _ _ (λ ok. a ∙ same ok) _ f s₃
     where
-      same : e .ok ≡ true → F (h .number) (p .number) (p .figures) (take (e .figures) v₃) ≡ F (numberIn Head·) (numberIn Part·) (endIn Part·) (figuresIn All·)
+      same : e .ok ≡ true → F (h .number) (p .number) (p .figures) (take (e .figures) v₃)
+          ≡ F (numberIn Head·) (numberIn Part·) (endIn Part·) (figuresIn All·)
       same ok =
           ap₂ (λ (i j : ℕ). F i j (p .figures) (take (e .figures) v₃)) (number-is line s₁ (head-ok ok)) (number-is line s₂ (part-ok ok))
           ∙ ap₂ (λ (k : ℕ) (l : List Float). F (numberIn Head·) (numberIn Part·) k l) (end-is line s₂ (part-ok ok)) (figures-are line s₃ ok)
@@ -198,7 +205,8 @@ module _ (line head tail : List ℕ) {v₀ v₁ v₂ v₃ : List Float} {c h p e
           ∙ ap (λ (x : A). F (numberIn Head·) x (figuresIn All·)) (kept (part-ok ok) ∙ ap partsOf (s₁ .is))
 
 -- one part alone, whose own parts were kept
-module _ (line : List ℕ) {v w : List Float} {c e : Cursor} (part : Reading → Reading) (s : c ≡ lineStart) (m : Room line v c) (o : Takes part line v w c e) where
+module _ (line : List ℕ) {v w : List Float} {c e : Cursor} (part : Reading → Reading) (s : c ≡ lineStart) (m : Room line v c)
+    (o : Takes part line v w c e) where
   begun : Stands line v c (start line)
   begun = at-start line v c s m
 
@@ -209,4 +217,5 @@ module _ (line : List ℕ) {v w : List Float} {c e : Cursor} (part : Reading →
       → (F : A → List Float → Asked) {asked : Asked} {q : Line} → asked ≡ F parts (take (e .figures) w)
       → q ≡ endOf line e asked → Reads w q (ended (part (start line)) (F (partsOf (start line)) (figuresIn (part (start line)))))
   alone-ends {A} parts partsOf kept F a f =
-      ends line w e (o .room) _ _ (λ ok. a ∙ ap₂ (λ (x : A) (l : List Float). F x l) (kept ok ∙ ap partsOf (begun .is)) (figures-are line read ok)) _ f read
+      ends line w e (o .room) _ _
+      (λ ok. a ∙ ap₂ (λ (x : A) (l : List Float). F x l) (kept ok ∙ ap partsOf (begun .is)) (figures-are line read ok)) _ f read

@@ -30,7 +30,8 @@ loop-less c = omega arith
 loop-again : tie.Need-loop-again Inv-loop μ-loop
 loop-again c =
     let f = c .before .before in
-    next (f .before .before .before .before .loop .inv) (f .before .before .before .loop-test .taken) (f .put-piece .ensures) (f .put-piece .kept .0)
+    next (f .before .before .before .before .loop .inv) (f .before .before .before .loop-test .taken) (f .put-piece .ensures)
+    (f .put-piece .kept .0)
 
 same-length : tie.Need-same-length Inv-loop μ-loop
 same-length c = c .before .loop .inv .same

@@ -14,8 +14,6 @@ pub area-asked-spec : {M : Type 1} → statement M
 area-asked-spec =
     tie.close
     (tie.spec
-    (λ c κs. search needs)
-    (λ c. search needs)
-    (λ c. search needs)
+    (λ c κs. search needs) (λ c. search needs) (λ c. search needs)
     returns
     returns-2)

@@ -28,7 +28,8 @@ returns : tie.Need-returns
 returns c =
     let l = c .before in
     let a = l .before .before .args in
-    ap (λ (k : ℕ). take (length (now (a .values)) - k) (drop k (now (a .values)))) (l .least .ensures) ∙ rest-part (a .from) (now (a .values))
+    ap (λ (k : ℕ). take (length (now (a .values)) - k) (drop k (now (a .values)))) (l .least .ensures)
+    ∙ rest-part (a .from) (now (a .values))
 
 pub behind-spec : {M : Type 1} → statement M
 behind-spec =

@@ -14,7 +14,8 @@ use Rattle.reading.proofs.read_density.Statement.{statement}
 use Rattle.reading.proofs.read_density.Tie as tie
 
 take-text-requires : tie.Need-take-text-requires
-take-text-requires c κs = let l = c .before .before in let s = l .before .before .before in start-room _ _ _ (l .line-start .ensures) (s .pre .0) (s .pre .1)
+take-text-requires c κs = let l = c .before .before in let s = l .before .before .before in
+    start-room _ _ _ (l .line-start .ensures) (s .pre .0) (s .pre .1)
 
 slice-aggregate-density-asked : tie.Need-slice-aggregate-density-asked
 slice-aggregate-density-asked c = sym (few _ _ _ (c .before .before .before .take-text2 .ensures .room))
@@ -27,23 +28,19 @@ returns c =
     let h = p .before .before .before .before in
     let l = h .before .before .before in
     let s = l .before .before .before in
-    parted-ends _ _ _ takeDensity density-strict (l .line-start .ensures) (start-room _ _ _ (l .line-start .ensures) (s .pre .0) (s .pre .1))
+    parted-ends _ _ _ takeDensity density-strict (l .line-start .ensures)
+    (start-room _ _ _ (l .line-start .ensures) (s .pre .0) (s .pre .1))
     (h .take-text .ensures) (p .take-density .ensures) (t .take-text2 .ensures)
-    (λ (screen density _ : ℕ) (figures : List Float). densityAsked screen (numberedDensity density (at figures 0))) (c .before .density-asked .ensures) (c .end-form .ensures)
+    (λ (screen density _ : ℕ) (figures : List Float). densityAsked screen (numberedDensity density (at figures 0)))
+    (c .before .density-asked .ensures) (c .end-form .ensures)
 
 pub read-density-spec : {M : Type 1} → statement M
 read-density-spec =
     tie.close
     (tie.spec
-    (λ c κs. search needs)
-    (λ c. search needs)
+    (λ c κs. search needs) (λ c. search needs)
     take-text-requires
-    (λ c κs. search needs)
-    (λ c. search needs)
-    (λ c κs. search needs)
-    (λ c. search needs)
+    (λ c κs. search needs) (λ c. search needs) (λ c κs. search needs) (λ c. search needs)
     slice-aggregate-density-asked
-    (λ c κs. search needs)
-    (λ c κs. search needs)
-    (λ c. search needs)
+    (λ c κs. search needs) (λ c κs. search needs) (λ c. search needs)
     returns)

@@ -37,7 +37,8 @@ returns-2 c =
     let p = c .before .before in
     let named = p .before .before in
     let word = named .before .before in
-    subst (Reads _ _) (sym (is-form _ _ _ (word .before .if1 .left) (word .word-of .ensures .word) (named .form-named .ensures))) (p .read-form .ensures)
+    subst (Reads _ _) (sym (is-form _ _ _ (word .before .if1 .left) (word .word-of .ensures .word) (named .form-named .ensures)))
+    (p .read-form .ensures)
 
 pub read-line-spec : {M : Type 1} → statement M
 read-line-spec =

@@ -12,7 +12,8 @@ use Rattle.reading.proofs.read_progress.Statement.{statement}
 use Rattle.reading.proofs.read_progress.Tie as tie
 
 take-text-requires : tie.Need-take-text-requires
-take-text-requires c κs = let l = c .before .before in let s = l .before .before .before in start-room _ _ _ (l .line-start .ensures) (s .pre .0) (s .pre .1)
+take-text-requires c κs = let l = c .before .before in let s = l .before .before .before in
+    start-room _ _ _ (l .line-start .ensures) (s .pre .0) (s .pre .1)
 
 returns : tie.Need-returns
 unfolding progressRead text codes
@@ -27,9 +28,7 @@ pub read-progress-spec : {M : Type 1} → statement M
 read-progress-spec =
     tie.close
     (tie.spec
-    (λ c κs. search needs)
-    (λ c. search needs)
+    (λ c κs. search needs) (λ c. search needs)
     take-text-requires
-    (λ c κs. search needs)
-    (λ c. search needs)
+    (λ c κs. search needs) (λ c. search needs)
     returns)

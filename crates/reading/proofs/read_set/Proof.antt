@@ -11,7 +11,8 @@ use Rattle.reading.proofs.read_set.Statement.{statement}
 use Rattle.reading.proofs.read_set.Tie as tie
 
 take-set-requires : tie.Need-take-set-requires
-take-set-requires c κs = let l = c .before in let s = l .before .before .before in start-room _ _ _ (l .line-start .ensures) (s .pre .0) (s .pre .1)
+take-set-requires c κs = let l = c .before in let s = l .before .before .before in
+    start-room _ _ _ (l .line-start .ensures) (s .pre .0) (s .pre .1)
 
 slice-aggregate-set-asked : tie.Need-slice-aggregate-set-asked
 slice-aggregate-set-asked c = sym (few _ _ _ (c .before .before .before .before .take-set .ensures .0 .room))
@@ -19,12 +20,13 @@ slice-aggregate-set-asked c = sym (few _ _ _ (c .before .before .before .before 
 returns : tie.Need-returns
 unfolding setRead
 returns c =
-    let t = c .before .before .before .before .before .before in
+    let after-t = c .before .before .before .before .before in let t = after-t .before in
     let l = t .before .before in
     let s = l .before .before .before in
     let m = start-room _ _ _ (l .line-start .ensures) (s .pre .0) (s .pre .1) in
     alone-ends _ takeSet (l .line-start .ensures) m (t .take-set .ensures .0) _ setPartsOf (t .take-set .ensures .1)
-    (λ (parts : SetParts) (figures : List Float). setAsked (parts .limit) (parts .points) (setOf parts figures)) (c .before .set-asked .ensures) (c .end-form .ensures)
+    (λ (parts : SetParts) (figures : List Float). setAsked (parts .limit) (parts .points) (setOf parts figures))
+    (c .before .set-asked .ensures) (c .end-form .ensures)
 
 pub read-set-spec : {M : Type 1} → statement M
 read-set-spec =
@@ -34,7 +36,5 @@ read-set-spec =
     take-set-requires
     (λ c. search needs)
     slice-aggregate-set-asked
-    (λ c κs. search needs)
-    (λ c κs. search needs)
-    (λ c. search needs)
+    (λ c κs. search needs) (λ c κs. search needs) (λ c. search needs)
     returns)

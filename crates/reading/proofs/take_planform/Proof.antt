@@ -14,7 +14,5 @@ pub take-planform-spec : {M : Type 1} → statement M
 take-planform-spec =
     tie.close
     (tie.spec
-    (λ c. search needs)
-    (λ c κs. search needs)
-    (λ c. search needs)
+    (λ c. search needs) (λ c κs. search needs) (λ c. search needs)
     returns)

@@ -48,10 +48,12 @@ returns c =
     let count = planform .before .before .before .before in
     let limit = count .before .before .before .before .before in
     let m = limit .before .before .before .before .before .pre in (
-      set-taken _ m (limit .take-text .ensures) (count .take-text2 .ensures) (planform .take-planform .ensures) (thickness .take-text3 .ensures)
+      set-taken _ m (limit .take-text .ensures) (count .take-text2 .ensures) (planform .take-planform .ensures)
+          (thickness .take-text3 .ensures)
           (section .take-one-of .ensures) (between .take-text4 .ensures) (tab .take-optional .ensures) (fillet .take-optional2 .ensures)
           (radius .take-text5 .ensures) (density .take-density .ensures) (end .take-text6 .ensures),
-      set-parts _ m (limit .take-text .ensures) (count .take-text2 .ensures) (planform .take-planform .ensures) (thickness .take-text3 .ensures)
+      set-parts _ m (limit .take-text .ensures) (count .take-text2 .ensures) (planform .take-planform .ensures)
+          (thickness .take-text3 .ensures)
           (section .take-one-of .ensures) (between .take-text4 .ensures) (tab .take-optional .ensures) (fillet .take-optional2 .ensures)
           (radius .take-text5 .ensures) (density .take-density .ensures) (end .take-text6 .ensures),
     )
@@ -60,25 +62,9 @@ pub take-set-spec : {M : Type 1} → statement M
 take-set-spec =
     tie.close
     (tie.spec
-    (λ c. search needs)
-    (λ c κs. search needs)
-    (λ c. search needs)
-    (λ c κs. search needs)
-    (λ c κs. search needs)
-    (λ c. search needs)
-    (λ c κs. search needs)
-    (λ c. search needs)
-    (λ c κs. search needs)
-    (λ c. search needs)
-    (λ c κs. search needs)
-    (λ c. search needs)
-    (λ c κs. search needs)
-    (λ c. search needs)
-    (λ c κs. search needs)
-    (λ c. search needs)
-    (λ c κs. search needs)
-    (λ c κs. search needs)
-    (λ c. search needs)
-    (λ c κs. search needs)
+    (λ c. search needs) (λ c κs. search needs) (λ c. search needs) (λ c κs. search needs) (λ c κs. search needs) (λ c. search needs)
+    (λ c κs. search needs) (λ c. search needs) (λ c κs. search needs) (λ c. search needs) (λ c κs. search needs) (λ c. search needs)
+    (λ c κs. search needs) (λ c. search needs) (λ c κs. search needs) (λ c. search needs) (λ c κs. search needs) (λ c κs. search needs)
+    (λ c. search needs) (λ c κs. search needs)
     same-length
     returns)
