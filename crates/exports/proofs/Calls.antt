@@ -1,30 +1,32 @@
 -- What a call promises follows from what its parts wrote, or from a list that has no room. Assumes nothing.
-use mathlib.Core.Path.{_≡_, ap, _∙_}
+use mathlib.Core.Path.{_≡_}
 use mathlib.Core.Bool.{false}
-use mathlib.Core.List.{List}
+use mathlib.Core.List.{List, [], _∷_}
 use Prim.Native.Nat.{ℕ, _≤_, _<_}
 use borrow.Author.Tests.{le-leb, lt-leb}
 use lib.ListN.{length}
 use lib.Ieee.{Float}
 use Rattle.refusals.specs.declared.Verdict.{Verdict}
-use Rattle.refusals.specs.Calls.{CallOf, Does}
+use Rattle.refusals.specs.Calls.{Does}
 use Rattle.bodies.specs.Layout.{bodyNumbers}
 use Rattle.joins.specs.declared.Joined.{Joined}
 use Rattle.joins.specs.Flat.{withBody}
 use Rattle.joins.specs.Joins.{combineOf}
+use Rattle.tubes.specs.declared.ClosingRadius.{ClosingRadius}
+use Rattle.tubes.specs.Closing.{closingOf}
+use Rattle.moments.specs.declared.Moments.{Moments}
 use Rattle.figures.specs.declared.Area.{Area}
 use Rattle.figures.specs.declared.Figures.{Figures}
-use Rattle.figures.specs.Numbered.{figureCounts}
 use Rattle.planform_chords.specs.declared.ChordList.{ChordList}
 use Rattle.drill.specs.declared.Answer.{Answer}
 use Rattle.drill.specs.Drill.{verdictOf, placeNumber, nearestOf}
 use Rattle.planforms.specs.declared.NumberedPlanform.{NumberedPlanform}
 use Rattle.fins.specs.declared.NumberedSet.{NumberedSet}
-use Rattle.requests.specs.Calls.{numberedCall, numberedArea, numberedChords, numberedDrill, bodyVerdict}
+use Rattle.requests.specs.Calls.{numberedCall, numberedArea, numberedChords, numberedDrill, tensorMoments, bodyVerdict}
 use Rattle.refusals.specs.Numbered.{numberIn}
 use Rattle.refusals.specs.Lent.{over, withValues, withCounts, room}
-use Rattle.exports.specs.Calls.{Telling, AnswerCall, ScratchCall, setTelling, SetCall, areaNumbers, areaCounts, areaTelling, AreaCall}
-use Rattle.exports.specs.Calls.{chordCounts, ChordsCall, DrillCall, JoinCall, CheckCall}
+use Rattle.figures.specs.Numbered.{figureCounts}
+use Rattle.exports.specs.Calls.{SetCall, areaNumbers, areaCounts, AreaCall, chordCounts, ChordsCall, DrillCall, BodyCall, ClosingCall, JoinCall, momentsNumbers, MomentsCall, CheckCall}
 use Rattle.refusals.proofs.Rooms.{has-room, few-figures, few-counts}
 use Rattle.limits.specs.Limits.{mostPoints}
 
@@ -39,55 +41,46 @@ module _ {A : Type 0} {m : ℕ} {figures : List A} {n : ℕ} {counts : List ℕ}
   pub short-counts : m ≤ length figures → length counts < n → NoRoom m figures n counts
   short-counts h k = record { none = few-counts m figures n counts h k }
 
-module _ {A : Type 0} (telling : Telling A) {list : List Float} {counts : List ℕ} where
-  -- an answer with figures
-  module _ {asked : A} where
-    pub answer-refused : NoRoom (telling .figuresRoom) list (telling .countsRoom) counts →
-        AnswerCall telling asked list counts 18 list counts
-    answer-refused short = let none = short .none in record { returned = rw none; written = rw none; counted = rw none }
+module _ {set : NumberedSet} {points : List Float} {L : ℕ} {scratch body : List Float} {counts : List ℕ} where
+  pub set-refused : NoRoom bodyNumbers body 4 counts → SetCall set points L scratch body counts 18 scratch body counts
+  set-refused short = let none = short .none in record { returned = rw none; figures = rw none; counted = rw none; lent = rw none }
 
-    pub answer-told : telling .figuresRoom ≤ length list → telling .countsRoom ≤ length counts →
-        {a : A} {r : ℕ} {list' : List Float} {counts' : List ℕ} →
-        a ≡ asked → list' ≡ telling .figures a list → counts' ≡ telling .counts a counts → r ≡ numberIn (telling .verdict a) →
-        AnswerCall telling asked list counts r list' counts'
-    answer-told h k e b c n =
-        let fits = has-room (telling .figuresRoom) list (telling .countsRoom) counts h k in
-        record { returned = rw (fits, ← e) n; written = rw (fits, ← e) b; counted = rw (fits, ← e) c }
+  -- `read` is the set as the code has it
+  pub set-written : bodyNumbers ≤ length body → 4 ≤ length counts → {read : NumberedSet} {f : Figures} {r : ℕ} {scratch' body' : List Float} {counts' : List ℕ} →
+      read ≡ set → Does (numberedCall read points L (length scratch)) f scratch scratch' →
+      body' ≡ withBody body 0 (f .body) → counts' ≡ figureCounts f counts → r ≡ numberIn (f .verdict) →
+      SetCall set points L scratch body counts r scratch' body' counts'
+  set-written h k same e b c n =
+      let fits = has-room bodyNumbers body 4 counts h k in
+      record {
+        returned = rw (fits, ← same, ← (e .0)) n;
+        figures = rw (fits, ← same, ← (e .0)) b;
+        counted = rw (fits, ← same, ← (e .0)) c;
+        lent = rw (fits, ← same) (e .1);
+      }
 
-  -- one that is worked in a scratch, by a call that is the one asked for
-  module _ {asked : CallOf A} {scratch : List Float} where
-    pub scratch-refused : NoRoom (telling .figuresRoom) list (telling .countsRoom) counts →
-        ScratchCall telling asked scratch list counts 18 scratch list counts
-    scratch-refused short = let none = short .none in record { told = answer-refused short; lent = rw none }
+module _ {planform : NumberedPlanform} {points : List Float} {L : ℕ} {scratch area : List Float} {counts : List ℕ} where
+  pub area-refused : NoRoom 3 area 4 counts → AreaCall planform points L scratch area counts 18 scratch area counts
+  area-refused short = let none = short .none in record { returned = rw none; figures = rw none; counted = rw none; lent = rw none }
 
-    pub scratch-told : telling .figuresRoom ≤ length list → telling .countsRoom ≤ length counts →
-        {call : CallOf A} {a : A} {r : ℕ} {scratch' list' : List Float} {counts' : List ℕ} →
-        call ≡ asked → Does call a scratch scratch' → list' ≡ telling .figures a list → counts' ≡ telling .counts a counts →
-        r ≡ numberIn (telling .verdict a) → ScratchCall telling asked scratch list counts r scratch' list' counts'
-    scratch-told h k same e b c n =
-        let fits = has-room (telling .figuresRoom) list (telling .countsRoom) counts h k in
-        record { told = answer-told h k (e .0 ∙ ap (λ (x : CallOf A). x .answer) same) b c n; lent = rw (fits, ← same) (e .1) }
-
--- what is worked is the set, or the planform, that is read of the numbers handed in
-module _ (points : List Float) (L : ℕ) (scratch : List Float) {list : List Float} {counts : List ℕ} where
-  pub set-told : bodyNumbers ≤ length list → 4 ≤ length counts →
-      {set read : NumberedSet} {f : Figures} {r : ℕ} {scratch' list' : List Float} {counts' : List ℕ} →
-      read ≡ set → Does (numberedCall read points L (length scratch)) f scratch scratch' → list' ≡ withBody list 0 (f .body) →
-      counts' ≡ figureCounts f counts → r ≡ numberIn (f .verdict) → SetCall set points L scratch list counts r scratch' list' counts'
-  set-told h k same = scratch-told setTelling h k (ap (λ (x : NumberedSet). numberedCall x points L (length scratch)) same)
-
-  pub area-told : 3 ≤ length list → 4 ≤ length counts →
-      {planform read : NumberedPlanform} {a : Area} {r : ℕ} {scratch' list' : List Float} {counts' : List ℕ} →
-      read ≡ planform → Does (numberedArea read points L (length scratch)) a scratch scratch' → list' ≡ over (areaNumbers a) list →
-      counts' ≡ areaCounts a counts → r ≡ numberIn (a .verdict) → AreaCall planform points L scratch list counts r scratch' list' counts'
-  area-told h k same = scratch-told areaTelling h k (ap (λ (x : NumberedPlanform). numberedArea x points L (length scratch)) same)
+  pub area-written : 3 ≤ length area → 4 ≤ length counts → {read : NumberedPlanform} {a : Area} {r : ℕ} {scratch' area' : List Float} {counts' : List ℕ} →
+      read ≡ planform → Does (numberedArea read points L (length scratch)) a scratch scratch' →
+      area' ≡ over (areaNumbers a) area → counts' ≡ areaCounts a counts → r ≡ numberIn (a .verdict) →
+      AreaCall planform points L scratch area counts r scratch' area' counts'
+  area-written h k same e b c n =
+      let fits = has-room 3 area 4 counts h k in
+      record {
+        returned = rw (fits, ← same, ← (e .0)) n;
+        figures = rw (fits, ← same, ← (e .0)) b;
+        counted = rw (fits, ← same, ← (e .0)) c;
+        lent = rw (fits, ← same) (e .1);
+      }
 
 module _ {planform : NumberedPlanform} {points : List Float} {h : Float} {ends : List Float} {counts : List ℕ} where
   pub chords-refused : NoRoom mostPoints ends 3 counts → ChordsCall planform points h ends counts 18 ends counts
   chords-refused short = let none = short .none in record { returned = rw none; listed = rw none; counted = rw none }
 
-  pub chords-written : mostPoints ≤ length ends → 3 ≤ length counts →
-      {read : NumberedPlanform} {l : ChordList} {r : ℕ} {ends' : List Float} {counts' : List ℕ} →
+  pub chords-written : mostPoints ≤ length ends → 3 ≤ length counts → {read : NumberedPlanform} {l : ChordList} {r : ℕ} {ends' : List Float} {counts' : List ℕ} →
       read ≡ planform → Does (numberedChords read points h) l ends ends' → counts' ≡ chordCounts l counts → r ≡ numberIn (l .verdict) →
       ChordsCall planform points h ends counts r ends' counts'
   chords-written k j same d c n =
@@ -110,6 +103,17 @@ module _ {planform : NumberedPlanform} {points : List Float} {x height : Float} 
       let fits = le-leb 4 (length counts) h in
       record { returned = rw (fits, ← same, ← e, ← f) n; counted = rw (fits, ← same, ← e, ← f, ← g, ← k) c }
 
+module _ {count : ℕ} {bodyRadius : Float} {radius : List Float} {values : List ℕ} where
+  pub closing-refused : NoRoom 1 radius 2 values → ClosingCall count bodyRadius radius values 18 radius values
+  closing-refused short = let none = short .none in record { returned = rw none; figures = rw none; counted = rw none }
+
+  pub closing-written : 1 ≤ length radius → 2 ≤ length values → {f : ClosingRadius} {r : ℕ} {radius' : List Float} {values' : List ℕ} →
+      f ≡ closingOf bodyRadius count → radius' ≡ over (f .«radius_m» ∷ []) radius → values' ≡ withValues values (f .verdict) →
+      r ≡ numberIn (f .verdict) → ClosingCall count bodyRadius radius values r radius' values'
+  closing-written h k e b c n =
+      let fits = has-room 1 radius 2 values h k in
+      record { returned = rw (fits, ← e) n; figures = rw (fits, ← e) b; counted = rw (fits, ← e) c }
+
 module _ {bodies body : List Float} where
   pub join-refused : length body < bodyNumbers → JoinCall bodies body 18 body
   join-refused h = let none = lt-leb bodyNumbers (length body) h in record { returned = rw none; figures = rw none }
@@ -118,6 +122,28 @@ module _ {bodies body : List Float} where
       body' ≡ withBody body 0 (j .body) → r ≡ numberIn (j .verdict) → JoinCall bodies body r body'
   join-written h e b n =
       let fits = le-leb bodyNumbers (length body) h in record { returned = rw (fits, ← e) n; figures = rw (fits, ← e) b }
+
+module _ {asked : Joined} {body : List Float} {values : List ℕ} where
+  pub body-refused : NoRoom bodyNumbers body 2 values → BodyCall asked body values 18 body values
+  body-refused short = let none = short .none in record { returned = rw none; figures = rw none; counted = rw none }
+
+  pub body-written : bodyNumbers ≤ length body → 2 ≤ length values → {j : Joined} {r : ℕ} {body' : List Float} {values' : List ℕ} →
+      j ≡ asked → body' ≡ withBody body 0 (j .body) → values' ≡ withValues values (j .verdict) →
+      r ≡ numberIn (j .verdict) → BodyCall asked body values r body' values'
+  body-written h k e b c n =
+      let fits = has-room bodyNumbers body 2 values h k in
+      record { returned = rw (fits, ← e) n; figures = rw (fits, ← e) b; counted = rw (fits, ← e) c }
+
+module _ {numbers moments : List Float} {values : List ℕ} where
+  pub moments-refused : NoRoom 3 moments 2 values → MomentsCall numbers moments values 18 moments values
+  moments-refused short = let none = short .none in record { returned = rw none; figures = rw none; counted = rw none }
+
+  pub moments-written : 3 ≤ length moments → 2 ≤ length values → {m : Moments} {r : ℕ} {moments' : List Float} {values' : List ℕ} →
+      m ≡ tensorMoments numbers → moments' ≡ over (momentsNumbers m) moments → values' ≡ withValues values (m .verdict) →
+      r ≡ numberIn (m .verdict) → MomentsCall numbers moments values r moments' values'
+  moments-written h k e b c n =
+      let fits = has-room 3 moments 2 values h k in
+      record { returned = rw (fits, ← e) n; figures = rw (fits, ← e) b; counted = rw (fits, ← e) c }
 
 module _ {numbers : List Float} {values : List ℕ} where
   pub check-refused : length values < 2 → CheckCall numbers values 18 values

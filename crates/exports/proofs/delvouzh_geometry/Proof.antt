@@ -1,15 +1,14 @@
 -- `exports::delvouzh_geometry` meets its contract: there is no room, or the figures are written. Assumes nothing.
 use borrow.Author.Needs.{needs}
-use Rattle.exports.specs.Calls.{areaTelling}
-use Rattle.exports.proofs.Calls.{short-figures, short-counts, scratch-refused, area-told}
+use Rattle.exports.proofs.Calls.{short-figures, short-counts, area-refused, area-written}
 use Rattle.exports.proofs.delvouzh_geometry.Statement.{statement}
 use Rattle.exports.proofs.delvouzh_geometry.Tie as tie
 
 returns : tie.Need-returns
-returns c = scratch-refused areaTelling (short-figures (c .if1 .taken))
+returns c = area-refused (short-figures (c .if1 .taken))
 
 returns-2 : tie.Need-returns-2
-returns-2 c = scratch-refused areaTelling (short-counts (c .before .if1 .left) (c .if2 .taken))
+returns-2 c = area-refused (short-counts (c .before .if1 .left) (c .if2 .taken))
 
 returns-3 : tie.Need-returns-3
 returns-3 c =
@@ -17,9 +16,7 @@ returns-3 c =
     let b = w .before .before .before .before in
     let f = b .before .before .before .before in
     let s = f .before .before in
-    area-told _ _ _ (s .before .before .if1 .left) (s .before .if2 .left)
-    (s .listed-planform .ensures)
-    (f .area-figures .ensures) (b .write-three .ensures) (w .write-counts .ensures) (c .verdict-number .ensures)
+    area-written (s .before .before .if1 .left) (s .before .if2 .left) (s .listed-planform .ensures) (f .area-figures .ensures) (b .write-three .ensures) (w .write-counts .ensures) (c .verdict-number .ensures)
 
 pub delvouzh-geometry-spec : {M : Type 1} → statement M
 delvouzh-geometry-spec =
