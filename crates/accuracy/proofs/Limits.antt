@@ -69,7 +69,8 @@ lengths root tip span sweep scale b d D most r s q ur ut us =
       height-ranges = ranges-for 20 20 (sizeOf span) scale (q .is-positive)
           (ranges-to 20 span 6 20 (omega arith) (omega arith) (s .length .below) (s .above))
           (ranges-to 20 scale 7 20 (omega arith) (omega arith) (q .below) (q .above));
-      ranges = record { real = D; least = least-of root b d (positive-of root 20 (r .not-minus) (r .above)) (r .above) ur; most = omega arith };
+      ranges = record
+          { real = D; least = least-of root b d (positive-of root 20 (r .not-minus) (r .above)) (r .above) ur; most = omega arith };
       root-under = most-under root b d ur;
       tip-under = most-under tip b d ut;
       sweep-under = most-under sweep b d us;

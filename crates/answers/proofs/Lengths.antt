@@ -5,7 +5,8 @@ use lib.ListN.{length}
 use Rattle.tokens.specs.Text.{text, codes}
 use Rattle.answers.specs.declared.Reply.{Reply}
 use Rattle.answers.specs.declared.Shape.{Shape}
-use Rattle.answers.specs.declared.Shape.the-variants.{Figures, Area, Joined, Ring, Body, Closing, Inside, Edge, Outside, Moments, Sound, Taken, Idle, More, Done, DoneRefused, Progress, Refused}
+use Rattle.answers.specs.declared.Shape.the-variants.{Figures, Area, Joined, Ring, Body, Closing, Inside, Edge, Outside, Moments}
+use Rattle.answers.specs.declared.Shape.the-variants.{Sound, Taken, Idle, More, Done, DoneRefused, Progress, Refused}
 use Rattle.answers.specs.Filled.{room}
 use Rattle.answers.specs.Answers.{answerBytes, template, textOf}
 use Rattle.answers.proofs.Filling.{filled-fits}

@@ -7,7 +7,7 @@ use libc::STDERR_FILENO;
 use libc::STDOUT_FILENO;
 use templates::same_bytes;
 
-pub enum Asked {
+pub enum Command {
     Run,
     Help,
     Version,
@@ -15,26 +15,26 @@ pub enum Asked {
 }
 
 // What is asked, by how many arguments there are, the program's name among them, and by the first after the name.
-fn asked_by(count: usize, word: &[u8]) -> Asked
+fn asked_by(count: usize, word: &[u8]) -> Command
     ensures { λ r. ⌜ r ≡ askedBy count (now (word .entry)) ⌝ }
 {
     if count < 2 {
-        return Asked::Run;
+        return Command::Run;
     }
     if 2 < count {
-        return Asked::Unknown;
+        return Command::Unknown;
     }
     if same_bytes(word, b"--help") {
-        return Asked::Help;
+        return Command::Help;
     }
     if same_bytes(word, b"--version") {
-        return Asked::Version;
+        return Command::Version;
     }
-    Asked::Unknown
+    Command::Unknown
 }
 
 // What the program's own arguments ask. Of a word longer than the array no byte counts, and so it is unknown.
-pub fn read() -> Asked {
+pub fn read() -> Command {
     let mut word = [0u8; 16];
     let n = os::arg(1, &mut word);
     let count = os::arg_count();

@@ -39,7 +39,8 @@ module _ (m : Marks) (most : ℕ → ℕ) (fits : (b : ℕ) (figures : List Floa
         (i : ℕ) : Type 0 where
       pub done : List ℕ
       pub put : Appended before n done out (p .n)
-      pub whole : filled m template figures counts ≡ done ++ filled m (drop i template) (drop (p .figures) figures) (drop (p .counts) counts)
+      pub whole : filled m template figures counts
+          ≡ done ++ filled m (drop i template) (drop (p .figures) figures) (drop (p .counts) counts)
       pub has-room : p .n + room most (drop i template) ≤ length out
       pub within : i ≤ length template
       pub figures-left : p .figures ≤ length figures
@@ -80,7 +81,8 @@ module _ (m : Marks) (most : ℕ → ℕ) (fits : (b : ℕ) (figures : List Floa
               done = v .done ++ piece;
               put = then before out after n (p .n) (r .n) (v .done) piece (v .put) (u .put);
               whole =
-                  v .whole ∙ ap (λ (t : List ℕ). v .done ++ t) (filled-at template i h (drop (p .figures) figures) (drop (p .counts) counts))
+                  v .whole ∙ ap (λ (t : List ℕ). v .done ++ t)
+                  (filled-at template i h (drop (p .figures) figures) (drop (p .counts) counts))
                   ∙ sym (append-assoc (v .done) piece _)
                   ∙ ap (λ (t : List ℕ). (v .done ++ piece) ++ t)
                   (ap (λ (fs : List Float). filled m (drop (i + 1) template) fs

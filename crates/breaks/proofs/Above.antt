@@ -22,7 +22,7 @@ use Rattle.planforms.specs.declared.Planform.the-variants.{Trapezoid, Ellipse, 
 use Rattle.sorting.specs.Sorted.{belowAll, insert, sorted, Ascending, Rising, Each, NoNan}
 use Rattle.sorting.proofs.Sorted.{sorted-ascends, sorted-each, sorted-no-nan}
 use Rattle.limits.specs.Limits.{mostPoints}
-use Rattle.breaks.specs.declared.Standing.{Standing}
+use Rattle.breaks.specs.declared.RankedHeight.{RankedHeight}
 use Rattle.breaks.specs.Breaks.{heights, outlineHeights, everyY, once, allHeights, breakHeights, placeAbove, leastAbove, foundWith}
 use Rattle.breaks.proofs.Strips.{below-first, break-heights-rise, heights-length, zero-itself}
 
@@ -43,7 +43,7 @@ unfolding placeAbove
 found-with h x l = go (lt h x && not (lt (at l (placeAbove h l)) x))
   where
     go : (b : Bool)
-        → _≡_ {A = Standing}
+        → _≡_ {A = RankedHeight}
         (cond b (record { place = 0; height = x }) (record { place = placeAbove h l + 1; height = at l (placeAbove h l) }))
         (record { place = cond b 0 (suc (placeAbove h l)); height = at (x ∷ l) (cond b 0 (suc (placeAbove h l))) })
     go true = refl
@@ -58,10 +58,10 @@ place-within h (x ∷ l) = go (lt h x && not (lt (at l (placeAbove h l)) x)) (pl
     go true p = omega arith
     go false p = omega (arith, p)
 
-pub place-most : (h x : Float) (found : Standing) → foundWith h x found .place ≤ found .place + 1
+pub place-most : (h x : Float) (found : RankedHeight) → foundWith h x found .place ≤ found .place + 1
 place-most h x found = go (lt h x && not (lt (found .height) x))
   where
-    go : (b : Bool) → (cond {A = Standing} b (record { place = 0; height = x })
+    go : (b : Bool) → (cond {A = RankedHeight} b (record { place = 0; height = x })
         (record { place = found .place + 1; height = found .height })) .place ≤ found .place + 1
     go true = omega arith
     go false = omega arith
@@ -327,7 +327,7 @@ no-number : bits 0 ⊘ bits 0 ≡ nan
 unfolding ofBits div
 no-number = refl
 
-pub none-found : (h : Float) → _≡_ {A = Standing} (record { place = 0; height = bits 0 ⊘ bits 0 }) (leastAbove h [])
+pub none-found : (h : Float) → _≡_ {A = RankedHeight} (record { place = 0; height = bits 0 ⊘ bits 0 }) (leastAbove h [])
 unfolding placeAbove
 none-found h = ap (λ (x : Float). record { place = 0; height = x }) no-number
 
@@ -372,12 +372,12 @@ pub none-behind : (planform : Planform) (points : List Float) (i : ℕ) → ever
 none-behind planform points i e h = no-number ∙ sym (ap (λ (l : List Float). at l (i - 2)) e) ∙ from-two planform points i h
 
 -- point by point
-pub begins : (points : List Float) (h : Float) (found : Standing) → found ≡ record { place = 0; height = bits 0 ⊘ bits 0 }
+pub begins : (points : List Float) (h : Float) (found : RankedHeight) → found ≡ record { place = 0; height = bits 0 ⊘ bits 0 }
     → found ≡ leastAbove h (heights points 0)
 unfolding heights
 begins points h found e = e ∙ none-found h
 
-pub one-point : (points : List Float) (h : Float) (i : ℕ) (found after : Standing) → found ≡ leastAbove h (heights points i)
+pub one-point : (points : List Float) (h : Float) (i : ℕ) (found after : RankedHeight) → found ≡ leastAbove h (heights points i)
     → after ≡ foundWith h (heightAt points i) found
     → after ≡ leastAbove h (heights points (i + 1))
 unfolding heights
@@ -385,19 +385,20 @@ one-point points h i found after f e =
     rw (add-one i)
     (e ∙ ap (foundWith h (heightAt points i)) f ∙ found-with h (heightAt points i) (heights points i))
 
-pub place-few : (points : List Float) (h : Float) (i : ℕ) (found : Standing) → found ≡ leastAbove h (heights points i) → found .place ≤ i
+pub place-few : (points : List Float) (h : Float) (i : ℕ) (found : RankedHeight) → found ≡ leastAbove h (heights points i)
+    → found .place ≤ i
 place-few points h i found f =
     let p = place-within h (heights points i) in
     let n = heights-length points i in
-    omega (arith, p, n, ap (λ (x : Standing). x .place) f)
+    omega (arith, p, n, ap (λ (x : RankedHeight). x .place) f)
 
 -- the span and 0 in front of the heights of the points
-module _ (planform : Planform) (points : List Float) (h span : Float) (s : span ≡ spanOf planform points) (found with-span : Standing)
+module _ (planform : Planform) (points : List Float) (h span : Float) (s : span ≡ spanOf planform points) (found with-span : RankedHeight)
     (f : found ≡ leastAbove h (everyY planform points)) (g : with-span ≡ foundWith h span found) where
   spanned : with-span ≡ leastAbove h (spanOf planform points ∷ everyY planform points)
   spanned = g ∙ ap₂ (foundWith h) s f ∙ found-with h (spanOf planform points) (everyY planform points)
 
-  pub both-with : (r : Standing) → r ≡ foundWith h (bits 0) with-span → r ≡ leastAbove h (allHeights planform points)
+  pub both-with : (r : RankedHeight) → r ≡ foundWith h (bits 0) with-span → r ≡ leastAbove h (allHeights planform points)
   both-with r e = e ∙ ap (foundWith h (bits 0)) spanned ∙ found-with h (bits 0) (spanOf planform points ∷ everyY planform points)
 
 above-number : (x y : Float) → lt x y ≡ true → isNan y ≡ false

@@ -22,7 +22,7 @@ pub struct BreakHeights {
 }
 
 // A height and where it stands among others.
-pub struct Standing {
+pub struct RankedHeight {
     pub place: usize,
     pub height: f64,
 }
@@ -162,7 +162,7 @@ fn outline_height_at(points: &[f64], place: usize) -> f64
 }
 
 // The least of all heights above h, where there is one: the break height that follows h, found without sorting.
-pub fn least_above(planform: Planform, points: &[f64], span: f64, h: f64) -> Standing
+pub fn least_above(planform: Planform, points: &[f64], span: f64, h: f64) -> RankedHeight
     requires { ⌜ span ≡ spanOf planform (now points) ⌝ }
     ensures { λ r. ⌜ r ≡ leastAbove h (allHeights planform (now (points .entry))) ⌝ }
 {
@@ -171,7 +171,7 @@ pub fn least_above(planform: Planform, points: &[f64], span: f64, h: f64) -> Sta
     nearer(h, 0.0, found)
 }
 
-fn least_of_points(planform: Planform, points: &[f64], h: f64) -> Standing
+fn least_of_points(planform: Planform, points: &[f64], h: f64) -> RankedHeight
     ensures { λ r. ⌜ (r ≡ leastAbove h (everyY planform (now (points .entry)))) × (r .place ≤ mostPoints) ⌝ }
 {
     match planform {
@@ -181,25 +181,25 @@ fn least_of_points(planform: Planform, points: &[f64], h: f64) -> Standing
             tip_chord_m: _,
             span_m: _,
             sweep_m: _,
-        } => Standing {
+        } => RankedHeight {
             place: 0,
             height: 0.0 / 0.0,
         },
         Planform::Ellipse {
             root_chord_m: _,
             span_m: _,
-        } => Standing {
+        } => RankedHeight {
             place: 0,
             height: 0.0 / 0.0,
         },
     }
 }
 
-fn least_of_outline(points: &[f64], h: f64) -> Standing
+fn least_of_outline(points: &[f64], h: f64) -> RankedHeight
     ensures { λ r. ⌜ (r ≡ leastAbove h (outlineHeights (now (points .entry)))) × (r .place ≤ mostPoints) ⌝ }
 {
     let n = points.len() / 2;
-    let mut found = Standing {
+    let mut found = RankedHeight {
         place: 0,
         height: 0.0 / 0.0,
     };
@@ -215,17 +215,17 @@ fn least_of_outline(points: &[f64], h: f64) -> Standing
 }
 
 // What is found once x stands in front: x, where it is above h and nothing found lies below it.
-fn nearer(h: f64, x: f64, found: Standing) -> Standing
+fn nearer(h: f64, x: f64, found: RankedHeight) -> RankedHeight
     requires { ⌜ found .place < 2 ^ 32 ⌝ }
     ensures { λ r. ⌜ r ≡ foundWith h x found ⌝ }
 {
     if (h < x) & !(found.height < x) {
-        return Standing {
+        return RankedHeight {
             place: 0,
             height: x,
         };
     }
-    Standing {
+    RankedHeight {
         place: found.place + 1,
         height: found.height,
     }

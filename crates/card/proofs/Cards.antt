@@ -42,10 +42,10 @@ use Rattle.jobs.specs.Calls as alone
 use Rattle.jobs.proofs.Writes.{run-no-shorter}
 use Rattle.jobs.proofs.Together as job
 use Rattle.engines.specs.declared.Engine.{Engine}
-use Rattle.engines.specs.declared.Called.{Called}
+use Rattle.engines.specs.declared.EngineReply.{EngineReply}
 use Rattle.engines.specs.declared.Turn.{Turn as Turning}
 use Rattle.engines.specs.declared.Turn.the-variants.{More, Ended}
-use Rattle.engines.specs.declared.Turned.{Turned}
+use Rattle.engines.specs.declared.EngineTurn.{EngineTurn}
 use Rattle.engines.specs.Engines.{holdsJob, nextScreen, turnRow, servedScreen, turnOf, turnedRow, submitOf}
 use Rattle.engines.specs.Calls.{Call, turn, submit, engineBy, afterCalls, EightScreens, jobOf, screenOf, servedOver, holdsOver}
 use Rattle.engines.specs.Calls.{GetsStrip, Serves, engineNow, OnScreen}
@@ -79,7 +79,8 @@ reply-is line a asks m =
     by true = refl
     by false = refl
 
-left-is : (line : List ℕ) (a : Asked) → lineRead line .asked ≡ a → (m : Memory) → leftByLine line m ≡ effectOf a (lineRead line .figures) m .memory
+left-is : (line : List ℕ) (a : Asked) → lineRead line .asked ≡ a → (m : Memory)
+    → leftByLine line m ≡ effectOf a (lineRead line .figures) m .memory
 unfolding leftByLine lineEffect lineRead
 left-is line a asks m =
     by (leb (length line) lineBytes) ∙ ap (λ (x : Asked). effectOf x (lineRead line .figures) m .memory) asks
@@ -94,13 +95,15 @@ set-no-shorter : (set : FinSet) (points : List Float) (L : ℕ) (scratch : List 
     → length scratch ≤ length (setCall set points L (length scratch) .leaves scratch)
 unfolding setCall
 set-no-shorter set points L scratch =
-    run-no-shorter (setCheck set points L (length scratch)) (workedFigures set points L) (λ refusal. refusedFigures refusal 0) (setStrips set points L) scratch
+    run-no-shorter (setCheck set points L (length scratch)) (workedFigures set points L) (λ refusal. refusedFigures refusal 0)
+    (setStrips set points L) scratch
 
 area-no-shorter : (planform : Planform) (points : List Float) (L : ℕ) (scratch : List Float)
     → length scratch ≤ length (areaCall planform points L (length scratch) .leaves scratch)
 unfolding areaCall
 area-no-shorter planform points L scratch =
-    run-no-shorter (areaCheck planform points L (length scratch)) (workedArea planform points L) (λ refusal. refusedArea refusal 0) (areaSeven planform points L) scratch
+    run-no-shorter (areaCheck planform points L (length scratch)) (workedArea planform points L) (λ refusal. refusedArea refusal 0)
+    (areaSeven planform points L) scratch
 
 asked-no-shorter : (a : Asked) (figures : List Float) (m : Memory) → length (m .scratch) ≤ length (effectOf a figures m .memory .scratch)
 unfolding setEffect areaEffect submitEffect densityEffect turnEffect
@@ -174,26 +177,29 @@ refused-other : (r : Refusal) → textOf (refusedReply r) ++ (10 ∷ []) ≡ tex
 unfolding textOf filled text codes
 refused-other r e = let k : _≡_ {A = ℕ} 114 116 = ap second e in let z : ⊥ = omega (arith, k) in z
 
-accepted-if-taken : (v : Verdict) → textOf (plainReply v TakenShape) ++ (10 ∷ []) ≡ textOf (answered TakenShape [] []) ++ (10 ∷ []) → v ≡ Accepted
+accepted-if-taken : (v : Verdict) → textOf (plainReply v TakenShape) ++ (10 ∷ []) ≡ textOf (answered TakenShape [] []) ++ (10 ∷ [])
+    → v ≡ Accepted
 accepted-if-taken Accepted e = refl
 accepted-if-taken (Refused r) e = absurd (refused-other r e)
 
 -- ---- the turn that serves a screen, as a line
 module _ (m : Memory) (long : scratchNumbers ≤ length (m .scratch)) (screen : ℕ) (some : 1 ≤ screen)
     (next : nextScreen (m .engine .screens) ≡ screen) where
-  abbrev Turned· : Turned
-  Turned· = turnOf (m .engine) (length (m .scratch)) .answer
+  abbrev EngineTurn· : EngineTurn
+  EngineTurn· = turnOf (m .engine) (length (m .scratch)) .answer
 
   serves-screen : screen ≡ screenOf (m .engine) (turn (m .scratch))
-  serves-screen = sym next ∙ sym (ap (λ (b : Bool). cond b 0 (nextScreen (m .engine .screens))) (le-ltb (length (m .scratch)) scratchNumbers long))
+  serves-screen = sym next
+      ∙ sym (ap (λ (b : Bool). cond b 0 (nextScreen (m .engine .screens))) (le-ltb (length (m .scratch)) scratchNumbers long))
 
-  turn-replies : (line : List ℕ) → AsksTurn line → (t : Turning) → Turned· .turn ≡ t → Replies line m (turnReply t (turnedRow Turned· .figures))
+  turn-replies : (line : List ℕ) → AsksTurn line → (t : Turning) → EngineTurn· .turn ≡ t
+      → Replies line m (turnReply t (turnedRow EngineTurn· .figures))
   unfolding turnEffect
   turn-replies line t a e =
-      reply-is line Turn t m ∙ ap (λ (x : Turning). textOf (turnReply x (turnedRow Turned· .figures)) ++ (10 ∷ [])) e
+      reply-is line Turn t m ∙ ap (λ (x : Turning). textOf (turnReply x (turnedRow EngineTurn· .figures)) ++ (10 ∷ [])) e
 
   held-after : (line : List ℕ) → AsksTurn line → (b : Bool) → holdsJob (leftByLine line m .engine .screens) screen ≡ b
-      → holdsJob (Turned· .engine .screens) screen ≡ b
+      → holdsJob (EngineTurn· .engine .screens) screen ≡ b
   unfolding turnEffect
   held-after line t b h =
       ap (λ (x : Memory). holdsJob (x .engine .screens) screen) (sym (left-is line Turn t m)) ∙ h
@@ -216,21 +222,22 @@ module _ (before : List (List ℕ)) (submission : List ℕ) (since : List (List 
   abbrev Own· : List alone.Call
   Own· = ownSince before submission since screen set points L
 
-  named : submitOf (Found· .engine) screen set (take (h .writes .count) (lineRead submission .figures)) L ≡ submitOf (Found· .engine) screen set points L
+  named : submitOf (Found· .engine) screen set (take (h .writes .count) (lineRead submission .figures)) L
+      ≡ submitOf (Found· .engine) screen set points L
   named = ap (λ (p : List Float). submitOf (Found· .engine) screen set p L) (h .writes .points-are)
 
   was-taken : isTaken (submitOf (Found· .engine) screen set points L .reply) ≡ true
   unfolding submitEffect isRefused
   was-taken =
       ap (λ (v : Verdict). not (isRefused v))
-      (ap (λ (c : Called). c .reply .verdict) (sym named)
+      (ap (λ (c : EngineReply). c .reply .verdict) (sym named)
       ∙ accepted-if-taken _ (sym (reply-is submission _ (h .writes .asks) Found·) ∙ h .taken))
 
   left-engine : Left· .engine ≡ engineBy (Found· .engine) (submit screen set points L)
   unfolding submitEffect
   left-engine =
       ap (λ (m : Memory). m .engine) (left-is submission _ (h .writes .asks) Found·)
-      ∙ ap (λ (c : Called). c .engine) named
+      ∙ ap (λ (c : EngineReply). c .engine) named
 
   now-is : Now· ≡ leftByLines since Left·
   unfolding leftByLines
@@ -268,21 +275,22 @@ module _ (before : List (List ℕ)) (submission : List ℕ) (since : List (List 
     some : 1 ≤ screen
     some = in-eight screen (holds-is-screen (Now· .engine .screens) screen (h .holds-now)) .0
 
-    abbrev Turned·· : Turned
-    Turned·· = turnOf (Now· .engine) (length (Now· .scratch)) .answer
+    abbrev EngineTurn·· : EngineTurn
+    EngineTurn·· = turnOf (Now· .engine) (length (Now· .scratch)) .answer
 
-    serves : Serves screen set points L Own· Turned··
+    serves : Serves screen set points L Own· EngineTurn··
     serves =
         subst
-        (λ (e : Engine). screen ≡ screenOf e (turn (Now· .scratch)) → Serves screen set points L Own· (turnOf e (length (Now· .scratch)) .answer))
+        (λ (e : Engine). screen ≡ screenOf e (turn (Now· .scratch))
+        → Serves screen set points L Own· (turnOf e (length (Now· .scratch)) .answer))
         (sym engine-now) (on .next-turn (Now· .scratch)) (serves-screen Now· long screen some next)
 
-    abbrev Replied· : (line : List ℕ) → AsksTurn line → (t : Turning) → Turned·· .turn ≡ t
-        → Replies line Now· (turnReply t (turnedRow Turned·· .figures))
+    abbrev Replied· : (line : List ℕ) → AsksTurn line → (t : Turning) → EngineTurn·· .turn ≡ t
+        → Replies line Now· (turnReply t (turnedRow EngineTurn·· .figures))
     Replied· = turn-replies Now· long screen some next
 
     abbrev Held· : (line : List ℕ) → AsksTurn line → (b : Bool) → holdsJob (leftByLine line Now· .engine .screens) screen ≡ b
-        → holdsJob (Turned·· .engine .screens) screen ≡ b
+        → holdsJob (EngineTurn·· .engine .screens) screen ≡ b
     Held· = held-after Now· long screen some next
 
     more-replied : (line : List ℕ) → AsksTurn line → holdsJob (leftByLine line Now· .engine .screens) screen ≡ true
@@ -295,8 +303,8 @@ module _ (before : List (List ℕ)) (submission : List ℕ) (since : List (List 
     card-replied line t free card c =
         let long-enough = enough L scratchNumbers limit-checked (omega arith) in
         let ended = serves .ends-as-fresh (Held· line t false free) scratchNumbers long-enough in
-        let told : turnedRow Turned·· .figures ≡ card =
-        ap (λ (x : Turning). turnRow x (jobOf (Turned·· .engine) (servedScreen x)) .figures) (ended .0) ∙ ended .1 ∙ sym c in
+        let told : turnedRow EngineTurn·· .figures ≡ card =
+        ap (λ (x : Turning). turnRow x (jobOf (EngineTurn·· .engine) (servedScreen x)) .figures) (ended .0) ∙ ended .1 ∙ sym c in
         Replied· line t (Ended screen) (ended .0) ∙ ap (λ (f : Figures). textOf (doneReply screen (f .verdict) f) ++ (10 ∷ [])) told
 
   pub card-on-lines : CardOnLines before submission since screen set points L

@@ -35,13 +35,19 @@ use Rattle.fins.specs.Numbered.{tabOf, numberedSet}
 use Rattle.templates.specs.Matching.{Reading, failed, reading, takeText, takeEach}
 use Rattle.templates.proofs.F64s.{Held, text-taken}
 use Rattle.reading.specs.declared.Asked.{Asked}
-use Rattle.reading.specs.declared.Asked.the-variants.{Refused, Set, Area, Join, Moments, Check, Tubes, Closing, Drill, Copied, Placed, Moved, Without, Submit, Density, Turn, Progress}
+use Rattle.reading.specs.declared.Asked.the-variants.{Refused, Set, Area, Join, Moments, Check, Tubes, Closing, Drill, Copied, Placed}
+use Rattle.reading.specs.declared.Asked.the-variants.{Moved, Without, Submit, Density, Turn, Progress}
 use Rattle.reading.specs.declared.Form.{Form}
-use Rattle.reading.specs.declared.Form.the-variants.{Set as SetForm, Area as AreaForm, Join as JoinForm, Moments as MomentsForm, Check as CheckForm, Tubes as TubesForm, Closing as ClosingForm, Drill as DrillForm}
-use Rattle.reading.specs.declared.Form.the-variants.{Copied as CopiedForm, Placed as PlacedForm, Moved as MovedForm, Without as WithoutForm, Submit as SubmitForm, Density as DensityForm, Turn as TurnForm, Progress as ProgressForm, NoForm}
+use Rattle.reading.specs.declared.Form.the-variants.{Set as SetForm, Area as AreaForm, Join as JoinForm, Moments as MomentsForm}
+use Rattle.reading.specs.declared.Form.the-variants.{Check as CheckForm, Tubes as TubesForm, Closing as ClosingForm, Drill as DrillForm}
+use Rattle.reading.specs.declared.Form.the-variants.{Copied as CopiedForm, Placed as PlacedForm, Moved as MovedForm, Without as WithoutForm}
+use Rattle.reading.specs.declared.Form.the-variants.{Submit as SubmitForm, Density as DensityForm, Turn as TurnForm}
+use Rattle.reading.specs.declared.Form.the-variants.{Progress as ProgressForm, NoForm}
 use Rattle.reading.specs.declared.SetParts.{SetParts}
 use Rattle.reading.specs.Parts.{numberIn, figuresIn, endIn, takePlanform, takeDensity, takeSet, setPartsOf, setOf}
-use Rattle.reading.specs.Lines.{Read, pickRead, refusedRead, start, ended, setAsked, submitAsked, areaAsked, drillAsked, tubesAsked, densityAsked, setRead, submitRead, areaRead, drillRead, tubesRead, closingRead, progressRead, densityRead, plainRead, listRead, formNamed, formRead, wordOf, lineRead}
+use Rattle.reading.specs.Lines.{Read, pickRead, refusedRead, start, ended, setAsked, submitAsked, areaAsked, drillAsked, tubesAsked}
+use Rattle.reading.specs.Lines.{densityAsked, setRead, submitRead, areaRead, drillRead, tubesRead, closingRead, progressRead, densityRead}
+use Rattle.reading.specs.Lines.{plainRead, listRead, formNamed, formRead, wordOf, lineRead}
 use Rattle.reading.proofs.F64s.{figures-f64, start-f64, set-f64}
 use Rattle.figures.proofs.Owned.{SetF64}
 use Rattle.card.specs.Cards.{WritesSet}
@@ -50,7 +56,8 @@ abbrev KnownPlanform : List Float → NumberedPlanform → Type 0
 KnownPlanform lengths noPlanform = Unit {0}
 KnownPlanform lengths (planformKnown p) = PlanformF64 p lengths
 
-planform-f64 : (number : ℕ) (figures points : List Float) → AllF64 figures → AllF64 points → KnownPlanform points (planformOf number figures)
+planform-f64 : (number : ℕ) (figures points : List Float) → AllF64 figures → AllF64 points
+    → KnownPlanform points (planformOf number figures)
 unfolding planformOf
 planform-f64 number figures points f g = by (eqb number 1) (eqb number 2) (eqb number 3)
   where
@@ -123,11 +130,13 @@ at-end (reading [] t) a e = by (t .spoiled)
     by false = e
 at-end (reading (w ∷ ts) t) a e = tt
 
-set-asked : (limit points : ℕ) (figures : List Float) (s : NumberedSet) → KnownSet (take points figures) s → AskedF64 (setAsked limit points s) figures
+set-asked : (limit points : ℕ) (figures : List Float) (s : NumberedSet) → KnownSet (take points figures) s
+    → AskedF64 (setAsked limit points s) figures
 set-asked limit points figures (setKnown set) e = e
 set-asked limit points figures noSet e = tt
 
-submit-asked : (screen limit points : ℕ) (figures : List Float) (s : NumberedSet) → KnownSet (take points figures) s → AskedF64 (submitAsked screen limit points s) figures
+submit-asked : (screen limit points : ℕ) (figures : List Float) (s : NumberedSet) → KnownSet (take points figures) s
+    → AskedF64 (submitAsked screen limit points s) figures
 submit-asked screen limit points figures (setKnown set) e = e
 submit-asked screen limit points figures noSet e = tt
 
@@ -164,7 +173,8 @@ set-read line =
     let all = takeSet (start line) in
     let figures = figuresIn all in
     let held = figures-f64 all (set-f64 (start line) (start-f64 line)) in
-    at-end all (setAsked (p .limit) (p .points) (setOf p figures)) (set-asked (p .limit) (p .points) figures (setOf p figures) (parts-f64 p figures held))
+    at-end all (setAsked (p .limit) (p .points) (setOf p figures))
+    (set-asked (p .limit) (p .points) figures (setOf p figures) (parts-f64 p figures held))
 
 submit-read : (line : List ℕ) → ReadF64 (submitRead line)
 unfolding submitRead
@@ -173,7 +183,8 @@ submit-read line =
     let p = setPartsOf screen in
     let all = takeText (text ")") (takeSet screen) in
     let figures = figuresIn all in
-    let held = figures-f64 all (text-taken (text ")") (takeSet screen) (set-f64 screen (text-taken (text "(submit N") (start line) (start-f64 line)))) in
+    let held = figures-f64 all
+    (text-taken (text ")") (takeSet screen) (set-f64 screen (text-taken (text "(submit N") (start line) (start-f64 line)))) in
     at-end all (submitAsked (numberIn screen) (p .limit) (p .points) (setOf p figures))
     (submit-asked (numberIn screen) (p .limit) (p .points) figures (setOf p figures) (parts-f64 p figures held))
 
@@ -231,8 +242,10 @@ form-f64 CheckForm line = plain-f64 (text "(check (mass F) (centre F F F) (inert
 form-f64 TubesForm line = tubes-read line
 form-f64 ClosingForm line = closing-read line
 form-f64 DrillForm line = drill-read line
-form-f64 CopiedForm line = list-f64 (text "(copied (body (mass F) (centre F F F) (inertia F F F F F F))") (text "(offset F F)") line Copied (λ l. tt)
-form-f64 PlacedForm line = list-f64 (text "(placed (body (mass F) (centre F F F) (inertia F F F F F F))") (text "(place F F F)") line Placed (λ l. tt)
+form-f64 CopiedForm line = list-f64 (text "(copied (body (mass F) (centre F F F) (inertia F F F F F F))") (text "(offset F F)") line Copied
+    (λ l. tt)
+form-f64 PlacedForm line = list-f64 (text "(placed (body (mass F) (centre F F F) (inertia F F F F F F))") (text "(place F F F)") line Placed
+    (λ l. tt)
 form-f64 MovedForm line = plain-f64 _ line Moved (λ l. tt)
 form-f64 WithoutForm line = plain-f64 _ line Without (λ l. tt)
 form-f64 SubmitForm line = submit-read line
@@ -249,6 +262,7 @@ line-f64 line = by (leb (length line) lineBytes)
     by true = form-f64 (formNamed (wordOf line)) line
     by false = tt
 
-pub submitted-f64 : (line : List ℕ) (screen : ℕ) (set : FinSet) (points : List Float) (L : ℕ) → WritesSet (Submit screen) line set points L → SetF64 set points
+pub submitted-f64 : (line : List ℕ) (screen : ℕ) (set : FinSet) (points : List Float) (L : ℕ) → WritesSet (Submit screen) line set points L
+    → SetF64 set points
 submitted-f64 line screen set points L w =
     subst (SetF64 set) (w .points-are) (subst (λ (a : Asked). AskedF64 a (lineRead line .figures)) (w .asks) (line-f64 line))

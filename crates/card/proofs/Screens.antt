@@ -1,4 +1,5 @@
--- Lines leave the engine as the calls that they ask for leave it; so a screen that holds a job when lines begin is served within eight of their turns,
+-- Lines leave the engine as the calls that they ask for leave it; so a screen that holds a job when lines begin is
+-- served within eight of their turns,
 -- whatever the other lines are. Assumes nothing.
 use mathlib.Core.Bool.{Bool, true, false, cond}
 use mathlib.Core.List.{List, [], _∷_, _++_}
@@ -9,7 +10,8 @@ use lib.ListN.{length, getD}
 use lib.Ieee.{Float}
 use Rattle.tokens.specs.Tokens.{lineBytes}
 use Rattle.reading.specs.declared.Asked.{Asked}
-use Rattle.reading.specs.declared.Asked.the-variants.{Refused, Set, Area, Join, Moments, Check, Tubes, Closing, Drill, Copied, Placed, Moved, Without, Submit, Density, Turn, Progress}
+use Rattle.reading.specs.declared.Asked.the-variants.{Refused, Set, Area, Join, Moments, Check, Tubes, Closing, Drill, Copied, Placed}
+use Rattle.reading.specs.declared.Asked.the-variants.{Moved, Without, Submit, Density, Turn, Progress}
 use Rattle.reading.specs.Lines.{lineRead}
 use Rattle.engines.specs.declared.Engine.{Engine}
 use Rattle.engines.specs.Engines.{holdsJob}
@@ -19,7 +21,8 @@ use Rattle.lines.specs.Lines.{Memory, Effect, submitEffect, densityEffect, turn
 use Rattle.inputs.specs.Inputs.{leftByLine, leftByLines}
 use Rattle.card.specs.Screens.{callsBy, callsOver, EngineByCalls}
 
-by-asked : (a : Asked) (figures : List Float) (m : Memory) → effectOf a figures m .memory .engine ≡ afterCalls (m .engine) (effectOf a figures m .calls)
+by-asked : (a : Asked) (figures : List Float) (m : Memory)
+    → effectOf a figures m .memory .engine ≡ afterCalls (m .engine) (effectOf a figures m .calls)
 unfolding setEffect areaEffect submitEffect densityEffect turnEffect
 by-asked (Refused refusal) figures m = refl
 by-asked (Set limit set points) figures m = refl
@@ -57,6 +60,7 @@ engine-by-calls (line ∷ lines) m =
     ∙ sym (calls-both (m .engine) (callsBy line m) (callsOver lines left))
 
 -- of lines from any memory on, among whose turns eight count
-pub served-within-eight : (lines : List (List ℕ)) (m : Memory) (screen : ℕ) → holdsJob (m .engine .screens) screen ≡ true → 8 ≤ length (servedOver (m .engine) (callsOver lines m))
+pub served-within-eight : (lines : List (List ℕ)) (m : Memory) (screen : ℕ) → holdsJob (m .engine .screens) screen ≡ true
+    → 8 ≤ length (servedOver (m .engine) (callsOver lines m))
     → (i : ℕ) × ((i < 8) × (getD (servedOver (m .engine) (callsOver lines m)) i 0 ≡ screen))
 served-within-eight lines m screen held eight = within-eight (m .engine) screen (callsOver lines m) held eight

@@ -17,7 +17,7 @@ ghost use Rattle.inputs.specs.States.{placeNow, atEntry, atExit, Lent};
 ghost use Rattle.reads.specs.Reads.{mostRead};
 ghost use Rattle.card.specs.Program.{atFirst, noLine, told, Lends, Counted};
 ghost use Rattle.card.specs.Program.{Steps, Replies, Turns, Ends, Closes, Runs};
-use arguments::Asked;
+use arguments::Command;
 use input_lines::State;
 use lent_engines::ENGINE_COUNTS;
 use lent_engines::ENGINE_NUMBERS;
@@ -326,10 +326,10 @@ fn write_help() {
 
 fn main() {
     match arguments::read() {
-        Asked::Run => answer_input(),
-        Asked::Help => write_help(),
-        Asked::Version => arguments::write_text(b"card", b"card 0.1.0\n"),
-        Asked::Unknown => {
+        Command::Run => answer_input(),
+        Command::Help => write_help(),
+        Command::Version => arguments::write_text(b"card", b"card 0.1.0\n"),
+        Command::Unknown => {
             io::write_all(STDERR_FILENO, b"card: unknown argument; see card --help\n");
         }
     }

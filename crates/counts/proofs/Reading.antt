@@ -29,17 +29,23 @@ cut-same n m d e = omega arith
 pub same-value : (bs : List ℕ) (n m : ℕ) → capped n ≡ capped m → cappedCount (readDigits bs n) ≡ cappedCount (readDigits bs m)
 unfolding readDigits
 same-value [] n m e = ap Whole e
-same-value (b ∷ bs) n m e = by (ltb (digitValue b) 10) (same-value bs (n * 10 + digitValue b) (m * 10 + digitValue b) (cut-same n m (digitValue b) e))
+same-value (b ∷ bs) n m e = by (ltb (digitValue b) 10)
+    (same-value bs (n * 10 + digitValue b) (m * 10 + digitValue b) (cut-same n m (digitValue b) e))
   where
-    by : (t : Bool) → cappedCount (readDigits bs (n * 10 + digitValue b)) ≡ cappedCount (readDigits bs (m * 10 + digitValue b)) → cappedCount (pick t (readDigits bs (n * 10 + digitValue b)) NotCount) ≡ cappedCount (pick t (readDigits bs (m * 10 + digitValue b)) NotCount)
+    by : (t : Bool) → cappedCount (readDigits bs (n * 10 + digitValue b)) ≡ cappedCount (readDigits bs (m * 10 + digitValue b))
+        → cappedCount (pick t (readDigits bs (n * 10 + digitValue b)) NotCount)
+        ≡ cappedCount (pick t (readDigits bs (m * 10 + digitValue b)) NotCount)
     by true h = h
     by false h = refl
 
-step : (w : List ℕ) (i n : ℕ) → i < length w → readDigits (drop i w) n ≡ pick (ltb (digitValue (getD w i 0)) 10) (readDigits (drop (i + 1) w) (n * 10 + digitValue (getD w i 0))) NotCount
+step : (w : List ℕ) (i n : ℕ) → i < length w
+    → readDigits (drop i w) n
+    ≡ pick (ltb (digitValue (getD w i 0)) 10) (readDigits (drop (i + 1) w) (n * 10 + digitValue (getD w i 0))) NotCount
 unfolding readDigits
 step w i n h = ap (λ (l : List ℕ). readDigits l n) (drop-cons w i 0 h ∙ ap (λ (k : ℕ). getD w i 0 ∷ drop k w) (sym (add-one i)))
 
-module _ (w : List ℕ) (i n d : ℕ) (h : i < length w) (e : cappedCount (countOf w) ≡ cappedCount (readDigits (drop i w) n)) (q : d ≡ digitValue (getD w i 0)) where
+module _ (w : List ℕ) (i n d : ℕ) (h : i < length w) (e : cappedCount (countOf w) ≡ cappedCount (readDigits (drop i w) n))
+    (q : d ≡ digitValue (getD w i 0)) where
   pub bad-digit : 10 ≤ d → NotCount ≡ cappedCount (countOf w)
   bad-digit b =
       let g : 10 ≤ digitValue (getD w i 0) = rw q at b in
@@ -49,11 +55,13 @@ module _ (w : List ℕ) (i n d : ℕ) (h : i < length w) (e : cappedCount (count
   pub good-digit : (m : ℕ) → d < 10 → m ≡ capped (n * 10 + d) → cappedCount (countOf w) ≡ cappedCount (readDigits (drop (i + 1) w) m)
   good-digit m b f =
       let g : digitValue (getD w i 0) < 10 = rw q at b in
-      let s : readDigits (drop i w) n ≡ readDigits (drop (i + 1) w) (n * 10 + d) = step w i n h ∙ rw (lt-ltb (digitValue (getD w i 0)) 10 g, q) in
+      let s : readDigits (drop i w) n ≡ readDigits (drop (i + 1) w) (n * 10 + d) = step w i n h
+      ∙ rw (lt-ltb (digitValue (getD w i 0)) 10 g, q) in
       let k : capped (n * 10 + d) ≡ capped m = omega arith in
       e ∙ ap cappedCount s ∙ same-value (drop (i + 1) w) (n * 10 + d) m k
 
-pub all-read : (w : List ℕ) (i n : ℕ) → length w ≤ i → n ≤ 1_000_000 → cappedCount (countOf w) ≡ cappedCount (readDigits (drop i w) n) → Whole n ≡ cappedCount (countOf w)
+pub all-read : (w : List ℕ) (i n : ℕ) → length w ≤ i → n ≤ 1_000_000 → cappedCount (countOf w) ≡ cappedCount (readDigits (drop i w) n)
+    → Whole n ≡ cappedCount (countOf w)
 unfolding readDigits
 all-read w i n h b e =
     let k : capped n ≡ n = omega arith in

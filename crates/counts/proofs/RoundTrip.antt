@@ -28,7 +28,8 @@ digits-read (suc k) n t h =
     let p = pow-suc 10 k in
     by (ltb n 10) refl (digits-read k (n / 10) ((48 + n % 10) ∷ t) (omega arith))
   where
-    by : (b : Bool) → ltb n 10 ≡ b → readDigits (digits k (n / 10) ++ ((48 + n % 10) ∷ t)) 0 ≡ readDigits ((48 + n % 10) ∷ t) (n / 10) → readDigits (cond b ((48 + n) ∷ []) (digits k (n / 10) ++ ((48 + n % 10) ∷ [])) ++ t) 0 ≡ readDigits t n
+    by : (b : Bool) → ltb n 10 ≡ b → readDigits (digits k (n / 10) ++ ((48 + n % 10) ∷ t)) 0 ≡ readDigits ((48 + n % 10) ∷ t) (n / 10)
+        → readDigits (cond b ((48 + n) ∷ []) (digits k (n / 10) ++ ((48 + n % 10) ∷ [])) ++ t) 0 ≡ readDigits t n
     by true e i = digit-read n 0 t (ltb-true n 10 e) ∙ ap (readDigits t) (let z : 0 * 10 + n ≡ n = omega arith in z)
     by false e i =
         ap (λ (l : List ℕ). readDigits l 0) (append-assoc (digits k (n / 10)) ((48 + n % 10) ∷ []) t)
@@ -46,7 +47,8 @@ some-digit : (k n : ℕ) → countOf (digits (suc k) n) ≡ readDigits (digits (
 unfolding digits
 some-digit k n = by (ltb n 10)
   where
-    by : (b : Bool) → countOf (cond b ((48 + n) ∷ []) (digits k (n / 10) ++ ((48 + n % 10) ∷ []))) ≡ readDigits (cond b ((48 + n) ∷ []) (digits k (n / 10) ++ ((48 + n % 10) ∷ []))) 0
+    by : (b : Bool) → countOf (cond b ((48 + n) ∷ []) (digits k (n / 10) ++ ((48 + n % 10) ∷ [])))
+        ≡ readDigits (cond b ((48 + n) ∷ []) (digits k (n / 10) ++ ((48 + n % 10) ∷ []))) 0
     by true = not-empty [] (48 + n)
     by false = not-empty (digits k (n / 10)) (48 + n % 10)
 

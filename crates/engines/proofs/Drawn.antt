@@ -12,7 +12,7 @@ use Rattle.fins.specs.declared.FinSet.{FinSet}
 use Rattle.strips.specs.Strips.{scratchAfter}
 use Rattle.figures.proofs.Owned.{SetF64}
 use Rattle.jobs.specs.declared.Job.{Job}
-use Rattle.jobs.specs.declared.Stepped.{Stepped}
+use Rattle.jobs.specs.declared.JobStep.{JobStep}
 use Rattle.refusals.specs.Calls.{CallOf, leavesAlone}
 use Rattle.limits.specs.Limits.{scratchNumbers}
 use Rattle.jobs.specs.Jobs.{steppedOn}
@@ -21,10 +21,10 @@ use Rattle.jobs.specs.Calls as alone
 use Rattle.jobs.proofs.Writes.{writes-own-strip, on-no-shorter}
 use Rattle.jobs.proofs.Drawn.{drawable}
 use Rattle.engines.specs.declared.Engine.{Engine}
-use Rattle.engines.specs.declared.Served.{Served}
+use Rattle.engines.specs.declared.ScreenTurn.{ScreenTurn}
 use Rattle.engines.specs.declared.Turn.{Turn}
 use Rattle.engines.specs.declared.Turn.the-variants.{Short, Idle}
-use Rattle.engines.specs.declared.Turned.{Turned}
+use Rattle.engines.specs.declared.EngineTurn.{EngineTurn}
 use Rattle.engines.specs.Engines.{holdsJob, nextScreen, pickOf, steppedAt, servedOf, jobAt, turnOf}
 use Rattle.engines.specs.Calls.{Call, turn, jobOf, screenOf, sinceThen, engineNow, OnScreen, DrawnOnScreen}
 use Rattle.engines.proofs.Effects.{holds-is-screen}
@@ -34,15 +34,16 @@ turn-writes : (engine : Engine) (screen : ℕ) → holdsJob (engine .screens) sc
     → (scratch : List Float) → screen ≡ screenOf engine (turn scratch)
     → turnOf engine (length scratch) .leaves scratch ≡ scratchAfter (stripsBy (jobOf engine screen) (alone.step scratch)) scratch
 turn-writes engine screen holds scratch e =
-    let s = served engine screen (holds-is-screen (engine .screens) screen holds) (length scratch) (ltb (length scratch) scratchNumbers) refl e in
-    ap (λ (t : CallOf Turned). t .leaves scratch) (s .turn-is) ∙ sym (ap (λ (c : CallOf Stepped). c .leaves scratch) (s .step-is))
+    let s = served engine screen (holds-is-screen (engine .screens) screen holds) (length scratch) (ltb (length scratch) scratchNumbers)
+    refl e in
+    ap (λ (t : CallOf EngineTurn). t .leaves scratch) (s .turn-is) ∙ sym (ap (λ (c : CallOf JobStep). c .leaves scratch) (s .step-is))
     ∙ writes-own-strip (jobOf engine screen) scratch
 
 -- a turn leaves no shorter scratch
 abbrev Job· : Engine → Job
 Job· engine = jobAt engine (pickOf (engine .screens))
 
-abbrev Still· : Engine → Turn → CallOf Served
+abbrev Still· : Engine → Turn → CallOf ScreenTurn
 Still· engine t = leavesAlone (record { screens = engine .screens; job = Job· engine; turn = t })
 
 pub turn-no-shorter : (engine : Engine) (scratch : List Float) → length scratch ≤ length (turnOf engine (length scratch) .leaves scratch)
@@ -50,7 +51,9 @@ unfolding turnOf servedOf
 turn-no-shorter engine scratch = by (ltb (length scratch) scratchNumbers) (ltb 0 (nextScreen (engine .screens)))
   where
     by : (c d : Bool) → length scratch
-        ≤ length (cond c (Still· engine Short) (cond d (steppedAt (engine .screens) (nextScreen (engine .screens)) (steppedOn (Job· engine))) (Still· engine Idle)) .leaves scratch)
+        ≤ length (cond c (Still· engine Short)
+        (cond d (steppedAt (engine .screens) (nextScreen (engine .screens)) (steppedOn (Job· engine))) (Still· engine Idle)) .leaves
+        scratch)
     by true d = omega arith
     by false true = on-no-shorter (Job· engine) scratch
     by false false = omega arith

@@ -19,17 +19,18 @@ use Rattle.limits.proofs.Accepted.{limit-within}
 use Rattle.materials.specs.declared.Density.{Density}
 use Rattle.fins.specs.declared.FinSet.{FinSet}
 use Rattle.jobs.specs.declared.Job.{Job}
-use Rattle.jobs.specs.declared.Replied.{Replied}
+use Rattle.jobs.specs.declared.JobReply.{JobReply}
 use Rattle.refusals.specs.Calls.{CallOf, leavesAlone}
 use Rattle.jobs.specs.Jobs.{isShort, steppedOn, changeOf, madeOf, progressOf}
 use Rattle.jobs.proofs.Laws.{yes, no}
 use Rattle.engines.specs.declared.Screens.{Screens}
 use Rattle.engines.specs.declared.Engine.{Engine}
-use Rattle.engines.specs.declared.Served.{Served}
+use Rattle.engines.specs.declared.ScreenTurn.{ScreenTurn}
 use Rattle.engines.specs.declared.Turn.the-variants.{Short, Idle}
-use Rattle.engines.specs.declared.AtScreen.{AtScreen}
+use Rattle.engines.specs.declared.ScreenReply.{ScreenReply}
 use Rattle.engines.specs.Engines.{isScreen, placeOf, holdsJob, isFree, screenAfter, firstHeld, nextScreen, pickOf}
-use Rattle.engines.specs.Engines.{withHeld, servedScreen, turnAfter, steppedAt, servedOf, refused, submittedOf, changedOf, noProgress, toldOf}
+use Rattle.engines.specs.Engines.{withHeld, servedScreen, turnAfter, steppedAt, servedOf, refused, submittedOf, changedOf, noProgress}
+use Rattle.engines.specs.Engines.{toldOf}
 use Rattle.engines.specs.Engines.{jobAt, turnedAt, calledAt, turnOf, submitOf, changeAt}
 
 -- ---- a screen's place
@@ -52,7 +53,8 @@ module _ (screens : Screens) where
   found screen zero h e = absurd (not-suc-le-zero h)
   found screen (suc n) h e = yes _ _ e
 
-  pub passed : (screen n : ℕ) → 0 < n → holdsJob screens screen ≡ false → firstHeld screens screen n ≡ firstHeld screens (screenAfter screen) (n - 1)
+  pub passed : (screen n : ℕ) → 0 < n → holdsJob screens screen ≡ false
+      → firstHeld screens screen n ≡ firstHeld screens (screenAfter screen) (n - 1)
   unfolding firstHeld
   passed screen zero h e = absurd (not-suc-le-zero h)
   passed screen (suc n) h e = no _ _ e ∙ ap (firstHeld screens (screenAfter screen)) (let k : n ≡ suc n - 1 = omega arith in k)
@@ -71,7 +73,8 @@ long-enough false L n h = by (limitCheck L) refl
   where
     by : (v : Verdict) → limitCheck L ≡ v → (not (isRefused v) && isRefused (scratchCheck L n)) ≡ false
     by (Refused r) e = refl
-    by Accepted e = ap (λ (b : Bool). isRefused (refuseUnless b Scratch)) (le-leb (pieceNumbers * L) n (let most = limit-within L e .1 in omega (arith, most, h)))
+    by Accepted e = ap (λ (b : Bool). isRefused (refuseUnless b Scratch))
+        (le-leb (pieceNumbers * L) n (let most = limit-within L e .1 in omega (arith, most, h)))
 
 -- a turn that serves a screen tells which
 pub served-is : (screen : ℕ) (over : Bool) → servedScreen (turnAfter screen over) ≡ screen
@@ -79,14 +82,15 @@ served-is screen true = refl
 served-is screen false = refl
 
 module _ (screens : Screens) (job : Job) (n : ℕ) where
-  abbrev Idle· : CallOf Served
+  abbrev Idle· : CallOf ScreenTurn
   Idle· = leavesAlone (record { screens = screens; job = job; turn = Idle })
 
   pub served-short : n < scratchNumbers → servedOf screens job n ≡ leavesAlone (record { screens = screens; job = job; turn = Short })
   unfolding servedOf
   served-short h = yes _ _ (lt-ltb _ _ h)
 
-  pub served-step : (screen : ℕ) → screen ≡ nextScreen screens → scratchNumbers ≤ n → 0 < screen → servedOf screens job n ≡ steppedAt screens screen (steppedOn job)
+  pub served-step : (screen : ℕ) → screen ≡ nextScreen screens → scratchNumbers ≤ n → 0 < screen
+      → servedOf screens job n ≡ steppedAt screens screen (steppedOn job)
   unfolding servedOf
   served-step screen e h k =
       no _ _ (le-ltb _ _ h)
@@ -101,13 +105,15 @@ module _ (screens : Screens) (job : Job) (n : ℕ) where
       ∙ no _ _ (le-ltb _ _ k)
 
 -- ---- a submission
-module _ (screens : Screens) (job : Job) (screen : ℕ) (made : Replied) where
-  pub submit-refused : isFree screens screen ≡ true → made .job .ended ≡ true → submittedOf screens job screen made ≡ record { screens = screens; job = job; reply = made .reply }
+module _ (screens : Screens) (job : Job) (screen : ℕ) (made : JobReply) where
+  pub submit-refused : isFree screens screen ≡ true → made .job .ended ≡ true
+      → submittedOf screens job screen made ≡ record { screens = screens; job = job; reply = made .reply }
   unfolding submittedOf
   submit-refused f e = yes _ _ f ∙ yes _ _ e
 
   pub submit-taken : isFree screens screen ≡ true → made .job .ended ≡ false
-      → submittedOf screens job screen made ≡ record { screens = withHeld screens screen true (screens .last); job = made .job; reply = made .reply }
+      → submittedOf screens job screen made
+      ≡ record { screens = withHeld screens screen true (screens .last); job = made .job; reply = made .reply }
   unfolding submittedOf
   submit-taken f e = yes _ _ f ∙ no _ _ e
 
@@ -118,7 +124,8 @@ module _ (screens : Screens) (job : Job) (screen : ℕ) (made : Replied) where
 -- ---- a change of density
 module _ (screens : Screens) (job : Job) (screen : ℕ) (density : Density) where
   pub change-held : holdsJob screens screen ≡ true
-      → changedOf screens job screen density ≡ record { screens = screens; job = changeOf job density .job; reply = changeOf job density .reply }
+      → changedOf screens job screen density
+      ≡ record { screens = screens; job = changeOf job density .job; reply = changeOf job density .reply }
   unfolding changedOf
   change-held h = yes _ _ h
 
@@ -144,14 +151,16 @@ module _ (engine : Engine) (place : ℕ) where
     turn-is n = ap (λ (p : ℕ). turnedAt engine p (servedOf (engine .screens) (jobAt engine p) n)) e
 
   module _ (screen : ℕ) (e : place ≡ placeOf screen) where
-    pub submit-is : (set : FinSet) (points : List Float) (L : ℕ) (made : Replied) → made ≡ madeOf set points L
-        → (s : AtScreen) → s ≡ submittedOf (engine .screens) (jobAt engine place) screen made → calledAt engine place s ≡ submitOf engine screen set points L
+    pub submit-is : (set : FinSet) (points : List Float) (L : ℕ) (made : JobReply) → made ≡ madeOf set points L
+        → (s : ScreenReply) → s ≡ submittedOf (engine .screens) (jobAt engine place) screen made
+        → calledAt engine place s ≡ submitOf engine screen set points L
     unfolding submitOf
     submit-is set points L made m s h =
         ap (calledAt engine place) (h ∙ ap (submittedOf (engine .screens) (jobAt engine place) screen) m)
         ∙ ap (λ (p : ℕ). calledAt engine p (submittedOf (engine .screens) (jobAt engine p) screen (madeOf set points L))) e
 
-    pub change-is : (density : Density) (s : AtScreen) → s ≡ changedOf (engine .screens) (jobAt engine place) screen density
+    pub change-is : (density : Density) (s : ScreenReply) → s ≡ changedOf (engine .screens) (jobAt engine place) screen density
         → calledAt engine place s ≡ changeAt engine screen density
     unfolding changeAt
-    change-is density s h = ap (calledAt engine place) h ∙ ap (λ (p : ℕ). calledAt engine p (changedOf (engine .screens) (jobAt engine p) screen density)) e
+    change-is density s h = ap (calledAt engine place) h
+        ∙ ap (λ (p : ℕ). calledAt engine p (changedOf (engine .screens) (jobAt engine p) screen density)) e

@@ -1,4 +1,5 @@
--- A waiting screen is served within eight turns that count. The next screen lies no further behind the last served than the waiting one, so that with each turn
+-- A waiting screen is served within eight turns that count. The next screen lies no further behind the last served than
+-- the waiting one, so that with each turn
 -- that serves another the waiting one is nearer, and only its own turn takes its job away. By induction over the calls. Assumes nothing.
 use mathlib.Core.Path.{_≡_, refl, sym, ap, subst, _∙_}
 use mathlib.Core.Bool.{Bool, true, false, cond, _&&_, true≢false}
@@ -18,13 +19,14 @@ use Rattle.refusals.specs.Calls.{CallOf}
 use Rattle.limits.specs.Limits.{scratchNumbers}
 use Rattle.jobs.specs.Jobs.{madeOf}
 use Rattle.engines.specs.declared.Engine.{Engine}
-use Rattle.engines.specs.declared.Turned.{Turned}
-use Rattle.engines.specs.declared.Called.{Called}
+use Rattle.engines.specs.declared.EngineTurn.{EngineTurn}
+use Rattle.engines.specs.declared.EngineReply.{EngineReply}
 use Rattle.engines.specs.Engines.{isScreen, placeOf, holdsJob, isFree, nextScreen, withHeld, turnOf, submitOf, changeAt}
 use Rattle.engines.specs.Calls.{Call, turn, submit, change, engineBy, afterCalls}
 use Rattle.engines.specs.Calls.{servedBy, servedOver, screenOf, holdsOver, WithinEight}
 use Rattle.engines.proofs.Order.{next-no-later}
-use Rattle.engines.proofs.Effects.{in-eight, holds-is-screen, turn-short, turn-serves, submit-busy, submit-refuses, submit-takes, change-not-held, change-goes, others-stay}
+use Rattle.engines.proofs.Effects.{in-eight, holds-is-screen, turn-short, turn-serves, submit-busy, submit-refuses, submit-takes}
+use Rattle.engines.proofs.Effects.{change-not-held, change-goes, others-stay}
 
 -- ---- a call that is no turn, or a turn that does not count, keeps the order of service and who waits
 pub record KeepsWaiting (before after : Engine) (screen : ℕ) : Type 0 where
@@ -41,16 +43,19 @@ module _ (engine : Engine) (screen : ℕ) (waits : holdsJob (engine .screens) sc
     unfolding isFree holdsJob
     apart f e =
         true≢false
-        (sym (and-right (isScreen screen) _ waits) ∙ ap (λ (s : ℕ). getD (engine .screens .held) (placeOf s) false) e ∙ not-true _ (and-right (isScreen other) _ f))
+        (sym (and-right (isScreen screen) _ waits) ∙ ap (λ (s : ℕ). getD (engine .screens .held) (placeOf s) false) e
+        ∙ not-true _ (and-right (isScreen other) _ f))
 
-    submit-by : (f e : Bool) → isFree (engine .screens) other ≡ f → madeOf set points L .job .ended ≡ e → KeepsWaiting engine (submitOf engine other set points L .engine) screen
+    submit-by : (f e : Bool) → isFree (engine .screens) other ≡ f → madeOf set points L .job .ended ≡ e
+        → KeepsWaiting engine (submitOf engine other set points L .engine) screen
     unfolding withHeld
     submit-by false e f m = keeps-same _ (submit-busy engine other set points L f)
     submit-by true true f m = keeps-same _ (submit-refuses engine other set points L f m)
     submit-by true false f m =
         record {
-          order = ap (λ (c : Called). c .engine .screens .last) (submit-takes engine other set points L f m);
-          waits = others-stay engine (submit other set points L) screen (holds-is-screen (engine .screens) screen waits) (apart f) .0 ∙ waits;
+          order = ap (λ (c : EngineReply). c .engine .screens .last) (submit-takes engine other set points L f m);
+          waits = others-stay engine (submit other set points L) screen (holds-is-screen (engine .screens) screen waits) (apart f) .0
+              ∙ waits;
         }
 
     submit-keeps : KeepsWaiting engine (submitOf engine other set points L .engine) screen
@@ -60,7 +65,7 @@ module _ (engine : Engine) (screen : ℕ) (waits : holdsJob (engine .screens) sc
     change-by : (h : Bool) → holdsJob (engine .screens) other ≡ h → KeepsWaiting engine (changeAt engine other density .engine) screen
     change-by false h = keeps-same _ (change-not-held engine other density h)
     change-by true h =
-        let e = ap (λ (c : Called). c .engine .screens) (change-goes engine other density h) in
+        let e = ap (λ (c : EngineReply). c .engine .screens) (change-goes engine other density h) in
         record { order = ap (λ (s : _). s .last) e; waits = ap (λ (s : _). holdsJob s screen) e ∙ waits }
 
     change-keeps : KeepsWaiting engine (changeAt engine other density .engine) screen
@@ -123,9 +128,11 @@ as-far-or-nearer : (k m : ℕ) → k ≤ m → (k ≡ m) ⊎ (k < m)
 as-far-or-nearer zero zero l = inl refl
 as-far-or-nearer zero (suc m) l = inr (omega arith)
 as-far-or-nearer (suc k) zero l = absurd (not-suc-le-zero l)
-as-far-or-nearer (suc k) (suc m) l = elim (as-far-or-nearer k m (le-of-suc-le-suc l)) [ inl x ↦ inl (ap suc x) | inr x ↦ inr (omega (arith, x)) ]
+as-far-or-nearer (suc k) (suc m) l = elim (as-far-or-nearer k m (le-of-suc-le-suc l))
+    [ inl x ↦ inl (ap suc x) | inr x ↦ inr (omega (arith, x)) ]
 
-module _ (engine : Engine) (screen m : ℕ) (lm : m < 8) (far : (engine .screens .last + m) % 8 + 1 ≡ screen) (waits : holdsJob (engine .screens) screen ≡ true) where
+module _ (engine : Engine) (screen m : ℕ) (lm : m < 8) (far : (engine .screens .last + m) % 8 + 1 ≡ screen)
+    (waits : holdsJob (engine .screens) screen ≡ true) where
   kept : (call : Call) (calls : List Call) → servedBy engine call ≡ [] → KeepsWaiting engine (engineBy engine call) screen
       → m < length (servedOver engine (call ∷ calls)) → Behind (engineBy engine call) screen calls → Served engine screen m (call ∷ calls)
   kept call calls none keeps l ih =
@@ -163,11 +170,13 @@ module _ (engine : Engine) (screen m : ℕ) (lm : m < 8) (far : (engine .screens
     module _ (k : ℕ) (is : Next· ≡ (engine .screens .last + k) % 8 + 1) (nearer : k < m) where
       -- the screen served is another
       not-it : screen ≡ Next· → ⊥
-      not-it e = let y : (engine .screens .last + k) % 8 + 1 ≡ (engine .screens .last + m) % 8 + 1 = sym is ∙ sym e ∙ sym far in omega (arith, y, nearer, lm)
+      not-it e = let y : (engine .screens .last + k) % 8 + 1 ≡ (engine .screens .last + m) % 8 + 1 = sym is ∙ sym e ∙ sym far in
+          omega (arith, y, nearer, lm)
 
       last-is : After· .screens .last ≡ Next·
       unfolding withHeld
-      last-is = ap (λ (t : CallOf Turned). t .answer .engine .screens .last) (turn-serves engine (length scratch) long (omega (arith, is)))
+      last-is = ap (λ (t : CallOf EngineTurn). t .answer .engine .screens .last)
+          (turn-serves engine (length scratch) long (omega (arith, is)))
 
       nearer-now : (After· .screens .last + (m - k - 1)) % 8 + 1 ≡ screen
       nearer-now =
@@ -176,7 +185,8 @@ module _ (engine : Engine) (screen m : ℕ) (lm : m < 8) (far : (engine .screens
           ∙ far
 
       still : holdsJob (After· .screens) screen ≡ true
-      still = others-stay engine (turn scratch) screen (holds-is-screen (engine .screens) screen waits) (λ e. not-it (e ∙ served)) .0 ∙ waits
+      still = others-stay engine (turn scratch) screen (holds-is-screen (engine .screens) screen waits) (λ e. not-it (e ∙ served)) .0
+          ∙ waits
 
       later : Behind After· screen calls → Served engine screen m (turn scratch ∷ calls)
       later ih =
@@ -200,7 +210,8 @@ module _ (engine : Engine) (screen m : ℕ) (lm : m < 8) (far : (engine .screens
       (keeps-same engine screen waits _ (turn-short engine (length scratch) (ltb-true _ _ c))) l ih
   by-turn scratch calls false c l ih = turned scratch (ltb-false _ _ c) calls l ih
 
-found : (calls : List Call) (engine : Engine) (screen m : ℕ) → m < 8 → (engine .screens .last + m) % 8 + 1 ≡ screen → holdsJob (engine .screens) screen ≡ true
+found : (calls : List Call) (engine : Engine) (screen m : ℕ) → m < 8 → (engine .screens .last + m) % 8 + 1 ≡ screen
+    → holdsJob (engine .screens) screen ≡ true
     → m < length (servedOver engine calls) → Served engine screen m calls
 found [] engine screen m lm far waits l = let k = ap length (none-over engine) in absurd (let z : ⊥ = omega (arith, l, k) in z)
 found (turn scratch ∷ calls) engine screen m lm far waits l =

@@ -20,7 +20,7 @@ use Rattle.jobs.specs.Calls.{isTaken, jobAfter, setAfter, stripsAfter, progress
 use Rattle.jobs.specs.Calls as alone
 use Rattle.engines.specs.declared.Engine.{Engine}
 use Rattle.engines.specs.declared.Turn.the-variants.{More, Ended}
-use Rattle.engines.specs.declared.Turned.{Turned}
+use Rattle.engines.specs.declared.EngineTurn.{EngineTurn}
 use Rattle.engines.specs.Engines.{isScreen, placeOf, holdsJob, nextScreen}
 use Rattle.engines.specs.Engines.{jobAt, servedScreen, turnOf, turnedRow, submitOf, changeAt, progressAt}
 
@@ -206,7 +206,7 @@ AllSubmitted engine = (screen : ℕ) → holdsJob (engine .screens) screen ≡ t
 
 -- the turn that serves the screen of such a job answers that more remain, or the job's end, and that frees the screen
 pub record Serves (screen : ℕ) (set : FinSet) (points : List Float) (L : ℕ) (calls : List alone.Call)
-    (turned : Turned) : Type 0 where
+    (turned : EngineTurn) : Type 0 where
   -- "it answers the screen served and the step's answer"
   pub served : servedScreen (turned .turn) ≡ screen
   pub goes-on : holdsJob (turned .engine .screens) screen ≡ true → turned .turn ≡ More screen

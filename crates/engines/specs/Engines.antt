@@ -16,7 +16,7 @@ use Rattle.fins.specs.declared.FinSet.{FinSet}
 use Rattle.jobs.specs.declared.Job.{Job}
 use Rattle.jobs.specs.declared.Progress.the-variants.{More as moreRemain, Ended as hasEnded}
 use Rattle.jobs.specs.declared.JobProgress.{JobProgress}
-use Rattle.jobs.specs.declared.Replied.{Replied}
+use Rattle.jobs.specs.declared.JobReply.{JobReply}
 use Rattle.jobs.specs.declared.Row.{Row}
 use Rattle.refusals.specs.Calls.{CallOf, leavesAlone}
 use Rattle.limits.specs.Limits.{scratchNumbers}
@@ -26,10 +26,10 @@ use Rattle.engines.specs.declared.Screens.{Screens}
 use Rattle.engines.specs.declared.Engine.{Engine}
 use Rattle.engines.specs.declared.Turn.{Turn}
 use Rattle.engines.specs.declared.Turn.the-variants.{Short, Idle, More, Ended}
-use Rattle.engines.specs.declared.Served.{Served}
-use Rattle.engines.specs.declared.AtScreen.{AtScreen}
-use Rattle.engines.specs.declared.Turned.{Turned}
-use Rattle.engines.specs.declared.Called.{Called}
+use Rattle.engines.specs.declared.ScreenTurn.{ScreenTurn}
+use Rattle.engines.specs.declared.ScreenReply.{ScreenReply}
+use Rattle.engines.specs.declared.EngineTurn.{EngineTurn}
+use Rattle.engines.specs.declared.EngineReply.{EngineReply}
 use Rattle.engines.specs.NoJob.{noJob}
 
 -- ---- the screens
@@ -93,7 +93,7 @@ abbrev pub turnAfter : ℕ → Bool → Turn
 turnAfter screen over = cond over (Ended screen) (More screen)
 
 -- "A job that finishes or is refused frees its screen."
-abbrev pub stepped : Screens → ℕ → Job → Served
+abbrev pub stepped : Screens → ℕ → Job → ScreenTurn
 stepped screens screen job =
     record {
       screens = withHeld screens screen (not (job .ended)) screen;
@@ -102,11 +102,11 @@ stepped screens screen job =
     }
 
 -- "The scratch serves one strip at a time": that of the step
-abbrev pub steppedAt : Screens → ℕ → CallOf Job → CallOf Served
+abbrev pub steppedAt : Screens → ℕ → CallOf Job → CallOf ScreenTurn
 steppedAt screens screen call = record { answer = stepped screens screen (call .answer); leaves = call .leaves }
 
 -- a short turn "does nothing", and so does an idle one
-unfoldable pub servedOf : Screens → Job → ℕ → CallOf Served
+unfoldable pub servedOf : Screens → Job → ℕ → CallOf ScreenTurn
 servedOf screens job scratchLength =
     cond (ltb scratchLength scratchNumbers)
     (leavesAlone (record { screens = screens; job = job; turn = Short }))
@@ -115,26 +115,27 @@ servedOf screens job scratchLength =
     (leavesAlone (record { screens = screens; job = job; turn = Idle })))
 
 -- a turn does this, and gives the number and values of its answer
-pub record ServesTo (screens : Screens) (job : Job) (entry : List Float) (r : Served) (exit : List Float) : Type 0 where
+pub record ServesTo (screens : Screens) (job : Job) (entry : List Float) (r : ScreenTurn)
+    (exit : List Float) : Type 0 where
   pub answered :
-      IsAnswer (λ (s : Served). turnRow (s .turn) (s .job) .figures .verdict) r
+      IsAnswer (λ (s : ScreenTurn). turnRow (s .turn) (s .job) .figures .verdict) r
       (servedOf screens job (length entry) .answer)
   pub scratch : exit ≡ servedOf screens job (length entry) .leaves entry
 
 -- ---- a submission and a change of density, on the screens and the job at the screen's place
 
 -- what a call leaves and answers is the definition's, with the number and values of its verdict
-abbrev pub IsAtScreen : AtScreen → AtScreen → Type 0
-IsAtScreen r definition = IsAnswer (λ (s : AtScreen). s .reply .verdict) r definition
+abbrev pub IsAtScreen : ScreenReply → ScreenReply → Type 0
+IsAtScreen r definition = IsAnswer (λ (s : ScreenReply). s .reply .verdict) r definition
 
 -- a number with 0 samples, and nothing changes
-abbrev pub refused : Screens → Job → Refusal → AtScreen
+abbrev pub refused : Screens → Job → Refusal → ScreenReply
 refused screens job refusal =
     record { screens = screens; job = job; reply = record { verdict = Refused refusal; samples = 0 } }
 
 -- "A submission is answered taken, or refused and changes nothing"; 23 "before anything else in that submission". A job
 -- that was refused has ended when it is made
-unfoldable pub submittedOf : Screens → Job → ℕ → Replied → AtScreen
+unfoldable pub submittedOf : Screens → Job → ℕ → JobReply → ScreenReply
 submittedOf screens job screen made =
     cond (isFree screens screen)
     (cond (made .job .ended)
@@ -143,7 +144,7 @@ submittedOf screens job screen made =
     (refused screens job notFree)
 
 -- "A screen's density changes as in Paper 9; with no job there, or no such screen, 12 with 0 samples."
-unfoldable pub changedOf : Screens → Job → ℕ → Density → AtScreen
+unfoldable pub changedOf : Screens → Job → ℕ → Density → ScreenReply
 changedOf screens job screen density =
     cond (holdsJob screens screen)
     (record { screens = screens; job = changeOf job density .job; reply = changeOf job density .reply })
@@ -168,7 +169,7 @@ jobAt engine place = getD (engine .jobs) place noJob
 abbrev pub withJob : Engine → ℕ → Screens → Job → Engine
 withJob engine place screens job = record { screens = screens; jobs = set (engine .jobs) place job }
 
-abbrev pub turnedAt : Engine → ℕ → CallOf Served → CallOf Turned
+abbrev pub turnedAt : Engine → ℕ → CallOf ScreenTurn → CallOf EngineTurn
 turnedAt engine place call =
     record {
       answer =
@@ -179,27 +180,27 @@ turnedAt engine place call =
       leaves = call .leaves;
     }
 
-abbrev pub calledAt : Engine → ℕ → AtScreen → Called
+abbrev pub calledAt : Engine → ℕ → ScreenReply → EngineReply
 calledAt engine place s = record { engine = withJob engine place (s .screens) (s .job); reply = s .reply }
 
 -- "A turn works one strip for the next screen with a job"
-unfoldable pub turnOf : Engine → ℕ → CallOf Turned
+unfoldable pub turnOf : Engine → ℕ → CallOf EngineTurn
 turnOf engine scratchLength =
     turnedAt engine (pickOf (engine .screens))
     (servedOf (engine .screens) (jobAt engine (pickOf (engine .screens))) scratchLength)
 
 -- what a turn answers, with the outcome of the job served where that has ended
-abbrev pub turnedRow : Turned → Row
+abbrev pub turnedRow : EngineTurn → Row
 turnedRow t = turnRow (t .turn) (jobAt (t .engine) (placeOf (servedScreen (t .turn))))
 
 -- a submission of a set with its points and L to a screen
-unfoldable pub submitOf : Engine → ℕ → FinSet → List Float → ℕ → Called
+unfoldable pub submitOf : Engine → ℕ → FinSet → List Float → ℕ → EngineReply
 submitOf engine screen set points L =
     calledAt engine (placeOf screen)
     (submittedOf (engine .screens) (jobAt engine (placeOf screen)) screen (madeOf set points L))
 
 -- a change of the density of a screen's job
-unfoldable pub changeAt : Engine → ℕ → Density → Called
+unfoldable pub changeAt : Engine → ℕ → Density → EngineReply
 changeAt engine screen density =
     calledAt engine (placeOf screen) (changedOf (engine .screens) (jobAt engine (placeOf screen)) screen density)
 

@@ -2,8 +2,8 @@
 // Paper 10).
 //
 // A call is worked by value on the screens and on one job, the one at the call's place: who keeps the engine reads and
-// writes that job alone. `Engine`, `Turned` and `Called` are for the definitions: an engine is kept in lent lists.
-// Screens are 1 to 8; 0 stands for none. Any record, number and scratch may be handed in.
+// writes that job alone. `Engine`, `EngineTurn` and `EngineReply` are for the definitions: an engine is kept in lent
+// lists. Screens are 1 to 8; 0 stands for none. Any record, number and scratch may be handed in.
 ghost use mathlib.Core.Path.{_≡_};
 ghost use Prim.Native.Nat.{_<_};
 ghost use lib.ListN.{length};
@@ -12,7 +12,7 @@ ghost use Rattle.engines.specs.Engines.{turnAfter, servedScreen, stepped
 ghost use Rattle.engines.specs.Engines.{submittedOf, changedOf, toldOf};
 use jobs::Job;
 use jobs::JobProgress;
-use jobs::Replied;
+use jobs::JobReply;
 use jobs::Reply;
 use materials::Density;
 use refusals::Refusal;
@@ -40,27 +40,27 @@ pub enum Turn {
 }
 
 // The screens and the job of the next one as a turn leaves them, and what it answers.
-pub struct Served {
+pub struct ScreenTurn {
     pub screens: Screens,
     pub job: Job,
     pub turn: Turn,
 }
 
 // The screens and a screen's job as a submission or a change of density leaves them, and what it answers.
-pub struct AtScreen {
+pub struct ScreenReply {
     pub screens: Screens,
     pub job: Job,
     pub reply: Reply,
 }
 
 // The engine as a turn leaves it, and what it answers.
-pub struct Turned {
+pub struct EngineTurn {
     pub engine: Engine,
     pub turn: Turn,
 }
 
 // The engine as a submission or a change of density leaves it, and what it answers.
-pub struct Called {
+pub struct EngineReply {
     pub engine: Engine,
     pub reply: Reply,
 }
@@ -153,21 +153,21 @@ pub fn served_screen(turn: Turn) -> usize
 }
 
 // The screen was served: its job goes on, or has ended and frees it.
-fn after_step(screens: Screens, screen: usize, job: Job) -> Served
+fn after_step(screens: Screens, screen: usize, job: Job) -> ScreenTurn
     ensures { λ r. ⌜ r ≡ stepped screens screen job ⌝ }
 {
     let screens = with_held(screens, screen, !job.ended, screen);
     let turn = turn_after(screen, job.ended);
-    Served { screens, job, turn }
+    ScreenTurn { screens, job, turn }
 }
 
 // A turn on the screens and the job at the place picked. `SCRATCH_NUMBERS` serve every step, whatever its limit.
-pub fn serve(screens: Screens, job: Job, scratch: &mut [f64]) -> Served
+pub fn serve(screens: Screens, job: Job, scratch: &mut [f64]) -> ScreenTurn
     ensures { λ r. ⌜ ServesTo screens job (now (scratch .entry)) r (now (scratch .exit)) ⌝ }
 {
     if scratch.len() < limits::SCRATCH_NUMBERS {
         let turn = Turn::Short;
-        return Served { screens, job, turn };
+        return ScreenTurn { screens, job, turn };
     }
     let screen = next_screen(screens);
     if 0 < screen {
@@ -175,11 +175,11 @@ pub fn serve(screens: Screens, job: Job, scratch: &mut [f64]) -> Served
         return after_step(screens, screen, job);
     }
     let turn = Turn::Idle;
-    Served { screens, job, turn }
+    ScreenTurn { screens, job, turn }
 }
 
 // A call that is refused leaves screens and job as they are; no sample was taken.
-fn refuse(screens: Screens, job: Job, refusal: Refusal) -> AtScreen
+fn refuse(screens: Screens, job: Job, refusal: Refusal) -> ScreenReply
     ensures { λ r. ⌜ r ≡ refused screens job refusal ⌝ }
 {
     let verdict = Verdict::Refused(refusal);
@@ -187,7 +187,7 @@ fn refuse(screens: Screens, job: Job, refusal: Refusal) -> AtScreen
         verdict,
         samples: 0,
     };
-    AtScreen {
+    ScreenReply {
         screens,
         job,
         reply,
@@ -195,21 +195,21 @@ fn refuse(screens: Screens, job: Job, refusal: Refusal) -> AtScreen
 }
 
 // A submission of a job as it was made, on the screens and the job at the screen's place.
-pub fn submit_at(screens: Screens, job: Job, screen: usize, made: Replied) -> AtScreen
+pub fn submit_at(screens: Screens, job: Job, screen: usize, made: JobReply) -> ScreenReply
     ensures { λ r. ⌜ IsAtScreen r (submittedOf screens job screen made) ⌝ }
 {
     if is_free(screens, screen) {
         let new = made.job;
         let reply = made.reply;
         if new.ended {
-            return AtScreen {
+            return ScreenReply {
                 screens,
                 job,
                 reply,
             };
         }
         let screens = with_held(screens, screen, true, screens.last);
-        return AtScreen {
+        return ScreenReply {
             screens,
             job: new,
             reply,
@@ -219,14 +219,14 @@ pub fn submit_at(screens: Screens, job: Job, screen: usize, made: Replied) -> At
 }
 
 // A change of density on the screens and the job at the screen's place.
-pub fn change_at(screens: Screens, job: Job, screen: usize, density: Density) -> AtScreen
+pub fn change_at(screens: Screens, job: Job, screen: usize, density: Density) -> ScreenReply
     ensures { λ r. ⌜ IsAtScreen r (changedOf screens job screen density) ⌝ }
 {
     if holds_job(screens, screen) {
         let changed = jobs::change_by_value(job, density);
         let job = changed.job;
         let reply = changed.reply;
-        return AtScreen {
+        return ScreenReply {
             screens,
             job,
             reply,

@@ -81,6 +81,7 @@ module _ (B : List Size) (r : AllRanges 32 B) (G : List Given) (h : AllKnown B G
       let reaches : ReachesBy B (extent fl p q) v =
       equal-reaches fl N c (Poly.sum-is x is F) (target-is target) (sum-low B r G h s p q F (and-l (rising F) m t)) in (
         near-above y v K N c (top-pos 32 B r p q) (unit-real B r p q) (Poly.evaluate-is x is target) n
-            (finer fl N c (suc K) (2 ^ 53) v (leb→le (suc K) (fl * 2 ^ 53) (and-r (leb (suc low) fl) (leb (suc K) (fl * 2 ^ 53)) a)) reaches),
+            (finer fl N c (suc K) (2 ^ 53) v (leb→le (suc K) (fl * 2 ^ 53) (and-r (leb (suc low) fl) (leb (suc K) (fl * 2 ^ 53)) a))
+            reaches),
         weaker fl (suc low) N c v (leb→le (suc low) fl (and-l (leb (suc low) fl) (leb (suc K) (fl * 2 ^ 53)) a)) reaches,
       )

@@ -9,7 +9,7 @@ use lib.Dec.{eqb, ltb, leb→le}
 use lib.ListN.{length, take, drop, length-append, length-take}
 use Rattle.tokens.specs.Text.{text, codes}
 use Rattle.tokens.specs.Tokens.{lineBytes}
-use Rattle.tokens.specs.declared.Found.{Found}
+use Rattle.tokens.specs.declared.TokenRange.{TokenRange}
 use Rattle.counts.specs.Counts.{countText}
 use Rattle.counts.proofs.Printing.{twenty}
 use Rattle.templates.specs.Matching.{cutAtBars, cutAfter}
@@ -20,7 +20,8 @@ use Rattle.explanations.specs.declared.Fault.{Fault}
 use Rattle.explanations.specs.Faults.{faultOf}
 use Rattle.explanations.specs.Endings.{saved, faultPlace, wantedWord, wantedOf, wantedText}
 use Rattle.explanations.specs.Examples.{examples, formWords, details}
-use Rattle.explanations.specs.Explanations.{edgesText, detailKey, detailText, expectedText, shortEnd, shownText, atPlace, isPlaced, placeText}
+use Rattle.explanations.specs.Explanations.{edgesText, detailKey, detailText, expectedText, shortEnd, shownText, atPlace, isPlaced}
+use Rattle.explanations.specs.Explanations.{placeText}
 use Rattle.explanations.specs.Explanations.{faultText, explained, tooLong, explanationOf, keptExplanation}
 use Rattle.explanations.proofs.Wanting.{few}
 
@@ -84,27 +85,32 @@ wanted-few : (fault : Fault) (endings start : List ℕ) → length (wantedText f
 unfolding text codes
 wanted-few fault endings start =
     let s = words-size fault endings start (cutAtBars formWords) in let f = form-words in
-    either (saved fault (start ++ text "F") endings) (text " F") (wantedOf fault endings start (cutAtBars formWords)) 400 (omega arith) (omega (arith, s, f))
+    either (saved fault (start ++ text "F") endings) (text " F") (wantedOf fault endings start (cutAtBars formWords)) 400 (omega arith)
+    (omega (arith, s, f))
 
-place-few : (endings line : List ℕ) (fault : Fault) (f : Found) → length (atPlace endings formWords line fault f) ≤ 450
+place-few : (endings line : List ℕ) (fault : Fault) (f : TokenRange) → length (atPlace endings formWords line fault f) ≤ 450
 unfolding text codes
 place-few endings line fault f =
     let b = twenty (f .from + 1) in let a = wanted-few fault endings (take (f .from) line ++ text " ") in
     let s = short-few (f .from) (f .to) in let l = length-take (shortEnd (f .from) (f .to) - f .from) (drop (f .from) line) in
-    let e = either (eqb (fault .number) 18) (expectedText endings formWords line fault (f .from)) (shownText line f) 420 (omega (arith, a)) (omega (arith, l, s)) in
-    let c = length-append (countText (f .from + 1)) (cond (eqb (fault .number) 18) (expectedText endings formWords line fault (f .from)) (shownText line f)) in
+    let e = either (eqb (fault .number) 18) (expectedText endings formWords line fault (f .from)) (shownText line f) 420 (omega (arith, a))
+    (omega (arith, l, s)) in
+    let c = length-append (countText (f .from + 1))
+    (cond (eqb (fault .number) 18) (expectedText endings formWords line fault (f .from)) (shownText line f)) in
     omega (arith, b, e, c)
 
 detail-text-few : (fault : Fault) → length (detailText details fault) ≤ 100
 detail-text-few fault =
     let e = edges-few fault in
-    either (eqb (fault .number) 7) (edgesText fault) (textFor (detailKey fault) (cutAtBars details)) 100 (omega (arith, e)) (detail-few (detailKey fault))
+    either (eqb (fault .number) 7) (edgesText fault) (textFor (detailKey fault) (cutAtBars details)) 100 (omega (arith, e))
+    (detail-few (detailKey fault))
 
 fault-few : (line : List ℕ) (fault : Fault) → length (faultText line fault) ≤ 800
 unfolding text codes
 fault-few line fault =
     let place = placeText examples formWords line fault in
-    let p = either (isPlaced (fault .number)) (atPlace examples formWords line fault (faultPlace fault examples line)) [] 450 (place-few examples line fault (faultPlace fault examples line)) (omega arith) in
+    let p = either (isPlaced (fault .number)) (atPlace examples formWords line fault (faultPlace fault examples line)) [] 450
+    (place-few examples line fault (faultPlace fault examples line)) (omega arith) in
     let d = detail-text-few fault in let r = refusal-fits (fault .number) in
     let a = length-append (refusalText (fault .number)) (detailText details fault ++ place) in
     let b = length-append (detailText details fault) place in

@@ -6,7 +6,7 @@ use lib.Dec.{eqb, ltb}
 use lib.ListN.{take}
 use Rattle.tokens.specs.Text.{text}
 use Rattle.tokens.specs.Tokens.{lineBytes}
-use Rattle.tokens.specs.declared.Found.{Found}
+use Rattle.tokens.specs.declared.TokenRange.{TokenRange}
 use Rattle.templates.specs.Matching.{cutAtBars}
 use Rattle.explanations.specs.declared.Fault.{Fault}
 use Rattle.explanations.specs.Places.{tokenAt}
@@ -44,21 +44,21 @@ saved fault start [] = false
 saved fault start (b ∷ bs) = savesHere fault start b (b ∷ bs) || saved fault start bs
 
 -- whether a token is there, and a line that begins up to its end is saved
-abbrev pub passes : Fault → List ℕ → List ℕ → Found → Bool
+abbrev pub passes : Fault → List ℕ → List ℕ → TokenRange → Bool
 passes fault endings line f = ltb (f .from) (f .to) && saved fault (take (f .to) line) endings
 
-abbrev pub pickFound : Bool → Found → Found → Found
+abbrev pub pickFound : Bool → TokenRange → TokenRange → TokenRange
 pickFound true a b = a
 pickFound false a b = b
 
 -- the first token from a place on that does not pass; a line has no more tokens than bytes
-unfoldable pub faultFrom : ℕ → Fault → List ℕ → List ℕ → ℕ → Found
+unfoldable pub faultFrom : ℕ → Fault → List ℕ → List ℕ → ℕ → TokenRange
 faultFrom zero fault endings line at = record { from = at; to = at }
 faultFrom (suc n) fault endings line at =
     pickFound (passes fault endings line (tokenAt line at)) (faultFrom n fault endings line (tokenAt line at .to))
     (tokenAt line at)
 
-abbrev pub faultPlace : Fault → List ℕ → List ℕ → Found
+abbrev pub faultPlace : Fault → List ℕ → List ℕ → TokenRange
 faultPlace fault endings line = faultFrom lineBytes fault endings line 0
 
 -- ---- what is wanted at a place: the words with which a line that begins so is saved

@@ -6,8 +6,8 @@ use lib.Dec.{eqb, ltb}
 use lib.ListN.{length, take}
 use Rattle.tokens.specs.Text.{text}
 use Rattle.tokens.specs.Tokens.{lineBytes}
-use Rattle.tokens.specs.Found.{part}
-use Rattle.tokens.specs.declared.Found.{Found}
+use Rattle.tokens.specs.TokenRange.{part}
+use Rattle.tokens.specs.declared.TokenRange.{TokenRange}
 use Rattle.counts.specs.Counts.{countText}
 use Rattle.templates.specs.Matching.{cutAtBars}
 use Rattle.blocks.specs.Tables.{textFor}
@@ -40,10 +40,10 @@ expectedText endings table line fault from =
 abbrev pub shortEnd : ℕ → ℕ → ℕ
 shortEnd from to = cond (ltb (to - from) 40) to (from + 40)
 
-abbrev pub shownText : List ℕ → Found → List ℕ
+abbrev pub shownText : List ℕ → TokenRange → List ℕ
 shownText line f = text ": " ++ part line (f .from) (shortEnd (f .from) (f .to))
 
-abbrev pub atPlace : List ℕ → List ℕ → List ℕ → Fault → Found → List ℕ
+abbrev pub atPlace : List ℕ → List ℕ → List ℕ → Fault → TokenRange → List ℕ
 atPlace endings table line fault f =
     byteText (f .from)
     ++ cond (eqb (fault .number) 18) (expectedText endings table line fault (f .from)) (shownText line f)

@@ -6,7 +6,7 @@ use Prim.Native.Nat.{ℕ, suc, _+_, _≤_}
 use lib.Dec.{eqb}
 use lib.ListN.{length, drop}
 use Rattle.tokens.specs.Tokens.{endsWord}
-use Rattle.tokens.specs.declared.Found.{Found}
+use Rattle.tokens.specs.declared.TokenRange.{TokenRange}
 
 -- how many bytes a text begins with that pass a test
 unfoldable pub run : (ℕ → Bool) → List ℕ → ℕ
@@ -30,16 +30,16 @@ abbrev pub tokenFrom : List ℕ → ℕ → ℕ
 tokenFrom line at = at + run isSpace (drop at line)
 
 -- the first token from a place on
-abbrev pub tokenAt : List ℕ → ℕ → Found
+abbrev pub tokenAt : List ℕ → ℕ → TokenRange
 tokenAt line at =
     record { from = tokenFrom line at; to = tokenFrom line at + tokenBytes (drop (tokenFrom line at) line) }
 
-pub record IsToken (line : List ℕ) (at : ℕ) (r : Found) : Type 0 where
+pub record IsToken (line : List ℕ) (at : ℕ) (r : TokenRange) : Type 0 where
   pub is : r ≡ tokenAt line at
   pub ordered : r .from ≤ r .to
   pub within : r .to ≤ length line
 
-pub record IsPlace (line : List ℕ) (definition r : Found) : Type 0 where
+pub record IsPlace (line : List ℕ) (definition r : TokenRange) : Type 0 where
   pub is : r ≡ definition
   pub ordered : r .from ≤ r .to
   pub within : r .to ≤ length line

@@ -27,8 +27,8 @@ use lent_engines::ENGINE_NUMBERS;
 use limits::SCRATCH_NUMBERS;
 use templates::LINE_FIGURES;
 use templates::bar_end;
-use tokens::Found;
 use tokens::LINE_BYTES;
+use tokens::TokenRange;
 
 // What a line is refused for: the number and the values that go with it; zeros where it is not.
 pub struct Fault {
@@ -122,19 +122,19 @@ fn word_end(line: &[u8], from: usize) -> usize
 }
 
 // The first token from a place on.
-fn token(line: &[u8], at: usize) -> Found
+fn token(line: &[u8], at: usize) -> TokenRange
     requires { ⌜ at ≤ length (now line) ⌝ }
     ensures { λ r. ⌜ IsToken (now (line .entry)) at r ⌝ }
 {
     let from = past_spaces(line, at);
     if line.len() <= from {
-        return Found { from, to: from };
+        return TokenRange { from, to: from };
     }
     if tokens::ends_word(line[from]) {
-        return Found { from, to: from + 1 };
+        return TokenRange { from, to: from + 1 };
     }
     let to = word_end(line, from);
-    Found { from, to }
+    TokenRange { from, to }
 }
 
 // Whether a line with another fault is saved from this one.
@@ -189,7 +189,7 @@ fn is_saved(trial: &mut [u8], n: usize, endings: &[u8], fault: Fault) -> bool
 }
 
 // Whether a token is there, and the line up to its end is saved.
-fn passes(line: &[u8], trial: &mut [u8], endings: &[u8], fault: Fault, f: Found) -> bool
+fn passes(line: &[u8], trial: &mut [u8], endings: &[u8], fault: Fault, f: TokenRange) -> bool
     requires { ⌜ (length (now line) + length (now endings) ≤ length (now trial)) × (f .to ≤ length (now line)) ⌝ }
     ensures { λ r. ⌜ r ≡ passes fault (now (endings .entry)) (now (line .entry)) f ⌝ }
 {
@@ -202,7 +202,7 @@ fn passes(line: &[u8], trial: &mut [u8], endings: &[u8], fault: Fault, f: Found)
 }
 
 // The first token of the line that does not pass.
-fn find_fault(line: &[u8], trial: &mut [u8], endings: &[u8], fault: Fault) -> Found
+fn find_fault(line: &[u8], trial: &mut [u8], endings: &[u8], fault: Fault) -> TokenRange
     requires { ⌜ length (now line) + length (now endings) ≤ length (now trial) ⌝ }
     ensures { λ r. ⌜ IsPlace (now (line .entry)) (faultPlace fault (now (endings .entry)) (now (line .entry))) r ⌝ }
 {
@@ -216,7 +216,7 @@ fn find_fault(line: &[u8], trial: &mut [u8], endings: &[u8], fault: Fault) -> Fo
         at = f.to;
         turns -= 1;
     }
-    Found { from: at, to: at }
+    TokenRange { from: at, to: at }
 }
 
 // Whether a line that begins with the first k bytes of `trial` and a word is saved.
@@ -336,7 +336,7 @@ fn short_end(from: usize, to: usize) -> usize
 }
 
 // The word at fault.
-fn put_shown(out: &mut [u8], n: usize, line: &[u8], f: Found) -> usize
+fn put_shown(out: &mut [u8], n: usize, line: &[u8], f: TokenRange) -> usize
     requires { ⌜ (n + 42 ≤ length (now out)) × (f .from ≤ f .to) × (f .to ≤ length (now line)) ⌝ }
     ensures { λ r. ⌜ Appended (now (out .entry)) n (shownText (now (line .entry)) f) (now (out .exit)) r ⌝ }
 {

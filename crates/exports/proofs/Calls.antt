@@ -9,7 +9,7 @@ use lib.Ieee.{Float}
 use Rattle.refusals.specs.declared.Verdict.{Verdict}
 use Rattle.refusals.specs.Calls.{Does}
 use Rattle.bodies.specs.Layout.{bodyNumbers}
-use Rattle.joins.specs.declared.Joined.{Joined}
+use Rattle.joins.specs.declared.JoinedBody.{JoinedBody}
 use Rattle.joins.specs.Flat.{withBody}
 use Rattle.joins.specs.Joins.{combineOf}
 use Rattle.tubes.specs.declared.ClosingRadius.{ClosingRadius}
@@ -26,7 +26,8 @@ use Rattle.requests.specs.Calls.{numberedCall, numberedArea, numberedChords, nu
 use Rattle.refusals.specs.Numbered.{numberIn}
 use Rattle.refusals.specs.Lent.{over, withValues, withCounts, room}
 use Rattle.figures.specs.Numbered.{figureCounts}
-use Rattle.exports.specs.Calls.{SetCall, areaNumbers, areaCounts, AreaCall, chordCounts, ChordsCall, DrillCall, BodyCall, ClosingCall, JoinCall, momentsNumbers, MomentsCall, CheckCall}
+use Rattle.exports.specs.Calls.{SetCall, areaNumbers, areaCounts, AreaCall, chordCounts, ChordsCall, DrillCall, BodyCall, ClosingCall}
+use Rattle.exports.specs.Calls.{JoinCall, momentsNumbers, MomentsCall, CheckCall}
 use Rattle.refusals.proofs.Rooms.{has-room, few-figures, few-counts}
 use Rattle.limits.specs.Limits.{mostPoints}
 
@@ -46,7 +47,8 @@ module _ {set : NumberedSet} {points : List Float} {L : ℕ} {scratch body : Lis
   set-refused short = let none = short .none in record { returned = rw none; figures = rw none; counted = rw none; lent = rw none }
 
   -- `read` is the set as the code has it
-  pub set-written : bodyNumbers ≤ length body → 4 ≤ length counts → {read : NumberedSet} {f : Figures} {r : ℕ} {scratch' body' : List Float} {counts' : List ℕ} →
+  pub set-written : bodyNumbers ≤ length body → 4 ≤ length counts
+      → {read : NumberedSet} {f : Figures} {r : ℕ} {scratch' body' : List Float} {counts' : List ℕ} →
       read ≡ set → Does (numberedCall read points L (length scratch)) f scratch scratch' →
       body' ≡ withBody body 0 (f .body) → counts' ≡ figureCounts f counts → r ≡ numberIn (f .verdict) →
       SetCall set points L scratch body counts r scratch' body' counts'
@@ -63,7 +65,8 @@ module _ {planform : NumberedPlanform} {points : List Float} {L : ℕ} {scratch 
   pub area-refused : NoRoom 3 area 4 counts → AreaCall planform points L scratch area counts 18 scratch area counts
   area-refused short = let none = short .none in record { returned = rw none; figures = rw none; counted = rw none; lent = rw none }
 
-  pub area-written : 3 ≤ length area → 4 ≤ length counts → {read : NumberedPlanform} {a : Area} {r : ℕ} {scratch' area' : List Float} {counts' : List ℕ} →
+  pub area-written : 3 ≤ length area → 4 ≤ length counts
+      → {read : NumberedPlanform} {a : Area} {r : ℕ} {scratch' area' : List Float} {counts' : List ℕ} →
       read ≡ planform → Does (numberedArea read points L (length scratch)) a scratch scratch' →
       area' ≡ over (areaNumbers a) area → counts' ≡ areaCounts a counts → r ≡ numberIn (a .verdict) →
       AreaCall planform points L scratch area counts r scratch' area' counts'
@@ -80,7 +83,8 @@ module _ {planform : NumberedPlanform} {points : List Float} {h : Float} {ends :
   pub chords-refused : NoRoom mostPoints ends 3 counts → ChordsCall planform points h ends counts 18 ends counts
   chords-refused short = let none = short .none in record { returned = rw none; listed = rw none; counted = rw none }
 
-  pub chords-written : mostPoints ≤ length ends → 3 ≤ length counts → {read : NumberedPlanform} {l : ChordList} {r : ℕ} {ends' : List Float} {counts' : List ℕ} →
+  pub chords-written : mostPoints ≤ length ends → 3 ≤ length counts
+      → {read : NumberedPlanform} {l : ChordList} {r : ℕ} {ends' : List Float} {counts' : List ℕ} →
       read ≡ planform → Does (numberedChords read points h) l ends ends' → counts' ≡ chordCounts l counts → r ≡ numberIn (l .verdict) →
       ChordsCall planform points h ends counts r ends' counts'
   chords-written k j same d c n =
@@ -118,16 +122,16 @@ module _ {bodies body : List Float} where
   pub join-refused : length body < bodyNumbers → JoinCall bodies body 18 body
   join-refused h = let none = lt-leb bodyNumbers (length body) h in record { returned = rw none; figures = rw none }
 
-  pub join-written : bodyNumbers ≤ length body → {j : Joined} {r : ℕ} {body' : List Float} → j ≡ combineOf bodies →
+  pub join-written : bodyNumbers ≤ length body → {j : JoinedBody} {r : ℕ} {body' : List Float} → j ≡ combineOf bodies →
       body' ≡ withBody body 0 (j .body) → r ≡ numberIn (j .verdict) → JoinCall bodies body r body'
   join-written h e b n =
       let fits = le-leb bodyNumbers (length body) h in record { returned = rw (fits, ← e) n; figures = rw (fits, ← e) b }
 
-module _ {asked : Joined} {body : List Float} {values : List ℕ} where
+module _ {asked : JoinedBody} {body : List Float} {values : List ℕ} where
   pub body-refused : NoRoom bodyNumbers body 2 values → BodyCall asked body values 18 body values
   body-refused short = let none = short .none in record { returned = rw none; figures = rw none; counted = rw none }
 
-  pub body-written : bodyNumbers ≤ length body → 2 ≤ length values → {j : Joined} {r : ℕ} {body' : List Float} {values' : List ℕ} →
+  pub body-written : bodyNumbers ≤ length body → 2 ≤ length values → {j : JoinedBody} {r : ℕ} {body' : List Float} {values' : List ℕ} →
       j ≡ asked → body' ≡ withBody body 0 (j .body) → values' ≡ withValues values (j .verdict) →
       r ≡ numberIn (j .verdict) → BodyCall asked body values r body' values'
   body-written h k e b c n =

@@ -16,7 +16,7 @@ use Rattle.drill.specs.declared.Answer.{Answer}
 use Rattle.drill.specs.Drill.{verdictOf, placeNumber, nearestOf}
 use Rattle.fins.specs.declared.NumberedSet.{NumberedSet}
 use Rattle.bodies.specs.Layout.{bodyNumbers}
-use Rattle.joins.specs.declared.Joined.{Joined}
+use Rattle.joins.specs.declared.JoinedBody.{JoinedBody}
 use Rattle.joins.specs.Flat.{withBody}
 use Rattle.joins.specs.Joins.{combineOf}
 use Rattle.tubes.specs.Closing.{closingOf}
@@ -113,7 +113,7 @@ pub record JoinCall (bodies body : List Float) (r : ℕ) (body' : List Float) : 
 -- ---- a ring of tubes (document 02, Paper 3), copies of a body, and a part moved or taken off (Paper 13): the answer
 -- is a body, or says why it is refused
 
-pub record BodyCall (j : Joined) (body : List Float) (values : List ℕ) (r : ℕ) (body' : List Float)
+pub record BodyCall (j : JoinedBody) (body : List Float) (values : List ℕ) (r : ℕ) (body' : List Float)
     (values' : List ℕ) : Type 0 where
   pub returned : r ≡ cond (room bodyNumbers body 2 values) (numberIn (j .verdict)) (numberOf NoForm)
   pub figures : body' ≡ cond (room bodyNumbers body 2 values) (withBody body 0 (j .body)) body

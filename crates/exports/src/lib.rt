@@ -22,7 +22,7 @@ ghost use Rattle.limits.specs.Limits.{mostSamples};
 ghost use Rattle.exports.specs.Calls.{SetCall, AreaCall, ChordsCall, DrillCall, BodyCall, ClosingCall, JoinCall};
 ghost use Rattle.exports.specs.Calls.{MomentsCall, CheckCall};
 use bodies::BODY_NUMBERS;
-use joins::Joined;
+use joins::JoinedBody;
 use refusals::NO_FORM;
 
 // Writes three figures over the first three numbers.
@@ -37,7 +37,7 @@ fn write_three(figures: &mut [f64], x: f64, y: f64, z: f64)
 
 // Writes the numbers of a body that is answered and two values of a refusal, and returns the number of its verdict.
 // Where a list has no room it returns 18, and writes nothing.
-fn told_body(answer: Joined, body: &mut [f64], values: &mut [usize]) -> usize
+fn told_body(answer: JoinedBody, body: &mut [f64], values: &mut [usize]) -> usize
     ensures { λ r. ⌜
         BodyCall answer (now (body .entry)) (now (values .entry)) r (now (body .exit)) (now (values .exit)) ⌝ }
 {

@@ -160,14 +160,16 @@ module _ (x0 y0 rho span middle : Float) (hx : Below 7 x0) (hy : Below 7 y0) (hr
 
     moved-first : (x k : Float) → Below 7 x → Below 331 k → Below 1021 (movedFirst x (sectorArea rho span) (chordMoment rho span ⊗ k))
     moved-first x k hx hk =
-        within (681 ∷ 7 ∷ 27 ∷ []) [] (chordMoment rho span ⊗ k ∷ x ∷ sectorArea rho span ∷ []) [] (first-below k hk, (hx, (area-below, tt)))
+        within (681 ∷ 7 ∷ 27 ∷ []) [] (chordMoment rho span ⊗ k ∷ x ∷ sectorArea rho span ∷ []) []
+        (first-below k hk, (hx, (area-below, tt)))
         tt
         (given 0 plus given 1 times given 2) 1021 tt
 
     moved-second : (x k : Float) → Below 7 x → Below 331 k
         → Below 1021 (movedSecond x (sectorArea rho span) (chordMoment rho span ⊗ k) (secondMoment rho span k))
     moved-second x k hx hk =
-        within (1019 ∷ 1 ∷ 7 ∷ 681 ∷ 27 ∷ []) [] (secondMoment rho span k ∷ two ∷ x ∷ chordMoment rho span ⊗ k ∷ sectorArea rho span ∷ []) []
+        within (1019 ∷ 1 ∷ 7 ∷ 681 ∷ 27 ∷ []) [] (secondMoment rho span k ∷ two ∷ x ∷ chordMoment rho span ⊗ k ∷ sectorArea rho span ∷ [])
+        []
         (second-below k hk, (two-below, (hx, (first-below k hk, (area-below, tt))))) tt
         (given 0 plus given 1 times given 2 times given 3 plus given 2 times given 2 times given 4) 1021 tt
 

@@ -71,12 +71,12 @@ enum Next {
     Halve(usize),
 }
 
-struct Judged {
+struct Judgement {
     next: Next,
     value: [f64; 7],
 }
 
-fn judge(scratch: &[f64], n: usize, limit: usize) -> Judged
+fn judge(scratch: &[f64], n: usize, limit: usize) -> Judgement
     requires { ⌜ (1 ≤ n) × (n * pieceNumbers ≤ length (now scratch)) ⌝ }
     ensures { λ r. ⌜ r ≡ judgedOf limit (piecesIn n (now (scratch .entry))) ⌝ }
 {
@@ -85,25 +85,25 @@ fn judge(scratch: &[f64], n: usize, limit: usize) -> Judged
     let error = sums.error;
     let b = tolerance::bounds(value);
     if tolerance::all_within(error, b) {
-        return Judged {
+        return Judgement {
             next: Next::Ended(Ending::Accepted),
             value,
         };
     }
     if limit <= n {
-        return Judged {
+        return Judgement {
             next: Next::Ended(Ending::NotConverged(tolerance::component(error, b))),
             value,
         };
     }
     let place = tolerance::worst(scratch, n, b);
     if middle_is_end(pieces::read(scratch, place)) {
-        return Judged {
+        return Judgement {
             next: Next::Ended(Ending::NotConverged(tolerance::component(error, b))),
             value,
         };
     }
-    Judged {
+    Judgement {
         next: Next::Halve(place),
         value,
     }

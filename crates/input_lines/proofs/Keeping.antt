@@ -20,43 +20,54 @@ pub empty : (buffer : List ℕ) → Keeps buffer (record { kept = 0; over = fals
 empty buffer = record { count = refl; bytes = refl; over = refl }
 
 -- ---- more bytes of the line, as many as there is room for
-module _ (begun line : List ℕ) (kept m : ℕ) (count : kept ≡ min lineBytes (length begun)) (most : m ≡ min (length line) (lineBytes - kept)) where
-  first-bytes : take lineBytes begun ++ take m line ≡ take lineBytes (begun ++ line)
-  first-bytes = go (ltb lineBytes (length begun)) refl
-    where
-      go : (t : Bool) → ltb lineBytes (length begun) ≡ t → take lineBytes begun ++ take m line ≡ take lineBytes (begun ++ line)
-      go true t =
-          let l = ltb-true lineBytes (length begun) t in
-          let z : m ≡ 0 = omega arith in
-          ap (λ (k : ℕ). take lineBytes begun ++ take k line) z ∙ append-nil (take lineBytes begun) ∙ sym (take-append-le lineBytes begun line (omega arith))
-      go false t =
-          let l = ltb-false lineBytes (length begun) t in
-          let e : length begun + (lineBytes - length begun) ≡ lineBytes = omega arith in
-          let f : take m line ≡ take (lineBytes - length begun) line = same-bytes (ltb (lineBytes - length begun) (length line)) refl l in
-          ap (λ (a : List ℕ). a ++ take m line) (take-all lineBytes begun l) ∙ ap (λ (a : List ℕ). begun ++ a) f
-          ∙ sym (take-append-add begun line (lineBytes - length begun)) ∙ ap (λ (k : ℕ). take k (begun ++ line)) e
-        where
-          same-bytes : (t : Bool) → ltb (lineBytes - length begun) (length line) ≡ t → length begun ≤ lineBytes → take m line ≡ take (lineBytes - length begun) line
-          same-bytes true t l = let h = ltb-true (lineBytes - length begun) (length line) t in ap (λ (k : ℕ). take k line) (let e : m ≡ lineBytes - length begun = omega arith in e)
-          same-bytes false t l =
-              let h = ltb-false (lineBytes - length begun) (length line) t in
-              take-all m line (omega arith) ∙ sym (take-all (lineBytes - length begun) line h)
+module _ (begun line : List ℕ) (kept m : ℕ) (count : kept ≡ min lineBytes (length begun)) (most : m ≡ min (length line) (lineBytes - kept))
+  where
+    first-bytes : take lineBytes begun ++ take m line ≡ take lineBytes (begun ++ line)
+    first-bytes = go (ltb lineBytes (length begun)) refl
+      where
+        go : (t : Bool) → ltb lineBytes (length begun) ≡ t → take lineBytes begun ++ take m line ≡ take lineBytes (begun ++ line)
+        go true t =
+            let l = ltb-true lineBytes (length begun) t in
+            let z : m ≡ 0 = omega arith in
+            ap (λ (k : ℕ). take lineBytes begun ++ take k line) z ∙ append-nil (take lineBytes begun)
+            ∙ sym (take-append-le lineBytes begun line (omega arith))
+        go false t =
+            let l = ltb-false lineBytes (length begun) t in
+            let e : length begun + (lineBytes - length begun) ≡ lineBytes = omega arith in
+            let f : take m line ≡ take (lineBytes - length begun) line = same-bytes (ltb (lineBytes - length begun) (length line)) refl l in
+            ap (λ (a : List ℕ). a ++ take m line) (take-all lineBytes begun l) ∙ ap (λ (a : List ℕ). begun ++ a) f
+            ∙ sym (take-append-add begun line (lineBytes - length begun)) ∙ ap (λ (k : ℕ). take k (begun ++ line)) e
+          where
+            same-bytes : (t : Bool) → ltb (lineBytes - length begun) (length line) ≡ t → length begun ≤ lineBytes
+                → take m line ≡ take (lineBytes - length begun) line
+            same-bytes true t l = let h = ltb-true (lineBytes - length begun) (length line) t in
+                ap (λ (k : ℕ). take k line) (let e : m ≡ lineBytes - length begun = omega arith in e)
+            same-bytes false t l =
+                let h = ltb-false (lineBytes - length begun) (length line) t in
+                take-all m line (omega arith) ∙ sym (take-all (lineBytes - length begun) line h)
 
-  more-over : (ltb lineBytes (length begun) || ltb (lineBytes - kept) (length line)) ≡ ltb lineBytes (length begun + length line)
-  more-over = go (ltb lineBytes (length begun)) (ltb (lineBytes - kept) (length line)) refl refl
-    where
-      go : (t u : Bool) → ltb lineBytes (length begun) ≡ t → ltb (lineBytes - kept) (length line) ≡ u → (t || u) ≡ ltb lineBytes (length begun + length line)
-      go true u t v = let l = ltb-true lineBytes (length begun) t in sym (lt-ltb lineBytes (length begun + length line) (omega arith))
-      go false true t v =
-          let l = ltb-false lineBytes (length begun) t in let h = ltb-true (lineBytes - kept) (length line) v in sym (lt-ltb lineBytes (length begun + length line) (omega arith))
-      go false false t v =
-          let l = ltb-false lineBytes (length begun) t in let h = ltb-false (lineBytes - kept) (length line) v in sym (le-ltb lineBytes (length begun + length line) (omega arith))
+    more-over : (ltb lineBytes (length begun) || ltb (lineBytes - kept) (length line)) ≡ ltb lineBytes (length begun + length line)
+    more-over = go (ltb lineBytes (length begun)) (ltb (lineBytes - kept) (length line)) refl refl
+      where
+        go : (t u : Bool) → ltb lineBytes (length begun) ≡ t → ltb (lineBytes - kept) (length line) ≡ u
+            → (t || u) ≡ ltb lineBytes (length begun + length line)
+        go true u t v = let l = ltb-true lineBytes (length begun) t in sym (lt-ltb lineBytes (length begun + length line) (omega arith))
+        go false true t v =
+            let l = ltb-false lineBytes (length begun) t in let h = ltb-true (lineBytes - kept) (length line) v in
+            sym (lt-ltb lineBytes (length begun + length line) (omega arith))
+        go false false t v =
+            let l = ltb-false lineBytes (length begun) t in let h = ltb-false (lineBytes - kept) (length line) v in
+            sym (le-ltb lineBytes (length begun + length line) (omega arith))
 
-pub more-kept : (buffer rest line : List ℕ) (s : State) (m : ℕ) → lineBytes ≤ length buffer → s .kept ≤ lineBytes → m ≡ min (length line) (lineBytes - s .kept)
-    → KeepsBytes buffer (take (s .kept) buffer ++ (take m line ++ rest)) s (record { kept = s .kept + m; over = s .over || ltb (lineBytes - s .kept) (length line) }) line
+pub more-kept : (buffer rest line : List ℕ) (s : State) (m : ℕ) → lineBytes ≤ length buffer → s .kept ≤ lineBytes
+    → m ≡ min (length line) (lineBytes - s .kept)
+    → KeepsBytes buffer (take (s .kept) buffer ++ (take m line ++ rest)) s
+    (record { kept = s .kept + m; over = s .over || ltb (lineBytes - s .kept) (length line) }) line
 more-kept buffer rest line s m b w e = record { within = omega arith; keeps = by }
   where
-    by : (begun : List ℕ) → Keeps buffer s begun → Keeps (take (s .kept) buffer ++ (take m line ++ rest)) (record { kept = s .kept + m; over = s .over || ltb (lineBytes - s .kept) (length line) }) (begun ++ line)
+    by : (begun : List ℕ) → Keeps buffer s begun
+        → Keeps (take (s .kept) buffer ++ (take m line ++ rest))
+        (record { kept = s .kept + m; over = s .over || ltb (lineBytes - s .kept) (length line) }) (begun ++ line)
     by begun k =
         let n = k .count in
         let l = length-append begun line in
@@ -69,15 +80,19 @@ more-kept buffer rest line s m b w e = record { within = omega arith; keeps = by
               ∙ take-at (take (s .kept) buffer ++ take m line) rest (s .kept + m) (omega arith)
               ∙ ap (λ (x : List ℕ). x ++ take m line) (k .bytes)
               ∙ first-bytes begun line (s .kept) m n e;
-          over = ap (λ (t : Bool). t || ltb (lineBytes - s .kept) (length line)) (k .over) ∙ more-over begun line (s .kept) m n e ∙ ap (ltb lineBytes) (sym l);
+          over = ap (λ (t : Bool). t || ltb (lineBytes - s .kept) (length line)) (k .over) ∙ more-over begun line (s .kept) m n e
+              ∙ ap (ltb lineBytes) (sym l);
         }
 
 -- the same as `copy` leaves them: it copies `take m line` to the part of the buffer that lies after the bytes kept
-pub copied : (buffer part rest post line : List ℕ) (s : State) (m : ℕ) → lineBytes ≤ length buffer → s .kept ≤ lineBytes → m ≡ min (length line) (lineBytes - s .kept)
+pub copied : (buffer part rest post line : List ℕ) (s : State) (m : ℕ) → lineBytes ≤ length buffer → s .kept ≤ lineBytes
+    → m ≡ min (length line) (lineBytes - s .kept)
     → part ≡ take (length (take m line)) (take m line) ++ rest
-    → KeepsBytes buffer (take (s .kept) buffer ++ (part ++ post)) s (record { kept = s .kept + m; over = s .over || ltb (lineBytes - s .kept) (length line) }) line
+    → KeepsBytes buffer (take (s .kept) buffer ++ (part ++ post)) s
+    (record { kept = s .kept + m; over = s .over || ltb (lineBytes - s .kept) (length line) }) line
 copied buffer part rest post line s m b w e p =
-    let q : part ++ post ≡ take m line ++ (rest ++ post) = ap (λ (x : List ℕ). x ++ post) (p ∙ ap (λ (x : List ℕ). x ++ rest) (take-length (take m line))) ∙ append-assoc (take m line) rest post in
+    let q : part ++ post ≡ take m line ++ (rest ++ post) = ap (λ (x : List ℕ). x ++ post)
+    (p ∙ ap (λ (x : List ℕ). x ++ rest) (take-length (take m line))) ∙ append-assoc (take m line) rest post in
     rw q (more-kept buffer (rest ++ post) line s m b w e)
 
 -- ---- up to the first newline no line ends
@@ -103,7 +118,8 @@ unfolding indexOf indexAfter
 at-newline [] h = absurd (let z : ⊥ = omega arith in z)
 at-newline (x ∷ l) h = by (eqb x 10) refl h (at-newline l)
   where
-    by : (t : Bool) → eqb x 10 ≡ t → indexAfter t (indexOf 10 l) < suc (length l) → (indexOf 10 l < length l → getD l (indexOf 10 l) 0 ≡ 10) → getD (x ∷ l) (indexAfter t (indexOf 10 l)) 0 ≡ 10
+    by : (t : Bool) → eqb x 10 ≡ t → indexAfter t (indexOf 10 l) < suc (length l) → (indexOf 10 l < length l → getD l (indexOf 10 l) 0 ≡ 10)
+        → getD (x ∷ l) (indexAfter t (indexOf 10 l)) 0 ≡ 10
     by true e h i = eqb-true x 10 e
     by false e h i = i (omega arith)
 
@@ -112,7 +128,8 @@ pub in-all : (l : List ℕ) (r : ℕ) → r ≡ 0 + indexOf 10 (slice 0 (length 
 unfolding slice
 in-all l r e = e ∙ zero-add (indexOf 10 (take (length l) l)) ∙ ap (indexOf 10) (take-length l)
 
-pub line-kept : (buffer after bytes : List ℕ) (s r : State) (taken : ℕ) → taken ≡ indexOf 10 bytes → taken ≤ length bytes → KeepsBytes buffer after s r (take taken bytes)
+pub line-kept : (buffer after bytes : List ℕ) (s r : State) (taken : ℕ) → taken ≡ indexOf 10 bytes → taken ≤ length bytes
+    → KeepsBytes buffer after s r (take taken bytes)
     → KeepsLine buffer after s bytes (record { state = r; taken = taken })
 line-kept buffer after bytes s r taken e some k =
     record {

@@ -1,4 +1,5 @@
--- How many of some heights lie below one of them: where they rise, as many as stand before it. Counted from the last to the first. Assumes nothing.
+-- How many of some heights lie below one of them: where they rise, as many as stand before it. Counted from the last to
+-- the first. Assumes nothing.
 use mathlib.Core.Path.{_≡_, refl, sym, ap, ap₂, _∙_}
 use mathlib.Core.Bool.{Bool, true, false, cond, _&&_}
 use mathlib.Core.List.{List, [], _∷_}
@@ -36,7 +37,8 @@ unfolding belowAll
 below-each x [] k h b = absurd (omega (arith, b))
 below-each x (y ∷ l) k h b = go (lt x y) refl k b (below-each x l)
   where
-    go : (t : Bool) → lt x y ≡ t → (k : ℕ) → k < length (y ∷ l) → ((k : ℕ) → belowAll x l ≡ true → k < length l → lt x (at l k) ≡ true) → lt x (at (y ∷ l) k) ≡ true
+    go : (t : Bool) → lt x y ≡ t → (k : ℕ) → k < length (y ∷ l) → ((k : ℕ) → belowAll x l ≡ true → k < length l → lt x (at l k) ≡ true)
+        → lt x (at (y ∷ l) k) ≡ true
     go true t zero b f = t
     go true t (suc k) b f = f k (rw t at h) (omega (arith, b))
     go false t k b f = no (sym h ∙ rw t)
@@ -96,7 +98,12 @@ module _ (planform : Planform) (points : List Float) (b : BreakHeights) (e : b �
   pub some-break : 1 ≤ b .count
   unfolding breakHeights
   some-break =
-      omega (arith, heights-count planform points b e, once-some (sorted (allHeights planform points)) (omega (arith, sorted-length (allHeights planform points))))
+      omega (
+        arith,
+        heights-count planform points b e,
+        once-some (sorted (allHeights planform points))
+            (omega (arith, sorted-length (allHeights planform points))),
+      )
 
   pub few-breaks : (b .count ≤ length (b .heights)) × (b .count ≤ 66)
   few-breaks =
@@ -109,14 +116,19 @@ module _ (job : Job) (n : ℕ) (held : n ≡ heldOf (job .points .count)) (h : F
   Outline· k = take k (job .points .numbers)
 
   abbrev Progress· : Float → List Float → JobProgress
-  Progress· height breaks = record { worked = countBelow height breaks; strips = length breaks - 1; intervals = job .totals .intervals; samples = job .totals .samples }
+  Progress· height breaks = record
+      { worked = countBelow height breaks; strips = length breaks - 1; intervals = job .totals .intervals; samples = job .totals .samples }
 
-  pub progress-read : h ≡ at (allHeights (job .set .planform) (Outline· n)) (job .next) → b ≡ listed (breakHeights (job .set .planform) (Outline· n))
+  pub progress-read : h ≡ at (allHeights (job .set .planform) (Outline· n)) (job .next)
+      → b ≡ listed (breakHeights (job .set .planform) (Outline· n))
       → worked ≡ countBelow h (take (b .count) (b .heights))
-      → _≡_ {A = JobProgress} (record { worked = worked; strips = b .count - 1; intervals = job .totals .intervals; samples = job .totals .samples }) (progressOf job)
+      → _≡_ {A = JobProgress}
+      (record { worked = worked; strips = b .count - 1; intervals = job .totals .intervals; samples = job .totals .samples })
+      (progressOf job)
   unfolding progressOf
   progress-read height breaks counted =
       ap₂ (λ (w s : ℕ). record { worked = w; strips = s - 1; intervals = job .totals .intervals; samples = job .totals .samples })
       (counted ∙ ap (countBelow h) (heights-taken _ _ b breaks)) (heights-count _ _ b breaks)
       ∙ ap (λ (x : Float). Progress· x (breakHeights (job .set .planform) (Outline· n))) height
-      ∙ ap (λ (k : ℕ). Progress· (at (allHeights (job .set .planform) (Outline· k)) (job .next)) (breakHeights (job .set .planform) (Outline· k))) held
+      ∙ ap (λ (k : ℕ). Progress· (at (allHeights (job .set .planform) (Outline· k)) (job .next))
+      (breakHeights (job .set .planform) (Outline· k))) held

@@ -30,8 +30,10 @@ held-most count = go (leb count outlineNumbers) refl
 held-take : (points : List Float) → take (heldOf (length points)) points ≡ take outlineNumbers points
 held-take points = go (leb (length points) outlineNumbers) refl
   where
-    go : (b : Bool) → leb (length points) outlineNumbers ≡ b → take (cond b (length points) outlineNumbers) points ≡ take outlineNumbers points
-    go true e = take-all (length points) points (omega arith) ∙ sym (take-all outlineNumbers points (leb-true (length points) outlineNumbers e))
+    go : (b : Bool) → leb (length points) outlineNumbers ≡ b
+        → take (cond b (length points) outlineNumbers) points ≡ take outlineNumbers points
+    go true e = take-all (length points) points (omega arith)
+        ∙ sym (take-all outlineNumbers points (leb-true (length points) outlineNumbers e))
     go false e = refl
 
 -- what holds where i numbers are copied
@@ -50,11 +52,13 @@ module _ (points numbers : List Float) (i : ℕ) (c : Copying points numbers i) 
   next h =
       let few = held-most (length points) in
       let inside : i < length points = omega (arith, few .0) in
-      let longer : take i points ++ (at points i ∷ []) ≡ take (i + 1) points = sym (take-suc points i nan inside) ∙ ap (λ (k : ℕ). take k points) (sym (add-one i)) in
+      let longer : take i points ++ (at points i ∷ []) ≡ take (i + 1) points = sym (take-suc points i nan inside)
+      ∙ ap (λ (k : ℕ). take k points) (sym (add-one i)) in
       record {
         inside = omega arith;
         written = subst (λ (l : List Float). Written l Zeros (set numbers i (at points i)) (i + 1)) longer
-            (written-put (at points i) (c .written) (let l : length (take i points) ≡ i = length-take-le i points (omega (arith, inside)) in omega (arith, l, few .1)));
+            (written-put (at points i) (c .written)
+            (let l : length (take i points) ≡ i = length-take-le i points (omega (arith, inside)) in omega (arith, l, few .1)));
       }
 
   pub end : heldOf (length points) ≤ i → Made numbers i ≡ pointsOf points

@@ -34,7 +34,8 @@ keptOf points = take (heldOf (pointsOf points .count)) (pointsOf points .numbers
 all-kept : (points : List Float) → length points ≤ outlineNumbers → keptOf points ≡ points
 all-kept points few =
     ap (λ (l : List Float). take (heldOf (length l)) (over l (replicate outlineNumbers (bits 0)))) (take-all outlineNumbers points few)
-    ∙ ap (λ (b : Bool). take (cond b (length points) outlineNumbers) (over points (replicate outlineNumbers (bits 0)))) (le-leb (length points) outlineNumbers few)
+    ∙ ap (λ (b : Bool). take (cond b (length points) outlineNumbers) (over points (replicate outlineNumbers (bits 0))))
+    (le-leb (length points) outlineNumbers few)
     ∙ take-over points (replicate outlineNumbers (bits 0))
 
 -- "points not 3 to 64 whole pairs"
@@ -49,14 +50,17 @@ outline-few points h =
 
 -- what strips and figures read of points is the same of others
 pub record Same (planform : Planform) (points others : List Float) : Type 0 where
-  pub plate : (section : Section) (thickness radius : Float) → plateOf planform others section thickness radius ≡ plateOf planform points section thickness radius
+  pub plate : (section : Section) (thickness radius : Float)
+      → plateOf planform others section thickness radius ≡ plateOf planform points section thickness radius
   pub root : rootChordOf planform others ≡ rootChordOf planform points
   pub scale : scaleOf planform others ≡ scaleOf planform points
   pub heights : allHeights planform others ≡ allHeights planform points
 
-pub kept-same : (planform : Planform) (points : List Float) → planformCheck planform points ≡ Accepted → Same planform points (keptOf points)
+pub kept-same : (planform : Planform) (points : List Float) → planformCheck planform points ≡ Accepted
+    → Same planform points (keptOf points)
 unfolding planformCheck rootChordOf spanOf scaleOf everyY endsAt sampleOf plateOf
-kept-same (Trapezoid root tip span sweep) points h = record { plate = λ section thickness radius. refl; root = refl; scale = refl; heights = refl }
+kept-same (Trapezoid root tip span sweep) points h = record
+    { plate = λ section thickness radius. refl; root = refl; scale = refl; heights = refl }
 kept-same (Ellipse root span) points h = record { plate = λ section thickness radius. refl; root = refl; scale = refl; heights = refl }
 kept-same Outline points h =
     let e = all-kept points (outline-few points h) in

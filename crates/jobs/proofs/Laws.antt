@@ -20,14 +20,15 @@ use Rattle.integrands.specs.declared.Integrand.{Integrand}
 use Rattle.integrands.specs.Integrands.{plateIntegrand, plateOf}
 use Rattle.halving.specs.declared.Totals.{Totals}
 use Rattle.strips.specs.Strips.{Run, Worked, isAccepted, stepRunOf, runCheck, hasStrip, stripFrom, onwardOf}
-use Rattle.strips.specs.declared.Onward.{Onward}
+use Rattle.strips.specs.declared.Advance.{Advance}
 use Rattle.jobs.specs.declared.Job.{Job}
 use Rattle.jobs.specs.declared.Progress.the-variants.{Short, Ended}
-use Rattle.jobs.specs.declared.Stepped.{Stepped}
-use Rattle.jobs.specs.declared.Replied.{Replied}
+use Rattle.jobs.specs.declared.JobStep.{JobStep}
+use Rattle.jobs.specs.declared.JobReply.{JobReply}
 use Rattle.fins.specs.declared.FinSet.{FinSet}
 use Rattle.figures.specs.declared.Figures.{Figures}
-use Rattle.jobs.specs.Jobs.{heldOf, outlineOf, stepRun, runOfJob, nextStrip, stepRow, more, ended, endedBy, outcomeOf, afterStrip, workedStrip, steppedOn, stepAfter, steppedBy, isShort, stepOf}
+use Rattle.jobs.specs.Jobs.{heldOf, outlineOf, stepRun, runOfJob, nextStrip, stepRow, more, ended, endedBy, outcomeOf, afterStrip}
+use Rattle.jobs.specs.Jobs.{workedStrip, steppedOn, stepAfter, steppedBy, isShort, stepOf}
 use Rattle.jobs.specs.Jobs.{taken, kept, changeOf}
 use Rattle.jobs.specs.Calls.{Call, jobBy, afterCalls, counts, stripsBy, step}
 
@@ -44,7 +45,8 @@ pub withheld : {A : Type 0} {v : Verdict} (a : A) (f : Refusal → A) (r : Refus
 withheld {A} {v} a f r e = ap (λ (x : Verdict). byVerdict x a f) e
 
 -- what does one call does another that is the same
-pub does-by : {A : Type 0} {call other : CallOf A} {r : A} {entry exit : List Float} → call ≡ other → Does other r entry exit → Does call r entry exit
+pub does-by : {A : Type 0} {call other : CallOf A} {r : A} {entry exit : List Float} → call ≡ other → Does other r entry exit
+    → Does call r entry exit
 does-by {A} {call} {other} {r} {entry} {exit} e h = subst (λ (c : CallOf A). Does c r entry exit) (sym e) h
 
 -- ---- a step
@@ -98,7 +100,8 @@ module _ (job : Job) (n : ℕ) where
       step-on (short-is false Accepted Accepted e limit scratch) ∙ ap steppedBy (on-works job e limit)
 
   -- a step that is not short works a strip
-  pub in-room : job .ended ≡ false → limitCheck (job .limit) ≡ Accepted → isShort (job .ended) (job .limit) n ≡ false → runCheck (job .limit) n ≡ Accepted
+  pub in-room : job .ended ≡ false → limitCheck (job .limit) ≡ Accepted → isShort (job .ended) (job .limit) n ≡ false
+      → runCheck (job .limit) n ≡ Accepted
   unfolding isRefused firstRefusal
   in-room e v h =
       ap (λ (x : Verdict). firstRefusal x (scratchCheck (job .limit) n)) v
@@ -109,10 +112,12 @@ module _ (job : Job) (n : ℕ) where
       by (Refused r) k = absurd (true≢false k)
 
   -- what holds of a step in each of its ways
-  pub of-step : (P : CallOf Stepped → Type 0)
+  pub of-step : (P : CallOf JobStep → Type 0)
       → (job .ended ≡ true → P (leavesAlone (record { job = job; progress = Ended })))
-      → ((r : Refusal) → job .ended ≡ false → runCheck (job .limit) n ≡ Refused r → P (leavesAlone (record { job = job; progress = Short })))
-      → ((r : Refusal) → job .ended ≡ false → runCheck (job .limit) n ≡ Refused r → P (leavesAlone (record { job = endedBy job r; progress = Ended })))
+      → ((r : Refusal) → job .ended ≡ false → runCheck (job .limit) n ≡ Refused r
+      → P (leavesAlone (record { job = job; progress = Short })))
+      → ((r : Refusal) → job .ended ≡ false → runCheck (job .limit) n ≡ Refused r
+      → P (leavesAlone (record { job = endedBy job r; progress = Ended })))
       → (job .ended ≡ false → runCheck (job .limit) n ≡ Accepted → P (steppedBy (workedStrip job)))
       → P (stepOf job n)
   unfolding firstRefusal
@@ -130,8 +135,9 @@ module _ (job : Job) (n : ℕ) where
       by-end true e = subst P (sym (step-ended e)) (again e)
       by-end false e = by-check e (limitCheck (job .limit)) (scratchCheck (job .limit) n) refl refl
 
-module _ (job : Job) (onward : Onward) where
-  pub after-more : (isAccepted (onward .total .ending) && onward .more) ≡ true → afterStrip job onward ≡ more job (onward .total .totals) (onward .next)
+module _ (job : Job) (onward : Advance) where
+  pub after-more : (isAccepted (onward .total .ending) && onward .more) ≡ true
+      → afterStrip job onward ≡ more job (onward .total .totals) (onward .next)
   unfolding afterStrip
   after-more e = yes _ _ e
 
@@ -144,10 +150,13 @@ module _ (job : Job) (onward : Onward) where
 pub both-told : (a b answer : Bool) {t : Bool} → answer ≡ a → (answer && b) ≡ t → (a && b) ≡ t
 both-told a b answer e h = ap (λ (x : Bool). x && b) (sym e) ∙ h
 
-pub ends-so : (job : Job) (onward : Onward) (n : ℕ) → n ≡ heldOf (job .points .count) → (figures : Figures) → figures ≡ outcomeOf (job .set) (take n (job .points .numbers)) (onward .total)
-    → (r : Job) → r ≡ ended job (onward .total .totals) (onward .next) figures → (isAccepted (onward .total .ending) && onward .more) ≡ false → r ≡ afterStrip job onward
+pub ends-so : (job : Job) (onward : Advance) (n : ℕ) → n ≡ heldOf (job .points .count) → (figures : Figures)
+    → figures ≡ outcomeOf (job .set) (take n (job .points .numbers)) (onward .total)
+    → (r : Job) → r ≡ ended job (onward .total .totals) (onward .next) figures
+    → (isAccepted (onward .total .ending) && onward .more) ≡ false → r ≡ afterStrip job onward
 ends-so job onward n e figures f r k h =
-    k ∙ ap (ended job (onward .total .totals) (onward .next)) (f ∙ ap (λ (m : ℕ). outcomeOf (job .set) (take m (job .points .numbers)) (onward .total)) e) ∙ sym (after-last job onward h)
+    k ∙ ap (ended job (onward .total .totals) (onward .next))
+    (f ∙ ap (λ (m : ℕ). outcomeOf (job .set) (take m (job .points .numbers)) (onward .total)) e) ∙ sym (after-last job onward h)
 
 -- the strips that the code works are those of the set
 same-run : (set : FinSet) (points : List Float) (L : ℕ) (integrand : Integrand)
@@ -158,16 +167,18 @@ same-run set points L integrand f = ap (λ (g : Integrand). stepRunOf g points L
 
 pub same-next : (set : FinSet) (points : List Float) (L : ℕ) (integrand : Integrand)
     → integrand ≡ plateIntegrand (set .planform) points (set .«cross_section») (set .«thickness_m») (set .«body_radius_m»)
-    → (i : ℕ) (totals : Totals) (entry : List Float) (r : Onward) (exit : List Float)
+    → (i : ℕ) (totals : Totals) (entry : List Float) (r : Advance) (exit : List Float)
     → Does (onwardOf (stepRunOf integrand points L) i totals) r entry exit → Does (onwardOf (stepRun set points L) i totals) r entry exit
-same-next set points L integrand f i totals entry r exit w = subst (λ (run : Run). Does (onwardOf run i totals) r entry exit) (same-run set points L integrand f) w
+same-next set points L integrand f i totals entry r exit w = subst (λ (run : Run). Does (onwardOf run i totals) r entry exit)
+    (same-run set points L integrand f) w
 
 -- and the points those of the record's copy
-pub same-copy : (job : Job) (n : ℕ) → n ≡ heldOf (job .points .count) → (entry : List Float) (r : Onward) (exit : List Float)
+pub same-copy : (job : Job) (n : ℕ) → n ≡ heldOf (job .points .count) → (entry : List Float) (r : Advance) (exit : List Float)
     → Does (onwardOf (stepRun (job .set) (take n (job .points .numbers)) (job .limit)) (job .next) (job .totals)) r entry exit
     → Does (nextStrip job) r entry exit
 same-copy job n e entry r exit w =
-    subst (λ (m : ℕ). Does (onwardOf (stepRun (job .set) (take m (job .points .numbers)) (job .limit)) (job .next) (job .totals)) r entry exit) e w
+    subst (λ (m : ℕ). Does (onwardOf (stepRun (job .set) (take m (job .points .numbers)) (job .limit)) (job .next) (job .totals)) r entry
+    exit) e w
 
 -- ---- the strip of a step
 module _ (job : Job) (scratch : List Float) where
@@ -180,13 +191,15 @@ module _ (job : Job) (scratch : List Float) where
   pub none-ended : job .ended ≡ true → stripsBy job (step scratch) ≡ []
   none-ended e = ap (λ (b : Bool). cond (not b && (not (isRefused (runCheck (job .limit) (length scratch))) && There·)) Strip· []) e
 
-  pub none-refused : (r : Refusal) → job .ended ≡ false → runCheck (job .limit) (length scratch) ≡ Refused r → stripsBy job (step scratch) ≡ []
+  pub none-refused : (r : Refusal) → job .ended ≡ false → runCheck (job .limit) (length scratch) ≡ Refused r
+      → stripsBy job (step scratch) ≡ []
   unfolding isRefused
   none-refused r e v =
       ap (λ (b : Bool). cond (not b && (not (isRefused (runCheck (job .limit) (length scratch))) && There·)) Strip· []) e
       ∙ ap (λ (x : Verdict). cond (not (isRefused x) && There·) Strip· []) v
 
-  pub one-if-there : job .ended ≡ false → runCheck (job .limit) (length scratch) ≡ Accepted → stripsBy job (step scratch) ≡ cond There· Strip· []
+  pub one-if-there : job .ended ≡ false → runCheck (job .limit) (length scratch) ≡ Accepted
+      → stripsBy job (step scratch) ≡ cond There· Strip· []
   unfolding isRefused
   one-if-there e v =
       ap (λ (b : Bool). cond (not b && (not (isRefused (runCheck (job .limit) (length scratch))) && There·)) Strip· []) e
@@ -214,7 +227,7 @@ module _ (job : Job) (n : ℕ) where
   -- a step that ends the job, or finds it ended, says so
   pub says-ended : stepOf job n .answer .job .ended ≡ true → stepOf job n .answer .progress ≡ Ended
   says-ended =
-      of-step job n (λ (c : CallOf Stepped). c .answer .job .ended ≡ true → c .answer .progress ≡ Ended) (λ e k. refl)
+      of-step job n (λ (c : CallOf JobStep). c .answer .job .ended ≡ true → c .answer .progress ≡ Ended) (λ e k. refl)
       (λ r e v k. absurd (true≢false (sym k ∙ e))) (λ r e v k. refl) (λ e v k. ap stepAfter k)
 
   pub step-samples : (most : ℕ) → job .totals .samples ≤ most
@@ -222,7 +235,8 @@ module _ (job : Job) (n : ℕ) where
       → stepRow (stepOf job n .answer .progress) (stepOf job n .answer .job) .figures .samples ≤ most
   step-samples most so-far =
       of-step job n
-      (λ (c : CallOf Stepped). (c .answer .job .ended ≡ true → c .answer .job .outcome .samples ≤ most) → stepRow (c .answer .progress) (c .answer .job) .figures .samples ≤ most)
+      (λ (c : CallOf JobStep). (c .answer .job .ended ≡ true → c .answer .job .outcome .samples ≤ most)
+      → stepRow (c .answer .progress) (c .answer .job) .figures .samples ≤ most)
       (λ e h. h e) (λ r e v h. so-far) (λ r e v h. so-far) (λ e v h. by h (After· .ended) refl)
     where
       by : (After· .ended ≡ true → After· .outcome .samples ≤ most) → (b : Bool) → After· .ended ≡ b
@@ -235,9 +249,9 @@ pub change-samples : (job : Job) (density : Density) (most : ℕ) → job .total
 change-samples job density most so-far = by (job .ended) refl (densityCheck density) refl
   where
     by : (e : Bool) → job .ended ≡ e → (v : Verdict) → densityCheck density ≡ v → changeOf job density .reply .samples ≤ most
-    by true e v d = subst (λ (s : Replied). s .reply .samples ≤ most) (sym (change-ended job density e)) so-far
-    by false e (Refused r) d = subst (λ (s : Replied). s .reply .samples ≤ most) (sym (change-refused job density r e d)) so-far
-    by false e Accepted d = subst (λ (s : Replied). s .reply .samples ≤ most) (sym (change-taken job density e d)) (omega arith)
+    by true e v d = subst (λ (s : JobReply). s .reply .samples ≤ most) (sym (change-ended job density e)) so-far
+    by false e (Refused r) d = subst (λ (s : JobReply). s .reply .samples ≤ most) (sym (change-refused job density r e d)) so-far
+    by false e Accepted d = subst (λ (s : JobReply). s .reply .samples ≤ most) (sym (change-taken job density e d)) (omega arith)
 
 -- ---- lists of calls, one after the other
 pub after-both : (job : Job) (calls later : List Call) → afterCalls job (calls ++ later) ≡ afterCalls (afterCalls job calls) later

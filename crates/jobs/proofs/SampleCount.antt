@@ -22,8 +22,8 @@ use Rattle.figures.specs.Answers.{setReport}
 use Rattle.figures.proofs.StripCount.{set-strips-counted}
 use Rattle.figures.proofs.Answers.{set-reported}
 use Rattle.jobs.specs.declared.Job.{Job}
-use Rattle.jobs.specs.declared.Stepped.{Stepped}
-use Rattle.jobs.specs.declared.Replied.{Replied}
+use Rattle.jobs.specs.declared.JobStep.{JobStep}
+use Rattle.jobs.specs.declared.JobReply.{JobReply}
 use Rattle.refusals.specs.Calls.{CallOf}
 use Rattle.limits.specs.Limits.{pieceNumbers, mostStrips, mostSamples}
 use Rattle.jobs.specs.Jobs.{makingCheck, madeWith, madeOf}
@@ -73,15 +73,16 @@ module _ (set : FinSet) (points : List Float) (L : ℕ) (made : makingCheck set 
 ended-stays : (job : Job) → job .ended ≡ true → (calls : List Call) → afterCalls job calls ≡ job
 ended-stays job e [] = refl
 ended-stays job e (step scratch ∷ calls) =
-    ap (λ (c : CallOf Stepped). afterCalls (c .answer .job) calls) (step-ended job (length scratch) e) ∙ ended-stays job e calls
+    ap (λ (c : CallOf JobStep). afterCalls (c .answer .job) calls) (step-ended job (length scratch) e) ∙ ended-stays job e calls
 ended-stays job e (change density ∷ calls) =
-    ap (λ (s : Replied). afterCalls (s .job) calls) (change-ended job density e) ∙ ended-stays job e calls
+    ap (λ (s : JobReply). afterCalls (s .job) calls) (change-ended job density e) ∙ ended-stays job e calls
 
 ended-most : (job : Job) → job .ended ≡ true → job .totals .samples ≤ mostSamples → job .outcome .samples ≤ mostSamples → (call : Call)
     → answerBy job call .figures .samples ≤ mostSamples
 ended-most job e few few-at-end (step scratch) =
     step-samples job (length scratch) mostSamples few
-    (λ k. subst (λ (c : CallOf Stepped). c .answer .job .outcome .samples ≤ mostSamples) (sym (step-ended job (length scratch) e)) few-at-end)
+    (λ k. subst (λ (c : CallOf JobStep). c .answer .job .outcome .samples ≤ mostSamples) (sym (step-ended job (length scratch) e))
+    few-at-end)
 ended-most job e few few-at-end (change density) = change-samples job density mostSamples few
 
 module _ (set : FinSet) (points : List Float) (L : ℕ) (refusal : Refusal) (made : makingCheck set points L ≡ Refused refusal) where

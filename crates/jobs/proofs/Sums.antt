@@ -14,19 +14,22 @@ use Rattle.halving.specs.Scratch.{intervalsOf}
 use Rattle.halving.specs.declared.Ending.{Ending}
 use Rattle.halving.specs.declared.Ending.the-variants.{Accepted}
 use Rattle.halving.specs.declared.Integral.{Integral}
-use Rattle.strips.specs.Strips.{Worked, samplesOf, isAccepted, stripOf, workedOf, endingFrom, samplesIn, intervalsIn, summedOf, withStrip, integralIn}
+use Rattle.strips.specs.Strips.{Worked, samplesOf, isAccepted, stripOf, workedOf, endingFrom, samplesIn, intervalsIn, summedOf, withStrip}
+use Rattle.strips.specs.Strips.{integralIn}
 use Rattle.strips.specs.Claim.{Each}
 use Rattle.strips.proofs.Upward.{none, totalsFrom, totals-are, strip-few}
 use Rattle.strips.proofs.Claims.{each-worked}
 
 -- ---- one strip more
-totals-with : (t : Integral) (strips : List Worked) (s : Worked) → totalsFrom t (strips ++ (s ∷ [])) ≡ withStrip (totalsFrom t strips .totals) (integralIn s)
+totals-with : (t : Integral) (strips : List Worked) (s : Worked)
+    → totalsFrom t (strips ++ (s ∷ [])) ≡ withStrip (totalsFrom t strips .totals) (integralIn s)
 totals-with t [] s = refl
 totals-with t (x ∷ strips) s = totals-with (withStrip (t .totals) (integralIn x)) strips s
 
 pub summed-with : (strips : List Worked) (s : Worked) → withStrip (summedOf strips .totals) (integralIn s) ≡ summedOf (strips ++ (s ∷ []))
 summed-with strips s =
-    ap (λ (t : Integral). withStrip (t .totals) (integralIn s)) (sym (totals-are strips)) ∙ sym (totals-with none strips s) ∙ totals-are (strips ++ (s ∷ []))
+    ap (λ (t : Integral). withStrip (t .totals) (integralIn s)) (sym (totals-are strips)) ∙ sym (totals-with none strips s)
+    ∙ totals-are (strips ++ (s ∷ []))
 
 pub ending-with : (e : Ending) (strips : List Worked) (s : Worked) → endingFrom e (strips ++ (s ∷ [])) ≡ s .halved .ending
 ending-with e [] s = refl
@@ -36,7 +39,8 @@ ending-with e (x ∷ strips) s = ending-with (x .halved .ending) strips s
 abbrev pub Few : Worked → Type 0
 Few s = (intervalsOf (s .lower) (s .upper) (s .halved) ≤ mostPieces) × (samplesOf s ≤ samplesFor mostPieces)
 
-pub few-in : (strips : List Worked) → Each Few strips → (intervalsIn strips ≤ mostPieces * length strips) × (samplesIn strips ≤ samplesFor mostPieces * length strips)
+pub few-in : (strips : List Worked) → Each Few strips
+    → (intervalsIn strips ≤ mostPieces * length strips) × (samplesIn strips ≤ samplesFor mostPieces * length strips)
 few-in [] e = (omega arith, omega arith)
 few-in (s ∷ strips) e =
     let rest = few-in strips (e .1) in
@@ -64,7 +68,8 @@ accepts : (e : Ending) → e ≡ Accepted → isAccepted e ≡ true
 accepts e h = ap isAccepted h
 
 module _ (f : Float → List Float) (L : ℕ) (scale : Float) where
-  pub worked-all : (heights : List Float) (e : Ending) → endingFrom e (workedOf 7 f L scale heights) ≡ Accepted → length (workedOf 7 f L scale heights) ≡ length heights - 0 - 1
+  pub worked-all : (heights : List Float) (e : Ending) → endingFrom e (workedOf 7 f L scale heights) ≡ Accepted
+      → length (workedOf 7 f L scale heights) ≡ length heights - 0 - 1
   unfolding workedOf
   worked-all [] e h = omega arith
   worked-all (x ∷ []) e h = omega arith
@@ -76,7 +81,8 @@ module _ (f : Float → List Float) (L : ℕ) (scale : Float) where
       rest : List Worked
       rest = workedOf 7 f L scale (y ∷ heights)
 
-      go : (b : Bool) → isAccepted E ≡ b → (endingFrom E rest ≡ Accepted → length rest ≡ length (y ∷ heights) - 0 - 1) → endingFrom E (cond b rest []) ≡ Accepted
+      go : (b : Bool) → isAccepted E ≡ b → (endingFrom E rest ≡ Accepted → length rest ≡ length (y ∷ heights) - 0 - 1)
+          → endingFrom E (cond b rest []) ≡ Accepted
           → suc (length (cond b rest [])) ≡ length (x ∷ y ∷ heights) - 0 - 1
       go true a below k = omega (arith, below k)
       go false a below k = absurd (true≢false (sym (accepts E k) ∙ a))

@@ -1,4 +1,5 @@
--- What holds over any calls on a job together. The record is at each point that of the strips worked so far and the density accepted last; no strip
+-- What holds over any calls on a job together. The record is at each point that of the strips worked so far and the
+-- density accepted last; no strip
 -- looks at the density, so a change keeps the strips. By induction over the calls. Assumes nothing.
 use mathlib.Core.Path.{_≡_, refl, sym, ap, ap₂, subst, _∙_}
 use mathlib.Core.Bool.{Bool, true, false, not, cond, _&&_, true≢false}
@@ -34,22 +35,25 @@ use Rattle.outlines.specs.Outlines.{planformCheck}
 use Rattle.fins.specs.Fins.{ownChecks, ownCheck, setCheck}
 use Rattle.halving.specs.declared.Ending.the-variants.{Accepted as accepted}
 use Rattle.halving.specs.declared.Integral.{Integral}
-use Rattle.strips.specs.declared.Onward.{Onward}
-use Rattle.strips.specs.Strips.{Run, Worked, isAccepted, workedOf, stripsIn, stripOf, stripAt, stripsFrom, nextPlace, hasStrip, stripFrom, runCheck, samplesIn, intervalsIn, endingOf, summedOf, withStrip, inWords, integralIn, workedOn, onwardOf}
+use Rattle.strips.specs.declared.Advance.{Advance}
+use Rattle.strips.specs.Strips.{Run, Worked, isAccepted, workedOf, stripsIn, stripOf, stripAt, stripsFrom, nextPlace, hasStrip, stripFrom}
+use Rattle.strips.specs.Strips.{runCheck, samplesIn, intervalsIn, endingOf, summedOf, withStrip, inWords, integralIn, workedOn, onwardOf}
 use Rattle.strips.specs.Claim.{Each, StripsAre, AreReported}
 use Rattle.strips.proofs.Upward.{strip-at, none-left, fits-words}
 use Rattle.strips.proofs.Onwards.{onward-works}
 use Rattle.strips.proofs.Claims.{strips-are}
-use Rattle.figures.specs.Figures.{bareFigures, setIntegrand, setRun, refusedFigures, concludedSet, workedFigures, workedSet, setFigures, setCall}
+use Rattle.figures.specs.Figures.{bareFigures, setIntegrand, setRun, refusedFigures, concludedSet, workedFigures, workedSet, setFigures}
+use Rattle.figures.specs.Figures.{setCall}
 use Rattle.figures.specs.Answers.{setReport}
 use Rattle.figures.proofs.StripCount.{worked-few, heights-some, all-numbers, none-under-zero}
 use Rattle.figures.proofs.Answers.{set-reported}
 use Rattle.jobs.specs.declared.Job.{Job}
 use Rattle.jobs.specs.declared.Progress.the-variants.{Ended}
 use Rattle.jobs.specs.declared.JobProgress.{JobProgress}
-use Rattle.jobs.specs.declared.Stepped.{Stepped}
-use Rattle.jobs.specs.declared.Replied.{Replied}
-use Rattle.jobs.specs.Jobs.{pointsOf, outlineOf, stepRun, runOfJob, nextStrip, more, ended, outcomeOf, afterStrip, stepOf, withDensity, taken, changeOf, makingCheck, madeWith, madeOf, countBelow, progressOf}
+use Rattle.jobs.specs.declared.JobStep.{JobStep}
+use Rattle.jobs.specs.declared.JobReply.{JobReply}
+use Rattle.jobs.specs.Jobs.{pointsOf, outlineOf, stepRun, runOfJob, nextStrip, more, ended, outcomeOf, afterStrip, stepOf}
+use Rattle.jobs.specs.Jobs.{withDensity, taken, changeOf, makingCheck, madeWith, madeOf, countBelow, progressOf}
 use Rattle.jobs.specs.Calls.{Call, step, change, jobBy, afterCalls, counts, stripsBy, stripsOver}
 use Rattle.jobs.specs.Calls.{isTaken, densityBy, densityOver, placeOfStrip, runningJob, progressOver, OverCalls}
 use Rattle.jobs.proofs.Below.{below-rising}
@@ -126,7 +130,8 @@ module _ (set : FinSet) (points : List Float) (L : ℕ) (made : makingCheck set 
 
   -- ---- strip by strip, without sorting: the place of each lower end, and the strip from there
   place-is : (k : ℕ) → k < length Heights· → at Every· (Place· k) ≡ at Heights· k
-  place-is zero b = sym (first-break (set .planform) points (all-numbers (set .planform) points planform-checked) (none-under-zero (set .planform) points planform-checked))
+  place-is zero b = sym (first-break (set .planform) points (all-numbers (set .planform) points planform-checked)
+      (none-under-zero (set .planform) points planform-checked))
   place-is (suc k) b = next-break (set .planform) points (all-numbers (set .planform) points planform-checked) k (omega arith)
 
   next-is : (k : ℕ) → k < length Heights· → nextPlace Steps· (Place· k) ≡ Place· (suc k)
@@ -137,13 +142,15 @@ module _ (set : FinSet) (points : List Float) (L : ℕ) (made : makingCheck set 
 
   strip-is : (k : ℕ) → k < length Heights· → stripFrom Steps· (Place· k) ≡ stripAt Run· k
   strip-is k b =
-      ap₂ (λ (lower upper : Float). stripOf 7 f· L (lower ⊘ Scale·) (upper ⊘ Scale·)) (place-is k b) (upper-is k b ∙ ap (at Heights·) (sym (add-one k)))
+      ap₂ (λ (lower upper : Float). stripOf 7 f· L (lower ⊘ Scale·) (upper ⊘ Scale·)) (place-is k b)
+      (upper-is k b ∙ ap (at Heights·) (sym (add-one k)))
 
   has-is : (k : ℕ) → k < length Heights· → hasStrip Steps· (Place· k) ≡ lt (at Heights· k) (at Heights· (suc k))
   has-is k b = ap₂ lt (place-is k b) (upper-is k b)
 
   has-strip : (k : ℕ) → 0 < stripsFrom Run· k → hasStrip Steps· (Place· k) ≡ true
-  has-strip k h = has-is k (omega (arith, h)) ∙ next-above (set .planform) points (all-numbers (set .planform) points planform-checked) k (omega (arith, h))
+  has-strip k h = has-is k (omega (arith, h))
+      ∙ next-above (set .planform) points (all-numbers (set .planform) points planform-checked) k (omega (arith, h))
 
   no-strip : (k : ℕ) → k < length Heights· → stripsFrom Run· k ≤ 0 → hasStrip Steps· (Place· k) ≡ false
   no-strip k b h = has-is k b ∙ none-above (set .planform) points (all-numbers (set .planform) points planform-checked) k (omega (arith, h))
@@ -160,10 +167,17 @@ module _ (set : FinSet) (points : List Float) (L : ℕ) (made : makingCheck set 
 
   abbrev progressBy : List Float → List Float → ℕ → List Worked → JobProgress
   progressBy every breaks next strips =
-      record { worked = countBelow (at every next) breaks; strips = length breaks - 1; intervals = intervalsIn strips; samples = samplesIn strips }
+      record {
+        worked = countBelow (at every next) breaks;
+        strips = length breaks - 1;
+        intervals = intervalsIn strips;
+        samples = samplesIn
+            strips;
+      }
 
   progress-is : (next : ℕ) (strips : List Worked) → next ≡ Place· (length strips) → length strips < length Heights·
-      → progressBy (allHeights (set .planform) (keptOf points)) (breakHeights (set .planform) (keptOf points)) next strips ≡ progressOver Run· strips
+      → progressBy (allHeights (set .planform) (keptOf points)) (breakHeights (set .planform) (keptOf points)) next strips
+      ≡ progressOver Run· strips
   progress-is next strips e b =
       ap₂ (λ (every breaks : List Float). progressBy every breaks next strips) (same .heights) same-breaks
       ∙ ap (λ (place : ℕ). progressBy Every· Heights· place strips) e
@@ -171,7 +185,8 @@ module _ (set : FinSet) (points : List Float) (L : ℕ) (made : makingCheck set 
       (below-place (length strips) b) (omega arith)
 
   -- a step over scratch that is long enough works a strip where one is left
-  going-counts : (d : Density) (strips : List Worked) (n : ℕ) → runCheck L n ≡ Accepted → 0 < stripsFrom Run· (length strips) → counts (jobAt d strips) n ≡ true
+  going-counts : (d : Density) (strips : List Worked) (n : ℕ) → runCheck L n ≡ Accepted → 0 < stripsFrom Run· (length strips)
+      → counts (jobAt d strips) n ≡ true
   unfolding isRefused
   going-counts d strips n v below =
       ap (λ (x : Verdict). not (isRefused x) && hasStrip (runOfJob (jobAt d strips)) (Place· (length strips))) v
@@ -246,27 +261,34 @@ module _ (set : FinSet) (points : List Float) (L : ℕ) (made : makingCheck set 
         go true e = has-strip (suc (length strips)) (let h = ltb-true 0 Left· e in omega (arith, h)) ∙ sym e
         go false e = no-strip (suc (length strips)) (omega (arith, inside)) (let h = ltb-false 0 Left· e in omega (arith, h)) ∙ sym e
 
-    abbrev Onward· : Integral → Onward
-    Onward· total = record { total = total; next = Next·; more = ltb 0 Left· }
+    abbrev Advance· : Integral → Advance
+    Advance· total = record { total = total; next = Next·; more = ltb 0 Left· }
 
-    worked-on : workedOn Steps· Here· (J· .totals) .answer ≡ Onward· (inWords (withStrip (J· .totals) (integralIn S·)))
+    worked-on : workedOn Steps· Here· (J· .totals) .answer ≡ Advance· (inWords (withStrip (J· .totals) (integralIn S·)))
     worked-on =
         ap
         (λ (s : Worked).
-        record { total = inWords (withStrip (J· .totals) (integralIn s)); next = nextPlace Steps· Here·; more = hasStrip Steps· (nextPlace Steps· Here·) })
+        record {
+          total = inWords (withStrip (J· .totals) (integralIn s));
+          next = nextPlace Steps· Here·;
+          more = hasStrip Steps·
+              (nextPlace Steps· Here·);
+        })
         (strip-is (length strips) (omega (arith, inside)))
-        ∙ ap (λ (n : ℕ). record { total = inWords (withStrip (J· .totals) (integralIn S·)); next = n; more = hasStrip Steps· n }) (next-is (length strips) (omega (arith, inside)))
+        ∙ ap (λ (n : ℕ). record { total = inWords (withStrip (J· .totals) (integralIn S·)); next = n; more = hasStrip Steps· n })
+        (next-is (length strips) (omega (arith, inside)))
         ∙ ap (λ (b : Bool). record { total = inWords (withStrip (J· .totals) (integralIn S·)); next = Next·; more = b }) more-left
 
-    onward-is : nextStrip J· .answer ≡ Onward· (summedOf With·)
+    onward-is : nextStrip J· .answer ≡ Advance· (summedOf With·)
     onward-is =
         ap (λ (r : Run). onwardOf r Here· (J· .totals) .answer) (run-is d strips)
-        ∙ ap (λ (c : CallOf Onward). c .answer) (onward-works Steps· Here· (J· .totals) (has-strip (length strips) (g .below)))
+        ∙ ap (λ (c : CallOf Advance). c .answer) (onward-works Steps· Here· (J· .totals) (has-strip (length strips) (g .below)))
         ∙ worked-on
-        ∙ ap (λ (t : Integral). Onward· (inWords t)) (summed-with strips S·)
-        ∙ ap Onward· fit
+        ∙ ap (λ (t : Integral). Advance· (inWords t)) (summed-with strips S·)
+        ∙ ap Advance· fit
 
-    next-strips : (b : Bool) → isAccepted (S· .halved .ending) ≡ b → (tail : List Worked) → cond b (workedOf 7 f· L Scale· (drop (length strips + 1) Heights·)) [] ≡ tail → With· ++ tail ≡ All·
+    next-strips : (b : Bool) → isAccepted (S· .halved .ending) ≡ b → (tail : List Worked)
+        → cond b (workedOf 7 f· L Scale· (drop (length strips + 1) Heights·)) [] ≡ tail → With· ++ tail ≡ All·
     next-strips b e tail t =
         append-snoc strips S· tail
         ∙ ap (λ (l : List Worked). strips ++ l)
@@ -297,8 +319,9 @@ module _ (set : FinSet) (points : List Float) (L : ℕ) (made : makingCheck set 
           progress = progress-is Next· With· (ap Place· (sym (one-longer ∙ add-one (length strips)))) (omega (arith, one-longer, inside));
         }
 
-    last : With· ≡ All· → (isAccepted (summedOf With· .ending) && ltb 0 Left·) ≡ false → State d With· (afterStrip J· (Onward· (summedOf With·)))
-    last whole e = subst (State d With·) (sym (after-last J· (Onward· (summedOf With·)) e)) (inr (ends whole))
+    last : With· ≡ All· → (isAccepted (summedOf With· .ending) && ltb 0 Left·) ≡ false
+        → State d With· (afterStrip J· (Advance· (summedOf With·)))
+    last whole e = subst (State d With·) (sym (after-last J· (Advance· (summedOf With·)) e)) (inr (ends whole))
 
     more-is : more J· (summedOf With· .totals) Next· ≡ jobAt d With·
     more-is =
@@ -327,12 +350,15 @@ module _ (set : FinSet) (points : List Float) (L : ℕ) (made : makingCheck set 
     accepted-is : isAccepted (summedOf With· .ending) ≡ isAccepted (S· .halved .ending)
     accepted-is = ap isAccepted (ending-with accepted strips S·)
 
-    both-are : (a b : Bool) → isAccepted (S· .halved .ending) ≡ a → ltb 0 Left· ≡ b → (isAccepted (summedOf With· .ending) && ltb 0 Left·) ≡ (a && b)
+    both-are : (a b : Bool) → isAccepted (S· .halved .ending) ≡ a → ltb 0 Left· ≡ b
+        → (isAccepted (summedOf With· .ending) && ltb 0 Left·) ≡ (a && b)
     both-are a b p q = ap (λ (x : Bool). x && ltb 0 Left·) (accepted-is ∙ p) ∙ ap (λ (x : Bool). a && x) q
 
-    by-ending : (a b : Bool) → isAccepted (S· .halved .ending) ≡ a → ltb 0 Left· ≡ b → State d With· (afterStrip J· (Onward· (summedOf With·)))
+    by-ending : (a b : Bool) → isAccepted (S· .halved .ending) ≡ a → ltb 0 Left· ≡ b
+        → State d With· (afterStrip J· (Advance· (summedOf With·)))
     by-ending true true p q =
-        subst (State d With·) (sym (after-more J· (Onward· (summedOf With·)) (both-are true true p q))) (inl (goes-on p (ltb-true 0 Left· q)))
+        subst (State d With·) (sym (after-more J· (Advance· (summedOf With·)) (both-are true true p q)))
+        (inl (goes-on p (ltb-true 0 Left· q)))
     by-ending true false p q =
         last
         (sym (append-nil With·)
@@ -347,10 +373,12 @@ module _ (set : FinSet) (points : List Float) (L : ℕ) (made : makingCheck set 
         ∙ yes _ _ (has-strip (length strips) (g .below))
         ∙ ap (λ (s : Worked). s ∷ []) (strip-is (length strips) (omega (arith, inside)))
 
-    works : (scratch : List Float) → runCheck L (length scratch) ≡ Accepted → State d (strips ++ stripsBy J· (step scratch)) (stepOf J· (length scratch) .answer .job)
+    works : (scratch : List Float) → runCheck L (length scratch) ≡ Accepted
+        → State d (strips ++ stripsBy J· (step scratch)) (stepOf J· (length scratch) .answer .job)
     works scratch v =
         subst (λ (l : List Worked). State d (strips ++ l) (stepOf J· (length scratch) .answer .job)) (sym (one-strip scratch v))
-        (subst (State d With·) (sym (ap (λ (c : CallOf Stepped). c .answer .job) (step-works J· (length scratch) refl v) ∙ ap (afterStrip J·) onward-is))
+        (subst (State d With·)
+        (sym (ap (λ (c : CallOf JobStep). c .answer .job) (step-works J· (length scratch) refl v) ∙ ap (afterStrip J·) onward-is))
         (by-ending (isAccepted (S· .halved .ending)) (ltb 0 Left·) refl refl))
 
     -- a call that leaves the record as it is
@@ -359,24 +387,28 @@ module _ (set : FinSet) (points : List Float) (L : ℕ) (made : makingCheck set 
         subst (λ (m : List Worked). State d (strips ++ m) x) (sym e)
         (subst (λ (m : List Worked). State d m x) (sym (append-nil strips)) (subst (State d strips) (sym k) (inl g)))
 
-    by-check : (scratch : List Float) (v : Verdict) → runCheck L (length scratch) ≡ v → State d (strips ++ stripsBy J· (step scratch)) (stepOf J· (length scratch) .answer .job)
+    by-check : (scratch : List Float) (v : Verdict) → runCheck L (length scratch) ≡ v
+        → State d (strips ++ stripsBy J· (step scratch)) (stepOf J· (length scratch) .answer .job)
     unfolding firstRefusal
     by-check scratch Accepted v = works scratch v
     by-check scratch (Refused r) v =
-        let short : scratchCheck L (length scratch) ≡ Refused r = sym (ap (λ (x : Verdict). firstRefusal x (scratchCheck L (length scratch))) limit-checked) ∙ v in
+        let short : scratchCheck L (length scratch) ≡ Refused r =
+        sym (ap (λ (x : Verdict). firstRefusal x (scratchCheck L (length scratch))) limit-checked) ∙ v in
         stays (stripsBy J· (step scratch)) _ (none-refused J· scratch r refl v)
-        (ap (λ (c : CallOf Stepped). c .answer .job) (step-scratch J· (length scratch) r refl limit-checked short))
+        (ap (λ (c : CallOf JobStep). c .answer .job) (step-scratch J· (length scratch) r refl limit-checked short))
 
     -- ---- a change of density
-    changes : (other : Density) (v : Verdict) → densityCheck other ≡ v → State (densityBy J· d (change other)) (strips ++ []) (changeOf J· other .job)
+    changes : (other : Density) (v : Verdict) → densityCheck other ≡ v
+        → State (densityBy J· d (change other)) (strips ++ []) (changeOf J· other .job)
     unfolding isRefused
     changes other Accepted v =
         let e = change-taken J· other refl v in
-        subst (λ (x : Replied). State (cond (isTaken (x .reply)) other d) (strips ++ []) (x .job)) (sym e)
-        (subst (λ (m : List Worked). State other m (taken J· other .job)) (sym (append-nil strips)) (inl (record { is = refl; dense = v; rest = g .rest; below = g .below })))
+        subst (λ (x : JobReply). State (cond (isTaken (x .reply)) other d) (strips ++ []) (x .job)) (sym e)
+        (subst (λ (m : List Worked). State other m (taken J· other .job)) (sym (append-nil strips))
+        (inl (record { is = refl; dense = v; rest = g .rest; below = g .below })))
     changes other (Refused r) v =
         let e = change-refused J· other r refl v in
-        subst (λ (x : Replied). State (cond (isTaken (x .reply)) other d) (strips ++ []) (x .job)) (sym e)
+        subst (λ (x : JobReply). State (cond (isTaken (x .reply)) other d) (strips ++ []) (x .job)) (sym e)
         (stays [] J· refl refl)
 
     going : (call : Call) → State (densityBy J· d call) (strips ++ stripsBy J· call) (jobBy J· call)
@@ -386,23 +418,28 @@ module _ (set : FinSet) (points : List Float) (L : ℕ) (made : makingCheck set 
   -- ---- a job that has ended
   module _ (d : Density) (strips : List Worked) (job : Job) (e : Done d strips job) where
     kept : (l : List Worked) → l ≡ [] → State d (strips ++ l) job
-    kept l n = subst (λ (m : List Worked). State d (strips ++ m) job) (sym n) (subst (λ (m : List Worked). State d m job) (sym (append-nil strips)) (inr e))
+    kept l n = subst (λ (m : List Worked). State d (strips ++ m) job) (sym n)
+        (subst (λ (m : List Worked). State d m job) (sym (append-nil strips)) (inr e))
 
     done : (call : Call) → State (densityBy job d call) (strips ++ stripsBy job call) (jobBy job call)
     unfolding isRefused
     done (step scratch) =
-        subst (λ (c : CallOf Stepped). State d (strips ++ stripsBy job (step scratch)) (c .answer .job)) (sym (step-ended job (length scratch) (e .over-now)))
+        subst (λ (c : CallOf JobStep). State d (strips ++ stripsBy job (step scratch)) (c .answer .job))
+        (sym (step-ended job (length scratch) (e .over-now)))
         (kept (stripsBy job (step scratch)) (none-ended job scratch (e .over-now)))
     done (change other) =
-        subst (λ (x : Replied). State (cond (isTaken (x .reply)) other d) (strips ++ []) (x .job)) (sym (change-ended job other (e .over-now))) (kept [] refl)
+        subst (λ (x : JobReply). State (cond (isTaken (x .reply)) other d) (strips ++ []) (x .job))
+        (sym (change-ended job other (e .over-now))) (kept [] refl)
 
-  one : (d : Density) (strips : List Worked) (job : Job) (call : Call) → State d strips job → State (densityBy job d call) (strips ++ stripsBy job call) (jobBy job call)
+  one : (d : Density) (strips : List Worked) (job : Job) (call : Call) → State d strips job
+      → State (densityBy job d call) (strips ++ stripsBy job call) (jobBy job call)
   one d strips job call (inl g) =
       subst (λ (j : Job). State (densityBy j d call) (strips ++ stripsBy j call) (jobBy j call)) (sym (g .is))
       (going d strips (record { is = refl; dense = g .dense; rest = g .rest; below = g .below }) call)
   one d strips job call (inr e) = done d strips job e call
 
-  all : (calls : List Call) (d : Density) (strips : List Worked) (job : Job) → State d strips job → State (densityOver job d calls) (strips ++ stripsOver job calls) (afterCalls job calls)
+  all : (calls : List Call) (d : Density) (strips : List Worked) (job : Job) → State d strips job
+      → State (densityOver job d calls) (strips ++ stripsOver job calls) (afterCalls job calls)
   all [] d strips job s = subst (λ (l : List Worked). State d l job) (sym (append-nil strips)) s
   all (call ∷ calls) d strips job s =
       subst (λ (l : List Worked). State (densityOver job d (call ∷ calls)) l (afterCalls job (call ∷ calls)))
@@ -418,16 +455,62 @@ module _ (set : FinSet) (points : List Float) (L : ℕ) (made : makingCheck set 
   begun : State (set .density) [] (madeOf set points L .job)
   unfolding ownCheck
   begun =
-      let (count, (planform, (thickness, (thickness-root, (cant, (base-angle, (fillet-radius, (tab, (radius, (depth, (density, (glue, (ratio, none))))))))))))) = each-accepts (ownChecks set points) own-checked in
-      inl (record { is = made-is; dense = density; rest = refl; below = omega (arith, heights-some (set .planform) points planform-checked) })
+      let (
+        count,
+        (
+          planform,
+          (
+            thickness,
+            (
+              thickness-root,
+              (cant, (base-angle, (fillet-radius, (tab, (radius, (depth, (density, (glue, (ratio, none))))))))),
+            ),
+          ),
+        ),
+      ) = each-accepts
+      (ownChecks set points) own-checked in
+      inl (record {
+        is = made-is;
+        dense = density;
+        rest = refl;
+        below = omega (arith, heights-some (set .planform) points planform-checked);
+      })
 
   -- a set with a density that was accepted is accepted
-  accepted-with : (d : Density) → densityCheck d ≡ Accepted → (n : ℕ) → scratchCheck L n ≡ Accepted → setCheck (withDensity set d) points L n ≡ Accepted
+  accepted-with : (d : Density) → densityCheck d ≡ Accepted → (n : ℕ) → scratchCheck L n ≡ Accepted
+      → setCheck (withDensity set d) points L n ≡ Accepted
   unfolding ownCheck setCheck
   accepted-with d dense n scratch =
-      let (count, (planform, (thickness, (thickness-root, (cant, (base-angle, (fillet-radius, (tab, (radius, (depth, (density, (glue, (ratio, none))))))))))))) = each-accepts (ownChecks set points) own-checked in
-      where-each-accepts (limitCheck L ∷ scratchCheck L n ∷ ownChecks (withDensity set d) points)
-      (limit-checked, (scratch, (count, (planform, (thickness, (thickness-root, (cant, (base-angle, (fillet-radius, (tab, (radius, (depth, (dense, (glue, (ratio, none)))))))))))))))
+      let (
+        count,
+        (
+          planform,
+          (
+            thickness,
+            (
+              thickness-root,
+              (cant, (base-angle, (fillet-radius, (tab, (radius, (depth, (density, (glue, (ratio, none))))))))),
+            ),
+          ),
+        ),
+      ) = each-accepts
+      (ownChecks set points) own-checked in
+      where-each-accepts (limitCheck L ∷ scratchCheck L n ∷ ownChecks (withDensity set d) points) (
+        limit-checked,
+        (
+          scratch,
+          (
+            count,
+            (
+              planform,
+              (
+                thickness,
+                (thickness-root, (cant, (base-angle, (fillet-radius, (tab, (radius, (depth, (dense, (glue, (ratio, none)))))))))),
+              ),
+            ),
+          ),
+        ),
+      )
 
   long-enough : scratchCheck L (pieceNumbers * L) ≡ Accepted
   unfolding scratchCheck
@@ -436,12 +519,15 @@ module _ (set : FinSet) (points : List Float) (L : ℕ) (made : makingCheck set 
   pub made-accepted : setCheck set points L (pieceNumbers * L) ≡ Accepted
   unfolding ownCheck
   made-accepted =
-      accepted-with (set .density) (each-accepts (ownChecks set points) own-checked .1 .1 .1 .1 .1 .1 .1 .1 .1 .1 .0) (pieceNumbers * L) long-enough
+      accepted-with (set .density) (each-accepts (ownChecks set points) own-checked .1 .1 .1 .1 .1 .1 .1 .1 .1 .1 .0) (pieceNumbers * L)
+      long-enough
 
-  fresh : (d : Density) → densityCheck d ≡ Accepted → (n : ℕ) → scratchCheck L n ≡ Accepted → workedFigures (withDensity set d) points L ≡ setFigures (withDensity set d) points L n
+  fresh : (d : Density) → densityCheck d ≡ Accepted → (n : ℕ) → scratchCheck L n ≡ Accepted
+      → workedFigures (withDensity set d) points L ≡ setFigures (withDensity set d) points L n
   unfolding setCall
   fresh d dense n scratch =
-      sym (ap (λ (v : Verdict). byVerdict v (workedSet (withDensity set d) points L) (λ refusal. leavesAlone (refusedFigures refusal 0)) .answer) (accepted-with d dense n scratch))
+      sym (ap (λ (v : Verdict). byVerdict v (workedSet (withDensity set d) points L)
+      (λ refusal. leavesAlone (refusedFigures refusal 0)) .answer) (accepted-with d dense n scratch))
 
   module _ (calls : List Call) where
     abbrev After· : Job
@@ -471,7 +557,8 @@ module _ (set : FinSet) (points : List Float) (L : ℕ) (made : makingCheck set 
           worked-so-far = record { to-come = _; are = subst (StripsAre Run·) (sym (g .rest)) (strips-are Run· (limits .0)) };
           samples-so-far = ap (λ (j : Job). j .totals .samples) (g .is);
           intervals-so-far = ap (λ (j : Job). j .totals .intervals) (g .is);
-          progress-so-far = ap progressOf (g .is) ∙ (unfold progressOf in progress-is (Place· (length Strips·)) Strips· refl (omega (arith, g .below)));
+          progress-so-far = ap progressOf (g .is)
+              ∙ (unfold progressOf in progress-is (Place· (length Strips·)) Strips· refl (omega (arith, g .below)));
           all-worked = λ e k. not-both _ still e;
           worked = λ e. not-both _ still e;
           reported = λ e. not-both _ still e;
@@ -495,13 +582,16 @@ module _ (set : FinSet) (points : List Float) (L : ℕ) (made : makingCheck set 
           samples-so-far = z .samples;
           intervals-so-far = z .intervals;
           progress-so-far = z .progress;
-          all-worked = λ e k. ap (λ (p : JobProgress). p .worked) (z .progress) ∙ all k ∙ sym (ap (λ (p : JobProgress). p .strips) (z .progress));
+          all-worked = λ e k. ap (λ (p : JobProgress). p .worked) (z .progress) ∙ all k
+              ∙ sym (ap (λ (p : JobProgress). p .strips) (z .progress));
           ends-as-fresh = λ e n s. z .answer ∙ fresh Density· (z .dense) n s;
           answers-as-fresh = answers-fresh (inr z);
           worked = λ e. subst (StripsAre Run·) (sym (z .whole)) (strips-are Run· (limits .0));
           reported = λ e. subst (λ (l : List Worked). AreReported l (setReport (After· .outcome))) (sym (z .whole))
-              (set-reported (withDensity set Density·) points L (pieceNumbers * L) (After· .outcome) (accepted-with Density· (z .dense) (pieceNumbers * L) long-enough) (z .answer));
-          no-more-steps = subst (λ (l : List Worked). length l ≤ stripsFrom Run· 0) (sym (z .whole)) (let n = worked-few 7 f· L Scale· Heights· in omega (arith, n));
+              (set-reported (withDensity set Density·) points L (pieceNumbers * L) (After· .outcome)
+              (accepted-with Density· (z .dense) (pieceNumbers * L) long-enough) (z .answer));
+          no-more-steps = subst (λ (l : List Worked). length l ≤ stripsFrom Run· 0) (sym (z .whole))
+              (let n = worked-few 7 f· L Scale· Heights· in omega (arith, n));
           runs-on = λ e. not-both _ e (z .over-now);
           works-next = λ e n v. not-both _ e (z .over-now);
           as-many-steps = λ e k. all k;

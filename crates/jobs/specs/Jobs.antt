@@ -28,7 +28,7 @@ use Rattle.fins.specs.declared.FinSet.{FinSet}
 use Rattle.fins.specs.Fins.{ownCheck}
 use Rattle.halving.specs.declared.Totals.{Totals}
 use Rattle.halving.specs.declared.Integral.{Integral}
-use Rattle.strips.specs.declared.Onward.{Onward}
+use Rattle.strips.specs.declared.Advance.{Advance}
 use Rattle.strips.specs.Strips.{Run, isAccepted, onwardOf}
 use Rattle.figures.specs.declared.Figures.{Figures}
 use Rattle.figures.specs.Figures.{setIntegrand, bareFigures, refusedFigures, concludedAt}
@@ -39,8 +39,8 @@ use Rattle.jobs.specs.declared.Progress.the-variants.{Short, More, Ended
 use Rattle.jobs.specs.declared.JobProgress.{JobProgress}
 use Rattle.jobs.specs.declared.Reply.{Reply}
 use Rattle.jobs.specs.declared.Row.{Row}
-use Rattle.jobs.specs.declared.Stepped.{Stepped}
-use Rattle.jobs.specs.declared.Replied.{Replied}
+use Rattle.jobs.specs.declared.JobStep.{JobStep}
+use Rattle.jobs.specs.declared.JobReply.{JobReply}
 
 -- the run of a set whose strips are worked one a step: over all heights, not sorted
 abbrev pub stepRun : FinSet → List Float → ℕ → Run
@@ -131,14 +131,14 @@ ended job totals next outcome =
     }
 
 -- "Until the job ends, with its last strip or one refused"
-unfoldable pub afterStrip : Job → Onward → Job
+unfoldable pub afterStrip : Job → Advance → Job
 afterStrip job onward =
     cond (isAccepted (onward .total .ending) && onward .more)
     (more job (onward .total .totals) (onward .next))
     (ended job (onward .total .totals) (onward .next) (outcomeOf (job .set) (outlineOf job) (onward .total)))
 
 -- "A step writes its own strip's pieces from the start of the scratch lent to it and leaves the rest"
-abbrev pub nextStrip : Job → CallOf Onward
+abbrev pub nextStrip : Job → CallOf Advance
 nextStrip job = onwardOf (runOfJob job) (job .next) (job .totals)
 
 abbrev pub workedStrip : Job → CallOf Job
@@ -158,7 +158,7 @@ abbrev pub stepAfter : Bool → Progress
 stepAfter over = cond over Ended More
 
 -- what it leaves, and that more strips remain or that the job has ended
-abbrev pub steppedBy : CallOf Job → CallOf Stepped
+abbrev pub steppedBy : CallOf Job → CallOf JobStep
 steppedBy call =
     record { answer = record { job = call .answer; progress = stepAfter (call .answer .ended) }; leaves = call .leaves }
 
@@ -167,17 +167,17 @@ abbrev pub isShort : Bool → ℕ → ℕ → Bool
 isShort over L scratchLength = not over && (not (isRefused (limitCheck L)) && isRefused (scratchCheck L scratchLength))
 
 -- a step that is short "changes nothing"; a step on an ended job "repeats its answer, with any scratch"
-unfoldable pub stepOf : Job → ℕ → CallOf Stepped
+unfoldable pub stepOf : Job → ℕ → CallOf JobStep
 stepOf job scratchLength =
     cond (isShort (job .ended) (job .limit) scratchLength)
     (leavesAlone (record { job = job; progress = Short }))
     (steppedBy (steppedOn job))
 
 -- a step does this, and gives the number and values of its answer
-abbrev pub verdictOf : Stepped → Verdict
+abbrev pub verdictOf : JobStep → Verdict
 verdictOf s = stepRow (s .progress) (s .job) .figures .verdict
 
-pub record StepsTo (job : Job) (entry : List Float) (r : Stepped) (exit : List Float) : Type 0 where
+pub record StepsTo (job : Job) (entry : List Float) (r : JobStep) (exit : List Float) : Type 0 where
   pub answered : IsAnswer verdictOf r (stepOf job (length entry) .answer)
   pub scratch : exit ≡ stepOf job (length entry) .leaves entry
 
@@ -200,7 +200,7 @@ withDensity set density =
     }
 
 -- "answered only as taken"
-abbrev pub taken : Job → Density → Replied
+abbrev pub taken : Job → Density → JobReply
 taken job density =
     record {
       job =
@@ -217,15 +217,15 @@ taken job density =
     }
 
 -- "leaves the old one"; "that 12" carries "the job's samples so far"
-abbrev pub kept : Job → Refusal → Replied
+abbrev pub kept : Job → Refusal → JobReply
 kept job refusal = record { job = job; reply = record { verdict = Refused refusal; samples = job .totals .samples } }
 
 -- what a call leaves and answers is the definition's, with the number and values of its verdict
-abbrev pub IsReplied : Replied → Replied → Type 0
-IsReplied r definition = IsAnswer (λ (s : Replied). s .reply .verdict) r definition
+abbrev pub IsReplied : JobReply → JobReply → Type 0
+IsReplied r definition = IsAnswer (λ (s : JobReply). s .reply .verdict) r definition
 
 -- "a density not bulk or outside the limits, or any change after the end, answers 12 and leaves the old one"
-unfoldable pub changeOf : Job → Density → Replied
+unfoldable pub changeOf : Job → Density → JobReply
 changeOf job density =
     cond (job .ended) (kept job notTaken) (byVerdict (densityCheck density) (taken job density) (kept job))
 
@@ -236,7 +236,7 @@ unfoldable pub makingCheck : FinSet → List Float → ℕ → Verdict
 makingCheck set points L = firstRefusal (limitCheck L) (ownCheck set points)
 
 -- taken, or refused, and then the record has ended with that
-abbrev pub madeWith : Verdict → FinSet → List Float → ℕ → Replied
+abbrev pub madeWith : Verdict → FinSet → List Float → ℕ → JobReply
 madeWith verdict set points L =
     record {
       job =
@@ -252,7 +252,7 @@ madeWith verdict set points L =
       reply = record { verdict = verdict; samples = 0 };
     }
 
-unfoldable pub madeOf : FinSet → List Float → ℕ → Replied
+unfoldable pub madeOf : FinSet → List Float → ℕ → JobReply
 madeOf set points L = madeWith (makingCheck set points L) set points L
 
 -- ---- how far a job is

@@ -24,7 +24,7 @@ use materials::Density;
 use refusals::Refusal;
 use refusals::Verdict;
 use refusals::first_refusal;
-use strips::Onward;
+use strips::Advance;
 
 // A copy of an outline: room for the most points, and how many of the numbers are the outline's.
 pub struct Points {
@@ -74,13 +74,13 @@ pub struct Row {
 }
 
 // A job as a step leaves it, and what the step answers.
-pub struct Stepped {
+pub struct JobStep {
     pub job: Job,
     pub progress: Progress,
 }
 
 // A job as it is made, or as a change of density leaves it, and what is answered.
-pub struct Replied {
+pub struct JobReply {
     pub job: Job,
     pub reply: Reply,
 }
@@ -192,7 +192,7 @@ fn work_from(
     limit: usize,
     totals: Totals,
     scratch: &mut [f64],
-) -> Onward
+) -> Advance
     requires { ⌜ Room limit (length (now scratch)) ⌝ }
     ensures { λ r. ⌜ Does (onwardOf (stepRun set (now (points .entry)) limit) next totals)
         r (now (scratch .entry)) (now (scratch .exit)) ⌝ }
@@ -212,7 +212,7 @@ fn work_from(
 }
 
 // The next strip of a job, added to its totals.
-fn work_next(job: Job, scratch: &mut [f64]) -> Onward
+fn work_next(job: Job, scratch: &mut [f64]) -> Advance
     requires { ⌜ Room (job .limit) (length (now scratch)) ⌝ }
     ensures { λ r. ⌜ Does (nextStrip job) r (now (scratch .entry)) (now (scratch .exit)) ⌝ }
 {
@@ -225,7 +225,7 @@ fn work_next(job: Job, scratch: &mut [f64]) -> Onward
 }
 
 // The job once its next strip is worked: it goes on, or it ends with its last strip or one refused.
-fn after_strip(job: Job, onward: Onward) -> Job
+fn after_strip(job: Job, onward: Advance) -> Job
     ensures { λ r. ⌜ r ≡ afterStrip job onward ⌝ }
 {
     let total = onward.total;
@@ -289,16 +289,16 @@ fn step_after(ended: bool) -> Progress
 }
 
 // One step.
-pub fn step_by_value(job: Job, scratch: &mut [f64]) -> Stepped
+pub fn step_by_value(job: Job, scratch: &mut [f64]) -> JobStep
     ensures { λ r. ⌜ StepsTo job (now (scratch .entry)) r (now (scratch .exit)) ⌝ }
 {
     if is_short(job.ended, job.limit, scratch.len()) {
         let progress = Progress::Short;
-        return Stepped { job, progress };
+        return JobStep { job, progress };
     }
     let job = step_in_room(job, scratch);
     let progress = step_after(job.ended);
-    Stepped { job, progress }
+    JobStep { job, progress }
 }
 
 fn with_density(set: FinSet, density: Density) -> FinSet
@@ -323,7 +323,7 @@ fn with_density(set: FinSet, density: Density) -> FinSet
 }
 
 // The density is taken: the sums are per unit of it, so nothing else changes.
-fn take_density(job: Job, density: Density) -> Replied
+fn take_density(job: Job, density: Density) -> JobReply
     ensures { λ r. ⌜ r ≡ taken job density ⌝ }
 {
     let set = job.set;
@@ -345,11 +345,11 @@ fn take_density(job: Job, density: Density) -> Replied
         verdict,
         samples: 0,
     };
-    Replied { job, reply }
+    JobReply { job, reply }
 }
 
 // The density stays, with the samples taken so far.
-fn keep_density(job: Job, refusal: Refusal) -> Replied
+fn keep_density(job: Job, refusal: Refusal) -> JobReply
     ensures { λ r. ⌜ r ≡ kept job refusal ⌝ }
 {
     let verdict = Verdict::Refused(refusal);
@@ -358,11 +358,11 @@ fn keep_density(job: Job, refusal: Refusal) -> Replied
         verdict,
         samples: totals.samples,
     };
-    Replied { job, reply }
+    JobReply { job, reply }
 }
 
 // A change of density: taken, or 12, and any change after the end is 12.
-pub fn change_by_value(job: Job, density: Density) -> Replied
+pub fn change_by_value(job: Job, density: Density) -> JobReply
     ensures { λ r. ⌜ IsReplied r (changeOf job density) ⌝ }
 {
     let over = job.ended;
@@ -385,7 +385,7 @@ fn check_making(set: FinSet, points: &[f64], limit: usize) -> Verdict
 }
 
 // Makes a job: taken, or the first refusal, with which the record has ended.
-pub fn make(set: FinSet, points: &[f64], limit: usize) -> Replied
+pub fn make(set: FinSet, points: &[f64], limit: usize) -> JobReply
     ensures { λ r. ⌜ IsReplied r (madeOf set (now (points .entry)) limit) ⌝ }
 {
     let verdict = check_making(set, points, limit);
@@ -410,7 +410,7 @@ pub fn make(set: FinSet, points: &[f64], limit: usize) -> Replied
         verdict,
         samples: 0,
     };
-    Replied { job, reply }
+    JobReply { job, reply }
 }
 
 // One step of a lent job.

@@ -19,7 +19,7 @@ use Rattle.bodies.specs.Tensors.{zeroTensor, addTensors}
 use Rattle.bodies.specs.Bodies.{inertiaAboutOf}
 use Rattle.bodies.specs.Layout.{bodyNumbers}
 use Rattle.refusals.specs.declared.Verdict.{Verdict}
-use Rattle.joins.specs.declared.Joined.{Joined}
+use Rattle.joins.specs.declared.JoinedBody.{JoinedBody}
 use Rattle.joins.specs.Flat.{bodyAt, listed}
 use Rattle.joins.specs.Joins.{inOrder, noSums, sumsOf, addBody, centreOf, inertiaOf, joinOf, unlessRefused, joinedOf, combineOf}
 use Rattle.joins.proofs.InOrder.{no-sums, sums-suc, inertia-suc}
@@ -65,7 +65,7 @@ module _ (f g : ℕ → Body) where
   join-read-back n back = join-alike n (λ k l. as-read-back (g k) (back k l))
 
 -- `got` is what a check gave, which is `known`: the answer for that is the check's
-pub by-verdict : (body : Body) {check got known : Verdict} {r : Joined} → got ≡ check → got ≡ known → r ≡ unlessRefused known body
+pub by-verdict : (body : Body) {check got known : Verdict} {r : JoinedBody} → got ≡ check → got ≡ known → r ≡ unlessRefused known body
     → r ≡ unlessRefused check body
 by-verdict body p t a = a ∙ ap (λ (v : Verdict). unlessRefused v body) (sym t ∙ p)
 

@@ -21,7 +21,7 @@ use Rattle.refusals.specs.declared.Verdict.the-variants.{Accepted, Refused}
 use Rattle.refusals.specs.Given.{IsAnswer}
 use Rattle.limits.specs.Limits.{countCheck}
 use Rattle.joins.specs.Flat.{bodyAt}
-use Rattle.joins.specs.declared.Joined.{Joined}
+use Rattle.joins.specs.declared.JoinedBody.{JoinedBody}
 use Rattle.joins.specs.declared.Sums.{Sums}
 
 -- terms f 0 to f (n − 1) added to a start, in order
@@ -65,27 +65,27 @@ abbrev pub twoBodies : Body → Body → ℕ → Body
 twoBodies first second zero = first
 twoBodies first second (suc k) = second
 
-abbrev pub acceptedBody : Body → Joined
+abbrev pub acceptedBody : Body → JoinedBody
 acceptedBody body = record { verdict = Accepted; body = body }
 
 -- "Figures zero" with a refusal
-abbrev pub refusedBody : Refusal → Joined
+abbrev pub refusedBody : Refusal → JoinedBody
 refusedBody refusal = record { verdict = Refused refusal; body = emptyBody }
 
 -- a call's answer is the definition's, with the number and values of its verdict
-abbrev pub IsJoined : Joined → Joined → Type 0
-IsJoined r definition = IsAnswer (λ (j : Joined). j .verdict) r definition
+abbrev pub IsJoined : JoinedBody → JoinedBody → Type 0
+IsJoined r definition = IsAnswer (λ (j : JoinedBody). j .verdict) r definition
 
-abbrev pub unlessRefused : Verdict → Body → Joined
+abbrev pub unlessRefused : Verdict → Body → JoinedBody
 unlessRefused Accepted body = acceptedBody body
 unlessRefused (Refused refusal) body = refusedBody refusal
 
 -- 3: "count of .. bodies joined, not 1 to 32"
-abbrev pub joinedOf : (ℕ → Body) → ℕ → Joined
+abbrev pub joinedOf : (ℕ → Body) → ℕ → JoinedBody
 joinedOf f n = unlessRefused (countCheck n) (joinOf f n)
 
 -- a list that is no whole number of bodies is refused 3 too
-abbrev pub combineOf : List Float → Joined
+abbrev pub combineOf : List Float → JoinedBody
 combineOf numbers =
     cond (eqb (length numbers % bodyNumbers) 0) (joinedOf (bodyAt numbers) (length numbers / bodyNumbers))
     (refusedBody Count)

@@ -19,7 +19,7 @@ use refusals::Refusal;
 use refusals::Verdict;
 
 // A body, as of one fin or of joined ones; with a refusal, the empty one.
-pub struct Joined {
+pub struct JoinedBody {
     pub verdict: Verdict,
     pub body: Body,
 }
@@ -32,24 +32,24 @@ pub struct Sums {
     pub count: f64,
 }
 
-pub fn accepted(body: Body) -> Joined
+pub fn accepted(body: Body) -> JoinedBody
     ensures { λ r. ⌜ r ≡ acceptedBody body ⌝ }
 {
     let verdict = Verdict::Accepted;
-    Joined { verdict, body }
+    JoinedBody { verdict, body }
 }
 
-pub fn refused(refusal: Refusal) -> Joined
+pub fn refused(refusal: Refusal) -> JoinedBody
     ensures { λ r. ⌜ r ≡ refusedBody refusal ⌝ }
 {
     let verdict = Verdict::Refused(refusal);
     let body = Body::ZERO;
-    Joined { verdict, body }
+    JoinedBody { verdict, body }
 }
 
 // One to 32 bodies joined, by their numbers; numbers of none or of more, or of no whole number of bodies, are refused
 // 3.
-pub fn combine(numbers: &[f64]) -> Joined
+pub fn combine(numbers: &[f64]) -> JoinedBody
     ensures { λ r. ⌜ IsJoined r (combineOf (now (numbers .entry))) ⌝ }
 {
     if numbers.len() % BODY_NUMBERS != 0 {

@@ -33,9 +33,11 @@ module _ {A : Type 0} (d : A) where
       others j h (eqb-false j i other) ∙ sym (at-eight f j h) ∙ sym (getD-set-other (eight f) i j x d (eqb-false j i other))
 
   -- one of the eight is another, the others stay
-  pub eight-set : (f g : ℕ → A) (i : ℕ) (x : A) → i < 8 → g i ≡ x → ((j : ℕ) → j < 8 → (j ≡ i → ⊥) → g j ≡ f j) → eight g ≡ set (eight f) i x
+  pub eight-set : (f g : ℕ → A) (i : ℕ) (x : A) → i < 8 → g i ≡ x → ((j : ℕ) → j < 8 → (j ≡ i → ⊥) → g j ≡ f j)
+      → eight g ≡ set (eight f) i x
   eight-set f g i x k e others =
-      ext-getD d (eight g) (set (eight f) i x) (sym (length-set (eight f) i x)) (λ j h. at-eight g j h ∙ by-place f g i x e others j h k _ refl)
+      ext-getD d (eight g) (set (eight f) i x) (sym (length-set (eight f) i x))
+      (λ j h. at-eight g j h ∙ by-place f g i x e others j h k _ refl)
 
   pub eight-ext : (f g : ℕ → A) → ((i : ℕ) → i < 8 → f i ≡ g i) → eight f ≡ eight g
   eight-ext f g h = ext-getD d (eight f) (eight g) refl (λ i k. at-eight f i k ∙ h i k ∙ sym (at-eight g i k))

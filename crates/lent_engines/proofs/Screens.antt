@@ -32,11 +32,13 @@ pub screens-read : (screens : Screens) (rest : List ℕ) → length (screens .he
 unfolding screensIn
 screens-read screens rest h =
     ap (λ (held : List Bool). record { held = held; last = screens .last })
-    (eight-ext false (λ i. not (eqb (flag (getD (screens .held) i false)) 0)) (λ i. getD (screens .held) i false) (λ i k. flag-read (getD (screens .held) i false))
+    (eight-ext false (λ i. not (eqb (flag (getD (screens .held) i false)) 0)) (λ i. getD (screens .held) i false)
+    (λ i k. flag-read (getD (screens .held) i false))
     ∙ eight-of false (screens .held) h)
 
 -- nine stores from the start
-pub screens-written : (screens : Screens) (counts written : List ℕ) → 9 ≤ length counts → length (screens .held) ≡ 8 → written ≡ screenCounts screens
+pub screens-written : (screens : Screens) (counts written : List ℕ) → 9 ≤ length counts → length (screens .held) ≡ 8
+    → written ≡ screenCounts screens
     → WritesScreens screens counts (sets counts 0 (eight (λ i. getD written i 0) ++ (getD written 8 0 ∷ [])))
 screens-written screens counts written room h e =
     let stored : sets counts 0 (eight (λ i. getD written i 0) ++ (getD written 8 0 ∷ [])) ≡ screenCounts screens ++ drop 9 counts =

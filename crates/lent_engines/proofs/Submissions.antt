@@ -1,4 +1,5 @@
--- What lists hold is an engine of eight screens, and one that began with zeros holds only jobs that were submitted: so what holds over any calls together
+-- What lists hold is an engine of eight screens, and one that began with zeros holds only jobs that were submitted: so
+-- what holds over any calls together
 -- (engines/specs/Calls) holds of an engine in lent memory. Assumes nothing.
 use mathlib.Core.Path.{_≡_, refl, ap, _∙_}
 use mathlib.Core.Bool.{Bool, false, _&&_}
@@ -22,7 +23,8 @@ eight-screens numbers counts = record { screens = refl; jobs = refl }
 
 none-holds : (screen : ℕ) → holdsJob noScreens screen ≡ false
 unfolding holdsJob
-none-holds screen = ap (λ (b : Bool). isScreen screen && b) (at-eight false (λ i. false) (placeOf screen) (place-below screen)) ∙ and-false (isScreen screen)
+none-holds screen = ap (λ (b : Bool). isScreen screen && b) (at-eight false (λ i. false) (placeOf screen) (place-below screen))
+    ∙ and-false (isScreen screen)
 
 pub begins-with-zeros : (numbers : List Float) → Begins (engineIn numbers (replicate 145 0))
 begins-with-zeros numbers =
@@ -31,7 +33,8 @@ begins-with-zeros numbers =
       no-job = λ screen. ap (λ (s : Screens). holdsJob s screen) (zeros-hold-none numbers) ∙ none-holds screen;
     }
 
-pub submitted-since-zeros : (numbers : List Float) (calls : List Call) → AllSubmitted (afterCalls (engineIn numbers (replicate 145 0)) calls)
+pub submitted-since-zeros : (numbers : List Float) (calls : List Call)
+    → AllSubmitted (afterCalls (engineIn numbers (replicate 145 0)) calls)
 submitted-since-zeros numbers calls =
     let b = begins-with-zeros numbers in
     all-submitted calls (engineIn numbers (replicate 145 0)) (b .eight) (none-held (engineIn numbers (replicate 145 0)) (b .no-job))

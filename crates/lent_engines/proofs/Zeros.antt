@@ -22,7 +22,8 @@ none-in-cleared : (rest : List ℕ) → screensIn (replicate engineCounts 0 ++ r
 unfolding screensIn
 none-in-cleared rest = refl
 
-pub cleared : (counts counts' zeros : List ℕ) → zeros ≡ replicate engineCounts 0 → counts' ≡ paste counts 0 zeros (length zeros) → Clears counts counts'
+pub cleared : (counts counts' zeros : List ℕ) → zeros ≡ replicate engineCounts 0 → counts' ≡ paste counts 0 zeros (length zeros)
+    → Clears counts counts'
 cleared counts counts' zeros z e =
     let are : counts' ≡ replicate engineCounts 0 ++ drop engineCounts counts =
     e ∙ ap (λ (l : List ℕ). paste counts 0 l (length l)) z ∙ pasted-first counts (replicate engineCounts 0)

@@ -20,11 +20,12 @@ use Rattle.figures.specs.declared.Figures.{Figures}
 use Rattle.jobs.specs.declared.Job.{Job}
 use Rattle.jobs.specs.declared.Progress.{Progress}
 use Rattle.jobs.specs.declared.Reply.{Reply}
-use Rattle.jobs.specs.declared.Stepped.{Stepped}
-use Rattle.jobs.specs.declared.Replied.{Replied}
+use Rattle.jobs.specs.declared.JobStep.{JobStep}
+use Rattle.jobs.specs.declared.JobReply.{JobReply}
 use Rattle.jobs.specs.Jobs.{madeOf}
 use Rattle.jobs.specs.Lent.{StepsLent, ChangesLent}
-use Rattle.lent_jobs.specs.Memory.{flag, outlinePlace, jobNumbers, jobCounts, workedNumbers, workedCounts, numbersOf, countsOf, setIn, outcomeIn, jobIn}
+use Rattle.lent_jobs.specs.Memory.{flag, outlinePlace, jobNumbers, jobCounts, workedNumbers, workedCounts, numbersOf, countsOf, setIn}
+use Rattle.lent_jobs.specs.Memory.{outcomeIn, jobIn}
 use Rattle.lent_jobs.specs.Lent.{Holds, Makes, StepsThere, ChangesThere}
 use Rattle.lent_jobs.proofs.Sized.{Sized}
 use Rattle.lent_jobs.proofs.Copying.{pasted-first, pasted-second}
@@ -33,7 +34,8 @@ use Rattle.lent_jobs.proofs.Copying.{pasted-first, pasted-second}
 
 job-set-back : (job : Job) (more : List Float) (others : List ℕ) → setIn (numbersOf job ++ more) (countsOf job ++ others) ≡ job .set
 unfolding setIn
-job-set-back job more others = ap knownSet (set-back (job .set) ((workedNumbers job ++ job .points .numbers) ++ more) (workedCounts job ++ others))
+job-set-back job more others = ap knownSet
+    (set-back (job .set) ((workedNumbers job ++ job .points .numbers) ++ more) (workedCounts job ++ others))
 
 -- ---- the answer
 
@@ -57,7 +59,8 @@ same-figures : (f : Figures) (verdict : Verdict) (tensor : List Float) → verdi
     ≡ f
 same-figures f verdict tensor v t = rw (v, t)
 
-outcome-back : (job : Job) → Sized job → (more : List Float) (others : List ℕ) → outcomeIn (numbersOf job ++ more) (countsOf job ++ others) ≡ job .outcome
+outcome-back : (job : Job) → Sized job → (more : List Float) (others : List ℕ)
+    → outcomeIn (numbersOf job ++ more) (countsOf job ++ others) ≡ job .outcome
 unfolding outcomeIn
 outcome-back job s more others =
     same-figures (job .outcome) _ _
@@ -85,7 +88,8 @@ same-job : (job : Job) (set : FinSet) (outline value : List Float) (ended : Bool
 same-job job set outline value ended outcome a b c d e = rw (a, b, c, d, e)
 
 -- what stands behind the job does not matter
-pub job-back : (job : Job) → Sized job → (more : List Float) (others : List ℕ) → jobIn (numbersOf job ++ more) (countsOf job ++ others) ≡ job
+pub job-back : (job : Job) → Sized job → (more : List Float) (others : List ℕ)
+    → jobIn (numbersOf job ++ more) (countsOf job ++ others) ≡ job
 unfolding jobIn
 job-back job s more others =
     same-job job _ _ _ _ _
@@ -111,7 +115,8 @@ module _ (job : Job) (s : Sized job) (numbers : List Float) (counts : List ℕ) 
       first-is ∙ ap (λ (l : List Float). paste numbers 0 l (length l)) s-is ∙ pasted-first numbers (setNumbersOf (job .set))
       in
       let two : second ≡ figures ++ drop (outlinePlace) numbers =
-      second-is ∙ ap₂ (λ (l w : List Float). paste l setNumbers w (length w)) one w-is ∙ pasted-second numbers (setNumbersOf (job .set)) (workedNumbers job)
+      second-is ∙ ap₂ (λ (l w : List Float). paste l setNumbers w (length w)) one w-is
+      ∙ pasted-second numbers (setNumbersOf (job .set)) (workedNumbers job)
       in
       let long : outlinePlace + length outline ≡ jobNumbers = omega (arith, s .outline) in
       let all : numbers' ≡ numbersOf job ++ drop jobNumbers numbers =
@@ -120,30 +125,40 @@ module _ (job : Job) (s : Sized job) (numbers : List Float) (counts : List ℕ) 
       ∙ pasted-second numbers figures outline
       ∙ ap (λ (n : ℕ). numbersOf job ++ drop n numbers) long
       in
-      let counted : counts' ≡ countsOf job ++ drop jobCounts counts = c-is ∙ ap (λ (l : List ℕ). paste counts 0 l (length l)) row-is ∙ pasted-first counts (countsOf job) in
+      let counted : counts' ≡ countsOf job ++ drop jobCounts counts = c-is ∙ ap (λ (l : List ℕ). paste counts 0 l (length l)) row-is
+      ∙ pasted-first counts (countsOf job) in
       record {
         numbers-are = all;
         counts-are = counted;
         held = ap₂ jobIn all counted ∙ job-back job s (drop jobNumbers numbers) (drop jobCounts counts);
       }
 
-pub job-made : (numbers : List Float) (counts : List ℕ) (s : Replied) (numbers' : List Float) (counts' : List ℕ) → Holds (s .job) numbers counts numbers' counts' →
+pub job-made : (numbers : List Float) (counts : List ℕ) (s : JobReply) (numbers' : List Float) (counts' : List ℕ)
+    → Holds (s .job) numbers counts numbers' counts' →
     (set : FinSet) (points : List Float) (L : ℕ) → s ≡ madeOf set points L → Makes set points L numbers counts (s .reply) numbers' counts'
 job-made numbers counts s numbers' counts' h set points L e =
-    record { answered = ap (λ (x : Replied). x .reply) e; holds = subst (λ (x : Replied). Holds (x .job) numbers counts numbers' counts') e h }
+    record {
+      answered = ap (λ (x : JobReply). x .reply) e;
+      holds = subst (λ (x : JobReply). Holds (x .job) numbers counts numbers' counts') e
+          h;
+    }
 
 -- A lent job, which is the one that the lists held at entry, and what they hold at exit.
-module _ (numbers : List Float) (counts : List ℕ) (after : Job) (numbers' : List Float) (counts' : List ℕ) (h : Holds after numbers counts numbers' counts') where
+module _ (numbers : List Float) (counts : List ℕ) (after : Job) (numbers' : List Float) (counts' : List ℕ)
+    (h : Holds after numbers counts numbers' counts') where
   kept : (j : Job) → after ≡ j → Holds j numbers counts numbers' counts'
   kept j e = subst (λ (x : Job). Holds x numbers counts numbers' counts') e h
 
-  pub job-stepped : (r : Progress) (scratch scratch' : List Float) → StepsLent (jobIn numbers counts) scratch r after scratch' → StepsThere numbers counts scratch r numbers' counts' scratch'
+  pub job-stepped : (r : Progress) (scratch scratch' : List Float) → StepsLent (jobIn numbers counts) scratch r after scratch'
+      → StepsThere numbers counts scratch r numbers' counts' scratch'
   job-stepped r scratch scratch' e =
       record {
-        answered = ap (λ (s : Stepped). s .progress) (e .answered .is);
-        holds = kept _ (ap (λ (s : Stepped). s .job) (e .answered .is));
+        answered = ap (λ (s : JobStep). s .progress) (e .answered .is);
+        holds = kept _ (ap (λ (s : JobStep). s .job) (e .answered .is));
         lent = e .scratch;
       }
 
-  pub job-changed : (r : Reply) (density : Density) → ChangesLent (jobIn numbers counts) density r after → ChangesThere numbers counts density r numbers' counts'
-  job-changed r density e = record { answered = ap (λ (s : Replied). s .reply) (e .is); holds = kept _ (ap (λ (s : Replied). s .job) (e .is)) }
+  pub job-changed : (r : Reply) (density : Density) → ChangesLent (jobIn numbers counts) density r after
+      → ChangesThere numbers counts density r numbers' counts'
+  job-changed r density e = record
+      { answered = ap (λ (s : JobReply). s .reply) (e .is); holds = kept _ (ap (λ (s : JobReply). s .job) (e .is)) }

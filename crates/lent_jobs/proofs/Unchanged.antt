@@ -1,4 +1,5 @@
--- A step that finds the job ended or is short, and a density that is refused, leave the job as it is, so that nothing has to be written. Assumes nothing.
+-- A step that finds the job ended or is short, and a density that is refused, leave the job as it is, so that nothing
+-- has to be written. Assumes nothing.
 use mathlib.Core.Path.{_≡_, refl, sym, ap, ap₂, _∙_}
 use mathlib.Core.Bool.{Bool, true, false, cond, not, _&&_, true≢false}
 use mathlib.Core.List.{List}
@@ -19,8 +20,8 @@ use Rattle.jobs.specs.declared.Progress.{Progress}
 use Rattle.jobs.specs.declared.Progress.the-variants.{Short, More, Ended}
 use Rattle.jobs.specs.declared.Reply.{Reply}
 use Rattle.jobs.specs.declared.Row.{Row}
-use Rattle.jobs.specs.declared.Stepped.{Stepped}
-use Rattle.jobs.specs.declared.Replied.{Replied}
+use Rattle.jobs.specs.declared.JobStep.{JobStep}
+use Rattle.jobs.specs.declared.JobReply.{JobReply}
 use Rattle.refusals.specs.Calls.{CallOf}
 use Rattle.figures.specs.Figures.{bareFigures}
 use Rattle.jobs.specs.Jobs.{figuresRow, plainRow, stepRow, isShort, stepOf, changeOf}
@@ -32,20 +33,22 @@ use Rattle.lent_jobs.specs.Lent.{stepWrites, densityTaken, Holds, Leaves
 -- ---- of a job
 
 module _ (job : Job) (density : Density) where
-  taken-by : (b : Bool) (v : Verdict) → job .ended ≡ b → densityCheck density ≡ v → isTaken (changeOf job density .reply) ≡ not b && not (isRefused v)
+  taken-by : (b : Bool) (v : Verdict) → job .ended ≡ b → densityCheck density ≡ v
+      → isTaken (changeOf job density .reply) ≡ not b && not (isRefused v)
   unfolding isRefused
-  taken-by true v e c = ap (λ (s : Replied). isTaken (s .reply)) (change-ended job density e)
-  taken-by false Accepted e c = ap (λ (s : Replied). isTaken (s .reply)) (change-taken job density e c)
-  taken-by false (Refused x) e c = ap (λ (s : Replied). isTaken (s .reply)) (change-refused job density x e c)
+  taken-by true v e c = ap (λ (s : JobReply). isTaken (s .reply)) (change-ended job density e)
+  taken-by false Accepted e c = ap (λ (s : JobReply). isTaken (s .reply)) (change-taken job density e c)
+  taken-by false (Refused x) e c = ap (λ (s : JobReply). isTaken (s .reply)) (change-refused job density x e c)
 
   pub taken-is : isTaken (changeOf job density .reply) ≡ densityTaken (job .ended) density
   taken-is = taken-by (job .ended) (densityCheck density) refl refl
 
-  kept-by : (b : Bool) (v : Verdict) → job .ended ≡ b → densityCheck density ≡ v → not b && not (isRefused v) ≡ false → changeOf job density .job ≡ job
+  kept-by : (b : Bool) (v : Verdict) → job .ended ≡ b → densityCheck density ≡ v → not b && not (isRefused v) ≡ false
+      → changeOf job density .job ≡ job
   unfolding isRefused
-  kept-by true v e c w = ap (λ (s : Replied). s .job) (change-ended job density e)
+  kept-by true v e c w = ap (λ (s : JobReply). s .job) (change-ended job density e)
   kept-by false Accepted e c w = absurd (true≢false w)
-  kept-by false (Refused x) e c w = ap (λ (s : Replied). s .job) (change-refused job density x e c)
+  kept-by false (Refused x) e c w = ap (λ (s : JobReply). s .job) (change-refused job density x e c)
 
   pub density-kept : densityTaken (job .ended) density ≡ false → changeOf job density .job ≡ job
   density-kept w = kept-by (job .ended) (densityCheck density) refl refl w
@@ -57,7 +60,8 @@ module _ (numbers : List Float) (counts : List ℕ) where
   job = jobIn numbers counts
 
   -- what the test reads of the counts is the job's
-  pub density-test : (density : Density) (b : Bool) → b ≡ densityTaken (not (eqb (countAt counts 10) 0)) density → densityTaken (job .ended) density ≡ b
+  pub density-test : (density : Density) (b : Bool) → b ≡ densityTaken (not (eqb (countAt counts 10) 0)) density
+      → densityTaken (job .ended) density ≡ b
   unfolding jobIn
   density-test density b e = sym e
 
@@ -66,7 +70,8 @@ module _ (numbers : List Float) (counts : List ℕ) where
   alone written after w e = record { numbers-are = sym (no _ _ w); counts-are = sym (no _ _ w); held = sym e }
 
   -- the job is
-  over : (written : Bool) (after : Job) (numbers' : List Float) (counts' : List ℕ) → written ≡ true → Holds after numbers counts numbers' counts' → Leaves written after numbers counts numbers' counts'
+  over : (written : Bool) (after : Job) (numbers' : List Float) (counts' : List ℕ) → written ≡ true
+      → Holds after numbers counts numbers' counts' → Leaves written after numbers counts numbers' counts'
   over written after numbers' counts' w h =
       record { numbers-are = h .numbers-are ∙ sym (yes _ _ w); counts-are = h .counts-are ∙ sym (yes _ _ w); held = h .held }
 
@@ -75,13 +80,13 @@ module _ (numbers : List Float) (counts : List ℕ) where
     abbrev Over· : Bool
     Over· = not (eqb (countAt counts 10) 0)
 
-    still : (call : CallOf Stepped) → stepOf job (length scratch) ≡ call → call .answer .job ≡ job → call .leaves scratch ≡ scratch
+    still : (call : CallOf JobStep) → stepOf job (length scratch) ≡ call → call .answer .job ≡ job → call .leaves scratch ≡ scratch
         → stepWrites job (length scratch) ≡ false → Steps numbers counts scratch (call .answer .progress) numbers counts scratch
     still call e same left w =
         record {
-          answered = sym (ap (λ (c : CallOf Stepped). c .answer .progress) e);
-          leaves = alone _ _ w (ap (λ (c : CallOf Stepped). c .answer .job) e ∙ same);
-          lent = sym (ap (λ (c : CallOf Stepped). c .leaves scratch) e ∙ left);
+          answered = sym (ap (λ (c : CallOf JobStep). c .answer .progress) e);
+          leaves = alone _ _ w (ap (λ (c : CallOf JobStep). c .answer .job) e ∙ same);
+          lent = sym (ap (λ (c : CallOf JobStep). c .leaves scratch) e ∙ left);
         }
 
     pub steps-ended : Over· ≡ true → Steps numbers counts scratch Ended numbers counts scratch
@@ -93,37 +98,45 @@ module _ (numbers : List Float) (counts : List ℕ) where
     pub steps-short : isShort Over· (countAt counts 6) (length scratch) ≡ true → Steps numbers counts scratch Short numbers counts scratch
     unfolding jobIn
     steps-short s =
-        still _ (step-short job (length scratch) s) refl refl (ap (λ (b : Bool). not (job .ended) && not b) s ∙ and-false (not (job .ended)))
+        still _ (step-short job (length scratch) s) refl refl
+        (ap (λ (b : Bool). not (job .ended) && not b) s ∙ and-false (not (job .ended)))
 
     pub steps-there : (r : Progress) (numbers' : List Float) (counts' : List ℕ) (scratch' : List Float) → Over· ≡ false
         → isShort Over· (countAt counts 6) (length scratch) ≡ false
         → StepsThere numbers counts scratch r numbers' counts' scratch' → Steps numbers counts scratch r numbers' counts' scratch'
     unfolding jobIn
     steps-there r numbers' counts' scratch' e s h =
-        record { answered = h .answered; leaves = over _ _ numbers' counts' (ap₂ (λ (a b : Bool). not a && not b) e s) (h .holds); lent = h .lent }
+        record {
+          answered = h .answered;
+          leaves = over _ _ numbers' counts' (ap₂ (λ (a b : Bool). not a && not b) e s) (h .holds);
+          lent = h .lent;
+        }
 
   module _ (density : Density) where
     pub changes-there : (r : Reply) (numbers' : List Float) (counts' : List ℕ) → densityTaken (job .ended) density ≡ true
         → ChangesThere numbers counts density r numbers' counts' → Changes numbers counts density r numbers' counts'
-    changes-there r numbers' counts' w h = record { answered = h .answered; leaves = over _ _ numbers' counts' (taken-is job density ∙ w) (h .holds) }
+    changes-there r numbers' counts' w h = record
+        { answered = h .answered; leaves = over _ _ numbers' counts' (taken-is job density ∙ w) (h .holds) }
 
-    pub changes-none : (read : Job) (s : Replied) → densityTaken (job .ended) density ≡ false → read ≡ job → s ≡ changeOf read density
+    pub changes-none : (read : Job) (s : JobReply) → densityTaken (job .ended) density ≡ false → read ≡ job → s ≡ changeOf read density
         → Changes numbers counts density (s .reply) numbers counts
     changes-none read s w is e =
         record {
-          answered = ap (λ (x : Replied). x .reply) (e ∙ ap (λ (j : Job). changeOf j density) is);
+          answered = ap (λ (x : JobReply). x .reply) (e ∙ ap (λ (j : Job). changeOf j density) is);
           leaves = alone _ _ (taken-is job density ∙ w) (density-kept job density w);
         }
 
 -- what is told of a step, read behind it, is what it answers
-pub step-told : (numbers : List Float) (counts : List ℕ) (scratch : List Float) (r : Progress) (numbers' : List Float) (counts' : List ℕ) (scratch' : List Float)
+pub step-told : (numbers : List Float) (counts : List ℕ) (scratch : List Float) (r : Progress) (numbers' : List Float) (counts' : List ℕ)
+    (scratch' : List Float)
     → Steps numbers counts scratch r numbers' counts' scratch'
     → stepRow r (jobIn numbers' counts') ≡ answerBy (jobIn numbers counts) (step scratch)
 step-told numbers counts scratch r numbers' counts' scratch' h = ap₂ stepRow (h .answered) (h .leaves .held)
 
 -- what a step answers, as the code tells it
 module _ (numbers : List Float) (counts : List ℕ) {p : Progress} {r : Row} where
-  pub row-short : {f : Figures} → p ≡ Short → f ≡ bareFigures (Refused Scratch) (countAt counts 9) → r ≡ figuresRow f → r ≡ stepRow p (jobIn numbers counts)
+  pub row-short : {f : Figures} → p ≡ Short → f ≡ bareFigures (Refused Scratch) (countAt counts 9) → r ≡ figuresRow f
+      → r ≡ stepRow p (jobIn numbers counts)
   unfolding jobIn
   row-short {f} e g h = h ∙ ap figuresRow g ∙ sym (ap (λ (x : Progress). stepRow x (jobIn numbers counts)) e)
 

@@ -33,16 +33,21 @@ use Rattle.figures.specs.Areas.{areaCall}
 use Rattle.jobs.specs.declared.Job.{Job}
 use Rattle.jobs.specs.Jobs.{makingCheck, madeOf}
 use Rattle.engines.specs.declared.Screens.{Screens}
-use Rattle.engines.specs.declared.AtScreen.{AtScreen}
+use Rattle.engines.specs.declared.ScreenReply.{ScreenReply}
 use Rattle.engines.specs.declared.Engine.{Engine}
-use Rattle.engines.specs.Engines.{isScreen, placeOf, isFree, holdsJob, refused as refusedAt, submittedOf, changedOf, jobAt, calledAt, submitOf, changeAt, noProgress, toldOf, progressAt}
-use Rattle.engines.specs.declared.Called.{Called}
+use Rattle.engines.specs.Engines.{isScreen, placeOf, isFree, holdsJob, refused as refusedAt, submittedOf, changedOf, jobAt, calledAt}
+use Rattle.engines.specs.Engines.{submitOf, changeAt, noProgress, toldOf, progressAt}
+use Rattle.engines.specs.declared.EngineReply.{EngineReply}
 use Rattle.answers.specs.declared.Shape.the-variants.{Ring as RingShape}
 use Rattle.reading.specs.declared.Asked.{Asked}
-use Rattle.reading.specs.declared.Asked.the-variants.{Refused as RefusedAsked, Set as SetAsked, Area as AreaAsked, Join as JoinAsked, Moments as MomentsAsked, Check as CheckAsked}
-use Rattle.reading.specs.declared.Asked.the-variants.{Tubes as TubesAsked, Closing as ClosingAsked, Drill as DrillAsked, Copied as CopiedAsked, Placed as PlacedAsked, Moved as MovedAsked}
-use Rattle.reading.specs.declared.Asked.the-variants.{Without as WithoutAsked, Submit as SubmitAsked, Density as DensityAsked, Turn as TurnAsked, Progress as ProgressAsked}
-use Rattle.lines.specs.Lines.{Memory, Effect, setReply, areaReply, bodyReply, closingReply, progressReply, repliedBy, works, engages, setEffect, areaEffect, submitEffect, densityEffect, effectOf}
+use Rattle.reading.specs.declared.Asked.the-variants.{Refused as RefusedAsked, Set as SetAsked, Area as AreaAsked, Join as JoinAsked}
+use Rattle.reading.specs.declared.Asked.the-variants.{Moments as MomentsAsked, Check as CheckAsked}
+use Rattle.reading.specs.declared.Asked.the-variants.{Tubes as TubesAsked, Closing as ClosingAsked, Drill as DrillAsked}
+use Rattle.reading.specs.declared.Asked.the-variants.{Copied as CopiedAsked, Placed as PlacedAsked, Moved as MovedAsked}
+use Rattle.reading.specs.declared.Asked.the-variants.{Without as WithoutAsked, Submit as SubmitAsked, Density as DensityAsked}
+use Rattle.reading.specs.declared.Asked.the-variants.{Turn as TurnAsked, Progress as ProgressAsked}
+use Rattle.lines.specs.Lines.{Memory, Effect, setReply, areaReply, bodyReply, closingReply, progressReply, repliedBy, works, engages}
+use Rattle.lines.specs.Lines.{setEffect, areaEffect, submitEffect, densityEffect, effectOf}
 
 -- ---- the two checks
 
@@ -184,7 +189,7 @@ some-refusal Accepted = (Count, refl)
 some-refusal (Refused refusal) = (refusal, refl)
 
 -- a making that is refused gives its refusal alone, whatever set, points and limit are beside it
-unfoldable turnedAway : Screens → Job → ℕ → Refusal → AtScreen
+unfoldable turnedAway : Screens → Job → ℕ → Refusal → ScreenReply
 turnedAway screens job screen refusal =
     cond (isFree screens screen) (record { screens = screens; job = job; reply = record { verdict = Refused refusal; samples = 0 } })
     (refusedAt screens job notFree)
@@ -302,9 +307,9 @@ effect-capped MovedAsked figures m = (refl, refl)
 effect-capped WithoutAsked figures m = (refl, refl)
 effect-capped (SubmitAsked screen limit set points) figures m =
     let e = submit-capped (m .engine) (take points figures) screen set limit in
-    (ap (λ (c : Called). engages c [] m .reply) e, ap (λ (c : Called). engages c [] m .memory) e)
+    (ap (λ (c : EngineReply). engages c [] m .reply) e, ap (λ (c : EngineReply). engages c [] m .memory) e)
 effect-capped (DensityAsked screen density) figures m =
     let e = change-capped (m .engine) screen density in
-    (ap (λ (c : Called). engages c [] m .reply) e, ap (λ (c : Called). engages c [] m .memory) e)
+    (ap (λ (c : EngineReply). engages c [] m .reply) e, ap (λ (c : EngineReply). engages c [] m .memory) e)
 effect-capped TurnAsked figures m = (refl, refl)
 effect-capped (ProgressAsked screen) figures m = (ap progressReply (progress-capped (m .engine) screen), refl)

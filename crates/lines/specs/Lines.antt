@@ -16,7 +16,7 @@ use Rattle.planforms.specs.declared.Planform.{Planform}
 use Rattle.materials.specs.declared.Density.{Density}
 use Rattle.fins.specs.declared.FinSet.{FinSet}
 use Rattle.bodies.specs.Layout.{bodyNumbers, numbersOf}
-use Rattle.joins.specs.declared.Joined.{Joined}
+use Rattle.joins.specs.declared.JoinedBody.{JoinedBody}
 use Rattle.tubes.specs.declared.ClosingRadius.{ClosingRadius}
 use Rattle.tubes.specs.Tubes.{tubesOf}
 use Rattle.tubes.specs.Closing.{closingOf}
@@ -54,7 +54,7 @@ use Rattle.jobs.specs.declared.JobProgress.{JobProgress}
 use Rattle.engines.specs.declared.Engine.{Engine}
 use Rattle.engines.specs.declared.Turn.{Turn}
 use Rattle.engines.specs.declared.Turn.the-variants.{Short, Idle, More, Ended}
-use Rattle.engines.specs.declared.Called.{Called}
+use Rattle.engines.specs.declared.EngineReply.{EngineReply}
 use Rattle.engines.specs.Engines.{turnOf, turnedRow, submitOf, changeAt, progressAt}
 use Rattle.engines.specs.Calls.{Call, submit, change, turn}
 use Rattle.lent_engines.specs.Memory.{engineIn}
@@ -98,7 +98,7 @@ areaReply a =
     (a .intervals ∷ a .samples ∷ []))
 
 -- a body of points joined, of a ring, or of copies and parts
-abbrev pub bodyReply : Shape → Joined → Reply
+abbrev pub bodyReply : Shape → JoinedBody → Reply
 bodyReply shape joined = unlessRefused (joined .verdict) (reply shape (numbersOf (joined .body)) [])
 
 abbrev pub closingReply : ClosingRadius → Reply
@@ -159,7 +159,7 @@ works call m =
     }
 
 -- a submission or a change of density
-abbrev pub engages : Called → List Call → Memory → Effect
+abbrev pub engages : EngineReply → List Call → Memory → Effect
 engages c calls m =
     record {
       reply = plainReply (c .reply .verdict) TakenShape;

@@ -32,7 +32,7 @@ use engines::Turn;
 use figures::Figures;
 use fins::FinSet;
 use jobs::JobProgress;
-use joins::Joined;
+use joins::JoinedBody;
 use lent_engines::ENGINE_COUNTS;
 use lent_engines::ENGINE_NUMBERS;
 use moments::Moments;
@@ -138,7 +138,7 @@ fn area_reply(
 }
 
 // A body: of points joined, of a ring, or of copies and parts.
-fn body_reply(shape: Shape, joined: Joined) -> Reply
+fn body_reply(shape: Shape, joined: JoinedBody) -> Reply
     ensures { λ r. ⌜ r ≡ bodyReply shape joined ⌝ }
 {
     let verdict = joined.verdict;

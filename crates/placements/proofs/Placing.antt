@@ -9,7 +9,7 @@ use Rattle.floats.specs.Operations.{_⊕_, bits}
 use Rattle.bodies.specs.declared.Body.{Body}
 use Rattle.bodies.specs.Bodies.{rotatedOf}
 use Rattle.rotations.specs.Rotations.{rolledOf}
-use Rattle.joins.specs.declared.Joined.{Joined}
+use Rattle.joins.specs.declared.JoinedBody.{JoinedBody}
 use Rattle.joins.specs.Joins.{inOrder, sumsOf, joinOf, acceptedBody, joinedOf}
 use Rattle.placements.specs.declared.Placement.{Placement}
 use Rattle.placements.specs.Places.{isHere}
@@ -20,11 +20,11 @@ module _ (b : Body) (places : ℕ → Placement) (n : ℕ) {count : ℕ} {same :
   test : (eqb count 1 && same) ≡ (eqb n 1 && isHere (places 0))
   test = rw (p, e, q)
 
-  pub at-here : {r : Joined} → (eqb count 1 && same) ≡ true → r ≡ acceptedBody b → r ≡ acceptedBody (placedOf b places n)
+  pub at-here : {r : JoinedBody} → (eqb count 1 && same) ≡ true → r ≡ acceptedBody b → r ≡ acceptedBody (placedOf b places n)
   unfolding placedOf
   at-here t k = k ∙ rw (sym test ∙ t)
 
-  pub elsewhere : {r : Joined} → (eqb count 1 && same) ≡ false → 1 ≤ n → n ≤ 32 → r ≡ joinedOf (λ k. copyAt b (places k)) count
+  pub elsewhere : {r : JoinedBody} → (eqb count 1 && same) ≡ false → 1 ≤ n → n ≤ 32 → r ≡ joinedOf (λ k. copyAt b (places k)) count
       → r ≡ acceptedBody (placedOf b places n)
   unfolding placedOf
   elsewhere t l h k = k ∙ rw (p, sym test ∙ t, le-leb 1 n l, le-leb n 32 h)

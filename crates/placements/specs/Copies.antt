@@ -11,7 +11,7 @@ use Rattle.bodies.specs.declared.Body.{Body}
 use Rattle.bodies.specs.Vectors.{vector}
 use Rattle.bodies.specs.Bodies.{translatedOf}
 use Rattle.rotations.specs.Rotations.{rolledOf}
-use Rattle.joins.specs.declared.Joined.{Joined}
+use Rattle.joins.specs.declared.JoinedBody.{JoinedBody}
 use Rattle.joins.specs.Joins.{joinOf, unlessRefused}
 use Rattle.body_check.specs.BodyCheck.{checkOf}
 use Rattle.placements.specs.declared.Placement.{Placement}
@@ -34,13 +34,13 @@ placedOf b places n = cond (eqb n 1 && isHere (places 0)) b (joinOf (λ k. copyA
 unfoldable pub copiesCheck : Bool → Body → List Float → Verdict
 copiesCheck rolled b numbers = firstOf (checkOf b ∷ listCheck rolled numbers ∷ placesCheck rolled numbers ∷ [])
 
-unfoldable pub copiesOf : Bool → Body → List Float → Joined
+unfoldable pub copiesOf : Bool → Body → List Float → JoinedBody
 copiesOf rolled b numbers =
     unlessRefused (copiesCheck rolled b numbers) (placedOf b (placeAt rolled numbers) (placeCount rolled numbers))
 
 -- `copied` by offsets, `placed` by places
-abbrev pub copiedOf : Body → List Float → Joined
+abbrev pub copiedOf : Body → List Float → JoinedBody
 copiedOf = copiesOf false
 
-abbrev pub placedAtOf : Body → List Float → Joined
+abbrev pub placedAtOf : Body → List Float → JoinedBody
 placedAtOf = copiesOf true

@@ -11,7 +11,7 @@ use Rattle.bodies.specs.declared.Vector.{Vector}
 use Rattle.bodies.specs.Vectors.{addVectors, subtractVectors, scaleVector, divideVector}
 use Rattle.bodies.specs.Tensors.{addTensors, subtractTensors, scaleTensor, offsetTensorOf}
 use Rattle.bodies.specs.Bodies.{inertiaAboutOf}
-use Rattle.joins.specs.declared.Joined.{Joined}
+use Rattle.joins.specs.declared.JoinedBody.{JoinedBody}
 use Rattle.joins.specs.Joins.{unlessRefused}
 use Rattle.body_check.specs.BodyCheck.{checkOf}
 
@@ -49,7 +49,7 @@ movedCheck whole part offset =
     ∷ refuseWhen (eq (whole .«mass_kg») (bits 0)) NotHeavier
     ∷ [])
 
-unfoldable pub movedOf : Body → Body → Vector → Joined
+unfoldable pub movedOf : Body → Body → Vector → JoinedBody
 movedOf whole part offset = unlessRefused (movedCheck whole part offset) (partMovedOf whole part offset)
 
 -- ---- a part taken off: M' = M − m, cg' = (M cg − m c) / M', I' = I_{cg'} − the part's about cg'
@@ -75,5 +75,5 @@ unfoldable pub withoutCheck : Body → Body → Verdict
 withoutCheck whole part =
     firstOf (checkOf whole ∷ checkOf part ∷ refuseWhen (le (whole .«mass_kg») (part .«mass_kg»)) NotHeavier ∷ [])
 
-unfoldable pub withoutOf : Body → Body → Joined
+unfoldable pub withoutOf : Body → Body → JoinedBody
 withoutOf whole part = unlessRefused (withoutCheck whole part) (partOffOf whole part)

@@ -23,7 +23,7 @@ use bodies::BODY_NUMBERS;
 use bodies::Body;
 use bodies::Vector;
 use bodies::offset_tensor;
-use joins::Joined;
+use joins::JoinedBody;
 use limits::check_length;
 use refusals::Refusal;
 use refusals::Verdict;
@@ -187,7 +187,7 @@ fn write_copies(bodies: &mut [f64], body: Body, places: &[f64], rolled: bool, co
     }
 }
 
-fn joined_copies(body: Body, places: &[f64], rolled: bool, count: usize) -> Joined
+fn joined_copies(body: Body, places: &[f64], rolled: bool, count: usize) -> JoinedBody
     requires { ⌜ (count ≤ 32) × (count ≤ placeCount rolled (now places)) ⌝ }
     ensures { λ r. ⌜ r ≡ joinedOf (λ k. copyAt body (placeAt rolled (now (places .entry)) k)) count ⌝ }
 {
@@ -198,7 +198,7 @@ fn joined_copies(body: Body, places: &[f64], rolled: bool, count: usize) -> Join
 }
 
 // The copies joined; one that neither moves nor turns is the body itself.
-fn placed_copies(body: Body, places: &[f64], rolled: bool) -> Joined
+fn placed_copies(body: Body, places: &[f64], rolled: bool) -> JoinedBody
     requires { ⌜ (1 ≤ placeCount rolled (now places)) × (placeCount rolled (now places) ≤ 32) ⌝ }
     ensures { λ r. ⌜ r ≡ acceptedBody
         (placedOf body (placeAt rolled (now (places .entry))) (placeCount rolled (now (places .entry)))) ⌝ }
@@ -211,7 +211,7 @@ fn placed_copies(body: Body, places: &[f64], rolled: bool) -> Joined
     joined_copies(body, places, rolled, count)
 }
 
-fn copies(body: Body, places: &[f64], rolled: bool) -> Joined
+fn copies(body: Body, places: &[f64], rolled: bool) -> JoinedBody
     ensures { λ r. ⌜ IsJoined r (copiesOf rolled body (now (places .entry))) ⌝ }
 {
     let verdict = check_copies(body, places, rolled);
@@ -222,14 +222,14 @@ fn copies(body: Body, places: &[f64], rolled: bool) -> Joined
 }
 
 // Copies of a body, one moved by each x and y of a list across the axis, joined.
-pub fn copied(body: Body, offsets_m: &[f64]) -> Joined
+pub fn copied(body: Body, offsets_m: &[f64]) -> JoinedBody
     ensures { λ r. ⌜ IsJoined r (copiedOf body (now («offsets_m» .entry))) ⌝ }
 {
     copies(body, offsets_m, false)
 }
 
 // Copies of a body, one at each place of a list, x, y and roll, joined.
-pub fn placed(body: Body, places: &[f64]) -> Joined
+pub fn placed(body: Body, places: &[f64]) -> JoinedBody
     ensures { λ r. ⌜ IsJoined r (placedAtOf body (now (places .entry))) ⌝ }
 {
     copies(body, places, true)
@@ -273,7 +273,7 @@ fn check_moved(whole: Body, part: Body, offset_m: Vector) -> Verdict
 }
 
 // The whole with one of its parts moved by an offset inside it.
-pub fn with_part_moved(whole: Body, part: Body, offset_m: Vector) -> Joined
+pub fn with_part_moved(whole: Body, part: Body, offset_m: Vector) -> JoinedBody
     ensures { λ r. ⌜ IsJoined r (movedOf whole part «offset_m») ⌝ }
 {
     let verdict = check_moved(whole, part, offset_m);
@@ -308,7 +308,7 @@ fn check_without(whole: Body, part: Body) -> Verdict
 }
 
 // The whole with one of its parts taken off.
-pub fn without_part(whole: Body, part: Body) -> Joined
+pub fn without_part(whole: Body, part: Body) -> JoinedBody
     ensures { λ r. ⌜ IsJoined r (withoutOf whole part) ⌝ }
 {
     let verdict = check_without(whole, part);

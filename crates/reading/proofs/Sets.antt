@@ -25,7 +25,8 @@ use Rattle.fins.specs.declared.NumberedSet.{NumberedSet}
 use Rattle.fins.specs.Numbered.{tabOf, numberedSet}
 use Rattle.reading.specs.declared.SetParts.{SetParts}
 use Rattle.reading.specs.Parts.{takePlanform, takeSection, takeTab, takeFillet, takeDensity, setReadings, takeSet, setPartsOf, setOf}
-use Rattle.reading.proofs.Stands.{Strict, Stands, on, was, number-is, end-is, text-strict, planform-strict, section-strict, tab-strict, fillet-strict, density-strict}
+use Rattle.reading.proofs.Stands.{Strict, Stands, on, was, number-is, end-is, text-strict, planform-strict, section-strict}
+use Rattle.reading.proofs.Stands.{tab-strict, fillet-strict, density-strict}
 
 module _ (line : List ℕ) {v v₁ v₂ v₃ v₄ v₅ v₆ v₇ v₈ v₉ v₁₀ v₁₁ : List Float} {c c₁ c₂ c₃ c₄ c₅ c₆ c₇ c₈ c₉ c₁₀ c₁₁ : Cursor}
     (m : Room line v c)
@@ -188,4 +189,16 @@ fillet-is number glue e-fillet e-a e-b = rw (e-fillet, e-a, e-b)
 pub set-strict : Strict takeSet
 unfolding takeSet
 set-strict =
-    rw (text-strict (text "(set (limit N)"), text-strict (text "(count N)"), planform-strict, text-strict (text "(thickness F) (section"), section-strict, text-strict (text ")"), tab-strict, fillet-strict, text-strict (text "(cant F) (base F) (radius F)"), density-strict, text-strict (text ")"))
+    rw (
+      text-strict (text "(set (limit N)"),
+      text-strict (text "(count N)"),
+      planform-strict,
+      text-strict (text "(thickness F) (section"),
+      section-strict,
+      text-strict (text ")"),
+      tab-strict,
+      fillet-strict,
+      text-strict (text "(cant F) (base F) (radius F)"),
+      density-strict,
+      text-strict (text ")"),
+    )

@@ -12,7 +12,8 @@ use Rattle.refusals.specs.declared.Refusal.the-variants.{NoForm as noForm, NoFi
 use Rattle.tokens.specs.Text.{text}
 use Rattle.tokens.specs.Tokens.{lineBytes, tokens}
 use Rattle.templates.specs.declared.Cursor.{Cursor}
-use Rattle.templates.specs.Matching.{Reading, failed, reading, pick, takeText, takeTimes, takeEach, whileFits, orElse, numbered, firstOf, oneOf, optional}
+use Rattle.templates.specs.Matching.{Reading, failed, reading, pick, takeText, takeTimes, takeEach, whileFits, orElse, numbered, firstOf}
+use Rattle.templates.specs.Matching.{oneOf, optional}
 use Rattle.templates.specs.Cursors.{takenBefore, readingAt, Room, ReadsOn, Takes, lineStart}
 use Rattle.templates.proofs.Choices.{fits, fits-at}
 use Rattle.templates.proofs.Repeats.{tokens-failed}

@@ -8,8 +8,8 @@ use lib.Ieee.{Float}
 use Rattle.refusals.specs.declared.Refusal.{Refusal}
 use Rattle.refusals.specs.declared.Refusal.the-variants.{NoForm as noForm, NoFigure as noFigure}
 use Rattle.tokens.specs.Tokens.{tokens}
-use Rattle.tokens.specs.Found.{part}
-use Rattle.tokens.specs.declared.Found.{Found}
+use Rattle.tokens.specs.TokenRange.{part}
+use Rattle.tokens.specs.declared.TokenRange.{TokenRange}
 use Rattle.templates.specs.declared.Cursor.{Cursor}
 use Rattle.reading.specs.declared.Asked.{Asked}
 use Rattle.reading.specs.declared.Asked.the-variants.{Refused}
@@ -44,7 +44,7 @@ endOf line c asked =
     (refusedLine noForm)
 
 -- where the word of a line's form stands; nowhere, and then it has no byte
-pub record IsWordOf (line : List ℕ) (r : Found) : Type 0 where
+pub record IsWordOf (line : List ℕ) (r : TokenRange) : Type 0 where
   pub word : part line (r .from) (r .to) ≡ wordOf line
   pub ordered : r .from ≤ r .to
   pub within : r .to ≤ length line

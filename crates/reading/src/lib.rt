@@ -27,8 +27,8 @@ use planforms::Planform;
 use refusals::Refusal;
 use templates::Cursor;
 use templates::same_bytes;
-use tokens::Found;
 use tokens::LINE_BYTES;
+use tokens::TokenRange;
 use tubes::TubeFinSet;
 
 // The longer forms of figures alone, as docs/FORMS.md writes them; of copies and places, what stands before them.
@@ -504,7 +504,7 @@ fn read_list(line: &[u8], head: &[u8], each: &[u8], asked: Asked, values: &mut [
 // ---- lines
 
 // The word after the line's first bracket.
-fn word_of(line: &[u8]) -> Found
+fn word_of(line: &[u8]) -> TokenRange
     ensures { λ r. ⌜ IsWordOf (now (line .entry)) r ⌝ }
 {
     let bracket = tokens::next_token(line, 0);

@@ -28,7 +28,7 @@ use Rattle.bodies.specs.declared.Body.{Body}
 use Rattle.bodies.specs.Vectors.{vector}
 use Rattle.bodies.specs.Tensors.{zeroTensor, tensor}
 use Rattle.bodies.specs.Layout.{tensorNumbers, bodyNumbers, bodyOf}
-use Rattle.joins.specs.declared.Joined.{Joined}
+use Rattle.joins.specs.declared.JoinedBody.{JoinedBody}
 use Rattle.joins.specs.Joins.{joinedOf, refusedBody}
 use Rattle.moments.specs.declared.Moments.{Moments}
 use Rattle.moments.specs.Moments.{principalMomentsOf}
@@ -66,7 +66,7 @@ numberedDrill noPlanform points x height = refusedPoint NoForm
 
 -- ---- a ring of tubes (document 02, Paper 3): of length, outer radius, wall, base angle, body radius, density
 
-abbrev pub ringOfKnown : ℕ → NumberedDensity → List Float → Joined
+abbrev pub ringOfKnown : ℕ → NumberedDensity → List Float → JoinedBody
 ringOfKnown count (densityKnown density) figures =
     tubesOf
     (record {
@@ -80,7 +80,7 @@ ringOfKnown count (densityKnown density) figures =
     (at figures 4)
 ringOfKnown count noDensity figures = refusedBody NoForm
 
-unfoldable pub ringBy : ℕ → ℕ → List Float → Joined
+unfoldable pub ringBy : ℕ → ℕ → List Float → JoinedBody
 ringBy count density figures =
     cond (eqb (length figures) 6) (ringOfKnown count (numberedDensity density (at figures 5)) figures)
     (refusedBody NoForm)
@@ -97,7 +97,7 @@ pointBodyAt figures k =
     }
 
 -- "none, or more, gives 3"
-unfoldable pub joinedPointsOf : List Float → Joined
+unfoldable pub joinedPointsOf : List Float → JoinedBody
 joinedPointsOf figures = joinedOf (pointBodyAt figures) (length figures / 4)
 
 -- ---- principal moments: of a tensor's numbers
@@ -116,22 +116,22 @@ bodyVerdict numbers = cond (eqb (length numbers) bodyNumbers) (checkOf (bodyOf (
 -- ---- copies of a body, and a part moved or taken off (document 02, Paper 13): of bodies' numbers
 
 -- another count of numbers than a body's is no form
-abbrev pub ofBody : List Float → (Body → Joined) → Joined
+abbrev pub ofBody : List Float → (Body → JoinedBody) → JoinedBody
 ofBody numbers f = cond (eqb (length numbers) bodyNumbers) (f (bodyOf (at numbers))) (refusedBody NoForm)
 
-unfoldable pub copiedBy : List Float → List Float → Joined
+unfoldable pub copiedBy : List Float → List Float → JoinedBody
 copiedBy body offsets = ofBody body (λ b. copiedOf b offsets)
 
-unfoldable pub placedBy : List Float → List Float → Joined
+unfoldable pub placedBy : List Float → List Float → JoinedBody
 placedBy body places = ofBody body (λ b. placedAtOf b places)
 
 -- an offset is x, y and z
-unfoldable pub movedBy : List Float → List Float → List Float → Joined
+unfoldable pub movedBy : List Float → List Float → List Float → JoinedBody
 movedBy whole part offset =
     ofBody whole
     (λ w. ofBody part
     (λ p. cond (eqb (length offset) 3) (movedOf w p (vector (at offset 0) (at offset 1) (at offset 2)))
     (refusedBody NoForm)))
 
-unfoldable pub withoutBy : List Float → List Float → Joined
+unfoldable pub withoutBy : List Float → List Float → JoinedBody
 withoutBy whole part = ofBody whole (λ w. ofBody part (λ p. withoutOf w p))

@@ -1,6 +1,5 @@
-// The calls on what is given by numbers (docs/FORMS.md; include/delvouzh.h): a set, a
-// planform, a planform's chords, a point beside a planform, a ring of tubes, points to join, a tensor, a body, copies of
-// one, a part moved or taken off.
+// The calls on what is given by numbers (docs/FORMS.md; include/delvouzh.h): a set, a planform, a planform's chords, a
+// point beside a planform, a ring of tubes, points to join, a tensor, a body, copies of one, a part moved or taken off.
 //
 // Any numbers may be handed in: what they do not make up is no form.
 ghost use mathlib.Core.Path.{_≡_};
@@ -22,7 +21,7 @@ use drill::Answer;
 use figures::Area;
 use figures::Figures;
 use fins::NumberedSet;
-use joins::Joined;
+use joins::JoinedBody;
 use materials::NumberedDensity;
 use moments::Moments;
 use planform_chords::ChordList;
@@ -122,7 +121,7 @@ pub fn drilled(planform: NumberedPlanform, points: &[f64], x_m: f64, height_m: f
 }
 
 // A ring of tubes by six numbers: length, outer radius, wall, base angle, body radius, density; of another count, 18.
-pub fn ring_figures(count: usize, density: usize, numbers: &[f64]) -> Joined
+pub fn ring_figures(count: usize, density: usize, numbers: &[f64]) -> JoinedBody
     ensures { λ r. ⌜ r ≡ ringBy count density (now (numbers .entry)) ⌝ }
 {
     if numbers.len() != 6 {
@@ -172,7 +171,7 @@ pub fn body_verdict(numbers: &[f64]) -> Verdict
 
 // Copies of a body by its numbers, moved by the x and y of each offset, joined; of another count of the body's numbers,
 // 18.
-pub fn copied_by(body: &[f64], offsets: &[f64]) -> Joined
+pub fn copied_by(body: &[f64], offsets: &[f64]) -> JoinedBody
     ensures { λ r. ⌜ r ≡ copiedBy (now (body .entry)) (now (offsets .entry)) ⌝ }
 {
     if body.len() != BODY_NUMBERS {
@@ -182,7 +181,7 @@ pub fn copied_by(body: &[f64], offsets: &[f64]) -> Joined
 }
 
 // The same, by the x, y and roll of each place.
-pub fn placed_by(body: &[f64], places: &[f64]) -> Joined
+pub fn placed_by(body: &[f64], places: &[f64]) -> JoinedBody
     ensures { λ r. ⌜ r ≡ placedBy (now (body .entry)) (now (places .entry)) ⌝ }
 {
     if body.len() != BODY_NUMBERS {
@@ -192,7 +191,7 @@ pub fn placed_by(body: &[f64], places: &[f64]) -> Joined
 }
 
 // A body with a part moved by an offset of three numbers; of other counts, 18.
-pub fn moved_by(whole: &[f64], part: &[f64], offset: &[f64]) -> Joined
+pub fn moved_by(whole: &[f64], part: &[f64], offset: &[f64]) -> JoinedBody
     ensures { λ r. ⌜ r ≡ movedBy (now (whole .entry)) (now (part .entry)) (now (offset .entry)) ⌝ }
 {
     if whole.len() != BODY_NUMBERS {
@@ -213,7 +212,7 @@ pub fn moved_by(whole: &[f64], part: &[f64], offset: &[f64]) -> Joined
 }
 
 // A body with a part taken off; of other counts, 18.
-pub fn without_by(whole: &[f64], part: &[f64]) -> Joined
+pub fn without_by(whole: &[f64], part: &[f64]) -> JoinedBody
     ensures { λ r. ⌜ r ≡ withoutBy (now (whole .entry)) (now (part .entry)) ⌝ }
 {
     if whole.len() != BODY_NUMBERS {
@@ -258,14 +257,14 @@ fn write_points(bodies: &mut [f64], values: &[f64], count: usize)
 }
 
 // The points of a line joined; refused 3 where they are none or more than 32.
-pub fn join_points(values: &[f64]) -> Joined
+pub fn join_points(values: &[f64]) -> JoinedBody
     ensures { λ r. ⌜ r ≡ joinedPointsOf (now (values .entry)) ⌝ }
 {
     let count = values.len() / 4;
     if 32 < count {
         let verdict = Verdict::Refused(Refusal::Count);
         let body = Body::ZERO;
-        return Joined { verdict, body };
+        return JoinedBody { verdict, body };
     }
     let mut bodies = [0.0; POINTS_NUMBERS];
     write_points(&mut bodies, values, count);

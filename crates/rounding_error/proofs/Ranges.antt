@@ -29,10 +29,18 @@ pub ranges-for : (k l : ℕ) (A : Size) (y : Float) → T (positive y) → Range
 ranges-for k l (a per c) y p h g =
     record {
       real = mul-pos (positive-num y p) (h .real);
-      least = rw (pow-add 2 k l) (le-trans (le-of-eq (mul-comm (num y) c)) (pairs c (num y) a (den y) (2 ^ k) (2 ^ l) (h .least) (g .most)));
-      most = rw (pow-add 2 k l) (le-trans (pairs a (den y) c (num y) (2 ^ k) (2 ^ l) (h .most) (g .least)) (le-of-eq (ap (λ (x : ℕ). x * (2 ^ k * 2 ^ l)) (mul-comm c (num y)))));
+      least = rw (pow-add 2 k l)
+          (le-trans (le-of-eq (mul-comm (num y) c)) (pairs c (num y) a (den y) (2 ^ k) (2 ^ l) (h .least) (g .most)));
+      most = rw (pow-add 2 k l)
+          (le-trans (pairs a (den y) c (num y) (2 ^ k) (2 ^ l) (h .most) (g .least))
+          (le-of-eq (ap (λ (x : ℕ). x * (2 ^ k * 2 ^ l)) (mul-comm c (num y)))));
     }
 
 pub in-range : (k : ℕ) (S : Size) → k ≤ 1000 → Ranges k S → InRange S
 in-range k (a per c) h s =
-    record { real = s .real; least = le-trans (s .least) (mul-le-mul-left a (pow-mono h)); most = le-trans (s .most) (mul-le-mul-left c (pow-mono h)) }
+    record {
+      real = s .real;
+      least = le-trans (s .least) (mul-le-mul-left a (pow-mono h));
+      most = le-trans (s .most)
+          (mul-le-mul-left c (pow-mono h));
+    }

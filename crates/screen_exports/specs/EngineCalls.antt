@@ -16,7 +16,7 @@ use Rattle.fins.specs.declared.FinSet.{FinSet}
 use Rattle.fins.specs.declared.NumberedSet.{NumberedSet}
 use Rattle.jobs.specs.declared.Row.{Row}
 use Rattle.engines.specs.declared.Engine.{Engine}
-use Rattle.engines.specs.declared.Turned.{Turned}
+use Rattle.engines.specs.declared.EngineTurn.{EngineTurn}
 use Rattle.engines.specs.Engines.{servedScreen, turnOf, turnedRow, submitOf, changeAt, progressAt}
 use Rattle.engines.specs.Calls.{Call, turn, submit, change}
 use Rattle.lent_engines.specs.Memory.{engineNumbers, engineCounts, screensIn, noScreens}
@@ -48,7 +48,7 @@ changing engine screen density =
     record { reply = changeAt engine screen density .reply; change = change screen density ∷ [] }
 
 -- the screen served, 0 for none, after the counts of a turn's answer
-abbrev pub withScreen : Turned → List ℕ → List ℕ
+abbrev pub withScreen : EngineTurn → List ℕ → List ℕ
 withScreen t counts = set counts 4 (servedScreen (t .turn))
 
 module _ (before : Lists) where

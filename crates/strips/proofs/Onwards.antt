@@ -11,10 +11,10 @@ use Rattle.refusals.specs.Calls.{CallOf, Does}
 use Rattle.integrands.specs.Integrands.{sampleOf}
 use Rattle.integrands.specs.declared.Integrand.{Integrand}
 use Rattle.planforms.specs.Planforms.{spanOf}
-use Rattle.breaks.specs.declared.Standing.{Standing}
+use Rattle.breaks.specs.declared.RankedHeight.{RankedHeight}
 use Rattle.breaks.specs.Breaks.{allHeights, placeAbove, leastAbove}
 use Rattle.breaks.proofs.Above.{span-above}
-use Rattle.strips.specs.declared.Onward.{Onward}
+use Rattle.strips.specs.declared.Advance.{Advance}
 use Rattle.strips.specs.Strips.{Run, Worked, stripOf, inWords, withStrip, integralIn, nextPlace, hasStrip, stripFrom, workedOn}
 use Rattle.strips.specs.Strips.{noStrip, onwardOf, stripBetween, stepRunOf, WorksStrip}
 
@@ -31,7 +31,7 @@ module _ (run : Run) (i : ℕ) (totals : Totals) where
 
 -- the ends as the code finds them
 module _ (integrand : Integrand) (points : List Float) (L i : ℕ) (lower : Float)
-    (from : lower ≡ at (allHeights (integrand .planform) points) i) (found : Standing)
+    (from : lower ≡ at (allHeights (integrand .planform) points) i) (found : RankedHeight)
     (above : found ≡ leastAbove lower (allHeights (integrand .planform) points)) (totals : Totals) (entry : List Float) where
   abbrev Run· : Run
   Run· = stepRunOf integrand points L
@@ -40,10 +40,10 @@ module _ (integrand : Integrand) (points : List Float) (L i : ℕ) (lower : Floa
   All· = allHeights (integrand .planform) points
 
   place-is : found .place ≡ nextPlace Run· i
-  place-is = ap (λ (s : Standing). s .place) above ∙ ap (λ (h : Float). placeAbove h All·) from
+  place-is = ap (λ (s : RankedHeight). s .place) above ∙ ap (λ (h : Float). placeAbove h All·) from
 
   upper-is : found .height ≡ at All· (nextPlace Run· i)
-  upper-is = ap (λ (s : Standing). s .height) above ∙ ap (λ (h : Float). at All· (placeAbove h All·)) from
+  upper-is = ap (λ (s : RankedHeight). s .height) above ∙ ap (λ (h : Float). at All· (placeAbove h All·)) from
 
   there-is : lt lower (found .height) ≡ hasStrip Run· i
   there-is = ap (λ (h : Float). lt h (found .height)) from ∙ ap (lt (at All· i)) upper-is
@@ -51,7 +51,7 @@ module _ (integrand : Integrand) (points : List Float) (L i : ℕ) (lower : Floa
   abbrev Strip· : Float → Float → Worked
   Strip· h k = stripOf 7 (sampleOf integrand points) L (h ⊘ integrand .scale) (k ⊘ integrand .scale)
 
-  abbrev On· : Integral → ℕ → Bool → Onward
+  abbrev On· : Integral → ℕ → Bool → Advance
   On· t n b = record { total = t; next = n; more = b }
 
   abbrev After· : Integral
@@ -74,11 +74,11 @@ module _ (integrand : Integrand) (points : List Float) (L i : ℕ) (lower : Floa
         ap (λ (t : Integral). On· t (found .place) (lt (found .height) span || lt (found .height) (bits 0))) (v .total)
             ∙ ap (λ (n : ℕ). On· After· n (lt (found .height) span || lt (found .height) (bits 0))) place-is
             ∙ ap (On· After· (nextPlace Run· i)) again
-            ∙ ap (λ (c : CallOf Onward). c .answer) on,
-        v .scratch ∙ ap (λ (c : CallOf Onward). c .leaves entry) on,
+            ∙ ap (λ (c : CallOf Advance). c .answer) on,
+        v .scratch ∙ ap (λ (c : CallOf Advance). c .leaves entry) on,
       )
 
   pub went-nowhere : lt lower (found .height) ≡ false → Does (onwardOf Run· i totals) (noStrip i totals .answer) entry entry
   went-nowhere h =
       let none = sym (onward-none Run· i totals (sym there-is ∙ h)) in
-      (ap (λ (c : CallOf Onward). c .answer) none, ap (λ (c : CallOf Onward). c .leaves entry) none)
+      (ap (λ (c : CallOf Advance). c .answer) none, ap (λ (c : CallOf Advance). c .leaves entry) none)

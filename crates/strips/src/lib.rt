@@ -19,7 +19,7 @@ use integrands::Integrand;
 use std::num::wrapping_add_usize;
 
 // The totals after a strip, where the next one begins, and whether there is a next.
-pub struct Onward {
+pub struct Advance {
     pub total: Integral,
     pub next: usize,
     pub more: bool,
@@ -83,7 +83,7 @@ pub fn work_next(
     i: usize,
     limit: usize,
     totals: Totals,
-) -> Onward
+) -> Advance
     requires { ⌜ Room limit (length (now scratch)) × (span ≡ spanOf (integrand .planform) (now points)) ⌝ }
     ensures { λ r. ⌜ Does (onwardOf (stepRunOf integrand (now (points .entry)) limit) i totals)
         r (now (scratch .entry)) (now (scratch .exit)) ⌝ }
@@ -95,7 +95,7 @@ pub fn work_next(
     if lower < upper {
         let ends = [lower, upper];
         let total = work_strip(scratch, integrand, points, &ends, 0, limit, totals);
-        return Onward {
+        return Advance {
             total,
             next: found.place,
             more: (upper < span) | (upper < 0.0),
@@ -103,7 +103,7 @@ pub fn work_next(
     }
     let ending = Ending::Accepted;
     let total = Integral { ending, totals };
-    Onward {
+    Advance {
         total,
         next: i,
         more: false,

@@ -32,8 +32,10 @@ else-second failed b h = refl
 else-second (reading ts t) b h = let z : _≡_ {A = ℕ} 0 1 = cc in absurd (let y : ⊥ = omega arith in y)
 
 -- the same reading where the figures taken are the same
-pub same-reading : (line : List ℕ) (v w : List Float) (c : Cursor) → take (c .figures) w ≡ take (c .figures) v → readingAt line w c ≡ readingAt line v c
-same-reading line v w c k = ap (λ (l : List Float). pick (c .ok) (reading (tokens (drop (c .at) line)) (record { figures = l; number = c .number; spoiled = c .spoiled })) failed) k
+pub same-reading : (line : List ℕ) (v w : List Float) (c : Cursor) → take (c .figures) w ≡ take (c .figures) v
+    → readingAt line w c ≡ readingAt line v c
+same-reading line v w c k = ap (λ (l : List Float). pick (c .ok)
+    (reading (tokens (drop (c .at) line)) (record { figures = l; number = c .number; spoiled = c .spoiled })) failed) k
 
 -- nothing taken
 pub here : (line : List ℕ) (v : List Float) (c : Cursor) → Room line v c → ReadsOn line v v c c (readingAt line v c)
@@ -41,10 +43,17 @@ here line v c m = record { is = refl; kept = refl; grows = omega arith; room = m
 
 module _ (line : List ℕ) (v w : List Float) (c r : Cursor) (m : Reading) (o : ReadsOn line v w c r m) where
   -- and then more
-  pub also : (u : List Float) (s : Cursor) (p : Reading → Reading) → ReadsOn line w u r s (p (readingAt line w r)) → ReadsOn line v u c s (p m)
+  pub also : (u : List Float) (s : Cursor) (p : Reading → Reading) → ReadsOn line w u r s (p (readingAt line w r))
+      → ReadsOn line v u c s (p m)
   also u s p q =
       let g = o .grows in let h = q .grows in
-      record { is = q .is ∙ ap p (o .is); kept = also-kept v w u (c .figures) (r .figures) g (o .kept) (q .kept); grows = omega arith; room = q .room }
+      record {
+        is = q .is
+            ∙ ap p (o .is);
+        kept = also-kept v w u (c .figures) (r .figures) g (o .kept) (q .kept);
+        grows = omega arith;
+        room = q .room;
+      }
 
   pub meant-fits : fits m ≡ r .ok
   meant-fits = ap fits (sym (o .is)) ∙ fits-at line w r
@@ -63,7 +72,8 @@ module _ (line : List ℕ) (v w : List Float) (c r : Cursor) (m : Reading) (o : 
         room = record { short = q .short; room = q .room; within = q .within; few = q .few };
       }
     where
-      by : (t : Bool) → pick t (reading (tokens (drop (r .at) line)) (takenBefore w (numberedCursor k r))) failed ≡ numbered k (pick t (reading (tokens (drop (r .at) line)) (takenBefore w r)) failed)
+      by : (t : Bool) → pick t (reading (tokens (drop (r .at) line)) (takenBefore w (numberedCursor k r))) failed
+          ≡ numbered k (pick t (reading (tokens (drop (r .at) line)) (takenBefore w r)) failed)
       by true = refl
       by false = refl
 
@@ -71,7 +81,8 @@ module _ (line : List ℕ) (v w : List Float) (c r : Cursor) (m : Reading) (o : 
   first-fits b h = record { is = o .is ∙ else-first m b (meant-fits ∙ h); kept = o .kept; grows = o .grows; room = o .room }
 
   -- the first did not fit, and another was tried from c
-  pub next-tried : (u : List Float) (s : Cursor) (p : Reading → Reading) → r .ok ≡ false → ReadsOn line w u c s (p (readingAt line w c)) → ReadsOn line v u c s (orElse m (p (readingAt line v c)))
+  pub next-tried : (u : List Float) (s : Cursor) (p : Reading → Reading) → r .ok ≡ false → ReadsOn line w u c s (p (readingAt line w c))
+      → ReadsOn line v u c s (orElse m (p (readingAt line v c)))
   next-tried u s p h q =
       record {
         is = q .is ∙ ap p (same-reading line v w c (o .kept)) ∙ else-second m (p (readingAt line v c)) (meant-fits ∙ h);

@@ -9,7 +9,8 @@ use lib.Ieee.{Float}
 use Rattle.tokens.specs.Text.{text}
 use Rattle.tokens.specs.Tokens.{lineBytes}
 use Rattle.templates.specs.declared.Cursor.{Cursor}
-use Rattle.templates.specs.Matching.{Reading, failed, reading, pick, sameBytes, takeOne, whileFits, takeTimes, takeEach, takeFigures, takeToken, takeTokens}
+use Rattle.templates.specs.Matching.{Reading, failed, reading, pick, sameBytes, takeOne, whileFits, takeTimes, takeEach, takeFigures}
+use Rattle.templates.specs.Matching.{takeToken, takeTokens}
 use Rattle.templates.specs.Cursors.{readingAt, Room, ReadsOn}
 use Rattle.templates.proofs.Steps.{also-kept}
 use Rattle.templates.proofs.Choices.{fits, same-reading, meant-fits, room-again}
@@ -22,10 +23,12 @@ on-failed : (a r : Reading) (g : Reading → Reading) → fits a ≡ false → w
 on-failed failed r g h = refl
 on-failed (reading ts t) r g h = let z : _≡_ {A = ℕ} 0 1 = cc in absurd (let y : ⊥ = omega arith in y)
 
-once-more : (n : ℕ) (step : Reading → Reading) (r : Reading) → 0 < n → fits (step r) ≡ true → takeTimes n step r ≡ takeTimes (n - 1) step (step r)
+once-more : (n : ℕ) (step : Reading → Reading) (r : Reading) → 0 < n → fits (step r) ≡ true
+    → takeTimes n step r ≡ takeTimes (n - 1) step (step r)
 unfolding takeTimes
 once-more zero step r z h = absurd (let y : ⊥ = omega arith in y)
-once-more (suc n) step r z h = on-fits (step r) r (takeTimes n step) h ∙ ap (λ (k : ℕ). takeTimes k step (step r)) (let e : n ≡ suc n - 1 = omega arith in e)
+once-more (suc n) step r z h = on-fits (step r) r (takeTimes n step) h
+    ∙ ap (λ (k : ℕ). takeTimes k step (step r)) (let e : n ≡ suc n - 1 = omega arith in e)
 
 no-more : (n : ℕ) (step : Reading → Reading) (r : Reading) → fits (step r) ≡ false → takeTimes n step r ≡ r
 unfolding takeTimes
@@ -71,7 +74,8 @@ module _ (line : List ℕ) (step : Reading → Reading) (before : List Float) (c
 
   module _ (between : List Float) (s : Cursor) (turns : ℕ) (v : Repeating line step before between c s turns) where
     pub all-turns : turns ≤ 0 → ReadsOn line before between c s (takeEach step (readingAt line before c))
-    all-turns h = record { is = sym (v .whole ∙ none-left turns step (readingAt line between s) h); kept = v .kept; grows = v .grows; room = v .room }
+    all-turns h = record
+        { is = sym (v .whole ∙ none-left turns step (readingAt line between s) h); kept = v .kept; grows = v .grows; room = v .room }
 
     module _ (after : List Float) (next : Cursor) (o : ReadsOn line between after s next (step (readingAt line between s))) where
       kept-on : take (c .figures) after ≡ take (c .figures) before
@@ -81,7 +85,8 @@ module _ (line : List ℕ) (step : Reading → Reading) (before : List Float) (c
       again z h l =
           let g = v .grows in let k = o .grows in let q = v .same in
           record {
-            whole = v .whole ∙ once-more turns step (readingAt line between s) z (meant-fits line between after s next _ o ∙ h) ∙ ap (takeTimes (turns - 1) step) (sym (o .is));
+            whole = v .whole ∙ once-more turns step (readingAt line between s) z (meant-fits line between after s next _ o ∙ h)
+                ∙ ap (takeTimes (turns - 1) step) (sym (o .is));
             kept = kept-on;
             grows = omega arith;
             room = o .room;
@@ -91,7 +96,8 @@ module _ (line : List ℕ) (step : Reading → Reading) (before : List Float) (c
       pub ends : next .ok ≡ false → ReadsOn line before after c s (takeEach step (readingAt line before c))
       ends h =
           record {
-            is = same-reading line between after s (o .kept) ∙ sym (v .whole ∙ no-more turns step (readingAt line between s) (meant-fits line between after s next _ o ∙ h));
+            is = same-reading line between after s (o .kept)
+                ∙ sym (v .whole ∙ no-more turns step (readingAt line between s) (meant-fits line between after s next _ o ∙ h));
             kept = kept-on;
             grows = v .grows;
             room = room-again line between after s next _ o (v .room);

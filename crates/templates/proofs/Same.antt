@@ -25,7 +25,8 @@ module _ (a b : List ℕ) (i : ℕ) (e : length a ≡ length b) (h : i < length 
   step : sameBytes a b ≡ eqb (getD a i 0) (getD b i 0) && sameBytes (drop (i + 1) a) (drop (i + 1) b)
   step =
       let g : i < length b = omega arith in
-      s ∙ ap (λ (l : List ℕ). sameBytes l (drop i b)) (drop-cons a i 0 h) ∙ ap (λ (l : List ℕ). sameBytes (getD a i 0 ∷ drop (suc i) a) l) (drop-cons b i 0 g)
+      s ∙ ap (λ (l : List ℕ). sameBytes l (drop i b)) (drop-cons a i 0 h)
+      ∙ ap (λ (l : List ℕ). sameBytes (getD a i 0 ∷ drop (suc i) a) l) (drop-cons b i 0 g)
       ∙ ap (λ (k : ℕ). eqb (getD a i 0) (getD b i 0) && sameBytes (drop k a) (drop k b)) (sym (add-one i))
 
   pub differ : (getD a i 0 ≡ getD b i 0 → ⊥) → false ≡ sameBytes a b
@@ -34,7 +35,8 @@ module _ (a b : List ℕ) (i : ℕ) (e : length a ≡ length b) (h : i < length 
   pub agree : getD a i 0 ≡ getD b i 0 → sameBytes a b ≡ sameBytes (drop (i + 1) a) (drop (i + 1) b)
   agree n = step ∙ rw (eq-eqb (getD a i 0) (getD b i 0) n)
 
-pub all-agree : (a b : List ℕ) (i : ℕ) → length a ≡ length b → length a ≤ i → sameBytes a b ≡ sameBytes (drop i a) (drop i b) → true ≡ sameBytes a b
+pub all-agree : (a b : List ℕ) (i : ℕ) → length a ≡ length b → length a ≤ i → sameBytes a b ≡ sameBytes (drop i a) (drop i b)
+    → true ≡ sameBytes a b
 all-agree a b i e h s =
     let g : length b ≤ i = omega arith in
     sym (s ∙ ap (λ (l : List ℕ). sameBytes l (drop i b)) (drop-of-length-le a h) ∙ ap (sameBytes []) (drop-of-length-le b g))

@@ -11,8 +11,8 @@ use Rattle.counts.specs.declared.Count.the-variants.{Whole, NotCount}
 use Rattle.counts.specs.Counts.{countOf, cappedCount}
 use Rattle.tokens.specs.Text.{text}
 use Rattle.tokens.specs.Tokens.{lineBytes, tokens}
-use Rattle.tokens.specs.Found.{part}
-use Rattle.tokens.specs.declared.Found.{Found}
+use Rattle.tokens.specs.TokenRange.{part}
+use Rattle.tokens.specs.declared.TokenRange.{TokenRange}
 use Rattle.templates.specs.Matching.{Taken, Reading, failed, reading, pick, sameBytes, cutAtBars}
 use Rattle.templates.specs.declared.Cursor.{Cursor}
 
@@ -45,7 +45,7 @@ abbrev pub Takes : (Reading → Reading) → List ℕ → List Float → List Fl
 Takes step line before after c r = ReadsOn line before after c r (step (readingAt line before c))
 
 -- the place of a token that was found from a cursor on
-pub record IsWordAt (line : List ℕ) (c : Cursor) (found : Found) : Type 0 where
+pub record IsWordAt (line : List ℕ) (c : Cursor) (found : TokenRange) : Type 0 where
   pub behind : c .at ≤ found .from
   pub ordered : found .from ≤ found .to
   pub within : found .to ≤ length line

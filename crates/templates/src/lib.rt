@@ -9,15 +9,15 @@ ghost use Prim.Native.Nat.{_≤_};
 ghost use lib.ListN.{length, drop};
 ghost use Rattle.counts.specs.Counts.{countOf, cappedCount};
 ghost use Rattle.tokens.specs.Tokens.{lineBytes, tokens};
-ghost use Rattle.tokens.specs.Found.{part};
+ghost use Rattle.tokens.specs.TokenRange.{part};
 ghost use Rattle.templates.specs.Matching.{sameBytes, isWordByte, isWord, takeWord, takeOne, takeFigures};
 ghost use Rattle.templates.specs.Matching.{takeText, takeEach, oneOf, optional, cutAtBars};
 ghost use Rattle.templates.specs.Cursors.{takenBefore, Room, ReadsOn, Takes, IsWordAt, lineStart, notAForm, onTo};
 ghost use Rattle.templates.specs.Cursors.{spoiledTo, pickCursor, counted, plainTo, numberedCursor, IsBarEnd};
 use counts::Count;
 use hex::Figure;
-use tokens::Found;
 use tokens::LINE_BYTES;
+use tokens::TokenRange;
 
 // How many figures a line may have: a figure has a byte at least.
 pub const LINE_FIGURES: usize = 4096;
@@ -168,7 +168,7 @@ fn take_no_figure(c: Cursor, token: &[u8], to: usize) -> Cursor
 }
 
 // A token of the line, found at a place, against one of a template: `F` takes a figure.
-fn take_word(line: &[u8], c: Cursor, wanted: &[u8], found: Found, values: &mut [f64]) -> Cursor
+fn take_word(line: &[u8], c: Cursor, wanted: &[u8], found: TokenRange, values: &mut [f64]) -> Cursor
     requires { ⌜ Room (now line) (now values) c × IsWordAt (now line) c found ⌝ }
     ensures { λ r. ⌜ ReadsOn (now (line .entry)) (now (values .entry)) (now (values .exit)) c r
         (takeWord (now (wanted .entry)) (part (now (line .entry)) (found .from) (found .to))

@@ -29,7 +29,7 @@ use Rattle.figures.specs.Figures.{bareFigures}
 use Rattle.jobs.specs.Jobs.{steppedOn, stepOf, changeOf, makingCheck, madeOf, countBelow, progressOf}
 use Rattle.engines.specs.declared.Screens.{Screens}
 use Rattle.engines.specs.declared.Engine.{Engine}
-use Rattle.engines.specs.declared.Called.{Called}
+use Rattle.engines.specs.declared.EngineReply.{EngineReply}
 use Rattle.engines.specs.NoJob.{noJob}
 use Rattle.engines.specs.Engines.{placeOf, holdsJob, isFree, firstHeld, nextScreen, pickOf, withHeld, servedScreen}
 use Rattle.engines.specs.Engines.{stepped, servedOf, submittedOf, changedOf, turnOf, turnedRow, submitOf, changeAt}
@@ -146,7 +146,7 @@ setOf density =
       density = density;
     }
 
-abbrev submitted : Engine → ℕ → ℕ → Called
+abbrev submitted : Engine → ℕ → ℕ → EngineReply
 submitted engine screen L = submitOf engine screen (setOf (Bulk one)) [] L
 
 abbrev empty : Engine

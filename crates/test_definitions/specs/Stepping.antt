@@ -32,13 +32,13 @@ use Rattle.tolerance.specs.Bounds.{componentOf}
 use Rattle.halving.specs.declared.Ending.{Ending}
 use Rattle.halving.specs.declared.Ending.the-variants.{Accepted, NotConverged}
 use Rattle.halving.specs.Halving.{repeat, halving}
-use Rattle.strips.specs.declared.Onward.{Onward}
+use Rattle.strips.specs.declared.Advance.{Advance}
 use Rattle.strips.specs.Strips.{withStrip, onwardOf}
 use Rattle.figures.specs.declared.Figures.{Figures}
 use Rattle.figures.specs.Figures.{bareFigures, concludedSet}
 use Rattle.jobs.specs.declared.Job.{Job}
 use Rattle.jobs.specs.declared.JobProgress.{JobProgress}
-use Rattle.jobs.specs.declared.Stepped.{Stepped}
+use Rattle.jobs.specs.declared.JobStep.{JobStep}
 use Rattle.jobs.specs.declared.Progress.{Progress}
 use Rattle.jobs.specs.declared.Progress.the-variants.{Short, More, Ended}
 use Rattle.jobs.specs.declared.Row.{Row}
@@ -194,7 +194,7 @@ density-left =
     && isBulk (after .job .set .density) 0x4085_4000_0000_0000
 
 -- "Until the job ends, with its last strip or one refused": of totals with strips left, with none left, and refused
-abbrev totals : Ending → Bool → Onward
+abbrev totals : Ending → Bool → Advance
 totals ending more =
     record {
       total = record { ending = ending; totals = record { value = zeros; intervals = 2; samples = 30 } };
@@ -225,14 +225,14 @@ asked-again =
 
 -- "one strip a step": the first leaves one strip worked, with its fifteen samples, and more to come, from height 1 on,
 -- which stands after 0, the span and the last point's
-abbrev pub one-strip-a-step : Stepped → Bool
+abbrev pub one-strip-a-step : JobStep → Bool
 one-strip-a-step s =
     isMore (s .progress) && eqb (stepRow (s .progress) (s .job) .number) 1000 && eqb (s .job .next) 3
     && eqb (s .job .totals .samples) 15 && eqb (s .job .totals .intervals) 1 && not (s .job .ended)
 
 -- "the sums and totals over those worked": the last strip's are added to those of the record, whose first is 1; and
 -- the job has come to the place of the span
-abbrev pub sums-go-on : Stepped → Bool
+abbrev pub sums-go-on : JobStep → Bool
 sums-go-on s =
     isEnded (s .progress) && s .job .ended && eqb (s .job .next) 1 && eqb (s .job .totals .samples) 30
     && eqb (s .job .totals .intervals) 2 && lt (bits one) (at (s .job .totals .value) 0)

@@ -5,14 +5,14 @@ use mathlib.Core.Path.{_≡_}
 use Prim.Native.Nat.{ℕ, _-_, _<_, _≤_}
 use lib.ListN.{length, take, drop, getD}
 use Rattle.tokens.specs.Tokens.{endsWord, tokens}
-use Rattle.tokens.specs.declared.Found.{Found}
+use Rattle.tokens.specs.declared.TokenRange.{TokenRange}
 
 -- the bytes of a line from one place up to another
 abbrev pub part : List ℕ → ℕ → ℕ → List ℕ
 part line from to = take (to - from) (drop from line)
 
 -- the token's bytes are from and to; where it has none, no token is left
-pub record IsFound (line : List ℕ) (at : ℕ) (r : Found) : Type 0 where
+pub record IsFound (line : List ℕ) (at : ℕ) (r : TokenRange) : Type 0 where
   pub first : r .from < r .to → tokens (drop at line) ≡ part line (r .from) (r .to) ∷ tokens (drop (r .to) line)
   pub none : r .to ≤ r .from → tokens (drop at line) ≡ []
   pub behind : at ≤ r .from

@@ -4,13 +4,13 @@ ghost use mathlib.Core.Path.{_≡_};
 ghost use Prim.Native.Nat.{_≤_};
 ghost use lib.ListN.{length};
 ghost use Rattle.tokens.specs.Tokens.{endsWord, tokens};
-ghost use Rattle.tokens.specs.Found.{IsFound, IsWordEnd, IsPastSpaces};
+ghost use Rattle.tokens.specs.TokenRange.{IsFound, IsWordEnd, IsPastSpaces};
 
 // How many bytes a line may have.
 pub const LINE_BYTES: usize = 4096;
 
 // Where a token's bytes begin and end: at one place where no token is left.
-pub struct Found {
+pub struct TokenRange {
     pub from: usize,
     pub to: usize,
 }
@@ -58,19 +58,19 @@ fn word_end(line: &[u8], at: usize) -> usize
 }
 
 // The first token of the line from `at` on. A byte there that ends a word and is no space is a bracket.
-pub fn next_token(line: &[u8], at: usize) -> Found
+pub fn next_token(line: &[u8], at: usize) -> TokenRange
     ensures { λ r. ⌜ IsFound (now (line .entry)) at r ⌝ }
 {
     if line.len() <= at {
-        return Found { from: at, to: at };
+        return TokenRange { from: at, to: at };
     }
     let from = past_spaces(line, at);
     if line.len() <= from {
-        return Found { from, to: from };
+        return TokenRange { from, to: from };
     }
     if ends_word(line[from]) {
-        return Found { from, to: from + 1 };
+        return TokenRange { from, to: from + 1 };
     }
     let to = word_end(line, from);
-    Found { from, to }
+    TokenRange { from, to }
 }

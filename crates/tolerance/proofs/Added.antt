@@ -19,7 +19,11 @@ noSums = record { value = zeros; error = zeros }
 
 sums-by-component : (v e : ℕ → Float) (pieces : List Piece)
     → sumsFrom (record { value = tabulate 7 v; error = tabulate 7 e }) pieces
-    ≡ record { value = tabulate 7 (λ k. sumFrom (v k) (λ p. at (p .value) k) pieces); error = tabulate 7 (λ k. sumFrom (e k) (λ p. at (p .error) k) pieces) }
+    ≡ record {
+      value = tabulate 7 (λ k. sumFrom (v k) (λ p. at (p .value) k) pieces);
+      error = tabulate 7
+          (λ k. sumFrom (e k) (λ p. at (p .error) k) pieces);
+    }
 unfolding withPiece
 sums-by-component v e [] = refl
 sums-by-component v e (p ∷ pieces) = sums-by-component (λ k. v k ⊕ at (p .value) k) (λ k. e k ⊕ at (p .error) k) pieces

@@ -12,9 +12,10 @@ use Rattle.floats.proofs.Order.{not-lt-through, le-not-below, ne-itself, not-be
 use Rattle.quadrature.specs.declared.Piece.{Piece}
 use Rattle.tolerance.specs.Bounds.{scoreOf, laterIf, lastHighest}
 use Rattle.tolerance.specs.Steps.{keepsOrder, largerError, seenWith}
-use Rattle.tolerance.specs.declared.Seen.{Seen}
+use Rattle.tolerance.specs.declared.Extremes.{Extremes}
 use Rattle.tolerance.proofs.Numbers.{at-tabulate}
-use Rattle.tolerance.proofs.Scores.{by-test, score-number, score-no-nan, score-over-zero, score-over, score-under, bound-positive, quotient-grows}
+use Rattle.tolerance.proofs.Scores.{by-test, score-number, score-no-nan, score-over-zero, score-over, score-under, bound-positive}
+use Rattle.tolerance.proofs.Scores.{quotient-grows}
 
 -- ---- places: of numbers, the last highest of all is that of the places before i and of the best from i on
 abbrev pub upTo : (ℕ → Float) → ℕ → ℕ → ℕ
@@ -35,11 +36,13 @@ module _ (g : ℕ → Float) (numbers : (i : ℕ) → ne (g i) (g i) ≡ false) 
       none : le (g b) (g a) ≡ false → le (g c) (g b) ≡ false → le (g c) (g a) ≡ false
       none p q =
           by-test (le (g c) (g a))
-          (λ t. no (sym (le-through (g c) (g a) (g b) (number-no-nan b) t (le-of-not (g a) (g b) (number-no-nan a) (number-no-nan b) (le-false (g b) (g a) p .0))) ∙ q))
+          (λ t. no (sym (le-through (g c) (g a) (g b) (number-no-nan b) t
+          (le-of-not (g a) (g b) (number-no-nan a) (number-no-nan b) (le-false (g b) (g a) p .0))) ∙ q))
           (λ f. f)
 
       look : (x : Bool) → le (g b) (g a) ≡ x → (y : Bool) → le (g c) (g b) ≡ y
-          → cond (ne (g a) (g a) || le (g (cond (ne (g b) (g b) || y) b c)) (g a)) a (cond (ne (g b) (g b) || y) b c) ≡ cond (ne (g (cond x a b)) (g (cond x a b)) || le (g c) (g (cond x a b))) (cond x a b) c
+          → cond (ne (g a) (g a) || le (g (cond (ne (g b) (g b) || y) b c)) (g a)) a (cond (ne (g b) (g b) || y) b c)
+          ≡ cond (ne (g (cond x a b)) (g (cond x a b)) || le (g c) (g (cond x a b))) (cond x a b) c
       look true p true q = rw (numbers a, numbers b, p, all p q)
       look true p false q = rw (numbers a, numbers b)
       look false p true q = rw (numbers a, numbers b, p, q)
@@ -69,12 +72,13 @@ module _ (pieces : ℕ → Piece) (b : List Float) where
   abbrev Covers : Float → (ℕ → Float) → Type 0
   Covers highest errors = (k : ℕ) → k < 7 → lt highest (errors k ⊘ at b k) ≡ false
 
-  pub record Sees (n i : ℕ) (seen : Seen) : Type 0 where
+  pub record Sees (n i : ℕ) (seen : Extremes) : Type 0 where
     pub place : upTo Score i (seen .place) ≡ lastHighest Score n
     pub number : seen .number ≡ Score (seen .place)
     pub covers : Covers (seen .number) (at (seen .errors))
 
-  pub sees-last : (n : ℕ) (p : Piece) (r : Float) → p ≡ pieces n → r ≡ scoreOf 7 (at b) p → Sees n n (record { number = r; place = n; errors = p .error })
+  pub sees-last : (n : ℕ) (p : Piece) (r : Float) → p ≡ pieces n → r ≡ scoreOf 7 (at b) p
+      → Sees n n (record { number = r; place = n; errors = p .error })
   sees-last n p r e f =
       record {
         place = up-to-last Score scores-are-numbers n;
@@ -82,7 +86,7 @@ module _ (pieces : ℕ → Piece) (b : List Float) where
         covers = λ k l. rw f (score-over 7 (at b) p k l);
       }
 
-  module _ (n i : ℕ) (seen : Seen) (z : Sees n (suc i) seen) where
+  module _ (n i : ℕ) (seen : Extremes) (z : Sees n (suc i) seen) where
     abbrev Errors : ℕ → Float
     Errors = at ((pieces i) .error)
 
@@ -94,17 +98,20 @@ module _ (pieces : ℕ → Piece) (b : List Float) where
     not-higher o h =
         le-of-not (Score i) (seen .number) (score-no-nan 7 (at b) (pieces i)) seen-no-nan
         (score-under 7 (at b) (pieces i) (seen .number) (rw (z .number) (score-over-zero 7 (at b) (pieces (seen .place))))
-        (λ k l. quotient-grows (seen .number) (Errors k) (at (seen .errors) k) (at b k) (bound-positive b o k l) (every-holds 7 _ h k l) (z .covers k l)))
+        (λ k l. quotient-grows (seen .number) (Errors k) (at (seen .errors) k) (at b k) (bound-positive b o k l) (every-holds 7 _ h k l)
+        (z .covers k l)))
 
     abbrev Larger : ℕ → Float
     Larger k = largerError (at (seen .errors) k) (Errors k)
 
     -- the larger errors are covered by what is below neither score
-    larger-covered : (highest : Float) → lt highest (seen .number) ≡ false → lt highest (Score i) ≡ false → Covers highest (at (tabulate 7 Larger))
+    larger-covered : (highest : Float) → lt highest (seen .number) ≡ false → lt highest (Score i) ≡ false
+        → Covers highest (at (tabulate 7 Larger))
     larger-covered highest p q k l =
         rw (at-tabulate 7 Larger k l)
         (by-test (lt (at (seen .errors) k) (Errors k))
-        (λ t. rw t (not-lt-through (Score i) (Errors k ⊘ at b k) highest (score-no-nan 7 (at b) (pieces i)) (score-over 7 (at b) (pieces i) k l) q))
+        (λ t. rw t (not-lt-through (Score i) (Errors k ⊘ at b k) highest (score-no-nan 7 (at b) (pieces i))
+        (score-over 7 (at b) (pieces i) k l) q))
         (λ t. rw t (not-lt-through (seen .number) (at (seen .errors) k ⊘ at b k) highest seen-no-nan (z .covers k l) p)))
 
     sees-kept : le (Score i) (seen .number) ≡ true → upTo Score i (seen .place) ≡ lastHighest Score n
@@ -117,7 +124,8 @@ module _ (pieces : ℕ → Piece) (b : List Float) where
         ap (upTo Score i) (sym (ap (λ (t : Bool). cond t (seen .place) i) (ap (le (Score i)) (sym (z .number)) ∙ h)))
         ∙ sym (up-to-next Score scores-are-numbers i (seen .place)) ∙ z .place
 
-    pub sees-more : (p : Piece) (ordered : Bool) (r : Seen) → p ≡ pieces i → ordered ≡ keepsOrder b → r ≡ seenWith seen p b ordered i → Sees n i r
+    pub sees-more : (p : Piece) (ordered : Bool) (r : Extremes) → p ≡ pieces i → ordered ≡ keepsOrder b → r ≡ seenWith seen p b ordered i
+        → Sees n i r
     unfolding seenWith
     sees-more p ordered r e o f =
         subst (Sees n i) (sym (f ∙ ap (λ (x : Piece). seenWith seen x b ordered i) e ∙ ap (λ (t : Bool). seenWith seen (pieces i) b t i) o))
@@ -128,7 +136,8 @@ module _ (pieces : ℕ → Piece) (b : List Float) where
         passed : le (Score i) (seen .number) ≡ true → Sees n i seen
         passed h = record { place = sees-kept h; number = z .number; covers = z .covers }
 
-        kept : le (Score i) (seen .number) ≡ true → Sees n i (record { number = seen .number; place = seen .place; errors = tabulate 7 Larger })
+        kept : le (Score i) (seen .number) ≡ true
+            → Sees n i (record { number = seen .number; place = seen .place; errors = tabulate 7 Larger })
         kept h =
             record {
               place = sees-kept h;

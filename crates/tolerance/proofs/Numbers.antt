@@ -30,7 +30,8 @@ pub score-first : (b : ℕ → Float) (p : Piece) → bits 0 ≡ scoreOf 0 b p
 unfolding scoreOf
 score-first b p = refl
 
-pub score-next : (k : ℕ) (b : ℕ → Float) (p : Piece) (s r : Float) → s ≡ scoreOf k b p → r ≡ maxOf s (at (p .error) k ⊘ b k) → r ≡ scoreOf (suc k) b p
+pub score-next : (k : ℕ) (b : ℕ → Float) (p : Piece) (s r : Float) → s ≡ scoreOf k b p → r ≡ maxOf s (at (p .error) k ⊘ b k)
+    → r ≡ scoreOf (suc k) b p
 unfolding scoreOf
 score-next k b p s r e f = f ∙ ap (λ (x : Float). maxOf x (at (p .error) k ⊘ b k)) e
 
@@ -38,7 +39,8 @@ score-next k b p s r e f = f ∙ ap (λ (x : Float). maxOf x (at (p .error) k �
 pub score-same : (w : ℕ) (b d : ℕ → Float) (p : Piece) → ((k : ℕ) → k < w → b k ≡ d k) → scoreOf w b p ≡ scoreOf w d p
 unfolding scoreOf
 score-same zero b d p e = refl
-score-same (suc w) b d p e = ap₂ (λ (x y : Float). maxOf x (at (p .error) w ⊘ y)) (score-same w b d p (λ k l. e k (omega arith))) (e w (omega arith))
+score-same (suc w) b d p e = ap₂ (λ (x y : Float). maxOf x (at (p .error) w ⊘ y)) (score-same w b d p (λ k l. e k (omega arith)))
+    (e w (omega arith))
 
 pub absolute-bits : bits 0x3c9c_d2b2_97d8_89bc ≡ absolute
 unfolding ofBits absolute round

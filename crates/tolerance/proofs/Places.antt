@@ -20,11 +20,13 @@ pub highest-first : (g : ℕ → Float) → record { number = g 0; place = 0 } �
 unfolding lastHighest
 highest-first g = refl
 
-pub highest-next : (g : ℕ → Float) (n : ℕ) (h r : Highest) → h ≡ highestOf g n → r ≡ higherOf h (g (suc n)) (suc n) → r ≡ highestOf g (suc n)
+pub highest-next : (g : ℕ → Float) (n : ℕ) (h r : Highest) → h ≡ highestOf g n → r ≡ higherOf h (g (suc n)) (suc n)
+    → r ≡ highestOf g (suc n)
 unfolding higherOf lastHighest
 highest-next g n h r e f = f ∙ rw e (look (ne (g (suc n)) (g (suc n)) || le (g (lastHighest g n)) (g (suc n))))
   where
-    look : (b : Bool) → cond b (record { number = g (suc n); place = suc n }) (highestOf g n) ≡ record { number = g (cond b (suc n) (lastHighest g n)); place = cond b (suc n) (lastHighest g n) }
+    look : (b : Bool) → cond b (record { number = g (suc n); place = suc n }) (highestOf g n)
+        ≡ record { number = g (cond b (suc n) (lastHighest g n)); place = cond b (suc n) (lastHighest g n) }
     look true = refl
     look false = refl
 

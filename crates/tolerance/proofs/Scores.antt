@@ -40,16 +40,20 @@ max-number a b n =
 -- is above neither of them
 max-under : (h a b : Float) → ne a a ≡ false → lt h a ≡ false → lt h b ≡ false → lt h (maxOf a b) ≡ false
 max-under h a b n p q =
-    by-test (lt a b) (λ t. subst (λ (x : Float). lt h x ≡ false) (larger-above a b n t .0) q) (λ t. subst (λ (x : Float). lt h x ≡ false) (larger-not a b n t .0) p)
+    by-test (lt a b) (λ t. subst (λ (x : Float). lt h x ≡ false) (larger-above a b n t .0) q)
+    (λ t. subst (λ (x : Float). lt h x ≡ false) (larger-not a b n t .0) p)
 
 -- and below neither, nor below what the first is not below
 max-over-second : (a b : Float) → ne a a ≡ false → lt (maxOf a b) b ≡ false
 max-over-second a b n =
-    by-test (lt a b) (λ t. subst (λ (x : Float). lt x b ≡ false) (larger-above a b n t .0) (not-below-itself b)) (λ t. subst (λ (x : Float). lt x b ≡ false) (larger-not a b n t .0) t)
+    by-test (lt a b) (λ t. subst (λ (x : Float). lt x b ≡ false) (larger-above a b n t .0) (not-below-itself b))
+    (λ t. subst (λ (x : Float). lt x b ≡ false) (larger-not a b n t .0) t)
 
 max-over-first : (a b x : Float) → ne a a ≡ false → lt a x ≡ false → lt (maxOf a b) x ≡ false
 max-over-first a b x n h =
-    by-test (lt a b) (λ t. subst (λ (y : Float). lt y x ≡ false) (larger-above a b n t .0) (not-lt-through a x b (sym (ne-itself a) ∙ n) h (lt-asym a b t)))
+    by-test (lt a b)
+    (λ t. subst (λ (y : Float). lt y x ≡ false) (larger-above a b n t .0)
+    (not-lt-through a x b (sym (ne-itself a) ∙ n) h (lt-asym a b t)))
     (λ t. subst (λ (y : Float). lt y x ≡ false) (larger-not a b n t .0) h)
 
 -- ---- scores
@@ -72,15 +76,18 @@ unfolding scoreOf
 score-over zero b p k l = absurd (not-suc-le-zero l)
 score-over (suc w) b p k l =
     ⊎-elim (λ (z : k ≡ w). rw z (max-over-second (scoreOf w b p) (at (p .error) w ⊘ b w) (score-number w b p)))
-    (λ (z : k < w). max-over-first (scoreOf w b p) (at (p .error) w ⊘ b w) (at (p .error) k ⊘ b k) (score-number w b p) (score-over w b p k z))
+    (λ (z : k < w). max-over-first (scoreOf w b p) (at (p .error) w ⊘ b w) (at (p .error) k ⊘ b k) (score-number w b p)
+    (score-over w b p k z))
     (eq-or-lt-of-le (le-of-suc-le-suc l))
 
 -- and not above what is not below any of these
-pub score-under : (w : ℕ) (b : ℕ → Float) (p : Piece) (h : Float) → lt h (bits 0) ≡ false → ((k : ℕ) → k < w → lt h (at (p .error) k ⊘ b k) ≡ false) → lt h (scoreOf w b p) ≡ false
+pub score-under : (w : ℕ) (b : ℕ → Float) (p : Piece) (h : Float) → lt h (bits 0) ≡ false
+    → ((k : ℕ) → k < w → lt h (at (p .error) k ⊘ b k) ≡ false) → lt h (scoreOf w b p) ≡ false
 unfolding scoreOf
 score-under zero b p h z each = z
 score-under (suc w) b p h z each =
-    max-under h (scoreOf w b p) (at (p .error) w ⊘ b w) (score-number w b p) (score-under w b p h z (λ k l. each k (omega arith))) (each w (omega arith))
+    max-under h (scoreOf w b p) (at (p .error) w ⊘ b w) (score-number w b p) (score-under w b p h z (λ k l. each k (omega arith)))
+    (each w (omega arith))
 
 -- ---- quotients by a bound above 0 and finite
 smallest-positive : T (positive smallest)
@@ -124,7 +131,8 @@ inf-over-fin false m e = refl
 inf-over : (s : Bool) (b : Float) → T (positive b) → inf s ⊘ b ≡ inf s
 inf-over s = for-positive (λ (b : Float). inf s ⊘ b ≡ inf s) (inf-over-fin s)
 
-finite-grows : (h x y b : Float) → T (finite x) → T (finite y) → T (positive b) → le x y ≡ true → lt h (y ⊘ b) ≡ false → lt h (x ⊘ b) ≡ false
+finite-grows : (h x y b : Float) → T (finite x) → T (finite y) → T (positive b) → le x y ≡ true → lt h (y ⊘ b) ≡ false
+    → lt h (x ⊘ b) ≡ false
 finite-grows h x y b i j p l q =
     let o = finite-no-nan y j in
     let same = is-true _ (div-mono binary64 y y b j j p (of-true _ (le-of-not y y o o (not-below-itself y)))) in

@@ -8,7 +8,7 @@ use Rattle.quadrature.specs.declared.Piece.{Piece}
 use Rattle.tolerance.specs.Bounds.{totalOf, errorOf, scoreOf}
 use Rattle.tolerance.specs.declared.Sums.{Sums}
 use Rattle.tolerance.specs.declared.Highest.{Highest}
-use Rattle.tolerance.specs.declared.Seen.{Seen}
+use Rattle.tolerance.specs.declared.Extremes.{Extremes}
 
 -- the sums with one piece more
 unfoldable pub withPiece : Sums → Piece → Sums
@@ -41,7 +41,7 @@ abbrev pub largerError : Float → Float → Float
 largerError m e = cond (lt m e) e m
 
 -- what is seen with the piece at a place before: nothing new where its errors are at most the largest
-unfoldable pub seenWith : Seen → Piece → List Float → Bool → ℕ → Seen
+unfoldable pub seenWith : Extremes → Piece → List Float → Bool → ℕ → Extremes
 seenWith seen p b ordered place =
     cond (ordered && every 7 (λ k. le (at (p .error) k) (at (seen .errors) k))) seen
     (cond (le (scoreOf 7 (at b) p) (seen .number))

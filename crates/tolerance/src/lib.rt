@@ -163,7 +163,7 @@ fn larger_errors(m: [f64; 7], e: [f64; 7]) -> [f64; 7]
 }
 
 // Of the pieces from a place on: the highest score, its last place, and the largest error of each component.
-struct Seen {
+struct Extremes {
     number: f64,
     place: usize,
     errors: [f64; 7],
@@ -171,7 +171,7 @@ struct Seen {
 
 // One piece before those seen. Where none of its errors is above the largest seen, neither is its score, and nothing is
 // divided.
-fn seen_with(seen: Seen, p: Piece, b: [f64; 7], ordered: bool, place: usize) -> Seen
+fn seen_with(seen: Extremes, p: Piece, b: [f64; 7], ordered: bool, place: usize) -> Extremes
     ensures { λ r. ⌜ r ≡ seenWith seen p b ordered place ⌝ }
 {
     let e = p.error;
@@ -182,13 +182,13 @@ fn seen_with(seen: Seen, p: Piece, b: [f64; 7], ordered: bool, place: usize) -> 
     let errors = larger_errors(m, e);
     let number = score(p, b);
     if number <= seen.number {
-        Seen {
+        Extremes {
             number: seen.number,
             place: seen.place,
             errors,
         }
     } else {
-        Seen {
+        Extremes {
             number,
             place,
             errors,
@@ -205,7 +205,7 @@ pub fn worst(scratch: &[f64], n: usize, b: [f64; 7]) -> usize
     let mut i = n - 1;
     let last = pieces::read(scratch, i);
     let errors = last.error;
-    let mut seen = Seen {
+    let mut seen = Extremes {
         number: score(last, b),
         place: i,
         errors,

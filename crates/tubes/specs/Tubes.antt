@@ -15,7 +15,7 @@ use Rattle.limits.specs.Limits.{thicknessField, bodyRadiusField, baseAngleField
 use Rattle.limits.specs.Limits.{lengthWithin, lengthCheck, angleCheck, countCheck}
 use Rattle.materials.specs.Materials.{densityCheck}
 use Rattle.materials.specs.Numbered.{densityFigure}
-use Rattle.joins.specs.declared.Joined.{Joined}
+use Rattle.joins.specs.declared.JoinedBody.{JoinedBody}
 use Rattle.joins.specs.Joins.{unlessRefused}
 use Rattle.rings.specs.Rings.{joinedCopies}
 use Rattle.tubes.specs.declared.TubeFinSet.{TubeFinSet}
@@ -87,6 +87,6 @@ tubeCheck set radius =
     ∷ [])
 
 -- the ring of the fins: a tube is turned although it is round
-abbrev pub tubesOf : TubeFinSet → Float → Joined
+abbrev pub tubesOf : TubeFinSet → Float → JoinedBody
 tubesOf set radius =
     unlessRefused (tubeCheck set radius) (joinedCopies (tubeAt set radius) (set .«base_angle_rad») (set .count))

@@ -14,7 +14,7 @@ ghost use Rattle.tubes.specs.Closing.{closingValue, closedAt, refusedRad
 use bodies::Body;
 use bodies::Tensor;
 use bodies::Vector;
-use joins::Joined;
+use joins::JoinedBody;
 use materials::Density;
 use refusals::Refusal;
 use refusals::Verdict;
@@ -115,7 +115,7 @@ fn check_tubes(set: TubeFinSet, body_radius_m: f64) -> Verdict
 
 // The ring's mass, centre and tensor, on a body of the given radius; the frame's origin is on the axis at the tubes'
 // forward end.
-pub fn mass_properties(set: TubeFinSet, body_radius_m: f64) -> Joined
+pub fn mass_properties(set: TubeFinSet, body_radius_m: f64) -> JoinedBody
     ensures { λ r. ⌜ IsJoined r (tubesOf set «body_radius_m») ⌝ }
 {
     let verdict = check_tubes(set, body_radius_m);

@@ -2,7 +2,7 @@
 use mathlib.Core.Path.{ap}
 use native.Mathlib.Omega.{arith}
 use borrow.Author.Needs.{needs}
-use Rattle.breaks.specs.declared.Standing.{Standing}
+use Rattle.breaks.specs.declared.RankedHeight.{RankedHeight}
 use Rattle.breaks.proofs.Above.{place-most, both-with}
 use Rattle.breaks.proofs.least_above.Statement.{statement}
 use Rattle.breaks.proofs.least_above.Tie as tie
@@ -17,7 +17,7 @@ nearer-requires-2 : tie.Need-nearer-requires-2
 nearer-requires-2 c κs =
     let a = c .before .before .before .args in
     let most = place-most (a .h) (a .span) (c .before .least-of-points .result) in
-    omega (arith, most, ap (λ (s : Standing). s .place) (c .nearer .ensures), c .before .least-of-points .ensures .1)
+    omega (arith, most, ap (λ (s : RankedHeight). s .place) (c .nearer .ensures), c .before .least-of-points .ensures .1)
 
 returns : tie.Need-returns
 returns c =

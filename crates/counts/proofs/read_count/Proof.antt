@@ -29,7 +29,8 @@ returns-2 : tie.Need-returns-2 Inv-loop μ-loop
 returns-2 c =
     let a = c .before .before .before .before in
     let s = a .before .before .before .args in
-    bad-digit (now (s .word)) (a .loop .i) (a .loop .n) (c .before .digit-value .result) (omega arith) (a .loop .inv .2) (c .before .digit-value .ensures) (c .if2 .taken)
+    bad-digit (now (s .word)) (a .loop .i) (a .loop .n) (c .before .digit-value .result) (omega arith) (a .loop .inv .2)
+    (c .before .digit-value .ensures) (c .if2 .taken)
 
 mul-cap : tie.Need-mul-cap Inv-loop μ-loop
 mul-cap c = omega arith
@@ -48,8 +49,12 @@ loop-again c =
     let d = c .before .before in
     let a = d .before .before .before in
     let s = a .before .before .before .args in
-    let e = c .cap .ensures in
-    (omega arith, omega arith, good-digit (now (s .word)) (a .loop .i) (a .loop .n) (d .digit-value .result) (omega arith) (a .loop .inv .2) (d .digit-value .ensures) (c .cap .result) (c .before .if2 .left) e)
+    let e = c .cap .ensures in (
+      omega arith,
+      omega arith,
+      good-digit (now (s .word)) (a .loop .i) (a .loop .n) (d .digit-value .result) (omega arith) (a .loop .inv .2)
+          (d .digit-value .ensures) (c .cap .result) (c .before .if2 .left) e,
+    )
 
 returns-3 : tie.Need-returns-3 Inv-loop μ-loop
 returns-3 c =

@@ -21,7 +21,8 @@ refuse-requires : tie.Need-refuse-requires
 refuse-requires c κs = search needs
 
 returns-2 : tie.Need-returns-2
-returns-2 c = is-answer (c .refuse .ensures ∙ sym (change-none _ _ _ _ (sym (c .before .before .holds-job .ensures) ∙ c .before .if1 .left)))
+returns-2 c = is-answer
+    (c .refuse .ensures ∙ sym (change-none _ _ _ _ (sym (c .before .before .holds-job .ensures) ∙ c .before .if1 .left)))
 
 pub change-at-spec : {M : Type 1} → statement M
 change-at-spec =

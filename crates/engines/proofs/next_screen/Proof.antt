@@ -23,8 +23,11 @@ returns c = let l = c .before .before .before in
     sym (found _ _ _ (c .before .before .loop-test .taken) (sym (c .before .holds-job .ensures) ∙ c .if1 .taken)) ∙ l .loop .inv .0
 
 loop-again : tie.Need-loop-again Inv-loop μ-loop
-loop-again c = let l = c .before .before .before in
-    (sym (passed _ _ _ (c .before .before .loop-test .taken) (sym (c .before .holds-job .ensures) ∙ c .if1 .left)) ∙ l .loop .inv .0, omega arith)
+loop-again c = let l = c .before .before .before in (
+  sym (passed _ _ _ (c .before .before .loop-test .taken) (sym (c .before .holds-job .ensures) ∙ c .if1 .left))
+      ∙ l .loop .inv .0,
+  omega arith,
+)
 
 returns-2 : tie.Need-returns-2 Inv-loop μ-loop
 unfolding nextScreen

@@ -7,19 +7,20 @@ use Rattle.refusals.proofs.Given.{is-answer}
 use Rattle.jobs.specs.declared.Job.{Job}
 use Rattle.refusals.specs.Calls.{CallOf, Does}
 use Rattle.engines.specs.declared.Screens.{Screens}
-use Rattle.engines.specs.declared.Served.{Served}
+use Rattle.engines.specs.declared.ScreenTurn.{ScreenTurn}
 use Rattle.engines.specs.Engines.{stepped, servedOf, ServesTo}
 use Rattle.engines.proofs.Laws.{long-enough, served-short, served-step, served-idle}
 use borrow.Author.Needs.{needs}
 use Rattle.engines.proofs.serve.Statement.{statement}
 use Rattle.engines.proofs.serve.Tie as tie
 
-serves-to : {screens : Screens} {job : Job} {call : CallOf Served} {entry exit : List Float} {r : Served} → servedOf screens job (length entry) ≡ call
+serves-to : {screens : Screens} {job : Job} {call : CallOf ScreenTurn} {entry exit : List Float} {r : ScreenTurn}
+    → servedOf screens job (length entry) ≡ call
     → Does call r entry exit → ServesTo screens job entry r exit
 serves-to {screens} {job} {call} {entry} e does =
     record {
-      answered = is-answer (does .0 ∙ sym (ap (λ (c : CallOf Served). c .answer) e));
-      scratch = does .1 ∙ sym (ap (λ (c : CallOf Served). c .leaves entry) e);
+      answered = is-answer (does .0 ∙ sym (ap (λ (c : CallOf ScreenTurn). c .answer) e));
+      scratch = does .1 ∙ sym (ap (λ (c : CallOf ScreenTurn). c .leaves entry) e);
     }
 
 returns : tie.Need-returns

@@ -19,13 +19,15 @@ with-held-requires c κs = search needs
 returns-2 : tie.Need-returns-2
 returns-2 c = let else2 = c .before in
     let f = else2 .before .before .before in
-    is-answer (rw (c .with-held .ensures) (sym (submit-taken _ _ _ _ (sym (f .before .is-free .ensures) ∙ f .if1 .taken) (else2 .if2 .left))))
+    is-answer (rw (c .with-held .ensures)
+    (sym (submit-taken _ _ _ _ (sym (f .before .is-free .ensures) ∙ f .if1 .taken) (else2 .if2 .left))))
 
 refuse-requires : tie.Need-refuse-requires
 refuse-requires c κs = search needs
 
 returns-3 : tie.Need-returns-3
-returns-3 c = is-answer (c .refuse .ensures ∙ sym (submit-not-free _ _ _ _ (sym (c .before .before .is-free .ensures) ∙ c .before .if1 .left)))
+returns-3 c = is-answer
+    (c .refuse .ensures ∙ sym (submit-not-free _ _ _ _ (sym (c .before .before .is-free .ensures) ∙ c .before .if1 .left)))
 
 pub submit-at-spec : {M : Type 1} → statement M
 submit-at-spec =

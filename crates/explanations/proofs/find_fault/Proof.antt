@@ -37,7 +37,8 @@ returns : tie.Need-returns Inv-loop μ-loop
 returns c =
     let p = c .before .before .before in let t = p .before .before in let l = t .before in let a = l .before in
     record {
-      is = sym (a .loop .inv .2 ∙ stops _ _ _ _ _ (t .token .ensures .is) _ (l .loop-test .taken) (sym (p .passes .ensures) ∙ not-true _ (c .if1 .taken)));
+      is = sym (a .loop .inv .2
+          ∙ stops _ _ _ _ _ (t .token .ensures .is) _ (l .loop-test .taken) (sym (p .passes .ensures) ∙ not-true _ (c .if1 .taken)));
       ordered = t .token .ensures .ordered;
       within = t .token .ensures .within;
     }
@@ -53,7 +54,8 @@ loop-again c =
     let p = c .before .before .before in let t = p .before .before in let l = t .before in let a = l .before in (
       t .token .ensures .within,
       p .passes .kept .1 .0 ∙ a .loop .inv .1,
-      a .loop .inv .2 ∙ goes-on _ _ _ _ _ (t .token .ensures .is) _ (l .loop-test .taken) (sym (p .passes .ensures) ∙ not-false _ (c .if1 .left)),
+      a .loop .inv .2
+          ∙ goes-on _ _ _ _ _ (t .token .ensures .is) _ (l .loop-test .taken) (sym (p .passes .ensures) ∙ not-false _ (c .if1 .left)),
     )
 
 same-length-2 : tie.Need-same-length-2 Inv-loop μ-loop

@@ -35,16 +35,22 @@ module _ (c : tie.After-saves-here Inv-loop μ-loop) where
   abbrev call : tie.Start Inv-loop μ-loop
   call = loop .before .before .before
 
-  here : c .saves-here .result ≡ savesHere (call .args .fault) (take (call .args .n) (now (call .args .trial))) (getD (now (call .args .endings)) (loop .loop .j) 0) (drop (loop .loop .j) (now (call .args .endings)))
-  here = c .saves-here .ensures .0 ∙ ap (λ (s : List ℕ). savesHere (call .args .fault) s (getD (now (call .args .endings)) (loop .loop .j) 0) (drop (loop .loop .j) (now (call .args .endings)))) (loop .loop .inv .2)
+  here : c .saves-here .result ≡ savesHere (call .args .fault) (take (call .args .n) (now (call .args .trial)))
+      (getD (now (call .args .endings)) (loop .loop .j) 0) (drop (loop .loop .j) (now (call .args .endings)))
+  here = c .saves-here .ensures .0
+      ∙ ap (λ (s : List ℕ). savesHere (call .args .fault) s (getD (now (call .args .endings)) (loop .loop .j) 0)
+      (drop (loop .loop .j) (now (call .args .endings)))) (loop .loop .inv .2)
 
 same-length : tie.Need-same-length Inv-loop μ-loop
 same-length c = let h = c .before .before .before in h .saves-here .kept .0 ∙ h .before .before .before .loop .inv .1
 
 returns : tie.Need-returns Inv-loop μ-loop
 returns c =
-    let h = c .before .before .before in let a = h .before .before .before in
-    (hit _ _ _ _ (a .loop .inv .3) (h .before .before .loop-test .taken) (sym (here h) ∙ c .if1 .taken), h .saves-here .ensures .1 ∙ a .loop .inv .2)
+    let h = c .before .before .before in let a = h .before .before .before in (
+      hit _ _ _ _ (a .loop .inv .3) (h .before .before .loop-test .taken) (sym (here h) ∙ c .if1 .taken),
+      h .saves-here .ensures .1
+          ∙ a .loop .inv .2,
+    )
 
 add-j : tie.Need-add-j Inv-loop μ-loop
 add-j c = omega arith

@@ -16,7 +16,8 @@ use Rattle.explanations.proofs.passes.Tie as tie
 returns : tie.Need-returns
 returns c =
     let s = c .before .before .before .before .before .args in
-    sym (ap (λ (t : Bool). t && saved (s .fault) (take (s .f .to) (now (s .line))) (now (s .endings))) (le-ltb (s .f .from) (s .f .to) (c .if1 .taken)))
+    sym (ap (λ (t : Bool). t && saved (s .fault) (take (s .f .to) (now (s .line))) (now (s .endings)))
+    (le-ltb (s .f .from) (s .f .to) (c .if1 .taken)))
 
 -- places that the needs go back to
 abbrev the-start : tie.After-put-bytes-arg2 → tie.Start
@@ -45,7 +46,8 @@ returns-2 c =
     let i = c .before .before in let p = i .before .before .before .before in let e = p .before .before .before in
     let s = e .before .before .before .before .before in
     i .is-saved .ensures .0 ∙ ap (λ (t : List ℕ). saved (s .args .fault) t (now (s .args .endings))) (p .put-bytes .ensures .holds)
-    ∙ sym (ap (λ (t : Bool). t && saved (s .args .fault) (take (s .args .f .to) (now (s .args .line))) (now (s .args .endings))) (lt-ltb (s .args .f .from) (s .args .f .to) (e .if1 .left)))
+    ∙ sym (ap (λ (t : Bool). t && saved (s .args .fault) (take (s .args .f .to) (now (s .args .line))) (now (s .args .endings)))
+    (lt-ltb (s .args .f .from) (s .args .f .to) (e .if1 .left)))
 
 pub passes-spec : {M : Type 1} → statement M
 passes-spec =

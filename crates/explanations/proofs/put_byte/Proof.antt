@@ -21,7 +21,8 @@ add-put-count c =
 
 put-count-requires : tie.Need-put-count-requires
 put-count-requires c κs =
-    let s = the-start c in let p = c .before .before .before in let h = s .pre .0 in let e = p .put-bytes .ensures .ends in let k = p .put-bytes .kept .0 in
+    let s = the-start c in let p = c .before .before .before in let h = s .pre .0 in let e = p .put-bytes .ensures .ends in
+    let k = p .put-bytes .kept .0 in
     omega (arith, h, e, k)
 
 returns : tie.Need-returns

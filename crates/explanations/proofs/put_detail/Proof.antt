@@ -31,8 +31,12 @@ start-from-slice-known3 c = c .before .before .before .before .before .before .b
 
 returns : tie.Need-returns
 returns c =
-    let s = start-from-struct-known (c .before .before .before .before .before) in let p = c .before .before in let e = p .put-edges .ensures .ends in let f = edges-few (s .args .fault) in
-    (by-true (textFor (detailKey (s .args .fault)) (cutAtBars details)) (eq-eqb _ _ (c .before .before .before .before .if1 .taken)) (p .put-edges .ensures), omega (arith, e, f))
+    let s = start-from-struct-known (c .before .before .before .before .before) in let p = c .before .before in
+    let e = p .put-edges .ensures .ends in let f = edges-few (s .args .fault) in (
+      by-true (textFor (detailKey (s .args .fault)) (cutAtBars details)) (eq-eqb _ _ (c .before .before .before .before .if1 .taken))
+          (p .put-edges .ensures),
+      omega (arith, e, f),
+    )
 
 put-found-requires : tie.Need-put-found-requires
 unfolding details text codes
@@ -42,8 +46,11 @@ put-found-requires c κs =
 returns-2 : tie.Need-returns-2
 unfolding details text codes
 returns-2 c =
-    let s = start-from-slice-known3 c in let p = c .before .before in let e = p .put-found .ensures .ends in let f = detail-few (detailKey (s .args .fault)) in
-    (by-false (edgesText (s .args .fault)) (ne-eqb _ _ (c .before .before .before .before .before .if1 .left)) (p .put-found .ensures), omega (arith, e, f))
+    let s = start-from-slice-known3 c in let p = c .before .before in let e = p .put-found .ensures .ends in
+    let f = detail-few (detailKey (s .args .fault)) in (
+      by-false (edgesText (s .args .fault)) (ne-eqb _ _ (c .before .before .before .before .before .if1 .left)) (p .put-found .ensures),
+      omega (arith, e, f),
+    )
 
 pub put-detail-spec : {M : Type 1} → statement M
 put-detail-spec =

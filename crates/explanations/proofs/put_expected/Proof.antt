@@ -55,7 +55,8 @@ put-bytes-requires-3 c κs =
 
 put-wanted-requires : tie.Need-put-wanted-requires
 put-wanted-requires c κs =
-    let s = start-from-put-wanted-arg2 c in let p = at-put-bytes2 c in let q = c .before .before .before .before in let o = put-bytes-from-put-wanted-arg2 c in
+    let s = start-from-put-wanted-arg2 c in let p = at-put-bytes2 c in let q = c .before .before .before .before in
+    let o = put-bytes-from-put-wanted-arg2 c in
     let l = length-take (s .args .from) (now (s .args .line)) in let h = s .pre .2 in let g = s .pre .0 in
     let e = p .put-bytes2 .ensures .ends in let k = p .put-bytes2 .kept .0 in
     let f = q .put-bytes3 .ensures .ends in let m = q .put-bytes3 .kept .0 in
@@ -65,9 +66,12 @@ put-wanted-requires c κs =
 returns : tie.Need-returns
 unfolding text codes
 returns c =
-    let s = (start-from-put-wanted-arg2 (c .before .before .before .before .before)) .args in let p = at-put-bytes2 (c .before .before .before .before .before) in let q = at-put-bytes3 c in let o = put-bytes-from-put-wanted-arg2 (c .before .before .before .before .before) in let w = c .before .before .before .before in
+    let s = (start-from-put-wanted-arg2 (c .before .before .before .before .before)) .args in
+    let p = at-put-bytes2 (c .before .before .before .before .before) in let q = at-put-bytes3 c in
+    let o = put-bytes-from-put-wanted-arg2 (c .before .before .before .before .before) in let w = c .before .before .before .before in
     also (o .put-bytes .ensures)
-    (same-put (ap (wantedText (s .fault) (now (s .endings)) (now (s .table))) (q .put-bytes3 .ensures .holds ∙ ap (λ (t : List ℕ). t ++ (32 ∷ [])) (p .put-bytes2 .ensures .holds)))
+    (same-put (ap (wantedText (s .fault) (now (s .endings)) (now (s .table)))
+    (q .put-bytes3 .ensures .holds ∙ ap (λ (t : List ℕ). t ++ (32 ∷ [])) (p .put-bytes2 .ensures .holds)))
     (w .put-wanted .ensures))
 
 pub put-expected-spec : {M : Type 1} → statement M

@@ -28,13 +28,16 @@ returns : tie.Need-returns
 unfolding text codes
 returns c =
     let s = (start-from-slice-known2 c) .args in
-    same-put (ap (explained (now (s .line))) ((fault-of-from-slice-known2 c) .fault-of .ensures)) (by-true (faultText (now (s .line)) ((fault-of-from-slice-known2 c) .fault-of .result)) (eq-eqb _ _ (c .before .before .before .before .before .if1 .taken)) (c .before .before .put-bytes .ensures))
+    same-put (ap (explained (now (s .line))) ((fault-of-from-slice-known2 c) .fault-of .ensures))
+    (by-true (faultText (now (s .line)) ((fault-of-from-slice-known2 c) .fault-of .result))
+    (eq-eqb _ _ (c .before .before .before .before .before .if1 .taken)) (c .before .before .put-bytes .ensures))
 
 returns-2 : tie.Need-returns-2
 unfolding text codes
 returns-2 c =
     let s = (start-from-struct-known (c .before .before .before .before .before)) .args in
-    same-put (ap (explained (now (s .line))) ((fault-of-from-struct-known (c .before .before .before .before .before)) .fault-of .ensures)) (by-false (text "accepted") (ne-eqb _ _ (c .before .before .before .before .if1 .left)) (c .before .before .put-fault .ensures))
+    same-put (ap (explained (now (s .line))) ((fault-of-from-struct-known (c .before .before .before .before .before)) .fault-of .ensures))
+    (by-false (text "accepted") (ne-eqb _ _ (c .before .before .before .before .if1 .left)) (c .before .before .put-fault .ensures))
 
 pub put-explained-spec : {M : Type 1} → statement M
 put-explained-spec =

@@ -35,18 +35,22 @@ put-bytes-from-trial2 c = put-bytes-from-trial (c .before .before .before .befor
 
 put-refusal-requires : tie.Need-put-refusal-requires
 put-refusal-requires c κs =
-    let s = start-from-put-refusal-arg c in let p = c .before .before .before in let h = s .pre .0 in let e = p .put-bytes .ensures .ends in let k = p .put-bytes .kept .0 in
+    let s = start-from-put-refusal-arg c in let p = c .before .before .before in let h = s .pre .0 in let e = p .put-bytes .ensures .ends in
+    let k = p .put-bytes .kept .0 in
     omega (arith, h, e, k)
 
 put-detail-requires : tie.Need-put-detail-requires
 put-detail-requires c κs =
-    let s = start-from-put-refusal-arg (c .before .before .before .before) in let p = put-bytes-from-put-detail-arg c in let q = c .before .before .before in let h = s .pre .0 in let e = p .put-bytes .ensures .ends in let k = p .put-bytes .kept .0 in
+    let s = start-from-put-refusal-arg (c .before .before .before .before) in let p = put-bytes-from-put-detail-arg c in
+    let q = c .before .before .before in let h = s .pre .0 in let e = p .put-bytes .ensures .ends in let k = p .put-bytes .kept .0 in
     let f = q .put-refusal .ensures .ends in let l = q .put-refusal .kept .0 in let t = refusal-fits (s .args .fault .number) in
     omega (arith, h, e, k, f, l, t)
 
 put-where-requires : tie.Need-put-where-requires
 put-where-requires c κs =
-    let s = start-from-trial c in let p = put-bytes-from-put-detail-arg (c .before .before .before .before .before) in let q = at-put-refusal c in let d = c .before .before .before .before in let h = s .pre .0 in let e = p .put-bytes .ensures .ends in let k = p .put-bytes .kept .0 in
+    let s = start-from-trial c in let p = put-bytes-from-put-detail-arg (c .before .before .before .before .before) in
+    let q = at-put-refusal c in let d = c .before .before .before .before in let h = s .pre .0 in let e = p .put-bytes .ensures .ends in
+    let k = p .put-bytes .kept .0 in
     let f = q .put-refusal .ensures .ends in let l = q .put-refusal .kept .0 in let t = refusal-fits (s .args .fault .number) in
     let g = d .put-detail .ensures .1 in let m = d .put-detail .kept .0 in
     (omega (arith, h, e, k, f, l, t, g, m), s .pre .1, omega arith)
@@ -54,7 +58,9 @@ put-where-requires c κs =
 returns : tie.Need-returns
 unfolding text codes
 returns c =
-    also ((put-bytes-from-trial2 c) .put-bytes .ensures) (also ((at-put-refusal (c .before .before .before .before)) .put-refusal .ensures) (also ((at-put-detail c) .put-detail .ensures .0) (c .before .before .before .put-where .ensures)))
+    also ((put-bytes-from-trial2 c) .put-bytes .ensures)
+    (also ((at-put-refusal (c .before .before .before .before)) .put-refusal .ensures)
+    (also ((at-put-detail c) .put-detail .ensures .0) (c .before .before .before .put-where .ensures)))
 
 pub put-fault-spec : {M : Type 1} → statement M
 put-fault-spec =

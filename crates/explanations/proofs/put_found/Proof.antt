@@ -41,7 +41,8 @@ module _ (r : tie.After-put-count2) where
 
 found : (f : tie.After-find) → part (now (call (f .before .before .before) .args .table)) (f .find .result .from) (f .find .result .to)
     ≡ textFor (detailKey (call (f .before .before .before) .args .fault)) (cutAtBars (now (call (f .before .before .before) .args .table)))
-found f = f .find .ensures .is ∙ ap (λ (k : List ℕ). textFor k (cutAtBars (now (call (f .before .before .before) .args .table)))) (key (f .before .before .before))
+found f = f .find .ensures .is
+    ∙ ap (λ (k : List ℕ). textFor k (cutAtBars (now (call (f .before .before .before) .args .table)))) (key (f .before .before .before))
 
 -- places that the needs go back to
 abbrev start-from-put-bytes-arg : tie.After-put-bytes-arg → tie.Start
@@ -58,12 +59,14 @@ start-from-key7 c = start-from-key5 (c .before .before .before)
 
 put-bytes-requires : tie.Need-put-bytes-requires
 put-bytes-requires c κs =
-    let s = start-from-put-bytes-arg c in let p = c .before .before .before in let e = p .put-count .ensures .ends in let k = p .put-count .kept .0 in let t = twenty (s .args .fault .number) in
+    let s = start-from-put-bytes-arg c in let p = c .before .before .before in let e = p .put-count .ensures .ends in
+    let k = p .put-count .kept .0 in let t = twenty (s .args .fault .number) in
     omega (arith, e, k, t)
 
 put-count-requires-2 : tie.Need-put-count-requires-2
 put-count-requires-2 c κs =
-    let s = start-from-put-bytes-arg (c .before .before .before) in let p = at-put-count c in let e = p .put-count .ensures .ends in let k = p .put-count .kept .0 in let t = twenty (s .args .fault .number) in
+    let s = start-from-put-bytes-arg (c .before .before .before) in let p = at-put-count c in let e = p .put-count .ensures .ends in
+    let k = p .put-count .kept .0 in let t = twenty (s .args .fault .number) in
     let q = c .before .before in let f = q .put-bytes .ensures .ends in let l = q .put-bytes .kept .0 in
     omega (arith, e, k, t, f, l)
 

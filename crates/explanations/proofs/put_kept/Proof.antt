@@ -21,19 +21,24 @@ start-from-else1 c = c .before .before .before
 
 returns : tie.Need-returns
 returns c =
-    by-true (explanationOf (now ((start-from-shared-slice-known (c .before .before .before .before .before)) .args .line))) (c .before .before .before .before .if1 .taken) (c .before .before .put-long .ensures)
+    by-true (explanationOf (now ((start-from-shared-slice-known (c .before .before .before .before .before)) .args .line)))
+    (c .before .before .before .before .if1 .taken) (c .before .before .put-long .ensures)
 
 returns-2 : tie.Need-returns-2
 unfolding explanationOf
 returns-2 c =
     let line = now ((start-from-else1 (c .before .before .before .before .before)) .args .line) in
-    by-false tooLong (c .before .before .before .before .before .if1 .left) (by-true (explained line (faultOf line)) (lt-ltb lineBytes (length line) (c .before .before .before .before .if2 .taken)) (c .before .before .put-long2 .ensures))
+    by-false tooLong (c .before .before .before .before .before .if1 .left)
+    (by-true (explained line (faultOf line)) (lt-ltb lineBytes (length line) (c .before .before .before .before .if2 .taken))
+    (c .before .before .put-long2 .ensures))
 
 returns-3 : tie.Need-returns-3
 unfolding explanationOf
 returns-3 c =
     let line = now ((start-from-else1 (c .before .before .before .before .before)) .args .line) in
-    by-false tooLong (c .before .before .before .before .before .if1 .left) (by-false tooLong (le-ltb lineBytes (length line) (c .before .before .before .before .if2 .left)) (c .before .before .put-explained .ensures))
+    by-false tooLong (c .before .before .before .before .before .if1 .left)
+    (by-false tooLong (le-ltb lineBytes (length line) (c .before .before .before .before .if2 .left))
+    (c .before .before .put-explained .ensures))
 
 pub put-kept-spec : {M : Type 1} → statement M
 put-kept-spec =

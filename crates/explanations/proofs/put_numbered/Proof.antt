@@ -63,27 +63,37 @@ put-count-from-slice-known6 c = put-count-from-put-bytes-arg6 (c .before .before
 
 put-count-requires : tie.Need-put-count-requires
 put-count-requires c κs =
-    let p = c .before .before .before in let h = (else1-from-put-count-arg c) .if1 .left in let e = p .put-bytes .ensures .ends in let k = p .put-bytes .kept .0 in
+    let p = c .before .before .before in let h = (else1-from-put-count-arg c) .if1 .left in let e = p .put-bytes .ensures .ends in
+    let k = p .put-bytes .kept .0 in
     omega (arith, h, e, k)
 
 put-bytes-requires-2 : tie.Need-put-bytes-requires-2
 put-bytes-requires-2 c κs =
-    let s = start-from-put-bytes-arg4 c in let p = put-bytes-from-put-bytes-arg4 c in let q = c .before .before .before .before in let h = (else1-from-put-count-arg (c .before .before .before .before .before)) .if1 .left in
-    let e = p .put-bytes .ensures .ends in let k = p .put-bytes .kept .0 in let f = q .put-count .ensures .ends in let l = q .put-count .kept .0 in
+    let s = start-from-put-bytes-arg4 c in let p = put-bytes-from-put-bytes-arg4 c in let q = c .before .before .before .before in
+    let h = (else1-from-put-count-arg (c .before .before .before .before .before)) .if1 .left in
+    let e = p .put-bytes .ensures .ends in let k = p .put-bytes .kept .0 in let f = q .put-count .ensures .ends in
+    let l = q .put-count .kept .0 in
     let t = twenty (s .args .number) in
     omega (arith, h, e, k, f, l, t)
 
 put-kept-requires : tie.Need-put-kept-requires
 put-kept-requires c κs =
-    let s = start-from-put-bytes-arg4 (c .before .before .before .before) in let p = put-bytes-from-put-bytes-arg4 (c .before .before .before .before) in let q = put-count-from-put-kept-arg c in let r = c .before .before .before in let h = (else1-from-put-kept-arg c) .if1 .left in
-    let e = p .put-bytes .ensures .ends in let k = p .put-bytes .kept .0 in let f = q .put-count .ensures .ends in let l = q .put-count .kept .0 in
+    let s = start-from-put-bytes-arg4 (c .before .before .before .before) in
+    let p = put-bytes-from-put-bytes-arg4 (c .before .before .before .before) in let q = put-count-from-put-kept-arg c in
+    let r = c .before .before .before in let h = (else1-from-put-kept-arg c) .if1 .left in
+    let e = p .put-bytes .ensures .ends in let k = p .put-bytes .kept .0 in let f = q .put-count .ensures .ends in
+    let l = q .put-count .kept .0 in
     let g = r .put-bytes2 .ensures .ends in let m = r .put-bytes2 .kept .0 in let t = twenty (s .args .number) in
     omega (arith, h, e, k, f, l, g, m, t)
 
 put-bytes-requires-3 : tie.Need-put-bytes-requires-3
 put-bytes-requires-3 c κs =
-    let s = start-from-put-bytes-arg6 c in let p = put-bytes-from-put-bytes-arg6 c in let q = put-count-from-put-kept-arg (c .before .before .before .before .before) in let r = at-put-bytes2 c in let x = c .before .before .before .before in let h = (else1-from-put-kept-arg (c .before .before .before .before .before)) .if1 .left in
-    let e = p .put-bytes .ensures .ends in let k = p .put-bytes .kept .0 in let f = q .put-count .ensures .ends in let l = q .put-count .kept .0 in
+    let s = start-from-put-bytes-arg6 c in let p = put-bytes-from-put-bytes-arg6 c in
+    let q = put-count-from-put-kept-arg (c .before .before .before .before .before) in let r = at-put-bytes2 c in
+    let x = c .before .before .before .before in
+    let h = (else1-from-put-kept-arg (c .before .before .before .before .before)) .if1 .left in
+    let e = p .put-bytes .ensures .ends in let k = p .put-bytes .kept .0 in let f = q .put-count .ensures .ends in
+    let l = q .put-count .kept .0 in
     let g = r .put-bytes2 .ensures .ends in let m = r .put-bytes2 .kept .0 in let t = twenty (s .args .number) in
     let i = x .put-kept .ensures .ends in let j = x .put-kept .kept .0 in let w = kept-few (now (s .args .line)) (s .args .over) in
     omega (arith, h, e, k, f, l, g, m, t, i, j, w)
@@ -91,7 +101,8 @@ put-bytes-requires-3 c κs =
 returns-2 : tie.Need-returns-2
 unfolding text codes
 returns-2 c =
-    λ _. also ((put-bytes-from-put-bytes-arg6 (c .before .before .before)) .put-bytes .ensures) (also ((put-count-from-slice-known6 c) .put-count .ensures) (also ((at-put-bytes2 (c .before .before .before)) .put-bytes2 .ensures)
+    λ _. also ((put-bytes-from-put-bytes-arg6 (c .before .before .before)) .put-bytes .ensures)
+    (also ((put-count-from-slice-known6 c) .put-count .ensures) (also ((at-put-bytes2 (c .before .before .before)) .put-bytes2 .ensures)
     (also ((at-put-kept c) .put-kept .ensures) (c .before .before .put-bytes3 .ensures))))
 
 pub put-numbered-spec : {M : Type 1} → statement M

@@ -5,7 +5,7 @@ use Prim.Native.Nat.{ℕ, _+_}
 use native.Mathlib.Omega.{arith}
 use denote.Ref.{now}
 use borrow.Author.Tests.{eq-eqb, ne-eqb}
-use Rattle.tokens.specs.declared.Found.{Found}
+use Rattle.tokens.specs.declared.TokenRange.{TokenRange}
 use Rattle.explanations.specs.Explanations.{expectedText, shownText, atPlace}
 use Rattle.explanations.proofs.Wanting.{also, by-true, by-false, same-put}
 use borrow.Author.Needs.{needs}
@@ -58,7 +58,8 @@ put-byte-requires c κs =
 
 put-expected-requires : tie.Need-put-expected-requires
 put-expected-requires c κs =
-    let s = start-from-struct-known (c .before .before .before) in let f = find-fault-from-struct-known (c .before .before .before) in let p = put-byte-from-struct-known (c .before .before .before) in
+    let s = start-from-struct-known (c .before .before .before) in let f = find-fault-from-struct-known (c .before .before .before) in
+    let p = put-byte-from-struct-known (c .before .before .before) in
     let h = s .pre .0 in let g = s .pre .2 in let o = f .find-fault .ensures .ordered in let w = f .find-fault .ensures .within in
     let k = f .find-fault .kept .1 .0 in let e = p .put-byte .ensures .1 in let l = p .put-byte .kept .0 in
     (omega (arith, h, e, l), omega (arith, o, w), omega (arith, g, k))
@@ -67,19 +68,26 @@ returns : tie.Need-returns
 returns c =
     let s = (start-from-slice-known6 c) .args in let f = find-fault-from-slice-known6 c in let p = put-byte-from-slice-known6 c in
     same-put (ap (atPlace (now (s .endings)) (now (s .table)) (now (s .line)) (s .fault)) (f .find-fault .ensures .is))
-    (also (p .put-byte .ensures .0) (by-true (shownText (now (s .line)) (f .find-fault .result)) (eq-eqb _ _ ((at-then1 c) .if1 .taken)) (c .before .before .before .before .put-expected .ensures)))
+    (also (p .put-byte .ensures .0)
+    (by-true (shownText (now (s .line)) (f .find-fault .result)) (eq-eqb _ _ ((at-then1 c) .if1 .taken))
+    (c .before .before .before .before .put-expected .ensures)))
 
 put-shown-requires : tie.Need-put-shown-requires
 put-shown-requires c κs =
-    let s = start-from-struct-known (c .before .before) in let f = find-fault-from-struct-known (c .before .before) in let p = c .before .before .before .before .before in
+    let s = start-from-struct-known (c .before .before) in let f = find-fault-from-struct-known (c .before .before) in
+    let p = c .before .before .before .before .before in
     let h = s .pre .0 in let e = p .put-byte .ensures .1 in let l = p .put-byte .kept .0 in
     (omega (arith, h, e, l), f .find-fault .ensures .ordered, f .find-fault .ensures .within)
 
 returns-2 : tie.Need-returns-2
 returns-2 c =
-    let s = (start-from-struct-known (c .before .before .before .before .before)) .args in let f = find-fault-from-struct-known (c .before .before .before .before .before) in let p = put-byte-from-struct-known (c .before .before .before .before .before) in
+    let s = (start-from-struct-known (c .before .before .before .before .before)) .args in
+    let f = find-fault-from-struct-known (c .before .before .before .before .before) in
+    let p = put-byte-from-struct-known (c .before .before .before .before .before) in
     same-put (ap (atPlace (now (s .endings)) (now (s .table)) (now (s .line)) (s .fault)) (f .find-fault .ensures .is))
-    (also (p .put-byte .ensures .0) (by-false (expectedText (now (s .endings)) (now (s .table)) (now (s .line)) (s .fault) (f .find-fault .result .from)) (ne-eqb _ _ (c .before .before .before .before .if1 .left)) (c .before .before .put-shown .ensures)))
+    (also (p .put-byte .ensures .0)
+    (by-false (expectedText (now (s .endings)) (now (s .table)) (now (s .line)) (s .fault) (f .find-fault .result .from))
+    (ne-eqb _ _ (c .before .before .before .before .if1 .left)) (c .before .before .put-shown .ensures)))
 
 pub put-place-spec : {M : Type 1} → statement M
 put-place-spec =

@@ -28,24 +28,29 @@ at-put-bytes c = c .before .before .before .before .before .before .before
 
 sub-put-bytes : tie.Need-sub-put-bytes
 sub-put-bytes c =
-    let s = the-start c in let e = (at-short-end c) .short-end .ensures in let o = short-order (s .args .f .from) (s .args .f .to) (s .pre .1) in
+    let s = the-start c in let e = (at-short-end c) .short-end .ensures in
+    let o = short-order (s .args .f .from) (s .args .f .to) (s .pre .1) in
     omega (arith, e, o)
 
 part-put-bytes-start : tie.Need-part-put-bytes-start
 part-put-bytes-start c =
-    let s = the-start c in let e = (at-short-end c) .short-end .ensures in let a = short-order (s .args .f .from) (s .args .f .to) (s .pre .1) in
+    let s = the-start c in let e = (at-short-end c) .short-end .ensures in
+    let a = short-order (s .args .f .from) (s .args .f .to) (s .pre .1) in
     let o = s .pre .1 in let h = s .pre .2 in
     omega (arith, e, a, o, h)
 
 part-put-bytes-end : tie.Need-part-put-bytes-end
 part-put-bytes-end c =
-    let s = the-start c in let e = (at-short-end c) .short-end .ensures in let o = short-within (s .args .f .from) (s .args .f .to) (s .pre .1) in let h = s .pre .2 in
+    let s = the-start c in let e = (at-short-end c) .short-end .ensures in
+    let o = short-within (s .args .f .from) (s .args .f .to) (s .pre .1) in let h = s .pre .2 in
     omega (arith, e, o, h)
 
 put-bytes-requires-2 : tie.Need-put-bytes-requires-2
 put-bytes-requires-2 c κs =
-    let s = the-start (c .before) in let x = at-short-end (c .before) in let e = x .short-end .ensures in let p = c .before .before .before .before in
-    let a = short-order (s .args .f .from) (s .args .f .to) (s .pre .1) in let o = short-within (s .args .f .from) (s .args .f .to) (s .pre .1) in
+    let s = the-start (c .before) in let x = at-short-end (c .before) in let e = x .short-end .ensures in
+    let p = c .before .before .before .before in
+    let a = short-order (s .args .f .from) (s .args .f .to) (s .pre .1) in
+    let o = short-within (s .args .f .from) (s .args .f .to) (s .pre .1) in
     let w = short-few (s .args .f .from) (s .args .f .to) in let h = s .pre .2 in let g = s .pre .0 in
     let l = part-length (now (s .args .line)) (s .args .f .from) (x .short-end .result) (omega (arith, e, a)) (omega (arith, e, o, h)) in
     let i = p .put-bytes .ensures .ends in let k = p .put-bytes .kept .0 in
@@ -55,7 +60,9 @@ returns : tie.Need-returns
 unfolding text codes
 returns c =
     let s = (the-start (c .before .before .before .before)) .args in
-    also ((at-put-bytes c) .put-bytes .ensures) (same-put (ap (part (now (s .line)) (s .f .from)) ((at-short-end (c .before .before .before .before)) .short-end .ensures)) (c .before .before .put-bytes2 .ensures))
+    also ((at-put-bytes c) .put-bytes .ensures)
+    (same-put (ap (part (now (s .line)) (s .f .from)) ((at-short-end (c .before .before .before .before)) .short-end .ensures))
+    (c .before .before .put-bytes2 .ensures))
 
 pub put-shown-spec : {M : Type 1} → statement M
 put-shown-spec =

@@ -40,7 +40,8 @@ unfolding text codes
 returns c =
     let w = word-saves-from-then1 (c .before .before .before .before .before) in
     let s = (start-from-then1 (c .before .before .before .before .before)) .args in
-    by-true (wantedOf (s .fault) (now (s .endings)) (take (s .k) (now (s .trial))) (cutAtBars (now (s .table)))) (sym (w .word-saves .ensures .0) ∙ c .before .before .before .before .before .if1 .taken) (c .before .before .put-bytes .ensures)
+    by-true (wantedOf (s .fault) (now (s .endings)) (take (s .k) (now (s .trial))) (cutAtBars (now (s .table))))
+    (sym (w .word-saves .ensures .0) ∙ c .before .before .before .before .before .if1 .taken) (c .before .before .put-bytes .ensures)
 
 put-words-requires : tie.Need-put-words-requires
 put-words-requires c κs =
@@ -53,7 +54,8 @@ unfolding text codes
 returns-2 c =
     let w = word-saves-from-slice-known6 c in let s = (start-from-slice-known6 c) .args in
     by-false (text " F") (sym (w .word-saves .ensures .0) ∙ (at-else1 c) .if1 .left)
-    (same-put (ap (λ (t : List ℕ). wantedOf (s .fault) (now (s .endings)) t (cutAtBars (now (s .table)))) (w .word-saves .ensures .1)) (c .before .before .before .before .put-words .ensures .0))
+    (same-put (ap (λ (t : List ℕ). wantedOf (s .fault) (now (s .endings)) t (cutAtBars (now (s .table)))) (w .word-saves .ensures .1))
+    (c .before .before .before .before .put-words .ensures .0))
 
 pub put-wanted-spec : {M : Type 1} → statement M
 put-wanted-spec =

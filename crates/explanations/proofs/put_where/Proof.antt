@@ -18,7 +18,9 @@ use Rattle.explanations.proofs.put_where.Tie as tie
 
 returns : tie.Need-returns
 returns c =
-    let i = c .before in let s = c .before .before .before .before .before .args in by-false (atPlace examples formWords (now (s .line)) (s .fault) (faultPlace (s .fault) examples (now (s .line)))) (sym (i .is-placed .ensures) ∙ not-true _ (c .if1 .taken)) (nothing _ _)
+    let i = c .before in let s = c .before .before .before .before .before .args in
+    by-false (atPlace examples formWords (now (s .line)) (s .fault) (faultPlace (s .fault) examples (now (s .line))))
+    (sym (i .is-placed .ensures) ∙ not-true _ (c .if1 .taken)) (nothing _ _)
 
 -- places that the needs go back to
 abbrev the-start : tie.After-put-place-arg4 → tie.Start
@@ -38,7 +40,8 @@ put-place-requires c κs =
 returns-2 : tie.Need-returns-2
 unfolding examples formWords text codes
 returns-2 c =
-    let i = at-is-placed c in by-true [] (sym (i .is-placed .ensures) ∙ not-false _ ((at-else1 c) .if1 .left)) (c .before .before .before .before .put-place .ensures)
+    let i = at-is-placed c in by-true [] (sym (i .is-placed .ensures) ∙ not-false _ ((at-else1 c) .if1 .left))
+    (c .before .before .before .before .put-place .ensures)
 
 pub put-where-spec : {M : Type 1} → statement M
 put-where-spec =

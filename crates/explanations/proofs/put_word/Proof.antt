@@ -15,7 +15,8 @@ call w = w .before .before .before .before .before .before
 returns : tie.Need-returns
 returns c =
     let w = c .before .before .before in let s = call w .args in (
-      not-wanted (s .fault) (now (s .endings)) (take (s .k) (now (s .trial))) (now (s .word)) _ _ (sym (w .word-saves .ensures .0) ∙ not-true _ (c .if1 .taken)),
+      not-wanted (s .fault) (now (s .endings)) (take (s .k) (now (s .trial))) (now (s .word)) _ _
+          (sym (w .word-saves .ensures .0) ∙ not-true _ (c .if1 .taken)),
       w .word-saves .ensures .1,
     )
 
@@ -30,9 +31,11 @@ put-bytes-requires-2 c κs =
 
 returns-2 : tie.Need-returns-2
 returns-2 c =
-    let r = c .before .before in let q = r .before .before .before .before in let e = q .before .before .before in let w = e .before .before .before in
+    let r = c .before .before in let q = r .before .before .before .before in let e = q .before .before .before in
+    let w = e .before .before .before in
     let s = call w .args in (
-      is-wanted (s .fault) (now (s .endings)) (take (s .k) (now (s .trial))) (now (s .word)) (sym (w .word-saves .ensures .0) ∙ not-false _ (e .if1 .left))
+      is-wanted (s .fault) (now (s .endings)) (take (s .k) (now (s .trial))) (now (s .word))
+          (sym (w .word-saves .ensures .0) ∙ not-false _ (e .if1 .left))
           (q .put-bytes .ensures) (r .put-bytes2 .ensures),
       w .word-saves .ensures .1,
     )

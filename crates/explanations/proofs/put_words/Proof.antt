@@ -32,7 +32,8 @@ part-put-word-end c = c .before .before .bar-end .ensures .within
 put-word-requires : tie.Need-put-word-requires Inv-loop μ-loop
 put-word-requires c κs =
     let b = c .before .before .before in let a = b .before in let s = a .before .before .before .before .before in
-    let e = part-length (now (s .args .table)) (a .loop .i) (b .bar-end .result) (b .bar-end .ensures .behind) (b .bar-end .ensures .within) in
+    let e = part-length (now (s .args .table)) (a .loop .i) (b .bar-end .result) (b .bar-end .ensures .behind) (b .bar-end .ensures .within)
+    in
     let o = b .bar-end .ensures .behind in let w = b .bar-end .ensures .within in
     let f = a .loop .inv .few-bytes in let p = a .loop .inv .same-out in let t = a .loop .inv .same-trial in
     let g = s .pre .0 in let h = s .pre .1 in
@@ -54,7 +55,8 @@ same-length-2 c = let w = c .before .before .before .before .before in w .put-wo
 returns : tie.Need-returns Inv-loop μ-loop
 returns c =
     let w = c .before .before .before .before .before in (
-      was-last _ _ _ _ _ _ _ _ _ _ _ _ (loop w .loop .inv) (bar w .bar-end .ensures) _ (w .put-word .last .1 .1 .0) _ (w .put-word .ensures .0) (c .if1 .taken),
+      was-last _ _ _ _ _ _ _ _ _ _ _ _ (loop w .loop .inv) (bar w .bar-end .ensures) _ (w .put-word .last .1 .1 .0) _
+          (w .put-word .ensures .0) (c .if1 .taken),
       w .put-word .ensures .1 ∙ loop w .loop .inv .kept,
     )
 
@@ -62,7 +64,8 @@ add-i : tie.Need-add-i Inv-loop μ-loop
 add-i c = omega arith
 
 loop-less : tie.Need-loop-less Inv-loop μ-loop
-loop-less c = let w = c .before .before .before .before .before in let b = bar w .bar-end .ensures .behind in let h = c .if1 .left in omega (arith, b, h)
+loop-less c = let w = c .before .before .before .before .before in let b = bar w .bar-end .ensures .behind in let h = c .if1 .left in
+    omega (arith, b, h)
 
 loop-again : tie.Need-loop-again Inv-loop μ-loop
 loop-again c =

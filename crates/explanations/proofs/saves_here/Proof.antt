@@ -15,8 +15,11 @@ use Rattle.explanations.proofs.saves_here.Tie as tie
 
 returns : tie.Need-returns
 returns c =
-    let s = c .before .before .before .before .args in
-    (sym (ap (λ (t : Bool). t && savesWith (s .fault) (take (s .n) (now (s .trial))) (toBar (drop (s .j) (now (s .endings))))) (ne-eqb _ _ (c .if1 .taken))), refl)
+    let s = c .before .before .before .before .args in (
+      sym (ap (λ (t : Bool). t && savesWith (s .fault) (take (s .n) (now (s .trial))) (toBar (drop (s .j) (now (s .endings)))))
+          (ne-eqb _ _ (c .if1 .taken))),
+      refl,
+    )
 
 sub-saves-with : tie.Need-sub-saves-with
 sub-saves-with c = c .before .bar-end .ensures .behind
@@ -27,7 +30,8 @@ part-saves-with-end c = c .before .bar-end .ensures .within
 saves-with-requires : tie.Need-saves-with-requires
 saves-with-requires c κs =
     let b = c .before .before in let s = b .before .before .before .before .before in
-    let e = part-length (now (s .args .endings)) (s .args .j) (b .bar-end .result) (b .bar-end .ensures .behind) (b .bar-end .ensures .within) in
+    let e = part-length (now (s .args .endings)) (s .args .j) (b .bar-end .result) (b .bar-end .ensures .behind)
+    (b .bar-end .ensures .within) in
     let g = b .bar-end .ensures .within in let h = s .pre .0 in
     omega (arith, e, g, h)
 
@@ -35,8 +39,10 @@ returns-2 : tie.Need-returns-2
 returns-2 c =
     let w = c .before .before in let b = w .before .before .before in let i = b .before in let s = i .before .before .before .before in (
       w .saves-with .ensures .0
-          ∙ ap (λ (t : List ℕ). savesWith (s .args .fault) (take (s .args .n) (now (s .args .trial))) t) (sym (ap firstText (b .bar-end .ensures .cut)))
-          ∙ sym (ap (λ (t : Bool). t && savesWith (s .args .fault) (take (s .args .n) (now (s .args .trial))) (toBar (drop (s .args .j) (now (s .args .endings))))) (eq-eqb _ _ (i .if1 .left))),
+          ∙ ap (λ (t : List ℕ). savesWith (s .args .fault) (take (s .args .n) (now (s .args .trial))) t)
+          (sym (ap firstText (b .bar-end .ensures .cut)))
+          ∙ sym (ap (λ (t : Bool). t && savesWith (s .args .fault) (take (s .args .n) (now (s .args .trial)))
+          (toBar (drop (s .args .j) (now (s .args .endings))))) (eq-eqb _ _ (i .if1 .left))),
       w .saves-with .ensures .1,
     )
 

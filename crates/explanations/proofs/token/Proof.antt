@@ -15,13 +15,15 @@ returns c =
 returns-2 : tie.Need-returns-2
 returns-2 c =
     let p = c .before .before .before .before in
-    bracket (now (p .before .before .args .line)) _ _ (p .past-spaces .ensures .0) (omega arith) (sym (c .before .ends-word .ensures) ∙ c .if2 .taken)
+    bracket (now (p .before .before .args .line)) _ _ (p .past-spaces .ensures .0) (omega arith)
+    (sym (c .before .ends-word .ensures) ∙ c .if2 .taken)
 
 returns-3 : tie.Need-returns-3
 returns-3 c =
     let i = c .before in
     let p = i .before .before .before .before in
-    in-word (now (p .before .before .args .line)) _ _ (p .past-spaces .ensures .0) (omega arith) _ (sym (i .before .ends-word .ensures) ∙ i .if2 .left)
+    in-word (now (p .before .before .args .line)) _ _ (p .past-spaces .ensures .0) (omega arith) _
+    (sym (i .before .ends-word .ensures) ∙ i .if2 .left)
     (c .word-end .ensures .0) (c .word-end .ensures .1)
 
 pub token-spec : {M : Type 1} → statement M

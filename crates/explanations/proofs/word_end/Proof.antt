@@ -26,7 +26,8 @@ shared-slice-read-ends-word c = omega arith
 returns : tie.Need-returns Inv-loop μ-loop
 returns c =
     let a = c .before .before .before .before in (
-      run-stops inWord (now (a .before .before .args .line)) _ _ (a .loop .inv .1) (omega arith) (ap not (sym (c .before .ends-word .ensures) ∙ c .if1 .taken)),
+      run-stops inWord (now (a .before .before .args .line)) _ _ (a .loop .inv .1) (omega arith)
+          (ap not (sym (c .before .ends-word .ensures) ∙ c .if1 .taken)),
       a .loop .inv .0,
     )
 
@@ -40,7 +41,8 @@ loop-again : tie.Need-loop-again Inv-loop μ-loop
 loop-again c =
     let a = c .before .before .before .before in (
       omega arith,
-      run-on inWord (now (a .before .before .args .line)) _ _ (a .loop .inv .1) (omega arith) (ap not (sym (c .before .ends-word .ensures) ∙ c .if1 .left)),
+      run-on inWord (now (a .before .before .args .line)) _ _ (a .loop .inv .1) (omega arith)
+          (ap not (sym (c .before .ends-word .ensures) ∙ c .if1 .left)),
     )
 
 returns-2 : tie.Need-returns-2 Inv-loop μ-loop

@@ -21,7 +21,8 @@ returns c =
     let i = c .before .before in let p = i .before .before .before .before in let s = p .before .before .before .before .before in
     let e = p .put-bytes .ensures .ends in let h = s .pre in (
       i .is-saved .ensures .0 ∙ ap (λ (t : List ℕ). saved (s .args .fault) t (now (s .args .endings))) (p .put-bytes .ensures .holds),
-      less-kept (p .put-bytes .last .0) (i .is-saved .last .0) (s .args .k) (p .put-bytes .result) (omega (arith, e)) (i .is-saved .ensures .1)
+      less-kept (p .put-bytes .last .0) (i .is-saved .last .0) (s .args .k) (p .put-bytes .result) (omega (arith, e))
+          (i .is-saved .ensures .1)
           ∙ start-kept (omega (arith, h)) (p .put-bytes .ensures),
     )
 

@@ -15,7 +15,8 @@ returns-3 c =
     let w = c .before .before .before in
     let f = w .before .before .before .before in
     let s = f .before .before in
-    chords-written (s .before .before .if1 .left) (s .before .if2 .left) (s .listed-planform .ensures) (f .listed-chords .ensures) (w .write-count .ensures) (c .verdict-number .ensures)
+    chords-written (s .before .before .if1 .left) (s .before .if2 .left) (s .listed-planform .ensures) (f .listed-chords .ensures)
+    (w .write-count .ensures) (c .verdict-number .ensures)
 
 pub delvouzh-chords-at-spec : {M : Type 1} → statement M
 delvouzh-chords-at-spec =

@@ -18,7 +18,8 @@ returns-3 c =
     let k = f .before in
     let h = k .before in
     let a = h .before .before .before .args in
-    closing-written (h .if1 .left) (k .if2 .left) (f .closing-radius-m .ensures .is) (one-written (a .radius .now) _ (h .if1 .left)) (w .write-values .ensures) (c .verdict-number .ensures)
+    closing-written (h .if1 .left) (k .if2 .left) (f .closing-radius-m .ensures .is) (one-written (a .radius .now) _ (h .if1 .left))
+    (w .write-values .ensures) (c .verdict-number .ensures)
 
 pub delvouzh-closing-radius-spec : {M : Type 1} → statement M
 delvouzh-closing-radius-spec =

@@ -16,7 +16,8 @@ returns-3 c =
     let b = w .before .before .before .before in
     let f = b .before .before .before .before in
     let s = f .before .before in
-    area-written (s .before .before .if1 .left) (s .before .if2 .left) (s .listed-planform .ensures) (f .area-figures .ensures) (b .write-three .ensures) (w .write-counts .ensures) (c .verdict-number .ensures)
+    area-written (s .before .before .if1 .left) (s .before .if2 .left) (s .listed-planform .ensures) (f .area-figures .ensures)
+    (b .write-three .ensures) (w .write-counts .ensures) (c .verdict-number .ensures)
 
 pub delvouzh-geometry-spec : {M : Type 1} → statement M
 delvouzh-geometry-spec =

@@ -16,7 +16,8 @@ returns-3 c =
     let b = w .before .before .before .before in
     let f = b .before .before .before .before .before in
     let s = f .before .before in
-    set-written (s .before .before .if1 .left) (s .before .if2 .left) (s .listed-set .ensures) (f .set-figures .ensures) (b .write-body .ensures) (w .write-counts .ensures) (c .verdict-number .ensures)
+    set-written (s .before .before .if1 .left) (s .before .if2 .left) (s .listed-set .ensures) (f .set-figures .ensures)
+    (b .write-body .ensures) (w .write-counts .ensures) (c .verdict-number .ensures)
 
 pub delvouzh-mass-properties-spec : {M : Type 1} → statement M
 delvouzh-mass-properties-spec =

@@ -15,7 +15,8 @@ returns-3 c =
     let w = c .before .before .before in
     let b = w .before .before .before .before in
     let m = b .before .before .before in
-    moments-written (m .before .before .if1 .left) (m .before .if2 .left) (m .tensor-moments .ensures) (b .write-three .ensures) (w .write-values .ensures) (c .verdict-number .ensures)
+    moments-written (m .before .before .if1 .left) (m .before .if2 .left) (m .tensor-moments .ensures) (b .write-three .ensures)
+    (w .write-values .ensures) (c .verdict-number .ensures)
 
 pub delvouzh-principal-moments-spec : {M : Type 1} → statement M
 delvouzh-principal-moments-spec =

@@ -16,7 +16,8 @@ returns-3 c =
     let w = c .before .before .before in
     let b = w .before .before .before .before in
     let fits = b .before .before .before in
-    body-written (fits .before .if1 .left) (fits .if2 .left) refl (b .write-body .ensures) (w .write-values .ensures) (c .verdict-number .ensures)
+    body-written (fits .before .if1 .left) (fits .if2 .left) refl (b .write-body .ensures) (w .write-values .ensures)
+    (c .verdict-number .ensures)
 
 pub told-body-spec : {M : Type 1} → statement M
 told-body-spec =

@@ -27,7 +27,9 @@ judge-requires c κs =
     omega (arith, l .loop .inv, l .before .before .before .pre)
 
 same-length : tie.Need-same-length Inv-loop μ-loop
-same-length c = c .before .before .before .before .before .before .before .loop .inv .long
+same-length c =
+    let at-judge = c .before .before .before .before .before in
+    at-judge .before .before .loop .inv .long
 
 returns : tie.Need-returns Inv-loop μ-loop
 returns c =

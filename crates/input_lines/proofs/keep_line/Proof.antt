@@ -23,7 +23,8 @@ returns : tie.Need-returns
 returns c =
     let start = c .before .before .before .before .before .before .before .before in
     let find = c .before .before .before .before .before .find in
-    line-kept (now (start .args .buffer)) _ (now (start .args .bytes)) (start .args .s) _ _ (in-all _ _ (find .ensures .0)) (find .ensures .1) (c .before .before .keep .ensures)
+    line-kept (now (start .args .buffer)) _ (now (start .args .bytes)) (start .args .s) _ _ (in-all _ _ (find .ensures .0))
+    (find .ensures .1) (c .before .before .keep .ensures)
 
 pub keep-line-spec : {M : Type 1} → statement M
 keep-line-spec =

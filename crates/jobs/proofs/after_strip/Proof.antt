@@ -10,7 +10,8 @@ use Rattle.jobs.proofs.after_strip.Statement.{statement}
 use Rattle.jobs.proofs.after_strip.Tie as tie
 
 returns : tie.Need-returns
-returns c = c .go-on .ensures ∙ sym (after-more _ _ (both-told _ _ _ (c .before .before .before .is-accepted .ensures) (c .before .if1 .taken)))
+returns c = c .go-on .ensures
+    ∙ sym (after-more _ _ (both-told _ _ _ (c .before .before .before .is-accepted .ensures) (c .before .if1 .taken)))
 
 array-share-prefix-numbers : tie.Need-array-share-prefix-numbers
 array-share-prefix-numbers c =
@@ -30,7 +31,8 @@ returns-2 c =
     let other = held .before .before .before .before in
     let told = other .before .before in
     let a = told .before .before .before .args in
-    ends-so (a .job) (a .onward) (held .held .result) (held .held .ensures) (concluded .conclude .result) (concluded .conclude .ensures) _ (c .end .ensures)
+    ends-so (a .job) (a .onward) (held .held .result) (held .held .ensures) (concluded .conclude .result) (concluded .conclude .ensures) _
+    (c .end .ensures)
     (both-told _ _ _ (told .is-accepted .ensures) (other .if1 .left))
 
 pub after-strip-spec : {M : Type 1} → statement M

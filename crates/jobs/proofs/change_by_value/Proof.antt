@@ -13,13 +13,15 @@ returns-2 : tie.Need-returns-2
 returns-2 c =
     let told = c .before in
     let checked = told .before .before in
-    is-answer (c .take-density .ensures ∙ sym (change-taken _ _ (checked .before .if1 .left) (sym (checked .check-density .ensures) ∙ told .enum-told .given .1)))
+    is-answer (c .take-density .ensures
+    ∙ sym (change-taken _ _ (checked .before .if1 .left) (sym (checked .check-density .ensures) ∙ told .enum-told .given .1)))
 
 returns-3 : tie.Need-returns-3
 returns-3 c =
     let told = c .before .before in
     let checked = told .before .before in
-    is-answer (c .keep-density2 .ensures ∙ sym (change-refused _ _ _ (checked .before .if1 .left) (sym (checked .check-density .ensures) ∙ told .verdict .given .1)))
+    is-answer (c .keep-density2 .ensures
+    ∙ sym (change-refused _ _ _ (checked .before .if1 .left) (sym (checked .check-density .ensures) ∙ told .verdict .given .1)))
 
 pub change-by-value-spec : {M : Type 1} → statement M
 change-by-value-spec =

@@ -9,7 +9,12 @@ returns : tie.Need-returns
 unfolding madeOf
 returns c =
     let bare = c .before in
-    is-answer (rw (c .copied .ensures, bare .bare-figures .ensures, bare .before .is-refused .ensures, bare .before .before .check-making .ensures))
+    is-answer (rw (
+      c .copied .ensures,
+      bare .bare-figures .ensures,
+      bare .before .is-refused .ensures,
+      bare .before .before .check-making .ensures,
+    ))
 
 pub make-spec : {M : Type 1} → statement M
 make-spec = tie.close (tie.spec (λ c κs. search needs) (λ c κs. search needs) (λ c κs. search needs) (λ c κs. search needs) returns)

@@ -1,4 +1,5 @@
--- `jobs::progress_of` meets its contract: the strips below the next one's lower end, of the break heights of the record's own copy. Assumes nothing.
+-- `jobs::progress_of` meets its contract: the strips below the next one's lower end, of the break heights of the
+-- record's own copy. Assumes nothing.
 use mathlib.Core.Path.{sym}
 use native.Mathlib.Omega.{arith}
 use lib.Seq.{length-take-le}
@@ -46,7 +47,8 @@ returns c =
     let next = breaks .before .before in
     let held = next .before .before in
     let job = held .before .before .before .before .args .job in
-    progress-read job (held .held .result) (held .held .ensures) (next .height-at .result) (breaks .break-heights .result) (below .count-below .result)
+    progress-read job (held .held .result) (held .held .ensures) (next .height-at .result) (breaks .break-heights .result)
+    (below .count-below .result)
     (next .height-at .ensures) (breaks .break-heights .ensures) (below .count-below .ensures)
 
 pub progress-of-spec : {M : Type 1} → statement M

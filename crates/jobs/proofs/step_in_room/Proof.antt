@@ -22,7 +22,8 @@ work-next-requires c κs =
     let told = c .before in
     let check = told .before .before in
     run-within _ _
-    (in-room (Start· check .args .job) _ (Else· check .if1 .left) (sym (check .check-limit .ensures) ∙ told .enum-told .given .1) (Start· check .pre))
+    (in-room (Start· check .args .job) _ (Else· check .if1 .left) (sym (check .check-limit .ensures) ∙ told .enum-told .given .1)
+    (Start· check .pre))
 
 returns-2 : tie.Need-returns-2
 returns-2 c =

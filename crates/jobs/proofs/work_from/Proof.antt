@@ -16,8 +16,11 @@ plate-integrand-requires c κs = c .span-m .ensures
 work-next-requires : tie.Need-work-next-requires
 work-next-requires c κs =
     let plate = c .before in
-    let start = plate .before .before .before .before in
-    (start .pre, plate .before .span-m .ensures ∙ ap (λ (f : Integrand). spanOf (f .planform) (start .args .points .now)) (sym (plate .plate-integrand .ensures)))
+    let start = plate .before .before .before .before in (
+      start .pre,
+      plate .before .span-m .ensures
+          ∙ ap (λ (f : Integrand). spanOf (f .planform) (start .args .points .now)) (sym (plate .plate-integrand .ensures)),
+    )
 
 same-length : tie.Need-same-length
 same-length c = search needs
@@ -27,7 +30,8 @@ returns c =
     let w = c .before .before in
     let plate = w .before .before in
     let a = plate .before .before .before .before .args in
-    same-next (a .set) (a .points .now) (a .limit) (plate .plate-integrand .result) (plate .plate-integrand .ensures) _ _ _ _ _ (w .work-next .ensures)
+    same-next (a .set) (a .points .now) (a .limit) (plate .plate-integrand .result) (plate .plate-integrand .ensures) _ _ _ _ _
+    (w .work-next .ensures)
 
 pub work-from-spec : {M : Type 1} → statement M
 work-from-spec = tie.close (tie.spec span-m-requires plate-integrand-requires work-next-requires same-length returns)

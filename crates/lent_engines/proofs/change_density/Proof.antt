@@ -1,4 +1,5 @@
--- `lent_engines::change_density` meets its contract: the parts are called in order, and a density that is refused wrote nothing. Assumes nothing.
+-- `lent_engines::change_density` meets its contract: the parts are called in order, and a density that is refused wrote
+-- nothing. Assumes nothing.
 use mathlib.Core.Path.{sym, ap, _∙_}
 use mathlib.Core.Bool.{not}
 use Rattle.lent_engines.proofs.Calls.{changes-not, changes}
@@ -12,7 +13,8 @@ returns c = let refused = c .before in
     let read = change .before in
     let place = read .before .before .before in
     let screens = place .before in
-    changes-not _ _ _ (screens .read-screens .ensures) _ _ (read .read-at .ensures) _ (place .place-of .ensures .0) _ _ (change .change-at .ensures .is)
+    changes-not _ _ _ (screens .read-screens .ensures) _ _ (read .read-at .ensures) _ (place .place-of .ensures .0) _ _
+    (change .change-at .ensures .is)
     (ap not (sym (refused .is-refused .ensures) ∙ c .if1 .taken))
 
 write-at-requires : tie.Need-write-at-requires
@@ -31,7 +33,8 @@ returns-2 c = let write = c .before .before .before .before in
     let read = change .before in
     let place = read .before .before .before in
     let screens = place .before in
-    changes _ _ _ (screens .read-screens .ensures) _ _ (read .read-at .ensures) _ (place .place-of .ensures .0) _ _ (change .change-at .ensures .is)
+    changes _ _ _ (screens .read-screens .ensures) _ _ (read .read-at .ensures) _ (place .place-of .ensures .0) _ _
+    (change .change-at .ensures .is)
     (ap not (sym (refused .is-refused .ensures) ∙ goes .if1 .left)) _ _ (write .write-at .ensures)
 
 pub change-density-spec : {M : Type 1} → statement M

@@ -1,4 +1,5 @@
--- `lent_engines::submit` meets its contract: the parts are called in order, and a submission that is refused wrote nothing. Assumes nothing.
+-- `lent_engines::submit` meets its contract: the parts are called in order, and a submission that is refused wrote
+-- nothing. Assumes nothing.
 use mathlib.Core.Path.{sym, ap, _∙_}
 use mathlib.Core.Bool.{not}
 use Rattle.lent_engines.proofs.Calls.{submits-not, submits}
@@ -13,7 +14,8 @@ returns c = let refused = c .before in
     let read = make .before in
     let place = read .before .before .before in
     let screens = place .before in
-    submits-not _ _ _ (screens .read-screens .ensures) _ _ (read .read-at .ensures) _ (place .place-of .ensures .0) _ _ _ _ _ (make .make .ensures .is) (submit .submit-at .ensures .is)
+    submits-not _ _ _ (screens .read-screens .ensures) _ _ (read .read-at .ensures) _ (place .place-of .ensures .0) _ _ _ _ _
+    (make .make .ensures .is) (submit .submit-at .ensures .is)
     (ap not (sym (refused .is-refused .ensures) ∙ c .if1 .taken))
 
 write-at-requires : tie.Need-write-at-requires
@@ -34,7 +36,8 @@ returns-2 c = let write = c .before .before .before .before in
     let read = make .before in
     let place = read .before .before .before in
     let screens = place .before in
-    submits _ _ _ (screens .read-screens .ensures) _ _ (read .read-at .ensures) _ (place .place-of .ensures .0) _ _ _ _ _ (make .make .ensures .is) (submit .submit-at .ensures .is)
+    submits _ _ _ (screens .read-screens .ensures) _ _ (read .read-at .ensures) _ (place .place-of .ensures .0) _ _ _ _ _
+    (make .make .ensures .is) (submit .submit-at .ensures .is)
     (ap not (sym (refused .is-refused .ensures) ∙ goes .if1 .left)) _ _ (write .write-at .ensures)
 
 pub submit-spec : {M : Type 1} → statement M

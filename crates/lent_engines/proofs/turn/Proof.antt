@@ -11,7 +11,8 @@ returns c = let told = c .before in
     let read = serve .before .before in
     let pick = read .before .before .before in
     let screens = pick .before in
-    turns-idle _ _ _ (screens .read-screens .ensures) _ _ (read .read-at .ensures) (pick .pick .ensures .0) _ _ _ (serve .serve .ensures) (sym (told .served-screen .ensures) ∙ c .if1 .taken)
+    turns-idle _ _ _ (screens .read-screens .ensures) _ _ (read .read-at .ensures) (pick .pick .ensures .0) _ _ _ (serve .serve .ensures)
+    (sym (told .served-screen .ensures) ∙ c .if1 .taken)
 
 write-at-requires : tie.Need-write-at-requires
 write-at-requires c κs =

@@ -12,7 +12,8 @@ returns c = let there = c .before .before .before .before in
     let takes = goes .before in
     let s = takes .before .before .before .before .args in
     changes-there (now (s .numbers)) (now (s .counts)) _ _ _ _
-    (density-test (now (s .numbers)) (now (s .counts)) _ _ (takes .takes-density .ensures) ∙ goes .if1 .taken) (there .change-there .ensures)
+    (density-test (now (s .numbers)) (now (s .counts)) _ _ (takes .takes-density .ensures) ∙ goes .if1 .taken)
+    (there .change-there .ensures)
 
 returns-2 : tie.Need-returns-2
 returns-2 c = let change = c .before in

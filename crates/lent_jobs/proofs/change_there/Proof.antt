@@ -1,4 +1,5 @@
--- `lent_jobs::change_there` meets its contract: a walk of its code, by hand, as `step_there`'s with a density by value in the scratch's place.
+-- `lent_jobs::change_there` meets its contract: a walk of its code, by hand, as `step_there`'s with a density by value
+-- in the scratch's place.
 -- Assumes nothing.
 use mathlib.Core.Path.{_≡_, refl, sym, subst}
 use Prim.Native.Nat.{ℕ}
@@ -194,7 +195,8 @@ module _ {M : Type 1} (𝓤 : URA M) (H : Heap 𝓤) (A : Atoms 𝓤) (W : Given
     runs =
         value-runs 𝓤 H A W C Λ fm #read #change #write (pointee (J.the-row .written)) J′.mir R′.mir (ptr numbers) (length (now numbers))
         (ptr counts) (length (now counts)) fits fits′
-        (Own 𝓤 H A W at-mem run P R′.mir C fm In Out) (Mid 𝓤 H A W at-mem run P R′.mir C fm In Out) (Mid′ 𝓤 H A W at-mem run P R′.mir C fm In Out) Post D′.mir
+        (Own 𝓤 H A W at-mem run P R′.mir C fm In Out) (Mid 𝓤 H A W at-mem run P R′.mir C fm In Out)
+        (Mid′ 𝓤 H A W at-mem run P R′.mir C fm In Out) Post D′.mir
         (dval d) (EL.lawful D.the-type D′.the-laws 𝓤 H A W tt .typed d _ is-density .0)
         (reading 𝓤 H A W at-mem run P R′.mir C fm In Out known-read)
         (calling 𝓤 H A W at-mem run P R′.mir C fm In Out answers #change (dval d ∷ []) lends)
@@ -207,7 +209,8 @@ module _ {M : Type 1} (𝓤 : URA M) (H : Heap 𝓤) (A : Atoms 𝓤) (W : Given
         ∷ []) x at) ∷ []) ∵
         split ! $ move ! (1 ∷ []) $ split ! $ move ! (3 ∷ []) $ fsplit ! $ move ! (1 ∷ []) $ fsplit ! $
         -- [the counts; the density; the numbers; the second token; true; the first]
-        keep ! (2 ∷ 5 ∷ 0 ∷ 3 ∷ 4 ∷ []) $ group ! 4 $ by ! (subst (λ (c : Fn). ent 𝓤 (Own 𝓤 H A W at-mem run P R′.mir C fm In Out) (WpFn 𝓤 H C Λ c
+        keep ! (2 ∷ 5 ∷ 0 ∷ 3 ∷ 4 ∷ []) $ group ! 4 $
+        by ! (subst (λ (c : Fn). ent 𝓤 (Own 𝓤 H A W at-mem run P R′.mir C fm In Out) (WpFn 𝓤 H C Λ c
         (val numbers ∷ val counts ∷ dval d ∷ []) Post)) (sym same-code) runs)
       where
         same-code : code.function ≡ withValue #read #change #write (pointee (J.the-row .written)) J′.mir D′.mir R′.mir

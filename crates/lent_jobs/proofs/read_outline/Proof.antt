@@ -46,14 +46,18 @@ loop-less c = omega arith
 
 loop-again : tie.Need-loop-again Inv-loop μ-loop
 loop-again c =
-    let l = c .before .before in
-    (omega arith, one-more-first nan Zeros (now (l .before .args .numbers)) (l .loop .i) (omega arith) (omega (arith, l .before .pre)) (l .loop .inv .1))
+    let l = c .before .before in (
+      omega arith,
+      one-more-first nan Zeros (now (l .before .args .numbers)) (l .loop .i) (omega arith) (omega (arith, l .before .pre))
+          (l .loop .inv .1),
+    )
 
 returns : tie.Need-returns Inv-loop μ-loop
 returns c =
     let l = c .before in
     let numbers = now (l .before .args .numbers) in
-    l .loop .inv .1 ∙ ap (paste Zeros 0 numbers) (le-antisymm (l .loop .inv .0) (c .loop-test .left)) ∙ all-pasted Zeros numbers (l .before .pre)
+    l .loop .inv .1 ∙ ap (paste Zeros 0 numbers) (le-antisymm (l .loop .inv .0) (c .loop-test .left))
+    ∙ all-pasted Zeros numbers (l .before .pre)
 
 pub read-outline-spec : {M : Type 1} → statement M
 read-outline-spec =

@@ -23,7 +23,8 @@ returns-3 c =
     let short = long .before in
     let running = short .before .before in
     let s = running .before .before .before .before .before .args in
-    steps-there (s .numbers .now) (s .counts .now) _ _ _ _ _ (running .if1 .left) (sym (short .is-short .ensures) ∙ long .if2 .left) (there .step-there .ensures)
+    steps-there (s .numbers .now) (s .counts .now) _ _ _ _ _ (running .if1 .left) (sym (short .is-short .ensures) ∙ long .if2 .left)
+    (there .step-there .ensures)
 
 pub step-spec : {M : Type 1} → statement M
 step-spec =

@@ -1,4 +1,5 @@
--- `lent_jobs::step_there` meets its contract: a walk of its code, by hand. The job is read into a local, the local is lent to `jobs::step` for a
+-- `lent_jobs::step_there` meets its contract: a walk of its code, by hand. The job is read into a local, the local is
+-- lent to `jobs::step` for a
 -- lifetime made for the call, with the scratch passed on, and what the local holds then is written back. Assumes nothing.
 use mathlib.Core.Path.{_≡_, refl, sym, subst}
 use Prim.Native.Nat.{ℕ}
@@ -189,7 +190,8 @@ module _ {M : Type 1} (𝓤 : URA M) (H : Heap 𝓤) (A : Atoms 𝓤) (W : Given
     runs =
         list-runs 𝓤 H A W C Λ fm #read #step #write (pointee (J.the-row .written)) J′.mir T′.mir (ptr numbers) (length (now numbers))
         (ptr counts) (length (now counts)) fits fits′
-        (Own 𝓤 H A W at-mem run P T′.mir C fm In Out) (Mid 𝓤 H A W at-mem run P T′.mir C fm In Out) (Mid′ 𝓤 H A W at-mem run P T′.mir C fm In Out) Post (ptr y)
+        (Own 𝓤 H A W at-mem run P T′.mir C fm In Out) (Mid 𝓤 H A W at-mem run P T′.mir C fm In Out)
+        (Mid′ 𝓤 H A W at-mem run P T′.mir C fm In Out) Post (ptr y)
         (length (now y)) fits″
         (reading 𝓤 H A W at-mem run P T′.mir C fm In Out known-read)
         (calling 𝓤 H A W at-mem run P T′.mir C fm In Out answers #step (val y ∷ []) lends)

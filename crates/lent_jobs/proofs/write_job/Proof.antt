@@ -36,7 +36,8 @@ write-numbers-requires-3 c κs =
     let a : length of-set ≡ setNumbers = ap length (s .numbers-of .ensures) in
     let b : length worked ≡ 17 = ap length (w .worked-numbers .ensures) in
     let d = same-count nan numbers 0 of-set (length of-set) (omega (arith, a, start .pre .0)) (omega arith) (one .write-numbers .ensures) in
-    let e = same-count nan (one .write-numbers .last .0) setNumbers worked (length worked) (omega (arith, b, d, start .pre .0)) (omega arith) (two .write-numbers2 .ensures) in
+    let e = same-count nan (one .write-numbers .last .0) setNumbers worked (length worked) (omega (arith, b, d, start .pre .0))
+    (omega arith) (two .write-numbers2 .ensures) in
     omega (arith, sized (start .args .job) _ (start .good .1 .1 .0) .outline, d, e, start .pre .0)
 
 returns : tie.Need-returns
@@ -51,7 +52,8 @@ returns c =
     let s = one .before .before .before in
     let start = s .before .before .before .before in
     job-written (start .args .job) (sized (start .args .job) _ (start .good .1 .1 .0)) _ _ _ _ _ _ _ _ _
-    (s .numbers-of .ensures) (one .write-numbers .ensures) (w .worked-numbers .ensures) (two .write-numbers2 .ensures) (three .write-numbers3 .ensures)
+    (s .numbers-of .ensures) (one .write-numbers .ensures) (w .worked-numbers .ensures) (two .write-numbers2 .ensures)
+    (three .write-numbers3 .ensures)
     (r .counts-of .ensures) (k .write-counts .ensures)
 
 pub write-job-spec : {M : Type 1} → statement M

@@ -5,7 +5,7 @@ use lib.ListN.{take, drop}
 use lib.Ieee.{Float}
 use Rattle.refusals.specs.declared.Verdict.{Verdict}
 use Rattle.bodies.specs.Layout.{bodyNumbers}
-use Rattle.joins.specs.declared.Joined.{Joined}
+use Rattle.joins.specs.declared.JoinedBody.{JoinedBody}
 use Rattle.requests.specs.Calls.{copiedBy, placedBy, movedBy, withoutBy}
 use Rattle.answers.specs.declared.Reply.{Reply}
 use Rattle.answers.specs.declared.Shape.the-variants.{Joined as JoinedShape, Ring as RingShape, Body as BodyShape, Sound as SoundShape}
@@ -16,11 +16,11 @@ use Rattle.lines.proofs.request_reply.Statement.{statement}
 use Rattle.lines.proofs.request_reply.Tie as tie
 
 -- a body of one or two others, and of what else was cut from the figures
-of-two : (f : List Float → List Float → Joined) {a b x y : List Float} {j : Joined} {r : Reply} → a ≡ x → b ≡ y → j ≡ f a b
+of-two : (f : List Float → List Float → JoinedBody) {a b x y : List Float} {j : JoinedBody} {r : Reply} → a ≡ x → b ≡ y → j ≡ f a b
     → r ≡ bodyReply BodyShape j → r ≡ bodyReply BodyShape (f x y)
 of-two f e g h k = k ∙ ap (bodyReply BodyShape) (h ∙ ap₂ f e g)
 
-part-moved : {a b d x y z : List Float} {j : Joined} {r : Reply} → a ≡ x → b ≡ y → d ≡ z → j ≡ movedBy a b d → r ≡ bodyReply BodyShape j
+part-moved : {a b d x y z : List Float} {j : JoinedBody} {r : Reply} → a ≡ x → b ≡ y → d ≡ z → j ≡ movedBy a b d → r ≡ bodyReply BodyShape j
     → r ≡ bodyReply BodyShape (movedBy x y z)
 part-moved {b = b} {d} {x} e f g h k = k ∙ ap (bodyReply BodyShape) (h ∙ ap (λ (w : List Float). movedBy w b d) e ∙ ap₂ (movedBy x) f g)
 

@@ -20,9 +20,10 @@ is-less-requires c κs = search needs
 returns : tie.Need-returns
 unfolding isCutRising
 returns c =
+    let at-struct-told4 = c .before .before .before .before .before in
     let second = c .before .before .before .before .product2 in
-    let first = c .before .before .before .before .before .before .before .product in
-    let at = c .before .before .before .before .before .before .before .before .before .before in
+    let first = at-struct-told4 .before .before .product in
+    let at = at-struct-told4 .before .before .before .before .before in
     let lower = at .args .lower in
     let upper = at .args .upper in
     let small = at .pre in

@@ -8,16 +8,18 @@ use Rattle.polygons.proofs.lies_on.Tie as tie
 returns : tie.Need-returns
 unfolding liesOn
 returns c =
-    let second = c .before .before .before .before .before .before .before .product2 in
-    let first = c .before .before .before .before .before .before .before .before .before .before .product in
-    let at = c .before .before .before .before .before .before .before .before .before .before .before .before .before in
+    let at-struct-told5 = c .before .before .before .before .before in
+    let at-product = at-struct-told5 .before .before .before .before .before in
+    let second = at-struct-told5 .before .before .product2 in
+    let first = at-product .product in
+    let at = at-product .before .before .before in
     let a = at .args .a in
     let b = at .args .b in
     let small = at .pre in
     rw (
       c .is-zero-between2 .ensures,
       c .before .before .before .is-zero-between .ensures,
-      c .before .before .before .before .before .before .is-same .ensures,
+      at-struct-told5 .before .is-same .ensures,
       result-back (first .result) (first .ok),
       result-back (second .result) (second .ok),
       first .ensures .0,

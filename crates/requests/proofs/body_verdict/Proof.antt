@@ -20,7 +20,8 @@ check-requires c κs = search needs
 
 returns-2 : tie.Need-returns-2
 unfolding bodyVerdict
-returns-2 c = simp (eq-eqb _ _ (c .before .before .if1 .left)) (c .check .ensures .is ∙ ap (λ (b : Body). checkOf b) (c .before .body-of .ensures))
+returns-2 c = simp (eq-eqb _ _ (c .before .before .if1 .left))
+    (c .check .ensures .is ∙ ap (λ (b : Body). checkOf b) (c .before .body-of .ensures))
 
 pub body-verdict-spec : {M : Type 1} → statement M
 body-verdict-spec = tie.close (tie.spec returns body-of-requires check-requires returns-2)

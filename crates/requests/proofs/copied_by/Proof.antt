@@ -18,7 +18,8 @@ unfolding copiedBy
 returns-2 c =
     let sized = c .before .before in
     let a = sized .before .before .before .args in
-    simp (eq-eqb _ _ (sized .if1 .left)) (c .copied .ensures .is ∙ ap (λ (b : Body). copiedOf b (now (a .offsets))) (c .before .body-of .ensures))
+    simp (eq-eqb _ _ (sized .if1 .left))
+    (c .copied .ensures .is ∙ ap (λ (b : Body). copiedOf b (now (a .offsets))) (c .before .body-of .ensures))
 
 pub copied-by-spec : {M : Type 1} → statement M
 copied-by-spec =

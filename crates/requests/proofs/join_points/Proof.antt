@@ -23,10 +23,14 @@ returns c =
 slice-aggregate-combine : tie.Need-slice-aggregate-combine
 slice-aggregate-combine c = sym (ap length (first-bodies _ _ _ (c .before .before .write-points .ensures)) ∙ length-listed _ _)
 
+-- places that the needs go back to
+abbrev the-start : tie.After-combine → tie.Start
+the-start c = c .before .before .before .before .before .before .before
+
 returns-2 : tie.Need-returns-2
 unfolding joinedPointsOf
 returns-2 c =
-    let a = c .before .before .before .before .before .before .before .args in
+    let a = (the-start c) .args in
     c .combine .ensures .is
     ∙ ap combineOf (first-bodies _ _ _ (c .before .before .before .write-points .ensures))
     ∙ combine-listed (pointBodyAt (now (a .values))) (length (now (a .values)) / 4)

@@ -21,7 +21,12 @@ returns-2 c = simp (eq-eqb _ _ (c .before .before .if1 .left), ne-eqb _ _ (c .be
 
 returns-3 : tie.Need-returns-3
 unfolding movedBy
-returns-3 c = simp (eq-eqb _ _ (c .before .before .before .if1 .left), eq-eqb _ _ (c .before .before .if2 .left), ne-eqb _ _ (c .before .if3 .taken)) (c .refused3 .ensures)
+returns-3 c = simp (
+  eq-eqb _ _ (c .before .before .before .if1 .left),
+  eq-eqb _ _ (c .before .before .if2 .left),
+  ne-eqb _ _
+      (c .before .if3 .taken),
+) (c .refused3 .ensures)
 
 returns-4 : tie.Need-returns-4
 unfolding movedBy
@@ -32,7 +37,8 @@ returns-4 c =
     let offset = now (one .before .before .before .before .args .offset) in
     simp (eq-eqb _ _ (one .if1 .left), eq-eqb _ _ (sized .before .if2 .left), eq-eqb _ _ (sized .if3 .left))
     (c .with-part-moved .ensures .is
-    ∙ ap₂ (λ (w p : Body). movedOf w p (vector (at offset 0) (at offset 1) (at offset 2))) (first .body-of .ensures) (c .before .body-of2 .ensures))
+    ∙ ap₂ (λ (w p : Body). movedOf w p (vector (at offset 0) (at offset 1) (at offset 2))) (first .body-of .ensures)
+    (c .before .body-of2 .ensures))
 
 pub moved-by-spec : {M : Type 1} → statement M
 moved-by-spec =

@@ -18,7 +18,8 @@ unfolding placedBy
 returns-2 c =
     let sized = c .before .before in
     let a = sized .before .before .before .args in
-    simp (eq-eqb _ _ (sized .if1 .left)) (c .placed .ensures .is ∙ ap (λ (b : Body). placedAtOf b (now (a .places))) (c .before .body-of .ensures))
+    simp (eq-eqb _ _ (sized .if1 .left))
+    (c .placed .ensures .is ∙ ap (λ (b : Body). placedAtOf b (now (a .places))) (c .before .body-of .ensures))
 
 pub placed-by-spec : {M : Type 1} → statement M
 placed-by-spec =

@@ -10,19 +10,25 @@ returns : tie.Need-returns
 unfolding ringBy
 returns c = simp (ne-eqb _ _ (c .before .if1 .taken)) (c .refused .ensures)
 
+-- places that the needs go back to
+abbrev at-found : tie.After-mass-properties → tie.After-found
+at-found c = c .before .before .before .before .before .before .before
+
 returns-2 : tie.Need-returns-2
 unfolding ringBy
 returns-2 c =
-    let known = c .before .before .before .before .before .before .before in
+    let known = at-found c in
     let density = known .before .before in
-    rw (eq-eqb _ _ (density .before .before .if1 .left), sym (density .numbered-density .ensures) ∙ known .found .given .1) (c .mass-properties .ensures .is)
+    rw (eq-eqb _ _ (density .before .before .if1 .left), sym (density .numbered-density .ensures) ∙ known .found .given .1)
+    (c .mass-properties .ensures .is)
 
 returns-3 : tie.Need-returns-3
 unfolding ringBy
 returns-3 c =
     let told = c .before in
     let density = told .before .before in
-    rw (eq-eqb _ _ (density .before .before .if1 .left), sym (density .numbered-density .ensures) ∙ told .enum-told .given .1) (c .refused2 .ensures)
+    rw (eq-eqb _ _ (density .before .before .if1 .left), sym (density .numbered-density .ensures) ∙ told .enum-told .given .1)
+    (c .refused2 .ensures)
 
 pub ring-figures-spec : {M : Type 1} → statement M
 ring-figures-spec =

@@ -20,7 +20,8 @@ principal-moments-requires c κs = search needs
 
 returns-2 : tie.Need-returns-2
 unfolding tensorMoments
-returns-2 c = simp (eq-eqb _ _ (c .before .before .if1 .left)) (c .principal-moments .ensures .is ∙ ap (λ (t : Tensor). principalMomentsOf t) (c .before .tensor-of .ensures))
+returns-2 c = simp (eq-eqb _ _ (c .before .before .if1 .left))
+    (c .principal-moments .ensures .is ∙ ap (λ (t : Tensor). principalMomentsOf t) (c .before .tensor-of .ensures))
 
 pub tensor-moments-spec : {M : Type 1} → statement M
 tensor-moments-spec = tie.close (tie.spec returns tensor-of-requires principal-moments-requires returns-2)

@@ -21,7 +21,8 @@ unfolding withoutBy
 returns-3 c =
     let first = c .before .before in
     let sized = first .before in
-    simp (eq-eqb _ _ (sized .before .if1 .left), eq-eqb _ _ (sized .if2 .left)) (c .without-part .ensures .is ∙ ap₂ (λ (w p : Body). withoutOf w p) (first .body-of .ensures) (c .before .body-of2 .ensures))
+    simp (eq-eqb _ _ (sized .before .if1 .left), eq-eqb _ _ (sized .if2 .left))
+    (c .without-part .ensures .is ∙ ap₂ (λ (w p : Body). withoutOf w p) (first .body-of .ensures) (c .before .body-of2 .ensures))
 
 pub without-by-spec : {M : Type 1} → statement M
 without-by-spec =

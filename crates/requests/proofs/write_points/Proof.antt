@@ -35,8 +35,12 @@ loop-less c = omega arith
 
 loop-again : tie.Need-loop-again Inv-loop μ-loop
 loop-again c =
-    let at-loop = c .before .before .before .before .before .before .loop in
-    (omega arith, one-written _ _ (at-loop .k) (at-loop .inv .1) (c .before .before .before .before .point-body .ensures) (c .before .before .write-body .ensures))
+    let at-in-loop = c .before .before .before .before .before in
+    let at-loop = at-in-loop .before .loop in (
+      omega arith,
+      one-written _ _ (at-loop .k) (at-loop .inv .1) (c .before .before .before .before .point-body .ensures)
+          (c .before .before .write-body .ensures),
+    )
 
 same-length : tie.Need-same-length Inv-loop μ-loop
 same-length c =

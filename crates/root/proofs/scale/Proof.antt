@@ -44,7 +44,8 @@ returns c =
     let z = leadingZeros 64 t - 11 in
     let l = lift c .1 in
     let e : t * 2 ^ z ≡ t * 2 ^ z % 2 ^ 64 = omega (arith, l .high) in (
-      subst (λ (w : ℕ). ScaledTo (radicand (bits b)) w (1022 - z)) e (scaled (unitsOf (bits b)) t 0 z (subnormal-units b (c .if1 .taken)) l),
+      subst (λ (w : ℕ). ScaledTo (radicand (bits b)) w (1022 - z)) e
+          (scaled (unitsOf (bits b)) t 0 z (subnormal-units b (c .if1 .taken)) l),
       omega arith,
     )
 

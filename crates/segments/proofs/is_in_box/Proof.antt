@@ -18,12 +18,14 @@ max-requires-2 c κs = search needs
 
 returns : tie.Need-returns
 unfolding isInBox
-returns c = rw (
-  c .before .before .before .before .max2 .ensures,
-  c .before .before .before .before .before .min2 .ensures,
-  c .before .before .before .before .before .before .max .ensures,
-  c .before .before .before .before .before .before .before .min .ensures,
-)
+returns c =
+    let at-min2 = c .before .before .before .before .before in
+    rw (
+      c .before .before .before .before .max2 .ensures,
+      c .before .before .before .before .before .min2 .ensures,
+      at-min2 .before .max .ensures,
+      at-min2 .before .before .min .ensures,
+    )
 
 pub is-in-box-spec : {M : Type 1} → statement M
 is-in-box-spec =

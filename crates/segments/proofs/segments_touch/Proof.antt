@@ -6,18 +6,20 @@ use Rattle.segments.proofs.segments_touch.Tie as tie
 
 returns : tie.Need-returns
 unfolding segmentsTouch
-returns c = rw (
-  c .lies-on4 .ensures,
-  c .before .lies-on3 .ensures,
-  c .before .before .lies-on2 .ensures,
-  c .before .before .before .lies-on .ensures,
-  c .before .before .before .before .are-opposite2 .ensures,
-  c .before .before .before .before .before .are-opposite .ensures,
-  c .before .before .before .before .before .before .cross4 .ensures,
-  c .before .before .before .before .before .before .before .cross3 .ensures,
-  c .before .before .before .before .before .before .before .before .cross2 .ensures,
-  c .before .before .before .before .before .before .before .before .before .cross .ensures,
-)
+returns c =
+    let at-are-opposite = c .before .before .before .before .before in
+    rw (
+      c .lies-on4 .ensures,
+      c .before .lies-on3 .ensures,
+      c .before .before .lies-on2 .ensures,
+      c .before .before .before .lies-on .ensures,
+      c .before .before .before .before .are-opposite2 .ensures,
+      c .before .before .before .before .before .are-opposite .ensures,
+      at-are-opposite .before .cross4 .ensures,
+      at-are-opposite .before .before .cross3 .ensures,
+      at-are-opposite .before .before .before .cross2 .ensures,
+      at-are-opposite .before .before .before .before .cross .ensures,
+    )
 
 pub segments-touch-spec : {M : Type 1} → statement M
 segments-touch-spec =

@@ -14,7 +14,9 @@ returns c =
 
 returns-2 : tie.Need-returns-2
 returns-2 c =
-    rw (c .before .before .before .before .enum-told2 .given .1) (c .before .before .put-numbered2 .ensures (let h = c .before .before .before .before .before .before .before .before .pre in omega (arith, h)))
+    rw (c .before .before .before .before .enum-told2 .given .1)
+    (c .before .before .put-numbered2 .ensures
+    (let h = c .before .before .before .before .before .before .before .before .pre in omega (arith, h)))
 
 pub put-made-spec : {M : Type 1} → statement M
 put-made-spec =

@@ -15,12 +15,18 @@ returns c =
 returns-2 : tie.Need-returns-2
 unfolding told text codes
 returns-2 c =
-    rw (c .before .before .before .before .before .before .before .if1 .left, c .before .before .before .before .before .enum-told .given .1) (c .before .before .put-bytes .ensures)
+    rw (
+      c .before .before .before .before .before .before .before .if1 .left,
+      c .before .before .before .before .before .enum-told .given .1,
+    ) (c .before .before .put-bytes .ensures)
 
 returns-3 : tie.Need-returns-3
 unfolding told text codes
 returns-3 c =
-    rw (c .before .before .before .before .before .before .before .if1 .left, c .before .before .before .before .before .enum-told2 .given .1) (c .before .before .put-bytes2 .ensures)
+    rw (
+      c .before .before .before .before .before .before .before .if1 .left,
+      c .before .before .before .before .before .enum-told2 .given .1,
+    ) (c .before .before .put-bytes2 .ensures)
 
 pub tell-spec : {M : Type 1} → statement M
 tell-spec =

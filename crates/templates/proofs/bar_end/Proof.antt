@@ -20,9 +20,13 @@ module _ (l : List ℕ) (i j : ℕ) where
   start = ap (λ (w : List ℕ). cutAfter w (drop i l)) (sym (part-none l i))
 
   module _ (a : i ≤ j) (t : cutAtBars (drop i l) ≡ cutAfter (part l i j) (drop j l)) where
-    byte : (b : Bool) → j < length l → eqb (getD l j 0) 124 ≡ b → cutAtBars (drop i l) ≡ cond b (part l i j ∷ cutAtBars (drop (j + 1) l)) (cutAfter (part l i j ++ (getD l j 0 ∷ [])) (drop (j + 1) l))
+    byte : (b : Bool) → j < length l → eqb (getD l j 0) 124 ≡ b
+        → cutAtBars (drop i l)
+        ≡ cond b (part l i j ∷ cutAtBars (drop (j + 1) l)) (cutAfter (part l i j ++ (getD l j 0 ∷ [])) (drop (j + 1) l))
     unfolding cutAfter
-    byte b h e = t ∙ ap (cutAfter (part l i j)) (cons-at l j h) ∙ ap (λ (b : Bool). cond b (part l i j ∷ cutAtBars (drop (j + 1) l)) (cutAfter (part l i j ++ (getD l j 0 ∷ [])) (drop (j + 1) l))) e
+    byte b h e = t ∙ ap (cutAfter (part l i j)) (cons-at l j h)
+        ∙ ap (λ (b : Bool). cond b (part l i j ∷ cutAtBars (drop (j + 1) l)) (cutAfter (part l i j ++ (getD l j 0 ∷ [])) (drop (j + 1) l)))
+        e
 
     one-more : j < length l → (getD l j 0 ≡ 124 → ⊥) → cutAtBars (drop i l) ≡ cutAfter (part l i (j + 1)) (drop (j + 1) l)
     one-more h n = byte _ h (ne-eqb _ _ n) ∙ ap (λ (w : List ℕ). cutAfter w (drop (j + 1) l)) (sym (part-longer l i j a h))
@@ -32,10 +36,12 @@ module _ (l : List ℕ) (i j : ℕ) where
 
     at-end : j ≤ length l → length l ≤ j → IsBarEnd l i j
     unfolding cutAfter
-    at-end w h = record { behind = a; within = w; cut = t ∙ ap (cutAfter (part l i j)) (drop-of-length-le l h) ∙ rw (le-ltb j (length l) h) }
+    at-end w h = record
+        { behind = a; within = w; cut = t ∙ ap (cutAfter (part l i j)) (drop-of-length-le l h) ∙ rw (le-ltb j (length l) h) }
 
 abbrev Inv-loop : tie.InvT-loop
-Inv-loop alternatives i end₀ end = (i ≤ end) × (end ≤ length alternatives) × (cutAtBars (drop i alternatives) ≡ cutAfter (part alternatives i end) (drop end alternatives))
+Inv-loop alternatives i end₀ end = (i ≤ end) × (end ≤ length alternatives)
+    × (cutAtBars (drop i alternatives) ≡ cutAfter (part alternatives i end) (drop end alternatives))
 
 abbrev μ-loop : tie.MeasureT-loop
 μ-loop alternatives i end₀ end = length alternatives - end
@@ -61,8 +67,12 @@ loop-less c = omega arith
 loop-again : tie.Need-loop-again Inv-loop μ-loop
 loop-again c =
     let l = c .before .before .before in
-    let v = l .loop .inv in
-    (omega arith, omega arith, one-more (now (l .before .args .alternatives)) (l .before .args .i) (l .loop .end) (v .0) (v .2) (omega arith) (c .if1 .left))
+    let v = l .loop .inv in (
+      omega arith,
+      omega arith,
+      one-more (now (l .before .args .alternatives)) (l .before .args .i) (l .loop .end) (v .0) (v .2)
+          (omega arith) (c .if1 .left),
+    )
 
 returns-2 : tie.Need-returns-2 Inv-loop μ-loop
 returns-2 c =

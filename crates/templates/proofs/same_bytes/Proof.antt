@@ -42,8 +42,12 @@ loop-less c = omega arith
 loop-again : tie.Need-loop-again Inv-loop μ-loop
 loop-again c =
     let a = c .before .before .before .before in
-    let s = a .before .before .args in
-    (omega arith, a .loop .inv .1, agree (now (s .a)) (now (s .b)) (a .loop .i) (a .loop .inv .1) (omega arith) (a .loop .inv .2) (c .if2 .left))
+    let s = a .before .before .args in (
+      omega arith,
+      a .loop .inv .1,
+      agree (now (s .a)) (now (s .b)) (a .loop .i) (a .loop .inv .1) (omega arith) (a .loop .inv .2)
+          (c .if2 .left),
+    )
 
 returns-3 : tie.Need-returns-3 Inv-loop μ-loop
 returns-3 c =

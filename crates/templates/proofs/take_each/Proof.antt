@@ -15,7 +15,8 @@ abbrev μ-loop : tie.MeasureT-loop
 μ-loop line template values₀ s₀ turns₀ values s turns = turns
 
 loop-holds : tie.Need-loop-holds Inv-loop μ-loop
-loop-holds c = let s = c .before .before .before in begins (now (s .args .line)) (takeText (now (s .args .template))) (now (s .args .values)) (s .args .c) (s .pre)
+loop-holds c = let s = c .before .before .before in
+    begins (now (s .args .line)) (takeText (now (s .args .template))) (now (s .args .values)) (s .args .c) (s .pre)
 
 take-text-requires : tie.Need-take-text-requires Inv-loop μ-loop
 take-text-requires c κs = c .before .before .loop .inv .room
@@ -37,7 +38,8 @@ loop-less c = omega arith
 loop-again : tie.Need-loop-again Inv-loop μ-loop
 loop-again c =
     let t = c .before .before .before .before in
-    again _ _ _ _ _ _ _ (t .before .before .before .loop .inv) _ _ (t .take-text .ensures) (omega arith) (not-false _ (c .if1 .left)) (t .take-text .kept .1 .1 .1 .0)
+    again _ _ _ _ _ _ _ (t .before .before .before .loop .inv) _ _ (t .take-text .ensures) (omega arith) (not-false _ (c .if1 .left))
+    (t .take-text .kept .1 .1 .1 .0)
 
 same-length-2 : tie.Need-same-length-2 Inv-loop μ-loop
 same-length-2 c = c .before .loop .inv .same

@@ -24,7 +24,8 @@ take-one-requires : tie.Need-take-one-requires Inv-loop μ-loop
 take-one-requires c κs = c .before .before .before .loop .inv .room
 
 same-length : tie.Need-same-length Inv-loop μ-loop
-same-length c = let t = c .before .before .before .before in t .take-one .kept .1 .1 .1 .0 ∙ t .before .before .before .before .loop .inv .same
+same-length c = let t = c .before .before .before .before in
+    t .take-one .kept .1 .1 .1 .0 ∙ t .before .before .before .before .loop .inv .same
 
 returns : tie.Need-returns Inv-loop μ-loop
 unfolding text codes

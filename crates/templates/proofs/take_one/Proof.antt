@@ -19,20 +19,27 @@ returns-2 c =
     let n = c .before .before .before in
     let s = n .before .before .before .before .before .before in
     as-is _ _ _ _ (c .not-a-form .ensures) refl
-    (none-left (now (s .args .line)) (now (s .args .values)) (s .args .c) (s .pre) (now (s .args .wanted)) (not-false _ (n .before .if1 .left)) (n .next-token .result) (n .next-token .ensures) (c .before .if2 .taken))
+    (none-left (now (s .args .line)) (now (s .args .values)) (s .args .c) (s .pre) (now (s .args .wanted))
+    (not-false _ (n .before .if1 .left)) (n .next-token .result) (n .next-token .ensures) (c .before .if2 .taken))
 
 take-word-requires : tie.Need-take-word-requires
 take-word-requires c κs =
     let n = c .before .before .before in
-    let s = n .before .before .before .before .before .before in
-    (s .pre, word-place (now (s .args .line)) (now (s .args .values)) (s .args .c) (s .pre) (now (s .args .wanted)) (not-false _ (n .before .if1 .left)) (n .next-token .result) (n .next-token .ensures))
+    let s = n .before .before .before .before .before .before in (
+      s .pre,
+      word-place (now (s .args .line)) (now (s .args .values)) (s .args .c) (s .pre) (now (s .args .wanted))
+          (not-false _ (n .before .if1 .left)) (n .next-token .result) (n .next-token .ensures),
+    )
 
 returns-3 : tie.Need-returns-3
 returns-3 c =
     let w = c .before .before in
     let n = w .before .before .before .before in
     let s = n .before .before .before .before .before .before in
-    as-is _ _ _ _ refl (one-read (now (s .args .line)) (now (s .args .values)) (s .args .c) (s .pre) (now (s .args .wanted)) (not-false _ (n .before .if1 .left)) (n .next-token .result) (n .next-token .ensures) (let h : n .next-token .result .from < n .next-token .result .to = omega arith in h)) (w .take-word .ensures)
+    as-is _ _ _ _ refl
+    (one-read (now (s .args .line)) (now (s .args .values)) (s .args .c) (s .pre) (now (s .args .wanted))
+    (not-false _ (n .before .if1 .left)) (n .next-token .result) (n .next-token .ensures)
+    (let h : n .next-token .result .from < n .next-token .result .to = omega arith in h)) (w .take-word .ensures)
 
 pub take-one-spec : {M : Type 1} → statement M
 take-one-spec =

@@ -14,7 +14,9 @@ returns-2 : tie.Need-returns-2
 returns-2 c =
     let t = c .before .before .before .before in
     as-is _ _ _ _ (c .with-number .ensures) refl
-    (next-tried _ _ _ _ _ _ (t .take-one-of .ensures) _ _ (numbered 0) (c .before .if1 .left) (note _ _ _ _ _ _ (here _ _ _ (room-again _ _ _ _ _ _ (t .take-one-of .ensures) (t .before .before .before .before .before .pre .0))) 0))
+    (next-tried _ _ _ _ _ _ (t .take-one-of .ensures) _ _ (numbered 0) (c .before .if1 .left)
+    (note _ _ _ _ _ _
+    (here _ _ _ (room-again _ _ _ _ _ _ (t .take-one-of .ensures) (t .before .before .before .before .before .pre .0))) 0))
 
 pub take-optional-spec : {M : Type 1} → statement M
 take-optional-spec =

@@ -1,4 +1,5 @@
--- `test_questions::replay_all` meets its contract: each turn is one of those that are left, and what is lent keeps its length. Assumes nothing.
+-- `test_questions::replay_all` meets its contract: each turn is one of those that are left, and what is lent keeps its
+-- length. Assumes nothing.
 use mathlib.Core.Path.{_≡_}
 use Prim.Native.Nat.{_≤_}
 use native.Mathlib.Omega.{arith}
@@ -8,7 +9,8 @@ use Rattle.test_questions.proofs.replay_all.Statement.{statement}
 use Rattle.test_questions.proofs.replay_all.Tie as tie
 
 abbrev Inv-loop : tie.InvT-loop
-Inv-loop block₀ line₀ values₀ p₀ turns₀ block line values p turns = (length block ≡ length block₀) × (length line ≡ length line₀) × (length values ≡ length values₀) × (p .kept ≤ length line₀)
+Inv-loop block₀ line₀ values₀ p₀ turns₀ block line values p turns = (length block ≡ length block₀) × (length line ≡ length line₀)
+    × (length values ≡ length values₀) × (p .kept ≤ length line₀)
 
 abbrev μ-loop : tie.MeasureT-loop
 μ-loop block₀ line₀ values₀ p₀ turns₀ block line values p turns = turns

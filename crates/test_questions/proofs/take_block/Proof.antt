@@ -7,7 +7,8 @@ use Rattle.test_questions.proofs.take_block.Statement.{statement}
 use Rattle.test_questions.proofs.take_block.Tie as tie
 
 abbrev Inv-loop : tie.InvT-loop
-Inv-loop line₀ block values₀ progress₀ i₀ line values progress i = (length line ≡ length line₀) × (length values ≡ length values₀) × (progress .kept ≤ length line₀)
+Inv-loop line₀ block values₀ progress₀ i₀ line values progress i = (length line ≡ length line₀) × (length values ≡ length values₀)
+    × (progress .kept ≤ length line₀)
 
 abbrev μ-loop : tie.MeasureT-loop
 μ-loop line₀ block values₀ progress₀ i₀ line values progress i = length block - i

@@ -8,7 +8,15 @@ abbrev at-bound : tie.After-bound7 → tie.After-bound
 at-bound c = c .before .before .before .before .before .before
 
 returns : tie.Need-returns
-returns c = rw (c .bound7 .ensures, c .before .bound6 .ensures, c .before .before .bound5 .ensures, c .before .before .before .bound4 .ensures, c .before .before .before .before .bound3 .ensures, c .before .before .before .before .before .bound2 .ensures, (at-bound c) .bound .ensures)
+returns c = rw (
+  c .bound7 .ensures,
+  c .before .bound6 .ensures,
+  c .before .before .bound5 .ensures,
+  c .before .before .before .bound4 .ensures,
+  c .before .before .before .before .bound3 .ensures,
+  c .before .before .before .before .before .bound2 .ensures,
+  (at-bound c) .bound .ensures,
+)
 
 pub bounds-spec : {M : Type 1} → statement M
 bounds-spec =

@@ -8,7 +8,15 @@ abbrev at-larger-error : tie.After-larger-error7 → tie.After-larger-error
 at-larger-error c = c .before .before .before .before .before .before
 
 returns : tie.Need-returns
-returns c = rw (c .larger-error7 .ensures, c .before .larger-error6 .ensures, c .before .before .larger-error5 .ensures, c .before .before .before .larger-error4 .ensures, c .before .before .before .before .larger-error3 .ensures, c .before .before .before .before .before .larger-error2 .ensures, (at-larger-error c) .larger-error .ensures)
+returns c = rw (
+  c .larger-error7 .ensures,
+  c .before .larger-error6 .ensures,
+  c .before .before .larger-error5 .ensures,
+  c .before .before .before .larger-error4 .ensures,
+  c .before .before .before .before .larger-error3 .ensures,
+  c .before .before .before .before .before .larger-error2 .ensures,
+  (at-larger-error c) .larger-error .ensures,
+)
 
 pub larger-errors-spec : {M : Type 1} → statement M
 larger-errors-spec =

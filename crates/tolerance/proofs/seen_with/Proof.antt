@@ -10,11 +10,25 @@ returns c = rw (← (c .before .all-within .ensures), c .if1 .taken)
 
 returns-2 : tie.Need-returns-2
 unfolding seenWith
-returns-2 c = let i = c .before .before .before .before in rw (← (i .before .all-within .ensures), i .if1 .left, ← (c .before .before .score .ensures), c .if2 .taken, c .before .before .before .larger-errors .ensures)
+returns-2 c = let i = c .before .before .before .before in
+    rw (
+      ← (i .before .all-within .ensures),
+      i .if1 .left,
+      ← (c .before .before .score .ensures),
+      c .if2 .taken,
+      c .before .before .before .larger-errors .ensures,
+    )
 
 returns-3 : tie.Need-returns-3
 unfolding seenWith
-returns-3 c = let i = c .before .before .before .before in rw (← (i .before .all-within .ensures), i .if1 .left, ← (c .before .before .score .ensures), c .if2 .left, c .before .before .before .larger-errors .ensures)
+returns-3 c = let i = c .before .before .before .before in
+    rw (
+      ← (i .before .all-within .ensures),
+      i .if1 .left,
+      ← (c .before .before .score .ensures),
+      c .if2 .left,
+      c .before .before .before .larger-errors .ensures,
+    )
 
 pub seen-with-spec : {M : Type 1} → statement M
 seen-with-spec =

@@ -13,7 +13,8 @@ use Rattle.tolerance.proofs.total.Statement.{statement}
 use Rattle.tolerance.proofs.total.Tie as tie
 
 abbrev Inv-loop : tie.InvT-loop
-Inv-loop scratch n sums₀ i₀ sums i = (sumsFrom sums (piecesIn (n - i) (drop (i * pieceNumbers) scratch)) ≡ sumsFrom noSums (piecesIn n scratch)) × (i ≤ n)
+Inv-loop scratch n sums₀ i₀ sums i =
+    (sumsFrom sums (piecesIn (n - i) (drop (i * pieceNumbers) scratch)) ≡ sumsFrom noSums (piecesIn n scratch)) × (i ≤ n)
 
 abbrev μ-loop : tie.MeasureT-loop
 μ-loop scratch n sums₀ i₀ sums i = n - i
@@ -32,8 +33,10 @@ loop-less c = omega arith
 
 loop-again : tie.Need-loop-again Inv-loop μ-loop
 loop-again c =
-    let h = c .before .before .loop-test .taken in
-    (rw (c .add-piece .ensures, c .before .read .ensures) (rw (pieces-step _ _ _ h) at (c .before .before .before .loop .inv .0)), omega arith)
+    let h = c .before .before .loop-test .taken in (
+      rw (c .add-piece .ensures, c .before .read .ensures) (rw (pieces-step _ _ _ h) at (c .before .before .before .loop .inv .0)),
+      omega arith,
+    )
 
 returns : tie.Need-returns Inv-loop μ-loop
 returns c =

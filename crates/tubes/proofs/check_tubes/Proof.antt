@@ -10,17 +10,19 @@ use Rattle.tubes.proofs.check_tubes.Tie as tie
 
 returns : tie.Need-returns
 unfolding mountCheck tubeCheck
-returns c = is-answer (rw (
-  c .first-refusal4 .ensures,
-  c .before .refuse-when .ensures,
-  c .before .before .before .first-refusal3 .ensures,
-  c .before .before .before .before .check-wall .ensures,
-  c .before .before .before .before .before .first-refusal2 .ensures,
-  c .before .before .before .before .before .before .check-length2 .ensures,
-  c .before .before .before .before .before .before .before .first-refusal .ensures,
-  c .before .before .before .before .before .before .before .before .check-length .ensures,
-  c .before .before .before .before .before .before .before .before .before .check-mount .ensures,
-)
+returns c =
+    let at-first-refusal2 = c .before .before .before .before .before in
+    is-answer (rw (
+      c .first-refusal4 .ensures,
+      c .before .refuse-when .ensures,
+      c .before .before .before .first-refusal3 .ensures,
+      c .before .before .before .before .check-wall .ensures,
+      c .before .before .before .before .before .first-refusal2 .ensures,
+      at-first-refusal2 .before .check-length2 .ensures,
+      at-first-refusal2 .before .before .first-refusal .ensures,
+      at-first-refusal2 .before .before .before .check-length .ensures,
+      at-first-refusal2 .before .before .before .before .check-mount .ensures,
+    )
     (in-order _ (_ ∷ _ ∷ _ ∷ _ ∷ []) ∙ in-two (_ ∷ _ ∷ _ ∷ _ ∷ []) (_ ∷ _ ∷ _ ∷ _ ∷ [])))
 
 pub check-tubes-spec : {M : Type 1} → statement M

@@ -20,12 +20,16 @@ at-check-count c = c .before .before
 
 returns : tie.Need-returns
 returns c =
-    answer _ _ ((at-check-count (c .before .before .before .before)) .check-count .ensures) (c .before .before .before .before .before .check-length .ensures) (c .before .before .before .before .first-refusal .ensures) (c .before .before .enum-told .given .1)
+    answer _ _ ((at-check-count (c .before .before .before .before)) .check-count .ensures)
+    (c .before .before .before .before .before .check-length .ensures) (c .before .before .before .before .first-refusal .ensures)
+    (c .before .before .enum-told .given .1)
     (c .closed .ensures ∙ ap closedAt (c .before .closing-value .ensures))
 
 returns-2 : tie.Need-returns-2
 returns-2 c =
-    answer _ _ ((at-check-count (c .before .before .before .before)) .check-count .ensures) (c .before .before .before .before .before .check-length .ensures) (c .before .before .before .before .first-refusal .ensures) (c .before .before .verdict .given .1)
+    answer _ _ ((at-check-count (c .before .before .before .before)) .check-count .ensures)
+    (c .before .before .before .before .before .check-length .ensures) (c .before .before .before .before .first-refusal .ensures)
+    (c .before .before .verdict .given .1)
     (c .refused .ensures)
 
 pub closing-radius-m-spec : {M : Type 1} → statement M

@@ -1,4 +1,5 @@
--- `tubes::mass_properties` meets its contract: each arm knows what the checks gave, and a count that they accept is at most 32. Assumes nothing.
+-- `tubes::mass_properties` meets its contract: each arm knows what the checks gave, and a count that they accept is at
+-- most 32. Assumes nothing.
 use borrow.Author.Needs.{needs}
 use mathlib.Core.Path.{sym, ap, _∙_}
 use Rattle.bodies.specs.declared.Body.{Body}
@@ -25,7 +26,8 @@ returns c =
     let set = told .before .before .before .args .set in
     is-answer (by-verdict _ (told .before .before .check-tubes .ensures .is) (told .enum-told .given .1)
     (c .accepted .ensures
-    ∙ ap acceptedBody (c .before .ring .ensures ∙ ap (λ (b : Body). joinedCopies b (set .«base_angle_rad») (set .count)) (tube .tube-at .ensures))))
+    ∙ ap acceptedBody
+    (c .before .ring .ensures ∙ ap (λ (b : Body). joinedCopies b (set .«base_angle_rad») (set .count)) (tube .tube-at .ensures))))
 
 returns-2 : tie.Need-returns-2
 returns-2 c =

@@ -33,7 +33,9 @@ returns c =
     key-alone t k (a .loop .at) (c .before .bar-end .result) (c .before .bar-end .ensures) (v .1) (c .if1 .taken)
 
 add-from : tie.Need-add-from Inv-loop μ-loop
-add-from c = let w = c .before .bar-end .ensures .within in let p = c .before .before .before .before .before .before .pre in
+add-from c =
+    let at-shared-slice-known = c .before .before .before .before .before in
+    let w = c .before .bar-end .ensures .within in let p = at-shared-slice-known .before .pre in
     omega (arith, w, p)
 
 bar-end-requires-2 : tie.Need-bar-end-requires-2 Inv-loop μ-loop
@@ -50,7 +52,8 @@ part-same-bytes-end c = let e = c .before .before .bar-end .ensures in let a = e
 
 returns-2 : tie.Need-returns-2 Inv-loop μ-loop
 returns-2 c =
-    let a = c .before .before .before .before .before .before .before in
+    let at-bar-end = c .before .before .before .before .before in
+    let a = at-bar-end .before .before in
     let s = a .before .before .before in
     let t = now (s .args .table) in
     let k = now (s .args .key) in
@@ -62,7 +65,8 @@ returns-2 c =
 
 returns-3 : tie.Need-returns-3 Inv-loop μ-loop
 returns-3 c =
-    let a = c .before .before .before .before .before .before .before .before in
+    let at-else1 = c .before .before .before .before .before in
+    let a = at-else1 .before .before .before in
     let s = a .before .before .before in
     let t = now (s .args .table) in
     let k = now (s .args .key) in
@@ -74,8 +78,11 @@ returns-3 c =
     (q .bar-end2 .ensures) (v .1) (sym (m .same-bytes .ensures) ∙ c .before .if2 .left) (c .if3 .taken)
 
 add-at : tie.Need-add-at Inv-loop μ-loop
-add-at c = let w = c .before .before .before .before .bar-end2 .ensures .within in
-    let p = c .before .before .before .before .before .before .before .before .before .before .before .pre in omega (arith, w, p)
+add-at c =
+    let at-else1 = c .before .before .before .before .before in
+    let at-shared-slice-known = at-else1 .before .before .before .before .before in
+    let w = c .before .before .before .before .bar-end2 .ensures .within in
+    let p = at-shared-slice-known .before .pre in omega (arith, w, p)
 
 loop-less : tie.Need-loop-less Inv-loop μ-loop
 loop-less c =
@@ -88,7 +95,8 @@ loop-less c =
 
 loop-again : tie.Need-loop-again Inv-loop μ-loop
 loop-again c =
-    let a = c .before .before .before .before .before .before .before .before in
+    let at-else1 = c .before .before .before .before .before in
+    let a = at-else1 .before .before .before in
     let s = a .before .before .before in
     let t = now (s .args .table) in
     let k = now (s .args .key) in

@@ -56,8 +56,9 @@ put-word-requires c κs =
 
 put-end-requires : tie.Need-put-end-requires Inv-loop μ-loop
 put-end-requires c κs =
+    let at-slice-known4 = c .before .before .before .before .before in
     λ h.
-    let w = c .before .before .before .before .before .before .before in
+    let w = at-slice-known4 .before .before in
     let e = w .before .before .before .before .before in
     let a = e .before .before in
     let s = a .before .before .before .before .before in
@@ -74,7 +75,8 @@ put-end-requires c κs =
 
 add-i : tie.Need-add-i Inv-loop μ-loop
 add-i c =
-    let e = c .before .before .before .before .before .before .before .before .before .before .before .before .before .before .before in
+    let at-counts = c .before .before .before .before .before in let at-put-word = at-counts .before .before .before .before .before in
+    let e = at-put-word .before .before .before .before .before in
     let s = e .before .before .before .before .before .before .before in
     let within = e .word-end .ensures .within in
     let p = s .pre .1 .1 in
@@ -82,7 +84,8 @@ add-i c =
 
 loop-less : tie.Need-loop-less Inv-loop μ-loop
 loop-less c =
-    let e = c .before .before .before .before .before .before .before .before .before .before .before .before .before .before .before in
+    let at-counts = c .before .before .before .before .before in let at-put-word = at-counts .before .before .before .before .before in
+    let e = at-put-word .before .before .before .before .before in
     let a = e .before .before in
     let t = e .before .loop-test .taken in
     let behind = e .word-end .ensures .behind in

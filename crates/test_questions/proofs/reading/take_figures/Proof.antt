@@ -24,7 +24,9 @@ same-length : tie.Need-same-length Inv-loop μ-loop
 same-length c = let t = c .before .before .before .before in t .take-one .kept .1 .1 .1 .0 ∙ t .before .before .before .before .loop .inv .2
 
 returns : tie.Need-returns Inv-loop μ-loop
-returns c = c .before .before .before .before .before .before .before .before .loop .inv .0
+returns c =
+    let at-take-one-arg2 = c .before .before .before .before .before in
+    at-take-one-arg2 .before .before .before .loop .inv .0
 
 sub-turns : tie.Need-sub-turns Inv-loop μ-loop
 sub-turns c = omega arith

@@ -48,11 +48,14 @@ part-same-bytes-end c =
     omega arith
 
 take-figures-requires : tie.Need-take-figures-requires Inv-loop μ-loop
-take-figures-requires c κs = let v = c .before .before .before .before .before .before .before .before .before .before .loop .inv in (v .reached, v .room)
+take-figures-requires c κs =
+    let at-else2 = c .before .before .before .before .before in
+    let v = at-else2 .before .before .before .before .before .loop .inv in (v .reached, v .room)
 
 loop-less : tie.Need-loop-less Inv-loop μ-loop
 loop-less c =
-    let n = c .before .before .before .before .before .before .before .before .before in
+    let at-same-bytes = c .before .before .before .before .before in
+    let n = at-same-bytes .before .before .before .before in
     let w = n .next-token .ensures .within (n .before .before .before .before .loop .inv .place) in
     let b = n .next-token .ensures .behind in
     omega arith
@@ -76,11 +79,15 @@ part-take-one-end c =
     omega arith
 
 take-one-requires : tie.Need-take-one-requires Inv-loop μ-loop
-take-one-requires c κs = let v = c .before .before .before .before .before .before .before .before .before .before .before .loop .inv in (v .reached, v .room)
+take-one-requires c κs =
+    let at-same-bytes-arg = c .before .before .before .before .before in
+    let at-in-loop = at-same-bytes-arg .before .before .before .before .before in
+    let v = at-in-loop .before .loop .inv in (v .reached, v .room)
 
 loop-less-2 : tie.Need-loop-less-2 Inv-loop μ-loop
 loop-less-2 c =
-    let n = c .before .before .before .before .before .before .before .before .before .before in
+    let at-else3 = c .before .before .before .before .before in
+    let n = at-else3 .before .before .before .before .before in
     let w = n .next-token .ensures .within (n .before .before .before .before .loop .inv .place) in
     let b = n .next-token .ensures .behind in
     omega arith
