@@ -6,7 +6,7 @@ use lib.Dec.{eqb, ltb}
 use lib.ListN.{length, take}
 use Rattle.tokens.specs.Text.{text}
 use Rattle.tokens.specs.Tokens.{lineBytes}
-use Rattle.tokens.specs.TokenRange.{part}
+use Rattle.tokens.specs.Found.{part}
 use Rattle.tokens.specs.declared.TokenRange.{TokenRange}
 use Rattle.counts.specs.Counts.{countText}
 use Rattle.templates.specs.Matching.{cutAtBars}

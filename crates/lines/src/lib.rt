@@ -288,14 +288,29 @@ fn request_reply(
     let rest = reading::behind(values, BODY_NUMBERS);
     match asked {
         Asked::Refused(refusal) => refused_reply(refusal),
-        Asked::Set(limit, set, points) => set_reply(limit, set, points, values, scratch),
-        Asked::Area(limit, fin, points) => area_reply(limit, fin, points, values, scratch),
+        Asked::Set { limit, set, points } => set_reply(limit, set, points, values, scratch),
+        Asked::Area {
+            limit,
+            planform,
+            points,
+        } => area_reply(limit, planform, points, values, scratch),
         Asked::Join => body_reply(Shape::Joined, requests::join_points(values)),
         Asked::Moments => moments_reply(requests::tensor_moments(values)),
         Asked::Check => plain_reply(requests::body_verdict(values), Shape::Sound),
-        Asked::Tubes(set, radius) => body_reply(Shape::Ring, tubes::mass_properties(set, radius)),
-        Asked::Closing(count, radius) => closing_reply(tubes::closing_radius_m(radius, count)),
-        Asked::Drill(fin, points, x, height) => drill_reply(fin, points, x, height, values),
+        Asked::Tubes { set, body_radius_m } => body_reply(
+            Shape::Ring,
+            tubes::mass_properties(set, body_radius_m),
+        ),
+        Asked::Closing {
+            count,
+            body_radius_m,
+        } => closing_reply(tubes::closing_radius_m(body_radius_m, count)),
+        Asked::Drill {
+            planform,
+            points,
+            x_m,
+            height_m,
+        } => drill_reply(planform, points, x_m, height_m, values),
         Asked::Copied => body_reply(Shape::Body, requests::copied_by(body, rest)),
         Asked::Placed => body_reply(Shape::Body, requests::placed_by(body, rest)),
         Asked::Moved => {
@@ -304,17 +319,22 @@ fn request_reply(
             body_reply(Shape::Body, requests::moved_by(body, part, offset))
         }
         Asked::Without => body_reply(Shape::Body, requests::without_by(body, rest)),
-        Asked::Submit(screen, limit, set, points) => {
+        Asked::Submit {
+            screen,
+            limit,
+            set,
+            points,
+        } => {
             let outline = reading::first(values, points);
             let reply = lent_engines::submit(numbers, counts, screen, set, outline, limit);
             taken_reply(reply)
         }
-        Asked::Density(screen, density) => {
+        Asked::Density { screen, density } => {
             let reply = lent_engines::change_density(numbers, counts, screen, density);
             taken_reply(reply)
         }
         Asked::Turn => turn_reply(scratch, numbers, counts),
-        Asked::Progress(screen) => {
+        Asked::Progress { screen } => {
             progress_reply(lent_engines::progress_at(numbers, counts, screen))
         }
     }

@@ -8,7 +8,7 @@ use lib.Ieee.{Float}
 use Rattle.refusals.specs.declared.Refusal.{Refusal}
 use Rattle.refusals.specs.declared.Refusal.the-variants.{NoForm as noForm, NoFigure as noFigure}
 use Rattle.tokens.specs.Tokens.{tokens}
-use Rattle.tokens.specs.TokenRange.{part}
+use Rattle.tokens.specs.Found.{part}
 use Rattle.tokens.specs.declared.TokenRange.{TokenRange}
 use Rattle.templates.specs.declared.Cursor.{Cursor}
 use Rattle.reading.specs.declared.Asked.{Asked}

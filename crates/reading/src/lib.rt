@@ -48,30 +48,51 @@ const WITHOUT: [u8; 115] =
 // to join, a tensor, bodies and places are all of its figures.
 pub enum Asked {
     Refused(Refusal),
-    // limit, set, points
-    Set(usize, FinSet, usize),
-    // limit, planform, points
-    Area(usize, Planform, usize),
+    Set {
+        limit: usize,
+        set: FinSet,
+        points: usize,
+    },
+    Area {
+        limit: usize,
+        planform: Planform,
+        points: usize,
+    },
     Join,
     Moments,
     Check,
-    // the ring, and the body's radius in metres
-    Tubes(TubeFinSet, f64),
-    // how many tubes, and the body's radius in metres
-    Closing(usize, f64),
-    // planform, points, and the point's x and height in metres
-    Drill(Planform, usize, f64, f64),
+    Tubes {
+        set: TubeFinSet,
+        body_radius_m: f64,
+    },
+    Closing {
+        count: usize,
+        body_radius_m: f64,
+    },
+    Drill {
+        planform: Planform,
+        points: usize,
+        x_m: f64,
+        height_m: f64,
+    },
     Copied,
     Placed,
     Moved,
     Without,
-    // screen, limit, set, points
-    Submit(usize, usize, FinSet, usize),
-    // screen, density
-    Density(usize, Density),
+    Submit {
+        screen: usize,
+        limit: usize,
+        set: FinSet,
+        points: usize,
+    },
+    Density {
+        screen: usize,
+        density: Density,
+    },
     Turn,
-    // screen
-    Progress(usize),
+    Progress {
+        screen: usize,
+    },
 }
 
 // A line that was read: what it asks, and how many figures it has, which stand at the start of a lent slice.
@@ -264,7 +285,11 @@ fn set_asked(p: SetParts, figures: &[f64]) -> Asked
     ensures { λ r. ⌜ r ≡ setAsked (p .limit) (p .points) (setOf p (now (figures .entry))) ⌝ }
 {
     match set_in(p, figures) {
-        NumberedSet::Known(set) => Asked::Set(p.limit, set, p.points),
+        NumberedSet::Known(set) => Asked::Set {
+            limit: p.limit,
+            set,
+            points: p.points,
+        },
         NumberedSet::Unknown => Asked::Refused(Refusal::NoForm),
     }
 }
@@ -273,7 +298,12 @@ fn submit_asked(screen: usize, p: SetParts, figures: &[f64]) -> Asked
     ensures { λ r. ⌜ r ≡ submitAsked screen (p .limit) (p .points) (setOf p (now (figures .entry))) ⌝ }
 {
     match set_in(p, figures) {
-        NumberedSet::Known(set) => Asked::Submit(screen, p.limit, set, p.points),
+        NumberedSet::Known(set) => Asked::Submit {
+            screen,
+            limit: p.limit,
+            set,
+            points: p.points,
+        },
         NumberedSet::Unknown => Asked::Refused(Refusal::NoForm),
     }
 }
@@ -282,7 +312,11 @@ fn area_asked(limit: usize, planform: usize, points: usize, figures: &[f64]) -> 
     ensures { λ r. ⌜ r ≡ areaAsked limit points (planformOf planform (now (figures .entry))) ⌝ }
 {
     match planform_in(planform, figures) {
-        NumberedPlanform::Known(planform) => Asked::Area(limit, planform, points),
+        NumberedPlanform::Known(planform) => Asked::Area {
+            limit,
+            planform,
+            points,
+        },
         NumberedPlanform::Unknown => Asked::Refused(Refusal::NoForm),
     }
 }
@@ -294,7 +328,12 @@ fn drill_asked(planform: usize, points: usize, figures: &[f64]) -> Asked
     let point = behind(figures, points);
     match planform_in(planform, figures) {
         NumberedPlanform::Known(planform) => {
-            Asked::Drill(planform, points, figure(point, 0), figure(point, 1))
+            Asked::Drill {
+                planform,
+                points,
+                x_m: figure(point, 0),
+                height_m: figure(point, 1),
+            }
         }
         NumberedPlanform::Unknown => Asked::Refused(Refusal::NoForm),
     }
@@ -306,8 +345,8 @@ fn tubes_asked(count: usize, density: usize, figures: &[f64]) -> Asked
         r ≡ tubesAsked count (numberedDensity density (at (now (figures .entry)) 5)) (now (figures .entry)) ⌝ }
 {
     match materials::numbered_density(density, figure(figures, 5)) {
-        NumberedDensity::Known(density) => Asked::Tubes(
-            TubeFinSet {
+        NumberedDensity::Known(density) => Asked::Tubes {
+            set: TubeFinSet {
                 count,
                 length_m: figure(figures, 0),
                 outer_radius_m: figure(figures, 1),
@@ -315,8 +354,8 @@ fn tubes_asked(count: usize, density: usize, figures: &[f64]) -> Asked
                 base_angle_rad: figure(figures, 3),
                 density,
             },
-            figure(figures, 4),
-        ),
+            body_radius_m: figure(figures, 4),
+        },
         NumberedDensity::Unknown => Asked::Refused(Refusal::NoForm),
     }
 }
@@ -325,7 +364,7 @@ fn density_asked(screen: usize, density: usize, figures: &[f64]) -> Asked
     ensures { λ r. ⌜ r ≡ densityAsked screen (numberedDensity density (at (now (figures .entry)) 0)) ⌝ }
 {
     match materials::numbered_density(density, figure(figures, 0)) {
-        NumberedDensity::Known(density) => Asked::Density(screen, density),
+        NumberedDensity::Known(density) => Asked::Density { screen, density },
         NumberedDensity::Unknown => Asked::Refused(Refusal::NoForm),
     }
 }
@@ -462,7 +501,7 @@ fn read_progress(line: &[u8], values: &mut [f64]) -> Line
     ensures { λ r. ⌜ Reads (now (values .exit)) r (progressRead (now (line .entry))) ⌝ }
 {
     let all = templates::take_text(line, templates::line_start(), b"(progress N)", values);
-    end_form(line, all, Asked::Progress(all.number))
+    end_form(line, all, Asked::Progress { screen: all.number })
 }
 
 fn read_closing(line: &[u8], values: &mut [f64]) -> Line
@@ -477,7 +516,14 @@ fn read_closing(line: &[u8], values: &mut [f64]) -> Line
     );
     let n = all.figures;
     let body_radius_m = figure(&values[..n], 0);
-    end_form(line, all, Asked::Closing(all.number, body_radius_m))
+    end_form(
+        line,
+        all,
+        Asked::Closing {
+            count: all.number,
+            body_radius_m,
+        },
+    )
 }
 
 // A form that has figures alone, in one text.

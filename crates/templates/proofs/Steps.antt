@@ -14,7 +14,7 @@ use Rattle.counts.specs.declared.Count.the-variants.{Whole, NotCount}
 use Rattle.counts.specs.Counts.{countOf, cappedCount}
 use Rattle.tokens.specs.Text.{text, codes}
 use Rattle.tokens.specs.Tokens.{tokens}
-use Rattle.tokens.specs.TokenRange.{part, IsFound}
+use Rattle.tokens.specs.Found.{part, IsFound}
 use Rattle.tokens.specs.declared.TokenRange.{TokenRange}
 use Rattle.figure_words.specs.FigureWords.{figureWord}
 use Rattle.figure_words.proofs.RoundTrip.{figure-has-a-byte}

@@ -11,7 +11,7 @@ use Rattle.counts.specs.declared.Count.the-variants.{Whole, NotCount}
 use Rattle.counts.specs.Counts.{countOf, cappedCount}
 use Rattle.tokens.specs.Text.{text}
 use Rattle.tokens.specs.Tokens.{lineBytes, tokens}
-use Rattle.tokens.specs.TokenRange.{part}
+use Rattle.tokens.specs.Found.{part}
 use Rattle.tokens.specs.declared.TokenRange.{TokenRange}
 use Rattle.templates.specs.Matching.{Taken, Reading, failed, reading, pick, sameBytes, cutAtBars}
 use Rattle.templates.specs.declared.Cursor.{Cursor}

@@ -9,7 +9,7 @@ ghost use Prim.Native.Nat.{_≤_};
 ghost use lib.ListN.{length, drop};
 ghost use Rattle.counts.specs.Counts.{countOf, cappedCount};
 ghost use Rattle.tokens.specs.Tokens.{lineBytes, tokens};
-ghost use Rattle.tokens.specs.TokenRange.{part};
+ghost use Rattle.tokens.specs.Found.{part};
 ghost use Rattle.templates.specs.Matching.{sameBytes, isWordByte, isWord, takeWord, takeOne, takeFigures};
 ghost use Rattle.templates.specs.Matching.{takeText, takeEach, oneOf, optional, cutAtBars};
 ghost use Rattle.templates.specs.Cursors.{takenBefore, Room, ReadsOn, Takes, IsWordAt, lineStart, notAForm, onTo};

@@ -137,10 +137,14 @@ fn print_run(line: &[u8], values: &mut [f64], scratch: &mut [f64], out: &mut [u8
     let read = reading::read_line(line, values);
     let asked = read.asked;
     match asked {
-        Asked::Set(limit, set, points) => {
+        Asked::Set { limit, set, points } => {
             print_set(set, reading::first(values, points), limit, scratch, out)
         }
-        Asked::Area(limit, planform, points) => print_area(
+        Asked::Area {
+            limit,
+            planform,
+            points,
+        } => print_area(
             planform,
             reading::first(values, points),
             limit,

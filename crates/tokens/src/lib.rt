@@ -4,7 +4,7 @@ ghost use mathlib.Core.Path.{_≡_};
 ghost use Prim.Native.Nat.{_≤_};
 ghost use lib.ListN.{length};
 ghost use Rattle.tokens.specs.Tokens.{endsWord, tokens};
-ghost use Rattle.tokens.specs.TokenRange.{IsFound, IsWordEnd, IsPastSpaces};
+ghost use Rattle.tokens.specs.Found.{IsFound, IsWordEnd, IsPastSpaces};
 
 // How many bytes a line may have.
 pub const LINE_BYTES: usize = 4096;

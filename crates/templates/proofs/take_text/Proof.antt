@@ -10,7 +10,7 @@ use denote.Ref.{now}
 use lib.ListN.{length, take, drop}
 use lib.Ieee.{Float}
 use Rattle.tokens.specs.Tokens.{tokens}
-use Rattle.tokens.specs.TokenRange.{part, IsFound}
+use Rattle.tokens.specs.Found.{part, IsFound}
 use Rattle.tokens.specs.declared.TokenRange.{TokenRange}
 use Rattle.tokens.proofs.Bytes.{at-end}
 use Rattle.templates.specs.Matching.{Reading, failed, reading, pick, sameBytes, takeOne, takeFigures, takeToken, takeTokens, takeText}
