@@ -320,7 +320,7 @@ fn write_help() {
         b"card",
         b"usage: card < LINES\n\
         Answers each line of standard input on standard output: figures, or (refused N).\n\
-        card --help prints this, card --version the version; card(1) and FORMS.md have the forms.\n",
+        --help prints this, --version the version; see card(1) and FORMS.md.\n",
     );
 }
 

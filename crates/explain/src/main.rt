@@ -9,7 +9,7 @@ fn write_help() {
         b"explain",
         b"usage: explain < LINES\n\
         Says of each line to the card program, in a sentence, why it is refused, or that it is accepted.\n\
-        explain --help prints this, explain --version the version; explain(1) says more.\n",
+        --help prints this, --version the version; explain(1) says more.\n",
     );
 }
 

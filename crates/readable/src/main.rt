@@ -9,7 +9,7 @@ fn write_help() {
         b"readable",
         b"usage: card < LINES | readable\n\
         Shows each answer of the card program as a block of text for people.\n\
-        readable --help prints this, readable --version the version; readable(1) says more.\n",
+        --help prints this, --version the version; readable(1) says more.\n",
     );
 }
 
