@@ -1,6 +1,5 @@
 -- Where nothing is turned, nine numbers stay symmetric bit for bit, so that six lose nothing: each operation on the
--- nine of a tensor gives the
--- nine of what the operation on its six gives. Assumes nothing.
+-- nine of a tensor gives the nine of what the operation on its six gives. Assumes nothing.
 use mathlib.Core.Path.{_≡_, refl, ap}
 use lib.Ieee.{Float}
 use Rattle.floats.proofs.Commuted.{times-commuted}

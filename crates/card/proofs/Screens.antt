@@ -1,6 +1,5 @@
 -- Lines leave the engine as the calls that they ask for leave it; so a screen that holds a job when lines begin is
--- served within eight of their turns,
--- whatever the other lines are. Assumes nothing.
+-- served within eight of their turns, whatever the other lines are. Assumes nothing.
 use mathlib.Core.Bool.{Bool, true, false, cond}
 use mathlib.Core.List.{List, [], _∷_, _++_}
 use mathlib.Core.Path.{_≡_, refl, sym, ap, _∙_}

@@ -1,6 +1,5 @@
 -- An edge with both ends at most lo, or both above hi, is crossed at no height from lo to hi; so the edges that are
--- left have every crossing
--- there. A NaN is below nothing and above nothing, and crosses nothing. Assumes nothing.
+-- left have every crossing there. A NaN is below nothing and above nothing, and crosses nothing. Assumes nothing.
 use mathlib.Core.Path.{_≡_, refl, sym, ap, _∙_}
 use mathlib.Core.Bool.{Bool, true, false, _&&_, _||_, cond}
 use mathlib.Core.List.{List, [], _∷_}

@@ -1,6 +1,5 @@
 -- Which coordinates are whole numbers of steps: of a trapezoid its own four, since the tip's end is whole where sweep
--- and tip are; of a list its first
--- and those behind it. Assumes nothing.
+-- and tip are; of a list its first and those behind it. Assumes nothing.
 use mathlib.Core.Path.{_≡_, refl, sym, ap, _∙_}
 use mathlib.Core.Bool.{Bool, true, false, not, _&&_}
 use mathlib.Core.List.{List, [], _∷_, map}

@@ -1,6 +1,5 @@
 -- A call on a screen's job is the job's own call, and no other call touches the job: so its answers on the screen are
--- those it gives alone. By cases of the call,
--- then by induction over the calls. Assumes nothing.
+-- those it gives alone. By cases of the call, then by induction over the calls. Assumes nothing.
 use mathlib.Core.Path.{_≡_, refl, sym, ap, subst, _∙_}
 use mathlib.Core.Bool.{Bool, true, false, not, cond, _&&_, true≢false}
 use mathlib.Core.List.{List, [], _∷_, _++_}

@@ -1,6 +1,6 @@
 -- A waiting screen is served within eight turns that count. The next screen lies no further behind the last served than
--- the waiting one, so that with each turn
--- that serves another the waiting one is nearer, and only its own turn takes its job away. By induction over the calls. Assumes nothing.
+-- the waiting one, so that with each turn that serves another the waiting one is nearer, and only its own turn takes
+-- its job away. By induction over the calls. Assumes nothing.
 use mathlib.Core.Path.{_≡_, refl, sym, ap, subst, _∙_}
 use mathlib.Core.Bool.{Bool, true, false, cond, _&&_, true≢false}
 use mathlib.Core.List.{List, [], _∷_, _++_}

@@ -1,6 +1,6 @@
 -- Every job that the engine holds was submitted, and the turn that serves it goes on, or ends it as a fresh run ends: a
--- job on its screen is the job alone, of which
--- jobs/proofs/Together speaks. By cases of the call, then by induction over the calls. Assumes nothing.
+-- job on its screen is the job alone, of which jobs/proofs/Together speaks. By cases of the call, then by induction
+-- over the calls. Assumes nothing.
 use mathlib.Core.Path.{_≡_, refl, sym, ap, subst, _∙_}
 use mathlib.Core.Bool.{Bool, true, false, not, cond, _&&_, true≢false}
 use mathlib.Core.List.{List, [], _∷_, _++_, append-nil, append-assoc}

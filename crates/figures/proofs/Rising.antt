@@ -1,6 +1,5 @@
 -- The runs of every set and every planform that passed the checks are bounded: so their pieces rise, and their samples
--- and the numbers worked from
--- these are finite. Assumes nothing.
+-- and the numbers worked from these are finite. Assumes nothing.
 use mathlib.Core.Path.{_≡_}
 use mathlib.Core.List.{List}
 use Prim.Native.Nat.{ℕ, _≤_}

@@ -1,6 +1,6 @@
 -- Where a rounded operation changes nothing: an f64 rounds to itself, since it is a whole number of units below 2 ^ 53
--- times a power of two and
--- no other f64 of its sign has as many units. Times 1, over itself, times, plus and minus 0 follow. Assumes nothing.
+-- times a power of two and no other f64 of its sign has as many units. Times 1, over itself, times, plus and minus 0
+-- follow. Assumes nothing.
 use mathlib.Core.Path.{_≡_, refl, sym, ap, _∙_}
 use mathlib.Core.Bool.{Bool, true, false, _&&_, cond, true≢false}
 use Prim.Native.Nat.{ℕ, zero, suc, _+_, _-_, _*_, _%_, _/_, _^_, _<_, compare}

@@ -1,6 +1,5 @@
 -- Sorted by start, the pieces are those of a cover from its lower end to its upper, where these rise: of the places
--- from m on, which the cover
--- has in the order of their starts, each goes in before the ones behind it. Assumes nothing.
+-- from m on, which the cover has in the order of their starts, each goes in before the ones behind it. Assumes nothing.
 use mathlib.Core.Path.{_≡_, refl, sym, ap, _∙_, subst}
 use mathlib.Core.Logic.{⊎-elim}
 use mathlib.Core.Bool.{Bool, true, false, cond}

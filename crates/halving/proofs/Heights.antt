@@ -1,7 +1,6 @@
 -- What holds of every piece and every height of a halving whose ends are at most 2^26 and in order: each cut lies
--- between its parent's ends, so
--- no piece reaches further than the strip, and no height is over 2^28. So the samples are finite where those at such
--- heights are. Assumes nothing.
+-- between its parent's ends, so no piece reaches further than the strip, and no height is over 2^28. So the samples are
+-- finite where those at such heights are. Assumes nothing.
 use mathlib.Core.Path.{_≡_, refl}
 use mathlib.Core.Bool.{Bool, true, false, cond}
 use mathlib.Core.List.{List, [], _∷_, _++_}

@@ -1,6 +1,6 @@
 -- The values and errors of a halving's pieces are at most 2^743, and a component's sum over at most 2^12 pieces at most
--- 2^755, where the samples at
--- heights of at most 2^28 are at most 2^700 and the strip's ends are at most 2^26 and in order. Assumes nothing.
+-- 2^755, where the samples at heights of at most 2^28 are at most 2^700 and the strip's ends are at most 2^26 and in
+-- order. Assumes nothing.
 use mathlib.Core.Path.{_≡_, sym, subst}
 use mathlib.Core.List.{List, [], _∷_}
 use Prim.Native.Nat.{ℕ, suc, _+_, _*_, _^_, _≤_, _<_}

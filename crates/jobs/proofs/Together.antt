@@ -1,6 +1,6 @@
 -- What holds over any calls on a job together. The record is at each point that of the strips worked so far and the
--- density accepted last; no strip
--- looks at the density, so a change keeps the strips. By induction over the calls. Assumes nothing.
+-- density accepted last; no strip looks at the density, so a change keeps the strips. By induction over the calls.
+-- Assumes nothing.
 use mathlib.Core.Path.{_≡_, refl, sym, ap, ap₂, subst, _∙_}
 use mathlib.Core.Bool.{Bool, true, false, not, cond, _&&_, true≢false}
 use mathlib.Core.List.{List, [], _∷_, _++_, append-nil, append-assoc}

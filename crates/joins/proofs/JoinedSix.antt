@@ -1,6 +1,5 @@
 -- The tensors of bodies about one centre, summed by nine numbers as document 01 has them, are symmetric bit for bit,
--- and the six of the join
--- stand in them. Assumes nothing.
+-- and the six of the join stand in them. Assumes nothing.
 use mathlib.Core.Path.{_≡_}
 use Prim.Native.Nat.{ℕ, zero, suc}
 use Rattle.bodies.specs.declared.Body.{Body}

@@ -1,6 +1,5 @@
 -- What lists hold is an engine of eight screens, and one that began with zeros holds only jobs that were submitted: so
--- what holds over any calls together
--- (engines/specs/Calls) holds of an engine in lent memory. Assumes nothing.
+-- what holds over any calls together (engines/specs/Calls) holds of an engine in lent memory. Assumes nothing.
 use mathlib.Core.Path.{_≡_, refl, ap, _∙_}
 use mathlib.Core.Bool.{Bool, false, _&&_}
 use mathlib.Core.List.{List}

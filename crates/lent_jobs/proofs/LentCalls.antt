@@ -1,7 +1,6 @@
--- A call on the job that two lent lists hold: the job is read into a local, lent from there to the call, and written back. Which call it
--- is, what else it is handed (In), what it answers (τR) and what it leaves (Out) are variables. These are the three
--- premises of the walks in `Walks`. Assumes
--- nothing.
+-- A call on the job that two lent lists hold: the job is read into a local, lent from there to the call, and written
+-- back. Which call it is, what else it is handed (In), what it answers (τR) and what it leaves (Out) are variables.
+-- These are the three premises of the walks in `Walks`. Assumes nothing.
 use mathlib.Core.Path.{_≡_, refl, sym, ap, subst}
 use Prim.Native.Nat.{ℕ}
 use mathlib.Core.List.{List, [], _∷_}

@@ -1,6 +1,5 @@
 -- The Rust's first step takes the means of opposite entries. Of six numbers that 17a lets pass it changes nothing: half
--- the sum of a number and
--- itself is that number, bit for bit. Assumes nothing.
+-- the sum of a number and itself is that number, bit for bit. Assumes nothing.
 use mathlib.Core.Path.{_≡_, refl, sym, ap, _∙_}
 use mathlib.Core.Bool.{Bool, true, false, not}
 use Prim.Native.Nat.{ℕ, _<_}

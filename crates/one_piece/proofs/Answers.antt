@@ -1,6 +1,5 @@
 -- A trapezoid that passes the checks, tip and sweep within so many root chords, is worked in one piece by 15 samples,
--- and is never refused 13.
--- Assumes nothing.
+-- and is never refused 13. Assumes nothing.
 use mathlib.Core.Path.{_≡_, refl, sym, ap, _∙_, subst}
 use mathlib.Core.Bool.{Bool, true, false}
 use mathlib.Core.Logic.{inl, inr}

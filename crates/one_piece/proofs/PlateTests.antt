@@ -1,7 +1,6 @@
 -- The tests of a plate's seven components, by sizes alone: tip up to 2 root chords (square) or 1 (airfoils), sweep from
--- 0 to 4. Those of M_2 and
--- r·M_1 go by cases, sweep from 0 to 1, 1 to 2 and 2 to 4. The radius is up to the span (near) or from it on (far); where it does not count
--- (free) the span stands in its place. Assumes nothing.
+-- 0 to 4. Those of M_2 and r·M_1 go by cases, sweep from 0 to 1, 1 to 2 and 2 to 4. The radius is up to the span (near)
+-- or from it on (far); where it does not count (free) the span stands in its place. Assumes nothing.
 use mathlib.Core.List.{List, [], _∷_}
 use Prim.Native.Nat.{ℕ, _*_, _^_}
 use lib.Dec.{T}

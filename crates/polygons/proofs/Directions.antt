@@ -1,6 +1,6 @@
 -- Where a point lies does not hang on the direction in which the corners are given: each edge is an edge of the other
--- polygon with its ends exchanged,
--- a point lies on one where it does on the other, and one is cut where the other is. The nearest corner is as far. Assumes nothing.
+-- polygon with its ends exchanged, a point lies on one where it does on the other, and one is cut where the other is.
+-- The nearest corner is as far. Assumes nothing.
 use mathlib.Core.Bool.{Bool, true, false, cond, _&&_, _||_}
 use mathlib.Core.List.{List}
 use mathlib.Core.Path.{_≡_, refl, sym, ap, subst, _∙_}

@@ -1,6 +1,5 @@
 -- The heights of a piece: there are fifteen, and they are at most 2^28, with its ends at most 2^26. Where each
--- component of a sample is bounded,
--- it is finite. Assumes nothing.
+-- component of a sample is bounded, it is finite. Assumes nothing.
 use mathlib.Core.Path.{_≡_, refl}
 use mathlib.Core.Bool.{true}
 use mathlib.Core.List.{List, [], _∷_, _++_}

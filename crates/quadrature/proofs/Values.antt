@@ -1,6 +1,5 @@
 -- A piece's values and errors are at most 2^743, where its ends are at most 2^26 and each component of the samples at
--- heights of at most 2^28 is at
--- most 2^700. Assumes nothing.
+-- heights of at most 2^28 is at most 2^700. Assumes nothing.
 use mathlib.Core.Path.{_≡_, refl, subst}
 use mathlib.Core.Bool.{Bool, true, false, cond}
 use mathlib.Core.List.{List}

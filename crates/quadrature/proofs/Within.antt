@@ -1,6 +1,5 @@
 -- The least and the largest of a piece's heights, height by height: of those asked none is below the one, or above the
--- other. The order of f64s
--- alone says so, NaNs too, which are below nothing. Assumes nothing.
+-- other. The order of f64s alone says so, NaNs too, which are below nothing. Assumes nothing.
 use mathlib.Core.Path.{_≡_, refl, sym, _∙_}
 use mathlib.Core.Bool.{Bool, true, false, cond}
 use mathlib.Core.List.{List}

@@ -1,7 +1,6 @@
 -- Exact numbers as proofs take them, and how far an f64 is from one. A number is a difference of two whole numbers over
--- a third, so that what is
--- said of numbers is said by sums and products of whole numbers, of which `omega` decides; proofs/Fractions takes it to
--- floats/specs/Fractions.
+-- a third, so that what is said of numbers is said by sums and products of whole numbers, of which `omega` decides;
+-- proofs/Fractions takes it to floats/specs/Fractions.
 use mathlib.Core.Path.{_≡_}
 use Prim.Native.Nat.{ℕ, _+_, _*_, _^_, _≤_, _<_}
 use mathlib.Core.Bool.{true, false}

@@ -1,6 +1,5 @@
 -- Equal polynomials of numbers by one computed test: `polynomials-equal`. A polynomial is brought to a sum of products
--- of variables, each product with
--- one factor (p − n)/(d + 1). Assumes nothing.
+-- of variables, each product with one factor (p − n)/(d + 1). Assumes nothing.
 use mathlib.Core.Path.{_≡_, refl, sym, ap, subst}
 use mathlib.Core.Bool.{Bool, true, false, _&&_, cond}
 use mathlib.Core.List.{List, [], _∷_}

@@ -1,6 +1,5 @@
 -- The first digits of a number, rounded by the digit behind them and by whether there is more, are the nearest; and
--- they are those of as many
--- units. Assumes nothing.
+-- they are those of as many units. Assumes nothing.
 use mathlib.Core.List.{List}
 use mathlib.Core.Path.{_≡_, refl, sym, ap, subst, _∙_}
 use mathlib.Core.Bool.{Bool, true, false, cond}

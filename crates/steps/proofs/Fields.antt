@@ -1,6 +1,6 @@
 -- What a bit pattern's fields say of a length's magnitude: from 2^-20 to 64 m it is 2^1054 to 2^1080 units, so the
--- exponent field is 1003 to 1029, and a
--- step is 2^(1055 - field) units of the last of its 53 binary digits. Assumes nothing.
+-- exponent field is 1003 to 1029, and a step is 2^(1055 - field) units of the last of its 53 binary digits. Assumes
+-- nothing.
 use mathlib.Core.Path.{_≡_, refl, sym, ap, subst, _∙_}
 use mathlib.Core.Bool.{Bool, true, false, _&&_}
 use Prim.Native.Nat.{ℕ, zero, suc, _+_, _-_, _*_, _/_, _%_, _^_, _≤_, _<_}

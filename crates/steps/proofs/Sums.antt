@@ -1,6 +1,5 @@
 -- Whole numbers of steps: a sum of two is one, with the sum of their counts; and where a sum and one part of it are, so
--- is the other part. Each is its
--- count times the units of a step. Assumes nothing.
+-- is the other part. Each is its count times the units of a step. Assumes nothing.
 use mathlib.Core.Path.{_≡_, refl, sym, ap, subst, _∙_}
 use mathlib.Core.Bool.{Bool, true, false}
 use Prim.Native.Nat.{ℕ, zero, suc, _*_, _/_, _%_, _^_, _<_}

@@ -1,7 +1,6 @@
 -- The pieces of every strip rise, its samples are finite, and so are the values, errors and integrals worked from them:
--- of a run between break
--- heights of at most 2^6 that rise, over a scale of at least 2^-20, whose samples at heights of at most 2^28 are at
--- most 2^700. Assumes nothing.
+-- of a run between break heights of at most 2^6 that rise, over a scale of at least 2^-20, whose samples at heights of
+-- at most 2^28 are at most 2^700. Assumes nothing.
 use mathlib.Core.Path.{_≡_, subst}
 use mathlib.Core.List.{List, [], _∷_}
 use Prim.Native.Nat.{ℕ, suc, _+_, _*_, _^_, _≤_, _<_}

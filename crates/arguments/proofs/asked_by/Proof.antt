@@ -17,7 +17,7 @@ returns-2 c =
     let n = c .before .before .before .args .count in
     rw (le-leb 2 n (omega arith), lt-leb n 2 (c .if2 .taken))
 
--- places that the needs go back to
+-- The needs below go back to these places.
 abbrev the-start : tie.After-same-bytes → tie.Start
 the-start c = c .before .before .before .before .before
 

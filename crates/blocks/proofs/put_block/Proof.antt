@@ -25,7 +25,7 @@ slice-aggregate-put-shown c =
     let l = a .read-answer .kept .1 .0 in
     sym (length-take-le (a .read-answer .result .bytes) (a .read-answer .last .1 .0) (omega (arith, h, b, l)))
 
--- places that the needs go back to
+-- The needs below go back to these places.
 abbrev at-read-answer : tie.After-figures3 → tie.After-read-answer
 at-read-answer c = c .before .before .before .before .before .before
 

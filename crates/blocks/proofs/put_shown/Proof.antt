@@ -13,7 +13,7 @@ use Rattle.blocks.proofs.put_shown.Tie as tie
 slice-aggregate-put-from : tie.Need-slice-aggregate-put-from
 slice-aggregate-put-from c = search needs
 
--- places that the needs go back to
+-- The needs below go back to these places.
 abbrev the-start : tie.After-put-from-arg2 → tie.Start
 the-start c = c .before .before .before .before .before .before
 

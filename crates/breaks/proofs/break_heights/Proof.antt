@@ -31,7 +31,7 @@ insert-requires-2 c κs =
     let b = within (a .planform) (a .points .now) _ _ (put .put-heights .ensures) in
     omega arith
 
--- places that the needs go back to
+-- The needs below go back to these places.
 abbrev at-put-heights : tie.After-all6 → tie.After-put-heights
 at-put-heights c = c .before .before .before .before .before .before .before
 

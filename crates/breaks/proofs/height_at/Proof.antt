@@ -10,7 +10,7 @@ use Rattle.breaks.proofs.height_at.Tie as tie
 returns-2 : tie.Need-returns-2
 returns-2 c = c .span-m .ensures ∙ rw (c .before .if2 .taken)
 
--- places that the needs go back to
+-- The needs below go back to these places.
 abbrev the-start : tie.After-outline-height-at → tie.Start
 the-start c = c .before .before .before .before .before .before
 

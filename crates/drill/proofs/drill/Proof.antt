@@ -31,7 +31,7 @@ accepted : (c : tie.After-enum-told) → let a = c .before .before .before .befo
     before (a .planform) (now (a .points)) (a .x-m) (a .height-m) ≡ Accepted
 accepted c = sym (told (c .before .before)) ∙ c .enum-told .given .1
 
--- places that the needs go back to
+-- The needs below go back to these places.
 abbrev start-from-first-refusal2 : tie.After-first-refusal2 → tie.Start
 start-from-first-refusal2 c = c .before .before .before .before .before .before
 

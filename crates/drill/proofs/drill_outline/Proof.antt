@@ -42,7 +42,7 @@ returns c = refused _ _ _ (tested (c .before)) (c .if1 .taken)
 steps-of-requires : tie.Need-steps-of-requires
 steps-of-requires c κs = (drawn (c .before .before .before .before .before), c .before .before .before .before .before .pre .1)
 
--- places that the needs go back to
+-- The needs below go back to these places.
 abbrev the-start : tie.After-corners → tie.Start
 the-start c = c .before .before .before .before .before .before .before
 

@@ -69,7 +69,7 @@ tip-whole c =
       sym (t .before .is-whole5 .ensures) ∙ both .1,
     )
 
--- places that the needs go back to
+-- The needs below go back to these places.
 abbrev the-start : tie.Else1 → tie.Start
 the-start c = c .before .before .before .before .before .before .before
 

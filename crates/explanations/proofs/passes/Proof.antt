@@ -19,7 +19,7 @@ returns c =
     sym (ap (λ (t : Bool). t && saved (s .fault) (take (s .f .to) (now (s .line))) (now (s .endings)))
     (le-ltb (s .f .from) (s .f .to) (c .if1 .taken)))
 
--- places that the needs go back to
+-- The needs below go back to these places.
 abbrev the-start : tie.After-put-bytes-arg2 → tie.Start
 the-start c = c .before .before .before .before .before .before .before
 

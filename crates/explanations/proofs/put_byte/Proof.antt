@@ -8,7 +8,7 @@ use borrow.Author.Needs.{needs}
 use Rattle.explanations.proofs.put_byte.Statement.{statement}
 use Rattle.explanations.proofs.put_byte.Tie as tie
 
--- places that the needs go back to
+-- The needs below go back to these places.
 abbrev the-start : tie.After-put-count-arg → tie.Start
 the-start c = c .before .before .before .before .before .before .before
 

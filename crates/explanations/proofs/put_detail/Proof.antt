@@ -22,7 +22,7 @@ put-edges-requires : tie.Need-put-edges-requires
 put-edges-requires c κs =
     let h = c .before .before .before .before .pre in omega (arith, h)
 
--- places that the needs go back to
+-- The needs below go back to these places.
 abbrev start-from-struct-known : tie.After-struct-known → tie.Start
 start-from-struct-known c = c .before .before
 

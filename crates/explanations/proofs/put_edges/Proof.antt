@@ -8,7 +8,7 @@ use borrow.Author.Needs.{needs}
 use Rattle.explanations.proofs.put_edges.Statement.{statement}
 use Rattle.explanations.proofs.put_edges.Tie as tie
 
--- places that the needs go back to
+-- The needs below go back to these places.
 abbrev start-from-put-count-arg : tie.After-put-count-arg → tie.Start
 start-from-put-count-arg c = c .before .before .before .before .before .before .before
 

@@ -13,7 +13,7 @@ use borrow.Author.Needs.{needs}
 use Rattle.explanations.proofs.put_expected.Statement.{statement}
 use Rattle.explanations.proofs.put_expected.Tie as tie
 
--- places that the needs go back to
+-- The needs below go back to these places.
 abbrev start-from-put-bytes-arg4 : tie.After-put-bytes-arg4 → tie.Start
 start-from-put-bytes-arg4 c = c .before .before .before .before .before .before .before .before .before .before .before .before
 

@@ -11,7 +11,7 @@ use borrow.Author.Needs.{needs}
 use Rattle.explanations.proofs.put_explained.Statement.{statement}
 use Rattle.explanations.proofs.put_explained.Tie as tie
 
--- places that the needs go back to
+-- The needs below go back to these places.
 abbrev fault-of-from-struct-known : tie.After-struct-known → tie.After-fault-of
 fault-of-from-struct-known c = c .before
 

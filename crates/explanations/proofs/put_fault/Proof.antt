@@ -8,7 +8,7 @@ use borrow.Author.Needs.{needs}
 use Rattle.explanations.proofs.put_fault.Statement.{statement}
 use Rattle.explanations.proofs.put_fault.Tie as tie
 
--- places that the needs go back to
+-- The needs below go back to these places.
 abbrev start-from-put-refusal-arg : tie.After-put-refusal-arg → tie.Start
 start-from-put-refusal-arg c = c .before .before .before .before .before .before .before .before
 

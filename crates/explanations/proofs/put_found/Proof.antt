@@ -44,7 +44,7 @@ found : (f : tie.After-find) → part (now (call (f .before .before .before) .ar
 found f = f .find .ensures .is
     ∙ ap (λ (k : List ℕ). textFor k (cutAtBars (now (call (f .before .before .before) .args .table)))) (key (f .before .before .before))
 
--- places that the needs go back to
+-- The needs below go back to these places.
 abbrev start-from-put-bytes-arg : tie.After-put-bytes-arg → tie.Start
 start-from-put-bytes-arg c = c .before .before .before .before .before .before .before
 

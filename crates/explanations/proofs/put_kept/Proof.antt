@@ -12,7 +12,7 @@ use borrow.Author.Needs.{needs}
 use Rattle.explanations.proofs.put_kept.Statement.{statement}
 use Rattle.explanations.proofs.put_kept.Tie as tie
 
--- places that the needs go back to
+-- The needs below go back to these places.
 abbrev start-from-shared-slice-known : tie.After-shared-slice-known → tie.Start
 start-from-shared-slice-known c = c .before .before
 

@@ -15,7 +15,7 @@ returns : tie.Need-returns
 returns c =
     λ h. absurd (let t = c .if1 .taken in let y : ⊥ = omega (arith, h, t) in y)
 
--- places that the needs go back to
+-- The needs below go back to these places.
 abbrev else1-from-put-count-arg : tie.After-put-count-arg → tie.Else1
 else1-from-put-count-arg c = c .before .before .before .before .before .before
 

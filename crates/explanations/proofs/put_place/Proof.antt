@@ -12,7 +12,7 @@ use borrow.Author.Needs.{needs}
 use Rattle.explanations.proofs.put_place.Statement.{statement}
 use Rattle.explanations.proofs.put_place.Tie as tie
 
--- places that the needs go back to
+-- The needs below go back to these places.
 abbrev start-from-find-fault-arg : tie.After-find-fault-arg → tie.Start
 start-from-find-fault-arg c = c .before .before .before .before .before .before
 

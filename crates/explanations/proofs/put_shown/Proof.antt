@@ -16,7 +16,7 @@ short-end-requires : tie.Need-short-end-requires
 short-end-requires c κs =
     c .before .before .pre .1
 
--- places that the needs go back to
+-- The needs below go back to these places.
 abbrev at-short-end : tie.After-put-bytes-arg3 → tie.After-short-end
 at-short-end c = c .before .before .before .before .before .before
 

@@ -13,7 +13,7 @@ use borrow.Author.Needs.{needs}
 use Rattle.explanations.proofs.put_wanted.Statement.{statement}
 use Rattle.explanations.proofs.put_wanted.Tie as tie
 
--- places that the needs go back to
+-- The needs below go back to these places.
 abbrev start-from-slice-known3 : tie.After-slice-known3 → tie.Start
 start-from-slice-known3 c = c .before .before .before .before .before .before .before .before .before
 

@@ -22,7 +22,7 @@ returns c =
     by-false (atPlace examples formWords (now (s .line)) (s .fault) (faultPlace (s .fault) examples (now (s .line))))
     (sym (i .is-placed .ensures) ∙ not-true _ (c .if1 .taken)) (nothing _ _)
 
--- places that the needs go back to
+-- The needs below go back to these places.
 abbrev the-start : tie.After-put-place-arg4 → tie.Start
 the-start c = c .before .before .before .before .before .before .before .before .before
 

@@ -10,7 +10,7 @@ use Rattle.figures.proofs.work_set.Tie as tie
 plate-integrand-requires : tie.Need-plate-integrand-requires
 plate-integrand-requires c κs = c .span-m .ensures
 
--- places that the needs go back to
+-- The needs below go back to these places.
 abbrev the-start : tie.After-work-strips-arg → tie.Start
 the-start c = c .before .before .before .before .before .before
 

@@ -1,6 +1,5 @@
 -- `integrands::sample` meets its contract: the chords are found among the edges that the height alone can cross, and
--- the values worked over them.
--- Assumes nothing.
+-- the values worked over them. Assumes nothing.
 use mathlib.Core.Path.{sym}
 use lib.Seq.{length-take-le}
 use Rattle.chords.proofs.Near.{at-one-height}

@@ -1,6 +1,6 @@
 -- `jobs::change_density` meets its contract: a walk of its code, by hand. The borrow is opened, the whole record is
--- read, the change by value is
--- called, its record is stored over the old one, and the borrow is closed there. Assumes nothing.
+-- read, the change by value is called, its record is stored over the old one, and the borrow is closed there. Assumes
+-- nothing.
 use mathlib.Core.Path.{_≡_, refl, sym, ap, subst}
 use Prim.Native.Nat.{ℕ}
 use mathlib.Core.List.{List, [], _∷_}

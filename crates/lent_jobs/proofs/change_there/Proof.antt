@@ -1,6 +1,5 @@
 -- `lent_jobs::change_there` meets its contract: a walk of its code, by hand, as `step_there`'s with a density by value
--- in the scratch's place.
--- Assumes nothing.
+-- in the scratch's place. Assumes nothing.
 use mathlib.Core.Path.{_≡_, refl, sym, subst}
 use Prim.Native.Nat.{ℕ}
 use mathlib.Core.List.{List, [], _∷_}

@@ -1,6 +1,6 @@
 -- `lent_jobs::step_there` meets its contract: a walk of its code, by hand. The job is read into a local, the local is
--- lent to `jobs::step` for a
--- lifetime made for the call, with the scratch passed on, and what the local holds then is written back. Assumes nothing.
+-- lent to `jobs::step` for a lifetime made for the call, with the scratch passed on, and what the local holds then is
+-- written back. Assumes nothing.
 use mathlib.Core.Path.{_≡_, refl, sym, subst}
 use Prim.Native.Nat.{ℕ}
 use mathlib.Core.List.{List, [], _∷_}

@@ -1,6 +1,5 @@
 -- `outlines::check_edge` meets its contract: what is left to check from edge j on gives the answer, and `from` is the
--- place of edge j's start.
--- Assumes nothing.
+-- place of edge j's start. Assumes nothing.
 use Prim.Native.Nat.{ℕ, _+_, _-_, _≤_, _<_}
 use mathlib.Core.Path.{_≡_, sym, ap, _∙_}
 use mathlib.Core.Bool.{Bool}

@@ -15,7 +15,7 @@ point-at-requires-2 c κs = search needs
 refuse-unless-requires : tie.Need-refuse-unless-requires
 refuse-unless-requires c κs = search needs
 
--- places that the needs go back to
+-- The needs below go back to these places.
 abbrev at-point-at : tie.After-refuse-unless → tie.After-point-at
 at-point-at c = c .before .before .before .before .before .before
 

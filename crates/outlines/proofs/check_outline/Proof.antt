@@ -18,7 +18,7 @@ check-ends-requires c κs =
     let points = c .before .before .before .args .points .now in
     omega (arith, pairs-within points (not-false (arePairs points) (c .before .if1 .left)) .0)
 
--- places that the needs go back to
+-- The needs below go back to these places.
 abbrev at-check-points : tie.After-first-refusal3 → tie.After-check-points
 at-check-points c = c .before .before .before .before .before .before
 

@@ -12,7 +12,7 @@ use Rattle.pieces.proofs.store.Tie as tie
 part-store-seven-end : tie.Need-part-store-seven-end
 part-store-seven-end c = simp length-set (omega arith)
 
--- places that the needs go back to
+-- The needs below go back to these places.
 abbrev the-start : tie.After-slice-known2 → tie.Start
 the-start c = c .before .before .before .before .before .before .before
 

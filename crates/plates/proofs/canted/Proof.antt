@@ -17,7 +17,7 @@ rotated-x-requires c κs = search needs
 translated-requires-2 : tie.Need-translated-requires-2
 translated-requires-2 c κs = search needs
 
--- places that the needs go back to
+-- The needs below go back to these places.
 abbrev at-else1 : tie.After-translated2 → tie.Else1
 at-else1 c = c .before .before .before .before .before .before
 

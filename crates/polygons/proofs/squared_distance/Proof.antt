@@ -14,7 +14,7 @@ product-requires-2 c κs = search needs
 sum-requires : tie.Need-sum-requires
 sum-requires c κs = search needs
 
--- places that the needs go back to
+-- The needs below go back to these places.
 abbrev the-start : tie.After-sum → tie.Start
 the-start c = c .before .before .before .before .before .before .before
 

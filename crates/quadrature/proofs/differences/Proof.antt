@@ -3,7 +3,7 @@ use borrow.Author.Needs.{needs}
 use Rattle.quadrature.proofs.differences.Statement.{statement}
 use Rattle.quadrature.proofs.differences.Tie as tie
 
--- places that the needs go back to
+-- The needs below go back to these places.
 abbrev at-difference : tie.After-difference7 → tie.After-difference
 at-difference c = c .before .before .before .before .before .before
 

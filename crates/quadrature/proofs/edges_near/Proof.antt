@@ -1,6 +1,5 @@
 -- `quadrature::edges_near` meets its contract: all heights of an outline's piece are from the least to the largest, and
--- any other planform asks for
--- no list. Assumes nothing.
+-- any other planform asks for no list. Assumes nothing.
 use mathlib.Core.Logic.{⊎-elim}
 use Prim.Native.Nat.{zero-le}
 use native.Mathlib.Omega.{arith}

@@ -4,7 +4,7 @@ use Rattle.quadrature.specs.Tally.{weightsTo}
 use Rattle.quadrature.proofs.kronrod_weights.Statement.{statement}
 use Rattle.quadrature.proofs.kronrod_weights.Tie as tie
 
--- places that the needs go back to
+-- The needs below go back to these places.
 abbrev at-kronrod-weight2 : tie.After-kronrod-weight8 → tie.After-kronrod-weight2
 at-kronrod-weight2 c = c .before .before .before .before .before .before
 

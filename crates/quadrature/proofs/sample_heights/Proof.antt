@@ -4,7 +4,7 @@ use Rattle.quadrature.specs.Rule.{heightsTo}
 use Rattle.quadrature.proofs.sample_heights.Statement.{statement}
 use Rattle.quadrature.proofs.sample_heights.Tie as tie
 
--- places that the needs go back to
+-- The needs below go back to these places.
 abbrev at-node : tie.After-node7 → tie.After-node
 at-node c = c .before .before .before .before .before .before
 

@@ -23,7 +23,7 @@ returns c =
 slice-aggregate-combine : tie.Need-slice-aggregate-combine
 slice-aggregate-combine c = sym (ap length (first-bodies _ _ _ (c .before .before .write-points .ensures)) ∙ length-listed _ _)
 
--- places that the needs go back to
+-- The needs below go back to these places.
 abbrev the-start : tie.After-combine → tie.Start
 the-start c = c .before .before .before .before .before .before .before
 

@@ -10,7 +10,7 @@ returns : tie.Need-returns
 unfolding ringBy
 returns c = simp (ne-eqb _ _ (c .before .if1 .taken)) (c .refused .ensures)
 
--- places that the needs go back to
+-- The needs below go back to these places.
 abbrev at-found : tie.After-mass-properties → tie.After-found
 at-found c = c .before .before .before .before .before .before .before
 

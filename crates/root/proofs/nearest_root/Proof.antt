@@ -1,6 +1,5 @@
 -- `root::nearest_root` meets its contract: n * 2 ^ 52 - q * q is u - v exactly, above -q and at most 3 * q + 2, so the
--- last test says which of q and q + 1 is nearest.
--- Assumes nothing.
+-- last test says which of q and q + 1 is nearest. Assumes nothing.
 use Prim.Native.Nat.{ℕ, zero, suc, _+_, _-_, _*_, _/_, _%_, _^_, _≤_, _<_}
 use mathlib.Core.Path.{_≡_, ap, _∙_}
 use mathlib.Core.Bool.{Bool, true, false, not}

@@ -31,7 +31,7 @@ returns c =
     let args = c .before .before .before .before .before .args in
     no-side (areOnOneSide (args .a) (args .b)) (arePast (args .a) (args .b) || inY (args .segment) (args .a) (args .b)) (c .if1 .taken)
 
--- places that the needs go back to
+-- The needs below go back to these places.
 abbrev the-start : tie.After-struct-known8 → tie.Start
 the-start c = c .before .before .before .before .before .before .before .before .before
 

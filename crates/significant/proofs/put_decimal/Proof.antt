@@ -8,7 +8,7 @@ returns : tie.Need-returns
 unfolding text codes
 returns c = rw (c .before .before .before .before .before .if1 .taken) (c .before .before .put-bytes .ensures)
 
--- places that the needs go back to
+-- The needs below go back to these places.
 abbrev at-else1 : tie.After-slice-known3 → tie.Else1
 at-else1 c = c .before .before .before .before .before .before
 

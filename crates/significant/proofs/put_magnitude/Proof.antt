@@ -56,7 +56,7 @@ slice-aggregate-put-written : tie.Need-slice-aggregate-put-written
 slice-aggregate-put-written c = let m = c .before .before .before in
     sym (length-take-le (m .put-count .result) (m .put-count .last .0) (fits m))
 
--- places that the needs go back to
+-- The needs below go back to these places.
 abbrev at-significant-digits : tie.After-struct-known → tie.After-significant-digits
 at-significant-digits c = c .before .before .before .before .before .before
 

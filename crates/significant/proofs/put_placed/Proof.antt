@@ -8,7 +8,7 @@ use borrow.Author.Needs.{needs}
 use Rattle.significant.proofs.put_placed.Statement.{statement}
 use Rattle.significant.proofs.put_placed.Tie as tie
 
--- places that the needs go back to
+-- The needs below go back to these places.
 abbrev start-from-else1 : tie.Else1 → tie.Start
 start-from-else1 c = c .before .before .before
 

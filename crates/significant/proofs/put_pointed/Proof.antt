@@ -15,7 +15,7 @@ use Rattle.significant.proofs.put_pointed.Tie as tie
 slice-aggregate-put-three : tie.Need-slice-aggregate-put-three
 slice-aggregate-put-three c = let s = c .before .before .before .before in sym (length-take-le (s .args .i) (now (s .args .ds)) (s .pre .0))
 
--- places that the needs go back to
+-- The needs below go back to these places.
 abbrev the-start : tie.After-put-three-arg4 → tie.Start
 the-start c = c .before .before .before .before .before .before
 

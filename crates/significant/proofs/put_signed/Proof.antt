@@ -45,7 +45,7 @@ returns c =
     (m .put-magnitude .result) (signText (s .args .x)) (magnitudeText (s .args .n) (s .args .scale) (s .args .power) (s .args .x))
     (p .put-sign .ensures) (m .put-magnitude .ensures))
 
--- places that the needs go back to
+-- The needs below go back to these places.
 abbrev at-put-sign : tie.After-put-bytes-arg2 → tie.After-put-sign
 at-put-sign c = c .before .before .before .before .before .before
 

@@ -3,7 +3,7 @@ use borrow.Author.Needs.{needs}
 use Rattle.tolerance.proofs.bounds.Statement.{statement}
 use Rattle.tolerance.proofs.bounds.Tie as tie
 
--- places that the needs go back to
+-- The needs below go back to these places.
 abbrev at-bound : tie.After-bound7 → tie.After-bound
 at-bound c = c .before .before .before .before .before .before
 

@@ -9,7 +9,7 @@ use Rattle.tolerance.proofs.Places.{highest-first, highest-next}
 use Rattle.tolerance.proofs.component.Statement.{statement}
 use Rattle.tolerance.proofs.component.Tie as tie
 
--- places that the needs go back to
+-- The needs below go back to these places.
 abbrev the-start : tie.After-higher6 → tie.Start
 the-start c = c .before .before .before .before .before .before
 

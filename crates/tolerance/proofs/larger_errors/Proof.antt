@@ -3,7 +3,7 @@ use borrow.Author.Needs.{needs}
 use Rattle.tolerance.proofs.larger_errors.Statement.{statement}
 use Rattle.tolerance.proofs.larger_errors.Tie as tie
 
--- places that the needs go back to
+-- The needs below go back to these places.
 abbrev at-larger-error : tie.After-larger-error7 → tie.After-larger-error
 at-larger-error c = c .before .before .before .before .before .before
 

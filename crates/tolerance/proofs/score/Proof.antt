@@ -8,7 +8,7 @@ use Rattle.tolerance.proofs.score.Tie as tie
 larger-requires : tie.Need-larger-requires
 larger-requires c κs = zero-is-number
 
--- places that the needs go back to
+-- The needs below go back to these places.
 abbrev at-larger : tie.After-larger7 → tie.After-larger
 at-larger c = c .before .before .before .before .before .before
 

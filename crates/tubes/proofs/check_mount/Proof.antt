@@ -6,7 +6,7 @@ use Rattle.tubes.specs.Tubes.{mountCheck}
 use Rattle.tubes.proofs.check_mount.Statement.{statement}
 use Rattle.tubes.proofs.check_mount.Tie as tie
 
--- places that the needs go back to
+-- The needs below go back to these places.
 abbrev at-check-count : tie.After-first-refusal3 → tie.After-check-count
 at-check-count c = c .before .before .before .before .before .before
 

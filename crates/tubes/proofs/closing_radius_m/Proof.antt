@@ -14,7 +14,7 @@ closing-value-requires c κs =
     let checked = c .before .before .before .before .check-count .ensures in
     count-within _ (sym checked ∙ both _ _ (sym first ∙ c .enum-told .given .1) .0) .1
 
--- places that the needs go back to
+-- The needs below go back to these places.
 abbrev at-check-count : tie.After-first-refusal → tie.After-check-count
 at-check-count c = c .before .before
 

@@ -3,7 +3,7 @@ use borrow.Author.Needs.{needs}
 use Rattle.blocks.proofs.filling.largest_from.Statement.{statement}
 use Rattle.blocks.proofs.filling.largest_from.Tie as tie
 
--- places that the needs go back to
+-- The needs below go back to these places.
 abbrev at-abs : tie.After-max2 → tie.After-abs
 at-abs c = c .before .before .before .before .before .before
 

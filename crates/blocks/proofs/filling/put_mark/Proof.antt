@@ -6,7 +6,7 @@ use borrow.Author.Needs.{needs}
 use Rattle.blocks.proofs.filling.put_mark.Statement.{statement}
 use Rattle.blocks.proofs.filling.put_mark.Tie as tie
 
--- places that the needs go back to
+-- The needs below go back to these places.
 abbrev start-from-is-body-mark : tie.After-is-body-mark → tie.Start
 start-from-is-body-mark c = c .before .before .before .before
 

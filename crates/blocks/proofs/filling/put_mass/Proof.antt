@@ -6,7 +6,7 @@ use borrow.Author.Needs.{needs}
 use Rattle.blocks.proofs.filling.put_mass.Statement.{statement}
 use Rattle.blocks.proofs.filling.put_mass.Tie as tie
 
--- places that the needs go back to
+-- The needs below go back to these places.
 abbrev the-start : tie.After-counts → tie.Start
 the-start c = c .before .before .before .before .before .before .before
 

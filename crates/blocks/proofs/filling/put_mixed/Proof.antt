@@ -18,7 +18,7 @@ returns c =
     (xy .beside-from .result) (xz .beside-from2 .result) (yz .beside-from3 .result) (z .all-zero .result)
     (xy .beside-from .ensures) (xz .beside-from2 .ensures) (yz .beside-from3 .ensures) (z .all-zero .ensures) (c .if1 .taken)
 
--- places that the needs go back to
+-- The needs below go back to these places.
 abbrev the-start : tie.After-counts → tie.Start
 the-start c = c .before .before .before .before .before .before .before .before .before .before .before
 

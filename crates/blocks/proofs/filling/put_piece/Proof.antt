@@ -6,7 +6,7 @@ use borrow.Author.Needs.{needs}
 use Rattle.blocks.proofs.filling.put_piece.Statement.{statement}
 use Rattle.blocks.proofs.filling.put_piece.Tie as tie
 
--- places that the needs go back to
+-- The needs below go back to these places.
 abbrev start-from-is-figure-mark : tie.After-is-figure-mark → tie.Start
 start-from-is-figure-mark c = c .before .before .before .before
 

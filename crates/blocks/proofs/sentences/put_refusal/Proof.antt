@@ -25,7 +25,7 @@ put-bytes-requires c κs =
     let t = twenty (s .args .number) in
     omega (arith, e, t, s .pre)
 
--- places that the needs go back to
+-- The needs below go back to these places.
 abbrev at-put-count : tie.After-put-sentence-arg → tie.After-put-count
 at-put-count c = c .before .before .before .before .before .before .before .before .before .before .before
 

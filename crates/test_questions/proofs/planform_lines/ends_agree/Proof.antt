@@ -1,6 +1,5 @@
 -- `test_questions::planform_lines::ends_agree` meets its contract: the edges that h alone can cross are listed, and the
--- crossings are written over an
--- array's start. Assumes nothing.
+-- crossings are written over an array's start. Assumes nothing.
 use mathlib.Core.Path.{sym}
 use native.Mathlib.Omega.{arith}
 use lib.Seq.{length-take-le}

@@ -10,7 +10,7 @@ part-word-end c =
     let w = n .next-token .ensures .within (n .before .before .before .before .pre .0 .within) in
     omega arith
 
--- places that the needs go back to
+-- The needs below go back to these places.
 abbrev next-token-from-same-bytes : tie.After-same-bytes → tie.After-next-token
 next-token-from-same-bytes c = c .before .before .before .before
 
