@@ -1,1 +1,2 @@
 // How near the figures are to the exact ones: no function, only definitions (specs/) and proofs.
+#![tactic(auto)]

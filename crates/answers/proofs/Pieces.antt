@@ -9,8 +9,8 @@ use lib.Dec.{eqb}
 use lib.ListN.{length, drop, get_or, set, drop_of_length-le}
 use lib.Seq.{drop-cons, drop-drop}
 use lib.Ieee.{Float, nan}
-use Rattle.hex.specs.Hex.{figure_text}
-use Rattle.hex.proofs.RoundTrip.{figure_length}
+use Rattle.hexadecimal.specs.Hex.{figure_text}
+use Rattle.hexadecimal.proofs.RoundTrip.{figure_length}
 use Rattle.texts.specs.Appended.{Appended}
 use Rattle.texts.proofs.Appending.{nothing, byte_put}
 use Rattle.counts.specs.Counts.{count_text}

@@ -1,7 +1,7 @@
 -- A template filled in: `F` gives way to the next figure, `N` to the next count, and every other byte stands for
 -- itself.
 use Rattle.std.specs.Prelude.{List, [], ◌∷◌, ◌++◌, cond, ℕ, ◌+◌, eqb, drop, Float}
-use Rattle.hex.specs.Hex.{figure_text}
+use Rattle.hexadecimal.specs.Hex.{figure_text}
 use Rattle.counts.specs.Counts.{count_text}
 
 -- the text of the first figure, or nothing where none is left

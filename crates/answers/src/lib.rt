@@ -2,6 +2,8 @@
 //
 // An answer is a template, filled in: `F` gives way to the next figure, `N` to the next count. None is longer than
 // ANSWER_BYTES.
+#![tactic(auto)]
+
 ghost use Rattle.std.specs.Prelude.{◌+◌, ◌≤◌, length};
 ghost use Rattle.texts.specs.Appended.{Appended};
 ghost use Rattle.answers.specs.Filled.{filled, room};
@@ -81,7 +83,7 @@ fn put_piece(out: &mut [u8], p: Place, b: u8, figures: &[f64], counts: &[u64]) -
         if figures.len() <= i {
             return p;
         }
-        let end = hex::put_figure(out, n, figures[i]);
+        let end = hexadecimal::put_figure(out, n, figures[i]);
         let next = i + 1;
         return Place {
             n: end,

@@ -1,6 +1,8 @@
 // What the words after a program's name ask for: the programs take none, or `--help` or `--version` alone.
 //
 // No contract can say which arguments a program was started with (docs/ASSUMED.md).
+#![tactic(auto)]
+
 ghost use Rattle.std.specs.Prelude.{◌≡◌};
 ghost use Rattle.arguments.specs.Arguments.{asked_by};
 

@@ -8,9 +8,9 @@ use borrow.Author.Tests.{lt-ltb, le-ltb, ltb-true, ltb-false, eq-eqb, ne_eqb}
 use lib.Dec.{ltb, eqb}
 use lib.ListN.{length, take, drop, set, get_or, drop_of_length-le, length-take, length-drop}
 use lib.Ieee.{Float}
-use Rattle.hex.specs.declared.Figure.{Figure}
-use Rattle.hex.specs.declared.Figure.TheVariants.{Number, NotFigure}
-use Rattle.hex.specs.Hex.{figure_of}
+use Rattle.hexadecimal.specs.declared.Figure.{Figure}
+use Rattle.hexadecimal.specs.declared.Figure.TheVariants.{Number, NotFigure}
+use Rattle.hexadecimal.specs.Hex.{figure_of}
 use Rattle.counts.specs.declared.Count.{Count}
 use Rattle.counts.specs.declared.Count.TheVariants.{Whole, NotCount}
 use Rattle.counts.specs.Counts.{count_of, capped_count}

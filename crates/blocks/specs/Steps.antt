@@ -9,7 +9,7 @@ use Rattle.blocks.specs.declared.lookup.Part.{Part}
 use Rattle.blocks.specs.declared.words.Read.{Read}
 use Rattle.blocks.specs.Tables.{text_for}
 use Rattle.blocks.specs.Filled.{Marks, figures_after}
-use Rattle.hex.specs.declared.Figure.TheVariants.{NotFigure}
+use Rattle.hexadecimal.specs.declared.Figure.TheVariants.{NotFigure}
 use Rattle.counts.specs.Counts.{count_of, capped_count}
 use Rattle.blocks.specs.Words.{by_kind, other_shape, word_shape, word_figures, word_counts, over_words, shape_in}
 use Rattle.blocks.specs.Words.{figures_in, counts_in}

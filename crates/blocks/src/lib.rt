@@ -4,6 +4,8 @@
 // A line is brought to its shape, in which `F` stands for a figure and `N` for a count, and the shape is looked up in a
 // table of the answers with their blocks. Every line has a block, whatever its bytes: one that looks like no answer
 // says so.
+#![tactic(auto)]
+
 mod filling;
 pub mod lookup;
 pub mod sentences;

@@ -4,7 +4,7 @@ ghost use Rattle.blocks.specs.Steps.{IsEnd, end_bytes, PutsFigure, PutsCount, Pu
 ghost use Rattle.blocks.specs.Steps.{IsRead};
 
 use counts::Count;
-use hex::Figure;
+use hexadecimal::Figure;
 
 // How far reading is: how many bytes of the shape, how many figures and how many counts are written.
 #[derive(Drop)]
@@ -105,7 +105,7 @@ fn put_word(shape: &mut [u8], figures: &mut [f64], counts: &mut [u64], p: Read, 
     if word.len() == 0 {
         return p;
     }
-    match hex::read_figure(word) {
+    match hexadecimal::read_figure(word) {
         Figure::Number(x) => put_figure(shape, figures, p, x),
         Figure::NotFigure => put_other(shape, counts, p, word),
     }

@@ -6,6 +6,8 @@
 // centre less that point. Vectors, matrices and tensors work by component as glam's do (document 01, "Stand-ins"). As
 // numbers, in lists of bodies, on lines and in the library, a body is its mass, its centre and its tensor's numbers, in
 // that order.
+#![tactic(auto)]
+
 ghost use Rattle.std.specs.Prelude.{◌≡◌, ◌≤◌, length};
 ghost use Rattle.floats.specs.Operations.{at};
 ghost use Rattle.bodies.specs.Vectors.{add_vectors, subtract_vectors, scale_vector, divide_vector};

@@ -3,6 +3,8 @@
 //
 // The mass is finite and not negative, the centre finite, and the tensor finite, 0 without mass, with principal moments
 // that are not negative and obey I₁ + I₂ ≥ I₃, the last two to 1e-9 of the tensor's largest magnitude.
+#![tactic(auto)]
+
 ghost use Rattle.std.specs.Prelude.{◌≡◌};
 ghost use Rattle.bodies.specs.Layout.{tensor_numbers};
 ghost use Rattle.refusals.specs.Given.{IsVerdict};

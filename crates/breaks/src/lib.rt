@@ -1,5 +1,7 @@
 // The break heights of a planform (fins.rs, `breakpoints`; document 01, "Set and planform"): 0, the span and every
 // height of an outline's points, sorted, equal ones once. Neighbours bound a strip, within which no edge ends.
+#![tactic(auto)]
+
 ghost use Rattle.std.specs.Prelude.{◌≡◌, ◌+◌, ◌<◌, ◌≤◌, ◌^◌, length, take};
 ghost use Rattle.sorting.specs.Sorted.{sorted, Written};
 ghost use Rattle.planforms.specs.Planforms.{pair_count, span_of};

@@ -7,6 +7,8 @@
 // What the read and each write gave is carried along, and the contracts say by these values how the run goes on. Only
 // `reply_next` and `reply_last` write replies: each hands the first bytes of `out` to write, and its contract says what
 // these bytes are.
+#![tactic(auto)]
+
 ghost use Rattle.std.specs.Prelude.{◌≡◌, ◌+◌, ◌<◌, length};
 ghost use Rattle.texts.specs.Appended.{Appended};
 ghost use Rattle.lines.specs.Lines.{memory_in};

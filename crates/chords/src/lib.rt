@@ -9,6 +9,8 @@
 // 29.
 //
 // Most outlines are crossed twice: that one chord needs no list. Where there are more crossings, they are listed.
+#![tactic(auto)]
+
 ghost use Rattle.std.specs.Prelude.{◌≡◌, ◌<◌, length, take};
 ghost use Rattle.sorting.specs.Sorted.{Written};
 ghost use Rattle.limits.specs.Limits.{most_points};

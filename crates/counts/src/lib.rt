@@ -1,5 +1,7 @@
 // Counts as text: decimal digits, read and printed (docs/FORMS.md; document 01, "The card program": "Counts are
 // decimal").
+#![tactic(auto)]
+
 ghost use Rattle.std.specs.Prelude.{◌≡◌, ◌+◌, ◌≤◌, length};
 ghost use Rattle.texts.specs.Appended.{Appended};
 ghost use Rattle.counts.specs.Counts.{digit_value, count_of, capped, capped_count, count_text};

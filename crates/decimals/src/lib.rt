@@ -3,6 +3,8 @@
 // Up to 2^53 every whole number is an f64, and so is 10^k = 5^k * 2^k for every k that comes up: one division of f64s
 // rounds to the nearest. A larger n is divided in whole numbers by 5^k, which leaves room for 22 binary digits at a
 // time, until the quotient has 53, and is then rounded by its rest.
+#![tactic(auto)]
+
 ghost use Rattle.std.specs.Prelude.{◌≡◌, false};
 ghost use Prim.Native.Nat.{◌+◌, ◌*◌, ◌^◌, ◌≤◌, ◌<◌, compare};
 ghost use Rattle.std.specs.Float.{binary64};

@@ -3,6 +3,8 @@
 // Document 02, "Where may I drill?". Coordinates are read as f64s once, and from then on all is whole numbers of cutter
 // steps of 2^-20 m (`steps`, `polygons`). A length is at most 2^26 steps, and sweep + tip, which is summed in steps, at
 // most 2^27.
+#![tactic(auto)]
+
 ghost use Rattle.std.specs.Prelude.{◌≡◌, ◌^◌, ◌<◌, ◌≤◌, true, nat_abs, ◌+ℤ◌, length, take, [], ◌∷◌, map};
 ghost use Rattle.refusals.specs.Given.{IsAnswer};
 ghost use Rattle.limits.specs.Limits.{outline_numbers};

@@ -4,6 +4,8 @@
 // A call works by value on the screens and on one job, the one at the call's place, so that whoever keeps the engine
 // reads and writes that job alone. An engine is kept in lent lists; `Engine`, `EngineTurn` and `EngineReply` are for
 // the definitions. Screens are 1 to 8; 0 stands for none. Any record, number and scratch may be handed in.
+#![tactic(auto)]
+
 ghost use Rattle.std.specs.Prelude.{◌≡◌, ◌<◌, length};
 ghost use Rattle.engines.specs.Engines.{is_screen, place_of, holds_job, is_free, next_screen, pick_of, with_held};
 ghost use Rattle.engines.specs.Engines.{turn_after, served_screen, stepped, ServesTo, IsAtScreen, refused};

@@ -1,5 +1,7 @@
 // The program that says why lines are refused: `explain < lines`. It prints one explanation a line, which
 // `explanations` makes; the loop over the lines is that of `shown_lines`.
+#![tactic(auto)]
+
 use arguments::Command;
 use libc::STDERR_FILENO;
 use shown_lines::Maker;

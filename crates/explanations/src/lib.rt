@@ -2,6 +2,8 @@
 //
 // The word at fault is the first after which no ending saves the line. Endings are the rests of examples of every form,
 // and the line that a start and an ending make up is answered as any other, so that the forms are written down once.
+#![tactic(auto)]
+
 ghost use Rattle.std.specs.Prelude.{◌++◌, ◌≡◌, ◌+◌, ◌≤◌, ◌<◌, length, take, drop, get_or};
 ghost use Rattle.texts.specs.Appended.{Appended};
 ghost use Rattle.tokens.specs.Text.{text};

@@ -6,9 +6,9 @@ use Prim.Native.String.{String}
 use lib.Dec.{T, eqb}
 use lib.Ieee.{Float, binary64, round, of_bits, to_bits}
 use Rattle.tokens.specs.Text.{codes, text}
-use Rattle.hex.specs.declared.Figure.{Figure}
-use Rattle.hex.specs.declared.Figure.TheVariants.{Number, NotFigure}
-use Rattle.hex.specs.Hex.{read_digits, figure_of}
+use Rattle.hexadecimal.specs.declared.Figure.{Figure}
+use Rattle.hexadecimal.specs.declared.Figure.TheVariants.{Number, NotFigure}
+use Rattle.hexadecimal.specs.Hex.{read_digits, figure_of}
 use Rattle.figure_words.specs.FigureWords.{leading_digits, behind_digits, number_from, unsigned_figure, decimal_figure, figure_word}
 
 pub data Word : Type 0 where

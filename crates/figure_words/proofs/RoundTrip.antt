@@ -6,9 +6,9 @@ use native.Mathlib.Omega.{arith}
 use lib.Dec.{T}
 use lib.ListN.{length}
 use lib.Ieee.{Float, binary64, fits}
-use Rattle.hex.specs.declared.Figure.TheVariants.{Number}
-use Rattle.hex.specs.Hex.{figure_text, printed_value}
-use Rattle.hex.proofs.RoundTrip.{reads_back}
+use Rattle.hexadecimal.specs.declared.Figure.TheVariants.{Number}
+use Rattle.hexadecimal.specs.Hex.{figure_text, printed_value}
+use Rattle.hexadecimal.proofs.RoundTrip.{reads_back}
 use Rattle.figure_words.specs.FigureWords.{figure_word}
 
 -- every f64; 35 is `#`

@@ -11,9 +11,9 @@ use lib.Dec.{ltb}
 use lib.ListN.{length, take, drop, get_or, drop_of_length-le}
 use lib.Seq.{take_all}
 use lib.Ieee.{Float}
-use Rattle.hex.specs.declared.Figure.{Figure}
-use Rattle.hex.specs.declared.Figure.TheVariants.{Number, NotFigure}
-use Rattle.hex.specs.Hex.{figure_of}
+use Rattle.hexadecimal.specs.declared.Figure.{Figure}
+use Rattle.hexadecimal.specs.declared.Figure.TheVariants.{Number, NotFigure}
+use Rattle.hexadecimal.specs.Hex.{figure_of}
 use Rattle.counts.specs.Counts.{digit_value}
 use Rattle.decimals.specs.Decimals.{decimal_of}
 use Rattle.figure_words.specs.FigureWords.{leading_digits, behind_digits, number_from, whole_figure, point_figure, digits_figure}

@@ -3,9 +3,9 @@
 -- belongs, or sixteen bare digits, which an old line meant otherwise" (document 02, Paper 2). A word is any list of
 -- bytes here; `NotFigure` is what is turned away.
 use Rattle.std.specs.Prelude.{List, [], ◌∷◌, Bool, true, false, ◌&&◌, not, cond, ℕ, ◌+◌, ◌*◌, ltb, leb, eqb, length}
-use Rattle.hex.specs.declared.Figure.{Figure}
-use Rattle.hex.specs.declared.Figure.TheVariants.{Number, NotFigure}
-use Rattle.hex.specs.Hex.{pick, figure_of}
+use Rattle.hexadecimal.specs.declared.Figure.{Figure}
+use Rattle.hexadecimal.specs.declared.Figure.TheVariants.{Number, NotFigure}
+use Rattle.hexadecimal.specs.Hex.{pick, figure_of}
 use Rattle.counts.specs.Counts.{digit_value}
 use Rattle.decimals.specs.Decimals.{decimal_of}
 

@@ -1,11 +1,13 @@
 // Words where a figure belongs (document 02, Paper 2; docs/FORMS.md): `#` and sixteen lowercase hexadecimal digits of
 // an f64's bits, or a decimal: an optional sign, 1 to 19 digits in all, one optional point with a digit on each side.
 // Exactly sixteen digits and nothing else are no figure: they were bits before the mark came.
+#![tactic(auto)]
+
 ghost use Rattle.std.specs.Prelude.{◌≡◌, ◌^◌, ◌<◌, ◌≤◌, length, drop};
 ghost use Rattle.figure_words.specs.FigureWords.{whole_figure, unsigned_figure, decimal_figure, figure_word};
 ghost use Rattle.figure_words.specs.Runs.{Least, RunTo};
 
-use hex::Figure;
+use hexadecimal::Figure;
 
 // Returns the figure that a word is, or that it is none.
 pub fn read_figure(word: &[u8]) -> Figure
@@ -15,7 +17,7 @@ pub fn read_figure(word: &[u8]) -> Figure
         return Figure::NotFigure;
     }
     if word[0] == b'#' {
-        return hex::read_figure(&word[1..]);
+        return hexadecimal::read_figure(&word[1..]);
     }
     read_decimal(word)
 }

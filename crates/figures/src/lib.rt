@@ -1,6 +1,8 @@
 // A set's figures and a planform's area: every check, then the strips over the lent scratch, then one fin's body,
 // turned and joined (fins.rs, `FinSet::mass_properties` and `FinPlanform::geometry`). Any set, points, limit and
 // scratch may be handed in.
+#![tactic(auto)]
+
 ghost use Rattle.std.specs.Prelude.{◌≡◌, ◌≤◌, length};
 ghost use Rattle.refusals.specs.declared.Verdict.TheVariants.{Accepted};
 ghost use Rattle.refusals.specs.Calls.{Does};

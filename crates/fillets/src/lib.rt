@@ -5,6 +5,8 @@
 // of angle θ = atan(r/c) and the fillet's of π/2 − θ. With A, S_x, S_xx, S_yy one section's area and moments about the
 // body's axis, root chord l and density ρ, the two weigh 2ρAl, and about the origin I_xx = 2ρ(S_yy l + A l³/3), I_yy =
 // 2ρ(S_xx l + A l³/3), I_zz = 2ρ(S_xx + S_yy) l, I_xz = ρ S_x l².
+#![tactic(auto)]
+
 ghost use Rattle.std.specs.Prelude.{◌≡◌};
 ghost use Rattle.fillets.specs.Angles.{halved, angle_series, angle_of};
 ghost use Rattle.fillets.specs.FilletSections.{less_moments, span_less_sine_series, span_less_sine_of, sector_with};

@@ -3,6 +3,8 @@
 // Document 01, "Order": 1, 2, 3; the planform; thickness; cant, base angle; the tab with 10; body radius; 11; 12; and
 // document 02's 21 directly after the thickness, a fillet's radius before the tab, its density and 22 after the
 // plate's. Each check stands for itself, and the first refusal is the answer.
+#![tactic(auto)]
+
 ghost use Rattle.std.specs.Prelude.{◌≡◌};
 ghost use Rattle.refusals.specs.Given.{IsVerdict};
 ghost use Rattle.refusals.specs.Order.{first_of};

@@ -4,6 +4,8 @@
 //
 // Document 01, "Piece and tally": each rule gives the integral of the even powers within 2^-48, the Kronrod rule up to
 // the 22nd, the Gauss rule up to the 12th (proofs/RuleMoments.antt). Past the end of a table the answer is a NaN.
+#![tactic(auto)]
+
 ghost use Rattle.std.specs.Prelude.{◌≡◌};
 ghost use Rattle.floats.specs.Operations.{at};
 ghost use Rattle.gauss_kronrod.specs.Tables.{nodes, kronrod_weights, gauss_weights};

@@ -6,6 +6,8 @@
 //
 // The worst piece is halved until every component's summed error is within its bound (`tolerance`), or until the limit
 // or the f64s allow no more. The pieces lie in the lent scratch (`pieces`).
+#![tactic(auto)]
+
 ghost use Rattle.std.specs.Prelude.{◌≡◌, ◌+◌, ◌*◌, ◌<◌, ◌≤◌, length};
 ghost use Rattle.limits.specs.Limits.{most_pieces, piece_numbers, piece_samples};
 ghost use Rattle.integrands.specs.Integrands.{sample_of};

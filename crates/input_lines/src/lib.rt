@@ -1,5 +1,7 @@
 // The lines of an input that comes byte by byte (document 01, "The card program"): the line that has begun is kept in a
 // lent buffer of 4,096 bytes; of a longer line it is only known that there were more.
+#![tactic(auto)]
+
 ghost use Rattle.std.specs.Prelude.{◌≡◌, List, [], ℕ, ◌≤◌, min, length};
 ghost use Rattle.tokens.specs.Tokens.{line_bytes};
 ghost use Rattle.input_lines.specs.Kept.{Keeps, KeepsBytes, KeepsLine};

@@ -3,6 +3,8 @@
 // The record is lent to each call and updated there: `step` and `change_density` take it by `&mut`, and call a function
 // that does the work by value. Making a job runs every check before the strips but 2, which is checked at each step.
 // Any record, density and scratch may be handed in.
+#![tactic(auto)]
+
 ghost use Rattle.std.specs.Prelude.{◌≡◌, length, suc, ◌<◌, ◌^◌, false, cond};
 ghost use Rattle.strips.specs.Strips.{Room, onward_of};
 ghost use Rattle.refusals.specs.Calls.{Does};

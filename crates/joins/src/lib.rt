@@ -4,6 +4,8 @@
 // +0. A total mass not above 0 takes the mean of the centres, a NaN mass a NaN centre (document 01, "Body"). The steps
 // are by value. The bodies lie one after another, in a lent list of structs (document 01, "Places and their forms") or,
 // at the library's edge, as their numbers; either is read twice, body by body.
+#![tactic(auto)]
+
 ghost use Rattle.std.specs.Prelude.{◌≡◌, ◌+◌, ◌*◌, ◌≤◌, length};
 ghost use Rattle.bodies.specs.Layout.{body_numbers};
 ghost use Rattle.joins.specs.Flat.{body_at, with_body};

@@ -4,6 +4,8 @@
 // A call reads the screens and one job, works on both by value with the functions of `engines`, and writes both back
 // where it changed them; the other seven jobs stay where they lie. Any two lists that are long enough hold some engine;
 // lists of zeros hold one with no job.
+#![tactic(auto)]
+
 ghost use Rattle.std.specs.Prelude.{◌≡◌, ◌≤◌, ◌<◌, length};
 ghost use Rattle.lent_engines.specs.Memory.{engine_counts_length, screen_counts, screens_in, engine_in};
 ghost use Rattle.lent_engines.specs.Lent.{Room, lists, WritesScreens, WritesAt, Clears, Turns, Submits, Changes};

@@ -5,6 +5,8 @@
 // over the start of both lists; a call that changes nothing writes nothing. The set's parts stand there by the
 // library's numbers for them. Lists that no call wrote hold some job too: where a part's number is unknown, the job's
 // set has no fins.
+#![tactic(auto)]
+
 ghost use Rattle.std.specs.Prelude.{◌≡◌, ◌+◌, ◌≤◌, length};
 ghost use Rattle.std.proofs.Math.Seq.{paste};
 ghost use Rattle.limits.specs.Limits.{outline_numbers};

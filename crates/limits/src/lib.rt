@@ -2,6 +2,8 @@
 //
 // Document 01, "Set and planform": a length is zero or has magnitude 2^-20 to 64, an angle at most 4 rad. The Rust's
 // `check_dimension` asks only that a length is finite and above 0, or 0 where that is allowed.
+#![tactic(auto)]
+
 ghost use Rattle.std.specs.Prelude.{◌≡◌};
 ghost use Rattle.limits.specs.Limits.{zero_allowed, negative_allowed, length_within, length_check, angle_check};
 ghost use Rattle.limits.specs.Limits.{limit_check, scratch_check, count_check};

@@ -3,6 +3,8 @@
 //
 // The engine of eight screens is lent as two lists. Where these are too short, or the buffer has no room for the bytes
 // that an answer may have, no call is made.
+#![tactic(auto)]
+
 ghost use Rattle.std.specs.Prelude.{◌&&◌, [], ◌∷◌, ◌≡◌, ◌+◌, ◌≤◌, leb, length, take};
 ghost use Rattle.refusals.specs.Calls.{Does};
 ghost use Rattle.texts.specs.Appended.{Appended};

@@ -1,4 +1,6 @@
 // A material's density, with its units in the case (material.rs, `Density`), and its check. Only bulk is taken.
+#![tactic(auto)]
+
 ghost use Rattle.std.specs.Prelude.{◌≡◌};
 ghost use Rattle.materials.specs.Materials.{density_check};
 ghost use Rattle.materials.specs.Numbered.{density_number, density_figure, numbered_density};

@@ -4,6 +4,8 @@
 // rotation J of Golub and Van Loan, Matrix Computations, algorithm 8.5.1, so that the entry of the plane becomes small.
 // As in the Rust, the entry is not set to 0, and both triangles are kept: the sweeps work on nine numbers in columns,
 // where row i of column j is number 3 j + i.
+#![tactic(auto)]
+
 ghost use Rattle.std.specs.Prelude.{◌≡◌, [], ◌∷◌, ◌<◌};
 ghost use Rattle.moments.specs.Moments.{entry_fits, entries_fit, tangent_of, rotation_of, turn_pair, turn_columns};
 ghost use Rattle.moments.specs.Moments.{turn_rows, rotate, sweep, off_diagonal, sweeps, insert_moment, ascending};

@@ -3,3 +3,4 @@
 //
 // The integrands of a square or airfoil strip are polynomials that both rules of a piece integrate exactly. Only
 // rounding tells the two sums apart, and the bound on it that the crate error_terms computes is below 1e-12 of the sum.
+#![tactic(auto)]

@@ -3,6 +3,8 @@
 //
 // The refusals of an outline are document 01's 5, 4, 6, 7, 8, in that order (fins.rs, `validate_outline`). Of n points,
 // each an x and a height in a flat slice, edge i runs from point i to point i + 1, and edge n - 1 back to point 0.
+#![tactic(auto)]
+
 ghost use Rattle.std.specs.Prelude.{◌≡◌, ◌+◌, ◌<◌};
 ghost use Rattle.refusals.specs.Given.{IsVerdict};
 ghost use Rattle.planforms.specs.Planforms.{pair_count};

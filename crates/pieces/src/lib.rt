@@ -1,5 +1,7 @@
 // Pieces in the lent scratch (document 01, "Piece and tally"): sixteen numbers each, start, end, seven values, seven
 // errors.
+#![tactic(auto)]
+
 ghost use Rattle.std.specs.Prelude.{◌≡◌, ◌+◌, ◌*◌, ◌≤◌, length};
 ghost use Rattle.floats.specs.Operations.{◌⊕◌, at, tabulate};
 ghost use Rattle.limits.specs.Limits.{piece_numbers};

@@ -5,6 +5,8 @@
 // as numbers, x and y of each and, in a list with rolls, the roll after them. Masses and centres have no upper limit,
 // so a figure may be infinite or NaN, as the Rust's is. Taking a part off and putting it on again conserves mass only
 // up to rounding (docs/DIFFERENCES.md).
+#![tactic(auto)]
+
 ghost use Rattle.std.specs.Prelude.{true, false, ◌≡◌, ◌*◌, ◌≤◌, ◌<◌, length};
 ghost use Rattle.bodies.specs.Layout.{body_numbers};
 ghost use Rattle.joins.specs.Flat.{with_bodies};

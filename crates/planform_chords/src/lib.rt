@@ -1,6 +1,8 @@
 // The chords of a planform at a height, for the outline view (document 02, Paper 1): the planform is checked as an
 // area's is, and the ends of its chords are listed, start and end of each in order, in metres. Any f64 may be the
 // height.
+#![tactic(auto)]
+
 ghost use Rattle.std.specs.Prelude.{◌≡◌, ◌≤◌, length, take};
 ghost use Rattle.sorting.specs.Sorted.{over};
 ghost use Rattle.limits.specs.Limits.{most_points};

@@ -1,6 +1,8 @@
 // A fin's planform, with its root chord and span (fins.rs, `FinPlanform`).
 //
 // An outline's points lie beside the enum in a lent slice: x, then height, metres, one pair after another.
+#![tactic(auto)]
+
 ghost use Rattle.std.specs.Prelude.{◌≡◌};
 ghost use Rattle.planforms.specs.Planforms.{root_chord_of, span_of, last_x, largest_height, pair_count};
 ghost use Rattle.planforms.specs.Numbered.{planform_number, lengths_of, planform_of, listed_planform};

@@ -5,6 +5,8 @@
 // [τ²+x², 0, rx; 0, r²+x², 0; rx, 0, r²+τ²], and about the centre c = (∫r / V, 0, −∫x / V) it is I − m (|c|² E − c cᵀ).
 // The fillets at the root are joined with the plate; then the cant turns the fin about its span axis through the root's
 // middle.
+#![tactic(auto)]
+
 ghost use Rattle.std.specs.Prelude.{◌≡◌};
 ghost use Rattle.plates.specs.Integrals.{unscaled_of, slab_of, tab_integrals_of, add_integrals};
 ghost use Rattle.plates.specs.Plates.{about_origin, plate_body, with_fillets, canted_of, integrals_of, fin_of};

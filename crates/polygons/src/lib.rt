@@ -4,6 +4,8 @@
 // after another in a flat slice; an edge joins each corner to the next, the last to the first. Corners are taken as the
 // point sees them: how far to the right, and how far up. A coordinate is at most 2^27 in magnitude, so an offset at
 // most 2^28, a product of two at most 2^56 and a sum of two squares at most 2^57: an i64 holds each of them.
+#![tactic(auto)]
+
 ghost use Rattle.std.specs.Prelude.{◌≡◌, ◌<◌, ◌+ℤ◌, ◌*ℤ◌, ◌-ℤ◌};
 ghost use Rattle.std.specs.Int.Signed.{lt_z};
 ghost use Rattle.polygons.specs.Polygons.{is_same, is_zero_between, lies_on, is_crossed, is_cut_rising, is_cut};

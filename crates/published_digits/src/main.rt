@@ -4,6 +4,8 @@
 // digits exactly.
 //
 // Document 01, "Reviewer's checklist": the published digits are executed and checked.
+#![tactic(auto)]
+
 ghost use Rattle.std.specs.Prelude.{◌≤◌};
 
 use libc::{STDIN_FILENO, STDOUT_FILENO};

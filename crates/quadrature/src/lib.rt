@@ -7,6 +7,8 @@
 // With centre c and half-width h, K and G are the sums of the samples times the Kronrod and the Gauss weights. A
 // component's value is h*K and its error |h*(K - G)|. An integrand gives seven components; an area run uses three of
 // them, the rest are zero.
+#![tactic(auto)]
+
 ghost use Rattle.std.specs.Prelude.{◌≡◌};
 ghost use Rattle.floats.specs.Operations.{◌⊖◌, ◌⊗◌, at, tabulate};
 ghost use Rattle.floats.specs.Floats.{abs_of};

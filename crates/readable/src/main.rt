@@ -1,5 +1,7 @@
 // Shows answers of the card program as cards to read: `card < lines | readable`. Each line becomes one block, which
 // `blocks` makes; the loop over the lines is that of `shown_lines`.
+#![tactic(auto)]
+
 use arguments::Command;
 use libc::STDERR_FILENO;
 use shown_lines::Maker;

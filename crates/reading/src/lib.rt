@@ -2,6 +2,8 @@
 //
 // The word after the first bracket says which form a line is, and the form is read from its beginning, one part after
 // another; a line that does not fit, or goes on after the last bracket, is no form.
+#![tactic(auto)]
+
 ghost use Rattle.std.specs.Prelude.{true, ◌≡◌, ◌≤◌, min, length, take, drop};
 ghost use Rattle.floats.specs.Operations.{at};
 ghost use Rattle.refusals.specs.declared.Refusal.{Refusal};

@@ -1,4 +1,6 @@
 // Reading an input to its end: what a read gave, as the system's read answers it.
+#![tactic(auto)]
+
 ghost use Rattle.std.specs.Prelude.{◌≡◌};
 ghost use Rattle.reads.specs.Reads.{at_end};
 

@@ -2,6 +2,8 @@
 // the first refusal of checks in their order; and a verdict as C, Rust and lent memory hold it.
 //
 // The Rust's `DesignError` and `CoreError` have texts instead; the numbers are the kiosk's.
+#![tactic(auto)]
+
 ghost use Rattle.std.specs.Prelude.{◌≡◌, ◌≤◌, length};
 ghost use Rattle.refusals.specs.Order.{refuse_unless, refuse_when, is_refused, first_refusal};
 ghost use Rattle.refusals.specs.Refusals.{number_of, case_of, values_of, in_two_places};

@@ -2,6 +2,8 @@
 // point beside a planform, a ring of tubes, points to join, a tensor, a body, copies of one, a part moved or taken off.
 //
 // Any numbers may be handed in: those that make up none of these are no form, and refused with 18.
+#![tactic(auto)]
+
 ghost use Rattle.std.specs.Prelude.{◌≡◌, ◌+◌, ◌*◌, ◌≤◌, length};
 ghost use Rattle.refusals.specs.Calls.{Does};
 ghost use Rattle.bodies.specs.Layout.{body_numbers};

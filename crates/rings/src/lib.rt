@@ -2,6 +2,8 @@
 //
 // Copy k of n is the one body turned about the axis by base + 2πk/n. The turned copies lie one after another in a lent
 // list, and are joined there (document 01, "Body"). A single copy is turned and joined like any other.
+#![tactic(auto)]
+
 ghost use Rattle.std.specs.Prelude.{◌≡◌, ◌≤◌};
 ghost use Rattle.rings.specs.Rings.{angle_of, TurnsTo, CopiesTo, joined_copies};
 

@@ -7,6 +7,8 @@
 // half of its digits is guessed by a cubic in fixed point and the other half worked from it by an exact division.
 // Nothing is proved of the guess: where a test of it fails, q is worked digit by digit. Of f64 operations only
 // comparisons are used, and the divisions that write infinity and NaN.
+#![tactic(auto)]
+
 ghost use Rattle.std.specs.Prelude.{◌≡◌, ◌*◌, ◌^◌, ◌≤◌, ◌<◌, T};
 ghost use Rattle.std.specs.Float.Ieee.Positive.{positive};
 ghost use Rattle.floats.specs.Operations.{bits};

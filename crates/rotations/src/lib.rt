@@ -2,6 +2,8 @@
 //
 // The turn is glam's unit quaternion, worked into its matrix R; the centre becomes R c and the tensor R I Rᵀ (document
 // 01, "Stand-ins"). Every product is worked, those with the quaternion's zeros too.
+#![tactic(auto)]
+
 ghost use Rattle.std.specs.Prelude.{◌≡◌};
 ghost use Rattle.rotations.specs.Rotations.{about_x, about_z, matrix_of, turned_of, rotated_xof, rolled_of};
 

@@ -2,3 +2,4 @@
 //
 // An operation's exact result is a fraction, and rounding keeps the order of fractions; so what bounds the exact result
 // bounds the rounded one, if the bound is itself an f64.
+#![tactic(auto)]

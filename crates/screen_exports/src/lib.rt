@@ -5,6 +5,8 @@
 // with no job 1001; the call on a line returns 0, also where the answer's text is a refusal. An unknown number of a
 // set's part or of a density is refused with 18, and leaves the memory as it was; a lent slice that is too short is
 // refused with 18 too, and then nothing is written.
+#![tactic(auto)]
+
 ghost use Rattle.std.specs.Prelude.{◌≡◌, ◌&&◌, ◌≤◌, leb, length};
 ghost use Rattle.bodies.specs.Layout.{body_numbers};
 ghost use Rattle.materials.specs.Numbered.{numbered_density};

@@ -12,6 +12,8 @@
 // P is equation 6.2 of I. H. Abbott and A. E. von Doenhoff, Theory of Wing Sections, Dover, 1959. The tail is closed
 // with e = 0.1036, where P(1) = 0, and open with document 01's e = 0.1015 (document 02, Paper 7). PHI is
 // 10·∫₀¹ x^j·P dx for j = 0, 1, 2, and PSI is 1000·∫₀¹ P³ dx, each the f64 nearest to its fraction.
+#![tactic(auto)]
+
 ghost use Rattle.std.specs.Prelude.{◌≡◌};
 ghost use Rattle.sections.specs.Airfoil.{closed_tail, open_tail, airfoil_constants, AreConstants};
 ghost use Rattle.sections.specs.ChordMoments.{chord_moments, square_moments, rounded_moments, naca4_moments, tail_of};

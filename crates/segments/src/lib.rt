@@ -2,6 +2,8 @@
 //
 // Whether two share a point is decided in f64: the cross products and the sums in them are rounded, and exact geometry
 // gives other answers both ways.
+#![tactic(auto)]
+
 ghost use Rattle.std.specs.Prelude.{◌≡◌, ◌&&◌, ◌<◌};
 ghost use Rattle.std.specs.Float.Ieee.{eq};
 ghost use Rattle.floats.specs.Operations.{bits};

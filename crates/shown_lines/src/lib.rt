@@ -5,6 +5,8 @@
 // both cases it says so on standard error. What the read and each write gave is carried along, and the contracts say by
 // these values how it goes on. `show_line` alone writes texts: it hands to write the first bytes of `out`, of which its
 // contract says what they are.
+#![tactic(auto)]
+
 ghost use Rattle.std.specs.Prelude.{◌≡◌, ◌+◌, ◌*◌, ◌<◌, ◌≤◌, length};
 ghost use Rattle.texts.specs.Appended.{Appended};
 ghost use Rattle.tokens.specs.Tokens.{line_bytes};

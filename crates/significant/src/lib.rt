@@ -4,6 +4,8 @@
 // A unit is 10^-1074. The smallest positive f64, 2^-1074, is 5^1074 units, so every finite f64 is a whole number of
 // them, m * 2^j * 5^1074 with an m below 2^53: m * 5^(1074 - j) * 10^j, or m * 2^(j - 1074) * 10^1074. The digits of m
 // * 5^k or m * 2^k are worked out, all of them, and the first few are rounded by the rest.
+#![tactic(auto)]
+
 ghost use Rattle.std.specs.Prelude.{◌++◌, ◌≡◌, ◌+◌, ◌-◌, ◌*◌, ◌^◌, ◌≤◌, ◌<◌, length, Bool, cond, T, eqb};
 ghost use Rattle.floats.specs.Floats.{is_finite};
 ghost use Rattle.floats.specs.Operations.{bits};

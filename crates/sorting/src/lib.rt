@@ -2,6 +2,8 @@
 //
 // Each goes in front of the numbers at the end that are greater. Equal ones, as zeros of both signs, stay in the order
 // in which they came, which document 01 leaves free: results compare equal by ==.
+#![tactic(auto)]
+
 ghost use Rattle.std.specs.Prelude.{◌≡◌, ◌<◌, length, take};
 ghost use Rattle.sorting.specs.Sorted.{insert, over};
 

@@ -3,6 +3,8 @@
 // Document 02, "Where may I drill?": "All is exact in cutter steps of 2^-20 m over whole numbers". A length other than
 // zero has a magnitude of 2^-20 to 64 m, so that its exponent field is 1003 to 1029: it is digits * 2^(field - 1075) m
 // with 53 binary digits, and a step is 2^(1055 - field) of the last digit's units. A length has at most 2^26 steps.
+#![tactic(auto)]
+
 ghost use Rattle.std.specs.Prelude.{◌≡◌, T};
 ghost use Rattle.limits.specs.Limits.{shortest, longest, is_within};
 ghost use Rattle.steps.specs.Steps.{exact_of, is_whole, steps_of};

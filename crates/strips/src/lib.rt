@@ -5,6 +5,8 @@
 // last or the first that is not accepted, each over the scratch as the one before left it. Values, intervals and
 // samples are added up from zero. How the last strip worked ended is told beside them; a limit that is not 1 to
 // `MOST_PIECES`, and a scratch without room for that many pieces, are the caller's to refuse.
+#![tactic(auto)]
+
 ghost use Rattle.std.specs.Prelude.{◌≡◌, ◌+◌, ◌-◌, ◌^◌, ◌<◌, length};
 ghost use Rattle.refusals.specs.Calls.{Does};
 ghost use Rattle.planforms.specs.Planforms.{span_of};

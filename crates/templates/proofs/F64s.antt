@@ -9,10 +9,10 @@ use lib.Ieee.{Float, binary64, fits}
 use lib.Ieee.Fits.{nan-fits, round-fits}
 use lib.Ieee.Bits.{of_bits-fits}
 use Rattle.floats.specs.Operations.{at}
-use Rattle.hex.specs.declared.Figure.{Figure}
-use Rattle.hex.specs.declared.Figure.TheVariants.{Number, NotFigure}
-use Rattle.hex.specs.Hex.{digit_value, read_digits, figure_of}
-use Rattle.hex.specs.Hex as hex
+use Rattle.hexadecimal.specs.declared.Figure.{Figure}
+use Rattle.hexadecimal.specs.declared.Figure.TheVariants.{Number, NotFigure}
+use Rattle.hexadecimal.specs.Hex.{digit_value, read_digits, figure_of}
+use Rattle.hexadecimal.specs.Hex as hex
 use Rattle.counts.specs.declared.Count.{Count}
 use Rattle.counts.specs.declared.Count.TheVariants.{Whole, NotCount}
 use Rattle.counts.specs.Counts.{count_of, capped_count}

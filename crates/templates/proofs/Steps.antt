@@ -8,7 +8,7 @@ use native.Mathlib.Omega.{arith}
 use lib.ListN.{length, take, drop, set, length-set, length-take, length-drop}
 use lib.Seq.{take-suc-set, take-set-le, take-take}
 use lib.Ieee.{Float}
-use Rattle.hex.specs.declared.Figure.TheVariants.{Number, NotFigure}
+use Rattle.hexadecimal.specs.declared.Figure.TheVariants.{Number, NotFigure}
 use Rattle.counts.specs.declared.Count.{Count}
 use Rattle.counts.specs.declared.Count.TheVariants.{Whole, NotCount}
 use Rattle.counts.specs.Counts.{count_of, capped_count}

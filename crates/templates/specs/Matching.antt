@@ -1,8 +1,8 @@
 -- Reading a line by templates (docs/FORMS.md). A template is written as the form is: its tokens are held against the
 -- line's, one by one. `F` stands for a figure, `F..` for figures, as many as there are, and `N` for a count.
 use Rattle.std.specs.Prelude.{List, [], ◌∷◌, ◌++◌, Bool, true, false, ◌&&◌, not, cond, ℕ, zero, suc, leb, eqb, Float}
-use Rattle.hex.specs.declared.Figure.{Figure}
-use Rattle.hex.specs.declared.Figure.TheVariants.{Number, NotFigure}
+use Rattle.hexadecimal.specs.declared.Figure.{Figure}
+use Rattle.hexadecimal.specs.declared.Figure.TheVariants.{Number, NotFigure}
 use Rattle.counts.specs.declared.Count.{Count}
 use Rattle.counts.specs.declared.Count.TheVariants.{Whole, NotCount}
 use Rattle.counts.specs.Counts.{count_of, capped_count}

@@ -3,6 +3,8 @@
 // A template is written as a form is, `F` standing for a figure, `F..` for figures and `N` for a count. Its tokens are
 // held against the line's; the figures go into a lent slice, in order. Of alternatives the first that fits is taken,
 // and a template can be taken as often as it fits.
+#![tactic(auto)]
+
 ghost use Rattle.std.specs.Prelude.{true, ◌≡◌, ◌≤◌, length, drop};
 ghost use Rattle.counts.specs.Counts.{count_of, capped_count};
 ghost use Rattle.tokens.specs.Tokens.{line_bytes, tokens};
@@ -13,7 +15,7 @@ ghost use Rattle.templates.specs.Cursors.{taken_before, Room, ReadsOn, Takes, Is
 ghost use Rattle.templates.specs.Cursors.{spoiled_to, pick_cursor, counted, plain_to, numbered_cursor, IsBarEnd};
 
 use counts::Count;
-use hex::Figure;
+use hexadecimal::Figure;
 use tokens::{LINE_BYTES, TokenRange};
 
 // The most figures that a line may have: each has at least one byte.

@@ -4,7 +4,7 @@ use Prim.Native.String.{String}
 use Rattle.std.specs.Float.Ieee.{of_bits, to_bits, round, mul, neg, lt, eq, ne}
 use Rattle.floats.specs.Operations.{bits}
 use Rattle.floats.specs.Floats.{abs_of}
-use Rattle.hex.specs.Hex as hex
+use Rattle.hexadecimal.specs.Hex as hex
 use Rattle.counts.specs.Counts as counts
 use Rattle.tokens.specs.Text.{text, codes}
 use Rattle.significant.specs.Significant.{digits_up_to, digit_count, nearest_whole, digits_of, place_of}

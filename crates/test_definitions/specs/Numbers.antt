@@ -8,9 +8,9 @@ use Rattle.floats.specs.Floats.{is_finite, abs_of, min_of, max_of, square, cube,
 use Rattle.root.specs.Root.{near_root, root_of}
 use Rattle.trig.specs.Trig.{m_of, quarter_turns, sin_cos_of, sin_of, cos_of}
 use Rattle.sections.specs.Airfoil.{closed_tail, open_tail, airfoil_constants}
-use Rattle.hex.specs.declared.Figure.{Figure}
-use Rattle.hex.specs.declared.Figure.TheVariants.{Number, NotFigure}
-use Rattle.hex.specs.Hex as hex
+use Rattle.hexadecimal.specs.declared.Figure.{Figure}
+use Rattle.hexadecimal.specs.declared.Figure.TheVariants.{Number, NotFigure}
+use Rattle.hexadecimal.specs.Hex as hex
 use Rattle.counts.specs.declared.Count.{Count}
 use Rattle.counts.specs.declared.Count.TheVariants.{Whole, NotCount}
 use Rattle.counts.specs.Counts as counts

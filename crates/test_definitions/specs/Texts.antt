@@ -4,9 +4,9 @@ use Prim.Native.String.{String}
 use Rattle.std.specs.Float.Ieee.{of_bits, to_bits, round, is_nan, eq}
 use Rattle.floats.specs.Operations.{bits, tabulate}
 use Rattle.refusals.specs.Refusals as refusals
-use Rattle.hex.specs.declared.Figure.{Figure}
-use Rattle.hex.specs.declared.Figure.TheVariants.{Number, NotFigure}
-use Rattle.hex.specs.Hex as hex
+use Rattle.hexadecimal.specs.declared.Figure.{Figure}
+use Rattle.hexadecimal.specs.declared.Figure.TheVariants.{Number, NotFigure}
+use Rattle.hexadecimal.specs.Hex as hex
 use Rattle.counts.specs.Counts as counts
 use Rattle.tokens.specs.Text.{text, codes}
 use Rattle.tokens.specs.Tokens.{tokens_after, tokens}

@@ -1,6 +1,8 @@
 // Makes thousands of calls on an engine in lent memory, by a row of numbers: submissions, changes of density, short
 // turns and turns on eight screens. Beside it each job is stepped alone, and the order of service is worked out again;
 // every answer is compared, and the scratch of every turn.
+#![tactic(auto)]
+
 ghost use Rattle.std.specs.Prelude.{◌≤◌, length};
 ghost use Rattle.limits.specs.Limits.{scratch_numbers};
 ghost use Rattle.lent_engines.specs.Lent.{Room};

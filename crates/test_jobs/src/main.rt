@@ -2,6 +2,8 @@
 // and refused, and short steps. The answer that ends the job, the scratch, and the same answer again are held beside a
 // fresh run with the density accepted last. The jobs stand in lent memory, so that each call runs `jobs::step` or
 // `jobs::change_density` over `&mut Job`.
+#![tactic(auto)]
+
 ghost use Rattle.std.specs.Prelude.{◌≤◌, length};
 ghost use Rattle.limits.specs.Limits.{scratch_numbers};
 ghost use Rattle.lent_jobs.specs.Lent.{Room};

@@ -1,5 +1,7 @@
 // Replays answers that the oracle wrote (oracle/README.md): a line has a question, `=` and the answer that the code
 // must give. Prints how many lines agree, differ, or are none; results compare equal by ==, and a NaN matches a NaN.
+#![tactic(auto)]
+
 mod body_lines;
 mod lines;
 mod number_lines;

@@ -1,6 +1,8 @@
 // Replays runs (oracle/README.md): a line has how many numbers of scratch to lend, then a set's or a planform's line.
 // Prints the refusal's number and values, the figures, the counts and a sum over the whole scratch, as the oracle
 // prints them.
+#![tactic(auto)]
+
 ghost use Rattle.std.specs.Prelude.{◌≡◌, ◌+◌, ◌≤◌, length};
 ghost use Rattle.templates.specs.Cursors.{line_figures};
 

@@ -1,4 +1,6 @@
 // Sets made up by a row of numbers that looks random, and figures compared bit for bit, for the test programs.
+#![tactic(auto)]
+
 use figures::Figures;
 use fillets::Fillet;
 use fins::{FinSet, Tab};

@@ -1,5 +1,7 @@
 // A line cut into tokens: brackets and words (docs/FORMS.md). A token is found from a place on; its word is a part of
 // the line.
+#![tactic(auto)]
+
 ghost use Rattle.std.specs.Prelude.{◌≡◌, ◌≤◌, length};
 ghost use Rattle.tokens.specs.Tokens.{ends_word, tokens};
 ghost use Rattle.tokens.specs.Found.{IsFound, IsWordEnd, IsPastSpaces};

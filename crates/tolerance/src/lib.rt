@@ -3,6 +3,8 @@
 // The summed error of each component is held against its bound, max(1e-16, 1e-12 |summed value|). A piece's score is
 // its largest error over bound; the worst piece, and the worst component, is the last with the highest. QUADPACK's QAG
 // (see `halving`) compares one component's error with max(absolute, relative·|value|) in the same way, without a score.
+#![tactic(auto)]
+
 ghost use Rattle.std.specs.Prelude.{◌≡◌, ◌*◌, ◌-◌, ◌<◌, ◌≤◌, length, false};
 ghost use Rattle.std.specs.Float.Ieee.{le, ne};
 ghost use Rattle.floats.specs.Floats.{max_of};

@@ -5,6 +5,8 @@
 // about its axis and m ((R² + r²)/4 + L²/12) across it; its axis stands at body radius + R. The axes of n tubes lie on
 // a circle of that radius, 2π/n apart, so neighbours touch where the outer radius is body radius · s / (1 − s), s =
 // sin(π/n).
+#![tactic(auto)]
+
 ghost use Rattle.std.specs.Prelude.{◌≡◌, ◌≤◌};
 ghost use Rattle.refusals.specs.Given.{IsVerdict};
 ghost use Rattle.joins.specs.Joins.{IsJoined};

@@ -3,3 +3,4 @@
 //
 // Document 01: "Const generics become two widths"; "an area run uses three of the seven, the rest zero". The code works
 // seven components always, and the theorem is what makes its area's run the run of three.
+#![tactic(auto)]

@@ -6,7 +6,7 @@ use mathlib.Core.List.{List}
 use Prim.Native.Nat.{ℕ, ◌+◌, ◌-◌, ◌≤◌}
 use lib.ListN.{length, drop}
 use lib.Ieee.{Float}
-use Rattle.hex.specs.declared.Figure.TheVariants.{Number, NotFigure}
+use Rattle.hexadecimal.specs.declared.Figure.TheVariants.{Number, NotFigure}
 use Rattle.decimals.specs.Decimals.{decimal_of}
 use Rattle.figure_words.specs.FigureWords.{unsigned_figure}
 use Rattle.figure_words.proofs.Words.{none, whole_read, other_byte, for_second, no_fraction, more, few_behind, all_read}

@@ -1,7 +1,7 @@
 -- `figure_words::whole_figure` meets its contract: sixteen bare digits are turned away, all others are a decimal. Assumes nothing.
 use mathlib.Core.Path.{sym, ap, ◌∙◌}
 use native.Mathlib.Omega.{arith}
-use Rattle.hex.specs.declared.Figure.TheVariants.{Number}
+use Rattle.hexadecimal.specs.declared.Figure.TheVariants.{Number}
 use Rattle.figure_words.proofs.Shapes.{sixteen_bare, whole_is, not_bare, not_sixteen}
 use borrow.Author.Rules.{rules}
 use Rattle.figure_words.proofs.whole_figure.Statement.{statement}

@@ -5,7 +5,7 @@ use Prim.Native.Nat.{◌<◌}
 use borrow.Author.Rules.{rules}
 use lib.Ieee.{Float}
 use lib.ListN.{length}
-use Rattle.hex.specs.declared.Figure.TheVariants.{Number}
+use Rattle.hexadecimal.specs.declared.Figure.TheVariants.{Number}
 use Rattle.tokens.specs.Text.{text}
 use Rattle.tokens.specs.Found.{part}
 use Rattle.figure_words.specs.FigureWords.{figure_word}
