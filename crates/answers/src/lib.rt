@@ -31,7 +31,7 @@ const DONE: [u8; 90] =
 const PROGRESS: [u8; 58] = *b"(progress (worked N) (strips N) (intervals N) (samples N))";
 
 // The answers that docs/FORMS.md lists, by what they tell.
-#[derive(Drop)]
+#[derive(Clone, Copy)]
 pub enum Shape {
     Figures,
     Area,
@@ -55,7 +55,7 @@ pub enum Shape {
 
 // An answer: its shape, and the figures and counts that its template takes, from the first on. Those that the template
 // does not reach are not printed.
-#[derive(Drop)]
+#[derive(Clone, Copy)]
 pub struct Reply {
     pub shape: Shape,
     pub figures: [f64; 10],
@@ -63,7 +63,7 @@ pub struct Reply {
 }
 
 // Where printing stands: how many bytes are written, and how many figures and counts have been used.
-#[derive(Drop)]
+#[derive(Clone, Copy)]
 struct Place {
     n: usize,
     figures: usize,

@@ -9,7 +9,7 @@ ghost use Rattle.arguments.specs.Arguments.{asked_by};
 use libc::{STDERR_FILENO, STDOUT_FILENO};
 use templates::same_bytes;
 
-#[derive(Drop)]
+#[derive(Clone, Copy)]
 pub enum Command {
     Run,
     Help,

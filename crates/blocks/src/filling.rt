@@ -16,7 +16,7 @@ use crate::sentences;
 const DIGITS: usize = 6;
 
 // Where filling stands: how many bytes are written, and how many figures and counts have been used.
-#[derive(Drop)]
+#[derive(Clone, Copy)]
 pub(crate) struct Place {
     pub(crate) n: usize,
     pub(crate) figures: usize,

@@ -5,7 +5,7 @@ ghost use Rattle.blocks.specs.Steps.{IsTextFor};
 use templates::{bar_end, same_bytes};
 
 // Where a text of a table begins, and where it ends, not included.
-#[derive(Drop)]
+#[derive(Clone, Copy)]
 pub struct Part {
     pub from: usize,
     pub to: usize,

@@ -7,7 +7,7 @@ use counts::Count;
 use hexadecimal::Figure;
 
 // How far reading is: how many bytes of the shape, how many figures and how many counts are written.
-#[derive(Drop)]
+#[derive(Clone, Copy)]
 pub(crate) struct Read {
     pub(crate) bytes: usize,
     pub(crate) figures: usize,

@@ -18,7 +18,7 @@ ghost use Rattle.bodies.specs.Bodies.{inertia_about_of, translated_of, rotated_o
 ghost use Rattle.bodies.specs.Layout.{tensor_numbers, body_numbers, body_of, numbers_of};
 
 // Three numbers along x, y and z: a place in metres, an offset, or a column of a matrix.
-#[derive(Drop)]
+#[derive(Clone, Copy)]
 pub struct Vector {
     pub x: f64,
     pub y: f64,
@@ -26,14 +26,14 @@ pub struct Vector {
 }
 
 // Nine numbers in columns: a rotation, or what is worked from one.
-#[derive(Drop)]
+#[derive(Clone, Copy)]
 pub struct Matrix(pub [f64; 9]);
 
 // An inertia tensor in kg·m², which is symmetric: six numbers xx, yy, zz, xy, xz, yz.
-#[derive(Drop)]
+#[derive(Clone, Copy)]
 pub struct Tensor(pub [f64; 6]);
 
-#[derive(Drop)]
+#[derive(Clone, Copy)]
 pub struct Body {
     pub mass_kg: f64,
     pub centre_m: Vector,

@@ -17,14 +17,14 @@ use planforms::Planform;
 const MOST_HEIGHTS: usize = MOST_POINTS + 2;
 
 // The break heights in metres, the first `count` of the array; zeros stand after them.
-#[derive(Drop)]
+#[derive(Clone, Copy)]
 pub struct BreakHeights {
     pub count: usize,
     pub heights: [f64; MOST_HEIGHTS],
 }
 
 // A height, and its place among others.
-#[derive(Drop)]
+#[derive(Clone, Copy)]
 pub struct RankedHeight {
     pub place: usize,
     pub height: f64,

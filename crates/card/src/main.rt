@@ -27,7 +27,7 @@ use reads::MOST_READ;
 // Where the program stands in a chunk: the line that has begun, how many bytes of the chunk are taken, how many bytes
 // of replies were handed to write since the program began, how many of them with the last write, and whether that
 // took them all.
-#[derive(Drop)]
+#[derive(Clone, Copy)]
 struct Step {
     state: State,
     taken: usize,
@@ -39,7 +39,7 @@ struct Step {
 // Where the program stands between two reads: the line that has begun, what the last read gave, how many bytes were
 // read and how many of replies were handed to write since the program began, whether every write took all that it was
 // handed, and whether to read on.
-#[derive(Drop)]
+#[derive(Clone, Copy)]
 struct Turn {
     state: State,
     got: isize,
@@ -50,7 +50,7 @@ struct Turn {
 }
 
 // The last write: how many bytes it was handed, and whether it took them all.
-#[derive(Drop)]
+#[derive(Clone, Copy)]
 struct Last {
     written: usize,
     all: bool,
@@ -58,7 +58,7 @@ struct Last {
 
 // The end of a run: its last turn, whether every write took all that it was handed, how many bytes of replies were
 // handed to write, and how many bytes are to be told on standard error.
-#[derive(Drop)]
+#[derive(Clone, Copy)]
 struct End {
     turn: Turn,
     all: bool,

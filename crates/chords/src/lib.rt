@@ -25,7 +25,7 @@ use planforms::Planform;
 
 // What there is at a height: no chord, one with its ends in metres aft of the root's leading edge, or an outline that
 // is crossed more than twice, whose crossings `outline_crossings` lists.
-#[derive(Drop)]
+#[derive(Clone, Copy)]
 pub enum Chords {
     Nothing,
     One { start_m: f64, end_m: f64 },
@@ -174,7 +174,7 @@ pub fn ellipse_chord(root_chord_m: f64, span_m: f64, h: f64) -> Chords
 }
 
 // The crossings found so far, in order, while there are no more than two.
-#[derive(Drop)]
+#[derive(Clone, Copy)]
 enum Few {
     Zero,
     Single(f64),

@@ -7,7 +7,7 @@ ghost use Rattle.texts.specs.Appended.{Appended};
 ghost use Rattle.counts.specs.Counts.{digit_value, count_of, capped, capped_count, count_text};
 
 // What a word is: a count, with its value, or none.
-#[derive(Drop)]
+#[derive(Clone, Copy)]
 pub enum Count {
     Whole(u64),
     NotCount,

@@ -81,7 +81,7 @@ fn two_to(k: u64) -> u64
 }
 
 // A divisor `by` that is a given one times 2^shift.
-#[derive(Drop)]
+#[derive(Clone, Copy)]
 struct Divisor {
     by: u64,
     shift: u64,
@@ -104,7 +104,7 @@ fn widened(n: u64, d: u64) -> Divisor
 }
 
 // A quotient by some e, worked so far: n * 2^places is quotient * e + rest.
-#[derive(Drop)]
+#[derive(Clone, Copy)]
 struct Quotient {
     quotient: u64,
     rest: u64,

@@ -23,7 +23,7 @@ use refusals::{Refusal, Verdict, first_refusal};
 use steps::{is_whole, steps};
 
 // Where a point lies, each place with the nearest corner's position; or why there is no answer.
-#[derive(Drop)]
+#[derive(Clone, Copy)]
 pub enum Answer {
     Inside(usize),
     Edge(usize),

@@ -16,14 +16,14 @@ use materials::Density;
 use refusals::{Refusal, Verdict};
 
 // Which screens hold a job, and which screen was served last, 0 before the first.
-#[derive(Drop)]
+#[derive(Clone, Copy)]
 pub struct Screens {
     pub held: [bool; 8],
     pub last: usize,
 }
 
 // An engine's screens and their jobs: the job of screen n stands at place n - 1.
-#[derive(Drop)]
+#[derive(Clone, Copy)]
 pub struct Engine {
     pub screens: Screens,
     pub jobs: [Job; 8],
@@ -31,7 +31,7 @@ pub struct Engine {
 
 // What a turn answers: 2, as its scratch was short; that no screen holds a job; or, with the screen served, that more
 // strips of its job remain, or that the job has ended, and then the job's outcome is the answer.
-#[derive(Drop)]
+#[derive(Clone, Copy)]
 pub enum Turn {
     Short,
     Idle,
@@ -40,7 +40,7 @@ pub enum Turn {
 }
 
 // The screens and the job of the next screen as a turn leaves them, and what the turn answers.
-#[derive(Drop)]
+#[derive(Clone, Copy)]
 pub struct ScreenTurn {
     pub screens: Screens,
     pub job: Job,
@@ -48,7 +48,7 @@ pub struct ScreenTurn {
 }
 
 // The screens and a screen's job as a submission or a change of density leaves them, and what the call answers.
-#[derive(Drop)]
+#[derive(Clone, Copy)]
 pub struct ScreenReply {
     pub screens: Screens,
     pub job: Job,
@@ -56,14 +56,14 @@ pub struct ScreenReply {
 }
 
 // The engine as a turn leaves it, and what the turn answers.
-#[derive(Drop)]
+#[derive(Clone, Copy)]
 pub struct EngineTurn {
     pub engine: Engine,
     pub turn: Turn,
 }
 
 // The engine as a submission or a change of density leaves it, and what the call answers.
-#[derive(Drop)]
+#[derive(Clone, Copy)]
 pub struct EngineReply {
     pub engine: Engine,
     pub reply: Reply,

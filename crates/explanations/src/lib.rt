@@ -27,7 +27,7 @@ use templates::{LINE_FIGURES, bar_end};
 use tokens::{LINE_BYTES, TokenRange};
 
 // What a line is refused for: the number and the values that go with it, or zeros where it is not refused.
-#[derive(Drop)]
+#[derive(Clone, Copy)]
 pub struct Fault {
     pub number: u64,
     pub first: u64,

@@ -80,7 +80,7 @@ fn whole_figure(bare: bool, minus: bool, n: u64, count: usize) -> Figure
 }
 
 // A run of digits: the number that they make up with those before them, and the place after them.
-#[derive(Drop)]
+#[derive(Clone, Copy)]
 struct Run {
     number: u64,
     end: usize,

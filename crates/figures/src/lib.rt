@@ -20,7 +20,7 @@ use refusals::{Refusal, Verdict};
 
 // A set's body with the totals of intervals and samples. A refusal carries zero figures, no intervals, and the samples
 // taken so far.
-#[derive(Drop)]
+#[derive(Clone, Copy)]
 pub struct Figures {
     pub verdict: Verdict,
     pub body: Body,
@@ -30,7 +30,7 @@ pub struct Figures {
 
 // A planform's area and centroid with the totals of intervals and samples. A refusal carries zero figures, no
 // intervals, and the samples taken so far.
-#[derive(Drop)]
+#[derive(Clone, Copy)]
 pub struct Area {
     pub verdict: Verdict,
     pub area_m2: f64,

@@ -28,14 +28,14 @@ const THINNEST: f64 = 1e-6;
 const WIDEST: f64 = 1000.0;
 
 // Glue along both sides of each root. With a radius of 0 there is none, and its density is not read.
-#[derive(Drop)]
+#[derive(Clone, Copy)]
 pub struct Fillet {
     pub radius_m: f64,
     pub density: Density,
 }
 
 // A fillet by its number, where there is one.
-#[derive(Drop)]
+#[derive(Clone, Copy)]
 pub enum NumberedFillet {
     Known(Fillet),
     Unknown,
@@ -72,7 +72,7 @@ pub fn fillet_of(number: usize, figures: [f64; FILLET_FIGURES]) -> NumberedFille
 }
 
 // The area of a plane figure, and its moments ∫ x dA, ∫ x² dA and ∫ y² dA.
-#[derive(Drop)]
+#[derive(Clone, Copy)]
 pub struct AreaMoments {
     pub area_m2: f64,
     pub sx_m3: f64,

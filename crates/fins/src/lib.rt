@@ -21,7 +21,7 @@ use refusals::{Refusal, Verdict, first_refusal, is_refused};
 use sections::{NumberedSection, Section};
 
 // A rectangular tab below each root: its depth, its length, and how far aft of the root's leading edge it starts.
-#[derive(Drop)]
+#[derive(Clone, Copy)]
 pub enum Tab {
     None,
     Slab {
@@ -32,7 +32,7 @@ pub enum Tab {
 }
 
 // Identical fins spaced evenly around a body. An outline's points lie beside the set.
-#[derive(Drop)]
+#[derive(Clone, Copy)]
 pub struct FinSet {
     pub count: usize,
     pub planform: Planform,
@@ -47,14 +47,14 @@ pub struct FinSet {
 }
 
 // A tab by its number, where there is one.
-#[derive(Drop)]
+#[derive(Clone, Copy)]
 pub enum NumberedTab {
     Known(Tab),
     Unknown,
 }
 
 // A set by its numbers, where there is one.
-#[derive(Drop)]
+#[derive(Clone, Copy)]
 pub enum NumberedSet {
     Known(FinSet),
     Unknown,

@@ -22,7 +22,7 @@ use quadrature::Piece;
 use refusals::{Refusal, Verdict};
 
 // How a strip ends: accepted, or refused 13 with the component.
-#[derive(Drop)]
+#[derive(Clone, Copy)]
 pub enum Ending {
     Accepted,
     NotConverged(usize),
@@ -40,7 +40,7 @@ pub fn verdict_of(ending: Ending) -> Verdict
 
 // What is added up over the pieces of a strip and over the strips of a set: the integral of each component, the
 // intervals and the samples.
-#[derive(Drop)]
+#[derive(Clone, Copy)]
 pub struct Totals {
     pub value: [f64; 7],
     pub intervals: usize,
@@ -48,7 +48,7 @@ pub struct Totals {
 }
 
 // The answer for one strip, and for the strips of a set: how it ended, and its totals.
-#[derive(Drop)]
+#[derive(Clone, Copy)]
 pub struct Integral {
     pub ending: Ending,
     pub totals: Totals,
@@ -69,14 +69,14 @@ fn middle_is_end(p: Piece) -> bool
 }
 
 // What the pieces ask for next: the strip ends, or the piece at a place is halved.
-#[derive(Drop)]
+#[derive(Clone, Copy)]
 enum Next {
     Ended(Ending),
     Halve(usize),
 }
 
 // What the pieces ask for next, and their summed values.
-#[derive(Drop)]
+#[derive(Clone, Copy)]
 struct Judgement {
     next: Next,
     value: [f64; 7],

@@ -11,7 +11,7 @@ ghost use Rattle.hexadecimal.specs.Hex.{digit_value, figure_of, digit_letter, pr
 ghost use Rattle.hexadecimal.specs.Words.{Each, bytes_of, lanes, taken, all_digits};
 
 // What a word is: a figure, with its f64, or none.
-#[derive(Drop)]
+#[derive(Clone, Copy)]
 pub enum Figure {
     Number(f64),
     NotFigure,

@@ -9,14 +9,14 @@ ghost use Rattle.input_lines.specs.Kept.{Keeps, KeepsBytes, KeepsLine};
 use tokens::LINE_BYTES;
 
 // The line that has begun: how many of its bytes are kept, and whether there were more.
-#[derive(Drop)]
+#[derive(Clone, Copy)]
 pub struct State {
     pub kept: usize,
     pub over: bool,
 }
 
 // What keeping the bytes of a line gave: the state, and how many bytes were taken.
-#[derive(Drop)]
+#[derive(Clone, Copy)]
 pub struct KeptLine {
     pub state: State,
     pub taken: usize,

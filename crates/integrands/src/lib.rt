@@ -22,7 +22,7 @@ use planforms::Planform;
 use sections::Section;
 
 // What is summed over the chords. Thickness and body radius are divided by the scale.
-#[derive(Drop)]
+#[derive(Clone, Copy)]
 pub enum Kind {
     Area,
     Plate {
@@ -33,7 +33,7 @@ pub enum Kind {
 }
 
 // The choice among the two integrands, with the planform whose chords it takes; an outline's points lie beside it.
-#[derive(Drop)]
+#[derive(Clone, Copy)]
 pub struct Integrand {
     pub kind: Kind,
     pub planform: Planform,

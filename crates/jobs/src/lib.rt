@@ -23,7 +23,7 @@ use refusals::{Refusal, Verdict, first_refusal};
 use strips::Advance;
 
 // A copy of an outline: room for the most points, and how many of the numbers are the outline's.
-#[derive(Drop)]
+#[derive(Clone, Copy)]
 pub struct Points {
     pub numbers: [f64; OUTLINE_NUMBERS],
     pub count: usize,
@@ -31,7 +31,7 @@ pub struct Points {
 
 // A job: the set, its own copy of the outline and L; which strip is next, by the place of its lower end among all
 // heights; the totals over the strips worked; and, once it has ended, its answer.
-#[derive(Drop)]
+#[derive(Clone, Copy)]
 pub struct Job {
     pub set: FinSet,
     pub points: Points,
@@ -44,7 +44,7 @@ pub struct Job {
 
 // What a step answers: 2, as its scratch was short; that more strips remain; or that the job has ended, and then the
 // job's outcome is the answer.
-#[derive(Drop)]
+#[derive(Clone, Copy)]
 pub enum Progress {
     Short,
     More,
@@ -52,7 +52,7 @@ pub enum Progress {
 }
 
 // How far a job is: how many of its strips are worked, how many it has, and the intervals and samples so far.
-#[derive(Drop)]
+#[derive(Clone, Copy)]
 pub struct JobProgress {
     pub worked: usize,
     pub strips: usize,
@@ -62,28 +62,28 @@ pub struct JobProgress {
 
 // What a making, a submission or a change of density answers: taken where the verdict accepts, else its number with the
 // samples so far.
-#[derive(Drop)]
+#[derive(Clone, Copy)]
 pub struct Reply {
     pub verdict: Verdict,
     pub samples: usize,
 }
 
 // An answer as its number, 0 where it has figures, and its figures, zeros where it has none.
-#[derive(Drop)]
+#[derive(Clone, Copy)]
 pub struct Row {
     pub number: usize,
     pub figures: Figures,
 }
 
 // A job as a step leaves it, and what the step answers.
-#[derive(Drop)]
+#[derive(Clone, Copy)]
 pub struct JobStep {
     pub job: Job,
     pub progress: Progress,
 }
 
 // A job as it is made, or as a change of density leaves it, and what that call answers.
-#[derive(Drop)]
+#[derive(Clone, Copy)]
 pub struct JobReply {
     pub job: Job,
     pub reply: Reply,

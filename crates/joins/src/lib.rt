@@ -17,14 +17,14 @@ use bodies::{BODY_NUMBERS, Body, Vector};
 use refusals::{Refusal, Verdict};
 
 // A body, as of one fin or of joined ones, with its verdict; with a refusal, the empty body.
-#[derive(Drop)]
+#[derive(Clone, Copy)]
 pub struct JoinedBody {
     pub verdict: Verdict,
     pub body: Body,
 }
 
 // What the centre is worked from: total mass, Σ mₖ cₖ, Σ cₖ and how many bodies there are.
-#[derive(Drop)]
+#[derive(Clone, Copy)]
 pub struct Sums {
     pub mass_kg: f64,
     pub moment: Vector,

@@ -7,7 +7,7 @@ ghost use Rattle.materials.specs.Numbered.{density_number, density_figure, numbe
 
 use refusals::{Refusal, Verdict};
 
-#[derive(Drop)]
+#[derive(Clone, Copy)]
 pub enum Density {
     Bulk { kg_m3: f64 },
     Surface { kg_m2: f64 },
@@ -15,7 +15,7 @@ pub enum Density {
 }
 
 // The density of a kind's number and a figure, or unknown where the number is no kind's.
-#[derive(Drop)]
+#[derive(Clone, Copy)]
 pub enum NumberedDensity {
     Known(Density),
     Unknown,

@@ -15,14 +15,14 @@ use bodies::{Matrix, TENSOR_NUMBERS, Tensor};
 use refusals::{Refusal, TensorFault, Verdict};
 
 // The principal moments, ascending, or zeros with a refusal.
-#[derive(Drop)]
+#[derive(Clone, Copy)]
 pub struct Moments {
     pub verdict: Verdict,
     pub moments_kg_m2: [f64; 3],
 }
 
 // The cosine and the sine of a rotation's angle.
-#[derive(Drop)]
+#[derive(Clone, Copy)]
 struct Rotation {
     cosine: f64,
     sine: f64,

@@ -28,7 +28,7 @@ use refusals::{Refusal, Verdict, first_refusal};
 const COPIES_NUMBERS: usize = 32 * BODY_NUMBERS;
 
 // Where one copy sits: turned by the roll about the axis, then moved across it.
-#[derive(Drop)]
+#[derive(Clone, Copy)]
 pub struct Placement {
     pub offset_x_m: f64,
     pub offset_y_m: f64,

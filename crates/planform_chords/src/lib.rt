@@ -17,7 +17,7 @@ use refusals::{Refusal, Verdict};
 pub const ROOM: usize = limits::MOST_POINTS;
 
 // How many chords are listed, 0 with a refusal.
-#[derive(Drop)]
+#[derive(Clone, Copy)]
 pub struct ChordList {
     pub verdict: Verdict,
     pub count: usize,

@@ -9,7 +9,7 @@ ghost use Rattle.planforms.specs.Numbered.{planform_number, lengths_of, planform
 
 // The shape of a fin, its lengths in metres. The sweep is the axial distance from the root's leading edge aft to the
 // tip's.
-#[derive(Drop)]
+#[derive(Clone, Copy)]
 pub enum Planform {
     Trapezoid {
         root_chord_m: f64,
@@ -25,7 +25,7 @@ pub enum Planform {
 }
 
 // The planform of a kind's number and lengths, or unknown where the number is no kind's.
-#[derive(Drop)]
+#[derive(Clone, Copy)]
 pub enum NumberedPlanform {
     Known(Planform),
     Unknown,

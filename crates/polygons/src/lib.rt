@@ -14,7 +14,7 @@ ghost use Rattle.polygons.specs.Polygons.{is_on_edge, is_inside, nearest_corner}
 ghost use Rattle.polygons.specs.Bounds.{IsCoordinate, IsOffset, IsProduct, AreOffsets, InReach};
 
 // A corner as the point sees it: how far to the right, and how far up.
-#[derive(Drop)]
+#[derive(Clone, Copy)]
 struct Offset {
     across: i64,
     up: i64,

@@ -17,7 +17,7 @@ const ENTRIES: usize = 20;
 const ONE: u64 = 0x1000_0000_0000_0000;
 
 // How a number compares with a decimal.
-#[derive(Drop)]
+#[derive(Clone, Copy)]
 enum Order {
     Below,
     Equal,

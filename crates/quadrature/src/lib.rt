@@ -24,7 +24,7 @@ use limits::{MOST_POINTS, PIECE_SAMPLES};
 use planforms::Planform;
 
 // A part of a strip with its integral and that integral's error estimate.
-#[derive(Drop)]
+#[derive(Clone, Copy)]
 pub struct Piece {
     pub start: f64,
     pub end: f64,
@@ -33,14 +33,14 @@ pub struct Piece {
 }
 
 // The answer of the rule: a piece, and how many samples were taken of it.
-#[derive(Drop)]
+#[derive(Clone, Copy)]
 pub struct Measurement {
     pub piece: Piece,
     pub samples: usize,
 }
 
 // The weighted sums over the samples, and how many samples there are.
-#[derive(Drop)]
+#[derive(Clone, Copy)]
 struct Tally {
     kronrod: [f64; 7],
     gauss: [f64; 7],
@@ -121,7 +121,7 @@ fn gauss_weights() -> [f64; PIECE_SAMPLES]
 }
 
 // The least and the largest height of a piece's samples, in metres.
-#[derive(Drop)]
+#[derive(Clone, Copy)]
 struct Bounds {
     lo: f64,
     hi: f64,

@@ -42,7 +42,7 @@ const WITHOUT: [u8; 115] =
 
 // What a line asks, or why it is refused. `points` is how many of the line's first figures are its planform's. Points
 // to join, a tensor, bodies and places are not kept here: they are all of the line's figures.
-#[derive(Drop)]
+#[derive(Clone, Copy)]
 pub enum Asked {
     Refused(Refusal),
     Set {
@@ -93,13 +93,13 @@ pub enum Asked {
 }
 
 // A line that was read: what it asks, and how many figures it has, which stand at the start of a lent slice.
-#[derive(Drop)]
+#[derive(Clone, Copy)]
 pub struct Line {
     pub asked: Asked,
     pub figures: usize,
 }
 
-#[derive(Drop)]
+#[derive(Clone, Copy)]
 pub enum Form {
     Set,
     Area,
@@ -122,7 +122,7 @@ pub enum Form {
 
 // The parts of a set by their numbers, and how many figures stand before those of the thickness (`points`, the
 // planform's own), of the tab, of the fillet, of cant, base and radius, and of the density.
-#[derive(Drop)]
+#[derive(Clone, Copy)]
 pub struct SetParts {
     pub limit: usize,
     pub count: usize,
@@ -139,7 +139,7 @@ pub struct SetParts {
 }
 
 // Where reading stands after a set, and the set's parts.
-#[derive(Drop)]
+#[derive(Clone, Copy)]
 struct SetRead {
     end: Cursor,
     parts: SetParts,

@@ -13,7 +13,7 @@ ghost use Rattle.refusals.specs.Lent.{with_values, with_count, with_counts};
 
 // What is wrong with a tensor: the cases a, b, d and e of refusal 17, in their order. Six numbers cannot be asymmetric,
 // which was c.
-#[derive(Drop)]
+#[derive(Clone, Copy)]
 pub enum TensorFault {
     Entry,
     Massless,
@@ -23,7 +23,7 @@ pub enum TensorFault {
 
 // The refusals, in the table's order. Length and Angle hold the field's number, Touches the two edges, NotConverged the
 // component, Tensor what is wrong.
-#[derive(Drop)]
+#[derive(Clone, Copy)]
 pub enum Refusal {
     Limit,
     Scratch,
@@ -53,7 +53,7 @@ pub enum Refusal {
 }
 
 // The answer of a check: accepted, or a refusal.
-#[derive(Drop)]
+#[derive(Clone, Copy)]
 pub enum Verdict {
     Accepted,
     Refused(Refusal),
@@ -109,7 +109,7 @@ pub fn tensor_case(fault: TensorFault) -> usize
 }
 
 // A row of the table: a refusal's number, and the values that go with it in two places, 0 where there is none.
-#[derive(Drop)]
+#[derive(Clone, Copy)]
 struct Row(usize, [usize; 2]);
 
 // Returns a refusal's row of the table. The values are the field of 4 and 9, the two edges of 7, the component of 13,

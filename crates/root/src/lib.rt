@@ -51,7 +51,7 @@ fn digit_root(n: u64) -> u64
 }
 
 // The cubic .0 - (.1 * x + .2 * x² + .3 * x³), in units of 1/32.
-#[derive(Drop)]
+#[derive(Clone, Copy)]
 struct Cubic(u32, u32, u32, u32);
 
 // Returns the cubic that is √n - 2^26 + 1/2 to within 0.43, in part i of 2^52 <= n < 2^54: sixteen parts up to 2^53,
@@ -137,7 +137,7 @@ fn nearest_root(n: u64, h: u64) -> u64
 }
 
 // A radicand of digits * 2^(power + 52), where `digits` has 53 binary digits.
-#[derive(Drop)]
+#[derive(Clone, Copy)]
 struct Scaled {
     digits: u64,
     power: u64,

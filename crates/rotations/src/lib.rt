@@ -9,7 +9,7 @@ ghost use Rattle.rotations.specs.Rotations.{about_x, about_z, matrix_of, turned_
 
 use bodies::{Body, Matrix};
 
-#[derive(Drop)]
+#[derive(Clone, Copy)]
 pub struct Quaternion {
     pub x: f64,
     pub y: f64,

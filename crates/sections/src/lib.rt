@@ -20,7 +20,7 @@ ghost use Rattle.sections.specs.ChordMoments.{chord_moments, square_moments, rou
 ghost use Rattle.sections.specs.Numbered.{section_number, numbered_section};
 
 // The shape of a fin's section along its chord (fins.rs, `FinCrossSection`), the airfoil's tail closed or open.
-#[derive(Drop)]
+#[derive(Clone, Copy)]
 pub enum Section {
     Square,
     Rounded,
@@ -29,7 +29,7 @@ pub enum Section {
 }
 
 // The section of a number, or unknown where the number is no section's.
-#[derive(Drop)]
+#[derive(Clone, Copy)]
 pub enum NumberedSection {
     Known(Section),
     Unknown,

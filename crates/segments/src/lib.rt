@@ -11,13 +11,13 @@ ghost use Rattle.segments.specs.Segments.{next, cross_of, are_opposite, is_in_bo
 ghost use Rattle.segments.specs.Places.{place_of, are_beyond, are_apart};
 
 // A point, in metres.
-#[derive(Drop)]
+#[derive(Clone, Copy)]
 pub struct Point {
     pub x: f64,
     pub y: f64,
 }
 
-#[derive(Drop)]
+#[derive(Clone, Copy)]
 pub struct Segment {
     pub from: Point,
     pub to: Point,
@@ -25,7 +25,7 @@ pub struct Segment {
 
 // Where a point lies beside a segment: on its left or right, before or after both of its ends in x, each strictly; and
 // the point's y.
-#[derive(Drop)]
+#[derive(Clone, Copy)]
 pub struct Place {
     pub left: bool,
     pub right: bool,

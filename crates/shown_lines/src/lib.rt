@@ -20,14 +20,14 @@ use libc::{STDERR_FILENO, STDIN_FILENO, STDOUT_FILENO};
 use reads::MOST_READ;
 
 // What is shown of a line: the block of an answer of the card program, or the explanation of a line to it.
-#[derive(Drop)]
+#[derive(Clone, Copy)]
 pub enum Maker {
     Blocks,
     Explanations,
 }
 
 // A write: how many bytes it was handed, and whether it took them all.
-#[derive(Drop)]
+#[derive(Clone, Copy)]
 struct Last {
     written: usize,
     all: bool,
@@ -36,7 +36,7 @@ struct Last {
 // Where the program stands in a chunk: the line that has begun, how many lines ended since the program began, how many
 // bytes of the chunk are taken, how many bytes of blocks were handed to write since the program began, how many of them
 // with the last write, and whether that took them all.
-#[derive(Drop)]
+#[derive(Clone, Copy)]
 struct Step {
     state: State,
     ended: u64,
@@ -49,7 +49,7 @@ struct Step {
 // Where the program stands between two reads: the line that has begun, how many lines ended since the program began,
 // what the last read gave, how many bytes were read and how many handed to write since the program began, whether every
 // write took all that it was handed, and whether to read on.
-#[derive(Drop)]
+#[derive(Clone, Copy)]
 struct Turn {
     state: State,
     ended: u64,
@@ -62,7 +62,7 @@ struct Turn {
 
 // The end of a run: its last turn, whether every write took all that it was handed, how many bytes were handed to
 // write, and how many bytes are to be told on standard error.
-#[derive(Drop)]
+#[derive(Clone, Copy)]
 struct End {
     turn: Turn,
     all: bool,

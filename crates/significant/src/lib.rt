@@ -25,7 +25,7 @@ const SIGN: u64 = 0x8000_0000_0000_0000;
 const MORE: u64 = 10_000_000_000_000_000;
 
 // Significant digits of an f64: digits * 10^place units.
-#[derive(Drop)]
+#[derive(Clone, Copy)]
 pub struct Significant {
     pub digits: u64,
     pub place: usize,

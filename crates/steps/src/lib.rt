@@ -14,7 +14,7 @@ ghost use Rattle.steps.specs.Parts.{AreParts, IsLength};
 const LEADING: u64 = 0x10_0000_0000_0000;
 
 // A magnitude of digits / step steps.
-#[derive(Drop)]
+#[derive(Clone, Copy)]
 struct Parts {
     digits: u64,
     step: u64,

@@ -18,7 +18,7 @@ use integrands::Integrand;
 use std::num::wrapping_add_usize;
 
 // The totals after a strip, where the next one begins, and whether there is a next.
-#[derive(Drop)]
+#[derive(Clone, Copy)]
 pub struct Advance {
     pub total: Integral,
     pub next: usize,

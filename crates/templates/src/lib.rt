@@ -24,7 +24,7 @@ pub const LINE_FIGURES: usize = 4096;
 // Where reading stands: whether the line may still be a form; the next byte; how many figures have been read; the
 // number read last, which is a count or an alternative's place among the others, from 1 on; and whether a word that is
 // no figure stood where one belongs.
-#[derive(Drop)]
+#[derive(Clone, Copy)]
 pub struct Cursor {
     pub ok: bool,
     pub at: usize,

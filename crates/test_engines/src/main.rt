@@ -19,7 +19,7 @@ use std::num::wrapping_add_u64;
 const CALLS: u64 = 40000;
 
 // The eight jobs, each stepped alone; which of them run, and the screen served last.
-#[derive(Drop)]
+#[derive(Clone, Copy)]
 struct Alone {
     jobs: [Job; 8],
     runs: [bool; 8],
@@ -27,14 +27,14 @@ struct Alone {
 }
 
 // The jobs alone after a call, whether the engine answered the same, and whether a job ended.
-#[derive(Drop)]
+#[derive(Clone, Copy)]
 struct Called {
     alone: Alone,
     same: bool,
     ended: bool,
 }
 
-#[derive(Drop)]
+#[derive(Clone, Copy)]
 struct Tally {
     ended: u64,
     differ: u64,

@@ -75,7 +75,7 @@ fn drive(
 }
 
 // How many jobs ended with figures, and how many differ from a fresh run or have not ended.
-#[derive(Drop)]
+#[derive(Clone, Copy)]
 struct Tally {
     figures: u64,
     differ: u64,

@@ -1,7 +1,7 @@
 // What came of a line, and its answers held against what the code gives.
 
 // What came of a line: its answers agree or differ, or it is no line of the lists.
-#[derive(Drop)]
+#[derive(Clone, Copy)]
 pub enum Outcome {
     Agrees,
     Differs,

@@ -17,7 +17,7 @@ use crate::reading::{Cursor, LINE_FIGURES};
 use libc::{STDIN_FILENO, STDOUT_FILENO};
 use tokens::LINE_BYTES;
 
-#[derive(Drop)]
+#[derive(Clone, Copy)]
 struct Tally {
     agree: u64,
     differ: u64,
@@ -25,7 +25,7 @@ struct Tally {
 }
 
 // The lines counted so far, and how many bytes of the line that has begun are kept.
-#[derive(Drop)]
+#[derive(Clone, Copy)]
 struct Progress {
     tally: Tally,
     kept: usize,

@@ -14,7 +14,7 @@ pub(crate) const LINE_FIGURES: usize = 256;
 // Where reading stands: whether all of the template so far fits, the next byte, how many figures have been read, how
 // many of them stood before the last word that is no choice, which is `=` in the end, and the places of the last two
 // words chosen, from 1 on.
-#[derive(Drop)]
+#[derive(Clone, Copy)]
 pub(crate) struct Cursor {
     pub(crate) ok: bool,
     pub(crate) at: usize,

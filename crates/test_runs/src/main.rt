@@ -15,7 +15,7 @@ use templates::{Cursor, LINE_FIGURES};
 use tokens::LINE_BYTES;
 
 // A refusal's number, or 0, and the two values that go with it.
-#[derive(Drop)]
+#[derive(Clone, Copy)]
 struct Reason {
     number: u64,
     first: u64,

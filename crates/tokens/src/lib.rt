@@ -10,7 +10,7 @@ ghost use Rattle.tokens.specs.Found.{IsFound, IsWordEnd, IsPastSpaces};
 pub const LINE_BYTES: usize = 4096;
 
 // Where a token's bytes begin and end. Both are the same place where no token is left.
-#[derive(Drop)]
+#[derive(Clone, Copy)]
 pub struct TokenRange {
     pub from: usize,
     pub to: usize,

@@ -21,7 +21,7 @@ const ABSOLUTE: f64 = 1e-16;
 const RELATIVE: f64 = 1e-12;
 
 // The summed values and errors of each component.
-#[derive(Drop)]
+#[derive(Clone, Copy)]
 pub struct Sums {
     pub value: [f64; 7],
     pub error: [f64; 7],
@@ -112,7 +112,7 @@ fn score(p: Piece, b: [f64; 7]) -> f64
 }
 
 // The highest number so far and its place.
-#[derive(Drop)]
+#[derive(Clone, Copy)]
 struct Highest {
     number: f64,
     place: usize,
@@ -165,7 +165,7 @@ fn larger_errors(m: [f64; 7], e: [f64; 7]) -> [f64; 7]
 }
 
 // Of the pieces from a place on: the highest score, its last place, and the largest error of each component.
-#[derive(Drop)]
+#[derive(Clone, Copy)]
 struct Extremes {
     number: f64,
     place: usize,

@@ -24,7 +24,7 @@ const SINE_DIVISORS: [f64; 8] = [272.0, 210.0, 156.0, 110.0, 72.0, 42.0, 20.0, 6
 
 const COSINE_DIVISORS: [f64; 8] = [240.0, 182.0, 132.0, 90.0, 56.0, 30.0, 12.0, 2.0];
 
-#[derive(Drop)]
+#[derive(Clone, Copy)]
 pub struct SinCos {
     pub sin: f64,
     pub cos: f64,
@@ -87,7 +87,7 @@ fn by_quarter(quarter: u64, r: f64, both: [f64; 2]) -> SinCos
 }
 
 // A whole number m as an f64, and m mod 4.
-#[derive(Drop)]
+#[derive(Clone, Copy)]
 struct Whole {
     m: f64,
     quarter: u64,

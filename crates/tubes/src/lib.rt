@@ -20,7 +20,7 @@ use refusals::{Refusal, Verdict, first_refusal};
 
 const PI: f64 = 3.141592653589793;
 
-#[derive(Drop)]
+#[derive(Clone, Copy)]
 pub struct TubeFinSet {
     pub count: usize,
     pub length_m: f64,
@@ -31,7 +31,7 @@ pub struct TubeFinSet {
 }
 
 // The outer radius of tubes that close the ring around a body, or zero with a refusal.
-#[derive(Drop)]
+#[derive(Clone, Copy)]
 pub struct ClosingRadius {
     pub verdict: Verdict,
     pub radius_m: f64,
