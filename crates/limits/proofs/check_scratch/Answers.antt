@@ -8,8 +8,7 @@ use borrow.Author.Rules.{rules}
 use borrow.Author.Tests.{leb-true, leb-false, le-leb, lt-leb}
 use lib.Dec.{leb}
 use Rattle.limits.specs.Limits.{piece_numbers, scratch_check}
-use Rattle.limits.proofs.check_scratch.Statement.{statement}
-use Rattle.limits.proofs.check_scratch.Tie as tie
+use Rattle.limits.proofs.check_scratch.Goals as goal
 
 room_for : (L n : ℕ) → leb L (n / piece_numbers) ≡ leb (piece_numbers * L) n
 room_for L n = by_test (leb L (n / piece_numbers)) refl
@@ -18,12 +17,6 @@ room_for L n = by_test (leb L (n / piece_numbers)) refl
     by_test true h = sym (le-leb (piece_numbers * L) n (omega (arith, leb-true L (n / piece_numbers) h)))
     by_test false h = sym (lt-leb (piece_numbers * L) n (omega (arith, leb-false L (n / piece_numbers) h)))
 
-refuse-unless-requires : tie.Need-refuse-unless-requires
-refuse-unless-requires c κs = search rules
-
-returns : tie.Need-returns
+pub returns : goal.returns
 unfolding scratch_check
-returns c = rw (c.refuse-unless.ensures, room_for)
-
-pub check-scratch-spec : {M : Type 1} → statement M
-check-scratch-spec = tie.close (tie.spec refuse-unless-requires returns)
+returns c = rw (c.refuse_unless.ensures, room_for)

@@ -3,12 +3,8 @@ use mathlib.Core.Path.{◌≡◌, refl}
 use lib.Ieee.{of_bits, round, div}
 use Rattle.sections.specs.Airfoil.{airfoil_constants}
 use Rattle.sections.proofs.Tails.{open_constants}
-use Rattle.sections.proofs.open_tail.Statement.{statement}
-use Rattle.sections.proofs.open_tail.Tie as tie
+use Rattle.sections.proofs.open_tail.Goals as goal
 
-returns : tie.Need-returns
+pub returns : goal.returns
 unfolding airfoil_constants of_bits round div
 returns c = open_constants _ refl
-
-pub open-tail-spec : {M : Type 1} → statement M
-open-tail-spec = tie.close (tie.spec returns)
