@@ -8,16 +8,12 @@ use lib.IntN.{ℤ, pos, negsuc}
 use mir.Syntax.{w64}
 use mir.Val.{of_z, SFits}
 use Rattle.reads.specs.Reads.{at_end}
-use Rattle.reads.proofs.is_end.Statement.{statement}
-use Rattle.reads.proofs.is_end.Tie as tie
+use Rattle.reads.proofs.is_end.Goals as goal
 
 zero_bits : (z : ℤ) → SFits w64 z → eqb (of_z w64 z) 0 ≡ at_end z
 zero_bits (pos zero) f = refl
 zero_bits (pos (suc k)) f = ne_eqb (suc k) 0 (λ e. omega arith)
 zero_bits (negsuc k) f = ne_eqb (of_z w64 (negsuc k)) 0 (λ e. let h = f.sfits in omega arith)
 
-returns : tie.Need-returns
+pub returns : goal.returns
 returns c = zero_bits c.args.got c.ranges.got
-
-pub is-end-spec : {M : Type 1} → statement M
-is-end-spec = tie.close (tie.spec returns)
