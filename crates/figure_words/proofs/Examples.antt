@@ -4,7 +4,7 @@ use mathlib.Core.List.{List, [], ◌∷◌}
 use Prim.Native.Nat.{ℕ}
 use Prim.Native.String.{String}
 use lib.Dec.{T, eqb}
-use lib.Ieee.{Float, binary64, round, of_bits, to_bits}
+use lib.Ieee.{binary64, round, of_bits, to_bits}
 use Rattle.tokens.specs.Text.{codes, text}
 use Rattle.hexadecimal.specs.declared.Figure.{Figure}
 use Rattle.hexadecimal.specs.declared.Figure.TheVariants.{Number, NotFigure}

@@ -1,5 +1,5 @@
 -- No decimal is written with more than 44 bytes. Assumes nothing.
-use mathlib.Core.List.{List, [], ◌∷◌, ◌++◌}
+use mathlib.Core.List.{List, [], ◌++◌}
 use mathlib.Core.Bool.{Bool, true, false, cond}
 use Prim.Native.Nat.{ℕ, ◌+◌, ◌-◌, ◌≤◌}
 use native.Mathlib.Omega.{arith}
@@ -12,7 +12,7 @@ use Rattle.tokens.specs.Text.{text, codes}
 use Rattle.counts.specs.Counts.{count_text}
 use Rattle.counts.proofs.Printing.{twenty}
 use Rattle.significant.specs.Significant.{decimal_units_of, digits_of, place_of}
-use Rattle.significant.specs.Printed.{pointed, fraction, exponent_text, scientific, placed, written, magnitude_text, sign_text}
+use Rattle.significant.specs.Printed.{pointed, fraction, exponent_text, scientific, placed, written, magnitude_text}
 use Rattle.significant.specs.Printed.{signed_text, decimal_text}
 
 pointed_fits : (ds : List ℕ) (i : ℕ) → length ds ≤ 20 → length (pointed ds i) ≤ 21

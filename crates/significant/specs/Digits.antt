@@ -1,6 +1,6 @@
 -- Digits in a list, the least significant first: what private functions do. The definitions of Significant.antt do not
 -- use these.
-use Rattle.std.specs.Prelude.{List, [], ◌∷◌, Bool, cond, ◌⊎◌, ◌≡◌, ℕ, suc, ◌+◌, ◌-◌, ◌*◌, ◌/◌, ◌%◌, ◌^◌, ◌≤◌, ◌<◌, ltb, length, drop, get_or}
+use Rattle.std.specs.Prelude.{List, [], ◌∷◌, Bool, cond, ◌⊎◌, ◌≡◌, ℕ, ◌+◌, ◌-◌, ◌*◌, ◌/◌, ◌%◌, ◌^◌, ◌≤◌, ◌<◌, ltb, length, drop, get_or}
 use Rattle.significant.specs.Significant.{digits_of, place_of}
 
 -- the number that digits write

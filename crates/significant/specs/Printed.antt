@@ -1,5 +1,5 @@
 -- An f64 as people write it: some significant digits with a point, or with an exponent where that would be long.
-use Rattle.std.specs.Prelude.{List, [], ◌∷◌, ◌++◌, Bool, cond, ℕ, ◌+◌, ◌-◌, leb, ltb, length, take, drop, Float}
+use Rattle.std.specs.Prelude.{List, [], ◌++◌, Bool, cond, ℕ, ◌+◌, ◌-◌, leb, ltb, length, take, drop, Float}
 use Rattle.std.specs.Float.Ieee.{ne, eq, lt}
 use Rattle.floats.specs.Operations.{bits}
 use Rattle.floats.specs.Floats.{is_finite}
