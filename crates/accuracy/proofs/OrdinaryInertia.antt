@@ -45,8 +45,9 @@ use Rattle.fins.specs.declared.Tab.{Tab}
 use Rattle.fins.specs.declared.Tab.TheVariants.{None, Slab}
 use Rattle.error_terms.proofs.Laws.{inverse_of}
 use Rattle.error_terms.proofs.Monomials.{place, mono, top, bottom}
-use Rattle.error_terms.proofs.Terms.{shape, Given, entry, larger, var, const, nought, value, AllKnown, numbers_of, unit_by, unit_real}
-use Rattle.error_terms.proofs.Terms.{numbers_are, ◌take◌ as ◌take_term◌, ◌over◌ as ◌over_t◌}
+use Rattle.error_terms.proofs.Terms.{shape, Given, entry, larger, var, const, nought, value, AllKnown, numbers_of, unit_by}
+use Rattle.error_terms.proofs.Terms.{◌take◌ as ◌take_term◌, ◌over◌ as ◌over_t◌}
+use Rattle.error_terms.proofs.Sound.{unit_real, numbers_are}
 use Rattle.error_terms.proofs.Judged.{Judged, nearer}
 use Rattle.error_terms.proofs.Shared.{Shared, local, whole, ◌⊞◌, ◌⊟◌, ◌⊠◌, ◌⊡◌, tightly, raised_by, judge_in, judge_all, bind_all, expand}
 use Rattle.error_terms.proofs.Shared.{all_within}

@@ -3,14 +3,12 @@ use mathlib.Core.List.{List, [], ◌∷◌, ◌++◌, append-nil, append_assoc}
 use mathlib.Core.Bool.{Bool, true, false, ◌||◌}
 use mathlib.Core.Path.{◌≡◌, refl, sym, ap, ◌∙◌}
 use Prim.Native.Nat.{ℕ, suc, ◌+◌, ◌-◌, ◌<◌, ◌≤◌, min}
-use native.Mathlib.Nat.{zero-add}
 use native.Mathlib.Numerals.{add-one}
 use native.Mathlib.Omega.{arith}
 use borrow.Author.Tests.{lt-ltb, le-ltb, ltb-true, ltb-false, eqb-true}
 use lib.Dec.{ltb, eqb}
 use lib.ListN.{length, take, get_or, length-append}
-use lib.Seq.{take_all, take-length, take-suc, take_at, take-append-le, take-append-add, length-take-le}
-use Rattle.bytes.specs.Bytes.{index_of, index_after, slice}
+use lib.Seq.{take_all, take-suc, take_at, take-append-le, take-append-add, length-take-le}
 use Rattle.tokens.specs.Tokens.{line_bytes}
 use Rattle.input_lines.specs.declared.State.{State}
 use Rattle.input_lines.specs.Lines.{lines_within, begun_after, last_line}
@@ -84,64 +82,40 @@ more_kept buffer rest line s m b w e = record { within = omega arith; keeps = by
               ∙ ap (ltb line_bytes) (sym l);
         }
 
--- the same as `copy` leaves them: it copies `take m line` to the part of the buffer that lies after the bytes kept
-pub copied : (buffer part rest post line : List ℕ) (s : State) (m : ℕ) → line_bytes ≤ length buffer → s.kept ≤ line_bytes
-    → m ≡ min (length line) (line_bytes - s.kept)
-    → part ≡ take (length (take m line)) (take m line) ++ rest
-    → KeepsBytes buffer (take s.kept buffer ++ (part ++ post)) s
-    (record { kept = s.kept + m; over = s.over || ltb (line_bytes - s.kept) (length line) }) line
-copied buffer part rest post line s m b w e p =
-    let q : part ++ post ≡ take m line ++ (rest ++ post) = ap (λ (x : List ℕ). x ++ post)
-    (p ∙ ap (λ (x : List ℕ). x ++ rest) (take-length (take m line))) ∙ append_assoc (take m line) rest post in
-    rw q (more_kept buffer (rest ++ post) line s m b w e)
-
 -- ---- up to the first newline no line ends
 pub record OneLine (bytes : List ℕ) : Type 0 where
   pub none_ends : (begun : List ℕ) → lines_within begun bytes ≡ []
   pub goes_on : (begun : List ℕ) → begun_after begun bytes ≡ begun ++ bytes
 
-pub before_newline : (l : List ℕ) → OneLine (take (index_of 10 l) l)
-unfolding index_of index_after lines_within begun_after
-before_newline [] = record { none_ends = λ begun. refl; goes_on = λ begun. sym (append-nil begun) }
-before_newline (x ∷ l) = by (eqb x 10) refl (before_newline l)
+-- no byte of l is a newline
+abbrev pub NoNewline : List ℕ → Type 0
+NoNewline l = (k : ℕ) → k < length l → get_or l k 0 ≡ 10 → ⊥
+
+pub before_newline : (l : List ℕ) → NoNewline l → OneLine l
+unfolding lines_within begun_after
+before_newline [] clear = record { none_ends = λ begun. refl; goes_on = λ begun. sym (append-nil begun) }
+before_newline (x ∷ l) clear = by (eqb x 10) refl (before_newline l (λ k h. clear (suc k) (omega arith)))
   where
-    by : (t : Bool) → eqb x 10 ≡ t → OneLine (take (index_of 10 l) l) → OneLine (take (index_after t (index_of 10 l)) (x ∷ l))
-    by true e i = record { none_ends = λ begun. refl; goes_on = λ begun. sym (append-nil begun) }
+    by : (t : Bool) → eqb x 10 ≡ t → OneLine l → OneLine (x ∷ l)
+    by true e i = absurd (clear 0 (omega arith) (eqb-true x 10 e))
     by false e i =
         record {
           none_ends = λ begun. rw e (i.none_ends (begun ++ (x ∷ [])));
-          goes_on = λ begun. rw e (i.goes_on (begun ++ (x ∷ [])) ∙ append_assoc begun (x ∷ []) (take (index_of 10 l) l));
+          goes_on = λ begun. rw e (i.goes_on (begun ++ (x ∷ [])) ∙ append_assoc begun (x ∷ []) l);
         }
 
-pub at_newline : (l : List ℕ) → index_of 10 l < length l → get_or l (index_of 10 l) 0 ≡ 10
-unfolding index_of index_after
-at_newline [] h = absurd (let z : ⊥ = omega arith in z)
-at_newline (x ∷ l) h = by (eqb x 10) refl h (at_newline l)
-  where
-    by : (t : Bool) → eqb x 10 ≡ t → index_after t (index_of 10 l) < suc (length l) → (index_of 10 l < length l → get_or l (index_of 10 l) 0 ≡ 10)
-        → get_or (x ∷ l) (index_after t (index_of 10 l)) 0 ≡ 10
-    by true e h i = eqb-true x 10 e
-    by false e h i = i (omega arith)
-
--- what `find` looks through is all the bytes
-pub in_all : (l : List ℕ) (r : ℕ) → r ≡ 0 + index_of 10 (slice 0 (length l) l) → r ≡ index_of 10 l
-unfolding slice
-in_all l r e = e ∙ zero-add (index_of 10 (take (length l) l)) ∙ ap (index_of 10) (take-length l)
-
-pub line_kept : (buffer after bytes : List ℕ) (s r : State) (taken : ℕ) → taken ≡ index_of 10 bytes → taken ≤ length bytes
-    → KeepsBytes buffer after s r (take taken bytes)
+-- the bytes before the first newline, or all
+pub line_kept : (buffer after bytes : List ℕ) (s r : State) (taken : ℕ) → NoNewline (take taken bytes) → taken ≤ length bytes
+    → (taken < length bytes → get_or bytes taken 0 ≡ 10) → KeepsBytes buffer after s r (take taken bytes)
     → KeepsLine buffer after s bytes (record { state = r; taken = taken })
-line_kept buffer after bytes s r taken e some k =
+line_kept buffer after bytes s r taken clear some ends k =
     record {
-      none_ends = λ begun. rw e ((before_newline bytes).none_ends begun);
-      keeps = λ begun g. rw (goes begun) (k.keeps begun g);
+      none_ends = (before_newline (take taken bytes) clear).none_ends;
+      keeps = λ begun g. rw ((before_newline (take taken bytes) clear).goes_on begun) (k.keeps begun g);
       within = k.within;
       some = some;
-      ends = λ h. rw e (at_newline bytes (omega arith));
+      ends = ends;
     }
-  where
-    goes : (begun : List ℕ) → begun_after begun (take taken bytes) ≡ begun ++ take taken bytes
-    goes begun = rw e ((before_newline bytes).goes_on begun)
 
 -- the bytes of a chunk up to the next place
 pub next_taken : (chunk : List ℕ) (i : ℕ) → i < length chunk → take (i + 1) chunk ≡ take i chunk ++ (get_or chunk i 0 ∷ [])

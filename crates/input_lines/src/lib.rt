@@ -6,6 +6,7 @@ ghost use Rattle.std.specs.Prelude.{◌≡◌, List, [], ℕ, ◌≤◌, min, le
 ghost use Rattle.tokens.specs.Tokens.{line_bytes};
 ghost use Rattle.input_lines.specs.Kept.{Keeps, KeepsBytes, KeepsLine};
 
+use memchr::memchr;
 use tokens::LINE_BYTES;
 
 // The line that has begun: how many of its bytes are kept, and whether there were more.
@@ -47,8 +48,8 @@ fn keep(buffer: &mut [u8], s: State, line: &[u8]) -> State
     let kept = s.kept;
     let room = LINE_BYTES - kept;
     let n = fitting(line.len(), room);
-    bytes::copy(&line[..n], &mut buffer[kept..]);
     let more = kept + n;
+    buffer[kept..more].copy_from_slice(&line[..n]);
     State {
         kept: more,
         over: s.over | (room < line.len()),
@@ -60,7 +61,7 @@ pub fn keep_line(buffer: &mut [u8], s: State, bytes: &[u8]) -> KeptLine
     requires { (line_bytes ≤ length buffer.old) × (s.kept ≤ line_bytes) }
     ensures { KeepsLine buffer.old buffer.new s bytes.now result }
 {
-    let taken = bytes::scan::find(bytes, 0, bytes.len(), 10);
+    let taken = memchr(b'\n', bytes).unwrap_or(bytes.len());
     let state = keep(buffer, s, &bytes[..taken]);
     KeptLine { state, taken }
 }

@@ -26,7 +26,8 @@ use Rattle.rounding_error.proofs.Polynomials.{AllNumbers}
 use Rattle.error_terms.proofs.Monomials.{top, bottom, place, AllRanges}
 use Rattle.error_terms.proofs.Laws.{inverse_of, inverse_is, Reaches}
 use Rattle.error_terms.proofs.Terms.{shape, Given, entry, larger, Term, var, raised, ◌add◌ as ◌add_t◌, ◌take◌ as ◌take_term◌, ◌mul◌ as ◌mul_t◌}
-use Rattle.error_terms.proofs.Terms.{◌over◌, AllKnown, unit_by, unit_real}
+use Rattle.error_terms.proofs.Terms.{◌over◌, AllKnown, unit_by}
+use Rattle.error_terms.proofs.Sound.{unit_real}
 use Rattle.error_terms.proofs.Judged.{near_within}
 use Rattle.error_terms.proofs.Orders.{near_above}
 

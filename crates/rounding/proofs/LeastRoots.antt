@@ -1,5 +1,5 @@
 -- The root of an f64 is no smaller than an f64 whose square is no larger. Assumes nothing.
-use mathlib.Core.Path.{◌≡◌, sym, ap, ap₂, ◌∙◌}
+use mathlib.Core.Path.{◌≡◌, sym, ap, ◌∙◌}
 use mathlib.Core.Bool.{Bool, true, false, not}
 use Prim.Native.Nat.{ℕ, suc, ◌+◌, ◌*◌, ◌^◌, ◌≤◌, ◌<◌, zero-le}
 use native.Mathlib.Nat.{le_trans, le_of_eq, mul_comm, mul_assoc, mul_left_comm, mul_right_comm, mul-le-mul, mul-le-mul_right}
@@ -58,7 +58,7 @@ module _ (nx dx ux ny dy uy u : ℕ) (is_x : nx * u ≡ ux * dx) (is_y : ny * u 
       third n e v = simp (mul_assoc, mul_comm, mul_left_comm)
 
       fourth : (a d v e : ℕ) → a * d * v * (e * e) ≡ a * v * (d * (e * e))
-      fourth a d v e = simp (mul_assoc, mul_comm, mul_left_comm)
+      fourth a d v e = simp (mul_assoc, mul_left_comm)
 
 least_in_units : (ny dy uy nr dr ur u : ℕ) → 0 < u → ny * u ≡ uy * dy → ur * dr ≤ nr * u → uy ≤ ur → ny * dr ≤ nr * dy
 least_in_units ny dy uy nr dr ur u U e f h =

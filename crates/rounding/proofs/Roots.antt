@@ -14,7 +14,6 @@ use Rattle.floats.proofs.Zeros.{zero_is}
 use lib.Ieee.Digits.{Equals, odd_val}
 use lib.Ieee.Fits.{and_i, up_pos, down_pos}
 use lib.Ieee.Nearest.{div_mono}
-use lib.Ieee.Scale.{finite}
 use Rattle.floats.specs.Units.{units_of}
 use Rattle.root.specs.Root.{radicand, root_of, kept, dropped}
 use Rattle.floats.proofs.Units.{units_are}

@@ -11,7 +11,7 @@ use lib.Signed.{◌≤ℤ◌}
 use lib.Ieee.{Float, nan, inf, fin, up}
 use lib.Ieee.Scale.{finite}
 use Rattle.floats.specs.Fractions.{Fraction, ◌over◌, ◌plus◌ as sum, minus as negated, ◌times◌ as product, value_of as fraction_of}
-use Rattle.rounding_error.specs.Distances.{◌atMost◌, Within as Near}
+use Rattle.rounding_error.specs.Distances.{◌at_most◌, Within as Near}
 use Rattle.rounding_error.proofs.Numbers.{Number, number, ◌per◌, ◌plus◌, minus, ◌times◌, IsNumber, Over, Within, value_of}
 
 -- ---- z is p − n

@@ -3,8 +3,8 @@ use Rattle.std.specs.Prelude.{◌*◌, ◌<◌, pos, ◌*ℤ◌, ◌≤ℤ◌}
 use Rattle.floats.specs.Fractions.{Fraction, ◌over◌, ◌plus◌}
 
 -- x <= y, where neither divisor is 0
-infix 50 ◌atMost◌
-abbrev pub ◌atMost◌ : Fraction → Fraction → Type 0
+infix 50 ◌at_most◌
+abbrev pub ◌at_most◌ : Fraction → Fraction → Type 0
 (a over b) at_most (c over d) = (0 < b * d) × ((a *ℤ pos d) ≤ℤ (c *ℤ pos b))
 
 -- |x − y| <= e

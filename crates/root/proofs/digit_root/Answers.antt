@@ -10,6 +10,7 @@ use lib.Pow.{pow_mono}
 use Rattle.root.specs.Root.{near_root}
 use Rattle.root.proofs.Squares.{even_square, odd_square, round_down, round_up, near_of}
 use Rattle.root.proofs.digit_root.Goals as goal
+use Rattle.root.proofs.digit_root.Goals.{then-trial-more, else-trial-more}
 use Rattle.root.proofs.digit_root.Invariants.{State}
 
 pub loop-i-init : goal.loop-i-init
@@ -79,9 +80,10 @@ pub loop-i-preserved : goal.loop-i-preserved
 loop-i-preserved c =
     let l = c.loop-i in
     let n = c.args.n in
-    ⊎_elim (λ w. rw (w.1, w.2) (one n l.i l.left l.s l.rest l.invariant (omega arith) w.0.taken))
-    (λ w. rw (w.1, w.2) (nought n l.i l.left l.s l.rest l.invariant (omega arith) w.0.left))
-    c.if-trial-more.branch
+    elim c.if-trial-more.branch [
+      then-trial-more w ↦ rw (w.s-is, w.rest-is) (one n l.i l.left l.s l.rest l.invariant (omega arith) w.if-trial-more.true)
+    | else-trial-more w ↦ rw (w.s-is, w.rest-is) (nought n l.i l.left l.s l.rest l.invariant (omega arith) w.if-trial-more.false)
+    ]
 
 pub overflow_add-result : goal.overflow_add-result
 overflow_add-result c = omega arith

@@ -12,7 +12,7 @@ pub overflow_mul-w : goal.overflow_mul-w
 overflow_mul-w c = omega (arith, (bounds c.scale-x.ensures.0).1)
 
 pub nearest_root-requires : goal.nearest_root-requires
-nearest_root-requires c κs = let b = bounds c.scale-x.ensures.0 in
+nearest_root-requires c = let b = bounds c.scale-x.ensures.0 in
     (b.0, omega (arith, b.1), c.guess.ensures.0, c.guess.ensures.1)
 
 pub overflow_add-result : goal.overflow_add-result

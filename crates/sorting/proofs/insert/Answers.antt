@@ -8,6 +8,7 @@ use lib.ListN.{length, take, length-set}
 use Rattle.sorting.specs.Sorted.{insert, over}
 use Rattle.sorting.proofs.Insertion.{Left, start, moved, put_behind, put_first}
 use Rattle.sorting.proofs.insert.Goals as goal
+use Rattle.sorting.proofs.insert.Goals.{else-loop-k-test, then-loop-k-test+then-not-x-y}
 
 pub loop-k-init : goal.loop-k-init
 loop-k-init c = let a = c.args in (omega arith, refl, start a.x a.xs.now a.n (omega arith))
@@ -54,7 +55,9 @@ shape_of-xs c = simp length-set c.loop-k.invariant.1
 pub returns : goal.returns
 returns c =
     let head = c.loop-k in
-    ⊎_elim (λ w. put_first _ head.xs head.k w.left (omega arith))
-    (λ w. put_behind _ head.xs head.k w.0.taken (omega arith) (not-true _ w.2.taken))
-    c.loop-k-test.branch
+    (elim c.loop-k-test.branch [
+      else-loop-k-test w ↦ put_first c.args.x head.xs head.k (omega arith) (omega arith)
+    | then-loop-k-test+then-not-x-y w ↦
+        put_behind c.args.x head.xs head.k (omega arith) (omega arith) (not-true _ w.if-not-x-y.true-raw)
+    ])
     ∙ head.invariant.2

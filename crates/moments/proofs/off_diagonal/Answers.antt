@@ -1,0 +1,6 @@
+-- `moments::off_diagonal` meets its contract: three magnitudes summed. Assumes nothing.
+use borrow.Author.Rules.{rules}
+use Rattle.moments.proofs.off_diagonal.Goals as goal
+
+pub returns : goal.returns
+returns c = rw (c.abs-3.ensures, c.abs-2.ensures, c.abs.ensures)
