@@ -1,15 +1,14 @@
 -- `templates::take_one_of` meets its contract: the alternatives that are left, from the number that is next on, are the
 -- whole. Assumes nothing.
 use mathlib.Core.Bool.{Bool, true, false, cond}
-use mathlib.Core.List.{List, [], ◌∷◌}
+use mathlib.Core.List.{List, []}
 use mathlib.Core.Path.{◌≡◌, refl, sym, ap, ◌∙◌}
-use Prim.Native.Nat.{ℕ, suc, ◌+◌, ◌-◌, ◌<◌, ◌≤◌}
+use Prim.Native.Nat.{ℕ, suc, ◌+◌, ◌<◌, ◌≤◌}
 use native.Mathlib.Numerals.{add-one}
 use native.Mathlib.Omega.{arith}
 use borrow.Author.Tests.{lt-ltb, le-ltb}
-use borrow.Author.Rules.{rules}
 use lib.Dec.{ltb}
-use lib.ListN.{length, take, drop}
+use lib.ListN.{length, drop}
 use lib.Ieee.{Float}
 use Rattle.tokens.specs.Found.{part}
 use Rattle.templates.specs.declared.Cursor.{Cursor}
@@ -17,17 +16,8 @@ use Rattle.templates.specs.Matching.{Reading, take_text, or_else, numbered, firs
 use Rattle.templates.specs.Cursors.{reading_at, Room, ReadsOn, not_aform, numbered_cursor, IsBarEnd}
 use Rattle.templates.proofs.Steps.{stays, as_is}
 use Rattle.templates.proofs.Choices.{fits, else_second, same_reading, meant_fits, room_again, note, first_fits}
-use Rattle.templates.proofs.take_one_of.Statement.{statement}
-use Rattle.templates.proofs.take_one_of.Tie as tie
-
-record Trying (line alternatives : List ℕ) (before between : List Float) (c : Cursor) (i number : ℕ) : Type 0 where
-  place : i ≤ length alternatives
-  small : number ≤ i + 1
-  whole : one_of (cut_at_bars alternatives) (reading_at line before c)
-      ≡ first_of number (cut_at_bars (drop i alternatives)) (reading_at line before c)
-  kept : take c.figures between ≡ take c.figures before
-  room : Room line between c
-  same : length between ≡ length before
+use Rattle.templates.proofs.take_one_of.Goals as goal
+use Rattle.templates.proofs.take_one_of.Invariants.{Trying}
 
 module _ (line alternatives : List ℕ) (before : List Float) (c : Cursor) where
   abbrev from : Reading
@@ -98,96 +88,51 @@ module _ (line alternatives : List ℕ) (before : List Float) (c : Cursor) where
               same = omega arith;
             }
 
-abbrev invariant-loop : tie.invariant-loop
-invariant-loop line c alternatives values₀ i₀ number₀ values i number = Trying line alternatives values₀ values c i number
+pub loop-c-init : goal.loop-c-init
+loop-c-init c = begins c.args.line.now c.args.alternatives.now c.args.values.now c.args.c c.requires.0
 
-abbrev decreases-loop : tie.decreases-loop
-decreases-loop line c alternatives values₀ i₀ number₀ values i number = length alternatives - i
+pub bar_end-end-requires : goal.bar_end-end-requires
+bar_end-end-requires c = c.loop-c.invariant.place
 
-loop-holds : tie.Need-loop-init invariant-loop decreases-loop
-loop-holds c = let s = c.before.before.before in
-    begins s.args.line.now s.args.alternatives.now s.args.values.now s.args.c s.requires.0
+pub slice_bounds-take_text-count : goal.slice_bounds-take_text-count
+slice_bounds-take_text-count c = c.bar_end-end.ensures.behind
 
-bar-end-requires : tie.Need-bar-end-requires invariant-loop decreases-loop
-bar-end-requires c κs = c.loop.invariant.place
+pub take_text-r-requires : goal.take_text-r-requires
+take_text-r-requires c = c.loop-c.invariant.room
 
-sub-take-text : tie.Need-overflow-sub-take-text invariant-loop decreases-loop
-sub-take-text c = c.bar-end.ensures.behind
+pub shape_of-values-then-r : goal.shape_of-values-then-r
+shape_of-values-then-r c = c.take_text-r.auto.values ∙ c.loop-c.invariant.same
 
-part-take-text-end : tie.Need-slice-bounds-take-text-end invariant-loop decreases-loop
-part-take-text-end c = c.bar-end.ensures.within
-
-take-text-requires : tie.Need-take-text-requires invariant-loop decreases-loop
-take-text-requires c κs = c.before.before.before.loop.invariant.room
-
-same_length : tie.Need-same-length invariant-loop decreases-loop
-same_length c = let t = c.before.before.before.before in
-    t.take-text.auto.1.1.1.0 ∙ t.before.before.before.before.loop.invariant.same
-
-returns : tie.Need-returns invariant-loop decreases-loop
-returns c =
-    let t = c.before.before.before.before in
-    let b = t.before.before.before in
+pub returns-then-r : goal.returns-then-r
+returns-then-r c =
     as_is _ _ _ _ c.with_number.ensures refl
-    (it_fits _ _ _ _ _ _ _ _ b.before.loop.invariant b.bar-end.ensures _ _ t.take-text.ensures c.before.if1.true)
+    (it_fits _ _ _ _ _ _ _ _ c.loop-c.invariant c.bar_end-end.ensures _ _ c.take_text-r.ensures c.if-r.true)
 
-same-length-2 : tie.Need-same-length-2 invariant-loop decreases-loop
-same-length-2 c = let t = c.before.before.before.before.before in
-    t.take-text.auto.1.1.1.0 ∙ t.before.before.before.before.loop.invariant.same
+pub shape_of-values-then-alternatives-end : goal.shape_of-values-then-alternatives-end
+shape_of-values-then-alternatives-end c = c.take_text-r.auto.values ∙ c.loop-c.invariant.same
 
-returns-2 : tie.Need-returns-2 invariant-loop decreases-loop
-returns-2 c =
-    let t = c.before.before.before.before.before in
-    let b = t.before.before.before in
-    as_is _ _ _ _ c.not-a-form.ensures refl
-    (was_last _ _ _ _ _ _ _ _ b.before.loop.invariant b.bar-end.ensures _ _ t.take-text.ensures c.before.before.if1.false
-    c.before.if2.true)
+pub returns-then-alternatives-end : goal.returns-then-alternatives-end
+returns-then-alternatives-end c =
+    as_is _ _ _ _ c.not_a_form.ensures refl
+    (was_last _ _ _ _ _ _ _ _ c.loop-c.invariant c.bar_end-end.ensures _ _ c.take_text-r.ensures c.if-r.false
+    c.if-alternatives-end.true)
 
-add-i : tie.Need-overflow-add-i invariant-loop decreases-loop
-add-i c = omega arith
+pub overflow_add-i : goal.overflow_add-i
+overflow_add-i c = omega arith
 
-add-number : tie.Need-overflow-add-number invariant-loop decreases-loop
-add-number c =
-    let at-take-text-arg2 = c.before.before.before.before.before in
-    let l = at-take-text-arg2.before.before.before in
-    let v = l.loop.invariant.small in
-    let p = l.loop.invariant.place in
-    let r = l.before.before.before.before.requires.1 in
+pub overflow_add-number : goal.overflow_add-number
+overflow_add-number c =
+    let v = c.loop-c.invariant.small in
+    let p = c.loop-c.invariant.place in
+    let r = c.requires.1 in
     omega arith
 
-loop-less : tie.Need-loop-smaller invariant-loop decreases-loop
-loop-less c =
-    let at-take-text-arg2 = c.before.before.before.before.before in
-    let b = at-take-text-arg2.before.before in let h = b.bar-end.ensures.behind in omega arith
+pub loop-c-smaller : goal.loop-c-smaller
+loop-c-smaller c =
+    let h = c.bar_end-end.ensures.behind in omega arith
 
-loop-again : tie.Need-loop-preserved invariant-loop decreases-loop
-loop-again c =
-    let at-take-text-arg2 = c.before.before.before.before.before in
-    let t = c.before.before.before.before in
-    let b = t.before.before.before in
-    next _ _ _ _ _ _ _ _ b.before.loop.invariant b.bar-end.ensures _ _ t.take-text.ensures c.before.if1.false
-    (let h : at-take-text-arg2.before.before.bar-end.result < length
-    b.before.before.before.before.before.args.alternatives.now = omega arith in h) t.take-text.auto.1.1.1.0
-
-pub take-one-of-spec : {M : Type 1} → statement M
-take-one-of-spec =
-    tie.close
-    (tie.spec
-    invariant-loop
-    decreases-loop
-    loop-holds
-    bar-end-requires
-    sub-take-text
-    (λ c. search rules)
-    part-take-text-end
-    take-text-requires
-    (λ c κs. search rules)
-    same_length
-    returns
-    (λ c κs. search rules)
-    same-length-2
-    returns-2
-    add-i
-    add-number
-    loop-less
-    loop-again)
+pub loop-c-preserved : goal.loop-c-preserved
+loop-c-preserved c =
+    next _ _ _ _ _ _ _ _ c.loop-c.invariant c.bar_end-end.ensures _ _ c.take_text-r.ensures c.if-r.false
+    (let h : c.bar_end-end.result < length
+    c.args.alternatives.now = omega arith in h) c.take_text-r.auto.values

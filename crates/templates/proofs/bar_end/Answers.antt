@@ -2,7 +2,7 @@
 use mathlib.Core.List.{List, [], ◌∷◌, ◌++◌}
 use mathlib.Core.Bool.{Bool, cond}
 use mathlib.Core.Path.{◌≡◌, sym, ap, ◌∙◌}
-use Prim.Native.Nat.{ℕ, ◌+◌, ◌-◌, ◌<◌, ◌≤◌}
+use Prim.Native.Nat.{ℕ, ◌+◌, ◌<◌, ◌≤◌}
 use native.Mathlib.Omega.{arith}
 use borrow.Author.Tests.{eq-eqb, ne_eqb, lt-ltb, le-ltb}
 use lib.Dec.{eqb}
@@ -11,8 +11,7 @@ use Rattle.tokens.specs.Found.{part}
 use Rattle.tokens.proofs.Bytes.{cons_at, part_longer, part_none}
 use Rattle.templates.specs.Matching.{cut_after, cut_at_bars}
 use Rattle.templates.specs.Cursors.{IsBarEnd}
-use Rattle.templates.proofs.bar_end.Statement.{statement}
-use Rattle.templates.proofs.bar_end.Tie as tie
+use Rattle.templates.proofs.bar_end.Goals as goal
 
 module _ (l : List ℕ) (i j : ℕ) where
   start : cut_at_bars (drop i l) ≡ cut_after (part l i i) (drop i l)
@@ -38,57 +37,33 @@ module _ (l : List ℕ) (i j : ℕ) where
     at_end_lem w h = record
         { behind = a; within = w; cut = t ∙ ap (cut_after (part l i j)) (drop_of_length-le l h) ∙ rw (le-ltb j (length l) h) }
 
-abbrev invariant-loop : tie.invariant-loop
-invariant-loop alternatives i end₀ end = (i ≤ end) × (end ≤ length alternatives)
-    × (cut_at_bars (drop i alternatives) ≡ cut_after (part alternatives i end) (drop end alternatives))
+pub loop-end-init : goal.loop-end-init
+loop-end-init c = (omega arith, omega arith, start c.args.alternatives.now c.args.i c.args.i)
 
-abbrev decreases-loop : tie.decreases-loop
-decreases-loop alternatives i end₀ end = length alternatives - end
+pub bounds-alternatives-end : goal.bounds-alternatives-end
+bounds-alternatives-end c = omega arith
 
-loop-holds : tie.Need-loop-init invariant-loop decreases-loop
-loop-holds c = (omega arith, omega arith, start c.args.alternatives.now c.args.i c.args.i)
+pub returns-then-alternatives-end-eq124 : goal.returns-then-alternatives-end-eq124
+returns-then-alternatives-end-eq124 c =
+    let v = c.loop-end.invariant in
+    at_bar c.args.alternatives.now c.args.i c.loop-end.end v.0 v.2 (omega arith) c.if-alternatives-end-eq124.true
 
-shared-slice-read-if1 : tie.Need-shared-slice-read-if1 invariant-loop decreases-loop
-shared-slice-read-if1 c = omega arith
+pub overflow_add-end : goal.overflow_add-end
+overflow_add-end c = omega arith
 
-returns : tie.Need-returns invariant-loop decreases-loop
-returns c =
-    let l = c.before.before.before in
-    let v = l.loop.invariant in
-    at_bar l.before.args.alternatives.now l.before.args.i l.loop.end v.0 v.2 (omega arith) c.if1.true
+pub loop-end-smaller : goal.loop-end-smaller
+loop-end-smaller c = omega arith
 
-add-end : tie.Need-overflow-add-end invariant-loop decreases-loop
-add-end c = omega arith
-
-loop-less : tie.Need-loop-smaller invariant-loop decreases-loop
-loop-less c = omega arith
-
-loop-again : tie.Need-loop-preserved invariant-loop decreases-loop
-loop-again c =
-    let l = c.before.before.before in
-    let v = l.loop.invariant in (
+pub loop-end-preserved : goal.loop-end-preserved
+loop-end-preserved c =
+    let v = c.loop-end.invariant in (
       omega arith,
       omega arith,
-      one_more l.before.args.alternatives.now l.before.args.i l.loop.end v.0 v.2
-          (omega arith) c.if1.false,
+      one_more c.args.alternatives.now c.args.i c.loop-end.end v.0 v.2
+          (omega arith) c.if-alternatives-end-eq124.false,
     )
 
-returns-2 : tie.Need-returns-2 invariant-loop decreases-loop
-returns-2 c =
-    let l = c.before in
-    let v = l.loop.invariant in
-    at_end_lem l.before.args.alternatives.now l.before.args.i l.loop.end v.0 v.2 v.1 (omega arith)
-
-pub bar-end-spec : {M : Type 1} → statement M
-bar-end-spec =
-    tie.close
-    (tie.spec
-    invariant-loop
-    decreases-loop
-    loop-holds
-    shared-slice-read-if1
-    returns
-    add-end
-    loop-less
-    loop-again
-    returns-2)
+pub returns : goal.returns
+returns c =
+    let v = c.loop-end.invariant in
+    at_end_lem c.args.alternatives.now c.args.i c.loop-end.end v.0 v.2 v.1 (omega arith)
