@@ -1,6 +1,6 @@
 /* Draws the pieces that an elliptical fin's strip was cut into, as a screen would: a line for each, from the root up. From the repository's root:
  *
- *   rt staticlib exports && rt staticlib screen_exports
+ *   tools/build exports screen_exports
  *   cc -Iinclude examples/pieces.c -Ltarget/staticlib -lscreen_exports -lexports -o pieces && ./pieces
  *
  * The pieces are left in the scratch, 16 numbers each from its start: where a piece begins and ends, as fractions of root chord plus span, then

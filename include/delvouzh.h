@@ -1,7 +1,7 @@
-/* Fin figures that are proved: the functions of two static libraries (x86-64 Linux), which `rt staticlib exports` and
- * `rt staticlib screen_exports` write. libexports.a has the calls on numbers alone, libscreen_exports.a those of a
- * kiosk's screens; below, each call stands under its library. Either may be linked alone; both together:
- * cc main.c -lscreen_exports -lexports.
+/* Fin figures that are proved: the functions of two static libraries (x86-64 Linux), which `tools/build exports
+ * screen_exports` writes. libexports.a has the calls on numbers alone, libscreen_exports.a those of a kiosk's screens;
+ * below, each call stands under its library. Either may be linked alone; both together: cc main.c -lscreen_exports
+ * -lexports.
  *
  * Lengths are metres, angles radians, figures f64. Every function but delvouzh_sqrt and delvouzh_most_samples returns 0,
  * a step of a job also DELVOUZH_MORE, a turn of an engine also DELVOUZH_MORE or DELVOUZH_IDLE, or the number of a refusal:

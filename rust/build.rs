@@ -1,5 +1,5 @@
-//! Links libexports.a and libscreen_exports.a from DELVOUZH_LIB, by default target/staticlib of the repository, where `rt staticlib exports` and
-//! `rt staticlib screen_exports` write them.
+//! Links libexports.a and libscreen_exports.a from DELVOUZH_LIB, by default target/staticlib of the repository, where `tools/build exports
+//! screen_exports` writes them.
 use std::path::PathBuf;
 
 fn main() {
@@ -14,7 +14,7 @@ fn main() {
         println!("cargo:rerun-if-changed={}", archive.display());
         if !archive.is_file() {
             println!(
-                "cargo:warning={} is not there: run `rt staticlib {name}`",
+                "cargo:warning={} is not there: run `tools/build {name}`",
                 archive.display()
             );
         }

@@ -41,7 +41,8 @@ use Rattle.rounding_error.proofs.Counts as Counts
 use Rattle.rounding_error.proofs.Polynomials.{given, ratio, ◌add◌, ◌take◌, ◌mul◌, equal_by, evaluated_is, AllNumbers, times_is}
 use Rattle.error_terms.proofs.Laws.{Reaches}
 use Rattle.error_terms.proofs.Monomials.{place, AllRanges}
-use Rattle.error_terms.proofs.Terms.{shape, Given, entry, Term, var, tight, ◌mul◌ as ◌mul_t◌, AllKnown, numbers_of, unit_by, unit_real, value}
+use Rattle.error_terms.proofs.Terms.{shape, Given, entry, Term, var, tight, ◌mul◌ as ◌mul_t◌, AllKnown, numbers_of, unit_by, value}
+use Rattle.error_terms.proofs.Sound.{unit_real}
 use Rattle.error_terms.proofs.Judged.{judge, nearer, near_within}
 use Rattle.error_terms.proofs.Entries.{full, sized_entry, own_entry, near_given}
 use Rattle.error_terms.proofs.Floors.{NotBelow, positive_from, plus_not_below, ordered_not_below, under_both, factor_reaches, equal_reaches}

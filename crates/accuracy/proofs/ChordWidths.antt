@@ -20,7 +20,7 @@ use Rattle.error_terms.proofs.Laws.{inverse_of}
 use Rattle.rounding_error.proofs.Polynomials.{Expression, given, ratio, ◌add◌, ◌take◌, ◌mul◌, evaluate}
 use Rattle.error_terms.proofs.Monomials.{AllRanges, place}
 use Rattle.error_terms.proofs.Terms.{shape, Given, entry, Term, var, const, nought, divided, inverse_constant, tight, raised, value}
-use Rattle.error_terms.proofs.Terms.{constant, numbers_of, unit_by, AllKnown, ◌add◌ as ◌add_t◌, ◌take◌ as ◌take_term◌, ◌mul◌ as ◌mul_t◌}
+use Rattle.error_terms.proofs.Terms.{constant, numbers_of, unit_by, AllKnown, ◌add◌ as ◌add_t◌, ◌take◌ as ◌take_t◌, ◌mul◌ as ◌mul_t◌}
 use Rattle.error_terms.proofs.Terms.{◌over◌ as ◌over_t◌}
 use Rattle.error_terms.proofs.Judged.{judge, nearer, near_within}
 use Rattle.error_terms.proofs.Stages.{low_test, target_lowest}

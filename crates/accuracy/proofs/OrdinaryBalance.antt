@@ -36,7 +36,8 @@ use Rattle.rounding_error.proofs.Fractions.{IsFraction, minus_fraction, times_fr
 use Rattle.error_terms.proofs.Laws.{inverse_of, Reaches}
 use Rattle.error_terms.proofs.Monomials.{place, added, mono, top, bottom, AllRanges, top_pos, ranges_of as ranges_by_units}
 use Rattle.error_terms.proofs.Terms.{Shape, shape, Given, entry, Term, var, const, ◌add◌ as ◌add_t◌, ◌mul◌ as ◌mul_t◌, ◌over◌ as ◌over_t◌}
-use Rattle.error_terms.proofs.Terms.{Known, Lowest, AllKnown, unit_by, unit_real, numbers_are}
+use Rattle.error_terms.proofs.Terms.{Known, Lowest, AllKnown, unit_by}
+use Rattle.error_terms.proofs.Sound.{unit_real, numbers_are}
 use Rattle.error_terms.proofs.Judged.{judge, nearer, near_within}
 use Rattle.error_terms.proofs.Stages.{size_test, target_known}
 use Rattle.error_terms.proofs.Entries.{full}

@@ -43,7 +43,8 @@ use Rattle.quadrature.specs.Rule.{half_width, weighted_to, kronrod_weight, sum_o
 use Rattle.error_terms.proofs.Laws.{inverse_of}
 use Rattle.error_terms.proofs.Monomials.{AllRanges, place, mono, top, bottom}
 use Rattle.error_terms.proofs.Terms.{shape, Given, entry, Term, var, nought, ◌mul◌ as ◌mul_t◌, ◌over◌ as ◌over_t◌, AllKnown, unit_by}
-use Rattle.error_terms.proofs.Terms.{unit_real, numbers_of, numbers_are, Lowest}
+use Rattle.error_terms.proofs.Terms.{numbers_of, Lowest}
+use Rattle.error_terms.proofs.Sound.{unit_real, numbers_are}
 use Rattle.error_terms.proofs.Judged.{judge, nearer, near_within}
 use Rattle.error_terms.proofs.Shared.{Shared, whole, ◌⊞◌, judge_in, judge_all, all_within}
 use Rattle.error_terms.proofs.Stages.{size_test, low_test, target_known, target_lowest}

@@ -12,7 +12,7 @@ use lib.Dec.{T, lit≤}
 use lib.ListN.{length, get_or}
 use lib.Pow.{pow_pos}
 use lib.IntN.{pos}
-use lib.Ieee.{Float, nan, inf, fin, binary64, fits, neg, up, down, add, sum as sum_of_parts, round, of_bits}
+use lib.Ieee.{Float, nan, inf, fin, binary64, fits, neg, up, down, add as float_add, sum as sum_of_parts, round, of_bits}
 use lib.Ieee.Fits.{and_l, and_r, down_pos, mul-fits}
 use lib.Ieee.Scale.{finite}
 use lib.Ieee.Positive.{num, den, den_pos, positive, positive-finite}
@@ -45,8 +45,9 @@ use Rattle.fins.specs.declared.Tab.{Tab}
 use Rattle.fins.specs.declared.Tab.TheVariants.{None, Slab}
 use Rattle.error_terms.proofs.Laws.{inverse_of}
 use Rattle.error_terms.proofs.Monomials.{place, mono, top, bottom}
-use Rattle.error_terms.proofs.Terms.{shape, Given, entry, larger, var, const, nought, value, AllKnown, numbers_of, unit_by, unit_real}
-use Rattle.error_terms.proofs.Terms.{numbers_are, ◌take◌ as ◌take_term◌, ◌over◌ as ◌over_t◌}
+use Rattle.error_terms.proofs.Terms.{shape, Given, entry, larger, var, const, nought, value, AllKnown, numbers_of, unit_by}
+use Rattle.error_terms.proofs.Terms.{◌take◌ as ◌take_t◌, ◌over◌ as ◌over_t◌}
+use Rattle.error_terms.proofs.Sound.{unit_real, numbers_are}
 use Rattle.error_terms.proofs.Judged.{Judged, nearer}
 use Rattle.error_terms.proofs.Shared.{Shared, local, whole, ◌⊞◌, ◌⊟◌, ◌⊠◌, ◌⊡◌, tightly, raised_by, judge_in, judge_all, bind_all, expand}
 use Rattle.error_terms.proofs.Shared.{all_within}
@@ -260,7 +261,7 @@ less_known {v = v} U h = equalled (neg_known U h) (zero_number less v) (less_is 
 
 -- ---- an f64 with the sign plus, added to 0
 zero_plus : (x : Float) → T (fits binary64 x) → Plus x → bits 0 ⊕ x ≡ x
-unfolding add sum_of_parts of_bits
+unfolding float_add sum_of_parts of_bits
 zero_plus nan f h = absurd h
 zero_plus (inf s) f h = refl
 zero_plus (fin true m e) f h = absurd (true≢false h)

@@ -44,8 +44,9 @@ use Rattle.strips.specs.Strips.{value_from}
 use Rattle.figures.specs.Figures.{set_strips}
 use Rattle.figures.specs.declared.Figures.{Figures}
 use Rattle.error_terms.proofs.Monomials.{AllRanges, place, mono, top, bottom}
-use Rattle.error_terms.proofs.Terms.{shape, Given, entry, larger, var, nought, ◌mul◌ as ◌mul_t◌, value, AllKnown, unit_by, unit_real}
-use Rattle.error_terms.proofs.Terms.{numbers_of, numbers_are}
+use Rattle.error_terms.proofs.Terms.{shape, Given, entry, larger, var, nought, ◌mul◌ as ◌mul_t◌, value, AllKnown, unit_by}
+use Rattle.error_terms.proofs.Terms.{numbers_of}
+use Rattle.error_terms.proofs.Sound.{unit_real, numbers_are}
 use Rattle.error_terms.proofs.Judged.{Judged, nearer, reaching}
 use Rattle.error_terms.proofs.Shared.{Shared, whole, ◌⊞◌, ◌⊠◌, tightly, raised_by, judge_in, judge_all, bind_all, expand, all_within, all_reach}
 use Rattle.error_terms.proofs.Entries.{full, sized_entry, own_entry}

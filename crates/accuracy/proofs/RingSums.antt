@@ -18,7 +18,8 @@ use Rattle.rounding_error.proofs.Polynomials.{◌equals◌, times_is, equal_by, 
 use Rattle.error_terms.proofs.Laws.{plus_law, Reaches}
 use Rattle.error_terms.proofs.Monomials.{place, added, mono, mono_none, mono_place, top, bottom, unit, top_by, bottom_by, AllRanges}
 use Rattle.error_terms.proofs.Monomials.{total as total_of}
-use Rattle.error_terms.proofs.Terms.{shape, Known, unit_by, unit_real, unit_ranges}
+use Rattle.error_terms.proofs.Terms.{shape, Known, unit_by}
+use Rattle.error_terms.proofs.Sound.{unit_real, unit_ranges}
 use Rattle.joins.specs.Joins.{in_order}
 
 ruleset plain = (sorted, one-mul, mul-one, zero-mul, mul-zero, zero-add, add-zero)

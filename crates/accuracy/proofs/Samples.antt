@@ -18,7 +18,7 @@ use Rattle.rounding_error.proofs.Numbers.{Number, number, ◌less◌, ◌times�
 use Rattle.rounding_error.proofs.Polynomials.{Expression, given, ratio, ◌add◌, ◌take◌, ◌mul◌, ◌equals◌, evaluate, among, equal_by}
 use Rattle.rounding_error.proofs.Polynomials.{evaluated_is, AllNumbers}
 use Rattle.error_terms.proofs.Laws.{Reaches}
-use Rattle.error_terms.proofs.Terms.{Given, Term, const, tight, ◌add◌ as ◌add_t◌, ◌take◌ as ◌take_term◌, ◌mul◌ as ◌mul_t◌, value, constant}
+use Rattle.error_terms.proofs.Terms.{Given, Term, const, tight, ◌add◌ as ◌add_t◌, ◌take◌ as ◌take_t◌, ◌mul◌ as ◌mul_t◌, value, constant}
 use Rattle.error_terms.proofs.Floors.{NotBelow, factor_reaches, equal_reaches}
 
 -- ---- at its centre, and to both sides of it at each node

@@ -26,9 +26,10 @@ use Rattle.fins.specs.declared.Tab.{Tab}
 use Rattle.fins.specs.declared.Tab.TheVariants.{None, Slab}
 use Rattle.plates.specs.Integrals.{tab_integrals_of}
 use Rattle.error_terms.proofs.Monomials.{place, added, mono, top, bottom, AllRanges}
-use Rattle.error_terms.proofs.Terms.{Shape, shape, sum_shape, product_shape, fine, ok, sum_test, sound, Given, entry, larger, Term, var, const}
-use Rattle.error_terms.proofs.Terms.{nought, value, Known, Lowest, AllKnown, numbers_of, unit_by, unit_real, ◌add◌ as ◌add_t◌}
-use Rattle.error_terms.proofs.Terms.{◌take◌ as ◌take_term◌, ◌mul◌ as ◌mul_t◌, raised as raised_t, tight as tight_t, divided}
+use Rattle.error_terms.proofs.Terms.{Shape, shape, sum_shape, product_shape, fine, ok, sum_test, Given, entry, larger, Term, var, const}
+use Rattle.error_terms.proofs.Terms.{nought, value, Known, Lowest, AllKnown, numbers_of, unit_by, ◌add◌ as ◌add_t◌}
+use Rattle.error_terms.proofs.Terms.{◌take◌ as ◌take_t◌, ◌mul◌ as ◌mul_t◌, raised as raised_t, tight as tight_t, divided}
+use Rattle.error_terms.proofs.Sound.{sound, unit_real}
 use Rattle.error_terms.proofs.Judged.{judge, nearer, near_within}
 use Rattle.error_terms.proofs.Shared.{Shared, whole, ◌⊞◌, ◌⊠◌, judge_in, judge_all, bind_all, expand, all_within}
 use Rattle.error_terms.proofs.Stages.{size_test, low_test, target_known, target_lowest}

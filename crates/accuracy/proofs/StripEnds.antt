@@ -29,7 +29,8 @@ use Rattle.rounding_error.proofs.Distances.{sorted, within_upto}
 use Rattle.rounding_error.proofs.Polynomials.{given, ◌mul◌}
 use Rattle.error_terms.proofs.Laws.{inverse_of}
 use Rattle.error_terms.proofs.Monomials.{place, AllRanges}
-use Rattle.error_terms.proofs.Terms.{shape, Given, entry, var, ◌over◌, AllKnown, unit_by, unit_real}
+use Rattle.error_terms.proofs.Terms.{shape, Given, entry, var, ◌over◌, AllKnown, unit_by}
+use Rattle.error_terms.proofs.Sound.{unit_real}
 use Rattle.error_terms.proofs.Judged.{near_within}
 use Rattle.error_terms.proofs.Entries.{full, own_entry}
 use Rattle.error_terms.proofs.Floors.{Signed, positive_from}

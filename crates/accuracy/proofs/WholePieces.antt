@@ -25,7 +25,8 @@ use Rattle.rounding_error.proofs.Numbers.{number, Size, ◌per◌, ◌plus◌, �
 use Rattle.rounding_error.proofs.Distances.{sorted, within_upto}
 use Rattle.rounding_error.proofs.Polynomials.{Expression, given, ratio, ◌add◌, ◌mul◌}
 use Rattle.error_terms.proofs.Monomials.{AllRanges, place}
-use Rattle.error_terms.proofs.Terms.{shape, Given, entry, var, nought, value, AllKnown, unit_by, unit_real}
+use Rattle.error_terms.proofs.Terms.{shape, Given, entry, var, nought, value, AllKnown, unit_by}
+use Rattle.error_terms.proofs.Sound.{unit_real}
 use Rattle.error_terms.proofs.Judged.{nearer}
 use Rattle.error_terms.proofs.Shared.{Shared, whole, ◌⊞◌, ◌⊠◌, judge_in, judge_all, all_within}
 use Rattle.error_terms.proofs.Entries.{full, sized_entry, own_entry}

@@ -21,7 +21,6 @@ ghost use Rattle.card.specs.Program.{Steps, Replies, Turns, Ends, Closes, Runs};
 use arguments::Command;
 use input_lines::State;
 use lent_engines::{ENGINE_COUNTS, ENGINE_NUMBERS};
-use libc::{STDERR_FILENO, STDIN_FILENO, STDOUT_FILENO};
 use reads::MOST_READ;
 
 // Where the program stands in a chunk: the line that has begun, how many bytes of the chunk are taken, how many bytes
@@ -69,6 +68,7 @@ struct End {
 // Feeds the bytes of a chunk from where the program stands on, up to the chunk's end or to where `out` is full, and
 // writes the replies.
 fn reply_next(
+    rt: HostRuntime,
     buffer: &mut [u8],
     s: Step,
     chunk: &[u8],
@@ -97,7 +97,7 @@ fn reply_next(
     );
     let state = fed.state;
     let written = fed.written;
-    let all = io::write_all(STDOUT_FILENO, &out[..written]);
+    let all = rt.stdout().write_all(&out[..written]).is_ok();
     Step {
         state,
         taken: at + fed.taken,
@@ -109,6 +109,7 @@ fn reply_next(
 
 // Feeds a chunk and writes the replies, until all its bytes are taken or a write did not take all that it was handed.
 fn reply_to(
+    rt: HostRuntime,
     buffer: &mut [u8],
     s: State,
     chunk: &[u8],
@@ -132,6 +133,7 @@ fn reply_to(
     };
     while step.all && step.taken < chunk.len() {
         step = reply_next(
+            rt,
             buffer,
             step,
             chunk,
@@ -146,6 +148,7 @@ fn reply_to(
 
 // Reads once and replies to the lines that end in the bytes read. A read that brings no byte ends the run.
 fn take_turn(
+    rt: HostRuntime,
     buffer: &mut [u8],
     t: Turn,
     chunk: &mut [u8],
@@ -159,7 +162,7 @@ fn take_turn(
     ensures { Turns (at_entry buffer t.state scratch engine_numbers engine_counts)
         (at_exit buffer result.state scratch engine_numbers engine_counts) t result chunk.new }
 {
-    let got = libc::read(STDIN_FILENO, chunk);
+    let got = reads::read(&mut rt.stdin(), chunk);
     let n = io::count(got, chunk);
     let state = t.state;
     if n == 0 {
@@ -173,6 +176,7 @@ fn take_turn(
         };
     }
     let step = reply_to(
+        rt,
         buffer,
         state,
         &chunk[..n],
@@ -195,6 +199,7 @@ fn take_turn(
 
 // Writes the reply to a last line without a newline, where there is one.
 fn reply_last(
+    rt: HostRuntime,
     buffer: &[u8],
     s: State,
     scratch: &mut [f64],
@@ -207,7 +212,7 @@ fn reply_last(
         (at_exit buffer s scratch engine_numbers engine_counts) out.new result }
 {
     let written = inputs::finish(buffer, s, scratch, engine_numbers, engine_counts, out, 0);
-    let all = io::write_all(STDOUT_FILENO, &out[..written]);
+    let all = rt.stdout().write_all(&out[..written]).is_ok();
     Last { written, all }
 }
 
@@ -230,6 +235,7 @@ fn tell(out: &mut [u8], answered: bool) -> usize
 
 // Ends a run: at the end of the input, a line without a newline is a line too.
 fn end_run(
+    rt: HostRuntime,
     buffer: &[u8],
     t: Turn,
     scratch: &mut [f64],
@@ -244,7 +250,15 @@ fn end_run(
 {
     if reads::is_end(t.got) {
         let state = t.state;
-        let last = reply_last(buffer, state, scratch, engine_numbers, engine_counts, out);
+        let last = reply_last(
+            rt,
+            buffer,
+            state,
+            scratch,
+            engine_numbers,
+            engine_counts,
+            out,
+        );
         let told = tell(out, last.all);
         return End {
             turn: t,
@@ -264,6 +278,7 @@ fn end_run(
 
 // Answers the whole input. Before the first read the turn stands as if a read had failed.
 fn run(
+    rt: HostRuntime,
     buffer: &mut [u8],
     chunk: &mut [u8],
     scratch: &mut [f64],
@@ -287,6 +302,7 @@ fn run(
     };
     while turn.more && turn.read < MOST_READ {
         turn = take_turn(
+            rt,
             buffer,
             turn,
             chunk,
@@ -296,11 +312,19 @@ fn run(
             out,
         );
     }
-    end_run(buffer, turn, scratch, engine_numbers, engine_counts, out)
+    end_run(
+        rt,
+        buffer,
+        turn,
+        scratch,
+        engine_numbers,
+        engine_counts,
+        out,
+    )
 }
 
 // Runs the program without arguments, and tells on standard error what there is to tell.
-fn answer_input() {
+fn answer_input(rt: HostRuntime) {
     let mut buffer = io::buffer();
     let mut chunk = io::large_buffer();
     let mut scratch = [0.0; limits::SCRATCH_NUMBERS];
@@ -308,6 +332,7 @@ fn answer_input() {
     let mut engine_counts = [0; ENGINE_COUNTS];
     let mut out = io::large_buffer();
     let end = run(
+        rt,
         &mut buffer,
         &mut chunk,
         &mut scratch,
@@ -316,11 +341,12 @@ fn answer_input() {
         &mut out,
     );
     let told = end.told;
-    io::write_all(STDERR_FILENO, &out[..told]);
+    let _ = rt.stderr().write_all(&out[..told]);
 }
 
-fn write_help() {
+fn write_help(rt: HostRuntime) {
     arguments::write_text(
+        rt,
         b"card",
         b"usage: card < LINES\n\
         Answers each line of standard input on standard output: figures, or (refused N).\n\
@@ -328,13 +354,15 @@ fn write_help() {
     );
 }
 
-fn main() {
-    match arguments::read() {
-        Command::Run => answer_input(),
-        Command::Help => write_help(),
-        Command::Version => arguments::write_text(b"card", b"card 0.1.0\n"),
+fn main(rt: HostRuntime) {
+    match arguments::read(rt) {
+        Command::Run => answer_input(rt),
+        Command::Help => write_help(rt),
+        Command::Version => arguments::write_text(rt, b"card", b"card 0.1.0\n"),
         Command::Unknown => {
-            io::write_all(STDERR_FILENO, b"card: unknown argument; see card --help\n");
+            let _ = rt
+                .stderr()
+                .write_all(b"card: unknown argument; see card --help\n");
         }
     }
 }

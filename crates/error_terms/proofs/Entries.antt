@@ -19,7 +19,8 @@ use Rattle.rounding_error.proofs.Counts as Counts
 use Rattle.rounding_error.proofs.Chains.{Valued}
 use Rattle.error_terms.proofs.Monomials.{top, bottom, mono, mono_none, place, unit, mono_place, AllRanges}
 use Rattle.error_terms.proofs.Laws.{rounded_up, parts, Reaches}
-use Rattle.error_terms.proofs.Terms.{shape, Known, Lowest, unit_by, const_known, const_lowest}
+use Rattle.error_terms.proofs.Terms.{shape, Known, Lowest, unit_by}
+use Rattle.error_terms.proofs.Sound.{const_known, const_lowest}
 
 ruleset plain = (sorted, one-mul, mul-one, zero-mul, mul-zero, zero-add, add-zero)
 

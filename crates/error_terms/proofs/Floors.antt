@@ -25,7 +25,8 @@ use Rattle.rounding_error.proofs.Polynomials.{Product, factor, product, sum_of, 
 use Rattle.error_terms.proofs.Monomials.{top, bottom, mono, added, alike, AllRanges, alike_upto, top_by, bottom_by, bottom_pos}
 use Rattle.error_terms.proofs.Laws.{inverse_of, Reaches}
 use Rattle.error_terms.proofs.Terms.{Shape, shape, Given, entry, larger, Extent, extent, Term, inverse_by, numbers_of, exact, normal_of}
-use Rattle.error_terms.proofs.Terms.{plain_term, cancelled, Known, Lowest, AllKnown, numbers_are, cancelled_sum, normal_is}
+use Rattle.error_terms.proofs.Terms.{plain_term, cancelled, Known, Lowest, AllKnown}
+use Rattle.error_terms.proofs.Sound.{numbers_are, cancelled_sum, normal_is}
 
 ruleset plain = (sorted, one-mul, mul-one, zero-mul, mul-zero, zero-add, add-zero)
 

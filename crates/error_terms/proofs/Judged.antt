@@ -23,7 +23,8 @@ use Rattle.error_terms.proofs.Terms.{Shape, shape, Given, none, shape_of, low_of
 use Rattle.error_terms.proofs.Terms.{const_least, divided_test, inverse_constant, raised, raised_by, ◌add◌, ◌take◌, ◌mul◌, ◌over◌, value}
 use Rattle.error_terms.proofs.Terms.{exact, bound, ok, fine, sum_test, sum_shape, product_shape, quotient_shape, quotient_test, double}
 use Rattle.error_terms.proofs.Terms.{constant, normal_of, plain_term, numbers_of, cancelled, tight_size, tight_test, resized_shape}
-use Rattle.error_terms.proofs.Terms.{units_test, reach_of, unit_by, unit_real, in_unit_lem, Known, AllKnown, sound, exact_near}
+use Rattle.error_terms.proofs.Terms.{units_test, reach_of, unit_by, Known, AllKnown}
+use Rattle.error_terms.proofs.Sound.{unit_real, in_unit_lem, sound, exact_near}
 
 pub data Judged : Type 0 where
   judged : (okay plain : Bool) → Shape → List Product → Judged

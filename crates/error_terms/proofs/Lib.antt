@@ -1,6 +1,7 @@
 pub mod Monomials
 pub mod Laws
 pub mod Terms
+pub mod Sound
 pub mod Judged
 pub mod Shared
 pub mod Entries
@@ -8,4 +9,5 @@ pub mod Floors
 pub mod Orders
 pub mod Shares
 pub mod Stages
+pub mod SineTerms
 pub mod Sine

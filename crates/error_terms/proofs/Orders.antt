@@ -21,8 +21,9 @@ use Rattle.rounding_error.proofs.Distances.{sorted, within_upto}
 use Rattle.rounding_error.proofs.Polynomials as Poly
 use Rattle.error_terms.proofs.Monomials.{top, bottom, mono, added, alike, AllRanges, top_pos}
 use Rattle.error_terms.proofs.Laws.{Reaches}
-use Rattle.error_terms.proofs.Terms.{shape, Given, extent, Term, ◌take◌, value, exact, cancelled, unit_by, unit_real, in_unit_lem, Known}
-use Rattle.error_terms.proofs.Terms.{AllKnown, sound}
+use Rattle.error_terms.proofs.Terms.{shape, Given, extent, Term, ◌take◌, value, exact, cancelled, unit_by, Known}
+use Rattle.error_terms.proofs.Terms.{AllKnown}
+use Rattle.error_terms.proofs.Sound.{unit_real, in_unit_lem, sound}
 use Rattle.error_terms.proofs.Judged.{Judged, judged, judge, take_judged, judgement}
 
 ruleset plain = (sorted, one-mul, mul-one, zero-mul, mul-zero, zero-add, add-zero)

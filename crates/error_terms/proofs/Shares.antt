@@ -20,7 +20,8 @@ use Rattle.rounding_error.proofs.Polynomials.{Expression, ratio, ◌equals◌}
 use Rattle.error_terms.proofs.Monomials.{top, bottom, mono, added, alike, AllRanges}
 use Rattle.error_terms.proofs.Laws.{Reaches}
 use Rattle.error_terms.proofs.Terms.{Shape, shape, Given, entry, extent, Term, var, const, nought, ◌add◌, ◌mul◌, value, exact, bound}
-use Rattle.error_terms.proofs.Terms.{ok, cancelled, unit_by, units_test, reach_of, unit_real, AllKnown, sound}
+use Rattle.error_terms.proofs.Terms.{ok, cancelled, unit_by, units_test, reach_of, AllKnown}
+use Rattle.error_terms.proofs.Sound.{unit_real, sound}
 use Rattle.error_terms.proofs.Judged.{Judged, judged, judge, passes, error_of, unit_of, difference_by, near_target}
 use Rattle.error_terms.proofs.Floors.{Signed, ReachesBy, floor_of, rising, equal_reaches, factor_reaches, not_below}
 use Rattle.error_terms.proofs.Orders.{near_le, near_abs, finer, moved, Facts, facts}

@@ -15,8 +15,9 @@ use Rattle.rounding_error.proofs.Polynomials as Poly
 use Rattle.rounding_error.proofs.Polynomials.{Expression, Product, normal, evaluate, sum_of, ◌equals◌, symm}
 use Rattle.error_terms.proofs.Monomials.{top, bottom, mono, AllRanges, top_pos}
 use Rattle.error_terms.proofs.Laws.{up_least}
-use Rattle.error_terms.proofs.Terms.{shape, Given, extent, numbers_of, cancelled, unit_by, units_test, reach_of, tight_size, unit_real}
-use Rattle.error_terms.proofs.Terms.{numbers_are, cancelled_sum, under_equal, Known, Lowest, AllKnown}
+use Rattle.error_terms.proofs.Terms.{shape, Given, extent, numbers_of, cancelled, unit_by, units_test, reach_of, tight_size}
+use Rattle.error_terms.proofs.Terms.{Known, Lowest, AllKnown}
+use Rattle.error_terms.proofs.Sound.{unit_real, numbers_are, cancelled_sum, under_equal}
 use Rattle.error_terms.proofs.Floors.{Signed, ReachesBy, floor_of, rising, sum_low, equal_reaches}
 use Rattle.error_terms.proofs.Orders.{near_above, finer}
 use Rattle.error_terms.proofs.Shares.{weaker}

@@ -3,11 +3,11 @@
 #![tactic(auto)]
 
 use arguments::Command;
-use libc::STDERR_FILENO;
 use shown_lines::Maker;
 
-fn write_help() {
+fn write_help(rt: HostRuntime) {
     arguments::write_text(
+        rt,
         b"explain",
         b"usage: explain < LINES\n\
         Says of each line to the card program, in a sentence, why it is refused, or that it is accepted.\n\
@@ -15,16 +15,15 @@ fn write_help() {
     );
 }
 
-fn main() {
-    match arguments::read() {
-        Command::Run => shown_lines::show_input(Maker::Explanations),
-        Command::Help => write_help(),
-        Command::Version => arguments::write_text(b"explain", b"explain 0.1.0\n"),
+fn main(rt: HostRuntime) {
+    match arguments::read(rt) {
+        Command::Run => shown_lines::show_input(rt, Maker::Explanations),
+        Command::Help => write_help(rt),
+        Command::Version => arguments::write_text(rt, b"explain", b"explain 0.1.0\n"),
         Command::Unknown => {
-            io::write_all(
-                STDERR_FILENO,
-                b"explain: unknown argument; see explain --help\n",
-            );
+            let _ = rt
+                .stderr()
+                .write_all(b"explain: unknown argument; see explain --help\n");
         }
     }
 }

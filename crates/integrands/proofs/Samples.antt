@@ -18,7 +18,7 @@ use Rattle.planforms.proofs.Sized.{Sized}
 use Rattle.chords.specs.Chords.{ends_at, chords_at}
 use Rattle.chords.proofs.Sizes.{Pairs, ends_at_lem, paired_few}
 use Rattle.sections.proofs.Sizes.{FourBelow, chord_moments_below}
-use Rattle.integrands.specs.Integrands.{term_of, plus, sums_from, sums_over, sample_values, sample_of}
+use Rattle.integrands.specs.Integrands.{term_of, plus as plus_four, sums_from, sums_over, sample_values, sample_of}
 use Rattle.integrands.specs.declared.Kind.{Kind}
 use Rattle.integrands.specs.declared.Kind.TheVariants.{Area, Plate}
 use Rattle.integrands.specs.declared.Integrand.{Integrand}
@@ -44,7 +44,7 @@ term_below Area h a b s p ha hb =
 term_below (Plate section thickness radius) h a b s p ha hb = chord_moments_below section a b thickness ha hb s.0
 
 -- ---- the sums over the chords: each adds one to the exponent at most
-plus_below : (x y : List Float) (p : ℕ) → 556 ≤ p → p < 1023 → FourBelow p x → FourBelow 556 y → FourBelow (suc p) ((plus) x y)
+plus_below : (x y : List Float) (p : ℕ) → 556 ≤ p → p < 1023 → FourBelow p x → FourBelow 556 y → FourBelow (suc p) (plus_four x y)
 plus_below x y p l r h k = (
   one (at x 0) (at y 0) h.0 k.0,
   (
@@ -71,7 +71,7 @@ sums_below kind scale h k s b (chord ∷ rest) sums p lo hi c f =
     let start = div_below chord.0 scale 116 20 (lit≤ tt) c.0.0 s.above in
     let end = div_below chord.1 scale 116 20 (lit≤ tt) c.0.1 s.above in
     let term = term_below kind h (chord.0 ⊘ scale) (chord.1 ⊘ scale) k b start end in
-    let next = (plus) sums (term_of kind h (chord.0 ⊘ scale) (chord.1 ⊘ scale)) in
+    let next = plus_four sums (term_of kind h (chord.0 ⊘ scale) (chord.1 ⊘ scale)) in
     subst (λ (z : ℕ). FourBelow z (sums_from kind scale h next rest)) (moved p (length rest))
     (sums_below kind scale h k s b rest next (suc p) (le_trans lo (le-suc p)) (omega arith) c.1
     (plus_below sums (term_of kind h (chord.0 ⊘ scale) (chord.1 ⊘ scale)) p lo (omega arith) f term))

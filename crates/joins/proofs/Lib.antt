@@ -3,5 +3,4 @@ pub mod Listed
 pub mod JoinLaws
 pub mod Parts
 pub mod JoinedSix
-pub mod Each
-pub mod Adds
+pub mod InList

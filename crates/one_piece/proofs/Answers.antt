@@ -356,9 +356,9 @@ module _ (root tip span sweep : Float) (points : List Float) (L n : ℕ) (f64s :
       rw (strips, e, d)
 
 -- ---- what is reported: figures by one piece, or 8
-by_area : (b : Bool) (scale : Float) (value : List Float) → OnePiece (area_report (area_by (refuse_when b NoArea) scale (one_total value)))
-by_area true scale value = record { fifteen = refl; figures_or_8 = inr refl }
-by_area false scale value = record { fifteen = refl; figures_or_8 = inl (refl, refl) }
+by_area : (b : Bool) (S : Float) (value : List Float) → OnePiece (area_report (area_by (refuse_when b NoArea) S (one_total value)))
+by_area true S value = record { fifteen = refl; figures_or_8 = inr refl }
+by_area false S value = record { fifteen = refl; figures_or_8 = inl (refl, refl) }
 
 by_set : (b : Bool) (body : Body) (value : List Float) → OnePiece (set_report (figures_by (refuse_when b NoArea) body (one_total value)))
 by_set true body value = record { fifteen = refl; figures_or_8 = inr refl }

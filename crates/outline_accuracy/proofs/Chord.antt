@@ -25,8 +25,9 @@ use Rattle.rounding_error.proofs.Polynomials.{Expression, given, ratio, ◌add�
 use Rattle.rounding_error.proofs.Polynomials.{evaluated_is, AllNumbers}
 use Rattle.error_terms.proofs.Monomials.{top, bottom, place, AllRanges}
 use Rattle.error_terms.proofs.Laws.{inverse_of, inverse_is, Reaches}
-use Rattle.error_terms.proofs.Terms.{shape, Given, entry, Term, var, nought, ◌add◌ as ◌add_t◌, ◌take◌ as ◌take_term◌, ◌over◌, Known, AllKnown}
-use Rattle.error_terms.proofs.Terms.{unit_by, unit_real}
+use Rattle.error_terms.proofs.Terms.{shape, Given, entry, Term, var, nought, ◌add◌ as ◌add_t◌, ◌take◌ as ◌take_t◌, ◌over◌, Known, AllKnown}
+use Rattle.error_terms.proofs.Terms.{unit_by}
+use Rattle.error_terms.proofs.Sound.{unit_real}
 use Rattle.error_terms.proofs.Judged.{near_within}
 use Rattle.error_terms.proofs.Entries.{full, own_entry}
 use Rattle.error_terms.proofs.Floors.{NotBelow, times_not_below, plus_not_below, unordered_not_below}

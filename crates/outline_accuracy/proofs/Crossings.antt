@@ -10,7 +10,7 @@ use native.Mathlib.Nat.{mul-pos, mul-le-mul_right, lt_irrefl, one-mul, mul-one, 
 use native.Mathlib.Omega.{arith}
 use lib.Dec.{T, eqb, eqb→eq, ltb→lt}
 use lib.Pow.{pow_pos, pow_mono}
-use lib.Ieee.{Float, nan, inf, fin, binary64, up, down, neg, add, sub, div, unlike, round}
+use lib.Ieee.{Float, nan, inf, fin, binary64, up, down, neg, sub, div, unlike, round}
 use lib.Ieee.Scale.{finite}
 use lib.Ieee.Positive.{num, den, den_pos, positive}
 use Rattle.floats.specs.Operations.{◌⊕◌, ◌⊖◌, ◌⊗◌, ◌⊘◌}
@@ -25,8 +25,9 @@ use Rattle.rounding_error.proofs.Polynomials.{Expression, given as at_place, rat
 use Rattle.rounding_error.proofs.Polynomials.{AllNumbers}
 use Rattle.error_terms.proofs.Monomials.{top, bottom, place, AllRanges}
 use Rattle.error_terms.proofs.Laws.{inverse_of, inverse_is, Reaches}
-use Rattle.error_terms.proofs.Terms.{shape, Given, entry, larger, Term, var, raised, ◌add◌ as ◌add_t◌, ◌take◌ as ◌take_term◌, ◌mul◌ as ◌mul_t◌}
-use Rattle.error_terms.proofs.Terms.{◌over◌, AllKnown, unit_by, unit_real}
+use Rattle.error_terms.proofs.Terms.{shape, Given, entry, larger, Term, var, raised, ◌add◌ as ◌add_t◌, ◌take◌ as ◌take_t◌, ◌mul◌ as ◌mul_t◌}
+use Rattle.error_terms.proofs.Terms.{◌over◌, AllKnown, unit_by}
+use Rattle.error_terms.proofs.Sound.{unit_real}
 use Rattle.error_terms.proofs.Judged.{near_within}
 use Rattle.error_terms.proofs.Orders.{near_above}
 

@@ -11,7 +11,7 @@ use lib.Ieee.{Float}
 use lib.Ieee.Scale.{finite}
 use lib.Ieee.Positive.{num, den, positive}
 use Rattle.floats.specs.Fractions.{Fraction, ◌over◌, ◌plus◌ as sum, minus as negated, ◌times◌ as product, value_of as fraction_of}
-use Rattle.rounding_error.specs.Distances.{◌atMost◌}
+use Rattle.rounding_error.specs.Distances.{◌at_most◌}
 use Rattle.rounding_error.proofs.Numbers.{Number, number, minus, ◌less◌, ◌times◌, zero_number, value_of}
 use Rattle.rounding_error.proofs.Fractions.{IsFraction, plus_fraction, times_fraction, minus_fraction, value_fraction, whole_fraction}
 use Rattle.rounding_error.proofs.Fractions.{shifted_fraction}

@@ -27,7 +27,8 @@ use Rattle.rounding_error.proofs.Polynomials.{Expression, given, ratio, ◌take�
 use Rattle.error_terms.proofs.Monomials.{place, AllRanges}
 use Rattle.error_terms.proofs.Laws.{Reaches, inverse_of}
 use Rattle.error_terms.proofs.Terms.{shape, Given, entry, Term, var, tight, ◌mul◌ as ◌mul_t◌, ◌over◌, value, AllKnown, numbers_of}
-use Rattle.error_terms.proofs.Terms.{numbers_are, unit_by, unit_real}
+use Rattle.error_terms.proofs.Terms.{unit_by}
+use Rattle.error_terms.proofs.Sound.{numbers_are, unit_real}
 use Rattle.error_terms.proofs.Judged.{judge, nearer, near_within}
 use Rattle.error_terms.proofs.Entries.{full, sized_entry, own_entry, near_given}
 use Rattle.error_terms.proofs.Floors.{NotBelow, equal_reaches, times_not_below}

@@ -21,7 +21,8 @@ use Rattle.rounding_error.proofs.Ranges.{ranges_by, ranges_for, in_range}
 use Rattle.rounding_error.proofs.Polynomials.{given, ratio, ◌add◌, ◌mul◌, ◌equals◌, trans, equal_by, evaluated_is}
 use Rattle.error_terms.proofs.Monomials.{top, bottom, place}
 use Rattle.error_terms.proofs.Laws.{inverse_of, Reaches}
-use Rattle.error_terms.proofs.Terms.{Known, unit_by, unit_real}
+use Rattle.error_terms.proofs.Terms.{Known, unit_by}
+use Rattle.error_terms.proofs.Sound.{unit_real}
 use Rattle.error_terms.proofs.Floors.{NotBelow}
 use Rattle.outline_accuracy.proofs.Signs.{extent_of, extent_under}
 use Rattle.outline_accuracy.proofs.Crossings.{some}

@@ -19,7 +19,8 @@ use Rattle.rounding_error.proofs.Polynomials.{Expression, given, ratio, ◌add�
 use Rattle.rounding_error.proofs.Polynomials.{evaluate_is}
 use Rattle.error_terms.proofs.Monomials.{top, bottom, mono, AllRanges}
 use Rattle.error_terms.proofs.Terms.{Shape, shape, Given, entry, Term, var, const, nought, tight, ◌add◌ as ◌add_t◌, ◌mul◌ as ◌mul_t◌, value}
-use Rattle.error_terms.proofs.Terms.{Known, AllKnown, unit_by, unit_real, constant, numbers_of, numbers_are}
+use Rattle.error_terms.proofs.Terms.{Known, AllKnown, unit_by, constant, numbers_of}
+use Rattle.error_terms.proofs.Sound.{unit_real, numbers_are}
 use Rattle.error_terms.proofs.Judged.{near_within, nearer, judge}
 use Rattle.outline_accuracy.proofs.Lines.{equal_under}
 use Rattle.accuracy.proofs.Samples.{node_of, node_e, height_of, IsSample, plus_side_lem, minus_side_lem, centre, Sample}

@@ -7,7 +7,7 @@ use Rattle.std.specs.Float.Ieee.{fits}
 use Rattle.floats.specs.Fractions.{Fraction, ◌over◌, ◌plus◌, minus, ◌times◌, value_of}
 use Rattle.floats.specs.Operations.{at}
 use Rattle.rounding.specs.Sizes.{AtMost}
-use Rattle.rounding_error.specs.Distances.{◌atMost◌, Within}
+use Rattle.rounding_error.specs.Distances.{◌at_most◌, Within}
 use Rattle.refusals.specs.declared.Verdict.TheVariants.{Accepted}
 use Rattle.segments.specs.Segments.{next}
 use Rattle.planforms.specs.declared.Planform.TheVariants.{Outline}

@@ -8,7 +8,8 @@
 
 ghost use Rattle.std.specs.Prelude.{◌≤◌};
 
-use libc::{STDIN_FILENO, STDOUT_FILENO};
+use std::io;
+use std::io::Read;
 use std::num::{wrapping_add_u64, wrapping_sub_u64};
 
 const ENTRIES: usize = 20;
@@ -94,55 +95,52 @@ fn entry(e: usize) -> f64 {
     gauss_kronrod::gauss_weight(e - 16)
 }
 
-fn print_name(e: usize) {
+fn print_name(rt: HostRuntime, e: usize) {
     if e < 8 {
-        io::write_all(STDOUT_FILENO, b"node ");
-        io::print_decimal(STDOUT_FILENO, e as u64);
+        let _ = print!(rt; "node {e}");
         return;
     }
     if e < 16 {
-        io::write_all(STDOUT_FILENO, b"Kronrod weight ");
-        io::print_decimal(STDOUT_FILENO, (e - 8) as u64);
+        let _ = print!(rt; "Kronrod weight {}", e - 8);
         return;
     }
-    io::write_all(STDOUT_FILENO, b"Gauss weight ");
-    io::print_decimal(STDOUT_FILENO, (e - 16) as u64);
+    let _ = print!(rt; "Gauss weight {}", e - 16);
 }
 
 // Reads the next line, `0.` and 33 digits, and prints whether entry e, and neither of its neighbours, is the nearest to
 // it. Returns 1 if so, else 0.
-fn check_entry(e: usize) -> u64
+fn check_entry(rt: HostRuntime, e: usize) -> u64
     ensures { result ≤ 1 }
 {
     let mut line = [0u8; 36];
-    io::read_full(STDIN_FILENO, &mut line);
+    let _ = rt.stdin().read_exact(&mut line);
     let digits = &line[2..35];
-    print_name(e);
+    print_name(rt, e);
     let b = floats::to_bits(entry(e));
     if is_nearest(wrapping_sub_u64(b, 1), digits) || is_nearest(wrapping_add_u64(b, 1), digits) {
-        io::write_all(STDOUT_FILENO, b" has a nearer neighbour\n");
+        let _ = println!(rt; " has a nearer neighbour");
         return 0;
     }
     if is_nearest(b, digits) {
-        io::write_all(STDOUT_FILENO, b" nearest\n");
+        let _ = println!(rt; " nearest");
         return 1;
     }
-    io::write_all(STDOUT_FILENO, b" not nearest\n");
+    let _ = println!(rt; " not nearest");
     0
 }
 
 // Checks every entry and returns how many are the nearest.
-fn check_all() -> u64 {
+fn check_all(rt: HostRuntime) -> u64 {
     let mut nearest = 0u64;
     let mut e = 0;
     while e < ENTRIES {
-        nearest += check_entry(e);
+        nearest += check_entry(rt, e);
         e += 1;
     }
     nearest
 }
 
-fn main() {
-    io::print_decimal(STDOUT_FILENO, check_all());
-    io::write_all(STDOUT_FILENO, b" of 20 entries are the nearest f64\n");
+fn main(rt: HostRuntime) -> io::Result<()> {
+    let nearest = check_all(rt);
+    println!(rt; "{nearest} of 20 entries are the nearest f64")
 }

@@ -3,11 +3,11 @@
 #![tactic(auto)]
 
 use arguments::Command;
-use libc::STDERR_FILENO;
 use shown_lines::Maker;
 
-fn write_help() {
+fn write_help(rt: HostRuntime) {
     arguments::write_text(
+        rt,
         b"readable",
         b"usage: card < LINES | readable\n\
         Shows each answer of the card program as a block of text for people.\n\
@@ -15,16 +15,15 @@ fn write_help() {
     );
 }
 
-fn main() {
-    match arguments::read() {
-        Command::Run => shown_lines::show_input(Maker::Blocks),
-        Command::Help => write_help(),
-        Command::Version => arguments::write_text(b"readable", b"readable 0.1.0\n"),
+fn main(rt: HostRuntime) {
+    match arguments::read(rt) {
+        Command::Run => shown_lines::show_input(rt, Maker::Blocks),
+        Command::Help => write_help(rt),
+        Command::Version => arguments::write_text(rt, b"readable", b"readable 0.1.0\n"),
         Command::Unknown => {
-            io::write_all(
-                STDERR_FILENO,
-                b"readable: unknown argument; see readable --help\n",
-            );
+            let _ = rt
+                .stderr()
+                .write_all(b"readable: unknown argument; see readable --help\n");
         }
     }
 }

@@ -7,14 +7,13 @@ use native.Mathlib.Omega.{arith}
 use borrow.Author.Tests.{le-leb}
 use lib.IntN.{ℤ, pos, negsuc}
 use lib.Dec.{leb}
-use Rattle.libc.specs.Io.{Moved}
 use Rattle.io.specs.Counts.{clamp_len}
-use Rattle.reads.specs.Reads.{brought, at_end, most_read}
+use Rattle.reads.specs.Reads.{Answers, brought, at_end, most_read}
 
--- by `io::count`, of a chunk that is as long as it was
-pub counted : (got : ℤ) (n before after : ℕ) → Moved before got → after ≡ before → n ≡ clamp_len got after → n ≡ brought got
-counted (pos i) n before after h e c = omega arith
-counted (negsuc i) n before after h e c = c
+-- by `io::count`
+pub counted : (got : ℤ) (n room : ℕ) → Answers room got → n ≡ clamp_len got room → n ≡ brought got
+counted (pos i) n room h c = omega arith
+counted (negsuc i) n room h c = c
 
 pub some_brought : (n : ℕ) (all : Bool) → leb 1 n && all ≡ true → 0 < n
 some_brought zero all e = absurd (true≢false (sym e))

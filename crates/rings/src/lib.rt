@@ -4,7 +4,7 @@
 // list, and are joined there (document 01, "Body"). A single copy is turned and joined like any other.
 #![tactic(auto)]
 
-ghost use Rattle.std.specs.Prelude.{◌≡◌, ◌≤◌};
+ghost use Rattle.std.specs.Prelude.{◌≡◌, ◌≤◌, length};
 ghost use Rattle.rings.specs.Rings.{angle_of, TurnsTo, CopiesTo, joined_copies};
 
 use bodies::Body;
@@ -43,7 +43,8 @@ fn turns(base_angle_rad: f64, count: usize) -> [Quaternion; 32]
 // Returns the turned copies, one after another.
 fn copies(body: Body, base_angle_rad: f64, count: usize) -> [Body; 32]
     requires { count ≤ 32 }
-    ensures { CopiesTo count body base_angle_rad count result }
+    ensures filled { CopiesTo count body base_angle_rad count result }
+    ensures long { length result ≡ 32 }
 {
     let all = turns(base_angle_rad, count);
     let zero = Body::ZERO;

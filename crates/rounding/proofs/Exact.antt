@@ -33,7 +33,7 @@ exact_value f s b d v = rw (round_sign f s b d) (signed_value s (round f false b
 
 -- ---- m·2^j / 2^k
 arrange : (m a j k : ℕ) → m * (a * j) * k ≡ m * j * (a * k)
-arrange m a j k = simp (mul_assoc, mul_comm, mul_left_comm)
+arrange m a j k = simp (mul_assoc, mul_left_comm)
 
 pub dyadic_exact : (f : Format) (m j k : ℕ) → m < 2 ^ prec f → k ≤ low f → m * 2 ^ j < 2 ^ suc (emax f) * 2 ^ k
     → Exact f (m * 2 ^ j) (2 ^ k)

@@ -58,7 +58,7 @@ module _ (nx dx ux ny dy uy u : ℕ) (is_x : nx * u ≡ ux * dx) (is_y : ny * u 
       third n e v = simp (mul_assoc, mul_comm, mul_left_comm)
 
       fourth : (a d v e : ℕ) → a * d * v * (e * e) ≡ a * v * (d * (e * e))
-      fourth a d v e = simp (mul_assoc, mul_comm, mul_left_comm)
+      fourth a d v e = simp (mul_assoc, mul_left_comm)
 
 least_in_units : (ny dy uy nr dr ur u : ℕ) → 0 < u → ny * u ≡ uy * dy → ur * dr ≤ nr * u → uy ≤ ur → ny * dr ≤ nr * dy
 least_in_units ny dy uy nr dr ur u U e f h =

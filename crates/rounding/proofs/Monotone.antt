@@ -24,7 +24,7 @@ use Rattle.rounding.proofs.Operations.{add_is, mul_is, div_is, div_most}
 
 -- ---- the sum
 swap : (n d e c : ℕ) → n * d * (e * c) ≡ n * e * (d * c)
-swap n d e c = simp (mul_assoc, mul_comm, mul_left_comm)
+swap n d e c = simp (mul_assoc, mul_left_comm)
 
 pub add_mono : (f : Format) (a b c : Float) → T (finite a) → T (finite b) → T (finite c) → T (le a b) → T (le (add f a c) (add f b c))
 add_mono f a b c i j k h =
@@ -55,7 +55,7 @@ mul_plus f a c i k s = mul_is f a c i k ∙ ap (λ (t : Bool). round f (unlike (
     ∙ ap (λ (t : Bool). round f t (num a * num c) (den a * den c)) (unlike_plus (minus a))
 
 cross : (n d m e : ℕ) → n * d * (m * e) ≡ n * m * (d * e)
-cross n d m e = simp (mul_assoc, mul_comm, mul_left_comm)
+cross n d m e = simp (mul_assoc, mul_left_comm)
 
 pub mul_mono : (f : Format) (a b c : Float) → T (finite a) → T (finite b) → T (finite c) → minus c ≡ false → T (le a b)
     → T (le (mul f a c) (mul f b c))

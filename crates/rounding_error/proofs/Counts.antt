@@ -138,10 +138,10 @@ own_size (fin true m e) p = absurd p
 own_size (fin false m e) p = record { below = go (m * up e) (down e); above = go' (m * up e) (down e) }
   where
     go : (N D : ℕ) → (N * 1 + 0 * D) * D ≤ (0 * D + 0 * 1) * D + 1 * N * (D * 1)
-    go N D = simp (sorted, one-mul, mul-one, zero-mul, zero-add) (omega arith)
+    go N D = simp (sorted, one-mul, zero-mul, zero-add) (omega arith)
 
     go' : (N D : ℕ) → (0 * D + 0 * 1) * D ≤ (N * 1 + 0 * D) * D + 1 * N * (1 * D)
-    go' N D = simp (sorted, one-mul, mul-one, zero-mul, zero-add) (omega arith)
+    go' N D = simp (sorted, one-mul, zero-mul, zero-add) (omega arith)
 
 -- ---- an f64 is near itself
 none : (a c : ℕ) → 0 * c ≤ 0 * a * 1

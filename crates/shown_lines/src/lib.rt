@@ -16,7 +16,6 @@ ghost use Rattle.shown_lines.specs.Program.{kept_by, told, Lends, Counted, Shows
 ghost use Rattle.shown_lines.specs.Program.{Turns, ShowsLast, Closes, Runs};
 
 use input_lines::State;
-use libc::{STDERR_FILENO, STDIN_FILENO, STDOUT_FILENO};
 use reads::MOST_READ;
 
 // What is shown of a line: the block of an answer of the card program, or the explanation of a line to it.
@@ -84,19 +83,33 @@ fn put_made(out: &mut [u8], number: u64, line: &[u8], over: bool, maker: Maker) 
 
 // Writes what is made of the line that is kept, which is at its end and has this number. A line of which only a part is
 // kept is no answer, as that part is too long for one.
-fn show_line(buffer: &[u8], s: State, number: u64, out: &mut [u8], maker: Maker) -> Last
+fn show_line(
+    rt: HostRuntime,
+    buffer: &[u8],
+    s: State,
+    number: u64,
+    out: &mut [u8],
+    maker: Maker,
+) -> Last
     requires { (s.kept ≤ length buffer.now) × (length out.old ≡ numbered_bytes) }
     ensures { ShowsLine maker buffer.now s number out.new result }
 {
     let kept = s.kept;
     let written = put_made(out, number, &buffer[..kept], s.over, maker);
-    let all = io::write_all(STDOUT_FILENO, &out[..written]);
+    let all = rt.stdout().write_all(&out[..written]).is_ok();
     Last { written, all }
 }
 
 // Takes the bytes of a chunk from where the program stands on, up to the next newline or the chunk's end. At a newline
 // it writes what is made of the line.
-fn show_next(buffer: &mut [u8], s: Step, chunk: &[u8], out: &mut [u8], maker: Maker) -> Step
+fn show_next(
+    rt: HostRuntime,
+    buffer: &mut [u8],
+    s: Step,
+    chunk: &[u8],
+    out: &mut [u8],
+    maker: Maker,
+) -> Step
     requires { Lends buffer.old chunk.now out.old × Counted (most_read + s.taken) s.state s.ended s.handed
         × (s.taken < length chunk.now) }
     ensures { Steps maker buffer.old buffer.new s result chunk.now out.new }
@@ -117,7 +130,7 @@ fn show_next(buffer: &mut [u8], s: Step, chunk: &[u8], out: &mut [u8], maker: Ma
         };
     }
     let number = s.ended + 1;
-    let last = show_line(buffer, state, number, out, maker);
+    let last = show_line(rt, buffer, state, number, out, maker);
     let next = input_lines::no_line();
     Step {
         state: next,
@@ -131,6 +144,7 @@ fn show_next(buffer: &mut [u8], s: Step, chunk: &[u8], out: &mut [u8], maker: Ma
 
 // Takes the bytes of a chunk, until all are taken or a write did not take all that it was handed.
 fn show_chunk(
+    rt: HostRuntime,
     buffer: &mut [u8],
     s: State,
     ended: u64,
@@ -151,18 +165,25 @@ fn show_chunk(
         all: true,
     };
     while step.all && step.taken < chunk.len() {
-        step = show_next(buffer, step, chunk, out, maker);
+        step = show_next(rt, buffer, step, chunk, out, maker);
     }
     step
 }
 
 // Reads once, and takes the bytes that the read brought.
-fn take_turn(buffer: &mut [u8], t: Turn, chunk: &mut [u8], out: &mut [u8], maker: Maker) -> Turn
+fn take_turn(
+    rt: HostRuntime,
+    buffer: &mut [u8],
+    t: Turn,
+    chunk: &mut [u8],
+    out: &mut [u8],
+    maker: Maker,
+) -> Turn
     requires { Lends buffer.old chunk.old out.old × Counted t.read t.state t.ended t.handed
         × (t.read < most_read) }
     ensures { Turns maker buffer.old buffer.new t result chunk.new }
 {
-    let got = libc::read(STDIN_FILENO, chunk);
+    let got = reads::read(&mut rt.stdin(), chunk);
     let n = io::count(got, chunk);
     let state = t.state;
     if n == 0 {
@@ -176,7 +197,16 @@ fn take_turn(buffer: &mut [u8], t: Turn, chunk: &mut [u8], out: &mut [u8], maker
             more: false,
         };
     }
-    let step = show_chunk(buffer, state, t.ended, &chunk[..n], out, t.handed, maker);
+    let step = show_chunk(
+        rt,
+        buffer,
+        state,
+        t.ended,
+        &chunk[..n],
+        out,
+        t.handed,
+        maker,
+    );
     let next = step.state;
     Turn {
         state: next,
@@ -190,7 +220,14 @@ fn take_turn(buffer: &mut [u8], t: Turn, chunk: &mut [u8], out: &mut [u8], maker
 }
 
 // Writes what is made of a last line without a newline, where there is one.
-fn show_last(buffer: &[u8], s: State, ended: u64, out: &mut [u8], maker: Maker) -> Last
+fn show_last(
+    rt: HostRuntime,
+    buffer: &[u8],
+    s: State,
+    ended: u64,
+    out: &mut [u8],
+    maker: Maker,
+) -> Last
     requires { (s.kept ≤ length buffer.now) × (length out.old ≡ numbered_bytes) × (ended ≤ most_read + 65536) }
     ensures { ShowsLast maker buffer.now s ended out.new result }
 {
@@ -201,7 +238,7 @@ fn show_last(buffer: &[u8], s: State, ended: u64, out: &mut [u8], maker: Maker) 
             all: true,
         };
     }
-    show_line(buffer, s, ended + 1, out, maker)
+    show_line(rt, buffer, s, ended + 1, out, maker)
 }
 
 // Puts what is told on standard error at the start of `out`, and returns how many bytes it has; nothing is told where
@@ -228,14 +265,14 @@ fn tell(out: &mut [u8], shown: bool, maker: Maker) -> usize
 }
 
 // Ends a run: at the end of the input a line without a newline is a line too.
-fn end_run(buffer: &[u8], t: Turn, out: &mut [u8], maker: Maker) -> End
+fn end_run(rt: HostRuntime, buffer: &[u8], t: Turn, out: &mut [u8], maker: Maker) -> End
     requires { (t.state.kept ≤ length buffer.now) × (length out.old ≡ numbered_bytes)
         × (t.ended ≤ most_read + 65536) × (t.handed ≤ numbered_bytes * (most_read + 65536)) }
     ensures { Closes maker buffer.now t out.new result }
 {
     if reads::is_end(t.got) {
         let state = t.state;
-        let last = show_last(buffer, state, t.ended, out, maker);
+        let last = show_last(rt, buffer, state, t.ended, out, maker);
         let told = tell(out, last.all, maker);
         return End {
             turn: t,
@@ -254,7 +291,7 @@ fn end_run(buffer: &[u8], t: Turn, out: &mut [u8], maker: Maker) -> End
 }
 
 // Shows all of the input. Before the first read it stands as if one had failed.
-fn run(buffer: &mut [u8], chunk: &mut [u8], out: &mut [u8], maker: Maker) -> End
+fn run(rt: HostRuntime, buffer: &mut [u8], chunk: &mut [u8], out: &mut [u8], maker: Maker) -> End
     requires { Lends buffer.old chunk.old out.old }
     ensures { Runs maker out.new result }
 {
@@ -269,17 +306,17 @@ fn run(buffer: &mut [u8], chunk: &mut [u8], out: &mut [u8], maker: Maker) -> End
         more: true,
     };
     while turn.more && turn.read < MOST_READ {
-        turn = take_turn(buffer, turn, chunk, out, maker);
+        turn = take_turn(rt, buffer, turn, chunk, out, maker);
     }
-    end_run(buffer, turn, out, maker)
+    end_run(rt, buffer, turn, out, maker)
 }
 
 // Runs the whole program, where it was given no arguments.
-pub fn show_input(maker: Maker) {
+pub fn show_input(rt: HostRuntime, maker: Maker) {
     let mut buffer = io::buffer();
     let mut chunk = io::large_buffer();
     let mut out = [0; 1050];
-    let end = run(&mut buffer, &mut chunk, &mut out, maker);
+    let end = run(rt, &mut buffer, &mut chunk, &mut out, maker);
     let told = end.told;
-    io::write_all(STDERR_FILENO, &out[..told]);
+    let _ = rt.stderr().write_all(&out[..told]);
 }

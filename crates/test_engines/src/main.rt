@@ -11,9 +11,9 @@ use fins::FinSet;
 use jobs::{Job, Progress, Reply, Row};
 use lent_engines::{ENGINE_COUNTS, ENGINE_NUMBERS};
 use lent_jobs::MORE;
-use libc::STDOUT_FILENO;
 use materials::Density;
 use refusals::{Refusal, Verdict};
+use std::io;
 use std::num::wrapping_add_u64;
 
 const CALLS: u64 = 40000;
@@ -337,16 +337,14 @@ fn call_all(
     tally
 }
 
-fn main() {
+fn main(rt: HostRuntime) -> io::Result<()> {
     let mut numbers = [0.0; ENGINE_NUMBERS];
     let mut counts = [0; ENGINE_COUNTS];
     let mut scratch = [0.0; limits::SCRATCH_NUMBERS];
     let mut other = [0.0; limits::SCRATCH_NUMBERS];
     let tally = call_all(&mut numbers, &mut counts, &mut scratch, &mut other);
-    io::print_decimal(STDOUT_FILENO, CALLS);
-    io::write_all(STDOUT_FILENO, b" calls, ");
-    io::print_decimal(STDOUT_FILENO, tally.ended);
-    io::write_all(STDOUT_FILENO, b" jobs ended, ");
-    io::print_decimal(STDOUT_FILENO, tally.differ);
-    io::write_all(STDOUT_FILENO, b" answers differ from jobs stepped alone\n");
+    let Tally { ended, differ } = tally;
+    println!(rt;
+        "{CALLS} calls, {ended} jobs ended, {differ} answers differ from jobs stepped alone"
+    )
 }

@@ -11,9 +11,9 @@ ghost use Rattle.lent_jobs.specs.Lent.{Room};
 use figures::Figures;
 use jobs::Reply;
 use lent_jobs::{JOB_COUNTS, JOB_NUMBERS};
-use libc::STDOUT_FILENO;
 use materials::Density;
 use refusals::Verdict;
+use std::io;
 use std::num::wrapping_add_u64;
 
 const JOBS: u64 = 4000;
@@ -228,16 +228,12 @@ fn compare_all(
     tally
 }
 
-fn main() {
+fn main(rt: HostRuntime) -> io::Result<()> {
     let mut numbers = [0.0; JOB_NUMBERS];
     let mut counts = [0; JOB_COUNTS];
     let mut scratch = [0.0; limits::SCRATCH_NUMBERS];
     let mut other = [0.0; limits::SCRATCH_NUMBERS];
     let tally = compare_all(&mut numbers, &mut counts, &mut scratch, &mut other);
-    io::print_decimal(STDOUT_FILENO, JOBS);
-    io::write_all(STDOUT_FILENO, b" jobs, ");
-    io::print_decimal(STDOUT_FILENO, tally.figures);
-    io::write_all(STDOUT_FILENO, b" ended with figures, ");
-    io::print_decimal(STDOUT_FILENO, tally.differ);
-    io::write_all(STDOUT_FILENO, b" differ from a fresh run\n");
+    let Tally { figures, differ } = tally;
+    println!(rt; "{JOBS} jobs, {figures} ended with figures, {differ} differ from a fresh run")
 }

@@ -14,7 +14,7 @@ ghost use Rattle.test_questions.specs.Parts.{line_figures};
 
 use crate::lines::Outcome;
 use crate::reading::{Cursor, LINE_FIGURES};
-use libc::{STDIN_FILENO, STDOUT_FILENO};
+use std::io::Result;
 use tokens::LINE_BYTES;
 
 #[derive(Clone, Copy)]
@@ -189,7 +189,7 @@ fn take_block(line: &mut [u8], p: Progress, block: &[u8], values: &mut [f64]) ->
 }
 
 // Replays all of the input. A proved loop has to end, so it counts its turns down from a number that no input uses up.
-fn replay_all(block: &mut [u8], line: &mut [u8], values: &mut [f64]) -> Tally
+fn replay_all(rt: HostRuntime, block: &mut [u8], line: &mut [u8], values: &mut [f64]) -> Tally
     requires { line_figures ≤ length values.old }
 {
     let mut p = Progress {
@@ -202,25 +202,24 @@ fn replay_all(block: &mut [u8], line: &mut [u8], values: &mut [f64]) -> Tally
     };
     let mut turns = u64::MAX;
     while turns > 0 {
-        let n = io::read_full(STDIN_FILENO, block);
+        let n = reads::read_full(&mut rt.stdin(), block);
         p = take_block(line, p, &block[..n], values);
         turns = if n < block.len() { 0 } else { turns - 1 };
     }
     finish(line, p, values)
 }
 
-fn print(n: u64, what: &[u8]) {
-    io::print_decimal(STDOUT_FILENO, n);
-    io::write_all(STDOUT_FILENO, what);
+fn print(rt: HostRuntime, n: u64, what: &str) -> Result<()> {
+    println!(rt; "{n} lines {what}")
 }
 
 // Replays the lists and prints the counts. The line's buffer holds one byte more than a line may have.
-fn main() {
+fn main(rt: HostRuntime) -> Result<()> {
     let mut block = io::large_buffer();
     let mut line = [0; 4097];
     let mut values = [0.0; LINE_FIGURES];
-    let t = replay_all(&mut block, &mut line, &mut values);
-    print(t.agree, b" lines agree\n");
-    print(t.differ, b" lines differ\n");
-    print(t.none, b" lines are none\n");
+    let t = replay_all(rt, &mut block, &mut line, &mut values);
+    print(rt, t.agree, "agree")?;
+    print(rt, t.differ, "differ")?;
+    print(rt, t.none, "are none")
 }

@@ -7,7 +7,6 @@ ghost use Rattle.std.specs.Prelude.{◌≡◌, ◌+◌, ◌≤◌, length};
 ghost use Rattle.templates.specs.Cursors.{line_figures};
 
 use fins::FinSet;
-use libc::STDOUT_FILENO;
 use planforms::Planform;
 use reading::Asked;
 use refusals::Verdict;
@@ -197,7 +196,7 @@ fn line_end(text: &[u8], at: usize) -> usize
     i
 }
 
-fn replay_all(text: &[u8], values: &mut [f64], scratch: &mut [f64], out: &mut [u8])
+fn replay_all(rt: HostRuntime, text: &[u8], values: &mut [f64], scratch: &mut [f64], out: &mut [u8])
     requires { (line_figures ≤ length values.old) × (512 ≤ length out.old) }
 {
     let mut at: usize = 0;
@@ -205,7 +204,7 @@ fn replay_all(text: &[u8], values: &mut [f64], scratch: &mut [f64], out: &mut [u
         let end = line_end(text, at);
         let n = replay_line(&text[at..end], values, scratch, out);
         if n <= out.len() {
-            io::write_all(STDOUT_FILENO, &out[..n]);
+            let _ = rt.stdout().write_all(&out[..n]);
         }
         at = end + 1;
     }
@@ -225,11 +224,11 @@ fn scratch_buffer() -> [f64; 64064]
     [0.0; 64064]
 }
 
-fn main() {
+fn main(rt: HostRuntime) {
     let mut text = text_buffer();
-    let n = io::read_full(0, &mut text);
+    let n = reads::read_full(&mut rt.stdin(), &mut text);
     let mut values = [0.0; LINE_FIGURES];
     let mut scratch = scratch_buffer();
     let mut out = [0; 512];
-    replay_all(&text[..n], &mut values, &mut scratch, &mut out);
+    replay_all(rt, &text[..n], &mut values, &mut scratch, &mut out);
 }

@@ -1,0 +1,12 @@
+-- `fins::check_tab` meets its contract: each arm knows its case. Assumes nothing.
+use Rattle.fins.specs.Fins.{tab_check}
+use borrow.Author.Rules.{rules}
+use Rattle.fins.proofs.check_tab.Goals as goal
+
+pub returns-in-None : goal.returns-in-None
+unfolding tab_check
+returns-in-None c = rw c.in-None.is
+
+pub returns-in-Slab : goal.returns-in-Slab
+unfolding tab_check
+returns-in-Slab c = rw c.in-Slab.is c.check_slab.ensures

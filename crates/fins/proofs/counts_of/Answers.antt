@@ -1,0 +1,13 @@
+-- `fins::counts_of` meets its contract: each part has its number. Assumes nothing.
+use borrow.Author.Rules.{rules}
+use Rattle.fins.proofs.counts_of.Goals as goal
+
+pub returns : goal.returns
+returns c =
+    rw (
+      c.number_of-4.ensures,
+      c.number_of-3.ensures,
+      c.tab_number.ensures,
+      c.number_of-2.ensures,
+      c.number_of.ensures,
+    )

@@ -1,0 +1,9 @@
+-- `fins::tab_figures` meets its contract: each arm knows its case. Assumes nothing.
+use borrow.Author.Rules.{rules}
+use Rattle.fins.proofs.tab_figures.Goals as goal
+
+pub returns-in-None : goal.returns-in-None
+returns-in-None c = rw c.in-None.is
+
+pub returns-in-Slab : goal.returns-in-Slab
+returns-in-Slab c = rw c.in-Slab.is

@@ -1,0 +1,6 @@
+-- `joins::add_inertia` meets its contract: the tensor about the joined centre, added. Assumes nothing.
+use borrow.Author.Rules.{rules}
+use Rattle.joins.proofs.add_inertia.Goals as goal
+
+pub returns : goal.returns
+returns c = rw (c.add-inertia_kg_m2.ensures, c.inertia_about.ensures)

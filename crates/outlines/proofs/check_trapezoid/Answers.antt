@@ -1,0 +1,17 @@
+-- `outlines::check_trapezoid` meets its contract: the calls are in order. Assumes nothing.
+use mathlib.Core.List.{[], ◌∷◌}
+use Rattle.refusals.proofs.Order.{in_order}
+use borrow.Author.Rules.{rules}
+use Rattle.outlines.proofs.check_trapezoid.Goals as goal
+
+pub returns : goal.returns
+returns c = rw (
+  c.first_refusal.ensures,
+  c.check_length-3.ensures,
+  c.first_refusal-v-2.ensures,
+  c.check_length-2.ensures,
+  c.first_refusal-v.ensures,
+  c.check_length.ensures,
+  c.check_length-v.ensures,
+)
+    (in_order _ (_ ∷ _ ∷ _ ∷ []))

@@ -1,0 +1,6 @@
+-- `outlines::check_twice_area` meets its contract, by what the calls ensure. Assumes nothing.
+use borrow.Author.Rules.{rules}
+use Rattle.outlines.proofs.check_twice_area.Goals as goal
+
+pub returns : goal.returns
+returns c = rw (c.refuse_when.ensures, c.twice_area.ensures)

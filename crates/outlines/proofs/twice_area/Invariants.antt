@@ -1,0 +1,19 @@
+-- `outlines::twice_area` meets its contract: after i turns the first i terms are summed. Assumes nothing.
+use mathlib.Core.List.{List}
+use mathlib.Core.Path.{◌≡◌, refl, sym, ap, ◌∙◌}
+use Prim.Native.Nat.{ℕ, ◌+◌, ◌-◌, ◌≤◌}
+use native.Mathlib.Nat.{le_antisymm}
+use native.Mathlib.Numerals.{add-one}
+use native.Mathlib.Omega.{arith}
+use borrow.Author.Rules.{rules}
+use lib.Ieee.{Float}
+use Rattle.floats.specs.Operations.{◌⊕◌, bits}
+use Rattle.planforms.specs.Planforms.{pair_count}
+use Rattle.outlines.specs.Outlines.{edge_at, edge_term, sum_of_terms}
+use Rattle.outlines.proofs.twice_area.Given as goal
+
+abbrev pub invariant-loop-i : goal.invariant-loop-i
+invariant-loop-i l = (l.i ≤ pair_count l.points) × (l.sum ≡ sum_of_terms l.points l.i)
+
+abbrev pub decreases-loop-i : goal.decreases-loop-i
+decreases-loop-i l = pair_count l.points - l.i

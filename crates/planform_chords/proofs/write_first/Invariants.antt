@@ -1,0 +1,14 @@
+-- `planform_chords::write_first` meets its contract: after i numbers the first i of xs stand over the list's start. Assumes nothing.
+use mathlib.Core.Path.{◌≡◌, ap, ◌∙◌}
+use Prim.Native.Nat.{ℕ, ◌-◌, ◌≤◌}
+use native.Mathlib.Omega.{arith}
+use lib.ListN.{take}
+use Rattle.sorting.specs.Sorted.{over}
+use Rattle.planform_chords.proofs.Start.{Started, start, next}
+use Rattle.planform_chords.proofs.write_first.Given as goal
+
+abbrev pub invariant-loop-i : goal.invariant-loop-i
+invariant-loop-i l = (l.i ≤ l.n) × Started l.xs l.initial.ends l.ends l.i
+
+abbrev pub decreases-loop-i : goal.decreases-loop-i
+decreases-loop-i l = l.n - l.i

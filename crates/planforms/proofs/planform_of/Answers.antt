@@ -1,0 +1,21 @@
+-- `planforms::planform_of` meets its contract: the definition goes by the same tests. Assumes nothing.
+use borrow.Author.Tests.{eq-eqb, ne_eqb}
+use Rattle.planforms.specs.Numbered.{planform_of}
+use borrow.Author.Rules.{rules}
+use Rattle.planforms.proofs.planform_of.Goals as goal
+
+pub returns-then-number-eq1 : goal.returns-then-number-eq1
+unfolding planform_of
+returns-then-number-eq1 c = simp (eq-eqb _ _ c.if-number-eq1.true)
+
+pub returns-then-number-eq2 : goal.returns-then-number-eq2
+unfolding planform_of
+returns-then-number-eq2 c = simp (ne_eqb _ _ c.if-number-eq1.false, eq-eqb _ _ c.if-number-eq2.true)
+
+pub returns-then-number-eq3 : goal.returns-then-number-eq3
+unfolding planform_of
+returns-then-number-eq3 c = simp (ne_eqb _ _ c.if-number-eq1.false, ne_eqb _ _ c.if-number-eq2.false, eq-eqb _ _ c.if-number-eq3.true)
+
+pub returns : goal.returns
+unfolding planform_of
+returns c = simp (ne_eqb _ _ c.if-number-eq1.false, ne_eqb _ _ c.if-number-eq2.false, ne_eqb _ _ c.if-number-eq3.false)

@@ -1,0 +1,16 @@
+-- `planforms::span_m` meets its contract: each arm knows its case. Assumes nothing.
+use borrow.Author.Rules.{rules}
+use Rattle.planforms.specs.Planforms.{span_of}
+use Rattle.planforms.proofs.span_m.Goals as goal
+
+pub returns-in-Trapezoid : goal.returns-in-Trapezoid
+unfolding span_of
+returns-in-Trapezoid c = rw c.in-Trapezoid.is
+
+pub returns-in-Ellipse : goal.returns-in-Ellipse
+unfolding span_of
+returns-in-Ellipse c = rw c.in-Ellipse.is
+
+pub returns-in-Outline : goal.returns-in-Outline
+unfolding span_of
+returns-in-Outline c = rw c.in-Outline.is c.largest_height.ensures

@@ -1,0 +1,6 @@
+-- `tubes::check_wall` meets its contract, by what the calls ensure. Assumes nothing.
+use borrow.Author.Rules.{rules}
+use Rattle.tubes.proofs.check_wall.Goals as goal
+
+pub returns : goal.returns
+returns c = rw (c.refuse_unless.ensures, c.length_within.ensures)

@@ -1,0 +1,28 @@
+-- `tubes::closing_radius_m` meets its contract: each arm knows what the two checks gave. Assumes nothing.
+use borrow.Author.Rules.{rules}
+use mathlib.Core.Path.{sym, ap, ◌∙◌}
+use Rattle.refusals.proofs.Accepted.{both}
+use Rattle.limits.proofs.Accepted.{count_within}
+use Rattle.tubes.specs.Closing.{closed_at}
+use Rattle.tubes.proofs.Answers.{answer}
+use Rattle.tubes.proofs.closing_radius_m.Goals as goal
+
+pub closing_value-requires : goal.closing_value-requires
+closing_value-requires c =
+    let first = c.first_refusal-verdict.ensures in
+    let checked = c.check_count-v.ensures in
+    (count_within _ (sym checked ∙ (both _ _ (sym first ∙ c.in-Accepted.is)).0)).1
+
+pub returns-in-Accepted : goal.returns-in-Accepted
+returns-in-Accepted c =
+    answer _ _ c.check_count-v.ensures
+    c.check_length.ensures c.first_refusal-verdict.ensures
+    c.in-Accepted.is
+    (c.closed.ensures ∙ ap closed_at c.closing_value.ensures)
+
+pub returns-in-Refused : goal.returns-in-Refused
+returns-in-Refused c =
+    answer _ _ c.check_count-v.ensures
+    c.check_length.ensures c.first_refusal-verdict.ensures
+    c.in-Refused.is
+    c.refused.ensures
