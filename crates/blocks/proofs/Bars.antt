@@ -1,7 +1,7 @@
 -- Tables whose texts are cut at bars: one key and its text at a time. Assumes nothing.
 use mathlib.Core.List.{List, [], ◌∷◌, ◌++◌, append-nil, append_assoc}
-use mathlib.Core.Bool.{Bool, true, false, not, ◌&&◌, cond}
-use mathlib.Core.Path.{◌≡◌, refl, sym, ap, subst, ◌∙◌}
+use mathlib.Core.Bool.{Bool, true, false, not, cond}
+use mathlib.Core.Path.{◌≡◌, refl, sym, ap, ◌∙◌}
 use Prim.Native.Nat.{ℕ, ◌+◌, ◌<◌, ◌≤◌}
 use native.Mathlib.Omega.{arith}
 use borrow.Author.Tests.{lt-ltb, le-ltb}
@@ -12,7 +12,6 @@ use Rattle.tokens.specs.Found.{part}
 use Rattle.tokens.proofs.Bytes.{part_none}
 use Rattle.templates.specs.Matching.{same_bytes, cut_after, cut_at_bars}
 use Rattle.templates.specs.Cursors.{IsBarEnd}
-use Rattle.blocks.specs.declared.lookup.Part.{Part}
 use Rattle.blocks.specs.Tables.{text_for, with_bars, no_bar, no_bars}
 use Rattle.blocks.specs.Steps.{IsTextFor}
 

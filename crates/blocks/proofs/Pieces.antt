@@ -1,5 +1,5 @@
 -- One byte of a text: what each of its cases appends and uses up. Assumes nothing.
-use mathlib.Core.List.{List, [], ◌∷◌, ◌++◌}
+use mathlib.Core.List.{List, [], ◌∷◌}
 use mathlib.Core.Bool.{Bool, true, false, ◌||◌, cond, true≢false}
 use mathlib.Core.Path.{◌≡◌, refl, sym, ap, subst, ◌∙◌}
 use Prim.Native.Nat.{ℕ, suc, ◌+◌, ◌-◌, ◌<◌, ◌≤◌}
@@ -16,9 +16,9 @@ use Rattle.counts.proofs.Printing.{twenty}
 use Rattle.significant.specs.Printed.{decimal_text}
 use Rattle.significant.proofs.Fits.{decimal_fits}
 use Rattle.blocks.specs.declared.filling.Place.{Place}
-use Rattle.blocks.specs.Filled.{of_first, is_figure_mark, figure_as, plain_piece, plain, filled, room, plain_most}
+use Rattle.blocks.specs.Filled.{of_first, is_figure_mark, figure_as, plain_piece, plain, filled, plain_most}
 use Rattle.blocks.specs.Cards.{mass_figures, mass_line, moment_figures, moment_line, mixed_text, is_body_mark, body_piece, body_most}
-use Rattle.blocks.specs.Cards.{refusal_text, sentences, or_else, card_piece, card, card_most}
+use Rattle.blocks.specs.Cards.{refusal_text, card, card_most}
 use Rattle.blocks.specs.Steps.{HasRoom, PutsPiece}
 
 -- a byte's text has room in what is set aside for it

@@ -20,9 +20,9 @@ use Rattle.templates.specs.Matching.{same_bytes, cut_at_bars}
 use Rattle.blocks.specs.declared.words.Read.{Read}
 use Rattle.blocks.specs.Words.{shape_in, figures_in, counts_in}
 use Rattle.blocks.specs.Steps.{IsRead}
-use Rattle.blocks.specs.Tables.{text_for, with_bars, no_bar, no_bars}
+use Rattle.blocks.specs.Tables.{text_for, with_bars}
 use Rattle.blocks.specs.Filled.{of_first, plain_piece, plain, filled, room, plain_most}
-use Rattle.blocks.specs.Cards.{all, newline, or_else, sentences, refusal_text, card_piece, card_most, card, cards, no_answer, shown}
+use Rattle.blocks.specs.Cards.{newline, or_else, sentences, refusal_text, card_piece, card_most, card, cards, no_answer, shown}
 use Rattle.blocks.specs.Cards.{block_of}
 use Rattle.blocks.specs.Cards.{largest_from, beside_from, mass_figures, mass_line, moment_at, moment_figures, moment_line, all_zero}
 use Rattle.blocks.specs.Cards.{mixed_figures, mixed_line, mixed_text, is_body_mark, body_piece, body_most}
