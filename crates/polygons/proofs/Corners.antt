@@ -1,19 +1,18 @@
 -- The nearest corner is nearest, and the first that is; and a corner itself is on the edge, with no corner nearer than
 -- one in its place. Assumes nothing.
-use mathlib.Core.Bool.{Bool, true, false, cond, not, ◌&&◌, ◌||◌}
+use mathlib.Core.Bool.{Bool, true, false, cond, not, ◌||◌}
 use mathlib.Core.List.{List}
 use mathlib.Core.Logic.{⊎_elim}
 use mathlib.Core.Path.{◌≡◌, refl, sym, ap, subst, ◌∙◌}
 use Prim.Native.Nat.{ℕ, zero, suc, ◌+◌, ◌-◌, ◌*◌, ◌≤◌, ◌<◌}
 use native.Mathlib.Nat.{not-suc-le-zero, le_of_suc-le-suc, eq-or-lt_of_le, lt_irrefl, le_of_lt, mul-pos, zero-lt-suc}
 use native.Mathlib.Omega.{arith}
-use lib.Dec.{T, leb, leb→le, le→leb, ltb→lt, leb-zero}
-use lib.IntN.{ℤ, pos, negsuc, neg_ℤ, nat_abs, ◌+ℤ◌, ◌-ℤ◌, ◌*ℤ◌, +ℤ_invr, +ℤ_idl, -ℤ-+ℤ_cancel, zero-*ℤ, *ℤ-zero}
+use lib.Dec.{T, leb→le, le→leb, ltb→lt, leb-zero}
+use lib.IntN.{ℤ, pos, negsuc, nat_abs, ◌+ℤ◌, ◌-ℤ◌, ◌*ℤ◌, +ℤ_invr, +ℤ_idl, -ℤ-+ℤ_cancel, zero-*ℤ, *ℤ-zero}
 use lib.ListN.{get_or}
-use lib.Signed.{le_z, lt_z, ◌≤ℤ◌, ◌<ℤ◌, ≤ℤ_refl, <ℤ-≤ℤ_trans, lt_z_yes, lt_z_no, clash_ℤ}
-use Rattle.segments.specs.Segments.{next}
+use lib.Signed.{le_z, lt_z, ◌≤ℤ◌, ◌<ℤ◌, ≤ℤ_refl, <ℤ-≤ℤ_trans, lt_z_yes, lt_z_no}
 use Rattle.polygons.specs.declared.Offset.{Offset}
-use Rattle.polygons.specs.Polygons.{is_same, is_zero_between, lies_on, squared_distance, is_nearer, corner_count, offset_of, is_on, some}
+use Rattle.polygons.specs.Polygons.{is_zero_between, lies_on, squared_distance, is_nearer, corner_count, offset_of, is_on, some}
 use Rattle.polygons.specs.Polygons.{is_on_edge, nearer_of, nearest_to, nearest_corner}
 
 -- ---- the nearest corner

@@ -4,11 +4,11 @@
 use mathlib.Core.Bool.{Bool, true, false, cond, ◌&&◌, ◌||◌}
 use mathlib.Core.List.{List}
 use mathlib.Core.Path.{◌≡◌, refl, sym, ap, subst, ◌∙◌}
-use Prim.Native.Nat.{ℕ, zero, suc, ◌+◌, ◌-◌, ◌*◌, ◌/◌, ◌%◌, ◌≤◌, ◌<◌}
+use Prim.Native.Nat.{ℕ, zero, suc, ◌+◌, ◌-◌, ◌*◌, ◌/◌, ◌%◌, ◌<◌}
 use native.Mathlib.Nat.{mod-eq_of_lt, mod_self, add_comm, add_assoc, le_antisymm}
 use native.Mathlib.Omega.{arith}
 use lib.Dec.{T, eqb, leb→le}
-use lib.IntN.{ℤ, pos, negsuc, ◌-ℤ◌, ◌*ℤ◌}
+use lib.IntN.{ℤ, pos, negsuc, ◌*ℤ◌}
 use lib.ListN.{length, get_or}
 use lib.Signed.{le_z, ◌≤ℤ◌}
 use Rattle.segments.specs.Segments.{next}

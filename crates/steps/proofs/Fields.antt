@@ -2,15 +2,14 @@
 -- exponent field is 1003 to 1029, and a step is 2^(1055 - field) units of the last of its 53 binary digits. Assumes
 -- nothing.
 use mathlib.Core.Path.{◌≡◌, refl, sym, ap, subst, ◌∙◌}
-use mathlib.Core.Bool.{Bool, true, false, ◌&&◌}
-use Prim.Native.Nat.{ℕ, zero, suc, ◌+◌, ◌-◌, ◌*◌, ◌/◌, ◌%◌, ◌^◌, ◌≤◌, ◌<◌}
-use native.Mathlib.Nat.{le_trans, le_of_eq, lt_of_le_of_lt, lt_of_lt_of_le, lt_of_not-le, not-le_of_lt, mul_assoc, mul-le-mul_left}
+use Prim.Native.Nat.{ℕ, ◌+◌, ◌-◌, ◌*◌, ◌/◌, ◌%◌, ◌^◌, ◌≤◌, ◌<◌}
+use native.Mathlib.Nat.{le_trans, le_of_eq, lt_of_le_of_lt, lt_of_not-le, not-le_of_lt, mul_assoc, mul-le-mul_left}
 use native.Mathlib.Nat.{mul-le-mul_right, le_of_mul-le-mul_right, le-div_iff_mul-le, div-le_of_le-mul, mod-eq_of_lt, mod-lt}
 use native.Mathlib.Omega.{arith}
 use lib.Dec.{T}
 use lib.Pow.{pow-add, pow_pos, pow_mono, pow-lt, shl_lt}
-use lib.Ieee.{Float, nan, inf, fin, binary64, up, down, le, of_bits}
-use lib.Ieee.Fits.{and_l, and_r, down_pos}
+use lib.Ieee.{Float, le, of_bits}
+use lib.Ieee.Fits.{and_l, and_r}
 use lib.Ieee.Positive.{positive, num, den, den_pos, le→cross, between}
 use Rattle.floats.specs.Operations.{bits}
 use Rattle.floats.specs.Units.{units_of}

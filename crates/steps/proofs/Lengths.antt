@@ -1,8 +1,8 @@
 -- A length has at most 2^26 steps. Assumes nothing.
 use mathlib.Core.Path.{◌≡◌, refl, sym, ap, subst, ◌∙◌}
 use mathlib.Core.Bool.{Bool, true, false}
-use Prim.Native.Nat.{ℕ, zero, suc, ◌*◌, ◌/◌, ◌^◌, ◌≤◌, zero-le}
-use native.Mathlib.Nat.{le_trans, le_of_eq, mul_comm, div-le_of_le-mul}
+use Prim.Native.Nat.{ℕ, suc, ◌*◌, ◌/◌, ◌^◌, ◌≤◌, zero-le}
+use native.Mathlib.Nat.{le_trans, le_of_eq, div-le_of_le-mul}
 use lib.IntN.{ℤ, pos, negsuc, nat_abs}
 use lib.Ieee.{Float, eq}
 use lib.Signed.{quot_z}

@@ -1,12 +1,12 @@
 -- From a magnitude to a length: what is a whole number of steps, and the sign. Assumes nothing.
 use mathlib.Core.Path.{◌≡◌, refl, sym, ap, subst, ◌∙◌}
-use mathlib.Core.Bool.{Bool, true, false, cond, beq, ◌&&◌, ◌||◌}
-use Prim.Native.Nat.{ℕ, zero, suc, ◌+◌, ◌*◌, ◌/◌, ◌%◌, ◌^◌, ◌≤◌, ◌<◌, zero-le}
+use mathlib.Core.Bool.{Bool, true, false, beq, ◌&&◌, ◌||◌}
+use Prim.Native.Nat.{ℕ, zero, suc, ◌+◌, ◌*◌, ◌/◌, ◌%◌, ◌^◌, ◌<◌, zero-le}
 use native.Mathlib.Nat.{mul-pos, zero-mul, zero-div, zero-lt-suc, div-add-mod', lt_irrefl, lt_of_le_of_lt, lt_of_lt_of_le, le_of_eq}
 use native.Mathlib.Omega.{arith}
 use borrow.Author.Tests.{eqb-true, ltb-true, ltb-false}
-use lib.Dec.{T, eqb, ltb, eqb-suc-zero}
-use lib.IntN.{ℤ, pos, neg_ℤ, nat_abs}
+use lib.Dec.{T, eqb, eqb-suc-zero}
+use lib.IntN.{pos, neg_ℤ, nat_abs}
 use lib.Ieee.{Float, nan, inf, fin, up, down, lt, eq, of_bits}
 use lib.Ieee.Nearest.{div_same}
 use lib.Pow.{pow_pos}

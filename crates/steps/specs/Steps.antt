@@ -1,7 +1,7 @@
 -- A coordinate in cutter steps of 2^-20 m, exactly (document 02, "Where may I drill?": "All is exact in cutter steps of
 -- 2^-20 m over whole numbers"). A unit is 2^-1074, the smallest positive f64, so every finite f64 is a whole number of
 -- units (floats/specs/Units), and so is the exact sum of two.
-use Rattle.std.specs.Prelude.{Bool, cond, ℕ, ◌%◌, ◌^◌, eqb, ℤ, pos, neg_ℤ, nat_abs, Float}
+use Rattle.std.specs.Prelude.{Bool, cond, ◌%◌, ◌^◌, eqb, ℤ, pos, neg_ℤ, nat_abs, Float}
 use Rattle.std.specs.Float.{nan, inf, fin}
 use Rattle.std.specs.Int.Signed.{quot_z}
 use Rattle.floats.specs.Units.{units_of}

@@ -2,12 +2,10 @@
 use mathlib.Core.Path.{◌≡◌, refl, sym}
 use mathlib.Core.Bool.{Bool, true, false, not, ◌&&◌, ◌||◌}
 use Rattle.floats.proofs.Bools.{no}
-use borrow.Author.Rules.{rules}
 use Rattle.segments.specs.declared.Place.{Place}
 use Rattle.segments.specs.declared.Segment.{Segment}
 use Rattle.segments.specs.Places.{are_beyond, are_on_one_side, are_past}
 use Rattle.segments.proofs.are_apart.Goals as goal
-use Rattle.segments.proofs.are_apart.Goals.{After-struct_known-8-1, Else-not-a-b, Start}
 
 no_side : (p q : Bool) → not p ≡ true → false ≡ (p && q)
 no_side true q h = no (sym h)
@@ -31,21 +29,14 @@ returns-then-not-a-b c =
     let args = c.args in
     no_side (are_on_one_side args.a args.b) (are_past args.a args.b || in_y args.segment args.a args.b) c.if-not-a-b.true-raw
 
--- The needs below go back to these places.
-abbrev the-start : After-struct_known-8-1 → Start
-the-start c = c.before.before.before.before.before.before.before.before.before
-
-abbrev at-else1 : goal.After-are_beyond → Else-not-a-b
-at-else1 c = c.before.before.before.before.before.before
-
 pub returns-then-a-b : goal.returns-then-a-b
 returns-then-a-b c =
-    let args = (the-start c.before).args in
+    let args = c.args in
     in_x (are_on_one_side args.a args.b) (are_past args.a args.b) (in_y args.segment args.a args.b)
     c.if-not-a-b.false-raw c.if-a-b.true
 
 pub returns : goal.returns
 returns c =
-    let args = (the-start c.before.before).args in
+    let args = c.args in
     in_y_lem (are_on_one_side args.a args.b) (are_past args.a args.b) (in_y args.segment args.a args.b) c.are_beyond.result
-    (at-else1 c).if-not-a-b.false-raw c.if-a-b.false c.are_beyond.ensures
+    c.if-not-a-b.false-raw c.if-a-b.false c.are_beyond.ensures

@@ -1,5 +1,4 @@
 -- `segments::are_beyond` meets its contract, by what `min` and `max` ensure. Assumes nothing.
-use borrow.Author.Rules.{rules}
 use Rattle.segments.proofs.are_beyond.Goals as goal
 
 pub returns : goal.returns

@@ -1,6 +1,5 @@
 -- `segments::is_in_box` meets its contract, by what `min` and `max` ensure. Assumes nothing.
 use Rattle.segments.specs.Segments.{is_in_box}
-use borrow.Author.Rules.{rules}
 use Rattle.segments.proofs.is_in_box.Goals as goal
 
 pub returns : goal.returns

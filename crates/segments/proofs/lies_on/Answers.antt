@@ -1,5 +1,4 @@
 -- `segments::lies_on` meets its contract, which goes by the same test first. Assumes nothing.
-use borrow.Author.Rules.{rules}
 use Rattle.segments.proofs.lies_on.Goals as goal
 
 pub returns-then-d : goal.returns-then-d

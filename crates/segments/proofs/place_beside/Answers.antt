@@ -1,5 +1,4 @@
 -- `segments::place_beside` meets its contract, by what the calls ensure. Assumes nothing.
-use borrow.Author.Rules.{rules}
 use Rattle.segments.proofs.place_beside.Goals as goal
 
 pub returns : goal.returns

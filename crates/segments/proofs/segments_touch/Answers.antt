@@ -1,6 +1,5 @@
 -- `segments::segments_touch` meets its contract, by what the calls ensure. Assumes nothing.
 use Rattle.segments.specs.Segments.{segments_touch}
-use borrow.Author.Rules.{rules}
 use Rattle.segments.proofs.segments_touch.Goals as goal
 
 pub returns : goal.returns
