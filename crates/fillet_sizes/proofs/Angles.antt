@@ -1,23 +1,23 @@
 -- The angle of document 02, Paper 6, is at most 2^13, and so finite, where r and c are positive and r/c is at most 2^500. Assumes nothing.
 use mathlib.Core.Path.{◌≡◌, sym, ap, subst, ◌∙◌}
-use mathlib.Core.Bool.{Bool, true, false, not, ◌&&◌}
+use mathlib.Core.Bool.{Bool, true, false, not}
 use mathlib.Core.List.{[], ◌∷◌}
-use Prim.Native.Nat.{ℕ, zero, suc, ◌+◌, ◌*◌, ◌%◌, ◌^◌, ◌≤◌, ◌<◌}
-use native.Mathlib.Nat.{le_trans, le_of_eq, lt_of_lt_of_le, one-mul, mul-one, two-mul, mul_assoc, mul_right_comm, mul-mul-mul_comm}
+use Prim.Native.Nat.{ℕ, zero, suc, ◌+◌, ◌*◌, ◌^◌, ◌≤◌, ◌<◌}
+use native.Mathlib.Nat.{le_trans, le_of_eq, one-mul, mul-one, two-mul, mul_assoc, mul_right_comm, mul-mul-mul_comm}
 use native.Mathlib.Nat.{mul-le-mul, mul-le-mul_left, mul-le-mul_right, two-pow-succ}
 use native.Mathlib.Omega.{arith}
-use lib.Dec.{T, leb, ltb, eqb, leb→le, nleb→lt, lt→ltb, lit≤}
+use lib.Dec.{T, leb, leb→le, nleb→lt, lit≤}
 use lib.IntN.{pos}
-use lib.Pow.{pow-add, pow-lt}
+use lib.Pow.{pow-add}
 use lib.Ieee.{Float, fin, binary64, fits, of_bits, of_int, round}
 use lib.Ieee.Scale.{finite}
-use lib.Ieee.Fits.{add-fits, and_i}
+use lib.Ieee.Fits.{add-fits}
 use lib.Ieee.Positive.{positive, positive-finite, num, den}
-use Rattle.floats.specs.Operations.{◌⊕◌, ◌⊖◌, ◌⊗◌, ◌⊘◌, bits, whole}
+use Rattle.floats.specs.Operations.{◌⊕◌, ◌⊗◌, ◌⊘◌}
 use Rattle.floats.specs.Constants.{one}
 use Rattle.root.specs.Root.{root_of}
 use Rattle.root.proofs.Nearest.{root_positive}
-use Rattle.rounding.specs.Sizes.{AtMost, AtLeast, Below, Above}
+use Rattle.rounding.specs.Sizes.{AtLeast, Below, Above}
 use Rattle.rounding.proofs.Signs.{minus, positive_plus}
 use Rattle.rounding.proofs.Exact.{pow_exact}
 use Rattle.rounding.proofs.Operations.{mul_least, div_most}

@@ -1,20 +1,19 @@
 -- The area and the moments of a fillet's section are finite, of every radius and body radius within their limits and
 -- above 0. Assumes nothing.
-use mathlib.Core.Path.{◌≡◌, refl, ap₂, ◌∙◌}
-use mathlib.Core.Bool.{Bool, true, false, ◌&&◌, cond}
+use mathlib.Core.Path.{◌≡◌, refl}
+use mathlib.Core.Bool.{Bool, true, false, cond}
 use mathlib.Core.List.{[], ◌∷◌}
-use Prim.Native.Nat.{ℕ, suc, ◌+◌, ◌*◌, ◌^◌, ◌≤◌, ◌<◌}
+use Prim.Native.Nat.{ℕ, suc, ◌*◌, ◌^◌, ◌≤◌, ◌<◌}
 use lib.Dec.{T, lit≤}
 use lib.IntN.{negsuc}
 use lib.Ieee.{Float, nan, inf, fin, binary64, fits, of_bits, of_int, round, neg, le, lt}
 use lib.Ieee.Scale.{finite}
 use lib.Ieee.Fits.{add-fits}
 use lib.Ieee.Positive.{positive, num, den}
-use Rattle.floats.specs.Operations.{◌⊕◌, ◌⊖◌, ◌⊗◌, ◌⊘◌, bits, whole}
+use Rattle.floats.specs.Operations.{◌⊕◌, ◌⊖◌, ◌⊗◌, ◌⊘◌, bits}
 use Rattle.floats.specs.Constants.{half, two, three, pi}
-use Rattle.floats.specs.Floats.{is_finite, abs_of, square, cube}
+use Rattle.floats.specs.Floats.{is_finite, abs_of}
 use Rattle.floats.proofs.Bools.{and_true}
-use Rattle.root.specs.Root.{root_of}
 use Rattle.root.proofs.Nearest.{root_positive}
 use Rattle.trig.specs.Trig.{sin_of, cos_of}
 use Rattle.rounding.specs.Sizes.{Below, Above}
@@ -28,7 +27,7 @@ use Rattle.limits.specs.Limits.{body_radius_field, fillet_radius_field, length_c
 use Rattle.limits.proofs.Lengths.{PositiveLength, above_checked}
 use Rattle.fillets.specs.declared.AreaMoments.{AreaMoments}
 use Rattle.fillets.specs.Angles.{eight, angle_of}
-use Rattle.fillets.specs.FilletSections.{quarter, six, area_moments, less_moments, term_divisors, span_less_sine_series, span_less_sine_of}
+use Rattle.fillets.specs.FilletSections.{quarter, six, less_moments, term_divisors, span_less_sine_series, span_less_sine_of}
 use Rattle.fillets.specs.FilletSections.{sector_area, chord_moment, second_moment, moved_first, moved_second, sector_with, sector_of, touching_at}
 use Rattle.fillets.specs.FilletSections.{triangle_of, section_with, fillet_section_of}
 use Rattle.fillets.specs.Fillets.{is_sound}

@@ -1,21 +1,19 @@
 -- Sine and cosine of an angle of at most 2^15 rad, by document 01's steps, are at most 2^331. Assumes nothing.
-use mathlib.Core.Path.{◌≡◌, subst, sym}
 use mathlib.Core.Bool.{Bool, true, false}
-use mathlib.Core.List.{[], ◌∷◌, map}
+use mathlib.Core.List.{[], ◌∷◌}
 use Prim.Native.Nat.{ℕ, zero, suc, ◌+◌, ◌*◌, ◌^◌, ◌≤◌, ◌<◌}
-use native.Mathlib.Nat.{le_trans, le_of_eq, mul-one, one-mul, add-mul, lt_of_le_of_lt, zero-lt-suc}
+use native.Mathlib.Nat.{le_trans, mul-one}
 use native.Mathlib.Omega.{arith}
 use lib.Dec.{T, lit≤}
-use lib.IntN.{ℤ, pos, negsuc, neg_ℤ}
-use lib.Ieee.{Float, nan, inf, fin, binary64, up, down, of_bits, of_int, round, neg}
+use lib.Ieee.{Float, nan, inf, fin, binary64, up, down, of_bits, of_int, round}
 use lib.Ieee.Scale.{finite}
 use lib.Ieee.Fits.{down_pos}
 use lib.Ieee.Positive.{num, den}
 use Rattle.floats.specs.Operations.{◌⊗◌, bits, whole}
-use Rattle.trig.specs.Trig.{quarter_turns, nearest_whole, signed, whole_of, m_of, reduced, steps, sine_divisors, cosine_divisors, sine_series}
+use Rattle.trig.specs.Trig.{quarter_turns, nearest_whole, signed, m_of, reduced, steps, sine_divisors, cosine_divisors, sine_series}
 use Rattle.trig.specs.Trig.{cosine_series, quarter_of, by_quarter, sin_cos_of, sin_of, cos_of}
 use Rattle.trig.proofs.Nearest.{nearest_most}
-use Rattle.rounding.specs.Sizes.{AtMost, Below, Above}
+use Rattle.rounding.specs.Sizes.{Below, Above}
 use Rattle.rounding.proofs.Exact.{pow_exact}
 use Rattle.rounding.proofs.Rounding.{round_most}
 use Rattle.rounding.proofs.Sizes.{weaker, mul_below, neg_below}

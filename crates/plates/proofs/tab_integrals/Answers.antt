@@ -1,0 +1,12 @@
+-- `plates::tab_integrals` meets its contract: each arm knows its case. Assumes nothing.
+use Rattle.plates.specs.Integrals.{tab_integrals_of}
+use borrow.Author.Rules.{rules}
+use Rattle.plates.proofs.tab_integrals.Goals as goal
+
+pub returns-in-None : goal.returns-in-None
+unfolding tab_integrals_of
+returns-in-None c = rw c.in-None.is
+
+pub returns-in-Slab : goal.returns-in-Slab
+unfolding tab_integrals_of
+returns-in-Slab c = rw c.in-Slab.is c.slab_integrals.ensures

@@ -1,0 +1,35 @@
+-- `quadrature::chords_found` meets its contract: after i turns the first i are found. Assumes nothing.
+use mathlib.Core.Path.{◌≡◌, refl}
+use Prim.Native.Nat.{◌-◌, ◌≤◌}
+use native.Mathlib.Nat.{not-suc-le-zero}
+use native.Mathlib.Omega.{arith}
+use borrow.Author.Rules.{rules}
+use lib.ListN.{length, length-set}
+use Rattle.floats.proofs.Filled.{one_filled}
+use Rattle.limits.specs.Limits.{piece_samples}
+use Rattle.quadrature.specs.Tally.{FoundTo}
+use Rattle.quadrature.proofs.chords_found.Goals as goal
+
+pub loop-i-init : goal.loop-i-init
+loop-i-init c = (omega arith, refl, λ i l. absurd (not-suc-le-zero l))
+
+pub chords_at-one-requires : goal.chords_at-one-requires
+chords_at-one-requires c = c.requires c.loop-i.i (omega arith)
+
+pub overflow_add-i : goal.overflow_add-i
+overflow_add-i c = omega arith
+
+pub loop-i-smaller : goal.loop-i-smaller
+loop-i-smaller c = omega arith
+
+pub loop-i-preserved : goal.loop-i-preserved
+loop-i-preserved c =
+    let head = c.loop-i in (
+      omega arith,
+      simp length-set head.invariant.1,
+      one_filled _ _ head.found head.i _ (omega arith) head.invariant.2
+          c.chords_at-one.ensures,
+    )
+
+pub returns : goal.returns
+returns c j l = c.loop-i.invariant.2 j (omega arith)

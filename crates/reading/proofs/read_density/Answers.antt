@@ -1,0 +1,28 @@
+-- `reading::read_density` meets its contract: its parts are read to the end. Assumes nothing.
+use mathlib.Core.List.{List}
+use mathlib.Core.Path.{sym}
+use Prim.Native.Nat.{ℕ}
+use lib.Ieee.{Float}
+use Rattle.floats.specs.Operations.{at}
+use Rattle.materials.specs.Numbered.{numbered_density}
+use Rattle.reading.specs.Lines.{density_asked, density_read}
+use Rattle.tokens.specs.Text.{text, codes}
+use Rattle.reading.specs.Parts.{take_density}
+use Rattle.reading.proofs.Stands.{few, density_strict, start_room, parted_ends}
+use borrow.Author.Rules.{rules}
+use Rattle.reading.proofs.read_density.Goals as goal
+
+pub take_text-screen-requires : goal.take_text-screen-requires
+take_text-screen-requires c = start_room _ _ _ c.line_start.ensures c.requires.0 c.requires.1
+
+pub slice_bounds-density_asked-end-2 : goal.slice_bounds-density_asked-end-2
+slice_bounds-density_asked-end-2 c = sym (few _ _ _ c.take_text-all.ensures.room)
+
+pub returns : goal.returns
+unfolding density_read text codes
+returns c =
+    parted_ends _ _ _ take_density density_strict c.line_start.ensures
+    (start_room _ _ _ c.line_start.ensures c.requires.0 c.requires.1)
+    c.take_text-screen.ensures c.take_density-density.ensures c.take_text-all.ensures
+    (λ (screen density _ : ℕ) (figures : List Float). density_asked screen (numbered_density density (at figures 0)))
+    c.density_asked.ensures c.end_form.ensures

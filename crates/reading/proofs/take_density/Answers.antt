@@ -1,0 +1,10 @@
+-- `reading::take_density` meets its contract: its alternatives stand in one text. Assumes nothing.
+use Rattle.tokens.specs.Text.{text, codes}
+use Rattle.templates.specs.Matching.{cut_after}
+use Rattle.reading.specs.Parts.{take_density}
+use borrow.Author.Rules.{rules}
+use Rattle.reading.proofs.take_density.Goals as goal
+
+pub returns : goal.returns
+unfolding take_density text codes cut_after
+returns c = c.take_one_of.ensures

@@ -1,0 +1,8 @@
+-- `tolerance::add_piece` meets its contract, component by component. Assumes nothing.
+use borrow.Author.Rules.{rules}
+use Rattle.tolerance.specs.Steps.{with_piece}
+use Rattle.tolerance.proofs.add_piece.Goals as goal
+
+pub returns : goal.returns
+unfolding with_piece
+returns c = rw (c.plus-error.ensures, c.plus-value.ensures)
