@@ -30,7 +30,8 @@ pub put_block-requires : goal.put_block-requires
 put_block-requires c =
     let d = c.put_bytes-heading.ensures.ends in let e = c.put_count-digits.ensures.ends in let f = c.put_bytes-word.ensures.ends in
     let t = twenty c.args.number in
-    let g = c.put_bytes-heading.auto.out in let l = c.put_count-digits.auto.out in let m = c.put_bytes-word.auto.out in let n = c.requires in
+    let g = c.put_bytes-heading.auto.out in let l = c.put_count-digits.auto.out in let m = c.put_bytes-word.auto.out in
+    let n = c.requires in
     omega (arith, d, e, f, t, g, l, m, n)
 
 pub returns : goal.returns

@@ -19,4 +19,6 @@ pub overflow_sub-result : goal.overflow_sub-result
 overflow_sub-result c = asked ◌-ℤ◌ c.ranges.a c.ranges.b (fits (goal.at.overflow_sub-result c).Start)
 
 pub returns : goal.returns
-returns c = let e = given ◌-ℤ◌ c.ranges.a c.ranges.b (fits (goal.at.returns c).Start) in (e, subst IsOffset (sym e) (bound (goal.at.returns c).Start))
+returns c =
+    let m = (goal.at.returns c).Start in
+    let e = given ◌-ℤ◌ c.ranges.a c.ranges.b (fits m) in (e, subst IsOffset (sym e) (bound m))

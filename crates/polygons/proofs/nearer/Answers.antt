@@ -22,9 +22,11 @@ tested c =
 pub returns-then-is_nearer : goal.returns-then-is_nearer
 unfolding nearer_of
 returns-then-is_nearer c =
-    (sym (ap (λ (t : Bool). cond t c.args.i c.args.best) (sym (tested (goal.at.returns-then-is_nearer c).After-is_nearer) ∙ c.if-is_nearer.true)), search rules)
+    let e = tested (goal.at.returns-then-is_nearer c).After-is_nearer in
+    (sym (ap (λ (t : Bool). cond t c.args.i c.args.best) (sym e ∙ c.if-is_nearer.true)), search rules)
 
 pub returns : goal.returns
 unfolding nearer_of
 returns c =
-    (sym (ap (λ (t : Bool). cond t c.args.i c.args.best) (sym (tested (goal.at.returns c).After-is_nearer) ∙ c.if-is_nearer.false)), search rules)
+    let e = tested (goal.at.returns c).After-is_nearer in
+    (sym (ap (λ (t : Bool). cond t c.args.i c.args.best) (sym e ∙ c.if-is_nearer.false)), search rules)

@@ -20,4 +20,6 @@ pub overflow_mul-result : goal.overflow_mul-result
 overflow_mul-result c = asked ◌*ℤ◌ c.ranges.a c.ranges.b (fits (goal.at.overflow_mul-result c).Start)
 
 pub returns : goal.returns
-returns c = let e = given ◌*ℤ◌ c.ranges.a c.ranges.b (fits (goal.at.returns c).Start) in (e, subst IsProduct (sym e) (bound (goal.at.returns c).Start))
+returns c =
+    let m = (goal.at.returns c).Start in
+    let e = given ◌*ℤ◌ c.ranges.a c.ranges.b (fits m) in (e, subst IsProduct (sym e) (bound m))

@@ -72,13 +72,15 @@ overflow_add-n-2 c = omega (
 
 pub put_written-requires : goal.put_written-requires
 put_written-requires c =
-    let l = long (goal.at.put_written-requires c).After-put_count-k in
-    let t = twenty (d (goal.at.put_written-requires c).After-put_count-k) in
-    let o = some (d (goal.at.put_written-requires c).After-put_count-k) in
+    let m = (goal.at.put_written-requires c).After-put_count-k in
+    let l = long m in
+    let t = twenty (d m) in
+    let o = some (d m) in
     (omega (arith, l, o), omega (arith, l, t))
 
 pub returns : goal.returns
 returns c =
+    let m = (goal.at.returns c).After-put_count-k in
     made_of c.args.out.now c.put_written.new.out c.args.at c.put_written.result c.args.n c.args.scale
-    c.args.power c.args.x (take c.put_count-k.result c.put_count-k.new.out) (d (goal.at.returns c).After-put_count-k) c.significant_digits-s.result.place
-    (text_is (goal.at.returns c).After-put_count-k) c.significant_digits-s.ensures.0 c.significant_digits-s.ensures.1 c.put_written.ensures
+    c.args.power c.args.x (take c.put_count-k.result c.put_count-k.new.out) (d m)
+    c.significant_digits-s.result.place (text_is m) c.significant_digits-s.ensures.0 c.significant_digits-s.ensures.1 c.put_written.ensures

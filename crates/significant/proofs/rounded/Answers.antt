@@ -54,7 +54,8 @@ pub to_nearest-up-requires : goal.to_nearest-up-requires
 to_nearest-up-requires c =
     let l = c.args.digits.now in
     let from = c.top-c.result - c.args.n in
-    let f = few l c.args.n c.top-c.result from c.requires.0 c.requires.2 refl (omega (arith, (many (goal.at.to_nearest-up-requires c).Else-c-eq0).0)) in
+    let f = few l c.args.n c.top-c.result from c.requires.0 c.requires.2 refl
+    (omega (arith, (many (goal.at.to_nearest-up-requires c).Else-c-eq0).0)) in
     subst (λ (x : ℕ). x < 10 ^ 16) (sym c.number-d.ensures) (below_16 (take (c.top-c.result - from) (drop from l)) f.0 f.1)
 
 pub overflow_sub-from-2 : goal.overflow_sub-from-2
@@ -70,7 +71,8 @@ returns c =
     let n = c.args.n in
     let from = c.top-c.result - n in
     let place = from + c.args.shift - 16 in
-    let up = c.to_nearest-up.ensures ∙ ap (λ (x : ℕ). nearest_digit x (get_or l (from - 1) 0) (ltb 0 c.top-more.result)) c.number-d.ensures in
+    let up = c.to_nearest-up.ensures
+    ∙ ap (λ (x : ℕ). nearest_digit x (get_or l (from - 1) 0) (ltb 0 c.top-more.result)) c.number-d.ensures in
     record {
       digits = λ u e. c.carried.ensures.0 ∙ ap (λ (x : ℕ). cond (eqb x (10 ^ n)) (10 ^ (n - 1)) x) up ∙ law.digits u e;
       place = λ u e. c.carried.ensures.1 ∙ ap (λ (x : ℕ). cond (eqb x (10 ^ n)) (place + 1) place) up ∙ law.place u e;

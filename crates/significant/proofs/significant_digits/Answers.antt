@@ -26,7 +26,8 @@ of_bits-requires c = (
 
 pub returns-then-is_finite : goal.returns-then-is_finite
 returns-then-is_finite c =
-    same_units c.args.n _ _ _ _ (ap decimal_units_of (held (goal.at.returns-then-is_finite c).Start c.to_bits.result c.to_bits.ensures)) c.of_bits.ensures
+    let s = (goal.at.returns-then-is_finite c).Start in
+    same_units c.args.n _ _ _ _ (ap decimal_units_of (held s c.to_bits.result c.to_bits.ensures)) c.of_bits.ensures
 
 pub returns : goal.returns
 returns c =

@@ -17,7 +17,10 @@ slice_bounds-spelled-end c = sym (so_many _ (1074 - c.args.j) refl (omega arith)
 
 pub spelled-requires : goal.spelled-requires
 spelled-requires c =
-    record { m_bound = (c.requires.0, omega arith, omega arith, c.requires.2, c.requires.3); digits_len = (so_many _ (1074 - c.args.j) refl (omega arith), omega arith, many_fives c.args.j (omega arith)) }
+    record {
+      m_bound = (c.requires.0, omega arith, omega arith, c.requires.2, c.requires.3);
+      digits_len = (so_many _ (1074 - c.args.j) refl (omega arith), omega arith, many_fives c.args.j (omega arith));
+    }
 
 pub returns-then-j-lt1074 : goal.returns-then-j-lt1074
 returns-then-j-lt1074 c = same_units c.args.n _ _ _ _ (as_five c.args.m c.args.j (omega arith)) c.spelled.ensures
@@ -27,7 +30,10 @@ slice_bounds-spelled-end-2 c = sym (so_many _ (c.args.j - 1074) refl (omega arit
 
 pub spelled-requires-2 : goal.spelled-requires-2
 spelled-requires-2 c =
-    record { m_bound = (c.requires.0, omega arith, omega arith, c.requires.2, c.requires.3); digits_len = (so_many _ (c.args.j - 1074) refl (omega arith), omega arith, many_tens (c.args.j - 1074)) }
+    record {
+      m_bound = (c.requires.0, omega arith, omega arith, c.requires.2, c.requires.3);
+      digits_len = (so_many _ (c.args.j - 1074) refl (omega arith), omega arith, many_tens (c.args.j - 1074));
+    }
 
 pub returns : goal.returns
 returns c = same_units c.args.n _ _ _ _ (as_two c.args.m c.args.j (omega arith)) c.spelled-2.ensures

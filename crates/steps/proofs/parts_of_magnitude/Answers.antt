@@ -27,5 +27,7 @@ overflow_shl-result c = omega (arith, field_low c.to_bits-b.result (within (goal
 
 pub returns : goal.returns
 returns c =
+    let m = (goal.at.returns c).After-to_bits-b in
     let b = c.to_bits-b.result in
-    rw (step_is b (within (goal.at.returns c).After-to_bits-b)) (subst (λ (x : Float). AreParts x (2 ^ 52 + b % 2 ^ 52) (2 ^ (1055 - field b))) (held (goal.at.returns c).After-to_bits-b) (parts b (within (goal.at.returns c).After-to_bits-b)))
+    rw (step_is b (within m))
+    (subst (λ (x : Float). AreParts x (2 ^ 52 + b % 2 ^ 52) (2 ^ (1055 - field b))) (held m) (parts b (within m)))

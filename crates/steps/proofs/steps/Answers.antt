@@ -40,20 +40,28 @@ small c = let p = c.parts_of-s.ensures in div-le_of_le-mul c.parts_of-s.result.s
 
 pub overflow_cast-n : goal.overflow_cast-n
 unfolding count
-overflow_cast-n c = fits (count (goal.at.overflow_cast-n c).After-parts_of-s) (small (goal.at.overflow_cast-n c).After-parts_of-s)
+overflow_cast-n c =
+    let k = (goal.at.overflow_cast-n c).After-parts_of-s in
+    fits (count k) (small k)
 
 pub overflow_sub-result : goal.overflow_sub-result
 unfolding count
-overflow_sub-result c = rw (minus (count (goal.at.overflow_sub-result c).After-parts_of-s) (small (goal.at.overflow_sub-result c).After-parts_of-s)) (fits_minus (count (goal.at.overflow_sub-result c).After-parts_of-s) (small (goal.at.overflow_sub-result c).After-parts_of-s))
+overflow_sub-result c =
+    let k = (goal.at.overflow_sub-result c).After-parts_of-s in
+    rw (minus (count k) (small k)) (fits_minus (count k) (small k))
 
 pub returns-then-length_m : goal.returns-then-length_m
 unfolding count
 returns-then-length_m c =
+    let k = (goal.at.returns-then-length_m c).After-parts_of-s in
     let x = c.args.length_m in
-    back_minus (count (goal.at.returns-then-length_m c).After-parts_of-s) (small (goal.at.returns-then-length_m c).After-parts_of-s) ∙ sym (below_zero x c.if-length_m.true ∙ ap (λ (n : ℕ). neg_ℤ (pos n)) (cut x _ _ c.parts_of-s.ensures))
+    back_minus (count k) (small k)
+    ∙ sym (below_zero x c.if-length_m.true ∙ ap (λ (n : ℕ). neg_ℤ (pos n)) (cut x _ _ c.parts_of-s.ensures))
 
 pub returns : goal.returns
 unfolding count
 returns c =
+    let k = (goal.at.returns c).After-parts_of-s in
     let x = c.args.length_m in
-    to_z-of_z (fits (count (goal.at.returns c).After-parts_of-s) (small (goal.at.returns c).After-parts_of-s)) ∙ sym (from_zero x c.if-length_m.false ∙ ap pos (cut x _ _ c.parts_of-s.ensures))
+    to_z-of_z (fits (count k) (small k))
+    ∙ sym (from_zero x c.if-length_m.false ∙ ap pos (cut x _ _ c.parts_of-s.ensures))

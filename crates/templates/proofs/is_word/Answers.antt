@@ -1,7 +1,6 @@
 -- `templates::is_word` meets its contract: as long as all bytes passed are a word's, the rest decides. Assumes nothing.
 use mathlib.Core.Path.{refl, sym, ◌∙◌}
 use native.Mathlib.Omega.{arith}
-use borrow.Author.Tests.{not-true, not-false}
 use Rattle.templates.proofs.WordBytes.{no_word, word_on, all_word}
 use Rattle.templates.proofs.is_word.Goals as goal
 
@@ -13,7 +12,7 @@ bounds-token-i c = omega arith
 
 pub returns-then-not-is_word_byte : goal.returns-then-not-is_word_byte
 returns-then-not-is_word_byte c =
-    no_word _ c.loop-i.i (omega arith) c.loop-i.invariant.1 (sym c.is_word_byte.ensures ∙ not-true _ c.if-not-is_word_byte.true-raw)
+    no_word _ c.loop-i.i (omega arith) c.loop-i.invariant.1 (sym c.is_word_byte.ensures ∙ c.if-not-is_word_byte.true)
 
 pub overflow_add-i : goal.overflow_add-i
 overflow_add-i c = omega arith
@@ -22,8 +21,10 @@ pub loop-i-smaller : goal.loop-i-smaller
 loop-i-smaller c = omega arith
 
 pub loop-i-preserved : goal.loop-i-preserved
-loop-i-preserved c =
-    (omega arith, word_on _ c.loop-i.i (omega arith) c.loop-i.invariant.1 (sym c.is_word_byte.ensures ∙ not-false _ c.if-not-is_word_byte.false-raw))
+loop-i-preserved c = (
+  omega arith,
+  word_on _ c.loop-i.i (omega arith) c.loop-i.invariant.1 (sym c.is_word_byte.ensures ∙ c.if-not-is_word_byte.false),
+)
 
 pub returns : goal.returns
 returns c = all_word _ c.loop-i.i (omega arith) c.loop-i.invariant.1

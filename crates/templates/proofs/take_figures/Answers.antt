@@ -30,7 +30,8 @@ loop-turns-smaller c = omega arith
 
 pub loop-turns-preserved : goal.loop-turns-preserved
 loop-turns-preserved c =
-    again _ _ _ _ _ _ _ c.loop-turns.invariant _ _ c.take_one-next.ensures (omega arith) (not-false _ c.if-not-next.false) c.take_one-next.auto.values
+    again _ _ _ _ _ _ _ c.loop-turns.invariant _ _ c.take_one-next.ensures (omega arith) (not-false _ c.if-not-next.false)
+    c.take_one-next.auto.values
 
 pub shape_of-values : goal.shape_of-values
 shape_of-values c = c.loop-turns.invariant.same

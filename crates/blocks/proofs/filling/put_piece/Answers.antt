@@ -77,4 +77,5 @@ returns c =
     let fs = c.args.figures.now in
     let ns = c.args.counts.now in
     let x = sym c.is_figure_mark.ensures ∙ c.if-is_figure_mark.false in
-    plain_put o p b fs ns x c.if-b-eq78.false c.requires.figures_left c.requires.counts_left (one_byte o p b fs ns c.requires x c.if-b-eq78.false)
+    plain_put o p b fs ns x c.if-b-eq78.false c.requires.figures_left c.requires.counts_left
+    (one_byte o p b fs ns c.requires x c.if-b-eq78.false)

@@ -7,7 +7,8 @@ use Rattle.blocks.proofs.words.read_answer.Given as goal
 
 abbrev pub invariant-loop-i : goal.invariant-loop-i
 invariant-loop-i l =
-    SoFar l.line l.r l.i l.shape l.figures l.counts × (length l.shape ≡ length l.initial.shape) × (length l.figures ≡ length l.initial.figures)
+    SoFar l.line l.r l.i l.shape l.figures l.counts × (length l.shape ≡ length l.initial.shape)
+    × (length l.figures ≡ length l.initial.figures)
     × (length l.counts ≡ length l.initial.counts)
 
 abbrev pub decreases-loop-i : goal.decreases-loop-i

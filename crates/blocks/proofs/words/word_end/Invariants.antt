@@ -11,9 +11,12 @@ abbrev pub invariant-loop-end : goal.invariant-loop-end
 invariant-loop-end l =
     (l.at ≤ l.end)
     × (l.end ≤ length l.line)
-    × (over_words word_shape (λ b. b ∷ []) [] (drop l.at l.line) ≡ over_words word_shape (λ b. b ∷ []) (part l.line l.at l.end) (drop l.end l.line))
-    × (over_words word_figures (λ b. []) [] (drop l.at l.line) ≡ over_words word_figures (λ b. []) (part l.line l.at l.end) (drop l.end l.line))
-    × (over_words word_counts (λ b. []) [] (drop l.at l.line) ≡ over_words word_counts (λ b. []) (part l.line l.at l.end) (drop l.end l.line))
+    × (over_words word_shape (λ b. b ∷ []) [] (drop l.at l.line)
+    ≡ over_words word_shape (λ b. b ∷ []) (part l.line l.at l.end) (drop l.end l.line))
+    × (over_words word_figures (λ b. []) [] (drop l.at l.line)
+    ≡ over_words word_figures (λ b. []) (part l.line l.at l.end) (drop l.end l.line))
+    × (over_words word_counts (λ b. []) [] (drop l.at l.line)
+    ≡ over_words word_counts (λ b. []) (part l.line l.at l.end) (drop l.end l.line))
 
 abbrev pub decreases-loop-end : goal.decreases-loop-end
 decreases-loop-end l = length l.line - l.end
