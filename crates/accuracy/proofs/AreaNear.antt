@@ -10,7 +10,6 @@ use lib.Dec.{T, leb, leb→le, nleb→lt, lit≤}
 use lib.Pow.{pow_pos}
 use lib.IntN.{pos}
 use lib.Ieee.{Float}
-use lib.Ieee.Scale.{finite}
 use lib.Ieee.Positive.{num, den, den_pos, positive-finite}
 use Rattle.floats.specs.Operations.{◌⊕◌, ◌⊗◌, ◌⊘◌, bits, at}
 use Rattle.floats.specs.Fractions.{◌over◌, ◌times◌ as product, value_of as fraction_of}

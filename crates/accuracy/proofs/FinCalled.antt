@@ -10,7 +10,6 @@ use native.Mathlib.Omega.{arith}
 use lib.Dec.{T, lit≤}
 use lib.ListN.{length}
 use lib.Ieee.{Float, binary64, fits, lt, eq}
-use lib.Ieee.Scale.{finite}
 use lib.Ieee.Positive.{num, den, positive, positive-finite}
 use Rattle.floats.specs.Operations.{◌⊕◌, ◌⊗◌, ◌⊘◌, bits, at}
 use Rattle.floats.specs.Fractions.{Fraction, ◌plus◌ as sum, value_of as fraction_of}

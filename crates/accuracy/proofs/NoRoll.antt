@@ -20,7 +20,6 @@ use Rattle.bodies.specs.Matrices.{from_columns}
 use Rattle.bodies.specs.Bodies.{rotated_of}
 use Rattle.rotations.specs.Rotations.{about_z, matrix_of}
 use Rattle.rings.specs.Rings.{angle_of, rolled_copy}
-use Rattle.rounding_error.proofs.Polynomials.{◌add◌, ◌mul◌}
 
 -- ---- the angle is 0
 rounded_zero : round binary64 false 0 1 ≡ bits 0

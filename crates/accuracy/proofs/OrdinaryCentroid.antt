@@ -53,7 +53,7 @@ use Rattle.one_piece.proofs.Rule.{rule_parts, total_s}
 use Rattle.one_piece.proofs.AreaPiece.{width_s, along_s, height_s}
 use Rattle.accuracy.specs.Centroids.{thrice, along_root, in_height, OrdinaryCentroid}
 use Rattle.accuracy.proofs.Near.{figures_given, sized}
-use Rattle.accuracy.proofs.WholePieces.{value_is, wider}
+use Rattle.accuracy.proofs.WholePieces.{wider}
 use Rattle.accuracy.proofs.Limits.{most_under, ranges_of}
 use Rattle.accuracy.proofs.Checked.{tip_checked, not_below}
 use Rattle.accuracy.proofs.Called.{three_values}

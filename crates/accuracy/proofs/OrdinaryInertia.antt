@@ -57,7 +57,6 @@ use Rattle.figures.specs.declared.Figures.{Figures}
 use Rattle.accuracy.specs.Masses.{Plate, Mount, SectionGiven, OneStrip}
 use Rattle.accuracy.specs.Inertias.{Integrals, exact_integrals, Alone, TabBeside, TensorNear, OffAxisNear, FinNear, tensor_error}
 use Rattle.accuracy.specs.Inertias.{outward_error, OrdinaryInertia}
-use Rattle.accuracy.proofs.WholePieces.{value_is}
 use Rattle.accuracy.proofs.SetCalled as Called
 use Rattle.accuracy.proofs.SetCalled.{set_body}
 use Rattle.accuracy.proofs.SevenIntegrals.{Fin, far, Sizes, unit_of, is_foil, shape_at, mass_shape, least_parts, bases, seven_known}

@@ -12,9 +12,8 @@ use lib.Pow.{pow_pos}
 use lib.IntN.{pos}
 use lib.Ieee.{Float, binary64, fits, round, of_bits}
 use lib.Ieee.Fits.{and_l, and_r}
-use lib.Ieee.Scale.{finite}
 use lib.Ieee.Positive.{num, den, den_pos, positive, positive-finite}
-use Rattle.floats.specs.Operations.{◌⊕◌, ◌⊗◌, ◌⊘◌, bits, at}
+use Rattle.floats.specs.Operations.{◌⊕◌, ◌⊗◌, ◌⊘◌, bits}
 use Rattle.floats.specs.Floats.{cube}
 use Rattle.floats.specs.Fractions.{◌over◌, ◌plus◌ as sum, ◌times◌ as product, value_of as fraction_of}
 use Rattle.rounding.specs.Sizes.{AtMost}
@@ -56,7 +55,7 @@ use Rattle.one_piece.proofs.PlatePiece.{seven_at, parts_of}
 use Rattle.accuracy.specs.Masses.{Plate, Mount, set_with, SectionGiven, fin_volume, tab_volume, filled, exact_mass, TabWithin, Extents}
 use Rattle.accuracy.specs.Masses.{OneStrip, OrdinaryMass}
 use Rattle.accuracy.proofs.Given.{Lengths}
-use Rattle.accuracy.proofs.WholePieces.{value_is, wider}
+use Rattle.accuracy.proofs.WholePieces.{wider}
 use Rattle.accuracy.proofs.ToFractions.{positive_fraction, product_fraction, fraction_e, fraction_number, first_power}
 use Rattle.accuracy.proofs.SetCalled as Called
 use Rattle.accuracy.proofs.RingSums.{unit_range, sums_to}

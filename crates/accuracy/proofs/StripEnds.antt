@@ -34,7 +34,7 @@ use Rattle.error_terms.proofs.Sound.{unit_real}
 use Rattle.error_terms.proofs.Judged.{near_within}
 use Rattle.error_terms.proofs.Entries.{full, own_entry}
 use Rattle.error_terms.proofs.Floors.{Signed, positive_from}
-use Rattle.error_terms.proofs.Orders.{above, above_zero}
+use Rattle.error_terms.proofs.Orders.{above_zero}
 use Rattle.error_terms.proofs.Shares.{positive_value}
 use Rattle.one_piece.proofs.Answers.{lower_none, not_equal}
 use Rattle.one_piece.proofs.PlatePiece.{positive_above}

@@ -1,6 +1,6 @@
 -- From numbers of the proofs to fractions: a polynomial of f64s, and an f64 that is near a quotient, both sides times its divisor. Assumes
 -- nothing.
-use lib.Ieee.{nan, inf, fin, up, down, Float, add}
+use lib.Ieee.{nan, inf, fin, up, down, Float}
 use lib.Ieee.Positive.{num, den, den_pos, positive, positive-finite}
 use lib.Pow.{pow_pos}
 use mathlib.Core.Bool.{true, false, Bool}
@@ -14,7 +14,6 @@ use lib.ListN.{get_or}
 use lib.Dec.{T, ltb, ltb→lt}
 use lib.IntN.{pos, negsuc}
 use lib.Ieee.Scale.{finite}
-use Rattle.floats.specs.Operations.{at}
 use Rattle.floats.specs.Fractions.{Fraction, ◌over◌, ◌plus◌ as sum, minus as negated, ◌times◌ as product, value_of as fraction_of}
 use Rattle.rounding_error.specs.Distances.{Within as Apart}
 use Rattle.rounding_error.proofs.Numbers.{Number, number, Size, ◌per◌, ◌by◌, ◌upto◌, minus, ◌times◌, IsNumber, IsSize, Within, Under, Near}

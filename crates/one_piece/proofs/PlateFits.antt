@@ -25,7 +25,7 @@ use Rattle.rounding_error.proofs.Counts as Counts
 use Rattle.error_terms.proofs.Monomials.{AllRanges, top, bottom, mono, place, unit}
 use Rattle.error_terms.proofs.Laws.{Reaches}
 use Rattle.error_terms.proofs.Terms.{Shape, shape, larger, Lowest, AllKnown}
-use Rattle.error_terms.proofs.Entries.{full, most, sized_entry, many_entry, many_low, own_entry}
+use Rattle.error_terms.proofs.Entries.{full, sized_entry, many_entry, many_low, own_entry}
 use Rattle.error_terms.proofs.Floors.{NotBelow, Signed, positive_from}
 use Rattle.one_piece.proofs.Rule.{Fits, all_converged}
 use Rattle.one_piece.proofs.PlatePiece.{entries_of, component_test, seven_at, fits, scale_in, plate, room_sums}

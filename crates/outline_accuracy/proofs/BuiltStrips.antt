@@ -12,7 +12,6 @@ use lib.ListN.{length}
 use lib.Pow.{pow_pos}
 use lib.IntN.{pos}
 use lib.Ieee.{Float, binary64, fits, of_bits, lt, eq}
-use lib.Ieee.Scale.{finite}
 use lib.Ieee.Positive.{num, den, positive}
 use Rattle.floats.specs.Operations.{◌⊕◌, ◌⊗◌, ◌⊘◌, bits, at}
 use Rattle.floats.specs.Fractions.{Fraction, ◌over◌, ◌plus◌ as sum, ◌times◌ as product, value_of as fraction_of}

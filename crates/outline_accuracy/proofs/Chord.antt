@@ -9,7 +9,6 @@ use native.Mathlib.Omega.{arith}
 use lib.Dec.{T}
 use lib.Pow.{pow_pos}
 use lib.Ieee.{Float, nan, inf, fin, up, down, lt}
-use lib.Ieee.Scale.{finite}
 use lib.Ieee.Positive.{num, den, den_pos, positive}
 use Rattle.floats.specs.Operations.{◌⊕◌, ◌⊖◌, ◌⊘◌, bits}
 use Rattle.floats.proofs.Order.{lt_asym}

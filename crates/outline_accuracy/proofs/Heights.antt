@@ -3,10 +3,10 @@ use lib.Dec.{lit≤, T}
 use Rattle.error_terms.proofs.Orders.{near_lt, near_le}
 use Rattle.accuracy.proofs.StripEnds.{scaled_unit}
 use Rattle.accuracy.proofs.Samples.{Sample, IsSample, height_of, at_samples, at_samples_lem, node_e, node_of, node_same, between_e, between}
-use Rattle.accuracy.proofs.Samples.{between_is, reach_t, height_t, height_value, lower_share, upper_share, shares_not_below, above_is, below_is}
+use Rattle.accuracy.proofs.Samples.{between_is, reach_t, height_value, lower_share, upper_share, shares_not_below, above_is, below_is}
 use Rattle.accuracy.proofs.Samples.{above_equal, below_equal, above_reaches, below_reaches}
 use mathlib.Core.Path.{◌≡◌, refl, sym, subst}
-use mathlib.Core.Bool.{Bool, true, false}
+use mathlib.Core.Bool.{true, false}
 use mathlib.Core.List.{List, [], ◌∷◌}
 use Prim.Native.Nat.{ℕ, ◌+◌, ◌-◌, ◌*◌, ◌^◌, ◌≤◌}
 use native.Mathlib.Nat.{mul-pos, mul-le-mul_right, one-mul, mul-one, zero-mul, mul-zero, zero-add, add-zero}
@@ -15,7 +15,7 @@ use lib.Pow.{pow_pos}
 use lib.Ieee.{Float, nan, inf, fin, up, down, of_bits, round, lt, le}
 use lib.Ieee.Scale.{finite}
 use lib.Ieee.Positive.{num, den, den_pos, positive}
-use Rattle.floats.specs.Operations.{◌⊗◌, ◌⊘◌, at}
+use Rattle.floats.specs.Operations.{◌⊗◌, ◌⊘◌}
 use Rattle.rounding.proofs.Monotone.{positive_num}
 use Rattle.gauss_kronrod.specs.Tables.{nodes}
 use Rattle.quadrature.specs.Rule.{half_sum, half_width}
@@ -26,22 +26,16 @@ use Rattle.rounding_error.proofs.Counts as Counts
 use Rattle.rounding_error.proofs.Polynomials.{Expression, given, ratio, ◌take◌, ◌mul◌, among, equal_by}
 use Rattle.error_terms.proofs.Monomials.{place, AllRanges}
 use Rattle.error_terms.proofs.Laws.{Reaches, inverse_of}
-use Rattle.error_terms.proofs.Terms.{shape, Given, entry, Term, var, tight, ◌mul◌ as ◌mul_t◌, ◌over◌, value, AllKnown, numbers_of}
+use Rattle.error_terms.proofs.Terms.{Given, value, AllKnown, numbers_of}
 use Rattle.error_terms.proofs.Terms.{unit_by}
 use Rattle.error_terms.proofs.Sound.{numbers_are, unit_real}
 use Rattle.error_terms.proofs.Judged.{judge, nearer, near_within}
-use Rattle.error_terms.proofs.Entries.{full, sized_entry, own_entry, near_given}
+use Rattle.error_terms.proofs.Entries.{sized_entry, own_entry, near_given}
 use Rattle.error_terms.proofs.Floors.{NotBelow, equal_reaches, times_not_below}
 use Rattle.outline_accuracy.proofs.Signs.{equal_not_below}
+use Rattle.outline_accuracy.proofs.HeightTests.{low_t, high_t, metres_t, placeholder, height_test}
 
 ruleset plain = (sorted, one-mul, mul-one, zero-mul, mul-zero, zero-add, add-zero)
-
--- ---- by the calculus: the variables are the strip's ends in metres and the scale
-abbrev low_t : Term
-low_t = var 0 over 2
-
-abbrev high_t : Term
-high_t = var 1 over 2
 
 pub record StripGiven (h k span scale : Float) : Type 0 where
   pub span_positive : T (positive span)
@@ -52,16 +46,6 @@ pub record StripGiven (h k span scale : Float) : Type 0 where
   pub upper_finite : T (finite k)
   pub lower_under : Under (1 of size_of span) (value_of h)
   pub upper_under : Under (1 of size_of span) (value_of k)
-
-abbrev pub metres_t : Sample → Term
-metres_t s = tight (height_t low_t high_t s mul_t var 2)
-
-abbrev placeholder : Float → Float → Float → List Given
-placeholder h k S =
-    entry h (value_of h) (shape 0 full (place 0) []) 0 ∷
-    entry k (value_of k) (shape 0 full (place 0) []) 0 ∷
-    entry S (value_of S) (shape 0 full (place 1) []) full ∷
-    []
 
 module _ (h k span scale : Float) (g : StripGiven h k span scale) where
   abbrev low : Float
@@ -88,11 +72,7 @@ module _ (h k span scale : Float) (g : StripGiven h k span scale) where
     ),
   )
 
-  -- at most 11·2^-53 spans from the exact height
-  abbrev height_test : Sample → Bool
-  height_test s = nearer entries (between_e (given 0) (given 2) (node_e s)) (11 * 2 ^ 30) (place 0) [] (judge entries (metres_t s))
-
-  tested : T (at_samples height_test 7)
+  tested : T (at_samples (height_test entries) 7)
   unfolding round of_bits nodes
   tested = tt
 
@@ -109,7 +89,7 @@ module _ (h k span scale : Float) (g : StripGiven h k span scale) where
       (number 1 0 2 times (value_of k less value_of h))) (11 roundoffs size_of span)) (node_same (numbers_of entries) (among []) s)
       (near_given bases 0 (num span) (den span) refl _ _ 11 (den_pos span)
       (near_within bases ranges entries all (metres_t s) (between_e (given 0) (given 2) (node_e s)) (11 * 2 ^ 30) (place 0) []
-      (at_samples_lem height_test tested s i))))
+      (at_samples_lem (height_test entries) tested s i))))
 
   -- ---- half the strip's height over the scale
   abbrev reach_e : Expression

@@ -1,5 +1,6 @@
 pub mod Signs
 pub mod Crossings
+pub mod HeightTests
 pub mod Heights
 pub mod Lines
 pub mod Samples

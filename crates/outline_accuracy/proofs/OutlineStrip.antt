@@ -9,7 +9,6 @@ use native.Mathlib.Omega.{arith}
 use lib.Dec.{leb}
 use lib.Ieee.{Float, lt, is_nan}
 use lib.Ieee.Bits.{is_true}
-use lib.Ieee.Scale.{finite}
 use Rattle.floats.specs.Operations.{◌⊗◌, ◌⊘◌, bits, at}
 use Rattle.rounding.proofs.Signs.{finite_no_nan}
 use Rattle.sorting.specs.Sorted as Sorted

@@ -1,5 +1,5 @@
 -- Blocks to read: the row that a line gets, and lines that only look like an answer.
-use Rattle.std.specs.Prelude.{Bool, ◌&&◌, List, [], ◌∷◌, ◌++◌, ℕ, T}
+use Rattle.std.specs.Prelude.{Bool, ◌&&◌, [], ◌∷◌, ◌++◌, ℕ, T}
 use Prim.Native.String.{String}
 use Rattle.std.specs.Float.Ieee.{of_bits, to_bits, round, mul, neg, lt, eq, ne}
 use Rattle.floats.specs.Operations.{bits}

@@ -1,10 +1,9 @@
 -- Checks: the table of refusals, each limit from both sides, document 01's examples of a refusal, and the two orders.
-use Rattle.std.specs.Prelude.{Bool, true, false, not, ◌&&◌, cond, List, [], ◌∷◌, map, ℕ, suc, T, leb, Float}
+use Rattle.std.specs.Prelude.{Bool, true, false, not, ◌&&◌, cond, List, [], ◌∷◌, map, ℕ, suc, T, leb}
 use Rattle.std.specs.Float.{binary64}
 use Rattle.std.specs.Float.Ieee.{add, sub, mul, div, neg, of_bits, to_bits, of_int, lt, le, eq, ne}
 use Rattle.floats.specs.Operations.{bits, every}
 use Rattle.floats.specs.Floats.{abs_of}
-use Rattle.refusals.specs.declared.Refusal.{Refusal}
 use Rattle.refusals.specs.declared.Refusal.TheVariants as refusal
 use Rattle.refusals.specs.declared.TensorFault.TheVariants as fault
 use Rattle.refusals.specs.declared.Verdict.{Verdict}
@@ -20,7 +19,7 @@ use Rattle.materials.specs.declared.Density.{Density}
 use Rattle.materials.specs.declared.Density.TheVariants.{Bulk, Surface, Line}
 use Rattle.materials.specs.Materials.{density_check}
 use Rattle.sections.specs.declared.Section.TheVariants.{Square}
-use Rattle.trig.specs.Trig.{m_of, steps, quarter_of, sin_cos_of}
+use Rattle.trig.specs.Trig.{sin_cos_of}
 use Rattle.fillets.specs.declared.Fillet.{Fillet}
 use Rattle.fillets.specs.Numbered.{no_fillet}
 use Rattle.fillets.specs.Angles.{angle_of}

@@ -1,5 +1,5 @@
 -- Decimals out: significant digits and how they are written.
-use Rattle.std.specs.Prelude.{Bool, true, false, ◌&&◌, List, [], ◌∷◌, ℕ, T, eqb, Float}
+use Rattle.std.specs.Prelude.{Bool, true, false, ◌&&◌, ℕ, T, eqb}
 use Prim.Native.String.{String}
 use Rattle.std.specs.Float.Ieee.{of_bits, lt, eq, ne}
 use Rattle.floats.specs.Operations.{bits}

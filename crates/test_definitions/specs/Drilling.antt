@@ -1,7 +1,6 @@
 -- Where a point lies (document 02, Paper 11): rows against likely wrong polygons, corners and steps, and the order of
 -- the checks.
-use Rattle.std.specs.Prelude.{Bool, true, false, not, ◌&&◌, cond, List, [], ◌∷◌, map, ℕ, suc, ◌^◌, T, eqb, leb, ℤ, pos, negsuc, neg_ℤ, Float}
-use Rattle.std.specs.Float.{binary64}
+use Rattle.std.specs.Prelude.{Bool, not, ◌&&◌, cond, List, [], ◌∷◌, map, ℕ, suc, ◌^◌, T, eqb, leb, ℤ, pos, negsuc, neg_ℤ}
 use Rattle.std.specs.Float.Ieee.{add, sub, mul, div, of_bits, lt, le, eq, ne}
 use Rattle.floats.specs.Operations.{bits, every}
 use Rattle.floats.specs.Floats.{abs_of}

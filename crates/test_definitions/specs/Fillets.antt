@@ -1,5 +1,5 @@
 -- Fillets: the angle, the section, when there is none, the two refusals, and the body (document 02, Paper 6).
-use Rattle.std.specs.Prelude.{Bool, true, false, not, ◌&&◌, List, [], ◌∷◌, ℕ, T, Float}
+use Rattle.std.specs.Prelude.{Bool, not, ◌&&◌, List, [], ◌∷◌, T, Float}
 use Rattle.std.specs.Float.Ieee.{add, sub, mul, div, neg, of_bits, to_bits, of_int, round, lt, le, eq}
 use Rattle.floats.specs.Operations.{bits}
 use Rattle.floats.specs.Constants.{half, one, two}

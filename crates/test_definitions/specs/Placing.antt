@@ -1,8 +1,8 @@
 -- Copies at places, and parts moved or taken off (document 02, Paper 13): rows against wrong definitions that give
 -- another figure or number.
-use Rattle.std.specs.Prelude.{Bool, true, false, not, ◌&&◌, List, [], ◌∷◌, map, ℕ, T}
+use Rattle.std.specs.Prelude.{Bool, true, false, ◌&&◌, [], ◌∷◌, map, ℕ, T}
 use Rattle.std.specs.Float.Ieee.{add, sub, mul, div, neg, lt, le, eq, ne, of_bits, to_bits, of_int, round, is_nan}
-use Rattle.floats.specs.Operations.{bits, at, every, tabulate}
+use Rattle.floats.specs.Operations.{bits, every, tabulate}
 use Rattle.floats.specs.Floats.{abs_of}
 use Rattle.root.specs.Root.{root_of, near_root}
 use Rattle.trig.specs.Trig.{m_of, sin_cos_of}

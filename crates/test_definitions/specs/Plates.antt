@@ -1,6 +1,6 @@
 -- One fin's body from its integrals (document 01, "Set and planform"; document 02, Paper 6): areas and volumes of 0,
 -- the tab, the cant, the density.
-use Rattle.std.specs.Prelude.{Bool, ◌&&◌, List, [], ◌∷◌, map, ℕ, T, Float}
+use Rattle.std.specs.Prelude.{Bool, ◌&&◌, List, [], ◌∷◌, map, ℕ, T}
 use Rattle.std.specs.Float.{nan}
 use Rattle.std.specs.Float.Ieee.{add, sub, mul, div, neg, of_bits, to_bits, of_int, round, lt, le, eq, ne}
 use Rattle.floats.specs.Operations.{bits}

@@ -11,7 +11,7 @@ use Rattle.tolerance.specs.Bounds.{total_of, error_of, absolute, relative, bound
 use Rattle.tolerance.specs.Bounds.{worst_place, component_of}
 use Rattle.halving.specs.declared.Ending.{Ending}
 use Rattle.halving.specs.declared.Ending.TheVariants.{Accepted, NotConverged}
-use Rattle.halving.specs.Halving.{Halved, repeat, halving}
+use Rattle.halving.specs.Halving.{repeat, halving}
 use Rattle.strips.specs.Strips.{Run, strip_at}
 use Rattle.test_definitions.specs.Rows.{is, are}
 

@@ -1,6 +1,6 @@
 -- Eight screens and their turns (document 02, Paper 10): rows against likely wrong orders, and against calls that touch
 -- too much.
-use Rattle.std.specs.Prelude.{Bool, true, false, not, ◌&&◌, List, [], ◌∷◌, ℕ, zero, suc, T, eqb, length, replicate, get_or, set, Float}
+use Rattle.std.specs.Prelude.{Bool, true, false, not, ◌&&◌, List, [], ◌∷◌, ℕ, zero, suc, T, eqb, length, replicate, get_or, Float}
 use Rattle.std.specs.Float.{nan}
 use Rattle.std.specs.Float.Ieee.{of_bits, to_bits, of_int, add, sub, mul, div, neg, lt, le, eq, ne}
 use Rattle.floats.specs.Operations.{bits, every}

@@ -1,10 +1,10 @@
 -- Shapes: sorted lists, an outline's root chord, span and break heights, segments that touch, a section's moments, the
 -- integrands' values.
-use Rattle.std.specs.Prelude.{Bool, true, false, not, ◌&&◌, List, [], ◌∷◌, map, ℕ, zero, suc, T, eqb, length, Float}
+use Rattle.std.specs.Prelude.{Bool, not, ◌&&◌, List, [], ◌∷◌, map, ℕ, zero, suc, T, eqb, length, Float}
 use Rattle.std.specs.Float.Ieee.{add, sub, mul, div, neg, of_bits, to_bits, of_int, round, lt, le, eq, ne}
-use Rattle.floats.specs.Operations.{bits, every, tabulate}
+use Rattle.floats.specs.Operations.{bits, tabulate}
 use Rattle.floats.specs.Floats.{abs_of}
-use Rattle.sorting.specs.Sorted.{below_all, insert, sorted, over}
+use Rattle.sorting.specs.Sorted.{below_all, insert, sorted}
 use Rattle.planforms.specs.declared.Planform.{Planform}
 use Rattle.planforms.specs.declared.Planform.TheVariants.{Trapezoid, Outline}
 use Rattle.planforms.specs.Planforms.{largest_height, root_chord_of, span_of}

@@ -37,7 +37,6 @@ use Rattle.jobs.specs.declared.JobProgress.{JobProgress}
 use Rattle.jobs.specs.declared.JobStep.{JobStep}
 use Rattle.jobs.specs.declared.Progress.{Progress}
 use Rattle.jobs.specs.declared.Progress.TheVariants.{Short, More, Ended}
-use Rattle.jobs.specs.declared.Row.{Row}
 use Rattle.jobs.specs.Jobs.{points_of, step_row, outcome_of, after_strip, stepped_on, step_of, change_of, count_below}
 use Rattle.jobs.specs.Jobs.{progress_of}
 use Rattle.jobs.specs.Calls.{is_taken}

@@ -1,5 +1,5 @@
 -- Lines and answers as text: figures as words, tokens, forms, and what is printed (docs/FORMS.md).
-use Rattle.std.specs.Prelude.{Bool, true, false, not, ◌&&◌, cond, List, [], ◌∷◌, ◌≡◌, refl, ℕ, T, eqb, length, Float}
+use Rattle.std.specs.Prelude.{Bool, true, false, not, ◌&&◌, List, [], ◌∷◌, ◌≡◌, refl, ℕ, T, eqb, Float}
 use Prim.Native.String.{String}
 use Rattle.std.specs.Float.Ieee.{of_bits, to_bits, round, is_nan, eq}
 use Rattle.floats.specs.Operations.{bits, tabulate}
