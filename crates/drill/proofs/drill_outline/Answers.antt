@@ -1,0 +1,68 @@
+-- `drill::drill_outline` meets its contract: the corners in steps are the array's first numbers. Assumes nothing.
+use mathlib.Core.Bool.{◌&&◌}
+use mathlib.Core.List.{◌∷◌, map}
+use mathlib.Core.Path.{◌≡◌, sym, ap, ◌∙◌}
+use Prim.Native.Nat.{suc}
+use native.Mathlib.Omega.{arith}
+use borrow.Author.Rules.{rules}
+use lib.ListN.{length, length-map}
+use Rattle.steps.specs.Steps.{exact_of, steps_of}
+use Rattle.drill.specs.Drill.{are_whole}
+use Rattle.drill.specs.InSteps.{AreLengths}
+use Rattle.drill.proofs.Reach.{all_reach, steps_back, steps_reach}
+use Rattle.drill.proofs.Wholes.{two_in_front, refused, placed}
+use Rattle.drill.proofs.drill_outline.Goals as goal
+use Rattle.drill.proofs.drill_outline.Goals.{After-corners-1, Start}
+
+pub is_whole-requires : goal.is_whole-requires
+is_whole-requires c = c.requires.0 0 (omega arith)
+
+pub is_whole-requires-2 : goal.is_whole-requires-2
+is_whole-requires-2 c = c.requires.0 1 (omega arith)
+
+pub are_whole-requires : goal.are_whole-requires
+are_whole-requires c = (let it : AreLengths c.args.points.now = λ k h. c.requires.0 (suc (suc k)) (omega arith) in it)
+
+pub returns-then-not-is_whole-are_whole : goal.returns-then-not-is_whole-are_whole
+returns-then-not-is_whole-are_whole c = refused _ _ _ ((let it : let a = c.args in (c.is_whole.result && c.is_whole-2.result && c.are_whole.result) ≡ are_whole (exact_of a.x_m ∷ exact_of a.height_m ∷ map exact_of a.points.now) = let a = c.args in rw (c.is_whole.ensures, c.is_whole-2.ensures, c.are_whole.ensures) (sym (two_in_front (exact_of a.x_m) (exact_of a.height_m) (map exact_of a.points.now))) in it)) c.if-not-is_whole-are_whole.true-raw
+
+pub steps_of-corners-requires : goal.steps_of-corners-requires
+steps_of-corners-requires c = ((let it : AreLengths c.args.points.now = λ k h. c.requires.0 (suc (suc k)) (omega arith) in it), c.requires.1)
+
+-- The needs below go back to these places.
+abbrev the-start : After-corners-1 → Start
+the-start c = c.before.before.before.before.before.before.before
+
+pub slice_bounds-place-end : goal.slice_bounds-place-end
+slice_bounds-place-end c =
+    let points = c.args.points.now in
+    sym (ap length c.steps_of-corners.ensures ∙ length-map (map exact_of points) steps_of ∙ length-map points exact_of)
+
+pub steps-requires : goal.steps-requires
+steps-requires c = c.requires.0 0 (omega arith)
+
+pub steps-requires-2 : goal.steps-requires-2
+steps-requires-2 c = c.requires.0 1 (omega arith)
+
+pub place-requires : goal.place-requires
+place-requires c =
+    let at = the-start c.before.before in
+    let points = c.args.points.now in
+    let corners = c.steps_of-corners.ensures in
+    let x = c.steps in
+    let height = c.steps-2 in (
+      rw (corners, length-map (map exact_of points) steps_of, length-map points exact_of) c.requires.2,
+      record {
+        all = rw corners (all_reach points ((let it : AreLengths c.args.points.now = λ k h. c.requires.0 (suc (suc k)) (omega arith) in it)));
+        across = steps_reach _ x.type_inv x.ensures (c.requires.0 0 (omega arith));
+        up = steps_reach _ height.type_inv height.ensures (c.requires.0 1 (omega arith));
+      },
+    )
+
+pub returns : goal.returns
+returns c =
+    let x = c.steps in
+    let height = c.steps-2 in
+    let corners = c.steps_of-corners.ensures in
+    c.place.ensures ∙ placed _ _ _ ((let it : let a = c.args in (c.is_whole.result && c.is_whole-2.result && c.are_whole.result) ≡ are_whole (exact_of a.x_m ∷ exact_of a.height_m ∷ map exact_of a.points.now) = let a = c.args in rw (c.is_whole.ensures, c.is_whole-2.ensures, c.are_whole.ensures) (sym (two_in_front (exact_of a.x_m) (exact_of a.height_m) (map exact_of a.points.now))) in it)) c.if-not-is_whole-are_whole.false-raw corners (steps_back x.type_inv x.ensures)
+    (steps_back height.type_inv height.ensures)
