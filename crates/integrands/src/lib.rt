@@ -6,7 +6,7 @@
 //
 //     area:  b − a,  (b² − a²)/2,  h·(b − a), and four zeros
 //     plate: M_0, M_1, M_2 and T of each chord (`sections::chord_moments`); with r = body radius + h the values are
-//            M_0,  typeof.r.M_0,  typeof.r².M_0,  M_1,  M_2,  typeof.r.M_1,  T
+//            M_0,  r·M_0,  r²·M_0,  M_1,  M_2,  r·M_1,  T
 #![tactic(auto)]
 
 ghost use Rattle.std.specs.Prelude.{◌≡◌};

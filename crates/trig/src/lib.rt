@@ -1,7 +1,7 @@
 // Sine and cosine of every f64, by the steps of document 01 ("Stand-ins", "Sine and cosine of f"); Rust's `sin_cos`.
 //
 // With m the whole number nearest f·2/π, r = f − m·π/2 lies within an eighth turn of 0; π/2 is taken as A + B, so that
-// typeof.m.A is exact for the m of ordinary angles. Both series are worked at r, from the last term inwards, and m mod 4 says
+// m·A is exact for the m of ordinary angles. Both series are worked at r, from the last term inwards, and m mod 4 says
 // which is the sine, and with which sign.
 #![tactic(auto)]
 

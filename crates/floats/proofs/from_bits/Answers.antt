@@ -1,7 +1,6 @@
 -- `floats::from_bits` meets its contract: above an infinity's pattern stand the NaNs' and no others. Assumes nothing.
 use mathlib.Core.Path.{sym, ◌∙◌}
 use Prim.Native.Nat.{◌*◌, ◌%◌, ◌^◌}
-use borrow.Author.Rules.{rules}
 use borrow.Author.Tests.{lt-ltb, le-ltb}
 use lib.Ieee.{binary64, of_bits}
 use lib.Ieee.Bits.{nan_bits_above, nan_bits_is}

@@ -1,6 +1,5 @@
 -- `floats::to_bits` meets its contract: only a NaN differs from itself. Assumes nothing.
 use mathlib.Core.Path.{◌≡◌, refl, sym, ap, subst, ◌∙◌}
-use borrow.Author.Rules.{rules}
 use lib.Dec.{T}
 use lib.Ieee.{nan, binary64, to_bits}
 use lib.Ieee.Compare.{differs_from_itself}

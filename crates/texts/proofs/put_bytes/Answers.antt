@@ -1,10 +1,10 @@
 -- `texts::put_bytes` meets its contract: after i bytes, the first i of the text are appended. Assumes nothing.
 use mathlib.Core.List.{List}
-use mathlib.Core.Path.{◌≡◌, refl}
-use Prim.Native.Nat.{ℕ, ◌+◌, ◌-◌, ◌<◌, ◌≤◌}
+use mathlib.Core.Path.{refl}
+use Prim.Native.Nat.{ℕ, ◌+◌, ◌<◌, ◌≤◌}
 use native.Mathlib.Nat.{add-zero}
 use native.Mathlib.Omega.{arith}
-use lib.ListN.{length, take, set, get_or, length-set}
+use lib.ListN.{length, set, get_or, length-set}
 use lib.Seq.{take_all}
 use Rattle.texts.specs.Appended.{Appended}
 use Rattle.texts.proofs.Appending.{nothing, next_byte}

@@ -1,13 +1,9 @@
 -- `texts::put_bytes` meets its contract: after i bytes, the first i of the text are appended. Assumes nothing.
 use mathlib.Core.List.{List}
-use mathlib.Core.Path.{◌≡◌, refl}
-use Prim.Native.Nat.{ℕ, ◌+◌, ◌-◌, ◌<◌, ◌≤◌}
-use native.Mathlib.Nat.{add-zero}
-use native.Mathlib.Omega.{arith}
-use lib.ListN.{length, take, set, get_or, length-set}
-use lib.Seq.{take_all}
+use mathlib.Core.Path.{◌≡◌}
+use Prim.Native.Nat.{ℕ, ◌+◌, ◌-◌, ◌≤◌}
+use lib.ListN.{length, take}
 use Rattle.texts.specs.Appended.{Appended}
-use Rattle.texts.proofs.Appending.{nothing, next_byte}
 use Rattle.texts.proofs.put_bytes.Given as goal
 
 pub record SoFar (before : List ℕ) (n : ℕ) (text out : List ℕ) (i : ℕ) : Type 0 where
@@ -18,7 +14,5 @@ pub record SoFar (before : List ℕ) (n : ℕ) (text out : List ℕ) (i : ℕ) :
 abbrev pub invariant-loop-i : goal.invariant-loop-i
 invariant-loop-i l = SoFar l.initial.out l.n l.text l.out l.i
 
-
 abbrev pub decreases-loop-i : goal.decreases-loop-i
 decreases-loop-i l = length l.text - l.i
-

@@ -6,20 +6,9 @@ use lib.ListN.{get_or}
 use Rattle.answers.specs.declared.Shape.TheVariants.{Refused as RefusedShape}
 use Rattle.answers.specs.Answers.{reply}
 use borrow.Author.Rules.{rules}
-use Rattle.lines.proofs.refused_reply.Statement.{statement}
-use Rattle.lines.proofs.refused_reply.Tie as tie
+use Rattle.lines.proofs.refused_reply.Goals as goal
 
-returns : tie.Need-returns
+pub returns : goal.returns
 returns c =
     ap₂ (λ (number : ℕ) (values : List ℕ). reply RefusedShape [] (number ∷ get_or values 0 0 ∷ get_or values 1 0 ∷ []))
-    c.before.number.ensures c.values.ensures
-
-pub refused-reply-spec : {M : Type 1} → statement M
-refused-reply-spec =
-    tie.close
-    (tie.spec
-    (λ c κs. search rules)
-    (λ c κs. search rules)
-    (λ c. search rules)
-    (λ c. search rules)
-    returns)
+    c.number-number.ensures c.values-values.ensures

@@ -1,0 +1,22 @@
+-- `lines::done_reply` meets its contract: each arm knows its case. Assumes nothing.
+use mathlib.Core.List.{List, [], ◌∷◌}
+use mathlib.Core.Path.{ap}
+use Prim.Native.Nat.{ℕ}
+use lib.Ieee.{Float}
+use Rattle.answers.specs.declared.Shape.TheVariants.{Done as DoneShape, DoneRefused as DoneRefusedShape}
+use Rattle.answers.specs.Answers.{reply}
+use borrow.Author.Rules.{rules}
+use Rattle.lines.proofs.done_reply.Goals as goal
+
+pub returns-in-Accepted : goal.returns-in-Accepted
+returns-in-Accepted c =
+    let s = c.args in
+    rw c.in-Accepted.is
+    (ap (λ (l : List Float). record { shape = DoneShape; figures = l; counts = s.screen ∷ s.f.intervals ∷ s.f.samples ∷ 0 ∷ [] })
+    c.numbers-figures.ensures)
+
+pub returns-in-Refused : goal.returns-in-Refused
+returns-in-Refused c =
+    let s = c.args in
+    rw c.in-Refused.is
+    (ap (λ (number : ℕ). reply DoneRefusedShape [] (s.screen ∷ number ∷ [])) c.number-number.ensures)

@@ -1,0 +1,32 @@
+-- `lines::drill_reply` meets its contract: each arm knows its case. Assumes nothing.
+use mathlib.Core.List.{List}
+use mathlib.Core.Path.{◌≡◌, sym, ap, ◌∙◌}
+use lib.Ieee.{Float}
+use Rattle.planforms.specs.declared.Planform.{Planform}
+use Rattle.drill.specs.declared.Answer.{Answer}
+use Rattle.drill.specs.Drill.{drill_of}
+use Rattle.answers.specs.declared.Reply.{Reply}
+use Rattle.lines.specs.Lines.{drill_reply}
+use borrow.Author.Rules.{rules}
+use Rattle.lines.proofs.drill_reply.Goals as goal
+
+drilled : (planform : Planform) (x height : Float) {outline points : List Float} {found known : Answer} {r : Reply} → found ≡ known
+    → found ≡ drill_of planform outline x height → outline ≡ points → r ≡ drill_reply known → r
+    ≡ drill_reply (drill_of planform points x height)
+drilled planform x height k d e h = h ∙ ap drill_reply (sym k ∙ d ∙ ap (λ (p : List Float). drill_of planform p x height) e)
+
+pub returns-in-Inside : goal.returns-in-Inside
+returns-in-Inside c =
+    drilled _ _ _ c.in-Inside.is c.drill-found.ensures.is c.first-outline.ensures c.count_reply.ensures
+
+pub returns-in-Edge : goal.returns-in-Edge
+returns-in-Edge c =
+    drilled _ _ _ c.in-Edge.is c.drill-found.ensures.is c.first-outline.ensures c.count_reply-in-Edge.ensures
+
+pub returns-in-Outside : goal.returns-in-Outside
+returns-in-Outside c =
+    drilled _ _ _ c.in-Outside.is c.drill-found.ensures.is c.first-outline.ensures c.count_reply-in-Outside.ensures
+
+pub returns-in-Refused : goal.returns-in-Refused
+returns-in-Refused c =
+    drilled _ _ _ c.in-Refused.is c.drill-found.ensures.is c.first-outline.ensures c.refused_reply.ensures
