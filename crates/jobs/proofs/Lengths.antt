@@ -17,4 +17,4 @@ pub outline_length : (job : Job) (vals : List Val) → Is J.the_row job vals →
 outline_length job vals is =
     let points = (LL.owed J.the_type J'.the_laws job vals is).1.0 in
     let numbers = (LL.owed P.the_type P'.the_laws job.points _ points).0 in
-    sym (length-map job.points.numbers (λ (x : Float). x)) ∙ numbers.1.0.1
+    numbers.1.0.1

@@ -1,5 +1,3 @@
-pub mod Thin
-pub mod Rows
 pub mod Lengths
 pub mod Copies
 pub mod Laws

@@ -35,6 +35,6 @@ sized job vals is =
     let tensor = LL.owed T.the_type T'.the_laws job.outcome.body.inertia_kg_m2 _ body.1.1.0 in
     record {
       outline = outline_length job vals is;
-      sums = sym (length-map job.totals.value (λ (x : Float). x)) ∙ totals.0.1.0.1;
-      tensor = sym (length-map job.outcome.body.inertia_kg_m2.0 (λ (x : Float). x)) ∙ tensor.0.1.0.1;
+      sums = totals.0.1.0.1;
+      tensor = tensor.0.1.0.1;
     }

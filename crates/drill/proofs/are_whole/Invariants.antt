@@ -1,18 +1,13 @@
 -- `drill::are_whole` meets its contract: after i turns the first i coordinates are looked at. Assumes nothing.
-use mathlib.Core.Bool.{Bool, ◌&&◌}
+use mathlib.Core.Bool.{Bool}
 use mathlib.Core.List.{List, map}
-use mathlib.Core.Path.{◌≡◌, refl, sym, ap, ◌∙◌}
-use Prim.Native.Nat.{ℕ, ◌+◌, ◌-◌, ◌≤◌}
-use native.Mathlib.Nat.{le_antisymm}
-use native.Mathlib.Numerals.{add-one}
-use native.Mathlib.Omega.{arith}
-use borrow.Author.Rules.{rules}
+use mathlib.Core.Path.{◌≡◌}
+use Prim.Native.Nat.{ℕ, ◌-◌, ◌≤◌}
 use lib.IntN.{pos}
-use lib.ListN.{length, get_or, length-map, get_or-map}
-use lib.Ieee.{Float, nan}
+use lib.ListN.{length, get_or}
+use lib.Ieee.{Float}
 use Rattle.floats.specs.Operations.{every}
 use Rattle.steps.specs.Steps.{exact_of, is_whole}
-use Rattle.drill.specs.Drill.{are_whole}
 use Rattle.drill.proofs.are_whole.Given as goal
 
 abbrev pub at_place : List Float → ℕ → Bool

@@ -18,12 +18,12 @@ pub returns-in-Refused : goal.returns-in-Refused
 returns-in-Refused c =
     let a = c.args in
     is_answer (refused a.planform a.points.now a.x_m a.height_m _
-    (sym ((let it : let a = c.args in c.first_refusal-v-2.result ≡ before a.planform a.points.now a.x_m a.height_m = rw ( c.first_refusal-v-2.ensures, c.check_length-2.ensures, c.first_refusal-v.ensures, c.check_length.ensures, c.check_planform-v.ensures.is, ) in it)) ∙ c.in-Refused.is))
+    (sym ((let it : let a = c.args in c.first_refusal-v-2.result ≡ before a.planform a.points.now a.x_m a.height_m = rw (c.first_refusal-v-2.ensures, c.check_length-2.ensures, c.first_refusal-v.ensures, c.check_length.ensures, c.check_planform-v.ensures.is) in it)) ∙ c.in-Refused.is))
 
 pub drill_trapezoid-requires : goal.drill_trapezoid-requires
 drill_trapezoid-requires c =
     let a = c.args in
-    let ok : let a = c.args in before a.planform a.points.now a.x_m a.height_m ≡ Accepted = sym ((let it : let a = c.args in c.first_refusal-v-2.result ≡ before a.planform a.points.now a.x_m a.height_m = rw ( c.first_refusal-v-2.ensures, c.check_length-2.ensures, c.first_refusal-v.ensures, c.check_length.ensures, c.check_planform-v.ensures.is, ) in it)) ∙ c.in_default.is in
+    let ok : let a = c.args in before a.planform a.points.now a.x_m a.height_m ≡ Accepted = sym ((let it : let a = c.args in c.first_refusal-v-2.result ≡ before a.planform a.points.now a.x_m a.height_m = rw (c.first_refusal-v-2.ensures, c.check_length-2.ensures, c.first_refusal-v.ensures, c.check_length.ensures, c.check_planform-v.ensures.is) in it)) ∙ c.in_default.is in
     let points = a.points.now in
     let taken = planform_accepted a.planform points a.x_m a.height_m ok in
     trapezoid_lengths _ _ _ _ points (a.x_m ∷ a.height_m ∷ [])
@@ -35,7 +35,7 @@ pub drill_outline-requires : goal.drill_outline-requires
 unfolding planform_check
 drill_outline-requires c =
     let a = c.args in
-    let ok : let a = c.args in before a.planform a.points.now a.x_m a.height_m ≡ Accepted = sym ((let it : let a = c.args in c.first_refusal-v-2.result ≡ before a.planform a.points.now a.x_m a.height_m = rw ( c.first_refusal-v-2.ensures, c.check_length-2.ensures, c.first_refusal-v.ensures, c.check_length.ensures, c.check_planform-v.ensures.is, ) in it)) ∙ c.in_default.is in
+    let ok : let a = c.args in before a.planform a.points.now a.x_m a.height_m ≡ Accepted = sym ((let it : let a = c.args in c.first_refusal-v-2.result ≡ before a.planform a.points.now a.x_m a.height_m = rw (c.first_refusal-v-2.ensures, c.check_length-2.ensures, c.first_refusal-v.ensures, c.check_length.ensures, c.check_planform-v.ensures.is) in it)) ∙ c.in_default.is in
     let points = a.points.now in
     let taken = subst (λ (p : Planform). planform_check p points ≡ Accepted) c.in-Outline.is
     (planform_accepted a.planform points a.x_m a.height_m ok) in
@@ -54,12 +54,12 @@ returns-in-Trapezoid c =
     is_answer
     (c.drill_trapezoid.ensures
     ∙ ap (λ (p : Planform). in_steps (corners_of p points) (exact_of a.x_m) (exact_of a.height_m)) (sym e)
-    ∙ in_steps_lem a.planform points a.x_m a.height_m ((let it : let a = c.args in before a.planform a.points.now a.x_m a.height_m ≡ Accepted = sym ((let it : let a = c.args in c.first_refusal-v-2.result ≡ before a.planform a.points.now a.x_m a.height_m = rw ( c.first_refusal-v-2.ensures, c.check_length-2.ensures, c.first_refusal-v.ensures, c.check_length.ensures, c.check_planform-v.ensures.is, ) in it)) ∙ c.in_default.is in it)) (ap has_corners e))
+    ∙ in_steps_lem a.planform points a.x_m a.height_m ((let it : let a = c.args in before a.planform a.points.now a.x_m a.height_m ≡ Accepted = sym ((let it : let a = c.args in c.first_refusal-v-2.result ≡ before a.planform a.points.now a.x_m a.height_m = rw (c.first_refusal-v-2.ensures, c.check_length-2.ensures, c.first_refusal-v.ensures, c.check_length.ensures, c.check_planform-v.ensures.is) in it)) ∙ c.in_default.is in it)) (ap has_corners e))
 
 pub returns-in-Ellipse : goal.returns-in-Ellipse
 returns-in-Ellipse c =
     let a = c.args in
-    is_answer (no_corners a.planform a.points.now a.x_m a.height_m ((let it : let a = c.args in before a.planform a.points.now a.x_m a.height_m ≡ Accepted = sym ((let it : let a = c.args in c.first_refusal-v-2.result ≡ before a.planform a.points.now a.x_m a.height_m = rw ( c.first_refusal-v-2.ensures, c.check_length-2.ensures, c.first_refusal-v.ensures, c.check_length.ensures, c.check_planform-v.ensures.is, ) in it)) ∙ c.in_default.is in it))
+    is_answer (no_corners a.planform a.points.now a.x_m a.height_m ((let it : let a = c.args in before a.planform a.points.now a.x_m a.height_m ≡ Accepted = sym ((let it : let a = c.args in c.first_refusal-v-2.result ≡ before a.planform a.points.now a.x_m a.height_m = rw (c.first_refusal-v-2.ensures, c.check_length-2.ensures, c.first_refusal-v.ensures, c.check_length.ensures, c.check_planform-v.ensures.is) in it)) ∙ c.in_default.is in it))
     (ap has_corners c.in-Ellipse.is))
 
 pub returns-in-Outline : goal.returns-in-Outline
@@ -70,4 +70,4 @@ returns-in-Outline c =
     is_answer
     (c.drill_outline.ensures
     ∙ ap (λ (p : Planform). in_steps (corners_of p points) (exact_of a.x_m) (exact_of a.height_m)) (sym e)
-    ∙ in_steps_lem a.planform points a.x_m a.height_m ((let it : let a = c.args in before a.planform a.points.now a.x_m a.height_m ≡ Accepted = sym ((let it : let a = c.args in c.first_refusal-v-2.result ≡ before a.planform a.points.now a.x_m a.height_m = rw ( c.first_refusal-v-2.ensures, c.check_length-2.ensures, c.first_refusal-v.ensures, c.check_length.ensures, c.check_planform-v.ensures.is, ) in it)) ∙ c.in_default.is in it)) (ap has_corners e))
+    ∙ in_steps_lem a.planform points a.x_m a.height_m ((let it : let a = c.args in before a.planform a.points.now a.x_m a.height_m ≡ Accepted = sym ((let it : let a = c.args in c.first_refusal-v-2.result ≡ before a.planform a.points.now a.x_m a.height_m = rw (c.first_refusal-v-2.ensures, c.check_length-2.ensures, c.first_refusal-v.ensures, c.check_length.ensures, c.check_planform-v.ensures.is) in it)) ∙ c.in_default.is in it)) (ap has_corners e))

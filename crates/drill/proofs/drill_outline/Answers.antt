@@ -4,7 +4,6 @@ use mathlib.Core.List.{◌∷◌, map}
 use mathlib.Core.Path.{◌≡◌, sym, ap, ◌∙◌}
 use Prim.Native.Nat.{suc}
 use native.Mathlib.Omega.{arith}
-use borrow.Author.Rules.{rules}
 use lib.ListN.{length, length-map}
 use Rattle.steps.specs.Steps.{exact_of, steps_of}
 use Rattle.drill.specs.Drill.{are_whole}
@@ -12,7 +11,6 @@ use Rattle.drill.specs.InSteps.{AreLengths}
 use Rattle.drill.proofs.Reach.{all_reach, steps_back, steps_reach}
 use Rattle.drill.proofs.Wholes.{two_in_front, refused, placed}
 use Rattle.drill.proofs.drill_outline.Goals as goal
-use Rattle.drill.proofs.drill_outline.Goals.{After-corners-1, Start}
 
 pub is_whole-requires : goal.is_whole-requires
 is_whole-requires c = c.requires.0 0 (omega arith)
@@ -29,10 +27,6 @@ returns-then-not-is_whole-are_whole c = refused _ _ _ ((let it : let a = c.args 
 pub steps_of-corners-requires : goal.steps_of-corners-requires
 steps_of-corners-requires c = ((let it : AreLengths c.args.points.now = λ k h. c.requires.0 (suc (suc k)) (omega arith) in it), c.requires.1)
 
--- The needs below go back to these places.
-abbrev the-start : After-corners-1 → Start
-the-start c = c.before.before.before.before.before.before.before
-
 pub slice_bounds-place-end : goal.slice_bounds-place-end
 slice_bounds-place-end c =
     let points = c.args.points.now in
@@ -46,7 +40,6 @@ steps-requires-2 c = c.requires.0 1 (omega arith)
 
 pub place-requires : goal.place-requires
 place-requires c =
-    let at = the-start c.before.before in
     let points = c.args.points.now in
     let corners = c.steps_of-corners.ensures in
     let x = c.steps in

@@ -31,15 +31,15 @@ pub is_whole-requires-6 : goal.is_whole-requires-6
 is_whole-requires-6 c = c.requires 0 (omega arith)
 
 pub returns-then-not-point-tip : goal.returns-then-not-point-tip
-returns-then-not-point-tip c = refused _ _ _ ((let it : let a = c.args in (c.is_whole.result && c.is_whole-2.result && (c.is_whole-3.result && c.is_whole-4.result && c.is_whole-5.result) && c.is_whole-6.result) ≡ are_whole (exact_of a.x_m ∷ exact_of a.height_m ∷ corners_of (Trapezoid a.root_chord_m a.tip_chord_m a.span_m a.sweep_m) []) = let a = c.args in rw ( c.is_whole.ensures, c.is_whole-2.ensures, c.is_whole-3.ensures, c.is_whole-4.ensures, c.is_whole-5.ensures, c.is_whole-6.ensures, ) (sym (trapezoid (exact_of a.x_m) (exact_of a.height_m) (exact_of a.sweep_m) (exact_of a.span_m) (exact_of a.tip_chord_m) (exact_of a.root_chord_m))) in it)) c.if-not-point-tip.true-raw
+returns-then-not-point-tip c = refused _ _ _ ((let it : let a = c.args in (c.is_whole.result && c.is_whole-2.result && (c.is_whole-3.result && c.is_whole-4.result && c.is_whole-5.result) && c.is_whole-6.result) ≡ are_whole (exact_of a.x_m ∷ exact_of a.height_m ∷ corners_of (Trapezoid a.root_chord_m a.tip_chord_m a.span_m a.sweep_m) []) = let a = c.args in rw (c.is_whole.ensures, c.is_whole-2.ensures, c.is_whole-3.ensures, c.is_whole-4.ensures, c.is_whole-5.ensures, c.is_whole-6.ensures) (sym (trapezoid (exact_of a.x_m) (exact_of a.height_m) (exact_of a.sweep_m) (exact_of a.span_m) (exact_of a.tip_chord_m) (exact_of a.root_chord_m))) in it)) c.if-not-point-tip.true-raw
 
 pub trapezoid_corners-corners-requires : goal.trapezoid_corners-corners-requires
 trapezoid_corners-corners-requires c =
-    let a = c.args in (
+    let a = c.args in
+    let w : let a = c.args in (is_whole (exact_of a.sweep_m) ≡ true) × (is_whole (exact_of a.tip_chord_m) ≡ true) = let point = c.is_whole.result && c.is_whole-2.result in let top = c.is_whole-3.result && c.is_whole-4.result in let tip = c.is_whole-5.result in let all = both_true (point && (top && tip)) c.is_whole-6.result (not_false (point && (top && tip) && c.is_whole-6.result) c.if-not-point-tip.false-raw) in let both = both_true top tip (both_true point (top && tip) all.0).1 in (sym c.is_whole-3.ensures ∙ (both_true c.is_whole-3.result c.is_whole-4.result both.0).0, sym c.is_whole-5.ensures ∙ both.1) in (
       four a.root_chord_m a.tip_chord_m a.span_m a.sweep_m a.x_m a.height_m c.requires,
-      ((let it : let a = c.args in (is_whole (exact_of a.sweep_m) ≡ true) × (is_whole (exact_of a.tip_chord_m) ≡ true) = let point = c.is_whole.result && c.is_whole-2.result in let top = c.is_whole-3.result && c.is_whole-4.result in let tip = c.is_whole-5.result in let all = both_true (point && (top && tip)) c.is_whole-6.result (not_false (point && (top && tip) && c.is_whole-6.result) c.if-not-point-tip.false-raw) in let both = both_true top tip (both_true point (top && tip) all.0).1 in ( sym c.is_whole-3.ensures ∙ (both_true c.is_whole-3.result c.is_whole-4.result both.0).0, sym c.is_whole-5.ensures ∙ both.1, ) in it)).0,
-      (tip_whole
-          c).1,
+      w.0,
+      w.1,
     )
 
 pub steps-requires : goal.steps-requires
@@ -54,7 +54,7 @@ place-requires c =
     let corners = c.trapezoid_corners-corners in
     let x = c.steps in
     let height = c.steps-2 in
-    let w : let a = c.args in (is_whole (exact_of a.sweep_m) ≡ true) × (is_whole (exact_of a.tip_chord_m) ≡ true) = let point = c.is_whole.result && c.is_whole-2.result in let top = c.is_whole-3.result && c.is_whole-4.result in let tip = c.is_whole-5.result in let all = both_true (point && (top && tip)) c.is_whole-6.result (not_false (point && (top && tip) && c.is_whole-6.result) c.if-not-point-tip.false-raw) in let both = both_true top tip (both_true point (top && tip) all.0).1 in ( sym c.is_whole-3.ensures ∙ (both_true c.is_whole-3.result c.is_whole-4.result both.0).0, sym c.is_whole-5.ensures ∙ both.1, ) in (
+    let w : let a = c.args in (is_whole (exact_of a.sweep_m) ≡ true) × (is_whole (exact_of a.tip_chord_m) ≡ true) = let point = c.is_whole.result && c.is_whole-2.result in let top = c.is_whole-3.result && c.is_whole-4.result in let tip = c.is_whole-5.result in let all = both_true (point && (top && tip)) c.is_whole-6.result (not_false (point && (top && tip) && c.is_whole-6.result) c.if-not-point-tip.false-raw) in let both = both_true top tip (both_true point (top && tip) all.0).1 in (sym c.is_whole-3.ensures ∙ (both_true c.is_whole-3.result c.is_whole-4.result both.0).0, sym c.is_whole-5.ensures ∙ both.1) in (
       rw corners.ensures (omega arith),
       record {
         all = rw corners.ensures
@@ -70,5 +70,5 @@ returns c =
     let x = c.steps in
     let height = c.steps-2 in
     let corners = c.trapezoid_corners-corners.ensures in
-    c.place.ensures ∙ placed _ _ _ ((let it : let a = c.args in (c.is_whole.result && c.is_whole-2.result && (c.is_whole-3.result && c.is_whole-4.result && c.is_whole-5.result) && c.is_whole-6.result) ≡ are_whole (exact_of a.x_m ∷ exact_of a.height_m ∷ corners_of (Trapezoid a.root_chord_m a.tip_chord_m a.span_m a.sweep_m) []) = let a = c.args in rw ( c.is_whole.ensures, c.is_whole-2.ensures, c.is_whole-3.ensures, c.is_whole-4.ensures, c.is_whole-5.ensures, c.is_whole-6.ensures, ) (sym (trapezoid (exact_of a.x_m) (exact_of a.height_m) (exact_of a.sweep_m) (exact_of a.span_m) (exact_of a.tip_chord_m) (exact_of a.root_chord_m))) in it)) c.if-not-point-tip.false-raw corners (steps_back x.type_inv x.ensures)
+    c.place.ensures ∙ placed _ _ _ ((let it : let a = c.args in (c.is_whole.result && c.is_whole-2.result && (c.is_whole-3.result && c.is_whole-4.result && c.is_whole-5.result) && c.is_whole-6.result) ≡ are_whole (exact_of a.x_m ∷ exact_of a.height_m ∷ corners_of (Trapezoid a.root_chord_m a.tip_chord_m a.span_m a.sweep_m) []) = let a = c.args in rw (c.is_whole.ensures, c.is_whole-2.ensures, c.is_whole-3.ensures, c.is_whole-4.ensures, c.is_whole-5.ensures, c.is_whole-6.ensures) (sym (trapezoid (exact_of a.x_m) (exact_of a.height_m) (exact_of a.sweep_m) (exact_of a.span_m) (exact_of a.tip_chord_m) (exact_of a.root_chord_m))) in it)) c.if-not-point-tip.false-raw corners (steps_back x.type_inv x.ensures)
     (steps_back height.type_inv height.ensures)

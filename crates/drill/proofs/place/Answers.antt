@@ -1,13 +1,7 @@
 -- `drill::place` meets its contract: its tests are the definition's, in its order. Assumes nothing.
-use mathlib.Core.Bool.{Bool, true, false, cond}
-use mathlib.Core.List.{List}
-use mathlib.Core.Path.{◌≡◌, sym, ap, ◌∙◌}
-use Prim.Native.Nat.{ℕ}
-use lib.IntN.{ℤ}
+use mathlib.Core.Path.{◌≡◌, sym, ◌∙◌}
 use mir.Facts.{to_z-of_z}
 use Rattle.polygons.specs.Polygons.{is_on_edge, is_inside, nearest_corner}
-use Rattle.drill.specs.declared.Answer.{Answer}
-use Rattle.drill.specs.declared.Answer.TheVariants.{Inside, Edge, Outside}
 use Rattle.drill.specs.Drill.{place_of}
 use Rattle.drill.proofs.place.Goals as goal
 

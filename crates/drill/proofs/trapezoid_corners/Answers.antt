@@ -1,9 +1,7 @@
 -- `drill::trapezoid_corners` meets its contract: each coordinate in steps, and the tip's end their sum. Assumes nothing.
-use mathlib.Core.Path.{◌≡◌, refl}
 use native.Mathlib.Omega.{arith}
-use lib.IntN.{pos}
 use Rattle.polygons.proofs.Sizes.{result_back}
-use Rattle.steps.specs.Steps.{exact_of, steps_of}
+use Rattle.steps.specs.Steps.{exact_of}
 use Rattle.steps.proofs.Lengths.{few_steps}
 use Rattle.steps.proofs.Sums.{steps_of_sum}
 use Rattle.drill.proofs.Reach.{steps_of_zero}

@@ -1,0 +1,19 @@
+-- `jobs::change_by_value` meets its contract: ended, taken or refused. Assumes nothing.
+use mathlib.Core.Path.{sym, ◌∙◌}
+use Rattle.refusals.proofs.Given.{is_answer}
+use Rattle.jobs.proofs.Laws.{change_ended, change_refused, change_taken}
+use borrow.Author.Rules.{rules}
+use Rattle.jobs.proofs.change_by_value.Goals as goal
+
+pub returns-then-over : goal.returns-then-over
+returns-then-over c = is_answer (c.keep_density.ensures ∙ sym (change_ended _ _ c.if-over.true))
+
+pub returns-in-Accepted : goal.returns-in-Accepted
+returns-in-Accepted c =
+    is_answer (c.take_density.ensures
+    ∙ sym (change_taken _ _ c.if-over.false (sym c.check_density-verdict.ensures ∙ c.in-Accepted.is)))
+
+pub returns-in-Refused : goal.returns-in-Refused
+returns-in-Refused c =
+    is_answer (c.keep_density-in-Refused.ensures
+    ∙ sym (change_refused _ _ _ c.if-over.false (sym c.check_density-verdict.ensures ∙ c.in-Refused.is)))

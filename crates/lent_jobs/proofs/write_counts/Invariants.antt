@@ -1,0 +1,15 @@
+-- `lent_jobs::write_counts` meets its contract: after i turns the first i counts are written. Assumes nothing.
+use mathlib.Core.Path.{◌≡◌, ap, ◌∙◌}
+use Prim.Native.Nat.{◌-◌, ◌≤◌}
+use native.Mathlib.Omega.{arith}
+use native.Mathlib.Nat.{le_antisymm}
+use lib.ListN.{length}
+use lib.Seq.{paste, paste-zero}
+use Rattle.lent_jobs.proofs.Copying.{one_more_first, same_count}
+use Rattle.lent_jobs.proofs.write_counts.Given as goal
+
+abbrev pub invariant-loop-i : goal.invariant-loop-i
+invariant-loop-i l = (l.i ≤ length l.written) × (l.counts ≡ paste l.initial.counts 0 l.written l.i)
+
+abbrev pub decreases-loop-i : goal.decreases-loop-i
+decreases-loop-i l = length l.written - l.i

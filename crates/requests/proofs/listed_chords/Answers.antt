@@ -1,0 +1,16 @@
+-- `requests::listed_chords` meets its contract: each arm knows its case. Assumes nothing.
+use mathlib.Core.Path.{refl}
+use Rattle.requests.specs.Calls.{numbered_chords}
+use Rattle.requests.proofs.listed_chords.Goals as goal
+
+pub returns-in-Known : goal.returns-in-Known
+unfolding numbered_chords
+returns-in-Known c =
+    let told = c.in-Known.is in
+    rw told (c.chords_at.ensures.chord_list.is, c.chords_at.ensures.ends_after)
+
+pub returns-in-Unknown : goal.returns-in-Unknown
+unfolding numbered_chords
+returns-in-Unknown c =
+    let told = c.in-Unknown.is in
+    rw told (c.no_chords.ensures, refl)

@@ -1,0 +1,11 @@
+-- `test_sets::fraction` is safe: the number is small. Assumes nothing.
+use Prim.Native.Nat.{◌%◌, ◌^◌}
+use native.Mathlib.Omega.{arith}
+use borrow.Author.Rules.{rules}
+use lib.Dec.{le→leb}
+use lib.Ieee.{in_float}
+use Rattle.test_sets.proofs.fraction.Goals as goal
+
+pub int_to_float-result : goal.int_to_float-result
+unfolding in_float
+int_to_float-result c = le→leb (c.args.seed % 1048576) (2 ^ 53) (omega arith)
