@@ -2,9 +2,8 @@
 use mathlib.Core.Path.{◌≡◌, refl, sym, ap, subst, ◌∙◌}
 use mathlib.Core.Bool.{Bool, true, false, cond, ◌&&◌, ◌||◌}
 use mathlib.Core.List.{List, [], ◌∷◌, map}
-use mathlib.Core.Logic.{⊎_elim}
-use Prim.Native.Nat.{ℕ, zero, suc, ◌+◌, ◌-◌, ◌*◌, ◌/◌, ◌%◌, ◌≤◌, ◌<◌, zero-le}
-use native.Mathlib.Nat.{not-suc-le-zero, eq-or-lt_of_le}
+use Prim.Native.Nat.{ℕ, zero, suc, ◌+◌, ◌-◌, ◌*◌, ◌/◌, ◌%◌, ◌≤◌, ◌<◌}
+use native.Mathlib.Nat.{not-suc-le-zero}
 use native.Mathlib.Omega.{arith}
 use borrow.Author.Tests.{eqb-true}
 use lib.Dec.{T, leb, eqb}
@@ -16,16 +15,16 @@ use Rattle.refusals.specs.declared.Refusal.{Refusal}
 use Rattle.refusals.specs.declared.Refusal.TheVariants.{Length, NoCorners, NotWholeSteps}
 use Rattle.refusals.specs.declared.Verdict.{Verdict}
 use Rattle.refusals.specs.declared.Verdict.TheVariants.{Accepted, Refused as refused_verdict}
-use Rattle.refusals.specs.Order.{refuse_unless, first_refusal, first_from, first_between}
+use Rattle.refusals.specs.Order.{refuse_unless, first_refusal, first_from}
 use Rattle.refusals.proofs.Accepted.{holds, both, both_true}
 use Rattle.refusals.proofs.Order.{in_order, after_accepted, after_refused}
 use Rattle.planforms.specs.declared.Planform.{Planform}
-use Rattle.planforms.specs.declared.Planform.TheVariants.{Trapezoid, Ellipse, Outline}
+use Rattle.planforms.specs.declared.Planform.TheVariants.{Trapezoid}
 use Rattle.planforms.specs.Planforms.{pair_count}
 use Rattle.limits.specs.Limits.{most_points, outline_numbers, zero_allowed, negative_allowed, shortest, longest, is_within, length_within}
 use Rattle.limits.specs.Limits.{length_check, drill_xfield, drill_height_field, root_chord_field, tip_chord_field, span_field, sweep_field}
 use Rattle.limits.specs.Limits.{point_xfield, point_yfield}
-use Rattle.outlines.specs.Outlines.{are_pairs, point_check, points_check, outline_check}
+use Rattle.outlines.specs.Outlines.{are_pairs, point_check, outline_check}
 use Rattle.outlines.proofs.Accepted.{points_within}
 use Rattle.outlines.specs.Outlines.{planform_check}
 use Rattle.steps.specs.Parts.{IsLength}
@@ -34,7 +33,7 @@ use Rattle.drill.specs.declared.Answer.{Answer}
 use Rattle.drill.specs.declared.Answer.TheVariants.{Refused}
 use Rattle.drill.specs.Drill.{corners_of, has_corners, are_whole, place_of, drill_check, unless_refused, drill_of}
 use Rattle.drill.specs.InSteps.{AreLengths, in_steps}
-use Rattle.drill.proofs.Reach.{none, one_more}
+use Rattle.drill.proofs.Reach.{one_more}
 
 -- ---- the answer, by the verdict of the planform and the point's limits
 
@@ -55,6 +54,11 @@ module _ (planform : Planform) (points : List Float) (x height : Float) where
 
   pub refused : (r : Refusal) → before ≡ refused_verdict r → Refused r ≡ drill_of planform points x height
   refused r h = sym (split ∙ rw (h, after_refused, after_refused))
+
+  -- p, l and m are what the code's checks say, u and w the verdict after the second and the third
+  pub told : {p l m u w : Verdict} → p ≡ planform_check planform points → l ≡ length_check drill_xfield x → u ≡ first_refusal p l
+      → m ≡ length_check drill_height_field height → w ≡ first_refusal u m → w ≡ before
+  told e f g h i = rw (i, h, g, f, e)
 
   module _ (accepted : before ≡ Accepted) where
     pub no_corners : has_corners planform ≡ false → Refused NoCorners ≡ drill_of planform points x height

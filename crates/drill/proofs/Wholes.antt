@@ -3,16 +3,27 @@
 use mathlib.Core.Path.{◌≡◌, refl, sym, ap, ◌∙◌}
 use mathlib.Core.Bool.{Bool, true, false, not, ◌&&◌}
 use mathlib.Core.List.{List, [], ◌∷◌, map}
-use Prim.Native.Nat.{ℕ, zero, suc, ◌+◌}
+use Prim.Native.Nat.{ℕ, zero, suc}
 use lib.IntN.{ℤ, pos, ◌+ℤ◌}
 use lib.ListN.{length, get_or}
 use Rattle.floats.specs.Operations.{every}
 use Rattle.refusals.specs.declared.Refusal.TheVariants.{NotWholeSteps}
+use Rattle.refusals.proofs.Accepted.{both_true}
 use Rattle.steps.specs.Steps.{is_whole, steps_of}
 use Rattle.steps.proofs.Sums.{whole_part}
 use Rattle.drill.specs.declared.Answer.TheVariants.{Refused}
 use Rattle.drill.specs.Drill.{are_whole, place_of}
 use Rattle.drill.specs.InSteps.{in_steps}
+
+-- ---- a test and its opposite
+
+pub not_true : (t : Bool) → not t ≡ true → t ≡ false
+not_true true h = sym h
+not_true false h = refl
+
+pub not_false : (t : Bool) → not t ≡ false → t ≡ true
+not_false true h = refl
+not_false false h = sym h
 
 -- ---- a trapezoid
 
@@ -33,6 +44,21 @@ pub trapezoid : (x h w s t r : ℤ) → are_whole (x ∷ h ∷ pos 0 ∷ pos 0 �
     ≡ (is_whole x && is_whole h && (is_whole w && is_whole s && is_whole t) && is_whole r)
 unfolding are_whole every is_whole
 trapezoid x h w s t r = by_cases (is_whole x) (is_whole h) (is_whole w) (is_whole s) (is_whole (w +ℤ t)) (is_whole t) (is_whole r) (whole_part w t)
+
+-- the code's test of a trapezoid, and what it leaves of sweep and tip where it holds
+module _ (x h w s t r : ℤ) {a b c d e f : Bool} (xs : a ≡ is_whole x) (hs : b ≡ is_whole h) (ws : c ≡ is_whole w)
+    (ss : d ≡ is_whole s) (ts : e ≡ is_whole t) (rs : f ≡ is_whole r) where
+  pub trapezoid_tested : (a && b && (c && d && e) && f)
+      ≡ are_whole (x ∷ h ∷ pos 0 ∷ pos 0 ∷ w ∷ s ∷ (w +ℤ t) ∷ s ∷ r ∷ pos 0 ∷ [])
+  trapezoid_tested = rw (xs, hs, ws, ss, ts, rs) (sym (trapezoid x h w s t r))
+
+  pub tip_whole : not (a && b && (c && d && e) && f) ≡ false → (is_whole w ≡ true) × (is_whole t ≡ true)
+  tip_whole o =
+      let all = both_true (a && b && (c && d && e)) f (not_false (a && b && (c && d && e) && f) o) in
+      let both = both_true (c && d) e (both_true (a && b) (c && d && e) all.0).1 in (
+        sym ws ∙ (both_true c d both.0).0,
+        sym ts ∙ both.1,
+      )
 
 -- ---- a list
 
@@ -57,15 +83,10 @@ pub two_in_front : (x h : ℤ) (l : List ℤ) → are_whole (x ∷ h ∷ l) ≡ 
 two_in_front x h l = one_in_front x (h ∷ l) ∙ ap (λ (b : Bool). is_whole x && b) (one_in_front h l)
     ∙ sym (and_assoc (is_whole x) (is_whole h) (are_whole l))
 
--- ---- a test and its opposite
-
-pub not_true : (t : Bool) → not t ≡ true → t ≡ false
-not_true true h = sym h
-not_true false h = refl
-
-pub not_false : (t : Bool) → not t ≡ false → t ≡ true
-not_false true h = refl
-not_false false h = sym h
+-- the code's test of an outline
+pub outline_tested : (x h : ℤ) (l : List ℤ) {a b c : Bool} → a ≡ is_whole x → b ≡ is_whole h → c ≡ are_whole l
+    → (a && b && c) ≡ are_whole (x ∷ h ∷ l)
+outline_tested x h l xs hs ls = rw (xs, hs, ls) (sym (two_in_front x h l))
 
 -- ---- the answer, whichever way the test t went
 

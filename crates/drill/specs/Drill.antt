@@ -1,7 +1,6 @@
 -- Where may I drill? (document 02, Paper 11)
-use Rattle.std.specs.Prelude.{Bool, true, false, cond, ◌&&◌, List, [], ◌∷◌, map, ℕ, ℤ, pos, ◌+ℤ◌, length, get_or, Float}
+use Rattle.std.specs.Prelude.{Bool, true, false, cond, List, [], ◌∷◌, map, ℕ, ℤ, pos, ◌+ℤ◌, length, get_or, Float}
 use Rattle.floats.specs.Operations.{every}
-use Rattle.refusals.specs.declared.Refusal.{Refusal}
 use Rattle.refusals.specs.declared.Refusal.TheVariants.{NoCorners, NotWholeSteps}
 use Rattle.refusals.specs.declared.Verdict.{Verdict}
 use Rattle.refusals.specs.declared.Verdict.TheVariants.{Accepted, Refused as refused_verdict}

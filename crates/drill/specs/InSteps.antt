@@ -1,9 +1,9 @@
 -- What the functions that `drill` calls take, once its checks have passed, and what they give.
-use Rattle.std.specs.Prelude.{Bool, true, cond, List, ◌∷◌, map, ◌≡◌, ℕ, ◌<◌, ℤ, length, Float}
+use Rattle.std.specs.Prelude.{cond, List, ◌∷◌, map, ℕ, ◌<◌, ℤ, length, Float}
 use Rattle.floats.specs.Operations.{at}
 use Rattle.refusals.specs.declared.Refusal.TheVariants.{NotWholeSteps}
 use Rattle.steps.specs.Parts.{IsLength}
-use Rattle.steps.specs.Steps.{exact_of, is_whole, steps_of}
+use Rattle.steps.specs.Steps.{steps_of}
 use Rattle.drill.specs.declared.Answer.{Answer}
 use Rattle.drill.specs.declared.Answer.TheVariants.{Refused}
 use Rattle.drill.specs.Drill.{are_whole, place_of}

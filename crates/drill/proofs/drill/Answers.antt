@@ -1,7 +1,6 @@
 -- `drill::drill` meets its contract: its checks are the definition's, in its order, and each arm knows its planform. Assumes nothing.
 use mathlib.Core.List.{[], ◌∷◌}
 use mathlib.Core.Path.{◌≡◌, sym, ap, subst, ◌∙◌}
-use borrow.Author.Rules.{rules}
 use Rattle.refusals.specs.declared.Verdict.TheVariants.{Accepted}
 use Rattle.refusals.proofs.Given.{is_answer}
 use Rattle.planforms.specs.declared.Planform.{Planform}
@@ -10,20 +9,23 @@ use Rattle.steps.specs.Steps.{exact_of}
 use Rattle.drill.specs.Drill.{corners_of, has_corners}
 use Rattle.drill.specs.InSteps.{in_steps}
 use Rattle.drill.proofs.Reach.{none, one_more}
-use Rattle.drill.proofs.Checks.{before, refused, no_corners, in_steps_lem, planform_accepted, x_length, height_length, trapezoid_lengths}
-use Rattle.drill.proofs.Checks.{outline_lengths, outline_fits}
+use Rattle.drill.proofs.Checks.{before, told, refused, no_corners, in_steps_lem, planform_accepted, x_length, height_length}
+use Rattle.drill.proofs.Checks.{trapezoid_lengths, outline_lengths, outline_fits}
 use Rattle.drill.proofs.drill.Goals as goal
 
 pub returns-in-Refused : goal.returns-in-Refused
 returns-in-Refused c =
     let a = c.args in
     is_answer (refused a.planform a.points.now a.x_m a.height_m _
-    (sym ((let it : let a = c.args in c.first_refusal-v-2.result ≡ before a.planform a.points.now a.x_m a.height_m = rw (c.first_refusal-v-2.ensures, c.check_length-2.ensures, c.first_refusal-v.ensures, c.check_length.ensures, c.check_planform-v.ensures.is) in it)) ∙ c.in-Refused.is))
+    (sym (told a.planform a.points.now a.x_m a.height_m c.check_planform-v.ensures.is c.check_length.ensures c.first_refusal-v.ensures
+    c.check_length-2.ensures c.first_refusal-v-2.ensures) ∙ c.in-Refused.is))
 
 pub drill_trapezoid-requires : goal.drill_trapezoid-requires
 drill_trapezoid-requires c =
     let a = c.args in
-    let ok : let a = c.args in before a.planform a.points.now a.x_m a.height_m ≡ Accepted = sym ((let it : let a = c.args in c.first_refusal-v-2.result ≡ before a.planform a.points.now a.x_m a.height_m = rw (c.first_refusal-v-2.ensures, c.check_length-2.ensures, c.first_refusal-v.ensures, c.check_length.ensures, c.check_planform-v.ensures.is) in it)) ∙ c.in_default.is in
+    let ok : before a.planform a.points.now a.x_m a.height_m ≡ Accepted =
+    sym (told a.planform a.points.now a.x_m a.height_m c.check_planform-v.ensures.is c.check_length.ensures c.first_refusal-v.ensures
+    c.check_length-2.ensures c.first_refusal-v-2.ensures) ∙ c.in_default.is in
     let points = a.points.now in
     let taken = planform_accepted a.planform points a.x_m a.height_m ok in
     trapezoid_lengths _ _ _ _ points (a.x_m ∷ a.height_m ∷ [])
@@ -35,7 +37,9 @@ pub drill_outline-requires : goal.drill_outline-requires
 unfolding planform_check
 drill_outline-requires c =
     let a = c.args in
-    let ok : let a = c.args in before a.planform a.points.now a.x_m a.height_m ≡ Accepted = sym ((let it : let a = c.args in c.first_refusal-v-2.result ≡ before a.planform a.points.now a.x_m a.height_m = rw (c.first_refusal-v-2.ensures, c.check_length-2.ensures, c.first_refusal-v.ensures, c.check_length.ensures, c.check_planform-v.ensures.is) in it)) ∙ c.in_default.is in
+    let ok : before a.planform a.points.now a.x_m a.height_m ≡ Accepted =
+    sym (told a.planform a.points.now a.x_m a.height_m c.check_planform-v.ensures.is c.check_length.ensures c.first_refusal-v.ensures
+    c.check_length-2.ensures c.first_refusal-v-2.ensures) ∙ c.in_default.is in
     let points = a.points.now in
     let taken = subst (λ (p : Planform). planform_check p points ≡ Accepted) c.in-Outline.is
     (planform_accepted a.planform points a.x_m a.height_m ok) in
@@ -49,25 +53,33 @@ drill_outline-requires c =
 pub returns-in-Trapezoid : goal.returns-in-Trapezoid
 returns-in-Trapezoid c =
     let a = c.args in
+    let ok : before a.planform a.points.now a.x_m a.height_m ≡ Accepted =
+    sym (told a.planform a.points.now a.x_m a.height_m c.check_planform-v.ensures.is c.check_length.ensures c.first_refusal-v.ensures
+    c.check_length-2.ensures c.first_refusal-v-2.ensures) ∙ c.in_default.is in
     let points = a.points.now in
     let e = c.in-Trapezoid.is in
     is_answer
     (c.drill_trapezoid.ensures
     ∙ ap (λ (p : Planform). in_steps (corners_of p points) (exact_of a.x_m) (exact_of a.height_m)) (sym e)
-    ∙ in_steps_lem a.planform points a.x_m a.height_m ((let it : let a = c.args in before a.planform a.points.now a.x_m a.height_m ≡ Accepted = sym ((let it : let a = c.args in c.first_refusal-v-2.result ≡ before a.planform a.points.now a.x_m a.height_m = rw (c.first_refusal-v-2.ensures, c.check_length-2.ensures, c.first_refusal-v.ensures, c.check_length.ensures, c.check_planform-v.ensures.is) in it)) ∙ c.in_default.is in it)) (ap has_corners e))
+    ∙ in_steps_lem a.planform points a.x_m a.height_m ok (ap has_corners e))
 
 pub returns-in-Ellipse : goal.returns-in-Ellipse
 returns-in-Ellipse c =
     let a = c.args in
-    is_answer (no_corners a.planform a.points.now a.x_m a.height_m ((let it : let a = c.args in before a.planform a.points.now a.x_m a.height_m ≡ Accepted = sym ((let it : let a = c.args in c.first_refusal-v-2.result ≡ before a.planform a.points.now a.x_m a.height_m = rw (c.first_refusal-v-2.ensures, c.check_length-2.ensures, c.first_refusal-v.ensures, c.check_length.ensures, c.check_planform-v.ensures.is) in it)) ∙ c.in_default.is in it))
-    (ap has_corners c.in-Ellipse.is))
+    let ok : before a.planform a.points.now a.x_m a.height_m ≡ Accepted =
+    sym (told a.planform a.points.now a.x_m a.height_m c.check_planform-v.ensures.is c.check_length.ensures c.first_refusal-v.ensures
+    c.check_length-2.ensures c.first_refusal-v-2.ensures) ∙ c.in_default.is in
+    is_answer (no_corners a.planform a.points.now a.x_m a.height_m ok (ap has_corners c.in-Ellipse.is))
 
 pub returns-in-Outline : goal.returns-in-Outline
 returns-in-Outline c =
     let a = c.args in
+    let ok : before a.planform a.points.now a.x_m a.height_m ≡ Accepted =
+    sym (told a.planform a.points.now a.x_m a.height_m c.check_planform-v.ensures.is c.check_length.ensures c.first_refusal-v.ensures
+    c.check_length-2.ensures c.first_refusal-v-2.ensures) ∙ c.in_default.is in
     let points = a.points.now in
     let e = c.in-Outline.is in
     is_answer
     (c.drill_outline.ensures
     ∙ ap (λ (p : Planform). in_steps (corners_of p points) (exact_of a.x_m) (exact_of a.height_m)) (sym e)
-    ∙ in_steps_lem a.planform points a.x_m a.height_m ((let it : let a = c.args in before a.planform a.points.now a.x_m a.height_m ≡ Accepted = sym ((let it : let a = c.args in c.first_refusal-v-2.result ≡ before a.planform a.points.now a.x_m a.height_m = rw (c.first_refusal-v-2.ensures, c.check_length-2.ensures, c.first_refusal-v.ensures, c.check_length.ensures, c.check_planform-v.ensures.is) in it)) ∙ c.in_default.is in it)) (ap has_corners e))
+    ∙ in_steps_lem a.planform points a.x_m a.height_m ok (ap has_corners e))

@@ -1,15 +1,12 @@
 -- `drill::drill_outline` meets its contract: the corners in steps are the array's first numbers. Assumes nothing.
-use mathlib.Core.Bool.{◌&&◌}
-use mathlib.Core.List.{◌∷◌, map}
-use mathlib.Core.Path.{◌≡◌, sym, ap, ◌∙◌}
+use mathlib.Core.List.{map}
+use mathlib.Core.Path.{sym, ap, ◌∙◌}
 use Prim.Native.Nat.{suc}
 use native.Mathlib.Omega.{arith}
 use lib.ListN.{length, length-map}
 use Rattle.steps.specs.Steps.{exact_of, steps_of}
-use Rattle.drill.specs.Drill.{are_whole}
-use Rattle.drill.specs.InSteps.{AreLengths}
 use Rattle.drill.proofs.Reach.{all_reach, steps_back, steps_reach}
-use Rattle.drill.proofs.Wholes.{two_in_front, refused, placed}
+use Rattle.drill.proofs.Wholes.{outline_tested, refused, placed}
 use Rattle.drill.proofs.drill_outline.Goals as goal
 
 pub is_whole-requires : goal.is_whole-requires
@@ -19,13 +16,14 @@ pub is_whole-requires-2 : goal.is_whole-requires-2
 is_whole-requires-2 c = c.requires.0 1 (omega arith)
 
 pub are_whole-requires : goal.are_whole-requires
-are_whole-requires c = (let it : AreLengths c.args.points.now = λ k h. c.requires.0 (suc (suc k)) (omega arith) in it)
+are_whole-requires c = λ k h. c.requires.0 (suc (suc k)) (omega arith)
 
 pub returns-then-not-is_whole-are_whole : goal.returns-then-not-is_whole-are_whole
-returns-then-not-is_whole-are_whole c = refused _ _ _ ((let it : let a = c.args in (c.is_whole.result && c.is_whole-2.result && c.are_whole.result) ≡ are_whole (exact_of a.x_m ∷ exact_of a.height_m ∷ map exact_of a.points.now) = let a = c.args in rw (c.is_whole.ensures, c.is_whole-2.ensures, c.are_whole.ensures) (sym (two_in_front (exact_of a.x_m) (exact_of a.height_m) (map exact_of a.points.now))) in it)) c.if-not-is_whole-are_whole.true-raw
+returns-then-not-is_whole-are_whole c =
+    refused _ _ _ (outline_tested _ _ _ c.is_whole.ensures c.is_whole-2.ensures c.are_whole.ensures) c.if-not-is_whole-are_whole.true-raw
 
 pub steps_of-corners-requires : goal.steps_of-corners-requires
-steps_of-corners-requires c = ((let it : AreLengths c.args.points.now = λ k h. c.requires.0 (suc (suc k)) (omega arith) in it), c.requires.1)
+steps_of-corners-requires c = (λ k h. c.requires.0 (suc (suc k)) (omega arith), c.requires.1)
 
 pub slice_bounds-place-end : goal.slice_bounds-place-end
 slice_bounds-place-end c =
@@ -46,7 +44,7 @@ place-requires c =
     let height = c.steps-2 in (
       rw (corners, length-map (map exact_of points) steps_of, length-map points exact_of) c.requires.2,
       record {
-        all = rw corners (all_reach points ((let it : AreLengths c.args.points.now = λ k h. c.requires.0 (suc (suc k)) (omega arith) in it)));
+        all = rw corners (all_reach points (λ k h. c.requires.0 (suc (suc k)) (omega arith)));
         across = steps_reach _ x.type_inv x.ensures (c.requires.0 0 (omega arith));
         up = steps_reach _ height.type_inv height.ensures (c.requires.0 1 (omega arith));
       },
@@ -56,6 +54,7 @@ pub returns : goal.returns
 returns c =
     let x = c.steps in
     let height = c.steps-2 in
-    let corners = c.steps_of-corners.ensures in
-    c.place.ensures ∙ placed _ _ _ ((let it : let a = c.args in (c.is_whole.result && c.is_whole-2.result && c.are_whole.result) ≡ are_whole (exact_of a.x_m ∷ exact_of a.height_m ∷ map exact_of a.points.now) = let a = c.args in rw (c.is_whole.ensures, c.is_whole-2.ensures, c.are_whole.ensures) (sym (two_in_front (exact_of a.x_m) (exact_of a.height_m) (map exact_of a.points.now))) in it)) c.if-not-is_whole-are_whole.false-raw corners (steps_back x.type_inv x.ensures)
+    c.place.ensures
+    ∙ placed _ _ _ (outline_tested _ _ _ c.is_whole.ensures c.is_whole-2.ensures c.are_whole.ensures)
+    c.if-not-is_whole-are_whole.false-raw c.steps_of-corners.ensures (steps_back x.type_inv x.ensures)
     (steps_back height.type_inv height.ensures)

@@ -1,15 +1,9 @@
 -- `drill::drill_trapezoid` meets its contract: the corners are whole where the four lengths are. Assumes nothing.
-use mathlib.Core.Bool.{true, ◌&&◌}
 use mathlib.Core.List.{[], ◌∷◌}
-use mathlib.Core.Path.{◌≡◌, sym, ◌∙◌}
+use mathlib.Core.Path.{◌∙◌}
 use native.Mathlib.Omega.{arith}
-use borrow.Author.Rules.{rules}
-use Rattle.refusals.proofs.Accepted.{both_true}
-use Rattle.steps.specs.Steps.{exact_of, is_whole}
-use Rattle.planforms.specs.declared.Planform.TheVariants.{Trapezoid}
-use Rattle.drill.specs.Drill.{corners_of, are_whole}
 use Rattle.drill.proofs.Reach.{four, trapezoid_reach, steps_back, steps_reach}
-use Rattle.drill.proofs.Wholes.{trapezoid, not_false, refused, placed}
+use Rattle.drill.proofs.Wholes.{trapezoid_tested, tip_whole, refused, placed}
 use Rattle.drill.proofs.drill_trapezoid.Goals as goal
 
 pub is_whole-requires : goal.is_whole-requires
@@ -31,12 +25,17 @@ pub is_whole-requires-6 : goal.is_whole-requires-6
 is_whole-requires-6 c = c.requires 0 (omega arith)
 
 pub returns-then-not-point-tip : goal.returns-then-not-point-tip
-returns-then-not-point-tip c = refused _ _ _ ((let it : let a = c.args in (c.is_whole.result && c.is_whole-2.result && (c.is_whole-3.result && c.is_whole-4.result && c.is_whole-5.result) && c.is_whole-6.result) ≡ are_whole (exact_of a.x_m ∷ exact_of a.height_m ∷ corners_of (Trapezoid a.root_chord_m a.tip_chord_m a.span_m a.sweep_m) []) = let a = c.args in rw (c.is_whole.ensures, c.is_whole-2.ensures, c.is_whole-3.ensures, c.is_whole-4.ensures, c.is_whole-5.ensures, c.is_whole-6.ensures) (sym (trapezoid (exact_of a.x_m) (exact_of a.height_m) (exact_of a.sweep_m) (exact_of a.span_m) (exact_of a.tip_chord_m) (exact_of a.root_chord_m))) in it)) c.if-not-point-tip.true-raw
+returns-then-not-point-tip c =
+    refused _ _ _
+    (trapezoid_tested _ _ _ _ _ _ c.is_whole.ensures c.is_whole-2.ensures c.is_whole-3.ensures c.is_whole-4.ensures c.is_whole-5.ensures
+    c.is_whole-6.ensures)
+    c.if-not-point-tip.true-raw
 
 pub trapezoid_corners-corners-requires : goal.trapezoid_corners-corners-requires
 trapezoid_corners-corners-requires c =
     let a = c.args in
-    let w : let a = c.args in (is_whole (exact_of a.sweep_m) ≡ true) × (is_whole (exact_of a.tip_chord_m) ≡ true) = let point = c.is_whole.result && c.is_whole-2.result in let top = c.is_whole-3.result && c.is_whole-4.result in let tip = c.is_whole-5.result in let all = both_true (point && (top && tip)) c.is_whole-6.result (not_false (point && (top && tip) && c.is_whole-6.result) c.if-not-point-tip.false-raw) in let both = both_true top tip (both_true point (top && tip) all.0).1 in (sym c.is_whole-3.ensures ∙ (both_true c.is_whole-3.result c.is_whole-4.result both.0).0, sym c.is_whole-5.ensures ∙ both.1) in (
+    let w = tip_whole _ _ _ _ _ _ c.is_whole.ensures c.is_whole-2.ensures c.is_whole-3.ensures c.is_whole-4.ensures c.is_whole-5.ensures
+    c.is_whole-6.ensures c.if-not-point-tip.false-raw in (
       four a.root_chord_m a.tip_chord_m a.span_m a.sweep_m a.x_m a.height_m c.requires,
       w.0,
       w.1,
@@ -54,7 +53,8 @@ place-requires c =
     let corners = c.trapezoid_corners-corners in
     let x = c.steps in
     let height = c.steps-2 in
-    let w : let a = c.args in (is_whole (exact_of a.sweep_m) ≡ true) × (is_whole (exact_of a.tip_chord_m) ≡ true) = let point = c.is_whole.result && c.is_whole-2.result in let top = c.is_whole-3.result && c.is_whole-4.result in let tip = c.is_whole-5.result in let all = both_true (point && (top && tip)) c.is_whole-6.result (not_false (point && (top && tip) && c.is_whole-6.result) c.if-not-point-tip.false-raw) in let both = both_true top tip (both_true point (top && tip) all.0).1 in (sym c.is_whole-3.ensures ∙ (both_true c.is_whole-3.result c.is_whole-4.result both.0).0, sym c.is_whole-5.ensures ∙ both.1) in (
+    let w = tip_whole _ _ _ _ _ _ c.is_whole.ensures c.is_whole-2.ensures c.is_whole-3.ensures c.is_whole-4.ensures c.is_whole-5.ensures
+    c.is_whole-6.ensures c.if-not-point-tip.false-raw in (
       rw corners.ensures (omega arith),
       record {
         all = rw corners.ensures
@@ -69,6 +69,9 @@ pub returns : goal.returns
 returns c =
     let x = c.steps in
     let height = c.steps-2 in
-    let corners = c.trapezoid_corners-corners.ensures in
-    c.place.ensures ∙ placed _ _ _ ((let it : let a = c.args in (c.is_whole.result && c.is_whole-2.result && (c.is_whole-3.result && c.is_whole-4.result && c.is_whole-5.result) && c.is_whole-6.result) ≡ are_whole (exact_of a.x_m ∷ exact_of a.height_m ∷ corners_of (Trapezoid a.root_chord_m a.tip_chord_m a.span_m a.sweep_m) []) = let a = c.args in rw (c.is_whole.ensures, c.is_whole-2.ensures, c.is_whole-3.ensures, c.is_whole-4.ensures, c.is_whole-5.ensures, c.is_whole-6.ensures) (sym (trapezoid (exact_of a.x_m) (exact_of a.height_m) (exact_of a.sweep_m) (exact_of a.span_m) (exact_of a.tip_chord_m) (exact_of a.root_chord_m))) in it)) c.if-not-point-tip.false-raw corners (steps_back x.type_inv x.ensures)
+    c.place.ensures
+    ∙ placed _ _ _
+    (trapezoid_tested _ _ _ _ _ _ c.is_whole.ensures c.is_whole-2.ensures c.is_whole-3.ensures c.is_whole-4.ensures c.is_whole-5.ensures
+    c.is_whole-6.ensures)
+    c.if-not-point-tip.false-raw c.trapezoid_corners-corners.ensures (steps_back x.type_inv x.ensures)
     (steps_back height.type_inv height.ensures)

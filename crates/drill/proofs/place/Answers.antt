@@ -13,26 +13,34 @@ is_on_edge-requires c = rw (to_z-of_z c.ranges.x, to_z-of_z c.ranges.height) c.r
 
 pub returns-then-is_on_edge : goal.returns-then-is_on_edge
 unfolding place_of
-returns-then-is_on_edge c = sym (rw (sym ((let it : c.is_on_edge.result ≡ is_on_edge c.args.corners.now c.args.x c.args.height = c.is_on_edge.ensures ∙ rw (to_z-of_z c.ranges.x, to_z-of_z c.ranges.height) in it)) ∙ c.if-is_on_edge.true, ← (let it : c.nearest_corner-nearest.result ≡ nearest_corner c.args.corners.now c.args.x c.args.height = c.nearest_corner-nearest.ensures ∙ rw (to_z-of_z c.ranges.x, to_z-of_z c.ranges.height) in it)))
+returns-then-is_on_edge c =
+    let nearest : c.nearest_corner-nearest.result ≡ nearest_corner c.args.corners.now c.args.x c.args.height
+    = c.nearest_corner-nearest.ensures ∙ rw (to_z-of_z c.ranges.x, to_z-of_z c.ranges.height) in
+    let on_edge : c.is_on_edge.result ≡ is_on_edge c.args.corners.now c.args.x c.args.height
+    = c.is_on_edge.ensures ∙ rw (to_z-of_z c.ranges.x, to_z-of_z c.ranges.height) in
+    sym (rw (sym on_edge ∙ c.if-is_on_edge.true, ← nearest))
 
 pub is_inside-requires : goal.is_inside-requires
-is_inside-requires c = rw (to_z-of_z c.ranges.x, to_z-of_z c.ranges.height)
-    c.requires.1
+is_inside-requires c = rw (to_z-of_z c.ranges.x, to_z-of_z c.ranges.height) c.requires.1
 
 pub returns-then-is_inside : goal.returns-then-is_inside
 unfolding place_of
-returns-then-is_inside c = sym (rw (
-  sym ((let it : c.is_on_edge.result ≡ is_on_edge c.args.corners.now c.args.x c.args.height = c.is_on_edge.ensures ∙ rw (to_z-of_z c.ranges.x, to_z-of_z c.ranges.height) in it)) ∙ c.if-is_on_edge.false,
-  sym ((let it : c.is_inside.result ≡ is_inside c.args.corners.now c.args.x c.args.height = c.is_inside.ensures ∙ rw (to_z-of_z c.ranges.x, to_z-of_z c.ranges.height) in it))
-      ∙ c.if-is_inside.true,
-  ← (let it : c.nearest_corner-nearest.result ≡ nearest_corner c.args.corners.now c.args.x c.args.height = c.nearest_corner-nearest.ensures ∙ rw (to_z-of_z c.ranges.x, to_z-of_z c.ranges.height) in it),
-))
+returns-then-is_inside c =
+    let nearest : c.nearest_corner-nearest.result ≡ nearest_corner c.args.corners.now c.args.x c.args.height
+    = c.nearest_corner-nearest.ensures ∙ rw (to_z-of_z c.ranges.x, to_z-of_z c.ranges.height) in
+    let on_edge : c.is_on_edge.result ≡ is_on_edge c.args.corners.now c.args.x c.args.height
+    = c.is_on_edge.ensures ∙ rw (to_z-of_z c.ranges.x, to_z-of_z c.ranges.height) in
+    let inside : c.is_inside.result ≡ is_inside c.args.corners.now c.args.x c.args.height
+    = c.is_inside.ensures ∙ rw (to_z-of_z c.ranges.x, to_z-of_z c.ranges.height) in
+    sym (rw (sym on_edge ∙ c.if-is_on_edge.false, sym inside ∙ c.if-is_inside.true, ← nearest))
 
 pub returns : goal.returns
 unfolding place_of
-returns c = sym (rw (
-  sym ((let it : c.is_on_edge.result ≡ is_on_edge c.args.corners.now c.args.x c.args.height = c.is_on_edge.ensures ∙ rw (to_z-of_z c.ranges.x, to_z-of_z c.ranges.height) in it)) ∙ c.if-is_on_edge.false,
-  sym ((let it : c.is_inside.result ≡ is_inside c.args.corners.now c.args.x c.args.height = c.is_inside.ensures ∙ rw (to_z-of_z c.ranges.x, to_z-of_z c.ranges.height) in it))
-      ∙ c.if-is_inside.false,
-  ← (let it : c.nearest_corner-nearest.result ≡ nearest_corner c.args.corners.now c.args.x c.args.height = c.nearest_corner-nearest.ensures ∙ rw (to_z-of_z c.ranges.x, to_z-of_z c.ranges.height) in it),
-))
+returns c =
+    let nearest : c.nearest_corner-nearest.result ≡ nearest_corner c.args.corners.now c.args.x c.args.height
+    = c.nearest_corner-nearest.ensures ∙ rw (to_z-of_z c.ranges.x, to_z-of_z c.ranges.height) in
+    let on_edge : c.is_on_edge.result ≡ is_on_edge c.args.corners.now c.args.x c.args.height
+    = c.is_on_edge.ensures ∙ rw (to_z-of_z c.ranges.x, to_z-of_z c.ranges.height) in
+    let inside : c.is_inside.result ≡ is_inside c.args.corners.now c.args.x c.args.height
+    = c.is_inside.ensures ∙ rw (to_z-of_z c.ranges.x, to_z-of_z c.ranges.height) in
+    sym (rw (sym on_edge ∙ c.if-is_on_edge.false, sym inside ∙ c.if-is_inside.false, ← nearest))

@@ -14,7 +14,9 @@ returns-then-whole-ne-BODY_NUMBERS c = simp (ne_eqb _ _ c.if-whole-ne-BODY_NUMBE
 
 pub returns-then-part-ne-BODY_NUMBERS : goal.returns-then-part-ne-BODY_NUMBERS
 unfolding moved_by
-returns-then-part-ne-BODY_NUMBERS c = simp (eq-eqb _ _ c.if-whole-ne-BODY_NUMBERS.false, ne_eqb _ _ c.if-part-ne-BODY_NUMBERS.true) c.refused-then-part-ne-BODY_NUMBERS.ensures
+returns-then-part-ne-BODY_NUMBERS c =
+    simp (eq-eqb _ _ c.if-whole-ne-BODY_NUMBERS.false, ne_eqb _ _ c.if-part-ne-BODY_NUMBERS.true)
+    c.refused-then-part-ne-BODY_NUMBERS.ensures
 
 pub returns-then-offset-ne3 : goal.returns-then-offset-ne3
 unfolding moved_by
