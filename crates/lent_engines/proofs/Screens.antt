@@ -22,7 +22,7 @@ use Rattle.lent_engines.proofs.Eight.{eight_ext, eight_of}
 pub held_eight : (screens : Screens) (vals : List Val) → Is S.the_row screens vals → length screens.held ≡ 8
 held_eight screens vals is =
     let held = (LL.owed S.the_type S'.the_laws screens vals is).0 in
-    sym (length-map screens.held (λ (x : Bool). x)) ∙ held.1.0.1
+    held.1.0.1
 
 flag_read : (b : Bool) → not (eqb (flag b) 0) ≡ b
 flag_read true = refl
