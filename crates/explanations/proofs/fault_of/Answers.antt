@@ -1,8 +1,7 @@
 -- `explanations::fault_of` meets its contract: a program that has read nothing else answers the line. Assumes nothing.
-use mathlib.Core.Path.{◌≡◌, sym, ap, ◌∙◌}
+use mathlib.Core.Path.{sym, ap, ◌∙◌}
 use Rattle.answers.specs.declared.Shape.{Shape}
 use Rattle.explanations.specs.Faults.{fault_by, fault_in, alone, fault_of}
-use borrow.Author.Rules.{rules}
 use Rattle.explanations.proofs.fault_of.Goals as goal
 
 pub returns : goal.returns

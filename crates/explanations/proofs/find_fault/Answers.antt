@@ -1,11 +1,7 @@
 -- `explanations::find_fault` meets its contract: as long as tokens pass, those that are left decide. Assumes nothing.
-use mathlib.Core.Path.{◌≡◌, refl, sym, ap, ◌∙◌}
-use Prim.Native.Nat.{◌+◌, ◌≤◌}
+use mathlib.Core.Path.{refl, sym, ◌∙◌}
 use native.Mathlib.Omega.{arith}
 use borrow.Author.Tests.{not-true, not-false}
-use borrow.Author.Rules.{rules}
-use lib.ListN.{length}
-use Rattle.explanations.specs.Endings.{fault_from, fault_place}
 use Rattle.explanations.proofs.Saving.{stops, goes_on, no_turn_lem}
 use Rattle.explanations.proofs.find_fault.Goals as goal
 
@@ -39,13 +35,12 @@ pub loop-turns-smaller : goal.loop-turns-smaller
 loop-turns-smaller c = let t = c.loop-turns-test.true in omega (arith, t)
 
 pub loop-turns-preserved : goal.loop-turns-preserved
-loop-turns-preserved c =
-    (
-      c.token-f.ensures.within,
-      c.passes.auto.trial ∙ c.loop-turns.invariant.1,
-      c.loop-turns.invariant.2
-          ∙ goes_on _ _ _ _ _ c.token-f.ensures.is _ c.loop-turns-test.true (sym c.passes.ensures ∙ not-false _ c.if-not-passes.false-raw),
-    )
+loop-turns-preserved c = (
+  c.token-f.ensures.within,
+  c.passes.auto.trial ∙ c.loop-turns.invariant.1,
+  c.loop-turns.invariant.2
+      ∙ goes_on _ _ _ _ _ c.token-f.ensures.is _ c.loop-turns-test.true (sym c.passes.ensures ∙ not-false _ c.if-not-passes.false-raw),
+)
 
 pub shape_of-trial : goal.shape_of-trial
 shape_of-trial c = c.loop-turns.invariant.1

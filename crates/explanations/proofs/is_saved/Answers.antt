@@ -1,11 +1,10 @@
 -- `explanations::is_saved` meets its contract: as long as no ending saved, those that are left decide. Assumes nothing.
 use mathlib.Core.List.{List}
 use mathlib.Core.Path.{◌≡◌, refl, sym, ap, ◌∙◌}
-use Prim.Native.Nat.{ℕ, ◌-◌, ◌≤◌}
+use Prim.Native.Nat.{ℕ}
 use native.Mathlib.Omega.{arith}
-use borrow.Author.Rules.{rules}
-use lib.ListN.{length, take, drop, get_or}
-use Rattle.explanations.specs.Endings.{saves_here, saved}
+use lib.ListN.{take, drop, get_or}
+use Rattle.explanations.specs.Endings.{saves_here}
 use Rattle.explanations.proofs.Saving.{hit, miss, all_tried}
 use Rattle.explanations.proofs.is_saved.Goals as goal
 use Rattle.explanations.proofs.is_saved.Goals.{After-saves_here, At-loop-j, Start}

@@ -1,10 +1,8 @@
 -- `explanations::past_spaces` meets its contract: a space more is passed at each turn. Assumes nothing.
-use mathlib.Core.Path.{◌≡◌, refl}
-use Prim.Native.Nat.{◌+◌, ◌-◌, ◌≤◌}
+use mathlib.Core.Path.{refl}
 use native.Mathlib.Omega.{arith}
 use borrow.Author.Tests.{eq-eqb, ne_eqb}
-use lib.ListN.{length, drop}
-use Rattle.explanations.specs.Places.{run, is_space}
+use Rattle.explanations.specs.Places.{is_space}
 use Rattle.explanations.proofs.Places.{run_on, run_stops, run_ends}
 use Rattle.explanations.proofs.past_spaces.Goals as goal
 

@@ -1,11 +1,8 @@
 -- `explanations::past_spaces` meets its contract: a space more is passed at each turn. Assumes nothing.
-use mathlib.Core.Path.{◌≡◌, refl}
+use mathlib.Core.Path.{◌≡◌}
 use Prim.Native.Nat.{◌+◌, ◌-◌, ◌≤◌}
-use native.Mathlib.Omega.{arith}
-use borrow.Author.Tests.{eq-eqb, ne_eqb}
 use lib.ListN.{length, drop}
 use Rattle.explanations.specs.Places.{run, is_space}
-use Rattle.explanations.proofs.Places.{run_on, run_stops, run_ends}
 use Rattle.explanations.proofs.past_spaces.Given as goal
 
 abbrev pub invariant-loop-i : goal.invariant-loop-i

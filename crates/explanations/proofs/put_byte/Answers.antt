@@ -1,10 +1,9 @@
 -- `explanations::put_byte` meets its contract: a word, and the number. Assumes nothing.
-use Prim.Native.Nat.{ℕ, ◌+◌}
+use Prim.Native.Nat.{◌+◌}
 use native.Mathlib.Omega.{arith}
 use Rattle.tokens.specs.Text.{text, codes}
 use Rattle.counts.proofs.Printing.{twenty}
 use Rattle.explanations.proofs.Wanting.{also}
-use borrow.Author.Rules.{rules}
 use Rattle.explanations.proofs.put_byte.Goals as goal
 
 pub overflow_add-from : goal.overflow_add-from

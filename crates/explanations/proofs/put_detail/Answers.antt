@@ -1,20 +1,14 @@
 -- `explanations::put_detail` meets its contract: by the number. Assumes nothing.
-use mathlib.Core.List.{List}
-use mathlib.Core.Path.{◌≡◌, refl, sym, ap, ◌∙◌}
-use Prim.Native.Nat.{ℕ, ◌+◌, ◌≤◌}
 use native.Mathlib.Omega.{arith}
 use borrow.Author.Tests.{eq-eqb, ne_eqb}
 use lib.Dec.{lit≤}
-use lib.ListN.{length}
 use Rattle.tokens.specs.Text.{text, codes}
-use Rattle.counts.proofs.Printing.{twenty}
 use Rattle.explanations.specs.Examples.{details}
 use Rattle.explanations.specs.Explanations.{edges_text, detail_key}
 use Rattle.templates.specs.Matching.{cut_at_bars}
 use Rattle.blocks.specs.Tables.{text_for}
 use Rattle.explanations.proofs.Ends.{edges_few, detail_few}
 use Rattle.explanations.proofs.Wanting.{by_true, by_false}
-use borrow.Author.Rules.{rules}
 use Rattle.explanations.proofs.put_detail.Goals as goal
 
 pub put_edges-requires : goal.put_edges-requires

@@ -1,10 +1,8 @@
 -- `explanations::put_edges` meets its contract: four texts behind one another. Assumes nothing.
-use Prim.Native.Nat.{ℕ, ◌+◌}
 use native.Mathlib.Omega.{arith}
 use Rattle.tokens.specs.Text.{text, codes}
 use Rattle.counts.proofs.Printing.{twenty}
 use Rattle.explanations.proofs.Wanting.{also}
-use borrow.Author.Rules.{rules}
 use Rattle.explanations.proofs.put_edges.Goals as goal
 use Rattle.explanations.proofs.put_edges.Goals.{After-put_bytes-arg-4-1, After-put_bytes-heading, After-put_count-arg-2-1, After-slice_known-5-1, Start}
 

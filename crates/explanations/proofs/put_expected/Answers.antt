@@ -1,14 +1,12 @@
 -- `explanations::put_expected` meets its contract: the start of the line stands in `trial`, with a space behind it. Assumes nothing.
-use mathlib.Core.List.{List, [], ◌∷◌, ◌++◌}
-use mathlib.Core.Path.{◌≡◌, sym, ap, ◌∙◌}
+use mathlib.Core.List.{List, ◌∷◌, ◌++◌}
+use mathlib.Core.Path.{ap, ◌∙◌}
 use Prim.Native.Nat.{ℕ}
 use native.Mathlib.Omega.{arith}
-use lib.ListN.{take, length-take}
-use lib.Seq.{length-take-le}
+use lib.ListN.{length-take}
 use Rattle.tokens.specs.Text.{text, codes}
 use Rattle.explanations.specs.Endings.{wanted_text}
 use Rattle.explanations.proofs.Wanting.{also, same_put}
-use borrow.Author.Rules.{rules}
 use Rattle.explanations.proofs.put_expected.Goals as goal
 use Rattle.explanations.proofs.put_expected.Goals.{After-put_bytes-arg-4-1, After-put_bytes-arg-6-1, After-put_bytes-heading, After-put_wanted-arg-2-1, Start}
 

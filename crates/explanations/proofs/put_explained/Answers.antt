@@ -1,12 +1,9 @@
 -- `explanations::put_explained` meets its contract: by whether the line is refused. Assumes nothing.
-use mathlib.Core.Path.{◌≡◌, sym, ap, ◌∙◌}
-use Prim.Native.Nat.{ℕ, ◌+◌}
-use native.Mathlib.Omega.{arith}
+use mathlib.Core.Path.{ap}
 use borrow.Author.Tests.{eq-eqb, ne_eqb}
 use Rattle.tokens.specs.Text.{text, codes}
 use Rattle.explanations.specs.Explanations.{fault_text, explained}
 use Rattle.explanations.proofs.Wanting.{by_true, by_false, same_put}
-use borrow.Author.Rules.{rules}
 use Rattle.explanations.proofs.put_explained.Goals as goal
 
 pub returns-then-fault-eq0 : goal.returns-then-fault-eq0

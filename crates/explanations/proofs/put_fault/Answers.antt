@@ -1,10 +1,8 @@
 -- `explanations::put_fault` meets its contract: a word, number and sentence, what goes with it, and the place. Assumes nothing.
-use Prim.Native.Nat.{ℕ, ◌+◌}
 use native.Mathlib.Omega.{arith}
 use Rattle.tokens.specs.Text.{text, codes}
 use Rattle.blocks.proofs.Said.{refusal_fits}
 use Rattle.explanations.proofs.Wanting.{also}
-use borrow.Author.Rules.{rules}
 use Rattle.explanations.proofs.put_fault.Goals as goal
 use Rattle.explanations.proofs.put_fault.Goals.{After-put_bytes-heading, After-put_detail-arg-1, After-trial-1, After-trial-2-1, Start}
 

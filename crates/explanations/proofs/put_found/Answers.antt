@@ -1,7 +1,7 @@
 -- `explanations::put_found` meets its contract: the key is written, and what the table has for it. Assumes nothing.
-use mathlib.Core.List.{List, [], ◌++◌}
+use mathlib.Core.List.{List}
 use mathlib.Core.Path.{◌≡◌, sym, ap, ◌∙◌}
-use Prim.Native.Nat.{ℕ, ◌+◌, ◌≤◌}
+use Prim.Native.Nat.{ℕ, ◌≤◌}
 use native.Mathlib.Omega.{arith}
 use lib.ListN.{length, take}
 use lib.Seq.{length-take-le}
@@ -12,7 +12,6 @@ use Rattle.templates.specs.Matching.{cut_at_bars}
 use Rattle.blocks.specs.Tables.{text_for}
 use Rattle.explanations.specs.Explanations.{detail_key}
 use Rattle.explanations.proofs.Wanting.{also, same_put, part_length}
-use borrow.Author.Rules.{rules}
 use Rattle.explanations.proofs.put_found.Goals as goal
 use Rattle.explanations.proofs.put_found.Goals.{After-key-5-1, After-key-7-1, After-put_bytes-space, After-put_count-k, After-put_count-number, Start}
 

@@ -1,13 +1,10 @@
 -- `explanations::put_kept` meets its contract: by whether there were more bytes, and by the length of what is kept. Assumes nothing.
-use mathlib.Core.Path.{◌≡◌}
-use native.Mathlib.Omega.{arith}
 use borrow.Author.Tests.{lt-ltb, le-ltb}
 use lib.ListN.{length}
 use Rattle.tokens.specs.Tokens.{line_bytes}
 use Rattle.explanations.specs.Faults.{fault_of}
 use Rattle.explanations.specs.Explanations.{explained, too_long, explanation_of}
 use Rattle.explanations.proofs.Wanting.{by_true, by_false}
-use borrow.Author.Rules.{rules}
 use Rattle.explanations.proofs.put_kept.Goals as goal
 
 pub returns-then-over : goal.returns-then-over

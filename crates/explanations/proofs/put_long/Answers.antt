@@ -1,6 +1,5 @@
 -- `explanations::put_long` meets its contract: the one text. Assumes nothing.
 use Rattle.tokens.specs.Text.{text, codes}
-use borrow.Author.Rules.{rules}
 use Rattle.explanations.proofs.put_long.Goals as goal
 
 pub returns : goal.returns

@@ -1,12 +1,9 @@
 -- `explanations::put_numbered` meets its contract: a word, the number, a colon, the explanation and a newline. Assumes nothing.
-use Prim.Native.Nat.{ℕ, ◌+◌}
 use native.Mathlib.Omega.{arith}
 use Rattle.tokens.specs.Text.{text, codes}
 use Rattle.counts.proofs.Printing.{twenty}
-use Rattle.explanations.specs.Explanations.{kept_explanation}
 use Rattle.explanations.proofs.Ends.{kept_few}
 use Rattle.explanations.proofs.Wanting.{also}
-use borrow.Author.Rules.{rules}
 use Rattle.explanations.proofs.put_numbered.Goals as goal
 use Rattle.explanations.proofs.put_numbered.Goals.{After-put_bytes-arg-4-1, After-put_bytes-arg-6-1, After-put_bytes-word, After-put_count-arg-1, After-put_count-digits, After-put_kept-arg-1, After-slice_known-6-1, Else-out-lt1050, Start}
 

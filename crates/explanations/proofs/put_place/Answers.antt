@@ -1,13 +1,9 @@
 -- `explanations::put_place` meets its contract: the byte of the place that was found, and then by the number. Assumes nothing.
-use mathlib.Core.List.{List, ◌++◌}
-use mathlib.Core.Path.{◌≡◌, sym, ap, ◌∙◌}
-use Prim.Native.Nat.{ℕ, ◌+◌}
+use mathlib.Core.Path.{ap}
 use native.Mathlib.Omega.{arith}
 use borrow.Author.Tests.{eq-eqb, ne_eqb}
-use Rattle.tokens.specs.declared.TokenRange.{TokenRange}
 use Rattle.explanations.specs.Explanations.{expected_text, shown_text, at_place}
 use Rattle.explanations.proofs.Wanting.{also, by_true, by_false, same_put}
-use borrow.Author.Rules.{rules}
 use Rattle.explanations.proofs.put_place.Goals as goal
 use Rattle.explanations.proofs.put_place.Goals.{After-find_fault-f, After-put_expected-arg-then-fault-eq18-1, After-slice_known-3-1, After-slice_known-then-fault-eq18-2-1, After-struct_known-1, Start}
 

@@ -1,13 +1,10 @@
 -- `explanations::put_shown` meets its contract: a colon, and the word up to its fortieth byte. Assumes nothing.
-use mathlib.Core.List.{List, ◌++◌}
-use mathlib.Core.Path.{◌≡◌, sym, ap, ◌∙◌}
-use Prim.Native.Nat.{ℕ}
+use mathlib.Core.Path.{ap}
 use native.Mathlib.Omega.{arith}
 use Rattle.tokens.specs.Text.{text, codes}
 use Rattle.tokens.specs.Found.{part}
 use Rattle.explanations.proofs.Wanting.{also, same_put, part_length}
 use Rattle.explanations.proofs.Ends.{short_order, short_within, short_few}
-use borrow.Author.Rules.{rules}
 use Rattle.explanations.proofs.put_shown.Goals as goal
 
 pub short_end-end-requires : goal.short_end-end-requires

@@ -1,6 +1,6 @@
 -- `explanations::put_wanted` meets its contract: `F` is tried first, and then the words. Assumes nothing.
-use mathlib.Core.List.{List, ◌++◌}
-use mathlib.Core.Path.{◌≡◌, sym, ap, ◌∙◌}
+use mathlib.Core.List.{List}
+use mathlib.Core.Path.{sym, ap, ◌∙◌}
 use Prim.Native.Nat.{ℕ}
 use native.Mathlib.Omega.{arith}
 use lib.ListN.{take}
@@ -8,7 +8,6 @@ use Rattle.tokens.specs.Text.{text, codes}
 use Rattle.templates.specs.Matching.{cut_at_bars}
 use Rattle.explanations.specs.Endings.{wanted_of}
 use Rattle.explanations.proofs.Wanting.{by_true, by_false, same_put}
-use borrow.Author.Rules.{rules}
 use Rattle.explanations.proofs.put_wanted.Goals as goal
 use Rattle.explanations.proofs.put_wanted.Goals.{After-put_words-arg-2-1, After-slice_known-5-1, Start}
 

@@ -1,17 +1,13 @@
 -- `explanations::put_where` meets its contract: the code's tables are the definition's. Assumes nothing.
-use mathlib.Core.Path.{◌≡◌, refl, sym, ◌∙◌}
-use Prim.Native.Nat.{ℕ, ◌+◌}
+use mathlib.Core.Path.{sym, ◌∙◌}
 use native.Mathlib.Omega.{arith}
 use borrow.Author.Tests.{not-true, not-false}
-use lib.Dec.{lit≤}
 use Rattle.tokens.specs.Text.{text, codes}
 use Rattle.explanations.specs.Examples.{examples, form_words}
 use Rattle.explanations.specs.Endings.{fault_place}
 use Rattle.explanations.specs.Explanations.{at_place}
-use mathlib.Core.List.{[]}
 use Rattle.texts.proofs.Appending.{nothing}
 use Rattle.explanations.proofs.Wanting.{by_true, by_false}
-use borrow.Author.Rules.{rules}
 use Rattle.explanations.proofs.put_where.Goals as goal
 
 pub returns-then-not-is_placed : goal.returns-then-not-is_placed

@@ -1,8 +1,7 @@
 -- `explanations::put_word` meets its contract: the word is put where the start with it is saved. Assumes nothing.
-use mathlib.Core.Path.{◌≡◌, sym, ◌∙◌}
+use mathlib.Core.Path.{sym, ◌∙◌}
 use native.Mathlib.Omega.{arith}
 use borrow.Author.Tests.{not-true, not-false}
-use borrow.Author.Rules.{rules}
 use lib.ListN.{take}
 use Rattle.explanations.proofs.Wanting.{not_wanted, is_wanted}
 use Rattle.explanations.proofs.put_word.Goals as goal

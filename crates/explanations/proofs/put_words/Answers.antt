@@ -1,10 +1,7 @@
 -- `explanations::put_words` meets its contract: the words put so far and those that are left are the whole. Assumes nothing.
-use mathlib.Core.Path.{◌≡◌, ◌∙◌}
-use Prim.Native.Nat.{◌-◌, ◌<◌}
+use mathlib.Core.Path.{◌∙◌}
 use native.Mathlib.Omega.{arith}
-use borrow.Author.Rules.{rules}
-use lib.ListN.{length}
-use Rattle.explanations.proofs.Wanting.{part_length, Listing, begins, was_last, next}
+use Rattle.explanations.proofs.Wanting.{part_length, begins, was_last, next}
 use Rattle.explanations.proofs.put_words.Goals as goal
 use Rattle.explanations.proofs.put_words.Goals.{After-bar_end-end, After-put_word-at, At-loop-fault}
 

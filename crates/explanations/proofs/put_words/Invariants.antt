@@ -1,10 +1,7 @@
 -- `explanations::put_words` meets its contract: the words put so far and those that are left are the whole. Assumes nothing.
-use mathlib.Core.Path.{◌≡◌, ◌∙◌}
-use Prim.Native.Nat.{◌-◌, ◌<◌}
-use native.Mathlib.Omega.{arith}
-use borrow.Author.Rules.{rules}
+use Prim.Native.Nat.{◌-◌}
 use lib.ListN.{length}
-use Rattle.explanations.proofs.Wanting.{part_length, Listing, begins, was_last, next}
+use Rattle.explanations.proofs.Wanting.{Listing}
 use Rattle.explanations.proofs.put_words.Given as goal
 
 abbrev pub invariant-loop-fault : goal.invariant-loop-fault

@@ -4,7 +4,6 @@ use mathlib.Core.Bool.{Bool, ◌&&◌}
 use mathlib.Core.Path.{refl, sym, ap, ◌∙◌}
 use native.Mathlib.Omega.{arith}
 use borrow.Author.Tests.{eq-eqb, ne_eqb}
-use borrow.Author.Rules.{rules}
 use lib.ListN.{take, drop}
 use Prim.Native.Nat.{ℕ}
 use Rattle.explanations.specs.Endings.{first_text, to_bar, saves_with}
@@ -30,12 +29,11 @@ saves_with-requires c =
     omega (arith, e, g, h)
 
 pub returns : goal.returns
-returns c =
-    (
-      c.saves_with.ensures.0
-          ∙ ap (λ (t : List ℕ). saves_with c.args.fault (take c.args.n c.args.trial.now) t)
-          (sym (ap first_text c.bar_end-end.ensures.cut))
-          ∙ sym (ap (λ (t : Bool). t && saves_with c.args.fault (take c.args.n c.args.trial.now)
-          (to_bar (drop c.args.j c.args.endings.now))) (eq-eqb _ _ c.if-endings-j-ne32.false)),
-      c.saves_with.ensures.1,
-    )
+returns c = (
+  c.saves_with.ensures.0
+      ∙ ap (λ (t : List ℕ). saves_with c.args.fault (take c.args.n c.args.trial.now) t)
+      (sym (ap first_text c.bar_end-end.ensures.cut))
+      ∙ sym (ap (λ (t : Bool). t && saves_with c.args.fault (take c.args.n c.args.trial.now)
+      (to_bar (drop c.args.j c.args.endings.now))) (eq-eqb _ _ c.if-endings-j-ne32.false)),
+  c.saves_with.ensures.1,
+)

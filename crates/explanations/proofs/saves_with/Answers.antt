@@ -1,7 +1,6 @@
 -- `explanations::saves_with` meets its contract: the ending stands behind the start. Assumes nothing.
 use mathlib.Core.Path.{sym, ap, ◌∙◌}
 use native.Mathlib.Omega.{arith}
-use borrow.Author.Rules.{rules}
 use lib.Seq.{length-take-le}
 use Rattle.explanations.specs.Faults.{fault_of}
 use Rattle.explanations.specs.Endings.{saves_from}

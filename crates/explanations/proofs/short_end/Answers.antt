@@ -1,10 +1,9 @@
 -- `explanations::short_end` meets its contract: by the test that led there. Assumes nothing.
 use mathlib.Core.Bool.{Bool, cond}
 use mathlib.Core.Path.{sym, ap}
-use Prim.Native.Nat.{ℕ, ◌+◌, ◌-◌}
+use Prim.Native.Nat.{◌+◌, ◌-◌}
 use native.Mathlib.Omega.{arith}
 use borrow.Author.Tests.{lt-ltb, le-ltb}
-use borrow.Author.Rules.{rules}
 use Rattle.explanations.proofs.short_end.Goals as goal
 
 pub overflow_add-result : goal.overflow_add-result

@@ -1,7 +1,6 @@
 -- `explanations::token` meets its contract: past the spaces the byte there says which token begins. Assumes nothing.
 use mathlib.Core.Path.{sym, ◌∙◌}
 use native.Mathlib.Omega.{arith}
-use borrow.Author.Rules.{rules}
 use Rattle.explanations.proofs.Places.{no_token, bracket, in_word_lem}
 use Rattle.explanations.proofs.token.Goals as goal
 

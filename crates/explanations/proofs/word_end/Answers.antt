@@ -1,11 +1,8 @@
 -- `explanations::word_end` meets its contract: a byte more of the word is passed at each turn. Assumes nothing.
 use mathlib.Core.Bool.{not}
-use mathlib.Core.Path.{◌≡◌, refl, sym, ap, ◌∙◌}
-use Prim.Native.Nat.{◌+◌, ◌-◌, ◌≤◌}
+use mathlib.Core.Path.{refl, sym, ap, ◌∙◌}
 use native.Mathlib.Omega.{arith}
-use borrow.Author.Rules.{rules}
-use lib.ListN.{length, drop}
-use Rattle.explanations.specs.Places.{run, in_word}
+use Rattle.explanations.specs.Places.{in_word}
 use Rattle.explanations.proofs.Places.{run_on, run_stops, run_ends}
 use Rattle.explanations.proofs.word_end.Goals as goal
 
@@ -16,12 +13,11 @@ pub bounds-line-i : goal.bounds-line-i
 bounds-line-i c = omega arith
 
 pub returns-then-ends_word : goal.returns-then-ends_word
-returns-then-ends_word c =
-    (
-      run_stops in_word c.args.line.now _ _ c.loop-i.invariant.1 (omega arith)
-          (ap not (sym c.ends_word.ensures ∙ c.if-ends_word.true)),
-      c.loop-i.invariant.0,
-    )
+returns-then-ends_word c = (
+  run_stops in_word c.args.line.now _ _ c.loop-i.invariant.1 (omega arith)
+      (ap not (sym c.ends_word.ensures ∙ c.if-ends_word.true)),
+  c.loop-i.invariant.0,
+)
 
 pub overflow_add-i : goal.overflow_add-i
 overflow_add-i c = omega arith
@@ -30,12 +26,11 @@ pub loop-i-smaller : goal.loop-i-smaller
 loop-i-smaller c = omega arith
 
 pub loop-i-preserved : goal.loop-i-preserved
-loop-i-preserved c =
-    (
-      omega arith,
-      run_on in_word c.args.line.now _ _ c.loop-i.invariant.1 (omega arith)
-          (ap not (sym c.ends_word.ensures ∙ c.if-ends_word.false)),
-    )
+loop-i-preserved c = (
+  omega arith,
+  run_on in_word c.args.line.now _ _ c.loop-i.invariant.1 (omega arith)
+      (ap not (sym c.ends_word.ensures ∙ c.if-ends_word.false)),
+)
 
 pub returns : goal.returns
 returns c =

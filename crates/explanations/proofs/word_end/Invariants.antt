@@ -1,12 +1,8 @@
 -- `explanations::word_end` meets its contract: a byte more of the word is passed at each turn. Assumes nothing.
-use mathlib.Core.Bool.{not}
-use mathlib.Core.Path.{◌≡◌, refl, sym, ap, ◌∙◌}
+use mathlib.Core.Path.{◌≡◌}
 use Prim.Native.Nat.{◌+◌, ◌-◌, ◌≤◌}
-use native.Mathlib.Omega.{arith}
-use borrow.Author.Rules.{rules}
 use lib.ListN.{length, drop}
 use Rattle.explanations.specs.Places.{run, in_word}
-use Rattle.explanations.proofs.Places.{run_on, run_stops, run_ends}
 use Rattle.explanations.proofs.word_end.Given as goal
 
 abbrev pub invariant-loop-i : goal.invariant-loop-i

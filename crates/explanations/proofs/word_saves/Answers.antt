@@ -1,9 +1,8 @@
 -- `explanations::word_saves` meets its contract: the word stands behind the start. Assumes nothing.
 use mathlib.Core.List.{List}
-use mathlib.Core.Path.{◌≡◌, ap, ◌∙◌}
+use mathlib.Core.Path.{ap, ◌∙◌}
 use Prim.Native.Nat.{ℕ}
 use native.Mathlib.Omega.{arith}
-use borrow.Author.Rules.{rules}
 use Rattle.explanations.specs.Endings.{saved}
 use Rattle.explanations.proofs.Saving.{start_kept, less_kept}
 use Rattle.explanations.proofs.word_saves.Goals as goal

@@ -3,7 +3,6 @@ use mathlib.Core.Path.{refl}
 use native.Mathlib.Omega.{arith}
 use lib.ListN.{length-take}
 use Rattle.lines.specs.Lines.{Fits, lent_in}
-use borrow.Author.Rules.{rules}
 use Rattle.inputs.proofs.answer_kept.Goals as goal
 
 pub returns-then-s : goal.returns-then-s

@@ -1,5 +1,5 @@
 -- `inputs::feed` meets its contract: what was taken of the chunk so far, the bytes of a line and its newline each time. Assumes nothing.
-use mathlib.Core.List.{List, []}
+use mathlib.Core.List.{List}
 use mathlib.Core.Logic.{◌⊎◌, inl, inr}
 use mathlib.Core.Path.{◌≡◌, refl, sym, ap, ◌∙◌}
 use Prim.Native.Nat.{ℕ, zero, suc, ◌+◌, ◌-◌, ◌<◌, ◌≤◌}
@@ -9,14 +9,12 @@ use lib.ListN.{length, take, drop, get_or, length-take, length-drop}
 use lib.Seq.{take_all, get_or-drop}
 use Rattle.texts.specs.Appended.{Appended}
 use Rattle.input_lines.specs.declared.KeptLine.{KeptLine}
-use Rattle.input_lines.specs.Lines.{lines_within}
 use Rattle.input_lines.specs.Kept.{Keeps, KeepsLine}
 use Rattle.input_lines.specs.Taking.{Begun}
-use Rattle.inputs.specs.Inputs.{reply_bytes, replies}
+use Rattle.inputs.specs.Inputs.{reply_bytes}
 use Rattle.inputs.specs.States.{Place, memory_at, place_in, place_now, kept_reply, kept_left, SameLengths, TakesInto, Feeds}
 use Rattle.inputs.proofs.Lengths.{grow}
 use Rattle.inputs.proofs.Taking.{none_into, line_more, newline_more, still_lent}
-use borrow.Author.Rules.{rules}
 use Rattle.inputs.proofs.feed.Goals as goal
 use Rattle.inputs.proofs.feed.Invariants.{RoomAfter, SoFar}
 use Rattle.inputs.proofs.feed.Goals.{After-keep_line-line, After-no_line-state, After-reply-written, At-loop-taken, Else-end-chunk, Start}

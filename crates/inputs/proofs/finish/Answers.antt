@@ -1,14 +1,11 @@
 -- `inputs::finish` meets its contract: no byte kept is no line. Assumes nothing.
-use mathlib.Core.List.{[]}
-use mathlib.Core.Path.{◌≡◌, refl}
+use mathlib.Core.Path.{refl}
 use native.Mathlib.Omega.{arith}
-use lib.ListN.{length}
 use Rattle.texts.proofs.Appending.{nothing}
 use Rattle.input_lines.proofs.Keeping.{no_last_line, last_line}
 use Rattle.inputs.specs.Inputs.{replies, left_by_lines}
 use Rattle.inputs.specs.States.{Place, place_now, kept_reply}
 use Rattle.inputs.proofs.Keeping.{kept_answered, reply_short}
-use borrow.Author.Rules.{rules}
 use Rattle.inputs.proofs.finish.Goals as goal
 
 pub returns-then-kept-eq0 : goal.returns-then-kept-eq0

@@ -1,11 +1,9 @@
 -- `inputs::reply` meets its contract: the answer, and a newline behind it. Assumes nothing.
-use mathlib.Core.List.{[], ◌∷◌}
+use mathlib.Core.List.{◌∷◌}
 use native.Mathlib.Omega.{arith}
-use lib.ListN.{length}
 use Rattle.texts.proofs.Appending.{then}
 use Rattle.inputs.specs.States.{Place, place_now, kept_answer}
 use Rattle.inputs.proofs.Keeping.{answer_kept_short}
-use borrow.Author.Rules.{rules}
 use Rattle.inputs.proofs.reply.Goals as goal
 use Rattle.inputs.proofs.reply.Goals.{After-answer_kept-end, After-put_bytes-arg-2-1, Start}
 
