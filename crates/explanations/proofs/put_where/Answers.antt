@@ -1,4 +1,5 @@
 -- `explanations::put_where` meets its contract: the code's tables are the definition's. Assumes nothing.
+use mathlib.Core.List.{[]}
 use mathlib.Core.Path.{sym, ◌∙◌}
 use native.Mathlib.Omega.{arith}
 use borrow.Author.Tests.{not-true, not-false}

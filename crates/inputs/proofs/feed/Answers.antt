@@ -1,5 +1,5 @@
 -- `inputs::feed` meets its contract: what was taken of the chunk so far, the bytes of a line and its newline each time. Assumes nothing.
-use mathlib.Core.List.{List}
+use mathlib.Core.List.{List, []}
 use mathlib.Core.Logic.{◌⊎◌, inl, inr}
 use mathlib.Core.Path.{◌≡◌, refl, sym, ap, ◌∙◌}
 use Prim.Native.Nat.{ℕ, zero, suc, ◌+◌, ◌-◌, ◌<◌, ◌≤◌}
@@ -12,12 +12,11 @@ use Rattle.input_lines.specs.declared.KeptLine.{KeptLine}
 use Rattle.input_lines.specs.Kept.{Keeps, KeepsLine}
 use Rattle.input_lines.specs.Taking.{Begun}
 use Rattle.inputs.specs.Inputs.{reply_bytes}
-use Rattle.inputs.specs.States.{Place, memory_at, place_in, place_now, kept_reply, kept_left, SameLengths, TakesInto, Feeds}
+use Rattle.inputs.specs.States.{Place, memory_at, kept_reply, kept_left, SameLengths, TakesInto, Feeds}
 use Rattle.inputs.proofs.Lengths.{grow}
 use Rattle.inputs.proofs.Taking.{none_into, line_more, newline_more, still_lent}
 use Rattle.inputs.proofs.feed.Goals as goal
 use Rattle.inputs.proofs.feed.Invariants.{RoomAfter, SoFar}
-use Rattle.inputs.proofs.feed.Goals.{After-keep_line-line, After-no_line-state, After-reply-written, At-loop-taken, Else-end-chunk, Start}
 
 -- what is left of the chunk
 abbrev rest : List ℕ → ℕ → List ℕ
@@ -100,61 +99,48 @@ module _ {p : Place} {chunk out₀ : List ℕ} {n : ℕ} {q : Place} {out : List
         moves = λ g m. omega arith;
       }
 
--- ---- the places: the call; the top of the loop; where the bytes of a line are kept; where they are not all of the chunk; and the reply
-abbrev called : At-loop-taken → Start
-called a = let lists = a.before.before.before.before in lists.before.before.before
-
-abbrev top : After-keep_line-line → At-loop-taken
-top k = k.before.before.before.before.before
-
-abbrev line : Else-end-chunk → After-keep_line-line
-line c = c.before.before.before.before.before
-
-abbrev asked : tie.After-reply-arg5 invariant-loop decreases-loop → Else-end-chunk
-asked c = c.before.before.before.before.before
-
-abbrev replied : After-no_line-state → After-reply-written
-replied c = let counts = c.before.before.before.before in counts.before.before.before.before.before
-
 pub loop-taken-init : goal.loop-taken-init
 loop-taken-init c =
     record { into = none_into c.requires.1; some = omega arith; each = λ begun k j l. absurd (not-suc-le-zero l); begins = λ _. refl }
 
 pub keep_line-line-requires : goal.keep_line-line-requires
 keep_line-line-requires c =
-    let a = c.before.before.before.before in
-    let l = still_lent c.loop-taken.invariant.into.takes (called a).requires.0 in
+    let l = still_lent c.loop-taken.invariant.into.takes c.requires.0 in
     (l.bytes, l.within)
 
 pub overflow_add-end : goal.overflow_add-end
 overflow_add-end c =
-    let k = c.before.before.before.before in let m = ((let it : (let it : Type 0 = let a = top c in let s = called a in SoFar (place_now s.args.buffer s.args.s s.args.scratch s.args.engine_numbers s.args.engine_counts) s.args.chunk.now s.args.out.now s.args.n (place_in c.keep_line-line.new.buffer c.keep_line-line.result.state c.loop-taken.scratch c.loop-taken.engine_numbers c.loop-taken.engine_counts) c.loop-taken.out (c.loop-taken.true + c.keep_line-line.result.taken) c.loop-taken.written in it) = kept c.loop-taken.invariant c.loop-taken-test.true c.if-out-written-lt-REPLY_BYTES.false c.keep_line-line.ensures c.keep_line-line.auto.buffer in it)).some in let g = (called (top k)).good.1.1.0 in
-    omega (arith, m, g)
+    let m = (kept c.loop-taken.invariant c.loop-taken-test.true c.if-out-written-lt-REPLY_BYTES.false
+    c.keep_line-line.ensures c.keep_line-line.auto.buffer).some in
+    omega (arith, m)
 
 pub reply-written-requires : goal.reply-written-requires
 reply-written-requires c =
-    let k = line (asked c) in
-    let r = ((let it : (let it : Type 0 = let a = top c in let s = called a in SoFar (place_now s.args.buffer s.args.s s.args.scratch s.args.engine_numbers s.args.engine_counts) s.args.chunk.now s.args.out.now s.args.n (place_in c.keep_line-line.new.buffer c.keep_line-line.result.state c.loop-taken.scratch c.loop-taken.engine_numbers c.loop-taken.engine_counts) c.loop-taken.out (c.loop-taken.true + c.keep_line-line.result.taken) c.loop-taken.written in it) = kept c.loop-taken.invariant c.loop-taken-test.true c.if-out-written-lt-REPLY_BYTES.false c.keep_line-line.ensures c.keep_line-line.auto.buffer in it)).into.room in let g = k.before.before.before.if1.left in
-    (still_lent ((let it : (let it : Type 0 = let a = top c in let s = called a in SoFar (place_now s.args.buffer s.args.s s.args.scratch s.args.engine_numbers s.args.engine_counts) s.args.chunk.now s.args.out.now s.args.n (place_in c.keep_line-line.new.buffer c.keep_line-line.result.state c.loop-taken.scratch c.loop-taken.engine_numbers c.loop-taken.engine_counts) c.loop-taken.out (c.loop-taken.true + c.keep_line-line.result.taken) c.loop-taken.written in it) = kept c.loop-taken.invariant c.loop-taken-test.true c.if-out-written-lt-REPLY_BYTES.false c.keep_line-line.ensures c.keep_line-line.auto.buffer in it)).into.takes (called (top k)).pre.0, omega arith)
+    let k = (kept c.loop-taken.invariant c.loop-taken-test.true c.if-out-written-lt-REPLY_BYTES.false
+    c.keep_line-line.ensures c.keep_line-line.auto.buffer) in
+    let r = k.into.room in
+    (still_lent k.into.takes c.requires.0, omega (arith, r, c.if-out-written-lt-REPLY_BYTES.false))
 
 pub overflow_add-taken : goal.overflow_add-taken
 overflow_add-taken c =
-    let i = asked (replied c).before in let k = line i in
-    let e = i.if2.left in let m = ((let it : (let it : Type 0 = let a = top c in let s = called a in SoFar (place_now s.args.buffer s.args.s s.args.scratch s.args.engine_numbers s.args.engine_counts) s.args.chunk.now s.args.out.now s.args.n (place_in c.keep_line-line.new.buffer c.keep_line-line.result.state c.loop-taken.scratch c.loop-taken.engine_numbers c.loop-taken.engine_counts) c.loop-taken.out (c.loop-taken.true + c.keep_line-line.result.taken) c.loop-taken.written in it) = kept c.loop-taken.invariant c.loop-taken-test.true c.if-out-written-lt-REPLY_BYTES.false c.keep_line-line.ensures c.keep_line-line.auto.buffer in it)).some in let g = (called (top k)).good.1.1.0 in
-    omega (arith, e, m, g)
+    let m = (kept c.loop-taken.invariant c.loop-taken-test.true c.if-out-written-lt-REPLY_BYTES.false
+    c.keep_line-line.ensures c.keep_line-line.auto.buffer).some in
+    omega (arith, c.if-end-chunk.false, m)
 
 pub loop-taken-smaller : goal.loop-taken-smaller
-loop-taken-smaller c = let k = line (asked (replied c).before) in let t = k.before.before.before.before.loop-test.taken in omega arith
+loop-taken-smaller c =
+    omega arith
 
 pub loop-taken-preserved : goal.loop-taken-preserved
 loop-taken-preserved c =
-    let r = replied c in let i = asked r.before in let k = line i in
-    let e = i.if2.left in let m = ((let it : (let it : Type 0 = let a = top c in let s = called a in SoFar (place_now s.args.buffer s.args.s s.args.scratch s.args.engine_numbers s.args.engine_counts) s.args.chunk.now s.args.out.now s.args.n (place_in c.keep_line-line.new.buffer c.keep_line-line.result.state c.loop-taken.scratch c.loop-taken.engine_numbers c.loop-taken.engine_counts) c.loop-taken.out (c.loop-taken.true + c.keep_line-line.result.taken) c.loop-taken.written in it) = kept c.loop-taken.invariant c.loop-taken-test.true c.if-out-written-lt-REPLY_BYTES.false c.keep_line-line.ensures c.keep_line-line.auto.buffer in it)).some in
-    let test = k.before.before.before in let same = r.reply.kept.1.1 in
-    next ((let it : (let it : Type 0 = let a = top c in let s = called a in SoFar (place_now s.args.buffer s.args.s s.args.scratch s.args.engine_numbers s.args.engine_counts) s.args.chunk.now s.args.out.now s.args.n (place_in c.keep_line-line.new.buffer c.keep_line-line.result.state c.loop-taken.scratch c.loop-taken.engine_numbers c.loop-taken.engine_counts) c.loop-taken.out (c.loop-taken.true + c.keep_line-line.result.taken) c.loop-taken.written in it) = kept c.loop-taken.invariant c.loop-taken-test.true c.if-out-written-lt-REPLY_BYTES.false c.keep_line-line.ensures c.keep_line-line.auto.buffer in it)) (omega (arith, e, m)) test.if1.left
-    (ended (top k).loop.inv test.before.loop-test.taken k.keep_line.ensures e) c.no_line-state.ensures
-    refl (record { scratches = same.0; numbers = same.1.0; counts = same.1.1.0 })
-    r.reply.kept.1.1.1.1.1.0 r.reply.ensures.appended r.reply.ensures.leaves
+    let k = (kept c.loop-taken.invariant c.loop-taken-test.true c.if-out-written-lt-REPLY_BYTES.false
+    c.keep_line-line.ensures c.keep_line-line.auto.buffer) in
+    let m = k.some in
+    let reply = c.reply-written in
+    next k (omega (arith, c.if-end-chunk.false, m)) c.if-out-written-lt-REPLY_BYTES.false
+    (ended c.loop-taken.invariant c.loop-taken-test.true c.keep_line-line.ensures c.if-end-chunk.false) c.no_line-state.ensures
+    refl (record { scratches = reply.auto.scratch; numbers = reply.auto.engine_numbers; counts = reply.auto.engine_counts })
+    reply.auto.out reply.ensures.appended reply.ensures.leaves
 
 pub overflow_sub-out : goal.overflow_sub-out
 overflow_sub-out c = c.loop-taken.invariant.into.room
@@ -184,22 +170,28 @@ pub slice_bounds-keep_line-start : goal.slice_bounds-keep_line-start
 slice_bounds-keep_line-start c = c.loop-taken.invariant.some
 
 pub shape_of-buffer-then-end-chunk : goal.shape_of-buffer-then-end-chunk
-shape_of-buffer-then-end-chunk c = ((let it : (let it : Type 0 = let a = top c in let s = called a in SoFar (place_now s.args.buffer s.args.s s.args.scratch s.args.engine_numbers s.args.engine_counts) s.args.chunk.now s.args.out.now s.args.n (place_in c.keep_line-line.new.buffer c.keep_line-line.result.state c.loop-taken.scratch c.loop-taken.engine_numbers c.loop-taken.engine_counts) c.loop-taken.out (c.loop-taken.true + c.keep_line-line.result.taken) c.loop-taken.written in it) = kept c.loop-taken.invariant c.loop-taken-test.true c.if-out-written-lt-REPLY_BYTES.false c.keep_line-line.ensures c.keep_line-line.auto.buffer in it)).into.takes.buffers
+shape_of-buffer-then-end-chunk c = (kept c.loop-taken.invariant c.loop-taken-test.true c.if-out-written-lt-REPLY_BYTES.false
+    c.keep_line-line.ensures c.keep_line-line.auto.buffer).into.takes.buffers
 
 pub shape_of-scratch-then-end-chunk : goal.shape_of-scratch-then-end-chunk
-shape_of-scratch-then-end-chunk c = ((let it : (let it : Type 0 = let a = top c in let s = called a in SoFar (place_now s.args.buffer s.args.s s.args.scratch s.args.engine_numbers s.args.engine_counts) s.args.chunk.now s.args.out.now s.args.n (place_in c.keep_line-line.new.buffer c.keep_line-line.result.state c.loop-taken.scratch c.loop-taken.engine_numbers c.loop-taken.engine_counts) c.loop-taken.out (c.loop-taken.true + c.keep_line-line.result.taken) c.loop-taken.written in it) = kept c.loop-taken.invariant c.loop-taken-test.true c.if-out-written-lt-REPLY_BYTES.false c.keep_line-line.ensures c.keep_line-line.auto.buffer in it)).into.takes.stays.scratches
+shape_of-scratch-then-end-chunk c = (kept c.loop-taken.invariant c.loop-taken-test.true c.if-out-written-lt-REPLY_BYTES.false
+    c.keep_line-line.ensures c.keep_line-line.auto.buffer).into.takes.stays.scratches
 
 pub shape_of-engine_numbers-then-end-chunk : goal.shape_of-engine_numbers-then-end-chunk
-shape_of-engine_numbers-then-end-chunk c = ((let it : (let it : Type 0 = let a = top c in let s = called a in SoFar (place_now s.args.buffer s.args.s s.args.scratch s.args.engine_numbers s.args.engine_counts) s.args.chunk.now s.args.out.now s.args.n (place_in c.keep_line-line.new.buffer c.keep_line-line.result.state c.loop-taken.scratch c.loop-taken.engine_numbers c.loop-taken.engine_counts) c.loop-taken.out (c.loop-taken.true + c.keep_line-line.result.taken) c.loop-taken.written in it) = kept c.loop-taken.invariant c.loop-taken-test.true c.if-out-written-lt-REPLY_BYTES.false c.keep_line-line.ensures c.keep_line-line.auto.buffer in it)).into.takes.stays.numbers
+shape_of-engine_numbers-then-end-chunk c = (kept c.loop-taken.invariant c.loop-taken-test.true c.if-out-written-lt-REPLY_BYTES.false
+    c.keep_line-line.ensures c.keep_line-line.auto.buffer).into.takes.stays.numbers
 
 pub shape_of-engine_counts-then-end-chunk : goal.shape_of-engine_counts-then-end-chunk
-shape_of-engine_counts-then-end-chunk c = ((let it : (let it : Type 0 = let a = top c in let s = called a in SoFar (place_now s.args.buffer s.args.s s.args.scratch s.args.engine_numbers s.args.engine_counts) s.args.chunk.now s.args.out.now s.args.n (place_in c.keep_line-line.new.buffer c.keep_line-line.result.state c.loop-taken.scratch c.loop-taken.engine_numbers c.loop-taken.engine_counts) c.loop-taken.out (c.loop-taken.true + c.keep_line-line.result.taken) c.loop-taken.written in it) = kept c.loop-taken.invariant c.loop-taken-test.true c.if-out-written-lt-REPLY_BYTES.false c.keep_line-line.ensures c.keep_line-line.auto.buffer in it)).into.takes.stays.counts
+shape_of-engine_counts-then-end-chunk c = (kept c.loop-taken.invariant c.loop-taken-test.true c.if-out-written-lt-REPLY_BYTES.false
+    c.keep_line-line.ensures c.keep_line-line.auto.buffer).into.takes.stays.counts
 
 pub shape_of-out-then-end-chunk : goal.shape_of-out-then-end-chunk
-shape_of-out-then-end-chunk c = ((let it : (let it : Type 0 = let a = top c in let s = called a in SoFar (place_now s.args.buffer s.args.s s.args.scratch s.args.engine_numbers s.args.engine_counts) s.args.chunk.now s.args.out.now s.args.n (place_in c.keep_line-line.new.buffer c.keep_line-line.result.state c.loop-taken.scratch c.loop-taken.engine_numbers c.loop-taken.engine_counts) c.loop-taken.out (c.loop-taken.true + c.keep_line-line.result.taken) c.loop-taken.written in it) = kept c.loop-taken.invariant c.loop-taken-test.true c.if-out-written-lt-REPLY_BYTES.false c.keep_line-line.ensures c.keep_line-line.auto.buffer in it)).into.outs
+shape_of-out-then-end-chunk c = (kept c.loop-taken.invariant c.loop-taken-test.true c.if-out-written-lt-REPLY_BYTES.false
+    c.keep_line-line.ensures c.keep_line-line.auto.buffer).into.outs
 
 pub returns-then-end-chunk : goal.returns-then-end-chunk
-returns-then-end-chunk c = let e = c.if-end-chunk.true in ends ((let it : (let it : Type 0 = let a = top c in let s = called a in SoFar (place_now s.args.buffer s.args.s s.args.scratch s.args.engine_numbers s.args.engine_counts) s.args.chunk.now s.args.out.now s.args.n (place_in c.keep_line-line.new.buffer c.keep_line-line.result.state c.loop-taken.scratch c.loop-taken.engine_numbers c.loop-taken.engine_counts) c.loop-taken.out (c.loop-taken.true + c.keep_line-line.result.taken) c.loop-taken.written in it) = kept c.loop-taken.invariant c.loop-taken-test.true c.if-out-written-lt-REPLY_BYTES.false c.keep_line-line.ensures c.keep_line-line.auto.buffer in it)) (omega arith)
+returns-then-end-chunk c = let e = c.if-end-chunk.true in ends (kept c.loop-taken.invariant c.loop-taken-test.true c.if-out-written-lt-REPLY_BYTES.false
+    c.keep_line-line.ensures c.keep_line-line.auto.buffer) (omega arith)
 
 pub shape_of-buffer : goal.shape_of-buffer
 shape_of-buffer c = c.loop-taken.invariant.into.takes.buffers

@@ -1,10 +1,11 @@
 -- `inputs::finish` meets its contract: no byte kept is no line. Assumes nothing.
+use mathlib.Core.List.{[]}
 use mathlib.Core.Path.{refl}
 use native.Mathlib.Omega.{arith}
 use Rattle.texts.proofs.Appending.{nothing}
 use Rattle.input_lines.proofs.Keeping.{no_last_line, last_line}
 use Rattle.inputs.specs.Inputs.{replies, left_by_lines}
-use Rattle.inputs.specs.States.{Place, place_now, kept_reply}
+use Rattle.inputs.specs.States.{place_in, kept_reply}
 use Rattle.inputs.proofs.Keeping.{kept_answered, reply_short}
 use Rattle.inputs.proofs.finish.Goals as goal
 
@@ -22,14 +23,15 @@ returns-then-kept-eq0 c =
 
 pub returns : goal.returns
 returns c =
+    let stood = place_in c.args.buffer.now c.args.s c.args.scratch.now c.args.engine_numbers.now c.args.engine_counts.now in
     let e = c.reply.ensures.appended.ends in
-    let h = reply_short ((let it : Place = place_now c.args.buffer c.args.s c.args.scratch c.args.engine_numbers c.args.engine_counts in it)) in
+    let h = reply_short stood in
     let l = c.reply.auto.out in
     record {
-      text = kept_reply ((let it : Place = place_now c.args.buffer c.args.s c.args.scratch c.args.engine_numbers c.args.engine_counts in it));
+      text = kept_reply stood;
       answers = λ begun k.
           rw (last_line c.args.buffer.now c.args.s begun k c.if-kept-eq0.false)
-          (kept_answered ((let it : Place = place_now c.args.buffer c.args.s c.args.scratch c.args.engine_numbers c.args.engine_counts in it)) begun k c.reply.ensures.leaves);
+          (kept_answered stood begun k c.reply.ensures.leaves);
       short = h;
       appended = c.reply.ensures.appended;
       room = omega arith;

@@ -1,5 +1,5 @@
 -- `lines::body_reply` meets its contract: the figures are the body's numbers. Assumes nothing.
-use mathlib.Core.List.{List, ◌∷◌}
+use mathlib.Core.List.{List, ◌∷◌, []}
 use mathlib.Core.Path.{ap, ◌∙◌}
 use lib.Ieee.{Float}
 use Rattle.lines.specs.Lines.{unless_refused}

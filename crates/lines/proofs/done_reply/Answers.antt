@@ -1,5 +1,5 @@
 -- `lines::done_reply` meets its contract: each arm knows its case. Assumes nothing.
-use mathlib.Core.List.{List, ◌∷◌}
+use mathlib.Core.List.{List, ◌∷◌, []}
 use mathlib.Core.Path.{ap}
 use Prim.Native.Nat.{ℕ}
 use lib.Ieee.{Float}

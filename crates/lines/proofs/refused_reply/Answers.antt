@@ -1,5 +1,5 @@
 -- `lines::refused_reply` meets its contract: number and values are the refusal's. Assumes nothing.
-use mathlib.Core.List.{List, ◌∷◌}
+use mathlib.Core.List.{List, ◌∷◌, []}
 use mathlib.Core.Path.{ap₂}
 use Prim.Native.Nat.{ℕ}
 use lib.ListN.{get_or}

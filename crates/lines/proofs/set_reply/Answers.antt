@@ -1,5 +1,5 @@
 -- `lines::set_reply` meets its contract: the figures are those of the body that the call gives. Assumes nothing.
-use mathlib.Core.List.{List, ◌∷◌}
+use mathlib.Core.List.{List, ◌∷◌, []}
 use mathlib.Core.Path.{ap, ◌∙◌}
 use lib.ListN.{length}
 use lib.Ieee.{Float}

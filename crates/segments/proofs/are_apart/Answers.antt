@@ -1,6 +1,6 @@
 -- `segments::are_apart` meets its contract, which goes by the same tests in their order. Assumes nothing.
 use mathlib.Core.Path.{◌≡◌, refl, sym}
-use mathlib.Core.Bool.{Bool, true, false, not, ◌&&◌}
+use mathlib.Core.Bool.{Bool, true, false, not, ◌&&◌, ◌||◌}
 use Rattle.floats.proofs.Bools.{no}
 use Rattle.segments.specs.declared.Place.{Place}
 use Rattle.segments.specs.declared.Segment.{Segment}
