@@ -1,5 +1,4 @@
 -- `bodies::of_origin_tensor` meets its contract: its two calls, put together. Assumes nothing.
-use borrow.Author.Rules.{rules}
 use Rattle.bodies.specs.Bodies.{of_origin_tensor}
 use Rattle.bodies.proofs.of_origin_tensor.Goals as goal
 

@@ -1,10 +1,8 @@
 -- `body_check::check` meets its contract, which goes by the same tests. Assumes nothing.
 use mathlib.Core.Path.{sym, ◌∙◌}
 use borrow.Author.Tests.{not-true, not-false}
-use borrow.Author.Rules.{rules}
 use Rattle.refusals.proofs.Given.{is_answer}
 use Rattle.floats.proofs.is_finite.Reads as is-finite-reads'
-
 use Rattle.body_check.proofs.check.Goals as goal
 
 pub returns-then-not-is_finite : goal.returns-then-not-is_finite

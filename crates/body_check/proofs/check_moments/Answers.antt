@@ -1,5 +1,4 @@
 -- `body_check::check_moments` meets its contract, which goes by the same tests. Assumes nothing.
-use borrow.Author.Rules.{rules}
 use Rattle.body_check.proofs.check_moments.Goals as goal
 
 pub returns-then-moments-tolerance : goal.returns-then-moments-tolerance

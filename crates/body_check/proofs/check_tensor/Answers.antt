@@ -1,7 +1,6 @@
 -- `body_check::check_tensor` meets its contract, which goes by the same tests. Assumes nothing.
 use mathlib.Core.Path.{sym, ◌∙◌}
 use borrow.Author.Tests.{not-true, not-false}
-use borrow.Author.Rules.{rules}
 use Rattle.body_check.specs.BodyCheck.{check_tensor}
 use Rattle.body_check.proofs.check_tensor.Goals as goal
 

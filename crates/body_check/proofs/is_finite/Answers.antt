@@ -1,7 +1,6 @@
 -- `body_check::is_finite` meets its contract, which goes by the same tests. Assumes nothing.
 use mathlib.Core.Path.{sym, ◌∙◌}
 use borrow.Author.Tests.{not-true, not-false}
-use borrow.Author.Rules.{rules}
 use Rattle.body_check.proofs.is_finite.Goals as goal
 
 pub returns-then-not-is_finite : goal.returns-then-not-is_finite

@@ -3,7 +3,6 @@
 use mathlib.Core.Path.{refl, sym, ◌∙◌}
 use native.Mathlib.Omega.{arith}
 use Rattle.breaks.proofs.Kept.{within, both}
-use borrow.Author.Rules.{rules}
 use Rattle.breaks.proofs.break_heights.Goals as goal
 
 pub slice_bounds-insert-end : goal.slice_bounds-insert-end

@@ -1,12 +1,11 @@
 -- `breaks::distinct` meets its contract: those kept so far, with what is kept of the rest, are the whole. Assumes nothing.
 use mathlib.Core.Path.{◌≡◌, refl, sym}
-use Prim.Native.Nat.{◌-◌, ◌≤◌, ◌<◌}
+use Prim.Native.Nat.{◌-◌}
 use native.Mathlib.Omega.{arith}
 use lib.ListN.{take}
 use Rattle.floats.specs.Operations.{at}
-use Rattle.sorting.specs.Sorted.{Written}
 use Rattle.sorting.proofs.Over.{written_take, written_length, written_put}
-use Rattle.breaks.proofs.Kept.{Kept, zeros, kept_on, last_kept, keep_length, turn, answer}
+use Rattle.breaks.proofs.Kept.{zeros, kept_on, last_kept, keep_length, turn, answer}
 use Rattle.breaks.proofs.distinct.Goals as goal
 
 pub loop-i-init : goal.loop-i-init

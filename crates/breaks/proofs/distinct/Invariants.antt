@@ -1,19 +1,13 @@
 -- `breaks::distinct` meets its contract: those kept so far, with what is kept of the rest, are the whole. Assumes nothing.
-use mathlib.Core.Path.{◌≡◌, refl, sym}
 use Prim.Native.Nat.{◌-◌, ◌≤◌, ◌<◌}
-use native.Mathlib.Omega.{arith}
 use lib.ListN.{take}
-use Rattle.floats.specs.Operations.{at}
 use Rattle.sorting.specs.Sorted.{Written}
-use Rattle.sorting.proofs.Over.{written_take, written_length, written_put}
-use Rattle.breaks.proofs.Kept.{Kept, zeros, kept_on, last_kept, keep_length, turn, answer}
+use Rattle.breaks.proofs.Kept.{Kept, zeros}
 use Rattle.breaks.proofs.distinct.Given as goal
 
 abbrev pub invariant-loop-i : goal.invariant-loop-i
 invariant-loop-i l = (1 ≤ l.i) × (l.i ≤ l.n) × (l.count < l.i) × Written (take l.count l.heights) zeros l.heights l.count
     × Kept l.xs l.n l.i (take l.count l.heights)
 
-
 abbrev pub decreases-loop-i : goal.decreases-loop-i
 decreases-loop-i l = l.n - l.i
-

@@ -1,7 +1,6 @@
 -- `breaks::height_at` meets its contract: 0, the span, and behind them the points of an outline. Assumes nothing.
 use mathlib.Core.Path.{◌∙◌}
 use native.Mathlib.Omega.{arith}
-use borrow.Author.Rules.{rules}
 use Rattle.breaks.specs.Breaks.{every_y}
 use Rattle.breaks.proofs.Above.{of_outline, none_behind}
 use Rattle.breaks.proofs.height_at.Goals as goal

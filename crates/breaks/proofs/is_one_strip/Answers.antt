@@ -1,6 +1,5 @@
 -- `breaks::is_one_strip` meets its contract: each arm knows its case. Assumes nothing.
 use Rattle.breaks.specs.Breaks.{one_strip}
-use borrow.Author.Rules.{rules}
 use Rattle.breaks.proofs.is_one_strip.Goals as goal
 
 pub returns-in-Trapezoid : goal.returns-in-Trapezoid

@@ -2,7 +2,6 @@
 use native.Mathlib.Omega.{arith}
 use lib.Seq.{length-take-le}
 use Rattle.sorting.proofs.Over.{written_itself, written_put}
-use borrow.Author.Rules.{rules}
 use Rattle.breaks.proofs.keep_unless_equal.Goals as goal
 
 pub returns-then-a-b : goal.returns-then-a-b

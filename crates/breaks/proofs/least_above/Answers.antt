@@ -1,7 +1,6 @@
 -- `breaks::least_above` meets its contract: the span and 0 stand in front of the heights of the points. Assumes nothing.
 use mathlib.Core.Path.{ap}
 use native.Mathlib.Omega.{arith}
-use borrow.Author.Rules.{rules}
 use Rattle.breaks.specs.declared.RankedHeight.{RankedHeight}
 use Rattle.breaks.proofs.Above.{place_most, both_with}
 use Rattle.breaks.proofs.least_above.Goals as goal

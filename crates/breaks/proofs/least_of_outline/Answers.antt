@@ -1,11 +1,10 @@
 -- `breaks::least_of_outline` meets its contract: after i points, what is found is the least of theirs. Assumes nothing.
 use mathlib.Core.Path.{◌≡◌, refl}
-use Prim.Native.Nat.{◌-◌, ◌≤◌}
+use Prim.Native.Nat.{◌≤◌}
 use native.Mathlib.Omega.{arith}
 use borrow.Author.Tests.{le-leb, lt-leb}
 use Rattle.limits.specs.Limits.{most_points}
 use Rattle.planforms.specs.Planforms.{pair_count}
-use Rattle.breaks.specs.Breaks.{heights, least_above}
 use Rattle.breaks.proofs.Above.{none_found, begins, one_point, place_few}
 use Rattle.breaks.proofs.least_of_outline.Goals as goal
 

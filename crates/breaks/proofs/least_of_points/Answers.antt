@@ -1,6 +1,5 @@
 -- `breaks::least_of_points` meets its contract: only an outline has points. Assumes nothing.
 use native.Mathlib.Omega.{arith}
-use borrow.Author.Rules.{rules}
 use Rattle.breaks.specs.Breaks.{every_y}
 use Rattle.breaks.proofs.Above.{none_found}
 use Rattle.breaks.proofs.least_of_points.Goals as goal

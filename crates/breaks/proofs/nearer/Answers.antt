@@ -1,5 +1,4 @@
 -- `breaks::nearer` meets its contract, way by way. Assumes nothing.
-use borrow.Author.Rules.{rules}
 use Rattle.breaks.proofs.nearer.Goals as goal
 
 pub returns-then-h-x : goal.returns-then-h-x

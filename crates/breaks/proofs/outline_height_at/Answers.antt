@@ -1,6 +1,5 @@
 -- `breaks::outline_height_at` meets its contract: the last point's height stands first. Assumes nothing.
 use native.Mathlib.Omega.{arith}
-use borrow.Author.Rules.{rules}
 use Rattle.breaks.proofs.Above.{too_many_at, outline_at, outline_behind}
 use Rattle.breaks.proofs.outline_height_at.Goals as goal
 

@@ -2,7 +2,6 @@
 use Rattle.sorting.specs.Sorted.{sorted}
 use Rattle.sorting.proofs.Over.{written_nothing}
 use Rattle.breaks.specs.Breaks.{every_y}
-use borrow.Author.Rules.{rules}
 use Rattle.breaks.proofs.put_heights.Goals as goal
 
 pub returns-in-Outline : goal.returns-in-Outline

@@ -1,9 +1,5 @@
 -- `breaks::put_outline_heights` meets its contract: after i points their heights stand sorted. Assumes nothing.
-use Prim.Native.Nat.{◌-◌, ◌≤◌}
 use native.Mathlib.Omega.{arith}
-use Rattle.sorting.specs.Sorted.{sorted, Written}
-use Rattle.planforms.specs.Planforms.{pair_count}
-use Rattle.breaks.specs.Breaks.{heights}
 use Rattle.breaks.proofs.Kept.{no_heights, one_height, all_heights_lem, too_many}
 use Rattle.breaks.proofs.put_outline_heights.Goals as goal
 

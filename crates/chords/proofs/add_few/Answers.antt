@@ -1,5 +1,4 @@
 -- `chords::add_few` meets its contract: by how many there are, and which of two is the less. Assumes nothing.
-use borrow.Author.Rules.{rules}
 use Rattle.chords.proofs.add_few.Goals as goal
 
 pub returns-in-Zero : goal.returns-in-Zero

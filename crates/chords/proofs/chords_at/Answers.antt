@@ -1,6 +1,5 @@
 -- `chords::chords_at` meets its contract: each arm knows its case. Assumes nothing.
 use Rattle.chords.specs.Chords.{ends_at}
-use borrow.Author.Rules.{rules}
 use Rattle.chords.proofs.chords_at.Goals as goal
 
 pub outline_chord-requires : goal.outline_chord-requires

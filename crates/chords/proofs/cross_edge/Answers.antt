@@ -3,7 +3,6 @@ use mathlib.Core.Path.{sym, ◌∙◌}
 use native.Mathlib.Omega.{arith}
 use borrow.Author.Tests.{not-true, not-false}
 use Rattle.chords.proofs.Listed.{not_crossed, is_crossed_lem}
-use borrow.Author.Rules.{rules}
 use Rattle.chords.proofs.cross_edge.Goals as goal
 
 pub returns-then-not-edge_crossed : goal.returns-then-not-edge_crossed

@@ -1,10 +1,8 @@
 -- `chords::crossings_of` meets its contract: after k edges of the list their crossings stand sorted. Assumes nothing.
-use mathlib.Core.Path.{◌≡◌, refl}
-use Prim.Native.Nat.{◌-◌, ◌≤◌}
+use mathlib.Core.Path.{refl}
 use native.Mathlib.Omega.{arith}
-use lib.ListN.{length}
 use Rattle.planforms.specs.Planforms.{pair_count}
-use Rattle.chords.proofs.Listed.{After, none_yet, within, one_more, all}
+use Rattle.chords.proofs.Listed.{none_yet, within, one_more, all}
 use Rattle.chords.proofs.crossings_of.Goals as goal
 
 pub loop-k-init : goal.loop-k-init

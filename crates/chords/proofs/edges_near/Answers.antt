@@ -1,11 +1,9 @@
 -- `chords::edges_near` meets its contract: at point i the edges before it are asked. Assumes nothing.
 use mathlib.Core.Path.{◌≡◌, refl}
-use Prim.Native.Nat.{◌+◌, ◌-◌, ◌≤◌, ◌<◌}
+use Prim.Native.Nat.{◌+◌, ◌-◌}
 use native.Mathlib.Omega.{arith}
-use lib.ListN.{length}
-use lib.Ieee.{lt, le}
-use Rattle.planforms.specs.Planforms.{height_at, pair_count}
-use Rattle.chords.proofs.Near.{KeptTo, none_yet, one_more, closed, all_near, no_points, too_many}
+use Rattle.planforms.specs.Planforms.{pair_count}
+use Rattle.chords.proofs.Near.{none_yet, one_more, closed, all_near, no_points, too_many}
 use Rattle.chords.proofs.edges_near.Goals as goal
 
 pub returns-then-n-eq0 : goal.returns-then-n-eq0

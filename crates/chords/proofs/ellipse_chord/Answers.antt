@@ -1,7 +1,6 @@
 -- `chords::ellipse_chord` meets its contract: by whether the height is in the span. Assumes nothing.
 use borrow.Author.Tests.{not-true, not-false}
 use mathlib.Core.Path.{sym, ◌∙◌}
-use borrow.Author.Rules.{rules}
 use Rattle.chords.proofs.ellipse_chord.Goals as goal
 
 pub returns-then-not-in_span : goal.returns-then-not-in_span

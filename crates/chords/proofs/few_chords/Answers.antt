@@ -1,5 +1,4 @@
 -- `chords::few_chords` meets its contract: each arm knows its case. Assumes nothing.
-use borrow.Author.Rules.{rules}
 use Rattle.chords.proofs.few_chords.Goals as goal
 
 pub returns-in-Pair : goal.returns-in-Pair

@@ -1,5 +1,4 @@
 -- `chords::keep_edge` meets its contract: by which of the two holds. Assumes nothing.
-use borrow.Author.Rules.{rules}
 use Rattle.chords.proofs.keep_edge.Goals as goal
 
 pub returns : goal.returns

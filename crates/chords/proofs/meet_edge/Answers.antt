@@ -1,7 +1,6 @@
 -- `chords::meet_edge` meets its contract: an edge that is not crossed adds nothing, and a third crossing is not worked. Assumes nothing.
 use mathlib.Core.Path.{sym, ◌∙◌}
 use borrow.Author.Tests.{not-true, not-false}
-use borrow.Author.Rules.{rules}
 use Rattle.chords.proofs.meet_edge.Goals as goal
 
 pub returns-then-not-edge_crossed : goal.returns-then-not-edge_crossed

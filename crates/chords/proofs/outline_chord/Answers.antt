@@ -1,11 +1,9 @@
 -- `chords::outline_chord` meets its contract: after k edges of the list they are met. Assumes nothing.
-use mathlib.Core.Path.{◌≡◌, refl}
-use Prim.Native.Nat.{◌+◌, ◌-◌, ◌≤◌}
+use mathlib.Core.Path.{refl}
+use Prim.Native.Nat.{◌+◌}
 use native.Mathlib.Omega.{arith}
-use borrow.Author.Rules.{rules}
-use lib.ListN.{length}
 use Rattle.planforms.specs.Planforms.{pair_count}
-use Rattle.chords.proofs.Twice.{Met, none_yet, one_more, the_chord, a_third}
+use Rattle.chords.proofs.Twice.{none_yet, one_more, the_chord, a_third}
 use Rattle.chords.proofs.outline_chord.Goals as goal
 
 pub loop-k-init : goal.loop-k-init

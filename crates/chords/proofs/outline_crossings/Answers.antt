@@ -2,7 +2,6 @@
 use mathlib.Core.Path.{sym}
 use lib.Seq.{length-take-le}
 use Rattle.chords.proofs.Near.{at_one_height}
-use borrow.Author.Rules.{rules}
 use Rattle.chords.proofs.outline_crossings.Goals as goal
 
 pub slice_bounds-crossings_of-end : goal.slice_bounds-crossings_of-end

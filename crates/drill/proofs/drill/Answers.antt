@@ -1,5 +1,5 @@
 -- `drill::drill` meets its contract: its checks are the definition's, in its order, and each arm knows its planform. Assumes nothing.
-use mathlib.Core.List.{[], ◌∷◌}
+use mathlib.Core.List.{◌∷◌, []}
 use mathlib.Core.Path.{◌≡◌, sym, ap, subst, ◌∙◌}
 use Rattle.refusals.specs.declared.Verdict.TheVariants.{Accepted}
 use Rattle.refusals.proofs.Given.{is_answer}

@@ -1,5 +1,5 @@
 -- `drill::drill_trapezoid` meets its contract: the corners are whole where the four lengths are. Assumes nothing.
-use mathlib.Core.List.{[], ◌∷◌}
+use mathlib.Core.List.{◌∷◌, []}
 use mathlib.Core.Path.{◌∙◌}
 use native.Mathlib.Omega.{arith}
 use Rattle.drill.proofs.Reach.{four, trapezoid_reach, steps_back, steps_reach}

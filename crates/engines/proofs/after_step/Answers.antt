@@ -1,5 +1,4 @@
 -- `engines::after_step` meets its contract. Assumes nothing.
-use borrow.Author.Rules.{rules}
 use Rattle.engines.proofs.after_step.Goals as goal
 
 pub returns : goal.returns

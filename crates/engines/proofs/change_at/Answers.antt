@@ -2,7 +2,6 @@
 use mathlib.Core.Path.{sym, ◌∙◌}
 use Rattle.refusals.proofs.Given.{is_answer}
 use Rattle.engines.proofs.Laws.{change_held, change_none}
-use borrow.Author.Rules.{rules}
 use Rattle.engines.proofs.change_at.Goals as goal
 
 pub returns-then-holds_job : goal.returns-then-holds_job

@@ -1,6 +1,5 @@
 -- `engines::holds_job` meets its contract: a screen, and held. Assumes nothing.
 use Rattle.engines.specs.Engines.{holds_job}
-use borrow.Author.Rules.{rules}
 use Rattle.engines.proofs.holds_job.Goals as goal
 
 pub returns : goal.returns

@@ -1,6 +1,5 @@
 -- `engines::is_free` meets its contract: a screen, and not held. Assumes nothing.
 use Rattle.engines.specs.Engines.{is_free}
-use borrow.Author.Rules.{rules}
 use Rattle.engines.proofs.is_free.Goals as goal
 
 pub returns : goal.returns

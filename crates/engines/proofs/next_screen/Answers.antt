@@ -1,9 +1,7 @@
 -- `engines::next_screen` meets its contract: the search from here on gives what the whole search gives. Assumes nothing.
-use mathlib.Core.Path.{◌≡◌, refl, sym, ◌∙◌}
-use Prim.Native.Nat.{◌≤◌}
+use mathlib.Core.Path.{refl, sym, ◌∙◌}
 use native.Mathlib.Omega.{arith}
-use borrow.Author.Rules.{rules}
-use Rattle.engines.specs.Engines.{first_held, next_screen}
+use Rattle.engines.specs.Engines.{next_screen}
 use Rattle.engines.proofs.Laws.{found, passed, none}
 use Rattle.engines.proofs.next_screen.Goals as goal
 

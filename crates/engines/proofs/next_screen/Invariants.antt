@@ -1,10 +1,7 @@
 -- `engines::next_screen` meets its contract: the search from here on gives what the whole search gives. Assumes nothing.
-use mathlib.Core.Path.{◌≡◌, refl, sym, ◌∙◌}
+use mathlib.Core.Path.{◌≡◌}
 use Prim.Native.Nat.{◌≤◌}
-use native.Mathlib.Omega.{arith}
-use borrow.Author.Rules.{rules}
-use Rattle.engines.specs.Engines.{first_held, next_screen}
-use Rattle.engines.proofs.Laws.{found, passed, none}
+use Rattle.engines.specs.Engines.{first_held}
 use Rattle.engines.proofs.next_screen.Given as goal
 
 abbrev pub invariant-loop-left : goal.invariant-loop-left

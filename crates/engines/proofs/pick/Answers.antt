@@ -1,8 +1,7 @@
 -- `engines::pick` meets its contract. Assumes nothing.
-use mathlib.Core.Path.{sym, ◌∙◌}
+use mathlib.Core.Path.{◌∙◌}
 use mathlib.Core.Path.{ap}
 use Rattle.engines.specs.Engines.{place_of, pick_of}
-use borrow.Author.Rules.{rules}
 use Rattle.engines.proofs.pick.Goals as goal
 
 pub returns : goal.returns

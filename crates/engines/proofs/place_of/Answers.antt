@@ -2,7 +2,6 @@
 use mathlib.Core.Path.{sym, ◌∙◌}
 use native.Mathlib.Omega.{arith}
 use Rattle.engines.proofs.Laws.{screen_within, place_is, place_none}
-use borrow.Author.Rules.{rules}
 use Rattle.engines.proofs.place_of.Goals as goal
 
 pub overflow_sub-result : goal.overflow_sub-result

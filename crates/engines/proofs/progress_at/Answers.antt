@@ -1,7 +1,6 @@
 -- `engines::progress_at` meets its contract: as the job's own, or zeros. Assumes nothing.
 use mathlib.Core.Path.{sym, ◌∙◌}
 use Rattle.engines.proofs.Laws.{told_held, told_none}
-use borrow.Author.Rules.{rules}
 use Rattle.engines.proofs.progress_at.Goals as goal
 
 pub returns-then-holds_job : goal.returns-then-holds_job

@@ -10,7 +10,6 @@ use Rattle.engines.specs.declared.Screens.{Screens}
 use Rattle.engines.specs.declared.ScreenTurn.{ScreenTurn}
 use Rattle.engines.specs.Engines.{stepped, served_of, ServesTo}
 use Rattle.engines.proofs.Laws.{long_enough, served_short, served_step, served_idle}
-use borrow.Author.Rules.{rules}
 use Rattle.engines.proofs.serve.Goals as goal
 
 serves_to : {screens : Screens} {job : Job} {call : CallOf ScreenTurn} {entry exit : List Float} {r : ScreenTurn}

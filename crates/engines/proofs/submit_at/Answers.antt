@@ -2,7 +2,6 @@
 use mathlib.Core.Path.{sym, ◌∙◌}
 use Rattle.refusals.proofs.Given.{is_answer}
 use Rattle.engines.proofs.Laws.{submit_refused, submit_taken, submit_not_free}
-use borrow.Author.Rules.{rules}
 use Rattle.engines.proofs.submit_at.Goals as goal
 
 pub returns-then-new : goal.returns-then-new

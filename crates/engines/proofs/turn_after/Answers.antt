@@ -1,5 +1,4 @@
 -- `engines::turn_after` meets its contract. Assumes nothing.
-use borrow.Author.Rules.{rules}
 use Rattle.engines.proofs.turn_after.Goals as goal
 
 pub returns-then-ended : goal.returns-then-ended

@@ -1,6 +1,5 @@
 -- `engines::with_held` meets its contract. Assumes nothing.
 use Rattle.engines.specs.Engines.{with_held}
-use borrow.Author.Rules.{rules}
 use Rattle.engines.proofs.with_held.Goals as goal
 
 pub returns : goal.returns

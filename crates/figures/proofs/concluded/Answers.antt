@@ -5,7 +5,6 @@ use Rattle.bodies.specs.declared.Body.{Body}
 use Rattle.rings.specs.Rings.{joined_copies}
 use Rattle.figures.specs.Figures.{figures_by}
 use Rattle.figures.proofs.Reports.{set_concluded}
-use borrow.Author.Rules.{rules}
 use Rattle.figures.proofs.concluded.Goals as goal
 
 pub returns-in-Accepted : goal.returns-in-Accepted

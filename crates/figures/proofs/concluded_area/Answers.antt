@@ -1,7 +1,6 @@
 -- `figures::concluded_area` meets its contract: each arm knows its case. Assumes nothing.
 use mathlib.Core.Path.{sym, ◌∙◌}
 use Rattle.figures.specs.Areas.{concluded_area}
-use borrow.Author.Rules.{rules}
 use Rattle.figures.proofs.concluded_area.Goals as goal
 
 pub returns-in-Accepted : goal.returns-in-Accepted

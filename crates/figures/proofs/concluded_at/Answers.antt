@@ -1,5 +1,4 @@
 -- `figures::concluded_at` meets its contract, by what the calls ensure. Assumes nothing.
-use borrow.Author.Rules.{rules}
 use Rattle.figures.proofs.concluded_at.Goals as goal
 
 pub returns : goal.returns

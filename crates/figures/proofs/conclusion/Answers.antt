@@ -1,5 +1,4 @@
 -- `figures::conclusion` meets its contract, by what the calls ensure. Assumes nothing.
-use borrow.Author.Rules.{rules}
 use Rattle.figures.proofs.conclusion.Goals as goal
 
 pub returns : goal.returns

@@ -2,7 +2,6 @@
 use mathlib.Core.Path.{refl, sym, ◌∙◌}
 use Rattle.figures.proofs.Owned.{planform_f64}
 use Rattle.figures.proofs.Answers.{area_worked, area_refused}
-use borrow.Author.Rules.{rules}
 use Rattle.figures.proofs.geometry.Goals as goal
 
 pub work_area-requires : goal.work_area-requires

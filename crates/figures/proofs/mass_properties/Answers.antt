@@ -2,7 +2,6 @@
 use mathlib.Core.Path.{refl, sym, ◌∙◌}
 use Rattle.figures.proofs.Owned.{set_f64}
 use Rattle.figures.proofs.Answers.{set_worked, set_refused}
-use borrow.Author.Rules.{rules}
 use Rattle.figures.proofs.mass_properties.Goals as goal
 
 pub work_set-requires : goal.work_set-requires

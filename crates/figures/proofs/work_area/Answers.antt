@@ -3,7 +3,6 @@ use mathlib.Core.Path.{◌∙◌}
 use Rattle.figures.proofs.Runs.{area_strips_lem, area_run_lem, run_of_lem}
 use Rattle.figures.proofs.Widths.{area_at_three}
 use Rattle.figures.proofs.Owned.{planform_f64}
-use borrow.Author.Rules.{rules}
 use Rattle.figures.proofs.work_area.Goals as goal
 
 pub work_strips-total-requires : goal.work_strips-total-requires

@@ -3,7 +3,6 @@ use mathlib.Core.Path.{◌∙◌}
 use Rattle.limits.proofs.Accepted.{count_within}
 use Rattle.fins.proofs.Accepted.{set_accepted}
 use Rattle.figures.proofs.Runs.{plate_strips, set_run_lem, run_of_lem}
-use borrow.Author.Rules.{rules}
 use Rattle.figures.proofs.work_set.Goals as goal
 
 pub plate_integrand-integrand-requires : goal.plate_integrand-integrand-requires

@@ -1,5 +1,4 @@
 -- `fillets::about_origin` meets its contract: its one power, used twice. Assumes nothing.
-use borrow.Author.Rules.{rules}
 use Rattle.fillets.proofs.about_origin.Goals as goal
 
 pub returns : goal.returns

@@ -1,6 +1,5 @@
 -- `fillets::angle` meets its contract: its calls, put together. Assumes nothing.
 use Rattle.fillets.specs.Angles.{angle_of}
-use borrow.Author.Rules.{rules}
 use Rattle.fillets.proofs.angle.Goals as goal
 
 pub returns : goal.returns

@@ -1,5 +1,4 @@
 -- `fillets::check_glue` meets its contract: it goes by the same test. Assumes nothing.
-use borrow.Author.Rules.{rules}
 use Rattle.fillets.proofs.check_glue.Goals as goal
 
 pub returns-then-fillet : goal.returns-then-fillet

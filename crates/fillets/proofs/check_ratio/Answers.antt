@@ -1,7 +1,6 @@
 -- `fillets::check_ratio` meets its contract: where there is no fillet nothing is refused; else by the definition's tests. Assumes nothing.
 use mathlib.Core.Path.{sym, ◌∙◌}
 use Rattle.fillets.specs.Fillets.{ratio_check}
-use borrow.Author.Rules.{rules}
 use Rattle.fillets.proofs.check_ratio.Goals as goal
 
 pub returns-then-is_none : goal.returns-then-is_none

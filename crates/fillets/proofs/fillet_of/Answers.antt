@@ -2,7 +2,6 @@
 use mathlib.Core.Path.{sym, ◌∙◌}
 use borrow.Author.Tests.{eq-eqb, ne_eqb}
 use Rattle.fillets.specs.Numbered.{fillet_of}
-use borrow.Author.Rules.{rules}
 use Rattle.fillets.proofs.fillet_of.Goals as goal
 
 pub returns-then-number-eq0 : goal.returns-then-number-eq0

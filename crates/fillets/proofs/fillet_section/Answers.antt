@@ -1,6 +1,5 @@
 -- `fillets::fillet_section` meets its contract: its calls, put together. Assumes nothing.
 use Rattle.fillets.specs.FilletSections.{fillet_section_of}
-use borrow.Author.Rules.{rules}
 use Rattle.fillets.proofs.fillet_section.Goals as goal
 
 pub returns : goal.returns

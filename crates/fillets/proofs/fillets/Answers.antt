@@ -1,7 +1,6 @@
 -- `fillets::fillets` meets its contract: each arm knows its case. Assumes nothing.
 use mathlib.Core.Path.{sym, ◌∙◌}
 use Rattle.fillets.specs.Fillets.{fillets_of}
-use borrow.Author.Rules.{rules}
 use Rattle.fillets.proofs.fillets.Goals as goal
 
 pub returns-then-is_none : goal.returns-then-is_none

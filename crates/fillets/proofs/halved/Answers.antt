@@ -1,5 +1,4 @@
 -- `fillets::halved` meets its contract: its call is the root. Assumes nothing.
-use borrow.Author.Rules.{rules}
 use Rattle.fillets.proofs.halved.Goals as goal
 
 pub returns : goal.returns

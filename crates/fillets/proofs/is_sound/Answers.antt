@@ -1,6 +1,5 @@
 -- `fillets::is_sound` meets its contract: its calls, put together. Assumes nothing.
 use Rattle.fillets.specs.Fillets.{is_sound}
-use borrow.Author.Rules.{rules}
 use Rattle.fillets.proofs.is_sound.Goals as goal
 
 pub returns : goal.returns

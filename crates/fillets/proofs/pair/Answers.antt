@@ -1,6 +1,5 @@
 -- `fillets::pair` meets its contract: its calls, put together. Assumes nothing.
 use Rattle.fillets.specs.Fillets.{pair_of}
-use borrow.Author.Rules.{rules}
 use Rattle.fillets.proofs.pair.Goals as goal
 
 pub returns : goal.returns

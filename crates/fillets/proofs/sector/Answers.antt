@@ -1,6 +1,5 @@
 -- `fillets::sector` meets its contract: its call, with the difference and half the sum. Assumes nothing.
 use Rattle.fillets.specs.FilletSections.{sector_of}
-use borrow.Author.Rules.{rules}
 use Rattle.fillets.proofs.sector.Goals as goal
 
 pub returns : goal.returns

@@ -1,5 +1,4 @@
 -- `fillets::sector_with` meets its contract: its calls, put together. Assumes nothing.
-use borrow.Author.Rules.{rules}
 use Rattle.fillets.proofs.sector_with.Goals as goal
 
 pub returns : goal.returns

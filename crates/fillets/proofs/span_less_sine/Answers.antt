@@ -1,6 +1,5 @@
 -- `fillets::span_less_sine` meets its contract: it goes by the same test. Assumes nothing.
 use Rattle.fillets.specs.FilletSections.{span_less_sine_of}
-use borrow.Author.Rules.{rules}
 use Rattle.fillets.proofs.span_less_sine.Goals as goal
 
 pub returns-then-abs : goal.returns-then-abs

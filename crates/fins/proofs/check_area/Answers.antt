@@ -1,9 +1,8 @@
 -- `fins::check_area` meets its contract: the calls are in order. Assumes nothing.
-use mathlib.Core.List.{[], ◌∷◌}
+use mathlib.Core.List.{◌∷◌, []}
 use Rattle.refusals.proofs.Given.{is_answer}
 use Rattle.refusals.proofs.Order.{in_order}
 use Rattle.fins.specs.Fins.{area_check}
-use borrow.Author.Rules.{rules}
 use Rattle.fins.proofs.check_area.Goals as goal
 
 pub returns : goal.returns

@@ -1,6 +1,5 @@
 -- `fins::check_depth` meets its contract: each arm knows its case. Assumes nothing.
 use Rattle.fins.specs.Fins.{depth_check}
-use borrow.Author.Rules.{rules}
 use Rattle.fins.proofs.check_depth.Goals as goal
 
 pub returns-in-None : goal.returns-in-None

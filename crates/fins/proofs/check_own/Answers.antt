@@ -10,7 +10,6 @@ use Rattle.fins.specs.declared.FinSet.{FinSet}
 use Rattle.limits.specs.Limits.{count_check}
 use Rattle.outlines.specs.Outlines.{planform_check}
 use Rattle.fins.specs.Fins.{plate_checks, mount_checks, fillet_checks, own_check}
-use borrow.Author.Rules.{rules}
 use Rattle.fins.proofs.check_own.Goals as goal
 
 -- the list of checks as its groups, of which two are given the root chord

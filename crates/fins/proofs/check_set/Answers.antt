@@ -6,7 +6,6 @@ use Rattle.refusals.specs.Order.{first_refusal}
 use Rattle.refusals.proofs.Given.{is_answer}
 use Rattle.refusals.proofs.Order.{passed, refused_here}
 use Rattle.fins.specs.Fins.{own_check, set_check}
-use borrow.Author.Rules.{rules}
 use Rattle.fins.proofs.check_set.Goals as goal
 
 -- two checks in one, then the later ones

@@ -1,6 +1,5 @@
 -- `fins::check_tab` meets its contract: each arm knows its case. Assumes nothing.
 use Rattle.fins.specs.Fins.{tab_check}
-use borrow.Author.Rules.{rules}
 use Rattle.fins.proofs.check_tab.Goals as goal
 
 pub returns-in-None : goal.returns-in-None

@@ -1,5 +1,4 @@
 -- `fins::counts_of` meets its contract: each part has its number. Assumes nothing.
-use borrow.Author.Rules.{rules}
 use Rattle.fins.proofs.counts_of.Goals as goal
 
 pub returns : goal.returns

@@ -1,5 +1,4 @@
 -- `fins::known_set` meets its contract. Assumes nothing.
-use borrow.Author.Rules.{rules}
 use Rattle.fins.proofs.known_set.Goals as goal
 
 pub returns-in-Known : goal.returns-in-Known

@@ -2,7 +2,6 @@
 use mathlib.Core.Path.{◌∙◌}
 use borrow.Author.Tests.{eq-eqb, ne_eqb}
 use Rattle.fins.specs.Numbered.{listed_set}
-use borrow.Author.Rules.{rules}
 use Rattle.fins.proofs.listed_set.Goals as goal
 
 pub returns-then-numbers-ne-SET_NUMBERS : goal.returns-then-numbers-ne-SET_NUMBERS

@@ -1,5 +1,4 @@
 -- `fins::numbered_set` meets its contract: each part is known, or the set is not. Assumes nothing.
-use borrow.Author.Rules.{rules}
 use Rattle.fins.proofs.numbered_set.Goals as goal
 
 pub returns-in_default : goal.returns-in_default

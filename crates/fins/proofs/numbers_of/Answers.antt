@@ -1,5 +1,4 @@
 -- `fins::numbers_of` meets its contract: each part is written. Assumes nothing.
-use borrow.Author.Rules.{rules}
 use Rattle.fins.proofs.numbers_of.Goals as goal
 
 pub returns : goal.returns

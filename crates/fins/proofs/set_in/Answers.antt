@@ -1,6 +1,5 @@
 -- `fins::set_in` meets its contract: each part is read. Assumes nothing.
 use Rattle.fins.specs.Numbered.{set_in}
-use borrow.Author.Rules.{rules}
 use Rattle.fins.proofs.set_in.Goals as goal
 
 pub returns : goal.returns

@@ -1,5 +1,4 @@
 -- `fins::tab_figures` meets its contract: each arm knows its case. Assumes nothing.
-use borrow.Author.Rules.{rules}
 use Rattle.fins.proofs.tab_figures.Goals as goal
 
 pub returns-in-None : goal.returns-in-None

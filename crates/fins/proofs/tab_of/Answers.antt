@@ -1,7 +1,6 @@
 -- `fins::tab_of` meets its contract: the definition goes by the same tests. Assumes nothing.
 use borrow.Author.Tests.{eq-eqb, ne_eqb}
 use Rattle.fins.specs.Numbered.{tab_of}
-use borrow.Author.Rules.{rules}
 use Rattle.fins.proofs.tab_of.Goals as goal
 
 pub returns-then-number-eq0 : goal.returns-then-number-eq0

@@ -1,7 +1,6 @@
 -- `halving::integrate` meets its contract, each way of a strip. Assumes nothing.
 use mathlib.Core.Path.{◌≡◌, ap, ◌∙◌}
 use native.Mathlib.Omega.{arith}
-use borrow.Author.Rules.{rules}
 use Rattle.limits.specs.Limits.{piece_samples}
 use Rattle.quadrature.specs.declared.Measurement.{Measurement}
 use Rattle.quadrature.proofs.Heights.{fifteen}

@@ -1,5 +1,4 @@
 -- `halving::judge` meets its contract, from the sums, bounds and places. Assumes nothing.
-use borrow.Author.Rules.{rules}
 use Rattle.halving.proofs.Judging.{judged_within, judged_full, judged_middle, judged_halve}
 use Rattle.halving.proofs.judge.Goals as goal
 

@@ -1,5 +1,4 @@
 -- `halving::middle_is_end` meets its contract, which goes by the same tests. Assumes nothing.
-use borrow.Author.Rules.{rules}
 use Rattle.halving.proofs.middle_is_end.Goals as goal
 
 pub returns-then-m-p : goal.returns-then-m-p

@@ -1,11 +1,9 @@
 -- `halving::repeat` meets its contract: from each turn on the halving is the whole one. Assumes nothing.
 use mathlib.Core.Path.{◌≡◌, ◌∙◌}
-use Prim.Native.Nat.{◌-◌, ◌<◌, ◌≤◌}
+use Prim.Native.Nat.{◌<◌}
 use native.Mathlib.Omega.{arith}
-use borrow.Author.Rules.{rules}
-use Rattle.integrands.specs.Integrands.{sample_of}
 use Rattle.pieces.specs.Stored.{read_at}
-use Rattle.halving.proofs.Repeats.{State, begin, turn_ended, room, halves_thirty, turn_goes_on}
+use Rattle.halving.proofs.Repeats.{begin, turn_ended, room, halves_thirty, turn_goes_on}
 use Rattle.halving.proofs.repeat.Goals as goal
 
 pub loop-ending-init : goal.loop-ending-init

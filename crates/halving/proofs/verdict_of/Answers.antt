@@ -1,5 +1,4 @@
 -- `halving::verdict_of` meets its contract: each arm knows its case. Assumes nothing.
-use borrow.Author.Rules.{rules}
 use Rattle.halving.proofs.verdict_of.Goals as goal
 
 pub returns-in-NotConverged : goal.returns-in-NotConverged

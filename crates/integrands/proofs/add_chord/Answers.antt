@@ -1,5 +1,4 @@
 -- `integrands::add_chord` meets its contract: component by component. Assumes nothing.
-use borrow.Author.Rules.{rules}
 use Rattle.integrands.proofs.add_chord.Goals as goal
 
 pub returns : goal.returns

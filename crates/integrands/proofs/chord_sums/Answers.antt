@@ -1,10 +1,7 @@
 -- `integrands::chord_sums` meets its contract: what is left to add, with the sums so far, is the whole. Assumes nothing.
 use mathlib.Core.Path.{refl}
-use Prim.Native.Nat.{◌-◌, ◌/◌, ◌≤◌}
 use native.Mathlib.Omega.{arith}
-use borrow.Author.Rules.{rules}
-use lib.ListN.{length}
-use Rattle.integrands.proofs.Pairs.{Left, one_more, all}
+use Rattle.integrands.proofs.Pairs.{one_more, all}
 use Rattle.integrands.proofs.chord_sums.Goals as goal
 
 pub loop-k-init : goal.loop-k-init

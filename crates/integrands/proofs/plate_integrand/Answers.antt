@@ -1,5 +1,4 @@
 -- `integrands::plate_integrand` meets its contract: its parts are those given, divided by the scale. Assumes nothing.
-use borrow.Author.Rules.{rules}
 use Rattle.integrands.specs.Integrands.{scale_of}
 use Rattle.integrands.proofs.plate_integrand.Goals as goal
 

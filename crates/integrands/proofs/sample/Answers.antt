@@ -4,7 +4,6 @@ use mathlib.Core.Path.{sym}
 use lib.Seq.{length-take-le}
 use Rattle.chords.proofs.Near.{at_one_height}
 use Rattle.integrands.proofs.Sampled.{sampled}
-use borrow.Author.Rules.{rules}
 use Rattle.integrands.proofs.sample.Goals as goal
 
 pub slice_bounds-chords_at-end : goal.slice_bounds-chords_at-end

@@ -1,6 +1,5 @@
 -- `integrands::scale_m` meets its contract: the sum of the two. Assumes nothing.
 use Rattle.integrands.specs.Integrands.{scale_of}
-use borrow.Author.Rules.{rules}
 use Rattle.integrands.proofs.scale_m.Goals as goal
 
 pub returns : goal.returns

@@ -1,5 +1,4 @@
 -- `integrands::term` meets its contract: each arm knows its case. Assumes nothing.
-use borrow.Author.Rules.{rules}
 use Rattle.integrands.proofs.term.Goals as goal
 
 pub returns-in-Area : goal.returns-in-Area

@@ -1,5 +1,4 @@
 -- `integrands::values` meets its contract: each arm knows its case. Assumes nothing.
-use borrow.Author.Rules.{rules}
 use Rattle.integrands.proofs.values.Goals as goal
 
 pub returns-in-Area : goal.returns-in-Area

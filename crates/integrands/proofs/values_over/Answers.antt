@@ -2,7 +2,6 @@
 use mathlib.Core.Path.{◌∙◌}
 use Rattle.chords.specs.Chords.{paired}
 use Rattle.integrands.specs.Integrands.{sums_from}
-use borrow.Author.Rules.{rules}
 use Rattle.integrands.proofs.values_over.Goals as goal
 
 pub values_over_several-requires : goal.values_over_several-requires

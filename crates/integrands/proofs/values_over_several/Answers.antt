@@ -9,7 +9,6 @@ use Rattle.sorting.proofs.Over.{written_take, written_length}
 use Rattle.chords.specs.Chords.{paired}
 use Rattle.chords.proofs.Listed.{most_crossings}
 use Rattle.integrands.specs.Integrands.{sample_values, values_over}
-use borrow.Author.Rules.{rules}
 use Rattle.integrands.proofs.values_over_several.Goals as goal
 
 pub slice_bounds-ends-end : goal.slice_bounds-ends-end

@@ -1,11 +1,10 @@
 -- `jobs::after_strip` meets its contract: it goes on, or ends. Assumes nothing.
-use mathlib.Core.Path.{sym, ap, ◌∙◌}
+use mathlib.Core.Path.{sym, ◌∙◌}
 use native.Mathlib.Omega.{arith}
 use lib.Seq.{length-take-le}
 use Rattle.jobs.proofs.Laws.{both_told, after_more, ends_so}
 use Rattle.jobs.proofs.Lengths.{outline_length}
 use Rattle.jobs.proofs.Copies.{held_most}
-use borrow.Author.Rules.{rules}
 use Rattle.jobs.proofs.after_strip.Goals as goal
 
 pub returns-then-accepted-onward : goal.returns-then-accepted-onward

@@ -2,7 +2,6 @@
 use mathlib.Core.Path.{sym, ◌∙◌}
 use Rattle.refusals.proofs.Given.{is_answer}
 use Rattle.jobs.proofs.Laws.{change_ended, change_refused, change_taken}
-use borrow.Author.Rules.{rules}
 use Rattle.jobs.proofs.change_by_value.Goals as goal
 
 pub returns-then-over : goal.returns-then-over

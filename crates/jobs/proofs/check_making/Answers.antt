@@ -1,6 +1,5 @@
 -- `jobs::check_making` meets its contract: 1, then the set's own checks. Assumes nothing.
 use mathlib.Core.Path.{ap₂, ◌∙◌}
-use borrow.Author.Rules.{rules}
 use Rattle.refusals.specs.Order.{first_refusal}
 use Rattle.jobs.specs.Jobs.{making_check}
 use Rattle.jobs.proofs.check_making.Goals as goal

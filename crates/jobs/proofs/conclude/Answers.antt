@@ -1,6 +1,5 @@
 -- `jobs::conclude` meets its contract: each arm knows what the two checks gave. Assumes nothing.
 use mathlib.Core.Path.{sym, ap₂, ◌∙◌}
-use borrow.Author.Rules.{rules}
 use Rattle.refusals.specs.Order.{first_refusal}
 use Rattle.refusals.proofs.Accepted.{both}
 use Rattle.limits.proofs.Accepted.{count_within}

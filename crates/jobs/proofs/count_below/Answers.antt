@@ -1,6 +1,6 @@
 -- `jobs::count_below` meets its contract: counted from the last to the first. Assumes nothing.
 use native.Mathlib.Omega.{arith}
-use Rattle.jobs.proofs.Below.{Counting, begin, next, all_counted}
+use Rattle.jobs.proofs.Below.{begin, next, all_counted}
 use Rattle.jobs.proofs.count_below.Goals as goal
 
 pub loop-i-init : goal.loop-i-init

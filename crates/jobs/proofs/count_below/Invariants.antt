@@ -1,6 +1,5 @@
 -- `jobs::count_below` meets its contract: counted from the last to the first. Assumes nothing.
-use native.Mathlib.Omega.{arith}
-use Rattle.jobs.proofs.Below.{Counting, begin, next, all_counted}
+use Rattle.jobs.proofs.Below.{Counting}
 use Rattle.jobs.proofs.count_below.Given as goal
 
 abbrev pub invariant-loop-i : goal.invariant-loop-i

@@ -1,6 +1,5 @@
 -- `jobs::counted` meets its contract. Assumes nothing.
 use native.Mathlib.Numerals.{add-one}
-use borrow.Author.Rules.{rules}
 use Rattle.jobs.proofs.counted.Goals as goal
 
 pub returns-then-holds : goal.returns-then-holds

@@ -1,5 +1,4 @@
 -- `jobs::end_refused` meets its contract. Assumes nothing.
-use borrow.Author.Rules.{rules}
 use Rattle.jobs.proofs.end_refused.Goals as goal
 
 pub returns : goal.returns

@@ -1,5 +1,4 @@
 -- `jobs::figures_row` meets its contract: each arm knows its case. Assumes nothing.
-use borrow.Author.Rules.{rules}
 use Rattle.jobs.proofs.figures_row.Goals as goal
 
 pub returns-in-Accepted : goal.returns-in-Accepted

@@ -1,5 +1,4 @@
 -- `jobs::is_short` meets its contract. Assumes nothing.
-use borrow.Author.Rules.{rules}
 use Rattle.jobs.proofs.is_short.Goals as goal
 
 pub returns : goal.returns

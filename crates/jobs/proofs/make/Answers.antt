@@ -1,7 +1,6 @@
 -- `jobs::make` meets its contract, part by part. Assumes nothing.
 use Rattle.refusals.proofs.Given.{is_answer}
 use Rattle.jobs.specs.Jobs.{made_of}
-use borrow.Author.Rules.{rules}
 use Rattle.jobs.proofs.make.Goals as goal
 
 pub returns : goal.returns

@@ -1,5 +1,4 @@
 -- `jobs::plain_row` meets its contract. Assumes nothing.
-use borrow.Author.Rules.{rules}
 use Rattle.jobs.proofs.plain_row.Goals as goal
 
 pub returns : goal.returns

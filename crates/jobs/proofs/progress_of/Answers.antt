@@ -6,7 +6,6 @@ use lib.Seq.{length-take-le}
 use Rattle.jobs.proofs.Lengths.{outline_length}
 use Rattle.jobs.proofs.Copies.{held_most}
 use Rattle.jobs.proofs.Below.{some_break, few_breaks, progress_read_lem}
-use borrow.Author.Rules.{rules}
 use Rattle.jobs.proofs.progress_of.Goals as goal
 
 pub slice_bounds-numbers-end : goal.slice_bounds-numbers-end

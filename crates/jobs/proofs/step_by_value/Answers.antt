@@ -10,7 +10,6 @@ use Rattle.jobs.specs.declared.JobStep.{JobStep}
 use Rattle.refusals.specs.Calls.{CallOf, Does}
 use Rattle.jobs.specs.Jobs.{step_after, step_of, StepsTo}
 use Rattle.jobs.proofs.Laws.{step_short, step_on}
-use borrow.Author.Rules.{rules}
 use Rattle.jobs.proofs.step_by_value.Goals as goal
 
 steps_to : {job : Job} {call : CallOf JobStep} {entry exit : List Float} {r : JobStep} → step_of job (length entry) ≡ call

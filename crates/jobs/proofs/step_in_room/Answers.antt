@@ -1,10 +1,8 @@
 -- `jobs::step_in_room` meets its contract: an ended job again, the next strip, or 1. Assumes nothing.
-use mathlib.Core.Path.{◌≡◌, refl, sym, ap, ◌∙◌}
-use Rattle.limits.specs.Limits.{limit_check}
+use mathlib.Core.Path.{refl, sym, ap, ◌∙◌}
 use Rattle.strips.proofs.Reported.{run_within}
 use Rattle.jobs.specs.Jobs.{after_strip}
 use Rattle.jobs.proofs.Laws.{does_by, on_ended, on_refused, on_works, in_room}
-use borrow.Author.Rules.{rules}
 use Rattle.jobs.proofs.step_in_room.Goals as goal
 
 pub returns-then-job : goal.returns-then-job

@@ -1,5 +1,4 @@
 -- `jobs::take_density` meets its contract. Assumes nothing.
-use borrow.Author.Rules.{rules}
 use Rattle.jobs.proofs.take_density.Goals as goal
 
 pub returns : goal.returns

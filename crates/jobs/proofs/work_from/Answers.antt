@@ -2,7 +2,6 @@
 use mathlib.Core.Path.{sym, ap, ◌∙◌}
 use Rattle.planforms.specs.Planforms.{span_of}
 use Rattle.integrands.specs.declared.Integrand.{Integrand}
-use borrow.Author.Rules.{rules}
 use Rattle.jobs.proofs.Laws.{same_next}
 use Rattle.jobs.proofs.work_from.Goals as goal
 
@@ -10,12 +9,11 @@ pub plate_integrand-integrand-requires : goal.plate_integrand-integrand-requires
 plate_integrand-integrand-requires c = c.span_m-span_m.ensures
 
 pub work_next-requires : goal.work_next-requires
-work_next-requires c =
-    (
-      c.requires,
-      c.span_m-span_m.ensures
-          ∙ ap (λ (f : Integrand). span_of f.planform c.args.points.now) (sym c.plate_integrand-integrand.ensures),
-    )
+work_next-requires c = (
+  c.requires,
+  c.span_m-span_m.ensures
+      ∙ ap (λ (f : Integrand). span_of f.planform c.args.points.now) (sym c.plate_integrand-integrand.ensures),
+)
 
 pub returns : goal.returns
 returns c =

@@ -5,7 +5,6 @@ use lib.Seq.{length-take-le}
 use Rattle.jobs.proofs.Lengths.{outline_length}
 use Rattle.jobs.proofs.Copies.{held_most}
 use Rattle.jobs.proofs.Laws.{same_copy}
-use borrow.Author.Rules.{rules}
 use Rattle.jobs.proofs.work_next.Goals as goal
 
 pub slice_bounds-numbers-end : goal.slice_bounds-numbers-end

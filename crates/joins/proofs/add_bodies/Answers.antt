@@ -1,5 +1,5 @@
 -- `joins::add_bodies` meets its contract: one body more is the next in order. Assumes nothing.
-use Rattle.std.proofs.Common.{◌≡◌, arith, refl}
+use Rattle.std.proofs.Common.{arith, refl}
 use Rattle.joins.specs.Joins.{in_order, add_body}
 use Rattle.joins.proofs.InList.{next_in_list}
 use Rattle.joins.proofs.add_bodies.Goals as goal

@@ -1,5 +1,4 @@
 -- `joins::add_body` meets its contract: each sum with its term. Assumes nothing.
-use borrow.Author.Rules.{rules}
 use Rattle.joins.proofs.add_body.Goals as goal
 
 pub returns : goal.returns
@@ -7,5 +6,4 @@ returns c = rw (
   c.add-positions.ensures,
   c.add-moment.ensures,
   c.scale.ensures,
-
 )

@@ -1,5 +1,4 @@
 -- `joins::add_inertia` meets its contract: the tensor about the joined centre, added. Assumes nothing.
-use borrow.Author.Rules.{rules}
 use Rattle.joins.proofs.add_inertia.Goals as goal
 
 pub returns : goal.returns

@@ -1,5 +1,5 @@
 -- `joins::add_inertias` meets its contract: one body more is the next in order. Assumes nothing.
-use Rattle.std.proofs.Common.{◌≡◌, arith, refl}
+use Rattle.std.proofs.Common.{arith, refl}
 use Rattle.joins.specs.Joins.{in_order, add_inertia}
 use Rattle.joins.proofs.InList.{next_in_list}
 use Rattle.joins.proofs.add_inertias.Goals as goal

@@ -1,5 +1,4 @@
 -- `joins::at_centre` meets its contract: the sums' own centre. Assumes nothing.
-use borrow.Author.Rules.{rules}
 use Rattle.joins.proofs.at_centre.Goals as goal
 
 pub returns : goal.returns

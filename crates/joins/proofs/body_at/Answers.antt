@@ -1,6 +1,5 @@
 -- `joins::body_at` meets its contract: a part of as many numbers as a body has. Assumes nothing.
 use mathlib.Core.Path.{◌∙◌}
-use borrow.Author.Rules.{rules}
 use Rattle.joins.proofs.Parts.{part_size, part_body}
 use Rattle.joins.proofs.body_at.Goals as goal
 

@@ -1,5 +1,4 @@
 -- `joins::centre` meets its contract, which goes by the same tests. Assumes nothing.
-use borrow.Author.Rules.{rules}
 use Rattle.floats.proofs.Nan.{zero_over_zero}
 use Rattle.joins.proofs.centre.Goals as goal
 

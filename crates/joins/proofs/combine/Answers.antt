@@ -1,6 +1,5 @@
 -- `joins::combine` meets its contract: the definition goes by the same test and by the count's check. Assumes nothing.
 use mathlib.Core.Path.{ap, ◌∙◌}
-use borrow.Author.Rules.{rules}
 use borrow.Author.Tests.{eq-eqb, ne_eqb}
 use Rattle.refusals.proofs.Given.{is_answer}
 use Rattle.joins.specs.Joins.{accepted_body}

@@ -1,9 +1,7 @@
 -- `joins::join_numbers` meets its contract: after k turns the tensors of the first k bodies are added. Assumes nothing.
-use mathlib.Core.Path.{◌≡◌, ap, ◌∙◌}
-use Prim.Native.Nat.{◌≤◌, ◌-◌}
+use mathlib.Core.Path.{ap, ◌∙◌}
 use native.Mathlib.Nat.{le_antisymm}
 use native.Mathlib.Omega.{arith}
-use borrow.Author.Rules.{rules}
 use Rattle.joins.specs.Flat.{body_at}
 use Rattle.joins.proofs.InOrder.{joined_to, none_joined, join_next, all_joined}
 use Rattle.joins.proofs.join_numbers.Goals as goal

@@ -1,5 +1,4 @@
 -- `joins::join_two` meets its contract: the steps over two bodies, in order. Assumes nothing.
-use borrow.Author.Rules.{rules}
 use Rattle.joins.proofs.InOrder.{two_added}
 use Rattle.joins.proofs.join_two.Goals as goal
 

@@ -1,9 +1,7 @@
 -- `joins::sum_numbers` meets its contract: after k turns the first k bodies are in the sums. Assumes nothing.
-use mathlib.Core.Path.{◌≡◌, ap, ◌∙◌}
-use Prim.Native.Nat.{◌≤◌, ◌-◌}
+use mathlib.Core.Path.{ap, ◌∙◌}
 use native.Mathlib.Nat.{le_antisymm}
 use native.Mathlib.Omega.{arith}
-use borrow.Author.Rules.{rules}
 use Rattle.joins.specs.Flat.{body_at}
 use Rattle.joins.specs.Joins.{sums_of}
 use Rattle.joins.proofs.InOrder.{no_sums_lem, sums_next}

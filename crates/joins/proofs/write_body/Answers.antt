@@ -1,11 +1,10 @@
 -- `joins::write_body` meets its contract: after j turns the first j numbers are written. Assumes nothing.
 use mathlib.Core.List.{List}
 use mathlib.Core.Path.{◌≡◌, sym, ap, ◌∙◌}
-use Prim.Native.Nat.{ℕ, ◌+◌, ◌*◌, ◌≤◌, ◌<◌, ◌-◌}
+use Prim.Native.Nat.{ℕ, ◌+◌, ◌*◌, ◌≤◌, ◌<◌}
 use native.Mathlib.Omega.{arith}
 use native.Mathlib.Numerals.{add-one}
 use native.Mathlib.Nat.{le_antisymm}
-use borrow.Author.Rules.{rules}
 use lib.ListN.{length, get_or, set}
 use lib.Seq.{paste, paste-zero, paste-suc, length-paste}
 use lib.Ieee.{Float, nan}
@@ -27,7 +26,6 @@ loop-j-init c = (
   ap length c.numbers-written.ensures,
   paste-zero c.args.bodies.now
       (body_numbers * c.args.k) c.numbers-written.result,
-
 )
 
 pub offset_bounds-written-j : goal.offset_bounds-written-j
@@ -58,13 +56,12 @@ pub loop-j-smaller : goal.loop-j-smaller
 loop-j-smaller c = omega arith
 
 pub loop-j-preserved : goal.loop-j-preserved
-loop-j-preserved c =
-    (
-      omega arith,
-      c.loop-j.invariant.1,
-      one_more c.args.bodies.now (body_numbers * c.args.k)
-          c.numbers-written.result c.loop-j.j (omega arith) (omega arith) c.loop-j.invariant.2,
-    )
+loop-j-preserved c = (
+  omega arith,
+  c.loop-j.invariant.1,
+  one_more c.args.bodies.now (body_numbers * c.args.k)
+      c.numbers-written.result c.loop-j.j (omega arith) (omega arith) c.loop-j.invariant.2,
+)
 
 pub shape_of-bodies : goal.shape_of-bodies
 shape_of-bodies c =

@@ -1,6 +1,5 @@
 -- `lent_engines::outcome_at` meets its contract. Assumes nothing.
 use Rattle.lent_engines.proofs.Calls.{outcome_is}
-use borrow.Author.Rules.{rules}
 use Rattle.lent_engines.proofs.outcome_at.Goals as goal
 
 pub returns : goal.returns

@@ -1,6 +1,5 @@
 -- `lent_engines::progress_at` meets its contract: of the screens and the job that the lists hold. Assumes nothing.
 use Rattle.lent_engines.proofs.Calls.{told_there}
-use borrow.Author.Rules.{rules}
 use Rattle.lent_engines.proofs.progress_at.Goals as goal
 
 pub returns : goal.returns

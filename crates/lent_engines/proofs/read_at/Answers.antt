@@ -1,6 +1,5 @@
 -- `lent_engines::read_at` meets its contract: a job's part of both lists. Assumes nothing.
 use Rattle.lent_engines.proofs.Engines.{job_read}
-use borrow.Author.Rules.{rules}
 use Rattle.lent_engines.proofs.read_at.Goals as goal
 
 pub returns : goal.returns

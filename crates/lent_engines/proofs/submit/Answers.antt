@@ -3,7 +3,6 @@
 use mathlib.Core.Path.{sym, ap, ◌∙◌}
 use mathlib.Core.Bool.{not}
 use Rattle.lent_engines.proofs.Calls.{submits_not, submits}
-use borrow.Author.Rules.{rules}
 use Rattle.lent_engines.proofs.submit.Goals as goal
 
 pub returns-then-is_refused : goal.returns-then-is_refused

@@ -1,7 +1,6 @@
 -- `lent_engines::turn` meets its contract: the parts are called in order, and a turn that served no screen wrote nothing. Assumes nothing.
 use mathlib.Core.Path.{sym, ◌∙◌}
 use Rattle.lent_engines.proofs.Calls.{turns_idle, turns}
-use borrow.Author.Rules.{rules}
 use Rattle.lent_engines.proofs.turn.Goals as goal
 
 pub returns-then-served_screen-eq0 : goal.returns-then-served_screen-eq0

@@ -1,6 +1,5 @@
 -- `lent_engines::turn_row` meets its contract: each arm knows its case. Assumes nothing.
 use Rattle.lent_engines.proofs.Calls.{row_short, row_idle, row_more, row_ended}
-use borrow.Author.Rules.{rules}
 use Rattle.lent_engines.proofs.turn_row.Goals as goal
 
 pub returns-in-Short : goal.returns-in-Short

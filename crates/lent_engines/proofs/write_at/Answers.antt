@@ -4,7 +4,6 @@ use native.Mathlib.Omega.{arith}
 use lib.ListN.{length}
 use Rattle.lent_jobs.specs.Memory.{job_numbers_length, job_counts_length}
 use Rattle.lent_engines.proofs.Engines.{numbers_part_lem, counts_part_lem, written_back}
-use borrow.Author.Rules.{rules}
 use Rattle.lent_engines.proofs.write_at.Goals as goal
 
 pub returns : goal.returns

@@ -2,7 +2,6 @@
 use native.Mathlib.Omega.{arith}
 use lib.ListN.{length-set}
 use Rattle.lent_engines.proofs.Screens.{held_eight, screens_written}
-use borrow.Author.Rules.{rules}
 use Rattle.lent_engines.proofs.write_screens.Goals as goal
 
 pub bounds-counts-1 : goal.bounds-counts-1

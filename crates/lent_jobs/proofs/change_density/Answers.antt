@@ -1,7 +1,6 @@
 -- `lent_jobs::change_density` meets its contract: the density is taken there, or nothing is written. Assumes nothing.
 use mathlib.Core.Path.{◌∙◌}
 use Rattle.lent_jobs.proofs.Unchanged.{density_test, changes_there, changes_none}
-use borrow.Author.Rules.{rules}
 use Rattle.lent_jobs.proofs.change_density.Goals as goal
 
 pub returns-then-takes_density : goal.returns-then-takes_density

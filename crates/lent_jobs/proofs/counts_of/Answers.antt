@@ -1,5 +1,4 @@
 -- `lent_jobs::counts_of` meets its contract. Assumes nothing.
-use borrow.Author.Rules.{rules}
 use Rattle.lent_jobs.proofs.counts_of.Goals as goal
 
 pub returns : goal.returns

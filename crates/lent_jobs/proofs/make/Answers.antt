@@ -1,6 +1,5 @@
 -- `lent_jobs::make` meets its contract. Assumes nothing.
 use Rattle.lent_jobs.proofs.Laws.{job_made}
-use borrow.Author.Rules.{rules}
 use Rattle.lent_jobs.proofs.make.Goals as goal
 
 pub returns : goal.returns

@@ -1,6 +1,5 @@
 -- `lent_jobs::read_job` meets its contract. Assumes nothing.
 use Rattle.lent_jobs.specs.Memory.{job_in}
-use borrow.Author.Rules.{rules}
 use Rattle.lent_jobs.proofs.read_job.Goals as goal
 
 pub returns : goal.returns

@@ -1,6 +1,5 @@
 -- `lent_jobs::read_outcome` meets its contract. Assumes nothing.
 use Rattle.lent_jobs.specs.Memory.{outcome_in}
-use borrow.Author.Rules.{rules}
 use Rattle.lent_jobs.proofs.read_outcome.Goals as goal
 
 pub returns : goal.returns

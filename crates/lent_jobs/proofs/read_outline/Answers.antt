@@ -1,14 +1,9 @@
 -- `lent_jobs::read_outline` meets its contract: number by number over zeros. Assumes nothing.
-use mathlib.Core.Path.{◌≡◌, ap, ◌∙◌}
-use mathlib.Core.List.{List}
-use Prim.Native.Nat.{◌-◌, ◌≤◌}
+use mathlib.Core.Path.{ap, ◌∙◌}
 use native.Mathlib.Omega.{arith}
 use native.Mathlib.Nat.{le_antisymm}
-use lib.ListN.{replicate}
 use lib.Seq.{paste, paste-zero}
-use lib.Ieee.{Float, nan}
-use Rattle.floats.specs.Operations.{bits}
-use Rattle.limits.specs.Limits.{outline_numbers}
+use lib.Ieee.{nan}
 use Rattle.lent_jobs.proofs.Copying.{one_more_first, all_pasted}
 use Rattle.lent_jobs.proofs.read_outline.Goals as goal
 use Rattle.lent_jobs.proofs.read_outline.Invariants.{Zeros}
@@ -35,12 +30,11 @@ pub loop-i-smaller : goal.loop-i-smaller
 loop-i-smaller c = omega arith
 
 pub loop-i-preserved : goal.loop-i-preserved
-loop-i-preserved c =
-    (
-      omega arith,
-      one_more_first nan Zeros c.args.numbers.now c.loop-i.i (omega arith) (omega (arith, c.requires))
-          c.loop-i.invariant.1,
-    )
+loop-i-preserved c = (
+  omega arith,
+  one_more_first nan Zeros c.args.numbers.now c.loop-i.i (omega arith) (omega (arith, c.requires))
+      c.loop-i.invariant.1,
+)
 
 pub returns : goal.returns
 returns c =

@@ -1,15 +1,12 @@
 -- `lent_jobs::read_outline` meets its contract: number by number over zeros. Assumes nothing.
-use mathlib.Core.Path.{◌≡◌, ap, ◌∙◌}
+use mathlib.Core.Path.{◌≡◌}
 use mathlib.Core.List.{List}
 use Prim.Native.Nat.{◌-◌, ◌≤◌}
-use native.Mathlib.Omega.{arith}
-use native.Mathlib.Nat.{le_antisymm}
 use lib.ListN.{replicate}
-use lib.Seq.{paste, paste-zero}
-use lib.Ieee.{Float, nan}
+use lib.Seq.{paste}
+use lib.Ieee.{Float}
 use Rattle.floats.specs.Operations.{bits}
 use Rattle.limits.specs.Limits.{outline_numbers}
-use Rattle.lent_jobs.proofs.Copying.{one_more_first, all_pasted}
 use Rattle.lent_jobs.proofs.read_outline.Given as goal
 
 abbrev pub Zeros : List Float

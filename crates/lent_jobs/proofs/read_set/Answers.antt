@@ -1,6 +1,5 @@
 -- `lent_jobs::read_set` meets its contract: the set that the lists hold, where there is one. Assumes nothing.
 use mathlib.Core.Path.{ap, ◌∙◌}
-use borrow.Author.Rules.{rules}
 use Rattle.fins.specs.Numbered.{known_set}
 use Rattle.lent_jobs.specs.Memory.{set_in}
 use Rattle.lent_jobs.proofs.read_set.Goals as goal

@@ -1,7 +1,6 @@
 -- `lent_jobs::step` meets its contract: the job has ended, the step is short, or it is taken there. Assumes nothing.
 use mathlib.Core.Path.{sym, ◌∙◌}
 use Rattle.lent_jobs.proofs.Unchanged.{steps_ended, steps_short, steps_there}
-use borrow.Author.Rules.{rules}
 use Rattle.lent_jobs.proofs.step.Goals as goal
 
 pub returns-then-ended : goal.returns-then-ended

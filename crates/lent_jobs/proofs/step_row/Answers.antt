@@ -1,6 +1,5 @@
 -- `lent_jobs::step_row` meets its contract: each arm knows its case. Assumes nothing.
 use Rattle.lent_jobs.proofs.Unchanged.{row_short, row_more, row_ended}
-use borrow.Author.Rules.{rules}
 use Rattle.lent_jobs.proofs.step_row.Goals as goal
 
 pub returns-in-Short : goal.returns-in-Short

@@ -1,5 +1,4 @@
 -- `lent_jobs::takes_density` meets its contract: the check of a density. Assumes nothing.
-use borrow.Author.Rules.{rules}
 use Rattle.lent_jobs.proofs.takes_density.Goals as goal
 
 pub returns : goal.returns

@@ -1,5 +1,4 @@
 -- `lent_jobs::worked_numbers` meets its contract. Assumes nothing.
-use borrow.Author.Rules.{rules}
 use Rattle.lent_jobs.proofs.worked_numbers.Goals as goal
 
 pub returns : goal.returns

@@ -1,9 +1,7 @@
 -- `lent_jobs::write_counts` meets its contract: after i turns the first i counts are written. Assumes nothing.
-use mathlib.Core.Path.{◌≡◌, ap, ◌∙◌}
-use Prim.Native.Nat.{◌-◌, ◌≤◌}
+use mathlib.Core.Path.{ap, ◌∙◌}
 use native.Mathlib.Omega.{arith}
 use native.Mathlib.Nat.{le_antisymm}
-use lib.ListN.{length}
 use lib.Seq.{paste, paste-zero}
 use Rattle.lent_jobs.proofs.Copying.{one_more_first, same_count}
 use Rattle.lent_jobs.proofs.write_counts.Goals as goal

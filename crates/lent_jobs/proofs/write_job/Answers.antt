@@ -7,7 +7,6 @@ use Rattle.fins.specs.Numbered.{set_numbers}
 use Rattle.lent_jobs.proofs.Copying.{same_count}
 use Rattle.lent_jobs.proofs.Laws.{job_written}
 use Rattle.lent_jobs.proofs.Sized.{sized}
-use borrow.Author.Rules.{rules}
 use Rattle.lent_jobs.proofs.write_job.Goals as goal
 
 pub slice_bounds-write_numbers-end-3 : goal.slice_bounds-write_numbers-end-3

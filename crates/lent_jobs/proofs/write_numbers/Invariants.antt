@@ -1,12 +1,8 @@
 -- `lent_jobs::write_numbers` meets its contract: after i turns the first i numbers are written. Assumes nothing.
-use mathlib.Core.Path.{◌≡◌, ap, ◌∙◌}
+use mathlib.Core.Path.{◌≡◌}
 use Prim.Native.Nat.{◌-◌, ◌≤◌}
-use native.Mathlib.Omega.{arith}
-use native.Mathlib.Nat.{le_antisymm}
 use lib.ListN.{length}
-use lib.Seq.{paste, paste-zero}
-use lib.Ieee.{nan}
-use Rattle.lent_jobs.proofs.Copying.{one_more, same_count}
+use lib.Seq.{paste}
 use Rattle.lent_jobs.proofs.write_numbers.Given as goal
 
 abbrev pub invariant-loop-i : goal.invariant-loop-i

@@ -1,5 +1,4 @@
 -- `limits::check_angle` meets its contract, by what `abs` and `refuse_unless` ensure. Assumes nothing.
-use borrow.Author.Rules.{rules}
 use Rattle.limits.specs.Limits.{angle_check}
 use Rattle.limits.proofs.check_angle.Goals as goal
 

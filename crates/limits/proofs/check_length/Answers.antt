@@ -1,5 +1,4 @@
 -- `limits::check_length` meets its contract, by what the calls ensure. Assumes nothing.
-use borrow.Author.Rules.{rules}
 use Rattle.limits.specs.Limits.{length_check}
 use Rattle.limits.proofs.check_length.Goals as goal
 

@@ -1,5 +1,4 @@
 -- `limits::length_within` meets its contract, by what `abs` ensures. Assumes nothing.
-use borrow.Author.Rules.{rules}
 use Rattle.limits.specs.Limits.{length_within}
 use Rattle.limits.proofs.length_within.Goals as goal
 

@@ -2,7 +2,6 @@
 use mathlib.Core.Path.{ap}
 use Rattle.answers.specs.Answers.{text_of}
 use Rattle.lines.proofs.Texts.{same_text}
-use borrow.Author.Rules.{rules}
 use Rattle.lines.proofs.answer_read.Goals as goal
 
 pub returns : goal.returns

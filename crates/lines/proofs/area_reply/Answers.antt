@@ -5,7 +5,6 @@ use lib.Ieee.{Float}
 use Rattle.figures.specs.Areas.{area_call}
 use Rattle.lines.specs.Lines.{area_reply}
 use Rattle.lines.proofs.Served.{replied}
-use borrow.Author.Rules.{rules}
 use Rattle.lines.proofs.area_reply.Goals as goal
 
 pub returns : goal.returns

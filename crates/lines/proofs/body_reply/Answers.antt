@@ -1,9 +1,8 @@
 -- `lines::body_reply` meets its contract: the figures are the body's numbers. Assumes nothing.
-use mathlib.Core.List.{List, [], ◌∷◌}
+use mathlib.Core.List.{List, ◌∷◌, []}
 use mathlib.Core.Path.{ap, ◌∙◌}
 use lib.Ieee.{Float}
 use Rattle.lines.specs.Lines.{unless_refused}
-use borrow.Author.Rules.{rules}
 use Rattle.lines.proofs.body_reply.Goals as goal
 
 pub returns : goal.returns

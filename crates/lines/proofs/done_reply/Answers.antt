@@ -1,11 +1,10 @@
 -- `lines::done_reply` meets its contract: each arm knows its case. Assumes nothing.
-use mathlib.Core.List.{List, [], ◌∷◌}
+use mathlib.Core.List.{List, ◌∷◌, []}
 use mathlib.Core.Path.{ap}
 use Prim.Native.Nat.{ℕ}
 use lib.Ieee.{Float}
 use Rattle.answers.specs.declared.Shape.TheVariants.{Done as DoneShape, DoneRefused as DoneRefusedShape}
 use Rattle.answers.specs.Answers.{reply}
-use borrow.Author.Rules.{rules}
 use Rattle.lines.proofs.done_reply.Goals as goal
 
 pub returns-in-Accepted : goal.returns-in-Accepted

@@ -7,7 +7,6 @@ use Rattle.drill.specs.declared.Answer.{Answer}
 use Rattle.drill.specs.Drill.{drill_of}
 use Rattle.answers.specs.declared.Reply.{Reply}
 use Rattle.lines.specs.Lines.{drill_reply}
-use borrow.Author.Rules.{rules}
 use Rattle.lines.proofs.drill_reply.Goals as goal
 
 drilled : (planform : Planform) (x height : Float) {outline points : List Float} {found known : Answer} {r : Reply} → found ≡ known

@@ -1,10 +1,9 @@
 -- `lines::reply_line` meets its contract: the request that was read is answered. Assumes nothing.
 use mathlib.Core.Path.{sym, ap, ◌∙◌}
 use native.Mathlib.Omega.{arith}
-use lib.ListN.{length, length-take}
+use lib.ListN.{length-take}
 use Rattle.lines.specs.Lines.{lent_in, memory_of, Effect}
 use Rattle.lines.proofs.Asking.{all_there, effect_is, same_left}
-use borrow.Author.Rules.{rules}
 use Rattle.lines.proofs.reply_line.Goals as goal
 
 pub slice_bounds-request_reply-end : goal.slice_bounds-request_reply-end

@@ -11,7 +11,6 @@ use Rattle.answers.specs.declared.Reply.{Reply}
 use Rattle.answers.specs.declared.Shape.TheVariants.{Joined as JoinedShape, Ring as RingShape, Body as BodyShape, Sound as SoundShape}
 use Rattle.lines.specs.Lines.{plain_reply, body_reply, closing_reply, moments_reply, progress_reply}
 use Rattle.lines.proofs.Served.{known, stays, set_served, area_served, submit_served, density_served}
-use borrow.Author.Rules.{rules}
 use Rattle.lines.proofs.request_reply.Goals as goal
 
 -- a body of one or two others, and of what else was cut from the figures

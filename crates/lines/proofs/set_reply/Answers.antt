@@ -1,5 +1,5 @@
 -- `lines::set_reply` meets its contract: the figures are those of the body that the call gives. Assumes nothing.
-use mathlib.Core.List.{List, [], ◌∷◌}
+use mathlib.Core.List.{List, ◌∷◌, []}
 use mathlib.Core.Path.{ap, ◌∙◌}
 use lib.ListN.{length}
 use lib.Ieee.{Float}
@@ -7,7 +7,6 @@ use Rattle.answers.specs.declared.Shape.TheVariants.{Figures as FiguresShape}
 use Rattle.figures.specs.Figures.{set_call}
 use Rattle.lines.specs.Lines.{unless_refused, set_reply}
 use Rattle.lines.proofs.Served.{replied}
-use borrow.Author.Rules.{rules}
 use Rattle.lines.proofs.set_reply.Goals as goal
 
 pub returns : goal.returns

@@ -5,7 +5,6 @@ use Rattle.engines.specs.declared.Turn.{Turn}
 use Rattle.answers.specs.declared.Reply.{Reply}
 use Rattle.lines.specs.Lines.{turn_reply}
 use Rattle.lines.proofs.Served.{turn_served}
-use borrow.Author.Rules.{rules}
 use Rattle.lines.proofs.turn_reply.Goals as goal
 
 of_turn : (f : Figures) {turn known : Turn} {r : Reply} → turn ≡ known → r ≡ turn_reply known f → r ≡ turn_reply turn f

@@ -1,6 +1,5 @@
 -- `lines::unless_refused` meets its contract: each arm knows its case. Assumes nothing.
 
-use borrow.Author.Rules.{rules}
 use Rattle.lines.proofs.unless_refused.Goals as goal
 
 pub returns-in-Accepted : goal.returns-in-Accepted

@@ -1,6 +1,5 @@
 -- `materials::check_density` meets its contract: each arm knows its case. Assumes nothing.
 use Rattle.materials.specs.Materials.{density_check}
-use borrow.Author.Rules.{rules}
 use Rattle.materials.proofs.check_density.Goals as goal
 
 pub returns-in-Bulk : goal.returns-in-Bulk

@@ -1,5 +1,4 @@
 -- `moments::eigenvalues` meets its contract: the sweeps, and the diagonal sorted. Assumes nothing.
-use borrow.Author.Rules.{rules}
 use Rattle.moments.specs.Moments.{eigenvalues_of}
 use Rattle.moments.proofs.eigenvalues.Goals as goal
 

@@ -1,13 +1,9 @@
 -- `moments::entries_fit` meets its contract: every entry passed fits, and one that does not settles it. Assumes nothing.
-use mathlib.Core.Bool.{Bool, true}
-use mathlib.Core.List.{List}
 use mathlib.Core.Path.{◌≡◌, sym, ap, ◌∙◌}
-use Prim.Native.Nat.{ℕ, ◌≤◌, ◌-◌}
-use lib.Ieee.{Float}
+use Prim.Native.Nat.{ℕ}
 use native.Mathlib.Omega.{arith}
-use borrow.Author.Rules.{rules}
 use borrow.Author.Tests.{not-true, not-false}
-use Rattle.floats.specs.Operations.{at, every}
+use Rattle.floats.specs.Operations.{every}
 use Rattle.bodies.specs.Layout.{tensor_numbers}
 use Rattle.moments.specs.Moments.{entry_fits}
 use Rattle.floats.proofs.Every.{every_none, every_more, every_not}

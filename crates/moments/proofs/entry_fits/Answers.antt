@@ -1,5 +1,4 @@
 -- `moments::entry_fits` meets its contract, which goes by the same two tests. Assumes nothing.
-use borrow.Author.Rules.{rules}
 use Rattle.moments.proofs.entry_fits.Goals as goal
 
 pub returns-then-is_finite : goal.returns-then-is_finite

@@ -1,5 +1,4 @@
 -- `moments::off_diagonal` meets its contract: three magnitudes summed. Assumes nothing.
-use borrow.Author.Rules.{rules}
 use Rattle.moments.proofs.off_diagonal.Goals as goal
 
 pub returns : goal.returns

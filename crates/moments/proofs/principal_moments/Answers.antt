@@ -1,5 +1,4 @@
 -- `moments::principal_moments` meets its contract: the entries decide. Assumes nothing.
-use borrow.Author.Rules.{rules}
 use Rattle.refusals.proofs.Given.{is_answer}
 use Rattle.moments.proofs.principal_moments.Goals as goal
 

@@ -1,5 +1,4 @@
 -- `moments::rotate_plane` meets its contract: the entry decides, and the rotation is made from the plane's entries. Assumes nothing.
-use borrow.Author.Rules.{rules}
 use Rattle.moments.specs.Moments.{rotate}
 use Rattle.moments.proofs.rotate_plane.Goals as goal
 
@@ -14,5 +13,4 @@ returns c = rw (
   c.turn_rows.ensures,
   c.turn_columns.ensures,
   c.symmetric_schur-turn.ensures,
-
 )

@@ -1,9 +1,6 @@
 -- `moments::run_sweeps` meets its contract: what is left to sweep from here gives what the whole does. Assumes nothing.
-use mathlib.Core.Path.{◌≡◌, refl}
-use Prim.Native.Nat.{◌≤◌, ◌-◌}
+use mathlib.Core.Path.{refl}
 use native.Mathlib.Omega.{arith}
-use borrow.Author.Rules.{rules}
-use Rattle.moments.specs.Moments.{sweeps}
 use Rattle.moments.proofs.Sweeps.{sweeps_none, sweeps_end, sweeps_more}
 use Rattle.moments.proofs.run_sweeps.Goals as goal
 
@@ -24,7 +21,6 @@ loop-left-preserved c = (
   sweeps_more _ _ (omega arith) c.off_diagonal.ensures c.if-off_diagonal.false c.sweep_once-matrix.ensures
       c.loop-left.invariant.0,
   omega arith,
-
 )
 
 pub returns : goal.returns

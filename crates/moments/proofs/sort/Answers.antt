@@ -1,5 +1,4 @@
 -- `moments::sort` meets its contract: the second is inserted by its test, the third by the call. Assumes nothing.
-use borrow.Author.Rules.{rules}
 use Rattle.moments.specs.Moments.{insert_moment, insert_all}
 use Rattle.moments.proofs.sort.Goals as goal
 

@@ -1,5 +1,4 @@
 -- `moments::sweep_once` meets its contract: the three planes in order. Assumes nothing.
-use borrow.Author.Rules.{rules}
 use Rattle.moments.specs.Moments.{sweep}
 use Rattle.moments.proofs.sweep_once.Goals as goal
 

@@ -1,5 +1,4 @@
 -- `moments::symmetric_schur` meets its contract: the tangent, then cosine and sine from it. Assumes nothing.
-use borrow.Author.Rules.{rules}
 use Rattle.moments.specs.Moments.{rotation_of}
 use Rattle.moments.proofs.symmetric_schur.Goals as goal
 

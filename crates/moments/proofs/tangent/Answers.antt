@@ -1,5 +1,4 @@
 -- `moments::tangent` meets its contract, which goes by the same test. Assumes nothing.
-use borrow.Author.Rules.{rules}
 use Rattle.moments.proofs.tangent.Goals as goal
 
 pub returns-then-tau : goal.returns-then-tau

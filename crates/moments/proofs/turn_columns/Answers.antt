@@ -1,5 +1,4 @@
 -- `moments::turn_columns` meets its contract: a pair for each row. Assumes nothing.
-use borrow.Author.Rules.{rules}
 use Rattle.moments.specs.Moments.{turn_columns}
 use Rattle.moments.proofs.turn_columns.Goals as goal
 

@@ -1,5 +1,4 @@
 -- `moments::turn_rows` meets its contract: a pair for each column. Assumes nothing.
-use borrow.Author.Rules.{rules}
 use Rattle.moments.specs.Moments.{turn_rows}
 use Rattle.moments.proofs.turn_rows.Goals as goal
 

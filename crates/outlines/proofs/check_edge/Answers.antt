@@ -1,19 +1,15 @@
 -- `outlines::check_edge` meets its contract: what is left to check from edge j on gives the answer, and `from` is the
 -- place of edge j's start. Assumes nothing.
-use Prim.Native.Nat.{ℕ, ◌+◌, ◌-◌, ◌≤◌, ◌<◌}
+use Prim.Native.Nat.{ℕ}
 use mathlib.Core.Path.{◌≡◌, sym, ap, ◌∙◌}
 use mathlib.Core.Bool.{Bool}
 use mathlib.Core.List.{List}
 use lib.Ieee.{Float}
 use native.Mathlib.Omega.{arith}
-use borrow.Author.Rules.{rules}
-use Rattle.planforms.specs.Planforms.{pair_count}
-use Rattle.refusals.specs.Order.{first_between}
 use Rattle.refusals.proofs.Order.{goes_on, stops, ends}
 use Rattle.segments.specs.declared.Segment.{Segment}
 use Rattle.segments.specs.Segments.{segments_touch}
-use Rattle.segments.specs.Places.{place_of}
-use Rattle.outlines.specs.Outlines.{point_at, edge_at, pair_check, edge_check}
+use Rattle.outlines.specs.Outlines.{point_at, edge_at}
 use Rattle.outlines.proofs.Pairs.{apart_accepted, touch_refused, from_second, last_check}
 use Rattle.outlines.proofs.check_edge.Goals as goal
 
@@ -30,15 +26,14 @@ pub returns-then-n-j : goal.returns-then-n-j
 returns-then-n-j c = ends _ _ _ _ (from_second c.args.points.now c.args.i) c.if-n-j.true
 
 pub loop-j-init : goal.loop-j-init
-loop-j-init c =
-    (
-      omega arith,
-      omega arith,
-      c.edge_at-edge.ensures,
-      rw (c.place_beside-from.ensures, c.point_at.ensures),
-      from_second
-          c.args.points.now c.args.i,
-    )
+loop-j-init c = (
+  omega arith,
+  omega arith,
+  c.edge_at-edge.ensures,
+  rw (c.place_beside-from.ensures, c.point_at.ensures),
+  from_second
+      c.args.points.now c.args.i,
+)
 
 pub overflow_add-j-in-loop-j : goal.overflow_add-j-in-loop-j
 overflow_add-j-in-loop-j c = omega arith

@@ -1,20 +1,11 @@
 -- `outlines::check_edge` meets its contract: what is left to check from edge j on gives the answer, and `from` is the
 -- place of edge j's start. Assumes nothing.
-use Prim.Native.Nat.{ℕ, ◌+◌, ◌-◌, ◌≤◌, ◌<◌}
-use mathlib.Core.Path.{◌≡◌, sym, ap, ◌∙◌}
-use mathlib.Core.Bool.{Bool}
-use mathlib.Core.List.{List}
-use lib.Ieee.{Float}
-use native.Mathlib.Omega.{arith}
-use borrow.Author.Rules.{rules}
+use Prim.Native.Nat.{◌+◌, ◌-◌, ◌≤◌, ◌<◌}
+use mathlib.Core.Path.{◌≡◌}
 use Rattle.planforms.specs.Planforms.{pair_count}
 use Rattle.refusals.specs.Order.{first_between}
-use Rattle.refusals.proofs.Order.{goes_on, stops, ends}
-use Rattle.segments.specs.declared.Segment.{Segment}
-use Rattle.segments.specs.Segments.{segments_touch}
 use Rattle.segments.specs.Places.{place_of}
 use Rattle.outlines.specs.Outlines.{point_at, edge_at, pair_check, edge_check}
-use Rattle.outlines.proofs.Pairs.{apart_accepted, touch_refused, from_second, last_check}
 use Rattle.outlines.proofs.check_edge.Given as goal
 
 abbrev pub invariant-loop-j : goal.invariant-loop-j
@@ -24,7 +15,6 @@ invariant-loop-j l =
     × (l.edge ≡ edge_at l.points l.i)
     × (l.from ≡ place_of l.edge (point_at l.points l.j))
     × (first_between l.j (pair_count l.points) (pair_check l.points l.i) ≡ edge_check l.points l.i)
-
 
 abbrev pub decreases-loop-j : goal.decreases-loop-j
 decreases-loop-j l = pair_count l.points - l.j

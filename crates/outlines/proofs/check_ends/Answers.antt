@@ -1,5 +1,4 @@
 -- `outlines::check_ends` meets its contract, by what the calls ensure. Assumes nothing.
-use borrow.Author.Rules.{rules}
 use Rattle.outlines.proofs.check_ends.Goals as goal
 
 pub returns : goal.returns

@@ -1,7 +1,6 @@
 -- `outlines::check_outline` meets its contract: past the test of 5 there is a point, and the calls are in order. Assumes nothing.
-use mathlib.Core.List.{[], ◌∷◌}
+use mathlib.Core.List.{◌∷◌, []}
 use native.Mathlib.Omega.{arith}
-use borrow.Author.Rules.{rules}
 use borrow.Author.Tests.{not-true, not-false}
 use Rattle.refusals.proofs.Order.{after_accepted, after_refused, in_order}
 use Rattle.outlines.specs.Outlines.{are_pairs, outline_check}

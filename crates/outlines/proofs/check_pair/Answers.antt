@@ -1,5 +1,4 @@
 -- `outlines::check_pair` meets its contract, which goes by the same test first. Assumes nothing.
-use borrow.Author.Rules.{rules}
 use Rattle.outlines.proofs.check_pair.Goals as goal
 
 pub returns-then-j-i : goal.returns-then-j-i

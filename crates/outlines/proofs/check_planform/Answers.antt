@@ -1,9 +1,8 @@
 -- `outlines::check_planform` meets its contract: each arm knows its case. Assumes nothing.
-use mathlib.Core.List.{[], ◌∷◌}
+use mathlib.Core.List.{◌∷◌, []}
 use Rattle.refusals.proofs.Given.{is_answer}
 use Rattle.refusals.proofs.Order.{in_order}
 use Rattle.outlines.specs.Outlines.{planform_check}
-use borrow.Author.Rules.{rules}
 use Rattle.outlines.proofs.check_planform.Goals as goal
 
 pub returns-in-Trapezoid : goal.returns-in-Trapezoid

@@ -1,7 +1,6 @@
 -- `outlines::check_point` meets its contract, by what the calls ensure. Assumes nothing.
-use mathlib.Core.List.{[], ◌∷◌}
+use mathlib.Core.List.{◌∷◌, []}
 use Rattle.refusals.proofs.Order.{in_order}
-use borrow.Author.Rules.{rules}
 use Rattle.outlines.proofs.check_point.Goals as goal
 
 pub returns : goal.returns

@@ -1,12 +1,7 @@
 -- `outlines::check_points` meets its contract: what is left to check from point i on gives the answer. Assumes nothing.
-use Prim.Native.Nat.{◌-◌}
-use mathlib.Core.Path.{◌≡◌, refl, sym, ◌∙◌}
+use mathlib.Core.Path.{refl, sym, ◌∙◌}
 use native.Mathlib.Omega.{arith}
-use borrow.Author.Rules.{rules}
-use Rattle.planforms.specs.Planforms.{pair_count}
-use Rattle.refusals.specs.Order.{first_between}
 use Rattle.refusals.proofs.Order.{goes_on, stops, ends}
-use Rattle.outlines.specs.Outlines.{point_check, points_check}
 use Rattle.outlines.proofs.check_points.Goals as goal
 
 pub loop-i-init : goal.loop-i-init

@@ -1,7 +1,6 @@
 -- `outlines::check_trapezoid` meets its contract: the calls are in order. Assumes nothing.
-use mathlib.Core.List.{[], ◌∷◌}
+use mathlib.Core.List.{◌∷◌, []}
 use Rattle.refusals.proofs.Order.{in_order}
-use borrow.Author.Rules.{rules}
 use Rattle.outlines.proofs.check_trapezoid.Goals as goal
 
 pub returns : goal.returns

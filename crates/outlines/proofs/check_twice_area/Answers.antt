@@ -1,5 +1,4 @@
 -- `outlines::check_twice_area` meets its contract, by what the calls ensure. Assumes nothing.
-use borrow.Author.Rules.{rules}
 use Rattle.outlines.proofs.check_twice_area.Goals as goal
 
 pub returns : goal.returns

@@ -1,5 +1,4 @@
 -- `outlines::edge_at` meets its contract, by what the calls ensure. Assumes nothing.
-use borrow.Author.Rules.{rules}
 use Rattle.outlines.proofs.edge_at.Goals as goal
 
 pub returns : goal.returns

@@ -1,6 +1,5 @@
 -- `outlines::edge_touches` meets its contract: segments that are told apart do not touch. Assumes nothing.
 use mathlib.Core.Path.{sym, ◌∙◌}
-use borrow.Author.Rules.{rules}
 use Rattle.planforms.specs.Planforms.{pair_count}
 use Rattle.segments.proofs.Apart.{apart_no_touch}
 use Rattle.outlines.specs.Outlines.{edge_at}

@@ -1,14 +1,12 @@
 -- `outlines::twice_area` meets its contract: after i turns the first i terms are summed. Assumes nothing.
 use mathlib.Core.List.{List}
 use mathlib.Core.Path.{◌≡◌, refl, sym, ap, ◌∙◌}
-use Prim.Native.Nat.{ℕ, ◌+◌, ◌-◌, ◌≤◌}
+use Prim.Native.Nat.{ℕ, ◌+◌}
 use native.Mathlib.Nat.{le_antisymm}
 use native.Mathlib.Numerals.{add-one}
 use native.Mathlib.Omega.{arith}
-use borrow.Author.Rules.{rules}
 use lib.Ieee.{Float}
 use Rattle.floats.specs.Operations.{◌⊕◌, bits}
-use Rattle.planforms.specs.Planforms.{pair_count}
 use Rattle.outlines.specs.Outlines.{edge_at, edge_term, sum_of_terms}
 use Rattle.outlines.proofs.twice_area.Goals as goal
 

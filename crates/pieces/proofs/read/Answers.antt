@@ -1,5 +1,4 @@
 -- `pieces::read` meets its contract: a part of sixteen numbers. Assumes nothing.
-use borrow.Author.Rules.{rules}
 use Rattle.pieces.proofs.Storage.{part_size}
 use Rattle.pieces.proofs.read.Goals as goal
 

@@ -1,10 +1,8 @@
 -- `pieces::store` meets its contract: two stores and two parts of seven. Assumes nothing.
-use borrow.Author.Rules.{rules}
 use native.Mathlib.Omega.{arith}
 use mathlib.Core.Path.{ap}
-use lib.ListN.{length, length-set}
-use Rattle.floats.specs.Operations.{at}
-use Rattle.pieces.proofs.Storage.{sevens_stored, seven_stored_length}
+use lib.ListN.{length}
+use Rattle.pieces.proofs.Storage.{sevens_stored}
 use Rattle.pieces.proofs.store.Goals as goal
 
 pub shape_of-s : goal.shape_of-s

@@ -1,5 +1,4 @@
 -- `pieces::store_seven` meets its contract: seven stores over seven numbers. Assumes nothing.
-use borrow.Author.Rules.{rules}
 use native.Mathlib.Omega.{arith}
 use lib.ListN.{length-set}
 use Rattle.floats.specs.Operations.{at, tabulate}

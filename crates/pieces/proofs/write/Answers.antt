@@ -1,5 +1,4 @@
 -- `pieces::write` meets its contract: a part of sixteen numbers comes back as the piece's. Assumes nothing.
-use borrow.Author.Rules.{rules}
 use Rattle.pieces.proofs.Storage.{put_back}
 use Rattle.pieces.proofs.write.Goals as goal
 

@@ -1,7 +1,6 @@
 -- `placements::check_copies` meets its contract: the list is asked before its places. Assumes nothing.
 use mathlib.Core.Path.{sym, ◌∙◌}
 use Rattle.placements.proofs.Checks.{refused_early, then_places}
-use borrow.Author.Rules.{rules}
 use Rattle.placements.proofs.check_copies.Goals as goal
 
 pub returns-then-is_refused : goal.returns-then-is_refused

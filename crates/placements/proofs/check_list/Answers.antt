@@ -1,7 +1,6 @@
 -- `placements::check_list` meets its contract, which goes by the same test. Assumes nothing.
 use mathlib.Core.Path.{sym, ◌∙◌}
 use borrow.Author.Tests.{not-true, not-false}
-use borrow.Author.Rules.{rules}
 use Rattle.placements.proofs.check_list.Goals as goal
 
 pub returns-then-not-is_whole_list : goal.returns-then-not-is_whole_list

@@ -1,7 +1,6 @@
 -- `placements::check_offset` meets its contract: the calls are in order. Assumes nothing.
-use mathlib.Core.List.{[], ◌∷◌}
+use mathlib.Core.List.{◌∷◌, []}
 use Rattle.refusals.proofs.Order.{in_order}
-use borrow.Author.Rules.{rules}
 use Rattle.placements.proofs.check_offset.Goals as goal
 
 pub returns : goal.returns

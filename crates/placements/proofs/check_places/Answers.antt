@@ -1,11 +1,8 @@
 -- `placements::check_places` meets its contract: what is left to check from place k on gives the answer. Assumes nothing.
-use mathlib.Core.Path.{◌≡◌, refl, sym, ap, ◌∙◌}
-use Prim.Native.Nat.{◌-◌}
+use mathlib.Core.Path.{sym, ap, ◌∙◌}
 use native.Mathlib.Omega.{arith}
-use borrow.Author.Rules.{rules}
-use Rattle.refusals.specs.Order.{first_between}
 use Rattle.refusals.proofs.Order.{goes_on, stops, ends}
-use Rattle.placements.specs.Places.{place_count, place_at, place_check, places_check}
+use Rattle.placements.specs.Places.{place_check, places_check}
 use Rattle.placements.proofs.check_places.Goals as goal
 
 pub loop-k-init : goal.loop-k-init

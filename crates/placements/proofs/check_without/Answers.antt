@@ -1,8 +1,7 @@
 -- `placements::check_without` meets its contract: the calls are in order. Assumes nothing.
-use mathlib.Core.List.{[], ◌∷◌}
+use mathlib.Core.List.{◌∷◌, []}
 use Rattle.refusals.proofs.Order.{in_order}
 use Rattle.placements.specs.Parts.{without_check}
-use borrow.Author.Rules.{rules}
 use Rattle.placements.proofs.check_without.Goals as goal
 
 pub returns : goal.returns

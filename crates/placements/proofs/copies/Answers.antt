@@ -4,7 +4,6 @@ use Rattle.refusals.proofs.Given.{is_answer}
 use Rattle.joins.proofs.JoinLaws.{by_verdict_lem}
 use Rattle.placements.specs.Copies.{copies_of}
 use Rattle.placements.proofs.Counts.{counted}
-use borrow.Author.Rules.{rules}
 use Rattle.placements.proofs.copies.Goals as goal
 
 pub placed_copies-requires : goal.placed_copies-requires

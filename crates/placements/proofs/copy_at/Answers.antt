@@ -1,6 +1,5 @@
 -- `placements::copy_at` meets its contract: turned, then moved. Assumes nothing.
 use Rattle.placements.specs.Copies.{copy_at}
-use borrow.Author.Rules.{rules}
 use Rattle.placements.proofs.copy_at.Goals as goal
 
 pub returns : goal.returns

@@ -4,7 +4,6 @@ use lib.ListN.{length}
 use Rattle.joins.specs.Joins.{combine_of}
 use Rattle.joins.proofs.Listed.{length_listed, first_bodies}
 use Rattle.joins.proofs.JoinLaws.{combine_listed}
-use borrow.Author.Rules.{rules}
 use Rattle.placements.proofs.joined_copies.Goals as goal
 
 pub slice_bounds-combine-end : goal.slice_bounds-combine-end

@@ -1,6 +1,5 @@
 -- `placements::part_moved` meets its contract: its calls, put together. Assumes nothing.
 use Rattle.placements.specs.Parts.{part_moved_of}
-use borrow.Author.Rules.{rules}
 use Rattle.placements.proofs.part_moved.Goals as goal
 
 pub returns : goal.returns

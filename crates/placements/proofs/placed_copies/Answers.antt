@@ -1,6 +1,5 @@
 -- `placements::placed_copies` meets its contract: an only place at HERE gives the body. Assumes nothing.
 use Rattle.placements.proofs.Placing.{at_here, elsewhere}
-use borrow.Author.Rules.{rules}
 use Rattle.placements.proofs.placed_copies.Goals as goal
 
 pub returns-then-count-is_here : goal.returns-then-count-is_here

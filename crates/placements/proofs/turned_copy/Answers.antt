@@ -1,6 +1,5 @@
 -- `placements::turned_copy` meets its contract, which goes by the same test. Assumes nothing.
 use Rattle.placements.specs.Copies.{turned_copy}
-use borrow.Author.Rules.{rules}
 use Rattle.placements.proofs.turned_copy.Goals as goal
 
 pub returns-then-roll_rad : goal.returns-then-roll_rad

@@ -4,7 +4,6 @@ use Rattle.joins.specs.Joins.{accepted_body}
 use Rattle.refusals.proofs.Given.{is_answer}
 use Rattle.joins.proofs.JoinLaws.{by_verdict_lem}
 use Rattle.placements.specs.Parts.{moved_of}
-use borrow.Author.Rules.{rules}
 use Rattle.placements.proofs.with_part_moved.Goals as goal
 
 pub returns-in-Accepted : goal.returns-in-Accepted

@@ -1,9 +1,6 @@
 -- `placements::write_copies` meets its contract: after k turns the first k copies stand in the list. Assumes nothing.
-use mathlib.Core.Path.{◌≡◌, ap, ◌∙◌}
-use Prim.Native.Nat.{◌≤◌, ◌-◌}
+use mathlib.Core.Path.{ap, ◌∙◌}
 use native.Mathlib.Omega.{arith}
-use borrow.Author.Rules.{rules}
-use Rattle.joins.specs.Flat.{with_bodies}
 use Rattle.joins.proofs.Listed.{none_written, one_written, all_written, length_written}
 use Rattle.placements.specs.Places.{place_at}
 use Rattle.placements.specs.Copies.{copy_at}
@@ -30,8 +27,7 @@ loop-k-smaller c = omega arith
 
 pub loop-k-preserved : goal.loop-k-preserved
 loop-k-preserved c =
-    let at-loop = c.loop-k in
-    (
+    let at-loop = c.loop-k in (
       omega arith,
       one_written _ _ at-loop.k at-loop.invariant.1 (c.copy_at-copy.ensures ∙ ap (copy_at _) c.place_at.ensures)
           c.write_body.ensures,

@@ -1,7 +1,6 @@
 -- `planform_chords::chords_at` meets its contract: by the planform's check. Assumes nothing.
 use mathlib.Core.Path.{refl, sym, ◌∙◌}
 use Rattle.planform_chords.proofs.Answer.{answered_so, listed_so}
-use borrow.Author.Rules.{rules}
 use Rattle.planform_chords.proofs.chords_at.Goals as goal
 
 pub returns-in-Accepted : goal.returns-in-Accepted

@@ -3,7 +3,6 @@ use mathlib.Core.Path.{refl}
 use Rattle.planforms.specs.declared.Planform.TheVariants.{Trapezoid, Ellipse}
 use Rattle.chords.specs.Chords.{ends_at}
 use Rattle.chords.proofs.Answer.{answered}
-use borrow.Author.Rules.{rules}
 use Rattle.planform_chords.proofs.chords_found.Goals as goal
 
 pub returns-in-Trapezoid : goal.returns-in-Trapezoid

@@ -1,7 +1,6 @@
 -- `planform_chords::write_chords` meets its contract: none, one by its two ends, or the whole pairs of the crossings. Assumes nothing.
 use native.Mathlib.Omega.{arith}
 use lib.ListN.{length-set}
-use borrow.Author.Rules.{rules}
 use Rattle.chords.specs.Chords.{paired}
 use Rattle.planform_chords.proofs.Answer.{none_listed, one_listed}
 use Rattle.planform_chords.proofs.write_chords.Goals as goal

@@ -1,10 +1,10 @@
 -- `planform_chords::write_first` meets its contract: after i numbers the first i of xs stand over the list's start. Assumes nothing.
 use mathlib.Core.Path.{◌≡◌, ap, ◌∙◌}
-use Prim.Native.Nat.{ℕ, ◌-◌, ◌≤◌}
+use Prim.Native.Nat.{ℕ}
 use native.Mathlib.Omega.{arith}
 use lib.ListN.{take}
 use Rattle.sorting.specs.Sorted.{over}
-use Rattle.planform_chords.proofs.Start.{Started, start, next}
+use Rattle.planform_chords.proofs.Start.{start, next}
 use Rattle.planform_chords.proofs.write_first.Goals as goal
 
 pub loop-i-init : goal.loop-i-init

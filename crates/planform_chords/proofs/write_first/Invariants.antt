@@ -1,10 +1,6 @@
 -- `planform_chords::write_first` meets its contract: after i numbers the first i of xs stand over the list's start. Assumes nothing.
-use mathlib.Core.Path.{◌≡◌, ap, ◌∙◌}
-use Prim.Native.Nat.{ℕ, ◌-◌, ◌≤◌}
-use native.Mathlib.Omega.{arith}
-use lib.ListN.{take}
-use Rattle.sorting.specs.Sorted.{over}
-use Rattle.planform_chords.proofs.Start.{Started, start, next}
+use Prim.Native.Nat.{◌-◌, ◌≤◌}
+use Rattle.planform_chords.proofs.Start.{Started}
 use Rattle.planform_chords.proofs.write_first.Given as goal
 
 abbrev pub invariant-loop-i : goal.invariant-loop-i

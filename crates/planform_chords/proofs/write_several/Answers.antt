@@ -1,6 +1,5 @@
 -- `planform_chords::write_several` meets its contract: the whole pairs of the crossings are written. Assumes nothing.
 use native.Mathlib.Omega.{arith}
-use borrow.Author.Rules.{rules}
 use Rattle.sorting.proofs.Over.{written_length}
 use Rattle.chords.proofs.Listed.{most_crossings}
 use Rattle.planform_chords.proofs.Answer.{several_listed}

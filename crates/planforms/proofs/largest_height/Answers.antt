@@ -1,15 +1,14 @@
 -- `planforms::largest_height` meets its contract: after i turns the largest of the first i heights is in hand. Assumes nothing.
 use mathlib.Core.List.{List}
 use mathlib.Core.Path.{◌≡◌, refl, sym, ap, ◌∙◌}
-use Prim.Native.Nat.{ℕ, ◌+◌, ◌-◌, ◌≤◌}
+use Prim.Native.Nat.{ℕ, ◌+◌}
 use native.Mathlib.Nat.{le_antisymm}
 use native.Mathlib.Numerals.{add-one}
 use native.Mathlib.Omega.{arith}
-use borrow.Author.Rules.{rules}
 use lib.Ieee.{Float}
 use Rattle.floats.specs.Operations.{bits}
 use Rattle.floats.specs.Floats.{max_of}
-use Rattle.planforms.specs.Planforms.{height_at, largest_height, pair_count}
+use Rattle.planforms.specs.Planforms.{height_at, largest_height}
 use Rattle.planforms.proofs.largest_height.Goals as goal
 
 none : (points : List Float) → bits 0 ≡ largest_height points 0

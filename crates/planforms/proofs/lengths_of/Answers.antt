@@ -1,5 +1,4 @@
 -- `planforms::lengths_of` meets its contract: each arm knows its case. Assumes nothing.
-use borrow.Author.Rules.{rules}
 use Rattle.planforms.proofs.lengths_of.Goals as goal
 
 pub returns-in-Trapezoid : goal.returns-in-Trapezoid

@@ -2,7 +2,6 @@
 use mathlib.Core.Path.{◌∙◌}
 use borrow.Author.Tests.{eq-eqb, ne_eqb}
 use Rattle.planforms.specs.Numbered.{planform_of, listed_planform}
-use borrow.Author.Rules.{rules}
 use Rattle.planforms.proofs.listed_planform.Goals as goal
 
 pub returns-then-lengths-eq-LENGTHS : goal.returns-then-lengths-eq-LENGTHS

@@ -1,7 +1,6 @@
 -- `planforms::planform_of` meets its contract: the definition goes by the same tests. Assumes nothing.
 use borrow.Author.Tests.{eq-eqb, ne_eqb}
 use Rattle.planforms.specs.Numbered.{planform_of}
-use borrow.Author.Rules.{rules}
 use Rattle.planforms.proofs.planform_of.Goals as goal
 
 pub returns-then-number-eq1 : goal.returns-then-number-eq1

@@ -1,5 +1,4 @@
 -- `planforms::root_chord_m` meets its contract: each arm knows its case. Assumes nothing.
-use borrow.Author.Rules.{rules}
 use Rattle.planforms.specs.Planforms.{root_chord_of}
 use Rattle.planforms.proofs.root_chord_m.Goals as goal
 

@@ -1,5 +1,4 @@
 -- `planforms::span_m` meets its contract: each arm knows its case. Assumes nothing.
-use borrow.Author.Rules.{rules}
 use Rattle.planforms.specs.Planforms.{span_of}
 use Rattle.planforms.proofs.span_m.Goals as goal
 

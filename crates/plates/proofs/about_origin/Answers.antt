@@ -1,5 +1,4 @@
 -- `plates::about_origin` meets its contract: six entries, scaled. Assumes nothing.
-use borrow.Author.Rules.{rules}
 use Rattle.plates.proofs.about_origin.Goals as goal
 
 pub returns : goal.returns

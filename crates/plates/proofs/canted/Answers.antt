@@ -1,6 +1,5 @@
 -- `plates::canted` meets its contract, which goes by the same test: moved, turned and moved back. Assumes nothing.
 use Rattle.plates.specs.Plates.{canted_of}
-use borrow.Author.Rules.{rules}
 use Rattle.plates.proofs.canted.Goals as goal
 
 pub returns-then-cant_rad : goal.returns-then-cant_rad

@@ -1,6 +1,5 @@
 -- `plates::fin` meets its contract, by what the calls ensure. Assumes nothing.
 use Rattle.plates.specs.Plates.{fin_of}
-use borrow.Author.Rules.{rules}
 use Rattle.plates.proofs.fin.Goals as goal
 
 pub returns : goal.returns

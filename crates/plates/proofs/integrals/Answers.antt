@@ -1,5 +1,4 @@
 -- `plates::integrals` meets its contract, by what the calls ensure. Assumes nothing.
-use borrow.Author.Rules.{rules}
 use Rattle.plates.proofs.integrals.Goals as goal
 
 pub returns : goal.returns

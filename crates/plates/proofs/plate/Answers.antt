@@ -1,6 +1,5 @@
 -- `plates::plate` meets its contract: its two calls, put together. Assumes nothing.
 use Rattle.plates.specs.Plates.{plate_body}
-use borrow.Author.Rules.{rules}
 use Rattle.plates.proofs.plate.Goals as goal
 
 pub returns : goal.returns

@@ -1,5 +1,4 @@
 -- `plates::slab_integrals` meets its contract: each cube is the definition's. Assumes nothing.
-use borrow.Author.Rules.{rules}
 use Rattle.plates.proofs.slab_integrals.Goals as goal
 
 pub returns : goal.returns

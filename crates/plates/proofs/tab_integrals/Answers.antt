@@ -1,6 +1,5 @@
 -- `plates::tab_integrals` meets its contract: each arm knows its case. Assumes nothing.
 use Rattle.plates.specs.Integrals.{tab_integrals_of}
-use borrow.Author.Rules.{rules}
 use Rattle.plates.proofs.tab_integrals.Goals as goal
 
 pub returns-in-None : goal.returns-in-None

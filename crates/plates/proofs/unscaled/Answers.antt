@@ -1,5 +1,4 @@
 -- `plates::unscaled` meets its contract: each power is the definition's. Assumes nothing.
-use borrow.Author.Rules.{rules}
 use Rattle.plates.proofs.unscaled.Goals as goal
 
 pub returns : goal.returns

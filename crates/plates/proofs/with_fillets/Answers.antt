@@ -1,6 +1,5 @@
 -- `plates::with_fillets` meets its contract: it goes by the same test. Assumes nothing.
 use Rattle.plates.specs.Plates.{with_fillets}
-use borrow.Author.Rules.{rules}
 use Rattle.plates.proofs.with_fillets.Goals as goal
 
 pub returns-then-fillets : goal.returns-then-fillets

@@ -1,14 +1,9 @@
 -- `quadrature::bounds_m` meets its contract: of the first i heights none is below lo or above hi. Assumes nothing.
 use mathlib.Core.Path.{◌≡◌, ◌∙◌}
-use mathlib.Core.Logic.{⊎_elim}
 use mathlib.Core.Bool.{cond}
-use Prim.Native.Nat.{◌-◌, ◌≤◌}
 use native.Mathlib.Omega.{arith}
-use borrow.Author.Rules.{rules}
 use lib.Ieee.{lt}
 use Rattle.floats.specs.Operations.{◌⊗◌, at}
-use Rattle.limits.specs.Limits.{piece_samples}
-use Rattle.quadrature.specs.Tally.{WithinTo}
 use Rattle.quadrature.proofs.Within.{first_within, one_within}
 use Rattle.quadrature.proofs.bounds_m.Goals as goal
 use Rattle.quadrature.proofs.bounds_m.Goals.{then-h-lo, else-h-lo, then-hi-h, else-hi-h}
@@ -23,9 +18,9 @@ loop-i-preserved c =
     let lo = c.loop-i.lo in
     let hi = c.loop-i.hi in
     let lower : c.if-h-lo.lo ≡ cond (lt h lo) h lo =
-        elim c.if-h-lo.branch [ then-h-lo w ↦ w.lo-is ∙ rw w.if-h-lo.true | else-h-lo w ↦ w.lo-is ∙ rw w.if-h-lo.false ] in
+    elim c.if-h-lo.branch [ then-h-lo w ↦ w.lo-is ∙ rw w.if-h-lo.true | else-h-lo w ↦ w.lo-is ∙ rw w.if-h-lo.false ] in
     let upper : c.if-hi-h.hi ≡ cond (lt hi h) h hi =
-        elim c.if-hi-h.branch [ then-hi-h w ↦ w.hi-is ∙ rw w.if-hi-h.true | else-hi-h w ↦ w.hi-is ∙ rw w.if-hi-h.false ] in
+    elim c.if-hi-h.branch [ then-hi-h w ↦ w.hi-is ∙ rw w.if-hi-h.true | else-hi-h w ↦ w.hi-is ∙ rw w.if-hi-h.false ] in
     (omega arith, omega arith, one_within a.scale a.heights c.loop-i.i lo hi _ _ c.loop-i.invariant.2 lower upper)
 
 pub returns : goal.returns

@@ -1,13 +1,9 @@
 -- `quadrature::chords_found` meets its contract: after i turns the first i are found. Assumes nothing.
-use mathlib.Core.Path.{◌≡◌, refl}
-use Prim.Native.Nat.{◌-◌, ◌≤◌}
+use mathlib.Core.Path.{refl}
 use native.Mathlib.Nat.{not-suc-le-zero}
 use native.Mathlib.Omega.{arith}
-use borrow.Author.Rules.{rules}
-use lib.ListN.{length, length-set}
+use lib.ListN.{length-set}
 use Rattle.floats.proofs.Filled.{one_filled}
-use Rattle.limits.specs.Limits.{piece_samples}
-use Rattle.quadrature.specs.Tally.{FoundTo}
 use Rattle.quadrature.proofs.chords_found.Goals as goal
 
 pub loop-i-init : goal.loop-i-init

@@ -1,5 +1,4 @@
 -- `quadrature::differences` meets its contract, component by component. Assumes nothing.
-use borrow.Author.Rules.{rules}
 use Rattle.quadrature.proofs.differences.Goals as goal
 
 pub returns : goal.returns

@@ -1,10 +1,7 @@
 -- `quadrature::edges_near` meets its contract: all heights of an outline's piece are from the least to the largest, and
 -- any other planform asks for no list. Assumes nothing.
-use mathlib.Core.Logic.{⊎_elim}
 use Prim.Native.Nat.{zero-le}
-use native.Mathlib.Omega.{arith}
 use Rattle.floats.specs.Operations.{◌⊗◌, at}
-use borrow.Author.Rules.{rules}
 use Rattle.quadrature.proofs.edges_near.Goals as goal
 
 pub returns-in-Outline : goal.returns-in-Outline

@@ -1,5 +1,4 @@
 -- `quadrature::gauss_weights` meets its contract: each weight of an odd node is the table's. Assumes nothing.
-use borrow.Author.Rules.{rules}
 use Rattle.quadrature.specs.Tally.{weights_to}
 use Rattle.quadrature.proofs.gauss_weights.Goals as goal
 

@@ -1,5 +1,4 @@
 -- `quadrature::kronrod_weights` meets its contract: each weight is the table's. Assumes nothing.
-use borrow.Author.Rules.{rules}
 use Rattle.quadrature.specs.Tally.{weights_to}
 use Rattle.quadrature.proofs.kronrod_weights.Goals as goal
 

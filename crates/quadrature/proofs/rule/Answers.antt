@@ -1,5 +1,4 @@
 -- `quadrature::rule` meets its contract, from the sums over the fifteen samples. Assumes nothing.
-use borrow.Author.Rules.{rules}
 use Rattle.quadrature.specs.Rule.{piece_of}
 use Rattle.quadrature.specs.Tally.{tally_of}
 use Rattle.quadrature.proofs.rule.Goals as goal

@@ -1,5 +1,4 @@
 -- `quadrature::sample_heights` meets its contract: each pair by its node. Assumes nothing.
-use borrow.Author.Rules.{rules}
 use Rattle.quadrature.specs.Rule.{heights_to}
 use Rattle.quadrature.proofs.sample_heights.Goals as goal
 

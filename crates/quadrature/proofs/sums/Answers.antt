@@ -1,21 +1,16 @@
 -- `quadrature::sums` meets its contract: after j turns the sums are those of the first j samples. Assumes nothing.
 use mathlib.Core.Path.{◌≡◌, sym, ◌∙◌}
-use mathlib.Core.List.{List}
-use Prim.Native.Nat.{◌-◌, ◌≤◌}
 use native.Mathlib.Omega.{arith}
-use borrow.Author.Rules.{rules}
 use lib.ListN.{get_or}
 use lib.Seq.{length-take-le}
-use lib.Ieee.{Float}
 use Rattle.floats.specs.Operations.{◌⊗◌, at}
 use Rattle.limits.specs.Limits.{piece_samples}
 use Rattle.chords.specs.declared.Chords.TheVariants.{Nothing}
 use Rattle.chords.proofs.Answer.{several_outline}
 use Rattle.integrands.specs.Integrands.{sample_of}
 use Rattle.integrands.proofs.Sampled.{sampled}
-use Rattle.quadrature.proofs.Tallies.{Summed, none_yet, one_more, all_summed}
+use Rattle.quadrature.proofs.Tallies.{none_yet, one_more, all_summed}
 use Rattle.quadrature.proofs.sums.Goals as goal
-use Rattle.quadrature.proofs.sums.Goals.{After-chords_found-found, After-edges_near-n, After-values_over-y, At-loop-j}
 
 pub slice_bounds-chords_found-end : goal.slice_bounds-chords_found-end
 slice_bounds-chords_found-end c = sym (length-take-le _ _ c.edges_near-n.ensures.room)
@@ -68,8 +63,8 @@ loop-j-preserved c =
     let height = at c.sample_heights-heights.result c.loop-j.j in
     -- over the chords found there lie the sample's values
     let valued : c.values_over-y.result ≡ sample_of a.integrand a.points.now height =
-        sampled a.integrand a.points.now height (get_or c.chords_found-found.result c.loop-j.j Nothing) _
-        (c.chords_found-found.ensures c.loop-j.j (omega arith)) c.values_over-y.ensures in (
+    sampled a.integrand a.points.now height (get_or c.chords_found-found.result c.loop-j.j Nothing) _
+    (c.chords_found-found.ensures c.loop-j.j (omega arith)) c.values_over-y.ensures in (
       omega arith,
       one_more (sample_of a.integrand a.points.now) _ _ _ c.loop-j.j _ _ _ _ _ c.loop-j.invariant.1 valued
           c.plus_weighted-k.ensures c.plus_weighted-g.ensures,

@@ -1,10 +1,8 @@
 -- `reading::behind` meets its contract: the rest is cut no further than the end. Assumes nothing.
-use mathlib.Core.List.{List}
-use mathlib.Core.Path.{sym, ap, ◌∙◌}
+use mathlib.Core.Path.{ap, ◌∙◌}
 use Prim.Native.Nat.{ℕ, ◌-◌}
 use lib.ListN.{length, take, drop}
 use Rattle.reading.proofs.Parts.{rest_part}
-use borrow.Author.Rules.{rules}
 use Rattle.reading.proofs.behind.Goals as goal
 
 pub returns : goal.returns

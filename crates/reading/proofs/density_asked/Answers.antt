@@ -1,7 +1,6 @@
 -- `reading::density_asked` meets its contract: each arm knows its case. Assumes nothing.
 use mathlib.Core.Path.{sym, ap, ◌∙◌}
 use Rattle.materials.specs.Numbered.{numbered_density}
-use borrow.Author.Rules.{rules}
 use Rattle.reading.proofs.density_asked.Goals as goal
 
 pub returns-in-Known : goal.returns-in-Known

@@ -1,6 +1,5 @@
 -- `reading::drill_asked` meets its contract: each arm knows its case. Assumes nothing.
 use mathlib.Core.Path.{sym, ◌∙◌}
-use borrow.Author.Rules.{rules}
 use Rattle.reading.proofs.drill_asked.Goals as goal
 
 pub returns-in-Known : goal.returns-in-Known

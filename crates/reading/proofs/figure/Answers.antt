@@ -3,7 +3,6 @@ use mathlib.Core.Path.{sym, ◌∙◌}
 use lib.ListN.{get_or-eq_default}
 use lib.Ieee.{nan}
 use Rattle.floats.proofs.Nan.{zero_over_zero}
-use borrow.Author.Rules.{rules}
 use Rattle.reading.proofs.figure.Goals as goal
 
 pub returns : goal.returns

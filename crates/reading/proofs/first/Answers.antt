@@ -3,7 +3,6 @@ use mathlib.Core.Path.{ap, ◌∙◌}
 use Prim.Native.Nat.{ℕ}
 use lib.ListN.{take}
 use Rattle.reading.proofs.Parts.{first_part, first_count}
-use borrow.Author.Rules.{rules}
 use Rattle.reading.proofs.first.Goals as goal
 
 pub slice_bounds-result-end : goal.slice_bounds-result-end

@@ -5,7 +5,6 @@ use Prim.Native.Nat.{ℕ}
 use Rattle.tokens.specs.Text.{text, codes}
 use Rattle.reading.specs.declared.Form.{Form}
 use Rattle.reading.specs.Lines.{pick_form, form_named}
-use borrow.Author.Rules.{rules}
 use Rattle.reading.proofs.form_named.Goals as goal
 
 or : (word name : List ℕ) (form : Form) {a b r : Form} → r ≡ pick_form word name form a → a ≡ b → r ≡ pick_form word name form b

@@ -1,7 +1,6 @@
 -- `reading::form_or` meets its contract: by whether the bytes are the same. Assumes nothing.
 use mathlib.Core.Path.{sym, ◌∙◌}
 use Rattle.reading.specs.Lines.{pick_form}
-use borrow.Author.Rules.{rules}
 use Rattle.reading.proofs.form_or.Goals as goal
 
 pub returns-then-same_bytes : goal.returns-then-same_bytes

@@ -1,6 +1,5 @@
 -- `reading::planform_in` meets its contract: the definition reads the same figures. Assumes nothing.
 use Rattle.planforms.specs.Numbered.{planform_of}
-use borrow.Author.Rules.{rules}
 use Rattle.reading.proofs.planform_in.Goals as goal
 
 pub returns : goal.returns

@@ -8,7 +8,6 @@ use Rattle.reading.specs.Lines.{area_asked, area_read}
 use Rattle.tokens.specs.Text.{text, codes}
 use Rattle.reading.specs.Parts.{take_planform}
 use Rattle.reading.proofs.Stands.{few, planform_strict, start_room, parted_ends}
-use borrow.Author.Rules.{rules}
 use Rattle.reading.proofs.read_area.Goals as goal
 
 pub take_text-limit-requires : goal.take_text-limit-requires

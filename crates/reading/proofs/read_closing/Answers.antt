@@ -8,7 +8,6 @@ use Rattle.tokens.specs.Text.{text, codes}
 use Rattle.reading.specs.declared.Asked.TheVariants.{Closing}
 use Rattle.reading.specs.Lines.{closing_read}
 use Rattle.reading.proofs.Stands.{few, start_room, whole_ends}
-use borrow.Author.Rules.{rules}
 use Rattle.reading.proofs.read_closing.Goals as goal
 
 pub take_text-all-requires : goal.take_text-all-requires

@@ -9,7 +9,6 @@ use Rattle.reading.specs.Lines.{density_asked, density_read}
 use Rattle.tokens.specs.Text.{text, codes}
 use Rattle.reading.specs.Parts.{take_density}
 use Rattle.reading.proofs.Stands.{few, density_strict, start_room, parted_ends}
-use borrow.Author.Rules.{rules}
 use Rattle.reading.proofs.read_density.Goals as goal
 
 pub take_text-screen-requires : goal.take_text-screen-requires

@@ -9,7 +9,6 @@ use Rattle.reading.specs.declared.Line.{Line}
 use Rattle.reading.specs.Lines.{form_read, list_read, plain_read}
 use Rattle.reading.specs.Reads.{Reads}
 use Rattle.reading.proofs.Stands.{no_form_lem}
-use borrow.Author.Rules.{rules}
 use Rattle.reading.proofs.read_form.Goals as goal
 
 known : (line : List ℕ) {v : List Float} {r : Line} {a b : Form} → a ≡ b → Reads v r (form_read b line) → Reads v r (form_read a line)

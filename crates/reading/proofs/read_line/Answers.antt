@@ -11,7 +11,6 @@ use Rattle.reading.specs.declared.Form.{Form}
 use Rattle.reading.specs.Lines.{refused_read, pick_read, form_named, form_read, word_of, line_read}
 use Rattle.reading.specs.Reads.{Reads}
 use Rattle.reading.proofs.Stands.{no_form_lem}
-use borrow.Author.Rules.{rules}
 use Rattle.reading.proofs.read_line.Goals as goal
 
 too_long : (line : List ℕ) → line_bytes < length line → line_read line ≡ refused_read NoForm

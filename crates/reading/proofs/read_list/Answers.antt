@@ -4,7 +4,6 @@ use Rattle.tokens.specs.Text.{text, codes}
 use Rattle.templates.specs.Matching.{take_text, take_each}
 use Rattle.reading.specs.Lines.{list_read}
 use Rattle.reading.proofs.Stands.{each_strict, start_room, parted_ends}
-use borrow.Author.Rules.{rules}
 use Rattle.reading.proofs.read_list.Goals as goal
 
 pub take_text-first-requires : goal.take_text-first-requires

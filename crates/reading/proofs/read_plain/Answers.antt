@@ -2,7 +2,6 @@
 use mathlib.Core.Path.{refl}
 use Rattle.reading.specs.Lines.{plain_read}
 use Rattle.reading.proofs.Stands.{start_room, whole_ends}
-use borrow.Author.Rules.{rules}
 use Rattle.reading.proofs.read_plain.Goals as goal
 
 pub take_text-all-requires : goal.take_text-all-requires

@@ -7,7 +7,6 @@ use Rattle.tokens.specs.Text.{text, codes}
 use Rattle.reading.specs.declared.Asked.TheVariants.{Progress}
 use Rattle.reading.specs.Lines.{progress_read}
 use Rattle.reading.proofs.Stands.{start_room, whole_ends}
-use borrow.Author.Rules.{rules}
 use Rattle.reading.proofs.read_progress.Goals as goal
 
 pub take_text-all-requires : goal.take_text-all-requires

@@ -6,7 +6,6 @@ use Rattle.reading.specs.declared.SetParts.{SetParts}
 use Rattle.reading.specs.Parts.{take_set, set_parts_of, set_of}
 use Rattle.reading.specs.Lines.{set_asked, set_read}
 use Rattle.reading.proofs.Stands.{few, start_room, alone_ends}
-use borrow.Author.Rules.{rules}
 use Rattle.reading.proofs.read_set.Goals as goal
 
 pub take_set-set-requires : goal.take_set-set-requires

@@ -9,7 +9,6 @@ use Rattle.reading.specs.Parts.{take_set, set_parts_of, set_of}
 use Rattle.reading.specs.Lines.{submit_asked, submit_read}
 use Rattle.reading.proofs.Stands.{few, start_room, kept_ends}
 use Rattle.reading.proofs.Sets.{set_strict}
-use borrow.Author.Rules.{rules}
 use Rattle.reading.proofs.read_submit.Goals as goal
 
 pub take_text-screen-requires : goal.take_text-screen-requires

@@ -1,6 +1,5 @@
 -- `reading::set_in` meets its contract: each part is the definition's. Assumes nothing.
 use Rattle.reading.proofs.Sets.{together, tab_is, fillet_is}
-use borrow.Author.Rules.{rules}
 use Rattle.reading.proofs.set_in.Goals as goal
 
 pub returns : goal.returns

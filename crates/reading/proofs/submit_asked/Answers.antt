@@ -1,6 +1,5 @@
 -- `reading::submit_asked` meets its contract: each arm knows its case. Assumes nothing.
 use mathlib.Core.Path.{sym, ◌∙◌}
-use borrow.Author.Rules.{rules}
 use Rattle.reading.proofs.submit_asked.Goals as goal
 
 pub returns-in-Known : goal.returns-in-Known

@@ -2,7 +2,6 @@
 use Rattle.tokens.specs.Text.{text, codes}
 use Rattle.templates.specs.Matching.{cut_after}
 use Rattle.reading.specs.Parts.{take_density}
-use borrow.Author.Rules.{rules}
 use Rattle.reading.proofs.take_density.Goals as goal
 
 pub returns : goal.returns

@@ -4,7 +4,6 @@ use Rattle.tokens.specs.Text.{text, codes}
 use Rattle.templates.specs.Matching.{cut_after}
 use Rattle.reading.specs.Parts.{take_section, take_tab, take_fillet}
 use Rattle.reading.proofs.Sets.{set_taken, set_parts}
-use borrow.Author.Rules.{rules}
 use Rattle.reading.proofs.take_set.Goals as goal
 
 pub shape_of-values : goal.shape_of-values

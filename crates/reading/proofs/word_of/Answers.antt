@@ -1,14 +1,13 @@
 -- `reading::word_of` meets its contract: the token behind the first, where there is one. Assumes nothing.
-use mathlib.Core.List.{List, [], ◌∷◌}
+use mathlib.Core.List.{List, []}
 use mathlib.Core.Path.{◌≡◌, refl, sym, ap, ◌∙◌}
 use Prim.Native.Nat.{ℕ, zero, suc, ◌-◌, ◌<◌, ◌≤◌}
 use native.Mathlib.Omega.{arith}
-use lib.ListN.{length, take, drop, get_or}
+use lib.ListN.{take, drop, get_or}
 use Rattle.tokens.specs.Tokens.{tokens}
 use Rattle.tokens.specs.Found.{part, IsFound}
 use Rattle.tokens.specs.declared.TokenRange.{TokenRange}
 use Rattle.reading.specs.Reads.{IsWordOf}
-use borrow.Author.Rules.{rules}
 use Rattle.reading.proofs.word_of.Goals as goal
 
 no_bytes : (line : List ℕ) (from to : ℕ) → to ≤ from → part line from to ≡ []

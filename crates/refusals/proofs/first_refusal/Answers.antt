@@ -1,6 +1,5 @@
 -- `refusals::first_refusal` meets its contract: each arm knows its case. Assumes nothing.
 use Rattle.refusals.specs.Order.{first_refusal}
-use borrow.Author.Rules.{rules}
 use Rattle.refusals.proofs.first_refusal.Goals as goal
 
 pub returns-in-Accepted : goal.returns-in-Accepted

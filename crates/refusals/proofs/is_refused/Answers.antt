@@ -1,6 +1,5 @@
 -- `refusals::is_refused` meets its contract: each arm knows its case. Assumes nothing.
 use Rattle.refusals.specs.Order.{is_refused}
-use borrow.Author.Rules.{rules}
 use Rattle.refusals.proofs.is_refused.Goals as goal
 
 pub returns-in-Accepted : goal.returns-in-Accepted

@@ -1,5 +1,4 @@
 -- `refusals::refusal_of` meets its contract, which goes by the same numbers. Assumes nothing.
-use borrow.Author.Rules.{rules}
 use borrow.Author.Tests.{ne_eqb}
 use Rattle.refusals.specs.Numbered.{refusal_from}
 use Rattle.refusals.proofs.refusal_of.Goals as goal

@@ -1,5 +1,4 @@
 -- `refusals::verdict_number` meets its contract: each arm knows its case. Assumes nothing.
-use borrow.Author.Rules.{rules}
 use Rattle.refusals.proofs.verdict_number.Goals as goal
 
 pub returns-in-Refused : goal.returns-in-Refused

@@ -1,7 +1,6 @@
 -- `refusals::verdict_of` meets its contract. Assumes nothing.
 use borrow.Author.Tests.{eq-eqb, ne_eqb}
 use Rattle.refusals.specs.Numbered.{verdict_from}
-use borrow.Author.Rules.{rules}
 use Rattle.refusals.proofs.verdict_of.Goals as goal
 
 pub returns-then-number-eq0 : goal.returns-then-number-eq0

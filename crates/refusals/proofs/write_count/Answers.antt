@@ -1,5 +1,4 @@
 -- `refusals::write_count` meets its contract. Assumes nothing.
-use borrow.Author.Rules.{rules}
 use native.Mathlib.Omega.{arith}
 use lib.ListN.{length-set}
 use Rattle.refusals.specs.Lent.{with_count}

@@ -1,5 +1,4 @@
 -- `refusals::write_values` meets its contract. Assumes nothing.
-use borrow.Author.Rules.{rules}
 use Rattle.refusals.specs.Lent.{with_values}
 use Rattle.refusals.proofs.Lists.{two_written}
 use Rattle.refusals.proofs.write_values.Goals as goal

@@ -1,14 +1,11 @@
 -- `rings::copies` meets its contract: after k turns of the loop the first k copies stand in the array. Assumes nothing.
-use mathlib.Core.Path.{◌≡◌, refl, ap, ◌∙◌}
-use Prim.Native.Nat.{◌-◌, ◌≤◌}
+use mathlib.Core.Path.{refl, ap, ◌∙◌}
 use native.Mathlib.Nat.{not-suc-le-zero}
 use native.Mathlib.Omega.{arith}
-use borrow.Author.Rules.{rules}
-use lib.ListN.{length, length-set}
+use lib.ListN.{length-set}
 use Rattle.floats.proofs.Filled.{one_filled}
 use Rattle.rotations.specs.declared.Quaternion.{Quaternion}
 use Rattle.rotations.specs.Rotations.{turned_of}
-use Rattle.rings.specs.Rings.{CopiesTo}
 use Rattle.rings.proofs.copies.Goals as goal
 
 pub turns-all-requires : goal.turns-all-requires

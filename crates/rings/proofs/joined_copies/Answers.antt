@@ -1,5 +1,5 @@
 -- `rings::joined_copies` meets its contract: the front of the list holds the copies (rings/proofs/Lists). Assumes nothing.
-use Rattle.std.proofs.Common.{◌∙◌, refl}
+use Rattle.std.proofs.Common.{◌∙◌}
 use Rattle.rings.proofs.Lists.{front_joined}
 use Rattle.rings.proofs.joined_copies.Goals as goal
 

@@ -1,14 +1,11 @@
 -- `rings::turns` meets its contract: after k turns of the loop the first k turns stand in the array. Assumes nothing.
-use mathlib.Core.Path.{◌≡◌, refl, ap, ◌∙◌}
-use Prim.Native.Nat.{◌-◌, ◌≤◌}
+use mathlib.Core.Path.{refl, ap, ◌∙◌}
 use native.Mathlib.Nat.{not-suc-le-zero}
 use native.Mathlib.Omega.{arith}
-use borrow.Author.Rules.{rules}
-use lib.ListN.{length, length-set}
+use lib.ListN.{length-set}
 use lib.Ieee.{Float}
 use Rattle.floats.proofs.Filled.{one_filled}
 use Rattle.rotations.specs.Rotations.{about_z}
-use Rattle.rings.specs.Rings.{TurnsTo}
 use Rattle.rings.proofs.turns.Goals as goal
 
 pub loop-k-init : goal.loop-k-init

@@ -2,7 +2,6 @@
 use Prim.Native.Nat.{ℕ, ◌+◌, ◌*◌, ◌/◌, ◌^◌, ◌≤◌}
 use native.Mathlib.Nat.{mul-le-mul}
 use native.Mathlib.Omega.{arith}
-use borrow.Author.Rules.{rules}
 use Rattle.root.proofs.decrease.Goals as goal
 
 line : (a u : ℕ) → a ≤ 2 ^ 32 → u ≤ 2 ^ 28 → a * u ≤ 2 ^ 60

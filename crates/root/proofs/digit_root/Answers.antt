@@ -2,7 +2,6 @@
 -- left over. Assumes nothing.
 use Prim.Native.Nat.{ℕ, ◌+◌, ◌-◌, ◌*◌, ◌/◌, ◌%◌, ◌^◌, ◌≤◌, ◌<◌}
 use mathlib.Core.Path.{◌≡◌, sym, ap, ◌∙◌}
-use mathlib.Core.Logic.{⊎_elim}
 use native.Mathlib.Nat.{le_antisymm, mul_assoc, mul_comm, mul-one, pow-suc, pow-succ'}
 use native.Mathlib.Numerals.{add-one}
 use native.Mathlib.Omega.{arith}
@@ -21,7 +20,6 @@ loop-i-init c = record {
   digits = omega arith;
   fits = omega arith;
   whole = omega (arith, mul-one c.args.n);
-
 }
 
 pub overflow_mul-more : goal.overflow_mul-more
@@ -81,8 +79,8 @@ loop-i-preserved c =
     let l = c.loop-i in
     let n = c.args.n in
     elim c.if-trial-more.branch [
-      then-trial-more w ↦ rw (w.s-is, w.rest-is) (one n l.i l.left l.s l.rest l.invariant (omega arith) w.if-trial-more.true)
-    | else-trial-more w ↦ rw (w.s-is, w.rest-is) (nought n l.i l.left l.s l.rest l.invariant (omega arith) w.if-trial-more.false)
+      | then-trial-more w ↦ rw (w.s-is, w.rest-is) (one n l.i l.left l.s l.rest l.invariant (omega arith) w.if-trial-more.true)
+      | else-trial-more w ↦ rw (w.s-is, w.rest-is) (nought n l.i l.left l.s l.rest l.invariant (omega arith) w.if-trial-more.false)
     ]
 
 pub overflow_add-result : goal.overflow_add-result

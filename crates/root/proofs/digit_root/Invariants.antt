@@ -1,14 +1,7 @@
 -- `root::digit_root` meets its contract: after i turns s is the root of the 2 * i digits that have come in, with `rest`
 -- left over. Assumes nothing.
-use Prim.Native.Nat.{ℕ, ◌+◌, ◌-◌, ◌*◌, ◌/◌, ◌%◌, ◌^◌, ◌≤◌, ◌<◌}
-use mathlib.Core.Path.{◌≡◌, sym, ap, ◌∙◌}
-use mathlib.Core.Logic.{⊎_elim}
-use native.Mathlib.Nat.{le_antisymm, mul_assoc, mul_comm, mul-one, pow-suc, pow-succ'}
-use native.Mathlib.Numerals.{add-one}
-use native.Mathlib.Omega.{arith}
-use lib.Pow.{pow_mono}
-use Rattle.root.specs.Root.{near_root}
-use Rattle.root.proofs.Squares.{even_square, odd_square, round_down, round_up, near_of}
+use Prim.Native.Nat.{ℕ, ◌+◌, ◌-◌, ◌*◌, ◌^◌, ◌≤◌, ◌<◌}
+use mathlib.Core.Path.{◌≡◌}
 use Rattle.root.proofs.digit_root.Given as goal
 
 pub record State (n i left s rest : ℕ) : Type 0 where
@@ -22,7 +15,5 @@ pub record State (n i left s rest : ℕ) : Type 0 where
 abbrev pub invariant-loop-i : goal.invariant-loop-i
 invariant-loop-i l = State l.n l.i l.left l.s l.rest
 
-
 abbrev pub decreases-loop-i : goal.decreases-loop-i
 decreases-loop-i l = 53 - l.i
-

@@ -7,7 +7,6 @@ use native.Mathlib.Nat.{mul_comm, mul_right_comm, mul-mul-mul_comm, mul-le-mul, 
 use native.Mathlib.Nat.{div-add-mod, div-le_of_le-mul, mod-lt}
 use native.Mathlib.Decide.{dec_le}
 use native.Mathlib.Omega.{arith}
-use borrow.Author.Rules.{rules}
 use borrow.Author.Tests.{leb-true}
 use lib.Dec.{T, ltb, ltb→lt, nltb→le}
 use mir.Syntax.{w64}

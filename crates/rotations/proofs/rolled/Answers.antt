@@ -1,5 +1,4 @@
 -- `rotations::rolled` meets its contract: the quaternion, and the body turned by it. Assumes nothing.
-use borrow.Author.Rules.{rules}
 use Rattle.rotations.proofs.rolled.Goals as goal
 
 pub returns : goal.returns

@@ -1,5 +1,4 @@
 -- `rotations::rotated_x` meets its contract: the quaternion, and the body turned by it. Assumes nothing.
-use borrow.Author.Rules.{rules}
 use Rattle.rotations.proofs.rotated_x.Goals as goal
 
 pub returns : goal.returns

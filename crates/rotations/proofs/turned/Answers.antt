@@ -1,5 +1,4 @@
 -- `rotations::turned` meets its contract: the matrix, and the body turned by it. Assumes nothing.
-use borrow.Author.Rules.{rules}
 use Rattle.rotations.proofs.turned.Goals as goal
 
 pub returns : goal.returns

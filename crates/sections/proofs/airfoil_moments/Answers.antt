@@ -1,5 +1,4 @@
 -- `sections::airfoil_moments` meets its contract: the same operations, the cubes by their contract. Assumes nothing.
-use borrow.Author.Rules.{rules}
 use Rattle.sections.proofs.airfoil_moments.Goals as goal
 
 pub returns : goal.returns

@@ -23,7 +23,6 @@ returns-then-number-eq4 c = simp (
   ne_eqb _ _
       c.if-number-eq3.false,
   eq-eqb _ _ c.if-number-eq4.true,
-
 )
 
 pub returns : goal.returns
@@ -34,5 +33,4 @@ returns c = simp (
   ne_eqb _ _
       c.if-number-eq3.false,
   ne_eqb _ _ c.if-number-eq4.false,
-
 )

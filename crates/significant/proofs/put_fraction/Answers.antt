@@ -1,5 +1,5 @@
 -- `significant::put_fraction` meets its contract: a point, as many of three zeros, and the digits. Assumes nothing.
-use mathlib.Core.List.{[], ◌∷◌}
+use mathlib.Core.List.{◌∷◌, []}
 use Prim.Native.Nat.{ℕ}
 use native.Mathlib.Omega.{arith}
 use lib.Seq.{length-take-le}

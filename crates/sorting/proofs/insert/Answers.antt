@@ -1,12 +1,9 @@
 -- `sorting::insert` meets its contract: what is left to do at k, with what stands behind it, is the whole. Assumes nothing.
-use mathlib.Core.Logic.{⊎_elim}
 use borrow.Author.Tests.{not-true, not-false}
-use mathlib.Core.Path.{◌≡◌, refl, ◌∙◌}
-use Prim.Native.Nat.{◌-◌, ◌≤◌}
+use mathlib.Core.Path.{refl, ◌∙◌}
 use native.Mathlib.Omega.{arith}
-use lib.ListN.{length, take, length-set}
-use Rattle.sorting.specs.Sorted.{insert, over}
-use Rattle.sorting.proofs.Insertion.{Left, start, moved, put_behind, put_first}
+use lib.ListN.{length-set}
+use Rattle.sorting.proofs.Insertion.{start, moved, put_behind, put_first}
 use Rattle.sorting.proofs.insert.Goals as goal
 use Rattle.sorting.proofs.insert.Goals.{else-loop-k-test, then-loop-k-test+then-not-x-y}
 
@@ -56,8 +53,8 @@ pub returns : goal.returns
 returns c =
     let head = c.loop-k in
     (elim c.loop-k-test.branch [
-      else-loop-k-test w ↦ put_first c.args.x head.xs head.k (omega arith) (omega arith)
-    | then-loop-k-test+then-not-x-y w ↦
-        put_behind c.args.x head.xs head.k (omega arith) (omega arith) (not-true _ w.if-not-x-y.true-raw)
+      | else-loop-k-test w ↦ put_first c.args.x head.xs head.k (omega arith) (omega arith)
+      | then-loop-k-test+then-not-x-y w ↦
+          put_behind c.args.x head.xs head.k (omega arith) (omega arith) (not-true _ w.if-not-x-y.true-raw)
     ])
     ∙ head.invariant.2

@@ -1,5 +1,4 @@
 -- `strips::add_strip` meets its contract, part by part. Assumes nothing.
-use Rattle.std.proofs.Common.{rules}
 use Rattle.strips.specs.Strips.{with_strip}
 use Rattle.strips.proofs.add_strip.Goals as goal
 

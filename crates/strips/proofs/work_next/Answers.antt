@@ -1,5 +1,4 @@
 -- `strips::work_next` meets its contract: the strip from a height up to the next one, where there is one. Assumes nothing.
-use Rattle.std.proofs.Common.{rules}
 use Rattle.strips.proofs.Onwards.{went_on, went_nowhere}
 use Rattle.strips.proofs.work_next.Goals as goal
 

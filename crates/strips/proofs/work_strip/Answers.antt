@@ -1,5 +1,5 @@
 -- `strips::work_strip` meets its contract: the strip between the two heights, halved, and added. Assumes nothing.
-use Rattle.std.proofs.Common.{◌≡◌, ap, ◌∙◌, rules}
+use Rattle.std.proofs.Common.{◌≡◌, ap, ◌∙◌}
 use Rattle.halving.specs.declared.Integral.{Integral}
 use Rattle.halving.specs.declared.Totals.{Totals}
 use Rattle.strips.specs.Strips.{with_strip, in_words}

@@ -1,5 +1,5 @@
 -- `strips::work_strips` meets its contract: the heights handed on are the planform's break heights, two or a list of them. Assumes nothing.
-use Rattle.std.proofs.Common.{List, [], ◌∷◌, length, sym, refl, ap, ◌∙◌, arith, rules}
+use Rattle.std.proofs.Common.{List, ◌∷◌, length, sym, ap, ◌∙◌, arith, []}
 use lib.Ieee.{Float}
 use Rattle.floats.specs.Operations.{bits}
 use Rattle.strips.proofs.Upward.{same_heights}

@@ -1,8 +1,7 @@
 -- `strips::work_upward` meets its contract: the strips left from each break height on make up the run. Assumes nothing.
-use Rattle.std.proofs.Common.{◌-◌, length, sym, ◌∙◌, arith, rules}
+use Rattle.std.proofs.Common.{sym, ◌∙◌, arith}
 use borrow.Author.Tests.{not-true, not-false}
-use Rattle.integrands.specs.Integrands.{sample_of}
-use Rattle.strips.proofs.Upward.{State, begin, end, goes_on, ends_here}
+use Rattle.strips.proofs.Upward.{begin, end, goes_on, ends_here}
 use Rattle.strips.proofs.work_upward.Goals as goal
 
 pub loop-i-init : goal.loop-i-init

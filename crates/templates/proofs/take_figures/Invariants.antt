@@ -1,5 +1,5 @@
 -- `templates::take_figures` meets its contract: what is left to take from where reading stands is the whole. Assumes nothing.
-use mathlib.Core.List.{[], ◌∷◌}
+use mathlib.Core.List.{◌∷◌, []}
 use Rattle.templates.specs.Matching.{take_one}
 use Rattle.templates.proofs.Repeats.{Repeating}
 use Rattle.templates.proofs.take_figures.Given as goal

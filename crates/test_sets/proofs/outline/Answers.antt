@@ -1,7 +1,5 @@
 -- `test_sets::outline` is safe: i runs up to 30. Assumes nothing.
-use Prim.Native.Nat.{◌-◌}
 use native.Mathlib.Omega.{arith}
-use borrow.Author.Rules.{rules}
 use Rattle.test_sets.proofs.outline.Goals as goal
 
 pub loop-i-init : goal.loop-i-init

@@ -1,7 +1,5 @@
 -- `test_sets::outline` is safe: i runs up to 30. Assumes nothing.
 use Prim.Native.Nat.{◌-◌}
-use native.Mathlib.Omega.{arith}
-use borrow.Author.Rules.{rules}
 use Rattle.test_sets.proofs.outline.Given as goal
 
 abbrev pub invariant-loop-i : goal.invariant-loop-i

@@ -1,8 +1,5 @@
 -- `test_sets::same_numbers` is safe: i runs up to the end of two lists of one length. Assumes nothing.
-use Prim.Native.Nat.{◌-◌}
 use native.Mathlib.Omega.{arith}
-use borrow.Author.Rules.{rules}
-use lib.ListN.{length}
 use Rattle.test_sets.proofs.same_numbers.Goals as goal
 
 pub loop-i-init : goal.loop-i-init

@@ -1,7 +1,6 @@
 -- `test_sets::whole` is safe: the number is small. Assumes nothing.
 use Prim.Native.Nat.{◌%◌, ◌^◌}
 use native.Mathlib.Omega.{arith}
-use borrow.Author.Rules.{rules}
 use lib.Dec.{le→leb}
 use lib.Ieee.{in_float}
 use Rattle.test_sets.proofs.whole.Goals as goal

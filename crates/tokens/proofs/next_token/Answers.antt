@@ -1,10 +1,9 @@
 -- `tokens::next_token` meets its contract: past the spaces the byte there says which token begins. Assumes nothing.
-use mathlib.Core.List.{List, [], ◌∷◌}
+use mathlib.Core.List.{List, ◌∷◌, []}
 use mathlib.Core.Bool.{true, false}
 use mathlib.Core.Path.{◌≡◌, sym, ap, ◌∙◌}
 use Prim.Native.Nat.{ℕ, ◌+◌, ◌<◌, ◌≤◌}
 use native.Mathlib.Omega.{arith}
-use borrow.Author.Rules.{rules}
 use lib.ListN.{length, drop, get_or}
 use Rattle.tokens.specs.Tokens.{ends_word, tokens}
 use Rattle.tokens.specs.Found.{part, IsFound, IsWordEnd, IsPastSpaces}

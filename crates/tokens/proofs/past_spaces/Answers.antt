@@ -1,9 +1,6 @@
 -- `tokens::past_spaces` meets its contract: a space in front changes no token. Assumes nothing.
-use mathlib.Core.Path.{◌≡◌, refl, ◌∙◌}
-use Prim.Native.Nat.{◌-◌, ◌≤◌}
+use mathlib.Core.Path.{refl, ◌∙◌}
 use native.Mathlib.Omega.{arith}
-use lib.ListN.{length, drop}
-use Rattle.tokens.specs.Tokens.{tokens}
 use Rattle.tokens.proofs.Bytes.{space_at}
 use Rattle.tokens.proofs.past_spaces.Goals as goal
 

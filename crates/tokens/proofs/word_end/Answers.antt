@@ -2,9 +2,8 @@
 use mathlib.Core.List.{List, ◌∷◌}
 use mathlib.Core.Bool.{true, false, true≢false}
 use mathlib.Core.Path.{◌≡◌, sym, ap, ◌∙◌}
-use Prim.Native.Nat.{ℕ, ◌+◌, ◌-◌, ◌<◌, ◌≤◌}
+use Prim.Native.Nat.{ℕ, ◌+◌, ◌<◌, ◌≤◌}
 use native.Mathlib.Omega.{arith}
-use borrow.Author.Rules.{rules}
 use lib.ListN.{length, drop, get_or}
 use Rattle.tokens.specs.Tokens.{ends_word, tokens_after, tokens}
 use Rattle.tokens.specs.Found.{part, IsWordEnd}

@@ -1,5 +1,4 @@
 -- `tolerance::add_piece` meets its contract, component by component. Assumes nothing.
-use borrow.Author.Rules.{rules}
 use Rattle.tolerance.specs.Steps.{with_piece}
 use Rattle.tolerance.proofs.add_piece.Goals as goal
 

@@ -1,5 +1,4 @@
 -- `tolerance::bound` meets its contract: the constants are the tolerances. Assumes nothing.
-use borrow.Author.Rules.{rules}
 use Rattle.tolerance.proofs.Numbers.{absolute_bits, relative_bits}
 use Rattle.tolerance.proofs.bound.Goals as goal
 

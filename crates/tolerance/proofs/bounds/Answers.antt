@@ -1,5 +1,4 @@
 -- `tolerance::bounds` meets its contract, component by component. Assumes nothing.
-use borrow.Author.Rules.{rules}
 use Rattle.tolerance.proofs.bounds.Goals as goal
 
 pub returns : goal.returns

@@ -1,5 +1,4 @@
 -- `tolerance::component` meets its contract: place by place. Assumes nothing.
-use borrow.Author.Rules.{rules}
 use mathlib.Core.Path.{ap}
 use Prim.Native.Nat.{ℕ}
 use lib.Ieee.{Float}

@@ -1,5 +1,4 @@
 -- `tolerance::keep_order` meets its contract: its two calls do. Assumes nothing.
-use borrow.Author.Rules.{rules}
 use Rattle.floats.specs.Operations.{every}
 use Rattle.tolerance.specs.Steps.{keeps_order}
 use Rattle.tolerance.proofs.keep_order.Goals as goal

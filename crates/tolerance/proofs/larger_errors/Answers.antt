@@ -1,5 +1,4 @@
 -- `tolerance::larger_errors` meets its contract, component by component. Assumes nothing.
-use borrow.Author.Rules.{rules}
 use Rattle.tolerance.proofs.larger_errors.Goals as goal
 
 pub returns : goal.returns

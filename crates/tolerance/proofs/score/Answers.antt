@@ -1,5 +1,4 @@
 -- `tolerance::score` meets its contract, component by component. Assumes nothing.
-use borrow.Author.Rules.{rules}
 use Rattle.floats.specs.Operations.{at}
 use Rattle.tolerance.proofs.Numbers.{zero_is_number, score_first, score_next}
 use Rattle.tolerance.proofs.score.Goals as goal

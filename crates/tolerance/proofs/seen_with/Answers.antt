@@ -1,5 +1,4 @@
 -- `tolerance::seen_with` meets its contract, which goes by the same tests. Assumes nothing.
-use borrow.Author.Rules.{rules}
 use Rattle.tolerance.specs.Steps.{seen_with}
 use Rattle.tolerance.proofs.seen_with.Goals as goal
 
@@ -10,19 +9,19 @@ returns-then-ordered-all_within c = rw (← c.all_within.ensures, c.if-ordered-a
 pub returns-then-number-seen : goal.returns-then-number-seen
 unfolding seen_with
 returns-then-number-seen c = rw (
-      ← c.all_within.ensures,
-      c.if-ordered-all_within.false,
-      ← c.score-number.ensures,
-      c.if-number-seen.true,
-      c.larger_errors-errors.ensures,
-    )
+  ← c.all_within.ensures,
+  c.if-ordered-all_within.false,
+  ← c.score-number.ensures,
+  c.if-number-seen.true,
+  c.larger_errors-errors.ensures,
+)
 
 pub returns-else-number-seen : goal.returns-else-number-seen
 unfolding seen_with
 returns-else-number-seen c = rw (
-      ← c.all_within.ensures,
-      c.if-ordered-all_within.false,
-      ← c.score-number.ensures,
-      c.if-number-seen.false,
-      c.larger_errors-errors.ensures,
-    )
+  ← c.all_within.ensures,
+  c.if-ordered-all_within.false,
+  ← c.score-number.ensures,
+  c.if-number-seen.false,
+  c.larger_errors-errors.ensures,
+)

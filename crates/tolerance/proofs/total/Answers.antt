@@ -1,14 +1,10 @@
 -- `tolerance::total` meets its contract: what is left to add up from here is the whole sum. Assumes nothing.
 use mathlib.Core.Path.{◌≡◌, ◌∙◌}
-use Prim.Native.Nat.{◌-◌, ◌*◌, ◌≤◌}
+use Prim.Native.Nat.{◌-◌}
 use native.Mathlib.Nat.{sub-zero}
 use native.Mathlib.Omega.{arith}
-use borrow.Author.Rules.{rules}
-use lib.ListN.{drop}
-use Rattle.limits.specs.Limits.{piece_numbers}
-use Rattle.pieces.specs.Stored.{pieces_in}
 use Rattle.pieces.proofs.Storage.{pieces_step}
-use Rattle.tolerance.proofs.Added.{sums_from, no_sums, sums_are}
+use Rattle.tolerance.proofs.Added.{sums_are}
 use Rattle.tolerance.proofs.total.Goals as goal
 
 pub loop-i-init : goal.loop-i-init

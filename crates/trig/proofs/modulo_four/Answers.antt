@@ -1,5 +1,4 @@
 -- `trig::modulo_four` meets its contract: 0 has the same remainder with either sign. Assumes nothing.
-use borrow.Author.Rules.{rules}
 use Rattle.trig.proofs.Modulo.{negative_is}
 use Rattle.trig.proofs.modulo_four.Goals as goal
 

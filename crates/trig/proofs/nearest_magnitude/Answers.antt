@@ -3,7 +3,6 @@
 use mathlib.Core.Path.{sym, ◌∙◌}
 use Prim.Native.Nat.{◌-◌}
 use native.Mathlib.Omega.{arith}
-use borrow.Author.Rules.{rules}
 use lib.Pow.{shl_exact, shr_le}
 use Rattle.trig.proofs.Bits.{halved, shifted}
 use Rattle.trig.proofs.nearest_magnitude.Goals as goal

@@ -1,15 +1,11 @@
 -- `trig::series` meets its contract. The loop's invariant: the steps that are left, from the present v, give what all give from 1, for the
 -- sine's divisors and for the cosine's. Assumes nothing.
-use mathlib.Core.Path.{◌≡◌, refl, ap, ◌∙◌}
+use mathlib.Core.Path.{◌≡◌}
 use mathlib.Core.List.{List}
-use Prim.Native.Nat.{ℕ, ◌+◌, ◌-◌, ◌<◌, ◌≤◌}
-use native.Mathlib.Nat.{le_antisymm}
-use native.Mathlib.Numerals.{add-one}
-use native.Mathlib.Omega.{arith}
+use Prim.Native.Nat.{ℕ, ◌-◌, ◌≤◌}
 use lib.ListN.{length, drop}
-use lib.Seq.{drop-cons, drop-length}
-use lib.Ieee.{Float, nan, of_bits, of_int, round}
-use Rattle.floats.specs.Operations.{◌⊖◌, ◌⊗◌, ◌⊘◌, bits, whole, at}
+use lib.Ieee.{Float}
+use Rattle.floats.specs.Operations.{whole, at}
 use Rattle.trig.specs.Trig.{steps, sine_divisors, cosine_divisors}
 use Rattle.trig.proofs.series.Given as goal
 
@@ -20,7 +16,5 @@ Left z ds v i = steps z (drop i ds) v ≡ steps z ds (whole 1)
 abbrev pub invariant-loop-i : goal.invariant-loop-i
 invariant-loop-i l = (l.i ≤ 8) × (length l.v ≡ 2) × Left l.z sine_divisors (at l.v 0) l.i × Left l.z cosine_divisors (at l.v 1) l.i
 
-
 abbrev pub decreases-loop-i : goal.decreases-loop-i
 decreases-loop-i l = 8 - l.i
-

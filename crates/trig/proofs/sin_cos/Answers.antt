@@ -3,7 +3,6 @@ use mathlib.Core.Path.{◌≡◌, ap}
 use Prim.Native.Nat.{ℕ, ◌<◌}
 use native.Mathlib.Omega.{arith}
 use lib.Ieee.{Float, nan, inf, fin}
-use borrow.Author.Rules.{rules}
 use Rattle.floats.specs.Operations.{◌⊗◌, whole}
 use Rattle.trig.specs.declared.SinCos.{SinCos}
 use Rattle.trig.specs.Trig.{quarter_turns, m_of, whole_of, quarter_of, reduced, steps, sine_divisors, cosine_divisors, by_quarter, sin_cos_of}

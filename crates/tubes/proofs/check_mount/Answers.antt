@@ -1,6 +1,5 @@
 -- `tubes::check_mount` meets its contract: the calls are in order. Assumes nothing.
-use borrow.Author.Rules.{rules}
-use mathlib.Core.List.{[], ◌∷◌}
+use mathlib.Core.List.{◌∷◌, []}
 use Rattle.refusals.proofs.Order.{in_order}
 use Rattle.tubes.specs.Tubes.{mount_check}
 use Rattle.tubes.proofs.check_mount.Goals as goal

@@ -1,6 +1,5 @@
 -- `tubes::check_tubes` meets its contract: the calls are in order, the first four checks as one. Assumes nothing.
-use borrow.Author.Rules.{rules}
-use mathlib.Core.List.{[], ◌∷◌}
+use mathlib.Core.List.{◌∷◌, []}
 use mathlib.Core.Path.{◌∙◌}
 use Rattle.refusals.proofs.Given.{is_answer}
 use Rattle.refusals.proofs.Order.{in_order, in_two}

@@ -1,5 +1,4 @@
 -- `tubes::check_wall` meets its contract, by what the calls ensure. Assumes nothing.
-use borrow.Author.Rules.{rules}
 use Rattle.tubes.proofs.check_wall.Goals as goal
 
 pub returns : goal.returns

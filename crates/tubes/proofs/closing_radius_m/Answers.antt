@@ -1,5 +1,4 @@
 -- `tubes::closing_radius_m` meets its contract: each arm knows what the two checks gave. Assumes nothing.
-use borrow.Author.Rules.{rules}
 use mathlib.Core.Path.{sym, ap, ◌∙◌}
 use Rattle.refusals.proofs.Accepted.{both}
 use Rattle.limits.proofs.Accepted.{count_within}

@@ -1,5 +1,4 @@
 -- `tubes::closing_value` meets its contract, which goes by the same test; a count of at most 32 is an f64. Assumes nothing.
-use borrow.Author.Rules.{rules}
 use borrow.Author.Tests.{lt-ltb, le-ltb}
 use Prim.Native.Nat.{◌^◌}
 use native.Mathlib.Omega.{arith}

@@ -1,5 +1,4 @@
 -- `tubes::hollow_cylinder` meets its contract: its tensor has a diagonal alone. Assumes nothing.
-use borrow.Author.Rules.{rules}
 use Rattle.tubes.proofs.hollow_cylinder.Goals as goal
 
 pub returns : goal.returns

@@ -1,6 +1,5 @@
 -- `tubes::mass_properties` meets its contract: each arm knows what the checks gave, and a count that they accept is at
 -- most 32. Assumes nothing.
-use borrow.Author.Rules.{rules}
 use mathlib.Core.Path.{sym, ap, ◌∙◌}
 use Rattle.bodies.specs.declared.Body.{Body}
 use Rattle.refusals.proofs.Accepted.{both}

@@ -1,5 +1,4 @@
 -- `tubes::tube_at` meets its contract, by what the calls ensure. Assumes nothing.
-use borrow.Author.Rules.{rules}
 use Rattle.tubes.specs.Tubes.{tube_at}
 use Rattle.tubes.proofs.tube_at.Goals as goal
 

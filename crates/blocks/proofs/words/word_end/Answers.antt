@@ -1,5 +1,5 @@
 -- `blocks::words::word_end` meets its contract: every byte passed is one of the word. Assumes nothing.
-use mathlib.Core.List.{[], ◌∷◌}
+use mathlib.Core.List.{◌∷◌, []}
 use mathlib.Core.Path.{sym, ◌∙◌}
 use native.Mathlib.Omega.{arith}
 use Rattle.blocks.specs.Words.{word_shape, word_figures, word_counts}

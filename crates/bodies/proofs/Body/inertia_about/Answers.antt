@@ -1,5 +1,4 @@
 -- `bodies::Body::inertia_about` meets its contract: its four calls, put together. Assumes nothing.
-use borrow.Author.Rules.{rules}
 use Rattle.bodies.specs.Bodies.{inertia_about_of}
 use Rattle.bodies.proofs.Body.inertia_about.Goals as goal
 
@@ -10,5 +9,4 @@ returns c = rw (
   c.scale.ensures,
   c.offset_tensor.ensures,
   c.subtract-offset.ensures,
-
 )

@@ -1,5 +1,4 @@
 -- `bodies::Body::rotated` meets its contract: the turned centre beside the turned tensor. Assumes nothing.
-use borrow.Author.Rules.{rules}
 use Rattle.bodies.specs.Bodies.{rotated_of}
 use Rattle.bodies.proofs.Body.rotated.Goals as goal
 

@@ -1,5 +1,4 @@
 -- `bodies::Body::translated` meets its contract: the moved centre beside the tensor as it was. Assumes nothing.
-use borrow.Author.Rules.{rules}
 use Rattle.bodies.proofs.Body.translated.Goals as goal
 
 pub returns : goal.returns

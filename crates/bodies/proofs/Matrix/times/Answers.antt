@@ -1,5 +1,4 @@
 -- `bodies::Matrix::times` meets its contract: the three columns, put together. Assumes nothing.
-use borrow.Author.Rules.{rules}
 use Rattle.bodies.proofs.Matrix.times.Goals as goal
 
 pub returns : goal.returns

@@ -1,5 +1,4 @@
 -- `bodies::Tensor::turn` meets its contract: two products and a transpose, put together and averaged. Assumes nothing.
-use borrow.Author.Rules.{rules}
 use Rattle.bodies.specs.Tensors.{turn_tensor}
 use Rattle.bodies.proofs.Tensor.turn.Goals as goal
 

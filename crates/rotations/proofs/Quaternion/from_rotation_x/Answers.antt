@@ -1,5 +1,4 @@
 -- `rotations::Quaternion::from_rotation_x` meets its contract: sine and cosine of the half angle in their places. Assumes nothing.
-use borrow.Author.Rules.{rules}
 use Rattle.rotations.proofs.Quaternion.from_rotation_x.Goals as goal
 
 pub returns : goal.returns

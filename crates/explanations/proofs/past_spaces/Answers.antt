@@ -1,0 +1,31 @@
+-- `explanations::past_spaces` meets its contract: a space more is passed at each turn. Assumes nothing.
+use mathlib.Core.Path.{refl}
+use native.Mathlib.Omega.{arith}
+use borrow.Author.Tests.{eq-eqb, ne_eqb}
+use Rattle.explanations.specs.Places.{is_space}
+use Rattle.explanations.proofs.Places.{run_on, run_stops, run_ends}
+use Rattle.explanations.proofs.past_spaces.Goals as goal
+
+pub loop-i-init : goal.loop-i-init
+loop-i-init c = (omega arith, refl)
+
+pub bounds-line-i : goal.bounds-line-i
+bounds-line-i c = omega arith
+
+pub returns-then-line-i-ne32 : goal.returns-then-line-i-ne32
+returns-then-line-i-ne32 c =
+    (run_stops is_space c.args.line.now _ _ c.loop-i.invariant.1 (omega arith) (ne_eqb _ _ c.if-line-i-ne32.true), c.loop-i.invariant.0)
+
+pub overflow_add-i : goal.overflow_add-i
+overflow_add-i c = omega arith
+
+pub loop-i-smaller : goal.loop-i-smaller
+loop-i-smaller c = omega arith
+
+pub loop-i-preserved : goal.loop-i-preserved
+loop-i-preserved c =
+    (omega arith, run_on is_space c.args.line.now _ _ c.loop-i.invariant.1 (omega arith) (eq-eqb _ _ c.if-line-i-ne32.false))
+
+pub returns : goal.returns
+returns c =
+    (run_ends is_space c.args.line.now _ _ c.loop-i.invariant.1 (omega arith), c.loop-i.invariant.0)

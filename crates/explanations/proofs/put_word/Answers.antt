@@ -1,0 +1,33 @@
+-- `explanations::put_word` meets its contract: the word is put where the start with it is saved. Assumes nothing.
+use mathlib.Core.Path.{sym, ◌∙◌}
+use native.Mathlib.Omega.{arith}
+use borrow.Author.Tests.{not-true, not-false}
+use lib.ListN.{take}
+use Rattle.explanations.proofs.Wanting.{not_wanted, is_wanted}
+use Rattle.explanations.proofs.put_word.Goals as goal
+
+pub returns-then-not-word_saves : goal.returns-then-not-word_saves
+returns-then-not-word_saves c =
+    let s = c.args in (
+      not_wanted s.fault s.endings.now (take s.k s.trial.now) s.word.now _ _
+          (sym c.word_saves.ensures.0 ∙ not-true _ c.if-not-word_saves.true-raw),
+      c.word_saves.ensures.1,
+    )
+
+pub put_bytes-space-requires : goal.put_bytes-space-requires
+put_bytes-space-requires c = let h = c.requires.0 in omega (arith, h)
+
+pub put_bytes-requires : goal.put_bytes-requires
+put_bytes-requires c =
+    let h = c.requires.0 in
+    let e = c.put_bytes-space.ensures.ends in let k = c.put_bytes-space.auto.out in
+    omega (arith, h, e, k)
+
+pub returns : goal.returns
+returns c =
+    let s = c.args in (
+      is_wanted s.fault s.endings.now (take s.k s.trial.now) s.word.now
+          (sym c.word_saves.ensures.0 ∙ not-false _ c.if-not-word_saves.false-raw)
+          c.put_bytes-space.ensures c.put_bytes.ensures,
+      c.word_saves.ensures.1,
+    )
