@@ -13,7 +13,7 @@ ghost use Rattle.std.specs.Prelude.{◌≡◌, ◌+◌, ◌<◌, length};
 ghost use Rattle.texts.specs.Appended.{Appended};
 ghost use Rattle.lines.specs.Lines.{memory_in};
 ghost use Rattle.inputs.specs.Inputs.{ReplyFits};
-ghost use Rattle.inputs.specs.States.{place_now, at_entry, at_exit, Lent};
+ghost use Rattle.inputs.specs.States.{place_in, Lent};
 ghost use Rattle.reads.specs.Reads.{most_read};
 ghost use Rattle.card.specs.Program.{at_first, no_line, told, Lends, Counted};
 ghost use Rattle.card.specs.Program.{Steps, Replies, Turns, Ends, Closes, Runs};
@@ -77,10 +77,10 @@ fn reply_next(
     engine_counts: &mut [usize],
     out: &mut [u8],
 ) -> Step
-    requires { Lends (place_now buffer s.state scratch engine_numbers engine_counts) chunk.now out.old
+    requires { Lends (place_in buffer.old s.state scratch.old engine_numbers.old engine_counts.old) chunk.now out.old
         × Counted (most_read + s.taken) s.handed × (s.taken < length chunk.now) }
-    ensures { Steps (at_entry buffer s.state scratch engine_numbers engine_counts)
-        (at_exit buffer result.state scratch engine_numbers engine_counts) s result
+    ensures { Steps (place_in buffer.old s.state scratch.old engine_numbers.old engine_counts.old)
+        (place_in buffer.new result.state scratch.new engine_numbers.new engine_counts.new) s result
         chunk.now out.new }
 {
     let at = s.taken;
@@ -119,10 +119,10 @@ fn reply_to(
     out: &mut [u8],
     handed: usize,
 ) -> Step
-    requires { Lends (place_now buffer s scratch engine_numbers engine_counts) chunk.now out.old
+    requires { Lends (place_in buffer.old s scratch.old engine_numbers.old engine_counts.old) chunk.now out.old
         × Counted most_read handed }
-    ensures { Replies (at_entry buffer s scratch engine_numbers engine_counts)
-        (at_exit buffer result.state scratch engine_numbers engine_counts) chunk.now handed result }
+    ensures { Replies (place_in buffer.old s scratch.old engine_numbers.old engine_counts.old)
+        (place_in buffer.new result.state scratch.new engine_numbers.new engine_counts.new) chunk.now handed result }
 {
     let mut step = Step {
         state: s,
@@ -157,10 +157,10 @@ fn take_turn(
     engine_counts: &mut [usize],
     out: &mut [u8],
 ) -> Turn
-    requires { Lends (place_now buffer t.state scratch engine_numbers engine_counts) chunk.old out.old
+    requires { Lends (place_in buffer.old t.state scratch.old engine_numbers.old engine_counts.old) chunk.old out.old
         × Counted most_read t.handed × (t.read < most_read) }
-    ensures { Turns (at_entry buffer t.state scratch engine_numbers engine_counts)
-        (at_exit buffer result.state scratch engine_numbers engine_counts) t result chunk.new }
+    ensures { Turns (place_in buffer.old t.state scratch.old engine_numbers.old engine_counts.old)
+        (place_in buffer.new result.state scratch.new engine_numbers.new engine_counts.new) t result chunk.new }
 {
     let got = reads::read(&mut rt.stdin(), chunk);
     let n = io::count(got, chunk);
@@ -207,9 +207,9 @@ fn reply_last(
     engine_counts: &mut [usize],
     out: &mut [u8],
 ) -> Last
-    requires { Lent (place_now buffer s scratch engine_numbers engine_counts) × ReplyFits out.old 0 }
-    ensures { Ends (at_entry buffer s scratch engine_numbers engine_counts)
-        (at_exit buffer s scratch engine_numbers engine_counts) out.new result }
+    requires { Lent (place_in buffer.now s scratch.old engine_numbers.old engine_counts.old) × ReplyFits out.old 0 }
+    ensures { Ends (place_in buffer.now s scratch.old engine_numbers.old engine_counts.old)
+        (place_in buffer.now s scratch.new engine_numbers.new engine_counts.new) out.new result }
 {
     let written = inputs::finish(buffer, s, scratch, engine_numbers, engine_counts, out, 0);
     let all = rt.stdout().write_all(&out[..written]).is_ok();
@@ -243,10 +243,10 @@ fn end_run(
     engine_counts: &mut [usize],
     out: &mut [u8],
 ) -> End
-    requires { Lent (place_now buffer t.state scratch engine_numbers engine_counts) × ReplyFits out.old 0
+    requires { Lent (place_in buffer.now t.state scratch.old engine_numbers.old engine_counts.old) × ReplyFits out.old 0
         × Counted (most_read + 65536) t.handed }
-    ensures { Closes (at_entry buffer t.state scratch engine_numbers engine_counts)
-        (at_exit buffer t.state scratch engine_numbers engine_counts) t out.new result }
+    ensures { Closes (place_in buffer.now t.state scratch.old engine_numbers.old engine_counts.old)
+        (place_in buffer.now t.state scratch.new engine_numbers.new engine_counts.new) t out.new result }
 {
     if reads::is_end(t.got) {
         let state = t.state;
@@ -286,7 +286,7 @@ fn run(
     engine_counts: &mut [usize],
     out: &mut [u8],
 ) -> End
-    requires { Lends (place_now buffer no_line scratch engine_numbers engine_counts) chunk.old out.old
+    requires { Lends (place_in buffer.old no_line scratch.old engine_numbers.old engine_counts.old) chunk.old out.old
         × (memory_in scratch.old engine_numbers.old engine_counts.old ≡ at_first) }
     ensures { Runs (memory_in scratch.new engine_numbers.new engine_counts.new)
         out.new result }

@@ -16,9 +16,7 @@ use Rattle.card.specs.declared.Turn.{Turn}
 use Rattle.card.specs.declared.Last.{Last}
 use Rattle.card.specs.Program.{told, Ends, Closes}
 use Rattle.card.proofs.Handing.{put_within}
-use borrow.Author.Rules.{rules}
-use Rattle.card.proofs.end_run.Statement.{statement}
-use Rattle.card.proofs.end_run.Tie as tie
+use Rattle.card.proofs.end_run.Goals as goal
 
 module _ {p : Place} (t : Turn) {out after : List ℕ} {n : ℕ} where
   -- the input is at its end
@@ -48,53 +46,14 @@ module _ {p : Place} (t : Turn) {out after : List ℕ} {n : ℕ} where
         tells = record { holds = rw g a.holds; room = put_within a };
       }
 
--- ---- the places: the call; the test of what the last read gave, and the reply to the last line
-abbrev called : tie.After-is-end → tie.Start
-called i = let known = i.before.before.before in known.before.before.before.before
+pub returns-then-is_end : goal.returns-then-is_end
+returns-then-is_end c =
+    let got : c.is_end.result ≡ at_end c.args.t.got =
+    c.is_end.ensures ∙ ap at_end (to_z-of_z w64 c.args.t.got (record { sfits = c.struct_told-1.given.1.0.1 })) in
+    at_end_lem c.args.t (sym got ∙ c.if-is_end.true) c.reply_last-last.ensures c.tell-told.ensures
 
-abbrev tested : tie.After-reply-last → tie.After-is-end
-tested r = let args = r.before.before.before.before in args.before.before.before
-
-abbrev told-last : tie.After-tell → tie.After-reply-last
-told-last t =
-    let lists = t.before.before.before.before.before in
-    lists.before.before.before.before.before
-
--- what the last read gave, from the call of `is_end`
-is_at_end : (i : tie.After-is-end) → i.is-end.result ≡ at_end (called i).args.t.got
-is_at_end i =
-    i.is-end.ensures ∙ ap at_end (to_z-of_z w64 (called i).args.t.got (record { sfits = i.before.struct_told.given.1.0.1 }))
-
-add-t22 : tie.Need-overflow-add-t22
-add-t22 c =
-    let r = told-last c.before.before.before.before in let s = called (tested r) in
-    let a = r.reply-last.ensures.short in let b = s.pre.2 in
-    omega (arith, a, b)
-
-returns : tie.Need-returns
+pub returns : goal.returns
 returns c =
-    let t = c.before.before.before.before in let r = told-last t in let i = tested r in
-    let test = r.before.before.before in
-    at_end_lem (called i).args.t (sym (is_at_end i) ∙ test.before.before.before.if1.taken) r.reply-last.ensures t.tell.ensures
-
-returns-2 : tie.Need-returns-2
-returns-2 c =
-    let t = c.before.before in let i = t.before.before.before in
-    before_end (called i).args.t (sym (is_at_end i) ∙ t.before.before.if1.false) t.tell2.ensures
-
-pub end-run-spec : {M : Type 1} → statement M
-end-run-spec =
-    tie.close
-    (tie.spec
-    (λ c κs. search rules)
-    (λ c κs. search rules)
-    (λ c κs. search rules)
-    add-t22
-    (λ c. search rules)
-    (λ c. search rules)
-    (λ c. search rules)
-    (λ c. search rules)
-    returns
-    (λ c κs. search rules)
-    (λ c. search rules)
-    returns-2)
+    let got : c.is_end.result ≡ at_end c.args.t.got =
+    c.is_end.ensures ∙ ap at_end (to_z-of_z w64 c.args.t.got (record { sfits = c.struct_told-1.given.1.0.1 })) in
+    before_end c.args.t (sym got ∙ c.if-is_end.false) c.tell-told-2.ensures
