@@ -12,11 +12,11 @@ use Rattle.explanations.proofs.saves_here.Goals as goal
 
 pub returns-then-endings-j-ne32 : goal.returns-then-endings-j-ne32
 returns-then-endings-j-ne32 c =
-    let s = c.args in (
-      sym (ap (λ (t : Bool). t && saves_with s.fault (take s.n s.trial.now) (to_bar (drop s.j s.endings.now)))
-          (ne_eqb _ _ c.if-endings-j-ne32.true)),
-      refl,
-    )
+    let s = c.args in record {
+      value = sym (ap (λ (t : Bool). t && saves_with s.fault (take s.n s.trial.now) (to_bar (drop s.j s.endings.now)))
+          (ne_eqb _ _ c.if-endings-j-ne32.true));
+      trial_unchanged = refl;
+    }
 
 pub slice_bounds-saves_with-count : goal.slice_bounds-saves_with-count
 slice_bounds-saves_with-count c = c.bar_end-end.ensures.behind
@@ -29,11 +29,11 @@ saves_with-requires c =
     omega (arith, e, g, h)
 
 pub returns : goal.returns
-returns c = (
-  c.saves_with.ensures.0
+returns c = record {
+  value = c.saves_with.ensures.value
       ∙ ap (λ (t : List ℕ). saves_with c.args.fault (take c.args.n c.args.trial.now) t)
       (sym (ap first_text c.bar_end-end.ensures.cut))
       ∙ sym (ap (λ (t : Bool). t && saves_with c.args.fault (take c.args.n c.args.trial.now)
-      (to_bar (drop c.args.j c.args.endings.now))) (eq-eqb _ _ c.if-endings-j-ne32.false)),
-  c.saves_with.ensures.1,
-)
+      (to_bar (drop c.args.j c.args.endings.now))) (eq-eqb _ _ c.if-endings-j-ne32.false));
+  trial_unchanged = c.saves_with.ensures.trial_unchanged;
+}

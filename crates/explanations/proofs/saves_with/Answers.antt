@@ -19,7 +19,7 @@ slice_bounds-fault_of-end-2 c =
 
 pub returns : goal.returns
 returns c =
-    let h = c.requires in (
-      c.saves_from.ensures ∙ ap (saves_from c.args.fault) (c.fault_of-other.ensures ∙ ap fault_of c.put_bytes-m.ensures.holds),
-      start_kept (omega (arith, h)) c.put_bytes-m.ensures,
-    )
+    let h = c.requires in record {
+      value = c.saves_from.ensures ∙ ap (saves_from c.args.fault) (c.fault_of-other.ensures ∙ ap fault_of c.put_bytes-m.ensures.holds);
+      trial_unchanged = start_kept (omega (arith, h)) c.put_bytes-m.ensures;
+    }

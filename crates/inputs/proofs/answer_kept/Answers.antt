@@ -17,7 +17,7 @@ returns-else-s c =
     let fits : Fits lent c.args.out.now c.args.n =
     record { answer = c.requires.1; engine = c.requires.0.engine } in
     let p = c.answer_line.ensures in
-    record { appended = rw e (p.answer fits); leaves = rw e (p.left fits).memory-left }
+    record { appended = rw e (p.answer fits); leaves = rw e (p.left fits).memory_left }
 
 pub slice_bounds-answer_line-end : goal.slice_bounds-answer_line-end
 slice_bounds-answer_line-end c = simp length-take (omega arith)

@@ -3,7 +3,7 @@ use mathlib.Core.List.{[]}
 use mathlib.Core.Path.{refl}
 use native.Mathlib.Omega.{arith}
 use Rattle.texts.proofs.Appending.{nothing}
-use Rattle.input_lines.proofs.Keeping.{no_last_line, last_line}
+use Rattle.input_lines.proofs.Keeping.{no_last_line, last_line_lem}
 use Rattle.inputs.specs.Inputs.{replies, left_by_lines}
 use Rattle.inputs.specs.States.{place_in, kept_reply}
 use Rattle.inputs.proofs.Keeping.{kept_answered, reply_short}
@@ -30,7 +30,7 @@ returns c =
     record {
       text = kept_reply stood;
       answers = λ begun k.
-          rw (last_line c.args.buffer.now c.args.s begun k c.if-kept-eq0.false)
+          rw (last_line_lem c.args.buffer.now c.args.s begun k c.if-kept-eq0.false)
           (kept_answered stood begun k c.reply.ensures.leaves);
       short = h;
       appended = c.reply.ensures.appended;
