@@ -1,5 +1,5 @@
 -- What a call on lent memory promises follows from what its parts did, or from a list that has no room. Assumes nothing.
-use mathlib.Core.Path.{◌≡◌, refl, sym, ap, ap₂, ◌∙◌}
+use mathlib.Core.Path.{◌≡◌, refl, sym, ap, ◌∙◌}
 use mathlib.Core.Bool.{Bool, true, false, true≢false, not, ◌&&◌}
 use mathlib.Core.List.{List}
 use Prim.Native.Nat.{ℕ, ◌≤◌, ◌<◌}
@@ -20,13 +20,12 @@ use Rattle.figures.specs.Numbered.{figure_counts}
 use Rattle.jobs.specs.declared.JobProgress.{JobProgress}
 use Rattle.jobs.specs.declared.Reply.{Reply}
 use Rattle.jobs.specs.declared.Row.{Row}
-use Rattle.engines.specs.Calls.{Call}
 use Rattle.lent_engines.specs.Memory.{engine_counts_length}
 use Rattle.lent_engines.specs.Lent.{Lists, Clears}
 use Rattle.lent_engines.proofs.Calls.{leaves_none}
 use Rattle.screen_exports.specs.Calls.{MemoryKind, Effect, TellsReply, TellsRow, with_progress, no_form, asked_of_set, asked_of_density}
 use Rattle.screen_exports.specs.Calls.{told_room, row_room, ReplyCall, RowCall, ProgressCall}
-use Rattle.screen_exports.specs.JobCalls.{JobChange, job_memory}
+use Rattle.screen_exports.specs.JobCalls.{job_memory}
 use Rattle.screen_exports.specs.EngineCalls.{engine_memory, clear_room, ClearCall}
 
 -- ---- memory that no call changes is as it was
