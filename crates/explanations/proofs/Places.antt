@@ -1,14 +1,14 @@
 -- Runs of bytes and tokens, from a place on. Assumes nothing.
-use mathlib.Core.List.{List, [], ◌∷◌}
+use mathlib.Core.List.{List, ◌∷◌}
 use mathlib.Core.Bool.{Bool, true, false, cond}
-use mathlib.Core.Path.{◌≡◌, refl, sym, ap, ap₂, ◌∙◌}
+use mathlib.Core.Path.{◌≡◌, sym, ap, ap₂, ◌∙◌}
 use Prim.Native.Nat.{ℕ, suc, ◌+◌, ◌<◌, ◌≤◌}
 use native.Mathlib.Omega.{arith}
 use lib.ListN.{length, drop, get_or, drop_of_length-le}
 use Rattle.tokens.specs.Tokens.{ends_word}
 use Rattle.tokens.specs.declared.TokenRange.{TokenRange}
 use Rattle.tokens.proofs.Bytes.{cons_at}
-use Rattle.explanations.specs.Places.{run, in_word, token_bytes, token_from, token_at, IsToken}
+use Rattle.explanations.specs.Places.{run, in_word, token_bytes, token_from, IsToken}
 
 module _ (test : ℕ → Bool) (l : List ℕ) (at i : ℕ) (s : at + run test (drop at l) ≡ i + run test (drop i l)) where
   module _ (h : i < length l) where

@@ -1,9 +1,9 @@
 -- `explanations::is_saved` meets its contract: as long as no ending saved, those that are left decide. Assumes nothing.
 use mathlib.Core.List.{List}
-use mathlib.Core.Path.{◌≡◌, refl, sym, ap, ◌∙◌}
+use mathlib.Core.Path.{refl, sym, ap, ◌∙◌}
 use Prim.Native.Nat.{ℕ}
 use native.Mathlib.Omega.{arith}
-use lib.ListN.{take, drop, get_or}
+use lib.ListN.{drop, get_or}
 use Rattle.explanations.specs.Endings.{saves_here}
 use Rattle.explanations.proofs.Saving.{hit, miss, all_tried}
 use Rattle.explanations.proofs.is_saved.Goals as goal
@@ -22,8 +22,8 @@ shape_of-trial-then-saves_here c = c.saves_here.auto.trial ∙ c.loop-j.invarian
 pub returns-then-saves_here : goal.returns-then-saves_here
 returns-then-saves_here c =
     let here = c.saves_here.ensures.value
-          ∙ ap (λ (s : List ℕ). saves_here c.args.fault s (get_or c.args.endings.now c.loop-j.j 0)
-          (drop c.loop-j.j c.args.endings.now)) c.loop-j.invariant.2 in record {
+    ∙ ap (λ (s : List ℕ). saves_here c.args.fault s (get_or c.args.endings.now c.loop-j.j 0)
+    (drop c.loop-j.j c.args.endings.now)) c.loop-j.invariant.2 in record {
       value = hit _ _ _ _ c.loop-j.invariant.3 c.loop-j-test.true (sym here ∙ c.if-saves_here.true);
       trial_unchanged = c.saves_here.ensures.trial_unchanged ∙ c.loop-j.invariant.2;
     }
@@ -37,8 +37,8 @@ loop-j-smaller c = omega arith
 pub loop-j-preserved : goal.loop-j-preserved
 loop-j-preserved c =
     let here = c.saves_here.ensures.value
-          ∙ ap (λ (s : List ℕ). saves_here c.args.fault s (get_or c.args.endings.now c.loop-j.j 0)
-          (drop c.loop-j.j c.args.endings.now)) c.loop-j.invariant.2 in (
+    ∙ ap (λ (s : List ℕ). saves_here c.args.fault s (get_or c.args.endings.now c.loop-j.j 0)
+    (drop c.loop-j.j c.args.endings.now)) c.loop-j.invariant.2 in (
       omega arith,
       c.saves_here.auto.trial ∙ c.loop-j.invariant.1,
       c.saves_here.ensures.trial_unchanged ∙ c.loop-j.invariant.2,

@@ -33,6 +33,6 @@ is_saved-requires c =
 
 pub returns : goal.returns
 returns c =
-    c.is_saved.ensures.0 ∙ ap (λ (t : List ℕ). saved c.args.fault t c.args.endings.now) c.put_bytes-n.ensures.holds
+    c.is_saved.ensures.value ∙ ap (λ (t : List ℕ). saved c.args.fault t c.args.endings.now) c.put_bytes-n.ensures.holds
     ∙ sym (ap (λ (t : Bool). t && saved c.args.fault (take c.args.f.to c.args.line.now) c.args.endings.now)
     (lt-ltb c.args.f.from c.args.f.to c.if-to-f.false))

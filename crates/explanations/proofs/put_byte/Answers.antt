@@ -20,4 +20,7 @@ pub returns : goal.returns
 unfolding text codes
 returns c =
     let e = c.put_bytes-heading.ensures.ends in let f = c.put_count.ensures.ends in let t = twenty (c.args.from + 1) in
-    (also c.put_bytes-heading.ensures c.put_count.ensures, omega (arith, e, f, t))
+    record {
+      appended = also c.put_bytes-heading.ensures c.put_count.ensures;
+      upper_bound = omega (arith, e, f, t);
+    }

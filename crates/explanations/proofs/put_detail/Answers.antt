@@ -17,11 +17,11 @@ put_edges-requires c =
 
 pub returns-then-fault-eq7 : goal.returns-then-fault-eq7
 returns-then-fault-eq7 c =
-    let e = c.put_edges.ensures.ends in let f = edges_few c.args.fault in (
-      by_true (text_for (detail_key c.args.fault) (cut_at_bars details)) (eq-eqb _ _ c.if-fault-eq7.true)
-          c.put_edges.ensures,
-      omega (arith, e, f),
-    )
+    let e = c.put_edges.ensures.ends in let f = edges_few c.args.fault in record {
+      appended = by_true (text_for (detail_key c.args.fault) (cut_at_bars details)) (eq-eqb _ _ c.if-fault-eq7.true)
+          c.put_edges.ensures;
+      upper_bound = omega (arith, e, f);
+    }
 
 pub put_found-requires : goal.put_found-requires
 unfolding details text codes
@@ -32,7 +32,7 @@ pub returns : goal.returns
 unfolding details text codes
 returns c =
     let e = c.put_found.ensures.ends in
-    let f = detail_few (detail_key c.args.fault) in (
-      by_false (edges_text c.args.fault) (ne_eqb _ _ c.if-fault-eq7.false) c.put_found.ensures,
-      omega (arith, e, f),
-    )
+    let f = detail_few (detail_key c.args.fault) in record {
+      appended = by_false (edges_text c.args.fault) (ne_eqb _ _ c.if-fault-eq7.false) c.put_found.ensures;
+      upper_bound = omega (arith, e, f);
+    }

@@ -4,19 +4,6 @@ use Rattle.tokens.specs.Text.{text, codes}
 use Rattle.blocks.proofs.Said.{refusal_fits}
 use Rattle.explanations.proofs.Wanting.{also}
 use Rattle.explanations.proofs.put_fault.Goals as goal
-use Rattle.explanations.proofs.put_fault.Goals.{After-put_bytes-heading, After-put_detail-arg-1, After-trial-1, After-trial-2-1, Start}
-
-abbrev start-from-put-detail-arg : After-put_detail-arg-1 → Start
-start-from-put-detail-arg c = c.before.before.before.before.before.before.before.before.before.before.before.before
-
-abbrev put-bytes-from-trial : After-trial-1 → After-put_bytes-heading
-put-bytes-from-trial c = c.before.before.before.before.before.before.before.before.before.before.before.before
-
-abbrev start-from-trial : After-trial-1 → Start
-start-from-trial c = start-from-put-detail-arg c.before.before.before.before.before
-
-abbrev put-bytes-from-trial2 : After-trial-2-1 → After-put_bytes-heading
-put-bytes-from-trial2 c = put-bytes-from-trial c.before.before.before.before
 
 pub put_refusal-sentence-requires : goal.put_refusal-sentence-requires
 put_refusal-sentence-requires c =
@@ -26,21 +13,21 @@ put_refusal-sentence-requires c =
 
 pub put_detail-detail-requires : goal.put_detail-detail-requires
 put_detail-detail-requires c =
-    let h = c.requires.0 in let e = c.put_bytes-heading.ensures.ends in let k = c.put_bytes-heading.kept.0 in
+    let h = c.requires.0 in let e = c.put_bytes-heading.ensures.ends in let k = c.put_bytes-heading.auto.out in
     let f = c.put_refusal-sentence.ensures.ends in let l = c.put_refusal-sentence.auto.out in let t = refusal_fits c.args.fault.number in
     omega (arith, h, e, k, f, l, t)
 
 pub put_where-requires : goal.put_where-requires
 put_where-requires c =
-    let s = start-from-trial c in let h = s.pre.0 in let e = c.put_bytes-heading.ensures.ends in
-    let k = c.put_bytes-heading.kept.0 in
-    let f = c.put_refusal-sentence.ensures.ends in let l = c.put_refusal-sentence.kept.0 in let t = refusal_fits s.args.fault.number in
-    let g = c.put_detail-detail.ensures.1 in let m = c.put_detail-detail.auto.out in
-    (omega (arith, h, e, k, f, l, t, g, m), s.pre.1, omega arith)
+    let h = c.requires.0 in let e = c.put_bytes-heading.ensures.ends in
+    let k = c.put_bytes-heading.auto.out in
+    let f = c.put_refusal-sentence.ensures.ends in let l = c.put_refusal-sentence.auto.out in let t = refusal_fits c.args.fault.number in
+    let g = c.put_detail-detail.ensures.upper_bound in let m = c.put_detail-detail.auto.out in
+    (omega (arith, h, e, k, f, l, t, g, m), c.requires.1, omega arith)
 
 pub returns : goal.returns
 unfolding text codes
 returns c =
-    also (put-bytes-from-trial2 c).put-bytes.ensures
+    also c.put_bytes-heading.ensures
     (also c.put_refusal-sentence.ensures
-    (also c.put_detail-detail.ensures.0 c.put_where.ensures))
+    (also c.put_detail-detail.ensures.appended c.put_where.ensures))

@@ -9,20 +9,13 @@ use Rattle.templates.specs.Matching.{cut_at_bars}
 use Rattle.explanations.specs.Endings.{wanted_of}
 use Rattle.explanations.proofs.Wanting.{by_true, by_false, same_put}
 use Rattle.explanations.proofs.put_wanted.Goals as goal
-use Rattle.explanations.proofs.put_wanted.Goals.{After-put_words-arg-2-1, After-slice_known-5-1, Start}
-
-abbrev start-from-put-words-arg2 : After-put_words-arg-2-1 → Start
-start-from-put-words-arg2 c = c.before.before.before.before.before.before.before.before.before.before.before.before
-
-abbrev start-from-slice-known6 : After-slice_known-5-1 → Start
-start-from-slice-known6 c = start-from-put-words-arg2 c.before.before.before.before.before
 
 pub returns-then-word_saves : goal.returns-then-word_saves
 unfolding text codes
 returns-then-word_saves c =
     let s = c.args in
     by_true (wanted_of s.fault s.endings.now (take s.k s.trial.now) (cut_at_bars s.table.now))
-    (sym c.word_saves.ensures.0 ∙ c.if-word_saves.true) c.put_bytes.ensures
+    (sym c.word_saves.ensures.value ∙ c.if-word_saves.true) c.put_bytes.ensures
 
 pub put_words-requires : goal.put_words-requires
 put_words-requires c =
@@ -32,7 +25,7 @@ put_words-requires c =
 pub returns : goal.returns
 unfolding text codes
 returns c =
-    let s = (start-from-slice-known6 c).args in
-    by_false (text " F") (sym c.word_saves.ensures.0 ∙ c.if-word_saves.false)
-    (same_put (ap (λ (t : List ℕ). wanted_of s.fault s.endings.now t (cut_at_bars s.table.now)) c.word_saves.ensures.1)
-    c.put_words.ensures.0)
+    let s = c.args in
+    by_false (text " F") (sym c.word_saves.ensures.value ∙ c.if-word_saves.false)
+    (same_put (ap (λ (t : List ℕ). wanted_of s.fault s.endings.now t (cut_at_bars s.table.now)) c.word_saves.ensures.trial_unchanged)
+    c.put_words.ensures.appended)

@@ -8,11 +8,11 @@ use Rattle.explanations.proofs.put_word.Goals as goal
 
 pub returns-then-not-word_saves : goal.returns-then-not-word_saves
 returns-then-not-word_saves c =
-    let s = c.args in (
-      not_wanted s.fault s.endings.now (take s.k s.trial.now) s.word.now _ _
-          (sym c.word_saves.ensures.0 ∙ not-true _ c.if-not-word_saves.true-raw),
-      c.word_saves.ensures.1,
-    )
+    let s = c.args in record {
+      appended = not_wanted s.fault s.endings.now (take s.k s.trial.now) s.word.now _ _
+          (sym c.word_saves.ensures.value ∙ not-true _ c.if-not-word_saves.true-raw);
+      trial_unchanged = c.word_saves.ensures.trial_unchanged;
+    }
 
 pub put_bytes-space-requires : goal.put_bytes-space-requires
 put_bytes-space-requires c = let h = c.requires.0 in omega (arith, h)
@@ -25,9 +25,9 @@ put_bytes-requires c =
 
 pub returns : goal.returns
 returns c =
-    let s = c.args in (
-      is_wanted s.fault s.endings.now (take s.k s.trial.now) s.word.now
-          (sym c.word_saves.ensures.0 ∙ not-false _ c.if-not-word_saves.false-raw)
-          c.put_bytes-space.ensures c.put_bytes.ensures,
-      c.word_saves.ensures.1,
-    )
+    let s = c.args in record {
+      appended = is_wanted s.fault s.endings.now (take s.k s.trial.now) s.word.now
+          (sym c.word_saves.ensures.value ∙ not-false _ c.if-not-word_saves.false-raw)
+          c.put_bytes-space.ensures c.put_bytes.ensures;
+      trial_unchanged = c.word_saves.ensures.trial_unchanged;
+    }

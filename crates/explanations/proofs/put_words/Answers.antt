@@ -3,7 +3,6 @@ use mathlib.Core.Path.{◌∙◌}
 use native.Mathlib.Omega.{arith}
 use Rattle.explanations.proofs.Wanting.{part_length, begins, was_last, next}
 use Rattle.explanations.proofs.put_words.Goals as goal
-use Rattle.explanations.proofs.put_words.Goals.{After-bar_end-end, After-put_word-at, At-loop-fault}
 
 pub loop-fault-init : goal.loop-fault-init
 loop-fault-init c =
@@ -25,36 +24,28 @@ put_word-at-requires c =
     let g = c.requires.0 in let h = c.requires.1 in
     (omega (arith, e, o, w, f, p, g), omega (arith, e, w, t, h))
 
-module _ (w : After-put_word-at) where
-  abbrev bar : After-bar_end-end
-  bar = w.before.before.before.before
-
-  abbrev loop : At-loop-fault
-  loop = bar.before
-
 pub shape_of-out-then-table-end : goal.shape_of-out-then-table-end
-shape_of-out-then-table-end c = let w = c.before.before.before.before.before in c.put_word-at.auto.out ∙ (loop w).loop.invariant.same_out
+shape_of-out-then-table-end c = c.put_word-at.auto.out ∙ c.loop-fault.invariant.same_out
 
 pub shape_of-trial-then-table-end : goal.shape_of-trial-then-table-end
-shape_of-trial-then-table-end c = let w = c.before.before.before.before.before in c.put_word-at.auto.trial ∙ (loop w).loop.invariant.same-trial
+shape_of-trial-then-table-end c = c.put_word-at.auto.trial ∙ c.loop-fault.invariant.same_trial
 
 pub returns-then-table-end : goal.returns-then-table-end
 returns-then-table-end c =
-    let w = c.before.before.before.before.before in (
-      was_last _ _ _ _ _ _ _ _ _ _ _ _ (loop w).loop.invariant (bar w).bar-end.ensures _ c.put_word-at.new.trial _
-          c.put_word-at.ensures.0 c.if-table-end.true,
-      c.put_word-at.ensures.1 ∙ (loop w).loop.invariant.kept,
-    )
+    record {
+      appended = was_last _ _ _ _ _ _ _ _ _ _ _ _ c.loop-fault.invariant c.bar_end-end.ensures _ c.put_word-at.new.trial _
+          c.put_word-at.ensures.appended c.if-table-end.true;
+      trial_unchanged = c.put_word-at.ensures.trial_unchanged ∙ c.loop-fault.invariant.kept;
+    }
 
 pub overflow_add-i : goal.overflow_add-i
 overflow_add-i c = omega arith
 
 pub loop-fault-smaller : goal.loop-fault-smaller
-loop-fault-smaller c = let w = c.before.before.before.before.before in let b = (bar w).bar-end.ensures.behind in let h = c.if-table-end.false in
+loop-fault-smaller c = let b = c.bar_end-end.ensures.behind in let h = c.if-table-end.false in
     omega (arith, b, h)
 
 pub loop-fault-preserved : goal.loop-fault-preserved
 loop-fault-preserved c =
-    let w = c.before.before.before.before.before in
-    next _ _ _ _ _ _ _ _ _ _ _ _ (loop w).loop.invariant (bar w).bar-end.ensures _ _ _ c.put_word-at.ensures.0 c.if-table-end.false
-    c.put_word-at.auto.out c.put_word-at.auto.trial c.put_word-at.ensures.1
+    next _ _ _ _ _ _ _ _ _ _ _ _ c.loop-fault.invariant c.bar_end-end.ensures _ _ _ c.put_word-at.ensures.appended c.if-table-end.false
+    c.put_word-at.auto.out c.put_word-at.auto.trial c.put_word-at.ensures.trial_unchanged

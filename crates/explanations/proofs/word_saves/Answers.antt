@@ -14,9 +14,9 @@ is_saved-requires c =
 
 pub returns : goal.returns
 returns c =
-    let e = c.put_bytes-m.ensures.ends in let h = c.requires in (
-      c.is_saved.ensures.0 ∙ ap (λ (t : List ℕ). saved c.args.fault t c.args.endings.now) c.put_bytes-m.ensures.holds,
-      less_kept c.put_bytes-m.new.out c.is_saved.new.trial c.args.k c.put_bytes-m.result (omega (arith, e))
-          c.is_saved.ensures.1
-          ∙ start_kept (omega (arith, h)) c.put_bytes-m.ensures,
-    )
+    let e = c.put_bytes-m.ensures.ends in let h = c.requires in record {
+      value = c.is_saved.ensures.value ∙ ap (λ (t : List ℕ). saved c.args.fault t c.args.endings.now) c.put_bytes-m.ensures.holds;
+      trial_unchanged = less_kept c.put_bytes-m.new.out c.is_saved.new.trial c.args.k c.put_bytes-m.result (omega (arith, e))
+          c.is_saved.ensures.trial_unchanged
+          ∙ start_kept (omega (arith, h)) c.put_bytes-m.ensures;
+    }
