@@ -192,7 +192,8 @@ module _ (span scale : Float) (s : PositiveLength span) (q : Scale scale) where
     sample_near t m =
         let U = (11 * 2 ^ 30) roundoffs unit_by bases (1 ∷ 1 ∷ []) [] in
         let n = near_within bases ranges entries known (metres_t t) (between_e (given 0) (given 2) (node_e t) mul given 4) (11 * 2 ^ 30)
-        (1 ∷ 1 ∷ []) [] (at_samples_lem (λ t. nearer entries (between_e (given 0) (given 2) (node_e t) mul given 4) (11 * 2 ^ 30) (1 ∷ 1 ∷ []) []
+        (1 ∷ 1 ∷ []) []
+        (at_samples_lem (λ t. nearer entries (between_e (given 0) (given 2) (node_e t) mul given 4) (11 * 2 ^ 30) (1 ∷ 1 ∷ []) []
         (judge entries (metres_t t))) tested t m) in
         let o = subst (λ (x : Float). Near (x ⊗ scale) (exact t times value_of scale) U) (height_value entries (var 0) (var 1) t)
         (subst (λ (f : Number). Near (value entries (metres_t t)) ((number 1 0 2 times (A plus B) plus f times

@@ -79,4 +79,5 @@ matrix_zero = rw (half_angle, sine_zero, cosine_zero)
 
 pub only_copy : (body : Body) (base : Float) → eq base (bits 0) ≡ true → rolled_copy body base 1 0 ≡ rotated_of body identity
 only_copy body base e =
-    ap (λ (angle : Float). rotated_of body (matrix_of (about_z angle))) (angle_zero base e) ∙ ap (λ (m : Matrix). rotated_of body m) matrix_zero
+    ap (λ (angle : Float). rotated_of body (matrix_of (about_z angle))) (angle_zero base e)
+    ∙ ap (λ (m : Matrix). rotated_of body m) matrix_zero

@@ -169,7 +169,8 @@ masses_shape c foil tab =
     shape (sum_error (error_in (mass_shape c foil tab)) (mass_size c tab)) (mass_size c tab * 2 ^ 20) (added mass_unit (place 6)) []
 
 abbrev terms_shape : Class → Tab → Shape
-terms_shape c tab = shape (sum_error (term_error c tab * 2 ^ 30) (term_size c tab)) (term_size c tab * 2 ^ 20) (added term_unit (place 6)) []
+terms_shape c tab =
+    shape (sum_error (term_error c tab * 2 ^ 30) (term_size c tab)) (term_size c tab * 2 ^ 20) (added term_unit (place 6)) []
 
 abbrev ring_list : Class → Bool → Tab → (m t : Float) → (M₀ T₀ : Number) → List Given
 ring_list c foil tab m t M₀ T₀ = entry m M₀ (masses_shape c foil tab) (least_parts foil) ∷ entry t T₀ (terms_shape c tab) 0 ∷ []
@@ -383,7 +384,8 @@ module _ (f : Fin) (c : Class) (b d : ℕ) (g : Sizes f c b d) (n : ℕ) (some :
 
   M_from_zero : NotBelow M₀
   M_from_zero = from_low (least_parts is_airfoil) (mono top B (added mass_unit (place 6)) * mono bottom B [])
-      (mono bottom B (added mass_unit (place 6)) * mono top B [] * 2 ^ 30) M₀ (unit_real B ranges (added mass_unit (place 6)) []) masses_reach
+      (mono bottom B (added mass_unit (place 6)) * mono top B [] * 2 ^ 30) M₀ (unit_real B ranges (added mass_unit (place 6)) [])
+      masses_reach
 
   pub exactly_moment : (T₀ times ιM) times M₀ equals number n 0 1 times (value_of f.density times minus X₀)
   exactly_moment =
@@ -428,7 +430,8 @@ plate_centre : (v : List Float) (density base : Float) (count : ℕ)
 unfolding plate_body of_origin_tensor
 plate_centre v density base count h = ring_centre (plate_body v density) base count refl h
 
-plate_naught : (v : List Float) (density base : Float) (count : ℕ) → angle_check base_angle_field base ≡ Accepted → 1 ≤ count → count ≤ 32 → T
+plate_naught : (v : List Float) (density base : Float) (count : ℕ) → angle_check base_angle_field base ≡ Accepted → 1 ≤ count → count ≤ 32
+    → T
     (finite (r1 v ⊘ volume v)) → (k : ℕ) → k < count
     → AtMost 0 1 (across_at base count (r1 v ⊘ volume v) k)
 unfolding plate_body of_origin_tensor

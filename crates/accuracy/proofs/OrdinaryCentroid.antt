@@ -448,7 +448,8 @@ module _ (c : Chords) (root tip sweep span scale : Float) (g : Ordinary c.chords
         → Apart (product (product (pos K over 2 ^ 53) (fraction_of z)) (thrice root tip)) (product (fraction_of x) (thrice root tip)) f
     finish z zp x n K f t h near =
         by_size x z zp (evaluate (among l) (quotient_x n)) (evaluate (among l) thrice_x) (evaluate (among l) n) K (thrice root tip) f
-        (evaluated_is l il (quotient_x n)) (evaluated_is l il thrice_x) (evaluated_is l il n) thrice_from_zero (in_fractions thrice_x) h near
+        (evaluated_is l il (quotient_x n)) (evaluated_is l il thrice_x) (evaluated_is l il n) thrice_from_zero (in_fractions thrice_x) h
+        near
         (thrice_exact l il n t (inverse_pair (evaluate numbers area_e) unit_low)
         (inverse_pair (value_of scale) (positive_from scale g.scale_positive)))
 

@@ -190,7 +190,8 @@ square_e e = e mul e
 
 abbrev tensor_e : ℕ → Expression
 tensor_e zero = (given 12 add given 8) mul given 14 take square_e (given 6 mul given 1) mul given 16
-tensor_e (suc zero) = (given 4 add given 8) mul given 14 take (square_e (given 2 mul given 1) add square_e (given 6 mul given 1)) mul given 16
+tensor_e (suc zero) =
+    (given 4 add given 8) mul given 14 take (square_e (given 2 mul given 1) add square_e (given 6 mul given 1)) mul given 16
 tensor_e (suc (suc zero)) = (given 4 add given 12) mul given 14 take square_e (given 2 mul given 1) mul given 16
 tensor_e (suc (suc (suc i))) = given 10 mul given 14 add (given 2 mul given 1) mul (given 6 mul given 1) mul given 16
 
@@ -779,7 +780,8 @@ module _ (section : Section) (p : Plate) (m : Mount) (points : List Float) (L : 
       let R = p.root in
       let P = p.span in
       product_fraction (K * (b * b)) (d * d * 2 ^ 53) (num D * (num k * (num R * num P))) (den D * (den k * (den R * den P)))
-      (pos (K * (b * b)) over (d * d * 2 ^ 53)) (product (fraction_of D) (product (fraction_of k) (product (fraction_of R) (fraction_of P))))
+      (pos (K * (b * b)) over (d * d * 2 ^ 53))
+      (product (fraction_of D) (product (fraction_of k) (product (fraction_of R) (fraction_of P))))
       (whole_fraction (K * (b * b)) (d * d * 2 ^ 53))
       (product_fraction (num D) (den D) (num k * (num R * num P)) (den k * (den R * den P)) (fraction_of D) (product (fraction_of k)
       (product (fraction_of R) (fraction_of P)))
@@ -802,7 +804,8 @@ module _ (section : Section) (p : Plate) (m : Mount) (points : List Float) (L : 
       go : (K b n d e P Q : ℕ) → K * P * (b * n) * (d * Q * e) ≤ K * b * n * (d * e * P * Q)
       go K b n d e P Q = simp plain (le_refl _)
 
-  number_near : (x : Float) (i : ℕ) → i < 4 → Near x (W fin' b d sizes i) ((K * 2 ^ 30) roundoffs unit_by B' tensor_unit []) → (h : Fraction)
+  number_near : (x : Float) (i : ℕ) → i < 4 → Near x (W fin' b d sizes i) ((K * 2 ^ 30) roundoffs unit_by B' tensor_unit [])
+      → (h : Fraction)
       → IsFraction (book fin' b d sizes i) h
       → Apart (product error exact.volume) (product (fraction_of x) exact.volume) h
   number_near x i l z h e =

@@ -146,7 +146,8 @@ counted_unit B n e p x v E J r h =
         sizes X Z = simp plain (le_refl _)
 
 -- n f64s near one number, in the unit of n
-pub sums_known : (B : List Size) → AllRanges 32 B → (n : ℕ) → get_or B 6 unit ≡ n per 1 → n ≤ 32 → (p : List ℕ) → Ranges 900 (unit_by B p [])
+pub sums_known : (B : List Size) → AllRanges 32 B → (n : ℕ) → get_or B 6 unit ≡ n per 1 → n ≤ 32 → (p : List ℕ)
+    → Ranges 900 (unit_by B p [])
     → (w : Number) (K size : ℕ) → K ≤ 2 ^ 47 → size * 2 ^ 19 ≤ 2 ^ 34 → (f : ℕ → Float) → IsNumber w
     → ((k : ℕ) → k < n → Known B (f k) w (shape K (size * 2 ^ 20) p []))
     → Known B (in_order (λ x y. x ⊕ y) (bits 0) f n) (number n 0 1 times w) (shape (K + 33 * (size * 2 ^ 19) + 2) (size * 2 ^ 20) (added p

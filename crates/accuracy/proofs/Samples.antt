@@ -42,7 +42,8 @@ abbrev pub at_samples : (Sample → Bool) → ℕ → Bool
 at_samples test zero = test centre
 at_samples test (suc n) = (test (minus_side_lem n) && test (plus_side_lem n)) && at_samples test n
 
-at_nodes : (test : Sample → Bool) (n : ℕ) → T (at_samples test n) → (i : ℕ) → i < n → T (test (minus_side_lem i)) × T (test (plus_side_lem i))
+at_nodes : (test : Sample → Bool) (n : ℕ) → T (at_samples test n) → (i : ℕ) → i < n
+    → T (test (minus_side_lem i)) × T (test (plus_side_lem i))
 at_nodes test zero t i l = absurd (not-suc-le-zero l)
 at_nodes test (suc n) t i l =
     go (λ k. at_nodes test n (and_r (test (minus_side_lem n) && test (plus_side_lem n)) (at_samples test n) t) i k)
@@ -51,7 +52,8 @@ at_nodes test (suc n) t i l =
     both : T (test (minus_side_lem n) && test (plus_side_lem n))
     both = and_l (test (minus_side_lem n) && test (plus_side_lem n)) (at_samples test n) t
 
-    go : (i < n → T (test (minus_side_lem i)) × T (test (plus_side_lem i))) → (i ≡ n) ⊎ (i < n) → T (test (minus_side_lem i)) × T (test (plus_side_lem i))
+    go : (i < n → T (test (minus_side_lem i)) × T (test (plus_side_lem i))) → (i ≡ n) ⊎ (i < n)
+        → T (test (minus_side_lem i)) × T (test (plus_side_lem i))
     go rest (inl e) = subst (λ (i : ℕ). T (test (minus_side_lem i)) × T (test (plus_side_lem i))) (sym e)
         (and_l (test (minus_side_lem n)) (test (plus_side_lem n)) both, and_r (test (minus_side_lem n)) (test (plus_side_lem n)) both)
     go rest (inr k) = rest k

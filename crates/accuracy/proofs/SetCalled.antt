@@ -53,7 +53,8 @@ fin_mass : (v : List Float) (fillets : Body) (kg_per_m3 cant : Float) (pivot : V
 unfolding canted_of with_fillets plate_body of_origin_tensor rotated_of
 fin_mass v fillets kg_per_m3 cant pivot e =
     turned_mass (eq cant (bits 0)) (with_fillets (plate_body v kg_per_m3) fillets) _ refl
-    ∙ ap (λ (x : Float). (cond (eq x (bits 0)) (plate_body v kg_per_m3) (join_of (two_bodies (plate_body v kg_per_m3) fillets) 2)).mass_kg) e
+    ∙ ap (λ (x : Float). (cond (eq x (bits 0)) (plate_body v kg_per_m3) (join_of (two_bodies (plate_body v kg_per_m3) fillets) 2)).mass_kg)
+    e
     ∙ ap (λ (b : Bool). (cond b (plate_body v kg_per_m3) (join_of (two_bodies (plate_body v kg_per_m3) fillets) 2)).mass_kg) zero_equal
 
 -- one fin with no fillets and no cant is the plate

@@ -482,7 +482,8 @@ mass_term = var 1 mul_t var 0
 module _ (x : Float) (v : Number) (f : Fin) where
   abbrev LeastVolume : Section → Class → Tab → Type 0
   LeastVolume s c tab =
-      T (low_test (volume_list c f x v tab) (volume_target s) (error_in (shape_at c (is_foil s) tab 0)) (less_parts (is_foil s)) (unit_of 0) [])
+      T (low_test (volume_list c f x v tab) (volume_target s) (error_in (shape_at c (is_foil s) tab 0)) (less_parts (is_foil s))
+      (unit_of 0) [])
 
   volumes_least : (s : Section) → NotRounded s → (c : Class) (tab : Tab) → LeastVolume s c tab
   volumes_least = plain_sections (λ s. (c : Class) (tab : Tab) → LeastVolume s c tab)
@@ -499,7 +500,8 @@ module _ (x : Float) (v : Number) (f : Fin) where
 
   abbrev LeastMass : Class → Bool → Tab → Type 0
   LeastMass c foil tab =
-      T (low_test (mass_list c foil tab x v f.density) (given 2 mul given 0) (error_in (mass_shape c foil tab)) (less_parts foil) mass_unit [])
+      T (low_test (mass_list c foil tab x v f.density) (given 2 mul given 0) (error_in (mass_shape c foil tab)) (less_parts foil)
+      mass_unit [])
 
   mass_least : (c : Class) (foil : Bool) (tab : Tab) → LeastMass c foil tab
   mass_least = each_class LeastMass tt tt tt tt tt tt (λ x y z. tt) (λ x y z. tt) (λ x y z. tt) (λ x y z. tt) (λ x y z. tt) (λ x y z. tt)
@@ -704,7 +706,8 @@ module _ (f : Fin) (c : Class) (b d : ℕ) (g : Sizes f c b d) where
   pub volume_lowest : Lowest bases (integral_at f 0) (exactly f 0) volume_shape (least_parts foil)
   volume_lowest = plain_sections
       (λ s. f.section ≡ s → Lowest bases (integral_at f 0) (exactly f 0) volume_shape (least_parts foil))
-      (λ q. by Square tt q (ap exact_by (sym q))) (λ q. by Airfoil tt q (ap exact_by (sym q))) (λ q. by AirfoilOpen tt q (ap exact_by (sym q)))
+      (λ q. by Square tt q (ap exact_by (sym q))) (λ q. by Airfoil tt q (ap exact_by (sym q)))
+      (λ q. by AirfoilOpen tt q (ap exact_by (sym q)))
       f.section g.plain_section refl
     where
       near : Near (integral_at f 0) (exactly f 0) (error_in volume_shape roundoffs unit_by bases (unit_of 0) [])

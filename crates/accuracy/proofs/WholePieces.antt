@@ -135,7 +135,8 @@ module _ (root tip span sweep scale : Float) (b d : ℕ) (g : Lengths root tip s
   chords_there f there k =
       let r : AllRanges 32 height_bases = (span_ranges, (span_ranges, (scale_ranges, tt))) in
       same_sums height_bases r height_entries height_known height_signed f three (inside_test height_entries)
-      (λ h t. there (value height_entries h) (inside height_bases r height_entries height_known height_signed h t)) inside_test_lem kronrod_weight
+      (λ h t. there (value height_entries h) (inside height_bases r height_entries height_known height_signed h t)) inside_test_lem
+      kronrod_weight
       k
 
   -- ---- the sum

@@ -135,12 +135,14 @@ mean_radius height radius = value_of radius less value_of height times (pos 1 ov
 -- the mean of r² over a tab: radius² − radius·height + height²/3
 abbrev pub mean_radius_square : Float → Float → Fraction
 mean_radius_square height radius =
-    square (value_of radius) less value_of radius times value_of height plus square (value_of height) times (pos 1 over 3)
+    square (value_of radius)
+    less value_of radius times value_of height plus square (value_of height) times (pos 1 over 3)
 
 -- the mean of x² over a tab: offset² + offset·length + length²/3
 abbrev pub mean_along_square : Float → Float → Fraction
 mean_along_square length offset =
-    square (value_of offset) plus value_of offset times value_of length plus square (value_of length) times (pos 1 over 3)
+    square (value_of offset) plus value_of offset times value_of length
+    plus square (value_of length) times (pos 1 over 3)
 
 -- the integrals of a tab, all 0 where there is none
 abbrev pub tab_integrals : Tab → Float → Float → Integrals

@@ -32,7 +32,8 @@ module _ (l : List ℕ) (i : ℕ) (h : i < length l) where
   room_at = ap room cons_at
 
   filled_at : (figures : List Float) (counts : List ℕ) → filled (drop i l) figures counts
-      ≡ piece (get_or l i 0) figures counts ++ filled (drop (i + 1) l) (figures_after (get_or l i 0) figures) (counts_after (get_or l i 0) counts)
+      ≡ piece (get_or l i 0) figures counts
+      ++ filled (drop (i + 1) l) (figures_after (get_or l i 0) figures) (counts_after (get_or l i 0) counts)
   unfolding filled
   filled_at figures counts = ap (λ (t : List ℕ). filled t figures counts) cons_at
 

@@ -20,7 +20,8 @@ module _ (table key : List ℕ) where
   abbrev pub From : ℕ → List (List ℕ)
   From at = cut_at_bars (drop at table)
 
-  pub nothing_found : (rest : List ℕ) → text_for key (cut_at_bars table) ≡ rest → rest ≡ [] → IsTextFor table key (record { from = 0; to = 0 })
+  pub nothing_found : (rest : List ℕ) → text_for key (cut_at_bars table) ≡ rest → rest ≡ []
+      → IsTextFor table key (record { from = 0; to = 0 })
   nothing_found rest e f = record { is = part_none table 0 ∙ sym (e ∙ f); ordered = omega arith; within = omega arith }
 
   at_end_lem : (at : ℕ) → length table ≤ at → text_for key (From at) ≡ []
@@ -61,7 +62,8 @@ module _ (table key : List ℕ) where
           → IsTextFor table key (record { from = end + 1; to = to })
       found e s = record { is = sym (e ∙ tested true s); ordered = second.behind; within = second.within }
 
-      pub passed : text_for key (cut_at_bars table) ≡ text_for key (From at) → same_bytes key (part table at end) ≡ false → to < length table
+      pub passed : text_for key (cut_at_bars table) ≡ text_for key (From at) → same_bytes key (part table at end) ≡ false
+          → to < length table
           → text_for key (cut_at_bars table) ≡ text_for key (From (to + 1))
       passed e s g = e ∙ tested false s
           ∙ ap (λ (t : Bool). text_for key (cond t (cut_at_bars (drop (to + 1) table)) [])) (lt-ltb to (length table) g)

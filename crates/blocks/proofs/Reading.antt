@@ -32,7 +32,8 @@ module _ {A : Type 0} (f : List ℕ → List A) (g : ℕ → List A) (l : List �
 
   byte : (w : List ℕ) (j : ℕ) (t : Bool) → j < length l → ends_word (get_or l j 0) ≡ t
       → over_words f g w (drop j l)
-      ≡ cond t (f w ++ (g (get_or l j 0) ++ over_words f g [] (drop (j + 1) l))) (over_words f g (w ++ (get_or l j 0 ∷ [])) (drop (j + 1) l))
+      ≡ cond t (f w ++ (g (get_or l j 0) ++ over_words f g [] (drop (j + 1) l)))
+      (over_words f g (w ++ (get_or l j 0 ∷ [])) (drop (j + 1) l))
   unfolding over_words
   byte w j t h e =
       ap (over_words f g w) (cons_at l j h)

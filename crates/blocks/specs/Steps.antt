@@ -28,9 +28,11 @@ pub record IsEnd (line : List ℕ) (at r : ℕ) : Type 0 where
       over_words word_shape (λ b. b ∷ []) [] (drop at line)
       ≡ over_words word_shape (λ b. b ∷ []) (part line at r) (drop r line)
   pub figures :
-      over_words word_figures (λ b. []) [] (drop at line) ≡ over_words word_figures (λ b. []) (part line at r) (drop r line)
+      over_words word_figures (λ b. []) [] (drop at line)
+      ≡ over_words word_figures (λ b. []) (part line at r) (drop r line)
   pub counts :
-      over_words word_counts (λ b. []) [] (drop at line) ≡ over_words word_counts (λ b. []) (part line at r) (drop r line)
+      over_words word_counts (λ b. []) [] (drop at line)
+      ≡ over_words word_counts (λ b. []) (part line at r) (drop r line)
   pub stops : r < length line → ends_word (get_or line r 0) ≡ true
 
 -- the byte at a place of the line, or nothing past its end

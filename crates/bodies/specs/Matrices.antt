@@ -34,7 +34,8 @@ times_vector a v =
 
 -- "matrix product by columns"
 abbrev pub times_matrix : Matrix → Matrix → Matrix
-times_matrix a b = from_columns (times_vector a (column b 0)) (times_vector a (column b 1)) (times_vector a (column b 2))
+times_matrix a b =
+    from_columns (times_vector a (column b 0)) (times_vector a (column b 1)) (times_vector a (column b 2))
 
 -- a matrix turned by a rotation: (R·A)·Rᵀ
 abbrev pub turn_matrix : Matrix → Matrix → Matrix

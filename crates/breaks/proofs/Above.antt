@@ -147,7 +147,8 @@ last_insert x y (z ∷ l) o n a h = go (below_all x (z ∷ l)) refl (last_insert
         by true e = no (sym (below_through x z y n.0 (below_head x z l b) (equal_not_below y z e)) ∙ h)
         by false e = e
 
-    go : (b : Bool) → below_all x (z ∷ l) ≡ b → (lt x z ≡ false → last_equal z (insert x l) ≡ cond (lt (last_equal z l) x) (last_equal z l) x)
+    go : (b : Bool) → below_all x (z ∷ l) ≡ b
+        → (lt x z ≡ false → last_equal z (insert x l) ≡ cond (lt (last_equal z l) x) (last_equal z l) x)
         → last_equal y (cond b (x ∷ z ∷ l) (z ∷ insert x l))
         ≡ cond (lt (cond (eq y z) (last_equal z l) y) x) (cond (eq y z) (last_equal z l) y) x
     go true b f = rw (below_differs x z (below_head x z l b), apart b) (behind x y o n.0 h)
@@ -353,7 +354,8 @@ outline_at points j b h = rw (le-leb (pair_count points) most_points b) (sym (he
 
 pub outline_behind : (points : List Float) (j : ℕ) → pair_count points ≤ most_points → pair_count points ≤ j
     → bits 0 ⊘ bits 0 ≡ at (outline_heights points) j
-outline_behind points j b h = no_number ∙ rw (le-leb (pair_count points) most_points b) (sym (heights_behind points (pair_count points) j h))
+outline_behind points j b h =
+    no_number ∙ rw (le-leb (pair_count points) most_points b) (sym (heights_behind points (pair_count points) j h))
 
 pub from_two : (planform : Planform) (points : List Float) (i : ℕ) → 2 ≤ i
     → at (every_y planform points) (i - 2) ≡ at (all_heights planform points) i
@@ -494,13 +496,15 @@ every_above Outline points h a = go (leb (pair_count points) most_points) a
 
 -- so whether a strip begins at h asks for the span alone
 pub span_above : (planform : Planform) (points : List Float) (h : Float)
-    → (lt h (span_of planform points) || lt h (bits 0)) ≡ lt h (at (all_heights planform points) (place_above h (all_heights planform points)))
+    → (lt h (span_of planform points) || lt h (bits 0))
+    ≡ lt h (at (all_heights planform points) (place_above h (all_heights planform points)))
 unfolding any_above
 span_above planform points h =
     go (lt h (bits 0)) (lt h (span_of planform points)) (any_above h (every_y planform points)) refl (every_above planform points h)
     ∙ sym (found_above h (all_heights planform points))
   where
-    go : (a b c : Bool) → lt h (span_of planform points) ≡ b → (c ≡ true → lt h (span_of planform points) ≡ true) → (b || a) ≡ (a || (b || c))
+    go : (a b c : Bool) → lt h (span_of planform points) ≡ b → (c ≡ true → lt h (span_of planform points) ≡ true)
+        → (b || a) ≡ (a || (b || c))
     go true true c e f = refl
     go true false c e f = refl
     go false true c e f = refl

@@ -38,7 +38,8 @@ every_y_lem Outline points s = go (leb (pair_count points) most_points)
     go false = tt
 
 all_bounded : (planform : Planform) (points : List Float) → Sized planform points → Each (Below 6) (all_heights planform points)
-all_bounded planform points s = (weaker (bits 0) 0 6 (lit≤ tt) zero_below, ((span_sized planform points s).below, every_y_lem planform points s))
+all_bounded planform points s =
+    (weaker (bits 0) 0 6 (lit≤ tt) zero_below, ((span_sized planform points s).below, every_y_lem planform points s))
 
 none_nan : (l : List Float) → Each (Below 6) l → NoNan l
 unfolding NoNan

@@ -319,7 +319,8 @@ module _ (before : List (List ℕ)) (submission : List ℕ) (since : List (List 
             drawn_on_screen Found'.engine screen set points L Calls' f64s on held_now;
         goes_on = λ line t next held. more_replied next line t held;
         ends = λ line t next free. card_replied next line t free _ refl;
-        own_line = λ line w lines. set_line line (set_now before submission since screen set points L) points L w limit_checked lines _ refl;
+        own_line =
+            λ line w lines. set_line line (set_now before submission since screen set points L) points L w limit_checked lines _ refl;
       }
 
 -- ---- a waiting screen gets its strip within eight of the lines' turns

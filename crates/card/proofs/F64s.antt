@@ -195,7 +195,8 @@ area_read_lem line =
     let planform = take_planform limit in
     let all = take_text (text ")") planform in
     let p = planform_of (number_in planform) (figures_in all) in
-    at_end_lem all (area_asked (number_in limit) (end_in planform) p) (area_asked_lem (number_in limit) (end_in planform) (figures_in all) p)
+    at_end_lem all (area_asked (number_in limit) (end_in planform) p)
+    (area_asked_lem (number_in limit) (end_in planform) (figures_in all) p)
 
 drill_read_lem : (line : List ℕ) → ReadF64 (drill_read line)
 unfolding drill_read

@@ -24,7 +24,8 @@ use Rattle.card.specs.declared.End.{End}
 -- many" (document 02, Paper 8), and the engine that lists of zeros hold, with no job and none served
 -- (`no_job_at_first`)
 unfoldable pub at_first : Memory
-at_first = memory_in (replicate scratch_numbers (bits 0)) (replicate engine_numbers_length (bits 0)) (replicate engine_counts_length 0)
+at_first = memory_in (replicate scratch_numbers (bits 0)) (replicate engine_numbers_length (bits 0))
+    (replicate engine_counts_length 0)
 
 -- the state before the first byte
 abbrev pub no_line : State

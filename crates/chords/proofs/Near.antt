@@ -64,7 +64,8 @@ module _ (lo hi h p q : Float) (u : lt h lo ≡ false) (v : lt hi h ≡ false) w
 
 -- ---- a list's crossings
 -- by the edges that are read alone
-same_start : (points : List Float) (n : ℕ) (h : Float) (edges other : List ℕ) (k : ℕ) → ((m : ℕ) → m < k → get_or other m 0 ≡ get_or edges m 0)
+same_start : (points : List Float) (n : ℕ) (h : Float) (edges other : List ℕ) (k : ℕ)
+    → ((m : ℕ) → m < k → get_or other m 0 ≡ get_or edges m 0)
     → crossings_among points n h other k ≡ crossings_among points n h edges k
 unfolding crossings_among
 same_start points n h edges other zero e = refl

@@ -84,7 +84,8 @@ ellipse_ends_lem root span h b pr ps =
     (cond-fits binary64 (ne x x) (bits 0) (cond (lt x (bits 0)) (bits 0) x) (of_bits-fits binary64 0)
     (cond-fits binary64 (lt x (bits 0)) (bits 0) x (of_bits-fits binary64 0) (sub-fits binary64 one (f ⊗ f))))
     (max_not_below x) (max_below x (bits 0) 112 inside (weaker (bits 0) 0 112 (lit≤ tt) zero_below)) in
-    let up_to_lem = within (6 ∷ 56 ∷ 0 ∷ []) [] (root ∷ root_of (max_of x (bits 0)) ∷ half ∷ []) [] (pr.length.below, (r, (half_below, tt))) tt
+    let up_to_lem =
+    within (6 ∷ 56 ∷ 0 ∷ []) [] (root ∷ root_of (max_of x (bits 0)) ∷ half ∷ []) [] (pr.length.below, (r, (half_below, tt))) tt
     in
     two_of (in_span span h) _ _ (up_to_lem (given 2 times (given 0 less given 0 times given 1)) 116 tt)
     (up_to_lem (given 2 times (given 0 less given 0 times given 1) plus given 0 times given 1) 116 tt)

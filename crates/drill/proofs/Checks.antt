@@ -39,7 +39,8 @@ use Rattle.drill.proofs.Reach.{one_more}
 
 module _ (planform : Planform) (points : List Float) (x height : Float) where
   abbrev pub before : Verdict
-  before = first_refusal (first_refusal (planform_check planform points) (length_check drill_xfield x)) (length_check drill_height_field height)
+  before =
+      first_refusal (first_refusal (planform_check planform points) (length_check drill_xfield x)) (length_check drill_height_field height)
 
   whole : Bool
   whole = are_whole (exact_of x ∷ exact_of height ∷ corners_of planform points)

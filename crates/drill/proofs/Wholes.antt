@@ -43,7 +43,8 @@ by_cases true true true true u t r e = rw (e refl) (last t r)
 pub trapezoid : (x h w s t r : ℤ) → are_whole (x ∷ h ∷ pos 0 ∷ pos 0 ∷ w ∷ s ∷ (w +ℤ t) ∷ s ∷ r ∷ pos 0 ∷ [])
     ≡ (is_whole x && is_whole h && (is_whole w && is_whole s && is_whole t) && is_whole r)
 unfolding are_whole every is_whole
-trapezoid x h w s t r = by_cases (is_whole x) (is_whole h) (is_whole w) (is_whole s) (is_whole (w +ℤ t)) (is_whole t) (is_whole r) (whole_part w t)
+trapezoid x h w s t r =
+    by_cases (is_whole x) (is_whole h) (is_whole w) (is_whole s) (is_whole (w +ℤ t)) (is_whole t) (is_whole r) (whole_part w t)
 
 -- the code's test of a trapezoid, and what it leaves of sweep and tip where it holds
 module _ (x h w s t r : ℤ) {a b c d e f : Bool} (xs : a ≡ is_whole x) (hs : b ≡ is_whole h) (ws : c ≡ is_whole w)

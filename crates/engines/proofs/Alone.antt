@@ -52,7 +52,8 @@ served engine screen s n false c e =
       turn_is =
           turn_serves engine n (ltb-false _ _ c) (subst (λ (k : ℕ). 1 ≤ k) e (in_eight screen s).0)
           ∙ ap (λ (k : ℕ). turned_at engine (place_of k) (stepped_at engine.screens k (stepped_on (job_of engine k)))) (sym e);
-      step_is = step_on (job_of engine screen) n (long_enough (job_of engine screen).ended (job_of engine screen).limit n (ltb-false _ _ c));
+      step_is =
+          step_on (job_of engine screen) n (long_enough (job_of engine screen).ended (job_of engine screen).limit n (ltb-false _ _ c));
     }
 
 module _ (engine : Engine) (w : EightScreens engine) (screen : ℕ) (holds : holds_job engine.screens screen ≡ true) where
@@ -71,7 +72,8 @@ module _ (engine : Engine) (w : EightScreens engine) (screen : ℕ) (holds : hol
     Job' = (stepped_on (job_of engine screen)).answer
 
     row_is : (b : Bool) → turn_row (turn_after screen b)
-        (job_of (with_job engine (place_of screen) engine.screens Job') (served_screen (turn_after screen b))) ≡ step_row (step_after b) Job'
+        (job_of (with_job engine (place_of screen) engine.screens Job') (served_screen (turn_after screen b)))
+        ≡ step_row (step_after b) Job'
     row_is true = ap (step_row Ended) (job_set Job')
     row_is false = refl
 

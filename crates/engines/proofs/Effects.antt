@@ -53,7 +53,8 @@ pub place_below : (screen : ℕ) → place_of screen < 8
 unfolding place_of
 place_below screen = place_by screen (is_screen screen) refl
 
-pub places_apart : (screen own : ℕ) → is_screen screen ≡ true → is_screen own ≡ true → (screen ≡ own → ⊥) → place_of screen ≡ place_of own → ⊥
+pub places_apart : (screen own : ℕ) → is_screen screen ≡ true → is_screen own ≡ true → (screen ≡ own → ⊥) → place_of screen ≡ place_of own
+    → ⊥
 places_apart screen own s o apart same =
     let r = in_eight screen s in
     let t = in_eight own o in

@@ -48,8 +48,10 @@ module _ (screens : Screens) where
     no_later_step : (n q m : ℕ) → m < suc n → (q + m) % 8 + 1 ≡ screen
         → ((k : ℕ) → k < n → (screen_after q + k) % 8 + 1 ≡ screen → NoLater n (screen_after q) k)
         → (c : Bool) → holds_job screens (screen_after q) ≡ c → NoLater (suc n) q m
-    no_later_step n q m l e ih true c =
-        (0, (omega arith, found screens (screen_after q) (suc n) (omega arith) c ∙ (let k : q % 8 + 1 ≡ (q + 0) % 8 + 1 = omega arith in k)))
+    no_later_step n q m l e ih true c = (
+      0,
+      (omega arith, found screens (screen_after q) (suc n) (omega arith) c ∙ (let k : q % 8 + 1 ≡ (q + 0) % 8 + 1 = omega arith in k)),
+    )
     no_later_step n q zero l e ih false c =
         absurd (true≢false (sym waits ∙ ap (holds_job screens) (sym e ∙ (let k : (q + 0) % 8 + 1 ≡ q % 8 + 1 = omega arith in k)) ∙ c))
     no_later_step n q (suc m) l e ih false c = one_on n q m c (ih m (le_of_suc-le-suc l) (further q m ∙ e))

@@ -139,7 +139,8 @@ module _ (engine : Engine) (w : EightScreens engine) (screen : ℕ) (holds : hol
         ∙ change_runs Job' density runs
     change_still other density false c = other_runs (change other density) (ap (λ (b : Bool). cond b (alone.change density ∷ []) []) c)
 
-    still_runs : (call : Call) → holds_job (engine_by engine call).screens screen ≡ true → (job_of (engine_by engine call) screen).ended ≡ false
+    still_runs : (call : Call) → holds_job (engine_by engine call).screens screen ≡ true
+        → (job_of (engine_by engine call) screen).ended ≡ false
     still_runs (turn scratch) h = turn_runs scratch (eqb screen (screen_of engine (turn scratch))) refl h
     still_runs (submit other set points L) h = other_runs (submit other set points L) refl
     still_runs (change other density) h = change_still other density (eqb screen other) refl
@@ -325,7 +326,8 @@ module _ (engine : Engine) (w : EightScreens engine) (screen : ℕ)
       → holds_job (engine_by engine call).screens screen ≡ true → Submitted screen (engine_by engine call)
   fills_own (turn scratch) e b h = not_both
       (served_held engine screen scratch e (holds_is_screen (turn_of engine (length scratch)).answer.engine.screens screen h)) b
-  fills_own (submit other set points L) e b h = submit_fills other set points L e (is_taken (submit_of engine other set points L).reply) refl
+  fills_own (submit other set points L) e b h =
+      submit_fills other set points L e (is_taken (submit_of engine other set points L).reply) refl
       b h
   fills_own (change other density) e b h =
       not_both h (ap (λ (x : Engine). holds_job x.screens screen)

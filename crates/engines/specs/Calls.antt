@@ -81,7 +81,8 @@ screen_of engine (change screen density) = screen
 
 -- a call leaves every other screen's job as it is
 abbrev pub OthersStay : Type 0
-OthersStay = (engine : Engine) (call : Call) (screen : ℕ) → is_screen screen ≡ true → (screen ≡ screen_of engine call → ⊥)
+OthersStay =
+    (engine : Engine) (call : Call) (screen : ℕ) → is_screen screen ≡ true → (screen ≡ screen_of engine call → ⊥)
     → (holds_job (engine_by engine call).screens screen ≡ holds_job engine.screens screen)
     × (job_of (engine_by engine call) screen ≡ job_of engine screen)
 
@@ -166,7 +167,8 @@ answers_alone job (call ∷ calls) = alone.answer_by job call ∷ answers_alone 
 pub record AsAlone (screen : ℕ) (engine : Engine) (calls : List Call) : Type 0 where
   pub answers : answers_over screen engine calls ≡ answers_alone (job_of engine screen) (own_over screen engine calls)
   pub job : holds_over screen engine calls ≡ true
-      → job_of (after_calls engine calls) screen ≡ alone.after_calls (job_of engine screen) (own_over screen engine calls)
+      → job_of (after_calls engine calls) screen
+      ≡ alone.after_calls (job_of engine screen) (own_over screen engine calls)
 
 -- ---- samples
 
@@ -229,7 +231,8 @@ module _ (engine : Engine) (screen : ℕ) (set : FinSet) (points : List Float) (
     -- the job is that of the set submitted, with the calls since: what holds of it alone is `jobs/Calls: OverCalls`
     pub job : RunsBy set points L since_then (job_of engine_now screen)
     -- how far the screen is told that its job is: the strips that its turns worked, of all of its run
-    pub progress : progress_at engine_now screen ≡ progress_over (set_run set points L) (strips_after set points L since_then)
+    pub progress : progress_at engine_now screen
+        ≡ progress_over (set_run set points L) (strips_after set points L since_then)
     -- "gets its strip": the turn that serves the screen works one
     pub gets_strip :
         (scratch : List Float) → screen ≡ screen_of engine_now (turn scratch)

@@ -314,7 +314,8 @@ module _ (B : List Size) (r : AllRanges 32 B) where
         plus_reaches (part_low p q a b d (product_low G l)) (floor_of G p q F) (mono top B p * mono bottom B q)
         (mono bottom B p * mono top B q * 2 ^ 30)
         (number a b (suc d) times product (numbers_of G) l) (sum_of (numbers_of G) F)
-        (part_low_lem p q a b d (product_low G l) (product (numbers_of G) l) (leb→le b a (and_l (leb b a) (rising F) t)) (product_low_lem l))
+        (part_low_lem p q a b d (product_low G l) (product (numbers_of G) l) (leb→le b a (and_l (leb b a) (rising F) t))
+        (product_low_lem l))
         (sum_low p q F (and_r (leb b a) (rising F) t))
 
     -- what the exact number of a term is at least, in parts of the unit

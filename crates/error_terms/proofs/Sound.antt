@@ -334,7 +334,8 @@ module _ (B : List Size) (r : AllRanges 32 B) where
       let J = rounded_up (2 ^ 30 * 2 ^ 30) (suc low) in
       subst (λ (n : ℕ). Under (J of parts n (mono bottom B q * mono top B p)) (inverse_of v)) (mul_comm (mono bottom B p) (mono top B q))
       (subst (λ (d : ℕ). Under (J of parts (mono bottom B p * mono top B q) d) (inverse_of v)) (mul_comm (mono top B p) (mono bottom B q))
-      (inverse_size_lem v (mono top B p * mono bottom B q) (mono bottom B p * mono top B q) (suc low) J (bottom_pos 32 B r p q) (omega arith)
+      (inverse_size_lem v (mono top B p * mono bottom B q) (mono bottom B p * mono top B q) (suc low) J (bottom_pos 32 B r p q)
+      (omega arith)
       (up_least (2 ^ 30 * 2 ^ 30) (suc low) (omega arith)) l.1))
 
   extents_are : (G : List Given) → AllKnown B G → (i : ℕ) → UnderExtent (extents G i) (numbers_of G i)
@@ -472,7 +473,8 @@ module _ (B : List Size) (r : AllRanges 32 B) where
   module _ (G : List Given) (h : AllKnown B G) where
     product_under : (l : List ℕ) → UnderExtent (product_extent G l) (product (numbers_of G) l)
     product_under [] = (const_under (2 ^ 30) (mono top B []) (mono bottom B []) (2 ^ 30) 1 1 (le_of_eq (mul_comm 1 (2 ^ 30)))).0
-    product_under (i ∷ l) = times_extent_lem (extents G i) (product_extent G l) (numbers_of G i) (product (numbers_of G) l) (numbers_are G h i)
+    product_under (i ∷ l) =
+        times_extent_lem (extents G i) (product_extent G l) (numbers_of G i) (product (numbers_of G) l) (numbers_are G h i)
         (extents_are G h i) (product_under l)
 
     reach_under : (p q : List ℕ) (F : List Product) → T (units_test G p q F)
@@ -717,7 +719,8 @@ module _ (B : List Size) (r : AllRanges 32 B) where
         let f = and_l (plain_term t) (u && units_test G p' q' N) e in
         let g = and_r (plain_term t) (u && units_test G p' q' N) e in
         record {
-          near = (resized (unit_by B p q) (unit_by B p' q') (unit_real p q) (in_unit_lem p q p' q' (and_l u (units_test G p' q' N) g)) z).near;
+          near =
+              (resized (unit_by B p q) (unit_by B p' q') (unit_real p q) (in_unit_lem p q p' q' (and_l u (units_test G p' q' N) g)) z).near;
           size =
               within_upto (reach_of G N roundoffs unit_by B p' q') (tight_size G N of unit_by B p' q') (exact G t) zero_number
               (mul-pos (unit_real p' q') (pow_pos 53))
@@ -790,7 +793,8 @@ module _ (B : List Size) (r : AllRanges 32 B) where
       let P = quotient_shape (bound G s) (shape_of y) (low_of y) in
       let b = and_r (ok G s) ((fine (bound G s) && fine P) && quotient_test (shape_of y) (low_of y)) e in
       let c = and_l (fine (bound G s) && fine P) (quotient_test (shape_of y) (low_of y)) b in
-      over_known (value G s) (float_of y) (exact G s) (number_of y) (bound G s) (shape_of y) (low_of y) (and_l (fine (bound G s)) (fine P) c)
+      over_known (value G s) (float_of y) (exact G s) (number_of y) (bound G s) (shape_of y) (low_of y)
+      (and_l (fine (bound G s)) (fine P) c)
       (and_r (fine (bound G s)) (fine P) c)
       (and_r (fine (bound G s) && fine P) (quotient_test (shape_of y) (low_of y)) b)
       (sound G h s (and_l (ok G s) ((fine (bound G s) && fine P) && quotient_test (shape_of y) (low_of y)) e))

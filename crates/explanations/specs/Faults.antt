@@ -47,7 +47,8 @@ pub record IsFault (reply : Reply) (r : Fault) : Type 0 where
 
 -- the memory of a program that has read nothing: a scratch of 1,024 numbers, and no job at any screen
 unfoldable pub alone : Memory
-alone = memory_in (replicate scratch_numbers (bits 0)) (replicate engine_numbers_length (bits 0)) (replicate engine_counts_length 0)
+alone = memory_in (replicate scratch_numbers (bits 0)) (replicate engine_numbers_length (bits 0))
+    (replicate engine_counts_length 0)
 
 unfoldable pub fault_of : List ℕ → Fault
 fault_of line = fault_in (line_effect line alone).reply

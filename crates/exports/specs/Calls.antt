@@ -27,7 +27,8 @@ use Rattle.figures.specs.Numbered.{figure_counts}
 pub record SetCall (set : NumberedSet) (points : List Float) (L : ℕ) (scratch body : List Float) (counts : List ℕ)
     (r : ℕ) (scratch' body' : List Float) (counts' : List ℕ) : Type 0 where
   pub returned :
-      r ≡ cond (room body_numbers body 4 counts) (number_in (numbered_call set points L (length scratch)).answer.verdict)
+      r ≡ cond (room body_numbers body 4 counts)
+      (number_in (numbered_call set points L (length scratch)).answer.verdict)
       (number_of NoForm)
   pub figures :
       body' ≡ cond (room body_numbers body 4 counts)
@@ -86,7 +87,8 @@ drill_counts a counts = with_counts counts (verdict_of a) (place_number a) (near
 pub record DrillCall (planform : NumberedPlanform) (points : List Float) (x height : Float) (counts : List ℕ) (r : ℕ)
     (counts' : List ℕ) : Type 0 where
   pub returned :
-      r ≡ cond (leb 4 (length counts)) (number_in (verdict_of (numbered_drill planform points x height))) (number_of NoForm)
+      r ≡ cond (leb 4 (length counts)) (number_in (verdict_of (numbered_drill planform points x height)))
+      (number_of NoForm)
   pub counted :
       counts' ≡ cond (leb 4 (length counts)) (drill_counts (numbered_drill planform points x height) counts) counts
 
@@ -97,7 +99,8 @@ pub record ClosingCall (count : ℕ) (body_radius : Float) (radius : List Float)
   pub returned : r ≡ cond (room 1 radius 2 values) (number_in (closing_of body_radius count).verdict) (number_of NoForm)
   pub figures :
       radius' ≡ cond (room 1 radius 2 values) (over ((closing_of body_radius count).radius_m ∷ []) radius) radius
-  pub counted : values' ≡ cond (room 1 radius 2 values) (with_values values (closing_of body_radius count).verdict) values
+  pub counted : values'
+      ≡ cond (room 1 radius 2 values) (with_values values (closing_of body_radius count).verdict) values
 
 -- ---- a join
 

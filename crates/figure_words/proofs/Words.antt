@@ -115,7 +115,8 @@ module _ (bare minus : Bool) (w : List ℕ) (at m e : ℕ) (r : RunTo w at 0 0 m
   pub other_byte : (e ≡ length w → ⊥) → (get_or w e 0 ≡ 46 → ⊥) → NotFigure ≡ all
   other_byte h g =
       let y = inner h in
-      let other : 10 ≤ digit_value (get_or w e 0) → all ≡ NotFigure = λ v. at_byte y v ∙ not_point minus m c (get_or w e 0) (drop (e + 1) w) g in
+      let other : 10 ≤ digit_value (get_or w e 0) → all ≡ NotFigure =
+      λ v. at_byte y v ∙ not_point minus m c (get_or w e 0) (drop (e + 1) w) g in
       sym (⊎_elim (λ (x : e ≡ length w). absurd (h x))
       (λ (x : (0 + (e - at) ≡ 19) ⊎ (10 ≤ digit_value (get_or w e 0))). ⊎_elim
       (λ (v : 0 + (e - at) ≡ 19). by_digit (get_or w e 0)

@@ -121,7 +121,8 @@ module _ (planform : Planform) (points : List Float) (L : ℕ) (entry : List Flo
         zero_figures = concluded_area_zeros (scale_of planform points) (area_seven planform points L) r w.0;
         strip_count_lem = area_strips_counted planform points L (length entry);
         demand_3 = λ h. claim;
-        samples_at_most = samples_at_most (area_run planform points L) (area_strips planform points L) (area_report r) entry exit most_strips
+        samples_at_most =
+            samples_at_most (area_run planform points L) (area_strips planform points L) (area_report r) entry exit most_strips
             (area_limit planform points L (length entry) accepts).1
             (area_strips_counted planform points L (length entry) accepts).1 claim;
         pieces_rise = area_pieces_rise planform points L (length entry) f64s;

@@ -136,7 +136,8 @@ module _ (points : List Float) (x : (k : ℕ) → k < pair_count points → Fini
   sum_zero : (i : ℕ) → i ≤ pair_count points → Zero (sum_of_terms points i)
   unfolding sum_of_terms
   sum_zero zero l = zero_zero
-  sum_zero (suc i) l = zero_sum (sum_of_terms points i) (edge_term (edge_at points i)) (sum_zero i (omega arith)) (term_zero i (omega arith))
+  sum_zero (suc i) l =
+      zero_sum (sum_of_terms points i) (edge_term (edge_at points i)) (sum_zero i (omega arith)) (term_zero i (omega arith))
 
   pub no_area : eq (twice_area points) (bits 0) ≡ true
   no_area = zero_is (twice_area points) (sum_zero (pair_count points) (omega arith))

@@ -27,7 +27,8 @@ plate_strips set points L integrand e = ap (λ (f : Integrand). strips_of f poin
 unfoldable pub area_of : Planform → List Float → Float → List Float
 area_of planform points h = sample_of (area_integrand planform points) points h
 
-pub area_strips_lem : (planform : Planform) (points : List Float) (L : ℕ) (integrand : Integrand) → integrand ≡ area_integrand planform points
+pub area_strips_lem : (planform : Planform) (points : List Float) (L : ℕ) (integrand : Integrand)
+    → integrand ≡ area_integrand planform points
     → strips_of integrand points L ≡ worked_of 7 (area_of planform points) L (scale_of planform points) (break_heights planform points)
 unfolding area_of
 area_strips_lem planform points L integrand e = ap (λ (f : Integrand). strips_of f points L) e

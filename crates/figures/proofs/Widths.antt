@@ -68,5 +68,6 @@ module _ (planform : Planform) (points : List Float) (L : ℕ) where
       (breaks_bounded planform points s) (breaks_rise planform points s)))
 
   -- "an area run uses three of the seven, the rest zero"
-  pub area_at_three : (n : ℕ) → PlanformF64 planform points → area_check planform points L n ≡ Accepted → Seven ≡ area_seven planform points L
+  pub area_at_three : (n : ℕ) → PlanformF64 planform points → area_check planform points L n ≡ Accepted
+      → Seven ≡ area_seven planform points L
   area_at_three n f accepted = sized_at_three (planform_sized planform points f (area_planform planform points L n accepted))

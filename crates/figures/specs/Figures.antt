@@ -89,7 +89,8 @@ worked_figures set points L = concluded_at set points (summed_of (set_strips set
 -- "Once strips have run, with figures or a refusal at the end, scratch holds, in storage order from its start, what
 -- each strip wrote over the last one's; elsewhere it is unchanged." ("Refusal numbers")
 abbrev pub worked_set : FinSet → List Float → ℕ → CallOf Figures
-worked_set set points L = record { answer = worked_figures set points L; leaves = scratch_after (set_strips set points L) }
+worked_set set points L =
+    record { answer = worked_figures set points L; leaves = scratch_after (set_strips set points L) }
 
 -- every check before the strips, then the strips
 unfoldable pub set_call : FinSet → List Float → ℕ → ℕ → CallOf Figures

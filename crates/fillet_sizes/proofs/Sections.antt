@@ -157,7 +157,8 @@ module _ (x0 y0 rho span middle : Float) (hx : Below 7 x0) (hy : Below 7 y0) (hr
     first_below : (k : Float) → Below 331 k → Below 681 (chord_moment rho span ⊗ k)
     first_below k h = mul_below (chord_moment rho span) k 350 331 (lit≤ tt) chord_below h
 
-    moved_first_lem : (x k : Float) → Below 7 x → Below 331 k → Below 1021 (moved_first x (sector_area rho span) (chord_moment rho span ⊗ k))
+    moved_first_lem : (x k : Float) → Below 7 x → Below 331 k
+        → Below 1021 (moved_first x (sector_area rho span) (chord_moment rho span ⊗ k))
     moved_first_lem x k hx hk =
         within (681 ∷ 7 ∷ 27 ∷ []) [] (chord_moment rho span ⊗ k ∷ x ∷ sector_area rho span ∷ []) []
         (first_below k hk, (hx, (area_below, tt)))
@@ -167,7 +168,8 @@ module _ (x0 y0 rho span middle : Float) (hx : Below 7 x0) (hy : Below 7 y0) (hr
     moved_second_lem : (x k : Float) → Below 7 x → Below 331 k
         → Below 1021 (moved_second x (sector_area rho span) (chord_moment rho span ⊗ k) (second_moment rho span k))
     moved_second_lem x k hx hk =
-        within (1019 ∷ 1 ∷ 7 ∷ 681 ∷ 27 ∷ []) [] (second_moment rho span k ∷ two ∷ x ∷ chord_moment rho span ⊗ k ∷ sector_area rho span ∷ [])
+        within (1019 ∷ 1 ∷ 7 ∷ 681 ∷ 27 ∷ []) []
+        (second_moment rho span k ∷ two ∷ x ∷ chord_moment rho span ⊗ k ∷ sector_area rho span ∷ [])
         []
         (second_below k hk, (two_below, (hx, (first_below k hk, (area_below, tt))))) tt
         (given 0 plus given 1 times given 2 times given 3 plus given 2 times given 2 times given 4) 1021 tt

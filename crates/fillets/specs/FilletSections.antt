@@ -72,8 +72,10 @@ sector_with x0 y0 rho span middle =
     area_moments
     (sector_area rho span)
     (moved_first x0 (sector_area rho span) (chord_moment rho span ⊗ cos_of middle))
-    (moved_second x0 (sector_area rho span) (chord_moment rho span ⊗ cos_of middle) (second_moment rho span (cos_of middle)))
-    (moved_second y0 (sector_area rho span) (chord_moment rho span ⊗ sin_of middle) (second_moment rho span (sin_of middle)))
+    (moved_second x0 (sector_area rho span) (chord_moment rho span ⊗ cos_of middle)
+    (second_moment rho span (cos_of middle)))
+    (moved_second y0 (sector_area rho span) (chord_moment rho span ⊗ sin_of middle)
+    (second_moment rho span (sin_of middle)))
 
 unfoldable pub sector_of : Float → Float → Float → Float → Float → AreaMoments
 sector_of x0 y0 rho from to = sector_with x0 y0 rho (to ⊖ from) (half ⊗ (to ⊕ from))

@@ -35,7 +35,8 @@ widest = bits 0x408f_4000_0000_0000
 
 -- "none, and no 22, for radius or body radius 0 or ratio below 1e-6"
 unfoldable pub is_none : Float → Float → Bool
-is_none radius body_radius = not (lt (bits 0) radius) || eq body_radius (bits 0) || lt (ratio_of radius body_radius) thinnest
+is_none radius body_radius =
+    not (lt (bits 0) radius) || eq body_radius (bits 0) || lt (ratio_of radius body_radius) thinnest
 
 -- "a section .. positive and finite": its area is above 0, its moments finite
 unfoldable pub is_sound : AreaMoments → Bool
@@ -49,10 +50,12 @@ glue_check f = cond (lt (bits 0) f.radius_m) (density_check f.density) Accepted
 
 -- 22: "ratio over 1000 or a section not positive and finite"
 abbrev pub is_refused : Float → Float → Bool
-is_refused radius body_radius = lt widest (ratio_of radius body_radius) || not (is_sound (fillet_section_of body_radius radius))
+is_refused radius body_radius =
+    lt widest (ratio_of radius body_radius) || not (is_sound (fillet_section_of body_radius radius))
 
 unfoldable pub ratio_check : Float → Float → Verdict
-ratio_check radius body_radius = refuse_when (not (is_none radius body_radius) && is_refused radius body_radius) FilletRatio
+ratio_check radius body_radius =
+    refuse_when (not (is_none radius body_radius) && is_refused radius body_radius) FilletRatio
 
 -- ---- the body: a prism along the root chord l, a section on each side of the fin
 

@@ -115,7 +115,8 @@ set_in numbers counts =
 -- the set that two lists are which C or Rust lends: lists of another length are no set's
 unfoldable pub listed_set : List Float → List ℕ → NumberedSet
 listed_set numbers counts =
-    cond (eqb (length numbers) set_numbers) (cond (eqb (length counts) set_counts) (set_in numbers counts) no_set) no_set
+    cond (eqb (length numbers) set_numbers) (cond (eqb (length counts) set_counts) (set_in numbers counts) no_set)
+    no_set
 
 -- a set of no fins, which is refused
 abbrev pub no_fins : FinSet

@@ -60,7 +60,8 @@ pub round_itself : (s : Bool) (m : ℕ) (e : ℤ) → T (fits binary64 (fin s m 
 round_itself s m e f =
     let v = value s m e f in
     let r = round binary64 s (m * up e) (down e) in
-    same_units s r (fin s m e) (round-fits binary64 s (m * up e) (down e)) f (signed_of r s (m * up e) (down e) v) refl (units_of_lem r s m e v)
+    same_units s r (fin s m e) (round-fits binary64 s (m * up e) (down e)) f (signed_of r s (m * up e) (down e) v) refl
+    (units_of_lem r s m e v)
 
 -- the same fraction in other terms
 pub round_value : (s : Bool) (m : ℕ) (e : ℤ) (a c : ℕ) → T (fits binary64 (fin s m e)) → 0 < c → a * down e ≡ m * up e * c

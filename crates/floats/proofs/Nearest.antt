@@ -37,7 +37,8 @@ Cmp Ordering.gt a b = b < a
 pub cmp : (a b : ℕ) → Cmp (compare a b) a b
 cmp a b = go (compare a b) (leb→le a b) (nleb→lt a b) (eqb→eq a b) (λ (e : a ≡ b). subst (λ (x : ℕ). T (eqb a x)) e (eqb_refl a))
   where
-    go : (o : Ordering) → (T (is_le o) → a ≤ b) → (T (not (is_le o)) → b < a) → (T (compare_is_eq o) → a ≡ b) → (a ≡ b → T (compare_is_eq o)) → Cmp o a b
+    go : (o : Ordering) → (T (is_le o) → a ≤ b) → (T (not (is_le o)) → b < a) → (T (compare_is_eq o) → a ≡ b)
+        → (a ≡ b → T (compare_is_eq o)) → Cmp o a b
     go Ordering.lt l g e n = ⊎_elim (λ (z : a ≡ b). absurd (n z)) (λ (z : a < b). z) (eq-or-lt_of_le (l tt))
     go Ordering.eq l g e n = e tt
     go Ordering.gt l g e n = g tt

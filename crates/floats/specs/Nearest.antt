@@ -22,5 +22,6 @@ pub record IsNearest (s : Bool) (n d : ℕ) (r : Float) : Type 0 where
   pub sign : Signed s r
   pub least : (y : Float) → T (fits binary64 y) → T (is_finite y) → distance n d r ≤ distance n d y
   pub even :
-      (y : Float) → T (fits binary64 y) → T (is_finite y) → distance n d r ≡ distance n d y → (units_of r ≡ units_of y → ⊥)
+      (y : Float) → T (fits binary64 y) → T (is_finite y) → distance n d r ≡ distance n d y
+      → (units_of r ≡ units_of y → ⊥)
       → to_bits binary64 r % 2 ≡ 0

@@ -52,7 +52,8 @@ module _ (w : ℕ) (f : Float → List Float) (bounded : (h : Float) → Below 2
   piece_below a b i k l = (
     subst (Below 743) (sym (at_tabulate w (λ j. half_width a b ⊗ sum_of kronrod_weight f a b j) k l))
         (value_below w f bounded wide a b i.lower_below i.upper_below k l),
-    subst (Below 743) (sym (at_tabulate w (λ j. abs_of (half_width a b ⊗ (sum_of kronrod_weight f a b j ⊖ sum_of gauss_weight f a b j))) k l))
+    subst (Below 743)
+        (sym (at_tabulate w (λ j. abs_of (half_width a b ⊗ (sum_of kronrod_weight f a b j ⊖ sum_of gauss_weight f a b j))) k l))
         (error_below w f bounded wide a b i.lower_below i.upper_below k l),
   )
 

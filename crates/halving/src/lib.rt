@@ -136,7 +136,8 @@ fn halve(scratch: &mut [f64], integrand: Integrand, points: &[f64], n: usize, pl
 }
 
 fn answer(ending: Ending, value: [f64; 7], intervals: usize, samples: usize) -> Integral
-    ensures { result ≡ record { ending = ending; totals = record { value = value; intervals = intervals; samples = samples } } }
+    ensures { result
+        ≡ record { ending = ending; totals = record { value = value; intervals = intervals; samples = samples } } }
 {
     let totals = Totals {
         value,
@@ -155,7 +156,8 @@ fn repeat(
     limit: usize,
     taken: usize,
 ) -> Integral
-    requires { (1 ≤ limit) × (limit ≤ most_pieces) × (limit * piece_numbers ≤ length scratch.old) × (taken ≤ piece_samples) }
+    requires { (1 ≤ limit) × (limit ≤ most_pieces) × (limit * piece_numbers ≤ length scratch.old)
+        × (taken ≤ piece_samples) }
     ensures { Repeats (sample_of integrand points.now) limit taken scratch.old result
         scratch.new }
 {

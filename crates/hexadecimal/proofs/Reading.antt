@@ -24,7 +24,8 @@ unfolding figure_of
 sixteen w h = rw (eq-eqb (length w) 16 h)
 
 -- the digits of l, and then the rest
-part_read : (l rest : List ℕ) (n : ℕ) → read_digits (l ++ rest) n ≡ pick (all_digits l) (read_digits rest (lanes 4 n digit_value l)) NotFigure
+part_read : (l rest : List ℕ) (n : ℕ)
+    → read_digits (l ++ rest) n ≡ pick (all_digits l) (read_digits rest (lanes 4 n digit_value l)) NotFigure
 unfolding read_digits lanes all_digits
 part_read [] rest n = refl
 part_read (b ∷ l) rest n = go (ltb (digit_value b) 16) (part_read l rest (n * 16 + digit_value b))
@@ -49,7 +50,8 @@ module _ (w : List ℕ) (len : length w ≡ 16) (first second : ℕ) (A : bytes_
   abbrev number : ℕ
   number = lanes 4 0 digit_value (bytes_of first) * 0x1_0000_0000 + lanes 4 0 digit_value (bytes_of second)
 
-  by_words : figure_of w ≡ pick (all_digits (bytes_of first)) (pick (all_digits (bytes_of second)) (Number (bits number)) NotFigure) NotFigure
+  by_words : figure_of w
+      ≡ pick (all_digits (bytes_of first)) (pick (all_digits (bytes_of second)) (Number (bits number)) NotFigure) NotFigure
   unfolding read_digits
   by_words =
       sixteen w len

@@ -99,12 +99,14 @@ module _ (w : ℕ) (h : w < 2 ^ 64) where
 module _ (v : ℕ) (h : v < 2 ^ 64) (s : Each (λ b. b < 16) (bytes_of v)) where
   pub values_le : v ≤ 0x0f0f_0f0f_0f0f_0f0f
   values_le =
-      let l = lanes_le 8 0 0 (λ b. b) (λ b. 15) (bytes_of v) (omega arith) (each (λ b q. let z : b ≤ 15 = omega arith in z) (bytes_of v) s) in
+      let l =
+      lanes_le 8 0 0 (λ b. b) (λ b. 15) (bytes_of v) (omega arith) (each (λ b q. let z : b ≤ 15 = omega arith in z) (bytes_of v) s) in
       omega (arith, l, word_is v h, repeated v 15)
 
   pub letters_are : letters_in v ≡ lanes 8 0 digit_letter (bytes_of v)
   letters_are =
-      let six : v + 0x0606_0606_0606_0606 ≡ lanes 8 0 (λ b. b + 6) (bytes_of v) = ap₂ (λ (x y : ℕ). x + y) (word_is v h) (sym (repeated v 6))
+      let six : v + 0x0606_0606_0606_0606 ≡ lanes 8 0 (λ b. b + 6) (bytes_of v) =
+      ap₂ (λ (x y : ℕ). x + y) (word_is v h) (sym (repeated v 6))
       ∙ add_lanes 8 0 0 (λ b. b) (λ b. 6) (bytes_of v) in
       let bit : bit_and (v + 0x0606_0606_0606_0606) 0x1010_1010_1010_1010 / 16 ≡ lanes 8 0 (λ b. (b + 6) / 16 % 2) (bytes_of v) =
       one_bit v _ 16 (λ b. b + 6) (omega arith) (omega arith) bit_16 (each (λ b q. let z : b + 6 < 256 = omega arith in z) (bytes_of v) s)
@@ -297,7 +299,8 @@ elements_are (suc n) i j s h =
     ∙ ap (λ (l : List ℕ). get_or s (i + j) 0 ∷ l) (elements_are n i (suc j) s (omega arith))
 
 eight_at : (s : List ℕ) (at : ℕ) → at + 8 ≤ length s
-    → take 8 (drop at s) ≡ get_or s at 0 ∷ get_or s (at + 1) 0 ∷ get_or s (at + 2) 0 ∷ get_or s (at + 3) 0 ∷ get_or s (at + 4) 0 ∷ get_or s (at + 5) 0
+    → take 8 (drop at s)
+    ≡ get_or s at 0 ∷ get_or s (at + 1) 0 ∷ get_or s (at + 2) 0 ∷ get_or s (at + 3) 0 ∷ get_or s (at + 4) 0 ∷ get_or s (at + 5) 0
     ∷ get_or s (at + 6) 0 ∷ get_or s (at + 7) 0 ∷ []
 eight_at s at h =
     let z : at + 0 ≡ at = omega arith in
@@ -309,7 +312,8 @@ whole_word : (a b c d e f g h : ℕ) → Each (λ x. x < 256) (a ∷ b ∷ c ∷
 unfolding lanes bytes_before
 whole_word a b c d e f g h p =
     let eight = a ∷ b ∷ c ∷ d ∷ e ∷ f ∷ g ∷ h ∷ [] in
-    ap bytes_of (let z : h + g * 0x100 + f * 0x1_0000 + e * 0x100_0000 + d * 0x1_0000_0000 + c * 0x100_0000_0000 + b * 0x1_0000_0000_0000 + a
+    ap bytes_of
+    (let z : h + g * 0x100 + f * 0x1_0000 + e * 0x100_0000 + d * 0x1_0000_0000 + c * 0x100_0000_0000 + b * 0x1_0000_0000_0000 + a
     * 0x100_0000_0000_0000 ≡ lanes 8 0 (λ x. x) eight = omega arith in z)
     ∙ lanes_bytes (λ x. x) eight [] 8 0 0 refl p
 

@@ -18,7 +18,8 @@ pub empty : (buffer : List ℕ) → Keeps buffer (record { kept = 0; over = fals
 empty buffer = record { count = refl; bytes = refl; over = refl }
 
 -- ---- more bytes of the line, as many as there is room for
-module _ (begun line : List ℕ) (kept m : ℕ) (count : kept ≡ min line_bytes (length begun)) (most : m ≡ min (length line) (line_bytes - kept))
+module _ (begun line : List ℕ) (kept m : ℕ) (count : kept ≡ min line_bytes (length begun))
+    (most : m ≡ min (length line) (line_bytes - kept))
   where
     first_bytes : take line_bytes begun ++ take m line ≡ take line_bytes (begun ++ line)
     first_bytes = go (ltb line_bytes (length begun)) refl
@@ -32,7 +33,8 @@ module _ (begun line : List ℕ) (kept m : ℕ) (count : kept ≡ min line_bytes
         go false t =
             let l = ltb-false line_bytes (length begun) t in
             let e : length begun + (line_bytes - length begun) ≡ line_bytes = omega arith in
-            let f : take m line ≡ take (line_bytes - length begun) line = same_bytes (ltb (line_bytes - length begun) (length line)) refl l in
+            let f : take m line ≡ take (line_bytes - length begun) line =
+            same_bytes (ltb (line_bytes - length begun) (length line)) refl l in
             ap (λ (a : List ℕ). a ++ take m line) (take_all line_bytes begun l) ∙ ap (λ (a : List ℕ). begun ++ a) f
             ∙ sym (take-append-add begun line (line_bytes - length begun)) ∙ ap (λ (k : ℕ). take k (begun ++ line)) e
           where

@@ -23,7 +23,8 @@ Zeros = replicate outline_numbers (bits 0)
 pub held_most : (count : ℕ) → (held_of count ≤ count) × (held_of count ≤ outline_numbers)
 held_most count = go (leb count outline_numbers) refl
   where
-    go : (b : Bool) → leb count outline_numbers ≡ b → (cond b count outline_numbers ≤ count) × (cond b count outline_numbers ≤ outline_numbers)
+    go : (b : Bool) → leb count outline_numbers ≡ b
+        → (cond b count outline_numbers ≤ count) × (cond b count outline_numbers ≤ outline_numbers)
     go true e = let h = leb-true count outline_numbers e in (omega arith, h)
     go false e = let h = leb-false count outline_numbers e in (omega (arith, h), omega arith)
 

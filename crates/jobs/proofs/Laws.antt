@@ -168,7 +168,8 @@ same_run set points L integrand f = ap (λ (g : Integrand). step_run_of g points
 pub same_next : (set : FinSet) (points : List Float) (L : ℕ) (integrand : Integrand)
     → integrand ≡ plate_integrand set.planform points set.cross_section set.thickness_m set.body_radius_m
     → (i : ℕ) (totals : Totals) (entry : List Float) (r : Advance) (exit : List Float)
-    → Does (onward_of (step_run_of integrand points L) i totals) r entry exit → Does (onward_of (step_run set points L) i totals) r entry exit
+    → Does (onward_of (step_run_of integrand points L) i totals) r entry exit
+    → Does (onward_of (step_run set points L) i totals) r entry exit
 same_next set points L integrand f i totals entry r exit w = subst (λ (run : Run). Does (onward_of run i totals) r entry exit)
     (same_run set points L integrand f) w
 

@@ -26,7 +26,8 @@ totals_with : (t : Integral) (strips : List Worked) (s : Worked)
 totals_with t [] s = refl
 totals_with t (x ∷ strips) s = totals_with (with_strip t.totals (integral_in x)) strips s
 
-pub summed_with : (strips : List Worked) (s : Worked) → with_strip (summed_of strips).totals (integral_in s) ≡ summed_of (strips ++ (s ∷ []))
+pub summed_with : (strips : List Worked) (s : Worked)
+    → with_strip (summed_of strips).totals (integral_in s) ≡ summed_of (strips ++ (s ∷ []))
 summed_with strips s =
     ap (λ (t : Integral). with_strip t.totals (integral_in s)) (sym (totals_are strips)) ∙ sym (totals_with none strips s)
     ∙ totals_are (strips ++ (s ∷ []))

@@ -93,7 +93,8 @@ pub record FirstStrips (run : Run) (strips : List Worked) : Type 0 where
 -- the place of strip k's lower end among all heights: strip 0 begins at the first
 abbrev pub place_of_strip : Planform → List Float → ℕ → ℕ
 place_of_strip planform points zero = 0
-place_of_strip planform points (suc k) = place_above (at (break_heights planform points) k) (all_heights planform points)
+place_of_strip planform points (suc k) =
+    place_above (at (break_heights planform points) k) (all_heights planform points)
 
 -- the record of a job that runs: "of its strips only which is next and the sums and totals over those worked"; it has
 -- no outcome

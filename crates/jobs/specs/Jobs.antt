@@ -162,7 +162,8 @@ stepped_by call =
 
 -- "number 2 at each step", where the job has not ended
 abbrev pub is_short : Bool → ℕ → ℕ → Bool
-is_short over L scratch_length = not over && (not (is_refused (limit_check L)) && is_refused (scratch_check L scratch_length))
+is_short over L scratch_length =
+    not over && (not (is_refused (limit_check L)) && is_refused (scratch_check L scratch_length))
 
 -- a step that is short "changes nothing"; a step on an ended job "repeats its answer, with any scratch"
 unfoldable pub step_of : Job → ℕ → CallOf JobStep
@@ -263,7 +264,8 @@ count_below h (x ∷ l) = cond (lt x h) (suc (count_below h l)) (count_below h l
 
 -- how many strips lie below the height at a place: as many as break heights, which bound them, lie below it
 abbrev pub strips_below : Planform → List Float → ℕ → ℕ
-strips_below planform points place = count_below (at (all_heights planform points) place) (break_heights planform points)
+strips_below planform points place =
+    count_below (at (all_heights planform points) place) (break_heights planform points)
 
 -- how many strips of how many are worked, and the intervals and samples so far. Worked are the strips that lie below
 -- the next one, or below where the last one worked ended: all strips of a job that has ended with figures, and where a

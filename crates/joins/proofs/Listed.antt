@@ -66,7 +66,8 @@ module _ (f : ℕ → Body) where
     all_written k n p g h = p ∙ ap (λ (m : ℕ). with_bodies f m l) (le_antisymm g h)
 
     pub first_bodies : (n : ℕ) {c : List Float} → c ≡ with_bodies f n l → take (body_numbers * n) c ≡ listed f n
-    first_bodies n p = ap (take (body_numbers * n)) p ∙ take_at (listed f n) (drop (body_numbers * n) l) (body_numbers * n) (length_listed n)
+    first_bodies n p =
+        ap (take (body_numbers * n)) p ∙ take_at (listed f n) (drop (body_numbers * n) l) (body_numbers * n) (length_listed n)
 
     pub length_written : (n : ℕ) {c : List Float} → c ≡ with_bodies f n l → body_numbers * n ≤ length l → length c ≡ length l
     length_written n p h =

@@ -16,7 +16,8 @@ listed f (suc n) = listed f n ++ numbers_of (f n)
 
 -- a list with b written over body k
 abbrev pub with_body : List Float → ℕ → Body → List Float
-with_body numbers k b = take (body_numbers * k) numbers ++ numbers_of b ++ drop (body_numbers * k + body_numbers) numbers
+with_body numbers k b =
+    take (body_numbers * k) numbers ++ numbers_of b ++ drop (body_numbers * k + body_numbers) numbers
 
 -- a list with f 0 to f (n − 1) written over its first n bodies
 abbrev pub with_bodies : (ℕ → Body) → ℕ → List Float → List Float

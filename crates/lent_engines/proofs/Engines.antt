@@ -70,9 +70,11 @@ module _ (numbers : List Float) (counts counts₁ : List ℕ) (place : ℕ) (scr
     fits_counts = omega (arith, counts_length screens counts counts₁ (omega arith) written)
 
     other_numbers : (j : ℕ) → Beside place j → numbers_at numbers₂ j ≡ numbers_at numbers j
-    other_numbers j (before h) = part_before (place * job_numbers_length) job_numbers_length numbers p fits_numbers length_p (j * job_numbers_length) job_numbers_length
+    other_numbers j (before h) = part_before (place * job_numbers_length) job_numbers_length numbers p fits_numbers length_p
+        (j * job_numbers_length) job_numbers_length
         (omega arith)
-    other_numbers j (behind h) = part_behind (place * job_numbers_length) job_numbers_length numbers p fits_numbers length_p (j * job_numbers_length) job_numbers_length
+    other_numbers j (behind h) = part_behind (place * job_numbers_length) job_numbers_length numbers p fits_numbers length_p
+        (j * job_numbers_length) job_numbers_length
         (omega arith)
 
     behind_screens : (m : ℕ) → drop (9 + m) counts₁ ≡ drop (9 + m) counts
@@ -81,10 +83,12 @@ module _ (numbers : List Float) (counts counts₁ : List ℕ) (place : ℕ) (scr
 
     other_counts : (j : ℕ) → Beside place j → counts_at counts₂ j ≡ counts_at counts j
     other_counts j (before h) =
-        part_before (9 + place * job_counts_length) job_counts_length counts₁ q fits_counts length_q (9 + j * job_counts_length) job_counts_length (omega arith)
+        part_before (9 + place * job_counts_length) job_counts_length counts₁ q fits_counts length_q (9 + j * job_counts_length)
+        job_counts_length (omega arith)
         ∙ ap (take job_counts_length) (behind_screens (j * job_counts_length))
     other_counts j (behind h) =
-        part_behind (9 + place * job_counts_length) job_counts_length counts₁ q fits_counts length_q (9 + j * job_counts_length) job_counts_length (omega arith)
+        part_behind (9 + place * job_counts_length) job_counts_length counts₁ q fits_counts length_q (9 + j * job_counts_length)
+        job_counts_length (omega arith)
         ∙ ap (take job_counts_length) (behind_screens (j * job_counts_length))
 
     there : job_in p q ≡ job → job_in_at numbers₂ counts₂ place ≡ job
@@ -121,8 +125,10 @@ module _ (numbers : List Float) (counts counts₁ : List ℕ) (place : ℕ) (scr
           held =
               ap₂ (λ (s : Screens) (jobs : List Job). record { screens = s; jobs = jobs }) screens_there
               (eight_set no_job (job_in_at numbers counts) (job_in_at numbers₂ counts₂) place job below (there e) other);
-          numbers_beyond = put_drop (place * job_numbers_length) job_numbers_length numbers p fits_numbers length_p engine_numbers_length (omega arith);
-          counts_beyond = put_drop (9 + place * job_counts_length) job_counts_length counts₁ q fits_counts length_q engine_counts_length (omega arith)
+          numbers_beyond =
+              put_drop (place * job_numbers_length) job_numbers_length numbers p fits_numbers length_p engine_numbers_length (omega arith);
+          counts_beyond =
+              put_drop (9 + place * job_counts_length) job_counts_length counts₁ q fits_counts length_q engine_counts_length (omega arith)
               ∙ behind_screens (8 * job_counts_length);
         }
 
@@ -138,19 +144,24 @@ part_length : {A : Type 0} (a n k : ℕ) (l : List A) → k ≡ n → a + n ≤ 
 part_length a n k l e h = length-take-le k (drop a l) (simp length-drop (omega arith)) ∙ e
 
 pub numbers_part_lem : (numbers : List Float) (place : ℕ) → engine_numbers_length ≤ length numbers → place < 8
-    → length (take (place * job_numbers_length + job_numbers_length - place * job_numbers_length) (drop (place * job_numbers_length) numbers)) ≡ job_numbers_length
-numbers_part_lem numbers place room below = part_length (place * job_numbers_length) job_numbers_length _ numbers (part_numbers place) (omega arith)
+    → length (take (place * job_numbers_length + job_numbers_length - place * job_numbers_length)
+    (drop (place * job_numbers_length) numbers)) ≡ job_numbers_length
+numbers_part_lem numbers place room below =
+    part_length (place * job_numbers_length) job_numbers_length _ numbers (part_numbers place) (omega arith)
 
 pub counts_part_lem : (screens : Screens) (counts counts₁ : List ℕ) (place : ℕ) → engine_counts_length ≤ length counts → place < 8
     → WritesScreens screens counts counts₁
-    → length (take (9 + place * job_counts_length + job_counts_length - (9 + place * job_counts_length)) (drop (9 + place * job_counts_length) counts₁)) ≡ job_counts_length
+    → length (take (9 + place * job_counts_length + job_counts_length - (9 + place * job_counts_length))
+    (drop (9 + place * job_counts_length) counts₁)) ≡ job_counts_length
 counts_part_lem screens counts counts₁ place room below written =
     let same = counts_length screens counts counts₁ (omega arith) written in
     part_length (9 + place * job_counts_length) job_counts_length _ counts₁ (part_counts place) (omega arith)
 
 pub job_read : (numbers : List Float) (counts : List ℕ) (place : ℕ) → place < 8 → (r : Job)
-    → r ≡ job_in (take (place * job_numbers_length + job_numbers_length - place * job_numbers_length) (drop (place * job_numbers_length) numbers))
-    (take (9 + place * job_counts_length + job_counts_length - (9 + place * job_counts_length)) (drop (9 + place * job_counts_length) counts))
+    → r ≡ job_in
+    (take (place * job_numbers_length + job_numbers_length - place * job_numbers_length) (drop (place * job_numbers_length) numbers))
+    (take (9 + place * job_counts_length + job_counts_length - (9 + place * job_counts_length))
+    (drop (9 + place * job_counts_length) counts))
     → r ≡ job_at (engine_in numbers counts) place
 unfolding job_in_at
 job_read numbers counts place h r e =
@@ -171,27 +182,34 @@ module _ (numbers : List Float) (counts counts₁ : List ℕ) (place : ℕ) (scr
   engine' = with_job (engine_in numbers counts) place screens job
 
   abbrev numbers_part : List Float
-  numbers_part = take (place * job_numbers_length + job_numbers_length - place * job_numbers_length) (drop (place * job_numbers_length) numbers)
+  numbers_part =
+      take (place * job_numbers_length + job_numbers_length - place * job_numbers_length) (drop (place * job_numbers_length) numbers)
 
   abbrev counts_part : List ℕ
-  counts_part = take (9 + place * job_counts_length + job_counts_length - (9 + place * job_counts_length)) (drop (9 + place * job_counts_length) counts₁)
+  counts_part = take (9 + place * job_counts_length + job_counts_length - (9 + place * job_counts_length))
+      (drop (9 + place * job_counts_length) counts₁)
 
   abbrev counts₂' : List ℕ
-  counts₂' = put_mid (9 + place * job_counts_length) (9 + place * job_counts_length + job_counts_length - (9 + place * job_counts_length)) counts₁ q
+  counts₂' = put_mid (9 + place * job_counts_length) (9 + place * job_counts_length + job_counts_length - (9 + place * job_counts_length))
+      counts₁ q
 
-  pub written_back : Room numbers counts → place < 8 → WritesScreens screens counts counts₁ → length p ≡ job_numbers_length → length q ≡ job_counts_length
+  pub written_back : Room numbers counts → place < 8 → WritesScreens screens counts counts₁ → length p ≡ job_numbers_length
+      → length q ≡ job_counts_length
       → HoldsJob job numbers_part counts_part p q
       → WritesAt (with_job (engine_in numbers counts) place screens job) place (lists numbers counts)
       (lists (put_mid (place * job_numbers_length) (place * job_numbers_length + job_numbers_length - place * job_numbers_length) numbers p)
-      (put_mid (9 + place * job_counts_length) (9 + place * job_counts_length + job_counts_length - (9 + place * job_counts_length)) counts₁ q))
+      (put_mid (9 + place * job_counts_length) (9 + place * job_counts_length + job_counts_length - (9 + place * job_counts_length)) counts₁
+      q))
   written_back room below written h k holds =
       let n : place * job_numbers_length ≤ place * job_numbers_length + job_numbers_length = omega arith in
       let m : 9 + place * job_counts_length ≤ 9 + place * job_counts_length + job_counts_length = omega arith in
       let few : length numbers_part ≤ job_numbers_length = omega (arith, numbers_part_lem numbers place room.0 below) in
-      let some : length counts_part ≤ job_counts_length = omega (arith, counts_part_lem screens counts counts₁ place room.1 below written) in
+      let some : length counts_part ≤ job_counts_length =
+      omega (arith, counts_part_lem screens counts counts₁ place room.1 below written) in
       subst (λ (l : List Float). WritesAt engine' place (lists numbers counts) (lists l counts₂'))
       (sym (put_is (place * job_numbers_length) (place * job_numbers_length + job_numbers_length) numbers p n))
-      (subst (λ (l : List ℕ). WritesAt engine' place (lists numbers counts) (lists (put (place * job_numbers_length) job_numbers_length numbers p) l))
+      (subst (λ (l : List ℕ). WritesAt engine' place (lists numbers counts)
+      (lists (put (place * job_numbers_length) job_numbers_length numbers p) l))
       (sym (put_is (9 + place * job_counts_length) (9 + place * job_counts_length + job_counts_length) counts₁ q m))
       (engine_written numbers counts counts₁ place screens job p q room below written h k holds.held
       (whole (numbers_of job) numbers_part p job_numbers_length few holds.numbers_are)

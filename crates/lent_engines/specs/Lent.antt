@@ -51,7 +51,8 @@ writes engine (change screen density) = is_taken (change_at engine screen densit
 -- the lists as a call leaves them, by what they were and by the call alone
 unfoldable pub lists_by : Lists → Call → Lists
 lists_by l call =
-    cond (writes (engine_of l) call) (written (engine_by (engine_of l) call) (place_of (screen_of (engine_of l) call)) l) l
+    cond (writes (engine_of l) call)
+    (written (engine_by (engine_of l) call) (place_of (screen_of (engine_of l) call)) l) l
 
 -- the lists after calls in a row: "each call gets the record, in Paper 10 the engine's, as the one before left it"
 -- (document 02, Paper 9)

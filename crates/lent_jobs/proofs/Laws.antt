@@ -125,7 +125,8 @@ module _ (job : Job) (s : Sized job) (numbers : List Float) (counts : List ℕ) 
       ∙ pasted_second numbers figures outline
       ∙ ap (λ (n : ℕ). numbers_of job ++ drop n numbers) long
       in
-      let counted : counts' ≡ counts_of job ++ drop job_counts_length counts = c-is ∙ ap (λ (l : List ℕ). paste counts 0 l (length l)) row_is
+      let counted : counts' ≡ counts_of job ++ drop job_counts_length counts =
+      c-is ∙ ap (λ (l : List ℕ). paste counts 0 l (length l)) row_is
       ∙ pasted_first counts (counts_of job) in
       record {
         numbers_are = all;

@@ -127,7 +127,8 @@ module _ (numbers : List Float) (counts : List ℕ) where
         }
 
 -- what is told of a step, read behind it, is what it answers
-pub step_told_lem : (numbers : List Float) (counts : List ℕ) (scratch : List Float) (r : Progress) (numbers' : List Float) (counts' : List ℕ)
+pub step_told_lem : (numbers : List Float) (counts : List ℕ) (scratch : List Float) (r : Progress) (numbers' : List Float)
+    (counts' : List ℕ)
     (scratch' : List Float)
     → Steps numbers counts scratch r numbers' counts' scratch'
     → step_row r (job_in numbers' counts') ≡ answer_by (job_in numbers counts) (step scratch)

@@ -76,7 +76,10 @@ job_in numbers counts =
     record {
       set = set_in numbers counts;
       points =
-          record { numbers = take outline_numbers (drop outline_place numbers); count = count_at counts (set_counts + 10) };
+          record {
+            numbers = take outline_numbers (drop outline_place numbers);
+            count = count_at counts (set_counts + 10);
+          };
       limit = count_at counts set_counts;
       next = count_at counts (set_counts + 1);
       totals =

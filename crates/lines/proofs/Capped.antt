@@ -217,7 +217,8 @@ module _ (engine : Engine) (points : List Float) where
       ≡ called_at engine (place_of screen) (turned_away engine.screens (job_at engine (place_of screen)) screen refusal)
   unfolding submit_of
   refused_submission screen set L refusal e =
-      ap (called_at engine (place_of screen)) (refused_making engine.screens (job_at engine (place_of screen)) screen set points L refusal e)
+      ap (called_at engine (place_of screen))
+      (refused_making engine.screens (job_at engine (place_of screen)) screen set points L refusal e)
 
   submit_limit : (screen : ℕ) (set : FinSet) (L : ℕ) → submit_of engine screen set points (capped L) ≡ submit_of engine screen set points L
   submit_limit screen set =

@@ -50,7 +50,8 @@ worked call {numbers = numbers} {counts} d =
 
 pub set_served : (set : FinSet) (points : List Float) (limit : ℕ) {scratch after numbers : List Float} {counts : List ℕ} {r : Reply}
     → Does (replied_by set_reply (set_call set points limit (length scratch))) r scratch after
-    → Serves (set_effect set points limit (memory_in scratch numbers counts)) (lent_in scratch numbers counts) (lent_in after numbers counts) r
+    → Serves (set_effect set points limit (memory_in scratch numbers counts)) (lent_in scratch numbers counts)
+    (lent_in after numbers counts) r
 unfolding set_effect
 set_served set points limit {scratch} d = worked (replied_by set_reply (set_call set points limit (length scratch))) d
 

@@ -13,7 +13,8 @@ unfolding sweeps
 sweeps_none zero t h e = e
 sweeps_none (suc n) t h e = absurd (let z : ⊥ = omega arith in z)
 
-pub sweeps_end : (n : ℕ) (t : Matrix) {off : Float} {all : Matrix} → 0 < n → off ≡ off_diagonal t → eq off (bits 0) ≡ true → sweeps n t ≡ all
+pub sweeps_end : (n : ℕ) (t : Matrix) {off : Float} {all : Matrix} → 0 < n → off ≡ off_diagonal t → eq off (bits 0) ≡ true
+    → sweeps n t ≡ all
     → t ≡ all
 unfolding sweeps
 sweeps_end zero t l o h e = absurd (let z : ⊥ = omega arith in z)

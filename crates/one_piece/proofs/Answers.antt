@@ -372,7 +372,8 @@ area_one_piece root tip span sweep points L entry r exit f64s answers checked q 
     let total = (summed_of (seven_wide 3 (one_worked 3 (area_three planform points) (bits 0 ⊘ scale) (span ⊘ scale) ∷ []))).totals.value in
     subst (λ (a : Area). OnePiece (area_report a))
     (sym (answers.call.0
-    ∙ ap (λ (v : Verdict). (by_verdict v (worked_planform planform points L) (λ refusal. leaves_alone (refused_area refusal 0))).answer) checked
+    ∙ ap (λ (v : Verdict). (by_verdict v (worked_planform planform points L) (λ refusal. leaves_alone (refused_area refusal 0))).answer)
+    checked
     ∙ area_figures_lem root tip span sweep points L (length entry) f64s checked q))
     (by_area (le (unscaled_area scale total) (bits 0)) scale total)
 

@@ -174,7 +174,8 @@ module _ (root tip span sweep : Float) (points : List Float) where
       ≡ (bits 0 ⊕ ((sweep ⊗ (h ⊗ scale_in ⊘ span) ⊕ root ⊕ (tip ⊖ root) ⊗ (h ⊗ scale_in ⊘ span)) ⊘ scale_in ⊖ sweep ⊗
       (h ⊗ scale_in ⊘ span) ⊘ scale_in))
       ∷ (bits 0 ⊕ half ⊗ ((sweep ⊗ (h ⊗ scale_in ⊘ span) ⊕ root ⊕ (tip ⊖ root) ⊗ (h ⊗ scale_in ⊘ span)) ⊘ scale_in ⊗
-      ((sweep ⊗ (h ⊗ scale_in ⊘ span) ⊕ root ⊕ (tip ⊖ root) ⊗ (h ⊗ scale_in ⊘ span)) ⊘ scale_in) ⊖ sweep ⊗ (h ⊗ scale_in ⊘ span) ⊘ scale_in ⊗
+      ((sweep ⊗ (h ⊗ scale_in ⊘ span) ⊕ root ⊕ (tip ⊖ root) ⊗ (h ⊗ scale_in ⊘ span)) ⊘ scale_in)
+      ⊖ sweep ⊗ (h ⊗ scale_in ⊘ span) ⊘ scale_in ⊗
       (sweep ⊗ (h ⊗ scale_in ⊘ span) ⊘ scale_in)))
       ∷ (bits 0 ⊕ h ⊗ ((sweep ⊗ (h ⊗ scale_in ⊘ span) ⊕ root ⊕ (tip ⊖ root) ⊗ (h ⊗ scale_in ⊘ span)) ⊘ scale_in ⊖ sweep ⊗
       (h ⊗ scale_in ⊘ span) ⊘ scale_in)) ∷ []

@@ -128,7 +128,8 @@ module _ (c : Section) (plain_section : NotRounded c) (root tip span sweep thick
 
   -- sweep between two numbers of root chords
   module _ (ks ls : ℕ) (most_sweep : Under (ks of size_of root) (value_of sweep))
-      (low : (B : List Size) → get_or B 0 unit ≡ size_of root → Lowest B sweep (value_of sweep) (shape 0 (ks * 2 ^ 30) (place 0) []) ls) where
+      (low : (B : List Size) → get_or B 0 unit ≡ size_of root
+      → Lowest B sweep (value_of sweep) (shape 0 (ks * 2 ^ 30) (place 0) []) ls) where
     -- a radius up to the span
     near_known : (x : Float) → T (finite x) → Under (1 of size_of span) (value_of x)
         → AllKnown inner (near root tip span sweep S thickness radius x (tips_of c) ks ls)

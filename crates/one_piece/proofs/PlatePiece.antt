@@ -64,7 +64,8 @@ m2_s = tightly (whole (nought (3 ∷ 0 ∷ 0 ∷ 1 ∷ []) (0 ∷ 0 ∷ 4 ∷ []
     (whole thick_t ⊠ tightly (cube_s (local 0) ⊟ cube_s (local 1))))
 
 abbrev m3_s : Shared
-m3_s = tightly (whole (nought (1 ∷ 0 ∷ 0 ∷ 3 ∷ []) (0 ∷ 0 ∷ 4 ∷ [])) ⊞ divided_by twelve (whole (thick_t mul (thick_t mul thick_t)) ⊠ width_s))
+m3_s =
+    tightly (whole (nought (1 ∷ 0 ∷ 0 ∷ 3 ∷ []) (0 ∷ 0 ∷ 4 ∷ [])) ⊞ divided_by twelve (whole (thick_t mul (thick_t mul thick_t)) ⊠ width_s))
 
 -- airfoils: the width c stands before them, local 0; k holds the section's constants
 abbrev constant_t : Coefficients → ℕ → Shared
@@ -264,7 +265,8 @@ module _ (c : Section) (root tip span sweep thickness radius : Float) (points : 
         (h ⊗ scale_in ⊘ span) ⊘ scale_in) (bits 0) ≡ false → plate h ≡ seven h
     unfolding plate_of sample_of ends_at
     plate_there h t w =
-        ap (plate_values (radius ⊘ scale_in ⊕ h)) (moments_there c (in_span span (h ⊗ scale_in)) root tip sweep (h ⊗ scale_in ⊘ span) scale_in h
+        ap (plate_values (radius ⊘ scale_in ⊕ h))
+        (moments_there c (in_span span (h ⊗ scale_in)) root tip sweep (h ⊗ scale_in ⊘ span) scale_in h
         (thickness ⊘ scale_in) (radius ⊘ scale_in) (is_true _ t) w)
 
     module _ (B : List Size) (r : AllRanges 32 B) (all : AllKnown B H) (signed : Signed H) (room : T (at_heights (room_test H) 7)) where

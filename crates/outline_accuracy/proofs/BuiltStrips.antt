@@ -124,7 +124,8 @@ module _ (points : List Float) (f64s : (i : ℕ) → T (fits binary64 (at points
           lower_finite = hi.0.finite;
           upper_finite = ki.0.finite;
           lower_not_below = Corners.not_under_zero h hi.0.finite hi.1.0;
-          upper_most = Corners.under_span span k span_positive (Corners.span_length points f64s check sized few above).length.below.finite ki.0.finite ki.1.1;
+          upper_most = Corners.under_span span k span_positive (Corners.span_length points f64s check sized few above).length.below.finite
+              ki.0.finite ki.1.1;
           high_enough = high_number span (value_of k less value_of h) (fraction_of k without fraction_of h) span_positive
               (Corners.span_length points f64s check sized few above).length.below.finite height_fraction o.high_enough;
         }
@@ -260,7 +261,8 @@ module _ (points : List Float) (f64s : (i : ℕ) → T (fits binary64 (at points
         go true e = no (sym (ends_rise h k span scale (strip_given h k span scale g) g.high_enough) ∙ equal_not_below low high e)
 
     total_is : length (pieces_of (strip_of 3 f limit low high)) ≡ 1
-        → total_of (pieces_of (strip_of 3 f limit low high)) 0 ≡ bits 0 ⊕ half_width low high ⊗ weighted_to 7 kronrod_weight (λ t. at (f t) 0)
+        → total_of (pieces_of (strip_of 3 f limit low high)) 0
+        ≡ bits 0 ⊕ half_width low high ⊗ weighted_to 7 kronrod_weight (λ t. at (f t) 0)
         (half_sum low high) (half_width low high)
     unfolding total_of
     total_is one =
@@ -337,19 +339,23 @@ module _ (points : List Float) (f64s : (i : ℕ) → T (fits binary64 (at points
     goes_on : (h k : Float) (l : List Float) → ending_of (worked_strips (h ∷ k ∷ l)) ≡ ended → accepts h k ≡ true
     goes_on h k l e = go (accepts h k) refl (ap ending_of (sym (worked_is h k l)) ∙ e)
       where
-        go : (b : Bool) → accepts h k ≡ b → ending_of (strip_of 3 f limit (h ⊘ scale) (k ⊘ scale) ∷ cond b (worked_strips (k ∷ l)) []) ≡ ended
+        go : (b : Bool) → accepts h k ≡ b
+            → ending_of (strip_of 3 f limit (h ⊘ scale) (k ⊘ scale) ∷ cond b (worked_strips (k ∷ l)) []) ≡ ended
             → accepts h k ≡ true
         go true t e = t
         go false t e = no (sym (ap is_accepted e) ∙ t)
 
-    worked_on_lem : (h k : Float) (l : List Float) → accepts h k ≡ true → worked_strips (h ∷ k ∷ l) ≡ strip_of 3 f limit (h ⊘ scale) (k ⊘ scale)
+    worked_on_lem : (h k : Float) (l : List Float) → accepts h k ≡ true
+        → worked_strips (h ∷ k ∷ l) ≡ strip_of 3 f limit (h ⊘ scale) (k ⊘ scale)
         ∷ worked_strips (k ∷ l)
-    worked_on_lem h k l t = worked_is h k l ∙ ap (λ (b : Bool). strip_of 3 f limit (h ⊘ scale) (k ⊘ scale) ∷ cond b (worked_strips (k ∷ l)) []) t
+    worked_on_lem h k l t =
+        worked_is h k l ∙ ap (λ (b : Bool). strip_of 3 f limit (h ⊘ scale) (k ⊘ scale) ∷ cond b (worked_strips (k ∷ l)) []) t
 
     ends_on : (h k : Float) (l : List Float) → ending_of (worked_strips (h ∷ k ∷ l)) ≡ ended → ending_of (worked_strips (k ∷ l)) ≡ ended
     ends_on h k l e =
         let t = goes_on h k l e in
-        ap (λ (x : Ending). ending_from x (worked_strips (k ∷ l))) (sym (is_accepted_lem (halving 3 f (h ⊘ scale) (k ⊘ scale) limit).ending t))
+        ap (λ (x : Ending). ending_from x (worked_strips (k ∷ l)))
+        (sym (is_accepted_lem (halving 3 f (h ⊘ scale) (k ⊘ scale) limit).ending t))
         ∙ ap ending_of (sym (worked_on_lem h k l t)) ∙ e
 
     abbrev count : Float → Float → ℕ
@@ -375,13 +381,15 @@ module _ (points : List Float) (f64s : (i : ℕ) → T (fits binary64 (at points
         let r = least (k ∷ l) (ends_on h k l e) in
         let c = counted_on h k l (goes_on h k l e) in
         let s = count_some h k in
-        subst (λ (m : ℕ). suc (strip_count (k ∷ l)) ≤ m) (sym c) (both (count h k) (intervals_in (worked_strips (k ∷ l))) (strip_count (k ∷ l))
+        subst (λ (m : ℕ). suc (strip_count (k ∷ l)) ≤ m) (sym c)
+        (both (count h k) (intervals_in (worked_strips (k ∷ l))) (strip_count (k ∷ l))
         s r)
       where
         both : (a b c : ℕ) → 1 ≤ a → c ≤ b → suc c ≤ a + b
         both a b c s r = omega (arith, s, r)
 
-    one_each : (h k : Float) (l : List Float) → ending_of (worked_strips (h ∷ k ∷ l)) ≡ ended → intervals_in (worked_strips (h ∷ k ∷ l)) ≡ suc
+    one_each : (h k : Float) (l : List Float) → ending_of (worked_strips (h ∷ k ∷ l)) ≡ ended
+        → intervals_in (worked_strips (h ∷ k ∷ l)) ≡ suc
         (strip_count (k ∷ l))
         → (count h k ≡ 1) × (intervals_in (worked_strips (k ∷ l)) ≡ strip_count (k ∷ l))
     one_each h k l e i =
@@ -420,7 +428,8 @@ module _ (points : List Float) (f64s : (i : ℕ) → T (fits binary64 (at points
           → ending_of (worked_strips heights) ≡ ended → intervals_in (worked_strips heights) ≡ strip_count heights → AllBuilt heights o
       unfolding Rising below_all
       all_built [] o r i w e c = record { worths = tt; area = zero_number; is = pow_pos 0; same = none; fraction = whole_fraction 0 1 }
-      all_built (h ∷ []) o r i w e c = record { worths = tt; area = zero_number; is = pow_pos 0; same = none; fraction = whole_fraction 0 1 }
+      all_built (h ∷ []) o r i w e c =
+          record { worths = tt; area = zero_number; is = pow_pos 0; same = none; fraction = whole_fraction 0 1 }
       all_built (h ∷ k ∷ l) o r i w e c =
           let rising = and_left (lt h k) (below_all h l) r.0 in
           let ones = one_each h k l e c in

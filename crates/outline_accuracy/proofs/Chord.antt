@@ -235,7 +235,8 @@ module _ (h k span scale : Float) (g : StripSized h k span scale) (b d : ℕ) (L
 
     abbrev pub list : Sample → List Number
     list s =
-        value_of lxp ∷ value_of lyp ∷ value_of lxq ∷ inv_l ∷ value_of rxp ∷ value_of ryp ∷ value_of rxq ∷ inv_r ∷ value_of h ∷ value_of k ∷ node_of s
+        value_of lxp ∷ value_of lyp ∷ value_of lxq ∷ inv_l ∷ value_of rxp ∷ value_of ryp ∷ value_of rxq ∷ inv_r ∷ value_of h ∷ value_of k
+        ∷ node_of s
         ∷ inverse_of (value_of scale) ∷ []
 
     pub list_is : (s : Sample) → AllNumbers (list s)
@@ -252,7 +253,8 @@ module _ (h k span scale : Float) (g : StripSized h k span scale) (b d : ℕ) (L
     abbrev pub slant : Number
     slant = evaluate (among (list centre)) slant_e
 
-    pub linear : (s : Sample) → (right_at (exactly s) less left_at (exactly s)) times inverse_of (value_of scale) equals middle plus node_of s
+    pub linear : (s : Sample)
+        → (right_at (exactly s) less left_at (exactly s)) times inverse_of (value_of scale) equals middle plus node_of s
         times slant
     linear s = equal_by (list s) (list_is s) sample_e (middle_e add given 10 mul slant_e) tt
 
@@ -293,7 +295,8 @@ module _ (h k span scale : Float) (g : StripSized h k span scale) (b d : ℕ) (L
           (sample_crossing h k span scale g b d L_ranges rr rxp ryp rxq ryq r s i)
 
       -- a sample's width is near what it is exactly
-      pub sample_known : (s : Sample) → IsSample s → (x y : Float) → Near x (left_at (exactly s)) error → Near y (right_at (exactly s)) error
+      pub sample_known : (s : Sample) → IsSample s → (x y : Float) → Near x (left_at (exactly s)) error
+          → Near y (right_at (exactly s)) error
           → Known bases (chord_width scale x y) (middle plus node_of s times slant)
           (shape (104 * 2 ^ 30) (2 ^ 31 + 1024) (1 ∷ 1 ∷ []) (0 ∷ 0 ∷ 1 ∷ 1 ∷ []))
       sample_known s i x y nx ny =

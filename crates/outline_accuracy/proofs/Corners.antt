@@ -108,7 +108,8 @@ module _ (points : List Float) (f64s : (i : ℕ) → T (fits binary64 (at points
       (le_trans (le-suc m) l))
       (eq-or-lt_of_le (le_of_suc-le-suc k)) (largest_most m (le_trans (le-suc m) l) i)
     where
-      go : (b : Bool) → lt (largest_height points m) (height_at points m) ≡ b → ne (largest_height points m) (largest_height points m) ≡ false
+      go : (b : Bool) → lt (largest_height points m) (height_at points m) ≡ b
+          → ne (largest_height points m) (largest_height points m) ≡ false
           → (i ≡ m) ⊎ (i < m)
           → (i < m → lt (largest_height points m) (height_at points i) ≡ false)
           → lt (cond (ne (largest_height points m) (largest_height points m)) (height_at points m)

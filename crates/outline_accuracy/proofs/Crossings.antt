@@ -167,7 +167,8 @@ module _ (H xp yp xq span D : Float) (η v : Number) (b d a c : ℕ) (g : EdgeGi
       ((48 * 2 ^ 30) roundoffs unit_by bases (1 ∷ 1 ∷ []) (0 ∷ 0 ∷ 1 ∷ []))
   rise_near = near_within bases ranges entries all rise_t rise_e (48 * 2 ^ 30) (1 ∷ 1 ∷ []) (0 ∷ 0 ∷ 1 ∷ []) tt
 
-  fall_near : Near (xp ⊖ (H ⊖ yp) ⊗ (xq ⊖ xp) ⊘ D) (value_of xp less (η less value_of yp) times (value_of xq less value_of xp) times inverse_of
+  fall_near : Near (xp ⊖ (H ⊖ yp) ⊗ (xq ⊖ xp) ⊘ D)
+      (value_of xp less (η less value_of yp) times (value_of xq less value_of xp) times inverse_of
       v)
       ((48 * 2 ^ 30) roundoffs unit_by bases (1 ∷ 1 ∷ []) (0 ∷ 0 ∷ 1 ∷ []))
   fall_near = near_within bases ranges entries all fall_t fall_e (48 * 2 ^ 30) (1 ∷ 1 ∷ []) (0 ∷ 0 ∷ 1 ∷ []) tt

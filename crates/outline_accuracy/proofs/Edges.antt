@@ -102,7 +102,8 @@ upper_outside : (h k z : Float) → lt h z ≡ true → Outside h k z → lt z k
 upper_outside h k z t (inl e) = no (sym t ∙ e)
 upper_outside h k z t (inr e) = e
 
-spans : (h k p q : Float) → is_nan p ≡ false → is_nan q ≡ false → Outside h k p → Outside h k q → crossed h p q ≡ true → Spans (lt p q) h k p
+spans : (h k p q : Float) → is_nan p ≡ false → is_nan q ≡ false → Outside h k p → Outside h k q → crossed h p q ≡ true
+    → Spans (lt p q) h k p
     q
 unfolding crossed
 spans h k p q n m a b c = go (lt p q) (lt q p) refl refl

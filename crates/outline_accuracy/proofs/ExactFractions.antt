@@ -91,7 +91,8 @@ line_by xp yp xq inv η a b c i y A B C I Y =
 
 pub line_fraction : (rises : Bool) (xp yp xq yq : Float) (η : Number) (y : Fraction) → T (finite xp) → T (finite yp) → T (finite xq) → T
     (finite yq)
-    → NotBelow (height_of rises (value_of yp) (value_of yq)) → 0 < top (extent_of (height_of rises (value_of yp) (value_of yq))) → IsFraction η y
+    → NotBelow (height_of rises (value_of yp) (value_of yq)) → 0 < top (extent_of (height_of rises (value_of yp) (value_of yq)))
+    → IsFraction η y
     → IsFraction (line_at (value_of xp) (value_of yp) (value_of xq) (rise_inverse rises (height_of rises (value_of yp) (value_of yq))) η)
     (on_line xp yp xq yq y)
 line_fraction rises xp yp xq yq η y fxp fyp fxq fyq l s Y =
@@ -103,7 +104,8 @@ line_fraction rises xp yp xq yq η y fxp fyp fxq fyq l s Y =
     rise : IsFraction (value_of yq less value_of yp) (fraction_of yq without fraction_of yp)
     rise = less_fraction (value_of yq) (value_of yp) (fraction_of yq) (fraction_of yp) (value_fraction yq fyq) (value_fraction yp fyp)
 
-    inverted : (r : Bool) → NotBelow (height_of r (value_of yp) (value_of yq)) → 0 < top (extent_of (height_of r (value_of yp) (value_of yq)))
+    inverted : (r : Bool) → NotBelow (height_of r (value_of yp) (value_of yq))
+        → 0 < top (extent_of (height_of r (value_of yp) (value_of yq)))
         → IsFraction (rise_inverse r (height_of r (value_of yp) (value_of yq))) (inverse (fraction_of yq without fraction_of yp))
     inverted true l s = rise_inverse_lem (value_of yq less value_of yp) (fraction_of yq without fraction_of yp) l rise
     inverted false l s = fall_inverse (value_of yp) (value_of yq) (fraction_of yq without fraction_of yp) s rise

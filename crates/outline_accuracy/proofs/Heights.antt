@@ -141,7 +141,8 @@ module _ (h k span scale : Float) (g : StripGiven h k span scale) where
 
     pub sample_above : (s : Sample) → IsSample s → T (le h (sample_metres s))
     sample_above s i =
-        near_le h (sample_metres s) (value_of h) (exact_metres s) 0 11 (num span) (den span) (den_pos span) (Counts.value_is h) (metres_is s)
+        near_le h (sample_metres s) (value_of h) (exact_metres s) 0 11 (num span) (den span) (den_pos span) (Counts.value_is h)
+        (metres_is s)
         (Counts.itself h (size_of span) g.lower_finite) (metres_near s i)
         (above_reaches (value_of h) (value_of k) (Counts.value_is h) (Counts.value_is k) s i 11 (2 ^ 41) (num span) (den span * 2 ^ 53)
         (lit≤ tt) in_roundoffs)
@@ -198,6 +199,7 @@ module _ (h k span scale : Float) (g : StripGiven h k span scale) where
         (in_scales high (value_of k times i) (near_within bases ranges entries all high_t (given 2 mul given 5) (2 * 2 ^ 30) (place 0)
         (place 1) tt))
         (equal_reaches 5 (num span * den scale) (den span * num scale * 2 ^ 53) (Counts.times_is strip_height i height_is i_is)
-        (equal_by (value_of h ∷ value_of k ∷ i ∷ []) (Counts.value_is h, (Counts.value_is k, (i_is, tt))) ((given 1 take given 0) mul given 2)
+        (equal_by (value_of h ∷ value_of k ∷ i ∷ []) (Counts.value_is h, (Counts.value_is k, (i_is, tt)))
+        ((given 1 take given 0) mul given 2)
         (given 1 mul given 2 take given 0 mul given 2) tt)
         (scaled_reaches strip_height scale g.scale_positive high_enough))

@@ -128,7 +128,8 @@ module _ (yp yq η : Number) (P : IsNumber yp) (Q : IsNumber yq) (N : IsNumber �
           times_not_below (η less yp) i h (inverse_not_below (yq less yp)),
           rest_by ((yq less yp) times i) (evaluated_is l L o_e) (times_inverse (yq less yp) v) (share_of true) ((yq less η) times i)
               (evaluated_is l L s_e)
-              (evaluated_is l L t_e) (equal_by l L t_e (o_e take s_e) tt) (times_not_below (yq less η) i k (inverse_not_below (yq less yp))),
+              (evaluated_is l L t_e) (equal_by l L t_e (o_e take s_e) tt)
+              (times_not_below (yq less η) i k (inverse_not_below (yq less yp))),
         ),
       )
   shares false I v h k =
@@ -145,13 +146,15 @@ module _ (yp yq η : Number) (P : IsNumber yp) (Q : IsNumber yq) (N : IsNumber �
               (times_not_below (yp less η) i k (inverse_not_below (yp less yq))),
           rest_by ((yp less yq) times i) (evaluated_is l L o_e) (times_inverse (yp less yq) v) (share_of false) ((η less yq) times i)
               (evaluated_is l L s_e)
-              (evaluated_is l L t_e) (equal_by l L t_e (o_e take s_e) tt) (times_not_below (η less yq) i h (inverse_not_below (yp less yq))),
+              (evaluated_is l L t_e) (equal_by l L t_e (o_e take s_e) tt)
+              (times_not_below (η less yq) i h (inverse_not_below (yp less yq))),
         ),
       )
 
   pub line_under : (rises : Bool) (xp xq : Number) (b d : ℕ) → 0 < d → IsNumber xp → IsNumber xq → Under (1 of (b per d)) xp → Under
       (1 of (b per d)) xq
-      → IsNumber (inverse_of (height_of rises yp yq)) → IsNumber (rise_inverse rises (height_of rises yp yq)) → NotBelow (height_of rises yp yq)
+      → IsNumber (inverse_of (height_of rises yp yq)) → IsNumber (rise_inverse rises (height_of rises yp yq))
+      → NotBelow (height_of rises yp yq)
       → NotBelow (η less lower_end rises yp yq) → NotBelow (upper_end rises yp yq less η)
       → Under (1 of (b per d)) (line_at xp yp xq (rise_inverse rises (height_of rises yp yq)) η)
   line_under rises xp xq b d D XP XQ up uq I J v h k =

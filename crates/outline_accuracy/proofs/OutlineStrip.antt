@@ -33,7 +33,8 @@ use Rattle.outline_accuracy.proofs.StripArea as Strip
 use Rattle.outline_accuracy.proofs.Edges.{Outside, Corner, spanning, crossings_are}
 
 -- one chord's sums
-one_chord_lem : (scale t a b : Float) → at (area_values (sums_from area scale t (bits 0 ∷ bits 0 ∷ bits 0 ∷ bits 0 ∷ []) (paired (a ∷ b ∷ []))))
+one_chord_lem : (scale t a b : Float)
+    → at (area_values (sums_from area scale t (bits 0 ∷ bits 0 ∷ bits 0 ∷ bits 0 ∷ []) (paired (a ∷ b ∷ []))))
     0 ≡ chord_width scale a b
 unfolding paired sums_from
 one_chord_lem scale t a b = refl
@@ -131,7 +132,8 @@ module _ (points : List Float) (few : leb (pair_count points) 64 ≡ true) where
       yq i = height_at points (next n i)
 
       abbrev pub left_at : Number → Number
-      left_at η = Chord.left_at h k span scale g b d L_ranges (rises left) (xp left) (yp left) (xq left) (yq left) l (rises right) (xp right)
+      left_at η =
+          Chord.left_at h k span scale g b d L_ranges (rises left) (xp left) (yp left) (xq left) (yq left) l (rises right) (xp right)
           (yp right) (xq right) (yq right) r η
 
       abbrev pub right_at : Number → Number
@@ -192,7 +194,8 @@ module _ (points : List Float) (few : leb (pair_count points) 64 ≡ true) where
             (xp right) (yp right) (xq right)
             (yq right) r at_lower at_upper s i p.left p.right p.left_near p.right_near)
 
-        pub strip_value : Near (half_width low high ⊗ weighted_to 7 kronrod_weight width_at (half_sum low high) (half_width low high)) exact_strip
+        pub strip_value : Near (half_width low high ⊗ weighted_to 7 kronrod_weight width_at (half_sum low high) (half_width low high))
+            exact_strip
             (177 roundoffs Strip.area_unit h k span scale g b d L_ranges)
         strip_value = Strip.strip_near h k span scale g b d L_ranges (rises left) (xp left) (yp left) (xq left) (yq left) l (rises right)
             (xp right) (yp right) (xq right)

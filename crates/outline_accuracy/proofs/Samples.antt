@@ -287,7 +287,8 @@ module _ (h k span scale : Float) (g : StripSized h k span scale) (b d : ℕ) (L
 
       pub sample_crossing : Near (crossing_at (metres s) xp yp xq yq) (line_of (exactly s)) ((48 * 2 ^ 30) roundoffs steep)
       sample_crossing =
-          crossing_near (metres s) xp yp xq yq span (exactly s) b d e f (size_of scale) edge_given v (top (extent_of v)) (bottom (extent_of v))
+          crossing_near (metres s) xp yp xq yq span (exactly s) b d e f (size_of scale) edge_given v (top (extent_of v))
+          (bottom (extent_of v))
           (upto_parts (extent_of (δ h k span scale g)) (extent_of v) v_least) (upto_most (extent_of v) (num span) (den span) v_most) rises
           slope
 

@@ -260,7 +260,8 @@ module _ (h k span scale : Float) (g : StripSized h k span scale) (b d : ℕ) (L
           most least)
       summed =
           let B = Chord.bases h k span scale g b d L_ranges in
-          let n = twice_near B (ranges h k span scale g b d L_ranges) y (half_sum low high) (half_width low high) M slant M_is slant_is known
+          let n =
+          twice_near B (ranges h k span scale g b d L_ranges) y (half_sum low high) (half_width low high) M slant M_is slant_is known
           in
           record {
             finite = n.finite;

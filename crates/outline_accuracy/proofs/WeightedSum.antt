@@ -29,7 +29,8 @@ use Rattle.accuracy.proofs.Samples.{node_of, node_e, height_of, IsSample, plus_s
 abbrev sum_t : List ℕ → List ℕ → ℕ → Term
 sum_t p q zero = nought p q add_t (const (kronrod_weight 7) mul_t var 0)
 sum_t p q (suc i) =
-    tight (tight (sum_t p q i add_t (const (kronrod_weight i) mul_t var (1 + 2 * i))) add_t (const (kronrod_weight i) mul_t var (2 + 2 * i)))
+    tight (tight (sum_t p q i add_t (const (kronrod_weight i) mul_t var (1 + 2 * i))) add_t
+    (const (kronrod_weight i) mul_t var (2 + 2 * i)))
 
 -- the same exactly, over what stands for each sample
 abbrev sum_e : (Sample → Expression) → ℕ → Expression
@@ -111,7 +112,8 @@ module _ (B : List Size) (r : AllRanges 32 B) (y : Float → Float) (c reach : F
 
   sum_near : Near (weighted_to 7 kronrod_weight y c reach) (evaluate (numbers_of entries) (sum_e place_e 7))
       ((250 * 2 ^ 30) roundoffs unit_by B above below)
-  sum_near = subst (λ (x : Float). Near x (evaluate (numbers_of entries) (sum_e place_e 7)) ((250 * 2 ^ 30) roundoffs unit_by B above below))
+  sum_near =
+      subst (λ (x : Float). Near x (evaluate (numbers_of entries) (sum_e place_e 7)) ((250 * 2 ^ 30) roundoffs unit_by B above below))
       sum_is
       (near_within B r entries all (sum_t above below 7) (sum_e place_e 7) (250 * 2 ^ 30) above below sum_test_lem)
 

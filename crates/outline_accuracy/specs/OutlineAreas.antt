@@ -29,7 +29,8 @@ inverse (negsuc a over b) = neg_ℤ (pos b) over suc a
 -- ---- an edge's x at a height, exactly: x_p + (y − y_p)·(x_q − x_p)/(y_q − y_p)
 abbrev pub on_line : Float → Float → Float → Float → Fraction → Fraction
 on_line xp yp xq yq y =
-    value_of xp plus (y less value_of yp) times (value_of xq less value_of xp) times inverse (value_of yq less value_of yp)
+    value_of xp
+    plus (y less value_of yp) times (value_of xq less value_of xp) times inverse (value_of yq less value_of yp)
 
 -- the exact x at a height on edge i, from point i to the next
 abbrev pub edge_at : List Float → ℕ → Fraction → Fraction

@@ -57,7 +57,8 @@ fn check_pair(points: &[f64], i: usize, j: usize) -> Verdict
 // apart by these places alone.
 fn edge_touches(points: &[f64], j: usize, edge: Segment, from: Place, to: Place) -> bool
     requires j_bound { j + 1 < pair_count points.now }
-    requires from_value { (from ≡ place_of edge (point_at points.now j)) × (to ≡ place_of edge (point_at points.now (j + 1))) }
+    requires from_value { (from ≡ place_of edge (point_at points.now j))
+        × (to ≡ place_of edge (point_at points.now (j + 1))) }
     ensures { result ≡ segments_touch edge (edge_at points.now j) }
 {
     if segments::are_apart(edge, from, to) {

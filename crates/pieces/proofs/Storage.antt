@@ -43,7 +43,8 @@ pub put_back : (s l : List Float) (i : ℕ) (p : Piece) → l ≡ numbers_of p
     → put_mid (i * piece_numbers) (i * piece_numbers + piece_numbers - i * piece_numbers) s l ≡ put_at s i p
 put_back s l i p e =
     let h : i * piece_numbers ≤ i * piece_numbers + piece_numbers = omega arith in
-    ap₂ (λ (x y : List Float). take (i * piece_numbers) s ++ (x ++ y)) e (Post-is (i * piece_numbers) (i * piece_numbers + piece_numbers) s h)
+    ap₂ (λ (x y : List Float). take (i * piece_numbers) s ++ (x ++ y)) e
+    (Post-is (i * piece_numbers) (i * piece_numbers + piece_numbers) s h)
 
 -- the pieces from place i on
 pub pieces_step : (n i : ℕ) (s : List Float) → i < n

@@ -47,4 +47,5 @@ pieces_in zero scratch = []
 pieces_in (suc n) scratch = piece_in (take piece_numbers scratch) ∷ pieces_in n (drop piece_numbers scratch)
 
 abbrev pub put_at : List Float → ℕ → Piece → List Float
-put_at scratch i p = take (i * piece_numbers) scratch ++ (numbers_of p ++ drop (i * piece_numbers + piece_numbers) scratch)
+put_at scratch i p =
+    take (i * piece_numbers) scratch ++ (numbers_of p ++ drop (i * piece_numbers + piece_numbers) scratch)

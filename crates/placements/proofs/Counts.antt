@@ -31,4 +31,5 @@ pub counted : (rolled : Bool) (b : Body) (l : List Float) → copies_check rolle
     → (1 ≤ place_count rolled l) × (place_count rolled l ≤ 32)
 unfolding copies_check
 counted rolled b l h =
-    listed (is_whole_list rolled l) (place_count rolled l) (each_accepts (check_of b ∷ list_check rolled l ∷ places_check rolled l ∷ []) h).1.0
+    listed (is_whole_list rolled l) (place_count rolled l)
+    (each_accepts (check_of b ∷ list_check rolled l ∷ places_check rolled l ∷ []) h).1.0

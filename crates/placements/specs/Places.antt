@@ -43,7 +43,8 @@ place_at false numbers k = place (at numbers (2 * k)) (at numbers (2 * k + 1)) (
 
 -- "Lists hold 1 to 32 places, 3 otherwise"; a list that is no whole number of places is refused 3 too
 abbrev pub list_check : Bool → List Float → Verdict
-list_check rolled numbers = cond (is_whole_list rolled numbers) (count_check (place_count rolled numbers)) (Refused Count)
+list_check rolled numbers =
+    cond (is_whole_list rolled numbers) (count_check (place_count rolled numbers)) (Refused Count)
 
 -- "Offsets obey the length limits, zero and negative allowed, with field 19 for each number of an offset; roll obeys
 -- the angle limit, field 20"
@@ -55,4 +56,5 @@ place_check p =
 
 -- the checks of the places: "offset and roll place by place"
 unfoldable pub places_check : Bool → List Float → Verdict
-places_check rolled numbers = first_between 0 (place_count rolled numbers) (λ k. place_check (place_at rolled numbers k))
+places_check rolled numbers =
+    first_between 0 (place_count rolled numbers) (λ k. place_check (place_at rolled numbers k))

@@ -109,8 +109,10 @@ next_last n = ap (λ (k : ℕ). k % suc n) (let z : n + 1 ≡ suc n = omega arit
 -- corner i of the one is corner n - 1 - i of the other
 pub record Reversed (corners other : List ℤ) : Type 0 where
   pub long : length other ≡ length corners
-  pub across : (i : ℕ) → i < corner_count corners → get_or other (2 * i) (pos 0) ≡ get_or corners (2 * (corner_count corners - suc i)) (pos 0)
-  pub up : (i : ℕ) → i < corner_count corners → get_or other (2 * i + 1) (pos 0) ≡ get_or corners (2 * (corner_count corners - suc i) + 1) (pos 0)
+  pub across : (i : ℕ) → i < corner_count corners
+      → get_or other (2 * i) (pos 0) ≡ get_or corners (2 * (corner_count corners - suc i)) (pos 0)
+  pub up : (i : ℕ) → i < corner_count corners
+      → get_or other (2 * i + 1) (pos 0) ≡ get_or corners (2 * (corner_count corners - suc i) + 1) (pos 0)
 
 module _ (corners other : List ℤ) (r : Reversed corners other) (x height : ℤ) where
   turned : (i : ℕ) → i < corner_count corners → offset_of other x height i ≡ offset_of corners x height (corner_count corners - suc i)

@@ -58,7 +58,8 @@ is_on corners x height i =
     lies_on (offset_of corners x height i) (offset_of corners x height (next (corner_count corners) i))
 
 unfoldable pub cuts : List ℤ → ℤ → ℤ → ℕ → Bool
-cuts corners x height i = is_cut (offset_of corners x height i) (offset_of corners x height (next (corner_count corners) i))
+cuts corners x height i =
+    is_cut (offset_of corners x height i) (offset_of corners x height (next (corner_count corners) i))
 
 -- whether p holds at some place below n, and at how many places below n it holds
 unfoldable pub some : ℕ → (ℕ → Bool) → Bool
@@ -79,7 +80,8 @@ is_inside corners x height = eqb (count (corner_count corners) (cuts corners x h
 
 -- the nearer one of the corners `best` and i, and `best` where they are equally far
 unfoldable pub nearer_of : List ℤ → ℤ → ℤ → ℕ → ℕ → ℕ
-nearer_of corners x height best i = cond (is_nearer (offset_of corners x height i) (offset_of corners x height best)) i best
+nearer_of corners x height best i =
+    cond (is_nearer (offset_of corners x height i) (offset_of corners x height best)) i best
 
 -- of the corners 0 to n the nearest one, "lowest position on equal distance"
 unfoldable pub nearest_to : List ℤ → ℤ → ℤ → ℕ → ℕ

@@ -124,5 +124,6 @@ module _ (w : ℕ) (f : Float → List Float) (bounded : (h : Float) → Below 2
       let d = sum_of kronrod_weight f a b k ⊖ sum_of gauss_weight f a b k in
       abs_below (half_width a b ⊗ d) 743
       (mul_below (half_width a b) d 27 716 (lit≤ tt) (reach_below a b ha hb)
-      (sub_below (sum_of kronrod_weight f a b k) (sum_of gauss_weight f a b k) 715 (lit≤ tt) (sum_below kronrod_weight kronrod_weight_lem k l)
+      (sub_below (sum_of kronrod_weight f a b k) (sum_of gauss_weight f a b k) 715 (lit≤ tt)
+      (sum_below kronrod_weight kronrod_weight_lem k l)
       (sum_below gauss_weight gauss_weight_lem k l)))

@@ -192,7 +192,8 @@ module _ (line head tail : List ℕ) {v₀ v₁ v₂ v₃ : List Float} {c h p e
           ≡ F (number_in Head') (number_in Part') (end_in Part') (figures_in All')
       same ok =
           ap₂ (λ (i j : ℕ). F i j p.figures (take e.figures v₃)) (number_is line s₁ (head_ok ok)) (number_is line s₂ (part_ok ok))
-          ∙ ap₂ (λ (k : ℕ) (l : List Float). F (number_in Head') (number_in Part') k l) (end_is line s₂ (part_ok ok)) (figures_are line s₃ ok)
+          ∙ ap₂ (λ (k : ℕ) (l : List Float). F (number_in Head') (number_in Part') k l) (end_is line s₂ (part_ok ok))
+          (figures_are line s₃ ok)
 
   -- the same, of parts that were kept behind the head
   pub kept_ends : {A : Type 0} (parts : A) (parts_of : Reading → A) → (p.ok ≡ true → parts ≡ parts_of (reading_at line v₁ h))

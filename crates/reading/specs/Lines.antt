@@ -123,7 +123,8 @@ tubes_read line =
     let count = take_text (text "(tubes (count N) (length F) (outer F) (wall F) (base F) (radius F)") (start line) in
     let density = take_density count in
     let all = take_text (text ")") density in
-    ended all (tubes_asked (number_in count) (numbered_density (number_in density) (at (figures_in all) 5)) (figures_in all))
+    ended all
+    (tubes_asked (number_in count) (numbered_density (number_in density) (at (figures_in all) 5)) (figures_in all))
 
 unfoldable pub closing_read : List ℕ → Read
 closing_read line =
@@ -216,4 +217,5 @@ form_read NoForm line = refused_read no_form
 
 -- what a line asks; "a longer line is 18"
 unfoldable pub line_read : List ℕ → Read
-line_read line = pick_read (leb (length line) line_bytes) (form_read (form_named (word_of line)) line) (refused_read no_form)
+line_read line =
+    pick_read (leb (length line) line_bytes) (form_read (form_named (word_of line)) line) (refused_read no_form)

@@ -21,8 +21,8 @@ abbrev pub Answers : ℕ → ℤ → Type 0
 Answers n (pos k) = k ≤ n
 Answers n (negsuc k) = k ≡ 0
 
--- what a read that gave `got` did to the bytes that the input has left, where they are known: it took those that it brought, none only
--- at the end or with no room, and none where it failed
+-- what a read that gave `got` did to the bytes that the input has left, where they are known: it took those that it
+-- brought, none only at the end or with no room, and none where it failed
 abbrev pub Consumed : Option (List ℕ) → Option (List ℕ) → ℤ → List ℕ → Type 0
 Consumed old new (pos n) chunk = Consumes old new (take n chunk) × (n ≡ 0 → 0 < length chunk → IsAtEnd new)
 Consumed old new (negsuc k) chunk = Keeps old new

@@ -29,7 +29,8 @@ pub fn read<R: Read>(from: &mut R, chunk: &mut [u8]) -> isize
     }
 }
 
-// Reads until the chunk is full, the input ends or a read fails, and returns how many bytes it put at the chunk's start.
+// Reads until the chunk is full, the input ends or a read fails, and returns how many bytes it put at the chunk's
+// start.
 pub fn read_full<R: Read>(from: &mut R, chunk: &mut [u8]) -> usize
     ensures room { IsPrefixLen result chunk.new }
     ensures bytes { Consumes (R.remaining from.old) (R.remaining from.new) (take result chunk.new) }

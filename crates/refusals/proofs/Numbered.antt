@@ -17,7 +17,8 @@ use Rattle.refusals.specs.Refusals.{number_of, values_of, in_two_places}
 use Rattle.refusals.specs.Numbered.{fault_from, refusal_from, number_in, first_in, second_in, verdict_from}
 
 pub read_back : (refusal : Refusal)
-    → refusal_from (number_of refusal) (get_or (in_two_places (values_of refusal)) 0 0) (get_or (in_two_places (values_of refusal)) 1 0) ≡ refusal
+    → refusal_from (number_of refusal) (get_or (in_two_places (values_of refusal)) 0 0) (get_or (in_two_places (values_of refusal)) 1 0)
+    ≡ refusal
 unfolding fault_from refusal_from
 read_back Limit = refl
 read_back Scratch = refl

@@ -101,7 +101,8 @@ abbrev pub no_moments : Moments
 no_moments = record { verdict = Refused NoForm; moments_kg_m2 = bits 0 ∷ bits 0 ∷ bits 0 ∷ [] }
 
 unfoldable pub tensor_moments : List Float → Moments
-tensor_moments numbers = cond (eqb (length numbers) tensor_numbers) (principal_moments_of (tensor (at numbers))) no_moments
+tensor_moments numbers =
+    cond (eqb (length numbers) tensor_numbers) (principal_moments_of (tensor (at numbers))) no_moments
 
 -- ---- the body check: of a body's numbers
 

@@ -86,7 +86,8 @@ least_root m e n d f g h =
     let x = fin false (suc m) e in
     let y = fin false (suc n) d in
     not_below (units_of (root_of x)) (units_of y) (radicand x)
-    (square_under (suc m * up e) (down e) (units_of x) (suc n * up d) (down d) (units_of y) (2 ^ 1074) (units_exact m e f) (units_exact n d g)
+    (square_under (suc m * up e) (down e) (units_of x) (suc n * up d) (down d) (units_of y) (2 ^ 1074) (units_exact m e f)
+    (units_exact n d g)
     (down_pos e) (down_pos d) h)
     ((is_root x f).nearest y g).below
 
@@ -106,7 +107,8 @@ at_least m e n d f g h =
 pub root_least : (x y : Float) → T (positive x) → T (fits binary64 x) → T (positive y) → T (fits binary64 y)
     → num y * num y * den x ≤ num x * (den y * den y) → AtLeast (num y) (den y) (root_of x)
 root_least x y p f q g h =
-    for_positive (λ (x : Float). T (fits binary64 x) → num y * num y * den x ≤ num x * (den y * den y) → AtLeast (num y) (den y) (root_of x))
+    for_positive
+    (λ (x : Float). T (fits binary64 x) → num y * num y * den x ≤ num x * (den y * den y) → AtLeast (num y) (den y) (root_of x))
     (λ m e f h.
     for_positive (λ (y : Float). T (fits binary64 y) → num y * num y * down e ≤ suc m * up e * (den y * den y)
     → AtLeast (num y) (den y) (root_of (fin false (suc m) e)))

@@ -323,7 +323,8 @@ module _ (x : ℕ → Number) (is : (i : ℕ) → IsNumber (x i)) where
       trans (times_is C (L times K) (zero-lt-suc (times' d e)) i_lk) (by_left C (merged_product l k))
       (subst (λ (f : ℕ). number (p * q + n * m) (p * m + n * q) f times (L times K) equals A times B) (sym (one_more d e))
       (both (suc d) (suc e) L K)) in
-      trans (plus_is (value_of x c) (sum_of x (times_each one P)) (value_is c) (sum_is (times_each one P))) (insert_sum c (times_each one P))
+      trans (plus_is (value_of x c) (sum_of x (times_each one P)) (value_is c) (sum_is (times_each one P)))
+      (insert_sum c (times_each one P))
       (trans (plus_is (A times B) (A times Y) (times_is A B i_a i_b) (times_is A Y i_a (sum_is P))) (plus_equal h (times_each_lem one P))
       (symm (over_plus A B Y)))
     where

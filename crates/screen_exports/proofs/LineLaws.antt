@@ -35,7 +35,8 @@ module _ (line : List ℕ) (lent : LentMemory) (answer written : List ℕ) where
       Answers line lent lent' answer 0 answer' n → written' ≡ over (n ∷ []) written →
       LineCall line lent answer written 0 lent' answer' written'
   line_written fits n lent' answer' written' a w =
-      let lengths = both_true (room engine_numbers_length lent.numbers engine_counts_length lent.counts) (room answer_bytes answer 1 written) fits in
+      let lengths =
+      both_true (room engine_numbers_length lent.numbers engine_counts_length lent.counts) (room answer_bytes answer 1 written) fits in
       let enough_answer : (answer_bytes ≤ length answer) × (1 ≤ length written) = enough lengths.1 in
       let all : Fits lent answer 0 = record { answer = enough_answer.0; engine = enough lengths.0 } in
       let text = a.answer all in

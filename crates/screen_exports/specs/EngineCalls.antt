@@ -20,7 +20,8 @@ use Rattle.screen_exports.specs.Calls.{ReplyCall, RowCall, ProgressCall}
 
 -- an engine as a kind of memory: what changes is what calls of the engine do, one or none
 abbrev pub engine_memory : MemoryKind (List Call)
-engine_memory = record { numbers = engine_numbers_length; counts = engine_counts_length; unchanged = λ l. []; Leaves = Leaves }
+engine_memory =
+    record { numbers = engine_numbers_length; counts = engine_counts_length; unchanged = λ l. []; Leaves = Leaves }
 
 -- clearing makes an engine with no job, none served, whatever the counts were
 abbrev pub clear_room : List ℕ → Bool
@@ -28,7 +29,8 @@ clear_room counts = leb engine_counts_length (length counts)
 
 pub record ClearCall (counts : List ℕ) (r : ℕ) (counts' : List ℕ) : Type 0 where
   pub returned : r ≡ cond (clear_room counts) 0 (number_of NoForm)
-  pub cleared : counts' ≡ cond (clear_room counts) (replicate engine_counts_length 0 ++ drop engine_counts_length counts) counts
+  pub cleared : counts'
+      ≡ cond (clear_room counts) (replicate engine_counts_length 0 ++ drop engine_counts_length counts) counts
   pub held : clear_room counts ≡ true → screens_in counts' ≡ no_screens
 
 -- the effect of a submission to a screen

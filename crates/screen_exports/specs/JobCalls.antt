@@ -40,7 +40,10 @@ job_memory =
 -- the effect of making a job: one that is refused is written too, and has ended with its refusal
 abbrev pub making : List Float → ℕ → FinSet → Effect JobChange
 making points L set =
-    record { reply = (made_of set points L).reply; change = record { written = true; job = (made_of set points L).job } }
+    record {
+      reply = (made_of set points L).reply;
+      change = record { written = true; job = (made_of set points L).job };
+    }
 
 -- the effect of a change of density: where it is refused, nothing is written
 abbrev pub changing : Job → Density → Effect JobChange
@@ -57,7 +60,8 @@ module _ (before : Lists) where
 
   abbrev pub ChangeCall : NumberedDensity → List ℕ → ℕ → Lists → List ℕ → Type 0
   ChangeCall density told =
-      ReplyCall job_memory before (asked_of_density job_memory before density (changing (job_of before))) 4 reply_counts told
+      ReplyCall job_memory before (asked_of_density job_memory before density (changing (job_of before))) 4 reply_counts
+      told
 
   -- what a step changes, and the figures and counts of its answer, zeros where it has none
   abbrev pub step_change : List Float → JobChange

@@ -27,5 +27,6 @@ pub record LineCall (line : List ℕ) (lent : LentMemory) (answer written : List
   -- what is left of the two lists themselves: a line that is no submission, density or turn makes no call of the
   -- engine, and leaves them as they were
   pub lists_left :
-      Leaves (cond (line_room lent answer written) (calls_of_line line (memory_of lent)) []) (lists_of lent) (lists_of lent')
+      Leaves (cond (line_room lent answer written) (calls_of_line line (memory_of lent)) []) (lists_of lent)
+      (lists_of lent')
   pub untouched : line_room lent answer written ≡ false → lent' ≡ lent

@@ -73,7 +73,8 @@ each_nearest (x ∷ xs) l = (lower_nearest x l.0, each_nearest xs l.1)
 
 are_constants : (p : Coefficients) → EachLower (exact_constants p) → (r : List Float) → r ≡ airfoil_constants p → AreConstants p r
 unfolding airfoil_constants
-are_constants p l r e = record { rounded = e; nearest = subst (EachNearest (exact_constants p)) (sym e) (each_nearest (exact_constants p) l) }
+are_constants p l r e =
+    record { rounded = e; nearest = subst (EachNearest (exact_constants p)) (sym e) (each_nearest (exact_constants p) l) }
 
 -- ---- both tails
 

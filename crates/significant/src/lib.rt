@@ -143,7 +143,8 @@ fn to_nearest(d: u64, next: u8, more: bool) -> u64
 // Returns n digits that may have been rounded up to 10^n, which are then 10^(n - 1) one place higher.
 fn carried(d: u64, place: usize, n: usize) -> Significant
     requires { (1 ≤ n) × (n ≤ 16) × (place ≤ 2100) }
-    ensures { (result.digits ≡ cond (eqb d (10 ^ n)) (10 ^ (n - 1)) d) × (result.place ≡ cond (eqb d (10 ^ n)) (place + 1) place) }
+    ensures { (result.digits ≡ cond (eqb d (10 ^ n)) (10 ^ (n - 1)) d)
+        × (result.place ≡ cond (eqb d (10 ^ n)) (place + 1) place) }
 {
     if d == power(10, n) {
         let digits = power(10, n - 1);
@@ -181,7 +182,8 @@ fn rounded(digits: &[u8], n: usize, shift: usize) -> Significant
 fn spelled(digits: &mut [u8], m: u64, base: u64, k: usize, n: usize, shift: usize) -> Significant
     requires m_bound { (m < 2 ^ 53) × (0 < base) × (base ≤ 5) × (1 ≤ n) × (n ≤ 16) }
     requires digits_len { (length digits.old ≡ 33 + k) × (k + shift ≤ 2083) × (10 ^ 16 ≤ base ^ k * 10 ^ shift) }
-    ensures { (result.digits ≡ digits_of n (m * base ^ k * 10 ^ shift)) × (result.place ≡ place_of n (m * base ^ k * 10 ^ shift)) }
+    ensures { (result.digits ≡ digits_of n (m * base ^ k * 10 ^ shift))
+        × (result.place ≡ place_of n (m * base ^ k * 10 ^ shift)) }
 {
     times_plus(digits, 0, m);
     times_plus(digits, MORE, 0);
@@ -192,7 +194,8 @@ fn spelled(digits: &mut [u8], m: u64, base: u64, k: usize, n: usize, shift: usiz
 // Returns m * 2^j * 5^1074 units to n digits.
 fn worked(m: u64, j: usize, n: usize) -> Significant
     requires { (m < 2 ^ 53) × (j ≤ 2045) × (1 ≤ n) × (n ≤ 16) }
-    ensures { (result.digits ≡ digits_of n (m * 2 ^ j * 5 ^ 1074)) × (result.place ≡ place_of n (m * 2 ^ j * 5 ^ 1074)) }
+    ensures { (result.digits ≡ digits_of n (m * 2 ^ j * 5 ^ 1074))
+        × (result.place ≡ place_of n (m * 2 ^ j * 5 ^ 1074)) }
 {
     let mut digits = [0u8; 1107];
     if j < 1074 {
@@ -206,7 +209,8 @@ fn worked(m: u64, j: usize, n: usize) -> Significant
 // Returns the finite f64 with the bit pattern b to n digits, its sign left out.
 fn of_bits(b: u64, n: usize) -> Significant
     requires { T (is_finite (bits b)) × (1 ≤ n) × (n ≤ 16) }
-    ensures { (result.digits ≡ digits_of n (decimal_units_of (bits b))) × (result.place ≡ place_of n (decimal_units_of (bits b))) }
+    ensures { (result.digits ≡ digits_of n (decimal_units_of (bits b)))
+        × (result.place ≡ place_of n (decimal_units_of (bits b))) }
 {
     let field = b % SIGN / LEADING;
     let t = b % LEADING;

@@ -78,7 +78,8 @@ digits_figure_lem bare minus n c (b ∷ l) =
 
 unsigned_figure_lem : (bare minus : Bool) (l : List ℕ) → FigureF64 (unsigned_figure bare minus l)
 unfolding unsigned_figure
-unsigned_figure_lem bare minus l = digits_figure_lem bare minus (number_from 0 (leading_digits l)) (length (leading_digits l)) (behind_digits l)
+unsigned_figure_lem bare minus l =
+    digits_figure_lem bare minus (number_from 0 (leading_digits l)) (length (leading_digits l)) (behind_digits l)
 
 decimal_figure_lem : (word : List ℕ) → FigureF64 (decimal_figure word)
 unfolding decimal_figure

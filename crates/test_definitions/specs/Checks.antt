@@ -228,7 +228,8 @@ refused_from check k (row ∷ rows) = refused row.0 row.1 (check k) && refused_f
 
 abbrev planform_at : ℕ → Planform
 planform_at k =
-    Trapezoid (bits (unless_mended k 3 large d2)) (bits (unless_mended k 4 large d2)) (bits (unless_mended k 5 large d2))
+    Trapezoid (bits (unless_mended k 3 large d2)) (bits (unless_mended k 4 large d2))
+    (bits (unless_mended k 5 large d2))
     (bits (unless_mended k 6 large d2))
 
 abbrev tab_at : ℕ → Tab

@@ -126,7 +126,8 @@ zeros_and d = 48 ∷ 48 ∷ 48 ∷ 48 ∷ 48 ∷ 48 ∷ 48 ∷ 48 ∷ 48 ∷ 48 
 -- figure
 abbrev pub lowercase_digits : Bool
 lowercase_digits =
-    figure 10 (hex.figure_of (zeros_and 97)) && no_figure (hex.figure_of (zeros_and 65)) && no_figure (hex.figure_of (97 ∷ []))
+    figure 10 (hex.figure_of (zeros_and 97)) && no_figure (hex.figure_of (zeros_and 65))
+    && no_figure (hex.figure_of (97 ∷ []))
 
 -- four digits and twelve zeros
 abbrev then_zeros : ℕ → ℕ → ℕ → ℕ → List ℕ

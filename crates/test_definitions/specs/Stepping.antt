@@ -272,6 +272,7 @@ unfolding of_bits to_bits of_int round add sub mul div lt le eq ne abs_of every 
 last_step_holds = tt
 
 pub last_scratch_holds :
-    T (let scratch = (step_of (worked 1 3 15 zeros) 128).leaves (replicate 128 (bits one)) in last_strip_written scratch)
+    T (let scratch = (step_of (worked 1 3 15 zeros) 128).leaves (replicate 128 (bits one)) in last_strip_written
+    scratch)
 unfolding of_bits to_bits of_int round add sub mul div lt le eq ne abs_of every below_all insert sorted is_refused first_refusal scratch_check density_check chord_moments largest_height root_chord_of span_of heights every_y place_above crossed crossings outline_crossings ends_at paired scale_of sums_from sample_of plate_of nodes kronrod_weights gauss_weights heights_to weighted_to piece_of total_of error_of absolute relative converged score_of last_highest worst_place component_of repeat halving with_strip onward_of outcome_of concluded_set after_strip stepped_on step_of change_of
 last_scratch_holds = tt

@@ -17,7 +17,8 @@ module _ (l : List ℕ) (i : ℕ) (h : i < length l) where
   cons_at = drop-cons l i 0 h ∙ ap (λ (k : ℕ). get_or l i 0 ∷ drop k l) (sym (add-one i))
 
   -- a byte that ends a word
-  ends_at_lem : (w : List ℕ) → ends_word (get_or l i 0) ≡ true → tokens_after w (drop i l) ≡ done w (mark (get_or l i 0) (tokens (drop (i + 1) l)))
+  ends_at_lem : (w : List ℕ) → ends_word (get_or l i 0) ≡ true
+      → tokens_after w (drop i l) ≡ done w (mark (get_or l i 0) (tokens (drop (i + 1) l)))
   unfolding tokens_after
   ends_at_lem w e = ap (tokens_after w) cons_at
       ∙ ap (λ (t : Bool). cond t (done w (mark (get_or l i 0) (tokens (drop (i + 1) l))))
@@ -34,7 +35,8 @@ module _ (l : List ℕ) (i : ℕ) (h : i < length l) where
   pub space_at : get_or l i 0 ≡ 32 → tokens (drop i l) ≡ tokens (drop (i + 1) l)
   space_at e = ends_at_lem [] (ap ends_word e) ∙ ap (λ (b : ℕ). mark b (tokens (drop (i + 1) l))) e
 
-  pub bracket_at : ends_word (get_or l i 0) ≡ true → (get_or l i 0 ≡ 32 → ⊥) → tokens (drop i l) ≡ (get_or l i 0 ∷ []) ∷ tokens (drop (i + 1) l)
+  pub bracket_at : ends_word (get_or l i 0) ≡ true → (get_or l i 0 ≡ 32 → ⊥)
+      → tokens (drop i l) ≡ (get_or l i 0 ∷ []) ∷ tokens (drop (i + 1) l)
   bracket_at e n = ends_at_lem [] e ∙ rw (ne_eqb (get_or l i 0) 32 n)
 
   -- a word ends before a byte that ends words
@@ -47,7 +49,8 @@ at_end_lem l i h = ap tokens (drop_of_length-le l h)
 
 pub word_at_end : (l : List ℕ) (i b : ℕ) (w : List ℕ) → length l ≤ i → tokens_after (b ∷ w) (drop i l) ≡ (b ∷ w) ∷ tokens (drop i l)
 unfolding tokens_after
-word_at_end l i b w h = ap (tokens_after (b ∷ w)) (drop_of_length-le l h) ∙ ap (λ (ts : List (List ℕ)). (b ∷ w) ∷ ts) (sym (at_end_lem l i h))
+word_at_end l i b w h =
+    ap (tokens_after (b ∷ w)) (drop_of_length-le l h) ∙ ap (λ (ts : List (List ℕ)). (b ∷ w) ∷ ts) (sym (at_end_lem l i h))
 
 -- the part of a line grows by a byte
 pub part_longer : (l : List ℕ) (at i : ℕ) → at ≤ i → i < length l → part l at (i + 1) ≡ part l at i ++ (get_or l i 0 ∷ [])

@@ -128,7 +128,8 @@ module _ (pieces : ℕ → Piece) (b : List Float) where
         → Sees n i r
     unfolding seen_with
     sees_more p ordered r e o f =
-        subst (Sees n i) (sym (f ∙ ap (λ (x : Piece). seen_with seen x b ordered i) e ∙ ap (λ (t : Bool). seen_with seen (pieces i) b t i) o))
+        subst (Sees n i)
+        (sym (f ∙ ap (λ (x : Piece). seen_with seen x b ordered i) e ∙ ap (λ (t : Bool). seen_with seen (pieces i) b t i) o))
         (by_test (keeps_order b && every 7 (λ k. le (Errors k) (at seen.errors k)))
         (λ t. rw t (passed (not_higher (and_left (keeps_order b) _ t) (and_right (keeps_order b) _ t))))
         (λ t. rw t (by_test (le (Score i) seen.number) (λ u. rw u (kept u)) (λ u. rw u (new u)))))

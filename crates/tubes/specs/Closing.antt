@@ -37,4 +37,5 @@ unless_refused (Refused refusal) radius = refused_radius refusal
 -- "count 0 or over 32 is refused 3, then a bad body radius 4"
 unfoldable pub closing_of : Float → ℕ → ClosingRadius
 closing_of radius count =
-    unless_refused (first_of (count_check count ∷ length_check body_radius_field radius ∷ [])) (closing_value radius count)
+    unless_refused (first_of (count_check count ∷ length_check body_radius_field radius ∷ []))
+    (closing_value radius count)

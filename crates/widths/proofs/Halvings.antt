@@ -125,7 +125,8 @@ module _ (v w : ℕ) (g f : Float → List Float) (z : ZerosBehind v w g f) wher
       (go_on w f more (worst_place v pieces) (Wider pieces) (widened (w - v) left)) (go_on v g more (worst_place v pieces) pieces left)
       (λ right more_taken gr. ap (λ (l : List Piece). repeat w f more l more_taken) (stored_same pieces (worst_place v pieces) left right)
       ∙ repeat_same more (set pieces (worst_place v pieces) left ++ (right ∷ [])) more_taken
-      (all_append Good (set pieces (worst_place v pieces) left) (right ∷ []) (all_set Good pieces (worst_place v pieces) left a gl) (gr, tt))
+      (all_append Good (set pieces (worst_place v pieces) left) (right ∷ []) (all_set Good pieces (worst_place v pieces) left a gl)
+      (gr, tt))
       (rw (length-append, length-set) (omega arith)))))))
 
   -- "Three and seven components share their integrator facts over the width"

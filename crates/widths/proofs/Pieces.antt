@@ -46,7 +46,8 @@ piece_wide v g a b = (length_tabulate 0 v _, length_tabulate 0 v _)
 module _ (v w : ℕ) (g f : Float → List Float) (z : ZerosBehind v w g f) where
   -- ---- the sums
   sum_same : (weight : ℕ → Float) (a b : Float) (k : ℕ) → k < v → sum_of weight f a b k ≡ sum_of weight g a b k
-  sum_same weight a b k l = ap (λ (y : Float → Float). weighted_to 7 weight y (half_sum a b) (half_width a b)) (fun_ext (λ h. z.first h k l))
+  sum_same weight a b k l =
+      ap (λ (y : Float → Float). weighted_to 7 weight y (half_sum a b) (half_width a b)) (fun_ext (λ h. z.first h k l))
 
   module _ (a b : Float) (width : half_width a b ⊗ bits 0 ≡ bits 0) where
     kronrod_none : (k : ℕ) → v ≤ k → k < w → sum_of kronrod_weight f a b k ≡ bits 0
@@ -70,9 +71,11 @@ module _ (v w : ℕ) (g f : Float → List Float) (z : ZerosBehind v w g f) wher
     errors_are : tabulate w (error_at f) ≡ tabulate v (error_at g) ++ replicate (w - v) (bits 0)
     errors_are =
         tabulate_behind 0 v w z.no_wider (error_at f) (error_at g)
-        (λ k l m. ap (λ (x : Float). abs_of (half_width a b ⊗ (x ⊖ sum_of gauss_weight f a b k))) (sum_same kronrod_weight a b k (omega arith))
+        (λ k l m. ap (λ (x : Float). abs_of (half_width a b ⊗ (x ⊖ sum_of gauss_weight f a b k)))
+        (sum_same kronrod_weight a b k (omega arith))
         ∙ ap (λ (x : Float). abs_of (half_width a b ⊗ (sum_of kronrod_weight g a b k ⊖ x))) (sum_same gauss_weight a b k (omega arith)))
-        (λ k l m. ap (λ (x : Float). abs_of (half_width a b ⊗ (x ⊖ sum_of gauss_weight f a b k))) (kronrod_none k (omega arith) (omega arith))
+        (λ k l m. ap (λ (x : Float). abs_of (half_width a b ⊗ (x ⊖ sum_of gauss_weight f a b k)))
+        (kronrod_none k (omega arith) (omega arith))
         ∙ ap (λ (x : Float). abs_of (half_width a b ⊗ (bits 0 ⊖ x))) (gauss_none k (omega arith) (omega arith))
         ∙ ap (λ (x : Float). abs_of (half_width a b ⊗ x)) zero_less_zero
         ∙ ap abs_of width

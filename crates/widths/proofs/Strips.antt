@@ -55,7 +55,8 @@ pub intervals_same : (d : ℕ) (strips : List Worked) → intervals_in (map (wid
 intervals_same d [] = refl
 intervals_same d (s ∷ strips) = rw (length-map s.halved.pieces (widened d), intervals_same d strips)
 
-ending_from_lem : (d : ℕ) (ending : Ending) (strips : List Worked) → ending_from ending (map (widened_strip d) strips) ≡ ending_from ending strips
+ending_from_lem : (d : ℕ) (ending : Ending) (strips : List Worked)
+    → ending_from ending (map (widened_strip d) strips) ≡ ending_from ending strips
 ending_from_lem d ending [] = refl
 ending_from_lem d ending (s ∷ strips) = ending_from_lem d s.halved.ending strips
 

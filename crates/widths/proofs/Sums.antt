@@ -97,7 +97,8 @@ highest_up : (v w : ℕ) → v ≤ w → (g h : ℕ → Float) → ((k : ℕ) �
     → last_highest g (w - 1) ≡ last_highest h (v - 1)
 unfolding last_highest
 highest_up v w l g h e z k b o =
-    upward v (λ n. n ≤ w → last_highest g (n - 1) ≡ last_highest h (v - 1)) (λ t. highest_same g h (v - 1) (λ i j. e i (omega arith))) step w
+    upward v (λ n. n ≤ w → last_highest g (n - 1) ≡ last_highest h (v - 1)) (λ t. highest_same g h (v - 1) (λ i j. e i (omega arith))) step
+    w
     l (le_refl w)
   where
     top : Over0 (g (last_highest h (v - 1)))

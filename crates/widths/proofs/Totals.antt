@@ -80,5 +80,6 @@ module _ (v w : ℕ) (l : v ≤ w) (g : Float → List Float) (limit : ℕ) (sca
       ≡ value_from (bits 0) k (worked_of v g limit scale heights)
   totals_same k b = value_first v w l k b (bits 0) (worked_of v g limit scale heights) (worked_wide v g limit scale heights)
 
-  pub other_totals : (k : ℕ) → v ≤ k → k < w → value_from (bits 0) k (map (widened_strip (w - v)) (worked_of v g limit scale heights)) ≡ bits 0
+  pub other_totals : (k : ℕ) → v ≤ k → k < w
+      → value_from (bits 0) k (map (widened_strip (w - v)) (worked_of v g limit scale heights)) ≡ bits 0
   other_totals k a b = value_others v w l k a b (worked_of v g limit scale heights) (worked_wide v g limit scale heights)

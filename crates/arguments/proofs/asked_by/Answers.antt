@@ -18,7 +18,13 @@ returns-then-same_bytes-2 c =
     let n = c.args.count in
     let help = c.same_bytes in
     let version = c.same_bytes-2 in
-    rw (le-leb 2 n (omega arith), le-leb n 2 (omega arith), sym help.ensures ∙ c.if-same_bytes.false, sym version.ensures ∙ c.if-same_bytes-2.true)
+    rw (
+      le-leb 2 n (omega arith),
+      le-leb n 2 (omega arith),
+      sym help.ensures ∙ c.if-same_bytes.false,
+      sym version.ensures
+          ∙ c.if-same_bytes-2.true,
+    )
 
 pub returns : goal.returns
 unfolding text codes
@@ -26,4 +32,10 @@ returns c =
     let n = c.args.count in
     let help = c.same_bytes in
     let version = c.same_bytes-2 in
-    rw (le-leb 2 n (omega arith), le-leb n 2 (omega arith), sym help.ensures ∙ c.if-same_bytes.false, sym version.ensures ∙ c.if-same_bytes-2.false)
+    rw (
+      le-leb 2 n (omega arith),
+      le-leb n 2 (omega arith),
+      sym help.ensures ∙ c.if-same_bytes.false,
+      sym version.ensures
+          ∙ c.if-same_bytes-2.false,
+    )

@@ -15,7 +15,8 @@ pub record SoFar (p : Place) (chunk out₀ : List ℕ) (handed : ℕ) (q : Place
 
 abbrev pub invariant-loop-step : goal.invariant-loop-step
 invariant-loop-step l =
-    SoFar (place_in l.initial.buffer l.initial.step.state l.initial.scratch l.initial.engine_numbers l.initial.engine_counts) l.chunk l.initial.out l.handed
+    SoFar (place_in l.initial.buffer l.initial.step.state l.initial.scratch l.initial.engine_numbers l.initial.engine_counts) l.chunk
+    l.initial.out l.handed
     (place_in l.buffer l.step.state l.scratch l.engine_numbers l.engine_counts) l.out l.step
 
 abbrev pub decreases-loop-step : goal.decreases-loop-step

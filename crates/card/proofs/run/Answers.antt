@@ -121,7 +121,8 @@ take_turn-turn-requires c =
     let chunks = v.chunks in
     let lends : Lends first c.args.chunk.now c.args.out.now =
     record { lent = room; some = d.some; most = d.most; reply = d.reply } in
-    let on : Lends (place_in c.loop-turn.buffer c.loop-turn.turn.state c.loop-turn.scratch c.loop-turn.engine_numbers c.loop-turn.engine_counts)
+    let on : Lends
+    (place_in c.loop-turn.buffer c.loop-turn.turn.state c.loop-turn.scratch c.loop-turn.engine_numbers c.loop-turn.engine_counts)
     c.loop-turn.chunk c.loop-turn.out = still_lends v.hands.takes lends (omega arith) (omega arith) v.outs in
     let l = ltb-true c.loop-turn.turn.read most_read c.if-turn-lt-MOST_READ.true-raw in
     (on, counted v most_read (omega arith), l)
@@ -130,7 +131,8 @@ pub loop-turn-smaller : goal.loop-turn-smaller
 loop-turn-smaller c =
     let p = c.take_turn-turn.ensures in let r = c.take_turn-turn.result in
     fewer_left c.loop-turn.turn.read (brought r.got) r.read c.loop-turn.turn.more r.more c.loop-turn-test.true
-    (ltb-true c.loop-turn.turn.read most_read c.if-turn-lt-MOST_READ.true-raw) p.reads (λ g. some_brought (brought r.got) r.all (sym p.goes ∙ g))
+    (ltb-true c.loop-turn.turn.read most_read c.if-turn-lt-MOST_READ.true-raw) p.reads
+    (λ g. some_brought (brought r.got) r.all (sym p.goes ∙ g))
 
 pub loop-turn-preserved : goal.loop-turn-preserved
 loop-turn-preserved c =
@@ -150,7 +152,8 @@ end_run-requires c =
     let chunks = v.chunks in
     let lends : Lends first c.args.chunk.now c.args.out.now =
     record { lent = room; some = d.some; most = d.most; reply = d.reply } in
-    let on : Lends (place_in c.loop-turn.buffer c.loop-turn.turn.state c.loop-turn.scratch c.loop-turn.engine_numbers c.loop-turn.engine_counts)
+    let on : Lends
+    (place_in c.loop-turn.buffer c.loop-turn.turn.state c.loop-turn.scratch c.loop-turn.engine_numbers c.loop-turn.engine_counts)
     c.loop-turn.chunk c.loop-turn.out = still_lends v.hands.takes lends (omega arith) (omega arith) v.outs in
     let r = on.reply in
     (on.lent, omega arith, counted v (most_read + 65536) v.most)

@@ -24,7 +24,8 @@ pub record SoFar (p : Place) (chunk₀ out₀ : List ℕ) (q : Place) (chunk out
 
 abbrev pub invariant-loop-turn : goal.invariant-loop-turn
 invariant-loop-turn l =
-    SoFar (place_in l.initial.buffer l.initial.turn.state l.initial.scratch l.initial.engine_numbers l.initial.engine_counts) l.initial.chunk l.initial.out
+    SoFar (place_in l.initial.buffer l.initial.turn.state l.initial.scratch l.initial.engine_numbers l.initial.engine_counts)
+    l.initial.chunk l.initial.out
     (place_in l.buffer l.turn.state l.scratch l.engine_numbers l.engine_counts) l.chunk l.out l.turn
 
 -- each turn that goes on has read a byte

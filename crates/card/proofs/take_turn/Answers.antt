@@ -55,18 +55,25 @@ module _ {p : Place} (t : Turn) {chunk : List ℕ} {got : ℤ} {n : ℕ} (b : n 
 pub returns-then-n-eq0 : goal.returns-then-n-eq0
 returns-then-n-eq0 c =
     let brings : c.count-n.result ≡ brought c.read-got.result =
-    counted c.read-got.result c.count-n.result (length c.read-got.new.chunk) c.read-got.ensures.answers (c.count-n.ensures.value ∙ ap (λ (z : ℤ). clamp_len z (length c.read-got.new.chunk)) (to_z-of_z w64 c.read-got.result (record { sfits = c.read-got.type_inv }))) in
+    counted c.read-got.result c.count-n.result (length c.read-got.new.chunk) c.read-got.ensures.answers
+    (c.count-n.ensures.value
+    ∙ ap (λ (z : ℤ). clamp_len z (length c.read-got.new.chunk)) (to_z-of_z w64 c.read-got.result (record { sfits = c.read-got.type_inv })))
+    in
     rw (to_z-of_z w64 c.read-got.result (record { sfits = c.read-got.type_inv })) (nothing_read c.args.t brings c.if-n-eq0.true)
 
 pub reply_to-step-requires : goal.reply_to-step-requires
 reply_to-step-requires c =
-    let h = c.count-n.ensures.in_bounds.0 in let e = c.count-n.ensures.in_bounds.1 in let z = c.if-n-eq0.false in let l = c.read-got.auto.chunk in
+    let h =
+    c.count-n.ensures.in_bounds.0 in let e = c.count-n.ensures.in_bounds.1 in let z = c.if-n-eq0.false in let l = c.read-got.auto.chunk in
     let m = c.requires.0.most in
     (record { lent = c.requires.0.lent; some = omega arith; most = omega arith; reply = c.requires.0.reply }, c.requires.1)
 
 pub returns : goal.returns
 returns c =
     let brings : c.count-n.result ≡ brought c.read-got.result =
-    counted c.read-got.result c.count-n.result (length c.read-got.new.chunk) c.read-got.ensures.answers (c.count-n.ensures.value ∙ ap (λ (z : ℤ). clamp_len z (length c.read-got.new.chunk)) (to_z-of_z w64 c.read-got.result (record { sfits = c.read-got.type_inv }))) in
+    counted c.read-got.result c.count-n.result (length c.read-got.new.chunk) c.read-got.ensures.answers
+    (c.count-n.ensures.value
+    ∙ ap (λ (z : ℤ). clamp_len z (length c.read-got.new.chunk)) (to_z-of_z w64 c.read-got.result (record { sfits = c.read-got.type_inv })))
+    in
     rw (to_z-of_z w64 c.read-got.result (record { sfits = c.read-got.type_inv }))
     (some_read c.args.t brings c.count-n.ensures.in_bounds.0 c.count-n.ensures.in_bounds.1 c.if-n-eq0.false c.reply_to-step.ensures)

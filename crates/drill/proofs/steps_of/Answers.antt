@@ -52,5 +52,6 @@ returns c =
     let inv = c.loop-i.invariant in
     let fits : n ≤ length corners = omega (arith, c.requires.1) in
     let taken = length-take-le n corners fits in
-    ext_get_or (pos 0) (take n corners) (in_steps_lem points) (taken ∙ sym (length-map (map exact_of points) steps_of ∙ length-map points exact_of))
+    ext_get_or (pos 0) (take n corners) (in_steps_lem points)
+    (taken ∙ sym (length-map (map exact_of points) steps_of ∙ length-map points exact_of))
     (λ k h. let l : k < n = omega arith in get_or-take n corners k (pos 0) l ∙ inv.2 k (omega arith))

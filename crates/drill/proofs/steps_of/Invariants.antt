@@ -15,7 +15,8 @@ in_steps_lem points = map steps_of (map exact_of points)
 
 abbrev pub invariant-loop-i : goal.invariant-loop-i
 invariant-loop-i l =
-    (l.i ≤ length l.points) × (length l.corners ≡ outline_numbers) × Filled l.i (pos 0) (λ k. get_or (in_steps_lem l.points) k (pos 0)) l.corners
+    (l.i ≤ length l.points) × (length l.corners ≡ outline_numbers)
+    × Filled l.i (pos 0) (λ k. get_or (in_steps_lem l.points) k (pos 0)) l.corners
 
 abbrev pub decreases-loop-i : goal.decreases-loop-i
 decreases-loop-i l = length l.points - l.i

@@ -12,5 +12,6 @@ returns-then-values-lt2 c = closing_refused (short_counts c.if-radius-lt1.false 
 pub returns : goal.returns
 returns c =
     let a = c.args in
-    closing_written c.if-radius-lt1.false c.if-values-lt2.false c.closing_radius_m-found.ensures.is (one_written a.radius.now _ c.if-radius-lt1.false)
+    closing_written c.if-radius-lt1.false c.if-values-lt2.false c.closing_radius_m-found.ensures.is
+    (one_written a.radius.now _ c.if-radius-lt1.false)
     c.write_values.ensures c.verdict_number.ensures

@@ -25,21 +25,31 @@ returns-in-Ended c =
 
 pub halve-samples-requires : goal.halve-samples-requires
 halve-samples-requires c =
-    let r : (c.loop-ending.n < c.args.limit) × (c.in-Halve.place < c.loop-ending.n) = room _ _ _ _ _ _ _ c.loop-ending.invariant c.requires.2 _ c.judge-judged.ensures _ c.in-Halve.is in
+    let r : (c.loop-ending.n < c.args.limit) × (c.in-Halve.place < c.loop-ending.n) =
+    room _ _ _ _ _ _ _ c.loop-ending.invariant c.requires.2 _ c.judge-judged.ensures _ c.in-Halve.is in
     omega (arith, r, c.loop-ending.invariant.long, c.requires.2)
 
 pub overflow_add-samples : goal.overflow_add-samples
 overflow_add-samples c =
-    omega (arith, (let it : c.halve-samples.result ≡ 30 = c.halve-samples.ensures.1 ∙ halves_thirty (read_at c.loop-ending.scratch c.in-Halve.place) in it), c.loop-ending.invariant.few, c.loop-ending.invariant.high, c.requires.1)
+    omega (
+      arith,
+      (let it : c.halve-samples.result
+          ≡ 30 = c.halve-samples.ensures.1 ∙ halves_thirty (read_at c.loop-ending.scratch c.in-Halve.place) in it),
+      c.loop-ending.invariant.few,
+      c.loop-ending.invariant.high,
+      c.requires.1,
+    )
 
 pub overflow_add-n : goal.overflow_add-n
 overflow_add-n c =
-    let r : (c.loop-ending.n < c.args.limit) × (c.in-Halve.place < c.loop-ending.n) = room _ _ _ _ _ _ _ c.loop-ending.invariant c.requires.2 _ c.judge-judged.ensures _ c.in-Halve.is in
+    let r : (c.loop-ending.n < c.args.limit) × (c.in-Halve.place < c.loop-ending.n) =
+    room _ _ _ _ _ _ _ c.loop-ending.invariant c.requires.2 _ c.judge-judged.ensures _ c.in-Halve.is in
     omega (arith, r, c.requires.1)
 
 pub loop-ending-smaller : goal.loop-ending-smaller
 loop-ending-smaller c =
-    let r : (c.loop-ending.n < c.args.limit) × (c.in-Halve.place < c.loop-ending.n) = room _ _ _ _ _ _ _ c.loop-ending.invariant c.requires.2 _ c.judge-judged.ensures _ c.in-Halve.is in
+    let r : (c.loop-ending.n < c.args.limit) × (c.in-Halve.place < c.loop-ending.n) =
+    room _ _ _ _ _ _ _ c.loop-ending.invariant c.requires.2 _ c.judge-judged.ensures _ c.in-Halve.is in
     omega (arith, r)
 
 pub loop-ending-preserved : goal.loop-ending-preserved

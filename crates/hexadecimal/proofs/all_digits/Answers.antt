@@ -1,4 +1,5 @@
--- `hexadecimal::all_digits` meets its contract: the letters of the values are the word again exactly where its bytes are digits. Assumes nothing.
+-- `hexadecimal::all_digits` meets its contract: the letters of the values are the word again exactly where its bytes are digits. Assumes
+-- nothing.
 use native.Mathlib.Omega.{arith}
 use Rattle.hexadecimal.proofs.Words.{values_small, letters_again}
 use Rattle.hexadecimal.proofs.all_digits.Goals as goal

@@ -1,4 +1,5 @@
--- `hexadecimal::put_figure` meets its contract: the digits still to come, with those that stand behind them, are the whole text. Assumes nothing.
+-- `hexadecimal::put_figure` meets its contract: the digits still to come, with those that stand behind them, are the whole text. Assumes
+-- nothing.
 use mathlib.Core.List.{◌++◌}
 use mathlib.Core.Path.{◌≡◌}
 use Prim.Native.Nat.{◌+◌, ◌≤◌}

@@ -190,7 +190,8 @@ shape_of-out-then-end-chunk c = (kept c.loop-taken.invariant c.loop-taken-test.t
     c.keep_line-line.ensures c.keep_line-line.auto.buffer).into.outs
 
 pub returns-then-end-chunk : goal.returns-then-end-chunk
-returns-then-end-chunk c = let e = c.if-end-chunk.true in ends (kept c.loop-taken.invariant c.loop-taken-test.true c.if-out-written-lt-REPLY_BYTES.false
+returns-then-end-chunk c =
+    let e = c.if-end-chunk.true in ends (kept c.loop-taken.invariant c.loop-taken-test.true c.if-out-written-lt-REPLY_BYTES.false
     c.keep_line-line.ensures c.keep_line-line.auto.buffer) (omega arith)
 
 pub shape_of-buffer : goal.shape_of-buffer

@@ -21,7 +21,8 @@ pub record SoFar (p : Place) (chunk out₀ : List ℕ) (n : ℕ) (q : Place) (ou
 
 abbrev pub invariant-loop-taken : goal.invariant-loop-taken
 invariant-loop-taken l =
-    SoFar (place_in l.initial.buffer l.initial.state l.initial.scratch l.initial.engine_numbers l.initial.engine_counts) l.chunk l.initial.out l.n (place_in l.buffer l.state l.scratch l.engine_numbers l.engine_counts) l.out l.taken l.written
+    SoFar (place_in l.initial.buffer l.initial.state l.initial.scratch l.initial.engine_numbers l.initial.engine_counts) l.chunk
+    l.initial.out l.n (place_in l.buffer l.state l.scratch l.engine_numbers l.engine_counts) l.out l.taken l.written
 
 abbrev pub decreases-loop-taken : goal.decreases-loop-taken
 decreases-loop-taken l =

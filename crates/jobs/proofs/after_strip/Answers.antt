@@ -17,7 +17,8 @@ slice_bounds-numbers-end c =
     omega (arith, c.held-n.ensures, outline_length job _ c.well_formed.0, held_most job.points.count)
 
 pub slice_bounds-conclude-end : goal.slice_bounds-conclude-end
-slice_bounds-conclude-end c = sym (length-take-le _ _ (omega (arith, c.held-n.ensures, outline_length c.args.job _ c.well_formed.0, held_most c.args.job.points.count)))
+slice_bounds-conclude-end c = sym
+    (length-take-le _ _ (omega (arith, c.held-n.ensures, outline_length c.args.job _ c.well_formed.0, held_most c.args.job.points.count)))
 
 pub returns : goal.returns
 returns c =

@@ -14,13 +14,16 @@ slice_bounds-numbers-end c =
     omega (arith, c.held-n.ensures, outline_length job _ c.well_formed.0, held_most job.points.count)
 
 pub slice_bounds-height_at-end : goal.slice_bounds-height_at-end
-slice_bounds-height_at-end c = sym (length-take-le _ _ (omega (arith, c.held-n.ensures, outline_length c.args.job _ c.well_formed.0, held_most c.args.job.points.count)))
+slice_bounds-height_at-end c = sym
+    (length-take-le _ _ (omega (arith, c.held-n.ensures, outline_length c.args.job _ c.well_formed.0, held_most c.args.job.points.count)))
 
 pub slice_bounds-numbers-end-2 : goal.slice_bounds-numbers-end-2
-slice_bounds-numbers-end-2 c = omega (arith, c.held-n.ensures, outline_length c.args.job _ c.well_formed.0, held_most c.args.job.points.count)
+slice_bounds-numbers-end-2 c =
+    omega (arith, c.held-n.ensures, outline_length c.args.job _ c.well_formed.0, held_most c.args.job.points.count)
 
 pub slice_bounds-break_heights-end : goal.slice_bounds-break_heights-end
-slice_bounds-break_heights-end c = sym (length-take-le _ _ (omega (arith, c.held-n.ensures, outline_length c.args.job _ c.well_formed.0, held_most c.args.job.points.count)))
+slice_bounds-break_heights-end c = sym
+    (length-take-le _ _ (omega (arith, c.held-n.ensures, outline_length c.args.job _ c.well_formed.0, held_most c.args.job.points.count)))
 
 pub slice_bounds-heights-end : goal.slice_bounds-heights-end
 slice_bounds-heights-end c = (few_breaks _ _ _ c.break_heights-breaks.ensures).0

@@ -13,7 +13,8 @@ slice_bounds-numbers-end c =
     omega (arith, c.held-n.ensures, outline_length job _ c.well_formed.0, held_most job.points.count)
 
 pub slice_bounds-work_from-end : goal.slice_bounds-work_from-end
-slice_bounds-work_from-end c = sym (length-take-le _ _ (omega (arith, c.held-n.ensures, outline_length c.args.job _ c.well_formed.0, held_most c.args.job.points.count)))
+slice_bounds-work_from-end c = sym
+    (length-take-le _ _ (omega (arith, c.held-n.ensures, outline_length c.args.job _ c.well_formed.0, held_most c.args.job.points.count)))
 
 pub returns : goal.returns
 returns c =

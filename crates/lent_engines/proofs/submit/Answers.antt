@@ -6,7 +6,8 @@ use Rattle.lent_engines.proofs.Calls.{submits_not, submits}
 use Rattle.lent_engines.proofs.submit.Goals as goal
 
 pub returns-then-is_refused : goal.returns-then-is_refused
-returns-then-is_refused c = submits_not _ _ _ c.read_screens-screens.ensures _ _ c.read_at-job.ensures _ c.place_of-place.ensures.0 _ _ _ _ _
+returns-then-is_refused c =
+    submits_not _ _ _ c.read_screens-screens.ensures _ _ c.read_at-job.ensures _ c.place_of-place.ensures.0 _ _ _ _ _
     c.make-made.ensures.is c.submit_at-s.ensures.is
     (ap not (sym c.is_refused.ensures ∙ c.if-is_refused.true))
 

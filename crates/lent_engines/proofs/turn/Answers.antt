@@ -4,7 +4,8 @@ use Rattle.lent_engines.proofs.Calls.{turns_idle, turns}
 use Rattle.lent_engines.proofs.turn.Goals as goal
 
 pub returns-then-served_screen-eq0 : goal.returns-then-served_screen-eq0
-returns-then-served_screen-eq0 c = turns_idle _ _ _ c.read_screens-screens.ensures _ _ c.read_at-job.ensures c.pick-place.ensures.0 _ _ _ c.serve-s.ensures
+returns-then-served_screen-eq0 c =
+    turns_idle _ _ _ c.read_screens-screens.ensures _ _ c.read_at-job.ensures c.pick-place.ensures.0 _ _ _ c.serve-s.ensures
     (sym c.served_screen.ensures ∙ c.if-served_screen-eq0.true)
 
 pub write_at-requires : goal.write_at-requires

@@ -68,7 +68,8 @@ returns-then-line-le-MIDDLE_LINE c =
     fitting lent c.args.out.now c.args.n c.has_room-room.result c.has_engine-engine.result
     c.has_room-room.ensures c.has_engine-engine.ensures
     (not-false (c.has_room-room.result && c.has_engine-engine.result) c.if-not-room-engine.false-raw) in
-    answered _ _ _ _ _ _ _ f (c.answer_read-then-line-le-MIDDLE_LINE.ensures.appended, c.answer_read-then-line-le-MIDDLE_LINE.ensures.leaves_lent)
+    answered _ _ _ _ _ _ _ f
+    (c.answer_read-then-line-le-MIDDLE_LINE.ensures.appended, c.answer_read-then-line-le-MIDDLE_LINE.ensures.leaves_lent)
 
 pub answer_read-requires-2 : goal.answer_read-requires-2
 answer_read-requires-2 c =

@@ -18,7 +18,8 @@ of_two : (f : List Float → List Float → JoinedBody) {a b x y : List Float} {
     → r ≡ body_reply BodyShape j → r ≡ body_reply BodyShape (f x y)
 of_two f e g h k = k ∙ ap (body_reply BodyShape) (h ∙ ap₂ f e g)
 
-part_moved : {a b d x y z : List Float} {j : JoinedBody} {r : Reply} → a ≡ x → b ≡ y → d ≡ z → j ≡ moved_by a b d → r ≡ body_reply BodyShape j
+part_moved : {a b d x y z : List Float} {j : JoinedBody} {r : Reply} → a ≡ x → b ≡ y → d ≡ z → j ≡ moved_by a b d
+    → r ≡ body_reply BodyShape j
     → r ≡ body_reply BodyShape (moved_by x y z)
 part_moved {b = b} {d} {x} e f g h k = k ∙ ap (body_reply BodyShape) (h ∙ ap (λ (w : List Float). moved_by w b d) e ∙ ap₂ (moved_by x) f g)
 

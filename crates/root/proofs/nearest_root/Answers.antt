@@ -118,7 +118,8 @@ module _ {n p l c : ℕ} (s : Split n p l c) where
 abbrev start : goal.Then-top-square → goal.Start
 start c = c.before.before
 
-split_at : (c : goal.Then-top-square) → let n = (start c).args.n in let h = (start c).args.h in Split n (h - 1) (over n h / h) (over n h % h)
+split_at : (c : goal.Then-top-square) → let n =
+    (start c).args.n in let h = (start c).args.h in Split n (h - 1) (over n h / h) (over n h % h)
 split_at c = split (start c).args.n (start c).args.h (start c).requires c.if-square-top.true (omega (arith, leb-true))
 
 pub overflow_mul-square : goal.overflow_mul-square
@@ -146,7 +147,8 @@ pub overflow_add-result : goal.overflow_add-result
 overflow_add-result c = omega (arith, split_at c, low_square (split_at c))
 
 pub overflow_add-result-then-top-square : goal.overflow_add-result-then-top-square
-overflow_add-result-then-top-square c = let n = (start c).args.n in let h = (start c).args.h in fits (split_at c) (test (h - 1) (over n h / h) (over n h % h))
+overflow_add-result-then-top-square c =
+    let n = (start c).args.n in let h = (start c).args.h in fits (split_at c) (test (h - 1) (over n h / h) (over n h % h))
 
 pub returns-then-top-square : goal.returns-then-top-square
 returns-then-top-square c = decided (split_at c)

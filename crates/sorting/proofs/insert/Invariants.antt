@@ -7,7 +7,8 @@ use Rattle.sorting.proofs.Insertion.{Left}
 use Rattle.sorting.proofs.insert.Given as goal
 
 abbrev pub invariant-loop-k : goal.invariant-loop-k
-invariant-loop-k l = (l.k ≤ l.n) × (length l.xs ≡ length l.initial.xs) × (Left l.x l.xs l.k ≡ over (insert l.x (take l.n l.initial.xs)) l.initial.xs)
+invariant-loop-k l =
+    (l.k ≤ l.n) × (length l.xs ≡ length l.initial.xs) × (Left l.x l.xs l.k ≡ over (insert l.x (take l.n l.initial.xs)) l.initial.xs)
 
 abbrev pub decreases-loop-k : goal.decreases-loop-k
 decreases-loop-k l = l.k

@@ -23,7 +23,8 @@ module _ (l : List ℕ) (i j : ℕ) where
         ≡ cond b (part l i j ∷ cut_at_bars (drop (j + 1) l)) (cut_after (part l i j ++ (get_or l j 0 ∷ [])) (drop (j + 1) l))
     unfolding cut_after
     byte b h e = t ∙ ap (cut_after (part l i j)) (cons_at l j h)
-        ∙ ap (λ (b : Bool). cond b (part l i j ∷ cut_at_bars (drop (j + 1) l)) (cut_after (part l i j ++ (get_or l j 0 ∷ [])) (drop (j + 1) l)))
+        ∙ ap (λ (b : Bool). cond b (part l i j ∷ cut_at_bars (drop (j + 1) l))
+        (cut_after (part l i j ++ (get_or l j 0 ∷ [])) (drop (j + 1) l)))
         e
 
     one_more : j < length l → (get_or l j 0 ≡ 124 → ⊥) → cut_at_bars (drop i l) ≡ cut_after (part l i (j + 1)) (drop (j + 1) l)

@@ -5,7 +5,8 @@ use Rattle.test_jobs.proofs.compare_all.Given as goal
 abbrev pub invariant-loop-k : goal.invariant-loop-k
 invariant-loop-k l =
     (length l.numbers ≡ length l.initial.numbers)
-    × ((length l.counts ≡ length l.initial.counts) × ((length l.scratch ≡ length l.initial.scratch) × (length l.other ≡ length l.initial.other)))
+    × ((length l.counts ≡ length l.initial.counts)
+    × ((length l.scratch ≡ length l.initial.scratch) × (length l.other ≡ length l.initial.other)))
 
 abbrev pub decreases-loop-k : goal.decreases-loop-k
 decreases-loop-k l = 4000 - l.k

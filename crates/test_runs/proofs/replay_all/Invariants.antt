@@ -5,7 +5,8 @@ use lib.ListN.{length}
 use Rattle.test_runs.proofs.replay_all.Given as goal
 
 abbrev pub invariant-loop-at : goal.invariant-loop-at
-invariant-loop-at l = (length l.values ≡ length l.initial.values) × (length l.scratch ≡ length l.initial.scratch) × (length l.out ≡ length l.initial.out)
+invariant-loop-at l =
+    (length l.values ≡ length l.initial.values) × (length l.scratch ≡ length l.initial.scratch) × (length l.out ≡ length l.initial.out)
 
 abbrev pub decreases-loop-at : goal.decreases-loop-at
 decreases-loop-at l = length l.text - l.at

@@ -28,7 +28,8 @@ module _ (line : List ℕ) (at i : ℕ) where
       ap (λ (w : List ℕ). tokens_after w (drop i line)) p ∙ f _ _ ∙ ap (λ (w : List ℕ). w ∷ tokens (drop i line)) (sym p)
 
   -- a byte that ends a word stands at i
-  stopped : at ≤ i → i < length line → ends_word (get_or line i 0) ≡ true → tokens (drop at line) ≡ tokens_after (part line at i) (drop i line)
+  stopped : at ≤ i → i < length line → ends_word (get_or line i 0) ≡ true
+      → tokens (drop at line) ≡ tokens_after (part line at i) (drop i line)
       → IsWordEnd line at i
   stopped a h e t =
       record {

@@ -7,7 +7,8 @@ use Rattle.tokens.specs.Found.{part}
 use Rattle.tokens.proofs.word_end.Given as goal
 
 abbrev pub invariant-loop-i : goal.invariant-loop-i
-invariant-loop-i l = (l.at ≤ l.i) × (l.i ≤ length l.line) × (tokens (drop l.at l.line) ≡ tokens_after (part l.line l.at l.i) (drop l.i l.line))
+invariant-loop-i l =
+    (l.at ≤ l.i) × (l.i ≤ length l.line) × (tokens (drop l.at l.line) ≡ tokens_after (part l.line l.at l.i) (drop l.i l.line))
 
 abbrev pub decreases-loop-i : goal.decreases-loop-i
 decreases-loop-i l = length l.line - l.i

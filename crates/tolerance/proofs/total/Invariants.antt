@@ -9,7 +9,8 @@ use Rattle.tolerance.proofs.total.Given as goal
 
 abbrev pub invariant-loop-i : goal.invariant-loop-i
 invariant-loop-i l =
-    (sums_from l.sums (pieces_in (l.n - l.i) (drop (l.i * piece_numbers) l.scratch)) ≡ sums_from no_sums (pieces_in l.n l.scratch)) × (l.i ≤ l.n)
+    (sums_from l.sums (pieces_in (l.n - l.i) (drop (l.i * piece_numbers) l.scratch)) ≡ sums_from no_sums (pieces_in l.n l.scratch))
+    × (l.i ≤ l.n)
 
 abbrev pub decreases-loop-i : goal.decreases-loop-i
 decreases-loop-i l = l.n - l.i
