@@ -47,4 +47,8 @@ shape_of-trial c = c.loop-turns.invariant.1
 
 pub returns : goal.returns
 returns c =
-    record { is = sym (c.loop-turns.invariant.2 ∙ no_turn_lem _ _ _ _ _ c.loop-turns-test.false); ordered = omega arith; within = c.loop-turns.invariant.0 }
+    record {
+      is = sym (c.loop-turns.invariant.2 ∙ no_turn_lem _ _ _ _ _ c.loop-turns-test.false);
+      ordered = omega arith;
+      within = c.loop-turns.invariant.0;
+    }

@@ -7,7 +7,8 @@ use Rattle.explanations.proofs.find_fault.Given as goal
 
 abbrev pub invariant-loop-turns : goal.invariant-loop-turns
 invariant-loop-turns l =
-    (l.at ≤ length l.line) × (length l.trial ≡ length l.initial.trial) × (fault_place l.fault l.endings l.line ≡ fault_from l.turns l.fault l.endings l.line l.at)
+    (l.at ≤ length l.line) × (length l.trial ≡ length l.initial.trial)
+    × (fault_place l.fault l.endings l.line ≡ fault_from l.turns l.fault l.endings l.line l.at)
 
 abbrev pub decreases-loop-turns : goal.decreases-loop-turns
 decreases-loop-turns l = l.turns
