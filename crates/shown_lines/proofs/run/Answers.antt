@@ -1,7 +1,7 @@
 -- `shown_lines::run` meets its contract: what was taken so far, and nothing else was read while it goes on. Assumes nothing.
 use mathlib.Core.List.{List, [], ◌++◌, append-nil}
 use mathlib.Core.Bool.{Bool, true, false, cond, true≢false}
-use mathlib.Core.Logic.{◌⊎◌, inl, inr, ⊎_elim}
+use mathlib.Core.Logic.{◌⊎◌, inl, inr}
 use mathlib.Core.Path.{◌≡◌, refl, sym, ap, ◌∙◌}
 use Prim.Native.Nat.{ℕ, ◌+◌, ◌-◌, ◌<◌, ◌≤◌}
 use native.Mathlib.Omega.{arith}
@@ -16,31 +16,11 @@ use Rattle.reads.proofs.Turning.{some_brought, all_taken, not_all_taken, none_at
 use Rattle.shown_lines.specs.declared.Maker.{Maker}
 use Rattle.shown_lines.specs.declared.Turn.{Turn}
 use Rattle.shown_lines.specs.declared.End.{End}
-use Rattle.shown_lines.specs.Program.{Place, place_in, blocks_from, Lends, Counted, Hands, Turns, Closes, Runs}
+use Rattle.shown_lines.specs.Program.{place_in, blocks_from, Lends, Counted, Turns, Closes, Runs}
 use Rattle.shown_lines.proofs.Showing.{blocks_append, laws, still_lends}
-use borrow.Author.Rules.{rules}
-use Rattle.shown_lines.proofs.run.Statement.{statement}
-use Rattle.shown_lines.proofs.run.Tie as tie
-
-record SoFar (maker : Maker) (p : Place) (chunk₀ out₀ : List ℕ) (q : Place) (chunk out : List ℕ) (turn : Turn) : Type 0 where
-  taken : List ℕ
-  rest : List ℕ
-  hands : Hands maker p taken q 0 turn.handed
-  reads : turn.read ≡ length taken + length rest
-  most : turn.read ≤ most_read + 65536
-  goes : turn.more ≡ true → rest ≡ []
-  stops : at_end turn.got ≡ true → rest ≡ []
-  halts : turn.more ≡ false → 0 < brought turn.got → turn.all ≡ false
-  chunks : length chunk ≡ length chunk₀
-  outs : length out ≡ length out₀
-
-abbrev invariant-loop : tie.invariant-loop
-invariant-loop buffer₀ chunk₀ out₀ maker turn₀ buffer chunk out turn =
-    SoFar maker (place_in buffer₀ turn₀.state 0) chunk₀ out₀ (place_in buffer turn.state turn.ended) chunk out turn
-
--- each turn that goes on has read a byte
-abbrev decreases-loop : tie.decreases-loop
-decreases-loop buffer₀ chunk₀ out₀ maker turn₀ buffer chunk out turn = most_read - turn.read + cond turn.more 1 0
+use Rattle.shown_lines.proofs.run.Goals as goal
+use Rattle.shown_lines.proofs.run.Goals.{then-loop-turn-test+else-turn-lt-MOST_READ, else-loop-turn-test}
+use Rattle.shown_lines.proofs.run.Invariants.{SoFar}
 
 module _ {maker : Maker} {buffer₀ : List ℕ} {s : State} {chunk₀ out₀ buffer chunk out : List ℕ} {turn : Turn}
     (v : SoFar maker (place_in buffer₀ s 0) chunk₀ out₀ (place_in buffer turn.state turn.ended) chunk out turn) where
@@ -128,24 +108,8 @@ module _ {maker : Maker} {buffer₀ : List ℕ} {s : State} {chunk₀ out₀ buf
       by b a (inl m) = absurd (true≢false (sym a ∙ e.all (some_not_end turn.got b) ∙ v.halts m b))
       by b a (inr m) = m
 
--- ---- the places: the call, and the top of the loop; a turn, from where the loop goes on, and the test before it; and the loop's end
-abbrev called : tie.At-loop invariant-loop decreases-loop → tie.Start invariant-loop decreases-loop
-called a = a.before.before.before.before.before
-
-abbrev tested : tie.After-take-turn invariant-loop decreases-loop → tie.Then1 invariant-loop decreases-loop
-tested t = t.before.before.before.before
-
-abbrev turned : tie.After-slice-known6 invariant-loop decreases-loop → tie.After-take-turn invariant-loop decreases-loop
-turned c = let out = c.before.before.before in out.before.before.before
-
-begun : (a : tie.At-loop invariant-loop decreases-loop) → Keeps (called a).args.buffer.now a.before.no_line.result []
-begun a = a.before.no_line.ensures (called a).args.buffer.now
-
-halted : (l : tie.Left-loop invariant-loop decreases-loop) → (l.before.loop.turn.more ≡ false) ⊎ (most_read ≤ l.before.loop.turn.read)
-halted l = ⊎_elim (λ w. inr (ltb-false l.before.loop.turn.read most_read w.2.left)) (λ w. inl w.left) l.loop-test.branch
-
-loop-holds : tie.Need-loop-init invariant-loop decreases-loop
-loop-holds c =
+pub loop-turn-init : goal.loop-turn-init
+loop-turn-init c =
     record {
       taken = [];
       rest = [];
@@ -159,53 +123,46 @@ loop-holds c =
       outs = refl;
     }
 
-take-turn-requires : tie.Need-take-turn-requires invariant-loop decreases-loop
-take-turn-requires c κs =
-    let test = c.before.before.before in let a = test.before.before.before in
-    (lends_on a.loop.invariant (called a).requires, counted a.loop.invariant (begun a), ltb-true a.loop.turn.read most_read test.if1.true)
+pub take_turn-turn-requires : goal.take_turn-turn-requires
+take_turn-turn-requires c = (
+  lends_on c.loop-turn.invariant c.requires,
+  counted c.loop-turn.invariant (c.no_line-state.ensures c.args.buffer.now),
+  ltb-true c.loop-turn.turn.read most_read c.if-turn-lt-MOST_READ.true-raw,
+)
 
-loop-less : tie.Need-loop-smaller invariant-loop decreases-loop
-loop-less c =
-    let t = turned c in let i = tested t in let a = i.before.before.before in
-    let p = t.take-turn.ensures in let r = t.take-turn.result in
-    fewer_left a.loop.turn.read (brought r.got) r.read a.loop.turn.more r.more i.before.before.loop-test.taken
-    (ltb-true a.loop.turn.read most_read i.if1.taken) p.reads (λ g. some_brought (brought r.got) r.all (sym p.goes ∙ g))
+pub loop-turn-smaller : goal.loop-turn-smaller
+loop-turn-smaller c =
+    let p = c.take_turn-turn.ensures in let r = c.take_turn-turn.result in
+    fewer_left c.loop-turn.turn.read (brought r.got) r.read c.loop-turn.turn.more r.more c.loop-turn-test.true
+    (ltb-true c.loop-turn.turn.read most_read c.if-turn-lt-MOST_READ.true-raw) p.reads
+    (λ g. some_brought (brought r.got) r.all (sym p.goes ∙ g))
 
-loop-again : tie.Need-loop-preserved invariant-loop decreases-loop
-loop-again c =
-    let t = turned c in let i = tested t in let a = i.before.before.before in
-    next a.loop.inv t.take-turn.ensures i.before.before.loop-test.taken
-    (ltb-true a.loop.turn.read most_read i.if1.taken) (called a).pre.most
-    t.take-turn.kept.1.1.0 t.take-turn.kept.1.1.1.0
+pub loop-turn-preserved : goal.loop-turn-preserved
+loop-turn-preserved c =
+    next c.loop-turn.invariant c.take_turn-turn.ensures c.loop-turn-test.true
+    (ltb-true c.loop-turn.turn.read most_read c.if-turn-lt-MOST_READ.true-raw) c.requires.most
+    c.take_turn-turn.auto.chunk c.take_turn-turn.auto.out
 
-end-run-requires : tie.Need-end-run-requires invariant-loop decreases-loop
-end-run-requires c κs =
-    let a = c.before.before.before in let v = a.loop.invariant in let n = counted v (begun a) in let d = lends_on v (called a).requires in
+pub end_run-requires : goal.end_run-requires
+end_run-requires c =
+    let v = c.loop-turn.invariant in let n = counted v (c.no_line-state.ensures c.args.buffer.now) in let d = lends_on v c.requires in
     let l = d.line in let w = n.within in let f = n.few in let e = n.lines in let m = v.most in
     (omega arith, d.block, omega arith, omega arith)
 
--- the end of the run
-abbrev left_at : tie.After-end-run invariant-loop decreases-loop → tie.Left-loop invariant-loop decreases-loop
-left_at e = e.before.before.before
-
-returns : tie.Need-returns invariant-loop decreases-loop
+pub returns : goal.returns
 returns c =
-    let e = c.before.before in let l = left_at e in
-    closed l.before.loop.inv (begun l.before) (halted l) e.end-run.ensures
+    closed c.loop-turn.invariant (c.no_line-state.ensures c.args.buffer.now)
+    (elim c.loop-turn-test.branch [
+      | then-loop-turn-test+else-turn-lt-MOST_READ w ↦ inr (ltb-false c.loop-turn.turn.read most_read w.if-turn-lt-MOST_READ.false-raw)
+      | else-loop-turn-test w ↦ inl w.loop-turn-test.false
+    ])
+    c.end_run.ensures
 
-pub run_spec : {M : Type 1} → statement M
-run_spec =
-    tie.close
-    (tie.spec
-    invariant-loop
-    decreases-loop
-    (λ c κs. search rules)
-    loop-holds
-    take-turn-requires
-    loop-less
-    loop-again
-    end-run-requires
-    (λ c. (left_at c.before.before).before.loop.inv.hands.takes.buffers)
-    (λ c. (left_at c.before.before).before.loop.inv.chunks)
-    (λ c. let e = c.before.before in e.end-run.auto.1.1.0 ∙ (left_at e).before.loop.invariant.outs)
-    returns)
+pub shape_of-buffer : goal.shape_of-buffer
+shape_of-buffer c = c.loop-turn.invariant.hands.takes.buffers
+
+pub shape_of-chunk : goal.shape_of-chunk
+shape_of-chunk c = c.loop-turn.invariant.chunks
+
+pub shape_of-out : goal.shape_of-out
+shape_of-out c = c.end_run.auto.out ∙ c.loop-turn.invariant.outs
