@@ -18,4 +18,5 @@ slice_bounds-write_all-end-2 c =
 
 pub returns : goal.returns
 returns c =
-    let p = c.put_made-written.ensures in record { block = λ begun k. p.holds ∙ kept_made c.args.maker c.args.number k; room = put_within p }
+    let p = c.put_made-written.ensures in
+    record { block = λ begun k. p.holds ∙ kept_made c.args.maker c.args.number k; room = put_within p }
