@@ -4,15 +4,14 @@
 -- checklist"): one table, and one theorem that computes every row. Figures compare by ==. Since document 02, Paper 1,
 -- "the tip case in document 01 changes": at the span stands the tip chord. Since Paper 12 a tensor has six numbers, and
 -- "the joined example is reprinted so"; 17e is still the fifth case.
-use Rattle.std.specs.Prelude.{Bool, true, false, ◌&&◌, cond, List, [], ◌∷◌, ◌++◌, map, ℕ, T, eqb, length, take, Float}
+use Rattle.std.specs.Prelude.{Bool, true, false, ◌&&◌, cond, List, [], ◌∷◌, ◌++◌, map, ℕ, T, eqb, length, take, Float, Ok, Err}
 use Rattle.std.specs.Float.Ieee.{add, sub, mul, div, neg, of_bits, of_int, round, lt, le, eq, ne}
 use Rattle.floats.specs.Operations.{bits, every}
 use Rattle.floats.specs.Floats.{abs_of}
 use Rattle.root.specs.Root.{near_root, root_of}
 use Rattle.trig.specs.Trig.{sin_cos_of, sin_of, cos_of}
 use Rattle.refusals.specs.Refusals.{number_of, values_of}
-use Rattle.refusals.specs.declared.Verdict.{Verdict}
-use Rattle.refusals.specs.declared.Verdict.TheVariants.{Accepted, Refused}
+use Rattle.refusals.specs.Verdict.{Verdict}
 use Rattle.planforms.specs.declared.Planform.{Planform}
 use Rattle.planforms.specs.declared.Planform.TheVariants.{Trapezoid}
 use Rattle.chords.specs.Chords.{ends_at}
@@ -75,13 +74,13 @@ abbrev strip : ℕ → Halved
 strip limit = halving 1 (λ h. bits (cond (lt h (bits 0x3fd5_5555_5555_5555)) 0 one) ∷ []) (bits 0) (bits one) limit
 
 abbrev is_accepted : Verdict → Bool
-is_accepted Accepted = true
-is_accepted (Refused refusal) = false
+is_accepted (Ok tt) = true
+is_accepted (Err refusal) = false
 
 -- 17e: the number 17 with case 4, as cases a to e count from 0
 abbrev is17e : Verdict → Bool
-is17e Accepted = false
-is17e (Refused refusal) = eqb (number_of refusal) 17 && is_case_e (values_of refusal)
+is17e (Ok tt) = false
+is17e (Err refusal) = eqb (number_of refusal) 17 && is_case_e (values_of refusal)
   where
     is_case_e : List ℕ → Bool
     is_case_e [] = false

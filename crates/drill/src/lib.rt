@@ -139,7 +139,7 @@ pub fn drill(planform: Planform, points: &[f64], x_m: f64, height_m: f64) -> Ans
     let v = outlines::check_planform(planform, points);
     let v = first_refusal(v, check_length(limits::DRILL_X, x_m));
     let v = first_refusal(v, check_length(limits::DRILL_HEIGHT, height_m));
-    if let Verdict::Refused(refusal) = v {
+    if let Err(refusal) = v {
         return Answer::Refused(refusal);
     }
     match planform {
@@ -162,10 +162,10 @@ pub fn verdict(answer: Answer) -> Verdict
     ensures { result ≡ verdict_of answer }
 {
     match answer {
-        Answer::Inside(_) => Verdict::Accepted,
-        Answer::Edge(_) => Verdict::Accepted,
-        Answer::Outside(_) => Verdict::Accepted,
-        Answer::Refused(refusal) => Verdict::Refused(refusal),
+        Answer::Inside(_) => Ok(()),
+        Answer::Edge(_) => Ok(()),
+        Answer::Outside(_) => Ok(()),
+        Answer::Refused(refusal) => Err(refusal),
     }
 }
 

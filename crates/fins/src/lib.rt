@@ -280,7 +280,7 @@ fn check_tab(tab: Tab, root_chord_m: f64) -> Verdict
     ensures { result ≡ tab_check tab root_chord_m }
 {
     match tab {
-        Tab::None => Verdict::Accepted,
+        Tab::None => Ok(()),
         Tab::Slab {
             height_m,
             length_m,
@@ -294,7 +294,7 @@ fn check_depth(tab: Tab, body_radius_m: f64) -> Verdict
     ensures { result ≡ depth_check tab body_radius_m }
 {
     match tab {
-        Tab::None => Verdict::Accepted,
+        Tab::None => Ok(()),
         Tab::Slab {
             height_m,
             length_m: _,

@@ -18,7 +18,7 @@ use Rattle.bodies.specs.Vectors.{vector, divide_vector}
 use Rattle.bodies.specs.Tensors.{zero_tensor, add_tensors}
 use Rattle.bodies.specs.Bodies.{inertia_about_of}
 use Rattle.bodies.specs.Layout.{body_numbers}
-use Rattle.refusals.specs.declared.Verdict.{Verdict}
+use Rattle.refusals.specs.Verdict.{Verdict}
 use Rattle.joins.specs.declared.JoinedBody.{JoinedBody}
 use Rattle.joins.specs.Flat.{body_at, listed}
 use Rattle.joins.specs.Joins.{in_order, no_sums, sums_of, add_body, centre_of, inertia_of, join_of, unless_refused, joined_of, combine_of}

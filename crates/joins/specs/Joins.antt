@@ -1,5 +1,5 @@
 -- Bodies joined into one (document 01, "Body"; mass.rs, `combine`).
-use Rattle.std.specs.Prelude.{cond, List, ℕ, zero, suc, ◌/◌, ◌%◌, eqb, length, Float}
+use Rattle.std.specs.Prelude.{cond, List, ℕ, zero, suc, ◌/◌, ◌%◌, eqb, length, Float, Ok, Err}
 use Rattle.std.specs.Float.{nan}
 use Rattle.std.specs.Float.Ieee.{lt, ne}
 use Rattle.floats.specs.Operations.{◌⊕◌, bits}
@@ -13,8 +13,7 @@ use Rattle.bodies.specs.Bodies.{empty_body, inertia_about_of}
 use Rattle.bodies.specs.Layout.{body_numbers}
 use Rattle.refusals.specs.declared.Refusal.{Refusal}
 use Rattle.refusals.specs.declared.Refusal.TheVariants.{Count}
-use Rattle.refusals.specs.declared.Verdict.{Verdict}
-use Rattle.refusals.specs.declared.Verdict.TheVariants.{Accepted, Refused}
+use Rattle.refusals.specs.Verdict.{Verdict}
 use Rattle.refusals.specs.Given.{IsAnswer}
 use Rattle.limits.specs.Limits.{count_check}
 use Rattle.joins.specs.Flat.{body_at}
@@ -63,19 +62,19 @@ two_bodies first second zero = first
 two_bodies first second (suc k) = second
 
 abbrev pub accepted_body : Body → JoinedBody
-accepted_body body = record { verdict = Accepted; body = body }
+accepted_body body = record { verdict = (Ok tt); body = body }
 
 -- "Figures zero" with a refusal
 abbrev pub refused_body : Refusal → JoinedBody
-refused_body refusal = record { verdict = Refused refusal; body = empty_body }
+refused_body refusal = record { verdict = Err refusal; body = empty_body }
 
 -- a call's answer is the definition's, with the number and values of its verdict
 abbrev pub IsJoined : JoinedBody → JoinedBody → Type 0
 IsJoined r definition = IsAnswer (λ (j : JoinedBody). j.verdict) r definition
 
 abbrev pub unless_refused : Verdict → Body → JoinedBody
-unless_refused Accepted body = accepted_body body
-unless_refused (Refused refusal) body = refused_body refusal
+unless_refused (Ok tt) body = accepted_body body
+unless_refused (Err refusal) body = refused_body refusal
 
 -- the first n bodies of f, joined, or 3: "count of .. bodies joined, not 1 to 32"
 abbrev pub joined_of : (ℕ → Body) → ℕ → JoinedBody

@@ -35,14 +35,14 @@ pub struct Sums {
 pub fn accepted(body: Body) -> JoinedBody
     ensures { result ≡ accepted_body body }
 {
-    let verdict = Verdict::Accepted;
+    let verdict = Ok(());
     JoinedBody { verdict, body }
 }
 
 pub fn refused(refusal: Refusal) -> JoinedBody
     ensures { result ≡ refused_body refusal }
 {
-    let verdict = Verdict::Refused(refusal);
+    let verdict = Err(refusal);
     let body = Body::ZERO;
     JoinedBody { verdict, body }
 }
@@ -57,8 +57,8 @@ pub fn combine(numbers: &[f64]) -> JoinedBody
     let count = numbers.len() / BODY_NUMBERS;
     let verdict = limits::check_count(count);
     match verdict {
-        Verdict::Accepted => accepted(join_numbers(numbers, count)),
-        Verdict::Refused(refusal) => refused(refusal),
+        Ok(()) => accepted(join_numbers(numbers, count)),
+        Err(refusal) => refused(refusal),
     }
 }
 

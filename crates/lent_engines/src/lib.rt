@@ -159,7 +159,7 @@ pub fn turn_row(numbers: &[f64], counts: &[usize], turn: Turn) -> Row
 {
     match turn {
         Turn::Short => {
-            let figures = figures::bare_figures(Verdict::Refused(Refusal::Scratch), 0);
+            let figures = figures::bare_figures(Err(Refusal::Scratch), 0);
             jobs::figures_row(figures)
         }
         Turn::Idle => jobs::plain_row(IDLE),

@@ -286,7 +286,7 @@ pub fn step_row(numbers: &[f64], counts: &[usize], progress: Progress) -> Row
     match progress {
         Progress::Short => {
             let figures = figures::bare_figures(
-                Verdict::Refused(Refusal::Scratch),
+                Err(Refusal::Scratch),
                 counts[SAMPLES],
             );
             jobs::figures_row(figures)

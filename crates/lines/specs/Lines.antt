@@ -1,11 +1,10 @@
 -- The answer to a line, and what it leaves in the lent scratch and in the engine of eight screens (docs/FORMS.md;
 -- document 01, "The card program" and "Refusal numbers").
-use Rattle.std.specs.Prelude.{List, [], ◌∷◌, ◌≡◌, ℕ, ◌+◌, ◌<◌, length, take, drop, get_or, Float}
+use Rattle.std.specs.Prelude.{List, [], ◌∷◌, ◌≡◌, ℕ, ◌+◌, ◌<◌, length, take, drop, get_or, Float, Ok, Err}
 use Rattle.floats.specs.Operations.{at}
 use Rattle.refusals.specs.declared.Refusal.{Refusal}
 use Rattle.refusals.specs.declared.Refusal.TheVariants.{Scratch as short}
-use Rattle.refusals.specs.declared.Verdict.{Verdict}
-use Rattle.refusals.specs.declared.Verdict.TheVariants.{Accepted, Refused}
+use Rattle.refusals.specs.Verdict.{Verdict}
 use Rattle.refusals.specs.Refusals.{number_of, values_of, in_two_places}
 use Rattle.refusals.specs.Calls.{CallOf}
 use Rattle.planforms.specs.declared.Planform.{Planform}
@@ -75,8 +74,8 @@ refused_reply refusal =
 
 -- an answer, or the refusal where the verdict is one
 abbrev pub unless_refused : Verdict → Reply → Reply
-unless_refused Accepted answer = answer
-unless_refused (Refused refusal) answer = refused_reply refusal
+unless_refused (Ok tt) answer = answer
+unless_refused (Err refusal) answer = refused_reply refusal
 
 -- an answer of words alone: "the body check passed"; a submission or a change of density is taken
 abbrev pub plain_reply : Verdict → Shape → Reply
@@ -114,8 +113,8 @@ drill_reply (refused_point refusal) = refused_reply refusal
 
 -- the answer of a turn with which a screen's job has ended: the job's figures, or the number that refused it
 abbrev pub done_reply : ℕ → Verdict → Figures → Reply
-done_reply screen Accepted f = reply DoneShape (numbers_of f.body) (screen ∷ f.intervals ∷ f.samples ∷ [])
-done_reply screen (Refused refusal) f = reply DoneRefusedShape [] (screen ∷ number_of refusal ∷ [])
+done_reply screen (Ok tt) f = reply DoneShape (numbers_of f.body) (screen ∷ f.intervals ∷ f.samples ∷ [])
+done_reply screen (Err refusal) f = reply DoneRefusedShape [] (screen ∷ number_of refusal ∷ [])
 
 -- the answer of a turn: "A turn lent under 1,024 numbers answers 2"; "with no jobs a turn does nothing and says so";
 -- "otherwise it answers the screen served and the step's answer" (document 02, Paper 10)

@@ -66,12 +66,12 @@ fn unless_refused(verdict: Verdict, shape: Shape, figures: [f64; 10], counts: [u
     ensures { result ≡ unless_refused verdict (record { shape = shape; figures = figures; counts = counts }) }
 {
     match verdict {
-        Verdict::Accepted => Reply {
+        Ok(()) => Reply {
             shape,
             figures,
             counts,
         },
-        Verdict::Refused(refusal) => refused_reply(refusal),
+        Err(refusal) => refused_reply(refusal),
     }
 }
 
@@ -206,7 +206,7 @@ fn done_reply(screen: usize, f: Figures) -> Reply
     let verdict = f.verdict;
     let body = f.body;
     match verdict {
-        Verdict::Accepted => {
+        Ok(()) => {
             let shape = Shape::Done;
             let figures = body.numbers();
             Reply {
@@ -215,7 +215,7 @@ fn done_reply(screen: usize, f: Figures) -> Reply
                 counts: [screen as u64, f.intervals as u64, f.samples as u64, 0],
             }
         }
-        Verdict::Refused(refusal) => {
+        Err(refusal) => {
             let shape = Shape::DoneRefused;
             let figures = [0.0; 10];
             let number = refusals::number(refusal) as u64;
@@ -240,7 +240,7 @@ fn turn_reply(scratch: &mut [f64], numbers: &mut [f64], counts: &mut [usize]) ->
     let f = row.figures;
     match turn {
         Turn::Short => refused_reply(Refusal::Scratch),
-        Turn::Idle => plain_reply(Verdict::Accepted, Shape::Idle),
+        Turn::Idle => plain_reply(Ok(()), Shape::Idle),
         Turn::More(screen) => count_reply(Shape::More, screen),
         Turn::Ended(screen) => done_reply(screen, f),
     }

@@ -1,5 +1,5 @@
 -- Principal moments (document 01, "Body"; mass.rs, `symmetric_eigenvalues`).
-use Rattle.std.specs.Prelude.{Bool, not, cond, ◌&&◌, List, [], ◌∷◌, ℕ, zero, suc, ◌+◌, ◌*◌, set, Float}
+use Rattle.std.specs.Prelude.{Bool, not, cond, ◌&&◌, List, [], ◌∷◌, ℕ, zero, suc, ◌+◌, ◌*◌, set, Float, Ok, Err}
 use Rattle.std.specs.Float.Ieee.{lt, le, eq}
 use Rattle.floats.specs.Operations.{◌⊕◌, ◌⊖◌, ◌⊗◌, ◌⊘◌, bits, every}
 use Rattle.floats.specs.Constants.{one, two}
@@ -10,7 +10,6 @@ use Rattle.bodies.specs.declared.Tensor.{Tensor}
 use Rattle.bodies.specs.Matrices.{place_at, entry}
 use Rattle.bodies.specs.Tensors.{number_at, as_matrix}
 use Rattle.bodies.specs.Layout.{tensor_numbers}
-use Rattle.refusals.specs.declared.Verdict.TheVariants.{Accepted, Refused}
 use Rattle.refusals.specs.declared.Refusal.TheVariants.{Tensor as TensorRefused}
 use Rattle.refusals.specs.declared.TensorFault.TheVariants.{Entry}
 use Rattle.refusals.specs.Given.{IsAnswer}
@@ -101,7 +100,7 @@ eigenvalues_of t = let a = sweeps 32 (as_matrix t) in ascending (entry a 0 0 ∷
 
 -- the answer to an entry that does not fit: "17a first"
 abbrev pub refused_entry : Moments
-refused_entry = record { verdict = Refused (TensorRefused Entry); moments_kg_m2 = bits 0 ∷ bits 0 ∷ bits 0 ∷ [] }
+refused_entry = record { verdict = Err (TensorRefused Entry); moments_kg_m2 = bits 0 ∷ bits 0 ∷ bits 0 ∷ [] }
 
 -- a call's answer is the definition's, with the number and values of its verdict
 abbrev pub IsMoments : Moments → Moments → Type 0
@@ -109,4 +108,4 @@ IsMoments r definition = IsAnswer (λ (m : Moments). m.verdict) r definition
 
 abbrev pub principal_moments_of : Tensor → Moments
 principal_moments_of t =
-    cond (entries_fit t) (record { verdict = Accepted; moments_kg_m2 = eigenvalues_of t }) refused_entry
+    cond (entries_fit t) (record { verdict = (Ok tt); moments_kg_m2 = eigenvalues_of t }) refused_entry

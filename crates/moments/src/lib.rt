@@ -38,14 +38,14 @@ pub fn principal_moments(tensor: Tensor) -> Moments
     ensures { IsMoments result (principal_moments_of tensor) }
 {
     if entries_fit(tensor) {
-        let verdict = Verdict::Accepted;
+        let verdict = Ok(());
         let moments_kg_m2 = eigenvalues(tensor);
         return Moments {
             verdict,
             moments_kg_m2,
         };
     }
-    let verdict = Verdict::Refused(Refusal::Tensor(TensorFault::Entry));
+    let verdict = Err(Refusal::Tensor(TensorFault::Entry));
     let moments_kg_m2 = [0.0, 0.0, 0.0];
     Moments {
         verdict,

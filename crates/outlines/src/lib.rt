@@ -47,7 +47,7 @@ fn check_pair(points: &[f64], i: usize, j: usize) -> Verdict
 {
     let n = points.len() / 2;
     if (j == i + 1) | ((i == 0) & (j + 1 == n)) {
-        return Verdict::Accepted;
+        return Ok(());
     }
     let touch = segments::segments_touch(edge_at(points, i), edge_at(points, j));
     refusals::refuse_when(touch, Refusal::Touches(i, j))
@@ -76,14 +76,14 @@ fn check_edge(points: &[f64], i: usize) -> Verdict
     let n = points.len() / 2;
     let mut j = i + 2;
     if n <= j {
-        return Verdict::Accepted;
+        return Ok(());
     }
     let edge = edge_at(points, i);
     let mut from = segments::place_beside(edge, point_at(points, j));
     while j + 1 < n {
         let to = segments::place_beside(edge, point_at(points, j + 1));
         if edge_touches(points, j, edge, from, to) {
-            return Verdict::Refused(Refusal::Touches(i, j));
+            return Err(Refusal::Touches(i, j));
         }
         from = to;
         j += 1;
@@ -98,12 +98,12 @@ fn check_edges(points: &[f64]) -> Verdict
     let n = points.len() / 2;
     let mut i: usize = 0;
     while i < n {
-        if let Verdict::Refused(refusal) = check_edge(points, i) {
-            return Verdict::Refused(refusal);
+        if let Err(refusal) = check_edge(points, i) {
+            return Err(refusal);
         }
         i += 1;
     }
-    Verdict::Accepted
+    Ok(())
 }
 
 // Checks that x, then y, of point i is within its limits, else refuses with 4.
@@ -122,12 +122,12 @@ fn check_points(points: &[f64]) -> Verdict
     let n = points.len() / 2;
     let mut i: usize = 0;
     while i < n {
-        if let Verdict::Refused(refusal) = check_point(points, i) {
-            return Verdict::Refused(refusal);
+        if let Err(refusal) = check_point(points, i) {
+            return Err(refusal);
         }
         i += 1;
     }
-    Verdict::Accepted
+    Ok(())
 }
 
 // Checks that the outline starts at (0, 0) and ends at (c, 0) with c > 0, else refuses with 6.
@@ -177,7 +177,7 @@ fn check_outline(points: &[f64]) -> Verdict
 {
     let n = points.len() / 2;
     if !((points.len() % 2 == 0) & (3 <= n) & (n <= limits::MOST_POINTS)) {
-        return Verdict::Refused(Refusal::Points);
+        return Err(Refusal::Points);
     }
     let v = check_points(points);
     let v = first_refusal(v, check_ends(points));

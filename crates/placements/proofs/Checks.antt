@@ -3,7 +3,7 @@ use mathlib.Core.Bool.{Bool, true, false}
 use mathlib.Core.List.{List, [], ◌∷◌}
 use mathlib.Core.Path.{◌≡◌, sym, ap₂, ◌∙◌}
 use lib.Ieee.{Float}
-use Rattle.refusals.specs.declared.Verdict.{Verdict}
+use Rattle.refusals.specs.Verdict.{Verdict}
 use Rattle.refusals.specs.Order.{is_refused, first_refusal}
 use Rattle.refusals.proofs.Order.{in_order, passed, refused_here}
 use Rattle.bodies.specs.declared.Body.{Body}

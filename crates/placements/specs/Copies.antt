@@ -2,7 +2,7 @@
 use Rattle.std.specs.Prelude.{Bool, true, false, cond, ◌&&◌, List, [], ◌∷◌, ℕ, eqb, Float}
 use Rattle.std.specs.Float.Ieee.{eq}
 use Rattle.floats.specs.Operations.{bits}
-use Rattle.refusals.specs.declared.Verdict.{Verdict}
+use Rattle.refusals.specs.Verdict.{Verdict}
 use Rattle.refusals.specs.Order.{first_of}
 use Rattle.bodies.specs.declared.Body.{Body}
 use Rattle.bodies.specs.Vectors.{vector}

@@ -3,7 +3,7 @@ use Rattle.std.specs.Prelude.{List, [], ◌∷◌}
 use Rattle.std.specs.Float.Ieee.{le, eq}
 use Rattle.floats.specs.Operations.{◌⊖◌, ◌⊘◌, bits}
 use Rattle.refusals.specs.declared.Refusal.TheVariants.{NotHeavier}
-use Rattle.refusals.specs.declared.Verdict.{Verdict}
+use Rattle.refusals.specs.Verdict.{Verdict}
 use Rattle.refusals.specs.Order.{refuse_when, first_of}
 use Rattle.limits.specs.Limits.{offset_field, length_check}
 use Rattle.bodies.specs.declared.Body.{Body}

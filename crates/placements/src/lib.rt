@@ -139,7 +139,7 @@ fn check_list(places: &[f64], rolled: bool) -> Verdict
     ensures { result ≡ list_check rolled places.now }
 {
     if !is_whole_list(places, rolled) {
-        return Verdict::Refused(Refusal::Count);
+        return Err(Refusal::Count);
     }
     limits::check_count(count_places(places, rolled))
 }
@@ -151,12 +151,12 @@ fn check_places(places: &[f64], rolled: bool) -> Verdict
     let mut k: usize = 0;
     while k < n {
         let place = place_at(places, rolled, k);
-        if let Verdict::Refused(refusal) = place.check() {
-            return Verdict::Refused(refusal);
+        if let Err(refusal) = place.check() {
+            return Err(refusal);
         }
         k += 1;
     }
-    Verdict::Accepted
+    Ok(())
 }
 
 // Checks the body, the list's length and then its places. No place is looked at before the length has passed.
@@ -213,8 +213,8 @@ fn copies(body: Body, places: &[f64], rolled: bool) -> JoinedBody
 {
     let verdict = check_copies(body, places, rolled);
     match verdict {
-        Verdict::Accepted => placed_copies(body, places, rolled),
-        Verdict::Refused(refusal) => joins::refused(refusal),
+        Ok(()) => placed_copies(body, places, rolled),
+        Err(refusal) => joins::refused(refusal),
     }
 }
 
@@ -275,8 +275,8 @@ pub fn with_part_moved(whole: Body, part: Body, offset_m: Vector) -> JoinedBody
 {
     let verdict = check_moved(whole, part, offset_m);
     match verdict {
-        Verdict::Accepted => joins::accepted(part_moved(whole, part, offset_m)),
-        Verdict::Refused(refusal) => joins::refused(refusal),
+        Ok(()) => joins::accepted(part_moved(whole, part, offset_m)),
+        Err(refusal) => joins::refused(refusal),
     }
 }
 
@@ -310,7 +310,7 @@ pub fn without_part(whole: Body, part: Body) -> JoinedBody
 {
     let verdict = check_without(whole, part);
     match verdict {
-        Verdict::Accepted => joins::accepted(part_off(whole, part)),
-        Verdict::Refused(refusal) => joins::refused(refusal),
+        Ok(()) => joins::accepted(part_off(whole, part)),
+        Err(refusal) => joins::refused(refusal),
     }
 }

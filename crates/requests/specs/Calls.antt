@@ -1,10 +1,9 @@
 -- The calls on what is given by numbers (docs/FORMS.md; include/delvouzh.h): an unknown number, or another count of
 -- numbers, is no form.
-use Rattle.std.specs.Prelude.{cond, List, [], ◌∷◌, ℕ, ◌+◌, ◌*◌, ◌/◌, eqb, length, Float}
+use Rattle.std.specs.Prelude.{cond, List, [], ◌∷◌, ℕ, ◌+◌, ◌*◌, ◌/◌, eqb, length, Float, Err}
 use Rattle.floats.specs.Operations.{bits, at}
 use Rattle.refusals.specs.declared.Refusal.TheVariants.{NoForm}
-use Rattle.refusals.specs.declared.Verdict.{Verdict}
-use Rattle.refusals.specs.declared.Verdict.TheVariants.{Refused}
+use Rattle.refusals.specs.Verdict.{Verdict}
 use Rattle.refusals.specs.Calls.{CallOf, leaves_alone}
 use Rattle.planforms.specs.declared.NumberedPlanform.{NumberedPlanform}
 use Rattle.planforms.specs.declared.NumberedPlanform.TheVariants.{Known as planform_known, Unknown as no_planform}
@@ -51,7 +50,7 @@ numbered_area no_planform points L scratch_length = leaves_alone (refused_area N
 
 unfoldable pub numbered_chords : NumberedPlanform → List Float → Float → CallOf ChordList
 numbered_chords (planform_known planform) points h = chords_call planform points h
-numbered_chords no_planform points h = leaves_alone (record { verdict = Refused NoForm; count = 0 })
+numbered_chords no_planform points h = leaves_alone (record { verdict = Err NoForm; count = 0 })
 
 -- ---- where a point lies beside a planform (document 02, Paper 11)
 
@@ -98,7 +97,7 @@ joined_points_of figures = joined_of (point_body_at figures) (length figures / 4
 -- ---- principal moments: of a tensor's numbers
 
 abbrev pub no_moments : Moments
-no_moments = record { verdict = Refused NoForm; moments_kg_m2 = bits 0 ∷ bits 0 ∷ bits 0 ∷ [] }
+no_moments = record { verdict = Err NoForm; moments_kg_m2 = bits 0 ∷ bits 0 ∷ bits 0 ∷ [] }
 
 unfoldable pub tensor_moments : List Float → Moments
 tensor_moments numbers =
@@ -107,7 +106,7 @@ tensor_moments numbers =
 -- ---- the body check: of a body's numbers
 
 unfoldable pub body_verdict : List Float → Verdict
-body_verdict numbers = cond (eqb (length numbers) body_numbers) (check_of (body_of (at numbers))) (Refused NoForm)
+body_verdict numbers = cond (eqb (length numbers) body_numbers) (check_of (body_of (at numbers))) (Err NoForm)
 
 -- ---- copies of a body, and a part moved or taken off (document 02, Paper 13): of bodies' numbers
 

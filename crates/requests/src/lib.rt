@@ -32,7 +32,7 @@ const POINTS_NUMBERS: usize = 32 * BODY_NUMBERS;
 fn no_figures() -> Figures
     ensures { result ≡ refused_figures Refusal.NoForm 0 }
 {
-    let verdict = Verdict::Refused(Refusal::NoForm);
+    let verdict = Err(Refusal::NoForm);
     let body = Body::ZERO;
     Figures {
         verdict,
@@ -56,7 +56,7 @@ pub fn set_figures(set: NumberedSet, points: &[f64], limit: usize, scratch: &mut
 fn no_area() -> Area
     ensures { result ≡ refused_area Refusal.NoForm 0 }
 {
-    let verdict = Verdict::Refused(Refusal::NoForm);
+    let verdict = Err(Refusal::NoForm);
     Area {
         verdict,
         area_m2: 0.0,
@@ -86,7 +86,7 @@ pub fn area_figures(
 fn no_chords() -> ChordList
     ensures { result ≡ record { verdict = Verdict.Refused Refusal.NoForm; count = 0 } }
 {
-    let verdict = Verdict::Refused(Refusal::NoForm);
+    let verdict = Err(Refusal::NoForm);
     ChordList { verdict, count: 0 }
 }
 
@@ -147,7 +147,7 @@ pub fn tensor_moments(numbers: &[f64]) -> Moments
     ensures { result ≡ tensor_moments numbers.now }
 {
     if numbers.len() != TENSOR_NUMBERS {
-        let verdict = Verdict::Refused(Refusal::NoForm);
+        let verdict = Err(Refusal::NoForm);
         let moments_kg_m2 = [0.0, 0.0, 0.0];
         return Moments {
             verdict,
@@ -162,7 +162,7 @@ pub fn body_verdict(numbers: &[f64]) -> Verdict
     ensures { result ≡ body_verdict numbers.now }
 {
     if numbers.len() != BODY_NUMBERS {
-        return Verdict::Refused(Refusal::NoForm);
+        return Err(Refusal::NoForm);
     }
     body_check::check(bodies::body_of(numbers))
 }
@@ -261,7 +261,7 @@ pub fn join_points(values: &[f64]) -> JoinedBody
 {
     let count = values.len() / 4;
     if 32 < count {
-        let verdict = Verdict::Refused(Refusal::Count);
+        let verdict = Err(Refusal::Count);
         let body = Body::ZERO;
         return JoinedBody { verdict, body };
     }

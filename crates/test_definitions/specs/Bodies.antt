@@ -170,5 +170,5 @@ pub bodies_hold :
     && each_of_a_list
     && joins_counted
     && ten_numbers)
-unfolding of_bits to_bits of_int round add sub mul div neg lt le eq ne is_nan m_of sin_cos_of first_refusal first_from turn_tensor inertia_about_of rotated_of in_order sums_of inertia_of join_of
+unfolding of_bits to_bits of_int round add sub mul div neg lt le eq ne is_nan m_of sin_cos_of first_from turn_tensor inertia_about_of rotated_of in_order sums_of inertia_of join_of
 bodies_hold = tt

@@ -71,5 +71,5 @@ axis_beside_the_body =
     && is (tube_at (tube_of one d01) (bits one)).centre_m.z (minus 0x3fe0_0000_0000_0000)
 
 pub tubes_hold : T (tube_order && wall_of_zero && closing_order && closing_radii && axis_beside_the_body)
-unfolding of_bits to_bits of_int round add sub mul div neg lt le eq ne is_nan abs_of m_of sin_cos_of first_refusal first_from length_within length_check angle_check density_check tube_check closing_value closing_of tube_at
+unfolding of_bits to_bits of_int round add sub mul div neg lt le eq ne is_nan abs_of m_of sin_cos_of first_from length_within length_check angle_check density_check tube_check closing_value closing_of tube_at
 tubes_hold = tt

@@ -67,8 +67,8 @@ fn case_place(refusal: Refusal) -> usize {
 // Tells whether a verdict has this number, 0 for none, and this place of its case.
 fn verdict_is(verdict: Verdict, number: usize, place: usize) -> bool {
     match verdict {
-        Verdict::Accepted => number == 0,
-        Verdict::Refused(refusal) => {
+        Ok(()) => number == 0,
+        Err(refusal) => {
             (refusals::number(refusal) == number) & (case_place(refusal) == place)
         }
     }

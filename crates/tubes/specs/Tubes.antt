@@ -8,7 +8,7 @@ use Rattle.bodies.specs.Vectors.{vector}
 use Rattle.bodies.specs.Tensors.{diagonal}
 use Rattle.bodies.specs.Bodies.{translated_of}
 use Rattle.refusals.specs.declared.Refusal.TheVariants.{Length, WallOverRadius}
-use Rattle.refusals.specs.declared.Verdict.{Verdict}
+use Rattle.refusals.specs.Verdict.{Verdict}
 use Rattle.refusals.specs.Order.{refuse_unless, refuse_when, first_of}
 use Rattle.limits.specs.Limits.{thickness_field, body_radius_field, base_angle_field, tube_length_field, outer_radius_field}
 use Rattle.limits.specs.Limits.{length_within, length_check, angle_check, count_check}

@@ -120,11 +120,11 @@ pub fn mass_properties(set: TubeFinSet, body_radius_m: f64) -> JoinedBody
 {
     let verdict = check_tubes(set, body_radius_m);
     match verdict {
-        Verdict::Accepted => {
+        Ok(()) => {
             let one = tube_at(set, body_radius_m);
             joins::accepted(rings::ring(one, set.base_angle_rad, set.count))
         }
-        Verdict::Refused(refusal) => joins::refused(refusal),
+        Err(refusal) => joins::refused(refusal),
     }
 }
 
@@ -149,22 +149,22 @@ pub fn closing_radius_m(body_radius_m: f64, count: usize) -> ClosingRadius
     let v = limits::check_count(count);
     let verdict = first_refusal(v, limits::check_length(limits::BODY_RADIUS, body_radius_m));
     match verdict {
-        Verdict::Accepted => closed(closing_value(body_radius_m, count)),
-        Verdict::Refused(refusal) => refused(refusal),
+        Ok(()) => closed(closing_value(body_radius_m, count)),
+        Err(refusal) => refused(refusal),
     }
 }
 
 fn closed(radius_m: f64) -> ClosingRadius
     ensures { result ≡ closed_at radius_m }
 {
-    let verdict = Verdict::Accepted;
+    let verdict = Ok(());
     ClosingRadius { verdict, radius_m }
 }
 
 fn refused(refusal: Refusal) -> ClosingRadius
     ensures { result ≡ refused_radius refusal }
 {
-    let verdict = Verdict::Refused(refusal);
+    let verdict = Err(refusal);
     ClosingRadius {
         verdict,
         radius_m: 0.0,

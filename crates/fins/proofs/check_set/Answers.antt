@@ -1,7 +1,7 @@
 -- `fins::check_set` meets its contract: refused by 1 or 2, or by the set's own checks. Assumes nothing.
+use Rattle.std.specs.Prelude.{Ok, Err}
 use mathlib.Core.Path.{◌≡◌, refl, sym, ap₂, ◌∙◌}
-use Rattle.refusals.specs.declared.Verdict.{Verdict}
-use Rattle.refusals.specs.declared.Verdict.TheVariants.{Accepted, Refused}
+use Rattle.refusals.specs.Verdict.{Verdict}
 use Rattle.refusals.specs.Order.{first_refusal}
 use Rattle.refusals.proofs.Given.{is_answer}
 use Rattle.refusals.proofs.Order.{passed, refused_here}
@@ -11,9 +11,8 @@ use Rattle.fins.proofs.check_set.Goals as goal
 -- two checks in one, then the later ones
 in_a_row : (limit scratch later : Verdict)
     → first_refusal (first_refusal limit scratch) later ≡ first_refusal limit (first_refusal scratch later)
-unfolding first_refusal
-in_a_row Accepted scratch later = refl
-in_a_row (Refused refusal) scratch later = refl
+in_a_row (Ok tt) scratch later = refl
+in_a_row (Err refusal) scratch later = refl
 
 pub returns-then-is_refused : goal.returns-then-is_refused
 unfolding set_check own_check

@@ -3,7 +3,7 @@ use mathlib.Core.List.{List}
 use mathlib.Core.Path.{◌≡◌, ap, ap₂, ◌∙◌}
 use lib.ListN.{take, drop}
 use lib.Ieee.{Float}
-use Rattle.refusals.specs.declared.Verdict.{Verdict}
+use Rattle.refusals.specs.Verdict.{Verdict}
 use Rattle.bodies.specs.Layout.{body_numbers}
 use Rattle.joins.specs.declared.JoinedBody.{JoinedBody}
 use Rattle.requests.specs.Calls.{copied_by, placed_by, moved_by, without_by}
