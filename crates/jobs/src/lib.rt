@@ -280,8 +280,8 @@ pub fn step_in_room(job: Job, scratch: &mut [f64]) -> Job
 pub fn is_short(ended: bool, limit: usize, scratch_len: usize) -> bool
     ensures { result ≡ is_short ended limit scratch_len }
 {
-    let no_limit = refusals::is_refused(limits::check_limit(limit));
-    let few = refusals::is_refused(limits::check_scratch(limit, scratch_len));
+    let no_limit = limits::check_limit(limit).is_err();
+    let few = limits::check_scratch(limit, scratch_len).is_err();
     !ended & (!no_limit & few)
 }
 
@@ -386,8 +386,8 @@ pub fn change_by_value(job: Job, density: Density) -> JobReply
 fn check_making(set: FinSet, points: &[f64], limit: usize) -> Verdict
     ensures { result ≡ making_check set points.now limit }
 {
-    let v = limits::check_limit(limit);
-    first_refusal(v, fins::check_own(set, points))
+    limits::check_limit(limit)?;
+    fins::check_own(set, points)
 }
 
 // Makes a job: the answer is taken or the first refusal, with which the record has ended.
@@ -395,7 +395,7 @@ pub fn make(set: FinSet, points: &[f64], limit: usize) -> JobReply
     ensures { IsReplied result (made_of set points.now limit) }
 {
     let verdict = check_making(set, points, limit);
-    let ended = refusals::is_refused(verdict);
+    let ended = verdict.is_err();
     let outcome = bare_figures(verdict, 0);
     let points = copied(points);
     let totals = Totals {

@@ -192,7 +192,7 @@ pub fn submit(
     let s = engines::submit_at(screens, job, screen, made);
     let reply = s.reply;
     let verdict = reply.verdict;
-    if refusals::is_refused(verdict) {
+    if verdict.is_err() {
         return reply;
     }
     let screens = s.screens;
@@ -218,7 +218,7 @@ pub fn change_density(
     let s = engines::change_at(screens, job, screen, density);
     let reply = s.reply;
     let verdict = reply.verdict;
-    if refusals::is_refused(verdict) {
+    if verdict.is_err() {
         return reply;
     }
     let screens = s.screens;

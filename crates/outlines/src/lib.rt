@@ -12,11 +12,11 @@ ghost use Rattle.segments.specs.Segments.{segments_touch};
 ghost use Rattle.segments.specs.Places.{place_of};
 ghost use Rattle.outlines.specs.Outlines.{point_check, points_check, ends_check, point_at, edge_at, pair_check};
 ghost use Rattle.outlines.specs.Outlines.{edge_check, edges_check, edge_term, twice_area, twice_area_check};
-ghost use Rattle.outlines.specs.Outlines.{outline_check, trapezoid_check, planform_check};
+ghost use Rattle.outlines.specs.Outlines.{outline_check, trapezoid_check, ellipse_check, planform_check};
 
 use limits::check_length;
 use planforms::Planform;
-use refusals::{Refusal, Verdict, first_refusal};
+use refusals::{Refusal, Verdict};
 use segments::{Place, Point, Segment};
 
 fn point_at(points: &[f64], i: usize) -> Point
@@ -111,8 +111,8 @@ fn check_point(points: &[f64], i: usize) -> Verdict
     requires { i < pair_count points.now }
     ensures { result ≡ point_check points.now i }
 {
-    let v = check_length(limits::POINT_X, points[2 * i]);
-    first_refusal(v, check_length(limits::POINT_Y, points[2 * i + 1]))
+    check_length(limits::POINT_X, points[2 * i])?;
+    check_length(limits::POINT_Y, points[2 * i + 1])
 }
 
 // Checks that every point is within its limits, else refuses with 4.
@@ -172,6 +172,7 @@ fn check_twice_area(points: &[f64]) -> Verdict
 
 // Checks an outline and returns its first refusal, whatever slice is lent. Only with 3 to `MOST_POINTS` whole points is
 // anything else looked at.
+#[tactic(auto, unfolding(crate::specs::Outlines::outline_check))]
 fn check_outline(points: &[f64]) -> Verdict
     ensures { result ≡ outline_check points.now }
 {
@@ -179,19 +180,26 @@ fn check_outline(points: &[f64]) -> Verdict
     if !((points.len() % 2 == 0) & (3 <= n) & (n <= limits::MOST_POINTS)) {
         return Err(Refusal::Points);
     }
-    let v = check_points(points);
-    let v = first_refusal(v, check_ends(points));
-    let v = first_refusal(v, check_edges(points));
-    first_refusal(v, check_twice_area(points))
+    check_points(points)?;
+    check_ends(points)?;
+    check_edges(points)?;
+    check_twice_area(points)
 }
 
 fn check_trapezoid(root_chord_m: f64, tip_chord_m: f64, span_m: f64, sweep_m: f64) -> Verdict
     ensures { result ≡ trapezoid_check root_chord_m tip_chord_m span_m sweep_m }
 {
-    let v = check_length(limits::ROOT_CHORD, root_chord_m);
-    let v = first_refusal(v, check_length(limits::TIP_CHORD, tip_chord_m));
-    let v = first_refusal(v, check_length(limits::SPAN, span_m));
-    first_refusal(v, check_length(limits::SWEEP, sweep_m))
+    check_length(limits::ROOT_CHORD, root_chord_m)?;
+    check_length(limits::TIP_CHORD, tip_chord_m)?;
+    check_length(limits::SPAN, span_m)?;
+    check_length(limits::SWEEP, sweep_m)
+}
+
+fn check_ellipse(root_chord_m: f64, span_m: f64) -> Verdict
+    ensures { result ≡ ellipse_check root_chord_m span_m }
+{
+    check_length(limits::ROOT_CHORD, root_chord_m)?;
+    check_length(limits::SPAN, span_m)
 }
 
 // Checks a planform and returns its first refusal: of its lengths in the order listed, or of the outline's own checks.
@@ -208,10 +216,7 @@ pub fn check_planform(planform: Planform, points: &[f64]) -> Verdict
         Planform::Ellipse {
             root_chord_m,
             span_m,
-        } => {
-            let v = check_length(limits::ROOT_CHORD, root_chord_m);
-            first_refusal(v, check_length(limits::SPAN, span_m))
-        }
+        } => check_ellipse(root_chord_m, span_m),
         Planform::Outline => check_outline(points),
     }
 }

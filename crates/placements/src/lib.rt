@@ -22,7 +22,7 @@ ghost use Rattle.refusals.specs.Order.{first_of};
 use bodies::{BODY_NUMBERS, Body, Vector, offset_tensor};
 use joins::JoinedBody;
 use limits::check_length;
-use refusals::{Refusal, Verdict, first_refusal};
+use refusals::{Refusal, Verdict};
 
 // How many numbers hold a copy for each place that a list may have.
 const COPIES_NUMBERS: usize = 32 * BODY_NUMBERS;
@@ -56,9 +56,9 @@ impl Placement {
     fn check(self) -> Verdict
         ensures { result ≡ place_check self }
     {
-        let v = check_length(limits::OFFSET, self.offset_x_m);
-        let v = first_refusal(v, check_length(limits::OFFSET, self.offset_y_m));
-        first_refusal(v, limits::check_angle(limits::ROLL, self.roll_rad))
+        check_length(limits::OFFSET, self.offset_x_m)?;
+        check_length(limits::OFFSET, self.offset_y_m)?;
+        limits::check_angle(limits::ROLL, self.roll_rad)
     }
 }
 
@@ -163,10 +163,8 @@ fn check_places(places: &[f64], rolled: bool) -> Verdict
 fn check_copies(body: Body, places: &[f64], rolled: bool) -> Verdict
     ensures { result ≡ copies_check rolled body places.now }
 {
-    let v = first_refusal(body_check::check(body), check_list(places, rolled));
-    if refusals::is_refused(v) {
-        return v;
-    }
+    body_check::check(body)?;
+    check_list(places, rolled)?;
     check_places(places, rolled)
 }
 
@@ -253,20 +251,18 @@ fn part_moved(whole: Body, part: Body, offset_m: Vector) -> Body
 fn check_offset(offset_m: Vector) -> Verdict
     ensures { result ≡ first_of (offset_checks offset_m) }
 {
-    let v = check_length(limits::OFFSET, offset_m.x);
-    let v = first_refusal(v, check_length(limits::OFFSET, offset_m.y));
-    first_refusal(v, check_length(limits::OFFSET, offset_m.z))
+    check_length(limits::OFFSET, offset_m.x)?;
+    check_length(limits::OFFSET, offset_m.y)?;
+    check_length(limits::OFFSET, offset_m.z)
 }
 
 fn check_moved(whole: Body, part: Body, offset_m: Vector) -> Verdict
     ensures { result ≡ moved_check whole part offset_m }
 {
-    let v = first_refusal(body_check::check(whole), body_check::check(part));
-    let v = first_refusal(v, check_offset(offset_m));
-    first_refusal(
-        v,
-        refusals::refuse_when(whole.mass_kg == 0.0, Refusal::NotHeavier),
-    )
+    body_check::check(whole)?;
+    body_check::check(part)?;
+    check_offset(offset_m)?;
+    refusals::refuse_when(whole.mass_kg == 0.0, Refusal::NotHeavier)
 }
 
 // Returns the whole with one of its parts moved by an offset inside it.
@@ -299,9 +295,10 @@ fn part_off(whole: Body, part: Body) -> Body
 fn check_without(whole: Body, part: Body) -> Verdict
     ensures { result ≡ without_check whole part }
 {
-    let v = first_refusal(body_check::check(whole), body_check::check(part));
+    body_check::check(whole)?;
+    body_check::check(part)?;
     let heavier = refusals::refuse_when(whole.mass_kg <= part.mass_kg, Refusal::NotHeavier);
-    first_refusal(v, heavier)
+    heavier
 }
 
 // Returns the whole with one of its parts taken off.

@@ -16,7 +16,7 @@ ghost use Rattle.tubes.specs.Closing.{closing_value, closed_at, refused_radius, 
 use bodies::{Body, Tensor, Vector};
 use joins::JoinedBody;
 use materials::Density;
-use refusals::{Refusal, Verdict, first_refusal};
+use refusals::{Refusal, Verdict};
 
 const PI: f64 = 3.141592653589793;
 
@@ -89,28 +89,22 @@ fn check_mount(set: TubeFinSet, body_radius_m: f64) -> Verdict
     ensures { result ≡ mount_check set body_radius_m }
 {
     let density = set.density;
-    let v = limits::check_count(set.count);
-    let v = first_refusal(v, limits::check_length(limits::BODY_RADIUS, body_radius_m));
-    let v = first_refusal(
-        v,
-        limits::check_angle(limits::BASE_ANGLE, set.base_angle_rad),
-    );
-    first_refusal(v, materials::check_density(density))
+    limits::check_count(set.count)?;
+    limits::check_length(limits::BODY_RADIUS, body_radius_m)?;
+    limits::check_angle(limits::BASE_ANGLE, set.base_angle_rad)?;
+    materials::check_density(density)
 }
 
 // Checks a ring of tubes and returns its first refusal, in the order of document 02, Paper 3.
 fn check_tubes(set: TubeFinSet, body_radius_m: f64) -> Verdict
     ensures { IsVerdict result (tube_check set body_radius_m) }
 {
-    let v = check_mount(set, body_radius_m);
-    let v = first_refusal(v, limits::check_length(limits::TUBE_LENGTH, set.length_m));
-    let v = first_refusal(
-        v,
-        limits::check_length(limits::OUTER_RADIUS, set.outer_radius_m),
-    );
-    let v = first_refusal(v, check_wall(set.thickness_m));
+    check_mount(set, body_radius_m)?;
+    limits::check_length(limits::TUBE_LENGTH, set.length_m)?;
+    limits::check_length(limits::OUTER_RADIUS, set.outer_radius_m)?;
+    check_wall(set.thickness_m)?;
     let over = set.outer_radius_m < set.thickness_m;
-    first_refusal(v, refusals::refuse_when(over, Refusal::WallOverRadius))
+    refusals::refuse_when(over, Refusal::WallOverRadius)
 }
 
 // Returns the ring's mass, centre and tensor, on a body of the given radius. The frame's origin is on the axis at the
@@ -146,8 +140,8 @@ fn closing_value(body_radius_m: f64, count: usize) -> f64
 pub fn closing_radius_m(body_radius_m: f64, count: usize) -> ClosingRadius
     ensures { IsClosing result (closing_of body_radius_m count) }
 {
-    let v = limits::check_count(count);
-    let verdict = first_refusal(v, limits::check_length(limits::BODY_RADIUS, body_radius_m));
+    let radius = limits::check_length(limits::BODY_RADIUS, body_radius_m);
+    let verdict = limits::check_count(count).and(radius);
     match verdict {
         Ok(()) => closed(closing_value(body_radius_m, count)),
         Err(refusal) => refused(refusal),

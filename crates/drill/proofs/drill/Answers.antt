@@ -13,12 +13,12 @@ use Rattle.drill.proofs.Checks.{before, told, refused, no_corners, in_steps_lem,
 use Rattle.drill.proofs.Checks.{trapezoid_lengths, outline_lengths, outline_fits}
 use Rattle.drill.proofs.drill.Goals as goal
 
-pub returns-in-Refused : goal.returns-in-Refused
-returns-in-Refused c =
+pub returns-in-Err : goal.returns-in-Err
+returns-in-Err c =
     let a = c.args in
     is_answer (refused a.planform a.points.now a.x_m a.height_m _
     (sym (told a.planform a.points.now a.x_m a.height_m c.check_planform-v.ensures.is c.check_length.ensures c.first_refusal-v.ensures
-    c.check_length-2.ensures c.first_refusal-v-2.ensures) ∙ c.in-Refused.is))
+    c.check_length-2.ensures c.first_refusal-v-2.ensures) ∙ c.in-Err.is))
 
 pub drill_trapezoid-requires : goal.drill_trapezoid-requires
 drill_trapezoid-requires c =

@@ -9,16 +9,16 @@ use Rattle.joins.proofs.combine.Goals as goal
 pub returns-then-numbers-ne0 : goal.returns-then-numbers-ne0
 returns-then-numbers-ne0 c = is_answer (simp (ne_eqb _ _ c.if-numbers-ne0.true) c.refused.ensures)
 
-pub returns-in-Accepted : goal.returns-in-Accepted
-returns-in-Accepted c =
+pub returns-in-Ok : goal.returns-in-Ok
+returns-in-Ok c =
     is_answer
     (rw (eq-eqb _ _ c.if-numbers-ne0.false)
-    (by_verdict_lem _ c.check_count-verdict.ensures c.in-Accepted.is
+    (by_verdict_lem _ c.check_count-verdict.ensures c.in-Ok.is
     (c.accepted.ensures ∙ ap accepted_body c.join_numbers.ensures)))
 
-pub returns-in-Refused : goal.returns-in-Refused
-returns-in-Refused c =
+pub returns-in-Err : goal.returns-in-Err
+returns-in-Err c =
     is_answer
     (rw (eq-eqb _ _ c.if-numbers-ne0.false)
-    (by_verdict_lem _ c.check_count-verdict.ensures c.in-Refused.is
-    c.refused-in-Refused.ensures))
+    (by_verdict_lem _ c.check_count-verdict.ensures c.in-Err.is
+    c.refused-in-Err.ensures))

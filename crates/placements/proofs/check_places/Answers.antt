@@ -12,11 +12,11 @@ loop-k-init c = (c.count_places-n.ensures, rw c.count_places-n.ensures)
 pub place_at-place-requires : goal.place_at-place-requires
 place_at-place-requires c = rw (← c.loop-k.invariant.0) c.loop-k-test.true
 
-pub returns-in-Refused : goal.returns-in-Refused
-returns-in-Refused c =
+pub returns-in-Err : goal.returns-in-Err
+returns-in-Err c =
     let at-loop = c.loop-k in
     stops _ _ _ _ at-loop.invariant.1 _ c.loop-k-test.true
-    (sym (c.check.ensures ∙ ap place_check c.place_at-place.ensures) ∙ c.in-Refused.is)
+    (sym (c.check.ensures ∙ ap place_check c.place_at-place.ensures) ∙ c.in-Err.is)
 
 pub overflow_add-k : goal.overflow_add-k
 overflow_add-k c = omega arith

@@ -7,14 +7,14 @@ use Rattle.placements.proofs.Counts.{counted}
 use Rattle.placements.proofs.copies.Goals as goal
 
 pub placed_copies-requires : goal.placed_copies-requires
-placed_copies-requires c = counted _ _ _ (sym c.check_copies-verdict.ensures ∙ c.in-Accepted.is)
+placed_copies-requires c = counted _ _ _ (sym c.check_copies-verdict.ensures ∙ c.in-Ok.is)
 
-pub returns-in-Accepted : goal.returns-in-Accepted
+pub returns-in-Ok : goal.returns-in-Ok
 unfolding copies_of
-returns-in-Accepted c = is_answer
-    (by_verdict_lem _ c.check_copies-verdict.ensures c.in-Accepted.is c.placed_copies.ensures)
+returns-in-Ok c = is_answer
+    (by_verdict_lem _ c.check_copies-verdict.ensures c.in-Ok.is c.placed_copies.ensures)
 
-pub returns-in-Refused : goal.returns-in-Refused
+pub returns-in-Err : goal.returns-in-Err
 unfolding copies_of
-returns-in-Refused c = is_answer
-    (by_verdict_lem _ c.check_copies-verdict.ensures c.in-Refused.is c.refused.ensures)
+returns-in-Err c = is_answer
+    (by_verdict_lem _ c.check_copies-verdict.ensures c.in-Err.is c.refused.ensures)

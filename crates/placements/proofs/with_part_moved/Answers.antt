@@ -6,13 +6,13 @@ use Rattle.joins.proofs.JoinLaws.{by_verdict_lem}
 use Rattle.placements.specs.Parts.{moved_of}
 use Rattle.placements.proofs.with_part_moved.Goals as goal
 
-pub returns-in-Accepted : goal.returns-in-Accepted
+pub returns-in-Ok : goal.returns-in-Ok
 unfolding moved_of
-returns-in-Accepted c = is_answer
-    (by_verdict_lem _ c.check_moved-verdict.ensures c.in-Accepted.is
+returns-in-Ok c = is_answer
+    (by_verdict_lem _ c.check_moved-verdict.ensures c.in-Ok.is
     (c.accepted.ensures ∙ ap accepted_body c.part_moved.ensures))
 
-pub returns-in-Refused : goal.returns-in-Refused
+pub returns-in-Err : goal.returns-in-Err
 unfolding moved_of
-returns-in-Refused c = is_answer
-    (by_verdict_lem _ c.check_moved-verdict.ensures c.in-Refused.is c.refused.ensures)
+returns-in-Err c = is_answer
+    (by_verdict_lem _ c.check_moved-verdict.ensures c.in-Err.is c.refused.ensures)

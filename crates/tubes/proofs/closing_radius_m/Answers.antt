@@ -10,18 +10,18 @@ pub closing_value-requires : goal.closing_value-requires
 closing_value-requires c =
     let first = c.first_refusal-verdict.ensures in
     let checked = c.check_count-v.ensures in
-    (count_within _ (sym checked ∙ (both _ _ (sym first ∙ c.in-Accepted.is)).0)).1
+    (count_within _ (sym checked ∙ (both _ _ (sym first ∙ c.in-Ok.is)).0)).1
 
-pub returns-in-Accepted : goal.returns-in-Accepted
-returns-in-Accepted c =
+pub returns-in-Ok : goal.returns-in-Ok
+returns-in-Ok c =
     answer _ _ c.check_count-v.ensures
     c.check_length.ensures c.first_refusal-verdict.ensures
-    c.in-Accepted.is
+    c.in-Ok.is
     (c.closed.ensures ∙ ap closed_at c.closing_value.ensures)
 
-pub returns-in-Refused : goal.returns-in-Refused
-returns-in-Refused c =
+pub returns-in-Err : goal.returns-in-Err
+returns-in-Err c =
     answer _ _ c.check_count-v.ensures
     c.check_length.ensures c.first_refusal-verdict.ensures
-    c.in-Refused.is
+    c.in-Err.is
     c.refused.ensures

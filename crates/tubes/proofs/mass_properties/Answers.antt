@@ -14,17 +14,17 @@ use Rattle.tubes.proofs.mass_properties.Goals as goal
 pub ring-requires : goal.ring-requires
 unfolding tube_check
 ring-requires c =
-    (count_within _ (both _ _ (sym c.check_tubes-verdict.ensures.is ∙ c.in-Accepted.is)).0).1
+    (count_within _ (both _ _ (sym c.check_tubes-verdict.ensures.is ∙ c.in-Ok.is)).0).1
 
-pub returns-in-Accepted : goal.returns-in-Accepted
-returns-in-Accepted c =
+pub returns-in-Ok : goal.returns-in-Ok
+returns-in-Ok c =
     let tube = c.before.before in
     let set = c.args.set in
-    is_answer (by_verdict_lem _ c.check_tubes-verdict.ensures.is c.in-Accepted.is
+    is_answer (by_verdict_lem _ c.check_tubes-verdict.ensures.is c.in-Ok.is
     (c.accepted.ensures
     ∙ ap accepted_body
     (c.ring.ensures ∙ ap (λ (b : Body). joined_copies b set.base_angle_rad set.count) c.tube_at-one.ensures)))
 
-pub returns-in-Refused : goal.returns-in-Refused
-returns-in-Refused c =
-    is_answer (by_verdict_lem _ c.check_tubes-verdict.ensures.is c.in-Refused.is c.refused.ensures)
+pub returns-in-Err : goal.returns-in-Err
+returns-in-Err c =
+    is_answer (by_verdict_lem _ c.check_tubes-verdict.ensures.is c.in-Err.is c.refused.ensures)
