@@ -341,6 +341,7 @@ fn check_fillet(fillet: Fillet, body_radius_m: f64) -> Verdict
 
 // Checks the set itself, whatever the interval limit and the scratch: 3, the planform, and so on to 22. The first
 // refusal is the answer.
+#[tactic(auto, using(refusals::proofs::Given::is_answer, crate::proofs::Groups::own_check_by_group))]
 pub fn check_own(set: FinSet, points: &[f64]) -> Verdict
     ensures { IsVerdict result (own_check set points.now) }
 {

@@ -160,6 +160,7 @@ fn check_places(places: &[f64], rolled: bool) -> Verdict
 }
 
 // Checks the body, the list's length and then its places. No place is looked at before the length has passed.
+#[tactic(auto, unfolding(crate::specs::Copies::copies_check))]
 fn check_copies(body: Body, places: &[f64], rolled: bool) -> Verdict
     ensures { result ≡ copies_check rolled body places.now }
 {
@@ -256,6 +257,7 @@ fn check_offset(offset_m: Vector) -> Verdict
     check_length(limits::OFFSET, offset_m.z)
 }
 
+#[tactic(auto, unfolding(crate::specs::Parts::moved_check))]
 fn check_moved(whole: Body, part: Body, offset_m: Vector) -> Verdict
     ensures { result ≡ moved_check whole part offset_m }
 {
@@ -292,13 +294,13 @@ fn part_off(whole: Body, part: Body) -> Body
     }
 }
 
+#[tactic(auto, unfolding(crate::specs::Parts::without_check))]
 fn check_without(whole: Body, part: Body) -> Verdict
     ensures { result ≡ without_check whole part }
 {
     body_check::check(whole)?;
     body_check::check(part)?;
-    let heavier = refusals::refuse_when(whole.mass_kg <= part.mass_kg, Refusal::NotHeavier);
-    heavier
+    refusals::refuse_when(whole.mass_kg <= part.mass_kg, Refusal::NotHeavier)
 }
 
 // Returns the whole with one of its parts taken off.

@@ -85,6 +85,7 @@ fn check_wall(thickness_m: f64) -> Verdict
 }
 
 // Checks what the tubes stand on: count, body radius, base angle, density.
+#[tactic(auto, unfolding(crate::specs::Tubes::mount_check))]
 fn check_mount(set: TubeFinSet, body_radius_m: f64) -> Verdict
     ensures { result ≡ mount_check set body_radius_m }
 {
@@ -96,6 +97,7 @@ fn check_mount(set: TubeFinSet, body_radius_m: f64) -> Verdict
 }
 
 // Checks a ring of tubes and returns its first refusal, in the order of document 02, Paper 3.
+#[tactic(auto, using(refusals::proofs::Given::is_answer, crate::proofs::Groups::tube_check_by_group))]
 fn check_tubes(set: TubeFinSet, body_radius_m: f64) -> Verdict
     ensures { IsVerdict result (tube_check set body_radius_m) }
 {
