@@ -8,20 +8,20 @@ use Rattle.tubes.proofs.closing_radius_m.Goals as goal
 
 pub closing_value-requires : goal.closing_value-requires
 closing_value-requires c =
-    let first = c.first_refusal-verdict.ensures in
-    let checked = c.check_count-v.ensures in
+    let first = c.and-verdict.ensures in
+    let checked = c.check_count.ensures in
     (count_within _ (sym checked ∙ (both _ _ (sym first ∙ c.in-Ok.is)).0)).1
 
 pub returns-in-Ok : goal.returns-in-Ok
 returns-in-Ok c =
-    answer _ _ c.check_count-v.ensures
-    c.check_length.ensures c.first_refusal-verdict.ensures
+    answer _ _ c.check_count.ensures
+    c.check_length-radius.ensures c.and-verdict.ensures
     c.in-Ok.is
     (c.closed.ensures ∙ ap closed_at c.closing_value.ensures)
 
 pub returns-in-Err : goal.returns-in-Err
 returns-in-Err c =
-    answer _ _ c.check_count-v.ensures
-    c.check_length.ensures c.first_refusal-verdict.ensures
+    answer _ _ c.check_count.ensures
+    c.check_length-radius.ensures c.and-verdict.ensures
     c.in-Err.is
     c.refused.ensures
