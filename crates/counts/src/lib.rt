@@ -40,14 +40,12 @@ pub fn read_count(word: &[u8]) -> Count
         return Count::NotCount;
     }
     let mut n: u64 = 0;
-    let mut i: usize = 0;
-    while i < word.len() {
-        let d = digit_value(word[i]);
+    for b in word {
+        let d = digit_value(*b);
         if 10 <= d {
             return Count::NotCount;
         }
         n = cap(n * 10 + d);
-        i += 1;
     }
     Count::Whole(n)
 }
