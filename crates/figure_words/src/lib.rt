@@ -5,7 +5,7 @@
 
 ghost use Rattle.std.specs.Prelude.{◌≡◌, ◌^◌, ◌<◌, ◌≤◌, length, drop};
 ghost use Rattle.figure_words.specs.FigureWords.{whole_figure, unsigned_figure, decimal_figure, figure_word};
-ghost use Rattle.figure_words.specs.Runs.{Least, RunTo};
+ghost use Rattle.figure_words.specs.Runs.{RunTo};
 
 use hexadecimal::Figure;
 
@@ -91,22 +91,14 @@ fn digits_from(word: &[u8], at: usize, n: u64, before: usize) -> Run
     requires { (at ≤ length word.now) × (before ≤ 19) × (n < 10 ^ before) }
     ensures { RunTo word.now at n before result.number result.end }
 {
-    let end = least(word.len() - at, 19 - before) + at;
+    let end = (word.len() - at).min(19 - before) + at;
     let mut number = n;
-    let mut i = at;
-    while i < end {
+    for i in at..end {
         let d = counts::digit_value(word[i]);
         if 10 <= d {
             return Run { number, end: i };
         }
         number = number * 10 + d;
-        i += 1;
     }
-    Run { number, end: i }
-}
-
-fn least(a: usize, b: usize) -> usize
-    ensures { Least a b result }
-{
-    if a < b { a } else { b }
+    Run { number, end }
 }

@@ -123,9 +123,7 @@ pub fn put_figure(out: &mut [u8], n: usize, x: f64) -> usize
     ensures { Appended out.old n (figure_text x) out.new result }
 {
     let mut rest = printed_bits(x);
-    let mut k: usize = 16;
-    while 0 < k {
-        k -= 1;
+    for k in (0..16).rev() {
         out[n + k] = digit_letter(rest % 16);
         rest = rest / 16;
     }
