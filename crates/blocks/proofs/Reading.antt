@@ -8,11 +8,8 @@ use borrow.Author.Tests.{lt-ltb, le-ltb, ltb-true, ltb-false, eq-eqb, ne_eqb}
 use lib.Dec.{ltb, eqb}
 use lib.ListN.{length, take, drop, set, get_or, drop_of_length-le, length-take, length-drop}
 use lib.Ieee.{Float}
-use Rattle.hexadecimal.specs.declared.Figure.{Figure}
-use Rattle.hexadecimal.specs.declared.Figure.TheVariants.{Number, NotFigure}
+use Rattle.std.specs.Prelude.{Option, Some, None}
 use Rattle.hexadecimal.specs.Hex.{figure_of}
-use Rattle.counts.specs.declared.Count.{Count}
-use Rattle.counts.specs.declared.Count.TheVariants.{Whole, NotCount}
 use Rattle.counts.specs.Counts.{count_of, capped_count}
 use Rattle.texts.specs.Appended.{Appended}
 use Rattle.texts.proofs.Appending.{nothing, byte_put}
@@ -85,93 +82,93 @@ pub shape_short : (w : List ℕ) → length (word_shape w) ≤ length w
 shape_short [] = let e = ap length shape_of_none in omega (arith, e)
 shape_short (b ∷ bs) = by (figure_of (b ∷ bs)) (capped_count (count_of (b ∷ bs))) (eqb (length (b ∷ bs)) 1)
   where
-    by : (k : Figure) (c : Count) (t : Bool)
+    by : (k : Option Float) (c : Option ℕ) (t : Bool)
         → length (by_kind k c (λ x. 70 ∷ []) (λ n. 78 ∷ []) (cond t (63 ∷ []) (b ∷ bs))) ≤ length (b ∷ bs)
-    by (Number x) c t = omega arith
-    by NotFigure (Whole n) t = omega arith
-    by NotFigure NotCount true = omega arith
-    by NotFigure NotCount false = omega arith
+    by (Some x) c t = omega arith
+    by None (Some n) t = omega arith
+    by None None true = omega arith
+    by None None false = omega arith
 
 figures_short : (w : List ℕ) → length (word_figures w) ≤ length w
 figures_short [] = let e = ap length figures_of_none in omega (arith, e)
 figures_short (b ∷ bs) = by (figure_of (b ∷ bs)) (capped_count (count_of (b ∷ bs)))
   where
-    by : (k : Figure) (c : Count) → length (by_kind {A = List Float} k c (λ x. x ∷ []) (λ n. []) []) ≤ length (b ∷ bs)
-    by (Number x) c = omega arith
-    by NotFigure (Whole n) = omega arith
-    by NotFigure NotCount = omega arith
+    by : (k : Option Float) (c : Option ℕ) → length (by_kind {A = List Float} k c (λ x. x ∷ []) (λ n. []) []) ≤ length (b ∷ bs)
+    by (Some x) c = omega arith
+    by None (Some n) = omega arith
+    by None None = omega arith
 
 counts_short : (w : List ℕ) → length (word_counts w) ≤ length w
 counts_short [] = let e = ap length counts_of_none in omega (arith, e)
 counts_short (b ∷ bs) = by (figure_of (b ∷ bs)) (capped_count (count_of (b ∷ bs)))
   where
-    by : (k : Figure) (c : Count) → length (by_kind {A = List ℕ} k c (λ x. []) (λ n. n ∷ []) []) ≤ length (b ∷ bs)
-    by (Number x) c = omega arith
-    by NotFigure (Whole n) = omega arith
-    by NotFigure NotCount = omega arith
+    by : (k : Option Float) (c : Option ℕ) → length (by_kind {A = List ℕ} k c (λ x. []) (λ n. n ∷ []) []) ≤ length (b ∷ bs)
+    by (Some x) c = omega arith
+    by None (Some n) = omega arith
+    by None None = omega arith
 
 -- ---- what a word gives, by what it is
 
 module _ (w : List ℕ) (p r : Read) (shape shape' : List ℕ) where
-  pub other_count : (n : ℕ) (counts counts' : List ℕ) → Whole n ≡ capped_count (count_of w) → PutsCount n p r shape shape' counts counts'
+  pub other_count : (n : ℕ) (counts counts' : List ℕ) → Some n ≡ capped_count (count_of w) → PutsCount n p r shape shape' counts counts'
       → PutsOther w p r shape shape' counts counts'
   other_count n counts counts' e h =
       record {
-        of_shape = subst (λ (k : Count). Appended shape p.bytes (by_kind NotFigure k (λ x. 70 ∷ []) (λ n. 78 ∷ []) (other_shape w)) shape'
+        of_shape = subst (λ (k : Option ℕ). Appended shape p.bytes (by_kind None k (λ x. 70 ∷ []) (λ n. 78 ∷ []) (other_shape w)) shape'
             r.bytes) e h.of_shape;
-        of_counts = subst (λ (k : Count). Grown counts p.counts (by_kind NotFigure k (λ x. []) (λ n. n ∷ []) []) counts' r.counts) e
+        of_counts = subst (λ (k : Option ℕ). Grown counts p.counts (by_kind None k (λ x. []) (λ n. n ∷ []) []) counts' r.counts) e
             h.of_counts;
         same_figures = h.same_figures;
       }
 
-  other_plain : (counts : List ℕ) → NotCount ≡ capped_count (count_of w) → PutsPlain (other_shape w) p r shape shape'
+  other_plain : (counts : List ℕ) → None ≡ capped_count (count_of w) → PutsPlain (other_shape w) p r shape shape'
       → PutsOther w p r shape shape' counts counts
   other_plain counts e h =
       record {
-        of_shape = subst (λ (k : Count). Appended shape p.bytes (by_kind NotFigure k (λ x. 70 ∷ []) (λ n. 78 ∷ []) (other_shape w)) shape'
+        of_shape = subst (λ (k : Option ℕ). Appended shape p.bytes (by_kind None k (λ x. 70 ∷ []) (λ n. 78 ∷ []) (other_shape w)) shape'
             r.bytes) e h.of_shape;
-        of_counts = subst (λ (k : Count). Grown counts p.counts (by_kind NotFigure k (λ x. []) (λ n. n ∷ []) []) counts r.counts) e
+        of_counts = subst (λ (k : Option ℕ). Grown counts p.counts (by_kind None k (λ x. []) (λ n. n ∷ []) []) counts r.counts) e
             (unchanged counts p.counts r.counts h.same_counts);
         same_figures = h.same_figures;
       }
 
-  pub other_byte : (counts : List ℕ) → NotCount ≡ capped_count (count_of w) → length w ≡ 1 → PutsPlain (63 ∷ []) p r shape shape'
+  pub other_byte : (counts : List ℕ) → None ≡ capped_count (count_of w) → length w ≡ 1 → PutsPlain (63 ∷ []) p r shape shape'
       → PutsOther w p r shape shape' counts counts
   other_byte counts e one h =
       other_plain counts e (subst (λ (t : Bool). PutsPlain (cond t (63 ∷ []) w) p r shape shape') (sym (eq-eqb (length w) 1 one)) h)
 
-  pub other_bytes : (counts : List ℕ) → NotCount ≡ capped_count (count_of w) → (length w ≡ 1 → ⊥) → PutsPlain w p r shape shape'
+  pub other_bytes : (counts : List ℕ) → None ≡ capped_count (count_of w) → (length w ≡ 1 → ⊥) → PutsPlain w p r shape shape'
       → PutsOther w p r shape shape' counts counts
   other_bytes counts e many h =
       other_plain counts e (subst (λ (t : Bool). PutsPlain (cond t (63 ∷ []) w) p r shape shape') (sym (ne_eqb (length w) 1 many)) h)
 
-  pub word_figure : (x : Float) (figures figures' : List Float) (counts : List ℕ) → Number x ≡ figure_of w
+  pub word_figure : (x : Float) (figures figures' : List Float) (counts : List ℕ) → Some x ≡ figure_of w
       → PutsFigure x p r shape shape' figures figures' → PutsWord w p r shape shape' figures figures' counts counts
   word_figure x figures figures' counts e h =
       record {
-        of_shape = subst (λ (k : Figure). Appended shape p.bytes
+        of_shape = subst (λ (k : Option Float). Appended shape p.bytes
             (by_kind k (capped_count (count_of w)) (λ x. 70 ∷ []) (λ n. 78 ∷ []) (other_shape w)) shape' r.bytes) e h.of_shape;
-        of_figures = subst (λ (k : Figure). Grown figures p.figures (by_kind k (capped_count (count_of w)) (λ x. x ∷ []) (λ n. []) [])
+        of_figures = subst (λ (k : Option Float). Grown figures p.figures (by_kind k (capped_count (count_of w)) (λ x. x ∷ []) (λ n. []) [])
             figures' r.figures) e h.of_figures;
-        of_counts = subst (λ (k : Figure). Grown counts p.counts (by_kind k (capped_count (count_of w)) (λ x. []) (λ n. n ∷ []) []) counts
+        of_counts = subst (λ (k : Option Float). Grown counts p.counts (by_kind k (capped_count (count_of w)) (λ x. []) (λ n. n ∷ []) []) counts
             r.counts) e (unchanged counts p.counts r.counts h.same_counts);
       }
 
-  pub word_other : (figures : List Float) (counts counts' : List ℕ) → NotFigure ≡ figure_of w → PutsOther w p r shape shape' counts counts'
+  pub word_other : (figures : List Float) (counts counts' : List ℕ) → None ≡ figure_of w → PutsOther w p r shape shape' counts counts'
       → PutsWord w p r shape shape' figures figures counts counts'
   word_other figures counts counts' e h =
       record {
-        of_shape = subst (λ (k : Figure). Appended shape p.bytes
+        of_shape = subst (λ (k : Option Float). Appended shape p.bytes
             (by_kind k (capped_count (count_of w)) (λ x. 70 ∷ []) (λ n. 78 ∷ []) (other_shape w)) shape' r.bytes) e h.of_shape;
-        of_figures = subst (λ (k : Figure). Grown figures p.figures (by_kind k (capped_count (count_of w)) (λ x. x ∷ []) (λ n. []) [])
+        of_figures = subst (λ (k : Option Float). Grown figures p.figures (by_kind k (capped_count (count_of w)) (λ x. x ∷ []) (λ n. []) [])
             figures r.figures) e (none (capped_count (count_of w)));
-        of_counts = subst (λ (k : Figure). Grown counts p.counts (by_kind k (capped_count (count_of w)) (λ x. []) (λ n. n ∷ []) []) counts'
+        of_counts = subst (λ (k : Option Float). Grown counts p.counts (by_kind k (capped_count (count_of w)) (λ x. []) (λ n. n ∷ []) []) counts'
             r.counts) e h.of_counts;
       }
     where
-      none : (c : Count) → Grown figures p.figures (by_kind {A = List Float} NotFigure c (λ x. x ∷ []) (λ n. []) []) figures r.figures
-      none (Whole n) = unchanged figures p.figures r.figures h.same_figures
-      none NotCount = unchanged figures p.figures r.figures h.same_figures
+      none : (c : Option ℕ) → Grown figures p.figures (by_kind {A = List Float} None c (λ x. x ∷ []) (λ n. []) []) figures r.figures
+      none (Some n) = unchanged figures p.figures r.figures h.same_figures
+      none None = unchanged figures p.figures r.figures h.same_figures
 
 pub word_none : (w : List ℕ) (p : Read) (shape : List ℕ) (figures : List Float) (counts : List ℕ) → length w ≡ 0
     → PutsWord w p p shape shape figures figures counts counts

@@ -1,5 +1,6 @@
 -- What the inner functions do: no definition of Cards.antt uses these.
 use Rattle.std.specs.Prelude.{List, [], ◌∷◌, ◌++◌, true, cond, ◌≡◌, ℕ, ◌+◌, ◌<◌, ◌≤◌, ltb, length, take, drop, get_or, Float}
+use Rattle.std.specs.Prelude.{None}
 use Rattle.texts.specs.Appended.{Appended}
 use Rattle.tokens.specs.Tokens.{ends_word}
 use Rattle.tokens.specs.Found.{part}
@@ -9,7 +10,6 @@ use Rattle.blocks.specs.declared.lookup.Part.{Part}
 use Rattle.blocks.specs.declared.words.Read.{Read}
 use Rattle.blocks.specs.Tables.{text_for}
 use Rattle.blocks.specs.Filled.{Marks, figures_after}
-use Rattle.hexadecimal.specs.declared.Figure.TheVariants.{NotFigure}
 use Rattle.counts.specs.Counts.{count_of, capped_count}
 use Rattle.blocks.specs.Words.{by_kind, other_shape, word_shape, word_figures, word_counts, over_words, shape_in}
 use Rattle.blocks.specs.Words.{figures_in, counts_in}
@@ -61,9 +61,9 @@ pub record PutsPlain (bytes : List ℕ) (p r : Read) (shape shape' : List ℕ) :
 pub record PutsOther (w : List ℕ) (p r : Read) (shape shape' counts counts' : List ℕ) : Type 0 where
   pub of_shape :
       Appended shape p.bytes
-      (by_kind NotFigure (capped_count (count_of w)) (λ x. 70 ∷ []) (λ n. 78 ∷ []) (other_shape w)) shape' r.bytes
+      (by_kind None (capped_count (count_of w)) (λ x. 70 ∷ []) (λ n. 78 ∷ []) (other_shape w)) shape' r.bytes
   pub of_counts :
-      Grown counts p.counts (by_kind NotFigure (capped_count (count_of w)) (λ x. []) (λ n. n ∷ []) []) counts'
+      Grown counts p.counts (by_kind None (capped_count (count_of w)) (λ x. []) (λ n. n ∷ []) []) counts'
       r.counts
   pub same_figures : r.figures ≡ p.figures
 

@@ -1,20 +1,16 @@
 -- An answer of the card program by its words: in its shape `F` stands for a figure and `N` for a count; figures and
 -- counts are kept beside it.
-use Rattle.std.specs.Prelude.{List, [], ◌∷◌, ◌++◌, cond, ℕ, eqb, length, Float}
-use Rattle.hexadecimal.specs.declared.Figure.{Figure}
-use Rattle.hexadecimal.specs.declared.Figure.TheVariants.{Number, NotFigure}
+use Rattle.std.specs.Prelude.{List, [], ◌∷◌, ◌++◌, cond, ℕ, eqb, length, Float, Option, Some, None}
 use Rattle.hexadecimal.specs.Hex.{figure_of}
-use Rattle.counts.specs.declared.Count.{Count}
-use Rattle.counts.specs.declared.Count.TheVariants.{Whole, NotCount}
 use Rattle.counts.specs.Counts.{count_of, capped_count}
 use Rattle.tokens.specs.Tokens.{ends_word}
 
 -- one of three things by what a word is: sixteen hexadecimal digits are a figure, decimal digits a count, at most a
 -- million
-abbrev pub by_kind : {A : Type 0} → Figure → Count → (Float → A) → (ℕ → A) → A → A
-by_kind (Number x) c figure count other = figure x
-by_kind NotFigure (Whole n) figure count other = count n
-by_kind NotFigure NotCount figure count other = other
+abbrev pub by_kind : {A : Type 0} → Option Float → Option ℕ → (Float → A) → (ℕ → A) → A → A
+by_kind (Some x) c figure count other = figure x
+by_kind None (Some n) figure count other = count n
+by_kind None None figure count other = other
 
 abbrev pub of_word : {A : Type 0} → List ℕ → (Float → A) → (ℕ → A) → A → A
 of_word w figure count other = by_kind (figure_of w) (capped_count (count_of w)) figure count other

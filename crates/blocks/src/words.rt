@@ -3,9 +3,6 @@ ghost use Rattle.std.specs.Prelude.{◌≡◌, ◌+◌, ◌≤◌, ◌<◌, leng
 ghost use Rattle.blocks.specs.Steps.{IsEnd, end_bytes, PutsFigure, PutsCount, PutsPlain, PutsOther, PutsWord};
 ghost use Rattle.blocks.specs.Steps.{IsRead};
 
-use counts::Count;
-use hexadecimal::Figure;
-
 // How far reading is: how many bytes of the shape, how many figures and how many counts are written.
 #[derive(Clone, Copy)]
 pub(crate) struct Read {
@@ -83,8 +80,8 @@ fn put_other(shape: &mut [u8], counts: &mut [u64], p: Read, word: &[u8]) -> Read
         counts.new }
 {
     match counts::read_count(word) {
-        Count::Whole(n) => put_count(shape, counts, p, n),
-        Count::NotCount => {
+        Some(n) => put_count(shape, counts, p, n),
+        None => {
             if word.len() == 1 {
                 put_plain(shape, p, b"?")
             } else {
@@ -106,8 +103,8 @@ fn put_word(shape: &mut [u8], figures: &mut [f64], counts: &mut [u64], p: Read, 
         return p;
     }
     match hexadecimal::read_figure(word) {
-        Figure::Number(x) => put_figure(shape, figures, p, x),
-        Figure::NotFigure => put_other(shape, counts, p, word),
+        Some(x) => put_figure(shape, figures, p, x),
+        None => put_other(shape, counts, p, word),
     }
 }
 

@@ -8,7 +8,7 @@ use native.Mathlib.Omega.{arith}
 use borrow.Author.Tests.{lt-ltb, le-leb, ltb-true}
 use lib.Dec.{ltb}
 use Rattle.texts.proofs.Appending.{append_nil}
-use Rattle.counts.specs.declared.Count.TheVariants.{Whole}
+use Rattle.std.specs.Prelude.{Some}
 use Rattle.counts.specs.Counts.{digit_value, read_digits, count_of, digits, count_text}
 
 digit_value_lem : (d : ℕ) → d < 10 → digit_value (48 + d) ≡ d
@@ -53,7 +53,7 @@ some_digit k n = by (ltb n 10)
     by false = not_empty (digits k (n / 10)) (48 + n % 10)
 
 -- every 64-bit number
-pub reads_back : (n : ℕ) → n < 2 ^ 64 → count_of (count_text n) ≡ Whole n
+pub reads_back : (n : ℕ) → n < 2 ^ 64 → count_of (count_text n) ≡ Some n
 unfolding count_text read_digits
 reads_back n h =
     let b : n < 10 ^ 20 = let l : 2 ^ 64 ≤ 10 ^ 20 = omega arith in omega arith in

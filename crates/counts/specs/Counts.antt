@@ -1,8 +1,7 @@
 -- Counts as text (docs/FORMS.md): "one or more decimal digits, of any length; its value is the whole number that they
 -- write".
 use Rattle.std.specs.Prelude.{List, [], ◌∷◌, ◌++◌, Bool, true, false, ◌&&◌, cond, ℕ, zero, suc, ◌+◌, ◌-◌, ◌*◌, ◌/◌, ◌%◌, min, ltb, leb}
-use Rattle.counts.specs.declared.Count.{Count}
-use Rattle.counts.specs.declared.Count.TheVariants.{Whole, NotCount}
+use Rattle.std.specs.Prelude.{Option, Some, None}
 
 -- ---- reading
 
@@ -11,18 +10,18 @@ abbrev pub digit_value : ℕ → ℕ
 digit_value b = cond (leb 48 b && leb b 57) (b - 48) 10
 
 -- of two answers, the one that the test picks
-abbrev pub pick : Bool → Count → Count → Count
+abbrev pub pick : Bool → Option ℕ → Option ℕ → Option ℕ
 pick true a b = a
 pick false a b = b
 
 -- the count of a word's digits, the most significant first, where those before them make up n
-unfoldable pub read_digits : List ℕ → ℕ → Count
-read_digits [] n = Whole n
-read_digits (b ∷ bs) n = pick (ltb (digit_value b) 10) (read_digits bs (n * 10 + digit_value b)) NotCount
+unfoldable pub read_digits : List ℕ → ℕ → Option ℕ
+read_digits [] n = Some n
+read_digits (b ∷ bs) n = pick (ltb (digit_value b) 10) (read_digits bs (n * 10 + digit_value b)) None
 
 -- a word is a count where it has one byte or more, and all of them are digits
-unfoldable pub count_of : List ℕ → Count
-count_of [] = NotCount
+unfoldable pub count_of : List ℕ → Option ℕ
+count_of [] = None
 count_of (b ∷ bs) = read_digits (b ∷ bs) 0
 
 -- the value that the program goes on with: every limit on a count is far below a million, so a larger count, whatever
@@ -30,9 +29,9 @@ count_of (b ∷ bs) = read_digits (b ∷ bs) 0
 abbrev pub capped : ℕ → ℕ
 capped n = min n 1_000_000
 
-abbrev pub capped_count : Count → Count
-capped_count (Whole n) = Whole (capped n)
-capped_count NotCount = NotCount
+abbrev pub capped_count : Option ℕ → Option ℕ
+capped_count (Some n) = Some (capped n)
+capped_count None = None
 
 -- ---- printing
 

@@ -6,13 +6,6 @@ ghost use Rattle.std.specs.Prelude.{◌≡◌, ◌+◌, ◌≤◌, length};
 ghost use Rattle.texts.specs.Appended.{Appended};
 ghost use Rattle.counts.specs.Counts.{digit_value, count_of, capped, capped_count, count_text};
 
-// What a word is: a count, with its value, or none.
-#[derive(Clone, Copy)]
-pub enum Count {
-    Whole(u64),
-    NotCount,
-}
-
 // Returns the value of a decimal digit, 0 to 9, or 10 for any other byte.
 pub fn digit_value(b: u8) -> u64
     ensures { result ≡ digit_value b }
@@ -31,25 +24,23 @@ fn cap(n: u64) -> u64
     if n < 1_000_000 { n } else { 1_000_000 }
 }
 
-// Reads a word of any length as a count. A value above a million is given as a million: every limit on a count is far
+// Reads a word of any length as a count, or gives none where it is no count. A value above a million is given as a million: every limit on a count is far
 // below that.
-pub fn read_count(word: &[u8]) -> Count
+pub fn read_count(word: &[u8]) -> Option<u64>
     ensures { result ≡ capped_count (count_of word.now) }
 {
     if word.len() == 0 {
-        return Count::NotCount;
+        return None;
     }
     let mut n: u64 = 0;
-    let mut i: usize = 0;
-    while i < word.len() {
-        let d = digit_value(word[i]);
+    for b in word {
+        let d = digit_value(*b);
         if 10 <= d {
-            return Count::NotCount;
+            return None;
         }
         n = cap(n * 10 + d);
-        i += 1;
     }
-    Count::Whole(n)
+    Some(n)
 }
 
 // Appends a count's text to the n bytes at the start of out, and returns how many there are then.

@@ -6,8 +6,7 @@ use Prim.Native.String.{String}
 use lib.Dec.{T, eqb}
 use lib.Ieee.{binary64, round, of_bits, to_bits}
 use Rattle.tokens.specs.Text.{codes, text}
-use Rattle.hexadecimal.specs.declared.Figure.{Figure}
-use Rattle.hexadecimal.specs.declared.Figure.TheVariants.{Number, NotFigure}
+use Rattle.std.specs.Prelude.{Float, Option, Some, None}
 use Rattle.hexadecimal.specs.Hex.{read_digits, figure_of}
 use Rattle.figure_words.specs.FigureWords.{leading_digits, behind_digits, number_from, unsigned_figure, decimal_figure, figure_word}
 
@@ -15,13 +14,13 @@ pub data Word : Type 0 where
   taken : String → ℕ → Word
   not_taken : String → Word
 
-abbrev is_taken_lem : Figure → ℕ → Bool
-is_taken_lem (Number x) b = eqb (to_bits binary64 x) b
-is_taken_lem NotFigure b = false
+abbrev is_taken_lem : Option Float → ℕ → Bool
+is_taken_lem (Some x) b = eqb (to_bits binary64 x) b
+is_taken_lem None b = false
 
-abbrev is_turned_away : Figure → Bool
-is_turned_away (Number x) = false
-is_turned_away NotFigure = true
+abbrev is_turned_away : Option Float → Bool
+is_turned_away (Some x) = false
+is_turned_away None = true
 
 abbrev holds : Word → Bool
 holds (taken word b) = is_taken_lem (figure_word (text word)) b

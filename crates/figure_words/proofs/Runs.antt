@@ -2,14 +2,17 @@
 use mathlib.Core.List.{List, ◌∷◌}
 use mathlib.Core.Logic.{◌⊎◌, inl, inr}
 use mathlib.Core.Path.{◌≡◌, refl, sym, ap, subst, ◌∙◌}
-use Prim.Native.Nat.{ℕ, ◌+◌, ◌-◌, ◌*◌, ◌^◌, ◌<◌, ◌≤◌}
+use mathlib.Core.Bool.{Bool, true, false}
+use Prim.Native.Nat.{ℕ, min, ◌+◌, ◌-◌, ◌*◌, ◌^◌, ◌<◌, ◌≤◌}
+use borrow.Author.Tests.{leb-true, leb-false}
+use lib.Dec.{leb}
 use native.Mathlib.Nat.{pow-suc, pow-le-pow_right}
 use native.Mathlib.Numerals.{add-one}
 use native.Mathlib.Omega.{arith}
 use lib.ListN.{length, drop, get_or}
 use Rattle.counts.specs.Counts.{digit_value}
 use Rattle.figure_words.specs.FigureWords.{leading_digits, behind_digits, number_from}
-use Rattle.figure_words.specs.Runs.{Least, Runs}
+use Rattle.figure_words.specs.Runs.{Runs}
 use Rattle.figure_words.proofs.Digits.{at_place, digit_leads, digit_passed, number_on}
 
 further : (c i at : ℕ) → at ≤ i → c + (i - at) + 1 ≡ c + (i + 1 - at)
@@ -76,18 +79,11 @@ module _ (w : List ℕ) (at n before m i d : ℕ) (r : Runs w at n before m i) (
   number_fits = let z = ten_most (before + (i + 1 - at)) (let y = r.from in omega arith) in let y = small_next in omega arith
 
 -- where the run ends at the latest
-pub ends : (l at before e : ℕ) → at ≤ l → before ≤ 19 → Least (l - at) (19 - before) e
-    → (e + at ≤ l) × (before + (e + at - at) ≤ 19) × ((e + at ≡ l) ⊎ (before + (e + at - at) ≡ 19))
-ends l at before e h g m =
-    let a = m.first in
-    let b = m.second in
-    (omega arith, omega arith, side m.one)
+pub stops : (w : List ℕ) (at before e : ℕ) → at ≤ length w → before ≤ 19 → e ≡ min (length w - at) (19 - before) + at
+    → (e ≡ length w) ⊎ ((before + (e - at) ≡ 19) ⊎ (10 ≤ digit_value (get_or w e 0)))
+stops w at before e h g z = by (leb (length w - at) (19 - before)) refl
   where
-    side : (e ≡ l - at) ⊎ (e ≡ 19 - before) → (e + at ≡ l) ⊎ (before + (e + at - at) ≡ 19)
-    side (inl z) = inl (omega arith)
-    side (inr z) = inr (omega arith)
-
-pub stops : (w : List ℕ) (at before i e : ℕ) → i ≡ e → (e ≡ length w) ⊎ (before + (e - at) ≡ 19)
-    → (i ≡ length w) ⊎ ((before + (i - at) ≡ 19) ⊎ (10 ≤ digit_value (get_or w i 0)))
-stops w at before i e h (inl z) = inl (h ∙ z)
-stops w at before i e h (inr z) = inr (inl (ap (λ (x : ℕ). before + (x - at)) h ∙ z))
+    by : (t : Bool) → leb (length w - at) (19 - before) ≡ t
+        → (e ≡ length w) ⊎ ((before + (e - at) ≡ 19) ⊎ (10 ≤ digit_value (get_or w e 0)))
+    by true q = inl (omega (arith, leb-true _ _ q))
+    by false q = inr (inl (omega (arith, leb-false _ _ q)))

@@ -11,8 +11,7 @@ use lib.Dec.{ltb}
 use lib.ListN.{length, take, drop, get_or, drop_of_length-le}
 use lib.Seq.{take_all}
 use lib.Ieee.{Float}
-use Rattle.hexadecimal.specs.declared.Figure.{Figure}
-use Rattle.hexadecimal.specs.declared.Figure.TheVariants.{Number, NotFigure}
+use Rattle.std.specs.Prelude.{Option, Some, None}
 use Rattle.hexadecimal.specs.Hex.{figure_of}
 use Rattle.counts.specs.Counts.{digit_value}
 use Rattle.decimals.specs.Decimals.{decimal_of}
@@ -69,7 +68,7 @@ module _ (bare minus : Bool) (w : List ℕ) (at m e : ℕ) (r : RunTo w at 0 0 m
   abbrev c : ℕ
   c = e - at
 
-  abbrev all : Figure
+  abbrev all : Option Float
   all = unsigned_figure bare minus (drop at w)
 
   abbrev left : ℕ
@@ -93,13 +92,13 @@ module _ (bare minus : Bool) (w : List ℕ) (at m e : ℕ) (r : RunTo w at 0 0 m
   at_byte : e < length w → 10 ≤ digit_value (get_or w e 0) → all ≡ point_figure minus m c (get_or w e 0) (drop (e + 1) w)
   at_byte h g = stopped (no_more w e h g) ∙ ap (digits_figure bare minus m c) (stays w e h g)
 
-  pub whole_read : e ≡ length w → {f : Figure} → f ≡ whole_figure bare minus m c → f ≡ all
+  pub whole_read : e ≡ length w → {f : Option Float} → f ≡ whole_figure bare minus m c → f ≡ all
   whole_read h g = g ∙ sym (at_end_lem h)
 
   inner : (e ≡ length w → ⊥) → e < length w
   inner = inside w e r.runs.to
 
-  pub none : e ≡ at → NotFigure ≡ all
+  pub none : e ≡ at → None ≡ all
   none h =
       let z : c ≡ 0 = omega arith in
       sym (⊎_elim
@@ -112,10 +111,10 @@ module _ (bare minus : Bool) (w : List ℕ) (at m e : ℕ) (r : RunTo w at 0 0 m
           (λ (x : (0 + (e - at) ≡ 19) ⊎ (10 ≤ digit_value (get_or w e 0))). ⊎_elim
           (λ (v : 0 + (e - at) ≡ 19). absurd (let n : ⊥ = omega arith in n)) (λ (v : 10 ≤ digit_value (get_or w e 0)). v) x) r.stop
 
-  pub other_byte : (e ≡ length w → ⊥) → (get_or w e 0 ≡ 46 → ⊥) → NotFigure ≡ all
+  pub other_byte : (e ≡ length w → ⊥) → (get_or w e 0 ≡ 46 → ⊥) → None ≡ all
   other_byte h g =
       let y = inner h in
-      let other : 10 ≤ digit_value (get_or w e 0) → all ≡ NotFigure =
+      let other : 10 ≤ digit_value (get_or w e 0) → all ≡ None =
       λ v. at_byte y v ∙ not_point minus m c (get_or w e 0) (drop (e + 1) w) g in
       sym (⊎_elim (λ (x : e ≡ length w). absurd (h x))
       (λ (x : (0 + (e - at) ≡ 19) ⊎ (10 ≤ digit_value (get_or w e 0))). ⊎_elim
@@ -152,12 +151,12 @@ module _ (bare minus : Bool) (w : List ℕ) (at m e : ℕ) (r : RunTo w at 0 0 m
         ⊎_elim (λ (y : at ≡ e). absurd (o (sym y))) (λ (y : at < e). let x : 0 < c = omega arith in x) (eq-or-lt_of_le z)
 
     -- a byte that is no digit is left
-    left_over : e' < length w → 10 ≤ digit_value (get_or w e' 0) → all ≡ NotFigure
+    left_over : e' < length w → 10 ≤ digit_value (get_or w e' 0) → all ≡ None
     left_over y v =
         let z = ap length (q.runs.behind ∙ stays w e' y v) in
         into ∙ more_behind minus m c (get_or w e 0) l (λ x. omega arith)
 
-    pub more : (e' ≡ length w → ⊥) → NotFigure ≡ all
+    pub more : (e' ≡ length w → ⊥) → None ≡ all
     more z =
         let y = inside w e' q.runs.to z in
         sym (⊎_elim (λ (x : e' ≡ length w). absurd (z x))
@@ -173,7 +172,7 @@ module _ (bare minus : Bool) (w : List ℕ) (at m e : ℕ) (r : RunTo w at 0 0 m
     behind_count : e' ≡ length w → length (leading_digits l) ≡ k
     behind_count z = let u = q.runs.digits in let v = ap length (none_left w e' z) in omega arith
 
-    pub no_fraction : e' ≡ e + 1 → NotFigure ≡ all
+    pub no_fraction : e' ≡ e + 1 → None ≡ all
     no_fraction z = ⊎_elim
         (λ (y : e' ≡ length w). sym (into ∙ none_behind minus m c (get_or w e 0) l (let u = behind_count y in omega arith)))
         (λ (y : e' < length w). more (λ (x : e' ≡ length w). omega arith))
@@ -186,7 +185,7 @@ module _ (bare minus : Bool) (w : List ℕ) (at m e : ℕ) (r : RunTo w at 0 0 m
     pub few_behind : e' - e - 1 ≤ 18
     few_behind = let a = q.runs.count in let b = some_before in omega arith
 
-    pub all_read : e' ≡ length w → (e' ≡ e + 1 → ⊥) → {x : Float} → x ≡ decimal_of minus m' (e' - e - 1) → Number x ≡ all
+    pub all_read : e' ≡ length w → (e' ≡ e + 1 → ⊥) → {x : Float} → x ≡ decimal_of minus m' (e' - e - 1) → Some x ≡ all
     all_read z y {x} f =
         let n = q.runs.count in
         let u = behind_count z in
@@ -195,14 +194,14 @@ module _ (bare minus : Bool) (w : List ℕ) (at m e : ℕ) (r : RunTo w at 0 0 m
         let t = some_before in
         let i : number_from m (leading_digits l) ≡ m' = q.runs.number ∙ ap (number_from m') (none_left w e' z) ∙ number_ends m' in
         let j : length (leading_digits l) ≡ e' - e - 1 = u ∙ less_twice e' e in
-        sym (into ∙ point_is minus m c (get_or w e 0) l g t (rw u p) (rw u n) v ∙ rw (i, j) (ap Number (sym f)))
+        sym (into ∙ point_is minus m c (get_or w e 0) l g t (rw u p) (rw u n) v ∙ rw (i, j) (ap Some (sym f)))
 
 -- ---- the sign
 
 some_byte : (n : ℕ) → (n ≡ 0 → ⊥) → 0 < n
 some_byte n h = ⊎_elim (λ (z : 0 ≡ n). absurd (h (sym z))) (λ (z : 0 < n). z) (eq-or-lt_of_le (let y : 0 ≤ n = omega arith in y))
 
-pub no_word : (w : List ℕ) → length w ≡ 0 → NotFigure ≡ decimal_figure w
+pub no_word : (w : List ℕ) → length w ≡ 0 → None ≡ decimal_figure w
 unfolding decimal_figure
 no_word [] h = refl
 no_word (b ∷ l) h = absurd (let y : ⊥ = omega arith in y)
@@ -211,15 +210,15 @@ module _ (w : List ℕ) (o : length w ≡ 0 → ⊥) where
   opened : w ≡ get_or w 0 0 ∷ drop 1 w
   opened = at_place w 0 (some_byte (length w) o)
 
-  pub plus_word : get_or w 0 0 ≡ 43 → {f : Figure} → f ≡ unsigned_figure false false (drop 1 w) → f ≡ decimal_figure w
+  pub plus_word : get_or w 0 0 ≡ 43 → {f : Option Float} → f ≡ unsigned_figure false false (drop 1 w) → f ≡ decimal_figure w
   unfolding decimal_figure
   plus_word e g = g ∙ sym (ap decimal_figure opened ∙ rw (eq-eqb (get_or w 0 0) 43 e))
 
-  pub minus_word : get_or w 0 0 ≡ 45 → {f : Figure} → f ≡ unsigned_figure false true (drop 1 w) → f ≡ decimal_figure w
+  pub minus_word : get_or w 0 0 ≡ 45 → {f : Option Float} → f ≡ unsigned_figure false true (drop 1 w) → f ≡ decimal_figure w
   unfolding decimal_figure
   minus_word e g = g ∙ sym (ap decimal_figure opened ∙ ap (λ (b : ℕ). decimal_figure (b ∷ drop 1 w)) e)
 
-  pub bare_word : (get_or w 0 0 ≡ 43 → ⊥) → (get_or w 0 0 ≡ 45 → ⊥) → {f : Figure} → f ≡ unsigned_figure true false (drop 0 w)
+  pub bare_word : (get_or w 0 0 ≡ 43 → ⊥) → (get_or w 0 0 ≡ 45 → ⊥) → {f : Option Float} → f ≡ unsigned_figure true false (drop 0 w)
       → f ≡ decimal_figure w
   unfolding decimal_figure
   bare_word h i g =
@@ -228,19 +227,19 @@ module _ (w : List ℕ) (o : length w ≡ 0 → ⊥) where
 
 -- ---- the mark
 
-pub no_figure_lem : (w : List ℕ) → length w ≡ 0 → NotFigure ≡ figure_word w
+pub no_figure_lem : (w : List ℕ) → length w ≡ 0 → None ≡ figure_word w
 unfolding figure_word
 no_figure_lem [] h = refl
 no_figure_lem (b ∷ l) h = absurd (let y : ⊥ = omega arith in y)
 
-pub marked : (w : List ℕ) → (length w ≡ 0 → ⊥) → get_or w 0 0 ≡ 35 → {f : Figure} → f ≡ figure_of (take (length w - 1) (drop 1 w))
+pub marked : (w : List ℕ) → (length w ≡ 0 → ⊥) → get_or w 0 0 ≡ 35 → {f : Option Float} → f ≡ figure_of (take (length w - 1) (drop 1 w))
     → f ≡ figure_word w
 unfolding figure_word
 marked [] o e g = absurd (o refl)
 marked (b ∷ l) o e g = g ∙ ap figure_of (take_all (suc (length l) - 1) l (let z : length l ≤ suc (length l) - 1 = omega arith in z))
     ∙ sym (rw (eq-eqb b 35 e))
 
-pub unmarked : (w : List ℕ) → (length w ≡ 0 → ⊥) → (get_or w 0 0 ≡ 35 → ⊥) → {f : Figure} → f ≡ decimal_figure w → f ≡ figure_word w
+pub unmarked : (w : List ℕ) → (length w ≡ 0 → ⊥) → (get_or w 0 0 ≡ 35 → ⊥) → {f : Option Float} → f ≡ decimal_figure w → f ≡ figure_word w
 unfolding figure_word
 unmarked [] o e g = absurd (o refl)
 unmarked (b ∷ l) o e g = g ∙ sym (rw (ne_eqb b 35 e))

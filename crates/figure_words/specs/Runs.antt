@@ -3,11 +3,6 @@ use Rattle.std.specs.Prelude.{List, ◌⊎◌, ◌≡◌, ℕ, ◌+◌, ◌-◌,
 use Rattle.counts.specs.Counts.{digit_value}
 use Rattle.figure_words.specs.FigureWords.{leading_digits, behind_digits, number_from}
 
-pub record Least (a b r : ℕ) : Type 0 where
-  pub first : r ≤ a
-  pub second : r ≤ b
-  pub one : (r ≡ a) ⊎ (r ≡ b)
-
 -- the digits from place `at` up to e of the word w, after `before` others that make up n: all of them make up m, and
 -- what is left to read from e on is what was left from `at` on
 pub record Runs (w : List ℕ) (at n before m e : ℕ) : Type 0 where

@@ -12,7 +12,7 @@ use lib.ListN.{length, length-append}
 use lib.Ieee.{Float, binary64, fits, eq, to_bits}
 use lib.Ieee.Bits.{of_bits-to_bits, to_bits-lt}
 use Rattle.floats.specs.Operations.{bits}
-use Rattle.hexadecimal.specs.declared.Figure.TheVariants.{Number}
+use Rattle.std.specs.Prelude.{Some}
 use Rattle.hexadecimal.specs.Hex.{digit_value, digit_letter, read_digits, figure_of, digits, printed_bits, printed_value, figure_text}
 
 low_letter : (d : ℕ) → d < 10 → digit_value (d + 48) ≡ d
@@ -74,13 +74,13 @@ append_nil : (l : List ℕ) → l ++ [] ≡ l
 append_nil [] = refl
 append_nil (x ∷ xs) = ap (λ (t : List ℕ). x ∷ t) (append_nil xs)
 
-sixteen_read : (n : ℕ) → n < 2 ^ 64 → figure_of (digits 16 n) ≡ Number (bits n)
+sixteen_read : (n : ℕ) → n < 2 ^ 64 → figure_of (digits 16 n) ≡ Some (bits n)
 unfolding figure_of read_digits
 sixteen_read n h =
     rw (digits_length 16 n)
     (ap (λ (l : List ℕ). read_digits l 0) (sym (append_nil (digits 16 n)))
     ∙ digits_read 16 n 0 []
-    ∙ ap (λ (k : ℕ). Number (bits k)) (let g : n % 2 ^ 64 ≡ n = mod-eq_of_lt h in let e : 0 * 16 ^ 16 + n % 16 ^ 16 ≡ n = omega arith in e))
+    ∙ ap (λ (k : ℕ). Some (bits k)) (let g : n % 2 ^ 64 ≡ n = mod-eq_of_lt h in let e : 0 * 16 ^ 16 + n % 16 ^ 16 ≡ n = omega arith in e))
 
 bits_of : (x : Float) (z : Bool) → T (fits binary64 x)
     → (cond z 0 (to_bits binary64 x) < 2 ^ 64) × (bits (cond z 0 (to_bits binary64 x)) ≡ cond z (bits 0) x)
@@ -88,8 +88,8 @@ bits_of x true f = (omega arith, refl)
 bits_of x false f = (to_bits-lt binary64 x f, of_bits-to_bits binary64 x f)
 
 -- every f64
-pub reads_back : (x : Float) → T (fits binary64 x) → figure_of (figure_text x) ≡ Number (printed_value x)
+pub reads_back : (x : Float) → T (fits binary64 x) → figure_of (figure_text x) ≡ Some (printed_value x)
 unfolding figure_text
 reads_back x f =
     let b = bits_of x (eq x (bits 0)) f in
-    sixteen_read (printed_bits x) b.0 ∙ ap Number b.1
+    sixteen_read (printed_bits x) b.0 ∙ ap Some b.1

@@ -1,11 +1,10 @@
 -- Figures as text (document 01, "The card program"): "16 lowercase hexadecimal digits of the f64's bits; either zero
 -- prints as all 0, a NaN as 7ff8000000000000".
 use Rattle.std.specs.Prelude.{List, [], ◌∷◌, ◌++◌, Bool, true, false, ◌&&◌, cond, ℕ, zero, suc, ◌+◌, ◌-◌, ◌*◌, ◌/◌, ◌%◌, ltb, leb, eqb, length, Float}
+use Rattle.std.specs.Prelude.{Option, Some, None}
 use Rattle.std.specs.Float.{binary64}
 use Rattle.std.specs.Float.Ieee.{to_bits, eq}
 use Rattle.floats.specs.Operations.{bits}
-use Rattle.hexadecimal.specs.declared.Figure.{Figure}
-use Rattle.hexadecimal.specs.declared.Figure.TheVariants.{Number, NotFigure}
 
 -- ---- reading
 
@@ -14,18 +13,18 @@ abbrev pub digit_value : ℕ → ℕ
 digit_value b = cond (leb 48 b && leb b 57) (b - 48) (cond (leb 97 b && leb b 102) (b - 87) 16)
 
 -- of two answers, the one that the test picks
-abbrev pub pick : Bool → Figure → Figure → Figure
+abbrev pub pick : Bool → Option Float → Option Float → Option Float
 pick true a b = a
 pick false a b = b
 
 -- the figure of a word's digits, the most significant first, where those before them make up n
-unfoldable pub read_digits : List ℕ → ℕ → Figure
-read_digits [] n = Number (bits n)
-read_digits (b ∷ bs) n = pick (ltb (digit_value b) 16) (read_digits bs (n * 16 + digit_value b)) NotFigure
+unfoldable pub read_digits : List ℕ → ℕ → Option Float
+read_digits [] n = Some (bits n)
+read_digits (b ∷ bs) n = pick (ltb (digit_value b) 16) (read_digits bs (n * 16 + digit_value b)) None
 
 -- a word is a figure where it is sixteen digits
-unfoldable pub figure_of : List ℕ → Figure
-figure_of word = pick (eqb (length word) 16) (read_digits word 0) NotFigure
+unfoldable pub figure_of : List ℕ → Option Float
+figure_of word = pick (eqb (length word) 16) (read_digits word 0) None
 
 -- ---- printing
 

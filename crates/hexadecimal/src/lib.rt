@@ -10,13 +10,6 @@ ghost use Rattle.texts.specs.Appended.{Appended};
 ghost use Rattle.hexadecimal.specs.Hex.{digit_value, figure_of, digit_letter, printed_bits, figure_text};
 ghost use Rattle.hexadecimal.specs.Words.{Each, bytes_of, lanes, taken, all_digits};
 
-// What a word is: a figure, with its f64, or none.
-#[derive(Clone, Copy)]
-pub enum Figure {
-    Number(f64),
-    NotFigure,
-}
-
 fn byte_at(text: &[u8], i: usize) -> u64
     requires { i < length text.now }
     ensures { (result ≡ get_or text.now i 0) × (result < 256) }
@@ -82,21 +75,21 @@ fn number(w: u64) -> u64
 }
 
 // Returns the figure that a word is, or that it is none.
-pub fn read_figure(word: &[u8]) -> Figure
+pub fn read_figure(word: &[u8]) -> Option<f64>
     ensures { result ≡ figure_of word.now }
 {
     if word.len() != 16 {
-        return Figure::NotFigure;
+        return None;
     }
     let first = load(word, 0);
     let second = load(word, 8);
     if !all_digits(first) {
-        return Figure::NotFigure;
+        return None;
     }
     if !all_digits(second) {
-        return Figure::NotFigure;
+        return None;
     }
-    Figure::Number(floats::from_bits(number(first) * 0x1_0000_0000 + number(second)))
+    Some(floats::from_bits(number(first) * 0x1_0000_0000 + number(second)))
 }
 
 // Returns the bits that are printed of x, 0 for either zero.
@@ -123,9 +116,7 @@ pub fn put_figure(out: &mut [u8], n: usize, x: f64) -> usize
     ensures { Appended out.old n (figure_text x) out.new result }
 {
     let mut rest = printed_bits(x);
-    let mut k: usize = 16;
-    while 0 < k {
-        k -= 1;
+    for k in (0..16).rev() {
         out[n + k] = digit_letter(rest % 16);
         rest = rest / 16;
     }

@@ -33,8 +33,7 @@ fn digit_root(n: u64) -> u64
     let mut left = n;
     let mut s: u64 = 0;
     let mut rest: u64 = 0;
-    let mut i: u64 = 0;
-    while i < 53 {
+    for _ in 0..53u64 {
         let more = 4 * rest + left / LEADING;
         left = left % LEADING * 4;
         let trial = 4 * s + 1;
@@ -45,7 +44,6 @@ fn digit_root(n: u64) -> u64
             rest = more;
             s = 2 * s;
         }
-        i += 1;
     }
     if rest <= s { s } else { s + 1 }
 }

@@ -31,19 +31,6 @@ pub struct Significant {
     pub place: usize,
 }
 
-fn wide(d: u8) -> u64
-    ensures { (result ≡ d) × (result ≤ 255) }
-{
-    d as u64
-}
-
-fn narrow(d: u64) -> u8
-    requires { d < 10 }
-    ensures { result ≡ d }
-{
-    d as u8
-}
-
 // Multiplies the number that the digits write, the least significant first, by `by` and adds `plus`, over as many
 // digits as there are.
 fn times_plus(digits: &mut [u8], by: u64, plus: u64)
@@ -51,34 +38,11 @@ fn times_plus(digits: &mut [u8], by: u64, plus: u64)
     ensures { digits.new ≡ times_plus by plus digits.old }
 {
     let mut carry = plus;
-    let mut i: usize = 0;
-    while i < digits.len() {
-        let t = wide(digits[i]) * by + carry;
-        digits[i] = narrow(t % 10);
+    for digit in digits.iter_mut() {
+        let t = u64::from(*digit) * by + carry;
+        *digit = (t % 10) as u8;
         carry = t / 10;
-        i += 1;
     }
-}
-
-// Returns base^k.
-fn power(base: u64, k: usize) -> u64
-    requires { (0 < base) × (base ^ k < 2 ^ 64) }
-    ensures { result ≡ base ^ k }
-{
-    let mut p: u64 = 1;
-    let mut i: usize = 0;
-    while i < k {
-        p *= base;
-        i += 1;
-    }
-    p
-}
-
-// Returns how much of a power is worked at once: 5^23 is below 2^54.
-fn step_of(left: usize) -> usize
-    ensures { (result ≤ left) × (result ≤ 23) × (0 < left → 0 < result) }
-{
-    if left < 23 { left } else { 23 }
 }
 
 // Multiplies the number that the digits write by base^k, where there is room for all of its digits.
@@ -88,8 +52,9 @@ fn times_power(digits: &mut [u8], base: u64, k: usize)
 {
     let mut left = k;
     while 0 < left {
-        let step = step_of(left);
-        times_plus(digits, power(base, step), 0);
+        // 5^23 is below 2^54.
+        let step = left.min(23);
+        times_plus(digits, base.pow(step as u32), 0);
         left -= step;
     }
 }
@@ -98,12 +63,10 @@ fn times_power(digits: &mut [u8], base: u64, k: usize)
 fn top(digits: &[u8]) -> usize
     ensures { Top digits.now result }
 {
-    let mut i = digits.len();
-    while 0 < i {
-        if digits[i - 1] != 0 {
-            return i;
+    for i in (0..digits.len()).rev() {
+        if digits[i] != 0 {
+            return i + 1;
         }
-        i -= 1;
     }
     0
 }
@@ -114,10 +77,8 @@ fn number(digits: &[u8]) -> u64
     ensures { result ≡ value digits.now }
 {
     let mut d: u64 = 0;
-    let mut i = digits.len();
-    while 0 < i {
-        i -= 1;
-        d = d * 10 + wide(digits[i]);
+    for i in (0..digits.len()).rev() {
+        d = d * 10 + u64::from(digits[i]);
     }
     d
 }
@@ -146,10 +107,9 @@ fn carried(d: u64, place: usize, n: usize) -> Significant
     ensures { (result.digits ≡ cond (eqb d (10 ^ n)) (10 ^ (n - 1)) d)
         × (result.place ≡ cond (eqb d (10 ^ n)) (place + 1) place) }
 {
-    if d == power(10, n) {
-        let digits = power(10, n - 1);
+    if d == 10u64.pow(n as u32) {
         return Significant {
-            digits,
+            digits: 10u64.pow(n as u32 - 1),
             place: place + 1,
         };
     }

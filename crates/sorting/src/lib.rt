@@ -12,14 +12,13 @@ pub fn insert(xs: &mut [f64], n: usize, x: f64)
     requires { n < length xs.old }
     ensures { xs.new ≡ over (insert x (take n xs.old)) xs.old }
 {
-    let mut k = n;
-    while 0 < k {
-        let y = xs[k - 1];
+    for k in (0..n).rev() {
+        let y = xs[k];
         if !(x < y) {
-            break;
+            xs[k + 1] = x;
+            return;
         }
-        xs[k] = y;
-        k -= 1;
+        xs[k + 1] = y;
     }
-    xs[k] = x;
+    xs[0] = x;
 }

@@ -9,12 +9,9 @@ use lib.Ieee.{Float, binary64, fits}
 use lib.Ieee.Fits.{nan-fits, round-fits}
 use lib.Ieee.Bits.{of_bits-fits}
 use Rattle.floats.specs.Operations.{at}
-use Rattle.hexadecimal.specs.declared.Figure.{Figure}
-use Rattle.hexadecimal.specs.declared.Figure.TheVariants.{Number, NotFigure}
+use Rattle.std.specs.Prelude.{Option, Some, None}
 use Rattle.hexadecimal.specs.Hex.{digit_value, read_digits, figure_of}
 use Rattle.hexadecimal.specs.Hex as hex
-use Rattle.counts.specs.declared.Count.{Count}
-use Rattle.counts.specs.declared.Count.TheVariants.{Whole, NotCount}
 use Rattle.counts.specs.Counts.{count_of, capped_count}
 use Rattle.tokens.specs.Text.{text}
 use Rattle.tokens.specs.Tokens.{line_bytes, tokens}
@@ -52,15 +49,15 @@ drop_f64 (suc n) [] e i = nan-fits binary64
 drop_f64 (suc n) (x ∷ l) e i = drop_f64 n l (λ j. e (suc j)) i
 
 -- ---- a word
-abbrev FigureF64 : Figure → Type 0
-FigureF64 (Number x) = F64 x
-FigureF64 NotFigure = Unit {0}
+abbrev FigureF64 : Option Float → Type 0
+FigureF64 (Some x) = F64 x
+FigureF64 None = Unit {0}
 
-if_figure : (b : Bool) (f : Figure) → FigureF64 f → FigureF64 (hex.pick b f NotFigure)
+if_figure : (b : Bool) (f : Option Float) → FigureF64 f → FigureF64 (hex.pick b f None)
 if_figure true f e = e
 if_figure false f e = tt
 
-one_figure : (b : Bool) (f g : Figure) → FigureF64 f → FigureF64 g → FigureF64 (hex.pick b f g)
+one_figure : (b : Bool) (f g : Option Float) → FigureF64 f → FigureF64 g → FigureF64 (hex.pick b f g)
 one_figure true f g e h = e
 one_figure false f g e h = h
 
@@ -105,14 +102,14 @@ pub picked : (b : Bool) (x y : Reading) → Held x → Held y → Held (pick b x
 picked true x y e h = e
 picked false x y e h = h
 
-figure_taken : (f : Figure) → FigureF64 f → (w : List ℕ) (ts : List (List ℕ)) (t : Taken) → AllF64 t.figures
+figure_taken : (f : Option Float) → FigureF64 f → (w : List ℕ) (ts : List (List ℕ)) (t : Taken) → AllF64 t.figures
     → Held (take_figure f w ts t)
-figure_taken (Number x) f w ts t e = with_one t.figures x e f
-figure_taken NotFigure f w ts t e = picked (is_word w) (reading ts (spoil t)) failed e tt
+figure_taken (Some x) f w ts t e = with_one t.figures x e f
+figure_taken None f w ts t e = picked (is_word w) (reading ts (spoil t)) failed e tt
 
-count_taken : (c : Count) (ts : List (List ℕ)) (t : Taken) → AllF64 t.figures → Held (take_count c ts t)
-count_taken (Whole n) ts t e = e
-count_taken NotCount ts t e = tt
+count_taken : (c : Option ℕ) (ts : List (List ℕ)) (t : Taken) → AllF64 t.figures → Held (take_count c ts t)
+count_taken (Some n) ts t e = e
+count_taken None ts t e = tt
 
 pub one_taken : (p : List ℕ) → Keeps (take_one p)
 unfolding take_one take_word

@@ -8,9 +8,7 @@ use native.Mathlib.Omega.{arith}
 use lib.ListN.{length, take, drop, set, length-set, length-take, length-drop}
 use lib.Seq.{take-suc-set, take-set-le, take-take}
 use lib.Ieee.{Float}
-use Rattle.hexadecimal.specs.declared.Figure.TheVariants.{Number, NotFigure}
-use Rattle.counts.specs.declared.Count.{Count}
-use Rattle.counts.specs.declared.Count.TheVariants.{Whole, NotCount}
+use Rattle.std.specs.Prelude.{Option, Some, None}
 use Rattle.counts.specs.Counts.{count_of, capped_count}
 use Rattle.tokens.specs.Text.{text, codes}
 use Rattle.tokens.specs.Tokens.{tokens}
@@ -94,16 +92,16 @@ module _ (line : List ℕ) (v : List Float) (c : Cursor) (f : TokenRange) (p : L
   plain_word e = rw e
       (by (same_bytes p (text "N")) (same_bytes p (part line f.from f.to)) (capped_count (count_of (part line f.from f.to))))
     where
-      by : (n s : Bool) (k : Count) → ReadsOn line v v c (pick_cursor n (counted k c f.to) (pick_cursor s (on_to c f.to) (not_aform c)))
+      by : (n s : Bool) (k : Option ℕ) → ReadsOn line v v c (pick_cursor n (counted k c f.to) (pick_cursor s (on_to c f.to) (not_aform c)))
           (pick n (take_count k (tokens (drop f.to line)) (taken_before v c))
           (pick s (reading (tokens (drop f.to line)) (taken_before v c)) failed))
-      by true s (Whole n) = moves line v c m (counted (Whole n) c f.to)
-          (take_count (Whole n) (tokens (drop f.to line)) (taken_before v c)) refl later w.within refl
-      by true s NotCount = stays line v c m failed refl
+      by true s (Some n) = moves line v c m (counted (Some n) c f.to)
+          (take_count (Some n) (tokens (drop f.to line)) (taken_before v c)) refl later w.within refl
+      by true s None = stays line v c m failed refl
       by false true k = passes line v c m f.to (reading (tokens (drop f.to line)) (taken_before v c)) later w.within refl
       by false false k = stays line v c m failed refl
 
-  pub no_figure_lem : same_bytes p (text "F") ≡ true → figure_word (part line f.from f.to) ≡ NotFigure
+  pub no_figure_lem : same_bytes p (text "F") ≡ true → figure_word (part line f.from f.to) ≡ None
       → ReadsOn line v v c (pick_cursor (is_word (part line f.from f.to)) (spoiled_to c f.to) (not_aform c)) meant
   unfolding take_word
   no_figure_lem e n = rw (e, n) (by (is_word (part line f.from f.to)))
@@ -115,14 +113,14 @@ module _ (line : List ℕ) (v : List Float) (c : Cursor) (f : TokenRange) (p : L
       by false = stays line v c m failed refl
 
   -- there is room for one more figure
-  pub figure_room : (x : Float) → figure_word (part line f.from f.to) ≡ Number x → (c.figures + 1 ≤ f.to) × (c.figures < length v)
+  pub figure_room : (x : Float) → figure_word (part line f.from f.to) ≡ Some x → (c.figures + 1 ≤ f.to) × (c.figures < length v)
   figure_room x n =
       let l = figure_has_a_byte (part line f.from f.to) x n in
       let k = part_length line f.from f.to w.ordered w.within in
       let a = w.behind in let b = w.ordered in let g = w.within in let s = m.short in let q = m.room in let r = m.few in
       (omega arith, omega arith)
 
-  pub figure_read : (x : Float) → same_bytes p (text "F") ≡ true → figure_word (part line f.from f.to) ≡ Number x
+  pub figure_read : (x : Float) → same_bytes p (text "F") ≡ true → figure_word (part line f.from f.to) ≡ Some x
       → ReadsOn line v (set v c.figures x) c
       (record { ok = true; at = f.to; figures = c.figures + 1; number = c.number; spoiled = c.spoiled }) meant
   unfolding take_word

@@ -1,7 +1,6 @@
 -- How the code keeps a reading: a place in the line, and the figures at the start of a lent slice.
 use Rattle.std.specs.Prelude.{Bool, true, false, cond, List, [], ◌∷◌, ◌≡◌, ℕ, ◌+◌, ◌≤◌, ltb, length, take, drop, Float}
-use Rattle.counts.specs.declared.Count.{Count}
-use Rattle.counts.specs.declared.Count.TheVariants.{Whole, NotCount}
+use Rattle.std.specs.Prelude.{Option, Some, None}
 use Rattle.counts.specs.Counts.{count_of, capped_count}
 use Rattle.tokens.specs.Text.{text}
 use Rattle.tokens.specs.Tokens.{line_bytes, tokens}
@@ -62,9 +61,9 @@ pick_cursor true a b = a
 pick_cursor false a b = b
 
 -- the cursor after a word that is a count; any other word makes the line no form
-abbrev pub counted : Count → Cursor → ℕ → Cursor
-counted (Whole n) c to = record { ok = true; at = to; figures = c.figures; number = n; spoiled = c.spoiled }
-counted NotCount c to = not_aform c
+abbrev pub counted : Option ℕ → Cursor → ℕ → Cursor
+counted (Some n) c to = record { ok = true; at = to; figures = c.figures; number = n; spoiled = c.spoiled }
+counted None c to = not_aform c
 
 -- the cursor after a word held against a token of a template other than `F`
 abbrev pub plain_to : List ℕ → List ℕ → Cursor → ℕ → Cursor

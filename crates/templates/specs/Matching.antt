@@ -1,10 +1,7 @@
 -- Reading a line by templates (docs/FORMS.md). A template is written as the form is: its tokens are held against the
 -- line's, one by one. `F` stands for a figure, `F..` for figures, as many as there are, and `N` for a count.
 use Rattle.std.specs.Prelude.{List, [], ◌∷◌, ◌++◌, Bool, true, false, ◌&&◌, not, cond, ℕ, zero, suc, leb, eqb, Float}
-use Rattle.hexadecimal.specs.declared.Figure.{Figure}
-use Rattle.hexadecimal.specs.declared.Figure.TheVariants.{Number, NotFigure}
-use Rattle.counts.specs.declared.Count.{Count}
-use Rattle.counts.specs.declared.Count.TheVariants.{Whole, NotCount}
+use Rattle.std.specs.Prelude.{Option, Some, None}
 use Rattle.counts.specs.Counts.{count_of, capped_count}
 use Rattle.tokens.specs.Text.{text}
 use Rattle.tokens.specs.Tokens.{line_bytes, tokens}
@@ -53,13 +50,13 @@ is_word (b ∷ w) = is_word_byte b && is_word w
 
 -- "Where a figure belongs, a line with any word is a form" (docs/FORMS.md): reading goes on after a word that is no
 -- figure, and the end of the line refuses it
-abbrev pub take_figure : Figure → List ℕ → List (List ℕ) → Taken → Reading
-take_figure (Number x) w ts t = reading ts (with_figure x t)
-take_figure NotFigure w ts t = pick (is_word w) (reading ts (spoil t)) failed
+abbrev pub take_figure : Option Float → List ℕ → List (List ℕ) → Taken → Reading
+take_figure (Some x) w ts t = reading ts (with_figure x t)
+take_figure None w ts t = pick (is_word w) (reading ts (spoil t)) failed
 
-abbrev pub take_count : Count → List (List ℕ) → Taken → Reading
-take_count (Whole n) ts t = reading ts (with_number n t)
-take_count NotCount ts t = failed
+abbrev pub take_count : Option ℕ → List (List ℕ) → Taken → Reading
+take_count (Some n) ts t = reading ts (with_number n t)
+take_count None ts t = failed
 
 -- the template's token p against the line's token w: `F` takes a figure, `N` a count, any other token itself. A count
 -- is capped at a million here; no answer and no scratch shows it (lines/proofs/Capped).

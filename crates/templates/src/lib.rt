@@ -14,8 +14,6 @@ ghost use Rattle.templates.specs.Matching.{take_text, take_each, one_of, optiona
 ghost use Rattle.templates.specs.Cursors.{taken_before, Room, ReadsOn, Takes, IsWordAt, line_start, not_aform, on_to};
 ghost use Rattle.templates.specs.Cursors.{spoiled_to, pick_cursor, counted, plain_to, numbered_cursor, IsBarEnd};
 
-use counts::Count;
-use hexadecimal::Figure;
 use tokens::{LINE_BYTES, TokenRange};
 
 // The most figures that a line may have: each has at least one byte.
@@ -98,14 +96,14 @@ fn take_count(c: Cursor, word: &[u8], to: usize) -> Cursor
     ensures { result ≡ counted (capped_count (count_of word.now)) c to }
 {
     match counts::read_count(word) {
-        Count::Whole(n) => Cursor {
+        Some(n) => Cursor {
             ok: true,
             at: to,
             figures: c.figures,
             number: n as usize,
             spoiled: c.spoiled,
         },
-        Count::NotCount => not_a_form(c),
+        None => not_a_form(c),
     }
 }
 
@@ -182,7 +180,7 @@ fn take_word(line: &[u8], c: Cursor, wanted: &[u8], found: TokenRange, values: &
     let figure = same_bytes(wanted, b"F");
     if figure {
         match figure_words::read_figure(word) {
-            Figure::Number(x) => {
+            Some(x) => {
                 values[figures] = x;
                 let more = figures + 1;
                 Cursor {
@@ -193,7 +191,7 @@ fn take_word(line: &[u8], c: Cursor, wanted: &[u8], found: TokenRange, values: &
                     spoiled: c.spoiled,
                 }
             }
-            Figure::NotFigure => take_no_figure(c, word, to),
+            None => take_no_figure(c, word, to),
         }
     } else {
         take_plain(c, wanted, word, to)

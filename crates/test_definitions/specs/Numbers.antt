@@ -1,6 +1,6 @@
 -- Numbers: powers and comparisons of f64s, the root, sine and cosine, the airfoil's constants, figures and counts as
 -- text.
-use Rattle.std.specs.Prelude.{Bool, true, false, not, ◌&&◌, List, [], ◌∷◌, ℕ, T, eqb, Float}
+use Rattle.std.specs.Prelude.{Bool, true, false, not, ◌&&◌, List, [], ◌∷◌, ℕ, T, eqb, Float, Option, Some, None}
 use Rattle.std.specs.Float.Ieee.{add, sub, mul, div, neg, of_bits, to_bits, of_int, round, is_nan, lt, le, eq, ne}
 use Rattle.floats.specs.Operations.{bits}
 use Rattle.floats.specs.Constants.{one, two}
@@ -8,11 +8,7 @@ use Rattle.floats.specs.Floats.{is_finite, abs_of, min_of, max_of, square, cube,
 use Rattle.root.specs.Root.{near_root, root_of}
 use Rattle.trig.specs.Trig.{m_of, quarter_turns, sin_cos_of, sin_of, cos_of}
 use Rattle.sections.specs.Airfoil.{closed_tail, open_tail, airfoil_constants}
-use Rattle.hexadecimal.specs.declared.Figure.{Figure}
-use Rattle.hexadecimal.specs.declared.Figure.TheVariants.{Number, NotFigure}
 use Rattle.hexadecimal.specs.Hex as hex
-use Rattle.counts.specs.declared.Count.{Count}
-use Rattle.counts.specs.declared.Count.TheVariants.{Whole, NotCount}
 use Rattle.counts.specs.Counts as counts
 use Rattle.test_definitions.specs.Rows.{is, are, same}
 
@@ -110,13 +106,13 @@ airfoil_constants_lem =
 
 -- ---- texts
 
-abbrev figure : ℕ → Figure → Bool
-figure b (Number x) = is x b
-figure b NotFigure = false
+abbrev figure : ℕ → Option Float → Bool
+figure b (Some x) = is x b
+figure b None = false
 
-abbrev no_figure : Figure → Bool
-no_figure (Number x) = false
-no_figure NotFigure = true
+abbrev no_figure : Option Float → Bool
+no_figure (Some x) = false
+no_figure None = true
 
 -- fifteen zeros and a last digit
 abbrev zeros_and : ℕ → List ℕ
@@ -141,9 +137,9 @@ printed_figures =
     && same (hex.figure_text minus_zero) (then_zeros 48 48 48 48)
     && same (hex.figure_text no_number) (then_zeros 55 102 102 56)
 
-abbrev count : ℕ → Count → Bool
-count n (Whole m) = eqb m n
-count n NotCount = false
+abbrev count : ℕ → Option ℕ → Bool
+count n (Some m) = eqb m n
+count n None = false
 
 -- "Counts are decimal": 204, printed and read; a colon, the byte after 9, is no digit; 999,999 is not capped
 abbrev pub decimal_counts : Bool

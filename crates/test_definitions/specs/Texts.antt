@@ -1,11 +1,10 @@
 -- Lines and answers as text: figures as words, tokens, forms, and what is printed (docs/FORMS.md).
 use Rattle.std.specs.Prelude.{Bool, true, false, not, ◌&&◌, List, [], ◌∷◌, ◌≡◌, refl, ℕ, T, eqb, Float}
+use Rattle.std.specs.Prelude.{Option, Some, None}
 use Prim.Native.String.{String}
 use Rattle.std.specs.Float.Ieee.{of_bits, to_bits, round, is_nan, eq}
 use Rattle.floats.specs.Operations.{bits, tabulate}
 use Rattle.refusals.specs.Refusals as refusals
-use Rattle.hexadecimal.specs.declared.Figure.{Figure}
-use Rattle.hexadecimal.specs.declared.Figure.TheVariants.{Number, NotFigure}
 use Rattle.hexadecimal.specs.Hex as hex
 use Rattle.counts.specs.Counts as counts
 use Rattle.tokens.specs.Text.{text, codes}
@@ -36,16 +35,16 @@ use Rattle.test_definitions.specs.Rows.{is, same}
 abbrev figure : ℕ → String → Bool
 figure b word = is_number (figure_word (text word))
   where
-    is_number : Figure → Bool
-    is_number (Number x) = is x b
-    is_number NotFigure = false
+    is_number : Option Float → Bool
+    is_number (Some x) = is x b
+    is_number None = false
 
 abbrev no_figure : String → Bool
 no_figure word = is_none (figure_word (text word))
   where
-    is_none : Figure → Bool
-    is_none (Number x) = false
-    is_none NotFigure = true
+    is_none : Option Float → Bool
+    is_none (Some x) = false
+    is_none None = true
 
 -- "`0.0032`, `-5`, `+12.50`; not `.5`, `5.`, `1e3`"; 1 to 19 digits in all; sixteen bare digits are no figure, with a
 -- sign or a point they are one; no sign stands before the mark

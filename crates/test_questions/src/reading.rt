@@ -4,7 +4,6 @@
 ghost use Rattle.std.specs.Prelude.{◌≤◌, length};
 ghost use Rattle.test_questions.specs.Parts.{line_figures, Reached};
 
-use hexadecimal::Figure;
 use templates::same_bytes;
 use tokens::LINE_BYTES;
 
@@ -96,7 +95,7 @@ fn take_one(line: &[u8], c: Cursor, wanted: &[u8], values: &mut [f64]) -> Cursor
     if LINE_FIGURES <= figures {
         return fails;
     }
-    let Figure::Number(x) = hexadecimal::read_figure(word) else {
+    let Some(x) = hexadecimal::read_figure(word) else {
         return fails;
     };
     values[figures] = x;

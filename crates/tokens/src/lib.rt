@@ -33,14 +33,12 @@ fn past_spaces(line: &[u8], at: usize) -> usize
     requires { at ≤ length line.now }
     ensures { IsPastSpaces line.now at result }
 {
-    let mut i = at;
-    while i < line.len() {
+    for i in at..line.len() {
         if line[i] != 32 {
             return i;
         }
-        i += 1;
     }
-    i
+    line.len()
 }
 
 // Returns the first place from `at` on whose byte ends a word, or the line's end.
@@ -48,14 +46,12 @@ fn word_end(line: &[u8], at: usize) -> usize
     requires { at ≤ length line.now }
     ensures { IsWordEnd line.now at result }
 {
-    let mut i = at;
-    while i < line.len() {
+    for i in at..line.len() {
         if ends_word(line[i]) {
             return i;
         }
-        i += 1;
     }
-    i
+    line.len()
 }
 
 // Returns where the first token of the line from `at` on stands. A byte there that ends a word and is no space is a

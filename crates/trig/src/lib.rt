@@ -47,12 +47,10 @@ fn series(z: f64) -> [f64; 2]
     ensures { (at result 0 ≡ steps z sine_divisors (whole 1)) × (at result 1 ≡ steps z cosine_divisors (whole 1)) }
 {
     let mut v = [1.0, 1.0];
-    let mut i = 0usize;
-    while i < 8 {
+    for i in 0..8 {
         let sine = 1.0 - z / SINE_DIVISORS[i] * v[0];
         let cosine = 1.0 - z / COSINE_DIVISORS[i] * v[1];
         v = [sine, cosine];
-        i += 1;
     }
     v
 }

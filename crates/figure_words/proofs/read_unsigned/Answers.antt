@@ -6,7 +6,7 @@ use mathlib.Core.List.{List}
 use Prim.Native.Nat.{ℕ, ◌+◌, ◌-◌, ◌≤◌}
 use lib.ListN.{length, drop}
 use lib.Ieee.{Float}
-use Rattle.hexadecimal.specs.declared.Figure.TheVariants.{Number, NotFigure}
+use Rattle.std.specs.Prelude.{Some, None}
 use Rattle.decimals.specs.Decimals.{decimal_of}
 use Rattle.figure_words.specs.FigureWords.{unsigned_figure}
 use Rattle.figure_words.proofs.Words.{none, whole_read, other_byte, for_second, no_fraction, more, few_behind, all_read}
@@ -35,11 +35,11 @@ digits_from-all-requires c =
 
 -- what holds behind the point, wherever the second run ends
 record Behind (bare minus : Bool) (w : List ℕ) (at e m' e' : ℕ) : Type 0 where
-  none_there : e' ≡ e + 1 → NotFigure ≡ unsigned_figure bare minus (drop at w)
-  more_there : (e' ≡ length w → ⊥) → NotFigure ≡ unsigned_figure bare minus (drop at w)
+  none_there : e' ≡ e + 1 → None ≡ unsigned_figure bare minus (drop at w)
+  more_there : (e' ≡ length w → ⊥) → None ≡ unsigned_figure bare minus (drop at w)
   few : e' - e - 1 ≤ 18
   read : e' ≡ length w → (e' ≡ e + 1 → ⊥) → {x : Float} → x ≡ decimal_of minus m' (e' - e - 1)
-      → Number x ≡ unsigned_figure bare minus (drop at w)
+      → Some x ≡ unsigned_figure bare minus (drop at w)
 
 behind : (c : After-digits_from-all) →
     let a = c.args in

@@ -4,7 +4,7 @@ use mathlib.Core.List.{List, ◌++◌}
 use mathlib.Core.Path.{◌≡◌, refl, sym, ap, ◌∙◌}
 use Prim.Native.Nat.{ℕ, ◌+◌, ◌-◌}
 use native.Mathlib.Omega.{arith}
-use lib.ListN.{take, length-set}
+use lib.ListN.{take}
 use lib.Seq.{drop-set-lt}
 use lib.Ieee.{Float}
 use Rattle.hexadecimal.specs.Hex.{digits, printed_bits, figure_text}
@@ -22,49 +22,27 @@ printed x out₀ out n k rest z e t = all_printed (digits 16 (printed_bits x)) o
 
 pub loop-k-init : goal.loop-k-init
 loop-k-init c = (
-  omega arith,
-  refl,
   refl,
   start c.args.x c.args.out.now
       c.args.n c.printed_bits-rest.result c.printed_bits-rest.ensures,
   refl,
 )
 
-pub overflow_sub-k : goal.overflow_sub-k
-overflow_sub-k c = omega arith
-
-pub overflow_add-out : goal.overflow_add-out
-overflow_add-out c = omega arith
-
-pub bounds-out-n : goal.bounds-out-n
-bounds-out-n c = omega arith
-
-pub loop-k-smaller : goal.loop-k-smaller
-loop-k-smaller c = omega arith
-
 pub loop-k-preserved : goal.loop-k-preserved
 loop-k-preserved c = let s = c.args in (
-  omega arith,
-  simp length-set (omega arith),
   before_kept s.out.now c.loop-k.out s.n (c.loop-k.k - 1) c.digit_letter.result
-      c.loop-k.invariant.2,
+      c.loop-k.invariant.0,
   next_digit (digits 16 (printed_bits s.x)) c.loop-k.out s.n c.loop-k.k c.loop-k.rest
-      c.digit_letter.result (omega arith) (omega arith) (omega arith) c.digit_letter.ensures c.loop-k.invariant.3,
+      c.digit_letter.result (omega arith) (omega arith) (omega arith) c.digit_letter.ensures c.loop-k.invariant.1,
   drop-set-lt
-      (s.n + 16) c.loop-k.out (s.n + (c.loop-k.k - 1)) c.digit_letter.result (omega arith) ∙ c.loop-k.invariant.4,
+      (s.n + 16) c.loop-k.out (s.n + (c.loop-k.k - 1)) c.digit_letter.result (omega arith) ∙ c.loop-k.invariant.2,
 )
 
-pub overflow_add-result : goal.overflow_add-result
-overflow_add-result c = omega arith
-
-pub shape_of-out : goal.shape_of-out
-shape_of-out c = omega arith
-
 pub returns : goal.returns
-returns c = let s = c.args in let l = figure_length s.x in
+returns c = let s = c.args in
     record {
-      ends = omega arith;
-      holds = printed s.x s.out.now c.loop-k.out s.n c.loop-k.k c.loop-k.rest (omega arith) c.loop-k.invariant.2
-          c.loop-k.invariant.3;
-      rest = c.loop-k.invariant.4;
+      ends = omega (arith, figure_length s.x);
+      holds = printed s.x s.out.now c.loop-k.out s.n c.loop-k.k c.loop-k.rest (omega arith) c.loop-k.invariant.0
+          c.loop-k.invariant.1;
+      rest = c.loop-k.invariant.2;
     }

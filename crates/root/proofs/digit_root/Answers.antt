@@ -2,7 +2,7 @@
 -- left over. Assumes nothing.
 use Prim.Native.Nat.{ℕ, ◌+◌, ◌-◌, ◌*◌, ◌/◌, ◌%◌, ◌^◌, ◌≤◌, ◌<◌}
 use mathlib.Core.Path.{◌≡◌, sym, ap, ◌∙◌}
-use native.Mathlib.Nat.{le_antisymm, mul_assoc, mul_comm, mul-one, pow-suc, pow-succ'}
+use native.Mathlib.Nat.{mul_assoc, mul_comm, mul-one, pow-suc, pow-succ'}
 use native.Mathlib.Numerals.{add-one}
 use native.Mathlib.Omega.{arith}
 use lib.Pow.{pow_mono}
@@ -12,45 +12,14 @@ use Rattle.root.proofs.digit_root.Goals as goal
 use Rattle.root.proofs.digit_root.Goals.{then-trial-more, else-trial-more}
 use Rattle.root.proofs.digit_root.Invariants.{State}
 
-pub loop-i-init : goal.loop-i-init
-loop-i-init c = record {
-  turns = omega arith;
+pub loop-init : goal.loop-init
+loop-init c = record {
   few = omega arith;
   over = omega arith;
   digits = omega arith;
   fits = omega arith;
   whole = omega (arith, mul-one c.args.n);
 }
-
-pub overflow_mul-more : goal.overflow_mul-more
-overflow_mul-more c = omega arith
-
-pub overflow_add-more : goal.overflow_add-more
-overflow_add-more c = omega arith
-
-pub overflow_mul-left : goal.overflow_mul-left
-overflow_mul-left c = omega arith
-
-pub overflow_mul-trial : goal.overflow_mul-trial
-overflow_mul-trial c = omega arith
-
-pub overflow_add-trial : goal.overflow_add-trial
-overflow_add-trial c = omega arith
-
-pub overflow_mul-s : goal.overflow_mul-s
-overflow_mul-s c = omega arith
-
-pub overflow_add-s : goal.overflow_add-s
-overflow_add-s c = omega arith
-
-pub overflow_mul-s-else-trial-more : goal.overflow_mul-s-else-trial-more
-overflow_mul-s-else-trial-more c = omega arith
-
-pub overflow_add-i : goal.overflow_add-i
-overflow_add-i c = omega arith
-
-pub loop-i-smaller : goal.loop-i-smaller
-loop-i-smaller c = omega arith
 
 -- ---- one turn
 
@@ -67,31 +36,28 @@ module _ (n i left s rest : ℕ) (z : State n i left s rest) (h : i < 53) where
   one : 4 * s + 1 ≤ 4 * rest + left / 2 ^ 52 → State n (i + 1) (left % 2 ^ 52 * 4) (2 * s + 1) (4 * rest + left / 2 ^ 52 - (4 * s + 1))
   one t =
       let p = fours in let d = twos in let q = odd_square s in
-      record { turns = omega arith; few = omega arith; over = omega arith; digits = omega arith; fits = room; whole = omega arith }
+      record { few = omega arith; over = omega arith; digits = omega arith; fits = room; whole = omega arith }
 
   nought : 4 * rest + left / 2 ^ 52 < 4 * s + 1 → State n (i + 1) (left % 2 ^ 52 * 4) (2 * s) (4 * rest + left / 2 ^ 52)
   nought t =
       let p = fours in let d = twos in let q = even_square s in
-      record { turns = omega arith; few = omega arith; over = omega arith; digits = omega arith; fits = room; whole = omega arith }
+      record { few = omega arith; over = omega arith; digits = omega arith; fits = room; whole = omega arith }
 
-pub loop-i-preserved : goal.loop-i-preserved
-loop-i-preserved c =
-    let l = c.loop-i in
+pub loop-preserved : goal.loop-preserved
+loop-preserved c =
+    let l = c.loop in
     let n = c.args.n in
     elim c.if-trial-more.branch [
-      | then-trial-more w ↦ rw (w.s-is, w.rest-is) (one n l.i l.left l.s l.rest l.invariant (omega arith) w.if-trial-more.true)
-      | else-trial-more w ↦ rw (w.s-is, w.rest-is) (nought n l.i l.left l.s l.rest l.invariant (omega arith) w.if-trial-more.false)
+      | then-trial-more w ↦ rw (w.s-is, w.rest-is) (one n l.counter l.left l.s l.rest l.invariant (omega arith) w.if-trial-more.true)
+      | else-trial-more w ↦ rw (w.s-is, w.rest-is) (nought n l.counter l.left l.s l.rest l.invariant (omega arith) w.if-trial-more.false)
     ]
-
-pub overflow_add-result : goal.overflow_add-result
-overflow_add-result c = omega arith
 
 -- ---- after the last turn s * s + rest is the whole radicand
 
-module _ (n i left s rest : ℕ) (z : State n i left s rest) (h : 53 ≤ i) (o : 0 < n) (b : n < 2 ^ 54) where
+module _ (n i left s rest : ℕ) (z : State n i left s rest) (h : i ≡ 53) (o : 0 < n) (b : n < 2 ^ 54) where
   all : s * s + rest ≡ n * 2 ^ 52
   all =
-      let w : n * 4 ^ i ≡ n * 4 ^ 53 = ap (λ (j : ℕ). n * 4 ^ j) (let e : i ≡ 53 = let k = z.turns in le_antisymm k h in e) in
+      let w : n * 4 ^ i ≡ n * 4 ^ 53 = ap (λ (j : ℕ). n * 4 ^ j) h in
       omega (arith, z.whole, z.few)
 
   down : rest ≤ s → s ≡ near_root (n * 2 ^ 52)
@@ -102,12 +68,12 @@ module _ (n i left s rest : ℕ) (z : State n i left s rest) (h : 53 ≤ i) (o :
 
 pub returns-then-rest-s : goal.returns-then-rest-s
 returns-then-rest-s c =
-    let l = c.loop-i in
-    down c.args.n l.i l.left l.s l.rest l.invariant (omega arith) (omega arith) (omega arith)
+    let l = c.loop in
+    down c.args.n l.counter l.left l.s l.rest l.invariant (omega arith) (omega arith) (omega arith)
     (omega arith)
 
 pub returns-else-rest-s : goal.returns-else-rest-s
 returns-else-rest-s c =
-    let l = c.loop-i in
-    up c.args.n l.i l.left l.s l.rest l.invariant (omega arith) (omega arith) (omega arith)
+    let l = c.loop in
+    up c.args.n l.counter l.left l.s l.rest l.invariant (omega arith) (omega arith) (omega arith)
     (omega arith)

@@ -20,36 +20,21 @@ few l i h g =
     (let e = length-drop i l in let z : 0 < 10 = omega arith in let y : length (drop i l) ≤ 16 = omega (arith, e) in pow-le-pow_right z y)
 
 pub loop-i-init : goal.loop-i-init
-loop-i-init c = (omega arith, none_yet c.args.digits.now)
-
-pub overflow_sub-i : goal.overflow_sub-i
-overflow_sub-i c = omega arith
+loop-i-init c = none_yet c.args.digits.now
 
 pub overflow_mul-d : goal.overflow_mul-d
-overflow_mul-d c = let v = c.loop-i in
-    omega (arith, v.invariant.1, few c.args.digits.now v.i c.requires.0 c.requires.1)
-
-pub bounds-digits-i : goal.bounds-digits-i
-bounds-digits-i c = omega arith
-
-pub wide-requires : goal.wide-requires
-wide-requires c = tt
+overflow_mul-d c =
+    omega (arith, c.loop-i.invariant, few c.args.digits.now c.loop-i.i c.requires.0 c.requires.1)
 
 pub overflow_add-d : goal.overflow_add-d
 overflow_add-d c =
-    let v = c.loop-i in
-    omega (arith, v.invariant.1, few c.args.digits.now v.i c.requires.0 c.requires.1, c.wide.ensures.1)
-
-pub loop-i-smaller : goal.loop-i-smaller
-loop-i-smaller c = omega arith
+    omega (arith, c.loop-i.invariant, few c.args.digits.now c.loop-i.i c.requires.0 c.requires.1)
 
 pub loop-i-preserved : goal.loop-i-preserved
 loop-i-preserved c =
-    let v = c.loop-i in
-    let l = c.args.digits.now in
-    (omega arith, let e = one_lower l v.i (omega arith) v.invariant.0 in omega (arith, v.invariant.1, e, c.wide.ensures.0))
+    let i = c.loop-i.i in
+    let e = one_lower c.args.digits.now i (omega arith) (omega arith) in
+    omega (arith, c.loop-i.invariant, e, c.from.ensures)
 
 pub returns : goal.returns
-returns c =
-    let v = c.loop-i in
-    v.invariant.1 ∙ ap (λ (i : ℕ). value (drop i c.args.digits.now)) (let z : v.i ≡ 0 = omega arith in z)
+returns c = c.loop-i.invariant ∙ ap (λ (i : ℕ). value (drop i c.args.digits.now)) (let z : c.loop-i.i ≡ 0 = omega arith in z)

@@ -6,7 +6,7 @@ use Prim.Native.Nat.{ℕ, suc, ◌+◌, ◌*◌, ◌/◌, ◌%◌, ◌^◌, ◌�
 use native.Mathlib.Nat.{mul-le-mul}
 use native.Mathlib.Numerals.{add-one}
 use native.Mathlib.Omega.{arith}
-use lib.ListN.{length, take, drop, set, get_or, length-set, drop_of_length-le}
+use lib.ListN.{length, take, drop, set, get_or, drop_of_length-le}
 use lib.Seq.{take_all, take-suc-set, drop-set-lt, drop-cons}
 use Rattle.significant.specs.Digits.{times_plus}
 use Rattle.significant.proofs.Values.{append_nil}
@@ -14,7 +14,7 @@ use Rattle.significant.proofs.times_plus.Goals as goal
 use Rattle.significant.proofs.times_plus.Invariants.{SoFar}
 
 start : (by plus : ℕ) (l : List ℕ) → plus ≤ 2 ^ 59 → SoFar by plus l l plus 0
-start by plus l h = record { same = refl; within = omega arith; done = refl; few = h }
+start by plus l h = record { done = refl; few = h }
 
 product : (d by : ℕ) → d ≤ 255 → by ≤ 2 ^ 54 → d * by ≤ 255 * 2 ^ 54
 product d by h g = mul-le-mul h g
@@ -26,11 +26,7 @@ unfolding times_plus
 next by plus before digits carry i d t r q v b h o e f g k =
     let p = product d by o b in
     let w = v.few in
-    let u = v.same in
-    let ls = length-set digits i r in
     record {
-      same = omega (arith, u, ls);
-      within = omega (arith, ls);
       done =
           v.done
           ∙ ap (λ (x : List ℕ). take i digits ++ times_plus by carry x) (drop-cons digits i 0 h)
@@ -55,45 +51,22 @@ ends by plus before digits carry i v h =
     ∙ ap (λ (x : List ℕ). digits ++ times_plus by carry x) (drop_of_length-le digits h)
     ∙ append_nil digits)
 
-pub loop-i-init : goal.loop-i-init
-loop-i-init c = start c.args.by c.args.plus c.args.digits.now c.requires.1
-
-pub bounds-digits-i : goal.bounds-digits-i
-bounds-digits-i c = omega arith
-
-pub wide-requires : goal.wide-requires
-wide-requires c = tt
+pub loop-digit-init : goal.loop-digit-init
+loop-digit-init c = start c.args.by c.args.plus c.args.digits.now c.requires.1
 
 pub overflow_mul-t : goal.overflow_mul-t
-overflow_mul-t c = omega (arith, product c.wide.result c.args.by c.wide.ensures.1 c.requires.0)
+overflow_mul-t c = omega (arith, product c.from.result c.args.by (omega arith) c.requires.0)
 
 pub overflow_add-t : goal.overflow_add-t
-overflow_add-t c =
-    omega (arith, product c.wide.result c.args.by c.wide.ensures.1 c.requires.0, c.loop-i.invariant.few)
+overflow_add-t c = omega (arith, product c.from.result c.args.by (omega arith) c.requires.0, c.loop-digit.invariant.few)
 
-pub narrow-requires : goal.narrow-requires
-narrow-requires c = omega arith
-
-pub bounds-digits-i-in-loop-i : goal.bounds-digits-i-in-loop-i
-bounds-digits-i-in-loop-i c = omega arith
-
-pub overflow_add-i : goal.overflow_add-i
-overflow_add-i c = omega arith
-
-pub loop-i-smaller : goal.loop-i-smaller
-loop-i-smaller c = omega arith
-
-pub loop-i-preserved : goal.loop-i-preserved
-loop-i-preserved c =
-    let v = c.loop-i in
-    next c.args.by c.args.plus c.args.digits.now v.digits v.carry v.i c.wide.result
-    (c.wide.result * c.args.by + v.carry) c.narrow.result ((c.wide.result * c.args.by + v.carry) / 10)
-    v.invariant c.requires.0 (omega arith) c.wide.ensures.1 c.wide.ensures.0 refl c.narrow.ensures refl
-
-pub shape_of-digits : goal.shape_of-digits
-shape_of-digits c = omega arith
+pub loop-digit-preserved : goal.loop-digit-preserved
+loop-digit-preserved c =
+    let l = c.loop-digit in
+    next c.args.by c.args.plus c.args.digits.now l.digits l.carry l.digit-index c.from.result
+    (c.from.result * c.args.by + l.carry) _ _ l.invariant c.requires.0 (omega arith) (omega arith) c.from.ensures refl refl refl
 
 pub returns : goal.returns
 returns c =
-    let v = c.loop-i in
-    ends c.args.by c.args.plus c.args.digits.now v.digits v.carry v.i v.invariant (omega arith)
+    let l = c.loop-digit in
+    ends c.args.by c.args.plus c.args.digits.now l.digits l.carry l.digit-index l.invariant (omega arith)

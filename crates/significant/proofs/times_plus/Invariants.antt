@@ -2,19 +2,14 @@
 -- were. Assumes nothing.
 use mathlib.Core.List.{List, ◌++◌}
 use mathlib.Core.Path.{◌≡◌}
-use Prim.Native.Nat.{ℕ, ◌-◌, ◌^◌, ◌≤◌}
-use lib.ListN.{length, take, drop}
+use Prim.Native.Nat.{ℕ, ◌^◌, ◌≤◌}
+use lib.ListN.{take, drop}
 use Rattle.significant.specs.Digits.{times_plus}
 use Rattle.significant.proofs.times_plus.Given as goal
 
 pub record SoFar (by plus : ℕ) (before digits : List ℕ) (carry i : ℕ) : Type 0 where
-  pub same : length digits ≡ length before
-  pub within : i ≤ length digits
   pub done : times_plus by plus before ≡ take i digits ++ times_plus by carry (drop i digits)
   pub few : carry ≤ 2 ^ 59
 
-abbrev pub invariant-loop-i : goal.invariant-loop-i
-invariant-loop-i l = SoFar l.by l.plus l.initial.digits l.digits l.carry l.i
-
-abbrev pub decreases-loop-i : goal.decreases-loop-i
-decreases-loop-i l = length l.initial.digits - l.i
+abbrev pub invariant-loop-digit : goal.invariant-loop-digit
+invariant-loop-digit l = SoFar l.by l.plus l.initial.digits l.digits l.carry l.digit-index

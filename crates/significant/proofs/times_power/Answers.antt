@@ -43,33 +43,19 @@ next before digits base k left step p v b room h e =
 pub loop-left-init : goal.loop-left-init
 loop-left-init c = record { same = refl; each = c.requires.2; is = refl }
 
-pub step_of-step-requires : goal.step_of-step-requires
-step_of-step-requires c = tt
-
-pub power-requires : goal.power-requires
-power-requires c =
-    (c.requires.1, omega (arith, few c.args.base c.step_of-step.result c.requires.0 c.step_of-step.ensures.1))
+pub pow-requires : goal.pow-requires
+pow-requires c = omega (arith, few c.args.base c.min-step.result c.requires.0 (omega arith))
 
 pub times_plus-requires : goal.times_plus-requires
-times_plus-requires c =
-    (omega (arith, few c.args.base c.step_of-step.result c.requires.0 c.step_of-step.ensures.1, c.power.ensures), omega arith)
-
-pub overflow_sub-left : goal.overflow_sub-left
-overflow_sub-left c = c.step_of-step.ensures.0
-
-pub loop-left-smaller : goal.loop-left-smaller
-loop-left-smaller c =
-    let e = c.step_of-step.ensures in
-    let h = e.2 (omega arith) in
-    omega (arith, h, e.0)
+times_plus-requires c = (omega (arith, few c.args.base c.min-step.result c.requires.0 (omega arith), c.pow.ensures), omega arith)
 
 pub loop-left-preserved : goal.loop-left-preserved
 loop-left-preserved c =
     let v = c.loop-left in
-    subst (λ (d : List ℕ). SoFar c.args.digits.now d c.args.base c.args.k (v.left - c.step_of-step.result))
+    subst (λ (d : List ℕ). SoFar c.args.digits.now d c.args.base c.args.k (v.left - c.min-step.result))
     (sym c.times_plus.ensures)
-    (next c.args.digits.now v.digits c.args.base c.args.k v.left c.step_of-step.result c.power.result v.invariant
-    c.requires.1 c.requires.3 c.step_of-step.ensures.0 c.power.ensures)
+    (next c.args.digits.now v.digits c.args.base c.args.k v.left c.min-step.result c.pow.result v.invariant
+    c.requires.1 c.requires.3 (omega arith) c.pow.ensures)
 
 pub shape_of-digits : goal.shape_of-digits
 shape_of-digits c = c.loop-left.invariant.same

@@ -1,7 +1,7 @@
 -- `significant::top` meets its contract: all digits from i on are 0. Assumes nothing.
 use mathlib.Core.List.{List}
 use mathlib.Core.Path.{◌≡◌, ap, subst}
-use Prim.Native.Nat.{ℕ}
+use Prim.Native.Nat.{ℕ, ◌+◌, ◌-◌}
 use native.Mathlib.Omega.{arith}
 use lib.ListN.{length, drop}
 use lib.Seq.{drop-length}
@@ -14,36 +14,23 @@ unfolding value
 none_above l = ap value (drop-length l)
 
 pub loop-i-init : goal.loop-i-init
-loop-i-init c = (omega arith, none_above c.args.digits.now)
-
-pub overflow_sub-i : goal.overflow_sub-i
-overflow_sub-i c = omega arith
-
-pub bounds-digits-i : goal.bounds-digits-i
-bounds-digits-i c = omega arith
+loop-i-init c = none_above c.args.digits.now
 
 pub returns-then-digits-i-ne0 : goal.returns-then-digits-i-ne0
 returns-then-digits-i-ne0 c =
-    let v = c.loop-i in
-    record { within = v.invariant.0; above = v.invariant.1; digit = λ _. omega arith }
-
-pub overflow_sub-i-in-loop-i : goal.overflow_sub-i-in-loop-i
-overflow_sub-i-in-loop-i c = omega arith
-
-pub loop-i-smaller : goal.loop-i-smaller
-loop-i-smaller c = omega arith
+    let e : c.loop-i.i - 1 + 1 ≡ c.loop-i.i = omega arith in
+    rw e (record { within = omega arith; above = c.loop-i.invariant; digit = λ _. omega arith })
 
 pub loop-i-preserved : goal.loop-i-preserved
 loop-i-preserved c =
-    let v = c.loop-i in
-    (omega arith, let e = one_lower c.args.digits.now v.i (omega arith) v.invariant.0 in omega (arith, e, v.invariant.1))
+    let i = c.loop-i.i in
+    omega (arith, one_lower c.args.digits.now i (omega arith) (omega arith), c.loop-i.invariant)
 
 pub returns : goal.returns
 returns c =
-    let v = c.loop-i in
-    let e : v.i ≡ 0 = omega arith in
+    let e : c.loop-i.i ≡ 0 = omega arith in
     record {
       within = omega arith;
-      above = subst (λ (i : ℕ). value (drop i c.args.digits.now) ≡ 0) e v.invariant.1;
+      above = subst (λ (i : ℕ). value (drop i c.args.digits.now) ≡ 0) e c.loop-i.invariant;
       digit = λ h. absurd (let z : ⊥ = omega arith in z);
     }

@@ -1,15 +1,15 @@
 -- `templates::take_count` meets its contract: by what the word is. Assumes nothing.
 use mathlib.Core.Path.{sym, ap, ◌∙◌}
-use Rattle.counts.specs.declared.Count.{Count}
+use Rattle.std.specs.Prelude.{Option, ℕ}
 use Rattle.templates.specs.Cursors.{counted}
 use Rattle.templates.proofs.take_count.Goals as goal
 
-pub returns-in-Whole : goal.returns-in-Whole
-returns-in-Whole c =
+pub returns-in-Some : goal.returns-in-Some
+returns-in-Some c =
     let s = c.args in
-    ap (λ (k : Count). counted k s.c s.to) (sym c.in-Whole.is ∙ c.read_count.ensures)
+    ap (λ (k : Option ℕ). counted k s.c s.to) (sym c.in-Some.is ∙ c.read_count.ensures)
 
-pub returns-in-NotCount : goal.returns-in-NotCount
-returns-in-NotCount c =
+pub returns-in-None : goal.returns-in-None
+returns-in-None c =
     let s = c.args in
-    c.not_a_form.ensures ∙ ap (λ (k : Count). counted k s.c s.to) (sym c.in-NotCount.is ∙ c.read_count.ensures)
+    c.not_a_form.ensures ∙ ap (λ (k : Option ℕ). counted k s.c s.to) (sym c.in-None.is ∙ c.read_count.ensures)

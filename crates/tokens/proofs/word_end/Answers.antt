@@ -1,7 +1,7 @@
 -- `tokens::word_end` meets its contract: from a byte of a word on, the part passed is the word so far. Assumes nothing.
 use mathlib.Core.List.{List, ◌∷◌}
 use mathlib.Core.Bool.{true, false, true≢false}
-use mathlib.Core.Path.{◌≡◌, sym, ap, ◌∙◌}
+use mathlib.Core.Path.{◌≡◌, sym, ap, subst, ◌∙◌}
 use Prim.Native.Nat.{ℕ, ◌+◌, ◌<◌, ◌≤◌}
 use native.Mathlib.Omega.{arith}
 use lib.ListN.{length, drop, get_or}
@@ -55,38 +55,20 @@ module _ (line : List ℕ) (at i : ℕ) where
       }
 
 pub loop-i-init : goal.loop-i-init
-loop-i-init c = let s = c.args in (omega arith, omega arith, start s.line.now s.at s.at)
-
-pub bounds-line-i : goal.bounds-line-i
-bounds-line-i c = omega arith
+loop-i-init c = let s = c.args in start s.line.now s.at s.at
 
 pub returns-then-ends_word : goal.returns-then-ends_word
 returns-then-ends_word c =
-    let a = c.before.before.before.before in
     let s = c.args in
-    let v = c.loop-i.invariant in
-    stopped s.line.now s.at c.loop-i.i v.0 (omega arith) (sym c.ends_word.ensures ∙ c.if-ends_word.true) v.2
-
-pub overflow_add-i : goal.overflow_add-i
-overflow_add-i c = omega arith
-
-pub loop-i-smaller : goal.loop-i-smaller
-loop-i-smaller c = omega arith
+    stopped s.line.now s.at c.loop-i.i (omega arith) (omega arith) (sym c.ends_word.ensures ∙ c.if-ends_word.true) c.loop-i.invariant
 
 pub loop-i-preserved : goal.loop-i-preserved
 loop-i-preserved c =
-    let a = c.before.before.before.before in
     let s = c.args in
-    let v = c.loop-i.invariant in (
-      omega arith,
-      omega arith,
-      one_more s.line.now s.at c.loop-i.i v.0 (omega arith)
-          (sym c.ends_word.ensures ∙ c.if-ends_word.false) v.2,
-    )
+    one_more s.line.now s.at c.loop-i.i (omega arith) (omega arith) (sym c.ends_word.ensures ∙ c.if-ends_word.false) c.loop-i.invariant
 
 pub returns : goal.returns
 returns c =
-    let a = c.before in
-    let s = c.args in
-    let v = c.loop-i.invariant in
-    ended s.line.now s.at c.loop-i.i v.0 v.1 (omega arith) v.2
+    let line = c.args.line.now in
+    let e : c.loop-i.i ≡ length line = omega arith in
+    subst (IsWordEnd line c.args.at) e (ended line c.args.at c.loop-i.i (omega arith) (omega arith) (omega arith) c.loop-i.invariant)

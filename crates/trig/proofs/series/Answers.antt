@@ -38,42 +38,22 @@ none_left z ds v i h k e = last h k ∙ e
     last h k = rw (le_antisymm h k, drop-length)
 
 pub loop-i-init : goal.loop-i-init
-loop-i-init c = (omega arith, refl, none_taken _ sine_divisors, none_taken _ cosine_divisors)
-
-pub offset_bounds-i : goal.offset_bounds-i
-offset_bounds-i c = omega arith
-
-pub bounds-v-0 : goal.bounds-v-0
-bounds-v-0 c = omega arith
-
-pub offset_bounds-i-in-loop-i : goal.offset_bounds-i-in-loop-i
-offset_bounds-i-in-loop-i c = omega arith
-
-pub bounds-v-1 : goal.bounds-v-1
-bounds-v-1 c = omega arith
-
-pub overflow_add-i : goal.overflow_add-i
-overflow_add-i c = omega arith
-
-pub loop-i-smaller : goal.loop-i-smaller
-loop-i-smaller c = omega arith
+loop-i-init c = (refl, none_taken _ sine_divisors, none_taken _ cosine_divisors)
 
 pub loop-i-preserved : goal.loop-i-preserved
 unfolding of_bits of_int round
 loop-i-preserved c =
     let head = c.loop-i in
     let z = c.args.z in (
-      omega arith,
       refl,
-      one_more z sine_divisors (at head.v 0) head.i c.loop-i-test.true head.invariant.2,
-      one_more z cosine_divisors
-          (at head.v 1) head.i c.loop-i-test.true head.invariant.3,
+      one_more z sine_divisors (at head.v 0) head.i c.loop-i-test.true head.invariant.1,
+      one_more z cosine_divisors (at head.v 1) head.i c.loop-i-test.true head.invariant.2,
     )
 
 pub returns : goal.returns
 returns c =
     let head = c.loop-i in
     let z = c.args.z in (
-      none_left z sine_divisors (at head.v 0) head.i head.invariant.0 c.loop-i-test.false head.invariant.2,
-      none_left z cosine_divisors (at head.v 1) head.i head.invariant.0 c.loop-i-test.false head.invariant.3,
+      none_left z sine_divisors (at head.v 0) head.i (omega arith) c.loop-i-test.false head.invariant.1,
+      none_left z cosine_divisors (at head.v 1) head.i (omega arith) c.loop-i-test.false head.invariant.2,
     )

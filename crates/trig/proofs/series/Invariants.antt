@@ -2,7 +2,7 @@
 -- sine's divisors and for the cosine's. Assumes nothing.
 use mathlib.Core.Path.{◌≡◌}
 use mathlib.Core.List.{List}
-use Prim.Native.Nat.{ℕ, ◌-◌, ◌≤◌}
+use Prim.Native.Nat.{ℕ}
 use lib.ListN.{length, drop}
 use lib.Ieee.{Float}
 use Rattle.floats.specs.Operations.{whole, at}
@@ -14,7 +14,4 @@ abbrev pub Left : Float → List Float → Float → ℕ → Type 0
 Left z ds v i = steps z (drop i ds) v ≡ steps z ds (whole 1)
 
 abbrev pub invariant-loop-i : goal.invariant-loop-i
-invariant-loop-i l = (l.i ≤ 8) × (length l.v ≡ 2) × Left l.z sine_divisors (at l.v 0) l.i × Left l.z cosine_divisors (at l.v 1) l.i
-
-abbrev pub decreases-loop-i : goal.decreases-loop-i
-decreases-loop-i l = 8 - l.i
+invariant-loop-i l = (length l.v ≡ 2) × Left l.z sine_divisors (at l.v 0) l.i × Left l.z cosine_divisors (at l.v 1) l.i

@@ -8,15 +8,15 @@ returns-then-word-eq0 c =
     let s = c.args in
     word_none s.word.now s.p s.shape.now s.figures.now s.counts.now c.if-word-eq0.true
 
-pub returns-in-Number : goal.returns-in-Number
-returns-in-Number c =
+pub returns-in-Some : goal.returns-in-Some
+returns-in-Some c =
     let s = c.args in
     word_figure s.word.now s.p c.put_figure.result s.shape.now c.put_figure.new.shape _ s.figures.now
-    c.put_figure.new.figures s.counts.now (sym c.in-Number.is ∙ c.read_figure.ensures)
+    c.put_figure.new.figures s.counts.now (sym c.in-Some.is ∙ c.read_figure.ensures)
     c.put_figure.ensures
 
-pub returns-in-NotFigure : goal.returns-in-NotFigure
-returns-in-NotFigure c =
+pub returns-in-None : goal.returns-in-None
+returns-in-None c =
     let s = c.args in
     word_other s.word.now s.p c.put_other.result s.shape.now c.put_other.new.shape s.figures.now s.counts.now
-    c.put_other.new.counts (sym c.in-NotFigure.is ∙ c.read_figure.ensures) c.put_other.ensures
+    c.put_other.new.counts (sym c.in-None.is ∙ c.read_figure.ensures) c.put_other.ensures
