@@ -129,10 +129,8 @@ pub fn put_filled(
         figures: 0,
         counts: 0,
     };
-    let mut i: usize = 0;
-    while i < template.len() {
-        p = put_piece(out, p, template[i], figures, counts);
-        i += 1;
+    for b in template {
+        p = put_piece(out, p, *b, figures, counts);
     }
     p.n
 }

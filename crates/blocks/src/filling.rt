@@ -98,10 +98,8 @@ fn put_plain(out: &mut [u8], n: usize, template: &[u8], figures: &[f64], counts:
         figures: 0,
         counts: 0,
     };
-    let mut i: usize = 0;
-    while i < template.len() {
-        p = put_piece(out, p, template[i], figures, counts);
-        i += 1;
+    for b in template {
+        p = put_piece(out, p, *b, figures, counts);
     }
     p.n
 }
@@ -308,10 +306,8 @@ pub(crate) fn put_card(
         figures: 0,
         counts: 0,
     };
-    let mut i: usize = 0;
-    while i < template.len() {
-        p = put_mark(out, p, template[i], figures, counts);
-        i += 1;
+    for b in template {
+        p = put_mark(out, p, *b, figures, counts);
     }
     p.n
 }

@@ -16,14 +16,12 @@ fn word_end(line: &[u8], at: usize) -> usize
     requires { at ≤ length line.now }
     ensures { IsEnd line.now at result }
 {
-    let mut end = at;
-    while end < line.len() {
+    for end in at..line.len() {
         if tokens::ends_word(line[end]) {
             return end;
         }
-        end += 1;
     }
-    end
+    line.len()
 }
 
 // Adds `F` to the shape and x to the figures.

@@ -1,5 +1,4 @@
 pub mod WordBytes
-pub mod Same
 pub mod Steps
 pub mod Choices
 pub mod Repeats

@@ -2,7 +2,7 @@
 use mathlib.Core.List.{List, [], ◌∷◌}
 use mathlib.Core.Bool.{Bool, true, false}
 use mathlib.Core.Path.{◌≡◌, refl, sym, ap, ◌∙◌}
-use Prim.Native.Nat.{ℕ, zero, suc, ◌-◌, ◌<◌, ◌≤◌}
+use Prim.Native.Nat.{ℕ, zero, suc, ◌≤◌}
 use native.Mathlib.Omega.{arith}
 use lib.ListN.{length, take}
 use lib.Ieee.{Float}
@@ -23,12 +23,10 @@ on_failed : (a r : Reading) (g : Reading → Reading) → fits a ≡ false → w
 on_failed failed r g h = refl
 on_failed (reading ts t) r g h = let z : ◌≡◌ {A = ℕ} 0 1 = cc in absurd (let y : ⊥ = omega arith in y)
 
-once_more : (n : ℕ) (step : Reading → Reading) (r : Reading) → 0 < n → fits (step r) ≡ true
-    → take_times n step r ≡ take_times (n - 1) step (step r)
+once_more : (n m : ℕ) (step : Reading → Reading) (r : Reading) → n ≡ suc m → fits (step r) ≡ true
+    → take_times n step r ≡ take_times m step (step r)
 unfolding take_times
-once_more zero step r z h = absurd (let y : ⊥ = omega arith in y)
-once_more (suc n) step r z h = on_fits (step r) r (take_times n step) h
-    ∙ ap (λ (k : ℕ). take_times k step (step r)) (let e : n ≡ suc n - 1 = omega arith in e)
+once_more n m step r e h = ap (λ (k : ℕ). take_times k step r) e ∙ on_fits (step r) r (take_times m step) h
 
 no_more : (n : ℕ) (step : Reading → Reading) (r : Reading) → fits (step r) ≡ false → take_times n step r ≡ r
 unfolding take_times
@@ -81,12 +79,13 @@ module _ (line : List ℕ) (step : Reading → Reading) (before : List Float) (c
       kept_on : take c.figures after ≡ take c.figures before
       kept_on = also_kept before between after c.figures s.figures v.grows v.kept o.kept
 
-      pub again : 0 < turns → next.ok ≡ true → length after ≡ length between → Repeating line step before after c next (turns - 1)
-      again z h l =
+      pub again : (rest : ℕ) → turns ≡ suc rest → next.ok ≡ true → length after ≡ length between
+          → Repeating line step before after c next rest
+      again rest z h l =
           let g = v.grows in let k = o.grows in let q = v.same in
           record {
-            whole = v.whole ∙ once_more turns step (reading_at line between s) z (meant_fits line between after s next _ o ∙ h)
-                ∙ ap (take_times (turns - 1) step) (sym o.is);
+            whole = v.whole ∙ once_more turns rest step (reading_at line between s) z (meant_fits line between after s next _ o ∙ h)
+                ∙ ap (take_times rest step) (sym o.is);
             kept = kept_on;
             grows = omega arith;
             room = o.room;

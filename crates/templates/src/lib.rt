@@ -48,17 +48,7 @@ pub fn line_start() -> Cursor
 pub fn same_bytes(a: &[u8], b: &[u8]) -> bool
     ensures { result ≡ same_bytes a.now b.now }
 {
-    if a.len() != b.len() {
-        return false;
-    }
-    let mut i: usize = 0;
-    while i < a.len() {
-        if a[i] != b[i] {
-            return false;
-        }
-        i += 1;
-    }
-    true
+    a == b
 }
 
 // Returns the cursor of a line that is no form.
@@ -122,30 +112,14 @@ fn take_plain(c: Cursor, wanted: &[u8], word: &[u8], to: usize) -> Cursor
 fn is_word_byte(b: u8) -> bool
     ensures { result ≡ is_word_byte b }
 {
-    if b < 33 {
-        return false;
-    }
-    if 126 < b {
-        return false;
-    }
-    if b == 40 {
-        return false;
-    }
-    b != 41
+    33 <= b && b <= 126 && b != 40 && b != 41
 }
 
 // Tells whether a token of the line is a word: each of its bytes is 33 to 126, and none is a bracket.
 fn is_word(token: &[u8]) -> bool
     ensures { result ≡ is_word token.now }
 {
-    let mut i: usize = 0;
-    while i < token.len() {
-        if !is_word_byte(token[i]) {
-            return false;
-        }
-        i += 1;
-    }
-    true
+    token.iter().all(|b| is_word_byte(*b))
 }
 
 // Takes a token that is no figure where one belongs. After a word reading goes on, and the cursor notes it; after any
@@ -220,14 +194,12 @@ fn take_figures(line: &[u8], c: Cursor, values: &mut [f64]) -> Cursor
     ensures { Takes take_figures line.now values.old values.new c result }
 {
     let mut s = c;
-    let mut turns = LINE_BYTES;
-    while 0 < turns {
+    for _turn in 0..LINE_BYTES {
         let next = take_one(line, s, b"F", values);
         if !next.ok {
             return s;
         }
         s = next;
-        turns -= 1;
     }
     s
 }
@@ -267,14 +239,12 @@ pub fn take_each(line: &[u8], c: Cursor, template: &[u8], values: &mut [f64]) ->
         values.new c result }
 {
     let mut s = c;
-    let mut turns = LINE_BYTES;
-    while 0 < turns {
+    for _turn in 0..LINE_BYTES {
         let next = take_text(line, s, template, values);
         if !next.ok {
             return s;
         }
         s = next;
-        turns -= 1;
     }
     s
 }
@@ -297,14 +267,12 @@ pub fn bar_end(alternatives: &[u8], i: usize) -> usize
     requires { i ≤ length alternatives.now }
     ensures { IsBarEnd alternatives.now i result }
 {
-    let mut end = i;
-    while end < alternatives.len() {
+    for end in i..alternatives.len() {
         if alternatives[end] == 124 {
             return end;
         }
-        end += 1;
     }
-    end
+    alternatives.len()
 }
 
 // Takes the first of the alternatives that fits, a bar between each two, and notes its number, from 1 on.

@@ -1,30 +1,20 @@
 -- `answers::put_filled` meets its contract: what is there with what is still to come is the whole. Assumes nothing.
-use native.Mathlib.Omega.{arith}
 use Rattle.answers.proofs.Filling.{start, has_room_at, next, ends}
 use Rattle.answers.proofs.put_filled.Goals as goal
 
-pub loop-i-init : goal.loop-i-init
-loop-i-init c = start c.requires
-
-pub bounds-template-i : goal.bounds-template-i
-bounds-template-i c = omega arith
+pub loop-b-init : goal.loop-b-init
+loop-b-init c = start c.requires
 
 pub put_piece-p-requires : goal.put_piece-p-requires
-put_piece-p-requires c = has_room_at c.loop-i.invariant c.loop-i-test.true
+put_piece-p-requires c = has_room_at c.loop-b.invariant c.loop-b-test.true
 
-pub overflow_add-i : goal.overflow_add-i
-overflow_add-i c = omega arith
-
-pub loop-i-smaller : goal.loop-i-smaller
-loop-i-smaller c = omega arith
-
-pub loop-i-preserved : goal.loop-i-preserved
-loop-i-preserved c =
-    next c.loop-i.invariant c.loop-i-test.true c.put_piece-p.ensures
+pub loop-b-preserved : goal.loop-b-preserved
+loop-b-preserved c =
+    next c.loop-b.invariant c.loop-b-test.true c.put_piece-p.ensures
     c.put_piece-p.auto.out
 
 pub shape_of-out : goal.shape_of-out
-shape_of-out c = c.loop-i.invariant.same
+shape_of-out c = c.loop-b.invariant.same
 
 pub returns : goal.returns
-returns c = ends c.loop-i.invariant c.loop-i-test.false
+returns c = ends c.loop-b.invariant c.loop-b-test.false

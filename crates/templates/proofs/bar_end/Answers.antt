@@ -33,38 +33,29 @@ module _ (l : List ℕ) (i j : ℕ) where
     at_bar : j < length l → get_or l j 0 ≡ 124 → IsBarEnd l i j
     at_bar h e = record { behind = a; within = omega arith; cut = byte _ h (eq-eqb _ _ e) ∙ rw (lt-ltb j (length l) h) }
 
-    at_end_lem : j ≤ length l → length l ≤ j → IsBarEnd l i j
+    at_end_lem : j ≡ length l → IsBarEnd l i (length l)
     unfolding cut_after
-    at_end_lem w h = record
-        { behind = a; within = w; cut = t ∙ ap (cut_after (part l i j)) (drop_of_length-le l h) ∙ rw (le-ltb j (length l) h) }
+    at_end_lem e = record {
+      behind = omega arith;
+      within = omega arith;
+      cut = t ∙ ap (λ (k : ℕ). cut_after (part l i k) (drop k l)) e
+          ∙ ap (cut_after (part l i (length l))) (drop_of_length-le l (let h : length l ≤ length l = omega arith in h))
+          ∙ rw (le-ltb (length l) (length l) (let h : length l ≤ length l = omega arith in h));
+    }
 
 pub loop-end-init : goal.loop-end-init
-loop-end-init c = (omega arith, omega arith, start c.args.alternatives.now c.args.i c.args.i)
-
-pub bounds-alternatives-end : goal.bounds-alternatives-end
-bounds-alternatives-end c = omega arith
+loop-end-init c = start c.args.alternatives.now c.args.i c.args.i
 
 pub returns-then-alternatives-end-eq124 : goal.returns-then-alternatives-end-eq124
 returns-then-alternatives-end-eq124 c =
-    let v = c.loop-end.invariant in
-    at_bar c.args.alternatives.now c.args.i c.loop-end.end v.0 v.2 (omega arith) c.if-alternatives-end-eq124.true
-
-pub overflow_add-end : goal.overflow_add-end
-overflow_add-end c = omega arith
-
-pub loop-end-smaller : goal.loop-end-smaller
-loop-end-smaller c = omega arith
+    at_bar c.args.alternatives.now c.args.i c.loop-end.end (omega arith) c.loop-end.invariant (omega arith)
+    c.if-alternatives-end-eq124.true
 
 pub loop-end-preserved : goal.loop-end-preserved
 loop-end-preserved c =
-    let v = c.loop-end.invariant in (
-      omega arith,
-      omega arith,
-      one_more c.args.alternatives.now c.args.i c.loop-end.end v.0 v.2
-          (omega arith) c.if-alternatives-end-eq124.false,
-    )
+    one_more c.args.alternatives.now c.args.i c.loop-end.end (omega arith) c.loop-end.invariant
+    (omega arith) c.if-alternatives-end-eq124.false
 
 pub returns : goal.returns
 returns c =
-    let v = c.loop-end.invariant in
-    at_end_lem c.args.alternatives.now c.args.i c.loop-end.end v.0 v.2 v.1 (omega arith)
+    at_end_lem c.args.alternatives.now c.args.i c.loop-end.end (omega arith) c.loop-end.invariant (omega arith)

@@ -1,14 +1,9 @@
 -- `templates::bar_end` meets its contract: the part passed is the alternative so far. Assumes nothing.
 use mathlib.Core.Path.{◌≡◌}
-use Prim.Native.Nat.{◌-◌, ◌≤◌}
-use lib.ListN.{length, drop}
+use lib.ListN.{drop}
 use Rattle.tokens.specs.Found.{part}
 use Rattle.templates.specs.Matching.{cut_after, cut_at_bars}
 use Rattle.templates.proofs.bar_end.Given as goal
 
 abbrev pub invariant-loop-end : goal.invariant-loop-end
-invariant-loop-end l = (l.i ≤ l.end) × (l.end ≤ length l.alternatives)
-    × (cut_at_bars (drop l.i l.alternatives) ≡ cut_after (part l.alternatives l.i l.end) (drop l.end l.alternatives))
-
-abbrev pub decreases-loop-end : goal.decreases-loop-end
-decreases-loop-end l = length l.alternatives - l.end
+invariant-loop-end l = (cut_at_bars (drop l.i l.alternatives) ≡ cut_after (part l.alternatives l.i l.end) (drop l.end l.alternatives))

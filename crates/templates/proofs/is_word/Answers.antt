@@ -1,30 +1,14 @@
--- `templates::is_word` meets its contract: as long as all bytes passed are a word's, the rest decides. Assumes nothing.
-use mathlib.Core.Path.{refl, sym, ◌∙◌}
-use native.Mathlib.Omega.{arith}
-use Rattle.templates.proofs.WordBytes.{no_word, word_on, all_word}
+-- `templates::is_word` meets its contract: each byte is a word's. Assumes nothing.
+use mathlib.Core.Path.{◌∙◌}
+use Rattle.std.proofs.Common.{rules, tests}
+use Rattle.std.proofs.lemmas.Iterator.{YieldsList-from_slice}
+use Rattle.std.proofs.lemmas.Iterator.Search.{all_from_yields_List}
+use Rattle.templates.specs.Matching.{is_word_byte}
+use Rattle.templates.proofs.WordBytes.{all_word}
 use Rattle.templates.proofs.is_word.Goals as goal
 
-pub loop-i-init : goal.loop-i-init
-loop-i-init c = (omega arith, refl)
-
-pub bounds-token-i : goal.bounds-token-i
-bounds-token-i c = omega arith
-
-pub returns-then-not-is_word_byte : goal.returns-then-not-is_word_byte
-returns-then-not-is_word_byte c =
-    no_word _ c.loop-i.i (omega arith) c.loop-i.invariant.1 (sym c.is_word_byte.ensures ∙ c.if-not-is_word_byte.true)
-
-pub overflow_add-i : goal.overflow_add-i
-overflow_add-i c = omega arith
-
-pub loop-i-smaller : goal.loop-i-smaller
-loop-i-smaller c = omega arith
-
-pub loop-i-preserved : goal.loop-i-preserved
-loop-i-preserved c = (
-  omega arith,
-  word_on _ c.loop-i.i (omega arith) c.loop-i.invariant.1 (sym c.is_word_byte.ensures ∙ c.if-not-is_word_byte.false),
-)
-
 pub returns : goal.returns
-returns c = all_word _ c.loop-i.i (omega arith) c.loop-i.invariant.1
+returns c =
+    all_from_yields_List is_word_byte _ _ _ c.all.ensures.ran (YieldsList-from_slice c.args.token.now cc)
+    (λ x b q k. search (rules, tests))
+    ∙ all_word c.args.token.now

@@ -1,7 +1,8 @@
 -- `blocks::words::word_end` meets its contract: every byte passed is one of the word. Assumes nothing.
 use mathlib.Core.List.{◌∷◌, []}
-use mathlib.Core.Path.{sym, ◌∙◌}
+use mathlib.Core.Path.{◌≡◌, sym, ◌∙◌}
 use native.Mathlib.Omega.{arith}
+use lib.ListN.{length}
 use Rattle.blocks.specs.Words.{word_shape, word_figures, word_counts}
 use Rattle.blocks.proofs.Reading.{begins, grows}
 use Rattle.blocks.proofs.words.word_end.Goals as goal
@@ -10,29 +11,20 @@ pub loop-end-init : goal.loop-end-init
 loop-end-init c =
     let l = c.args.line.now in
     let i = c.args.at in
-    (omega arith, omega arith, begins word_shape (λ b. b ∷ []) l i, begins word_figures (λ b. []) l i, begins word_counts (λ b. []) l i)
-
-pub bounds-line-end : goal.bounds-line-end
-bounds-line-end c = omega arith
+    (begins word_shape (λ b. b ∷ []) l i, begins word_figures (λ b. []) l i, begins word_counts (λ b. []) l i)
 
 pub returns-then-ends_word : goal.returns-then-ends_word
 returns-then-ends_word c =
     let v = c.loop-end.invariant in
     record {
-      behind = v.0;
-      within = v.1;
-      shape = v.2;
-      figures = v.3;
-      counts = v.4;
+      behind = omega arith;
+      within = omega arith;
+      shape = v.0;
+      figures = v.1;
+      counts = v.2;
       stops = λ h. sym c.ends_word.ensures
           ∙ c.if-ends_word.true;
     }
-
-pub overflow_add-end : goal.overflow_add-end
-overflow_add-end c = omega arith
-
-pub loop-end-smaller : goal.loop-end-smaller
-loop-end-smaller c = omega arith
 
 pub loop-end-preserved : goal.loop-end-preserved
 loop-end-preserved c =
@@ -40,16 +32,21 @@ loop-end-preserved c =
     let l = c.args.line.now in
     let i = c.args.at in
     let j = c.loop-end.end in
-    let h = c.loop-end-test.true in
     let n = sym c.ends_word.ensures ∙ c.if-ends_word.false in (
-      omega arith,
-      omega arith,
-      grows word_shape (λ b. b ∷ []) l i j v.0 h n v.2,
-      grows word_figures (λ b. []) l i j v.0 h n v.3,
-      grows word_counts (λ b. []) l i j v.0 h n v.4,
+      grows word_shape (λ b. b ∷ []) l i j (omega arith) (omega arith) n v.0,
+      grows word_figures (λ b. []) l i j (omega arith) (omega arith) n v.1,
+      grows word_counts (λ b. []) l i j (omega arith) (omega arith) n v.2,
     )
 
 pub returns : goal.returns
 returns c =
     let v = c.loop-end.invariant in
-    record { behind = v.0; within = v.1; shape = v.2; figures = v.3; counts = v.4; stops = λ h. absurd (let z : ⊥ = omega arith in z) }
+    let e : c.loop-end.end ≡ length c.args.line.now = omega arith in
+    rw (sym e) (record {
+      behind = omega arith;
+      within = omega arith;
+      shape = v.0;
+      figures = v.1;
+      counts = v.2;
+      stops = λ h. absurd (let z : ⊥ = omega arith in z);
+    })
