@@ -34,13 +34,11 @@ pub fn outline(seed: u64) -> [f64; 32] {
     let mut numbers = [0.0; 32];
     let mut s = seed;
     let mut x = 0.0;
-    let mut i: usize = 2;
-    while i < 30 {
+    for k in 1..15 {
         s = after(s);
         x = x + 0.01;
-        numbers[i] = x;
-        numbers[i + 1] = (1.0 + whole(s)) * 0.02 + whole(s >> 8) * 1.0e-17;
-        i += 2;
+        numbers[2 * k] = x;
+        numbers[2 * k + 1] = (1.0 + whole(s)) * 0.02 + whole(s >> 8) * 1.0e-17;
     }
     numbers[30] = x + 0.01;
     numbers
@@ -116,17 +114,8 @@ pub fn reason(verdict: Verdict) -> [usize; 3] {
 
 // Tells whether two lists hold the same f64s, bit for bit.
 pub fn same_numbers(a: &[f64], b: &[f64]) -> bool {
-    if a.len() != b.len() {
-        return false;
-    }
-    let mut i: usize = 0;
-    while i < a.len() {
-        if floats::to_bits(a[i]) != floats::to_bits(b[i]) {
-            return false;
-        }
-        i += 1;
-    }
-    true
+    a.len() == b.len()
+        && a.iter().zip(b).all(|(x, y)| floats::to_bits(*x) == floats::to_bits(*y))
 }
 
 pub fn same_figures(a: Figures, b: Figures) -> bool {
