@@ -16,7 +16,7 @@ ghost use Rattle.fillets.specs.Fillets.{is_none, is_sound, is_refused, glue_chec
 ghost use Rattle.fillets.specs.Fillets.{fillets_of};
 
 use bodies::{Body, Tensor, Vector};
-use materials::{Density, NumberedDensity};
+use materials::Density;
 use refusals::{Refusal, Verdict};
 
 const PI: f64 = 3.141592653589793;
@@ -34,13 +34,6 @@ pub struct Fillet {
     pub density: Density,
 }
 
-// A fillet by its number, where there is one.
-#[derive(Clone, Copy)]
-pub enum NumberedFillet {
-    Known(Fillet),
-    Unknown,
-}
-
 // How many figures a fillet has.
 pub const FILLET_FIGURES: usize = 2;
 
@@ -53,19 +46,17 @@ pub fn figures_of(fillet: Fillet) -> [f64; FILLET_FIGURES]
 }
 
 // Returns the fillet of a number, 0 for none or else its density's, and of these figures.
-pub fn fillet_of(number: usize, figures: [f64; FILLET_FIGURES]) -> NumberedFillet
+pub fn fillet_of(number: usize, figures: [f64; FILLET_FIGURES]) -> Option<Fillet>
     ensures { result ≡ fillet_of number figures }
 {
     if number == 0 {
-        return NumberedFillet::Known(Fillet {
+        return Some(Fillet {
             radius_m: 0.0,
             density: Density::Bulk { kg_m3: 0.0 },
         });
     }
-    let NumberedDensity::Known(density) = materials::numbered_density(number, figures[1]) else {
-        return NumberedFillet::Unknown;
-    };
-    NumberedFillet::Known(Fillet {
+    let density = materials::numbered_density(number, figures[1])?;
+    Some(Fillet {
         radius_m: figures[0],
         density,
     })

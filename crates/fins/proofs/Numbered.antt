@@ -1,8 +1,9 @@
 -- A tab and a set that are written as numbers are read back. Assumes nothing.
 use mathlib.Core.Path.{◌≡◌, refl}
-use mathlib.Core.List.{List, [], ◌∷◌, ◌++◌}
+use mathlib.Core.List.{List, ◌++◌}
 use Prim.Native.Nat.{ℕ}
 use lib.Ieee.{Float}
+use Rattle.std.specs.Prelude.{Some}
 use Rattle.planforms.specs.declared.Planform.{Planform}
 use Rattle.planforms.specs.declared.Planform.TheVariants.{Trapezoid, Ellipse, Outline}
 use Rattle.floats.specs.Operations.{at, tabulate}
@@ -12,15 +13,13 @@ use Rattle.sections.proofs.Numbered.{section_back}
 use Rattle.materials.proofs.Numbered.{density_back}
 use Rattle.fillets.proofs.Numbered.{fillet_back}
 use Rattle.fins.specs.declared.Tab.{Tab}
-use Rattle.fins.specs.declared.Tab.TheVariants.{None, Slab}
+use Rattle.fins.specs.declared.Tab.TheVariants.{None as left_out, Slab}
 use Rattle.fins.specs.declared.FinSet.{FinSet}
-use Rattle.fins.specs.declared.NumberedTab.TheVariants.{Known as tab_known}
-use Rattle.fins.specs.declared.NumberedSet.TheVariants.{Known}
 use Rattle.fins.specs.Numbered.{tab_number, tab_figures, tab_of, numbers_of, counts_of, set_in}
 
-pub tab_back : (tab : Tab) → tab_of (tab_number tab) (tab_figures tab) ≡ tab_known tab
+pub tab_back : (tab : Tab) → tab_of (tab_number tab) (tab_figures tab) ≡ Some tab
 unfolding tab_of
-tab_back None = refl
+tab_back left_out = refl
 tab_back (Slab height length offset) = refl
 
 lengths_listed : (planform : Planform) → tabulate 4 (at (lengths_of planform)) ≡ lengths_of planform
@@ -29,10 +28,10 @@ lengths_listed (Ellipse root span) = refl
 lengths_listed Outline = refl
 
 figures_listed : (tab : Tab) → tabulate 3 (at (tab_figures tab)) ≡ tab_figures tab
-figures_listed None = refl
+figures_listed left_out = refl
 figures_listed (Slab height length offset) = refl
 
-pub set_back : (set : FinSet) (more : List Float) (others : List ℕ) → set_in (numbers_of set ++ more) (counts_of set ++ others) ≡ Known set
+pub set_back : (set : FinSet) (more : List Float) (others : List ℕ) → set_in (numbers_of set ++ more) (counts_of set ++ others) ≡ Some set
 unfolding set_in
 set_back set more others =
     rw (

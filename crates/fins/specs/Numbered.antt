@@ -1,14 +1,10 @@
 -- A tab as numbers, a set of numbered parts, and a set as numbers (docs/FORMS.md; include/delvouzh.h).
-use Rattle.std.specs.Prelude.{cond, List, [], ◌∷◌, ◌++◌, ℕ, ◌≤◌, eqb, length, get_or, Float}
+use Rattle.std.specs.Prelude.{cond, List, [], ◌∷◌, ◌++◌, ℕ, ◌≤◌, eqb, length, get_or, Float, Option, Some, None}
 use Rattle.floats.specs.Operations.{bits, at, tabulate}
-use Rattle.planforms.specs.declared.NumberedPlanform.{NumberedPlanform}
-use Rattle.planforms.specs.declared.NumberedPlanform.TheVariants.{Known as planform_known, Unknown as no_planform}
-use Rattle.sections.specs.declared.NumberedSection.{NumberedSection}
-use Rattle.sections.specs.declared.NumberedSection.TheVariants.{Known as section_known, Unknown as no_section}
-use Rattle.materials.specs.declared.NumberedDensity.{NumberedDensity}
-use Rattle.materials.specs.declared.NumberedDensity.TheVariants.{Known as density_known, Unknown as no_density}
-use Rattle.fillets.specs.declared.NumberedFillet.{NumberedFillet}
-use Rattle.fillets.specs.declared.NumberedFillet.TheVariants.{Known as fillet_known, Unknown as unknown_fillet}
+use Rattle.planforms.specs.declared.Planform.{Planform}
+use Rattle.sections.specs.declared.Section.{Section}
+use Rattle.materials.specs.declared.Density.{Density}
+use Rattle.fillets.specs.declared.Fillet.{Fillet}
 use Rattle.planforms.specs.declared.Planform.TheVariants.{Outline}
 use Rattle.planforms.specs.Numbered.{planform_number, lengths_of, planform_of}
 use Rattle.sections.specs.declared.Section.TheVariants.{Square}
@@ -18,45 +14,41 @@ use Rattle.materials.specs.Numbered.{density_number, density_figure, numbered_de
 use Rattle.fillets.specs.Numbered.{no_fillet, fillet_figures, fillet_of}
 use Rattle.fins.specs.declared.FinSet.{FinSet}
 use Rattle.fins.specs.declared.Tab.{Tab}
-use Rattle.fins.specs.declared.Tab.TheVariants.{None, Slab}
-use Rattle.fins.specs.declared.NumberedTab.{NumberedTab}
-use Rattle.fins.specs.declared.NumberedTab.TheVariants.{Known as tab_known, Unknown as no_tab}
-use Rattle.fins.specs.declared.NumberedSet.{NumberedSet}
-use Rattle.fins.specs.declared.NumberedSet.TheVariants.{Known as set_known, Unknown as no_set}
+use Rattle.fins.specs.declared.Tab.TheVariants.{None as left_out, Slab}
 
 -- a tab's number: 0 where it is left out, else 1
 abbrev pub tab_number : Tab → ℕ
-tab_number None = 0
+tab_number left_out = 0
 tab_number (Slab height length offset) = 1
 
 -- a tab's figures: height, length, offset; zeros where it is left out
 abbrev pub tab_figures : Tab → List Float
-tab_figures None = bits 0 ∷ bits 0 ∷ bits 0 ∷ []
+tab_figures left_out = bits 0 ∷ bits 0 ∷ bits 0 ∷ []
 tab_figures (Slab height length offset) = height ∷ length ∷ offset ∷ []
 
 -- the tab of a number and figures; a tab's own give it back (proofs/Numbered: `tab_back`)
-unfoldable pub tab_of : ℕ → List Float → NumberedTab
+unfoldable pub tab_of : ℕ → List Float → Option Tab
 tab_of number figures =
-    cond (eqb number 0) (tab_known None)
-    (cond (eqb number 1) (tab_known (Slab (at figures 0) (at figures 1) (at figures 2))) no_tab)
+    cond (eqb number 0) (Some left_out)
+    (cond (eqb number 1) (Some (Slab (at figures 0) (at figures 1) (at figures 2))) None)
 
 -- a set of count, planform, thickness, section, tab, fillet, cant, base angle, body radius and density, where each part
 -- is known
-abbrev pub numbered_set : ℕ → NumberedPlanform → Float → NumberedSection → NumberedTab → NumberedFillet → Float → Float
-    → Float → NumberedDensity → NumberedSet
-numbered_set count no_planform thickness section tab fillet cant base radius density = no_set
-numbered_set count (planform_known planform) thickness no_section tab fillet cant base radius density = no_set
-numbered_set count (planform_known planform) thickness (section_known section) no_tab fillet cant base radius density =
-    no_set
-numbered_set count (planform_known planform) thickness (section_known section) (tab_known tab)
-    unknown_fillet cant base radius density =
-    no_set
-numbered_set count (planform_known planform) thickness (section_known section) (tab_known tab)
-    (fillet_known fillet) cant base radius no_density =
-    no_set
-numbered_set count (planform_known planform) thickness (section_known section) (tab_known tab)
-    (fillet_known fillet) cant base radius (density_known density) =
-    set_known
+abbrev pub numbered_set : ℕ → Option Planform → Float → Option Section → Option Tab → Option Fillet → Float → Float
+    → Float → Option Density → Option FinSet
+numbered_set count None thickness section tab fillet cant base radius density = None
+numbered_set count (Some planform) thickness None tab fillet cant base radius density = None
+numbered_set count (Some planform) thickness (Some section) None fillet cant base radius density =
+    None
+numbered_set count (Some planform) thickness (Some section) (Some tab)
+    None cant base radius density =
+    None
+numbered_set count (Some planform) thickness (Some section) (Some tab)
+    (Some fillet) cant base radius None =
+    None
+numbered_set count (Some planform) thickness (Some section) (Some tab)
+    (Some fillet) cant base radius (Some density) =
+    Some
     (record {
       count = count;
       planform = planform;
@@ -101,7 +93,7 @@ SetRoom numbers counts = (set_numbers ≤ length numbers) × (set_counts ≤ len
 
 -- the set that two lists begin with, whatever stands after it there; a set's own numbers and counts give it back
 -- (proofs/Numbered: `set_back`)
-unfoldable pub set_in : List Float → List ℕ → NumberedSet
+unfoldable pub set_in : List Float → List ℕ → Option FinSet
 set_in numbers counts =
     numbered_set (get_or counts 0 0)
     (planform_of (get_or counts 1 0) (at numbers 0 ∷ at numbers 1 ∷ at numbers 2 ∷ at numbers 3 ∷ []))
@@ -113,10 +105,10 @@ set_in numbers counts =
     (numbered_density (get_or counts 4 0) (at numbers 8))
 
 -- the set that two lists are which C or Rust lends: lists of another length are no set's
-unfoldable pub listed_set : List Float → List ℕ → NumberedSet
+unfoldable pub listed_set : List Float → List ℕ → Option FinSet
 listed_set numbers counts =
-    cond (eqb (length numbers) set_numbers) (cond (eqb (length counts) set_counts) (set_in numbers counts) no_set)
-    no_set
+    cond (eqb (length numbers) set_numbers) (cond (eqb (length counts) set_counts) (set_in numbers counts) None)
+    None
 
 -- a set of no fins, which is refused
 abbrev pub no_fins : FinSet
@@ -126,7 +118,7 @@ no_fins =
       planform = Outline;
       thickness_m = bits 0;
       cross_section = Square;
-      tab = None;
+      tab = left_out;
       fillet = no_fillet;
       cant_rad = bits 0;
       base_angle_rad = bits 0;
@@ -135,6 +127,6 @@ no_fins =
     }
 
 -- the set where there is one, and else one of no fins
-abbrev pub known_set : NumberedSet → FinSet
-known_set (set_known set) = set
-known_set no_set = no_fins
+abbrev pub known_set : Option FinSet → FinSet
+known_set (Some set) = set
+known_set None = no_fins

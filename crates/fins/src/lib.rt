@@ -13,12 +13,12 @@ ghost use Rattle.fins.specs.Fins.{own_check, set_check, area_check};
 ghost use Rattle.fins.specs.Numbered.{tab_number, tab_figures, tab_of, numbered_set, numbers_of, counts_of, SetRoom};
 ghost use Rattle.fins.specs.Numbered.{set_in, listed_set, known_set};
 
-use fillets::{FILLET_FIGURES, Fillet, NumberedFillet};
+use fillets::{FILLET_FIGURES, Fillet};
 use limits::{check_angle, check_length};
-use materials::{Density, NumberedDensity};
-use planforms::{LENGTHS, NumberedPlanform, Planform};
+use planforms::{LENGTHS, Planform};
 use refusals::{Refusal, Verdict};
-use sections::{NumberedSection, Section};
+use materials::Density;
+use sections::Section;
 
 // A rectangular tab below each root: its depth, its length, and how far aft of the root's leading edge it starts.
 #[derive(Clone, Copy)]
@@ -44,20 +44,6 @@ pub struct FinSet {
     pub base_angle_rad: f64,
     pub body_radius_m: f64,
     pub density: Density,
-}
-
-// A tab by its number, where there is one.
-#[derive(Clone, Copy)]
-pub enum NumberedTab {
-    Known(Tab),
-    Unknown,
-}
-
-// A set by its numbers, where there is one.
-#[derive(Clone, Copy)]
-pub enum NumberedSet {
-    Known(FinSet),
-    Unknown,
 }
 
 // How many figures a tab has.
@@ -91,65 +77,48 @@ fn tab_figures(tab: Tab) -> [f64; TAB_FIGURES]
     }
 }
 
-// Returns the tab of a number and figures.
-pub fn tab_of(number: usize, figures: [f64; TAB_FIGURES]) -> NumberedTab
+// Returns the tab of a number and figures; any number but 0 and 1 is no tab's.
+pub fn tab_of(number: usize, figures: [f64; TAB_FIGURES]) -> Option<Tab>
     ensures { result ≡ tab_of number figures }
 {
-    if number == 0 {
-        return NumberedTab::Known(Tab::None);
-    }
-    if number == 1 {
-        return NumberedTab::Known(Tab::Slab {
+    match number {
+        0 => Some(Tab::None),
+        1 => Some(Tab::Slab {
             height_m: figures[0],
             length_m: figures[1],
             offset_m: figures[2],
-        });
+        }),
+        _ => None,
     }
-    NumberedTab::Unknown
 }
 
 // Returns the set of these parts, where all of them are known.
 pub fn numbered_set(
     count: usize,
-    planform: NumberedPlanform,
+    planform: Option<Planform>,
     thickness_m: f64,
-    section: NumberedSection,
-    tab: NumberedTab,
-    fillet: NumberedFillet,
+    section: Option<Section>,
+    tab: Option<Tab>,
+    fillet: Option<Fillet>,
     cant_rad: f64,
     base_angle_rad: f64,
     body_radius_m: f64,
-    density: NumberedDensity,
-) -> NumberedSet
+    density: Option<Density>,
+) -> Option<FinSet>
     ensures { result ≡ numbered_set count planform thickness_m section tab fillet
         cant_rad base_angle_rad body_radius_m density }
 {
-    let NumberedPlanform::Known(planform) = planform else {
-        return NumberedSet::Unknown;
-    };
-    let NumberedSection::Known(cross_section) = section else {
-        return NumberedSet::Unknown;
-    };
-    let NumberedTab::Known(tab) = tab else {
-        return NumberedSet::Unknown;
-    };
-    let NumberedFillet::Known(fillet) = fillet else {
-        return NumberedSet::Unknown;
-    };
-    let NumberedDensity::Known(density) = density else {
-        return NumberedSet::Unknown;
-    };
-    NumberedSet::Known(FinSet {
+    Some(FinSet {
         count,
-        planform,
+        planform: planform?,
         thickness_m,
-        cross_section,
-        tab,
-        fillet,
+        cross_section: section?,
+        tab: tab?,
+        fillet: fillet?,
         cant_rad,
         base_angle_rad,
         body_radius_m,
-        density,
+        density: density?,
     })
 }
 
@@ -210,7 +179,7 @@ pub fn counts_of(set: FinSet) -> [usize; SET_COUNTS]
 }
 
 // Returns the set that two lists begin with.
-pub fn set_in(numbers: &[f64], counts: &[usize]) -> NumberedSet
+pub fn set_in(numbers: &[f64], counts: &[usize]) -> Option<FinSet>
     requires { SetRoom numbers.now counts.now }
     ensures { result ≡ set_in numbers.now counts.now }
 {
@@ -229,25 +198,25 @@ pub fn set_in(numbers: &[f64], counts: &[usize]) -> NumberedSet
 }
 
 // Returns the set that two lists are; lists of another length are no set's.
-pub fn listed_set(numbers: &[f64], counts: &[usize]) -> NumberedSet
+pub fn listed_set(numbers: &[f64], counts: &[usize]) -> Option<FinSet>
     ensures { result ≡ listed_set numbers.now counts.now }
 {
     if numbers.len() != SET_NUMBERS {
-        return NumberedSet::Unknown;
+        return None;
     }
     if counts.len() != SET_COUNTS {
-        return NumberedSet::Unknown;
+        return None;
     }
     set_in(numbers, counts)
 }
 
 // Returns the set where there is one, and else one of no fins, which is refused.
-pub fn known_set(set: NumberedSet) -> FinSet
+pub fn known_set(set: Option<FinSet>) -> FinSet
     ensures { result ≡ known_set set }
 {
     match set {
-        NumberedSet::Known(set) => set,
-        NumberedSet::Unknown => FinSet {
+        Some(set) => set,
+        None => FinSet {
             count: 0,
             planform: Planform::Outline,
             thickness_m: 0.0,

@@ -14,13 +14,6 @@ pub enum Density {
     Line { kg_m: f64 },
 }
 
-// The density of a kind's number and a figure, or unknown where the number is no kind's.
-#[derive(Clone, Copy)]
-pub enum NumberedDensity {
-    Known(Density),
-    Unknown,
-}
-
 // Returns the number of a density's kind: 1 bulk, 2 surface, 3 line.
 pub fn number_of(density: Density) -> usize
     ensures { result ≡ density_number density }
@@ -43,20 +36,16 @@ pub fn figure_of(density: Density) -> f64
     }
 }
 
-// Returns the density of a kind's number and a figure; any number but 1, 2 and 3 is unknown.
-pub fn numbered_density(number: usize, density: f64) -> NumberedDensity
+// Returns the density of a kind's number and a figure; any number but 1, 2 and 3 is no kind's.
+pub fn numbered_density(number: usize, density: f64) -> Option<Density>
     ensures { result ≡ numbered_density number density }
 {
-    if number == 1 {
-        return NumberedDensity::Known(Density::Bulk { kg_m3: density });
+    match number {
+        1 => Some(Density::Bulk { kg_m3: density }),
+        2 => Some(Density::Surface { kg_m2: density }),
+        3 => Some(Density::Line { kg_m: density }),
+        _ => None,
     }
-    if number == 2 {
-        return NumberedDensity::Known(Density::Surface { kg_m2: density });
-    }
-    if number == 3 {
-        return NumberedDensity::Known(Density::Line { kg_m: density });
-    }
-    NumberedDensity::Unknown
 }
 
 // The least and the largest bulk density other than zero: 2^-10 and 2^15.

@@ -24,13 +24,6 @@ pub enum Planform {
     Outline,
 }
 
-// The planform of a kind's number and lengths, or unknown where the number is no kind's.
-#[derive(Clone, Copy)]
-pub enum NumberedPlanform {
-    Known(Planform),
-    Unknown,
-}
-
 // How many lengths a trapezoid has, the most of any planform: every planform's are written in so many places, with
 // zeros after its own.
 pub const LENGTHS: usize = 4;
@@ -74,39 +67,35 @@ pub fn lengths_of(planform: Planform) -> [f64; LENGTHS]
     }
 }
 
-// Returns the planform of a kind's number and lengths; any number but 1, 2 and 3 is unknown.
-pub fn planform_of(number: usize, lengths: [f64; LENGTHS]) -> NumberedPlanform
+// Returns the planform of a kind's number and lengths; any number but 1, 2 and 3 is no kind's.
+pub fn planform_of(number: usize, lengths: [f64; LENGTHS]) -> Option<Planform>
     ensures { result ≡ planform_of number lengths }
 {
-    if number == 1 {
-        return NumberedPlanform::Known(Planform::Trapezoid {
+    match number {
+        1 => Some(Planform::Trapezoid {
             root_chord_m: lengths[0],
             tip_chord_m: lengths[1],
             span_m: lengths[2],
             sweep_m: lengths[3],
-        });
-    }
-    if number == 2 {
-        return NumberedPlanform::Known(Planform::Ellipse {
+        }),
+        2 => Some(Planform::Ellipse {
             root_chord_m: lengths[0],
             span_m: lengths[1],
-        });
+        }),
+        3 => Some(Planform::Outline),
+        _ => None,
     }
-    if number == 3 {
-        return NumberedPlanform::Known(Planform::Outline);
-    }
-    NumberedPlanform::Unknown
 }
 
 // Returns the planform of a kind's number and of lengths that C or Rust lends; any other count of lengths than
-// `LENGTHS` is unknown.
-pub fn listed_planform(number: usize, lengths: &[f64]) -> NumberedPlanform
+// `LENGTHS` is no planform's.
+pub fn listed_planform(number: usize, lengths: &[f64]) -> Option<Planform>
     ensures { result ≡ listed_planform number lengths.now }
 {
     if lengths.len() == LENGTHS {
         return planform_of(number, [lengths[0], lengths[1], lengths[2], lengths[3]]);
     }
-    NumberedPlanform::Unknown
+    None
 }
 
 // Returns the root chord; of an outline the last point's x, or 0 where there is no point.

@@ -1,27 +1,27 @@
 -- A whole set: its parts are read one after another, and where its end was reached each was. Assumes nothing.
 use mathlib.Core.Bool.{true}
 use mathlib.Core.List.{List, [], ◌∷◌}
-use mathlib.Core.Path.{◌≡◌, refl, sym, ap, ◌∙◌}
+use mathlib.Core.Path.{◌≡◌, refl}
 use Prim.Native.Nat.{ℕ}
-use native.Mathlib.Omega.{arith}
-use lib.ListN.{take, drop}
+use lib.ListN.{drop}
 use lib.Ieee.{Float}
+use Rattle.std.specs.Prelude.{Option}
 use Rattle.floats.specs.Operations.{at}
 use Rattle.tokens.specs.Text.{text}
 use Rattle.templates.specs.declared.Cursor.{Cursor}
 use Rattle.templates.specs.Matching.{Reading, take_text}
-use Rattle.templates.specs.Cursors.{reading_at, Room, ReadsOn, Takes}
-use Rattle.templates.proofs.Choices.{here, also}
-use Rattle.planforms.specs.declared.NumberedPlanform.{NumberedPlanform}
+use Rattle.templates.specs.Cursors.{reading_at, Room, Takes}
+use Rattle.templates.proofs.Choices.{also}
+use Rattle.planforms.specs.declared.Planform.{Planform}
 use Rattle.planforms.specs.Numbered.{planform_of}
-use Rattle.sections.specs.declared.NumberedSection.{NumberedSection}
+use Rattle.sections.specs.declared.Section.{Section}
 use Rattle.sections.specs.Numbered.{numbered_section}
-use Rattle.materials.specs.declared.NumberedDensity.{NumberedDensity}
+use Rattle.materials.specs.declared.Density.{Density}
 use Rattle.materials.specs.Numbered.{numbered_density}
-use Rattle.fillets.specs.declared.NumberedFillet.{NumberedFillet}
+use Rattle.fillets.specs.declared.Fillet.{Fillet}
 use Rattle.fillets.specs.Numbered.{fillet_of}
-use Rattle.fins.specs.declared.NumberedTab.{NumberedTab}
-use Rattle.fins.specs.declared.NumberedSet.{NumberedSet}
+use Rattle.fins.specs.declared.Tab.{Tab}
+use Rattle.fins.specs.declared.FinSet.{FinSet}
 use Rattle.fins.specs.Numbered.{tab_of, numbered_set}
 use Rattle.reading.specs.declared.SetParts.{SetParts}
 use Rattle.reading.specs.Parts.{take_planform, take_section, take_tab, take_fillet, take_density, set_readings, take_set, set_parts_of, set_of}
@@ -160,9 +160,9 @@ module _ (line : List ℕ) {v v₁ v₂ v₃ v₄ v₅ v₆ v₇ v₈ v₉ v₁�
 
 -- each part of the set, by the call that made it
 pub together : (p : SetParts) (fs : List Float) {slab glue angles : List Float}
-    {planform : NumberedPlanform} {section : NumberedSection} {tab : NumberedTab}
-    {fillet : NumberedFillet} {density : NumberedDensity}
-    {weight thickness cant base radius : Float} {set : NumberedSet}
+    {planform : Option Planform} {section : Option Section} {tab : Option Tab}
+    {fillet : Option Fillet} {density : Option Density}
+    {weight thickness cant base radius : Float} {set : Option FinSet}
     → planform ≡ planform_of p.planform fs
     → section ≡ numbered_section p.section
     → slab ≡ drop p.before_tab fs → tab ≡ tab_of p.tab slab
@@ -176,12 +176,12 @@ together p fs e-planform e-section e-slab e-tab e-glue e-fillet e-angles e-weigh
     rw (e-set, e-planform, e-section, e-tab, e-slab, e-fillet, e-glue, e-density, e-weight, e-thickness, e-cant, e-base, e-radius, e-angles)
 
 -- three figures of a tab and two of a fillet
-pub tab_is : (number : ℕ) (slab : List Float) {a b d : Float} {tab : NumberedTab} → tab ≡ tab_of number (a ∷ b ∷ d ∷ [])
+pub tab_is : (number : ℕ) (slab : List Float) {a b d : Float} {tab : Option Tab} → tab ≡ tab_of number (a ∷ b ∷ d ∷ [])
     → a ≡ at slab 0 → b ≡ at slab 1 → d ≡ at slab 2 → tab ≡ tab_of number slab
 unfolding tab_of
 tab_is number slab e-tab e-a e-b e-d = rw (e-tab, e-a, e-b, e-d)
 
-pub fillet_is : (number : ℕ) (glue : List Float) {a b : Float} {fillet : NumberedFillet} → fillet ≡ fillet_of number (a ∷ b ∷ [])
+pub fillet_is : (number : ℕ) (glue : List Float) {a b : Float} {fillet : Option Fillet} → fillet ≡ fillet_of number (a ∷ b ∷ [])
     → a ≡ at glue 0 → b ≡ at glue 1 → fillet ≡ fillet_of number glue
 unfolding fillet_of
 fillet_is number glue e-fillet e-a e-b = rw (e-fillet, e-a, e-b)

@@ -1,23 +1,20 @@
 -- What a line asks (docs/FORMS.md): each form is read as it is written there, and its parts and figures make up the
 -- request.
-use Rattle.std.specs.Prelude.{List, [], ◌∷◌, Bool, true, false, cond, ℕ, leb, length, drop, get_or, Float}
+use Rattle.std.specs.Prelude.{List, [], ◌∷◌, Bool, true, false, ℕ, leb, length, drop, get_or, Float, Option, Some, None}
 use Rattle.floats.specs.Operations.{at}
 use Rattle.refusals.specs.declared.Refusal.{Refusal}
 use Rattle.refusals.specs.declared.Refusal.TheVariants.{NoForm as no_form, NoFigure as no_figure}
 use Rattle.tokens.specs.Text.{text}
 use Rattle.tokens.specs.Tokens.{line_bytes, tokens}
 use Rattle.templates.specs.Matching.{Reading, failed, reading, same_bytes, take_text, take_each}
-use Rattle.planforms.specs.declared.NumberedPlanform.{NumberedPlanform}
-use Rattle.planforms.specs.declared.NumberedPlanform.TheVariants.{Known as planform_known, Unknown as no_planform}
+use Rattle.planforms.specs.declared.Planform.{Planform}
 use Rattle.planforms.specs.Numbered.{planform_of}
-use Rattle.materials.specs.declared.NumberedDensity.{NumberedDensity}
-use Rattle.materials.specs.declared.NumberedDensity.TheVariants.{Known as density_known, Unknown as no_density}
+use Rattle.materials.specs.declared.Density.{Density}
 use Rattle.materials.specs.Numbered.{numbered_density}
-use Rattle.fins.specs.declared.NumberedSet.{NumberedSet}
-use Rattle.fins.specs.declared.NumberedSet.TheVariants.{Known as set_known, Unknown as no_set}
+use Rattle.fins.specs.declared.FinSet.{FinSet}
 use Rattle.reading.specs.declared.Asked.{Asked}
 use Rattle.reading.specs.declared.Asked.TheVariants.{Refused, Set, Area, Join, Moments, Check, Tubes, Closing}
-use Rattle.reading.specs.declared.Asked.TheVariants.{Drill, Copied, Placed, Moved, Without, Submit, Density}
+use Rattle.reading.specs.declared.Asked.TheVariants.{Drill, Copied, Placed, Moved, Without, Submit, Density as NewDensity}
 use Rattle.reading.specs.declared.Asked.TheVariants.{Turn, Progress}
 use Rattle.reading.specs.declared.Form.{Form}
 use Rattle.reading.specs.declared.Form.TheVariants.{Set as SetForm, Area as AreaForm, Join as JoinForm}
@@ -57,9 +54,9 @@ ended (reading (w ∷ ts) t) asked = refused_read no_form
 
 -- ---- the forms
 
-abbrev pub set_asked : ℕ → ℕ → NumberedSet → Asked
-set_asked limit points (set_known set) = Set limit set points
-set_asked limit points no_set = Refused no_form
+abbrev pub set_asked : ℕ → ℕ → Option FinSet → Asked
+set_asked limit points (Some set) = Set limit set points
+set_asked limit points None = Refused no_form
 
 unfoldable pub set_read : List ℕ → Read
 set_read line =
@@ -68,9 +65,9 @@ set_read line =
     ended all (set_asked p.limit p.points (set_of p (figures_in all)))
 
 -- "(submit N SET)"
-abbrev pub submit_asked : ℕ → ℕ → ℕ → NumberedSet → Asked
-submit_asked screen limit points (set_known set) = Submit screen limit set points
-submit_asked screen limit points no_set = Refused no_form
+abbrev pub submit_asked : ℕ → ℕ → ℕ → Option FinSet → Asked
+submit_asked screen limit points (Some set) = Submit screen limit set points
+submit_asked screen limit points None = Refused no_form
 
 unfoldable pub submit_read : List ℕ → Read
 submit_read line =
@@ -80,9 +77,9 @@ submit_read line =
     ended all (submit_asked (number_in screen) p.limit p.points (set_of p (figures_in all)))
 
 -- "(area (limit N) PLANFORM)"
-abbrev pub area_asked : ℕ → ℕ → NumberedPlanform → Asked
-area_asked limit points (planform_known planform) = Area limit planform points
-area_asked limit points no_planform = Refused no_form
+abbrev pub area_asked : ℕ → ℕ → Option Planform → Asked
+area_asked limit points (Some planform) = Area limit planform points
+area_asked limit points None = Refused no_form
 
 unfoldable pub area_read : List ℕ → Read
 area_read line =
@@ -92,10 +89,10 @@ area_read line =
     ended all (area_asked (number_in limit) (end_in planform) (planform_of (number_in planform) (figures_in all)))
 
 -- "(drill PLANFORM (at F F))"
-abbrev pub drill_asked : ℕ → NumberedPlanform → List Float → Asked
-drill_asked points (planform_known planform) figures =
+abbrev pub drill_asked : ℕ → Option Planform → List Float → Asked
+drill_asked points (Some planform) figures =
     let point = drop points figures in Drill planform points (at point 0) (at point 1)
-drill_asked points no_planform figures = Refused no_form
+drill_asked points None figures = Refused no_form
 
 unfoldable pub drill_read : List ℕ → Read
 drill_read line =
@@ -104,8 +101,8 @@ drill_read line =
     ended all (drill_asked (end_in planform) (planform_of (number_in planform) (figures_in all)) (figures_in all))
 
 -- "(tubes (count N) (length F) (outer F) (wall F) (base F) (radius F) DENSITY)"
-abbrev pub tubes_asked : ℕ → NumberedDensity → List Float → Asked
-tubes_asked count (density_known density) figures =
+abbrev pub tubes_asked : ℕ → Option Density → List Float → Asked
+tubes_asked count (Some density) figures =
     Tubes
     (record {
       count = count;
@@ -116,7 +113,7 @@ tubes_asked count (density_known density) figures =
       density = density;
     })
     (at figures 4)
-tubes_asked count no_density figures = Refused no_form
+tubes_asked count None figures = Refused no_form
 
 unfoldable pub tubes_read : List ℕ → Read
 tubes_read line =
@@ -137,9 +134,9 @@ progress_read line =
     ended all (Progress (number_in all))
 
 -- "(density N DENSITY)"
-abbrev pub density_asked : ℕ → NumberedDensity → Asked
-density_asked screen (density_known density) = Density screen density
-density_asked screen no_density = Refused no_form
+abbrev pub density_asked : ℕ → Option Density → Asked
+density_asked screen (Some density) = NewDensity screen density
+density_asked screen None = Refused no_form
 
 unfoldable pub density_read : List ℕ → Read
 density_read line =

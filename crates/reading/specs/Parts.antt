@@ -1,6 +1,6 @@
 -- The parts that a form is made of (docs/FORMS.md), each as it is written there. A part's number is its place among its
 -- alternatives, from 1 on, and 0 where it is left out.
-use Rattle.std.specs.Prelude.{List, [], ◌∷◌, ℕ, length, drop, Float}
+use Rattle.std.specs.Prelude.{List, [], ◌∷◌, ℕ, length, drop, Float, Option}
 use Rattle.floats.specs.Operations.{at}
 use Rattle.tokens.specs.Text.{text}
 use Rattle.templates.specs.Matching.{Reading, failed, reading, take_text, one_of, optional}
@@ -8,7 +8,7 @@ use Rattle.planforms.specs.Numbered.{planform_of}
 use Rattle.sections.specs.Numbered.{numbered_section}
 use Rattle.materials.specs.Numbered.{numbered_density}
 use Rattle.fillets.specs.Numbered.{fillet_of}
-use Rattle.fins.specs.declared.NumberedSet.{NumberedSet}
+use Rattle.fins.specs.declared.FinSet.{FinSet}
 use Rattle.fins.specs.Numbered.{tab_of, numbered_set}
 use Rattle.reading.specs.declared.SetParts.{SetParts}
 
@@ -102,7 +102,7 @@ set_parts_of r =
     }
 
 -- the set that the numbers of its parts and the line's figures make up
-unfoldable pub set_of : SetParts → List Float → NumberedSet
+unfoldable pub set_of : SetParts → List Float → Option FinSet
 set_of p figures =
     let behind_fillet = drop p.before_cant figures in
     let cant = at behind_fillet 0 in

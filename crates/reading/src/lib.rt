@@ -18,9 +18,9 @@ ghost use Rattle.reading.specs.Lines.{tubes_read, closing_read, density_read, pr
 ghost use Rattle.reading.specs.Lines.{form_read, line_read, word_of};
 ghost use Rattle.reading.specs.Reads.{refused_line, end_of, Reads, IsWordOf};
 
-use fins::{FinSet, NumberedSet};
-use materials::{Density, NumberedDensity};
-use planforms::{NumberedPlanform, Planform};
+use fins::FinSet;
+use materials::Density;
+use planforms::Planform;
 use refusals::Refusal;
 use templates::{Cursor, same_bytes};
 use tokens::{LINE_BYTES, TokenRange};
@@ -244,7 +244,7 @@ fn take_set(line: &[u8], c: Cursor, values: &mut [f64]) -> SetRead
 
 // ---- what the parts make up
 
-fn planform_in(number: usize, figures: &[f64]) -> NumberedPlanform
+fn planform_in(number: usize, figures: &[f64]) -> Option<Planform>
     ensures { result ≡ planform_of number figures.now }
 {
     let lengths = [
@@ -256,7 +256,7 @@ fn planform_in(number: usize, figures: &[f64]) -> NumberedPlanform
     planforms::planform_of(number, lengths)
 }
 
-fn set_in(p: SetParts, figures: &[f64]) -> NumberedSet
+fn set_in(p: SetParts, figures: &[f64]) -> Option<FinSet>
     ensures { result ≡ set_of p figures.now }
 {
     let planform = planform_in(p.planform, figures);
@@ -285,12 +285,12 @@ fn set_asked(p: SetParts, figures: &[f64]) -> Asked
     ensures { result ≡ set_asked p.limit p.points (set_of p figures.now) }
 {
     match set_in(p, figures) {
-        NumberedSet::Known(set) => Asked::Set {
+        Some(set) => Asked::Set {
             limit: p.limit,
             set,
             points: p.points,
         },
-        NumberedSet::Unknown => Asked::Refused(Refusal::NoForm),
+        None => Asked::Refused(Refusal::NoForm),
     }
 }
 
@@ -298,13 +298,13 @@ fn submit_asked(screen: usize, p: SetParts, figures: &[f64]) -> Asked
     ensures { result ≡ submit_asked screen p.limit p.points (set_of p figures.now) }
 {
     match set_in(p, figures) {
-        NumberedSet::Known(set) => Asked::Submit {
+        Some(set) => Asked::Submit {
             screen,
             limit: p.limit,
             set,
             points: p.points,
         },
-        NumberedSet::Unknown => Asked::Refused(Refusal::NoForm),
+        None => Asked::Refused(Refusal::NoForm),
     }
 }
 
@@ -312,12 +312,12 @@ fn area_asked(limit: usize, planform: usize, points: usize, figures: &[f64]) -> 
     ensures { result ≡ area_asked limit points (planform_of planform figures.now) }
 {
     match planform_in(planform, figures) {
-        NumberedPlanform::Known(planform) => Asked::Area {
+        Some(planform) => Asked::Area {
             limit,
             planform,
             points,
         },
-        NumberedPlanform::Unknown => Asked::Refused(Refusal::NoForm),
+        None => Asked::Refused(Refusal::NoForm),
     }
 }
 
@@ -327,7 +327,7 @@ fn drill_asked(planform: usize, points: usize, figures: &[f64]) -> Asked
 {
     let point = behind(figures, points);
     match planform_in(planform, figures) {
-        NumberedPlanform::Known(planform) => {
+        Some(planform) => {
             Asked::Drill {
                 planform,
                 points,
@@ -335,7 +335,7 @@ fn drill_asked(planform: usize, points: usize, figures: &[f64]) -> Asked
                 height_m: figure(point, 1),
             }
         }
-        NumberedPlanform::Unknown => Asked::Refused(Refusal::NoForm),
+        None => Asked::Refused(Refusal::NoForm),
     }
 }
 
@@ -345,7 +345,7 @@ fn tubes_asked(count: usize, density: usize, figures: &[f64]) -> Asked
     ensures { result ≡ tubes_asked count (numbered_density density (at figures.now 5)) figures.now }
 {
     match materials::numbered_density(density, figure(figures, 5)) {
-        NumberedDensity::Known(density) => Asked::Tubes {
+        Some(density) => Asked::Tubes {
             set: TubeFinSet {
                 count,
                 length_m: figure(figures, 0),
@@ -356,7 +356,7 @@ fn tubes_asked(count: usize, density: usize, figures: &[f64]) -> Asked
             },
             body_radius_m: figure(figures, 4),
         },
-        NumberedDensity::Unknown => Asked::Refused(Refusal::NoForm),
+        None => Asked::Refused(Refusal::NoForm),
     }
 }
 
@@ -364,8 +364,8 @@ fn density_asked(screen: usize, density: usize, figures: &[f64]) -> Asked
     ensures { result ≡ density_asked screen (numbered_density density (at figures.now 0)) }
 {
     match materials::numbered_density(density, figure(figures, 0)) {
-        NumberedDensity::Known(density) => Asked::Density { screen, density },
-        NumberedDensity::Unknown => Asked::Refused(Refusal::NoForm),
+        Some(density) => Asked::Density { screen, density },
+        None => Asked::Refused(Refusal::NoForm),
     }
 }
 

@@ -1,21 +1,18 @@
 -- The calls on what is given by numbers (docs/FORMS.md; include/delvouzh.h): an unknown number, or another count of
 -- numbers, is no form.
-use Rattle.std.specs.Prelude.{cond, List, [], ◌∷◌, ℕ, ◌+◌, ◌*◌, ◌/◌, eqb, length, Float, Err}
+use Rattle.std.specs.Prelude.{cond, List, [], ◌∷◌, ℕ, ◌+◌, ◌*◌, ◌/◌, eqb, length, Float, Err, Option, Some, None}
 use Rattle.floats.specs.Operations.{bits, at}
 use Rattle.refusals.specs.declared.Refusal.TheVariants.{NoForm}
 use Rattle.refusals.specs.Verdict.{Verdict}
 use Rattle.refusals.specs.Calls.{CallOf, leaves_alone}
-use Rattle.planforms.specs.declared.NumberedPlanform.{NumberedPlanform}
-use Rattle.planforms.specs.declared.NumberedPlanform.TheVariants.{Known as planform_known, Unknown as no_planform}
+use Rattle.planforms.specs.declared.Planform.{Planform}
 use Rattle.planform_chords.specs.declared.ChordList.{ChordList}
 use Rattle.planform_chords.specs.PlanformChords.{chords_call}
 use Rattle.drill.specs.declared.Answer.{Answer}
 use Rattle.drill.specs.declared.Answer.TheVariants.{Refused as refused_point}
 use Rattle.drill.specs.Drill.{drill_of}
-use Rattle.fins.specs.declared.NumberedSet.{NumberedSet}
-use Rattle.fins.specs.declared.NumberedSet.TheVariants.{Known as set_known, Unknown as no_set}
-use Rattle.materials.specs.declared.NumberedDensity.{NumberedDensity}
-use Rattle.materials.specs.declared.NumberedDensity.TheVariants.{Known as density_known, Unknown as no_density}
+use Rattle.fins.specs.declared.FinSet.{FinSet}
+use Rattle.materials.specs.declared.Density.{Density}
 use Rattle.materials.specs.Numbered.{numbered_density}
 use Rattle.tubes.specs.Tubes.{tubes_of}
 use Rattle.bodies.specs.declared.Body.{Body}
@@ -36,32 +33,32 @@ use Rattle.figures.specs.Areas.{refused_area, area_call}
 
 -- ---- a set's figures, and what is left in the scratch
 
-unfoldable pub numbered_call : NumberedSet → List Float → ℕ → ℕ → CallOf Figures
-numbered_call (set_known set) points L scratch_length = set_call set points L scratch_length
-numbered_call no_set points L scratch_length = leaves_alone (refused_figures NoForm 0)
+unfoldable pub numbered_call : Option FinSet → List Float → ℕ → ℕ → CallOf Figures
+numbered_call (Some set) points L scratch_length = set_call set points L scratch_length
+numbered_call None points L scratch_length = leaves_alone (refused_figures NoForm 0)
 
 -- ---- a planform's area, and what is left in the scratch
 
-unfoldable pub numbered_area : NumberedPlanform → List Float → ℕ → ℕ → CallOf Area
-numbered_area (planform_known planform) points L scratch_length = area_call planform points L scratch_length
-numbered_area no_planform points L scratch_length = leaves_alone (refused_area NoForm 0)
+unfoldable pub numbered_area : Option Planform → List Float → ℕ → ℕ → CallOf Area
+numbered_area (Some planform) points L scratch_length = area_call planform points L scratch_length
+numbered_area None points L scratch_length = leaves_alone (refused_area NoForm 0)
 
 -- ---- a planform's chords at a height, and the list that they are written over (document 02, Paper 1)
 
-unfoldable pub numbered_chords : NumberedPlanform → List Float → Float → CallOf ChordList
-numbered_chords (planform_known planform) points h = chords_call planform points h
-numbered_chords no_planform points h = leaves_alone (record { verdict = Err NoForm; count = 0 })
+unfoldable pub numbered_chords : Option Planform → List Float → Float → CallOf ChordList
+numbered_chords (Some planform) points h = chords_call planform points h
+numbered_chords None points h = leaves_alone (record { verdict = Err NoForm; count = 0 })
 
 -- ---- where a point lies beside a planform (document 02, Paper 11)
 
-unfoldable pub numbered_drill : NumberedPlanform → List Float → Float → Float → Answer
-numbered_drill (planform_known planform) points x height = drill_of planform points x height
-numbered_drill no_planform points x height = refused_point NoForm
+unfoldable pub numbered_drill : Option Planform → List Float → Float → Float → Answer
+numbered_drill (Some planform) points x height = drill_of planform points x height
+numbered_drill None points x height = refused_point NoForm
 
 -- ---- a ring of tubes (document 02, Paper 3): of length, outer radius, wall, base angle, body radius, density
 
-abbrev pub ring_of_known : ℕ → NumberedDensity → List Float → JoinedBody
-ring_of_known count (density_known density) figures =
+abbrev pub ring_of_known : ℕ → Option Density → List Float → JoinedBody
+ring_of_known count (Some density) figures =
     tubes_of
     (record {
       count = count;
@@ -72,7 +69,7 @@ ring_of_known count (density_known density) figures =
       density = density;
     })
     (at figures 4)
-ring_of_known count no_density figures = refused_body NoForm
+ring_of_known count None figures = refused_body NoForm
 
 unfoldable pub ring_by : ℕ → ℕ → List Float → JoinedBody
 ring_by count density figures =

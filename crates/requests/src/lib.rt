@@ -17,12 +17,11 @@ ghost use Rattle.requests.specs.Calls.{without_by, point_body_at, joined_points_
 use bodies::{BODY_NUMBERS, Body, TENSOR_NUMBERS, Vector};
 use drill::Answer;
 use figures::{Area, Figures};
-use fins::NumberedSet;
+use fins::FinSet;
 use joins::JoinedBody;
-use materials::NumberedDensity;
 use moments::Moments;
 use planform_chords::ChordList;
-use planforms::NumberedPlanform;
+use planforms::Planform;
 use refusals::{Refusal, Verdict};
 use tubes::TubeFinSet;
 
@@ -43,13 +42,13 @@ fn no_figures() -> Figures
 }
 
 // Returns a set's figures, worked over a lent scratch; a set that is unknown is refused with 18.
-pub fn set_figures(set: NumberedSet, points: &[f64], limit: usize, scratch: &mut [f64]) -> Figures
+pub fn set_figures(set: Option<FinSet>, points: &[f64], limit: usize, scratch: &mut [f64]) -> Figures
     ensures { Does (numbered_call set points.now limit (length scratch.old))
         result scratch.old scratch.new }
 {
     match set {
-        NumberedSet::Known(set) => figures::mass_properties(set, points, limit, scratch),
-        NumberedSet::Unknown => no_figures(),
+        Some(set) => figures::mass_properties(set, points, limit, scratch),
+        None => no_figures(),
     }
 }
 
@@ -69,7 +68,7 @@ fn no_area() -> Area
 
 // Returns a planform's area, worked over a lent scratch; a planform that is unknown is refused with 18.
 pub fn area_figures(
-    planform: NumberedPlanform,
+    planform: Option<Planform>,
     points: &[f64],
     limit: usize,
     scratch: &mut [f64],
@@ -78,8 +77,8 @@ pub fn area_figures(
         result scratch.old scratch.new }
 {
     match planform {
-        NumberedPlanform::Known(planform) => figures::geometry(planform, points, limit, scratch),
-        NumberedPlanform::Unknown => no_area(),
+        Some(planform) => figures::geometry(planform, points, limit, scratch),
+        None => no_area(),
     }
 }
 
@@ -93,7 +92,7 @@ fn no_chords() -> ChordList
 // Lists a planform's chords at a height in metres over the start of a lent list; a planform that is unknown is refused
 // with 18.
 pub fn listed_chords(
-    planform: NumberedPlanform,
+    planform: Option<Planform>,
     points: &[f64],
     h: f64,
     ends: &mut [f64],
@@ -102,18 +101,18 @@ pub fn listed_chords(
     ensures { Does (numbered_chords planform points.now h) result ends.old ends.new }
 {
     match planform {
-        NumberedPlanform::Known(planform) => planform_chords::chords_at(planform, points, h, ends),
-        NumberedPlanform::Unknown => no_chords(),
+        Some(planform) => planform_chords::chords_at(planform, points, h, ends),
+        None => no_chords(),
     }
 }
 
 // Returns where a point lies beside a planform, and the nearest corner; a planform that is unknown is refused with 18.
-pub fn drilled(planform: NumberedPlanform, points: &[f64], x_m: f64, height_m: f64) -> Answer
+pub fn drilled(planform: Option<Planform>, points: &[f64], x_m: f64, height_m: f64) -> Answer
     ensures { result ≡ numbered_drill planform points.now x_m height_m }
 {
     match planform {
-        NumberedPlanform::Known(planform) => drill::drill(planform, points, x_m, height_m),
-        NumberedPlanform::Unknown => Answer::Refused(Refusal::NoForm),
+        Some(planform) => drill::drill(planform, points, x_m, height_m),
+        None => Answer::Refused(Refusal::NoForm),
     }
 }
 
@@ -127,7 +126,7 @@ pub fn ring_figures(count: usize, density: usize, numbers: &[f64]) -> JoinedBody
     }
     let found = materials::numbered_density(density, numbers[5]);
     match found {
-        NumberedDensity::Known(density) => tubes::mass_properties(
+        Some(density) => tubes::mass_properties(
             TubeFinSet {
                 count,
                 length_m: numbers[0],
@@ -138,7 +137,7 @@ pub fn ring_figures(count: usize, density: usize, numbers: &[f64]) -> JoinedBody
             },
             numbers[4],
         ),
-        NumberedDensity::Unknown => joins::refused(Refusal::NoForm),
+        None => joins::refused(Refusal::NoForm),
     }
 }
 

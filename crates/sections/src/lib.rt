@@ -28,13 +28,6 @@ pub enum Section {
     AirfoilOpen,
 }
 
-// The section of a number, or unknown where the number is no section's.
-#[derive(Clone, Copy)]
-pub enum NumberedSection {
-    Known(Section),
-    Unknown,
-}
-
 // Returns the number of a section: 1 square, 2 rounded, 3 airfoil, 4 airfoil-open.
 pub fn number_of(section: Section) -> usize
     ensures { result ≡ section_number section }
@@ -47,23 +40,17 @@ pub fn number_of(section: Section) -> usize
     }
 }
 
-// Returns the section of a number; any number but 1 to 4 is unknown.
-pub fn numbered_section(number: usize) -> NumberedSection
+// Returns the section of a number; any number but 1 to 4 is no section's.
+pub fn numbered_section(number: usize) -> Option<Section>
     ensures { result ≡ numbered_section number }
 {
-    if number == 1 {
-        return NumberedSection::Known(Section::Square);
+    match number {
+        1 => Some(Section::Square),
+        2 => Some(Section::Rounded),
+        3 => Some(Section::Airfoil),
+        4 => Some(Section::AirfoilOpen),
+        _ => None,
     }
-    if number == 2 {
-        return NumberedSection::Known(Section::Rounded);
-    }
-    if number == 3 {
-        return NumberedSection::Known(Section::Airfoil);
-    }
-    if number == 4 {
-        return NumberedSection::Known(Section::AirfoilOpen);
-    }
-    NumberedSection::Unknown
 }
 
 const PI: f64 = 3.14159265358979323846264338327950288;

@@ -1,16 +1,16 @@
 -- `fins::tab_of` meets its contract: the definition goes by the same tests. Assumes nothing.
-use borrow.Author.Tests.{eq-eqb, ne_eqb}
+use borrow.Author.Rules.{rules}
 use Rattle.fins.specs.Numbered.{tab_of}
 use Rattle.fins.proofs.tab_of.Goals as goal
 
-pub returns-then-number-eq0 : goal.returns-then-number-eq0
+pub returns-in-0 : goal.returns-in-0
 unfolding tab_of
-returns-then-number-eq0 c = simp (eq-eqb _ _ c.if-number-eq0.true)
+returns-in-0 c = search rules
 
-pub returns-then-number-eq1 : goal.returns-then-number-eq1
+pub returns-in-1 : goal.returns-in-1
 unfolding tab_of
-returns-then-number-eq1 c = simp (ne_eqb _ _ c.if-number-eq0.false, eq-eqb _ _ c.if-number-eq1.true)
+returns-in-1 c = search rules
 
-pub returns : goal.returns
+pub returns-in_default : goal.returns-in_default
 unfolding tab_of
-returns c = simp (ne_eqb _ _ c.if-number-eq0.false, ne_eqb _ _ c.if-number-eq1.false)
+returns-in_default c = search rules

@@ -1,20 +1,20 @@
 -- `materials::numbered_density` meets its contract: the definition goes by the same tests. Assumes nothing.
-use borrow.Author.Tests.{eq-eqb, ne_eqb}
+use borrow.Author.Rules.{rules}
 use Rattle.materials.specs.Numbered.{numbered_density}
 use Rattle.materials.proofs.numbered_density.Goals as goal
 
-pub returns-then-number-eq1 : goal.returns-then-number-eq1
+pub returns-in-1 : goal.returns-in-1
 unfolding numbered_density
-returns-then-number-eq1 c = simp (eq-eqb _ _ c.if-number-eq1.true)
+returns-in-1 c = search rules
 
-pub returns-then-number-eq2 : goal.returns-then-number-eq2
+pub returns-in-2 : goal.returns-in-2
 unfolding numbered_density
-returns-then-number-eq2 c = simp (ne_eqb _ _ c.if-number-eq1.false, eq-eqb _ _ c.if-number-eq2.true)
+returns-in-2 c = search rules
 
-pub returns-then-number-eq3 : goal.returns-then-number-eq3
+pub returns-in-3 : goal.returns-in-3
 unfolding numbered_density
-returns-then-number-eq3 c = simp (ne_eqb _ _ c.if-number-eq1.false, ne_eqb _ _ c.if-number-eq2.false, eq-eqb _ _ c.if-number-eq3.true)
+returns-in-3 c = search rules
 
-pub returns : goal.returns
+pub returns-in_default : goal.returns-in_default
 unfolding numbered_density
-returns c = simp (ne_eqb _ _ c.if-number-eq1.false, ne_eqb _ _ c.if-number-eq2.false, ne_eqb _ _ c.if-number-eq3.false)
+returns-in_default c = search rules

@@ -3,10 +3,10 @@ use mathlib.Core.Path.{sym, ap, ◌∙◌}
 use Rattle.materials.specs.Numbered.{numbered_density}
 use Rattle.reading.proofs.density_asked.Goals as goal
 
-pub returns-in-Known : goal.returns-in-Known
-returns-in-Known c = rw (sym (c.numbered_density.ensures
-    ∙ ap (numbered_density _) c.figure.ensures) ∙ c.in-Known.is)
+pub returns-in-Some : goal.returns-in-Some
+returns-in-Some c = rw (sym (c.numbered_density.ensures
+    ∙ ap (numbered_density _) c.figure.ensures) ∙ c.in-Some.is)
 
-pub returns-in-Unknown : goal.returns-in-Unknown
-returns-in-Unknown c = rw (sym (c.numbered_density.ensures ∙ ap (numbered_density _) c.figure.ensures)
-    ∙ c.in-Unknown.is)
+pub returns-in-None : goal.returns-in-None
+returns-in-None c = rw (sym (c.numbered_density.ensures ∙ ap (numbered_density _) c.figure.ensures)
+    ∙ c.in-None.is)

@@ -2,14 +2,14 @@
 use mathlib.Core.Path.{sym, ◌∙◌}
 use Rattle.reading.proofs.drill_asked.Goals as goal
 
-pub returns-in-Known : goal.returns-in-Known
-returns-in-Known c =
+pub returns-in-Some : goal.returns-in-Some
+returns-in-Some c =
     rw (
-      sym c.planform_in.ensures ∙ c.in-Known.is,
-      c.figure-in-Known.ensures,
+      sym c.planform_in.ensures ∙ c.in-Some.is,
+      c.figure-in-Some.ensures,
       c.figure.ensures,
       c.behind-point.ensures,
     )
 
-pub returns-in-Unknown : goal.returns-in-Unknown
-returns-in-Unknown c = rw (sym c.planform_in.ensures ∙ c.in-Unknown.is)
+pub returns-in-None : goal.returns-in-None
+returns-in-None c = rw (sym c.planform_in.ensures ∙ c.in-None.is)

@@ -2,8 +2,8 @@
 use mathlib.Core.Path.{sym, ◌∙◌}
 use Rattle.reading.proofs.submit_asked.Goals as goal
 
-pub returns-in-Known : goal.returns-in-Known
-returns-in-Known c = rw (sym c.set_in.ensures ∙ c.in-Known.is)
+pub returns-in-Some : goal.returns-in-Some
+returns-in-Some c = rw (sym c.set_in.ensures ∙ c.in-Some.is)
 
-pub returns-in-Unknown : goal.returns-in-Unknown
-returns-in-Unknown c = rw (sym c.set_in.ensures ∙ c.in-Unknown.is)
+pub returns-in-None : goal.returns-in-None
+returns-in-None c = rw (sym c.set_in.ensures ∙ c.in-None.is)

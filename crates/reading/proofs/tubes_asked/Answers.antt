@@ -3,17 +3,17 @@ use mathlib.Core.Path.{sym, ap, ◌∙◌}
 use Rattle.materials.specs.Numbered.{numbered_density}
 use Rattle.reading.proofs.tubes_asked.Goals as goal
 
-pub returns-in-Known : goal.returns-in-Known
-returns-in-Known c =
+pub returns-in-Some : goal.returns-in-Some
+returns-in-Some c =
     rw (
-      sym (c.numbered_density.ensures ∙ ap (numbered_density _) c.figure.ensures) ∙ c.in-Known.is,
-      c.figure-in-Known-5.ensures,
-      c.figure-in-Known-4.ensures,
-      c.figure-in-Known-3.ensures,
-      c.figure-in-Known-2.ensures,
-      c.figure-in-Known.ensures,
+      sym (c.numbered_density.ensures ∙ ap (numbered_density _) c.figure.ensures) ∙ c.in-Some.is,
+      c.figure-in-Some-5.ensures,
+      c.figure-in-Some-4.ensures,
+      c.figure-in-Some-3.ensures,
+      c.figure-in-Some-2.ensures,
+      c.figure-in-Some.ensures,
     )
 
-pub returns-in-Unknown : goal.returns-in-Unknown
-returns-in-Unknown c = rw (sym (c.numbered_density.ensures ∙ ap (numbered_density _) c.figure.ensures)
-    ∙ c.in-Unknown.is)
+pub returns-in-None : goal.returns-in-None
+returns-in-None c = rw (sym (c.numbered_density.ensures ∙ ap (numbered_density _) c.figure.ensures)
+    ∙ c.in-None.is)

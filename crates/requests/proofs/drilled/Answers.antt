@@ -2,10 +2,10 @@
 use Rattle.requests.specs.Calls.{numbered_drill}
 use Rattle.requests.proofs.drilled.Goals as goal
 
-pub returns-in-Known : goal.returns-in-Known
+pub returns-in-Some : goal.returns-in-Some
 unfolding numbered_drill
-returns-in-Known c = rw c.in-Known.is c.drill.ensures.is
+returns-in-Some c = rw c.in-Some.is c.drill.ensures.is
 
-pub returns-in-Unknown : goal.returns-in-Unknown
+pub returns-in-None : goal.returns-in-None
 unfolding numbered_drill
-returns-in-Unknown c = rw c.in-Unknown.is
+returns-in-None c = rw c.in-None.is

@@ -3,14 +3,14 @@ use mathlib.Core.Path.{refl}
 use Rattle.requests.specs.Calls.{numbered_chords}
 use Rattle.requests.proofs.listed_chords.Goals as goal
 
-pub returns-in-Known : goal.returns-in-Known
+pub returns-in-Some : goal.returns-in-Some
 unfolding numbered_chords
-returns-in-Known c =
-    let told = c.in-Known.is in
+returns-in-Some c =
+    let told = c.in-Some.is in
     rw told (c.chords_at.ensures.chord_list.is, c.chords_at.ensures.ends_after)
 
-pub returns-in-Unknown : goal.returns-in-Unknown
+pub returns-in-None : goal.returns-in-None
 unfolding numbered_chords
-returns-in-Unknown c =
-    let told = c.in-Unknown.is in
+returns-in-None c =
+    let told = c.in-None.is in
     rw told (c.no_chords.ensures, refl)

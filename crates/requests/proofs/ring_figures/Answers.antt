@@ -8,14 +8,14 @@ pub returns-then-numbers-ne6 : goal.returns-then-numbers-ne6
 unfolding ring_by
 returns-then-numbers-ne6 c = simp (ne_eqb _ _ c.if-numbers-ne6.true) c.refused.ensures
 
-pub returns-in-Known : goal.returns-in-Known
+pub returns-in-Some : goal.returns-in-Some
 unfolding ring_by
-returns-in-Known c =
-    rw (eq-eqb _ _ c.if-numbers-ne6.false, sym c.numbered_density-found.ensures ∙ c.in-Known.is)
+returns-in-Some c =
+    rw (eq-eqb _ _ c.if-numbers-ne6.false, sym c.numbered_density-found.ensures ∙ c.in-Some.is)
     c.mass_properties.ensures.is
 
-pub returns-in-Unknown : goal.returns-in-Unknown
+pub returns-in-None : goal.returns-in-None
 unfolding ring_by
-returns-in-Unknown c =
-    rw (eq-eqb _ _ c.if-numbers-ne6.false, sym c.numbered_density-found.ensures ∙ c.in-Unknown.is)
-    c.refused-in-Unknown.ensures
+returns-in-None c =
+    rw (eq-eqb _ _ c.if-numbers-ne6.false, sym c.numbered_density-found.ensures ∙ c.in-None.is)
+    c.refused-in-None.ensures
