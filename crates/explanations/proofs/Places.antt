@@ -27,11 +27,11 @@ module _ (test : ℕ → Bool) (l : List ℕ) (at i : ℕ) (s : at + run test (d
         let q : run test (drop i l) ≡ 0 = run_at ∙ ap (λ (t : Bool). cond t (suc (run test (drop (i + 1) l))) 0) e in
         omega (arith, s, q)
 
-  pub run_ends : length l ≤ i → i ≡ at + run test (drop at l)
+  pub run_ends : i ≡ length l → length l ≡ at + run test (drop at l)
   unfolding run
-  run_ends h =
-      let q : run test (drop i l) ≡ 0 = ap (run test) (drop_of_length-le l h) in
-      omega (arith, s, q)
+  run_ends e =
+      let q : run test (drop i l) ≡ 0 = ap (run test) (drop_of_length-le l (omega (arith, e))) in
+      omega (arith, s, q, e)
 
 module _ (line : List ℕ) (at f : ℕ) (e : f ≡ token_from line at) where
   abbrev found : ℕ → ℕ → TokenRange

@@ -2,7 +2,7 @@
 use mathlib.Core.List.{List}
 use mathlib.Core.Bool.{Bool, true, false, ◌||◌}
 use mathlib.Core.Path.{◌≡◌, refl, sym, ap, ◌∙◌}
-use Prim.Native.Nat.{ℕ, zero, suc, ◌+◌, ◌-◌, ◌<◌, ◌≤◌}
+use Prim.Native.Nat.{ℕ, zero, suc, ◌+◌, ◌<◌, ◌≤◌}
 use native.Mathlib.Omega.{arith}
 use lib.ListN.{length, take, drop, get_or, drop_of_length-le}
 use lib.Seq.{take-take, take_at, length-take-le}
@@ -53,15 +53,14 @@ module _ (fault : Fault) (endings line : List ℕ) (at : ℕ) (f : TokenRange) (
       (ap (passes fault endings line) (sym is) ∙ e)
       ∙ sym is
 
-  pub goes_on : (turns : ℕ) → 0 < turns → passes fault endings line f ≡ true
-      → fault_from turns fault endings line at ≡ fault_from (turns - 1) fault endings line f.to
+  pub goes_on : (turns rest : ℕ) → turns ≡ suc rest → passes fault endings line f ≡ true
+      → fault_from turns fault endings line at ≡ fault_from rest fault endings line f.to
   unfolding fault_from
-  goes_on zero h e = absurd (let y : ⊥ = omega arith in y)
-  goes_on (suc n) h e =
-      ap (λ (t : Bool). pick_found t (fault_from n fault endings line (token_at line at).to) (token_at line at))
+  goes_on turns rest h e =
+      ap (λ (k : ℕ). fault_from k fault endings line at) h
+      ∙ ap (λ (t : Bool). pick_found t (fault_from rest fault endings line (token_at line at).to) (token_at line at))
       (ap (passes fault endings line) (sym is) ∙ e)
-      ∙ ap (λ (g : TokenRange). fault_from n fault endings line g.to) (sym is)
-      ∙ ap (λ (k : ℕ). fault_from k fault endings line f.to) (let e : n ≡ suc n - 1 = omega arith in e)
+      ∙ ap (λ (g : TokenRange). fault_from rest fault endings line g.to) (sym is)
 
 pub no_turn_lem : (fault : Fault) (endings line : List ℕ) (at turns : ℕ) → turns ≤ 0
     → fault_from turns fault endings line at ≡ record { from = at; to = at }

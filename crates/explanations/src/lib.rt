@@ -93,14 +93,12 @@ fn past_spaces(line: &[u8], at: usize) -> usize
     requires { at ≤ length line.now }
     ensures { (result ≡ token_from line.now at) × (result ≤ length line.now) }
 {
-    let mut i = at;
-    while i < line.len() {
+    for i in at..line.len() {
         if line[i] != 32 {
             return i;
         }
-        i += 1;
     }
-    i
+    line.len()
 }
 
 // Returns the first place from `from` on whose byte ends a word.
@@ -108,14 +106,12 @@ fn word_end(line: &[u8], from: usize) -> usize
     requires { from ≤ length line.now }
     ensures { (result ≡ from + run in_word (drop from line.now)) × (result ≤ length line.now) }
 {
-    let mut i = from;
-    while i < line.len() {
+    for i in from..line.len() {
         if tokens::ends_word(line[i]) {
             return i;
         }
-        i += 1;
     }
-    i
+    line.len()
 }
 
 // Returns the first token from a place on, which is empty at the line's end.
@@ -176,12 +172,10 @@ fn is_saved(trial: &mut [u8], n: usize, endings: &[u8], fault: Fault) -> bool
     ensures value { result ≡ saved fault (take n trial.old) endings.now }
     ensures trial_unchanged { take n trial.new ≡ take n trial.old }
 {
-    let mut j: usize = 0;
-    while j < endings.len() {
+    for j in 0..endings.len() {
         if saves_here(trial, n, endings, j, fault) {
             return true;
         }
-        j += 1;
     }
     false
 }
@@ -205,14 +199,12 @@ fn find_fault(line: &[u8], trial: &mut [u8], endings: &[u8], fault: Fault) -> To
     ensures { IsPlace line.now (fault_place fault endings.now line.now) result }
 {
     let mut at: usize = 0;
-    let mut turns = LINE_BYTES;
-    while 0 < turns {
+    for _turn in 0..LINE_BYTES {
         let f = token(line, at);
         if !passes(line, trial, endings, fault, f) {
             return f;
         }
         at = f.to;
-        turns -= 1;
     }
     TokenRange { from: at, to: at }
 }

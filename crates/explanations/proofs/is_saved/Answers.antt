@@ -9,47 +9,40 @@ use Rattle.explanations.proofs.Saving.{hit, miss, all_tried}
 use Rattle.explanations.proofs.is_saved.Goals as goal
 
 pub loop-j-init : goal.loop-j-init
-loop-j-init c = (omega arith, refl, refl, refl)
+loop-j-init c = (refl, refl, refl)
 
 pub saves_here-requires : goal.saves_here-requires
 saves_here-requires c =
-    let l = c.loop-j.invariant.1 in let h = c.requires in let t = c.loop-j-test.true in
-    (omega (arith, l, h), t)
+    let l = c.loop-j.invariant.0 in let h = c.requires in
+    (omega (arith, l, h), omega arith)
 
 pub shape_of-trial-then-saves_here : goal.shape_of-trial-then-saves_here
-shape_of-trial-then-saves_here c = c.saves_here.auto.trial ∙ c.loop-j.invariant.1
+shape_of-trial-then-saves_here c = c.saves_here.auto.trial ∙ c.loop-j.invariant.0
 
 pub returns-then-saves_here : goal.returns-then-saves_here
 returns-then-saves_here c =
     let here = c.saves_here.ensures.value
     ∙ ap (λ (s : List ℕ). saves_here c.args.fault s (get_or c.args.endings.now c.loop-j.j 0)
-    (drop c.loop-j.j c.args.endings.now)) c.loop-j.invariant.2 in record {
-      value = hit _ _ _ _ c.loop-j.invariant.3 c.loop-j-test.true (sym here ∙ c.if-saves_here.true);
-      trial_unchanged = c.saves_here.ensures.trial_unchanged ∙ c.loop-j.invariant.2;
+    (drop c.loop-j.j c.args.endings.now)) c.loop-j.invariant.1 in record {
+      value = hit _ _ _ _ c.loop-j.invariant.2 (omega arith) (sym here ∙ c.if-saves_here.true);
+      trial_unchanged = c.saves_here.ensures.trial_unchanged ∙ c.loop-j.invariant.1;
     }
-
-pub overflow_add-j : goal.overflow_add-j
-overflow_add-j c = omega arith
-
-pub loop-j-smaller : goal.loop-j-smaller
-loop-j-smaller c = omega arith
 
 pub loop-j-preserved : goal.loop-j-preserved
 loop-j-preserved c =
     let here = c.saves_here.ensures.value
     ∙ ap (λ (s : List ℕ). saves_here c.args.fault s (get_or c.args.endings.now c.loop-j.j 0)
-    (drop c.loop-j.j c.args.endings.now)) c.loop-j.invariant.2 in (
-      omega arith,
-      c.saves_here.auto.trial ∙ c.loop-j.invariant.1,
-      c.saves_here.ensures.trial_unchanged ∙ c.loop-j.invariant.2,
-      miss _ _ _ _ c.loop-j.invariant.3 c.loop-j-test.true (sym here ∙ c.if-saves_here.false),
+    (drop c.loop-j.j c.args.endings.now)) c.loop-j.invariant.1 in (
+      c.saves_here.auto.trial ∙ c.loop-j.invariant.0,
+      c.saves_here.ensures.trial_unchanged ∙ c.loop-j.invariant.1,
+      miss _ _ _ _ c.loop-j.invariant.2 (omega arith) (sym here ∙ c.if-saves_here.false),
     )
 
 pub shape_of-trial : goal.shape_of-trial
-shape_of-trial c = c.loop-j.invariant.1
+shape_of-trial c = c.loop-j.invariant.0
 
 pub returns : goal.returns
 returns c = record {
-  value = all_tried _ _ _ _ c.loop-j.invariant.3 c.loop-j-test.false;
-  trial_unchanged = c.loop-j.invariant.2;
+  value = all_tried _ _ _ _ c.loop-j.invariant.2 (omega arith);
+  trial_unchanged = c.loop-j.invariant.1;
 }

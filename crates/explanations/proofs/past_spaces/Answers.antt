@@ -7,25 +7,16 @@ use Rattle.explanations.proofs.Places.{run_on, run_stops, run_ends}
 use Rattle.explanations.proofs.past_spaces.Goals as goal
 
 pub loop-i-init : goal.loop-i-init
-loop-i-init c = (omega arith, refl)
-
-pub bounds-line-i : goal.bounds-line-i
-bounds-line-i c = omega arith
+loop-i-init c = refl
 
 pub returns-then-line-i-ne32 : goal.returns-then-line-i-ne32
 returns-then-line-i-ne32 c =
-    (run_stops is_space c.args.line.now _ _ c.loop-i.invariant.1 (omega arith) (ne_eqb _ _ c.if-line-i-ne32.true), c.loop-i.invariant.0)
-
-pub overflow_add-i : goal.overflow_add-i
-overflow_add-i c = omega arith
-
-pub loop-i-smaller : goal.loop-i-smaller
-loop-i-smaller c = omega arith
+    (run_stops is_space c.args.line.now _ _ c.loop-i.invariant (omega arith) (ne_eqb _ _ c.if-line-i-ne32.true), omega arith)
 
 pub loop-i-preserved : goal.loop-i-preserved
 loop-i-preserved c =
-    (omega arith, run_on is_space c.args.line.now _ _ c.loop-i.invariant.1 (omega arith) (eq-eqb _ _ c.if-line-i-ne32.false))
+    run_on is_space c.args.line.now _ _ c.loop-i.invariant (omega arith) (eq-eqb _ _ c.if-line-i-ne32.false)
 
 pub returns : goal.returns
 returns c =
-    (run_ends is_space c.args.line.now _ _ c.loop-i.invariant.1 (omega arith), c.loop-i.invariant.0)
+    (run_ends is_space c.args.line.now _ _ c.loop-i.invariant (omega arith), omega arith)

@@ -7,31 +7,20 @@ use Rattle.explanations.proofs.Places.{run_on, run_stops, run_ends}
 use Rattle.explanations.proofs.word_end.Goals as goal
 
 pub loop-i-init : goal.loop-i-init
-loop-i-init c = (omega arith, refl)
-
-pub bounds-line-i : goal.bounds-line-i
-bounds-line-i c = omega arith
+loop-i-init c = refl
 
 pub returns-then-ends_word : goal.returns-then-ends_word
 returns-then-ends_word c = (
-  run_stops in_word c.args.line.now _ _ c.loop-i.invariant.1 (omega arith)
+  run_stops in_word c.args.line.now _ _ c.loop-i.invariant (omega arith)
       (ap not (sym c.ends_word.ensures ∙ c.if-ends_word.true)),
-  c.loop-i.invariant.0,
+  omega arith,
 )
-
-pub overflow_add-i : goal.overflow_add-i
-overflow_add-i c = omega arith
-
-pub loop-i-smaller : goal.loop-i-smaller
-loop-i-smaller c = omega arith
 
 pub loop-i-preserved : goal.loop-i-preserved
-loop-i-preserved c = (
-  omega arith,
-  run_on in_word c.args.line.now _ _ c.loop-i.invariant.1 (omega arith)
-      (ap not (sym c.ends_word.ensures ∙ c.if-ends_word.false)),
-)
+loop-i-preserved c =
+    run_on in_word c.args.line.now _ _ c.loop-i.invariant (omega arith)
+    (ap not (sym c.ends_word.ensures ∙ c.if-ends_word.false))
 
 pub returns : goal.returns
 returns c =
-    (run_ends in_word c.args.line.now _ _ c.loop-i.invariant.1 (omega arith), c.loop-i.invariant.0)
+    (run_ends in_word c.args.line.now _ _ c.loop-i.invariant (omega arith), omega arith)
