@@ -373,6 +373,9 @@ pub none_behind : (planform : Planform) (points : List Float) (i : ℕ) → ever
     → bits 0 ⊘ bits 0 ≡ at (all_heights planform points) i
 none_behind planform points i e h = no_number ∙ sym (ap (λ (l : List Float). at l (i - 2)) e) ∙ from_two planform points i h
 
+-- what the heights' places ask for, by name in src/lib.rt
+pub ruleset by_place = (too_many_at, outline_at, outline_behind, of_outline, none_behind)
+
 -- point by point
 pub begins : (points : List Float) (h : Float) (found : RankedHeight) → found ≡ record { place = 0; height = bits 0 ⊘ bits 0 }
     → found ≡ least_above h (heights points 0)

@@ -5,7 +5,6 @@ use Prim.Native.Nat.{ℕ, zero, suc, ◌<◌}
 use native.Mathlib.Nat.{le_refl, le_trans, le-suc}
 use lib.Dec.{leb, lit≤}
 use lib.Ieee.{Float}
-use lib.Ieee.Scale.{finite}
 use Rattle.floats.specs.Operations.{bits}
 use Rattle.rounding.specs.Sizes.{Below}
 use Rattle.rounding.proofs.Signs.{finite_no_nan}

@@ -44,40 +44,24 @@ pub fn break_heights(planform: Planform, points: &[f64]) -> BreakHeights
 
 // Tells whether 0 and the span are the only break heights, and so need no list: they are a trapezoid's or an ellipse's
 // with a span above 0.
+#[tactic(auto, unfolding(crate::specs::Breaks::one_strip))]
 pub fn is_one_strip(planform: Planform) -> bool
     ensures { result ≡ one_strip planform }
 {
     match planform {
-        Planform::Trapezoid {
-            root_chord_m: _,
-            tip_chord_m: _,
-            span_m,
-            sweep_m: _,
-        } => 0.0 < span_m,
-        Planform::Ellipse {
-            root_chord_m: _,
-            span_m,
-        } => 0.0 < span_m,
+        Planform::Trapezoid { span_m, .. } | Planform::Ellipse { span_m, .. } => 0.0 < span_m,
         Planform::Outline => false,
     }
 }
 
 // Writes the sorted heights of an outline's points over the start of xs, and returns how many there are.
+#[tactic(auto, unfolding(crate::specs::Breaks::every_y, sorting::specs::Sorted::sorted))]
 fn put_heights(planform: Planform, points: &[f64], xs: &mut [f64; MOST_HEIGHTS]) -> usize
     ensures { Written (sorted (every_y planform points.now)) xs.old xs.new result }
 {
     match planform {
         Planform::Outline => put_outline_heights(points, xs),
-        Planform::Trapezoid {
-            root_chord_m: _,
-            tip_chord_m: _,
-            span_m: _,
-            sweep_m: _,
-        } => 0,
-        Planform::Ellipse {
-            root_chord_m: _,
-            span_m: _,
-        } => 0,
+        Planform::Trapezoid { .. } | Planform::Ellipse { .. } => 0,
     }
 }
 
@@ -89,10 +73,8 @@ fn put_outline_heights(points: &[f64], xs: &mut [f64; MOST_HEIGHTS]) -> usize
     if MOST_POINTS < n {
         return 0;
     }
-    let mut i: usize = 0;
-    while i < n {
+    for i in 0..n {
         sorting::insert(xs, i, points[2 * i + 1]);
-        i += 1;
     }
     n
 }
@@ -104,10 +86,8 @@ fn distinct(xs: &[f64], n: usize) -> BreakHeights
 {
     let mut heights = [0.0; MOST_HEIGHTS];
     let mut count: usize = 0;
-    let mut i: usize = 1;
-    while i < n {
+    for i in 1..n {
         count = keep_unless_equal(&mut heights, count, xs[i - 1], xs[i]);
-        i += 1;
     }
     heights[count] = xs[n - 1];
     BreakHeights {
@@ -130,6 +110,7 @@ fn keep_unless_equal(xs: &mut [f64], count: usize, a: f64, b: f64) -> usize
 
 // Returns the height at a place among all: 0, the span, then those of an outline's points, the last point first. Past
 // them it is a NaN.
+#[tactic(auto, using(crate::proofs::Above::by_place), unfolding(crate::specs::Breaks::every_y))]
 pub fn height_at(planform: Planform, points: &[f64], place: usize) -> f64
     ensures { result ≡ at (all_heights planform points.now) place }
 {
@@ -141,21 +122,13 @@ pub fn height_at(planform: Planform, points: &[f64], place: usize) -> f64
     }
     match planform {
         Planform::Outline => outline_height_at(points, place - 2),
-        Planform::Trapezoid {
-            root_chord_m: _,
-            tip_chord_m: _,
-            span_m: _,
-            sweep_m: _,
-        } => 0.0 / 0.0,
-        Planform::Ellipse {
-            root_chord_m: _,
-            span_m: _,
-        } => 0.0 / 0.0,
+        Planform::Trapezoid { .. } | Planform::Ellipse { .. } => 0.0 / 0.0,
     }
 }
 
 // Returns the height of an outline's point, by its place from the last point on; past the first point, or with more
 // than 64 points, it is a NaN.
+#[tactic(auto, using(crate::proofs::Above::by_place))]
 fn outline_height_at(points: &[f64], place: usize) -> f64
     ensures { result ≡ at (outline_heights points.now) place }
 {
@@ -180,24 +153,13 @@ pub fn least_above(planform: Planform, points: &[f64], span: f64, h: f64) -> Ran
     nearer(h, 0.0, found)
 }
 
+#[tactic(auto, using(crate::proofs::Above::none_found), unfolding(crate::specs::Breaks::every_y))]
 fn least_of_points(planform: Planform, points: &[f64], h: f64) -> RankedHeight
     ensures { (result ≡ least_above h (every_y planform points.now)) × (result.place ≤ most_points) }
 {
     match planform {
         Planform::Outline => least_of_outline(points, h),
-        Planform::Trapezoid {
-            root_chord_m: _,
-            tip_chord_m: _,
-            span_m: _,
-            sweep_m: _,
-        } => RankedHeight {
-            place: 0,
-            height: 0.0 / 0.0,
-        },
-        Planform::Ellipse {
-            root_chord_m: _,
-            span_m: _,
-        } => RankedHeight {
+        Planform::Trapezoid { .. } | Planform::Ellipse { .. } => RankedHeight {
             place: 0,
             height: 0.0 / 0.0,
         },
@@ -215,10 +177,8 @@ fn least_of_outline(points: &[f64], h: f64) -> RankedHeight
     if MOST_POINTS < n {
         return found;
     }
-    let mut i: usize = 0;
-    while i < n {
+    for i in 0..n {
         found = nearer(h, points[2 * i + 1], found);
-        i += 1;
     }
     found
 }

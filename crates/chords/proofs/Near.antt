@@ -1,8 +1,8 @@
 -- An edge with both ends at most lo, or both above hi, is crossed at no height from lo to hi; so the edges that are
 -- left have every crossing there. A NaN is below nothing and above nothing, and crosses nothing. Assumes nothing.
 use mathlib.Core.Path.{◌≡◌, refl, sym, ap, ◌∙◌}
-use mathlib.Core.Bool.{Bool, true, false, ◌&&◌, ◌||◌, cond}
-use mathlib.Core.List.{List, [], ◌∷◌}
+use mathlib.Core.Bool.{Bool, true, false, ◌&&◌, ◌||◌}
+use mathlib.Core.List.{List, []}
 use Prim.Native.Nat.{ℕ, zero, suc, ◌+◌, ◌-◌, ◌%◌, ◌≤◌, ◌<◌, zero-le}
 use native.Mathlib.Nat.{not-suc-le-zero, le-suc, le_trans, le_refl, mod-eq_of_lt, mod_self}
 use native.Mathlib.Numerals.{add-one}
@@ -18,7 +18,7 @@ use Rattle.planforms.specs.Planforms.{height_at, pair_count}
 use Rattle.segments.specs.Segments.{next}
 use Rattle.sorting.specs.Sorted.{sorted}
 use Rattle.limits.specs.Limits.{most_points}
-use Rattle.chords.specs.Chords.{crossed, edge_crossed, edge_crossing, crossings, outline_crossings}
+use Rattle.chords.specs.Chords.{crossed, crossings, outline_crossings}
 use Rattle.chords.specs.Edges.{crossings_among, Holding, Near, Kept}
 use Rattle.chords.proofs.Crossed.{from_first, from_second, from_neither}
 

@@ -34,6 +34,7 @@ pub enum Chords {
 
 // Returns the chords of a planform at h. Of an outline, the edges listed must have every crossing at h; for another
 // planform the list is not read.
+#[tactic(auto, unfolding(crate::specs::Chords::ends_at))]
 pub fn chords_at(planform: Planform, points: &[f64], edges: &[u8], h: f64) -> Chords
     requires { planform ≡ Planform.Outline → Holding points.now h edges.now }
     ensures { result ≡ chords_of (ends_at planform points.now h) }
@@ -69,15 +70,13 @@ pub fn edges_near(points: &[f64], lo: f64, hi: f64, edges: &mut [u8; MOST_POINTS
     let mut below = first_below;
     let mut above = first_above;
     let mut count: usize = 0;
-    let mut i: usize = 1;
-    while i < n {
+    for i in 1..n {
         let y = points[2 * i + 1];
         let next_below = y <= lo;
         let next_above = hi < y;
         count = keep_edge(edges, count, i - 1, below & next_below, above & next_above);
         below = next_below;
         above = next_above;
-        i += 1;
     }
     keep_edge(
         edges,
@@ -121,10 +120,8 @@ pub fn crossings_of(points: &[f64], edges: &[u8], h: f64, xs: &mut [f64; MOST_PO
 {
     let n = points.len() / 2;
     let mut count: usize = 0;
-    let mut k: usize = 0;
-    while k < edges.len() {
-        count = cross_edge(points, h, edges[k] as usize, n, xs, count);
-        k += 1;
+    for edge in edges {
+        count = cross_edge(points, h, *edge as usize, n, xs, count);
     }
     count
 }
@@ -189,13 +186,11 @@ fn outline_chord(points: &[f64], edges: &[u8], h: f64) -> Chords
 {
     let n = points.len() / 2;
     let mut few = Few::Zero;
-    let mut k: usize = 0;
-    while k < edges.len() {
-        few = meet_edge(few, points, h, edges[k] as usize, n);
+    for edge in edges {
+        few = meet_edge(few, points, h, *edge as usize, n);
         if let Few::More = few {
             return Chords::Several;
         }
-        k += 1;
     }
     few_chords(few)
 }
@@ -227,8 +222,7 @@ fn add_few(few: Few, x: f64) -> Few
                 Few::Pair(a, x)
             }
         }
-        Few::Pair(_, _) => Few::More,
-        Few::More => Few::More,
+        Few::Pair(_, _) | Few::More => Few::More,
     }
 }
 
@@ -241,8 +235,7 @@ fn few_chords(few: Few) -> Chords
             end_m: b,
         },
         Few::More => Chords::Several,
-        Few::Zero => Chords::Nothing,
-        Few::Single(_) => Chords::Nothing,
+        Few::Zero | Few::Single(_) => Chords::Nothing,
     }
 }
 

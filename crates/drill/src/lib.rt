@@ -32,6 +32,7 @@ pub enum Answer {
 }
 
 // Returns where a point lies, from the corners and the point in steps.
+#[tactic(auto, unfolding(crate::specs::Drill::place_of))]
 fn place(corners: &[i64], x: i64, height: i64) -> Answer
     requires { (0 < corner_count corners.now) × InReach corners.now x height }
     ensures { result ≡ place_of corners.now x height }
@@ -52,10 +53,8 @@ fn are_whole(points: &[f64]) -> bool
     ensures { result ≡ are_whole (map exact_of points.now) }
 {
     let mut whole = true;
-    let mut i: usize = 0;
-    while i < points.len() {
-        whole = whole & is_whole(points[i]);
-        i += 1;
+    for point in points {
+        whole = whole & is_whole(*point);
     }
     whole
 }
@@ -66,11 +65,8 @@ fn steps_of(points: &[f64]) -> [i64; limits::OUTLINE_NUMBERS]
     ensures { take (length points.now) result ≡ map steps_of (map exact_of points.now) }
 {
     let mut corners = [0i64; limits::OUTLINE_NUMBERS];
-    let mut i: usize = 0;
-    while i < points.len() {
-        let coordinate = steps(points[i]);
-        corners[i] = coordinate;
-        i += 1;
+    for (i, point) in points.iter().enumerate() {
+        corners[i] = steps(*point);
     }
     corners
 }
@@ -148,10 +144,7 @@ pub fn drill(planform: Planform, points: &[f64], x_m: f64, height_m: f64) -> Ans
             span_m,
             sweep_m,
         } => drill_trapezoid(root_chord_m, tip_chord_m, span_m, sweep_m, x_m, height_m),
-        Planform::Ellipse {
-            root_chord_m: _,
-            span_m: _,
-        } => Answer::Refused(Refusal::NoCorners),
+        Planform::Ellipse { .. } => Answer::Refused(Refusal::NoCorners),
         Planform::Outline => drill_outline(points, x_m, height_m),
     }
 }

@@ -74,21 +74,20 @@ fn check_edge(points: &[f64], i: usize) -> Verdict
     ensures { result ≡ edge_check points.now i }
 {
     let n = points.len() / 2;
-    let mut j = i + 2;
-    if n <= j {
+    let first = i + 2;
+    if n <= first {
         return Ok(());
     }
     let edge = edge_at(points, i);
-    let mut from = segments::place_beside(edge, point_at(points, j));
-    while j + 1 < n {
+    let mut from = segments::place_beside(edge, point_at(points, first));
+    for j in first..n - 1 {
         let to = segments::place_beside(edge, point_at(points, j + 1));
         if edge_touches(points, j, edge, from, to) {
             return Err(Refusal::Touches(i, j));
         }
         from = to;
-        j += 1;
     }
-    check_pair(points, i, j)
+    check_pair(points, i, n - 1)
 }
 
 // Checks that no two edges touch, else refuses with 7.
@@ -96,12 +95,10 @@ fn check_edges(points: &[f64]) -> Verdict
     ensures { result ≡ edges_check points.now }
 {
     let n = points.len() / 2;
-    let mut i: usize = 0;
-    while i < n {
+    for i in 0..n {
         if let Err(refusal) = check_edge(points, i) {
             return Err(refusal);
         }
-        i += 1;
     }
     Ok(())
 }
@@ -120,12 +117,10 @@ fn check_points(points: &[f64]) -> Verdict
     ensures { result ≡ points_check points.now }
 {
     let n = points.len() / 2;
-    let mut i: usize = 0;
-    while i < n {
+    for i in 0..n {
         if let Err(refusal) = check_point(points, i) {
             return Err(refusal);
         }
-        i += 1;
     }
     Ok(())
 }
@@ -150,15 +145,14 @@ fn edge_term(edge: Segment) -> f64
 }
 
 // Returns twice the outline's area, which is negative where its points run clockwise.
+#[tactic(auto, unfolding(crate::specs::Outlines::sum_of_terms))]
 fn twice_area(points: &[f64]) -> f64
     ensures { result ≡ twice_area points.now }
 {
     let n = points.len() / 2;
     let mut sum = 0.0;
-    let mut i: usize = 0;
-    while i < n {
+    for i in 0..n {
         sum = sum + edge_term(edge_at(points, i));
-        i += 1;
     }
     sum
 }

@@ -33,16 +33,8 @@ pub fn number_of(planform: Planform) -> usize
     ensures { result ≡ planform_number planform }
 {
     match planform {
-        Planform::Trapezoid {
-            root_chord_m: _,
-            tip_chord_m: _,
-            span_m: _,
-            sweep_m: _,
-        } => 1,
-        Planform::Ellipse {
-            root_chord_m: _,
-            span_m: _,
-        } => 2,
+        Planform::Trapezoid { .. } => 1,
+        Planform::Ellipse { .. } => 2,
         Planform::Outline => 3,
     }
 }
@@ -99,39 +91,25 @@ pub fn listed_planform(number: usize, lengths: &[f64]) -> Option<Planform>
 }
 
 // Returns the root chord; of an outline the last point's x, or 0 where there is no point.
+#[tactic(auto, unfolding(crate::specs::Planforms::root_chord_of))]
 pub fn root_chord_m(planform: Planform, points: &[f64]) -> f64
     ensures { result ≡ root_chord_of planform points.now }
 {
     match planform {
-        Planform::Trapezoid {
-            root_chord_m,
-            tip_chord_m: _,
-            span_m: _,
-            sweep_m: _,
-        } => root_chord_m,
-        Planform::Ellipse {
-            root_chord_m,
-            span_m: _,
-        } => root_chord_m,
+        Planform::Trapezoid { root_chord_m, .. } => root_chord_m,
+        Planform::Ellipse { root_chord_m, .. } => root_chord_m,
         Planform::Outline => last_x(points),
     }
 }
 
 // Returns the span; of an outline the largest height, and at least 0.
+#[tactic(auto, unfolding(crate::specs::Planforms::span_of))]
 pub fn span_m(planform: Planform, points: &[f64]) -> f64
     ensures { result ≡ span_of planform points.now }
 {
     match planform {
-        Planform::Trapezoid {
-            root_chord_m: _,
-            tip_chord_m: _,
-            span_m,
-            sweep_m: _,
-        } => span_m,
-        Planform::Ellipse {
-            root_chord_m: _,
-            span_m,
-        } => span_m,
+        Planform::Trapezoid { span_m, .. } => span_m,
+        Planform::Ellipse { span_m, .. } => span_m,
         Planform::Outline => largest_height(points),
     }
 }
@@ -146,15 +124,14 @@ fn last_x(points: &[f64]) -> f64
     points[2 * (n - 1)]
 }
 
+#[tactic(auto, unfolding(crate::specs::Planforms::largest_height))]
 fn largest_height(points: &[f64]) -> f64
     ensures { result ≡ largest_height points.now (pair_count points.now) }
 {
     let n = points.len() / 2;
     let mut largest = 0.0;
-    let mut i: usize = 0;
-    while i < n {
+    for i in 0..n {
         largest = floats::max(largest, points[2 * i + 1]);
-        i += 1;
     }
     largest
 }

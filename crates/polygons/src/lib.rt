@@ -44,7 +44,7 @@ fn sum(a: i64, b: i64) -> i64
 fn is_same(a: i64, b: i64) -> bool
     ensures { result ≡ is_same a b }
 {
-    (a <= b) & (b <= a)
+    a == b
 }
 
 fn is_less(a: i64, b: i64) -> bool
@@ -68,6 +68,7 @@ fn is_crossed(lower: i64, upper: i64) -> bool
 }
 
 // Tells whether the point lies on the edge from a to b, its ends included.
+#[tactic(auto, unfolding(crate::specs::Polygons::lies_on))]
 fn lies_on(a: Offset, b: Offset) -> bool
     requires { AreOffsets a × AreOffsets b }
     ensures { result ≡ lies_on a b }
@@ -77,6 +78,7 @@ fn lies_on(a: Offset, b: Offset) -> bool
 }
 
 // Tells whether the edge from a lower to an upper end is cut to the right of the point.
+#[tactic(auto, unfolding(crate::specs::Polygons::is_cut_rising))]
 fn is_cut_rising(lower: Offset, upper: Offset) -> bool
     requires { AreOffsets lower × AreOffsets upper }
     ensures { result ≡ is_cut_rising lower upper }
@@ -86,6 +88,7 @@ fn is_cut_rising(lower: Offset, upper: Offset) -> bool
     is_crossed(lower.up, upper.up) & is_less(from, to)
 }
 
+#[tactic(auto, unfolding(crate::specs::Polygons::is_cut))]
 fn is_cut(a: Offset, b: Offset) -> bool
     requires { AreOffsets a × AreOffsets b }
     ensures { result ≡ is_cut a b }
@@ -93,6 +96,7 @@ fn is_cut(a: Offset, b: Offset) -> bool
     is_cut_rising(a, b) | is_cut_rising(b, a)
 }
 
+#[tactic(auto, unfolding(crate::specs::Polygons::squared_distance))]
 fn squared_distance(a: Offset) -> i64
     requires { AreOffsets a }
     ensures { result ≡ squared_distance a }
@@ -102,6 +106,7 @@ fn squared_distance(a: Offset) -> i64
     sum(across, up)
 }
 
+#[tactic(auto, unfolding(crate::specs::Polygons::is_nearer))]
 fn is_nearer(a: Offset, b: Offset) -> bool
     requires { AreOffsets a × AreOffsets b }
     ensures { result ≡ is_nearer a b }
@@ -110,6 +115,7 @@ fn is_nearer(a: Offset, b: Offset) -> bool
 }
 
 // Returns corner i as the point sees it.
+#[tactic(auto, unfolding(crate::specs::Polygons::offset_of))]
 fn offset_of(corners: &[i64], x: i64, height: i64, i: usize) -> Offset
     requires { (i < corner_count corners.now) × InReach corners.now x height }
     ensures { (result ≡ offset_of corners.now x height i) × AreOffsets result }
@@ -119,6 +125,7 @@ fn offset_of(corners: &[i64], x: i64, height: i64, i: usize) -> Offset
     Offset { across, up }
 }
 
+#[tactic(auto, unfolding(crate::specs::Polygons::is_on))]
 fn is_on(corners: &[i64], x: i64, height: i64, i: usize) -> bool
     requires { (i < corner_count corners.now) × InReach corners.now x height }
     ensures { result ≡ is_on corners.now x height i }
@@ -129,6 +136,7 @@ fn is_on(corners: &[i64], x: i64, height: i64, i: usize) -> bool
     lies_on(from, to)
 }
 
+#[tactic(auto, unfolding(crate::specs::Polygons::cuts))]
 fn cuts(corners: &[i64], x: i64, height: i64, i: usize) -> bool
     requires { (i < corner_count corners.now) × InReach corners.now x height }
     ensures { result ≡ cuts corners.now x height i }
@@ -140,6 +148,7 @@ fn cuts(corners: &[i64], x: i64, height: i64, i: usize) -> bool
 }
 
 // Returns the nearer one of the corners `best` and i, or `best` where they are equally far.
+#[tactic(auto, unfolding(crate::specs::Polygons::nearer_of))]
 fn nearer(corners: &[i64], x: i64, height: i64, best: usize, i: usize) -> usize
     requires { (best < corner_count corners.now) × (i < corner_count corners.now) × InReach corners.now x height }
     ensures { (result ≡ nearer_of corners.now x height best i) × (result < corner_count corners.now) }
@@ -154,45 +163,42 @@ fn nearer(corners: &[i64], x: i64, height: i64, best: usize, i: usize) -> usize
 }
 
 // Tells whether the point lies on an edge.
+#[tactic(auto, unfolding(crate::specs::Polygons::is_on_edge, crate::specs::Polygons::some))]
 pub fn is_on_edge(corners: &[i64], x: i64, height: i64) -> bool
     requires { InReach corners.now x height }
     ensures { result ≡ is_on_edge corners.now x height }
 {
     let n = corners.len() / 2;
     let mut on_edge = false;
-    let mut i: usize = 0;
-    while i < n {
+    for i in 0..n {
         on_edge = on_edge | is_on(corners, x, height, i);
-        i += 1;
     }
     on_edge
 }
 
 // Tells whether an odd number of edges is cut to the right of the point.
+#[tactic(auto, unfolding(crate::specs::Polygons::is_inside, crate::specs::Polygons::count))]
 pub fn is_inside(corners: &[i64], x: i64, height: i64) -> bool
     requires { InReach corners.now x height }
     ensures { result ≡ is_inside corners.now x height }
 {
     let n = corners.len() / 2;
     let mut cut: usize = 0;
-    let mut i: usize = 0;
-    while i < n {
+    for i in 0..n {
         cut = cut + cuts(corners, x, height, i) as usize;
-        i += 1;
     }
     cut % 2 == 1
 }
 
 // Returns the position of the nearest corner, counted from 0; of equally near ones the lowest.
+#[tactic(auto, unfolding(crate::specs::Polygons::nearest_corner, crate::specs::Polygons::nearest_to))]
 pub fn nearest_corner(corners: &[i64], x: i64, height: i64) -> usize
     requires { (0 < corner_count corners.now) × InReach corners.now x height }
     ensures { result ≡ nearest_corner corners.now x height }
 {
     let n = corners.len() / 2;
     let mut nearest: usize = 0;
-    let mut i: usize = 0;
-    while i + 1 < n {
-        i += 1;
+    for i in 1..n {
         nearest = nearer(corners, x, height, nearest, i);
     }
     nearest

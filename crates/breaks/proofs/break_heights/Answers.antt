@@ -1,13 +1,9 @@
 -- `breaks::break_heights` meets its contract: the heights stand sorted, the span and 0 go in, and equal ones are kept
 -- once. Assumes nothing.
-use mathlib.Core.Path.{refl, sym, ◌∙◌}
+use mathlib.Core.Path.{refl, ◌∙◌}
 use native.Mathlib.Omega.{arith}
 use Rattle.breaks.proofs.Kept.{within, both}
 use Rattle.breaks.proofs.break_heights.Goals as goal
-
-pub slice_bounds-insert-end : goal.slice_bounds-insert-end
-slice_bounds-insert-end c = let a = c.args in
-    sym (within a.planform a.points.now _ _ c.put_heights-n.ensures).1
 
 pub insert-requires : goal.insert-requires
 insert-requires c =
@@ -15,20 +11,8 @@ insert-requires c =
     let b = within a.planform a.points.now _ _ c.put_heights-n.ensures in
     omega arith
 
-pub overflow_add-n : goal.overflow_add-n
-overflow_add-n c =
-    let a = c.args in
-    let b = within a.planform a.points.now _ _ c.put_heights-n.ensures in
-    omega arith
-
 pub insert-requires-2 : goal.insert-requires-2
 insert-requires-2 c =
-    let a = c.args in
-    let b = within a.planform a.points.now _ _ c.put_heights-n.ensures in
-    omega arith
-
-pub overflow_add-n-2 : goal.overflow_add-n-2
-overflow_add-n-2 c =
     let a = c.args in
     let b = within a.planform a.points.now _ _ c.put_heights-n.ensures in
     omega arith

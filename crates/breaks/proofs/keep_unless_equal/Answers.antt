@@ -4,9 +4,6 @@ use lib.Seq.{length-take-le}
 use Rattle.sorting.proofs.Over.{written_itself, written_put}
 use Rattle.breaks.proofs.keep_unless_equal.Goals as goal
 
-pub returns-then-a-b : goal.returns-then-a-b
-returns-then-a-b c = rw c.if-a-b.true (written_itself c.args.count c.args.xs.now (omega arith))
-
 pub returns : goal.returns
 returns c =
     let a = c.args in

@@ -1,15 +1,6 @@
 -- `breaks::least_above` meets its contract: the span and 0 stand in front of the heights of the points. Assumes nothing.
-use mathlib.Core.Path.{ap}
-use native.Mathlib.Omega.{arith}
-use Rattle.breaks.specs.declared.RankedHeight.{RankedHeight}
-use Rattle.breaks.proofs.Above.{place_most, both_with}
+use Rattle.breaks.proofs.Above.{both_with}
 use Rattle.breaks.proofs.least_above.Goals as goal
-
-pub nearer-requires : goal.nearer-requires
-nearer-requires c =
-    let a = c.args in
-    let most = place_most a.h a.span c.least_of_points-found.result in
-    omega (arith, most, ap (λ (s : RankedHeight). s.place) c.nearer-found.ensures, c.least_of_points-found.ensures.1)
 
 pub returns : goal.returns
 returns c =

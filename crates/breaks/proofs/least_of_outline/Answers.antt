@@ -14,42 +14,24 @@ returns-then-n-gt-MOST_POINTS c =
     (rw (lt-leb (pair_count a.points.now) most_points c.if-n-gt-MOST_POINTS.true) (none_found a.h), omega arith)
 
 pub loop-i-init : goal.loop-i-init
-loop-i-init c = (omega arith, begins _ _ _ refl)
-
-pub overflow_mul-i : goal.overflow_mul-i
-overflow_mul-i c = omega arith
-
-pub overflow_add-i : goal.overflow_add-i
-overflow_add-i c = omega arith
-
-pub offset_bounds-points-i : goal.offset_bounds-points-i
-offset_bounds-points-i c = omega arith
-
-pub bounds-points-i : goal.bounds-points-i
-bounds-points-i c = omega arith
+loop-i-init c = begins _ _ _ refl
 
 pub nearer-found-requires : goal.nearer-found-requires
 nearer-found-requires c =
     let a = c.args in
-    let few = place_few a.points.now a.h c.loop-i.i c.loop-i.found c.loop-i.invariant.1 in
+    let few = place_few a.points.now a.h c.loop-i.i c.loop-i.found c.loop-i.invariant in
     omega arith
-
-pub overflow_add-i-in-loop-i : goal.overflow_add-i-in-loop-i
-overflow_add-i-in-loop-i c = omega arith
-
-pub loop-i-smaller : goal.loop-i-smaller
-loop-i-smaller c = omega arith
 
 pub loop-i-preserved : goal.loop-i-preserved
 loop-i-preserved c =
     let a = c.args in
-    (omega arith, one_point a.points.now a.h c.loop-i.i c.loop-i.found _ c.loop-i.invariant.1 c.nearer-found.ensures)
+    one_point a.points.now a.h c.loop-i.i c.loop-i.found _ c.loop-i.invariant c.nearer-found.ensures
 
 pub returns : goal.returns
 returns c =
     let a = c.args in
     let n = pair_count a.points.now in
-    let few = place_few a.points.now a.h c.loop-i.i c.loop-i.found c.loop-i.invariant.1 in
+    let few = place_few a.points.now a.h c.loop-i.i c.loop-i.found c.loop-i.invariant in
     let most : n ≤ most_points = omega arith in
     let all : c.loop-i.i ≡ n = omega arith in
-    (rw (le-leb n most_points most) (rw all at c.loop-i.invariant.1), omega arith)
+    (rw (le-leb n most_points most) (rw all at c.loop-i.invariant), omega arith)

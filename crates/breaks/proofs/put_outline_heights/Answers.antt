@@ -7,35 +7,14 @@ pub returns-then-n-gt-MOST_POINTS : goal.returns-then-n-gt-MOST_POINTS
 returns-then-n-gt-MOST_POINTS c = too_many c.args.points.now c.args.xs.now c.if-n-gt-MOST_POINTS.true
 
 pub loop-i-init : goal.loop-i-init
-loop-i-init c = (omega arith, no_heights c.args.points.now c.args.xs.now)
-
-pub overflow_mul-i : goal.overflow_mul-i
-overflow_mul-i c = omega arith
-
-pub overflow_add-i : goal.overflow_add-i
-overflow_add-i c = omega arith
-
-pub offset_bounds-points-i : goal.offset_bounds-points-i
-offset_bounds-points-i c = omega arith
-
-pub bounds-points-i : goal.bounds-points-i
-bounds-points-i c = omega arith
-
-pub insert-requires : goal.insert-requires
-insert-requires c = omega arith
-
-pub overflow_add-i-in-loop-i : goal.overflow_add-i-in-loop-i
-overflow_add-i-in-loop-i c = omega arith
-
-pub loop-i-smaller : goal.loop-i-smaller
-loop-i-smaller c = omega arith
+loop-i-init c = no_heights c.args.points.now c.args.xs.now
 
 pub loop-i-preserved : goal.loop-i-preserved
 loop-i-preserved c =
     let a = c.args in
-    (omega arith, one_height a.points.now c.loop-i.i a.xs.now c.loop-i.xs _ c.loop-i.invariant.1 c.insert.ensures)
+    one_height a.points.now c.loop-i.i a.xs.now c.loop-i.xs _ c.loop-i.invariant c.insert.ensures
 
 pub returns : goal.returns
 returns c =
     let a = c.args in
-    all_heights_lem a.points.now a.xs.now _ c.loop-i.i (omega arith) (omega arith) c.loop-i.invariant.1
+    all_heights_lem a.points.now a.xs.now _ c.loop-i.i (omega arith) (omega arith) c.loop-i.invariant

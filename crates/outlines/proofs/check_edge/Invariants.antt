@@ -1,6 +1,5 @@
 -- `outlines::check_edge` meets its contract: what is left to check from edge j on gives the answer, and `from` is the
 -- place of edge j's start. Assumes nothing.
-use Prim.Native.Nat.{◌+◌, ◌-◌, ◌≤◌, ◌<◌}
 use mathlib.Core.Path.{◌≡◌}
 use Rattle.planforms.specs.Planforms.{pair_count}
 use Rattle.refusals.specs.Order.{first_between}
@@ -10,11 +9,6 @@ use Rattle.outlines.proofs.check_edge.Given as goal
 
 abbrev pub invariant-loop-j : goal.invariant-loop-j
 invariant-loop-j l =
-    (l.i + 2 ≤ l.j)
-    × (l.j < pair_count l.points)
-    × (l.edge ≡ edge_at l.points l.i)
+    (l.edge ≡ edge_at l.points l.i)
     × (l.from ≡ place_of l.edge (point_at l.points l.j))
     × (first_between l.j (pair_count l.points) (pair_check l.points l.i) ≡ edge_check l.points l.i)
-
-abbrev pub decreases-loop-j : goal.decreases-loop-j
-decreases-loop-j l = pair_count l.points - l.j

@@ -12,6 +12,3 @@ returns-then-are_apart c =
     let j = c.args.j in
     sym (apart_no_touch c.args.edge (edge_at points j) c.args.from c.args.to c.requires.from_value.0
     (rw (next_inside (pair_count points) j c.requires.j_bound) c.requires.from_value.1) (sym c.are_apart.ensures ∙ c.if-are_apart.true))
-
-pub returns : goal.returns
-returns c = rw (c.segments_touch.ensures, c.edge_at.ensures)

@@ -1,12 +1,7 @@
 -- `outlines::twice_area` meets its contract: after i turns the first i terms are summed. Assumes nothing.
 use mathlib.Core.Path.{◌≡◌}
-use Prim.Native.Nat.{◌-◌, ◌≤◌}
-use Rattle.planforms.specs.Planforms.{pair_count}
 use Rattle.outlines.specs.Outlines.{sum_of_terms}
 use Rattle.outlines.proofs.twice_area.Given as goal
 
 abbrev pub invariant-loop-i : goal.invariant-loop-i
-invariant-loop-i l = (l.i ≤ pair_count l.points) × (l.sum ≡ sum_of_terms l.points l.i)
-
-abbrev pub decreases-loop-i : goal.decreases-loop-i
-decreases-loop-i l = pair_count l.points - l.i
+invariant-loop-i l = l.sum ≡ sum_of_terms l.points l.i

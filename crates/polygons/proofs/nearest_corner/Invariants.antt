@@ -6,7 +6,4 @@ use Rattle.polygons.proofs.nearest_corner.Given as goal
 
 abbrev pub invariant-loop-i : goal.invariant-loop-i
 invariant-loop-i l =
-    (l.i < corner_count l.corners) × (l.nearest < corner_count l.corners) × (l.nearest ≡ nearest_to l.corners l.x l.height l.i)
-
-abbrev pub decreases-loop-i : goal.decreases-loop-i
-decreases-loop-i l = corner_count l.corners - l.i
+    (l.nearest < corner_count l.corners) × (l.nearest ≡ nearest_to l.corners l.x l.height (l.i - 1))

@@ -6,7 +6,7 @@ use lib.IntN.{◌*ℤ◌}
 use mir.Syntax.{w64}
 use mir.Val.{SFits}
 use Rattle.polygons.specs.Bounds.{IsProduct}
-use Rattle.polygons.proofs.Sizes.{abs_mul, fits_i64, asked, given}
+use Rattle.polygons.proofs.Sizes.{abs_mul, fits_i64, given}
 use Rattle.polygons.proofs.product.Goals as goal
 use Rattle.polygons.proofs.product.Goals.{Start}
 
@@ -15,9 +15,6 @@ bound c = omega (arith, abs_mul c.args.a c.args.b, mul-le-mul c.requires.0 c.req
 
 fits : (c : Start) → SFits w64 (c.args.a *ℤ c.args.b)
 fits c = fits_i64 (c.args.a *ℤ c.args.b) (omega (arith, bound c))
-
-pub overflow_mul-result : goal.overflow_mul-result
-overflow_mul-result c = asked ◌*ℤ◌ c.ranges.a c.ranges.b (fits (goal.at.overflow_mul-result c).Start)
 
 pub returns : goal.returns
 returns c =
