@@ -143,11 +143,9 @@ fn chord_sums(kind: Kind, scale: f64, h: f64, ends: &[f64]) -> [f64; 4]
     ensures { result ≡ sums_over kind scale h (paired ends.now) }
 {
     let mut sums = [0.0; 4];
-    let mut k: usize = 0;
-    while k < ends.len() / 2 {
+    for k in 0..ends.len() / 2 {
         let more = add_chord(sums, kind, scale, h, ends[2 * k], ends[2 * k + 1]);
         sums = more;
-        k += 1;
     }
     sums
 }

@@ -1,13 +1,14 @@
--- How many of some heights lie below one of them: where they rise, as many as stand before it. Counted from the last to
--- the first. Assumes nothing.
+-- How many of some heights lie below one of them: where they rise, as many as stand before it. Assumes
+-- nothing.
 use mathlib.Core.Path.{◌≡◌, refl, sym, ap, ap₂, ◌∙◌}
-use mathlib.Core.Bool.{Bool, true, false, cond, ◌&&◌}
+use mathlib.Core.Bool.{Bool, true, false, cond}
 use mathlib.Core.List.{List, [], ◌∷◌}
 use Prim.Native.Nat.{ℕ, zero, suc, ◌+◌, ◌-◌, ◌≤◌, ◌<◌}
 use native.Mathlib.Omega.{arith}
-use lib.ListN.{length, take, drop}
-use lib.Seq.{drop-cons, drop-length}
-use lib.Ieee.{Float, nan, lt, eq}
+use Rattle.std.specs.Prelude.{count_by}
+use Rattle.std.proofs.lemmas.List.Sums.{sum_by-cons}
+use lib.ListN.{length, take}
+use lib.Ieee.{Float, lt, eq}
 use Rattle.floats.specs.Operations.{at}
 use Rattle.floats.proofs.Bools.{no}
 use Rattle.floats.proofs.Order.{lt_asym, not_below_itself}
@@ -49,39 +50,16 @@ below_rising [] r k b = absurd (omega (arith, b))
 below_rising (x ∷ l) r zero b = rw (not_below_itself x) (none_below x l r.0)
 below_rising (x ∷ l) r (suc k) b = rw (below_each x l k r.0 (omega (arith, b))) (ap suc (below_rising l r.1 k (omega (arith, b))))
 
--- ---- counted one by one, from the last on
-pub record Counting (heights : List Float) (h : Float) (count i : ℕ) : Type 0 where
-  pub inside : i ≤ length heights
-  pub few : count + i ≤ length heights
-  pub counted : count ≡ count_below h (drop i heights)
-
-pub begin : (heights : List Float) (h : Float) → Counting heights h 0 (length heights)
+-- ---- those that pass the test, counted
+pub counted : (h : Float) (heights : List Float) → count_by (λ x. lt x h) heights ≡ count_below h heights
 unfolding count_below
-begin heights h = record { inside = omega arith; few = omega arith; counted = sym (ap (count_below h) (drop-length heights)) }
-
--- one more, the one before those counted
-module _ (heights : List Float) (h : Float) (count i : ℕ) (c : Counting heights h count i) (some : 0 < i) where
-  abbrev Below' : Bool
-  Below' = lt (at heights (i - 1)) h
-
-  pub next : (r : ℕ) → r ≡ cond Below' (suc count) count → Counting heights h r (i - 1)
-  unfolding count_below
-  next r e = record { inside = omega (arith, c.inside); few = by Below' e; counted = e ∙ one_more }
-    where
-      by : (b : Bool) → r ≡ cond b (suc count) count → r + (i - 1) ≤ length heights
-      by true k = omega (arith, k, c.few, some)
-      by false k = omega (arith, k, c.few, some)
-
-      here : drop (i - 1) heights ≡ at heights (i - 1) ∷ drop i heights
-      here =
-          drop-cons heights (i - 1) nan (omega (arith, c.inside, some))
-          ∙ ap (λ (k : ℕ). at heights (i - 1) ∷ drop k heights) (let e : suc (i - 1) ≡ i = omega (arith, some) in e)
-
-      one_more : cond Below' (suc count) count ≡ count_below h (drop (i - 1) heights)
-      one_more = ap (λ (n : ℕ). cond Below' (suc n) n) c.counted ∙ sym (ap (count_below h) here)
-
-pub all_counted : (heights : List Float) (h : Float) (count i : ℕ) → Counting heights h count i → i ≤ 0 → count ≡ count_below h heights
-all_counted heights h count i c none = c.counted ∙ ap (λ (k : ℕ). count_below h (drop k heights)) (let e : i ≡ 0 = omega (arith, none) in e)
+counted h [] = refl
+counted h (x ∷ l) = sum_by-cons (λ y. cond (lt y h) 1 0) x l ∙ go (lt x h) (counted h l)
+  where
+    go : (b : Bool) → count_by (λ x. lt x h) l ≡ count_below h l
+        → cond b 1 0 + count_by (λ x. lt x h) l ≡ cond b (suc (count_below h l)) (count_below h l)
+    go true e = omega (arith, e)
+    go false e = omega (arith, e)
 
 -- ---- how far a job is, by what the code reads of it
 once_some : (l : List Float) → 1 ≤ length l → 1 ≤ length (once l)

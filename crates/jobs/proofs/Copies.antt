@@ -1,18 +1,15 @@
--- A copy of as many numbers as an outline may have, made one by one over zeros. Assumes nothing.
-use mathlib.Core.Path.{◌≡◌, refl, sym, ap, subst, ◌∙◌}
+-- A copy of as many numbers as an outline may have, over zeros. Assumes nothing.
+use mathlib.Core.Path.{◌≡◌, refl, sym, ap, ap₂, ◌∙◌}
 use mathlib.Core.Bool.{Bool, true, false, cond}
-use mathlib.Core.List.{List, [], ◌∷◌, ◌++◌}
-use Prim.Native.Nat.{ℕ, suc, ◌+◌, ◌≤◌, ◌<◌}
-use native.Mathlib.Numerals.{add-one}
+use mathlib.Core.List.{List, ◌++◌}
+use Prim.Native.Nat.{ℕ, min, ◌≤◌}
 use native.Mathlib.Omega.{arith}
 use borrow.Author.Tests.{leb-true, leb-false}
 use lib.Dec.{leb}
-use lib.ListN.{length, take, set, replicate}
-use lib.Seq.{take-suc, take_all, length-take-le}
-use lib.Ieee.{Float, nan}
-use Rattle.floats.specs.Operations.{bits, at}
-use Rattle.sorting.specs.Sorted.{Written}
-use Rattle.sorting.proofs.Over.{written_nothing, written_put}
+use lib.ListN.{length, take, drop, replicate}
+use lib.Seq.{take_all, length-take-le}
+use lib.Ieee.{Float}
+use Rattle.floats.specs.Operations.{bits}
 use Rattle.limits.specs.Limits.{outline_numbers}
 use Rattle.jobs.specs.declared.Points.{Points}
 use Rattle.jobs.specs.Jobs.{held_of, points_of}
@@ -28,6 +25,14 @@ held_most count = go (leb count outline_numbers) refl
     go true e = let h = leb-true count outline_numbers e in (omega arith, h)
     go false e = let h = leb-false count outline_numbers e in (omega (arith, h), omega arith)
 
+-- the lesser of both
+pub least_held : (count : ℕ) → min count outline_numbers ≡ held_of count
+least_held count = go (leb count outline_numbers) refl
+  where
+    go : (b : Bool) → leb count outline_numbers ≡ b → min count outline_numbers ≡ cond b count outline_numbers
+    go true e = let h = leb-true count outline_numbers e in omega (arith, h)
+    go false e = let h = leb-false count outline_numbers e in omega (arith, h)
+
 held_take : (points : List Float) → take (held_of (length points)) points ≡ take outline_numbers points
 held_take points = go (leb (length points) outline_numbers) refl
   where
@@ -37,34 +42,11 @@ held_take points = go (leb (length points) outline_numbers) refl
         ∙ sym (take_all outline_numbers points (leb-true (length points) outline_numbers e))
     go false e = refl
 
--- what holds where i numbers are copied
-pub record Copying (points numbers : List Float) (i : ℕ) : Type 0 where
-  pub inside : i ≤ held_of (length points)
-  pub written : Written (take i points) Zeros numbers i
-
-abbrev Made : List Float → ℕ → Points
-Made l k = record { numbers = l; count = k }
-
-pub begin : (points : List Float) → Copying points Zeros 0
-begin points = record { inside = omega arith; written = written_nothing Zeros }
-
-module _ (points numbers : List Float) (i : ℕ) (c : Copying points numbers i) where
-  pub next : i < held_of (length points) → Copying points (set numbers i (at points i)) (i + 1)
-  next h =
-      let few = held_most (length points) in
-      let inside : i < length points = omega (arith, few.0) in
-      let longer : take i points ++ (at points i ∷ []) ≡ take (i + 1) points = sym (take-suc points i nan inside)
-      ∙ ap (λ (k : ℕ). take k points) (sym (add-one i)) in
-      record {
-        inside = omega arith;
-        written = subst (λ (l : List Float). Written l Zeros (set numbers i (at points i)) (i + 1)) longer
-            (written_put (at points i) c.written
-            (let l : length (take i points) ≡ i = length-take-le i points (omega (arith, inside)) in omega (arith, l, few.1)));
-      }
-
-  pub end : held_of (length points) ≤ i → Made numbers i ≡ points_of points
-  end h =
-      let i_is : i ≡ held_of (length points) = omega (arith, c.inside) in
-      let all : take i points ≡ take outline_numbers points = ap (λ (k : ℕ). take k points) i_is ∙ held_take points in
-      let w = subst (λ (l : List Float). Written l Zeros numbers i) all c.written in
-      ap (λ (l : List Float). Made l i) w.array ∙ ap (Made _) w.count
+-- the numbers copied over the start of zeros
+pub copied_points : (points new : List Float) (n : ℕ) → n ≡ held_of (length points) → new ≡ take n points
+    → ◌≡◌ {A = Points} (record { numbers = new ++ drop n Zeros; count = n }) (points_of points)
+copied_points points new n n-is new-is =
+    let all : take n points ≡ take outline_numbers points = ap (λ (k : ℕ). take k points) n-is ∙ held_take points in
+    let count : n ≡ length (take outline_numbers points) = sym (length-take-le n points (omega (arith, n-is, held_most (length points))))
+    ∙ ap length all in
+    ap₂ (λ (l : List Float) (k : ℕ). record { numbers = l ++ drop k Zeros; count = k }) (new-is ∙ all) count

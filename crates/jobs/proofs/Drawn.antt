@@ -12,7 +12,7 @@ use Rattle.limits.specs.Limits.{piece_numbers}
 use Rattle.fins.specs.declared.FinSet.{FinSet}
 use Rattle.strips.specs.Strips.{Run, Worked, value_from}
 use Rattle.strips.specs.Rising.{PiecesRise, SamplesFinite, NumbersFinite}
-use Rattle.figures.specs.Figures.{set_run, set_strips}
+use Rattle.figures.specs.Figures.{set_run}
 use Rattle.figures.proofs.Owned.{SetF64}
 use Rattle.figures.proofs.Rising.{set_pieces_rise, set_samples_finite, set_numbers_finite}
 use Rattle.jobs.specs.Jobs.{making_check}

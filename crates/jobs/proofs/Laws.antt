@@ -30,7 +30,7 @@ use Rattle.figures.specs.declared.Figures.{Figures}
 use Rattle.jobs.specs.Jobs.{held_of, outline_of, step_run, run_of_job, next_strip, step_row, more, ended, ended_by, outcome_of, after_strip}
 use Rattle.jobs.specs.Jobs.{worked_strip, stepped_on, step_after, stepped_by, is_short, step_of}
 use Rattle.jobs.specs.Jobs.{taken, kept, change_of}
-use Rattle.jobs.specs.Calls.{Call, job_by, after_calls, counts, strips_by, step}
+use Rattle.jobs.specs.Calls.{Call, job_by, after_calls, strips_by, step}
 
 pub yes : {A : Type 0} {c : Bool} (a b : A) → c ≡ true → cond c a b ≡ a
 yes {A} {c} a b e = ap (λ (x : Bool). cond x a b) e

@@ -3,7 +3,7 @@
 use Rattle.std.specs.Prelude.{Ok, Err}
 use mathlib.Core.Path.{◌≡◌, refl, sym, ap, subst, ◌∙◌}
 use mathlib.Core.List.{List, [], ◌∷◌, ◌++◌}
-use Prim.Native.Nat.{ℕ, ◌+◌, ◌*◌, ◌≤◌}
+use Prim.Native.Nat.{ℕ, ◌*◌, ◌≤◌}
 use native.Mathlib.Omega.{arith}
 use mathlib.Core.Bool.{true}
 use lib.ListN.{length}
@@ -13,10 +13,9 @@ use Rattle.refusals.specs.Verdict.{Verdict}
 use Rattle.refusals.specs.Order.{is_refused}
 use Rattle.fins.specs.declared.FinSet.{FinSet}
 use Rattle.fins.proofs.Accepted.{set_limit}
-use Rattle.strips.specs.Strips.{Worked, samples_of, samples_in}
+use Rattle.strips.specs.Strips.{Worked, samples_in}
 use Rattle.strips.proofs.Claims.{demand_3}
 use Rattle.strips.proofs.SampleCount.{samples_at_most as run_at_most}
-use Rattle.figures.specs.declared.Figures.{Figures}
 use Rattle.figures.specs.Figures.{set_run, set_strips, worked_figures}
 use Rattle.figures.specs.Answers.{set_report}
 use Rattle.figures.proofs.StripCount.{set_strips_counted}

@@ -15,7 +15,7 @@ use lib.ListN.{length, drop, length-append}
 use lib.Seq.{append_snoc}
 use lib.Ieee.{Float, lt}
 use Rattle.floats.specs.Operations.{◌⊘◌, at}
-use Rattle.sorting.specs.Sorted.{over, sorted}
+use Rattle.sorting.specs.Sorted.{sorted}
 use Rattle.refusals.specs.Verdict.{Verdict}
 use Rattle.refusals.specs.Order.{is_refused, first_refusal}
 use Rattle.refusals.specs.Calls.{CallOf, leaves_alone, by_verdict}

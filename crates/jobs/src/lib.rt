@@ -5,7 +5,7 @@
 // Any record, density and scratch may be handed in.
 #![tactic(auto)]
 
-ghost use Rattle.std.specs.Prelude.{◌≡◌, length, suc, ◌<◌, ◌^◌, false, cond};
+ghost use Rattle.std.specs.Prelude.{◌≡◌, length, ◌<◌, ◌^◌, false};
 ghost use Rattle.strips.specs.Strips.{Room, onward_of};
 ghost use Rattle.refusals.specs.Calls.{Does};
 ghost use Rattle.jobs.specs.Jobs.{step_run, held_of, points_of, outline_of, figures_row, plain_row, outcome_of, more};
@@ -93,10 +93,7 @@ pub struct JobReply {
 fn held(count: usize) -> usize
     ensures { result ≡ held_of count }
 {
-    if count <= OUTLINE_NUMBERS {
-        return count;
-    }
-    OUTLINE_NUMBERS
+    count.min(OUTLINE_NUMBERS)
 }
 
 // Returns a job's own copy of an outline, with zeros after it.
@@ -105,12 +102,8 @@ fn copied(points: &[f64]) -> Points
 {
     let n = held(points.len());
     let mut numbers = [0.0; OUTLINE_NUMBERS];
-    let mut i: usize = 0;
-    while i < n {
-        numbers[i] = points[i];
-        i += 1;
-    }
-    Points { numbers, count: i }
+    numbers[..n].copy_from_slice(&points[..n]);
+    Points { numbers, count: n }
 }
 
 // Returns the row of figures, with number 0, or of a refusal, with its number.
@@ -437,29 +430,12 @@ pub fn change_density(job: &mut Job, density: Density) -> Reply
     s.reply
 }
 
-// Returns a count, one more where a test holds.
-fn counted(count: usize, holds: bool) -> usize
-    requires { count < 2 ^ 32 }
-    ensures { result ≡ cond holds (suc count) count }
-{
-    if holds {
-        return count + 1;
-    }
-    count
-}
-
 // Returns how many of some heights lie below h.
 fn count_below(heights: &[f64], h: f64) -> usize
     requires { length heights.now < 2 ^ 32 }
     ensures { result ≡ count_below h heights.now }
 {
-    let mut count: usize = 0;
-    let mut i = heights.len();
-    while 0 < i {
-        i -= 1;
-        count = counted(count, heights[i] < h);
-    }
-    count
+    heights.iter().filter(|height| **height < h).count()
 }
 
 // Returns how far a job is: as many strips are worked as break heights lie below the height at its place `next`.

@@ -1,14 +1,14 @@
 -- The job that is written is the job that is read. Assumes nothing.
 use mathlib.Core.Path.{◌≡◌, refl, sym, ap, ap₂, subst, ◌∙◌}
 use mathlib.Core.Bool.{Bool, true, false, not}
-use mathlib.Core.List.{List, [], ◌∷◌, ◌++◌}
-use Prim.Native.Nat.{ℕ, zero, suc, ◌+◌, ◌-◌, ◌≤◌, ◌<◌}
+use mathlib.Core.List.{List, ◌∷◌, ◌++◌}
+use Prim.Native.Nat.{ℕ, zero, suc, ◌+◌, ◌≤◌, ◌<◌}
 use native.Mathlib.Omega.{arith}
 use lib.Dec.{eqb}
-use lib.ListN.{length, take, drop, drop_of_length-le}
+use lib.ListN.{length, drop, drop_of_length-le}
 use lib.Seq.{paste, take_at, drop-cons}
 use lib.Ieee.{Float, nan}
-use Rattle.floats.specs.Operations.{at, tabulate, tabulate_from}
+use Rattle.floats.specs.Operations.{at, tabulate_from}
 use Rattle.refusals.specs.Verdict.{Verdict}
 use Rattle.refusals.proofs.Numbered.{verdict_back}
 use Rattle.limits.specs.Limits.{outline_numbers}

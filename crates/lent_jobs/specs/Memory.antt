@@ -1,8 +1,8 @@
 -- A job in lent memory, "one record, lent to each step and updated there" (document 02, Paper 9), as C and Rust lend
 -- it: a list of numbers and a list of counts. `job_back` (proofs/Laws) says that the job which is written is the job
 -- that is read.
-use Rattle.std.specs.Prelude.{Bool, cond, not, List, [], ◌∷◌, ◌++◌, ℕ, ◌+◌, eqb, length, take, drop, get_or, Float}
-use Rattle.floats.specs.Operations.{bits, at, tabulate}
+use Rattle.std.specs.Prelude.{Bool, cond, not, List, [], ◌∷◌, ◌++◌, ℕ, ◌+◌, eqb, take, drop, get_or, Float}
+use Rattle.floats.specs.Operations.{at, tabulate}
 use Rattle.refusals.specs.Numbered.{number_in, first_in, second_in, verdict_from}
 use Rattle.limits.specs.Limits.{outline_numbers}
 use Rattle.fins.specs.declared.FinSet.{FinSet}

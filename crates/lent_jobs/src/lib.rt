@@ -119,18 +119,12 @@ fn counts_of(job: Job) -> [usize; JOB_COUNTS]
     ]
 }
 
-// Writes `written` over the numbers from place `at` on.
-fn write_numbers(numbers: &mut [f64], at: usize, written: &[f64])
-    requires { at + length written.now ≤ length numbers.old }
-    ensures { numbers.new ≡ paste numbers.old at written.now
-        (length written.now) }
+// Writes `written` over a list from place `at` on.
+fn write_over<T: Copy>(list: &mut [T], at: usize, written: &[T])
+    requires { at + length written.now ≤ length list.old }
+    ensures { list.new ≡ paste list.old at written.now (length written.now) }
 {
-    let n = written.len();
-    let mut i: usize = 0;
-    while i < n {
-        numbers[at + i] = written[i];
-        i += 1;
-    }
+    list[at..at + written.len()].copy_from_slice(written);
 }
 
 // Writes `written` over the first counts.
@@ -138,12 +132,7 @@ pub fn write_counts(counts: &mut [usize], written: &[usize])
     requires { length written.now ≤ length counts.old }
     ensures { counts.new ≡ paste counts.old 0 written.now (length written.now) }
 {
-    let n = written.len();
-    let mut i: usize = 0;
-    while i < n {
-        counts[i] = written[i];
-        i += 1;
-    }
+    write_over(counts, 0, written);
 }
 
 // Writes a job over the start of both lists.
@@ -153,12 +142,12 @@ pub fn write_job(numbers: &mut [f64], counts: &mut [usize], job: Job)
 {
     let set = job.set;
     let of_set = fins::numbers_of(set);
-    write_numbers(numbers, 0, &of_set[..SET_NUMBERS]);
+    write_over(numbers, 0, &of_set[..SET_NUMBERS]);
     let worked = worked_numbers(job);
-    write_numbers(numbers, SET_NUMBERS, &worked[..WORKED_NUMBERS]);
+    write_over(numbers, SET_NUMBERS, &worked[..WORKED_NUMBERS]);
     let points = job.points;
     let outline = points.numbers;
-    write_numbers(numbers, OUTLINE, &outline[..OUTLINE_NUMBERS]);
+    write_over(numbers, OUTLINE, &outline[..OUTLINE_NUMBERS]);
     let of_job = counts_of(job);
     write_counts(counts, &of_job[..JOB_COUNTS]);
 }
@@ -175,11 +164,7 @@ fn read_outline(numbers: &[f64]) -> [f64; OUTLINE_NUMBERS]
     ensures { result ≡ numbers.now }
 {
     let mut outline = [0.0; OUTLINE_NUMBERS];
-    let mut i: usize = 0;
-    while i < OUTLINE_NUMBERS {
-        outline[i] = numbers[i];
-        i += 1;
-    }
+    outline.copy_from_slice(numbers);
     outline
 }
 

@@ -6,18 +6,27 @@ use native.Mathlib.Nat.{not-suc-le-zero, le_of_suc-le-suc}
 use native.Mathlib.Omega.{arith}
 use borrow.Rule.Slice.PartMut.{put_mid, Post-is}
 use lib.ListN.{length, take, drop, get_or, set, drop_of_length-le, length-append, length-drop, length-set, take-append-drop}
-use lib.Seq.{sets, sets-eq, drop-drop, drop-cons, length-take-le}
+use lib.Seq.{drop-drop, drop-cons, length-take-le}
 use lib.Ieee.{Float, nan}
 use Rattle.floats.specs.Operations.{at, tabulate, tabulate_from}
 use Rattle.limits.specs.Limits.{piece_numbers}
 use Rattle.quadrature.specs.declared.Piece.{Piece}
 use Rattle.pieces.specs.Stored.{numbers_of, stored, written, piece_in, read_at, pieces_in, put_at}
 
--- as many stores as there are numbers
-pub all_stored : (s l : List Float) → length s ≡ length l → sets s 0 l ≡ l
-all_stored s l e =
-    let h : length s ≤ 0 + length l = omega arith in
-    sets-eq l s 0 (omega arith) ∙ ap (λ (r : List Float). l ++ r) (drop_of_length-le s h) ∙ append-nil l
+-- seven numbers, place by place
+seven_are : (l : List Float) → length l ≡ 7 → l ≡ tabulate 7 (at l)
+seven_are [] h = absurd (omega arith)
+seven_are (a ∷ []) h = absurd (omega arith)
+seven_are (a ∷ b ∷ []) h = absurd (omega arith)
+seven_are (a ∷ b ∷ c ∷ []) h = absurd (omega arith)
+seven_are (a ∷ b ∷ c ∷ d ∷ []) h = absurd (omega arith)
+seven_are (a ∷ b ∷ c ∷ d ∷ e ∷ []) h = absurd (omega arith)
+seven_are (a ∷ b ∷ c ∷ d ∷ e ∷ f ∷ []) h = absurd (omega arith)
+seven_are (a ∷ b ∷ c ∷ d ∷ e ∷ f ∷ g ∷ []) h = refl
+seven_are (a ∷ b ∷ c ∷ d ∷ e ∷ f ∷ g ∷ i ∷ l) h = absurd (omega arith)
+
+pub seven_copied : (l v : List Float) → length l ≡ 7 → l ≡ v → l ≡ tabulate 7 (at v)
+seven_copied l v h e = seven_are l h ∙ ap (λ (x : List Float). tabulate 7 (at x)) e
 
 -- two numbers, seven and seven over sixteen
 pub sevens_stored : (s v e : List Float) (p : Piece) → length s ≡ piece_numbers → v ≡ tabulate 7 (at p.value)

@@ -30,13 +30,7 @@ fn store_seven(s: &mut [f64], v: [f64; 7])
     requires { length s.old ≡ 7 }
     ensures { s.new ≡ tabulate 7 (at v) }
 {
-    s[0] = v[0];
-    s[1] = v[1];
-    s[2] = v[2];
-    s[3] = v[3];
-    s[4] = v[4];
-    s[5] = v[5];
-    s[6] = v[6];
+    s.copy_from_slice(&v);
 }
 
 fn store(s: &mut [f64], p: Piece)

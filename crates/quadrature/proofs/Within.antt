@@ -3,7 +3,7 @@
 use mathlib.Core.Path.{◌≡◌, refl, sym, ◌∙◌}
 use mathlib.Core.Bool.{Bool, true, false, cond}
 use mathlib.Core.List.{List}
-use Prim.Native.Nat.{ℕ, ◌+◌, ◌<◌}
+use Prim.Native.Nat.{ℕ, ◌+◌}
 use borrow.Author.Count.{below_more}
 use native.Mathlib.Nat.{not-suc-le-zero}
 use lib.Ieee.{Float, nan, inf, fin, lt, is_nan}

@@ -132,8 +132,7 @@ fn bounds_m(scale: f64, heights: [f64; PIECE_SAMPLES]) -> Bounds
 {
     let mut lo = heights[0] * scale;
     let mut hi = lo;
-    let mut i: usize = 1;
-    while i < PIECE_SAMPLES {
+    for i in 1..PIECE_SAMPLES {
         let h = heights[i] * scale;
         if h < lo {
             lo = h;
@@ -141,7 +140,6 @@ fn bounds_m(scale: f64, heights: [f64; PIECE_SAMPLES]) -> Bounds
         if hi < h {
             hi = h;
         }
-        i += 1;
     }
     Bounds { lo, hi }
 }
@@ -176,11 +174,9 @@ fn chords_found(
     ensures { FoundTo piece_samples integrand points.now heights result }
 {
     let mut found = [Chords::Nothing; PIECE_SAMPLES];
-    let mut i: usize = 0;
-    while i < PIECE_SAMPLES {
+    for i in 0..PIECE_SAMPLES {
         let one = integrands::chords_at(integrand, points, edges, heights[i]);
         found[i] = one;
-        i += 1;
     }
     found
 }
@@ -198,8 +194,7 @@ fn sums(integrand: Integrand, points: &[f64], centre: f64, half: f64) -> Tally
     let gw = gauss_weights();
     let mut kronrod = [0.0; 7];
     let mut gauss = [0.0; 7];
-    let mut j: usize = 0;
-    while j < PIECE_SAMPLES {
+    for j in 0..PIECE_SAMPLES {
         let kind = integrand.kind;
         let scale = integrand.scale;
         let h = heights[j];
@@ -209,12 +204,11 @@ fn sums(integrand: Integrand, points: &[f64], centre: f64, half: f64) -> Tally
         let g = plus_weighted(gauss, gw[j], y);
         kronrod = k;
         gauss = g;
-        j += 1;
     }
     Tally {
         kronrod,
         gauss,
-        samples: j,
+        samples: PIECE_SAMPLES,
     }
 }
 

@@ -129,15 +129,13 @@ fn work_upward(
         samples: 0,
     };
     let mut total = Integral { ending, totals };
-    let mut i: usize = 0;
-    while i + 1 < heights.len() {
+    for i in 1..heights.len() {
         let totals = total.totals;
-        total = work_strip(scratch, integrand, points, heights, i, limit, totals);
+        total = work_strip(scratch, integrand, points, heights, i - 1, limit, totals);
         let ending = total.ending;
         if !is_accepted(ending) {
             return total;
         }
-        i += 1;
     }
     total
 }

@@ -48,10 +48,8 @@ pub fn total(scratch: &[f64], n: usize) -> Sums
         value: [0.0; 7],
         error: [0.0; 7],
     };
-    let mut i: usize = 0;
-    while i < n {
+    for i in 0..n {
         sums = add_piece(sums, pieces::read(scratch, i));
-        i += 1;
     }
     sums
 }
@@ -205,16 +203,15 @@ pub fn worst(scratch: &[f64], n: usize, b: [f64; 7]) -> usize
     ensures { (result ≡ last_highest (λ i. score_of 7 (at b) (read_at scratch.now i)) (n - 1)) × (result < n) }
 {
     let ordered = keep_order(b);
-    let mut i = n - 1;
-    let last = pieces::read(scratch, i);
+    let end = n - 1;
+    let last = pieces::read(scratch, end);
     let errors = last.error;
     let mut seen = Extremes {
         number: score(last, b),
-        place: i,
+        place: end,
         errors,
     };
-    while 0 < i {
-        i -= 1;
+    for i in (0..end).rev() {
         seen = seen_with(seen, pieces::read(scratch, i), b, ordered, i);
     }
     seen.place

@@ -9,7 +9,7 @@ use Rattle.quadrature.proofs.bounds_m.Goals as goal
 use Rattle.quadrature.proofs.bounds_m.Goals.{then-h-lo, else-h-lo, then-hi-h, else-hi-h}
 
 pub loop-i-init : goal.loop-i-init
-loop-i-init c = (omega arith, omega arith, first_within c.args.scale c.args.heights)
+loop-i-init c = first_within c.args.scale c.args.heights
 
 pub loop-i-preserved : goal.loop-i-preserved
 loop-i-preserved c =
@@ -21,7 +21,7 @@ loop-i-preserved c =
     elim c.if-h-lo.branch [ then-h-lo w ↦ w.lo-is ∙ rw w.if-h-lo.true | else-h-lo w ↦ w.lo-is ∙ rw w.if-h-lo.false ] in
     let upper : c.if-hi-h.hi ≡ cond (lt hi h) h hi =
     elim c.if-hi-h.branch [ then-hi-h w ↦ w.hi-is ∙ rw w.if-hi-h.true | else-hi-h w ↦ w.hi-is ∙ rw w.if-hi-h.false ] in
-    (omega arith, omega arith, one_within a.scale a.heights c.loop-i.i lo hi _ _ c.loop-i.invariant.2 lower upper)
+    one_within a.scale a.heights c.loop-i.i lo hi _ _ c.loop-i.invariant lower upper
 
 pub returns : goal.returns
-returns c j l = c.loop-i.invariant.2 j (omega arith)
+returns c j l = c.loop-i.invariant j (omega arith)

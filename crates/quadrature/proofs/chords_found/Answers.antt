@@ -7,25 +7,18 @@ use Rattle.floats.proofs.Filled.{one_filled}
 use Rattle.quadrature.proofs.chords_found.Goals as goal
 
 pub loop-i-init : goal.loop-i-init
-loop-i-init c = (omega arith, refl, λ i l. absurd (not-suc-le-zero l))
+loop-i-init c = (refl, λ i l. absurd (not-suc-le-zero l))
 
 pub chords_at-one-requires : goal.chords_at-one-requires
 chords_at-one-requires c = c.requires c.loop-i.i (omega arith)
 
-pub overflow_add-i : goal.overflow_add-i
-overflow_add-i c = omega arith
-
-pub loop-i-smaller : goal.loop-i-smaller
-loop-i-smaller c = omega arith
-
 pub loop-i-preserved : goal.loop-i-preserved
 loop-i-preserved c =
     let head = c.loop-i in (
-      omega arith,
-      simp length-set head.invariant.1,
-      one_filled _ _ head.found head.i _ (omega arith) head.invariant.2
+      simp length-set head.invariant.0,
+      one_filled _ _ head.found head.i _ (omega arith) head.invariant.1
           c.chords_at-one.ensures,
     )
 
 pub returns : goal.returns
-returns c j l = c.loop-i.invariant.2 j (omega arith)
+returns c j l = c.loop-i.invariant.1 j (omega arith)

@@ -1,6 +1,6 @@
 -- `tolerance::total` meets its contract: what is left to add up from here is the whole sum. Assumes nothing.
 use mathlib.Core.Path.{◌≡◌, ◌∙◌}
-use Prim.Native.Nat.{◌-◌}
+use Prim.Native.Nat.{◌-◌, ◌<◌}
 use native.Mathlib.Nat.{sub-zero}
 use native.Mathlib.Omega.{arith}
 use Rattle.pieces.proofs.Storage.{pieces_step}
@@ -8,25 +8,17 @@ use Rattle.tolerance.proofs.Added.{sums_are}
 use Rattle.tolerance.proofs.total.Goals as goal
 
 pub loop-i-init : goal.loop-i-init
-loop-i-init c = (rw sub-zero, omega arith)
+loop-i-init c = rw sub-zero
 
 pub read-requires : goal.read-requires
 read-requires c = omega arith
 
-pub overflow_add-i : goal.overflow_add-i
-overflow_add-i c = omega arith
-
-pub loop-i-smaller : goal.loop-i-smaller
-loop-i-smaller c = omega arith
-
 pub loop-i-preserved : goal.loop-i-preserved
 loop-i-preserved c =
-    let h = c.loop-i-test.true in (
-      rw (c.add_piece-sums.ensures, c.read.ensures) (rw (pieces_step _ _ _ h) at c.loop-i.invariant.0),
-      omega arith,
-    )
+    let inside : c.loop-i.i < c.args.n = omega arith in
+    rw (c.add_piece-sums.ensures, c.read.ensures) (rw (pieces_step _ _ _ inside) at c.loop-i.invariant)
 
 pub returns : goal.returns
 returns c =
     let e : c.args.n - c.loop-i.i ≡ 0 = omega arith in
-    (rw e at c.loop-i.invariant.0) ∙ sums_are _
+    (rw e at c.loop-i.invariant) ∙ sums_are _

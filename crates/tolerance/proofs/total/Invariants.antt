@@ -1,6 +1,6 @@
 -- `tolerance::total` meets its contract: what is left to add up from here is the whole sum. Assumes nothing.
 use mathlib.Core.Path.{◌≡◌}
-use Prim.Native.Nat.{◌-◌, ◌*◌, ◌≤◌}
+use Prim.Native.Nat.{◌-◌, ◌*◌}
 use lib.ListN.{drop}
 use Rattle.limits.specs.Limits.{piece_numbers}
 use Rattle.pieces.specs.Stored.{pieces_in}
@@ -9,8 +9,4 @@ use Rattle.tolerance.proofs.total.Given as goal
 
 abbrev pub invariant-loop-i : goal.invariant-loop-i
 invariant-loop-i l =
-    (sums_from l.sums (pieces_in (l.n - l.i) (drop (l.i * piece_numbers) l.scratch)) ≡ sums_from no_sums (pieces_in l.n l.scratch))
-    × (l.i ≤ l.n)
-
-abbrev pub decreases-loop-i : goal.decreases-loop-i
-decreases-loop-i l = l.n - l.i
+    sums_from l.sums (pieces_in (l.n - l.i) (drop (l.i * piece_numbers) l.scratch)) ≡ sums_from no_sums (pieces_in l.n l.scratch)

@@ -14,34 +14,19 @@ use Rattle.tolerance.proofs.worst.Goals as goal
 abbrev Score : List Float → List Float → ℕ → Float
 Score scratch b i = score_of 7 (at b) (read_at scratch i)
 
-pub overflow_sub-i : goal.overflow_sub-i
-overflow_sub-i c = omega arith
-
-pub read-last-requires : goal.read-last-requires
-read-last-requires c = omega arith
-
 pub loop-i-init : goal.loop-i-init
-loop-i-init c = (sees_last _ _ _ _ _ c.read-last.ensures c.score.ensures, omega arith)
-
-pub overflow_sub-i-in-loop-i : goal.overflow_sub-i-in-loop-i
-overflow_sub-i-in-loop-i c = omega arith
-
-pub read-requires : goal.read-requires
-read-requires c = omega arith
-
-pub loop-i-smaller : goal.loop-i-smaller
-loop-i-smaller c = omega arith
+loop-i-init c = sees_last _ _ _ _ _ c.read-last.ensures c.score.ensures
 
 pub loop-i-preserved : goal.loop-i-preserved
 loop-i-preserved c =
     let a = c.args in
     let e : suc (c.loop-i.i - 1) ≡ c.loop-i.i = omega arith in
-    let z = subst (λ (i : ℕ). Sees (read_at a.scratch.now) a.b (a.n - 1) i c.loop-i.seen) (sym e) c.loop-i.invariant.0 in
-    (sees_more _ _ _ _ _ z _ _ _ c.read.ensures c.keep_order-ordered.ensures c.seen_with-seen.ensures, omega arith)
+    let z = subst (λ (i : ℕ). Sees (read_at a.scratch.now) a.b (a.n - 1) i c.loop-i.seen) (sym e) c.loop-i.invariant in
+    sees_more _ _ _ _ _ z _ _ _ c.read.ensures c.keep_order-ordered.ensures c.seen_with-seen.ensures
 
 pub returns : goal.returns
 returns c =
     let a = c.args in
     let e : c.loop-i.i ≡ 0 = omega arith in
-    let place = rw e at c.loop-i.invariant.0.place in
+    let place = rw e at c.loop-i.invariant.place in
     (place, omega (arith, place, highest_below (Score a.scratch.now a.b) (a.n - 1)))
