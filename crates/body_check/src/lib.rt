@@ -11,7 +11,7 @@ ghost use Rattle.refusals.specs.Given.{IsVerdict};
 ghost use Rattle.body_check.specs.BodyCheck.{finite_vector, largest_magnitude, massless_inertia, check_moments};
 ghost use Rattle.body_check.specs.BodyCheck.{check_tensor, check_of};
 
-use bodies::{Body, TENSOR_NUMBERS, Tensor, Vector};
+use bodies::{Body, Tensor, Vector};
 use refusals::{Refusal, TensorFault, Verdict};
 
 // Checks a body, and returns the first refusal that applies.
@@ -90,10 +90,8 @@ fn largest_magnitude(tensor: Tensor) -> f64
 {
     let a = tensor.0;
     let mut largest = 0.0;
-    let mut k = 0;
-    while k < TENSOR_NUMBERS {
-        largest = floats::max(largest, floats::abs(a[k]));
-        k += 1;
+    for entry in &a {
+        largest = floats::max(largest, floats::abs(*entry));
     }
     largest
 }

@@ -68,10 +68,8 @@ fn join_numbers(numbers: &[f64], count: usize) -> Body
     ensures { result ≡ join_of (body_at numbers.now) count }
 {
     let mut joined = at_centre(sum_numbers(numbers, count));
-    let mut k = 0;
-    while k < count {
+    for k in 0..count {
         joined = add_inertia(joined, body_at(numbers, k));
-        k += 1;
     }
     joined
 }
@@ -81,10 +79,8 @@ fn sum_numbers(numbers: &[f64], count: usize) -> Sums
     ensures { result ≡ sums_of (body_at numbers.now) count }
 {
     let mut sums = no_sums();
-    let mut k = 0;
-    while k < count {
+    for k in 0..count {
         sums = add_body(sums, body_at(numbers, k));
-        k += 1;
     }
     sums
 }
@@ -111,10 +107,8 @@ fn add_bodies(start: Sums, bodies: &[Body]) -> Sums
     ensures { result ≡ add_each add_body start bodies.now }
 {
     let mut sums = start;
-    let mut k = 0;
-    while k < bodies.len() {
-        sums = add_body(sums, bodies[k]);
-        k += 1;
+    for body in bodies {
+        sums = add_body(sums, *body);
     }
     sums
 }
@@ -124,10 +118,8 @@ fn add_inertias(start: Body, bodies: &[Body]) -> Body
     ensures { result ≡ add_each add_inertia start bodies.now }
 {
     let mut joined = start;
-    let mut k = 0;
-    while k < bodies.len() {
-        joined = add_inertia(joined, bodies[k]);
-        k += 1;
+    for body in bodies {
+        joined = add_inertia(joined, *body);
     }
     joined
 }
@@ -137,12 +129,9 @@ pub fn write_body(bodies: &mut [f64], k: usize, body: Body)
     requires { body_numbers * k + body_numbers ≤ length bodies.old }
     ensures { bodies.new ≡ with_body bodies.old k body }
 {
-    let written = body.numbers();
-    let mut j = 0;
-    while j < BODY_NUMBERS {
-        bodies[BODY_NUMBERS * k + j] = written[j];
-        j += 1;
-    }
+    let start = BODY_NUMBERS * k;
+    let end = start + BODY_NUMBERS;
+    bodies[start..end].copy_from_slice(&body.numbers());
 }
 
 // Returns the sums over no bodies, which every join starts from.

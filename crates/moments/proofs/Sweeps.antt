@@ -1,7 +1,8 @@
 -- What is left to sweep: none, none because the off-diagonal sum is 0, or a sweep and one less. Assumes nothing.
 use mathlib.Core.Path.{◌≡◌}
 use mathlib.Core.Bool.{true, false}
-use Prim.Native.Nat.{ℕ, zero, suc, ◌-◌, ◌<◌, ◌≤◌}
+use Prim.Native.Nat.{ℕ, zero, suc, ◌+◌, ◌<◌, ◌≤◌}
+use native.Mathlib.Numerals.{add-one}
 use native.Mathlib.Omega.{arith}
 use lib.Ieee.{Float, eq}
 use Rattle.floats.specs.Operations.{bits}
@@ -20,8 +21,7 @@ unfolding sweeps
 sweeps_end zero t l o h e = absurd (let z : ⊥ = omega arith in z)
 sweeps_end (suc n) t l o h e = rw (← o, h) at e
 
-pub sweeps_more : (n : ℕ) (t : Matrix) {off : Float} {u all : Matrix} → 0 < n → off ≡ off_diagonal t → eq off (bits 0) ≡ false → u ≡ sweep t
-    → sweeps n t ≡ all → sweeps (n - 1) u ≡ all
+pub sweeps_more : (n m : ℕ) (t : Matrix) {off : Float} {u all : Matrix} → m + 1 ≡ n → off ≡ off_diagonal t → eq off (bits 0) ≡ false
+    → u ≡ sweep t → sweeps n t ≡ all → sweeps m u ≡ all
 unfolding sweeps
-sweeps_more zero t l o h s e = absurd (let z : ⊥ = omega arith in z)
-sweeps_more (suc n) t l o h s e = let q : suc n - 1 ≡ n = omega arith in rw (s, q) (rw (← o, h) at e)
+sweeps_more n m t l o h s e = rw s (rw (← l, add-one, ← o, h) at e)

@@ -11,7 +11,7 @@ ghost use Rattle.moments.specs.Moments.{entry_fits, entries_fit, tangent_of, rot
 ghost use Rattle.moments.specs.Moments.{turn_rows, rotate, sweep, off_diagonal, sweeps, insert_moment, ascending};
 ghost use Rattle.moments.specs.Moments.{eigenvalues_of, refused_entry, IsMoments, principal_moments_of};
 
-use bodies::{Matrix, TENSOR_NUMBERS, Tensor};
+use bodies::{Matrix, Tensor};
 use refusals::{Refusal, TensorFault, Verdict};
 
 // The principal moments, ascending, or zeros with a refusal.
@@ -58,12 +58,10 @@ pub fn entries_fit(tensor: Tensor) -> bool
     ensures { result ≡ entries_fit tensor }
 {
     let a = tensor.0;
-    let mut k = 0;
-    while k < TENSOR_NUMBERS {
-        if !entry_fits(a[k]) {
+    for entry in &a {
+        if !entry_fits(*entry) {
             return false;
         }
-        k += 1;
     }
     true
 }
@@ -88,13 +86,11 @@ fn run_sweeps(start: Matrix) -> Matrix
     ensures { result ≡ sweeps 32 start }
 {
     let mut matrix = start;
-    let mut left = SWEEPS;
-    while 0 < left {
+    for _ in 0..SWEEPS {
         if off_diagonal(matrix) == 0.0 {
             return matrix;
         }
         matrix = sweep_once(matrix);
-        left -= 1;
     }
     matrix
 }

@@ -148,13 +148,11 @@ fn check_places(places: &[f64], rolled: bool) -> Verdict
     ensures { result ≡ places_check rolled places.now }
 {
     let n = count_places(places, rolled);
-    let mut k: usize = 0;
-    while k < n {
+    for k in 0..n {
         let place = place_at(places, rolled, k);
         if let Err(refusal) = place.check() {
             return Err(refusal);
         }
-        k += 1;
     }
     Ok(())
 }
@@ -175,11 +173,9 @@ fn write_copies(bodies: &mut [f64], body: Body, places: &[f64], rolled: bool, co
     ensures { bodies.new ≡ with_bodies (λ k. copy_at body (place_at rolled places.now k)) count
         bodies.old }
 {
-    let mut k = 0;
-    while k < count {
+    for k in 0..count {
         let copy = copy_at(body, place_at(places, rolled, k));
         joins::write_body(bodies, k, copy);
-        k += 1;
     }
 }
 

@@ -246,11 +246,8 @@ fn write_points(bodies: &mut [f64], values: &[f64], count: usize)
     requires { (body_numbers * count ≤ length bodies.old) × (4 * count ≤ length values.now) }
     ensures { bodies.new ≡ with_bodies (point_body_at values.now) count bodies.old }
 {
-    let mut k = 0;
-    while k < count {
-        let body = point_body(values, k);
-        joins::write_body(bodies, k, body);
-        k += 1;
+    for k in 0..count {
+        joins::write_body(bodies, k, point_body(values, k));
     }
 }
 

@@ -31,11 +31,8 @@ fn turns(base_angle_rad: f64, count: usize) -> [Quaternion; 32]
         z: 0.0,
         w: 0.0,
     }; 32];
-    let mut k: usize = 0;
-    while k < count {
-        let one = Quaternion::from_rotation_z(angle(base_angle_rad, count, k));
-        all[k] = one;
-        k += 1;
+    for k in 0..count {
+        all[k] = Quaternion::from_rotation_z(angle(base_angle_rad, count, k));
     }
     all
 }
@@ -49,12 +46,8 @@ fn copies(body: Body, base_angle_rad: f64, count: usize) -> [Body; 32]
     let all = turns(base_angle_rad, count);
     let zero = Body::ZERO;
     let mut list = [zero; 32];
-    let mut k = 0;
-    while k < count {
-        let turn = all[k];
-        let turned = rotations::turned(body, turn);
-        list[k] = turned;
-        k += 1;
+    for k in 0..count {
+        list[k] = rotations::turned(body, all[k]);
     }
     list
 }

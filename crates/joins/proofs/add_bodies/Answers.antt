@@ -1,15 +1,14 @@
 -- `joins::add_bodies` meets its contract: one body more is the next in order. Assumes nothing.
-use Rattle.std.proofs.Common.{arith, refl}
+use Rattle.std.proofs.Common.{refl}
 use Rattle.joins.specs.Joins.{in_order, add_body}
 use Rattle.joins.proofs.InList.{next_in_list}
 use Rattle.joins.proofs.add_bodies.Goals as goal
 
-pub loop-k-init : goal.loop-k-init
+pub loop-body-init : goal.loop-body-init
 unfolding in_order
-loop-k-init c = (omega arith, refl)
+loop-body-init c = refl
 
-pub loop-k-preserved : goal.loop-k-preserved
-loop-k-preserved c = (
-  omega arith,
-  next_in_list add_body c.args.start c.args.bodies.now c.loop-k.k _ c.loop-k-test.true c.loop-k.invariant.1 c.add_body-sums.ensures,
-)
+pub loop-body-preserved : goal.loop-body-preserved
+loop-body-preserved c =
+    next_in_list add_body c.args.start c.args.bodies.now c.loop-body.body-index _ c.loop-body-test.true c.loop-body.invariant
+    c.add_body-sums.ensures
