@@ -3,8 +3,8 @@ use mathlib.Core.Path.{sym, ◌∙◌}
 use Rattle.refusals.proofs.Order.{goes_on, stops, ends}
 use Rattle.outlines.proofs.check_edges.Goals as goal
 
-pub returns-in-Refused : goal.returns-in-Refused
-returns-in-Refused c =
+pub returns-in-Err : goal.returns-in-Err
+returns-in-Err c =
     stops _ _ _ _ c.loop-i.invariant _ c.loop-i-test.true
     (sym c.check_edge.ensures ∙ c.in-Err.is)
 
