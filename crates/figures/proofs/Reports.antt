@@ -31,7 +31,7 @@ use Rattle.figures.specs.declared.Area.{Area}
 use Rattle.figures.specs.Figures.{conclusion_of, size_check, figures_by, fins_of, concluded_set}
 use Rattle.figures.specs.Areas.{unscaled_area, area_by, concluded_area}
 
-pub no_refusal : {A : Type 0} (refusal : Refusal) → Err refusal ≡ Ok tt → A
+pub no_refusal : {A : Type 0} (refusal : Refusal) → Err refusal ≡ Ok (tt {0}) → A
 no_refusal refusal e = absurd (let z : ◌≡◌ {A = ℕ} 0 1 = cc in let none : ⊥ = omega arith in none)
 
 -- ---- how the strips ended, then 8

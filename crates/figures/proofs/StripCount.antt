@@ -21,7 +21,7 @@ use Rattle.planforms.specs.Planforms.{x_at, height_at, pair_count, largest_heigh
 use Rattle.limits.specs.Limits.{most_strips, most_points, span_field, is_within, shortest, longest, length_within, length_check}
 use Rattle.refusals.proofs.Accepted.{holds, both, both_true, each_accepted}
 use Rattle.outlines.specs.Outlines.{point_check, twice_area, outline_check}
-use Rattle.outlines.proofs.Accepted.{points_within}
+use Rattle.outlines.proofs.Accepted.{outline_accepted, points_accepted, points_within}
 use Rattle.breaks.specs.Breaks.{heights, every_y, all_heights, one_strip, break_heights}
 use Rattle.breaks.proofs.Strips.{most_outline_breaks, break_heights_members}
 use Rattle.breaks.proofs.Listed.{at_most_two_more, two_heights}
@@ -105,28 +105,19 @@ largest_fit points (suc n) f =
     go false true m y = y
     go false false m y = m
 
-outline_points : (points : List Float) → outline_check points ≡ Ok tt → (k : ℕ) → k < pair_count points → point_check points k ≡ Ok tt
-unfolding outline_check
-outline_points points h k less =
-    let n = pair_count points in
-    let all : n - 0 ≡ n = omega arith in
-    rw (let e : 0 + k ≡ k = omega arith in e) at (each_accepted (point_check points) 0 n (rw all at (both _ _ (both _ _ h).1).0) k less)
-
 outline_few : (points : List Float) → outline_check points ≡ Ok tt → length (break_heights Outline points) ≤ most_strips + 1
-unfolding outline_check
 outline_few points h =
     let n = pair_count points in
     let b = points_within points h in
-    let after_pairs = (both _ _ h).1 in
     let last = n - 1 in
     let p = eq (x_at points 0) (bits 0) in
     let q = eq (height_at points 0) (bits 0) in
     let c = lt (bits 0) (x_at points last) in
     let d = eq (height_at points last) (bits 0) in
-    let ends : (p && q && c && d) ≡ true = holds (p && q && c && d) Ends (both _ _ (both _ _ after_pairs).1).0 in
+    let ends : (p && q && c && d) ≡ true = holds (p && q && c && d) Ends (outline_accepted points h).ends in
     let first_three = both_true (p && q && c) d ends in
     let first_two = both_true (p && q) c first_three.0 in
-    most_outline_breaks points (omega (arith, b)) b.1 (each_number (heights points n) (heights_fit points n (outline_points points h)))
+    most_outline_breaks points (omega (arith, b)) b.1 (each_number (heights points n) (heights_fit points n (points_accepted points h)))
     (both_true p q first_two.0).1 first_three.1
 
 heights_few : (planform : Planform) (points : List Float) → planform_check planform points ≡ Ok tt
@@ -154,9 +145,9 @@ all_fit Outline points h =
     let n = pair_count points in (
       zero_fit,
       (
-        largest_fit points n (outline_points points h),
+        largest_fit points n (points_accepted points h),
         rw (le-leb n most_points (points_within points h).1)
-            (heights_fit points n (outline_points points h)),
+            (heights_fit points n (points_accepted points h)),
       ),
     )
 
@@ -200,14 +191,14 @@ height_among points (suc n) k o l = go (eqb k n) refl (height_among points n k o
         (f (omega (arith, eqb-false k n e)))
 
 outline_some : (points : List Float) → outline_check points ≡ Ok tt → 2 ≤ length (break_heights Outline points)
-unfolding outline_check every_y among length_check
+unfolding every_y among length_check
 outline_some points h = go (leb 2 (length (break_heights Outline points))) refl
   where
     n : ℕ
     n = pair_count points
 
     area : eq (twice_area points) (bits 0) ≡ false
-    area = not_not _ (holds _ _ (both _ _ (both _ _ (both _ _ (both _ _ (both _ _ h).1).1).1).1).0)
+    area = not_not _ (holds _ _ (outline_accepted points h).area)
       where
         not_not : (b : Bool) → not b ≡ true → b ≡ false
         not_not true k = absurd (false≢true k)
@@ -218,7 +209,7 @@ outline_some points h = go (leb 2 (length (break_heights Outline points))) refl
         let y = height_at points k in
         let found : among y (every_y Outline points) ≡ true =
         rw (le-leb n most_points (points_within points h).1)
-        (height_among points n k (point_fit points k (outline_points points h k l)).0 l) in
+        (height_among points n k (point_fit points k (points_accepted points h k l)).0 l) in
         or_true (eq y (bits 0)) (eq y (span_of Outline points) || among y (every_y Outline points))
         (or_true (eq y (span_of Outline points)) (among y (every_y Outline points)) found)
 
@@ -228,7 +219,7 @@ outline_some points h = go (leb 2 (length (break_heights Outline points))) refl
         absurd
         (false≢true
         (sym area
-        ∙ no_area points (λ k l. within_finite (x_at points k) (holds _ _ (both _ _ (outline_points points h k l)).0))
+        ∙ no_area points (λ k l. within_finite (x_at points k) (holds _ _ (both _ _ (points_accepted points h k l)).0))
         (λ k l.
         zero_of (height_at points k)
         (lone (break_heights Outline points) (let f = leb-false 2 (length (break_heights Outline points)) e in omega (arith, f))
