@@ -15,7 +15,7 @@ use Rattle.floats.specs.Floats.{abs_of}
 use Rattle.refusals.specs.declared.Refusal.{Refusal}
 use Rattle.refusals.specs.declared.Refusal.TheVariants.{Length, NoCorners, NotWholeSteps}
 use Rattle.refusals.specs.Verdict.{Verdict}
-use Rattle.refusals.specs.Order.{refuse_unless, first_refusal, first_from}
+use Rattle.refusals.specs.Order.{refuse_unless, first_refusal}
 use Rattle.refusals.proofs.Accepted.{holds, both, both_true}
 use Rattle.refusals.proofs.Order.{in_order, after_accepted, after_refused}
 use Rattle.planforms.specs.declared.Planform.{Planform}
@@ -25,7 +25,7 @@ use Rattle.limits.specs.Limits.{most_points, outline_numbers, zero_allowed, nega
 use Rattle.limits.specs.Limits.{length_check, drill_xfield, drill_height_field, root_chord_field, tip_chord_field, span_field, sweep_field}
 use Rattle.limits.specs.Limits.{point_xfield, point_yfield}
 use Rattle.outlines.specs.Outlines.{are_pairs, point_check, outline_check}
-use Rattle.outlines.proofs.Accepted.{points_within}
+use Rattle.outlines.proofs.Accepted.{outline_accepted, points_accepted, points_within}
 use Rattle.outlines.specs.Outlines.{planform_check}
 use Rattle.steps.specs.Parts.{IsLength}
 use Rattle.steps.specs.Steps.{exact_of, steps_of}
@@ -111,37 +111,19 @@ trapezoid_lengths root tip span sweep points more h rest =
 
 -- ---- an outline's points
 
--- where a row of checks accepts, each does
-each_accepts : (i n : ℕ) (check : ℕ → Verdict) → first_from i n check ≡ Ok tt → (k : ℕ) → k < n → check (i + k) ≡ Ok tt
-unfolding first_from
-each_accepts i zero check h k l = absurd (not-suc-le-zero l)
-each_accepts i (suc n) check h zero l = subst (λ (j : ℕ). check j ≡ Ok tt) (let e : i ≡ i + 0 = omega arith in e) (both _ _ h).0
-each_accepts i (suc n) check h (suc k) l =
-    subst (λ (j : ℕ). check j ≡ Ok tt) (let e : suc i + k ≡ i + suc k = omega arith in e)
-    (each_accepts (suc i) n check (both _ _ h).1 k (omega arith))
-
 module _ (points : List Float) (accepted : outline_check points ≡ Ok tt) where
   whole_pairs : length points % 2 ≡ 0
-  unfolding outline_check
   whole_pairs =
-      let p = holds (are_pairs points) _ (both _ _ accepted).0 in
+      let p = holds (are_pairs points) _ (outline_accepted points accepted).pairs in
       eqb-true (length points % 2) 0
       (both_true (eqb (length points % 2) 0) (leb 3 (pair_count points))
       (both_true (eqb (length points % 2) 0 && leb 3 (pair_count points)) (leb (pair_count points) most_points) p).0).0
-
-  point : (i : ℕ) → i < pair_count points → point_check points i ≡ Ok tt
-  unfolding outline_check
-  point i h =
-      let n = pair_count points in
-      let e : 0 + i ≡ i = omega arith in
-      subst (λ (j : ℕ). point_check points j ≡ Ok tt) e
-      (each_accepts 0 (n - 0) (point_check points) (both _ _ (both _ _ accepted).1).0 i (omega arith))
 
   pub outline_lengths : AreLengths points
   outline_lengths k h = by (k % 2) refl (let e : k % 2 ≤ 1 = omega arith in e)
     where
       checked : point_check points (k / 2) ≡ Ok tt
-      checked = point (k / 2) (omega (arith, whole_pairs))
+      checked = points_accepted points accepted (k / 2) (omega (arith, whole_pairs))
 
       by : (r : ℕ) → k % 2 ≡ r → r ≤ 1 → IsLength (at points k)
       by zero e l = subst (λ (j : ℕ). IsLength (at points j)) (let z : 2 * (k / 2) ≡ k = omega arith in z)

@@ -20,6 +20,7 @@ use Rattle.planforms.specs.declared.Planform.{Planform}
 use Rattle.planforms.specs.declared.Planform.TheVariants.{Trapezoid, Ellipse, Outline}
 use Rattle.planforms.specs.Planforms.{pair_count, root_chord_of, span_of}
 use Rattle.outlines.specs.Outlines.{are_pairs, outline_check}
+use Rattle.outlines.proofs.Accepted.{outline_accepted}
 use Rattle.breaks.specs.Breaks.{every_y, all_heights}
 use Rattle.chords.specs.Chords.{ends_at}
 use Rattle.sections.specs.declared.Section.{Section}
@@ -40,10 +41,9 @@ all_kept points few =
 
 -- "points not 3 to 64 whole pairs"
 pub outline_few : (points : List Float) → outline_check points ≡ Ok tt → length points ≤ outline_numbers
-unfolding outline_check
 outline_few points h =
     let n = pair_count points in
-    let pairs = both_true (eqb (length points % 2) 0 && leb 3 n) (leb n most_points) (holds (are_pairs points) _ (both _ _ h).0) in
+    let pairs = both_true (eqb (length points % 2) 0 && leb 3 n) (leb n most_points) (holds (are_pairs points) _ (outline_accepted points h).pairs) in
     let whole = eqb-true (length points % 2) 0 (both_true (eqb (length points % 2) 0) (leb 3 n) pairs.0).0 in
     let most = leb-true n most_points pairs.1 in
     omega (arith, whole, most)

@@ -26,7 +26,8 @@ use Rattle.sorting.proofs.Sorted.{sorted_each}
 use Rattle.planforms.specs.declared.Planform.TheVariants.{Outline}
 use Rattle.planforms.specs.Planforms.{x_at, height_at, pair_count, largest_height, span_of}
 use Rattle.planforms.proofs.Sized.{Sized, span_sized}
-use Rattle.outlines.specs.Outlines.{point_check, outline_check, planform_check}
+use Rattle.outlines.specs.Outlines.{point_check, planform_check}
+use Rattle.outlines.proofs.Accepted.{points_accepted}
 use Rattle.breaks.specs.Breaks.{heights, every_y, all_heights, break_heights}
 use Rattle.breaks.proofs.Strips.{once_each, break_heights_members}
 use Rattle.rounding_error.proofs.Numbers.{Number, number, ◌less◌, value_of}
@@ -57,10 +58,8 @@ module _ (points : List Float) (f64s : (i : ℕ) → T (fits binary64 (at points
   span = span_of Outline points
 
   point_accepted : (k : ℕ) → k < n → point_check points k ≡ Ok tt
-  unfolding planform_check outline_check
-  point_accepted k l =
-      rw (let e : 0 + k ≡ k = omega arith in e) at (each_accepted (point_check points) 0 n
-      (rw (sub-zero n) at (both _ _ (both _ _ check).1).0) k l)
+  unfolding planform_check
+  point_accepted k l = points_accepted points check k l
 
   height_number : (i : ℕ) → i < n → is_nan (height_at points i) ≡ false
   height_number i l = finite_no_nan (height_at points i) (sized.0 i l).1.length.below.finite
