@@ -13,4 +13,4 @@ pub returns-in-Unknown : goal.returns-in-Unknown
 unfolding numbered_chords
 returns-in-Unknown c =
     let told = c.in-Unknown.is in
-    rw told (c.no_chords.ensures, refl)
+    rw told (refl, refl)
