@@ -12,10 +12,12 @@ use lib.ListN.{length}
 use lib.Ieee.{Float, eq, lt}
 use Rattle.floats.specs.Operations.{at, bits}
 use Rattle.floats.specs.Floats.{abs_of}
+use Rattle.std.specs.Prelude.{Result, Ok, Err}
 use Rattle.refusals.specs.declared.Refusal.{Refusal}
 use Rattle.refusals.specs.declared.Refusal.TheVariants.{Length, NoCorners, NotWholeSteps}
 use Rattle.refusals.specs.Verdict.{Verdict}
 use Rattle.refusals.specs.Order.{refuse_unless, first_refusal}
+use Rattle.refusals.specs.declared.Verdict.TheVariants.{Refused}
 use Rattle.refusals.proofs.Accepted.{holds, both, both_true}
 use Rattle.refusals.proofs.Order.{in_order, after_accepted, after_refused}
 use Rattle.planforms.specs.declared.Planform.{Planform}
@@ -29,8 +31,7 @@ use Rattle.outlines.proofs.Accepted.{outline_accepted, points_accepted, points_w
 use Rattle.outlines.specs.Outlines.{planform_check}
 use Rattle.steps.specs.Parts.{IsLength}
 use Rattle.steps.specs.Steps.{exact_of, steps_of}
-use Rattle.drill.specs.declared.Answer.{Answer}
-use Rattle.drill.specs.declared.Answer.TheVariants.{Refused}
+use Rattle.drill.specs.declared.Place.{Place}
 use Rattle.drill.specs.Drill.{corners_of, has_corners, are_whole, place_of, drill_check, unless_refused, drill_of}
 use Rattle.drill.specs.InSteps.{AreLengths, in_steps}
 use Rattle.drill.proofs.Reach.{one_more}
@@ -45,7 +46,7 @@ module _ (planform : Planform) (points : List Float) (x height : Float) where
   whole : Bool
   whole = are_whole (exact_of x ∷ exact_of height ∷ corners_of planform points)
 
-  answer : Answer
+  answer : Place
   answer = place_of (map steps_of (corners_of planform points)) (steps_of (exact_of x)) (steps_of (exact_of height))
 
   split : drill_of planform points x height ≡ unless_refused
@@ -53,7 +54,7 @@ module _ (planform : Planform) (points : List Float) (x height : Float) where
   unfolding drill_of drill_check whole answer
   split = ap (λ (v : Verdict). unless_refused v answer) (sym (in_order (planform_check planform points) (_ ∷ _ ∷ _ ∷ _ ∷ [])))
 
-  pub refused : (r : Refusal) → before ≡ Err r → Refused r ≡ drill_of planform points x height
+  pub refused : (r : Refusal) → before ≡ Refused r → Err r ≡ drill_of planform points x height
   refused r h = sym (split ∙ rw (h, after_refused, after_refused))
 
   -- p, l and m are what the code's checks say, u and w the verdict after the second and the third
@@ -62,10 +63,10 @@ module _ (planform : Planform) (points : List Float) (x height : Float) where
   told e f g h i = rw (i, h, g, f, e)
 
   module _ (accepted : before ≡ Ok tt) where
-    pub no_corners : has_corners planform ≡ false → Refused NoCorners ≡ drill_of planform points x height
+    pub no_corners : has_corners planform ≡ false → Err NoCorners ≡ drill_of planform points x height
     no_corners h = sym (split ∙ rw (accepted, after_accepted, h, after_refused))
 
-    either : (t : Bool) (a : Answer) → unless_refused (refuse_unless t NotWholeSteps) a ≡ cond t a (Refused NotWholeSteps)
+    either : (t : Bool) (a : Place) → unless_refused (refuse_unless t NotWholeSteps) a ≡ cond t (Ok a) (Err NotWholeSteps)
     either true a = refl
     either false a = refl
 

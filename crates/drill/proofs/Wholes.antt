@@ -11,7 +11,7 @@ use Rattle.refusals.specs.declared.Refusal.TheVariants.{NotWholeSteps}
 use Rattle.refusals.proofs.Accepted.{both_true}
 use Rattle.steps.specs.Steps.{is_whole, steps_of}
 use Rattle.steps.proofs.Sums.{whole_part}
-use Rattle.drill.specs.declared.Answer.TheVariants.{Refused}
+use Rattle.std.specs.Prelude.{Ok, Err}
 use Rattle.drill.specs.Drill.{are_whole, place_of}
 use Rattle.drill.specs.InSteps.{in_steps}
 
@@ -92,11 +92,11 @@ outline_tested x h l xs hs ls = rw (xs, hs, ls) (sym (two_in_front x h l))
 -- ---- the answer, whichever way the test t went
 
 module _ (x h : ℤ) (corners : List ℤ) {t : Bool} (tested : t ≡ are_whole (x ∷ h ∷ corners)) where
-  pub refused : not t ≡ true → Refused NotWholeSteps ≡ in_steps corners x h
+  pub refused : not t ≡ true → Err NotWholeSteps ≡ in_steps corners x h
   unfolding in_steps
   refused o = sym (rw (sym tested ∙ not_true t o))
 
   pub placed : not t ≡ false → {l : List ℤ} {z y : ℤ} → l ≡ map steps_of corners → z ≡ steps_of x → y ≡ steps_of h
-      → place_of l z y ≡ in_steps corners x h
+      → Ok (place_of l z y) ≡ in_steps corners x h
   unfolding in_steps
   placed o e f g = rw (e, f, g, sym tested ∙ not_false t o)

@@ -1,8 +1,10 @@
 -- Where may I drill? (document 02, Paper 11)
-use Rattle.std.specs.Prelude.{Bool, true, false, cond, List, [], ◌∷◌, map, ℕ, ℤ, pos, ◌+ℤ◌, length, get_or, Float, Ok, Err}
+use Rattle.std.specs.Prelude.{Bool, true, false, cond, List, [], ◌∷◌, map, ℕ, ℤ, pos, ◌+ℤ◌, length, get_or, Float, Ok, Err, Result}
 use Rattle.floats.specs.Operations.{every}
+use Rattle.refusals.specs.declared.Refusal.{Refusal}
 use Rattle.refusals.specs.declared.Refusal.TheVariants.{NoCorners, NotWholeSteps}
 use Rattle.refusals.specs.Verdict.{Verdict}
+use Rattle.refusals.specs.declared.Verdict.TheVariants.{Refused}
 use Rattle.refusals.specs.Order.{refuse_unless, first_of}
 use Rattle.planforms.specs.declared.Planform.{Planform}
 use Rattle.planforms.specs.declared.Planform.TheVariants.{Trapezoid, Ellipse, Outline}
@@ -10,8 +12,8 @@ use Rattle.limits.specs.Limits.{drill_xfield, drill_height_field, length_check}
 use Rattle.outlines.specs.Outlines.{planform_check}
 use Rattle.steps.specs.Steps.{exact_of, is_whole, steps_of}
 use Rattle.polygons.specs.Polygons.{is_on_edge, is_inside, nearest_corner}
-use Rattle.drill.specs.declared.Answer.{Answer}
-use Rattle.drill.specs.declared.Answer.TheVariants.{Inside, Edge, Outside, Refused}
+use Rattle.drill.specs.declared.Place.{Place}
+use Rattle.drill.specs.declared.Place.TheVariants.{Inside, Edge, Outside}
 
 -- "Corners in order: the drawn points, or (0,0), (sweep, span), (sweep + tip, span), (root, 0)": exactly, in units of
 -- 2^-1074 m, an x and a height for each. An ellipse has none.
@@ -31,7 +33,7 @@ are_whole l = every (length l) (λ k. is_whole (get_or l k (pos 0)))
 
 -- where a point lies, from the corners and the point in steps: "For a point, answer inside, on the edge, or outside,
 -- and give the nearest corner"; "Edge comes before inside"
-unfoldable pub place_of : List ℤ → ℤ → ℤ → Answer
+unfoldable pub place_of : List ℤ → ℤ → ℤ → Place
 place_of corners x height =
     let nearest = nearest_corner corners x height in
     cond (is_on_edge corners x height) (Edge nearest)
@@ -56,35 +58,33 @@ drill_check planform points x height =
     ∷ refuse_unless (are_whole (exact_of x ∷ exact_of height ∷ corners_of planform points)) NotWholeSteps
     ∷ [])
 
--- an answer, or the refusal of the check before it
-abbrev pub unless_refused : Verdict → Answer → Answer
-unless_refused (Ok tt) answer = answer
-unless_refused (Err r) answer = Refused r
+-- a place, or the refusal of the check before it
+abbrev pub unless_refused : Verdict → Place → Result Place Refusal
+unless_refused (Ok tt) place = Ok place
+unless_refused (Refused r) place = Err r
 
 -- where a point lies beside a planform, once it passed the checks
-unfoldable pub drill_of : Planform → List Float → Float → Float → Answer
+unfoldable pub drill_of : Planform → List Float → Float → Float → Result Place Refusal
 drill_of planform points x height =
     unless_refused (drill_check planform points x height)
     (place_of (map steps_of (corners_of planform points)) (steps_of (exact_of x)) (steps_of (exact_of height)))
 
 -- ---- an answer as a verdict and two numbers, as the library hands it out
 
-abbrev pub verdict_of : Answer → Verdict
-verdict_of (Inside nearest) = Ok tt
-verdict_of (Edge nearest) = Ok tt
-verdict_of (Outside nearest) = Ok tt
-verdict_of (Refused r) = Err r
+abbrev pub verdict_of : Result Place Refusal → Verdict
+verdict_of (Ok place) = Ok tt
+verdict_of (Err r) = Refused r
 
 -- an answer's place as a number: 1 inside, 2 on the edge, 3 outside; 0 where the point is turned away
-abbrev pub place_number : Answer → ℕ
-place_number (Inside nearest) = 1
-place_number (Edge nearest) = 2
-place_number (Outside nearest) = 3
-place_number (Refused r) = 0
+abbrev pub place_number : Result Place Refusal → ℕ
+place_number (Ok (Inside nearest)) = 1
+place_number (Ok (Edge nearest)) = 2
+place_number (Ok (Outside nearest)) = 3
+place_number (Err r) = 0
 
 -- the nearest corner's position; 0 where the point is turned away
-abbrev pub nearest_of : Answer → ℕ
-nearest_of (Inside nearest) = nearest
-nearest_of (Edge nearest) = nearest
-nearest_of (Outside nearest) = nearest
-nearest_of (Refused r) = 0
+abbrev pub nearest_of : Result Place Refusal → ℕ
+nearest_of (Ok (Inside nearest)) = nearest
+nearest_of (Ok (Edge nearest)) = nearest
+nearest_of (Ok (Outside nearest)) = nearest
+nearest_of (Err r) = 0

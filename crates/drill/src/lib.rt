@@ -22,29 +22,28 @@ use planforms::Planform;
 use refusals::{Refusal, Verdict};
 use steps::{is_whole, steps};
 
-// Where a point lies, each place with the nearest corner's position; or why there is no answer.
+// Where a point lies, with the nearest corner's position.
 #[derive(Clone, Copy)]
-pub enum Answer {
+pub enum Place {
     Inside(usize),
     Edge(usize),
     Outside(usize),
-    Refused(Refusal),
 }
 
 // Returns where a point lies, from the corners and the point in steps.
 #[tactic(auto, unfolding(crate::specs::Drill::place_of))]
-fn place(corners: &[i64], x: i64, height: i64) -> Answer
+fn located(corners: &[i64], x: i64, height: i64) -> Place
     requires { (0 < corner_count corners.now) × InReach corners.now x height }
     ensures { result ≡ place_of corners.now x height }
 {
     let nearest = polygons::nearest_corner(corners, x, height);
     if polygons::is_on_edge(corners, x, height) {
-        return Answer::Edge(nearest);
+        return Place::Edge(nearest);
     }
     if polygons::is_inside(corners, x, height) {
-        return Answer::Inside(nearest);
+        return Place::Inside(nearest);
     }
-    Answer::Outside(nearest)
+    Place::Outside(nearest)
 }
 
 // Tells whether every coordinate of an outline is a whole number of steps.
@@ -100,7 +99,7 @@ fn drill_trapezoid(
     sweep_m: f64,
     x_m: f64,
     height_m: f64,
-) -> Answer
+) -> Result<Place, Refusal>
     requires { AreLengths (root_chord_m ∷ tip_chord_m ∷ span_m ∷ sweep_m ∷ x_m ∷ height_m ∷ []) }
     ensures { result ≡ in_steps (corners_of (Trapezoid root_chord_m tip_chord_m span_m sweep_m) []) (exact_of x_m)
         (exact_of height_m) }
@@ -108,34 +107,35 @@ fn drill_trapezoid(
     let point = is_whole(x_m) & is_whole(height_m);
     let tip = is_whole(sweep_m) & is_whole(span_m) & is_whole(tip_chord_m);
     if !(point & tip & is_whole(root_chord_m)) {
-        return Answer::Refused(Refusal::NotWholeSteps);
+        return Err(Refusal::NotWholeSteps);
     }
     let corners = trapezoid_corners(root_chord_m, tip_chord_m, span_m, sweep_m);
-    place(&corners, steps(x_m), steps(height_m))
+    Ok(located(&corners, steps(x_m), steps(height_m)))
 }
 
 // Returns where a point lies beside an outline that passed the checks, or 25.
-fn drill_outline(points: &[f64], x_m: f64, height_m: f64) -> Answer
+fn drill_outline(points: &[f64], x_m: f64, height_m: f64) -> Result<Place, Refusal>
     requires { AreLengths (x_m ∷ height_m ∷ points.now) × (length points.now ≤ outline_numbers)
         × (0 < pair_count points.now) }
     ensures { result ≡ in_steps (map exact_of points.now) (exact_of x_m) (exact_of height_m) }
 {
     if !(is_whole(x_m) & is_whole(height_m) & are_whole(points)) {
-        return Answer::Refused(Refusal::NotWholeSteps);
+        return Err(Refusal::NotWholeSteps);
     }
     let n = points.len();
     let corners = steps_of(points);
-    place(&corners[..n], steps(x_m), steps(height_m))
+    Ok(located(&corners[..n], steps(x_m), steps(height_m)))
 }
 
 // Returns where a point lies beside a planform, and the nearest corner, or why there is no answer.
-pub fn drill(planform: Planform, points: &[f64], x_m: f64, height_m: f64) -> Answer
+pub fn drill(planform: Planform, points: &[f64], x_m: f64, height_m: f64) -> Result<Place, Refusal>
     ensures { IsAnswer verdict_of result (drill_of planform points.now x_m height_m) }
 {
-    let of_planform = outlines::check_planform(planform, points);
-    let of_point = check_length(limits::DRILL_X, x_m).and(check_length(limits::DRILL_HEIGHT, height_m));
-    if let Err(refusal) = of_planform.and(of_point) {
-        return Answer::Refused(refusal);
+    let v = outlines::check_planform(planform, points);
+    let v = first_refusal(v, check_length(limits::DRILL_X, x_m));
+    let v = first_refusal(v, check_length(limits::DRILL_HEIGHT, height_m));
+    if let Err(refusal) = v {
+        return Err(refusal);
     }
     match planform {
         Planform::Trapezoid {
@@ -144,43 +144,39 @@ pub fn drill(planform: Planform, points: &[f64], x_m: f64, height_m: f64) -> Ans
             span_m,
             sweep_m,
         } => drill_trapezoid(root_chord_m, tip_chord_m, span_m, sweep_m, x_m, height_m),
-        Planform::Ellipse { .. } => Answer::Refused(Refusal::NoCorners),
+        Planform::Ellipse { .. } => Err(Refusal::NoCorners),
         Planform::Outline => drill_outline(points, x_m, height_m),
     }
 }
 
 // Returns whether the point is turned away, and why.
-pub fn verdict(answer: Answer) -> Verdict
+pub fn verdict(answer: Result<Place, Refusal>) -> Verdict
     ensures { result ≡ verdict_of answer }
 {
     match answer {
-        Answer::Inside(_) => Ok(()),
-        Answer::Edge(_) => Ok(()),
-        Answer::Outside(_) => Ok(()),
-        Answer::Refused(refusal) => Err(refusal),
+        Ok(_) => Ok(()),
+        Err(refusal) => Err(refusal),
     }
 }
 
 // Returns the place as a number: 1 inside, 2 on the edge, 3 outside; 0 where the point is turned away.
-pub fn place_number(answer: Answer) -> usize
+pub fn place_number(answer: Result<Place, Refusal>) -> usize
     ensures { result ≡ place_number answer }
 {
     match answer {
-        Answer::Inside(_) => 1,
-        Answer::Edge(_) => 2,
-        Answer::Outside(_) => 3,
-        Answer::Refused(_) => 0,
+        Ok(Place::Inside(_)) => 1,
+        Ok(Place::Edge(_)) => 2,
+        Ok(Place::Outside(_)) => 3,
+        Err(_) => 0,
     }
 }
 
 // Returns the nearest corner's position; 0 where the point is turned away.
-pub fn nearest(answer: Answer) -> usize
+pub fn nearest(answer: Result<Place, Refusal>) -> usize
     ensures { result ≡ nearest_of answer }
 {
     match answer {
-        Answer::Inside(nearest) => nearest,
-        Answer::Edge(nearest) => nearest,
-        Answer::Outside(nearest) => nearest,
-        Answer::Refused(_) => 0,
+        Ok(Place::Inside(nearest) | Place::Edge(nearest) | Place::Outside(nearest)) => nearest,
+        Err(_) => 0,
     }
 }

@@ -7,6 +7,9 @@ use borrow.Author.Tests.{le-leb, lt-leb}
 use lib.ListN.{length}
 use lib.Ieee.{Float}
 use Rattle.refusals.specs.Verdict.{Verdict}
+use Rattle.std.specs.Prelude.{Result}
+use Rattle.std.specs.Result.{result_unwrap_or}
+use Rattle.refusals.specs.declared.Refusal.{Refusal}
 use Rattle.refusals.specs.Calls.{Does}
 use Rattle.bodies.specs.Layout.{body_numbers}
 use Rattle.joins.specs.declared.JoinedBody.{JoinedBody}
@@ -17,16 +20,16 @@ use Rattle.tubes.specs.Closing.{closing_of}
 use Rattle.moments.specs.declared.Moments.{Moments}
 use Rattle.figures.specs.declared.Area.{Area}
 use Rattle.figures.specs.declared.Figures.{Figures}
-use Rattle.planform_chords.specs.declared.ChordList.{ChordList}
-use Rattle.drill.specs.declared.Answer.{Answer}
+use Rattle.planform_chords.specs.PlanformChords.{verdict_of as chords_verdict}
+use Rattle.drill.specs.declared.Place.{Place}
 use Rattle.drill.specs.Drill.{verdict_of, place_number, nearest_of}
 use Rattle.planforms.specs.declared.NumberedPlanform.{NumberedPlanform}
 use Rattle.fins.specs.declared.NumberedSet.{NumberedSet}
 use Rattle.requests.specs.Calls.{numbered_call, numbered_area, numbered_chords, numbered_drill, tensor_moments, body_verdict}
 use Rattle.refusals.specs.Numbered.{number_in}
-use Rattle.refusals.specs.Lent.{over, with_values, with_counts, room}
+use Rattle.refusals.specs.Lent.{over, with_values, with_count, with_counts, room}
 use Rattle.figures.specs.Numbered.{figure_counts}
-use Rattle.exports.specs.Calls.{SetCall, area_numbers, area_counts, AreaCall, chord_counts, ChordsCall, DrillCall, BodyCall, ClosingCall}
+use Rattle.exports.specs.Calls.{SetCall, area_numbers, area_counts, AreaCall, ChordsCall, DrillCall, BodyCall, ClosingCall}
 use Rattle.exports.specs.Calls.{JoinCall, moments_numbers, MomentsCall, CheckCall}
 use Rattle.refusals.proofs.Rooms.{has_room, few_figures, few_counts}
 use Rattle.limits.specs.Limits.{most_points}
@@ -84,15 +87,16 @@ module _ {planform : NumberedPlanform} {points : List Float} {h : Float} {ends :
   chords_refused short = let none = short.none in record { returned = rw none; listed = rw none; counted = rw none }
 
   pub chords_written : most_points ≤ length ends → 3 ≤ length counts
-      → {read : NumberedPlanform} {l : ChordList} {r : ℕ} {ends' : List Float} {counts' : List ℕ} →
-      read ≡ planform → Does (numbered_chords read points h) l ends ends' → counts' ≡ chord_counts l counts → r ≡ number_in l.verdict →
+      → {read : NumberedPlanform} {l : Result ℕ Refusal} {v : Verdict} {count r : ℕ} {ends' : List Float} {counts' : List ℕ} →
+      read ≡ planform → Does (numbered_chords read points h) l ends ends' → v ≡ chords_verdict l → count ≡ result_unwrap_or l 0 →
+      counts' ≡ with_count counts v count → r ≡ number_in v →
       ChordsCall planform points h ends counts r ends' counts'
-  chords_written k j same d c n =
+  chords_written k j same d e f c n =
       let fits = has_room most_points ends 3 counts k j in
       record {
-        returned = rw (fits, ← same, ← d.0) n;
+        returned = rw (fits, ← same, ← d.0, ← e) n;
         listed = rw (fits, ← same) d.1;
-        counted = rw (fits, ← same, ← d.0) c;
+        counted = rw (fits, ← same, ← d.0, ← e, ← f) c;
       }
 
 module _ {planform : NumberedPlanform} {points : List Float} {x height : Float} {counts : List ℕ} where
@@ -100,7 +104,7 @@ module _ {planform : NumberedPlanform} {points : List Float} {x height : Float} 
   drill_refused h = let none = lt-leb 4 (length counts) h in record { returned = rw none; counted = rw none }
 
   -- `read` is the planform as the code has it; v, place and nearest are the answer's parts
-  pub drill_written : 4 ≤ length counts → {read : NumberedPlanform} {a : Answer} {v : Verdict} {place nearest r : ℕ} {counts' : List ℕ} →
+  pub drill_written : 4 ≤ length counts → {read : NumberedPlanform} {a : Result Place Refusal} {v : Verdict} {place nearest r : ℕ} {counts' : List ℕ} →
       read ≡ planform → a ≡ numbered_drill read points x height → v ≡ verdict_of a → place ≡ place_number a → nearest ≡ nearest_of a →
       counts' ≡ with_counts counts v place nearest → r ≡ number_in v → DrillCall planform points x height counts r counts'
   drill_written h same e f g k c n =

@@ -1,12 +1,14 @@
 -- What a call returns and leaves in the lent lists (include/delvouzh.h). Where a list has no room for what is written
 -- over its start, the call returns 18 (no form) and leaves every list as it was.
-use Rattle.std.specs.Prelude.{◌≡◌, cond, List, [], ◌∷◌, ℕ, leb, length, Float}
+use Rattle.std.specs.Prelude.{◌≡◌, cond, List, [], ◌∷◌, ℕ, leb, length, Float, Result}
+use Rattle.std.specs.Result.{result_unwrap_or}
 use Rattle.floats.specs.Operations.{at}
+use Rattle.refusals.specs.declared.Refusal.{Refusal}
 use Rattle.refusals.specs.declared.Refusal.TheVariants.{NoForm}
 use Rattle.refusals.specs.Refusals.{number_of}
 use Rattle.planforms.specs.declared.NumberedPlanform.{NumberedPlanform}
-use Rattle.planform_chords.specs.declared.ChordList.{ChordList}
-use Rattle.drill.specs.declared.Answer.{Answer}
+use Rattle.planform_chords.specs.PlanformChords.{verdict_of as chords_verdict}
+use Rattle.drill.specs.declared.Place.{Place}
 use Rattle.drill.specs.Drill.{verdict_of, place_number, nearest_of}
 use Rattle.fins.specs.declared.NumberedSet.{NumberedSet}
 use Rattle.bodies.specs.Layout.{body_numbers}
@@ -65,13 +67,13 @@ pub record AreaCall (planform : NumberedPlanform) (points : List Float) (L : ℕ
 -- ---- a planform's chords at a height (document 02, Paper 1): an outline of 64 points has at most 32 chords, of two
 -- ends each
 
-abbrev pub chord_counts : ChordList → List ℕ → List ℕ
-chord_counts l counts = with_count counts l.verdict l.count
+abbrev pub chord_counts : Result ℕ Refusal → List ℕ → List ℕ
+chord_counts chords counts = with_count counts (chords_verdict chords) (result_unwrap_or chords 0)
 
 pub record ChordsCall (planform : NumberedPlanform) (points : List Float) (h : Float) (ends : List Float)
     (counts : List ℕ) (r : ℕ) (ends' : List Float) (counts' : List ℕ) : Type 0 where
   pub returned :
-      r ≡ cond (room most_points ends 3 counts) (number_in (numbered_chords planform points h).answer.verdict)
+      r ≡ cond (room most_points ends 3 counts) (number_in (chords_verdict (numbered_chords planform points h).answer))
       (number_of NoForm)
   pub listed : ends' ≡ cond (room most_points ends 3 counts) ((numbered_chords planform points h).leaves ends) ends
   pub counted :
@@ -81,7 +83,7 @@ pub record ChordsCall (planform : NumberedPlanform) (points : List Float) (h : F
 -- ---- where a point lies beside a planform (document 02, Paper 11): the place, 1 inside, 2 on the edge, 3 outside,
 -- and the nearest corner's position
 
-abbrev pub drill_counts : Answer → List ℕ → List ℕ
+abbrev pub drill_counts : Result Place Refusal → List ℕ → List ℕ
 drill_counts a counts = with_counts counts (verdict_of a) (place_number a) (nearest_of a)
 
 pub record DrillCall (planform : NumberedPlanform) (points : List Float) (x height : Float) (counts : List ℕ) (r : ℕ)

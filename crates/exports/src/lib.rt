@@ -159,8 +159,8 @@ pub extern "C" fn delvouzh_chords_at(
     }
     let asked = planforms::listed_planform(planform, lengths);
     let found = requests::listed_chords(asked, points, height_m, ends);
-    let verdict = found.verdict;
-    refusals::write_count(counts, verdict, found.count);
+    let verdict = planform_chords::verdict(found);
+    refusals::write_count(counts, verdict, found.unwrap_or(0));
     refusals::verdict_number(verdict)
 }
 

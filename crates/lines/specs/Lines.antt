@@ -1,6 +1,6 @@
 -- The answer to a line, and what it leaves in the lent scratch and in the engine of eight screens (docs/FORMS.md;
 -- document 01, "The card program" and "Refusal numbers").
-use Rattle.std.specs.Prelude.{List, [], ◌∷◌, ◌≡◌, ℕ, ◌+◌, ◌<◌, length, take, drop, get_or, Float, Ok, Err}
+use Rattle.std.specs.Prelude.{List, [], ◌∷◌, ◌≡◌, ℕ, ◌+◌, ◌<◌, length, take, drop, get_or, Float, Ok, Err, Result}
 use Rattle.floats.specs.Operations.{at}
 use Rattle.refusals.specs.declared.Refusal.{Refusal}
 use Rattle.refusals.specs.declared.Refusal.TheVariants.{Scratch as short}
@@ -15,8 +15,8 @@ use Rattle.joins.specs.declared.JoinedBody.{JoinedBody}
 use Rattle.tubes.specs.declared.ClosingRadius.{ClosingRadius}
 use Rattle.tubes.specs.Tubes.{tubes_of}
 use Rattle.tubes.specs.Closing.{closing_of}
-use Rattle.drill.specs.declared.Answer.{Answer}
-use Rattle.drill.specs.declared.Answer.TheVariants.{Inside, Edge, Outside, Refused as refused_point}
+use Rattle.drill.specs.declared.Place.{Place}
+use Rattle.drill.specs.declared.Place.TheVariants.{Inside, Edge, Outside}
 use Rattle.drill.specs.Drill.{drill_of}
 use Rattle.moments.specs.declared.Moments.{Moments}
 use Rattle.texts.specs.Appended.{Appended}
@@ -105,11 +105,11 @@ moments_reply m =
     let moments = m.moments_kg_m2 in
     unless_refused m.verdict (reply MomentsShape (at moments 0 ∷ at moments 1 ∷ at moments 2 ∷ []) [])
 
-abbrev pub drill_reply : Answer → Reply
-drill_reply (Inside nearest) = reply InsideShape [] (nearest ∷ [])
-drill_reply (Edge nearest) = reply EdgeShape [] (nearest ∷ [])
-drill_reply (Outside nearest) = reply OutsideShape [] (nearest ∷ [])
-drill_reply (refused_point refusal) = refused_reply refusal
+abbrev pub drill_reply : Result Place Refusal → Reply
+drill_reply (Ok (Inside nearest)) = reply InsideShape [] (nearest ∷ [])
+drill_reply (Ok (Edge nearest)) = reply EdgeShape [] (nearest ∷ [])
+drill_reply (Ok (Outside nearest)) = reply OutsideShape [] (nearest ∷ [])
+drill_reply (Err refusal) = refused_reply refusal
 
 -- the answer of a turn with which a screen's job has ended: the job's figures, or the number that refused it
 abbrev pub done_reply : ℕ → Verdict → Figures → Reply

@@ -23,7 +23,7 @@ ghost use Rattle.lines.specs.Lines.{memory_in, lent_in, Serves, LeavesLent, Answ
 
 use answers::{ANSWER_BYTES, Reply, Shape};
 use bodies::BODY_NUMBERS;
-use drill::Answer;
+use drill::Place;
 use engines::Turn;
 use figures::Figures;
 use fins::FinSet;
@@ -184,10 +184,10 @@ fn drill_reply(planform: Planform, points: usize, x: f64, height: f64, values: &
     let outline = reading::first(values, points);
     let found = drill::drill(planform, outline, x, height);
     match found {
-        Answer::Inside(nearest) => count_reply(Shape::Inside, nearest),
-        Answer::Edge(nearest) => count_reply(Shape::Edge, nearest),
-        Answer::Outside(nearest) => count_reply(Shape::Outside, nearest),
-        Answer::Refused(refusal) => refused_reply(refusal),
+        Ok(Place::Inside(nearest)) => count_reply(Shape::Inside, nearest),
+        Ok(Place::Edge(nearest)) => count_reply(Shape::Edge, nearest),
+        Ok(Place::Outside(nearest)) => count_reply(Shape::Outside, nearest),
+        Err(refusal) => refused_reply(refusal),
     }
 }
 

@@ -11,12 +11,14 @@ use Rattle.sorting.specs.Sorted.{over, Written}
 use Rattle.sorting.proofs.Over.{written_take, written_nothing, written_put}
 use Rattle.refusals.proofs.Given.{is_answer}
 use Rattle.refusals.specs.Verdict.{Verdict}
+use Rattle.std.specs.Prelude.{Result, Ok, Err}
+use Rattle.refusals.specs.declared.Refusal.{Refusal}
+use Rattle.refusals.specs.declared.Verdict.TheVariants.{Refused}
 use Rattle.refusals.specs.Calls.{Does}
 use Rattle.planforms.specs.declared.Planform.{Planform}
 use Rattle.outlines.specs.Outlines.{planform_check}
 use Rattle.chords.specs.declared.Chords.{Chords}
 use Rattle.chords.specs.Chords.{paired, chords_at, ends_of}
-use Rattle.planform_chords.specs.declared.ChordList.{ChordList}
 use Rattle.planform_chords.specs.PlanformChords.{ends_in, Listed, chords_by, chords_call, IsChordList}
 use Rattle.planform_chords.proofs.Pairs.{pairs_count, pairs_ends}
 
@@ -29,6 +31,9 @@ none_listed s = record { count = refl; list = refl }
 pub one_listed : (a b : Float) (s : List Float) → 2 ≤ length s → Listed ((a, b) ∷ []) s (set (set s 0 a) 1 b) 1
 unfolding ends_in
 one_listed a b s h = record { count = refl; list = (written_put b (written_put a (written_nothing s) (omega arith)) (omega arith)).array }
+
+-- none or one, by name in src/lib.rt
+pub ruleset written = (none_listed, one_listed)
 
 -- the whole pairs of the n that stand over the start of an array
 pub several_listed : (l xs₀ xs s t : List Float) (n : ℕ) → Written l xs₀ xs n → t ≡ over (take (2 * (n / 2)) xs) s
@@ -44,7 +49,7 @@ several_listed l xs₀ xs s t n w e =
 
 -- ---- the answer
 
-module _ (planform : Planform) (points : List Float) (h : Float) (ends ends' : List Float) (r : ChordList) where
+module _ (planform : Planform) (points : List Float) (h : Float) (ends ends' : List Float) (r : Result ℕ Refusal) where
   abbrev pub Answered : Type 0
   Answered = IsChordList r (chords_call planform points h).answer × (ends' ≡ (chords_call planform points h).leaves ends)
 
@@ -59,10 +64,10 @@ module _ (planform : Planform) (points : List Float) (h : Float) (ends ends' : L
 
   pub listed_so : planform_check planform points ≡ Ok tt → (found : Chords) (count : ℕ)
       → paired (ends_of found points h) ≡ chords_at planform points h
-      → Listed (paired (ends_of found points h)) ends ends' count → r ≡ record { verdict = (Ok tt); count = count } → Answered
+      → Listed (paired (ends_of found points h)) ends ends' count → r ≡ Ok count → Answered
   listed_so v found count all w f =
       answered_so (Ok tt) v (
-        f ∙ ap (λ (n : ℕ). record { verdict = (Ok tt); count = n }) (w.count ∙ ap length all),
+        f ∙ ap (λ (n : ℕ). Ok n) (w.count ∙ ap length all),
         w.list
             ∙ ap (λ (l : List (Float × Float)). over (ends_in l) ends) all,
       )

@@ -1,13 +1,13 @@
 -- The chords of a planform at a height, listed for the outline view (document 02, Paper 1).
-use Rattle.std.specs.Prelude.{◌≡◌, List, [], ◌∷◌, ℕ, length, Float, Ok, Err}
+use Rattle.std.specs.Prelude.{◌≡◌, List, [], ◌∷◌, ℕ, length, Float, Ok, Err, Result}
 use Rattle.sorting.specs.Sorted.{over}
 use Rattle.refusals.specs.Verdict.{Verdict}
+use Rattle.refusals.specs.declared.Refusal.{Refusal}
 use Rattle.refusals.specs.Given.{IsAnswer}
 use Rattle.refusals.specs.Calls.{CallOf, leaves_alone, by_verdict}
 use Rattle.planforms.specs.declared.Planform.{Planform}
 use Rattle.outlines.specs.Outlines.{planform_check}
 use Rattle.chords.specs.Chords.{chords_at}
-use Rattle.planform_chords.specs.declared.ChordList.{ChordList}
 
 -- the ends of chords, start and end of each
 unfoldable pub ends_in : List (Float × Float) → List Float
@@ -20,20 +20,25 @@ pub record Listed (chords : List (Float × Float)) (s t : List Float) (n : ℕ) 
   pub list : t ≡ over (ends_in chords) s
 
 -- the call, given the verdict of the planform's check: how many chords there are, listed over the start of the lent
--- list; none with a refusal
-abbrev pub chords_by : Verdict → Planform → List Float → Float → CallOf ChordList
+-- list; or the refusal
+abbrev pub chords_by : Verdict → Planform → List Float → Float → CallOf (Result ℕ Refusal)
 chords_by verdict planform points h =
     by_verdict verdict
     (record {
-      answer = record { verdict = (Ok tt); count = length (chords_at planform points h) };
+      answer = Ok (length (chords_at planform points h));
       leaves = over (ends_in (chords_at planform points h));
     })
-    (λ refusal. leaves_alone (record { verdict = Err refusal; count = 0 }))
+    (λ refusal. leaves_alone (Err refusal))
 
 -- the call for the chords at a height; the planform's refusals are those of an area
-unfoldable pub chords_call : Planform → List Float → Float → CallOf ChordList
+unfoldable pub chords_call : Planform → List Float → Float → CallOf (Result ℕ Refusal)
 chords_call planform points h = chords_by (planform_check planform points) planform points h
 
+-- an answer as a verdict
+abbrev pub verdict_of : Result ℕ Refusal → Verdict
+verdict_of (Ok count) = Accepted
+verdict_of (Err refusal) = Refused refusal
+
 -- a call's answer is the definition's, with the number and values of its verdict
-abbrev pub IsChordList : ChordList → ChordList → Type 0
-IsChordList r definition = IsAnswer (λ (l : ChordList). l.verdict) r definition
+abbrev pub IsChordList : Result ℕ Refusal → Result ℕ Refusal → Type 0
+IsChordList r definition = IsAnswer verdict_of r definition

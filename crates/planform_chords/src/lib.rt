@@ -7,7 +7,7 @@ ghost use Rattle.std.specs.Prelude.{◌≡◌, ◌≤◌, length, take};
 ghost use Rattle.sorting.specs.Sorted.{over};
 ghost use Rattle.limits.specs.Limits.{most_points};
 ghost use Rattle.chords.specs.Chords.{outline_crossings, ends_of, paired, chords_at};
-ghost use Rattle.planform_chords.specs.PlanformChords.{Listed, chords_call, IsChordList};
+ghost use Rattle.planform_chords.specs.PlanformChords.{Listed, chords_call, verdict_of, IsChordList};
 
 use chords::Chords;
 use planforms::Planform;
@@ -16,36 +16,40 @@ use refusals::{Refusal, Verdict};
 // How many numbers a list must have room for: each edge of an outline is crossed at most once.
 pub const ROOM: usize = limits::MOST_POINTS;
 
-// How many chords are listed, 0 with a refusal.
-#[derive(Clone, Copy)]
-pub struct ChordList {
-    pub verdict: Verdict,
-    pub count: usize,
-}
-
 // Checks a planform, writes the ends of its chords at height h over the start of `ends` and returns how many chords
 // there are. Where there is none, `ends` stays as it is; a list without room for `ROOM` numbers is the caller's to
 // refuse.
-pub fn chords_at(planform: Planform, points: &[f64], h: f64, ends: &mut [f64]) -> ChordList
+pub fn chords_at(
+    planform: Planform,
+    points: &[f64],
+    h: f64,
+    ends: &mut [f64],
+) -> Result<usize, Refusal>
     requires { most_points ≤ length ends.old }
     ensures chord_list { IsChordList result (chords_call planform points.now h).answer }
     ensures ends_after { ends.new ≡ (chords_call planform points.now h).leaves ends.old }
 {
-    let verdict = outlines::check_planform(planform, points);
-    match verdict {
-        Ok(()) => listed(write_chords(
-            chords_found(planform, points, h),
-            points,
-            h,
-            ends,
-        )),
-        Err(refusal) => refused(refusal),
+    if let Err(refusal) = outlines::check_planform(planform, points) {
+        return Err(refusal);
+    }
+    let found = chords_found(planform, points, h);
+    Ok(write_chords(found, points, h, ends))
+}
+
+// Returns whether the planform of some chords is refused, and why.
+pub fn verdict(chords: Result<usize, Refusal>) -> Verdict
+    ensures { result ≡ verdict_of chords }
+{
+    match chords {
+        Ok(_) => Ok(()),
+        Err(refusal) => Err(refusal),
     }
 }
 
 // Returns the chords of any planform; an outline's crossings are always listed. `chords::chords_at`, which finds the
 // one chord of most heights with no list, has no other caller than the loop over the samples, so that the compiler puts
 // it there.
+#[tactic(auto, using(chords::proofs::Answer::answered), unfolding(chords::specs::Chords::ends_at))]
 fn chords_found(planform: Planform, points: &[f64], h: f64) -> Chords
     ensures { paired (ends_of result points.now h) ≡ chords_at planform points.now h }
 {
@@ -64,21 +68,8 @@ fn chords_found(planform: Planform, points: &[f64], h: f64) -> Chords
     }
 }
 
-fn listed(count: usize) -> ChordList
-    ensures { result ≡ record { verdict = Ok tt; count = count } }
-{
-    let verdict = Ok(());
-    ChordList { verdict, count }
-}
-
-fn refused(refusal: Refusal) -> ChordList
-    ensures { result ≡ record { verdict = Err refusal; count = 0 } }
-{
-    let verdict = Err(refusal);
-    ChordList { verdict, count: 0 }
-}
-
 // Writes the chords found over the start of the list, and returns how many there are.
+#[tactic(auto, using(crate::proofs::Answer::written), unfolding(chords::specs::Chords::paired))]
 fn write_chords(found: Chords, points: &[f64], h: f64, ends: &mut [f64]) -> usize
     requires { most_points ≤ length ends.old }
     ensures { Listed (paired (ends_of found points.now h)) ends.old ends.new result }
@@ -109,9 +100,5 @@ fn write_first(xs: &[f64], n: usize, ends: &mut [f64])
     requires { (n ≤ length xs.now) × (n ≤ length ends.old) }
     ensures { ends.new ≡ over (take n xs.now) ends.old }
 {
-    let mut i: usize = 0;
-    while i < n {
-        ends[i] = xs[i];
-        i += 1;
-    }
+    ends[..n].copy_from_slice(&xs[..n]);
 }

@@ -1,15 +1,14 @@
 -- The calls on what is given by numbers (docs/FORMS.md; include/delvouzh.h): an unknown number, or another count of
 -- numbers, is no form.
-use Rattle.std.specs.Prelude.{cond, List, [], ◌∷◌, ℕ, ◌+◌, ◌*◌, ◌/◌, eqb, length, Float, Err, Option, Some, None}
+use Rattle.std.specs.Prelude.{cond, List, [], ◌∷◌, ℕ, ◌+◌, ◌*◌, ◌/◌, eqb, length, Float, Err, Option, Some, None, Result, Ok}
 use Rattle.floats.specs.Operations.{bits, at}
+use Rattle.refusals.specs.declared.Refusal.{Refusal}
 use Rattle.refusals.specs.declared.Refusal.TheVariants.{NoForm}
 use Rattle.refusals.specs.Verdict.{Verdict}
 use Rattle.refusals.specs.Calls.{CallOf, leaves_alone}
 use Rattle.planforms.specs.declared.Planform.{Planform}
-use Rattle.planform_chords.specs.declared.ChordList.{ChordList}
 use Rattle.planform_chords.specs.PlanformChords.{chords_call}
-use Rattle.drill.specs.declared.Answer.{Answer}
-use Rattle.drill.specs.declared.Answer.TheVariants.{Refused as refused_point}
+use Rattle.drill.specs.declared.Place.{Place}
 use Rattle.drill.specs.Drill.{drill_of}
 use Rattle.fins.specs.declared.FinSet.{FinSet}
 use Rattle.materials.specs.declared.Density.{Density}
@@ -45,15 +44,15 @@ numbered_area None points L scratch_length = leaves_alone (refused_area NoForm 0
 
 -- ---- a planform's chords at a height, and the list that they are written over (document 02, Paper 1)
 
-unfoldable pub numbered_chords : Option Planform → List Float → Float → CallOf ChordList
-numbered_chords (Some planform) points h = chords_call planform points h
-numbered_chords None points h = leaves_alone (record { verdict = Err NoForm; count = 0 })
+unfoldable pub numbered_chords : NumberedPlanform → List Float → Float → CallOf (Result ℕ Refusal)
+numbered_chords (planform_known planform) points h = chords_call planform points h
+numbered_chords no_planform points h = leaves_alone (Err NoForm)
 
 -- ---- where a point lies beside a planform (document 02, Paper 11)
 
-unfoldable pub numbered_drill : Option Planform → List Float → Float → Float → Answer
-numbered_drill (Some planform) points x height = drill_of planform points x height
-numbered_drill None points x height = refused_point NoForm
+unfoldable pub numbered_drill : NumberedPlanform → List Float → Float → Float → Result Place Refusal
+numbered_drill (planform_known planform) points x height = drill_of planform points x height
+numbered_drill no_planform points x height = Err NoForm
 
 -- ---- a ring of tubes (document 02, Paper 3): of length, outer radius, wall, base angle, body radius, density
 

@@ -15,12 +15,11 @@ ghost use Rattle.requests.specs.Calls.{numbered_chords, numbered_drill, ring_by,
 ghost use Rattle.requests.specs.Calls.{without_by, point_body_at, joined_points_of, tensor_moments, body_verdict};
 
 use bodies::{BODY_NUMBERS, Body, TENSOR_NUMBERS, Vector};
-use drill::Answer;
+use drill::Place;
 use figures::{Area, Figures};
 use fins::FinSet;
 use joins::JoinedBody;
 use moments::Moments;
-use planform_chords::ChordList;
 use planforms::Planform;
 use refusals::{Refusal, Verdict};
 use tubes::TubeFinSet;
@@ -82,13 +81,6 @@ pub fn area_figures(
     }
 }
 
-fn no_chords() -> ChordList
-    ensures { result ≡ record { verdict = Err Refusal.NoForm; count = 0 } }
-{
-    let verdict = Err(Refusal::NoForm);
-    ChordList { verdict, count: 0 }
-}
-
 // Lists a planform's chords at a height in metres over the start of a lent list; a planform that is unknown is refused
 // with 18.
 pub fn listed_chords(
@@ -96,23 +88,28 @@ pub fn listed_chords(
     points: &[f64],
     h: f64,
     ends: &mut [f64],
-) -> ChordList
+) -> Result<usize, Refusal>
     requires { 64 ≤ length ends.old }
     ensures { Does (numbered_chords planform points.now h) result ends.old ends.new }
 {
     match planform {
-        Some(planform) => planform_chords::chords_at(planform, points, h, ends),
-        None => no_chords(),
+        NumberedPlanform::Known(planform) => planform_chords::chords_at(planform, points, h, ends),
+        NumberedPlanform::Unknown => Err(Refusal::NoForm),
     }
 }
 
 // Returns where a point lies beside a planform, and the nearest corner; a planform that is unknown is refused with 18.
-pub fn drilled(planform: Option<Planform>, points: &[f64], x_m: f64, height_m: f64) -> Answer
+pub fn drilled(
+    planform: NumberedPlanform,
+    points: &[f64],
+    x_m: f64,
+    height_m: f64,
+) -> Result<Place, Refusal>
     ensures { result ≡ numbered_drill planform points.now x_m height_m }
 {
     match planform {
-        Some(planform) => drill::drill(planform, points, x_m, height_m),
-        None => Answer::Refused(Refusal::NoForm),
+        NumberedPlanform::Known(planform) => drill::drill(planform, points, x_m, height_m),
+        NumberedPlanform::Unknown => Err(Refusal::NoForm),
     }
 }
 

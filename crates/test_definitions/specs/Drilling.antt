@@ -1,6 +1,6 @@
 -- Where a point lies (document 02, Paper 11): rows against likely wrong polygons, corners and steps, and the order of
 -- the checks.
-use Rattle.std.specs.Prelude.{Bool, not, ◌&&◌, cond, List, [], ◌∷◌, map, ℕ, suc, ◌^◌, T, eqb, leb, ℤ, pos, negsuc, neg_ℤ}
+use Rattle.std.specs.Prelude.{Bool, not, ◌&&◌, cond, List, [], ◌∷◌, map, ℕ, suc, ◌^◌, T, eqb, leb, ℤ, pos, negsuc, neg_ℤ, Result, Ok}
 use Rattle.std.specs.Float.Ieee.{add, sub, mul, div, of_bits, lt, le, eq, ne}
 use Rattle.floats.specs.Operations.{bits, every}
 use Rattle.floats.specs.Floats.{abs_of}
@@ -14,7 +14,8 @@ use Rattle.outlines.specs.Outlines.{planform_check}
 use Rattle.steps.specs.Steps.{exact_of, is_whole, steps_of}
 use Rattle.polygons.specs.Polygons.{is_same, is_crossed, lies_on, is_cut_rising, is_cut, squared_distance, is_nearer, offset_of}
 use Rattle.polygons.specs.Polygons.{is_on, cuts, some, count, is_on_edge, is_inside, nearer_of, nearest_to, nearest_corner}
-use Rattle.drill.specs.declared.Answer.{Answer}
+use Rattle.refusals.specs.declared.Refusal.{Refusal}
+use Rattle.drill.specs.declared.Place.{Place}
 use Rattle.drill.specs.Drill.{are_whole, place_of, drill_check, drill_of, verdict_of, place_number, nearest_of}
 use Rattle.test_definitions.specs.Rows.{accepted, refused}
 
@@ -34,18 +35,18 @@ abbrev turned : List ℤ
 turned = polygon (4 ∷ 0 ∷ 0 ∷ 0 ∷ 0 ∷ 4 ∷ 4 ∷ 4 ∷ [])
 
 -- an answer's place, 1 inside, 2 on the edge, 3 outside, and the nearest corner's position
-abbrev lies : ℕ → ℕ → Answer → Bool
+abbrev lies : ℕ → ℕ → Result Place Refusal → Bool
 lies place nearest a = accepted (verdict_of a) && eqb (place_number a) place && eqb (nearest_of a) nearest
 
 -- against asking inside before edge: the point (0, 2) has one edge cut to its right, and is on another
 abbrev pub edge_before_inside : Bool
-edge_before_inside = is_inside square (pos 0) (pos 2) && lies 2 0 (place_of square (pos 0) (pos 2))
+edge_before_inside = is_inside square (pos 0) (pos 2) && lies 2 0 (Ok (place_of square (pos 0) (pos 2)))
 
 -- against leaving out the closing edge: of the edges cut, and of the edges that a point may be on
 abbrev pub closing_edge_counts : Bool
 closing_edge_counts =
-    lies 1 0 (place_of turned (pos 2) (pos 2)) && lies 2 0 (place_of square (pos 2) (pos 0))
-    && lies 2 0 (place_of turned (pos 4) (pos 2))
+    lies 1 0 (Ok (place_of turned (pos 2) (pos 2))) && lies 2 0 (Ok (place_of square (pos 2) (pos 0)))
+    && lies 2 0 (Ok (place_of turned (pos 4) (pos 2)))
 
 -- against counting the upper end: at the height of a corner between a lower and an upper edge only the upper one
 -- counts, and a level edge never does
@@ -54,17 +55,17 @@ lower_end_counts =
     is_crossed (pos 0) (pos 1)
     && not (is_crossed minus_one (pos 0))
     && not (is_crossed (pos 0) (pos 0))
-    && lies 3 1 (place_of (polygon (0 ∷ 0 ∷ 0 ∷ 2 ∷ 1 ∷ 4 ∷ 5 ∷ 4 ∷ 5 ∷ 0 ∷ [])) minus_one (pos 2))
-    && lies 3 1 (place_of square minus_one (pos 4))
+    && lies 3 1 (Ok (place_of (polygon (0 ∷ 0 ∷ 0 ∷ 2 ∷ 1 ∷ 4 ∷ 5 ∷ 4 ∷ 5 ∷ 0 ∷ [])) minus_one (pos 2)))
+    && lies 3 1 (Ok (place_of square minus_one (pos 4)))
 
 -- against taking an edge as a whole line: the point is in line with it, but beyond its end
 abbrev pub edge_ends : Bool
-edge_ends = lies 3 1 (place_of square (pos 0) (pos 5)) && lies 2 1 (place_of square (pos 0) (pos 4))
+edge_ends = lies 3 1 (Ok (place_of square (pos 0) (pos 5))) && lies 2 1 (Ok (place_of square (pos 0) (pos 4)))
 
 -- against the last of equal corners; and against sums in place of squares: 3 and 3 is nearer than 0 and 5
 abbrev pub nearest_corners : Bool
 nearest_corners =
-    lies 1 0 (place_of square (pos 2) (pos 2))
+    lies 1 0 (Ok (place_of square (pos 2) (pos 2)))
     && eqb (nearest_corner (polygon (0 ∷ 5 ∷ 3 ∷ 3 ∷ 9 ∷ 0 ∷ [])) (pos 0) (pos 0)) 1
 
 -- ---- steps of 2^-20 m
@@ -104,7 +105,7 @@ third = 0x3fd5_5555_5555_5555
 abbrev trapezoid : ℕ → ℕ → ℕ → ℕ → Planform
 trapezoid root tip span sweep = Trapezoid (bits root) (bits tip) (bits span) (bits sweep)
 
-abbrev drilled : Planform → List ℕ → ℕ → ℕ → Answer
+abbrev drilled : Planform → List ℕ → ℕ → ℕ → Result Place Refusal
 drilled planform points x height = drill_of planform (map bits points) (bits x) (bits height)
 
 -- a trapezoid's four corners in order; at a pointed tip corners 1 and 2 are one place, and the root's end stays corner
@@ -138,7 +139,7 @@ planform_at k =
     cond (leb k 3) (Ellipse (bits third) (bits (mended k 0 large third)))
     (trapezoid one (mended k 5 third half) one half)
 
-abbrev point_at : ℕ → Answer
+abbrev point_at : ℕ → Result Place Refusal
 point_at k = drilled (planform_at k) [] (mended k 1 not_number (mended k 4 third half)) (mended k 2 large half)
 
 abbrev pub drill_order : Bool

@@ -1,6 +1,6 @@
 -- Shapes: sorted lists, an outline's root chord, span and break heights, segments that touch, a section's moments, the
 -- integrands' values.
-use Rattle.std.specs.Prelude.{Bool, not, ◌&&◌, List, [], ◌∷◌, map, ℕ, zero, suc, T, eqb, length, Float}
+use Rattle.std.specs.Prelude.{Bool, not, ◌&&◌, List, [], ◌∷◌, map, ℕ, zero, suc, T, eqb, length, Float, Result, Ok, Err}
 use Rattle.std.specs.Float.Ieee.{add, sub, mul, div, neg, of_bits, to_bits, of_int, round, lt, le, eq, ne}
 use Rattle.floats.specs.Operations.{bits, tabulate}
 use Rattle.floats.specs.Floats.{abs_of}
@@ -12,9 +12,10 @@ use Rattle.segments.specs.Segments.{next}
 use Rattle.breaks.specs.Breaks.{heights, every_y, once, all_heights, break_heights, place_above, one_strip}
 use Rattle.chords.specs.Chords.{crossed, crossings, outline_crossings, ends_at, paired, chords_at}
 use Rattle.limits.specs.Limits.{length_within, length_check}
+use Rattle.refusals.specs.declared.Refusal.{Refusal}
 use Rattle.refusals.specs.Order.{first_refusal, first_from}
 use Rattle.outlines.specs.Outlines.{planform_check}
-use Rattle.planform_chords.specs.PlanformChords.{ends_in, chords_call}
+use Rattle.planform_chords.specs.PlanformChords.{ends_in, verdict_of, chords_call}
 use Rattle.segments.specs.declared.Point.{Point}
 use Rattle.segments.specs.declared.Segment.{Segment}
 use Rattle.segments.specs.Segments.{is_in_box, segments_touch}
@@ -22,7 +23,7 @@ use Rattle.sections.specs.declared.Section.TheVariants.{Square, Rounded, Airfoil
 use Rattle.sections.specs.Airfoil.{airfoil_constants}
 use Rattle.sections.specs.ChordMoments.{chord_moments}
 use Rattle.integrands.specs.Integrands.{scale_of, area_integrand, sums_from, sample_of, area_three, plate_of}
-use Rattle.test_definitions.specs.Rows.{is, are}
+use Rattle.test_definitions.specs.Rows.{is, are, refused}
 
 -- the bits of some lengths: 0.03, 0.05, and 0.1 to 0.4
 abbrev d03 : ℕ
@@ -112,12 +113,17 @@ outline_crossings_lem =
 abbrev rootless : Planform
 rootless = Trapezoid (bits 0) (bits d2) (bits d3) (bits d1)
 
+-- so many chords are listed
+abbrev lists : ℕ → Result ℕ Refusal → Bool
+lists n (Ok count) = eqb count n
+lists n (Err refusal) = false
+
 -- the outline view lists start, then end, of each chord, over the list that is lent; of a planform that is refused none
 abbrev pub chords_listed : Bool
 chords_listed =
     are ((chords_call plate [] (bits 0)).leaves (tabulate 64 (λ i. bits i))) (0 ∷ d4 ∷ to_bits_from 2 62)
-    && eqb (chords_call plate [] (bits 0)).answer.count 1
-    && eqb (chords_call rootless [] (bits 0)).answer.count 0
+    && lists 1 (chords_call plate [] (bits 0)).answer
+    && refused 4 (1 ∷ []) (verdict_of (chords_call rootless [] (bits 0)).answer)
     && are ((chords_call rootless [] (bits 0)).leaves (map bits (d1 ∷ d2 ∷ []))) (d1 ∷ d2 ∷ [])
 
 abbrev point : ℕ → ℕ → Point

@@ -1,10 +1,12 @@
 -- `drill::drill_outline` meets its contract: the corners in steps are the array's first numbers. Assumes nothing.
 use mathlib.Core.List.{map}
-use mathlib.Core.Path.{◌∙◌}
+use mathlib.Core.Path.{ap, ◌∙◌}
 use Prim.Native.Nat.{suc}
 use native.Mathlib.Omega.{arith}
 use lib.ListN.{length-map}
 use Rattle.steps.specs.Steps.{exact_of, steps_of}
+use Rattle.std.specs.Prelude.{Ok}
+use Rattle.drill.specs.declared.Place.{Place}
 use Rattle.drill.proofs.Reach.{all_reach, steps_back, steps_reach}
 use Rattle.drill.proofs.Wholes.{outline_tested, refused, placed}
 use Rattle.drill.proofs.drill_outline.Goals as goal
@@ -25,8 +27,8 @@ steps_of-corners-requires c = (λ k h. c.requires.0 (suc (suc k)) (omega arith),
 pub steps-requires-2 : goal.steps-requires-2
 steps-requires-2 c = c.requires.0 1 (omega arith)
 
-pub place-requires : goal.place-requires
-place-requires c =
+pub located-requires : goal.located-requires
+located-requires c =
     let points = c.args.points.now in
     let corners = c.steps_of-corners.ensures in
     let x = c.steps in
@@ -43,7 +45,7 @@ pub returns : goal.returns
 returns c =
     let x = c.steps in
     let height = c.steps-2 in
-    c.place.ensures
+    ap (λ (place : Place). Ok place) c.located.ensures
     ∙ placed _ _ _ (outline_tested _ _ _ c.is_whole.ensures c.is_whole-2.ensures c.are_whole.ensures)
     c.if-not-is_whole-are_whole.false-raw c.steps_of-corners.ensures (steps_back x.type_inv x.ensures)
     (steps_back height.type_inv height.ensures)

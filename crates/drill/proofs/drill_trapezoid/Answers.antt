@@ -1,7 +1,9 @@
 -- `drill::drill_trapezoid` meets its contract: the corners are whole where the four lengths are. Assumes nothing.
 use mathlib.Core.List.{◌∷◌, []}
-use mathlib.Core.Path.{◌∙◌}
+use mathlib.Core.Path.{ap, ◌∙◌}
 use native.Mathlib.Omega.{arith}
+use Rattle.std.specs.Prelude.{Ok}
+use Rattle.drill.specs.declared.Place.{Place}
 use Rattle.drill.proofs.Reach.{four, trapezoid_reach, steps_back, steps_reach}
 use Rattle.drill.proofs.Wholes.{trapezoid_tested, tip_whole, refused, placed}
 use Rattle.drill.proofs.drill_trapezoid.Goals as goal
@@ -23,8 +25,8 @@ trapezoid_corners-corners-requires c =
       w.1,
     )
 
-pub place-requires : goal.place-requires
-place-requires c =
+pub located-requires : goal.located-requires
+located-requires c =
     let a = c.args in
     let corners = c.trapezoid_corners-corners in
     let x = c.steps in
@@ -45,7 +47,7 @@ pub returns : goal.returns
 returns c =
     let x = c.steps in
     let height = c.steps-2 in
-    c.place.ensures
+    ap (λ (place : Place). Ok place) c.located.ensures
     ∙ placed _ _ _
     (trapezoid_tested _ _ _ _ _ _ c.is_whole.ensures c.is_whole-2.ensures c.is_whole-3.ensures c.is_whole-4.ensures c.is_whole-5.ensures
     c.is_whole-6.ensures)

@@ -11,4 +11,4 @@ returns-then-counts-lt3 c = chords_refused (short_counts c.if-ends-lt-ROOM.false
 pub returns : goal.returns
 returns c =
     chords_written c.if-ends-lt-ROOM.false c.if-counts-lt3.false c.listed_planform-asked.ensures c.listed_chords-found.ensures
-    c.write_count.ensures c.verdict_number.ensures
+    c.verdict-verdict.ensures c.unwrap_or.ensures c.write_count.ensures c.verdict_number.ensures
