@@ -17,7 +17,6 @@ use Rattle.refusals.specs.declared.Refusal.{Refusal}
 use Rattle.refusals.specs.declared.Refusal.TheVariants.{Length, NoCorners, NotWholeSteps}
 use Rattle.refusals.specs.Verdict.{Verdict}
 use Rattle.refusals.specs.Order.{refuse_unless, first_refusal}
-use Rattle.refusals.specs.declared.Verdict.TheVariants.{Refused}
 use Rattle.refusals.proofs.Accepted.{holds, both, both_true}
 use Rattle.refusals.proofs.Order.{in_order, after_accepted, after_refused}
 use Rattle.planforms.specs.declared.Planform.{Planform}
@@ -36,12 +35,13 @@ use Rattle.drill.specs.Drill.{corners_of, has_corners, are_whole, place_of, dril
 use Rattle.drill.specs.InSteps.{AreLengths, in_steps}
 use Rattle.drill.proofs.Reach.{one_more}
 
--- ---- the answer, by the verdict of the planform and the point's limits
+-- ---- the answer, once the planform and the point's limits are accepted
 
-module _ (planform : Planform) (points : List Float) (x height : Float) where
-  abbrev pub before : Verdict
-  before =
-      first_refusal (first_refusal (planform_check planform points) (length_check drill_xfield x)) (length_check drill_height_field height)
+module _ (planform : Planform) (points : List Float) (x height : Float) (accepted : planform_check planform points ≡ Ok tt)
+    (x_accepted : length_check drill_xfield x ≡ Ok tt) (height_accepted : length_check drill_height_field height ≡ Ok tt) where
+  pub no_corners : has_corners planform ≡ false → Err NoCorners ≡ drill_of planform points x height
+  unfolding drill_of drill_check
+  no_corners h = rw (accepted, x_accepted, height_accepted, h) refl
 
   whole : Bool
   whole = are_whole (exact_of x ∷ exact_of height ∷ corners_of planform points)
@@ -49,31 +49,15 @@ module _ (planform : Planform) (points : List Float) (x height : Float) where
   answer : Place
   answer = place_of (map steps_of (corners_of planform points)) (steps_of (exact_of x)) (steps_of (exact_of height))
 
-  split : drill_of planform points x height ≡ unless_refused
-      (first_refusal (first_refusal before (refuse_unless (has_corners planform) NoCorners)) (refuse_unless whole NotWholeSteps)) answer
-  unfolding drill_of drill_check whole answer
-  split = ap (λ (v : Verdict). unless_refused v answer) (sym (in_order (planform_check planform points) (_ ∷ _ ∷ _ ∷ _ ∷ [])))
+  either : (t : Bool) (a : Place)
+      → cond t (Ok a) (Err NotWholeSteps) ≡ unless_refused (first_refusal (refuse_unless t NotWholeSteps) (Ok tt)) a
+  either true a = refl
+  either false a = refl
 
-  pub refused : (r : Refusal) → before ≡ Refused r → Err r ≡ drill_of planform points x height
-  refused r h = sym (split ∙ rw (h, after_refused, after_refused))
-
-  -- p, l and m are what the code's checks say, u and w the verdict after the second and the third
-  pub told : {p l m u w : Verdict} → p ≡ planform_check planform points → l ≡ length_check drill_xfield x → u ≡ first_refusal p l
-      → m ≡ length_check drill_height_field height → w ≡ first_refusal u m → w ≡ before
-  told e f g h i = rw (i, h, g, f, e)
-
-  module _ (accepted : before ≡ Ok tt) where
-    pub no_corners : has_corners planform ≡ false → Err NoCorners ≡ drill_of planform points x height
-    no_corners h = sym (split ∙ rw (accepted, after_accepted, h, after_refused))
-
-    either : (t : Bool) (a : Place) → unless_refused (refuse_unless t NotWholeSteps) a ≡ cond t (Ok a) (Err NotWholeSteps)
-    either true a = refl
-    either false a = refl
-
-    pub in_steps_lem : has_corners planform ≡ true
-        → in_steps (corners_of planform points) (exact_of x) (exact_of height) ≡ drill_of planform points x height
-    unfolding in_steps whole answer
-    in_steps_lem h = sym (split ∙ rw (accepted, after_accepted, h, after_accepted) (either whole answer))
+  pub in_steps_lem : has_corners planform ≡ true
+      → in_steps (corners_of planform points) (exact_of x) (exact_of height) ≡ drill_of planform points x height
+  unfolding in_steps drill_of drill_check whole answer
+  in_steps_lem h = rw (accepted, x_accepted, height_accepted, h) (either whole answer)
 
 -- ---- lengths
 
@@ -88,15 +72,11 @@ is_length field x h =
     within_any (zero_allowed field) (negative_allowed field) (eq x (bits 0)) (lt (bits 0) x) (is_within shortest longest (abs_of x))
     (holds (length_within (zero_allowed field) (negative_allowed field) x) (Length field) h)
 
-module _ (planform : Planform) (points : List Float) (x height : Float) (accepted : before planform points x height ≡ Ok tt) where
-  pub planform_accepted : planform_check planform points ≡ Ok tt
-  planform_accepted = (both _ _ (both _ _ accepted).0).0
+pub x_length : (x : Float) → length_check drill_xfield x ≡ Ok tt → IsLength x
+x_length x h = is_length drill_xfield x h
 
-  pub x_length : IsLength x
-  x_length = is_length drill_xfield x (both _ _ (both _ _ accepted).0).1
-
-  pub height_length : IsLength height
-  height_length = is_length drill_height_field height (both _ _ accepted).1
+pub height_length : (height : Float) → length_check drill_height_field height ≡ Ok tt → IsLength height
+height_length height h = is_length drill_height_field height h
 
 pub trapezoid_lengths : (root tip span sweep : Float) (points more : List Float)
     → planform_check (Trapezoid root tip span sweep) points ≡ Ok tt → AreLengths more → AreLengths (root ∷ tip ∷ span ∷ sweep ∷ more)

@@ -4,7 +4,6 @@ use Rattle.floats.specs.Operations.{every}
 use Rattle.refusals.specs.declared.Refusal.{Refusal}
 use Rattle.refusals.specs.declared.Refusal.TheVariants.{NoCorners, NotWholeSteps}
 use Rattle.refusals.specs.Verdict.{Verdict}
-use Rattle.refusals.specs.declared.Verdict.TheVariants.{Refused}
 use Rattle.refusals.specs.Order.{refuse_unless, first_of}
 use Rattle.planforms.specs.declared.Planform.{Planform}
 use Rattle.planforms.specs.declared.Planform.TheVariants.{Trapezoid, Ellipse, Outline}
@@ -61,7 +60,7 @@ drill_check planform points x height =
 -- a place, or the refusal of the check before it
 abbrev pub unless_refused : Verdict → Place → Result Place Refusal
 unless_refused (Ok tt) place = Ok place
-unless_refused (Refused r) place = Err r
+unless_refused (Err r) place = Err r
 
 -- where a point lies beside a planform, once it passed the checks
 unfoldable pub drill_of : Planform → List Float → Float → Float → Result Place Refusal
@@ -73,7 +72,7 @@ drill_of planform points x height =
 
 abbrev pub verdict_of : Result Place Refusal → Verdict
 verdict_of (Ok place) = Ok tt
-verdict_of (Err r) = Refused r
+verdict_of (Err r) = Err r
 
 -- an answer's place as a number: 1 inside, 2 on the edge, 3 outside; 0 where the point is turned away
 abbrev pub place_number : Result Place Refusal → ℕ

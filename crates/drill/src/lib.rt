@@ -128,15 +128,13 @@ fn drill_outline(points: &[f64], x_m: f64, height_m: f64) -> Result<Place, Refus
 }
 
 // Returns where a point lies beside a planform, and the nearest corner, or why there is no answer.
+#[tactic(auto, using(refusals::proofs::Given::is_answer), unfolding(crate::specs::Drill::drill_of, crate::specs::Drill::drill_check))]
 pub fn drill(planform: Planform, points: &[f64], x_m: f64, height_m: f64) -> Result<Place, Refusal>
     ensures { IsAnswer verdict_of result (drill_of planform points.now x_m height_m) }
 {
-    let v = outlines::check_planform(planform, points);
-    let v = first_refusal(v, check_length(limits::DRILL_X, x_m));
-    let v = first_refusal(v, check_length(limits::DRILL_HEIGHT, height_m));
-    if let Err(refusal) = v {
-        return Err(refusal);
-    }
+    outlines::check_planform(planform, points)?;
+    check_length(limits::DRILL_X, x_m)?;
+    check_length(limits::DRILL_HEIGHT, height_m)?;
     match planform {
         Planform::Trapezoid {
             root_chord_m,

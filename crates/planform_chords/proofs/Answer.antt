@@ -13,7 +13,6 @@ use Rattle.refusals.proofs.Given.{is_answer}
 use Rattle.refusals.specs.Verdict.{Verdict}
 use Rattle.std.specs.Prelude.{Result, Ok, Err}
 use Rattle.refusals.specs.declared.Refusal.{Refusal}
-use Rattle.refusals.specs.declared.Verdict.TheVariants.{Refused}
 use Rattle.refusals.specs.Calls.{Does}
 use Rattle.planforms.specs.declared.Planform.{Planform}
 use Rattle.outlines.specs.Outlines.{planform_check}

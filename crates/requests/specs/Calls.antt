@@ -44,15 +44,15 @@ numbered_area None points L scratch_length = leaves_alone (refused_area NoForm 0
 
 -- ---- a planform's chords at a height, and the list that they are written over (document 02, Paper 1)
 
-unfoldable pub numbered_chords : NumberedPlanform → List Float → Float → CallOf (Result ℕ Refusal)
-numbered_chords (planform_known planform) points h = chords_call planform points h
-numbered_chords no_planform points h = leaves_alone (Err NoForm)
+unfoldable pub numbered_chords : Option Planform → List Float → Float → CallOf (Result ℕ Refusal)
+numbered_chords (Some planform) points h = chords_call planform points h
+numbered_chords None points h = leaves_alone (Err NoForm)
 
 -- ---- where a point lies beside a planform (document 02, Paper 11)
 
-unfoldable pub numbered_drill : NumberedPlanform → List Float → Float → Float → Result Place Refusal
-numbered_drill (planform_known planform) points x height = drill_of planform points x height
-numbered_drill no_planform points x height = Err NoForm
+unfoldable pub numbered_drill : Option Planform → List Float → Float → Float → Result Place Refusal
+numbered_drill (Some planform) points x height = drill_of planform points x height
+numbered_drill None points x height = Err NoForm
 
 -- ---- a ring of tubes (document 02, Paper 3): of length, outer radius, wall, base angle, body radius, density
 

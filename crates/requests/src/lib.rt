@@ -93,14 +93,14 @@ pub fn listed_chords(
     ensures { Does (numbered_chords planform points.now h) result ends.old ends.new }
 {
     match planform {
-        NumberedPlanform::Known(planform) => planform_chords::chords_at(planform, points, h, ends),
-        NumberedPlanform::Unknown => Err(Refusal::NoForm),
+        Some(planform) => planform_chords::chords_at(planform, points, h, ends),
+        None => Err(Refusal::NoForm),
     }
 }
 
 // Returns where a point lies beside a planform, and the nearest corner; a planform that is unknown is refused with 18.
 pub fn drilled(
-    planform: NumberedPlanform,
+    planform: Option<Planform>,
     points: &[f64],
     x_m: f64,
     height_m: f64,
@@ -108,8 +108,8 @@ pub fn drilled(
     ensures { result ≡ numbered_drill planform points.now x_m height_m }
 {
     match planform {
-        NumberedPlanform::Known(planform) => drill::drill(planform, points, x_m, height_m),
-        NumberedPlanform::Unknown => Err(Refusal::NoForm),
+        Some(planform) => drill::drill(planform, points, x_m, height_m),
+        None => Err(Refusal::NoForm),
     }
 }
 

@@ -28,6 +28,6 @@ pub returns-in-Outside : goal.returns-in-Outside
 returns-in-Outside c =
     drilled _ _ _ c.in-Outside.is c.drill-found.ensures.is c.first-outline.ensures c.count_reply-in-Outside.ensures
 
-pub returns-in-Refused : goal.returns-in-Refused
-returns-in-Refused c =
-    drilled _ _ _ c.in-Refused.is c.drill-found.ensures.is c.first-outline.ensures c.refused_reply.ensures
+pub returns-in-Err : goal.returns-in-Err
+returns-in-Err c =
+    drilled _ _ _ c.in-Err.is c.drill-found.ensures.is c.first-outline.ensures c.refused_reply.ensures

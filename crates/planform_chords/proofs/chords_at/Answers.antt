@@ -3,10 +3,10 @@ use mathlib.Core.Path.{refl, sym, ◌∙◌}
 use Rattle.planform_chords.proofs.Answer.{answered_so, listed_so}
 use Rattle.planform_chords.proofs.chords_at.Goals as goal
 
-pub returns-in-Refused : goal.returns-in-Refused
-returns-in-Refused c =
+pub returns-in-Err : goal.returns-in-Err
+returns-in-Err c =
     let a = c.args in
-    let both = answered_so a.planform a.points.now a.h a.ends.now _ _ _ (sym c.check_planform.ensures.is ∙ c.in-Refused.is) (refl, refl) in
+    let both = answered_so a.planform a.points.now a.h a.ends.now _ _ _ (sym c.check_planform.ensures.is ∙ c.in-Err.is) (refl, refl) in
     record { chord_list = both.0; ends_after = both.1 }
 
 pub returns : goal.returns

@@ -11,6 +11,6 @@ returns-in-Some c =
 
 pub returns-in-None : goal.returns-in-None
 unfolding numbered_chords
-returns-in-Unknown c =
-    let told = c.in-Unknown.is in
+returns-in-None c =
+    let told = c.in-None.is in
     rw told (refl, refl)
