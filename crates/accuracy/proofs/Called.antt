@@ -72,7 +72,7 @@ module _ (root tip span sweep : Float) (points : List Float) where
 pub chosen : {A : Type 0} (verdict : Verdict) (given : A) (withheld : Refusal → A) (verdict_in : A → Verdict)
     → ((refusal : Refusal) → verdict_in (withheld refusal) ≡ Err refusal) → (r : A)
     → r ≡ by_verdict verdict given withheld → verdict_in r ≡ Ok tt → (verdict ≡ Ok tt) × (r ≡ given)
-chosen (Ok tt) given withheld verdict_in refuses r e a = (refl, e)
+chosen (Ok _) given withheld verdict_in refuses r e a = (refl, e)
 chosen (Err refusal) given withheld verdict_in refuses r e a = no_refusal refusal (sym (refuses refusal) ∙ ap verdict_in (sym e) ∙ a)
 
 -- what an answer that gives figures says

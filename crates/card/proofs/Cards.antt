@@ -179,7 +179,7 @@ refused_other r e = let k : ◌≡◌ {A = ℕ} 114 116 = ap second e in let z :
 
 accepted_if_taken : (v : Verdict) → text_of (plain_reply v TakenShape) ++ (10 ∷ []) ≡ text_of (answered TakenShape [] []) ++ (10 ∷ [])
     → v ≡ Ok tt
-accepted_if_taken (Ok tt) e = refl
+accepted_if_taken (Ok _) e = refl
 accepted_if_taken (Err r) e = absurd (refused_other r e)
 
 -- ---- the turn that serves a screen, as a line

@@ -74,12 +74,12 @@ abbrev strip : ℕ → Halved
 strip limit = halving 1 (λ h. bits (cond (lt h (bits 0x3fd5_5555_5555_5555)) 0 one) ∷ []) (bits 0) (bits one) limit
 
 abbrev is_accepted : Verdict → Bool
-is_accepted (Ok tt) = true
+is_accepted (Ok _) = true
 is_accepted (Err refusal) = false
 
 -- 17e: the number 17 with case 4, as cases a to e count from 0
 abbrev is17e : Verdict → Bool
-is17e (Ok tt) = false
+is17e (Ok _) = false
 is17e (Err refusal) = eqb (number_of refusal) 17 && is_case_e (values_of refusal)
   where
     is_case_e : List ℕ → Bool

@@ -59,7 +59,7 @@ drill_check planform points x height =
 
 -- a place, or the refusal of the check before it
 abbrev pub unless_refused : Verdict → Place → Result Place Refusal
-unless_refused (Ok tt) place = Ok place
+unless_refused (Ok _) place = Ok place
 unless_refused (Err r) place = Err r
 
 -- where a point lies beside a planform, once it passed the checks

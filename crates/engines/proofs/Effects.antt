@@ -93,7 +93,7 @@ not_changed : (job : Job) (density : Density) (e : Bool) → job.ended ≡ e →
     → is_taken (change_of job density).reply ≡ false → (change_of job density).job ≡ job
 not_changed job density true e v d r = ap (λ (s : JobReply). s.job) (change_ended job density e)
 not_changed job density false e (Err x) d r = ap (λ (s : JobReply). s.job) (change_refused job density x e d)
-not_changed job density false e (Ok tt) d r = absurd
+not_changed job density false e (Ok _) d r = absurd
     (true≢false (sym (ap (λ (s : JobReply). is_taken s.reply) (change_taken job density e d)) ∙ r))
 
 -- ---- what a call leaves

@@ -73,7 +73,7 @@ long_enough false L n h = by (limit_check L) refl
   where
     by : (v : Verdict) → limit_check L ≡ v → (not (is_refused v) && is_refused (scratch_check L n)) ≡ false
     by (Err r) e = refl
-    by (Ok tt) e = ap (λ (b : Bool). is_refused (refuse_unless b Scratch))
+    by (Ok _) e = ap (λ (b : Bool). is_refused (refuse_unless b Scratch))
         (le-leb (piece_numbers * L) n (let most = (limit_within L e).1 in omega (arith, most, h)))
 
 -- a turn that serves a screen tells which

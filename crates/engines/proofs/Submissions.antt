@@ -56,7 +56,7 @@ not_both p q = absurd (true≢false (sym p ∙ q))
 -- a change keeps a job running
 module _ (job : Job) (density : Density) (runs : job.ended ≡ false) where
   change_runs' : (v : Verdict) → density_check density ≡ v → (change_of job density).job.ended ≡ false
-  change_runs' (Ok tt) v = ap (λ (s : JobReply). s.job.ended) (change_taken job density runs v)
+  change_runs' (Ok _) v = ap (λ (s : JobReply). s.job.ended) (change_taken job density runs v)
   change_runs' (Err r) v = ap (λ (s : JobReply). s.job.ended) (change_refused job density r runs v) ∙ runs
 
   change_runs : (change_of job density).job.ended ≡ false
@@ -67,7 +67,7 @@ module _ (set : FinSet) (points : List Float) (L : ℕ) where
   runs_accepted : (v : Verdict) → making_check set points L ≡ v → (made_of set points L).job.ended ≡ false
       → making_check set points L ≡ Ok tt
   unfolding made_of
-  runs_accepted (Ok tt) v e = v
+  runs_accepted (Ok _) v e = v
   runs_accepted (Err r) v e = not_both (ap is_refused v) e
 
   enough : (n : ℕ) → making_check set points L ≡ Ok tt → scratch_numbers ≤ n → run_check L n ≡ Ok tt

@@ -51,20 +51,20 @@ ZeroFigures r = (number : ℕ) (values : List ℕ) → Gives r.verdict number va
 
 module _ (body : Body) (totals : Totals) where
   figures_verdict : (verdict : Verdict) → (figures_by verdict body totals).verdict ≡ verdict
-  figures_verdict (Ok tt) = refl
+  figures_verdict (Ok _) = refl
   figures_verdict (Err refusal) = refl
 
   figures_samples : (verdict : Verdict) → (figures_by verdict body totals).samples ≡ totals.samples
-  figures_samples (Ok tt) = refl
+  figures_samples (Ok _) = refl
   figures_samples (Err refusal) = refl
 
   figures_intervals : (verdict : Verdict) → (figures_by verdict body totals).verdict ≡ Ok tt
       → (figures_by verdict body totals).intervals ≡ totals.intervals
-  figures_intervals (Ok tt) h = refl
+  figures_intervals (Ok _) h = refl
   figures_intervals (Err refusal) h = no_refusal refusal h
 
   figures_zeros : (verdict : Verdict) → ZeroFigures (figures_by verdict body totals)
-  figures_zeros (Ok tt) number values g = absurd g
+  figures_zeros (Ok _) number values g = absurd g
   figures_zeros (Err refusal) number values g = (refl, refl)
 
 -- by what the integrals and the verdict are known to be
@@ -118,20 +118,20 @@ ZeroArea r = (number : ℕ) (values : List ℕ) → Gives r.verdict number value
 
 module _ (scale : Float) (totals : Totals) where
   area_verdict : (verdict : Verdict) → (area_by verdict scale totals).verdict ≡ verdict
-  area_verdict (Ok tt) = refl
+  area_verdict (Ok _) = refl
   area_verdict (Err refusal) = refl
 
   area_samples : (verdict : Verdict) → (area_by verdict scale totals).samples ≡ totals.samples
-  area_samples (Ok tt) = refl
+  area_samples (Ok _) = refl
   area_samples (Err refusal) = refl
 
   area_intervals : (verdict : Verdict) → (area_by verdict scale totals).verdict ≡ Ok tt
       → (area_by verdict scale totals).intervals ≡ totals.intervals
-  area_intervals (Ok tt) h = refl
+  area_intervals (Ok _) h = refl
   area_intervals (Err refusal) h = no_refusal refusal h
 
   area_zeros : (verdict : Verdict) → ZeroArea (area_by verdict scale totals)
-  area_zeros (Ok tt) number values n = absurd n
+  area_zeros (Ok _) number values n = absurd n
   area_zeros (Err refusal) number values n = (refl, refl, refl, refl)
 
 module _ (scale : Float) (strips : List Worked) (r : Area) (answer : r ≡ concluded_area scale (summed_of strips)) where

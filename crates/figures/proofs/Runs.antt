@@ -35,8 +35,8 @@ area_strips_lem planform points L integrand e = ap (λ (f : Integrand). strips_o
 
 -- 1 and 2 are the first checks of both
 first_two : (a b later : Verdict) → first_refusal a (first_refusal b later) ≡ Ok tt → first_refusal a b ≡ Ok tt
-first_two (Ok tt) (Ok tt) later h = refl
-first_two (Ok tt) (Err refusal) later h = h
+first_two (Ok _) (Ok _) later h = refl
+first_two (Ok _) (Err refusal) later h = h
 first_two (Err refusal) b later h = h
 
 pub set_run_lem : (set : FinSet) (points : List Float) (L n : ℕ) → set_check set points L n ≡ Ok tt → Room L n

@@ -104,7 +104,7 @@ module _ (job : Job) (n : ℕ) where
       ∙ by (scratch_check job.limit n) (sym (short_is false (Ok tt) _ e v refl) ∙ h)
     where
       by : (w : Verdict) → is_refused w ≡ false → w ≡ Ok tt
-      by (Ok tt) k = refl
+      by (Ok _) k = refl
       by (Err r) k = absurd (true≢false k)
 
   -- what holds of a step in each of its ways
@@ -123,8 +123,8 @@ module _ (job : Job) (n : ℕ) where
 
       by_check : job.ended ≡ false → (v w : Verdict) → limit_check job.limit ≡ v → scratch_check job.limit n ≡ w → P (step_of job n)
       by_check e (Err r) w p q = subst P (sym (step_limit r e p)) (over r e (checked (Err r) p))
-      by_check e (Ok tt) (Err r) p q = subst P (sym (step_scratch r e p q)) (short r e (checked (Ok tt) p ∙ q))
-      by_check e (Ok tt) (Ok tt) p q = subst P (sym (step_works e (checked (Ok tt) p ∙ q))) (works e (checked (Ok tt) p ∙ q))
+      by_check e (Ok _) (Err r) p q = subst P (sym (step_scratch r e p q)) (short r e (checked (Ok tt) p ∙ q))
+      by_check e (Ok _) (Ok _) p q = subst P (sym (step_works e (checked (Ok tt) p ∙ q))) (works e (checked (Ok tt) p ∙ q))
 
       by_end : (b : Bool) → job.ended ≡ b → P (step_of job n)
       by_end true e = subst P (sym (step_ended e)) (again e)
@@ -245,7 +245,7 @@ change_samples job density most so_far = by job.ended refl (density_check densit
     by : (e : Bool) → job.ended ≡ e → (v : Verdict) → density_check density ≡ v → (change_of job density).reply.samples ≤ most
     by true e v d = subst (λ (s : JobReply). s.reply.samples ≤ most) (sym (change_ended job density e)) so_far
     by false e (Err r) d = subst (λ (s : JobReply). s.reply.samples ≤ most) (sym (change_refused job density r e d)) so_far
-    by false e (Ok tt) d = subst (λ (s : JobReply). s.reply.samples ≤ most) (sym (change_taken job density e d)) (omega arith)
+    by false e (Ok _) d = subst (λ (s : JobReply). s.reply.samples ≤ most) (sym (change_taken job density e d)) (omega arith)
 
 -- ---- lists of calls, one after the other
 pub after_both : (job : Job) (calls later : List Call) → after_calls job (calls ++ later) ≡ after_calls (after_calls job calls) later

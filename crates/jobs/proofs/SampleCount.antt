@@ -100,5 +100,5 @@ pub samples_at_most : SamplesAtMost
 samples_at_most set points L calls call = by (making_check set points L) refl
   where
     by : (v : Verdict) → making_check set points L ≡ v → (answer_by (job_after set points L calls) call).figures.samples ≤ most_samples
-    by (Ok tt) v = accepted_most set points L v calls call
+    by (Ok _) v = accepted_most set points L v calls call
     by (Err r) v = refused_most set points L r v calls call

@@ -388,7 +388,7 @@ module _ (set : FinSet) (points : List Float) (L : ℕ) (made : making_check set
 
     by_check : (scratch : List Float) (v : Verdict) → run_check L (length scratch) ≡ v
         → State d (strips ++ strips_by J' (step scratch)) (step_of J' (length scratch)).answer.job
-    by_check scratch (Ok tt) v = works scratch v
+    by_check scratch (Ok _) v = works scratch v
     by_check scratch (Err r) v =
         let short : scratch_check L (length scratch) ≡ Err r =
         sym (ap (λ (x : Verdict). first_refusal x (scratch_check L (length scratch))) limit_checked) ∙ v in
@@ -398,7 +398,7 @@ module _ (set : FinSet) (points : List Float) (L : ℕ) (made : making_check set
     -- ---- a change of density
     changes : (other : Density) (v : Verdict) → density_check other ≡ v
         → State (density_by J' d (change other)) (strips ++ []) (change_of J' other).job
-    changes other (Ok tt) v =
+    changes other (Ok _) v =
         let e = change_taken J' other refl v in
         subst (λ (x : JobReply). State (cond (is_taken x.reply) other d) (strips ++ []) x.job) (sym e)
         (subst (λ (m : List Worked). State other m (taken J' other).job) (sym (append-nil strips))

@@ -63,7 +63,7 @@ after_no_shorter (s ∷ strips) scratch =
 pub run_no_shorter : {A : Type 0} (v : Verdict) (given : A) (withheld : Refusal → A) (strips : List Worked) (scratch : List Float)
     → length scratch ≤ length
     ((by_verdict v (record { answer = given; leaves = scratch_after strips }) (λ r. leaves_alone (withheld r))).leaves scratch)
-run_no_shorter (Ok tt) given withheld strips scratch = after_no_shorter strips scratch
+run_no_shorter (Ok _) given withheld strips scratch = after_no_shorter strips scratch
 run_no_shorter (Err r) given withheld strips scratch = omega arith
 
 pub on_no_shorter : (job : Job) (scratch : List Float) → length scratch ≤ length ((stepped_on job).leaves scratch)
@@ -75,6 +75,6 @@ on_no_shorter job scratch = by job.ended (limit_check job.limit)
         ((cond b (leaves_alone job) (by_verdict v (worked_strip job) (λ r. leaves_alone (ended_by job r)))).leaves scratch)
     by true v = omega arith
     by false (Err r) = omega arith
-    by false (Ok tt) =
+    by false (Ok _) =
         subst (λ (l : List Float). length scratch ≤ length l) (sym (onward_writes (run_of_job job) job.next job.totals scratch))
         (after_no_shorter (cond (has_strip (run_of_job job) job.next) (strip_from (run_of_job job) job.next ∷ []) []) scratch)

@@ -73,7 +73,7 @@ abbrev pub IsJoined : JoinedBody → JoinedBody → Type 0
 IsJoined r definition = IsAnswer (λ (j : JoinedBody). j.verdict) r definition
 
 abbrev pub unless_refused : Verdict → Body → JoinedBody
-unless_refused (Ok tt) body = accepted_body body
+unless_refused (Ok _) body = accepted_body body
 unless_refused (Err refusal) body = refused_body refusal
 
 -- the first n bodies of f, joined, or 3: "count of .. bodies joined, not 1 to 32"

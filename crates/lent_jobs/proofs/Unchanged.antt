@@ -36,7 +36,7 @@ module _ (job : Job) (density : Density) where
   taken_by : (b : Bool) (v : Verdict) → job.ended ≡ b → density_check density ≡ v
       → is_taken (change_of job density).reply ≡ not b && not (is_refused v)
   taken_by true v e c = ap (λ (s : JobReply). is_taken s.reply) (change_ended job density e)
-  taken_by false (Ok tt) e c = ap (λ (s : JobReply). is_taken s.reply) (change_taken job density e c)
+  taken_by false (Ok _) e c = ap (λ (s : JobReply). is_taken s.reply) (change_taken job density e c)
   taken_by false (Err x) e c = ap (λ (s : JobReply). is_taken s.reply) (change_refused job density x e c)
 
   pub taken_is : is_taken (change_of job density).reply ≡ density_taken job.ended density
@@ -45,7 +45,7 @@ module _ (job : Job) (density : Density) where
   kept_by : (b : Bool) (v : Verdict) → job.ended ≡ b → density_check density ≡ v → not b && not (is_refused v) ≡ false
       → (change_of job density).job ≡ job
   kept_by true v e c w = ap (λ (s : JobReply). s.job) (change_ended job density e)
-  kept_by false (Ok tt) e c w = absurd (true≢false w)
+  kept_by false (Ok _) e c w = absurd (true≢false w)
   kept_by false (Err x) e c w = ap (λ (s : JobReply). s.job) (change_refused job density x e c)
 
   pub density_kept : density_taken job.ended density ≡ false → (change_of job density).job ≡ job

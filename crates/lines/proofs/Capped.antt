@@ -122,8 +122,8 @@ module _ (set : FinSet) (points : List Float) (L m : ℕ) where
 refused_alike : {A : Type 0} (x y : A) (withheld : Refusal → A) (a b : Verdict) → by_verdict (unless a b) x withheld
     ≡ by_verdict (unless a b) y withheld
 unfolding unless
-refused_alike x y withheld (Ok tt) (Ok tt) = refl
-refused_alike x y withheld (Ok tt) (Err r) = refl
+refused_alike x y withheld (Ok _) (Ok _) = refl
+refused_alike x y withheld (Ok _) (Err r) = refl
 refused_alike x y withheld (Err r) b = refl
 
 module _ (set : FinSet) (points : List Float) (L : ℕ) where
@@ -184,7 +184,7 @@ unfolding making_check own_check
 making_count set points L n h = rw (too_many n h)
 
 some_refusal : (v : Verdict) → (refusal : Refusal) × (first_refusal v (Err Count) ≡ Err refusal)
-some_refusal (Ok tt) = (Count, refl)
+some_refusal (Ok _) = (Count, refl)
 some_refusal (Err refusal) = (refusal, refl)
 
 -- a making that is refused gives its refusal alone, whatever set, points and limit are beside it

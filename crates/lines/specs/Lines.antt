@@ -74,7 +74,7 @@ refused_reply refusal =
 
 -- an answer, or the refusal where the verdict is one
 abbrev pub unless_refused : Verdict → Reply → Reply
-unless_refused (Ok tt) answer = answer
+unless_refused (Ok _) answer = answer
 unless_refused (Err refusal) answer = refused_reply refusal
 
 -- an answer of words alone: "the body check passed"; a submission or a change of density is taken
@@ -113,7 +113,7 @@ drill_reply (Err refusal) = refused_reply refusal
 
 -- the answer of a turn with which a screen's job has ended: the job's figures, or the number that refused it
 abbrev pub done_reply : ℕ → Verdict → Figures → Reply
-done_reply screen (Ok tt) f = reply DoneShape (numbers_of f.body) (screen ∷ f.intervals ∷ f.samples ∷ [])
+done_reply screen (Ok _) f = reply DoneShape (numbers_of f.body) (screen ∷ f.intervals ∷ f.samples ∷ [])
 done_reply screen (Err refusal) f = reply DoneRefusedShape [] (screen ∷ number_of refusal ∷ [])
 
 -- the answer of a turn: "A turn lent under 1,024 numbers answers 2"; "with no jobs a turn does nothing and says so";

@@ -53,5 +53,5 @@ pub last_check : (check : ℕ → Verdict) (n : ℕ) (whole : Verdict) (i : ℕ)
 last_check check n whole i left h k = go (check i) refl
   where
     go : (v : Verdict) → check i ≡ v → check i ≡ whole
-    go (Ok tt) e = e ∙ ends check n whole (i + 1) (goes_on check n whole i left h e) k
+    go (Ok _) e = e ∙ ends check n whole (i + 1) (goes_on check n whole i left h e) k
     go (Err r) e = e ∙ stops check n whole i left r h e

@@ -36,8 +36,8 @@ chords_call planform points h = chords_by (planform_check planform points) planf
 
 -- an answer as a verdict
 abbrev pub verdict_of : Result ℕ Refusal → Verdict
-verdict_of (Ok count) = Accepted
-verdict_of (Err refusal) = Refused refusal
+verdict_of (Ok count) = Ok tt
+verdict_of (Err refusal) = Err refusal
 
 -- a call's answer is the definition's, with the number and values of its verdict
 abbrev pub IsChordList : Result ℕ Refusal → Result ℕ Refusal → Type 0

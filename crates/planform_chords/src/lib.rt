@@ -29,9 +29,7 @@ pub fn chords_at(
     ensures chord_list { IsChordList result (chords_call planform points.now h).answer }
     ensures ends_after { ends.new ≡ (chords_call planform points.now h).leaves ends.old }
 {
-    if let Err(refusal) = outlines::check_planform(planform, points) {
-        return Err(refusal);
-    }
+    outlines::check_planform(planform, points)?;
     let found = chords_found(planform, points, h);
     Ok(write_chords(found, points, h, ends))
 }

@@ -6,7 +6,7 @@ use Rattle.refusals.specs.Refusals.{number_of, values_of}
 use Rattle.refusals.specs.Given.{Gives, GivesRow, IsAnswer}
 
 pub gives_row : (verdict definition : Verdict) → verdict ≡ definition → GivesRow verdict definition
-gives_row verdict (Ok tt) e = e
+gives_row verdict (Ok _) e = e
 gives_row verdict (Err refusal) e = subst (λ (v : Verdict). Gives v (number_of refusal) (values_of refusal)) (sym e) (refl, refl)
 
 pub is_answer : {A : Type 0} {verdict_of : A → Verdict} {answer definition : A} → answer ≡ definition

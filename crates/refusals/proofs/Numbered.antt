@@ -60,5 +60,5 @@ not_zero refusal e =
 
 pub verdict_back : (verdict : Verdict) → verdict_from (number_in verdict) (first_in verdict) (second_in verdict) ≡ verdict
 unfolding verdict_from
-verdict_back (Ok tt) = refl
+verdict_back (Ok _) = refl
 verdict_back (Err refusal) = rw (ne_eqb (number_of refusal) 0 (not_zero refusal), read_back refusal)

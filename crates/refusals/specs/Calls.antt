@@ -14,7 +14,7 @@ leaves_alone answer = record { answer = answer; leaves = λ lent. lent }
 
 -- an answer by a verdict: one where it accepts, another, made of the refusal, where it refuses
 abbrev pub by_verdict : {A : Type 0} → Verdict → A → (Refusal → A) → A
-by_verdict (Ok tt) given withheld = given
+by_verdict (Ok _) given withheld = given
 by_verdict (Err refusal) given withheld = withheld refusal
 
 -- a function makes the call: r is its result, and `exit` the lent list when it returns

@@ -7,13 +7,13 @@ use Rattle.refusals.specs.Verdict.{Verdict}
 
 -- a verdict gives this number of the table, with these values
 abbrev pub Gives : Verdict → ℕ → List ℕ → Type 0
-Gives (Ok tt) number values = ⊥
+Gives (Ok _) number values = ⊥
 Gives (Err refusal) number values = (number_of refusal ≡ number) × (values_of refusal ≡ values)
 
 -- a verdict gives what the definition's verdict has in the table: the row of its refusal, and no number where it
 -- accepts
 abbrev pub GivesRow : Verdict → Verdict → Type 0
-GivesRow verdict (Ok tt) = verdict ≡ Ok tt
+GivesRow verdict (Ok _) = verdict ≡ Ok tt
 GivesRow verdict (Err refusal) = Gives verdict (number_of refusal) (values_of refusal)
 
 -- A call's answer is the definition's, and gives its number and values. `verdict_of` says of each case of the answer

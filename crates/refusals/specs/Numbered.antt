@@ -46,12 +46,12 @@ refusal_from number first second =
 
 -- the number of a verdict, 0 where nothing is refused
 abbrev pub number_in : Verdict → ℕ
-number_in (Ok tt) = 0
+number_in (Ok _) = 0
 number_in (Err refusal) = number_of refusal
 
 -- the values of a verdict in two places, zeros where nothing is refused
 abbrev pub values_in : Verdict → List ℕ
-values_in (Ok tt) = 0 ∷ 0 ∷ []
+values_in (Ok _) = 0 ∷ 0 ∷ []
 values_in (Err refusal) = in_two_places (values_of refusal)
 
 abbrev pub first_in : Verdict → ℕ

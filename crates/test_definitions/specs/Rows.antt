@@ -23,10 +23,10 @@ same (m ∷ ms) [] = false
 same (m ∷ ms) (n ∷ ns) = eqb m n && same ms ns
 
 abbrev pub accepted : Verdict → Bool
-accepted (Ok tt) = true
+accepted (Ok _) = true
 accepted (Err refusal) = false
 
 -- refused by a number of the table, with its values
 abbrev pub refused : ℕ → List ℕ → Verdict → Bool
-refused n values (Ok tt) = false
+refused n values (Ok _) = false
 refused n values (Err refusal) = eqb (number_of refusal) n && same (values_of refusal) values

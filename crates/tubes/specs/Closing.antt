@@ -30,7 +30,7 @@ abbrev pub IsClosing : ClosingRadius → ClosingRadius → Type 0
 IsClosing r definition = IsAnswer (λ (c : ClosingRadius). c.verdict) r definition
 
 abbrev pub unless_refused : Verdict → Float → ClosingRadius
-unless_refused (Ok tt) radius = closed_at radius
+unless_refused (Ok _) radius = closed_at radius
 unless_refused (Err refusal) radius = refused_radius refusal
 
 -- "count 0 or over 32 is refused 3, then a bad body radius 4"
