@@ -150,8 +150,8 @@ module _ (w : List ℕ) (p r : Read) (shape shape' : List ℕ) where
             (by_kind k (capped_count (count_of w)) (λ x. 70 ∷ []) (λ n. 78 ∷ []) (other_shape w)) shape' r.bytes) e h.of_shape;
         of_figures = subst (λ (k : Option Float). Grown figures p.figures (by_kind k (capped_count (count_of w)) (λ x. x ∷ []) (λ n. []) [])
             figures' r.figures) e h.of_figures;
-        of_counts = subst (λ (k : Option Float). Grown counts p.counts (by_kind k (capped_count (count_of w)) (λ x. []) (λ n. n ∷ []) []) counts
-            r.counts) e (unchanged counts p.counts r.counts h.same_counts);
+        of_counts = subst (λ (k : Option Float). Grown counts p.counts
+            (by_kind k (capped_count (count_of w)) (λ x. []) (λ n. n ∷ []) []) counts r.counts) e (unchanged counts p.counts r.counts h.same_counts);
       }
 
   pub word_other : (figures : List Float) (counts counts' : List ℕ) → None ≡ figure_of w → PutsOther w p r shape shape' counts counts'
@@ -162,8 +162,8 @@ module _ (w : List ℕ) (p r : Read) (shape shape' : List ℕ) where
             (by_kind k (capped_count (count_of w)) (λ x. 70 ∷ []) (λ n. 78 ∷ []) (other_shape w)) shape' r.bytes) e h.of_shape;
         of_figures = subst (λ (k : Option Float). Grown figures p.figures (by_kind k (capped_count (count_of w)) (λ x. x ∷ []) (λ n. []) [])
             figures r.figures) e (none (capped_count (count_of w)));
-        of_counts = subst (λ (k : Option Float). Grown counts p.counts (by_kind k (capped_count (count_of w)) (λ x. []) (λ n. n ∷ []) []) counts'
-            r.counts) e h.of_counts;
+        of_counts = subst (λ (k : Option Float). Grown counts p.counts
+            (by_kind k (capped_count (count_of w)) (λ x. []) (λ n. n ∷ []) []) counts' r.counts) e h.of_counts;
       }
     where
       none : (c : Option ℕ) → Grown figures p.figures (by_kind {A = List Float} None c (λ x. x ∷ []) (λ n. []) []) figures r.figures

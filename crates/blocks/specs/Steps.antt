@@ -1,6 +1,6 @@
 -- What the inner functions do: no definition of Cards.antt uses these.
-use Rattle.std.specs.Prelude.{List, [], ◌∷◌, ◌++◌, true, cond, ◌≡◌, ℕ, ◌+◌, ◌<◌, ◌≤◌, ltb, length, take, drop, get_or, Float}
-use Rattle.std.specs.Prelude.{None}
+use Rattle.std.specs.Prelude.{List, [], ◌∷◌, ◌++◌, true, cond, ◌≡◌, ℕ, ◌+◌, ◌<◌, ◌≤◌, ltb, length, take, drop, get_or}
+use Rattle.std.specs.Prelude.{Float, None}
 use Rattle.texts.specs.Appended.{Appended}
 use Rattle.tokens.specs.Tokens.{ends_word}
 use Rattle.tokens.specs.Found.{part}

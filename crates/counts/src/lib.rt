@@ -24,8 +24,8 @@ fn cap(n: u64) -> u64
     if n < 1_000_000 { n } else { 1_000_000 }
 }
 
-// Reads a word of any length as a count, or gives none where it is no count. A value above a million is given as a million: every limit on a count is far
-// below that.
+// Reads a word of any length as a count, and gives none where it is no count. A value above a million is given as a
+// million: every limit on a count is far below that.
 pub fn read_count(word: &[u8]) -> Option<u64>
     ensures { result ≡ capped_count (count_of word.now) }
 {

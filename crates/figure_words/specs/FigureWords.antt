@@ -2,8 +2,8 @@
 -- .. Sixteen hexadecimal digits now need a leading `#` .. Turned away: 19, a word of neither shape where a figure
 -- belongs, or sixteen bare digits, which an old line meant otherwise" (document 02, Paper 2). A word is any list of
 -- bytes here; `None` is what is turned away.
-use Rattle.std.specs.Prelude.{List, [], ◌∷◌, Bool, true, false, ◌&&◌, not, cond, ℕ, ◌+◌, ◌*◌, ltb, leb, eqb, length, Float}
-use Rattle.std.specs.Prelude.{Option, Some, None}
+use Rattle.std.specs.Prelude.{List, [], ◌∷◌, Bool, true, false, ◌&&◌, not, cond, ℕ, ◌+◌, ◌*◌, ltb, leb, eqb, length}
+use Rattle.std.specs.Prelude.{Float, Option, Some, None}
 use Rattle.hexadecimal.specs.Hex.{pick, figure_of}
 use Rattle.counts.specs.Counts.{digit_value}
 use Rattle.decimals.specs.Decimals.{decimal_of}

@@ -1,6 +1,6 @@
 -- Lines and answers as text: figures as words, tokens, forms, and what is printed (docs/FORMS.md).
-use Rattle.std.specs.Prelude.{Bool, true, false, not, ◌&&◌, List, [], ◌∷◌, ◌≡◌, refl, ℕ, T, eqb, Float}
-use Rattle.std.specs.Prelude.{Option, Some, None}
+use Rattle.std.specs.Prelude.{Bool, true, false, not, ◌&&◌, List, [], ◌∷◌, ◌≡◌, refl, ℕ, T, eqb, Float, Option, Some}
+use Rattle.std.specs.Prelude.{None}
 use Prim.Native.String.{String}
 use Rattle.std.specs.Float.Ieee.{of_bits, to_bits, round, is_nan, eq}
 use Rattle.floats.specs.Operations.{bits, tabulate}
