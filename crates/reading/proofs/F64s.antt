@@ -1,9 +1,7 @@
 -- The figures that a line asks with are f64s, whatever its form. By following the reading. Assumes nothing.
-use mathlib.Core.List.{List, [], ◌∷◌}
+use mathlib.Core.List.{List}
 use Prim.Native.Nat.{ℕ}
-use lib.Ieee.{Float}
-use Rattle.tokens.specs.Text.{text}
-use Rattle.templates.specs.Matching.{Reading, failed, reading, take_text}
+use Rattle.templates.specs.Matching.{Reading, failed, reading}
 use Rattle.templates.proofs.F64s.{AllF64, no_figures, Held, Keeps, text_taken, first_taken, left_out}
 use Rattle.reading.specs.Parts.{figures_in, take_planform, take_section, take_tab, take_fillet, take_density, take_set}
 use Rattle.reading.specs.Lines.{start}

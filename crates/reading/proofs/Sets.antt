@@ -1,17 +1,16 @@
 -- A whole set: its parts are read one after another, and where its end was reached each was. Assumes nothing.
 use mathlib.Core.Bool.{true}
 use mathlib.Core.List.{List, [], ◌∷◌}
-use mathlib.Core.Path.{◌≡◌, refl, sym, ap, ◌∙◌}
+use mathlib.Core.Path.{◌≡◌, refl}
 use Prim.Native.Nat.{ℕ}
-use native.Mathlib.Omega.{arith}
-use lib.ListN.{take, drop}
+use lib.ListN.{drop}
 use lib.Ieee.{Float}
 use Rattle.floats.specs.Operations.{at}
 use Rattle.tokens.specs.Text.{text}
 use Rattle.templates.specs.declared.Cursor.{Cursor}
 use Rattle.templates.specs.Matching.{Reading, take_text}
-use Rattle.templates.specs.Cursors.{reading_at, Room, ReadsOn, Takes}
-use Rattle.templates.proofs.Choices.{here, also}
+use Rattle.templates.specs.Cursors.{reading_at, Room, Takes}
+use Rattle.templates.proofs.Choices.{also}
 use Rattle.planforms.specs.declared.NumberedPlanform.{NumberedPlanform}
 use Rattle.planforms.specs.Numbered.{planform_of}
 use Rattle.sections.specs.declared.NumberedSection.{NumberedSection}

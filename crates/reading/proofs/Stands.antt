@@ -9,18 +9,17 @@ use lib.ListN.{length, take, drop}
 use lib.Seq.{length-take-le}
 use lib.Ieee.{Float}
 use Rattle.refusals.specs.declared.Refusal.TheVariants.{NoForm as no_form, NoFigure as no_figure}
-use Rattle.tokens.specs.Text.{text}
 use Rattle.tokens.specs.Tokens.{line_bytes, tokens}
 use Rattle.templates.specs.declared.Cursor.{Cursor}
 use Rattle.templates.specs.Matching.{Reading, failed, reading, pick, take_text, take_times, take_each, while_fits, or_else, numbered, first_of}
-use Rattle.templates.specs.Matching.{one_of, optional}
-use Rattle.templates.specs.Cursors.{taken_before, reading_at, Room, ReadsOn, Takes, line_start}
+use Rattle.templates.specs.Matching.{optional}
+use Rattle.templates.specs.Cursors.{taken_before, reading_at, Room, Takes, line_start}
 use Rattle.templates.proofs.Choices.{fits, fits_at}
 use Rattle.templates.proofs.Repeats.{tokens_failed}
 use Rattle.reading.specs.declared.Asked.{Asked}
 use Rattle.reading.specs.declared.Line.{Line}
 use Rattle.reading.specs.Parts.{number_in, figures_in, end_in, take_planform, take_section, take_tab, take_fillet, take_density}
-use Rattle.reading.specs.Lines.{Read, refused_read, start, ended}
+use Rattle.reading.specs.Lines.{refused_read, start, ended}
 use Rattle.reading.specs.Reads.{refused_line, Reads, either, at_end, end_of}
 
 -- ---- a reading that failed stays so

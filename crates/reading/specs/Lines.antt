@@ -1,6 +1,6 @@
 -- What a line asks (docs/FORMS.md): each form is read as it is written there, and its parts and figures make up the
 -- request.
-use Rattle.std.specs.Prelude.{List, [], ◌∷◌, Bool, true, false, cond, ℕ, leb, length, drop, get_or, Float}
+use Rattle.std.specs.Prelude.{List, [], ◌∷◌, Bool, true, false, ℕ, leb, length, drop, get_or, Float}
 use Rattle.floats.specs.Operations.{at}
 use Rattle.refusals.specs.declared.Refusal.{Refusal}
 use Rattle.refusals.specs.declared.Refusal.TheVariants.{NoForm as no_form, NoFigure as no_figure}

@@ -10,6 +10,3 @@ returns-in-Known c =
       c.figure.ensures,
       c.behind-point.ensures,
     )
-
-pub returns-in-Unknown : goal.returns-in-Unknown
-returns-in-Unknown c = rw (sym c.planform_in.ensures ∙ c.in-Unknown.is)

@@ -13,7 +13,3 @@ returns-in-Known c =
       c.figure-in-Known-2.ensures,
       c.figure-in-Known.ensures,
     )
-
-pub returns-in-Unknown : goal.returns-in-Unknown
-returns-in-Unknown c = rw (sym (c.numbered_density.ensures ∙ ap (numbered_density _) c.figure.ensures)
-    ∙ c.in-Unknown.is)
