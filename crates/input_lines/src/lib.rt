@@ -2,7 +2,7 @@
 // lent buffer of 4,096 bytes; of a longer line it is only known that there were more.
 #![tactic(auto)]
 
-ghost use Rattle.std.specs.Prelude.{◌≡◌, List, [], ℕ, ◌≤◌, min, length};
+ghost use Rattle.std.specs.Prelude.{List, [], ℕ, ◌≤◌, length};
 ghost use Rattle.tokens.specs.Tokens.{line_bytes};
 ghost use Rattle.input_lines.specs.Kept.{Keeps, KeepsBytes, KeepsLine};
 
@@ -33,13 +33,6 @@ pub fn no_line() -> State
     }
 }
 
-// Returns how many of n bytes there is room for.
-fn fitting(n: usize, room: usize) -> usize
-    ensures { result ≡ min n room }
-{
-    if n <= room { n } else { room }
-}
-
 // Keeps more bytes of the line that has begun, as far as there is room.
 fn keep(buffer: &mut [u8], s: State, line: &[u8]) -> State
     requires { (line_bytes ≤ length buffer.old) × (s.kept ≤ line_bytes) }
@@ -47,7 +40,7 @@ fn keep(buffer: &mut [u8], s: State, line: &[u8]) -> State
 {
     let kept = s.kept;
     let room = LINE_BYTES - kept;
-    let n = fitting(line.len(), room);
+    let n = line.len().min(room);
     let more = kept + n;
     buffer[kept..more].copy_from_slice(&line[..n]);
     State {

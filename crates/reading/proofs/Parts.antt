@@ -1,4 +1,4 @@
--- The first part of a list and the rest, cut no further than its end. Assumes nothing.
+-- The rest of a list, cut no further than its end. Assumes nothing.
 use mathlib.Core.Bool.{Bool, true, false}
 use mathlib.Core.List.{List}
 use mathlib.Core.Path.{◌≡◌, refl, sym, ap, ◌∙◌}
@@ -7,23 +7,10 @@ use native.Mathlib.Omega.{arith}
 use borrow.Author.Tests.{leb-true, leb-false}
 use lib.Dec.{leb}
 use lib.ListN.{length, take, drop, length-drop, drop_of_length-le}
-use lib.Seq.{take_all, length-take-le}
+use lib.Seq.{take_all}
 use lib.Ieee.{Float}
 
 module _ (k : ℕ) (l : List Float) where
-  pub first_part : take (min k (length l)) l ≡ take k l
-  first_part = by (leb k (length l)) refl
-    where
-      by : (t : Bool) → leb k (length l) ≡ t → take (min k (length l)) l ≡ take k l
-      by true h = let g = leb-true k (length l) h in let e : min k (length l) ≡ k = omega arith in ap (λ (n : ℕ). take n l) e
-      by false h =
-          let g = leb-false k (length l) h in let e : min k (length l) ≡ length l = omega arith in
-          ap (λ (n : ℕ). take n l) e ∙ take_all (length l) l (omega arith) ∙ sym (take_all k l (omega arith))
-
-  -- as many as were taken are there
-  pub first_count : (n : ℕ) → n ≡ min k (length l) → n ≡ length (take n l)
-  first_count n e = sym (length-take-le n l (omega arith))
-
   rest_from : drop (min k (length l)) l ≡ drop k l
   rest_from = by (leb k (length l)) refl
     where

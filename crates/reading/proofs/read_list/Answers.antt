@@ -6,9 +6,6 @@ use Rattle.reading.specs.Lines.{list_read}
 use Rattle.reading.proofs.Stands.{each_strict, start_room, parted_ends}
 use Rattle.reading.proofs.read_list.Goals as goal
 
-pub take_text-first-requires : goal.take_text-first-requires
-take_text-first-requires c = start_room _ _ _ c.line_start.ensures c.requires.0 c.requires.1
-
 pub returns : goal.returns
 unfolding list_read text codes
 returns c =

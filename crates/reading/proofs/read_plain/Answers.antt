@@ -4,9 +4,6 @@ use Rattle.reading.specs.Lines.{plain_read}
 use Rattle.reading.proofs.Stands.{start_room, whole_ends}
 use Rattle.reading.proofs.read_plain.Goals as goal
 
-pub take_text-all-requires : goal.take_text-all-requires
-take_text-all-requires c = start_room _ _ _ c.line_start.ensures c.requires.0 c.requires.1
-
 pub returns : goal.returns
 unfolding plain_read
 returns c =

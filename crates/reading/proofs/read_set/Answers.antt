@@ -1,18 +1,11 @@
 -- `reading::read_set` meets its contract: its parts are read to the end. Assumes nothing.
 use mathlib.Core.List.{List}
-use mathlib.Core.Path.{sym}
 use lib.Ieee.{Float}
 use Rattle.reading.specs.declared.SetParts.{SetParts}
 use Rattle.reading.specs.Parts.{take_set, set_parts_of, set_of}
 use Rattle.reading.specs.Lines.{set_asked, set_read}
-use Rattle.reading.proofs.Stands.{few, start_room, alone_ends}
+use Rattle.reading.proofs.Stands.{start_room, alone_ends}
 use Rattle.reading.proofs.read_set.Goals as goal
-
-pub take_set-set-requires : goal.take_set-set-requires
-take_set-set-requires c = start_room _ _ _ c.line_start.ensures c.requires.0 c.requires.1
-
-pub slice_bounds-set_asked-end-2 : goal.slice_bounds-set_asked-end-2
-slice_bounds-set_asked-end-2 c = sym (few _ _ _ c.take_set-set.ensures.takes.room)
 
 pub returns : goal.returns
 unfolding set_read

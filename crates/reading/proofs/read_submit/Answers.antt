@@ -1,21 +1,14 @@
 -- `reading::read_submit` meets its contract: its parts are read to the end. Assumes nothing.
 use mathlib.Core.List.{List}
-use mathlib.Core.Path.{sym}
 use Prim.Native.Nat.{ℕ}
 use lib.Ieee.{Float}
 use Rattle.tokens.specs.Text.{text, codes}
 use Rattle.reading.specs.declared.SetParts.{SetParts}
 use Rattle.reading.specs.Parts.{take_set, set_parts_of, set_of}
 use Rattle.reading.specs.Lines.{submit_asked, submit_read}
-use Rattle.reading.proofs.Stands.{few, start_room, kept_ends}
+use Rattle.reading.proofs.Stands.{start_room, kept_ends}
 use Rattle.reading.proofs.Sets.{set_strict}
 use Rattle.reading.proofs.read_submit.Goals as goal
-
-pub take_text-screen-requires : goal.take_text-screen-requires
-take_text-screen-requires c = start_room _ _ _ c.line_start.ensures c.requires.0 c.requires.1
-
-pub slice_bounds-submit_asked-end-2 : goal.slice_bounds-submit_asked-end-2
-slice_bounds-submit_asked-end-2 c = sym (few _ _ _ c.take_text-all.ensures.room)
 
 pub returns : goal.returns
 unfolding submit_read text codes

@@ -1,6 +1,5 @@
 -- `reading::read_tubes` meets its contract: its parts are read to the end. Assumes nothing.
 use mathlib.Core.List.{List}
-use mathlib.Core.Path.{sym}
 use Prim.Native.Nat.{ℕ}
 use lib.Ieee.{Float}
 use Rattle.floats.specs.Operations.{at}
@@ -8,14 +7,8 @@ use Rattle.materials.specs.Numbered.{numbered_density}
 use Rattle.reading.specs.Lines.{tubes_asked, tubes_read}
 use Rattle.tokens.specs.Text.{text, codes}
 use Rattle.reading.specs.Parts.{take_density}
-use Rattle.reading.proofs.Stands.{few, density_strict, start_room, parted_ends}
+use Rattle.reading.proofs.Stands.{density_strict, start_room, parted_ends}
 use Rattle.reading.proofs.read_tubes.Goals as goal
-
-pub take_text-count-requires : goal.take_text-count-requires
-take_text-count-requires c = start_room _ _ _ c.line_start.ensures c.requires.0 c.requires.1
-
-pub slice_bounds-tubes_asked-end-2 : goal.slice_bounds-tubes_asked-end-2
-slice_bounds-tubes_asked-end-2 c = sym (few _ _ _ c.take_text-all.ensures.room)
 
 pub returns : goal.returns
 unfolding tubes_read text codes

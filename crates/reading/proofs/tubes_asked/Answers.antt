@@ -13,7 +13,3 @@ returns-in-Some c =
       c.figure-in-Some-2.ensures,
       c.figure-in-Some.ensures,
     )
-
-pub returns-in-None : goal.returns-in-None
-returns-in-None c = rw (sym (c.numbered_density.ensures ∙ ap (numbered_density _) c.figure.ensures)
-    ∙ c.in-None.is)

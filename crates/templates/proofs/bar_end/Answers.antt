@@ -43,9 +43,6 @@ module _ (l : List ℕ) (i j : ℕ) where
           ∙ rw (le-ltb (length l) (length l) (let h : length l ≤ length l = omega arith in h));
     }
 
-pub loop-end-init : goal.loop-end-init
-loop-end-init c = start c.args.alternatives.now c.args.i c.args.i
-
 pub returns-then-alternatives-end-eq124 : goal.returns-then-alternatives-end-eq124
 returns-then-alternatives-end-eq124 c =
     at_bar c.args.alternatives.now c.args.i c.loop-end.end (omega arith) c.loop-end.invariant (omega arith)

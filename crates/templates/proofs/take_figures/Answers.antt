@@ -1,21 +1,9 @@
 -- `templates::take_figures` meets its contract: what is left to take from where reading stands is the whole. Assumes nothing.
-use mathlib.Core.List.{◌∷◌, []}
-use mathlib.Core.Path.{◌∙◌}
 use native.Mathlib.Omega.{arith}
 use borrow.Author.Tests.{not-true, not-false}
 use Rattle.tokens.specs.Text.{text, codes}
-use Rattle.templates.specs.Matching.{take_one}
-use Rattle.templates.proofs.Repeats.{begins, all_turns, again, ends}
+use Rattle.templates.proofs.Repeats.{all_turns, again, ends}
 use Rattle.templates.proofs.take_figures.Goals as goal
-
-pub loop-turn-init : goal.loop-turn-init
-loop-turn-init c = begins c.args.line.now (take_one (70 ∷ [])) c.args.values.now c.args.c c.requires
-
-pub take_one-next-requires : goal.take_one-next-requires
-take_one-next-requires c = c.loop-turn.invariant.room
-
-pub shape_of-values-then-not-next : goal.shape_of-values-then-not-next
-shape_of-values-then-not-next c = c.take_one-next.auto.values ∙ c.loop-turn.invariant.same
 
 pub returns-then-not-next : goal.returns-then-not-next
 unfolding text codes
@@ -26,9 +14,6 @@ pub loop-turn-preserved : goal.loop-turn-preserved
 loop-turn-preserved c =
     again _ _ _ _ _ _ _ c.loop-turn.invariant _ _ c.take_one-next.ensures _ (omega arith) (not-false _ c.if-not-next.false)
     c.take_one-next.auto.values
-
-pub shape_of-values : goal.shape_of-values
-shape_of-values c = c.loop-turn.invariant.same
 
 pub returns : goal.returns
 unfolding text codes

@@ -88,28 +88,10 @@ module _ (line alternatives : List ℕ) (before : List Float) (c : Cursor) where
               same = omega arith;
             }
 
-pub loop-c-init : goal.loop-c-init
-loop-c-init c = begins c.args.line.now c.args.alternatives.now c.args.values.now c.args.c c.requires.0
-
-pub bar_end-end-requires : goal.bar_end-end-requires
-bar_end-end-requires c = c.loop-c.invariant.place
-
-pub slice_bounds-take_text-count : goal.slice_bounds-take_text-count
-slice_bounds-take_text-count c = c.bar_end-end.ensures.behind
-
-pub take_text-r-requires : goal.take_text-r-requires
-take_text-r-requires c = c.loop-c.invariant.room
-
-pub shape_of-values-then-r : goal.shape_of-values-then-r
-shape_of-values-then-r c = c.take_text-r.auto.values ∙ c.loop-c.invariant.same
-
 pub returns-then-r : goal.returns-then-r
 returns-then-r c =
     as_is _ _ _ _ c.with_number.ensures refl
     (it_fits _ _ _ _ _ _ _ _ c.loop-c.invariant c.bar_end-end.ensures _ _ c.take_text-r.ensures c.if-r.true)
-
-pub shape_of-values-then-alternatives-end : goal.shape_of-values-then-alternatives-end
-shape_of-values-then-alternatives-end c = c.take_text-r.auto.values ∙ c.loop-c.invariant.same
 
 pub returns-then-alternatives-end : goal.returns-then-alternatives-end
 returns-then-alternatives-end c =
@@ -117,19 +99,12 @@ returns-then-alternatives-end c =
     (was_last _ _ _ _ _ _ _ _ c.loop-c.invariant c.bar_end-end.ensures _ _ c.take_text-r.ensures c.if-r.false
     c.if-alternatives-end.true)
 
-pub overflow_add-i : goal.overflow_add-i
-overflow_add-i c = omega arith
-
 pub overflow_add-number : goal.overflow_add-number
 overflow_add-number c =
     let v = c.loop-c.invariant.small in
     let p = c.loop-c.invariant.place in
     let r = c.requires.1 in
     omega arith
-
-pub loop-c-smaller : goal.loop-c-smaller
-loop-c-smaller c =
-    let h = c.bar_end-end.ensures.behind in omega arith
 
 pub loop-c-preserved : goal.loop-c-preserved
 loop-c-preserved c =

@@ -2,11 +2,8 @@
 use mathlib.Core.Path.{refl}
 use Rattle.templates.specs.Matching.{numbered}
 use Rattle.templates.proofs.Steps.{as_is}
-use Rattle.templates.proofs.Choices.{here, room_again, note, first_fits, next_tried}
+use Rattle.templates.proofs.Choices.{here, room_again, note, next_tried}
 use Rattle.templates.proofs.take_optional.Goals as goal
-
-pub returns-then-r : goal.returns-then-r
-returns-then-r c = first_fits _ _ _ _ _ _ c.take_one_of-r.ensures _ c.if-r.true
 
 pub returns : goal.returns
 returns c =

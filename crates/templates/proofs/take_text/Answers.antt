@@ -69,25 +69,12 @@ module _ (line template : List ℕ) (before : List Float) (c : Cursor) where
 pub loop-i-init : goal.loop-i-init
 loop-i-init c = start c.args.line.now c.args.template.now c.args.values.now c.args.c c.requires
 
-pub shape_of-values-then-not-s : goal.shape_of-values-then-not-s
-shape_of-values-then-not-s c = c.loop-i.invariant.same
-
 pub returns-then-not-s : goal.returns-then-not-s
 returns-then-not-s c = no_form_lem _ _ _ _ _ _ _ c.loop-i.invariant (not-true _ c.if-not-s.true)
-
-pub shape_of-values-then-to-from : goal.shape_of-values-then-to-from
-shape_of-values-then-to-from c = c.loop-i.invariant.same
 
 pub returns-then-to-from : goal.returns-then-to-from
 returns-then-to-from c = all_taken _ _ _ _ _ _ _ c.loop-i.invariant
     (c.next_token-wanted.ensures.none c.if-to-from.true)
-
-pub slice_bounds-same_bytes-count : goal.slice_bounds-same_bytes-count
-slice_bounds-same_bytes-count c = omega arith
-
-pub take_figures-s-requires : goal.take_figures-s-requires
-take_figures-s-requires c =
-    c.loop-i.invariant.room
 
 pub loop-i-smaller-then-figures : goal.loop-i-smaller-then-figures
 loop-i-smaller-then-figures c =
@@ -101,13 +88,6 @@ loop-i-preserved-then-figures c =
     (as_is _ _ _ _ refl (figures_token _ _ _ c.same_bytes-figures.ensures c.if-figures.true) c.take_figures-s.ensures)
     c.take_figures-s.auto.values
 
-pub slice_bounds-take_one-count : goal.slice_bounds-take_one-count
-slice_bounds-take_one-count c = omega arith
-
-pub take_one-s-requires : goal.take_one-s-requires
-take_one-s-requires c =
-    c.loop-i.invariant.room
-
 pub loop-i-smaller : goal.loop-i-smaller
 loop-i-smaller c =
     let w = c.next_token-wanted.ensures.within c.loop-i.invariant.place in
@@ -119,9 +99,6 @@ loop-i-preserved c =
     next _ _ _ _ _ _ _ c.loop-i.invariant _ _ _ c.next_token-wanted.ensures (omega arith)
     (as_is _ _ _ _ refl (other_token _ _ _ c.same_bytes-figures.ensures c.if-figures.false) c.take_one-s.ensures)
     c.take_one-s.auto.values
-
-pub shape_of-values : goal.shape_of-values
-shape_of-values c = c.loop-i.invariant.same
 
 pub returns : goal.returns
 returns c = all_taken _ _ _ _ _ _ _ c.loop-i.invariant (at_end_lem _ _ c.loop-i-test.false)
