@@ -28,7 +28,7 @@ use Rattle.engines.specs.declared.EngineTurn.{EngineTurn}
 use Rattle.engines.specs.declared.EngineReply.{EngineReply}
 use Rattle.engines.specs.Engines.{is_screen, place_of, holds_job, is_free, next_screen, with_job, turn_row, served_screen, turn_after}
 use Rattle.engines.specs.Engines.{stepped_at, turned_at, turn_of, turned_row, submit_of, change_at}
-use Rattle.engines.specs.Calls.{Call, turn, submit, change, engine_by, after_calls, EightScreens, job_of, screen_of, own_by, answers_by}
+use Rattle.engines.specs.Calls.{Call, turn, submit, change, engine_by, EightScreens, job_of, screen_of, own_by, answers_by}
 use Rattle.engines.specs.Calls.{own_over, answers_over, holds_over, answers_alone, AsAlone}
 use Rattle.engines.proofs.Laws.{long_enough}
 use Rattle.engines.proofs.Effects.{in_eight, place_below, holds_is_screen, turn_serves, submit_busy, change_goes, others_stay}

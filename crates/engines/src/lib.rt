@@ -107,13 +107,11 @@ fn next_screen(screens: Screens) -> usize
     ensures { result ≡ next_screen screens }
 {
     let mut screen = screens.last % 8 + 1;
-    let mut left: usize = 8;
-    while 0 < left {
+    for _ in 0..8usize {
         if holds_job(screens, screen) {
             return screen;
         }
         screen = screen % 8 + 1;
-        left -= 1;
     }
     0
 }
