@@ -26,7 +26,10 @@ pub(crate) struct Cursor {
 
 // Returns the place of a word among those between the bars, from 1 on, or 0 where it is none of them.
 fn place_among(word: &[u8], words: &[u8]) -> usize {
-    words.split(|b| *b == b'|').position(|choice| choice == word).map_or(0, |i| i + 1)
+    words
+        .split(|b| *b == b'|')
+        .position(|choice| choice == word)
+        .map_or(0, |i| i + 1)
 }
 
 // Takes one token of the line by one of a template.
