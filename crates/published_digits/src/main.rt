@@ -8,6 +8,7 @@
 
 ghost use Rattle.std.specs.Prelude.{◌≤◌};
 
+use std::cmp::Ordering;
 use std::io;
 use std::io::Read;
 use std::num::{wrapping_add_u64, wrapping_sub_u64};
@@ -17,52 +18,32 @@ const ENTRIES: usize = 20;
 // The number 1 in units of 2^-60.
 const ONE: u64 = 0x1000_0000_0000_0000;
 
-// How a number compares with a decimal.
-#[derive(Clone, Copy)]
-enum Order {
-    Below,
-    Equal,
-    Above,
-}
-
 fn wide(byte: u8) -> u64 {
     byte as u64
 }
 
 // Returns how n / 2^60 compares with the decimal 0.DDD.. that has the given digits.
-fn compare(n: u64, digits: &[u8]) -> Order {
+fn compare(n: u64, digits: &[u8]) -> Ordering {
     if n >= ONE {
-        return Order::Above;
+        return Ordering::Greater;
     }
     let mut rest = n;
-    let mut i = 0;
-    while i < digits.len() {
+    for published in digits {
         let digit = 48 + rest * 10 / ONE;
-        let published = wide(digits[i]);
-        if digit < published {
-            return Order::Below;
-        }
-        if published < digit {
-            return Order::Above;
+        let order = digit.cmp(&wide(*published));
+        if order.is_ne() {
+            return order;
         }
         rest = rest * 10 % ONE;
-        i += 1;
     }
-    if rest == 0 {
-        Order::Equal
-    } else {
-        Order::Above
-    }
+    rest.cmp(&0)
 }
 
 // Tells whether the f64 with the bit pattern b is the nearest to the decimal. It returns false for an f64 unlike the
 // entries: one other than 0 that does not lie between 2^-6 and 1, or a power of two, whose lower neighbour is nearer.
 fn is_nearest(b: u64, digits: &[u8]) -> bool {
     if b == 0 {
-        let Order::Equal = compare(0, digits) else {
-            return false;
-        };
-        return true;
+        return compare(0, digits).is_eq();
     }
     let exponent = b / 0x10_0000_0000_0000;
     let fraction = b % 0x10_0000_0000_0000;
@@ -75,13 +56,8 @@ fn is_nearest(b: u64, digits: &[u8]) -> bool {
     // In halves of its last place, 2^(exponent − 1016) / 2^60 each, the f64 is even, and the midpoints are one less and
     // one more.
     let halves = 2 * (0x10_0000_0000_0000 + fraction);
-    let Order::Below = compare((halves - 1) << (exponent - 1016), digits) else {
-        return false;
-    };
-    let Order::Above = compare((halves + 1) << (exponent - 1016), digits) else {
-        return false;
-    };
-    true
+    compare((halves - 1) << (exponent - 1016), digits).is_lt()
+        && compare((halves + 1) << (exponent - 1016), digits).is_gt()
 }
 
 // Returns entry e of the three tables, one after another.
@@ -132,10 +108,8 @@ fn check_entry(rt: HostRuntime, e: usize) -> u64
 // Checks every entry and returns how many are the nearest.
 fn check_all(rt: HostRuntime) -> u64 {
     let mut nearest = 0u64;
-    let mut e = 0;
-    while e < ENTRIES {
+    for e in 0..ENTRIES {
         nearest += check_entry(rt, e);
-        e += 1;
     }
     nearest
 }

@@ -103,13 +103,11 @@ fn job_of(alone: Alone, screen: usize) -> Job {
 // Returns the screen whose turn it is: the nearest after the last served, round by 8; 0 for none.
 fn due(alone: Alone) -> usize {
     let mut screen = alone.last;
-    let mut looked: usize = 0;
-    while looked < 8 {
+    for _ in 0..8 {
         screen = if screen < 8 { screen + 1 } else { 1 };
         if runs(alone, screen) {
             return screen;
         }
-        looked += 1;
     }
     0
 }
@@ -326,13 +324,11 @@ fn call_all(
     };
     let mut alone = none();
     let mut seed: u64 = 88172645463325252;
-    let mut k: u64 = 0;
-    while k < CALLS {
+    for k in 0..CALLS {
         seed = test_sets::after(seed);
         let called = call(alone, seed, k % 1000 < 200, numbers, counts, scratch, other);
         tally = counted(tally, called);
         alone = called.alone;
-        k += 1;
     }
     tally
 }

@@ -61,15 +61,13 @@ fn drive(
 {
     let mut accepted = kg_m3;
     let mut s = seed;
-    let mut calls: u64 = 0;
-    while calls < CALLS {
+    for _ in 0..CALLS {
         s = test_sets::after(s);
         accepted = if call(numbers, counts, s, scratch) {
             test_sets::wood(s)
         } else {
             accepted
         };
-        calls += 1;
     }
     accepted
 }
@@ -219,11 +217,9 @@ fn compare_all(
         differ: 0,
     };
     let mut seed: u64 = 88172645463325252;
-    let mut k: u64 = 0;
-    while k < JOBS {
+    for _ in 0..JOBS {
         seed = test_sets::after(seed);
         tally = compare(tally, seed, numbers, counts, scratch, other);
-        k += 1;
     }
     tally
 }

@@ -29,18 +29,7 @@ fn same(a: f64, b: f64) -> bool {
 
 // Tells whether the answers are `count` figures, and the results begin with them.
 pub(crate) fn agree(answers: &[f64], results: &[f64], count: usize) -> bool {
-    if answers.len() != count {
-        return false;
-    }
-    if results.len() < count {
-        return false;
-    }
-    let mut i: usize = 0;
-    while i < count {
-        if !same(answers[i], results[i]) {
-            return false;
-        }
-        i += 1;
-    }
-    true
+    answers.len() == count
+        && count <= results.len()
+        && answers.iter().zip(results).all(|(a, b)| same(*a, *b))
 }

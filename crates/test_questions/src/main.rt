@@ -67,16 +67,11 @@ fn agrees(place: usize, c: Cursor, values: &[f64]) -> bool
 fn replay_by(line: &[u8], templates: &[u8], values: &mut [f64]) -> Outcome
     requires { line_figures ≤ length values.old }
 {
-    let mut place: usize = 0;
-    let mut from: usize = 0;
-    while from < templates.len() {
-        let to = reading::row_end(templates, from);
-        let c = reading::read(line, &templates[from..to], values);
+    for (place, template) in templates.split(|b| *b == b'\n').enumerate() {
+        let c = reading::read(line, template, values);
         if c.ok {
             return lines::agrees_or_not(agrees(place, c, values));
         }
-        place += 1;
-        from = to + 1;
     }
     Outcome::NoLine
 }
@@ -180,15 +175,13 @@ fn take_block(line: &mut [u8], p: Progress, block: &[u8], values: &mut [f64]) ->
     ensures { result.kept ≤ length line.old }
 {
     let mut progress = p;
-    let mut i: usize = 0;
-    while i < block.len() {
-        progress = take_byte(line, progress, block[i], values);
-        i += 1;
+    for b in block {
+        progress = take_byte(line, progress, *b, values);
     }
     progress
 }
 
-// Replays all of the input. A proved loop has to end, so it counts its turns down from a number that no input uses up.
+// Replays all of the input. A proved loop has to end, so it has a number of turns that no input uses up.
 fn replay_all(rt: HostRuntime, block: &mut [u8], line: &mut [u8], values: &mut [f64]) -> Tally
     requires { line_figures ≤ length values.old }
 {
@@ -200,11 +193,12 @@ fn replay_all(rt: HostRuntime, block: &mut [u8], line: &mut [u8], values: &mut [
         },
         kept: 0,
     };
-    let mut turns = u64::MAX;
-    while turns > 0 {
+    for _ in 0..u64::MAX {
         let n = reads::read_full(&mut rt.stdin(), block);
         p = take_block(line, p, &block[..n], values);
-        turns = if n < block.len() { 0 } else { turns - 1 };
+        if n < block.len() {
+            break;
+        }
     }
     finish(line, p, values)
 }

@@ -25,25 +25,10 @@ pub(crate) struct Cursor {
 
 // Returns the place of a word among those between the bars, from 1 on, or 0 where it is none of them.
 fn place_among(word: &[u8], words: &[u8]) -> usize {
-    let mut place: usize = 1;
-    let mut from: usize = 0;
-    let mut i: usize = 0;
-    while i < words.len() {
-        let to = i;
-        i += 1;
-        if words[to] == b'|' {
-            if same_bytes(word, &words[from..to]) {
-                return place;
-            }
-            place += 1;
-            from = i;
-            continue;
-        }
-    }
-    if same_bytes(word, &words[from..i]) {
-        return place;
-    }
-    0
+    words
+        .split(|b| *b == b'|')
+        .position(|choice| choice == word)
+        .map_or(0, |i| i + 1)
 }
 
 // Takes one token of the line by one of a template.
@@ -116,14 +101,12 @@ fn take_figures(line: &[u8], c: Cursor, values: &mut [f64]) -> Cursor
     ensures { Reached line.now result }
 {
     let mut s = c;
-    let mut turns = LINE_BYTES;
-    while 0 < turns {
+    for _ in 0..LINE_BYTES {
         let next = take_one(line, s, b"F", values);
         if !next.ok {
             return s;
         }
         s = next;
-        turns -= 1;
     }
     s
 }
@@ -154,21 +137,6 @@ fn take_text(line: &[u8], c: Cursor, template: &[u8], values: &mut [f64]) -> Cur
         s = take_one(line, s, &template[from..to], values);
     }
     s
-}
-
-// Returns where the row that begins at `from` ends.
-pub(crate) fn row_end(rows: &[u8], from: usize) -> usize
-    requires { from ≤ length rows.now }
-    ensures { (from ≤ result) × (result ≤ length rows.now) }
-{
-    let mut to = from;
-    while to < rows.len() {
-        if rows[to] == b'\n' {
-            return to;
-        }
-        to += 1;
-    }
-    to
 }
 
 // Reads the whole line by a template: it fits where the line ends with it.

@@ -42,11 +42,9 @@ fn reason_of(verdict: Verdict) -> Reason {
 // Writes i into number i of the scratch, for every i, before a run.
 fn number_all(scratch: &mut [f64]) {
     let mut x = 0.0;
-    let mut i: usize = 0;
-    while i < scratch.len() {
-        scratch[i] = x;
+    for number in scratch {
+        *number = x;
         x = x + 1.0;
-        i += 1;
     }
 }
 
@@ -60,13 +58,7 @@ fn mixed(sum: u64, x: f64) -> u64 {
 }
 
 fn sum_over(scratch: &[f64]) -> u64 {
-    let mut sum: u64 = 1;
-    let mut i: usize = 0;
-    while i < scratch.len() {
-        sum = mixed(sum, scratch[i]);
-        i += 1;
-    }
-    sum
+    scratch.iter().fold(1, |sum, x| mixed(sum, *x))
 }
 
 fn print_set(
@@ -186,14 +178,8 @@ fn line_end(text: &[u8], at: usize) -> usize
     requires { at ≤ length text.now }
     ensures { (at ≤ result) × (result ≤ length text.now) }
 {
-    let mut i = at;
-    while i < text.len() {
-        if text[i] == 10 {
-            return i;
-        }
-        i += 1;
-    }
-    i
+    let rest = &text[at..];
+    at + rest.iter().position(|b| *b == b'\n').unwrap_or(rest.len())
 }
 
 fn replay_all(rt: HostRuntime, text: &[u8], values: &mut [f64], scratch: &mut [f64], out: &mut [u8])

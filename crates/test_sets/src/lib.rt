@@ -115,7 +115,9 @@ pub fn reason(verdict: Verdict) -> [usize; 3] {
 // Tells whether two lists hold the same f64s, bit for bit.
 pub fn same_numbers(a: &[f64], b: &[f64]) -> bool {
     a.len() == b.len()
-        && a.iter().zip(b).all(|(x, y)| floats::to_bits(*x) == floats::to_bits(*y))
+        && a.iter()
+            .zip(b)
+            .all(|(x, y)| floats::to_bits(*x) == floats::to_bits(*y))
 }
 
 pub fn same_figures(a: Figures, b: Figures) -> bool {
