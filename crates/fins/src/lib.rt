@@ -171,7 +171,7 @@ pub fn counts_of(set: FinSet) -> [usize; SET_COUNTS]
     [
         set.count,
         planforms::number_of(planform),
-        sections::number_of(section),
+        usize::from(section),
         tab_number(tab),
         materials::number_of(density),
         materials::number_of(glue),
@@ -187,7 +187,7 @@ pub fn set_in(numbers: &[f64], counts: &[usize]) -> Option<FinSet>
         counts[0],
         planforms::planform_of(counts[1], [numbers[0], numbers[1], numbers[2], numbers[3]]),
         numbers[4],
-        sections::numbered_section(counts[2]),
+        Section::try_from(counts[2]).ok(),
         tab_of(counts[3], [numbers[9], numbers[10], numbers[11]]),
         fillets::fillet_of(counts[5], [numbers[12], numbers[13]]),
         numbers[5],
