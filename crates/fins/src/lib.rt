@@ -78,6 +78,7 @@ fn tab_figures(tab: Tab) -> [f64; TAB_FIGURES]
 }
 
 // Returns the tab of a number and figures; any number but 0 and 1 is no tab's.
+#[tactic(auto, unfolding(crate::specs::Numbered::tab_of))]
 pub fn tab_of(number: usize, figures: [f64; TAB_FIGURES]) -> Option<Tab>
     ensures { result ≡ tab_of number figures }
 {
@@ -198,6 +199,7 @@ pub fn set_in(numbers: &[f64], counts: &[usize]) -> Option<FinSet>
 }
 
 // Returns the set that two lists are; lists of another length are no set's.
+#[tactic(auto, unfolding(crate::specs::Numbered::listed_set))]
 pub fn listed_set(numbers: &[f64], counts: &[usize]) -> Option<FinSet>
     ensures { result ≡ listed_set numbers.now counts.now }
 {
