@@ -68,6 +68,7 @@ pub fn lengths_of(planform: Planform) -> [f64; LENGTHS]
 }
 
 // Returns the planform of a kind's number and lengths; any number but 1, 2 and 3 is no kind's.
+#[tactic(auto, unfolding(crate::specs::Numbered::planform_of))]
 pub fn planform_of(number: usize, lengths: [f64; LENGTHS]) -> Option<Planform>
     ensures { result ≡ planform_of number lengths }
 {
@@ -89,6 +90,7 @@ pub fn planform_of(number: usize, lengths: [f64; LENGTHS]) -> Option<Planform>
 
 // Returns the planform of a kind's number and of lengths that C or Rust lends; any other count of lengths than
 // `LENGTHS` is no planform's.
+#[tactic(auto, unfolding(crate::specs::Numbered::listed_planform))]
 pub fn listed_planform(number: usize, lengths: &[f64]) -> Option<Planform>
     ensures { result ≡ listed_planform number lengths.now }
 {
