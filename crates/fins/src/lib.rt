@@ -49,7 +49,7 @@ pub struct FinSet {
 // How many figures a tab has.
 pub const TAB_FIGURES: usize = 3;
 
-// Returns 0 for no tab, 1 for a slab.
+// Returns 0 for no tab, 1 for a slab. It drops the figures, so it is no `From`.
 fn tab_number(tab: Tab) -> usize
     ensures { result ≡ tab_number tab }
 {
