@@ -49,7 +49,7 @@ pub struct FinSet {
 // How many figures a tab has.
 pub const TAB_FIGURES: usize = 3;
 
-// Returns 0 for no tab, 1 for a slab. It drops the figures, so it is no `From`.
+// Returns 0 for no tab, 1 for a slab. The figures are dropped, so this is no conversion.
 fn tab_number(tab: Tab) -> usize
     ensures { result ≡ tab_number tab }
 {

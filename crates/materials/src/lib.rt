@@ -14,7 +14,7 @@ pub enum Density {
     Line { kg_m: f64 },
 }
 
-// Returns the number of a density's kind: 1 bulk, 2 surface, 3 line. It drops the figure, so it is no `From`.
+// Returns the number of a density's kind: 1 bulk, 2 surface, 3 line. The figure is dropped, so this is no conversion.
 pub fn number_of(density: Density) -> usize
     ensures { result ≡ density_number density }
 {
