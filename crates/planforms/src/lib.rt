@@ -28,8 +28,8 @@ pub enum Planform {
 // zeros after its own.
 pub const LENGTHS: usize = 4;
 
-// Returns the number of a planform's kind: 1 a trapezoid, 2 an ellipse, 3 an outline. The lengths are dropped, so this is no
-// conversion.
+// Returns the number of a planform's kind: 1 a trapezoid, 2 an ellipse, 3 an outline. The lengths are dropped, so this
+// is no conversion.
 pub fn number_of(planform: Planform) -> usize
     ensures { result ≡ planform_number planform }
 {
