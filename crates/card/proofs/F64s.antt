@@ -7,36 +7,30 @@ use Prim.Native.Nat.{ℕ}
 use lib.Dec.{eqb, leb}
 use lib.ListN.{length, take, drop}
 use lib.Ieee.{Float}
+use Rattle.std.specs.Prelude.{Option, Some, None}
 use Rattle.floats.specs.Operations.{at}
 use Rattle.refusals.specs.declared.Refusal.TheVariants.{NoForm as no_form, NoFigure as no_figure}
 use Rattle.tokens.specs.Text.{text}
 use Rattle.tokens.specs.Tokens.{line_bytes}
 use Rattle.templates.proofs.F64s.{F64, AllF64, take_f64, drop_f64}
 use Rattle.planforms.specs.declared.Planform.TheVariants.{Trapezoid, Ellipse, Outline}
-use Rattle.planforms.specs.declared.NumberedPlanform.{NumberedPlanform}
-use Rattle.planforms.specs.declared.NumberedPlanform.TheVariants.{Known as planform_known, Unknown as no_planform}
+use Rattle.planforms.specs.declared.Planform.{Planform}
 use Rattle.planforms.specs.Numbered.{planform_of}
 use Rattle.planforms.proofs.Sized.{PlanformF64}
-use Rattle.sections.specs.declared.NumberedSection.{NumberedSection}
-use Rattle.sections.specs.declared.NumberedSection.TheVariants.{Known as section_known, Unknown as no_section}
+use Rattle.sections.specs.declared.Section.{Section}
 use Rattle.sections.specs.Numbered.{numbered_section}
-use Rattle.materials.specs.declared.NumberedDensity.{NumberedDensity}
-use Rattle.materials.specs.declared.NumberedDensity.TheVariants.{Known as density_known, Unknown as no_density}
+use Rattle.materials.specs.declared.Density.{Density}
 use Rattle.materials.specs.Numbered.{numbered_density}
-use Rattle.fillets.specs.declared.NumberedFillet.{NumberedFillet}
-use Rattle.fillets.specs.declared.NumberedFillet.TheVariants.{Known as fillet_known, Unknown as no_fillet}
+use Rattle.fillets.specs.declared.Fillet.{Fillet}
 use Rattle.fillets.specs.Numbered.{fillet_of}
 use Rattle.fins.specs.declared.FinSet.{FinSet}
-use Rattle.fins.specs.declared.NumberedTab.{NumberedTab}
-use Rattle.fins.specs.declared.NumberedTab.TheVariants.{Known as tab_known, Unknown as no_tab}
-use Rattle.fins.specs.declared.NumberedSet.{NumberedSet}
-use Rattle.fins.specs.declared.NumberedSet.TheVariants.{Known as set_known, Unknown as no_set}
+use Rattle.fins.specs.declared.Tab.{Tab}
 use Rattle.fins.specs.Numbered.{tab_of, numbered_set}
 use Rattle.templates.specs.Matching.{Reading, failed, reading, take_text, take_each}
 use Rattle.templates.proofs.F64s.{Held, text_taken}
 use Rattle.reading.specs.declared.Asked.{Asked}
 use Rattle.reading.specs.declared.Asked.TheVariants.{Refused, Set, Area, Join, Moments, Check, Tubes, Closing, Drill, Copied, Placed}
-use Rattle.reading.specs.declared.Asked.TheVariants.{Moved, Without, Submit, Density, Turn, Progress}
+use Rattle.reading.specs.declared.Asked.TheVariants.{Moved, Without, Submit, Density as NewDensity, Turn, Progress}
 use Rattle.reading.specs.declared.Form.{Form}
 use Rattle.reading.specs.declared.Form.TheVariants.{Set as SetForm, Area as AreaForm, Join as JoinForm, Moments as MomentsForm}
 use Rattle.reading.specs.declared.Form.TheVariants.{Check as CheckForm, Tubes as TubesForm, Closing as ClosingForm, Drill as DrillForm}
@@ -52,9 +46,9 @@ use Rattle.reading.proofs.F64s.{figures_f64, start_f64, set_f64}
 use Rattle.figures.proofs.Owned.{SetF64}
 use Rattle.card.specs.Cards.{WritesSet}
 
-abbrev KnownPlanform : List Float → NumberedPlanform → Type 0
-KnownPlanform lengths no_planform = Unit {0}
-KnownPlanform lengths (planform_known p) = PlanformF64 p lengths
+abbrev KnownPlanform : List Float → Option Planform → Type 0
+KnownPlanform lengths None = Unit {0}
+KnownPlanform lengths (Some p) = PlanformF64 p lengths
 
 planform_f64 : (number : ℕ) (figures points : List Float) → AllF64 figures → AllF64 points
     → KnownPlanform points (planform_of number figures)
@@ -63,27 +57,27 @@ planform_f64 number figures points f g = by (eqb number 1) (eqb number 2) (eqb n
   where
     by : (a b c : Bool)
         → KnownPlanform points
-        (cond a (planform_known (Trapezoid (at figures 0) (at figures 1) (at figures 2) (at figures 3)))
-        (cond b (planform_known (Ellipse (at figures 0) (at figures 1))) (cond c (planform_known Outline) no_planform)))
+        (cond a (Some (Trapezoid (at figures 0) (at figures 1) (at figures 2) (at figures 3)))
+        (cond b (Some (Ellipse (at figures 0) (at figures 1))) (cond c (Some Outline) None)))
     by true b c = (f 0, (f 1, (f 2, f 3)))
     by false true c = (f 0, f 1)
     by false false true = g
     by false false false = tt
 
-abbrev KnownSet : List Float → NumberedSet → Type 0
-KnownSet lengths no_set = Unit {0}
-KnownSet lengths (set_known set) = SetF64 set lengths
+abbrev KnownSet : List Float → Option FinSet → Type 0
+KnownSet lengths None = Unit {0}
+KnownSet lengths (Some set) = SetF64 set lengths
 
 module _ (lengths : List Float) (count : ℕ) (thickness cant base radius : Float) (thick : F64 thickness) (wide : F64 radius) where
-  known_set_lem : (p : NumberedPlanform) → KnownPlanform lengths p
-      → (s : NumberedSection) (t : NumberedTab) (f : NumberedFillet) (d : NumberedDensity)
+  known_set_lem : (p : Option Planform) → KnownPlanform lengths p
+      → (s : Option Section) (t : Option Tab) (f : Option Fillet) (d : Option Density)
       → KnownSet lengths (numbered_set count p thickness s t f cant base radius d)
-  known_set_lem no_planform e s t f d = tt
-  known_set_lem (planform_known p) e no_section t f d = tt
-  known_set_lem (planform_known p) e (section_known s) no_tab f d = tt
-  known_set_lem (planform_known p) e (section_known s) (tab_known t) no_fillet d = tt
-  known_set_lem (planform_known p) e (section_known s) (tab_known t) (fillet_known f) no_density = tt
-  known_set_lem (planform_known p) e (section_known s) (tab_known t) (fillet_known f) (density_known d) =
+  known_set_lem None e s t f d = tt
+  known_set_lem (Some p) e None t f d = tt
+  known_set_lem (Some p) e (Some s) None f d = tt
+  known_set_lem (Some p) e (Some s) (Some t) None d = tt
+  known_set_lem (Some p) e (Some s) (Some t) (Some f) None = tt
+  known_set_lem (Some p) e (Some s) (Some t) (Some f) (Some d) =
       record { planform = e; thickness = thick; radius = wide }
 
 module _ (p : SetParts) (figures : List Float) (e : AllF64 figures) where
@@ -114,7 +108,7 @@ AskedF64 Placed figures = Unit {0}
 AskedF64 Moved figures = Unit {0}
 AskedF64 Without figures = Unit {0}
 AskedF64 (Submit screen limit set points) figures = SetF64 set (take points figures)
-AskedF64 (Density screen density) figures = Unit {0}
+AskedF64 (NewDensity screen density) figures = Unit {0}
 AskedF64 Turn figures = Unit {0}
 AskedF64 (Progress screen) figures = Unit {0}
 
@@ -130,31 +124,31 @@ at_end_lem (reading [] t) a e = by t.spoiled
     by false = e
 at_end_lem (reading (w ∷ ts) t) a e = tt
 
-set_asked_lem : (limit points : ℕ) (figures : List Float) (s : NumberedSet) → KnownSet (take points figures) s
+set_asked_lem : (limit points : ℕ) (figures : List Float) (s : Option FinSet) → KnownSet (take points figures) s
     → AskedF64 (set_asked limit points s) figures
-set_asked_lem limit points figures (set_known set) e = e
-set_asked_lem limit points figures no_set e = tt
+set_asked_lem limit points figures (Some set) e = e
+set_asked_lem limit points figures None e = tt
 
-submit_asked_lem : (screen limit points : ℕ) (figures : List Float) (s : NumberedSet) → KnownSet (take points figures) s
+submit_asked_lem : (screen limit points : ℕ) (figures : List Float) (s : Option FinSet) → KnownSet (take points figures) s
     → AskedF64 (submit_asked screen limit points s) figures
-submit_asked_lem screen limit points figures (set_known set) e = e
-submit_asked_lem screen limit points figures no_set e = tt
+submit_asked_lem screen limit points figures (Some set) e = e
+submit_asked_lem screen limit points figures None e = tt
 
-area_asked_lem : (limit points : ℕ) (figures : List Float) (p : NumberedPlanform) → AskedF64 (area_asked limit points p) figures
-area_asked_lem limit points figures (planform_known p) = tt
-area_asked_lem limit points figures no_planform = tt
+area_asked_lem : (limit points : ℕ) (figures : List Float) (p : Option Planform) → AskedF64 (area_asked limit points p) figures
+area_asked_lem limit points figures (Some p) = tt
+area_asked_lem limit points figures None = tt
 
-drill_asked_lem : (points : ℕ) (figures : List Float) (p : NumberedPlanform) → AskedF64 (drill_asked points p figures) figures
-drill_asked_lem points figures (planform_known p) = tt
-drill_asked_lem points figures no_planform = tt
+drill_asked_lem : (points : ℕ) (figures : List Float) (p : Option Planform) → AskedF64 (drill_asked points p figures) figures
+drill_asked_lem points figures (Some p) = tt
+drill_asked_lem points figures None = tt
 
-tubes_asked_lem : (count : ℕ) (figures : List Float) (d : NumberedDensity) → AskedF64 (tubes_asked count d figures) figures
-tubes_asked_lem count figures (density_known d) = tt
-tubes_asked_lem count figures no_density = tt
+tubes_asked_lem : (count : ℕ) (figures : List Float) (d : Option Density) → AskedF64 (tubes_asked count d figures) figures
+tubes_asked_lem count figures (Some d) = tt
+tubes_asked_lem count figures None = tt
 
-density_asked_lem : (screen : ℕ) (figures : List Float) (d : NumberedDensity) → AskedF64 (density_asked screen d) figures
-density_asked_lem screen figures (density_known d) = tt
-density_asked_lem screen figures no_density = tt
+density_asked_lem : (screen : ℕ) (figures : List Float) (d : Option Density) → AskedF64 (density_asked screen d) figures
+density_asked_lem screen figures (Some d) = tt
+density_asked_lem screen figures None = tt
 
 plain_f64 : (template line : List ℕ) (a : Asked) → ((l : List Float) → AskedF64 a l) → ReadF64 (plain_read template a line)
 unfolding plain_read

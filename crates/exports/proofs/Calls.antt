@@ -7,7 +7,7 @@ use borrow.Author.Tests.{le-leb, lt-leb}
 use lib.ListN.{length}
 use lib.Ieee.{Float}
 use Rattle.refusals.specs.Verdict.{Verdict}
-use Rattle.std.specs.Prelude.{Result}
+use Rattle.std.specs.Prelude.{Result, Option}
 use Rattle.std.specs.Result.{result_unwrap_or}
 use Rattle.refusals.specs.declared.Refusal.{Refusal}
 use Rattle.refusals.specs.Calls.{Does}
@@ -23,8 +23,8 @@ use Rattle.figures.specs.declared.Figures.{Figures}
 use Rattle.planform_chords.specs.PlanformChords.{verdict_of as chords_verdict}
 use Rattle.drill.specs.declared.Place.{Place}
 use Rattle.drill.specs.Drill.{verdict_of, place_number, nearest_of}
-use Rattle.planforms.specs.declared.NumberedPlanform.{NumberedPlanform}
-use Rattle.fins.specs.declared.NumberedSet.{NumberedSet}
+use Rattle.planforms.specs.declared.Planform.{Planform}
+use Rattle.fins.specs.declared.FinSet.{FinSet}
 use Rattle.requests.specs.Calls.{numbered_call, numbered_area, numbered_chords, numbered_drill, tensor_moments, body_verdict}
 use Rattle.refusals.specs.Numbered.{number_in}
 use Rattle.refusals.specs.Lent.{over, with_values, with_count, with_counts, room}
@@ -45,13 +45,13 @@ module _ {A : Type 0} {m : ℕ} {figures : List A} {n : ℕ} {counts : List ℕ}
   pub short_counts : m ≤ length figures → length counts < n → NoRoom m figures n counts
   short_counts h k = record { none = few_counts m figures n counts h k }
 
-module _ {set : NumberedSet} {points : List Float} {L : ℕ} {scratch body : List Float} {counts : List ℕ} where
+module _ {set : Option FinSet} {points : List Float} {L : ℕ} {scratch body : List Float} {counts : List ℕ} where
   pub set_refused : NoRoom body_numbers body 4 counts → SetCall set points L scratch body counts 18 scratch body counts
   set_refused short = let none = short.none in record { returned = rw none; figures = rw none; counted = rw none; lent = rw none }
 
   -- `read` is the set as the code has it
   pub set_written : body_numbers ≤ length body → 4 ≤ length counts
-      → {read : NumberedSet} {f : Figures} {r : ℕ} {scratch' body' : List Float} {counts' : List ℕ} →
+      → {read : Option FinSet} {f : Figures} {r : ℕ} {scratch' body' : List Float} {counts' : List ℕ} →
       read ≡ set → Does (numbered_call read points L (length scratch)) f scratch scratch' →
       body' ≡ with_body body 0 f.body → counts' ≡ figure_counts f counts → r ≡ number_in f.verdict →
       SetCall set points L scratch body counts r scratch' body' counts'
@@ -64,12 +64,12 @@ module _ {set : NumberedSet} {points : List Float} {L : ℕ} {scratch body : Lis
         lent = rw (fits, ← same) e.1;
       }
 
-module _ {planform : NumberedPlanform} {points : List Float} {L : ℕ} {scratch area : List Float} {counts : List ℕ} where
+module _ {planform : Option Planform} {points : List Float} {L : ℕ} {scratch area : List Float} {counts : List ℕ} where
   pub area_refused : NoRoom 3 area 4 counts → AreaCall planform points L scratch area counts 18 scratch area counts
   area_refused short = let none = short.none in record { returned = rw none; figures = rw none; counted = rw none; lent = rw none }
 
   pub area_written : 3 ≤ length area → 4 ≤ length counts
-      → {read : NumberedPlanform} {a : Area} {r : ℕ} {scratch' area' : List Float} {counts' : List ℕ} →
+      → {read : Option Planform} {a : Area} {r : ℕ} {scratch' area' : List Float} {counts' : List ℕ} →
       read ≡ planform → Does (numbered_area read points L (length scratch)) a scratch scratch' →
       area' ≡ over (area_numbers a) area → counts' ≡ area_counts a counts → r ≡ number_in a.verdict →
       AreaCall planform points L scratch area counts r scratch' area' counts'
@@ -82,14 +82,13 @@ module _ {planform : NumberedPlanform} {points : List Float} {L : ℕ} {scratch 
         lent = rw (fits, ← same) e.1;
       }
 
-module _ {planform : NumberedPlanform} {points : List Float} {h : Float} {ends : List Float} {counts : List ℕ} where
+module _ {planform : Option Planform} {points : List Float} {h : Float} {ends : List Float} {counts : List ℕ} where
   pub chords_refused : NoRoom most_points ends 3 counts → ChordsCall planform points h ends counts 18 ends counts
   chords_refused short = let none = short.none in record { returned = rw none; listed = rw none; counted = rw none }
 
   pub chords_written : most_points ≤ length ends → 3 ≤ length counts
-      → {read : NumberedPlanform} {l : Result ℕ Refusal} {v : Verdict} {count r : ℕ} {ends' : List Float} {counts' : List ℕ} →
-      read ≡ planform → Does (numbered_chords read points h) l ends ends' → v ≡ chords_verdict l → count ≡ result_unwrap_or l 0 →
-      counts' ≡ with_count counts v count → r ≡ number_in v →
+      → {read : Option Planform} {l : ChordList} {r : ℕ} {ends' : List Float} {counts' : List ℕ} →
+      read ≡ planform → Does (numbered_chords read points h) l ends ends' → counts' ≡ chord_counts l counts → r ≡ number_in l.verdict →
       ChordsCall planform points h ends counts r ends' counts'
   chords_written k j same d e f c n =
       let fits = has_room most_points ends 3 counts k j in
@@ -99,12 +98,12 @@ module _ {planform : NumberedPlanform} {points : List Float} {h : Float} {ends :
         counted = rw (fits, ← same, ← d.0, ← e, ← f) c;
       }
 
-module _ {planform : NumberedPlanform} {points : List Float} {x height : Float} {counts : List ℕ} where
+module _ {planform : Option Planform} {points : List Float} {x height : Float} {counts : List ℕ} where
   pub drill_refused : length counts < 4 → DrillCall planform points x height counts 18 counts
   drill_refused h = let none = lt-leb 4 (length counts) h in record { returned = rw none; counted = rw none }
 
   -- `read` is the planform as the code has it; v, place and nearest are the answer's parts
-  pub drill_written : 4 ≤ length counts → {read : NumberedPlanform} {a : Result Place Refusal} {v : Verdict} {place nearest r : ℕ} {counts' : List ℕ} →
+  pub drill_written : 4 ≤ length counts → {read : Option Planform} {a : Answer} {v : Verdict} {place nearest r : ℕ} {counts' : List ℕ} →
       read ≡ planform → a ≡ numbered_drill read points x height → v ≡ verdict_of a → place ≡ place_number a → nearest ≡ nearest_of a →
       counts' ≡ with_counts counts v place nearest → r ≡ number_in v → DrillCall planform points x height counts r counts'
   drill_written h same e f g k c n =

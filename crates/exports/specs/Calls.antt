@@ -1,16 +1,16 @@
 -- What a call returns and leaves in the lent lists (include/delvouzh.h). Where a list has no room for what is written
 -- over its start, the call returns 18 (no form) and leaves every list as it was.
-use Rattle.std.specs.Prelude.{◌≡◌, cond, List, [], ◌∷◌, ℕ, leb, length, Float, Result}
+use Rattle.std.specs.Prelude.{◌≡◌, cond, List, [], ◌∷◌, ℕ, leb, length, Float, Result, Option}
 use Rattle.std.specs.Result.{result_unwrap_or}
 use Rattle.floats.specs.Operations.{at}
 use Rattle.refusals.specs.declared.Refusal.{Refusal}
 use Rattle.refusals.specs.declared.Refusal.TheVariants.{NoForm}
 use Rattle.refusals.specs.Refusals.{number_of}
-use Rattle.planforms.specs.declared.NumberedPlanform.{NumberedPlanform}
 use Rattle.planform_chords.specs.PlanformChords.{verdict_of as chords_verdict}
 use Rattle.drill.specs.declared.Place.{Place}
+use Rattle.planforms.specs.declared.Planform.{Planform}
 use Rattle.drill.specs.Drill.{verdict_of, place_number, nearest_of}
-use Rattle.fins.specs.declared.NumberedSet.{NumberedSet}
+use Rattle.fins.specs.declared.FinSet.{FinSet}
 use Rattle.bodies.specs.Layout.{body_numbers}
 use Rattle.joins.specs.declared.JoinedBody.{JoinedBody}
 use Rattle.joins.specs.Flat.{with_body}
@@ -26,7 +26,7 @@ use Rattle.figures.specs.Numbered.{figure_counts}
 
 -- ---- a set's figures
 
-pub record SetCall (set : NumberedSet) (points : List Float) (L : ℕ) (scratch body : List Float) (counts : List ℕ)
+pub record SetCall (set : Option FinSet) (points : List Float) (L : ℕ) (scratch body : List Float) (counts : List ℕ)
     (r : ℕ) (scratch' body' : List Float) (counts' : List ℕ) : Type 0 where
   pub returned :
       r ≡ cond (room body_numbers body 4 counts)
@@ -50,7 +50,7 @@ area_numbers a = a.area_m2 ∷ a.centroid_x_m ∷ a.centroid_span_m ∷ []
 abbrev pub area_counts : Area → List ℕ → List ℕ
 area_counts a counts = with_counts counts a.verdict a.intervals a.samples
 
-pub record AreaCall (planform : NumberedPlanform) (points : List Float) (L : ℕ) (scratch area : List Float)
+pub record AreaCall (planform : Option Planform) (points : List Float) (L : ℕ) (scratch area : List Float)
     (counts : List ℕ) (r : ℕ) (scratch' area' : List Float) (counts' : List ℕ) : Type 0 where
   pub returned :
       r ≡ cond (room 3 area 4 counts) (number_in (numbered_area planform points L (length scratch)).answer.verdict)
@@ -70,7 +70,7 @@ pub record AreaCall (planform : NumberedPlanform) (points : List Float) (L : ℕ
 abbrev pub chord_counts : Result ℕ Refusal → List ℕ → List ℕ
 chord_counts chords counts = with_count counts (chords_verdict chords) (result_unwrap_or chords 0)
 
-pub record ChordsCall (planform : NumberedPlanform) (points : List Float) (h : Float) (ends : List Float)
+pub record ChordsCall (planform : Option Planform) (points : List Float) (h : Float) (ends : List Float)
     (counts : List ℕ) (r : ℕ) (ends' : List Float) (counts' : List ℕ) : Type 0 where
   pub returned :
       r ≡ cond (room most_points ends 3 counts) (number_in (chords_verdict (numbered_chords planform points h).answer))
@@ -86,7 +86,7 @@ pub record ChordsCall (planform : NumberedPlanform) (points : List Float) (h : F
 abbrev pub drill_counts : Result Place Refusal → List ℕ → List ℕ
 drill_counts a counts = with_counts counts (verdict_of a) (place_number a) (nearest_of a)
 
-pub record DrillCall (planform : NumberedPlanform) (points : List Float) (x height : Float) (counts : List ℕ) (r : ℕ)
+pub record DrillCall (planform : Option Planform) (points : List Float) (x height : Float) (counts : List ℕ) (r : ℕ)
     (counts' : List ℕ) : Type 0 where
   pub returned :
       r ≡ cond (leb 4 (length counts)) (number_in (verdict_of (numbered_drill planform points x height)))

@@ -49,7 +49,7 @@ pub struct FinSet {
 // How many figures a tab has.
 pub const TAB_FIGURES: usize = 3;
 
-// Returns 0 for no tab, 1 for a slab.
+// Returns 0 for no tab, 1 for a slab. The figures are dropped, so this is no conversion.
 fn tab_number(tab: Tab) -> usize
     ensures { result ≡ tab_number tab }
 {
@@ -78,6 +78,7 @@ fn tab_figures(tab: Tab) -> [f64; TAB_FIGURES]
 }
 
 // Returns the tab of a number and figures; any number but 0 and 1 is no tab's.
+#[tactic(auto, unfolding(crate::specs::Numbered::tab_of))]
 pub fn tab_of(number: usize, figures: [f64; TAB_FIGURES]) -> Option<Tab>
     ensures { result ≡ tab_of number figures }
 {
@@ -171,7 +172,7 @@ pub fn counts_of(set: FinSet) -> [usize; SET_COUNTS]
     [
         set.count,
         planforms::number_of(planform),
-        sections::number_of(section),
+        usize::from(section),
         tab_number(tab),
         materials::number_of(density),
         materials::number_of(glue),
@@ -187,7 +188,7 @@ pub fn set_in(numbers: &[f64], counts: &[usize]) -> Option<FinSet>
         counts[0],
         planforms::planform_of(counts[1], [numbers[0], numbers[1], numbers[2], numbers[3]]),
         numbers[4],
-        sections::numbered_section(counts[2]),
+        Section::try_from(counts[2]).ok(),
         tab_of(counts[3], [numbers[9], numbers[10], numbers[11]]),
         fillets::fillet_of(counts[5], [numbers[12], numbers[13]]),
         numbers[5],
@@ -198,6 +199,7 @@ pub fn set_in(numbers: &[f64], counts: &[usize]) -> Option<FinSet>
 }
 
 // Returns the set that two lists are; lists of another length are no set's.
+#[tactic(auto, unfolding(crate::specs::Numbered::listed_set))]
 pub fn listed_set(numbers: &[f64], counts: &[usize]) -> Option<FinSet>
     ensures { result ≡ listed_set numbers.now counts.now }
 {

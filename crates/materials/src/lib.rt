@@ -14,7 +14,7 @@ pub enum Density {
     Line { kg_m: f64 },
 }
 
-// Returns the number of a density's kind: 1 bulk, 2 surface, 3 line.
+// Returns the number of a density's kind: 1 bulk, 2 surface, 3 line. The figure is dropped, so this is no conversion.
 pub fn number_of(density: Density) -> usize
     ensures { result ≡ density_number density }
 {
@@ -37,6 +37,7 @@ pub fn figure_of(density: Density) -> f64
 }
 
 // Returns the density of a kind's number and a figure; any number but 1, 2 and 3 is no kind's.
+#[tactic(auto, unfolding(crate::specs::Numbered::numbered_density))]
 pub fn numbered_density(number: usize, density: f64) -> Option<Density>
     ensures { result ≡ numbered_density number density }
 {

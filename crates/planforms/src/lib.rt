@@ -28,7 +28,8 @@ pub enum Planform {
 // zeros after its own.
 pub const LENGTHS: usize = 4;
 
-// Returns the number of a planform's kind: 1 a trapezoid, 2 an ellipse, 3 an outline.
+// Returns the number of a planform's kind: 1 a trapezoid, 2 an ellipse, 3 an outline. The lengths are dropped, so this
+// is no conversion.
 pub fn number_of(planform: Planform) -> usize
     ensures { result ≡ planform_number planform }
 {
@@ -60,6 +61,7 @@ pub fn lengths_of(planform: Planform) -> [f64; LENGTHS]
 }
 
 // Returns the planform of a kind's number and lengths; any number but 1, 2 and 3 is no kind's.
+#[tactic(auto, unfolding(crate::specs::Numbered::planform_of))]
 pub fn planform_of(number: usize, lengths: [f64; LENGTHS]) -> Option<Planform>
     ensures { result ≡ planform_of number lengths }
 {
@@ -81,6 +83,7 @@ pub fn planform_of(number: usize, lengths: [f64; LENGTHS]) -> Option<Planform>
 
 // Returns the planform of a kind's number and of lengths that C or Rust lends; any other count of lengths than
 // `LENGTHS` is no planform's.
+#[tactic(auto, unfolding(crate::specs::Numbered::listed_planform))]
 pub fn listed_planform(number: usize, lengths: &[f64]) -> Option<Planform>
     ensures { result ≡ listed_planform number lengths.now }
 {

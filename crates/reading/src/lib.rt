@@ -22,6 +22,7 @@ use fins::FinSet;
 use materials::Density;
 use planforms::Planform;
 use refusals::Refusal;
+use sections::Section;
 use templates::{Cursor, same_bytes};
 use tokens::{LINE_BYTES, TokenRange};
 use tubes::TubeFinSet;
@@ -254,7 +255,7 @@ fn set_in(p: SetParts, figures: &[f64]) -> Option<FinSet>
     ensures { result ≡ set_of p figures.now }
 {
     let planform = planform_in(p.planform, figures);
-    let section = sections::numbered_section(p.section);
+    let section = Section::try_from(p.section).ok();
     let slab = behind(figures, p.before_tab);
     let tab = fins::tab_of(p.tab, [figure(slab, 0), figure(slab, 1), figure(slab, 2)]);
     let glue = behind(figures, p.before_fillet);

@@ -41,7 +41,13 @@ fn no_figures() -> Figures
 }
 
 // Returns a set's figures, worked over a lent scratch; a set that is unknown is refused with 18.
-pub fn set_figures(set: Option<FinSet>, points: &[f64], limit: usize, scratch: &mut [f64]) -> Figures
+#[tactic(auto, unfolding(crate::specs::Calls::numbered_call))]
+pub fn set_figures(
+    set: Option<FinSet>,
+    points: &[f64],
+    limit: usize,
+    scratch: &mut [f64],
+) -> Figures
     ensures { Does (numbered_call set points.now limit (length scratch.old))
         result scratch.old scratch.new }
 {
@@ -66,6 +72,7 @@ fn no_area() -> Area
 }
 
 // Returns a planform's area, worked over a lent scratch; a planform that is unknown is refused with 18.
+#[tactic(auto, unfolding(crate::specs::Calls::numbered_area))]
 pub fn area_figures(
     planform: Option<Planform>,
     points: &[f64],
@@ -83,6 +90,7 @@ pub fn area_figures(
 
 // Lists a planform's chords at a height in metres over the start of a lent list; a planform that is unknown is refused
 // with 18.
+#[tactic(auto, unfolding(crate::specs::Calls::numbered_chords))]
 pub fn listed_chords(
     planform: Option<Planform>,
     points: &[f64],
@@ -99,12 +107,8 @@ pub fn listed_chords(
 }
 
 // Returns where a point lies beside a planform, and the nearest corner; a planform that is unknown is refused with 18.
-pub fn drilled(
-    planform: Option<Planform>,
-    points: &[f64],
-    x_m: f64,
-    height_m: f64,
-) -> Result<Place, Refusal>
+#[tactic(auto, unfolding(crate::specs::Calls::numbered_drill))]
+pub fn drilled(planform: Option<Planform>, points: &[f64], x_m: f64, height_m: f64) -> Answer
     ensures { result ≡ numbered_drill planform points.now x_m height_m }
 {
     match planform {

@@ -7,14 +7,11 @@ use borrow.Author.Tests.{le-leb, lt-leb, leb-true}
 use lib.Dec.{leb}
 use lib.ListN.{length, set}
 use lib.Ieee.{Float}
+use Rattle.std.specs.Prelude.{Option, Some, None}
 use Rattle.refusals.specs.Calls.{CallOf}
 use Rattle.refusals.proofs.Accepted.{both_true}
 use Rattle.materials.specs.declared.Density.{Density}
-use Rattle.materials.specs.declared.NumberedDensity.{NumberedDensity}
-use Rattle.materials.specs.declared.NumberedDensity.TheVariants.{Known as density_known, Unknown as no_density}
 use Rattle.fins.specs.declared.FinSet.{FinSet}
-use Rattle.fins.specs.declared.NumberedSet.{NumberedSet}
-use Rattle.fins.specs.declared.NumberedSet.TheVariants.{Known as set_known, Unknown as no_set}
 use Rattle.joins.specs.Flat.{with_body}
 use Rattle.figures.specs.Numbered.{figure_counts}
 use Rattle.jobs.specs.declared.JobProgress.{JobProgress}
@@ -94,25 +91,25 @@ module _ {Change : Type 0} (memory : MemoryKind Change) (stays : (l : Lists) →
         }
 
   -- numbers that are read as those asked stand for a set or a density, or for none: no form, and the memory stays
-  module _ {n : ℕ} {tells : List ℕ → Reply → List ℕ} {told : List ℕ} {asked read : NumberedSet} (ask : FinSet → Effect Change) where
+  module _ {n : ℕ} {tells : List ℕ → Reply → List ℕ} {told : List ℕ} {asked read : Option FinSet} (ask : FinSet → Effect Change) where
     pub set_told : {a : Reply} {r : ℕ} {after : Lists} {told' : List ℕ} (set : FinSet) → told_room memory before n told ≡ true →
-        read ≡ asked → read ≡ set_known set → a ≡ (ask set).reply → memory.Leaves (ask set).change before after →
+        read ≡ asked → read ≡ Some set → a ≡ (ask set).reply → memory.Leaves (ask set).change before after →
         TellsReply tells a told r told' → ReplyCall memory before (asked_of_set memory before asked ask) n tells told r after told'
     set_told set fits same known answered leaves t = reply_told fits (rw (← same, known)) answered leaves t
 
     pub no_set_told : {a : Reply} {r : ℕ} {told' : List ℕ} → told_room memory before n told ≡ true →
-        read ≡ asked → read ≡ no_set → a ≡ (no_form memory before).reply → TellsReply tells a told r told' →
+        read ≡ asked → read ≡ None → a ≡ (no_form memory before).reply → TellsReply tells a told r told' →
         ReplyCall memory before (asked_of_set memory before asked ask) n tells told r before told'
     no_set_told fits same none answered t = reply_told fits (rw (← same, none)) answered (stays before) t
 
-  module _ {n : ℕ} {tells : List ℕ → Reply → List ℕ} {told : List ℕ} {asked read : NumberedDensity} (ask : Density → Effect Change) where
+  module _ {n : ℕ} {tells : List ℕ → Reply → List ℕ} {told : List ℕ} {asked read : Option Density} (ask : Density → Effect Change) where
     pub density_told : {a : Reply} {r : ℕ} {after : Lists} {told' : List ℕ} (density : Density) → told_room memory before n told ≡ true →
-        read ≡ asked → read ≡ density_known density → a ≡ (ask density).reply → memory.Leaves (ask density).change before after →
+        read ≡ asked → read ≡ Some density → a ≡ (ask density).reply → memory.Leaves (ask density).change before after →
         TellsReply tells a told r told' → ReplyCall memory before (asked_of_density memory before asked ask) n tells told r after told'
     density_told density fits same known answered leaves t = reply_told fits (rw (← same, known)) answered leaves t
 
     pub no_density_told : {a : Reply} {r : ℕ} {told' : List ℕ} → told_room memory before n told ≡ true →
-        read ≡ asked → read ≡ no_density → a ≡ (no_form memory before).reply → TellsReply tells a told r told' →
+        read ≡ asked → read ≡ None → a ≡ (no_form memory before).reply → TellsReply tells a told r told' →
         ReplyCall memory before (asked_of_density memory before asked ask) n tells told r before told'
     no_density_told fits same none answered t = reply_told fits (rw (← same, none)) answered (stays before) t
 

@@ -2,18 +2,14 @@
 -- (include/delvouzh.h; document 02, Papers 9 and 10). An unknown number of a set's part or of a density is refused with
 -- 18, before every other refusal, and changes nothing. Where a list has no room a call returns 18 and leaves every list
 -- as it was.
-use Rattle.std.specs.Prelude.{◌≡◌, Bool, cond, ◌&&◌, List, [], ◌∷◌, ℕ, leb, length, Float, Err}
+use Rattle.std.specs.Prelude.{◌≡◌, Bool, cond, ◌&&◌, List, [], ◌∷◌, ℕ, leb, length, Float, Err, Option, Some, None}
 use Rattle.refusals.specs.declared.Refusal.TheVariants.{NoForm}
 use Rattle.refusals.specs.Refusals.{number_of}
 use Rattle.refusals.specs.Calls.{CallOf}
 use Rattle.refusals.specs.Numbered.{number_in}
 use Rattle.refusals.specs.Lent.{over, with_values, with_counts, room}
 use Rattle.materials.specs.declared.Density.{Density}
-use Rattle.materials.specs.declared.NumberedDensity.{NumberedDensity}
-use Rattle.materials.specs.declared.NumberedDensity.TheVariants.{Known as density_known, Unknown as no_density}
 use Rattle.fins.specs.declared.FinSet.{FinSet}
-use Rattle.fins.specs.declared.NumberedSet.{NumberedSet}
-use Rattle.fins.specs.declared.NumberedSet.TheVariants.{Known as set_known, Unknown as no_set}
 use Rattle.bodies.specs.Layout.{body_numbers}
 use Rattle.joins.specs.Flat.{with_body}
 use Rattle.figures.specs.Numbered.{figure_counts}
@@ -83,13 +79,13 @@ module _ {Change : Type 0} (memory : MemoryKind Change) (before : Lists) where
 
   -- the effect of what numbers ask: that of the set or the density which they stand for, and no form where they stand
   -- for none
-  abbrev pub asked_of_set : NumberedSet → (FinSet → Effect Change) → Effect Change
-  asked_of_set (set_known set) asked = asked set
-  asked_of_set no_set asked = no_form
+  abbrev pub asked_of_set : Option FinSet → (FinSet → Effect Change) → Effect Change
+  asked_of_set (Some set) asked = asked set
+  asked_of_set None asked = no_form
 
-  abbrev pub asked_of_density : NumberedDensity → (Density → Effect Change) → Effect Change
-  asked_of_density (density_known density) asked = asked density
-  asked_of_density no_density asked = no_form
+  abbrev pub asked_of_density : Option Density → (Density → Effect Change) → Effect Change
+  asked_of_density (Some density) asked = asked density
+  asked_of_density None asked = no_form
 
   -- a call whose reply is told in at least n counts
   module _ (effect : Effect Change) (n : ℕ) (tells : List ℕ → Reply → List ℕ) (told : List ℕ) where

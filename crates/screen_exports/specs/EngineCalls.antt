@@ -1,13 +1,11 @@
 -- The calls on an engine in lent memory (include/delvouzh.h; document 02, Paper 10): the reply or the answer of each,
 -- and what it changes. specs/Calls says what it then returns and leaves in the lent lists.
-use Rattle.std.specs.Prelude.{◌≡◌, Bool, true, cond, List, [], ◌∷◌, ◌++◌, ℕ, leb, length, drop, set, replicate, Float}
+use Rattle.std.specs.Prelude.{◌≡◌, Bool, true, cond, List, [], ◌∷◌, ◌++◌, ℕ, leb, length, drop, set, replicate, Float, Option}
 use Rattle.refusals.specs.declared.Refusal.TheVariants.{NoForm}
 use Rattle.refusals.specs.Refusals.{number_of}
 use Rattle.refusals.specs.Calls.{CallOf}
 use Rattle.materials.specs.declared.Density.{Density}
-use Rattle.materials.specs.declared.NumberedDensity.{NumberedDensity}
 use Rattle.fins.specs.declared.FinSet.{FinSet}
-use Rattle.fins.specs.declared.NumberedSet.{NumberedSet}
 use Rattle.jobs.specs.declared.Row.{Row}
 use Rattle.engines.specs.declared.Engine.{Engine}
 use Rattle.engines.specs.declared.EngineTurn.{EngineTurn}
@@ -48,12 +46,12 @@ abbrev pub with_screen : EngineTurn → List ℕ → List ℕ
 with_screen t counts = set counts 4 (served_screen t.turn)
 
 module _ (before : Lists) where
-  abbrev pub SubmitCall : ℕ → NumberedSet → List Float → ℕ → List ℕ → ℕ → Lists → List ℕ → Type 0
+  abbrev pub SubmitCall : ℕ → Option FinSet → List Float → ℕ → List ℕ → ℕ → Lists → List ℕ → Type 0
   SubmitCall screen set points L values =
       ReplyCall engine_memory before
       (asked_of_set engine_memory before set (submitting (engine_of before) screen points L)) 2 reply_values values
 
-  abbrev pub DensityCall : ℕ → NumberedDensity → List ℕ → ℕ → Lists → List ℕ → Type 0
+  abbrev pub DensityCall : ℕ → Option Density → List ℕ → ℕ → Lists → List ℕ → Type 0
   DensityCall screen density told =
       ReplyCall engine_memory before
       (asked_of_density engine_memory before density (changing (engine_of before) screen)) 4 reply_counts told

@@ -1,11 +1,9 @@
 -- The calls on a job in lent memory (include/delvouzh.h; document 02, Paper 9): the reply or the answer of each, and
 -- what it changes. specs/Calls says what it then returns and leaves in the lent lists.
-use Rattle.std.specs.Prelude.{Bool, true, false, List, ℕ, length, Float}
+use Rattle.std.specs.Prelude.{Bool, true, false, List, ℕ, length, Float, Option}
 use Rattle.refusals.specs.Calls.{CallOf}
 use Rattle.materials.specs.declared.Density.{Density}
-use Rattle.materials.specs.declared.NumberedDensity.{NumberedDensity}
 use Rattle.fins.specs.declared.FinSet.{FinSet}
-use Rattle.fins.specs.declared.NumberedSet.{NumberedSet}
 use Rattle.jobs.specs.declared.Job.{Job}
 use Rattle.jobs.specs.declared.Row.{Row}
 use Rattle.jobs.specs.Jobs.{step_of, change_of, made_of, progress_of}
@@ -54,11 +52,11 @@ changing job density =
     }
 
 module _ (before : Lists) where
-  abbrev pub MakeCall : NumberedSet → List Float → ℕ → List ℕ → ℕ → Lists → List ℕ → Type 0
+  abbrev pub MakeCall : Option FinSet → List Float → ℕ → List ℕ → ℕ → Lists → List ℕ → Type 0
   MakeCall set points L values =
       ReplyCall job_memory before (asked_of_set job_memory before set (making points L)) 2 reply_values values
 
-  abbrev pub ChangeCall : NumberedDensity → List ℕ → ℕ → Lists → List ℕ → Type 0
+  abbrev pub ChangeCall : Option Density → List ℕ → ℕ → Lists → List ℕ → Type 0
   ChangeCall density told =
       ReplyCall job_memory before (asked_of_density job_memory before density (changing (job_of before))) 4 reply_counts
       told

@@ -23,11 +23,9 @@ ghost use Rattle.screen_exports.specs.LineCalls.{LineCall};
 
 use answers::ANSWER_BYTES;
 use bodies::BODY_NUMBERS;
-use fins::NumberedSet;
 use jobs::{JobProgress, Reply, Row};
 use lent_engines::{ENGINE_COUNTS, ENGINE_NUMBERS};
 use lent_jobs::{JOB_COUNTS, JOB_NUMBERS};
-use materials::NumberedDensity;
 use refusals::{NO_FORM, Refusal, Verdict};
 
 // Tells whether there are at least m numbers and n counts.
@@ -127,7 +125,7 @@ pub extern "C" fn delvouzh_job_make(
         return NO_FORM;
     }
     let asked = fins::listed_set(set_numbers, set_counts);
-    let NumberedSet::Known(set) = asked else {
+    let Some(set) = asked else {
         return tell_values(values, no_form());
     };
     let reply = lent_jobs::make(job_numbers, job_counts, set, points, limit);
@@ -179,7 +177,7 @@ pub extern "C" fn delvouzh_job_change_density(
         return NO_FORM;
     }
     let asked = materials::numbered_density(density, figure);
-    let NumberedDensity::Known(density) = asked else {
+    let Some(density) = asked else {
         return tell_counts(counts, no_form());
     };
     let reply = lent_jobs::change_density(job_numbers, job_counts, density);
@@ -241,7 +239,7 @@ pub extern "C" fn delvouzh_engine_submit(
         return NO_FORM;
     }
     let asked = fins::listed_set(set_numbers, set_counts);
-    let NumberedSet::Known(set) = asked else {
+    let Some(set) = asked else {
         return tell_values(values, no_form());
     };
     let reply = lent_engines::submit(engine_numbers, engine_counts, screen, set, points, limit);
@@ -296,7 +294,7 @@ pub extern "C" fn delvouzh_engine_change_density(
         return NO_FORM;
     }
     let asked = materials::numbered_density(density, figure);
-    let NumberedDensity::Known(density) = asked else {
+    let Some(density) = asked else {
         return tell_counts(counts, no_form());
     };
     let reply = lent_engines::change_density(engine_numbers, engine_counts, screen, density);

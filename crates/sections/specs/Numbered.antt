@@ -1,6 +1,8 @@
 -- A section by its number: its place in docs/FORMS.md, "square, rounded, airfoil or airfoil-open" (include/delvouzh.h).
-use Rattle.std.specs.Prelude.{cond, ℕ, eqb, Option, Some, None}
+use Rattle.std.specs.Prelude.{◌≡◌, cond, ℕ, eqb, Option, Some, None, Result, IfErr}
+use Rattle.std.specs.Result.{result_ok}
 use Rattle.sections.specs.declared.Section.{Section}
+use Rattle.sections.specs.declared.UnknownSection.{UnknownSection}
 use Rattle.sections.specs.declared.Section.TheVariants.{Square, Rounded, Airfoil, AirfoilOpen}
 
 abbrev pub section_number : Section → ℕ
@@ -16,3 +18,7 @@ numbered_section number =
     (cond (eqb number 2) (Some Rounded)
     (cond (eqb number 3) (Some Airfoil)
     (cond (eqb number 4) (Some AirfoilOpen) None)))
+
+-- a conversion gives the section that a number stands for, or an error with the number where there is none
+abbrev pub TriesSection : ℕ → Result Section UnknownSection → Type 0
+TriesSection number r = (result_ok r ≡ numbered_section number) × IfErr r (λ e. e.0 ≡ number)

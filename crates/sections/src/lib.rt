@@ -17,7 +17,7 @@
 ghost use Rattle.std.specs.Prelude.{◌≡◌};
 ghost use Rattle.sections.specs.Airfoil.{closed_tail, open_tail, airfoil_constants, AreConstants};
 ghost use Rattle.sections.specs.ChordMoments.{chord_moments, square_moments, rounded_moments, naca4_moments, tail_of};
-ghost use Rattle.sections.specs.Numbered.{section_number, numbered_section};
+ghost use Rattle.sections.specs.Numbered.{section_number, TriesSection};
 
 // The shape of a fin's section along its chord (fins.rs, `FinCrossSection`), the airfoil's tail closed or open.
 #[derive(Clone, Copy)]
@@ -28,28 +28,39 @@ pub enum Section {
     AirfoilOpen,
 }
 
-// Returns the number of a section: 1 square, 2 rounded, 3 airfoil, 4 airfoil-open.
-pub fn number_of(section: Section) -> usize
-    ensures { result ≡ section_number section }
-{
-    match section {
-        Section::Square => 1,
-        Section::Rounded => 2,
-        Section::Airfoil => 3,
-        Section::AirfoilOpen => 4,
+// A number that is no section's.
+#[derive(Clone, Copy, Debug)]
+pub struct UnknownSection(pub usize);
+
+// The number of a section: 1 square, 2 rounded, 3 airfoil, 4 airfoil-open.
+impl From<Section> for usize {
+    ghost from_gives = { λ section number. number ≡ section_number section };
+
+    fn from(section: Section) -> usize {
+        match section {
+            Section::Square => 1,
+            Section::Rounded => 2,
+            Section::Airfoil => 3,
+            Section::AirfoilOpen => 4,
+        }
     }
 }
 
-// Returns the section of a number; any number but 1 to 4 is no section's.
-pub fn numbered_section(number: usize) -> Option<Section>
-    ensures { result ≡ numbered_section number }
-{
-    match number {
-        1 => Some(Section::Square),
-        2 => Some(Section::Rounded),
-        3 => Some(Section::Airfoil),
-        4 => Some(Section::AirfoilOpen),
-        _ => None,
+// The section of a number; any number but 1 to 4 is no section's.
+impl TryFrom<usize> for Section {
+    type Error = UnknownSection;
+
+    ghost try_from_gives = { TriesSection };
+
+    #[tactic(auto, unfolding(crate::specs::Numbered::numbered_section))]
+    fn try_from(number: usize) -> Result<Section, UnknownSection> {
+        match number {
+            1 => Ok(Section::Square),
+            2 => Ok(Section::Rounded),
+            3 => Ok(Section::Airfoil),
+            4 => Ok(Section::AirfoilOpen),
+            _ => Err(UnknownSection(number)),
+        }
     }
 }
 

@@ -6,7 +6,7 @@ ghost use Rattle.test_questions.specs.Parts.{line_figures};
 use crate::{lines, section_lines};
 use chords::Chords;
 use integrands::Integrand;
-use planforms::{NumberedPlanform, Planform};
+use planforms::Planform;
 
 // Returns where the height stands among the figures: it is the last of those that are asked.
 pub(crate) fn height_place(asked: usize) -> usize
@@ -28,10 +28,7 @@ fn planform_of(number: usize, points: &[f64]) -> Planform {
         length_at(points, 2),
         length_at(points, 3),
     ];
-    match planforms::planform_of(number, lengths) {
-        NumberedPlanform::Known(planform) => planform,
-        NumberedPlanform::Unknown => Planform::Outline,
-    }
+    planforms::planform_of(number, lengths).unwrap_or(Planform::Outline)
 }
 
 fn ends_agree(answers: &[f64], planform: Planform, points: &[f64], h: f64) -> bool {

@@ -3,16 +3,14 @@ ghost use Rattle.std.specs.Prelude.{◌≤◌, length};
 ghost use Rattle.test_questions.specs.Parts.{line_figures};
 
 use crate::lines;
-use fins::NumberedTab;
-use sections::{NumberedSection, Section};
+use sections::Section;
 use segments::{Point, Segment};
 
 // Returns the section of a number that a line has: one of the four.
 pub(crate) fn section_of(number: usize) -> Section {
-    match sections::numbered_section(number) {
-        NumberedSection::Known(section) => section,
-        NumberedSection::Unknown => Section::Square,
-    }
+    sections::Section::try_from(number)
+        .ok()
+        .unwrap_or(Section::Square)
 }
 
 pub(crate) fn moments_agree(section: usize, values: &[f64], answers: &[f64]) -> bool
@@ -25,7 +23,7 @@ pub(crate) fn moments_agree(section: usize, values: &[f64], answers: &[f64]) -> 
 pub(crate) fn tab_agrees(values: &[f64], answers: &[f64]) -> bool
     requires { line_figures ≤ length values.now }
 {
-    let NumberedTab::Known(tab) = fins::tab_of(1, [values[2], values[3], values[4]]) else {
+    let Some(tab) = fins::tab_of(1, [values[2], values[3], values[4]]) else {
         return false;
     };
     let r = plates::tab_integrals(tab, values[0], values[1]);

@@ -4,9 +4,9 @@ use Rattle.fins.proofs.counts_of.Goals as goal
 pub returns : goal.returns
 returns c =
     rw (
-      c.number_of-4.ensures,
       c.number_of-3.ensures,
-      c.tab_number.ensures,
       c.number_of-2.ensures,
+      c.tab_number.ensures,
+      c.from.ensures,
       c.number_of.ensures,
     )

@@ -13,6 +13,7 @@ returns c =
       c.numbered_density.ensures,
       c.fillet_of.ensures,
       c.tab_of.ensures,
-      c.numbered_section.ensures,
+      c.ok.ensures.value,
+      c.try_from.ensures.0,
       c.planform_of.ensures,
     )

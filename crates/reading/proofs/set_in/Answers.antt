@@ -1,10 +1,11 @@
 -- `reading::set_in` meets its contract: each part is the definition's. Assumes nothing.
+use mathlib.Core.Path.{◌∙◌}
 use Rattle.reading.proofs.Sets.{together, tab_is, fillet_is}
 use Rattle.reading.proofs.set_in.Goals as goal
 
 pub returns : goal.returns
 returns c =
-    together _ _ c.planform_in-planform.ensures c.numbered_section-section.ensures
+    together _ _ c.planform_in-planform.ensures (c.ok-section.ensures.value ∙ c.try_from.ensures.0)
     c.behind-slab.ensures
     (tab_is _ _ c.tab_of-tab.ensures c.figure.ensures c.figure-2.ensures
     c.figure-3.ensures)

@@ -30,5 +30,5 @@ tell_values-requires-2 c =
 pub returns : goal.returns
 returns c =
     set_told engine_memory engine_stays _ _ _ (fits c.engine_fits.ensures refl c.if-not-fits.false-raw)
-    c.listed_set-asked.ensures c.in-Known.is
+    c.listed_set-asked.ensures c.in-Some.is
     c.submit-reply.ensures.answered c.submit-reply.ensures.leaves c.tell_values-2.ensures

@@ -30,5 +30,5 @@ tell_counts-requires-2 c =
 pub returns : goal.returns
 returns c =
     density_told job_memory job_stays _ _ _ (fits c.job_fits.ensures refl c.if-not-fits.false-raw)
-    c.numbered_density-asked.ensures c.in-Known.is
+    c.numbered_density-asked.ensures c.in-Some.is
     c.change_density-reply.ensures.answered c.change_density-reply.ensures.leaves c.tell_counts-2.ensures

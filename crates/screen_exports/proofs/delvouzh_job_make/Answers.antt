@@ -30,5 +30,5 @@ tell_values-requires-2 c =
 pub returns : goal.returns
 returns c =
     set_told job_memory job_stays _ _ _ (fits c.job_fits.ensures refl c.if-not-fits.false-raw)
-    c.listed_set-asked.ensures c.in-Known.is
+    c.listed_set-asked.ensures c.in-Some.is
     c.make-reply.ensures.answered c.make-reply.ensures.holds c.tell_values-2.ensures
