@@ -87,8 +87,9 @@ module _ {planform : Option Planform} {points : List Float} {h : Float} {ends : 
   chords_refused short = let none = short.none in record { returned = rw none; listed = rw none; counted = rw none }
 
   pub chords_written : most_points ≤ length ends → 3 ≤ length counts
-      → {read : Option Planform} {l : ChordList} {r : ℕ} {ends' : List Float} {counts' : List ℕ} →
-      read ≡ planform → Does (numbered_chords read points h) l ends ends' → counts' ≡ chord_counts l counts → r ≡ number_in l.verdict →
+      → {read : Option Planform} {l : Result ℕ Refusal} {v : Verdict} {count r : ℕ} {ends' : List Float} {counts' : List ℕ} →
+      read ≡ planform → Does (numbered_chords read points h) l ends ends' → v ≡ chords_verdict l → count ≡ result_unwrap_or l 0 →
+      counts' ≡ with_count counts v count → r ≡ number_in v →
       ChordsCall planform points h ends counts r ends' counts'
   chords_written k j same d e f c n =
       let fits = has_room most_points ends 3 counts k j in
@@ -103,7 +104,7 @@ module _ {planform : Option Planform} {points : List Float} {x height : Float} {
   drill_refused h = let none = lt-leb 4 (length counts) h in record { returned = rw none; counted = rw none }
 
   -- `read` is the planform as the code has it; v, place and nearest are the answer's parts
-  pub drill_written : 4 ≤ length counts → {read : Option Planform} {a : Answer} {v : Verdict} {place nearest r : ℕ} {counts' : List ℕ} →
+  pub drill_written : 4 ≤ length counts → {read : Option Planform} {a : Result Place Refusal} {v : Verdict} {place nearest r : ℕ} {counts' : List ℕ} →
       read ≡ planform → a ≡ numbered_drill read points x height → v ≡ verdict_of a → place ≡ place_number a → nearest ≡ nearest_of a →
       counts' ≡ with_counts counts v place nearest → r ≡ number_in v → DrillCall planform points x height counts r counts'
   drill_written h same e f g k c n =

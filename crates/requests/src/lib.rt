@@ -108,7 +108,12 @@ pub fn listed_chords(
 
 // Returns where a point lies beside a planform, and the nearest corner; a planform that is unknown is refused with 18.
 #[tactic(auto, unfolding(crate::specs::Calls::numbered_drill))]
-pub fn drilled(planform: Option<Planform>, points: &[f64], x_m: f64, height_m: f64) -> Answer
+pub fn drilled(
+    planform: Option<Planform>,
+    points: &[f64],
+    x_m: f64,
+    height_m: f64,
+) -> Result<Place, Refusal>
     ensures { result ≡ numbered_drill planform points.now x_m height_m }
 {
     match planform {
