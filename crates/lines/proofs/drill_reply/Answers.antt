@@ -16,17 +16,17 @@ drilled : (planform : Planform) (x height : Float) {outline points : List Float}
     ≡ drill_reply (drill_of planform points x height)
 drilled planform x height k d e h = h ∙ ap drill_reply (sym k ∙ d ∙ ap (λ (p : List Float). drill_of planform p x height) e)
 
-pub returns-in-Inside : goal.returns-in-Inside
-returns-in-Inside c =
-    drilled _ _ _ c.in-Inside.is c.drill-found.ensures.is c.first-outline.ensures c.count_reply.ensures
+pub returns-in-Ok-Inside : goal.returns-in-Ok-Inside
+returns-in-Ok-Inside c =
+    drilled _ _ _ c.in-Ok-Inside.is c.drill-found.ensures.is c.first-outline.ensures c.count_reply.ensures
 
-pub returns-in-Edge : goal.returns-in-Edge
-returns-in-Edge c =
-    drilled _ _ _ c.in-Edge.is c.drill-found.ensures.is c.first-outline.ensures c.count_reply-in-Edge.ensures
+pub returns-in-Ok-Edge : goal.returns-in-Ok-Edge
+returns-in-Ok-Edge c =
+    drilled _ _ _ c.in-Ok-Edge.is c.drill-found.ensures.is c.first-outline.ensures c.count_reply-in-Ok-Edge.ensures
 
-pub returns-in-Outside : goal.returns-in-Outside
-returns-in-Outside c =
-    drilled _ _ _ c.in-Outside.is c.drill-found.ensures.is c.first-outline.ensures c.count_reply-in-Outside.ensures
+pub returns-in-Ok-Outside : goal.returns-in-Ok-Outside
+returns-in-Ok-Outside c =
+    drilled _ _ _ c.in-Ok-Outside.is c.drill-found.ensures.is c.first-outline.ensures c.count_reply-in-Ok-Outside.ensures
 
 pub returns-in-Err : goal.returns-in-Err
 returns-in-Err c =
