@@ -15,7 +15,7 @@ use Rattle.integrands.specs.Integrands.{scale_of}
 use Rattle.fins.specs.declared.FinSet.{FinSet}
 use Rattle.fins.specs.Fins.{set_check, area_check}
 use Rattle.fins.proofs.Accepted.{set_limit, set_count_check, set_density, area_limit}
-use Rattle.halving.specs.declared.Ending.{Ending}
+use Rattle.halving.specs.Endings.{Ending}
 use Rattle.strips.specs.Strips.{Worked, scratch_after}
 use Rattle.strips.specs.Claim.{Reported, AreReported}
 use Rattle.strips.proofs.Claims.{demand_3, none_behind}

@@ -17,8 +17,8 @@ use Rattle.refusals.specs.Given.{Gives}
 use Rattle.bodies.specs.declared.Body.{Body}
 use Rattle.bodies.specs.Bodies.{empty_body}
 use Rattle.fins.specs.declared.FinSet.{FinSet}
-use Rattle.halving.specs.declared.Ending.{Ending}
-use Rattle.halving.specs.declared.Ending.TheVariants.{Accepted as accepted, NotConverged as not_converged}
+use Rattle.std.specs.Prelude.{Ok, Err}
+use Rattle.halving.specs.Endings.{Ending, accepted, not_converged}
 use Rattle.halving.specs.Halving.{verdict_of}
 use Rattle.halving.specs.declared.Totals.{Totals}
 use Rattle.halving.specs.declared.Integral.{Integral}
@@ -36,12 +36,12 @@ no_refusal refusal e = absurd (let z : ◌≡◌ {A = ℕ} 0 1 = cc in let none 
 
 -- ---- how the strips ended, then 8
 reported : (ending : Ending) (size : Float) → Reported ending (first_refusal (verdict_of ending) (size_check size))
-reported accepted size = go (le size (bits 0))
+reported (Ok done) size = go (le size (bits 0))
   where
     go : (b : Bool) → Reported accepted (refuse_when b NoArea)
     go true = inr (refl, refl)
     go false = inl refl
-reported (not_converged component) size = (refl, refl)
+reported (Err stopped) size = (refl, refl)
 
 -- ---- a set
 

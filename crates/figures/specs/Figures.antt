@@ -14,7 +14,7 @@ use Rattle.breaks.specs.Breaks.{break_heights}
 use Rattle.integrands.specs.Integrands.{scale_of, plate_of}
 use Rattle.fins.specs.declared.FinSet.{FinSet}
 use Rattle.fins.specs.Fins.{set_check}
-use Rattle.halving.specs.declared.Ending.{Ending}
+use Rattle.halving.specs.Endings.{Ending}
 use Rattle.halving.specs.declared.Totals.{Totals}
 use Rattle.halving.specs.declared.Integral.{Integral}
 use Rattle.halving.specs.Halving.{verdict_of}

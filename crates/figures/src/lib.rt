@@ -13,7 +13,7 @@ ghost use Rattle.figures.specs.Answers.{SetAnswers, AreaAnswers};
 
 use bodies::Body;
 use fins::FinSet;
-use halving::{Ending, Integral};
+use halving::{Integral, NotConverged};
 use planforms::Planform;
 use refusals::{Refusal, Verdict};
 
@@ -60,7 +60,7 @@ fn check_size(size: f64) -> Verdict
 }
 
 // Returns what the last strip worked ended in, or else whether the size that the strips add up to is refused.
-fn conclusion(ending: Ending, size: f64) -> Verdict
+fn conclusion(ending: Result<(), NotConverged>, size: f64) -> Verdict
     ensures { result ≡ conclusion_of ending size }
 {
     refusals::first_refusal(halving::verdict_of(ending), check_size(size))

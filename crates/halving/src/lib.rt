@@ -21,20 +21,19 @@ use integrands::Integrand;
 use quadrature::Piece;
 use refusals::{Refusal, Verdict};
 
-// How a strip ends: accepted, or refused 13 with the component.
+// Why a strip is not accepted: a component's summed error is still over its bound, which is refused by 13.
 #[derive(Clone, Copy)]
-pub enum Ending {
-    Accepted,
-    NotConverged(usize),
+pub struct NotConverged {
+    pub component: usize,
 }
 
 // Returns the verdict of an ending, as the refusal table has it.
-pub fn verdict_of(ending: Ending) -> Verdict
+pub fn verdict_of(ending: Result<(), NotConverged>) -> Verdict
     ensures { result ≡ verdict_of ending }
 {
     match ending {
-        Ending::Accepted => Ok(()),
-        Ending::NotConverged(component) => Err(Refusal::NotConverged(component)),
+        Ok(()) => Ok(()),
+        Err(stopped) => Err(Refusal::NotConverged(stopped.component)),
     }
 }
 
@@ -50,7 +49,7 @@ pub struct Totals {
 // The answer for one strip, and for the strips of a set: how it ended, and its totals.
 #[derive(Clone, Copy)]
 pub struct Integral {
-    pub ending: Ending,
+    pub ending: Result<(), NotConverged>,
     pub totals: Totals,
 }
 
@@ -71,7 +70,7 @@ fn middle_is_end(p: Piece) -> bool
 // What the pieces ask for next: the strip ends, or the piece at a place is halved.
 #[derive(Clone, Copy)]
 enum Next {
-    Ended(Ending),
+    Ended(Result<(), NotConverged>),
     Halve(usize),
 }
 
@@ -94,20 +93,22 @@ fn judge(scratch: &[f64], n: usize, limit: usize) -> Judgement
     let b = tolerance::bounds(value);
     if tolerance::all_within(error, b) {
         return Judgement {
-            next: Next::Ended(Ending::Accepted),
+            next: Next::Ended(Ok(())),
             value,
         };
     }
     if limit <= n {
+        let component = tolerance::component(error, b);
         return Judgement {
-            next: Next::Ended(Ending::NotConverged(tolerance::component(error, b))),
+            next: Next::Ended(Err(NotConverged { component })),
             value,
         };
     }
     let place = tolerance::worst(scratch, n, b);
     if middle_is_end(pieces::read(scratch, place)) {
+        let component = tolerance::component(error, b);
         return Judgement {
-            next: Next::Ended(Ending::NotConverged(tolerance::component(error, b))),
+            next: Next::Ended(Err(NotConverged { component })),
             value,
         };
     }
@@ -135,7 +136,12 @@ fn halve(scratch: &mut [f64], integrand: Integrand, points: &[f64], n: usize, pl
     left.samples + right.samples
 }
 
-fn answer(ending: Ending, value: [f64; 7], intervals: usize, samples: usize) -> Integral
+fn answer(
+    ending: Result<(), NotConverged>,
+    value: [f64; 7],
+    intervals: usize,
+    samples: usize,
+) -> Integral
     ensures { result
         ≡ record { ending = ending; totals = record { value = value; intervals = intervals; samples = samples } } }
 {
@@ -194,7 +200,7 @@ pub fn integrate(
         scratch.new }
 {
     if lower == upper {
-        let ending = Ending::Accepted;
+        let ending = Ok(());
         let totals = Totals {
             value: [0.0; 7],
             intervals: 1,

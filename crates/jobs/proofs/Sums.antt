@@ -11,8 +11,7 @@ use Rattle.limits.specs.Limits.{most_pieces}
 use Rattle.halving.specs.Cover.{samples_for}
 use Rattle.halving.specs.Halving.{halving}
 use Rattle.halving.specs.Scratch.{intervals_of}
-use Rattle.halving.specs.declared.Ending.{Ending}
-use Rattle.halving.specs.declared.Ending.TheVariants.{Accepted}
+use Rattle.halving.specs.Endings.{Ending, accepted as Accepted}
 use Rattle.halving.specs.declared.Integral.{Integral}
 use Rattle.strips.specs.Strips.{Worked, samples_of, is_accepted, strip_of, worked_of, ending_from, samples_in, intervals_in, summed_of, with_strip}
 use Rattle.strips.specs.Strips.{integral_in}

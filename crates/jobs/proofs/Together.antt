@@ -33,7 +33,7 @@ use Rattle.integrands.specs.Integrands.{scale_of}
 use Rattle.fins.specs.declared.FinSet.{FinSet}
 use Rattle.outlines.specs.Outlines.{planform_check}
 use Rattle.fins.specs.Fins.{own_checks, own_check, set_check}
-use Rattle.halving.specs.declared.Ending.TheVariants.{Accepted as accepted}
+use Rattle.halving.specs.Endings.{accepted}
 use Rattle.halving.specs.declared.Integral.{Integral}
 use Rattle.strips.specs.declared.Advance.{Advance}
 use Rattle.strips.specs.Strips.{Run, Worked, is_accepted, worked_of, strips_in, strip_of, strip_at, strips_from, next_place, has_strip, strip_from}

@@ -8,7 +8,7 @@ use Rattle.materials.specs.declared.Density.{Density}
 use Rattle.fins.specs.declared.FinSet.{FinSet}
 use Rattle.planforms.specs.declared.Planform.{Planform}
 use Rattle.breaks.specs.Breaks.{all_heights, break_heights, place_above}
-use Rattle.halving.specs.declared.Ending.TheVariants.{Accepted as accepted}
+use Rattle.halving.specs.Endings.{accepted}
 use Rattle.strips.specs.Strips.{Run, Worked, run_check, strips_from, has_strip, strip_from}
 use Rattle.strips.specs.Strips.{samples_in, intervals_in, ending_of, summed_of, scratch_after}
 use Rattle.strips.specs.Claim.{StripsAre, AreReported}

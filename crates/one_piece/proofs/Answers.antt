@@ -47,7 +47,7 @@ use Rattle.quadrature.specs.Rule.{heights_to, heights_of, piece_of}
 use Rattle.quadrature.specs.declared.Piece.{Piece}
 use Rattle.tolerance.specs.Bounds.{converged}
 use Rattle.halving.specs.Halving.{ended, repeat, halving}
-use Rattle.halving.specs.declared.Ending.TheVariants.{Accepted}
+use Rattle.halving.specs.Endings.{accepted as Accepted}
 use Rattle.halving.specs.declared.Totals.{Totals}
 use Rattle.strips.specs.Strips.{Worked, worked_of, summed_of, seven_wide}
 use Rattle.bodies.specs.declared.Body.{Body}

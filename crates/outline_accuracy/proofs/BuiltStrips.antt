@@ -33,8 +33,8 @@ use Rattle.quadrature.specs.declared.Piece.{Piece}
 use Rattle.tolerance.specs.Bounds.{total_of, sum_from}
 use Rattle.halving.specs.Halving.{halving, Halved}
 use Rattle.halving.specs.Scratch.{intervals_of}
-use Rattle.halving.specs.declared.Ending.{Ending}
-use Rattle.halving.specs.declared.Ending.TheVariants.{Accepted as ended, NotConverged}
+use Rattle.std.specs.Prelude.{Ok, Err}
+use Rattle.halving.specs.Endings.{Ending, accepted as ended, not_converged as NotConverged}
 use Rattle.halving.proofs.Outcomes.{kept}
 use Rattle.halving.proofs.Reached.{Ends, at_once, later, ends_so}
 use Rattle.strips.specs.Strips.{Worked, worked_of, strip_of, pieces_of, is_accepted, ending_of, ending_from, intervals_in}
@@ -332,8 +332,8 @@ module _ (points : List Float) (f64s : (i : ℕ) → T (fits binary64 (at points
     worked_is h k l = refl
 
     is_accepted_lem : (e : Ending) → is_accepted e ≡ true → e ≡ ended
-    is_accepted_lem ended t = refl
-    is_accepted_lem (NotConverged c) t = no (sym t)
+    is_accepted_lem (Ok done) t = refl
+    is_accepted_lem (Err c) t = no (sym t)
 
     -- the run went on to its last strip
     goes_on : (h k : Float) (l : List Float) → ending_of (worked_strips (h ∷ k ∷ l)) ≡ ended → accepts h k ≡ true

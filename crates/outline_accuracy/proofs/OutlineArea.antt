@@ -33,8 +33,8 @@ use Rattle.breaks.proofs.Bounded.{breaks_rise}
 use Rattle.breaks.proofs.Listed.{most_breaks}
 use Rattle.integrands.specs.Integrands.{scale_of, area_three}
 use Rattle.integrands.proofs.Scales.{Scale, scale_sized}
-use Rattle.halving.specs.declared.Ending.{Ending}
-use Rattle.halving.specs.declared.Ending.TheVariants.{Accepted as ended, NotConverged}
+use Rattle.std.specs.Prelude.{Ok, Err}
+use Rattle.halving.specs.Endings.{Ending, accepted as ended, not_converged as NotConverged}
 use Rattle.strips.specs.Strips.{worked_of, value_from, intervals_in, ending_of}
 use Rattle.strips.specs.Claim.{Reported}
 use Rattle.widths.proofs.Strips.{intervals_same}
@@ -93,8 +93,8 @@ first_rises h k l r = and_left (lt h k) (below_all h l) r.0
 
 -- given figures, the last strip was accepted
 ended_so : (e : Ending) (v : Verdict) → Reported e v → v ≡ Ok tt → e ≡ ended
-ended_so ended v r a = refl
-ended_so (NotConverged c) v r a = absurd (subst (λ (v : Verdict). Gives v 13 (c ∷ [])) a r)
+ended_so (Ok done) v r a = refl
+ended_so (Err c) v r a = absurd (subst (λ (v : Verdict). Gives v 13 (c.component ∷ [])) a r)
 
 module _ (points : List Float) (L : ℕ) (entry : List Float) (r : Area) (exit : List Float) (g : OutlineGiven points L entry r exit) where
   abbrev heights : List Float

@@ -13,7 +13,7 @@ ghost use Rattle.planforms.specs.Planforms.{span_of};
 ghost use Rattle.strips.specs.Strips.{is_accepted, with_strip, in_words, strip_between, WorksStrip, Room, run_between};
 ghost use Rattle.strips.specs.Strips.{run_of, step_run_of, onward_of, Runs};
 
-use halving::{Ending, Integral, Totals};
+use halving::{Integral, NotConverged, Totals};
 use integrands::Integrand;
 use std::num::wrapping_add_usize;
 
@@ -25,13 +25,10 @@ pub struct Advance {
     pub more: bool,
 }
 
-pub fn is_accepted(ending: Ending) -> bool
+pub fn is_accepted(ending: Result<(), NotConverged>) -> bool
     ensures { result ≡ is_accepted ending }
 {
-    match ending {
-        Ending::Accepted => true,
-        Ending::NotConverged(_) => false,
-    }
+    ending.is_ok()
 }
 
 // Returns the totals with one strip more, and that strip's ending. The counts wrap, so that any totals may be handed
@@ -101,7 +98,7 @@ pub fn work_next(
             more: (upper < span) | (upper < 0.0),
         };
     }
-    let ending = Ending::Accepted;
+    let ending = Ok(());
     let total = Integral { ending, totals };
     Advance {
         total,
@@ -122,7 +119,7 @@ fn work_upward(
     ensures { Runs (run_between integrand points.now limit heights.now) scratch.old result
         scratch.new }
 {
-    let ending = Ending::Accepted;
+    let ending = Ok(());
     let totals = Totals {
         value: [0.0; 7],
         intervals: 0,

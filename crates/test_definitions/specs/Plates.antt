@@ -8,8 +8,7 @@ use Rattle.bodies.specs.declared.Body.{Body}
 use Rattle.bodies.specs.Vectors.{vector}
 use Rattle.bodies.specs.Bodies.{empty_body, inertia_about_of, point_mass, of_origin_tensor}
 use Rattle.refusals.specs.Order.{first_refusal}
-use Rattle.halving.specs.declared.Ending.{Ending}
-use Rattle.halving.specs.declared.Ending.TheVariants.{Accepted, NotConverged}
+use Rattle.halving.specs.Endings.{Ending, accepted as Accepted, not_converged as NotConverged}
 use Rattle.halving.specs.declared.Integral.{Integral}
 use Rattle.joins.specs.Joins.{in_order, sums_of, inertia_of, join_of}
 use Rattle.fins.specs.declared.Tab.TheVariants.{Slab}

@@ -1,5 +1,5 @@
 -- The run: the rule on one piece, bounds and scores, and where a strip is cut (document 01, "Piece and tally").
-use Rattle.std.specs.Prelude.{Bool, true, false, not, ◌&&◌, cond, List, [], ◌∷◌, map, ℕ, T, eqb, length, take, Float}
+use Rattle.std.specs.Prelude.{Bool, true, false, not, ◌&&◌, cond, List, [], ◌∷◌, map, ℕ, T, eqb, length, take, Float, Ok, Err}
 use Rattle.std.specs.Float.{nan}
 use Rattle.std.specs.Float.Ieee.{add, sub, mul, div, of_bits, to_bits, of_int, round, lt, le, eq, ne}
 use Rattle.floats.specs.Operations.{bits, every}
@@ -9,8 +9,7 @@ use Rattle.quadrature.specs.declared.Piece.{Piece}
 use Rattle.quadrature.specs.Rule.{heights_to, weighted_to, heights_of, piece_of, zeros}
 use Rattle.tolerance.specs.Bounds.{total_of, error_of, absolute, relative, bound_for, converged, score_of, last_highest}
 use Rattle.tolerance.specs.Bounds.{worst_place, component_of}
-use Rattle.halving.specs.declared.Ending.{Ending}
-use Rattle.halving.specs.declared.Ending.TheVariants.{Accepted, NotConverged}
+use Rattle.halving.specs.Endings.{Ending, accepted as Accepted, not_converged as NotConverged}
 use Rattle.halving.specs.Halving.{repeat, halving}
 use Rattle.strips.specs.Strips.{Run, strip_at}
 use Rattle.test_definitions.specs.Rows.{is, are}
@@ -84,8 +83,8 @@ last_of_equal =
 -- ---- one strip
 
 abbrev ends_accepted : Ending → Bool
-ends_accepted Accepted = true
-ends_accepted (NotConverged component) = false
+ends_accepted (Ok done) = true
+ends_accepted (Err stopped) = false
 
 -- "equal scaled ends": accepted, no piece, no sample
 abbrev pub equal_ends : Bool

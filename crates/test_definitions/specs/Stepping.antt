@@ -24,8 +24,7 @@ use Rattle.gauss_kronrod.specs.Tables.{nodes, kronrod_weights, gauss_weights}
 use Rattle.quadrature.specs.Rule.{heights_to, weighted_to, piece_of, zeros}
 use Rattle.tolerance.specs.Bounds.{total_of, error_of, absolute, relative, converged, score_of, last_highest, worst_place}
 use Rattle.tolerance.specs.Bounds.{component_of}
-use Rattle.halving.specs.declared.Ending.{Ending}
-use Rattle.halving.specs.declared.Ending.TheVariants.{Accepted, NotConverged}
+use Rattle.halving.specs.Endings.{Ending, accepted as Accepted, not_converged as NotConverged}
 use Rattle.halving.specs.Halving.{repeat, halving}
 use Rattle.strips.specs.declared.Advance.{Advance}
 use Rattle.strips.specs.Strips.{with_strip, onward_of}

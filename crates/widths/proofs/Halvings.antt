@@ -17,7 +17,7 @@ use Rattle.quadrature.specs.Rule.{half_sum, heights_of, piece_of}
 use Rattle.quadrature.specs.declared.Piece.{Piece}
 use Rattle.tolerance.specs.Bounds.{converged, worst_place, worst_piece, component_of, middle_of, middle_is_end, piece_at}
 use Rattle.halving.specs.Halving.{Halved, ended, measure, repeat, halving}
-use Rattle.halving.specs.declared.Ending.TheVariants.{NotConverged}
+use Rattle.halving.specs.Endings.{not_converged as NotConverged}
 use Rattle.tolerance.proofs.Places.{worst_below}
 use Rattle.tolerance.proofs.AllPieces.{All, all_at, all_set, all_append}
 use Rattle.pieces.specs.Stored.{widened}

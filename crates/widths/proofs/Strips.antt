@@ -11,7 +11,7 @@ use Rattle.rounding.specs.Sizes.{InOrder}
 use Rattle.halving.specs.Halving.{Halved, halving}
 use Rattle.pieces.specs.Stored.{widened}
 use Rattle.halving.specs.Scratch.{widened_halved}
-use Rattle.halving.specs.declared.Ending.{Ending}
+use Rattle.halving.specs.Endings.{Ending}
 use Rattle.strips.specs.Strips.{Worked, is_accepted, worked_of, samples_in, intervals_in, ending_from, ending_of, widened_strip}
 use Rattle.strips.specs.Claim.{Each}
 use Rattle.widths.specs.Widths.{ZerosBehind}

@@ -1,5 +1,8 @@
 -- `halving::verdict_of` meets its contract: each arm knows its case. Assumes nothing.
 use Rattle.halving.proofs.verdict_of.Goals as goal
 
-pub returns-in-NotConverged : goal.returns-in-NotConverged
-returns-in-NotConverged c = rw c.in-NotConverged.is
+pub returns-in-Ok : goal.returns-in-Ok
+returns-in-Ok c = rw c.in-Ok.is
+
+pub returns-in-Err : goal.returns-in-Err
+returns-in-Err c = rw c.in-Err.is
